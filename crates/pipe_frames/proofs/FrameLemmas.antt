@@ -1,0 +1,164 @@
+-- The frames of bytes that are joined, and of texts that are framed.
+use Rattle.std.proofs.Common.{◌≡◌, ◌≢◌, ◌==◌, ℕ, ◌+◌, ◌-◌, ◌≤◌, ◌<◌, List, [], ◌∷◌, ◌++◌, length, take, get_or, refl, sym, ◌∙◌, ap, inl, inr, append_assoc, append-nil, arith, rules, cond, true, false, Bool, length-append}
+use Rattle.std.proofs.lemmas.Bool.{cases_eq, ne_eqb}
+use Rattle.std.proofs.lemmas.List.Elements.{All-nil, All-cons, All-head, All-tail, All-append, All-push}
+use Rattle.std.proofs.lemmas.List.{take_more}
+use Rattle.std.specs.List.{All, flat_map}
+use Rattle.pipe_frames.specs.Frames.{Frames, IsText, framed, bytes_of, Splits, lengthened, put_front, frames_of, frames_from, held_after, continued, IsCounted}
+
+abbrev IsLetter : ℕ → Type 0
+IsLetter byte = byte ≢ 0
+
+-- a byte that is not zero lengthens what comes first
+put_front-letter : (byte : ℕ) (whole : List (List ℕ)) (rest : List ℕ) → byte ≢ 0
+    → put_front byte (record { whole = whole; rest = rest }) ≡ lengthened byte whole rest
+put_front-letter byte whole rest letter = rw (ne_eqb byte 0 letter) refl
+
+-- a byte in front, of frames that go on
+put_front-continued : (byte : ℕ) (whole : List (List ℕ)) (rest more : List ℕ)
+    → put_front byte (continued (record { whole = whole; rest = rest }) more)
+    ≡ continued (put_front byte (record { whole = whole; rest = rest })) more
+unfolding frames_of
+put_front-continued byte [] rest more =
+    elim (cases_eq byte 0) [
+      | inl zero ↦ rw zero refl
+      | inr letter ↦ sym (ap (λ frames. continued frames more) (put_front-letter byte [] rest letter))
+    ]
+put_front-continued byte (frame ∷ frames) rest more =
+    elim (cases_eq byte 0) [ inl zero ↦ rw zero refl | inr letter ↦ rw (ne_eqb byte 0 letter) refl ]
+
+-- the frames of joined bytes are those of the first, gone on with the second
+pub frames_of-append : (first second : List ℕ) → frames_of (first ++ second) ≡ continued (frames_of first) second
+unfolding frames_of
+frames_of-append [] second = refl
+frames_of-append (byte ∷ first) second =
+    ap (put_front byte) (frames_of-append first second)
+    ∙ put_front-continued byte (frames_of first).whole (frames_of first).rest second
+
+-- a text alone is a rest
+pub frames_of-text : (text : List ℕ) → IsText text → frames_of text ≡ record { whole = []; rest = text }
+unfolding frames_of
+frames_of-text [] letters = refl
+frames_of-text (byte ∷ text) letters =
+    rw (frames_of-text text (All-tail IsLetter byte text letters), ne_eqb byte 0 (All-head IsLetter byte text letters)) refl
+
+-- a framed text is the first whole frame
+pub frames_of-framed : (text more : List ℕ) → IsText text
+    → frames_of (framed text ++ more) ≡ record { whole = text ∷ (frames_of more).whole; rest = (frames_of more).rest }
+unfolding frames_of
+frames_of-framed [] more letters = refl
+frames_of-framed (byte ∷ text) more letters =
+    rw (frames_of-framed text more (All-tail IsLetter byte text letters), ne_eqb byte 0 (All-head IsLetter byte text letters)) refl
+
+-- framed texts and a rest are cut where they were joined
+pub frames_of-bytes_of : (whole : List (List ℕ)) (rest : List ℕ) → All IsText whole → IsText rest
+    → frames_of (bytes_of (record { whole = whole; rest = rest })) ≡ record { whole = whole; rest = rest }
+frames_of-bytes_of [] rest texts partial = frames_of-text rest partial
+frames_of-bytes_of (text ∷ whole) rest texts partial =
+    rw append_assoc
+    (frames_of-framed text (flat_map framed whole ++ rest) (All-head IsText text whole texts)
+    ∙ ap (λ frames. record { whole = text ∷ frames.whole; rest = frames.rest })
+    (frames_of-bytes_of whole rest (All-tail IsText text whole texts) partial))
+
+-- one byte more in front is split as the rest is
+Splits-put_front : (byte : ℕ) (bytes : List ℕ) (whole : List (List ℕ)) (rest : List ℕ)
+    → Splits bytes (record { whole = whole; rest = rest })
+    → Splits (byte ∷ bytes) (put_front byte (record { whole = whole; rest = rest }))
+Splits-put_front byte bytes [] rest split =
+    elim (cases_eq byte 0) [
+      | inl zero ↦ rw zero (record {
+        joined = ap (λ more. 0 ∷ more) split.joined;
+        texts = All-cons IsText [] [] (All-nil IsLetter) split.texts;
+        partial = split.partial;
+      })
+      | inr letter ↦ rw (ne_eqb byte 0 letter) (record {
+        joined = ap (λ more. byte ∷ more) split.joined;
+        texts = split.texts;
+        partial = All-cons IsLetter byte rest letter split.partial;
+      })
+    ]
+Splits-put_front byte bytes (text ∷ whole) rest split =
+    elim (cases_eq byte 0) [
+      | inl zero ↦ rw zero (record {
+        joined = ap (λ more. 0 ∷ more) split.joined;
+        texts = All-cons IsText [] (text ∷ whole) (All-nil IsLetter) split.texts;
+        partial = split.partial;
+      })
+      | inr letter ↦ rw (ne_eqb byte 0 letter) (record {
+        joined = ap (λ more. byte ∷ more) split.joined;
+        texts = All-cons IsText (byte ∷ text) whole
+            (All-cons IsLetter byte text letter (All-head IsText text whole split.texts)) (All-tail IsText text whole split.texts);
+        partial = split.partial;
+      })
+    ]
+
+-- the frames of bytes split them
+pub Splits-frames_of : (bytes : List ℕ) → Splits bytes (frames_of bytes)
+unfolding frames_of
+Splits-frames_of [] = record { joined = refl; texts = All-nil IsText; partial = All-nil IsLetter }
+Splits-frames_of (byte ∷ bytes) =
+    Splits-put_front byte bytes (frames_of bytes).whole (frames_of bytes).rest (Splits-frames_of bytes)
+
+-- no other frames do
+pub frames_of-only : (bytes : List ℕ) (frames : Frames) → Splits bytes frames → frames ≡ frames_of bytes
+frames_of-only bytes frames split =
+    sym (ap frames_of split.joined ∙ frames_of-bytes_of frames.whole frames.rest split.texts split.partial)
+
+-- what comes after the first whole frame is counted without it and its zero byte
+pub IsCounted-first : (frame : List ℕ) (more whole : List (List ℕ)) (rest : List ℕ) (held size : ℕ)
+    → whole ≡ frame ∷ more → size ≡ length frame → IsCounted whole rest held
+    → IsCounted more rest (held - (size + 1)) × IsText frame
+IsCounted-first frame more whole rest held size is length-is counted =
+    let first : IsCounted (frame ∷ more) rest held = rw is at counted in
+    let sum : length ((framed frame ++ flat_map framed more) ++ rest) ≡ length frame + 1 + length (flat_map framed more ++ rest)
+    = grind (arith, length-append) in
+    let count : held ≡ length ((framed frame ++ flat_map framed more) ++ rest) = first.count in (
+      record {
+        texts = All-tail IsText frame more first.texts;
+        partial = first.partial;
+        count = omega arith;
+      },
+      All-head IsText frame more first.texts,
+    )
+
+-- more text lengthens the rest
+pub continued-text : (whole : List (List ℕ)) (rest text : List ℕ) → IsText (rest ++ text)
+    → continued (record { whole = whole; rest = rest }) text ≡ record { whole = whole; rest = rest ++ text }
+continued-text whole rest text letters =
+    ap (λ frames. record { whole = whole ++ frames.whole; rest = frames.rest }) (frames_of-text (rest ++ text) letters)
+    ∙ ap (λ frames. record { whole = frames; rest = rest ++ text }) (append-nil whole)
+
+-- a zero byte ends a frame
+pub continued-zero : (whole : List (List ℕ)) (rest : List ℕ) → IsText rest
+    → continued (record { whole = whole; rest = rest }) (0 ∷ []) ≡ record { whole = whole ++ rest ∷ []; rest = [] }
+unfolding frames_of
+continued-zero whole rest letters =
+    ap (λ bytes. record { whole = whole ++ (frames_of bytes).whole; rest = (frames_of bytes).rest }) (sym (append-nil (framed rest)))
+    ∙ ap (λ frames. record { whole = whole ++ frames.whole; rest = frames.rest }) (frames_of-framed rest [] letters)
+
+-- no more bytes, no other frames
+pub continued-nil : (frames : Frames) → IsText frames.rest → continued frames [] ≡ frames
+continued-nil frames letters =
+    continued-text frames.whole frames.rest [] (rw append-nil letters)
+    ∙ ap (λ rest. record { whole = frames.whole; rest = rest }) (append-nil frames.rest)
+
+-- pieces go on one after the other
+pub continued-append : (frames : Frames) (first second : List ℕ)
+    → continued (continued frames first) second ≡ continued frames (first ++ second)
+continued-append frames first second =
+    let joined : frames_of (frames.rest ++ (first ++ second)) ≡ continued (frames_of (frames.rest ++ first)) second
+    = rw (← append_assoc frames.rest first second) (frames_of-append (frames.rest ++ first) second) in
+    rw (append_assoc frames.whole (frames_from frames.rest first))
+    (ap (λ more. record { whole = frames.whole ++ more.whole; rest = more.rest }) (sym joined))
+
+-- frames after a zero byte, given what the whole frames and the rest are now
+pub ended : (old new : List (List ℕ)) (rest left : List ℕ) → IsText rest → new ≡ old ++ rest ∷ [] → left ≡ []
+    → record { whole = new; rest = left } ≡ continued (record { whole = old; rest = rest }) (0 ∷ [])
+ended old new rest left letters whole none = rw (whole, none) (sym (continued-zero old rest letters))
+
+-- one byte more of a piece
+pub continued-more : (frames : Frames) (piece : List ℕ) (index default : ℕ) → index < length piece
+    → continued (continued frames (take index piece)) (get_or piece index default ∷ []) ≡ continued frames (take (index + 1) piece)
+continued-more frames piece index default within =
+    continued-append frames (take index piece) (get_or piece index default ∷ [])
+    ∙ ap (continued frames) (sym (take_more piece index default within))

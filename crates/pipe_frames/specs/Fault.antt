@@ -1,0 +1,23 @@
+-- Counts of faults, and when a call may say that the outside failed.
+use Rattle.std.specs.Prelude.{ℕ, ◌+◌, ◌-◌, ◌^◌, ◌≤◌, min, IsErrOf, OnErr, Result}
+use Rattle.pipe_frames.specs.declared.outside.Failed.{Failed as ReadFault}
+use Rattle.pipe_frames.specs.declared.outside.OutErr.{OutErr}
+use Rattle.pipe_frames.specs.declared.outside.OutErr.TheVariants.{Failed}
+
+-- a count one higher, which stays at the last value of a `u64`
+abbrev pub next_count : ℕ → ℕ
+next_count count = min (count + 1) (2 ^ 64 - 1)
+
+-- the count rose, or stands at its last value
+abbrev pub Rose : ℕ → ℕ → Type 0
+Rose before now = next_count before ≤ now
+
+-- a call's count of faults never falls, and the call answers `Failed` only where the count rose
+pub record HasCause {T : Type 0} (before now : ℕ) (result : Result T OutErr) : Type 0 where
+  pub later : before ≤ now
+  pub failed : IsErrOf result Failed → Rose before now
+
+-- the same of a call whose one error is that of a source
+pub record HasReadCause {T : Type 0} (before now : ℕ) (result : Result T ReadFault) : Type 0 where
+  pub later : before ≤ now
+  pub failed : OnErr result (Rose before now)

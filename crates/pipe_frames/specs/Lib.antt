@@ -1,0 +1,5 @@
+pub mod Fault
+pub mod Pipe
+pub mod Whole
+pub mod Frames
+pub mod Calls

@@ -1,0 +1,133 @@
+ghost use Rattle.std.specs.Prelude.{◌≡◌, ◌≢◌, ◌<◌, ◌↔◌, ℕ, List, [], ◌∷◌, ◌++◌, length, take, IsNone, IfSome, IfNone, OnOk, OnErr};
+ghost use Rattle.pipe_frames.specs.Frames.{Frames, IsText, Splits, frames_of, bytes_of, continued, framed};
+
+use std::alloc::{AllocError, Global};
+use std::collections::VecDeque;
+use std::marker::Model;
+use std::mem;
+
+/// Cuts the bytes of a pipe into frames, in whatever pieces they come. A frame ends with a zero byte, which it does not
+/// have.
+#[derive(Drop)]
+pub struct Splitter {
+    alloc: Global,
+    whole: VecDeque<Vec<u8>>,
+    rest: Vec<u8>,
+    held: usize,
+}
+
+impl Model for Splitter {
+    ghost use Rattle.std.specs.Prelude.{map};
+    ghost use Rattle.pipe_frames.specs.Frames.{Frames, IsCounted};
+
+    ghost Value = { Frames };
+
+    ghost view = { λ s. record { whole = map (λ frame. frame.items) s.whole.items; rest = s.rest.items } };
+
+    ghost invariant = { λ s. IsCounted (map (λ frame. frame.items) s.whole.items) s.rest.items s.held };
+}
+
+impl Splitter {
+    pub fn new(alloc: Global) -> Splitter
+        ensures { result ≡ record { whole = []; rest = [] } }
+    {
+        Splitter {
+            alloc,
+            whole: VecDeque::new(alloc),
+            rest: Vec::new(alloc),
+            held: 0,
+        }
+    }
+
+    /// Takes the next bytes of the pipe. After an error a front part of the piece was taken, and the rest was not.
+    pub fn take(&mut self, piece: &[u8]) -> Result<(), AllocError>
+        ensures ok { OnOk result (self.new ≡ continued self.old piece.now) }
+        ensures err { OnErr result ((n : ℕ) × (n < length piece.now) × (self.new ≡ continued self.old (take n piece.now))) }
+    {
+        let _ = &self.rest;
+        for byte in piece {
+            self.take_byte(*byte)?;
+        }
+        Ok(())
+    }
+
+    fn take_byte(&mut self, byte: u8) -> Result<(), AllocError>
+        ensures ok { OnOk result (self.new ≡ continued self.old (byte ∷ [])) }
+        ensures err { OnErr result (self.new ≡ self.old) }
+    {
+        if byte == 0 {
+            self.end_frame()
+        } else {
+            self.add_byte(byte)
+        }
+    }
+
+    // A zero byte ends the frame that the rest has begun.
+    fn end_frame(&mut self) -> Result<(), AllocError>
+        ensures ok { OnOk result (self.new ≡ continued self.old (0 ∷ [])) }
+        ensures err { OnErr result (self.new ≡ self.old) }
+    {
+        let held = self.held.checked_add(1).ok_or(AllocError)?;
+        let frame = mem::replace(&mut self.rest, Vec::new(self.alloc));
+        if let Err(refused) = self.whole.push_back(frame) {
+            self.rest = refused.value;
+            return Err(AllocError);
+        }
+        self.held = held;
+        Ok(())
+    }
+
+    fn add_byte(&mut self, byte: u8) -> Result<(), AllocError>
+        requires { byte ≢ 0 }
+        ensures ok { OnOk result (self.new ≡ continued self.old (byte ∷ [])) }
+        ensures err { OnErr result (self.new ≡ self.old) }
+    {
+        let held = self.held.checked_add(1).ok_or(AllocError)?;
+        self.rest.push(byte)?;
+        self.held = held;
+        Ok(())
+    }
+
+    /// Hands out the first whole frame, without its zero byte.
+    pub fn next(&mut self) -> Option<Vec<u8>>
+        ensures none { IsNone result ↔ (self.old.whole ≡ []) }
+        ensures first { IfSome result (λ frame. self.old.whole ≡ frame.items ∷ self.new.whole) }
+        ensures text { IfSome result (λ frame. IsText frame.items) }
+        ensures rest { self.new.rest ≡ self.old.rest }
+        ensures unchanged { IfNone result (self.new ≡ self.old) }
+    {
+        let frame = self.whole.pop_front()?;
+        self.held -= frame.len() + 1;
+        Some(frame)
+    }
+
+    /// How many bytes were taken and not handed out, zero bytes included.
+    pub fn held(&self) -> usize
+        ensures { result ≡ length (bytes_of self.now) }
+    {
+        self.held
+    }
+}
+
+/// Appends the text and one zero byte.
+pub fn put_frame(text: &[u8], out: &mut Vec<u8>) -> Result<(), AllocError>
+    requires { IsText text.now }
+    ensures ok { OnOk result (out.new.items ≡ out.old.items ++ framed text.now) }
+    ensures err { OnErr result (out.new.items ≡ out.old.items) }
+{
+    let start = out.len();
+    out.extend_from_slice(text)?;
+    if out.push(0).is_err() {
+        out.truncate(start);
+        return Err(AllocError);
+    }
+    Ok(())
+}
+
+/// The law of frames: they are the one way to cut bytes into texts, each followed by a zero byte, and a rest, and they are
+/// the same in whatever pieces the bytes come.
+pub fn frames_law()
+    ensures split { (bytes : List ℕ) → Splits bytes (frames_of bytes) }
+    ensures only { (bytes : List ℕ) (frames : Frames) → Splits bytes frames → frames ≡ frames_of bytes }
+    ensures joined { (first second : List ℕ) → frames_of (first ++ second) ≡ continued (frames_of first) second }
+{}
