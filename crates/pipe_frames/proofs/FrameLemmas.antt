@@ -4,7 +4,7 @@ use Rattle.std.proofs.lemmas.Bool.{cases_eq, ne_eqb}
 use Rattle.std.proofs.lemmas.List.Elements.{All-nil, All-cons, All-head, All-tail, All-append, All-push}
 use Rattle.std.proofs.lemmas.List.{take_more}
 use Rattle.std.specs.List.{All, flat_map}
-use Rattle.pipe_frames.specs.Frames.{Frames, IsText, framed, bytes_of, Splits, lengthened, put_front, frames_of, frames_from, held_after, continued, IsCounted}
+use Rattle.pipe_frames.specs.Frames.{Frames, IsText, framed, bytes_of, Splits, lengthened, put_front, frames_of, frames_from, held_after, continued, with_frame, IsCounted}
 
 abbrev IsLetter : ℕ → Type 0
 IsLetter byte = byte ≢ 0
@@ -49,6 +49,17 @@ unfolding frames_of
 frames_of-framed [] more letters = refl
 frames_of-framed (byte ∷ text) more letters =
     rw (frames_of-framed text more (All-tail IsLetter byte text letters), ne_eqb byte 0 (All-head IsLetter byte text letters)) refl
+
+-- a framed text alone is one frame
+pub frames_of-one : (text : List ℕ) → IsText text → frames_of (framed text) ≡ record { whole = text ∷ []; rest = [] }
+unfolding frames_of
+frames_of-one text letters = ap frames_of (sym (append-nil (framed text))) ∙ frames_of-framed text [] letters
+
+-- a rest and a framed text after it are one framed text
+rest_framed : (rest text more : List ℕ) → rest ++ (framed text ++ more) ≡ framed (rest ++ text) ++ more
+rest_framed rest text more =
+    sym (append_assoc rest (framed text) more)
+    ∙ ap (λ bytes. bytes ++ more) (sym (append_assoc rest text (0 ∷ [])))
 
 -- framed texts and a rest are cut where they were joined
 pub frames_of-bytes_of : (whole : List (List ℕ)) (rest : List ℕ) → All IsText whole → IsText rest
@@ -131,10 +142,8 @@ continued-text whole rest text letters =
 -- a zero byte ends a frame
 pub continued-zero : (whole : List (List ℕ)) (rest : List ℕ) → IsText rest
     → continued (record { whole = whole; rest = rest }) (0 ∷ []) ≡ record { whole = whole ++ rest ∷ []; rest = [] }
-unfolding frames_of
 continued-zero whole rest letters =
-    ap (λ bytes. record { whole = whole ++ (frames_of bytes).whole; rest = (frames_of bytes).rest }) (sym (append-nil (framed rest)))
-    ∙ ap (λ frames. record { whole = whole ++ frames.whole; rest = frames.rest }) (frames_of-framed rest [] letters)
+    ap (λ frames. record { whole = whole ++ frames.whole; rest = frames.rest }) (frames_of-one rest letters)
 
 -- no more bytes, no other frames
 pub continued-nil : (frames : Frames) → IsText frames.rest → continued frames [] ≡ frames
@@ -150,6 +159,61 @@ continued-append frames first second =
     = rw (← append_assoc frames.rest first second) (frames_of-append (frames.rest ++ first) second) in
     rw (append_assoc frames.whole (frames_from frames.rest first))
     (ap (λ more. record { whole = frames.whole ++ more.whole; rest = more.rest }) (sym joined))
+
+-- a framed text ends the frame that the rest has begun
+pub continued-framed : (whole : List (List ℕ)) (rest text : List ℕ) → IsText (rest ++ text)
+    → continued (record { whole = whole; rest = rest }) (framed text) ≡ with_frame (record { whole = whole; rest = rest }) (rest ++ text)
+continued-framed whole rest text letters =
+    ap (λ frames. record { whole = whole ++ frames.whole; rest = frames.rest })
+        (ap frames_of (sym (append_assoc rest text (0 ∷ []))) ∙ frames_of-one (rest ++ text) letters)
+
+-- after whole frames a framed text is one more
+pub frames_of-last : (bytes text : List ℕ) → IsText text → (frames_of bytes).rest ≡ []
+    → frames_of (bytes ++ framed text) ≡ with_frame (frames_of bytes) text
+frames_of-last bytes text letters none =
+    frames_of-append bytes (framed text)
+    ∙ ap (λ rest. continued (record { whole = (frames_of bytes).whole; rest = rest }) (framed text)) none
+    ∙ continued-framed (frames_of bytes).whole [] text letters
+
+-- the frames that come of joined bytes after a rest, and the rest that they leave
+pub frames_from-append : (rest first second : List ℕ)
+    → frames_from rest (first ++ second) ≡ frames_from rest first ++ frames_from (held_after rest first) second
+frames_from-append rest first second =
+    ap (λ bytes. (frames_of bytes).whole) (sym (append_assoc rest first second))
+    ∙ ap (λ frames. frames.whole) (frames_of-append (rest ++ first) second)
+
+pub held_after-append : (rest first second : List ℕ)
+    → held_after rest (first ++ second) ≡ held_after (held_after rest first) second
+held_after-append rest first second =
+    ap (λ bytes. (frames_of bytes).rest) (sym (append_assoc rest first second))
+    ∙ ap (λ frames. frames.rest) (frames_of-append (rest ++ first) second)
+
+-- the end of a text ends the frame that the rest has begun
+pub frames_from-framed : (rest text more : List ℕ) → IsText (rest ++ text)
+    → frames_from rest (framed text ++ more) ≡ (rest ++ text) ∷ frames_from [] more
+frames_from-framed rest text more letters =
+    ap (λ bytes. (frames_of bytes).whole) (rest_framed rest text more)
+    ∙ ap (λ frames. frames.whole) (frames_of-framed (rest ++ text) more letters)
+
+pub held_after-framed : (rest text more : List ℕ) → IsText (rest ++ text)
+    → held_after rest (framed text ++ more) ≡ held_after [] more
+held_after-framed rest text more letters =
+    ap (λ bytes. (frames_of bytes).rest) (rest_framed rest text more)
+    ∙ ap (λ frames. frames.rest) (frames_of-framed (rest ++ text) more letters)
+
+-- more text gives no frame, and lengthens the rest
+pub frames_from-text : (rest text : List ℕ) → IsText (rest ++ text) → frames_from rest text ≡ []
+frames_from-text rest text letters = ap (λ frames. frames.whole) (frames_of-text (rest ++ text) letters)
+
+pub held_after-text : (rest text : List ℕ) → IsText (rest ++ text) → held_after rest text ≡ rest ++ text
+held_after-text rest text letters = ap (λ frames. frames.rest) (frames_of-text (rest ++ text) letters)
+
+-- frames are texts, and so is the rest
+pub All-frames_from : (rest bytes : List ℕ) → All IsText (frames_from rest bytes)
+All-frames_from rest bytes = (Splits-frames_of (rest ++ bytes)).texts
+
+pub IsText-held_after : (rest bytes : List ℕ) → IsText (held_after rest bytes)
+IsText-held_after rest bytes = (Splits-frames_of (rest ++ bytes)).partial
 
 -- frames after a zero byte, given what the whole frames and the rest are now
 pub ended : (old new : List (List ℕ)) (rest left : List ℕ) → IsText rest → new ≡ old ++ rest ∷ [] → left ≡ []

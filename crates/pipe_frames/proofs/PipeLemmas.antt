@@ -1,6 +1,6 @@
 -- What was sent and given since an earlier moment, over calls that follow one another.
 use Rattle.std.proofs.Common.{◌≡◌, ℕ, ◌+◌, ◌-◌, ◌≤◌, List, [], ◌∷◌, ◌++◌, length, take, drop, refl, sym, ◌∙◌, ap, append_assoc, append-nil, arith, length-append}
-use Rattle.std.proofs.lemmas.List.{drop_all, drop_at, append_cancel_left}
+use Rattle.std.proofs.lemmas.List.{drop_all, drop_at, append_cancel_left, drop-drop}
 use Rattle.pipe_frames.specs.Pipe.{Pipe, Moves, waiting, GivesPrefix, IsLevel, sent_since, given_since, since, Extends}
 
 -- what joins a list that goes on from a start
@@ -81,3 +81,33 @@ since-waiting start now level extends prefix =
     append_cancel_left start.given (sent_since start now) (given_since start now ++ waiting now)
     (ap (λ bytes. bytes ++ sent_since start now) level ∙ sym extends.sent ∙ prefix
     ∙ ap (λ bytes. bytes ++ waiting now) extends.given ∙ append_assoc start.given (given_since start now) (waiting now))
+
+-- what an honest pipe gives are the bytes that wait
+pub Moves-honest : (old new : Pipe) (before after : List ℕ) (max count : ℕ) → (moves : Moves old new before after count)
+    → after ≡ before ++ take max (waiting old) → moves.piece ≡ take max (waiting old)
+Moves-honest old new before after max count moves all =
+    append_cancel_left before moves.piece (take max (waiting old)) (sym moves.into ∙ all)
+
+-- a piece that is put waits after what waits
+pub waiting-put : (now later : Pipe) (piece : List ℕ) → GivesPrefix now
+    → later.sent ≡ now.sent ++ piece → later.given ≡ now.given → waiting later ≡ waiting now ++ piece
+waiting-put now later piece prefix sent given =
+    ap (λ bytes. drop (length bytes) later.sent) given ∙ drop-grown now.given now.sent piece later.sent prefix sent
+
+-- what is got waits no more
+pub waiting-got : (now later : Pipe) (before after : List ℕ) (count : ℕ) → Moves now later before after count
+    → waiting later ≡ drop count (waiting now)
+waiting-got now later before after count moves =
+    ap (λ bytes. drop (length bytes) later.sent) moves.given
+    ∙ ap (λ n. drop n later.sent) (length-append now.given moves.piece)
+    ∙ ap (λ n. drop (length now.given + n) later.sent) moves.count
+    ∙ ap (drop (length now.given + count)) moves.sent
+    ∙ sym (drop-drop count (length now.given) now.sent)
+
+-- once all that waits was got, there is nothing left to give
+pub IsLevel-got : (now later : Pipe) (before after : List ℕ) (count : ℕ) → Moves now later before after count
+    → GivesPrefix later → length (waiting now) ≤ count → IsLevel later
+IsLevel-got now later before after count moves prefix enough =
+    sym (prefix ∙ ap (λ bytes. later.given ++ bytes)
+        (waiting-got now later before after count moves ∙ drop_all count (waiting now) enough)
+    ∙ append-nil later.given)

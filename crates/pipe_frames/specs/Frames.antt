@@ -54,6 +54,10 @@ abbrev pub continued : Frames → List ℕ → Frames
 continued frames bytes =
     record { whole = frames.whole ++ frames_from frames.rest bytes; rest = held_after frames.rest bytes }
 
+-- whole frames, and one more
+abbrev pub with_frame : Frames → List ℕ → Frames
+with_frame frames text = record { whole = frames.whole ++ text ∷ []; rest = [] }
+
 -- what a splitter's fields are: texts, and the number of bytes that they were cut from
 pub record IsCounted (whole : List (List ℕ)) (rest : List ℕ) (held : ℕ) : Type 0 where
   pub texts : All IsText whole

@@ -1,5 +1,5 @@
 ghost use Rattle.std.specs.Prelude.{◌≡◌, ◌-◌, ◌+◌, ◌≤◌, min, length, OnOk, OnErr, IfOk, Err};
-ghost use Rattle.pipe_frames.specs.Pipe.{Puts, Gets, GivesAll};
+ghost use Rattle.pipe_frames.specs.Pipe.{Puts, Gets, GivesAll, waiting};
 ghost use Rattle.pipe_frames.specs.Calls.{no_flow, pipe_of};
 
 use crate::outside::OutErr;
@@ -36,7 +36,6 @@ impl Channel {
 
     pub(crate) fn put(&mut self, piece: &[u8]) -> Result<(), OutErr>
         ensures puts { Puts (pipe_of self.old) (pipe_of self.new) piece.now result }
-        ensures passed { self.new.passed ≡ self.old.passed }
         ensures memory { OnErr result ((self.new ≡ self.old) × (result ≡ Err OutErr.Memory)) }
     {
         match self.sent.extend_from_slice(piece) {
@@ -48,8 +47,7 @@ impl Channel {
     pub(crate) fn get(&mut self, max: usize, into: &mut Vec<u8>) -> Result<usize, OutErr>
         ensures gets { Gets (pipe_of self.old) (pipe_of self.new) max into.old.items into.new.items result }
         ensures all { GivesAll (pipe_of self.old) max into.old.items into.new.items result }
-        ensures count { IfOk result (λ n. (n ≡ min max (length self.old.sent - self.old.passed)) × (self.new.passed ≡ self.old.passed + n)) }
-        ensures sent { self.new.sent ≡ self.old.sent }
+        ensures count { IfOk result (λ n. n ≡ min max (length (waiting (pipe_of self.old)))) }
         ensures memory { OnErr result ((self.new ≡ self.old) × (result ≡ Err OutErr.Memory)) }
     {
         let count = max.min(self.sent.len() - self.passed);

@@ -1,5 +1,5 @@
 ghost use Rattle.std.specs.Prelude.{◌≡◌, ◌≢◌, ◌<◌, ◌↔◌, ℕ, List, [], ◌∷◌, ◌++◌, length, take, IsNone, IfSome, IfNone, OnOk, OnErr};
-ghost use Rattle.pipe_frames.specs.Frames.{Frames, IsText, Splits, frames_of, bytes_of, continued, framed};
+ghost use Rattle.pipe_frames.specs.Frames.{Frames, IsText, Splits, frames_of, bytes_of, continued, framed, with_frame};
 
 use std::alloc::{AllocError, Global};
 use std::collections::VecDeque;
@@ -114,14 +114,19 @@ pub fn put_frame(text: &[u8], out: &mut Vec<u8>) -> Result<(), AllocError>
     requires { IsText text.now }
     ensures ok { OnOk result (out.new.items ≡ out.old.items ++ framed text.now) }
     ensures err { OnErr result (out.new.items ≡ out.old.items) }
+
+    // After whole frames the text is one frame more.
+    ensures last { (frames_of out.old.items).rest ≡ [] → OnOk result (frames_of out.new.items ≡ with_frame (frames_of out.old.items) text.now) }
 {
     let start = out.len();
     out.extend_from_slice(text)?;
-    if out.push(0).is_err() {
-        out.truncate(start);
-        return Err(AllocError);
+    match out.push(0) {
+        Ok(()) => Ok(()),
+        Err(_) => {
+            out.truncate(start);
+            Err(AllocError)
+        }
     }
-    Ok(())
 }
 
 /// The law of frames: they are the one way to cut bytes into texts, each followed by a zero byte, and a rest, and they are

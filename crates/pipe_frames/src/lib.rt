@@ -18,3 +18,6 @@ pub use memory::{MemLink, MemSink, MemSource};
 pub use outside::{Failed, Link, OutErr, Sink, Source};
 pub use standard::{StdSink, StdSource};
 pub use whole::{ReadErr, read_all, write_all};
+
+#[cfg(test)]
+mod tests;

@@ -1,6 +1,6 @@
 ghost use Rattle.std.specs.Prelude.{◌≡◌, ◌≤◌, ◌-◌, ◌+◌, ◌++◌, Err, IfOk, OnErr, min, take, drop, length};
 ghost use Rattle.pipe_frames.specs.Fault.{HasCause};
-ghost use Rattle.pipe_frames.specs.Pipe.{Puts, Gets};
+ghost use Rattle.pipe_frames.specs.Pipe.{Puts, Gets, GivesAll, waiting};
 ghost use Rattle.pipe_frames.specs.Calls.{no_flow, pipe_of, lying_pipe, replaced, gives_prefix};
 
 use crate::channel::Channel;
@@ -74,7 +74,6 @@ impl Link for LyingLink {
     fn put_down(&mut self, piece: &[u8]) -> Result<(), OutErr>
         ensures down { Puts (pipe_of self.old.down) (pipe_of self.new.down) piece.now result }
         ensures same { self.new ≡ record self.old { down = self.new.down } }
-        ensures passed { self.new.down.passed ≡ self.old.down.passed }
         ensures memory { OnErr result (result ≡ Err OutErr.Memory) }
     {
         self.down.put(piece)
@@ -82,7 +81,7 @@ impl Link for LyingLink {
 
     fn get_up(&mut self, max: usize, into: &mut Vec<u8>) -> Result<usize, OutErr>
         ensures up { Gets (pipe_of self.old.up) (pipe_of self.new.up) max into.old.items into.new.items result }
-        ensures count { IfOk result (λ n. n ≡ min max (length self.old.up.sent - self.old.up.passed)) }
+        ensures all { GivesAll (pipe_of self.old.up) max into.old.items into.new.items result }
         ensures same { self.new ≡ record self.old { up = self.new.up } }
         ensures memory { OnErr result (result ≡ Err OutErr.Memory) }
     {
@@ -91,7 +90,7 @@ impl Link for LyingLink {
 
     fn get_down(&mut self, max: usize, into: &mut Vec<u8>) -> Result<usize, OutErr>
         ensures down { Gets (lying_pipe self.old.place self.old.to self.old.down) (lying_pipe self.new.place self.new.to self.new.down) max into.old.items into.new.items result }
-        ensures count { IfOk result (λ n. n ≡ min max (length self.old.down.sent - self.old.down.passed)) }
+        ensures count { IfOk result (λ n. n ≡ min max (length (waiting (pipe_of self.old.down)))) }
         ensures same { self.new ≡ record self.old { down = self.new.down } }
         ensures memory { OnErr result (result ≡ Err OutErr.Memory) }
     {
