@@ -1,6 +1,6 @@
 -- The front of what a source has left, and a piece that a sink takes.
-use Rattle.std.proofs.Common.{◌≡◌, ℕ, ◌+◌, ◌-◌, ◌≤◌, ◌<◌, List, [], ◌∷◌, ◌++◌, length, take, drop, min, refl, sym, ◌∙◌, ap, arith, rules}
-use Rattle.std.proofs.lemmas.List.{take-append-drop, drop-drop, take_rest, drop_all, length-drop}
+use Rattle.std.proofs.Common.{◌≡◌, ℕ, ◌+◌, ◌-◌, ◌≤◌, ◌<◌, List, [], ◌++◌, length, take, drop, min, sym, arith}
+use Rattle.std.proofs.lemmas.List.{take-append-drop, drop-drop, take_rest, drop_all}
 
 -- the count bytes that came into a buffer are the front of what was left
 pub read_front : (bytes buf : List ℕ) (at count : ℕ)

@@ -1,8 +1,8 @@
 -- What a pipe in memory gives.
-use Rattle.std.proofs.Common.{◌≡◌, ℕ, ◌+◌, ◌-◌, ◌≤◌, ◌<◌, ◌==◌, List, [], ◌∷◌, ◌++◌, length, take, drop, set, min, refl, sym, ◌∙◌, ap, inl, inr, arith, ◌⊎◌}
+use Rattle.std.proofs.Common.{◌≡◌, ℕ, ◌+◌, ◌-◌, ◌≤◌, ◌<◌, List, ◌++◌, length, take, drop, set, refl, sym, ◌∙◌, ap, inl, inr, arith}
 use Rattle.std.proofs.lemmas.Bool.{cases_lt, cases_eq, ne_eqb}
 use Rattle.std.proofs.lemmas.List.{take-append-drop, take-take, drop-take, length-take-le, length-drop, set-append_left, set-append_right, set_past, length-set, take_at, drop_at}
-use Rattle.pipe_frames.specs.Pipe.{Pipe, Moves}
+use Rattle.pipe_frames.specs.Pipe.{Moves}
 use Rattle.pipe_frames.specs.Calls.{Flow, pipe_of, replaced, lying_pipe}
 
 -- a front part is the front part before it, and the piece after that

@@ -1,7 +1,7 @@
 -- The frames of bytes that are joined, and of texts that are framed.
-use Rattle.std.proofs.Common.{◌≡◌, ◌≢◌, ◌==◌, ℕ, ◌+◌, ◌-◌, ◌≤◌, ◌<◌, List, [], ◌∷◌, ◌++◌, length, take, get_or, refl, sym, ◌∙◌, ap, inl, inr, append_assoc, append-nil, arith, rules, cond, true, false, Bool, length-append}
+use Rattle.std.proofs.Common.{◌≡◌, ◌≢◌, ℕ, ◌+◌, ◌-◌, ◌<◌, List, [], ◌∷◌, ◌++◌, length, take, get_or, refl, sym, ◌∙◌, ap, inl, inr, append_assoc, append-nil, arith, length-append}
 use Rattle.std.proofs.lemmas.Bool.{cases_eq, ne_eqb}
-use Rattle.std.proofs.lemmas.List.Elements.{All-nil, All-cons, All-head, All-tail, All-append, All-push}
+use Rattle.std.proofs.lemmas.List.Elements.{All-nil, All-cons, All-head, All-tail}
 use Rattle.std.proofs.lemmas.List.{take_more}
 use Rattle.std.specs.List.{All, flat_map}
 use Rattle.pipe_frames.specs.Frames.{Frames, IsText, framed, bytes_of, Splits, lengthened, put_front, frames_of, frames_from, held_after, continued, with_frame, IsCounted}
@@ -66,7 +66,7 @@ pub frames_of-bytes_of : (whole : List (List ℕ)) (rest : List ℕ) → All IsT
     → frames_of (bytes_of (record { whole = whole; rest = rest })) ≡ record { whole = whole; rest = rest }
 frames_of-bytes_of [] rest texts partial = frames_of-text rest partial
 frames_of-bytes_of (text ∷ whole) rest texts partial =
-    rw append_assoc
+    rw (append_assoc (framed text) (flat_map framed whole) rest)
     (frames_of-framed text (flat_map framed whole ++ rest) (All-head IsText text whole texts)
     ∙ ap (λ frames. record { whole = text ∷ frames.whole; rest = frames.rest })
     (frames_of-bytes_of whole rest (All-tail IsText text whole texts) partial))
@@ -165,7 +165,7 @@ pub continued-framed : (whole : List (List ℕ)) (rest text : List ℕ) → IsTe
     → continued (record { whole = whole; rest = rest }) (framed text) ≡ with_frame (record { whole = whole; rest = rest }) (rest ++ text)
 continued-framed whole rest text letters =
     ap (λ frames. record { whole = whole ++ frames.whole; rest = frames.rest })
-        (ap frames_of (sym (append_assoc rest text (0 ∷ []))) ∙ frames_of-one (rest ++ text) letters)
+    (ap frames_of (sym (append_assoc rest text (0 ∷ []))) ∙ frames_of-one (rest ++ text) letters)
 
 -- after whole frames a framed text is one more
 pub frames_of-last : (bytes text : List ℕ) → IsText text → (frames_of bytes).rest ≡ []

@@ -1,5 +1,5 @@
 -- What was sent and given since an earlier moment, over calls that follow one another.
-use Rattle.std.proofs.Common.{◌≡◌, ℕ, ◌+◌, ◌-◌, ◌≤◌, List, [], ◌∷◌, ◌++◌, length, take, drop, refl, sym, ◌∙◌, ap, append_assoc, append-nil, arith, length-append}
+use Rattle.std.proofs.Common.{◌≡◌, ℕ, ◌+◌, ◌≤◌, List, [], ◌++◌, length, take, drop, refl, sym, ◌∙◌, ap, append_assoc, append-nil, arith, length-append}
 use Rattle.std.proofs.lemmas.List.{drop_all, drop_at, append_cancel_left, drop-drop}
 use Rattle.pipe_frames.specs.Pipe.{Pipe, Moves, waiting, GivesPrefix, IsLevel, sent_since, given_since, since, Extends}
 
@@ -109,5 +109,5 @@ pub IsLevel-got : (now later : Pipe) (before after : List ℕ) (count : ℕ) →
     → GivesPrefix later → length (waiting now) ≤ count → IsLevel later
 IsLevel-got now later before after count moves prefix enough =
     sym (prefix ∙ ap (λ bytes. later.given ++ bytes)
-        (waiting-got now later before after count moves ∙ drop_all count (waiting now) enough)
+    (waiting-got now later before after count moves ∙ drop_all count (waiting now) enough)
     ∙ append-nil later.given)

@@ -67,13 +67,13 @@ impl Splitter {
         ensures ok { OnOk result (self.new ≡ continued self.old (0 ∷ [])) }
         ensures err { OnErr result (self.new ≡ self.old) }
     {
-        let held = self.held.checked_add(1).ok_or(AllocError)?;
+        let held_with_zero = self.held.checked_add(1).ok_or(AllocError)?;
         let frame = mem::replace(&mut self.rest, Vec::new(self.alloc));
         if let Err(refused) = self.whole.push_back(frame) {
             self.rest = refused.value;
             return Err(AllocError);
         }
-        self.held = held;
+        self.held = held_with_zero;
         Ok(())
     }
 

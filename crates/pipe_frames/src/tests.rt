@@ -1,10 +1,17 @@
-use crate::{Failed, Link, LyingLink, MemLink, MemSink, MemSource, OutErr, ReadErr, Sink, Source, Splitter, StdSink, StdSource};
-use crate::{frames_law, put_frame, read_all, write_all};
+use crate::{
+    Failed, Link, LyingLink, MemLink, MemSink, MemSource, OutErr, ReadErr, Sink, Source, Splitter,
+    StdSink, StdSource, frames_law, put_frame, read_all, write_all,
+};
 use std::alloc::{AllocError, Global};
 use std::test::Fail;
 
 // What is left in the outcome of a get: the bytes, `!` where it failed.
-fn pass_down<L: Link>(link: &mut L, piece: &[u8], max: usize, seen: &mut Vec<u8>) -> Result<(), AllocError> {
+fn pass_down<L: Link>(
+    link: &mut L,
+    piece: &[u8],
+    max: usize,
+    seen: &mut Vec<u8>,
+) -> Result<(), AllocError> {
     let sent = link.put_down(piece);
     if sent.is_err() || link.get_down(max, seen).is_err() {
         seen.push(b'!')?;
@@ -13,7 +20,12 @@ fn pass_down<L: Link>(link: &mut L, piece: &[u8], max: usize, seen: &mut Vec<u8>
     Ok(())
 }
 
-fn pass_up<L: Link>(link: &mut L, piece: &[u8], max: usize, seen: &mut Vec<u8>) -> Result<(), AllocError> {
+fn pass_up<L: Link>(
+    link: &mut L,
+    piece: &[u8],
+    max: usize,
+    seen: &mut Vec<u8>,
+) -> Result<(), AllocError> {
     let sent = link.put_up(piece);
     if sent.is_err() || link.get_up(max, seen).is_err() {
         seen.push(b'!')?;
@@ -22,8 +34,22 @@ fn pass_up<L: Link>(link: &mut L, piece: &[u8], max: usize, seen: &mut Vec<u8>) 
     Ok(())
 }
 
+fn pass<L: Link>(alloc: Global, link: &mut L) -> Result<Vec<u8>, AllocError> {
+    let mut seen = Vec::new(alloc);
+    for (piece, max) in [("abc", 2), ("de", 9), ("fg", 9)] {
+        pass_down(link, piece.as_bytes(), max, &mut seen)?;
+    }
+    pass_up(link, b"up", 9, &mut seen)?;
+    Ok(seen)
+}
+
 // The bytes of a whole source, or the first letter of what was wrong.
-fn read<S: Source>(alloc: Global, src: &mut S, limit: usize, seen: &mut Vec<u8>) -> Result<(), AllocError> {
+fn read<S: Source>(
+    alloc: Global,
+    src: &mut S,
+    limit: usize,
+    seen: &mut Vec<u8>,
+) -> Result<(), AllocError> {
     match read_all(alloc, src, limit) {
         Ok(all) => seen.extend_from_slice(all.as_slice())?,
         Err(ReadErr::Failed) => seen.push(b'F')?,
@@ -69,25 +95,17 @@ fn puts_frames(rt: HostRuntime) -> Result<(), Fail> {
 
 #[test]
 fn passes_bytes(rt: HostRuntime) -> Result<(), Fail> {
-    let mut seen = Vec::new(rt.alloc());
     let mut link = MemLink::new(rt.alloc(), vec![in rt.alloc(); 4]?);
-    pass_down(&mut link, b"abc", 2, &mut seen)?;
-    pass_down(&mut link, b"de", 9, &mut seen)?;
-    pass_down(&mut link, b"", 9, &mut seen)?;
-    pass_up(&mut link, b"up", 9, &mut seen)?;
-    assert_eq!(rt; seen.as_slice(), b"ab|!|cde|up|".as_slice());
+    let seen = pass(rt.alloc(), &mut link)?;
+    assert_eq!(rt; seen.as_slice(), b"ab|!|cdefg|up|".as_slice());
     Ok(())
 }
 
 #[test]
 fn lies_once(rt: HostRuntime) -> Result<(), Fail> {
-    let mut seen = Vec::new(rt.alloc());
     let mut link = LyingLink::new(rt.alloc(), 4, b'X');
-    pass_down(&mut link, b"abc", 2, &mut seen)?;
-    pass_down(&mut link, b"de", 9, &mut seen)?;
-    pass_down(&mut link, b"fg", 9, &mut seen)?;
-    pass_up(&mut link, b"abcd", 9, &mut seen)?;
-    assert_eq!(rt; seen.as_slice(), b"ab|cXe|fg|abcd|".as_slice());
+    let seen = pass(rt.alloc(), &mut link)?;
+    assert_eq!(rt; seen.as_slice(), b"ab|cXe|fg|up|".as_slice());
     Ok(())
 }
 
@@ -98,8 +116,18 @@ fn reads_whole_sources(rt: HostRuntime) -> Result<(), Fail> {
     let mut source = MemSource::new(text, 2, vec![in rt.alloc(); 2]?);
     read(rt.alloc(), &mut source, 5, &mut seen)?;
     read(rt.alloc(), &mut source, 3, &mut seen)?;
-    read(rt.alloc(), &mut StdSource::new(b"abc".as_slice()), 3, &mut seen)?;
-    read(rt.alloc(), &mut StdSource::new(b"abc".as_slice()), 2, &mut seen)?;
+    read(
+        rt.alloc(),
+        &mut StdSource::new(b"abc".as_slice()),
+        3,
+        &mut seen,
+    )?;
+    read(
+        rt.alloc(),
+        &mut StdSource::new(b"abc".as_slice()),
+        2,
+        &mut seen,
+    )?;
     assert_eq!(rt; seen.as_slice(), b"F|cde|abc|T|".as_slice());
     Ok(())
 }
@@ -107,7 +135,11 @@ fn reads_whole_sources(rt: HostRuntime) -> Result<(), Fail> {
 #[test]
 fn writes_whole_pieces(rt: HostRuntime) -> Result<(), Fail> {
     let mut sink = MemSink::new(rt.alloc(), vec![in rt.alloc(); 2]?);
-    let said = [write(&mut sink, b"ab"), write(&mut sink, b"cd"), write(&mut sink, b"ef")];
+    let said = [
+        write(&mut sink, b"ab"),
+        write(&mut sink, b"cd"),
+        write(&mut sink, b"ef"),
+    ];
     assert_eq!(rt; said.as_slice(), b".F.".as_slice());
     assert_eq!(rt; sink.bytes(), b"abef".as_slice());
     let mut out = StdSink::new(Vec::new(rt.alloc()));

@@ -1,5 +1,5 @@
 use Rattle.std.proofs.Common.{◌≡◌, take}
-use Rattle.pipe_frames.specs.Frames.{IsText, continued}
+use Rattle.pipe_frames.specs.Frames.{continued}
 use Rattle.pipe_frames.proofs.frames.Splitter.take.Given as goal
 
 abbrev pub invariant-loop-byte : goal.invariant-loop-byte

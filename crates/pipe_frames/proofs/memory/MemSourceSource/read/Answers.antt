@@ -1,4 +1,4 @@
-use Rattle.std.proofs.Common.{◌≡◌, ◌-◌, length, min, arith}
+use Rattle.std.proofs.Common.{◌≡◌, ◌-◌, length, min}
 use Rattle.std.proofs.lemmas.List.{take_rest, length-drop}
 use Rattle.pipe_frames.proofs.ByteLemmas.{read_front, read_end}
 use Rattle.pipe_frames.proofs.memory.MemSourceSource.read.Goals as goal
