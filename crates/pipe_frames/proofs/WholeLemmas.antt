@@ -141,3 +141,26 @@ ReadPart-after before between after bytes room limit read more within = record {
   count = let count : length more.part ≤ room = more.count in rw length-append (omega arith);
   read = Consumes-append before between after bytes more.part read more.read;
 }
+
+-- of a source that tells its bytes, all that it had left
+pub IsAllOf-known : (before after : Option (List ℕ)) (left bytes : List ℕ)
+    → before ≡ Some left → IsAllOf before after bytes → (bytes ≡ left) × (after ≡ Some [])
+IsAllOf-known None after left bytes known all = cc
+IsAllOf-known (Some xs) None left bytes known all = absurd all
+IsAllOf-known (Some xs) (Some ys) left bytes known all =
+    let same : xs ≡ left = cc in (all.0 ∙ same, ap Some all.1)
+
+-- of a source that tells its bytes, how many it had left
+pub HasMoreThan-known : (before : Option (List ℕ)) (left : List ℕ) (limit : ℕ)
+    → before ≡ Some left → HasMoreThan before limit → limit < length left
+HasMoreThan-known None left limit known more = cc
+HasMoreThan-known (Some xs) left limit known more =
+    let same : xs ≡ left = cc in rw same at more
+
+-- of a sink that tells its bytes, what it has taken
+pub Appends-known : (before after : Option (List ℕ)) (taken bytes : List ℕ)
+    → before ≡ Some taken → Appends before after bytes → after ≡ Some (taken ++ bytes)
+Appends-known None after taken bytes known wrote = cc
+Appends-known (Some xs) None taken bytes known wrote = absurd wrote
+Appends-known (Some xs) (Some ys) taken bytes known wrote =
+    let same : xs ≡ taken = cc in ap Some (wrote ∙ ap (λ front. front ++ bytes) same)
