@@ -1,0 +1,6 @@
+mod Options
+pub mod KindLaws
+pub mod RowLaws
+mod Order
+pub mod ReadBack
+pub mod SpelledLaws

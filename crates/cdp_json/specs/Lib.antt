@@ -1,0 +1,9 @@
+pub mod Plain
+pub mod Kinds
+pub mod Rows
+pub mod Lawful
+pub mod Left
+pub mod Fields
+pub mod Writes
+pub mod Gives
+pub mod Lists

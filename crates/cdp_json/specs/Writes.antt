@@ -1,0 +1,25 @@
+-- Writing an object field by field.
+use Rattle.std.specs.Prelude.{ℕ, List, [], ◌∷◌, map, Bool, true, ◌&&◌, Option, Some, None, option_map}
+use Rattle.std.specs.Borrow.{Bor}
+use Rattle.serde_json.specs.Data.{Data, Members, put}
+use Rattle.serde_json.specs.View.{view}
+use Rattle.serde_json.specs.declared.value.Value.{Value}
+use Rattle.cdp_json.specs.Rows.{Written}
+use Rattle.cdp_json.specs.Lawful.{is_before_all}
+
+abbrev pub written : Bor (List ℕ) × Option Value → Written
+written f = (f.0.now, option_map view f.1)
+
+-- each name comes before all later ones
+abbrev pub names_ascend : List Written → Bool
+names_ascend [] = true
+names_ascend (f ∷ fs) = is_before_all f.0 (map (λ g. g.0) fs) && names_ascend fs
+
+-- the members, with d at the name if there is a d
+abbrev pub put_some : List ℕ → Option Data → Members → Members
+put_some name None ms = ms
+put_some name (Some d) ms = put name d ms
+
+abbrev pub put_all : List Written → Members → Members
+put_all [] ms = ms
+put_all (f ∷ fs) ms = put_all fs (put_some f.0 f.1 ms)

@@ -1,0 +1,24 @@
+-- What the readers answer, beside the definitions; want of memory may come at any time.
+use Rattle.std.specs.Prelude.{◌≡◌, ℕ, List, [], ◌∷◌, ◌++◌, Option, Some, None, Result, Ok, Err, ⊤}
+use Rattle.cdp_messages.specs.declared.command.Asked.{Asked}
+use Rattle.cdp_messages.specs.declared.command.ReadErr.{ReadErr}
+use Rattle.cdp_messages.specs.declared.command.ReadErr.TheVariants as read_err
+use Rattle.cdp_messages.specs.declared.command.Refused.{Refused}
+use Rattle.cdp_messages.specs.declared.down.DownErr.{DownErr}
+use Rattle.cdp_messages.specs.declared.down.DownErr.TheVariants.{NotMessage, Memory}
+
+-- a command is answered as what was asked, a refusal as what is refused
+abbrev pub Asks : Result Asked ReadErr → Result Asked Refused → Type 0
+Asks (Ok a) r = r ≡ Ok a
+Asks (Err (read_err.Refused x)) r = r ≡ Err x
+Asks (Err read_err.Memory) r = ⊤
+
+-- Ok tells, as f sees it, what was read; NotMessage comes exactly where nothing is
+abbrev pub Gives : {T X : Type 0} → (T → X) → Result T DownErr → Option X → Type 0
+Gives f (Ok t) r = r ≡ Some (f t)
+Gives f (Err NotMessage) r = r ≡ None
+Gives f (Err Memory) r = ⊤
+
+-- a text as it is sent: with one zero byte after it
+abbrev pub ended : List ℕ → List ℕ
+ended text = text ++ 0 ∷ []

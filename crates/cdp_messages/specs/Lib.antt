@@ -1,0 +1,9 @@
+pub mod Told
+pub mod NodeObject
+pub mod NodeData
+pub mod Refusals
+pub mod Asked
+pub mod Replies
+pub mod Answers
+pub mod Raw
+pub mod Laws

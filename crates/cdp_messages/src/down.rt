@@ -1,0 +1,51 @@
+// Messages on the way down.
+ghost use Rattle.std.specs.Prelude.{◌≡◌};
+ghost use Rattle.cdp_messages.specs.declared.down.DownErr.TheVariants.{Memory};
+
+use crate::tree::NodeTree;
+use node_tree::Text;
+use serde_json::Value;
+use std::alloc::{AllocError, AllocFailed};
+
+/// A message from the back end.
+#[derive(Drop)]
+pub enum Down {
+    /// The result is an object; what stands in it is for `read_result`.
+    Reply { id: u64, result: Value },
+    /// An error reply, without an id where the frame that is refused had none.
+    Fault {
+        id: Option<u64>,
+        code: i64,
+        text: Text,
+    },
+}
+
+/// The result of a reply.
+#[derive(Drop, Debug)]
+pub enum ReplyBody {
+    /// Of `DOM.getDocument`: the document.
+    Root(NodeTree),
+}
+
+#[derive(Clone, Copy, PartialEq, Eq, Debug)]
+pub enum DownErr {
+    /// No message has this form.
+    NotMessage,
+    Memory,
+}
+
+impl From<AllocError> for DownErr {
+    ghost from_gives = { λ _ e. e ≡ Memory };
+
+    fn from(_error: AllocError) -> DownErr {
+        DownErr::Memory
+    }
+}
+
+impl<T: Drop> From<AllocFailed<T>> for DownErr {
+    ghost from_gives = { λ _ e. e ≡ Memory };
+
+    fn from(_error: AllocFailed<T>) -> DownErr {
+        DownErr::Memory
+    }
+}

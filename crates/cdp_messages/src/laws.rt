@@ -1,0 +1,18 @@
+// The laws of the messages, which make no call.
+ghost use Rattle.cdp_messages.specs.Laws.{CommandsAreAsked, ParametersAreAsked, RepliesAreRead, RepliesAreShallow, RefusalsAreRead, ResultsAreRead, MessagesAreSpelled, ResultsAreSpelled, OneMessage, OneResult, TextsHaveNoZero};
+
+/// What a writer appends is read as what it was given, nothing else is read, and no value spells two messages.
+pub fn spell_law()
+    ensures commands { CommandsAreAsked }
+    ensures parameters { ParametersAreAsked }
+    ensures replies { RepliesAreRead }
+    ensures shallow { RepliesAreShallow }
+    ensures refusals { RefusalsAreRead }
+    ensures results { ResultsAreRead }
+    ensures messages_spelled { MessagesAreSpelled }
+    ensures results_spelled { ResultsAreSpelled }
+    ensures one_message { OneMessage }
+    ensures one_result { OneResult }
+    ensures no_zero { TextsHaveNoZero }
+{
+}

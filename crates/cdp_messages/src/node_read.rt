@@ -1,0 +1,264 @@
+// A tree of nodes out of a JSON value.
+ghost use Rattle.std.specs.Prelude.{◌≡◌, [], codes, option_map, unwrap_or, bytes_eq, IfOk};
+ghost use Rattle.serde_json.specs.Events.{items_len};
+ghost use Rattle.serde_json.specs.Data.{array};
+ghost use Rattle.serde_json.specs.View.{view, items_view};
+ghost use Rattle.cdp_json.specs.Left.{left};
+ghost use Rattle.cdp_json.specs.Rows.{beside, need, may};
+ghost use Rattle.node_tree.specs.Nodes.{nodes_of};
+ghost use Rattle.cdp_messages.specs.Answers.{Gives};
+ghost use Rattle.cdp_messages.specs.NodeData.{tree_of, trees_of};
+ghost use Rattle.cdp_messages.specs.NodeObject.{attribute_list, kind_of_type, node_type, node_name, node_fields};
+
+use crate::down::DownErr;
+use crate::node_rules::{fits_hold, is_document, is_formed_label, is_named_label};
+use crate::node_write::{is_container, is_element, local_name, node_name};
+use crate::tree::NodeTree;
+use cdp_json::{Cursor, text_of};
+use node_tree::{Attributes, Kind, Text};
+use serde_json::Value;
+use std::alloc::{AllocError, Global};
+
+// The fields of a node's object.
+#[derive(Drop)]
+pub(crate) struct RawNode<'a> {
+    attributes: Option<Attributes>,
+    serial: u64,
+    count: Option<u64>,
+    children: Option<&'a [Value]>,
+    local_name: &'a str,
+    id: u64,
+    name: &'a str,
+    kind: Kind,
+    value: &'a str,
+    parent: Option<u64>,
+}
+
+// Names and values in turn.
+fn attributes_of(alloc: Global, values: &[Value]) -> Result<Attributes, DownErr>
+    ensures { Gives (λ pairs. pairs) result (attribute_list.reads (array (items_view values.now))) }
+{
+    let mut pairs = Attributes::new(alloc);
+    let mut rest = values;
+    while let [name, value, later @ ..] = rest {
+        let name = text_of(name).ok_or(DownErr::NotMessage)?;
+        let value = text_of(value).ok_or(DownErr::NotMessage)?;
+        pairs.push(Text::copied(alloc, name)?, Text::copied(alloc, value)?)?;
+        rest = later;
+    }
+    if rest.is_empty() {
+        Ok(pairs)
+    } else {
+        Err(DownErr::NotMessage)
+    }
+}
+
+fn or_none(alloc: Global, attributes: Option<Attributes>) -> Attributes
+    ensures { result ≡ unwrap_or attributes [] }
+{
+    match attributes {
+        Some(attributes) => attributes,
+        None => Attributes::new(alloc),
+    }
+}
+
+fn kind_of_type(number: u64) -> Option<Kind>
+    ensures { result ≡ kind_of_type number }
+{
+    match number {
+        1 => Some(Kind::Element),
+        3 => Some(Kind::Text),
+        8 => Some(Kind::Comment),
+        9 => Some(Kind::Document),
+        10 => Some(Kind::Doctype),
+        _ => None,
+    }
+}
+
+fn kind_field(fields: &mut Cursor<'_>) -> Option<Kind>
+    ensures { option_map (beside (left fields.new)) result ≡ need node_type.reads (codes "nodeType") (left fields.old) }
+{
+    let number = fields.need_whole("nodeType")?;
+    kind_of_type(number)
+}
+
+fn attributes_field(alloc: Global, fields: &mut Cursor<'_>) -> Result<Option<Attributes>, DownErr>
+    ensures { Gives (beside (left fields.new)) result (may attribute_list.reads (codes "attributes") (left fields.old)) }
+{
+    match fields.may_list("attributes") {
+        None => Err(DownErr::NotMessage),
+        Some(None) => Ok(None),
+        Some(Some(values)) => match attributes_of(alloc, values) {
+            Ok(pairs) => Ok(Some(pairs)),
+            Err(error) => Err(error),
+        },
+    }
+}
+
+impl<'a> RawNode<'a> {
+    ghost use Rattle.cdp_messages.specs.Raw.{object_in};
+
+    // Exactly these fields, in their forms.
+    fn read(alloc: Global, value: &'a Value) -> Result<RawNode<'a>, DownErr>
+        ensures { Gives object_in result (node_fields.reads (view value.now)) }
+    {
+        let object = value.as_object().ok_or(DownErr::NotMessage)?;
+        let mut fields = Cursor::new(object);
+        let attributes = attributes_field(alloc, &mut fields)?;
+        let serial = fields.need_whole("backendNodeId").ok_or(DownErr::NotMessage)?;
+        let count = fields.may_whole("childNodeCount").ok_or(DownErr::NotMessage)?;
+        let children = fields.may_list("children").ok_or(DownErr::NotMessage)?;
+        let local_name = fields.need_text("localName").ok_or(DownErr::NotMessage)?;
+        let id = fields.need_whole("nodeId").ok_or(DownErr::NotMessage)?;
+        let name = fields.need_text("nodeName").ok_or(DownErr::NotMessage)?;
+        let kind = kind_field(&mut fields).ok_or(DownErr::NotMessage)?;
+        let value = fields.need_text("nodeValue").ok_or(DownErr::NotMessage)?;
+        let parent = fields.may_whole("parentId").ok_or(DownErr::NotMessage)?;
+        if !fields.is_done() {
+            return Err(DownErr::NotMessage);
+        }
+        Ok(RawNode {
+            attributes,
+            serial,
+            count,
+            children,
+            local_name,
+            id,
+            name,
+            kind,
+            value,
+            parent,
+        })
+    }
+}
+
+impl<'a> RawNode<'a> {
+    ghost use Rattle.serde_json.specs.Data.{no_items};
+    ghost use Rattle.node_tree.specs.Labels.{is_element, holds};
+    ghost use Rattle.cdp_messages.specs.Told.{told_tree};
+    ghost use Rattle.cdp_messages.specs.NodeObject.{name_in, label_in, told_in, children_in, agrees, fits_place, tells};
+    ghost use Rattle.cdp_messages.specs.Raw.{object_in};
+
+    // The name of the node that is told.
+    fn label_name(&self) -> &'a str
+        ensures { result.now ≡ name_in self.now.kind self.now.local_name.now self.now.name.now }
+    {
+        match self.kind {
+            Kind::Element => self.local_name,
+            Kind::Doctype => self.name,
+            Kind::Document | Kind::Text | Kind::Comment => "",
+        }
+    }
+
+    fn pairs(&self) -> &[(Text, Text)]
+        ensures { result.now ≡ unwrap_or self.now.attributes [] }
+    {
+        match &self.attributes {
+            Some(attributes) => attributes.as_slice(),
+            None => &[],
+        }
+    }
+
+    // Whether the name that is shown is that of the node.
+    fn shows_name(&self, alloc: Global) -> Result<bool, AllocError>
+        ensures { IfOk result (λ b. b ≡ bytes_eq self.now.name.now (node_name (label_in (object_in self.now)))) }
+    {
+        let shown = node_name(alloc, self.kind, self.label_name())?;
+        Ok(self.name == shown.as_str())
+    }
+
+    // Whether the fields say the same as the row that they tell.
+    fn agrees(&self, alloc: Global) -> Result<bool, AllocError>
+        ensures { IfOk result (λ b. b ≡ agrees (object_in self.now)) }
+    {
+        let same_parts = self.attributes.is_some() == is_element(self.kind) && self.count.is_some() == is_container(self.kind);
+        let same_local_name = self.local_name == local_name(self.kind, self.label_name());
+        let named = self.shows_name(alloc)?;
+        let parent = match self.parent {
+            Some(parent) => parent > 0,
+            None => true,
+        };
+        Ok(same_parts && same_local_name && named && parent)
+    }
+
+    // Whether the node may stand here, at the top of a document or below it.
+    fn fits_place(&self, top: bool) -> bool
+        ensures { result ≡ fits_place top (items_len (children_in (object_in self.now))) (told_in (object_in self.now)) }
+    {
+        let count = self.count.unwrap_or(0);
+        let parent = self.parent.unwrap_or(0);
+        self.id > 0
+            && self.serial > 0
+            && is_formed_label(self.kind, self.label_name(), self.value, self.pairs())
+            && is_named_label(self.kind, self.label_name(), self.value, self.pairs())
+            && is_document(self.kind) == top
+            && (parent == 0) == top
+            && fits_hold(self.children, is_container(self.kind), count)
+    }
+
+    fn tells(&self, alloc: Global, top: bool) -> Result<bool, AllocError>
+        ensures { IfOk result (λ b. b ≡ tells top (object_in self.now)) }
+    {
+        Ok(self.agrees(alloc)? && self.fits_place(top))
+    }
+
+    // The node with these children.
+    fn finished(self, alloc: Global, children: Option<Vec<NodeTree>>) -> Result<NodeTree, AllocError>
+        ensures { IfOk result (λ tree. tree ≡ told_tree (unwrap_or self.entry.parent 0) (unwrap_or self.entry.count 0) self.entry.id
+            self.entry.serial (label_in (object_in self.entry)) children) }
+    {
+        let name = Text::copied(alloc, self.label_name())?;
+        let value = Text::copied(alloc, self.value)?;
+        Ok(NodeTree {
+            id: self.id,
+            serial: self.serial,
+            parent: self.parent.unwrap_or(0),
+            kind: self.kind,
+            name,
+            value,
+            attributes: or_none(alloc, self.attributes),
+            count: self.count.unwrap_or(0),
+            children,
+        })
+    }
+}
+
+// Reads a node with all that is shown below it; `top` says whether it is the document.
+#[cycle(tree_of)]
+pub(crate) fn tree_of(alloc: Global, value: &Value, top: bool) -> Result<NodeTree, DownErr>
+    ensures { Gives (λ tree. tree) result (tree_of top (view value.now)) }
+{
+    let raw = match RawNode::read(alloc, value) {
+        Ok(raw) => raw,
+        Err(error) => return Err(error),
+    };
+    let told = raw.tells(alloc, top)?;
+    if !told {
+        return Err(DownErr::NotMessage);
+    }
+    match raw.children {
+        Some(values) => match trees_of(alloc, values) {
+            Ok(trees) => {
+                let tree = raw.finished(alloc, Some(trees))?;
+                Ok(tree)
+            }
+            Err(error) => Err(error),
+        },
+        None => {
+            let tree = raw.finished(alloc, None)?;
+            Ok(tree)
+        }
+    }
+}
+
+#[cycle(tree_of)]
+fn trees_of(alloc: Global, values: &[Value]) -> Result<Vec<NodeTree>, DownErr>
+    ensures { Gives (λ trees. nodes_of trees.items) result (trees_of (items_view values.now)) }
+{
+    let mut trees = Vec::with_capacity(alloc, values.len())?;
+    for value in values {
+        let tree = tree_of(alloc, value, false)?;
+        trees.push(tree)?;
+    }
+    Ok(trees)
+}

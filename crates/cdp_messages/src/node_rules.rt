@@ -1,0 +1,123 @@
+// What has to hold of a node that a message tells.
+ghost use Rattle.std.specs.Prelude.{◌≡◌, if◌then◌else◌, is_some, option_map, unwrap_or};
+ghost use Rattle.std.specs.List.{list_all};
+ghost use Rattle.serde_json.specs.Data.{no_items};
+ghost use Rattle.serde_json.specs.Events.{items_len};
+ghost use Rattle.serde_json.specs.View.{items_view};
+ghost use Rattle.node_tree.specs.Labels.{is_document, is_element, has_name, has_value, is_empty, is_before, is_ascending, is_formed_label, is_named_label};
+ghost use Rattle.node_tree.specs.Names.{is_attribute_name};
+ghost use Rattle.cdp_messages.specs.Told.{hold_of};
+ghost use Rattle.cdp_messages.specs.NodeObject.{fits_hold};
+
+use crate::node_write::is_element;
+use node_tree::{Kind, Text, is_attribute_name, is_element_name};
+use serde_json::Value;
+use std::cmp::Ordering;
+
+pub(crate) fn is_document(kind: Kind) -> bool
+    ensures { result ≡ is_document kind }
+{
+    match kind {
+        Kind::Document => true,
+        Kind::Element | Kind::Text | Kind::Comment | Kind::Doctype => false,
+    }
+}
+
+fn has_name(kind: Kind) -> bool
+    ensures { result ≡ has_name kind }
+{
+    match kind {
+        Kind::Element | Kind::Doctype => true,
+        Kind::Document | Kind::Text | Kind::Comment => false,
+    }
+}
+
+fn has_value(kind: Kind) -> bool
+    ensures { result ≡ has_value kind }
+{
+    match kind {
+        Kind::Text | Kind::Comment => true,
+        Kind::Document | Kind::Element | Kind::Doctype => false,
+    }
+}
+
+fn is_blank(text: &str) -> bool
+    ensures { result ≡ is_empty text.now }
+{
+    text.is_empty()
+}
+
+fn is_before(first: &str, second: &str) -> bool
+    ensures { result ≡ is_before first.now second.now }
+{
+    match first.cmp(&second) {
+        Ordering::Less => true,
+        Ordering::Equal | Ordering::Greater => false,
+    }
+}
+
+// The names are distinct and ascend by bytes.
+fn is_ascending(pairs: &[(Text, Text)]) -> bool
+    ensures { result ≡ is_ascending pairs.now }
+{
+    let mut last = None;
+    for pair in pairs {
+        let name = pair.0.as_str();
+        if let Some(earlier) = last {
+            if !is_before(earlier, name) {
+                return false;
+            }
+        }
+        last = Some(name);
+    }
+    true
+}
+
+fn are_attribute_names(pairs: &[(Text, Text)]) -> bool
+    ensures { result ≡ list_all (λ p. is_attribute_name p.0) pairs.now }
+{
+    for pair in pairs {
+        if !is_attribute_name(pair.0.as_str()) {
+            return false;
+        }
+    }
+    true
+}
+
+fn are_formed(kind: Kind, pairs: &[(Text, Text)]) -> bool
+    ensures { result ≡ (if is_element kind then is_ascending pairs.now else is_empty pairs.now) }
+{
+    if is_element(kind) {
+        return is_ascending(pairs);
+    }
+    match pairs {
+        [] => true,
+        _ => false,
+    }
+}
+
+// What stands in a label but for the forms of names.
+pub(crate) fn is_formed_label(kind: Kind, name: &str, value: &str, pairs: &[(Text, Text)]) -> bool
+    ensures { result ≡ is_formed_label (record { kind = kind; name = name.now; value = value.now; attributes = pairs.now }) }
+{
+    are_formed(kind, pairs) && (has_name(kind) || is_blank(name)) && (has_value(kind) || is_blank(value))
+}
+
+// The names of a label have their forms.
+pub(crate) fn is_named_label(kind: Kind, name: &str, value: &str, pairs: &[(Text, Text)]) -> bool
+    ensures { result ≡ is_named_label (record { kind = kind; name = name.now; value = value.now; attributes = pairs.now }) }
+{
+    let _value = value;
+    (!has_name(kind) || is_element_name(name)) && are_attribute_names(pairs)
+}
+
+// What is shown below a node is as its kind and its number of children say.
+pub(crate) fn fits_hold(children: Option<&[Value]>, container: bool, count: u64) -> bool
+    ensures { result ≡ fits_hold (hold_of (is_some children.entry) container count) container count
+        (items_len (unwrap_or (option_map (λ xs. items_view xs.now) children.entry) no_items)) }
+{
+    match children {
+        Some(values) => container && count == values.len() as u64,
+        None => container || count == 0,
+    }
+}

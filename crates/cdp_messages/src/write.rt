@@ -1,0 +1,172 @@
+// Writing frames.
+ghost use Rattle.std.specs.Prelude.{◌≡◌, ◌++◌, ℤ, IsTrue, IfOk, OnOk, OnErr, option_map, false, string_bytes, IsUtf8};
+ghost use Rattle.serde_json.specs.View.{view};
+ghost use Rattle.serde_json.specs.Written.{compact_text, has_float};
+ghost use Rattle.cdp_messages.specs.Refusals.{param_name, code_of, text_of};
+ghost use Rattle.cdp_messages.specs.Asked.{command_value, command_text, is_whole_where_there};
+ghost use Rattle.cdp_messages.specs.Replies.{error_kind, reply, fault, message_data, body_data, reply_text, refused_text};
+ghost use Rattle.cdp_messages.specs.Answers.{ended};
+
+use crate::command::{Param, Refused, Why};
+use crate::down::ReplyBody;
+use crate::node_write::node_value;
+use cdp_json::object;
+use serde_json::Value;
+use std::alloc::{AllocError, Global};
+
+// Appends the text of a value and a zero byte.
+pub(crate) fn append(alloc: Global, value: &Value, out: &mut Vec<u8>) -> Result<(), AllocError>
+    requires { has_float (view value.now) ≡ false }
+    ensures ok { OnOk result (out.new.items ≡ out.old.items ++ ended (compact_text (view value.now))) }
+    ensures utf8 { OnOk result (IsUtf8 (compact_text (view value.now))) }
+    ensures err { OnErr result (out.new.items ≡ out.old.items) }
+{
+    let mut text = value.to_vec(alloc)?;
+    text.push(0)?;
+    out.extend_from_slice(text.as_slice())
+}
+
+// A copy of the value, where there is one.
+fn copied(value: Option<&Value>) -> Result<Option<Value>, AllocError>
+    ensures { IfOk result (λ copy. option_map view copy ≡ option_map (λ v. view v.now) value.entry) }
+{
+    match value {
+        Some(value) => Ok(Some(value.clone()?)),
+        None => Ok(None),
+    }
+}
+
+fn command_value(
+    alloc: Global,
+    id: u64,
+    method: &str,
+    params: Option<&Value>,
+    session: Option<&Value>,
+) -> Result<Value, AllocError>
+    ensures { IfOk result (λ v. view v ≡ command_value id method.now
+        (option_map (λ p. view p.now) params.entry) (option_map (λ s. view s.now) session.entry)) }
+{
+    let params = copied(params)?;
+    let session = copied(session)?;
+    let method = Value::try_from_str(alloc, method)?;
+    let fields = vec![in alloc; ("id", Some(Value::from(id))), ("method", Some(method)), ("params", params), ("sessionId", session)]?;
+    object(alloc, fields)
+}
+
+/// Appends a command as one frame, with its zero byte. No number in `params` and `session` has a point or an exponent.
+pub fn write_command(
+    alloc: Global,
+    id: u64,
+    method: &str,
+    params: Option<&Value>,
+    session: Option<&Value>,
+    out: &mut Vec<u8>,
+) -> Result<(), AllocError>
+    requires params { IsTrue (is_whole_where_there (option_map (λ p. view p.now) params)) }
+    requires session { IsTrue (is_whole_where_there (option_map (λ s. view s.now) session)) }
+    ensures ok { OnOk result (out.new.items ≡ out.old.items ++ ended (command_text id method.now
+        (option_map (λ p. view p.now) params.entry) (option_map (λ s. view s.now) session.entry))) }
+    ensures err { OnErr result (out.new.items ≡ out.old.items) }
+{
+    let value = command_value(alloc, id, method, params, session)?;
+    append(alloc, &value, out)
+}
+
+fn param_name(param: Param) -> &'static str
+    ensures { result.now ≡ param_name param }
+{
+    match param {
+        Param::Depth => "depth",
+        Param::Pierce => "pierce",
+    }
+}
+
+fn code_of(why: Why) -> i64
+    ensures { result ≡ code_of why }
+{
+    match why {
+        Why::NotJson => -32700,
+        Why::NoId => -32600,
+        Why::BadRequest => -32600,
+        Why::NoSession => -32001,
+        Why::NoMethod => -32601,
+        Why::BadParam(_) => -32602,
+    }
+}
+
+fn text_of(alloc: Global, why: Why) -> Result<String, AllocError>
+    ensures { IfOk result (λ text. string_bytes text ≡ text_of why) }
+{
+    match why {
+        Why::NotJson => String::from_str(alloc, "not JSON"),
+        Why::NoId => String::from_str(alloc, "no usable id"),
+        Why::BadRequest => String::from_str(alloc, "bad request"),
+        Why::NoSession => String::from_str(alloc, "unknown session"),
+        Why::NoMethod => String::from_str(alloc, "unknown method"),
+        Why::BadParam(param) => {
+            let mut text = String::from_str(alloc, "bad parameter: ")?;
+            text.push_str(param_name(param))?;
+            Ok(text)
+        }
+    }
+}
+
+fn error_value(alloc: Global, code: i64, text: String) -> Result<Value, AllocError>
+    ensures { IfOk result (λ v. view v ≡ error_kind.spell (code, (string_bytes text, tt))) }
+{
+    let fields = vec![in alloc; ("code", Some(Value::from(code))), ("message", Some(Value::String(text)))]?;
+    object(alloc, fields)
+}
+
+fn fault_value(alloc: Global, id: Option<u64>, code: i64, text: String) -> Result<Value, AllocError>
+    ensures { IfOk result (λ v. view v ≡ message_data (fault id code (string_bytes text))) }
+{
+    let error = error_value(alloc, code, text)?;
+    let id = match id {
+        Some(id) => Some(Value::from(id)),
+        None => None,
+    };
+    let fields = vec![in alloc; ("error", Some(error)), ("id", id)]?;
+    object(alloc, fields)
+}
+
+/// Appends a refusal as one frame, with its zero byte.
+pub fn write_refused(alloc: Global, refused: &Refused, out: &mut Vec<u8>) -> Result<(), AllocError>
+    ensures ok { OnOk result (out.new.items ≡ out.old.items ++ ended (refused_text refused.now)) }
+    ensures utf8 { OnOk result (IsUtf8 (refused_text refused.now)) }
+    ensures err { OnErr result (out.new.items ≡ out.old.items) }
+{
+    let text = text_of(alloc, refused.why)?;
+    let value = fault_value(alloc, refused.id, code_of(refused.why), text)?;
+    append(alloc, &value, out)
+}
+
+fn body_value(alloc: Global, body: &ReplyBody) -> Result<Value, AllocError>
+    ensures { IfOk result (λ v. view v ≡ body_data body.now) }
+{
+    match body {
+        ReplyBody::Root(tree) => {
+            let root = node_value(alloc, tree)?;
+            let fields = vec![in alloc; ("root", Some(root))]?;
+            object(alloc, fields)
+        }
+    }
+}
+
+fn reply_value(alloc: Global, id: u64, body: Value) -> Result<Value, AllocError>
+    ensures { IfOk result (λ v. view v ≡ message_data (reply id (view body))) }
+{
+    let fields = vec![in alloc; ("id", Some(Value::from(id))), ("result", Some(body))]?;
+    object(alloc, fields)
+}
+
+/// Appends a reply as one frame, with its zero byte.
+pub fn write_reply(alloc: Global, id: u64, body: &ReplyBody, out: &mut Vec<u8>) -> Result<(), AllocError>
+    ensures ok { OnOk result (out.new.items ≡ out.old.items ++ ended (reply_text id body.now)) }
+    ensures utf8 { OnOk result (IsUtf8 (reply_text id body.now)) }
+    ensures err { OnErr result (out.new.items ≡ out.old.items) }
+{
+    let body = body_value(alloc, body)?;
+    let value = reply_value(alloc, id, body)?;
+    append(alloc, &value, out)
+}

@@ -1,0 +1,203 @@
+-- How a fold goes on, and that an ask more only waits.
+use Rattle.std.proofs.Common.{◌≡◌, ℕ, ℤ, suc, ◌+◌, ◌==◌, Bool, true, false, cond, List, [], ◌∷◌, ◌++◌, Option, Some, None, Result, Ok, Err, codes, refl, sym, ap, ◌∙◌, subst, append_assoc}
+use Rattle.serde_json.specs.Data.{Data}
+use Rattle.node_tree.specs.Nodes.{Nodes, none, node, Branch, alone}
+use Rattle.node_tree.specs.Seen.{Seen}
+use Rattle.pipe_frames.specs.Frames.{Frames, frames_of, frames_from, held_after, continued}
+use Rattle.pipe_frames.proofs.FrameLemmas.{frames_of-append}
+use Rattle.cdp_messages.specs.declared.down.ReplyBody.{ReplyBody}
+use Rattle.cdp_messages.specs.declared.down.ReplyBody.TheVariants.{Root}
+use Rattle.cdp_messages.specs.Told.{Told, seen_nodes, told_nodes, told_branch, seen-told}
+use Rattle.cdp_messages.specs.Replies.{Message, reply, fault, down_of, result_of}
+use Rattle.front_mirror.specs.declared.replies.Ask.{Ask}
+use Rattle.front_mirror.specs.declared.faults.FrontKind.{FrontKind}
+use Rattle.front_mirror.specs.declared.faults.FrontFault.{FrontFault}
+use Rattle.front_mirror.specs.Views.{IsView}
+use Rattle.front_mirror.specs.Front.{FrontValue, first_value, method_of, without, root_fault, kept, replied, refused, with_root, with_body, with_reply, with_fault, with_message, take_frame, Folded, after_message, folded, outcome, fold_frames, fold, FrontState, first_state, after_bytes, unless_refused, after_take, after_ask}
+use Rattle.front_mirror.specs.Laws.{joined, IsFold}
+use Rattle.front_mirror.proofs.ViewLemmas.{root_fault-told}
+
+-- ---- one fold after another
+
+abbrev gone_on : List (List ℕ) → FrontValue → Option FrontFault → Folded
+gone_on frames v None = folded v frames
+gone_on frames v (Some f) = record { value = v; fault = Some f }
+
+after_message-append : (v : FrontValue) (first more : List (List ℕ)) (r : Result FrontValue FrontKind)
+    → ((w : FrontValue) → folded w (first ++ more) ≡ gone_on more (folded w first).value (folded w first).fault)
+    → after_message v (λ w. folded w (first ++ more)) r
+    ≡ gone_on more (after_message v (λ w. folded w first) r).value (after_message v (λ w. folded w first) r).fault
+after_message-append v first more (Ok w) rest = rest w
+after_message-append v first more (Err kind) rest = refl
+
+folded-append : (first more : List (List ℕ)) (v : FrontValue) → folded v (first ++ more) ≡ gone_on more (folded v first).value (folded v first).fault
+folded-append [] more v = refl
+folded-append (frame ∷ first) more v = after_message-append v first more (take_frame v frame) (folded-append first more)
+
+outcome_ok : (v w : FrontValue) (f : Option FrontFault) → outcome v f ≡ Ok w → (v ≡ w) × (f ≡ None)
+outcome_ok v w None e = (cc, refl)
+outcome_ok v w (Some f) e = absurd cc
+
+-- a fold that met no fault goes on from its value
+pub fold_frames-append : (first more : List (List ℕ)) (v w : FrontValue) → fold_frames v first ≡ Ok w → fold_frames v (first ++ more) ≡ fold_frames w more
+fold_frames-append first more v w e =
+    let p = outcome_ok (folded v first).value w (folded v first).fault e in
+    ap (λ (end : Folded). outcome end.value end.fault)
+    (folded-append first more v ∙ ap (gone_on more (folded v first).value) p.1 ∙ ap (λ (u : FrontValue). folded u more) p.0)
+
+pub frames_from-append : (first more : List ℕ) → frames_from [] (first ++ more) ≡ frames_from [] first ++ frames_from (held_after [] first) more
+frames_from-append first more = ap (λ (frames : Frames). frames.whole) (frames_of-append first more)
+
+pub held_after-append : (first more : List ℕ) → held_after [] (first ++ more) ≡ held_after (held_after [] first) more
+held_after-append first more = ap (λ (frames : Frames). frames.rest) (frames_of-append first more)
+
+-- a fold goes on with the bytes that come after
+pub fold-append : (waiting : List Ask) (down more : List ℕ) (v : FrontValue) → fold waiting down ≡ Ok v
+    → fold waiting (down ++ more) ≡ fold_frames v (frames_from (held_after [] down) more)
+fold-append waiting down more v e =
+    ap (fold_frames (first_value waiting)) (frames_from-append down more)
+    ∙ fold_frames-append (frames_from [] down) (frames_from (held_after [] down) more) (first_value waiting) v e
+
+-- ---- an ask more
+
+method_of-here : (v : Bool) (a m : List ℕ) (o p : Option (List ℕ)) → (o ≡ Some m → p ≡ Some m) → cond v (Some a) o ≡ Some m → cond v (Some a) p ≡ Some m
+method_of-here true a m o p rest e = e
+method_of-here false a m o p rest e = rest e
+
+method_of-more : (id : ℕ) (asks : List Ask) (ask : Ask) (m : List ℕ) → method_of id asks ≡ Some m → method_of id (asks ++ ask ∷ []) ≡ Some m
+method_of-more id [] ask m e = cc
+method_of-more id (a ∷ asks) ask m e =
+    method_of-here (a.id == id) a.method m (method_of id asks) (method_of id (asks ++ ask ∷ [])) (method_of-more id asks ask m) e
+
+without-here : (v : Bool) (a ask : Ask) (m : List ℕ) (o : Option (List ℕ)) (asks less more : List Ask) → (o ≡ Some m → more ≡ less ++ ask ∷ [])
+    → cond v (Some a.method) o ≡ Some m → cond v (asks ++ ask ∷ []) (a ∷ more) ≡ cond v asks (a ∷ less) ++ ask ∷ []
+without-here true a ask m o asks less more rest e = refl
+without-here false a ask m o asks less more rest e = ap (λ (later : List Ask). a ∷ later) (rest e)
+
+without-more : (id : ℕ) (asks : List Ask) (ask : Ask) (m : List ℕ) → method_of id asks ≡ Some m → without id (asks ++ ask ∷ []) ≡ without id asks ++ ask ∷ []
+without-more id [] ask m e = cc
+without-more id (a ∷ asks) ask m e =
+    without-here (a.id == id) a ask m (method_of id asks) asks (without id asks) (without id (asks ++ ask ∷ [])) (without-more id asks ask m) e
+
+abbrev taken_well : FrontValue → Result FrontValue FrontKind
+taken_well v = Ok v
+
+abbrev folded_well : FrontValue → Result FrontValue FrontFault
+folded_well v = Ok v
+
+replied-more : (v w : FrontValue) (ask : Ask) (id : ℕ) (frame : List ℕ) (good : Bool) (tree : Nodes Seen) (m : List ℕ) → method_of id v.asks ≡ Some m
+    → taken_well (replied v id frame good tree) ≡ Ok w → taken_well (replied (joined v ask) id frame good tree) ≡ Ok (joined w ask)
+replied-more v w ask id frame good tree m waits e =
+    let same : replied v id frame good tree ≡ w = cc in
+    ap (λ (asks : List Ask). taken_well (record (replied v id frame good tree) { asks = asks })) (without-more id v.asks ask m waits)
+    ∙ ap (λ (u : FrontValue). taken_well (joined u ask)) same
+
+with_root-more : (v w : FrontValue) (ask : Ask) (id : ℕ) (frame : List ℕ) (root : Branch Told) (m : List ℕ) (wrong : Option FrontKind) → method_of id v.asks ≡ Some m
+    → with_root v id frame root wrong ≡ Ok w → with_root (joined v ask) id frame root wrong ≡ Ok (joined w ask)
+with_root-more v w ask id frame root m None waits e = replied-more v w ask id frame true (seen_nodes (alone root)) m waits e
+with_root-more v w ask id frame root m (Some kind) waits e = cc
+
+with_body-more : (v w : FrontValue) (ask : Ask) (id : ℕ) (frame : List ℕ) (m : List ℕ) (body : Option ReplyBody) → method_of id v.asks ≡ Some m
+    → with_body v id frame body ≡ Ok w → with_body (joined v ask) id frame body ≡ Ok (joined w ask)
+with_body-more v w ask id frame m None waits e = cc
+with_body-more v w ask id frame m (Some (Root root)) waits e = with_root-more v w ask id frame root m (root_fault root) waits e
+
+with_reply-more : (v w : FrontValue) (ask : Ask) (id : ℕ) (frame : List ℕ) (result : Data) (o : Option (List ℕ)) → method_of id v.asks ≡ o
+    → with_reply v id frame result o ≡ Ok w → with_reply (joined v ask) id frame result (method_of id (v.asks ++ ask ∷ [])) ≡ Ok (joined w ask)
+with_reply-more v w ask id frame result None waits e = cc
+with_reply-more v w ask id frame result (Some m) waits e =
+    ap (with_reply (joined v ask) id frame result) (method_of-more id v.asks ask m waits)
+    ∙ with_body-more v w ask id frame m (result_of m result) waits e
+
+with_fault-more : (v w : FrontValue) (ask : Ask) (id : ℕ) (frame : List ℕ) (o : Option (List ℕ)) → method_of id v.asks ≡ o
+    → with_fault v id frame o ≡ Ok w → with_fault (joined v ask) id frame (method_of id (v.asks ++ ask ∷ [])) ≡ Ok (joined w ask)
+with_fault-more v w ask id frame None waits e = cc
+with_fault-more v w ask id frame (Some m) waits e =
+    ap (with_fault (joined v ask) id frame) (method_of-more id v.asks ask m waits)
+    ∙ replied-more v w ask id frame false v.tree m waits e
+
+with_message-more : (v w : FrontValue) (ask : Ask) (frame : List ℕ) (message : Option Message)
+    → with_message v frame message ≡ Ok w → with_message (joined v ask) frame message ≡ Ok (joined w ask)
+with_message-more v w ask frame None e = cc
+with_message-more v w ask frame (Some (reply id result)) e = with_reply-more v w ask id frame result (method_of id v.asks) refl e
+with_message-more v w ask frame (Some (fault None code text)) e =
+    let same : refused v frame ≡ w = cc in ap (λ (u : FrontValue). taken_well (joined u ask)) same
+with_message-more v w ask frame (Some (fault (Some id) code text)) e = with_fault-more v w ask id frame (method_of id v.asks) refl e
+
+pub take_frame-more : (v w : FrontValue) (ask : Ask) (frame : List ℕ) → take_frame v frame ≡ Ok w → take_frame (joined v ask) frame ≡ Ok (joined w ask)
+take_frame-more v w ask frame e = with_message-more v w ask frame (down_of frame) e
+
+more_step : (v w : FrontValue) (ask : Ask) (frame : List ℕ) (frames : List (List ℕ)) (r : Result FrontValue FrontKind) → take_frame v frame ≡ r
+    → ((u : FrontValue) → fold_frames u frames ≡ Ok w → fold_frames (joined u ask) frames ≡ Ok (joined w ask))
+    → outcome (after_message v (λ u. folded u frames) r).value (after_message v (λ u. folded u frames) r).fault ≡ Ok w
+    → fold_frames (joined v ask) (frame ∷ frames) ≡ Ok (joined w ask)
+more_step v w ask frame frames (Ok u) is rest e =
+    ap (λ (r : Result FrontValue FrontKind). outcome (after_message (joined v ask) (λ u. folded u frames) r).value (after_message (joined v ask) (λ u. folded u frames) r).fault)
+    (take_frame-more v u ask frame is)
+    ∙ rest u e
+more_step v w ask frame frames (Err kind) is rest e = cc
+
+-- an ask more only joins those that wait
+pub fold_frames-more : (frames : List (List ℕ)) (ask : Ask) (v w : FrontValue) → fold_frames v frames ≡ Ok w → fold_frames (joined v ask) frames ≡ Ok (joined w ask)
+fold_frames-more [] ask v w e = let same : v ≡ w = cc in ap (λ (u : FrontValue). folded_well (joined u ask)) same
+fold_frames-more (frame ∷ frames) ask v w e =
+    more_step v w ask frame frames (take_frame v frame) refl (λ u. fold_frames-more frames ask u w) e
+
+pub fold-more : (waiting : List Ask) (ask : Ask) (down : List ℕ) (v : FrontValue) → fold waiting down ≡ Ok v → fold (waiting ++ ask ∷ []) down ≡ Ok (joined v ask)
+fold-more waiting ask down v e = fold_frames-more (frames_from [] down) ask (first_value waiting) v e
+
+-- ---- one message
+
+-- the reply to `DOM.getDocument` that tells a view gives that view
+pub take_frame-root : (v : FrontValue) (id : ℕ) (frame : List ℕ) (result : Data) (method : List ℕ) (b : Branch Seen) → IsView (alone b)
+    → down_of frame ≡ Some (reply id result) → method_of id v.asks ≡ Some method → result_of method result ≡ Some (Root (told_branch 0 b))
+    → take_frame v frame ≡ Ok (replied v id frame true (alone b))
+take_frame-root v id frame result method b view read waits body =
+    ap (with_message v frame) read
+    ∙ ap (with_reply v id frame result) waits
+    ∙ ap (with_body v id frame) body
+    ∙ ap (with_root v id frame (told_branch 0 b)) (root_fault-told b view)
+    ∙ ap (λ (tree : Nodes Seen). taken_well (replied v id frame true tree)) (seen-told 0 (alone b))
+
+pub take_frame-fault : (v : FrontValue) (id : ℕ) (frame : List ℕ) (code : ℤ) (text : List ℕ) (method : List ℕ)
+    → down_of frame ≡ Some (fault (Some id) code text) → method_of id v.asks ≡ Some method → take_frame v frame ≡ Ok (replied v id frame false v.tree)
+take_frame-fault v id frame code text method read waits = ap (with_message v frame) read ∙ ap (with_fault v id frame) waits
+
+pub take_frame-refusal : (v : FrontValue) (frame : List ℕ) (code : ℤ) (text : List ℕ)
+    → down_of frame ≡ Some (fault None code text) → take_frame v frame ≡ Ok (refused v frame)
+take_frame-refusal v frame code text read = ap (with_message v frame) read
+
+-- ---- a front that runs
+
+pub fold_begins : IsFold [] [] first_state
+unfolding frames_of
+fold_begins = record { value = refl; rest = refl; well = refl }
+
+taken_on : (s : FrontState) (piece : List ℕ) → s.fault ≡ None → after_take s piece ≡ after_bytes s piece
+taken_on s piece well = ap (λ (f : Option FrontFault). unless_refused f s (after_bytes s piece)) well
+
+pub fold_takes : (waiting : List Ask) (down piece : List ℕ) (s : FrontState) → IsFold waiting down s
+    → fold waiting (down ++ piece) ≡ outcome (after_take s piece).value (after_take s piece).fault
+fold_takes waiting down piece s is =
+    fold-append waiting down piece s.value is.value
+    ∙ ap (λ (rest : List ℕ). fold_frames s.value (frames_from rest piece)) (sym is.rest)
+    ∙ ap (λ (after : FrontState). outcome after.value after.fault) (sym (taken_on s piece is.well))
+
+pub fold_stays : (waiting : List Ask) (down piece : List ℕ) (s : FrontState) → IsFold waiting down s
+    → (after_take s piece).fault ≡ None → IsFold waiting (down ++ piece) (after_take s piece)
+fold_stays waiting down piece s is well = record {
+  value = fold_takes waiting down piece s is ∙ ap (outcome (after_take s piece).value) well;
+  rest =
+      ap (λ (after : FrontState). after.rest) (taken_on s piece is.well)
+      ∙ ap (λ (rest : List ℕ). held_after rest piece) is.rest
+      ∙ sym (held_after-append down piece);
+  well = well;
+}
+
+pub fold_asks : (waiting : List Ask) (down method : List ℕ) (s : FrontState) → IsFold waiting down s
+    → IsFold (waiting ++ record { id = s.next; method = method } ∷ []) down (after_ask s method)
+fold_asks waiting down method s is = record {
+  value = fold-more waiting (record { id = s.next; method = method }) down s.value is.value;
+  rest = is.rest;
+  well = is.well;
+}

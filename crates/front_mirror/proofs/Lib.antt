@@ -1,0 +1,6 @@
+pub mod OutlineLemmas
+pub mod ToldLemmas
+pub mod DistinctLemmas
+pub mod ViewLemmas
+pub mod MessageLemmas
+pub mod FoldLemmas

@@ -1,0 +1,11 @@
+use Rattle.front_mirror.proofs.FoldLemmas.{take_frame-root, take_frame-fault, take_frame-refusal}
+use Rattle.front_mirror.proofs.laws.move_law.Goals as goal
+
+pub returns-clause-root : goal.returns-clause-root
+returns-clause-root c = take_frame-root
+
+pub returns-clause-fault : goal.returns-clause-fault
+returns-clause-fault c = take_frame-fault
+
+pub returns-clause-refusal : goal.returns-clause-refusal
+returns-clause-refusal c = take_frame-refusal

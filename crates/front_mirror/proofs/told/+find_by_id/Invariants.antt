@@ -1,0 +1,11 @@
+use Rattle.std.proofs.Common.{◌≡◌, drop}
+use Rattle.node_tree.specs.Nodes.{nodes_of, node_count}
+use Rattle.node_tree.specs.Keys.{find}
+use Rattle.front_mirror.specs.Shown.{told_id}
+use Rattle.front_mirror.proofs.told.+find_by_id.Given as goal
+
+abbrev pub decreases-find_by_id : goal.decreases-find_by_id
+decreases-find_by_id l = node_count (nodes_of l.nodes.now)
+
+abbrev pub invariant-loop-node : goal.invariant-loop-node
+invariant-loop-node l = find told_id l.id (nodes_of (drop l.node-index l.nodes)) ≡ find told_id l.id (nodes_of l.nodes)

@@ -1,0 +1,37 @@
+-- How the values of a front are coded, so that a model can have them.
+use Rattle.std.specs.Prelude.{ℕ, Bool, List, Option, refl}
+use Rattle.std.specs.Coded.{Coded, code_by, coded×, coded_list, coded_option, coded_bool, coded_ℕ}
+use Rattle.node_tree.specs.Nodes.{Nodes, coded_nodes}
+use Rattle.node_tree.specs.Seen.{Seen, coded_seen}
+use Rattle.front_mirror.specs.contracts.faults.FrontKind as kind
+use Rattle.front_mirror.specs.declared.replies.Ask.{Ask}
+use Rattle.front_mirror.specs.declared.replies.Kept.{Kept}
+use Rattle.front_mirror.specs.declared.faults.FrontKind.{FrontKind}
+use Rattle.front_mirror.specs.declared.faults.FrontFault.{FrontFault}
+use Rattle.front_mirror.specs.Front.{FrontValue, FrontState}
+
+abbrev pub coded_ask : Coded Ask
+coded_ask = code_by (ℕ × List ℕ) (coded× coded_ℕ (coded_list coded_ℕ)) (λ a. (a.id, a.method)) (λ p. record { id = p.0; method = p.1 }) (λ _. refl)
+
+abbrev pub coded_kept : Coded Kept
+coded_kept =
+    code_by (Option ℕ × (List ℕ × Bool)) (coded× (coded_option coded_ℕ) (coded× (coded_list coded_ℕ) coded_bool)) (λ k. (k.id, (k.text, k.good)))
+    (λ p. record { id = p.0; text = p.1.0; good = p.1.1 }) (λ _. refl)
+
+abbrev pub coded_fault : Coded FrontFault
+coded_fault = code_by (ℕ × FrontKind) (coded× coded_ℕ kind.the_row.coded) (λ f. (f.place, f.kind)) (λ p. record { place = p.0; kind = p.1 }) (λ _. refl)
+
+abbrev pub coded_value : Coded FrontValue
+coded_value =
+    code_by ((Nodes Seen × List Ask) × (List Kept × ℕ)) (coded× (coded× (coded_nodes coded_seen) (coded_list coded_ask)) (coded× (coded_list coded_kept) coded_ℕ))
+    (λ v. ((v.tree, v.asks), (v.replies, v.taken)))
+    (λ p. record { tree = p.0.0; asks = p.0.1; replies = p.1.0; taken = p.1.1 })
+    (λ _. refl)
+
+abbrev pub coded_state : Coded FrontState
+coded_state =
+    code_by ((FrontValue × List ℕ) × (Option FrontFault × (ℕ × Bool)))
+    (coded× (coded× coded_value (coded_list coded_ℕ)) (coded× (coded_option coded_fault) (coded× coded_ℕ coded_bool)))
+    (λ s. ((s.value, s.rest), (s.fault, (s.next, s.dead))))
+    (λ p. record { value = p.0.0; rest = p.0.1; fault = p.1.0; next = p.1.1.0; dead = p.1.1.1 })
+    (λ _. refl)

@@ -1,0 +1,24 @@
+-- What a front knows, as its value.
+use Rattle.std.specs.Prelude.{◌≡◌, Option, Some, None, Result, Ok, Err, ⊤}
+use Rattle.front_mirror.specs.declared.faults.FrontKind.{FrontKind}
+use Rattle.front_mirror.specs.declared.known.Known.{Known}
+use Rattle.front_mirror.specs.declared.known.FrameErr.{FrameErr}
+use Rattle.front_mirror.specs.declared.known.FrameErr.TheVariants.{Refused, Memory}
+use Rattle.front_mirror.specs.declared.faults.FrontErr.{FrontErr}
+use Rattle.front_mirror.specs.declared.faults.FrontErr.TheVariants as front_err
+use Rattle.front_mirror.specs.Front.{FrontValue, Folded}
+
+abbrev pub value_of : Known → FrontValue
+value_of k = record { tree = k.mirror; asks = k.asks.items; replies = k.replies.items; taken = k.taken }
+
+-- Ok is the front after, a refusal leaves the front as it was, and want of memory says nothing.
+abbrev pub Takes : FrontValue → FrontValue → Result (Unit {0}) FrameErr → Result FrontValue FrontKind → Type 0
+Takes old new (Ok done) r = r ≡ Ok new
+Takes old new (Err (Refused kind)) r = (r ≡ Err kind) × (new ≡ old)
+Takes old new (Err Memory) r = ⊤
+
+-- Ok is a fold without a fault, a fault is the one that the fold met, and want of memory says nothing.
+abbrev pub Ends : Folded → FrontValue → Result (Unit {0}) FrontErr → Type 0
+Ends end v (Ok done) = end ≡ record { value = v; fault = None }
+Ends end v (Err (front_err.Fault f)) = end ≡ record { value = v; fault = Some f }
+Ends end v (Err front_err.Memory) = ⊤

@@ -1,0 +1,80 @@
+-- What the fold keeps.
+use Rattle.std.specs.Prelude.{◌≡◌, ℕ, ℤ, List, [], ◌∷◌, ◌++◌, true, false, Option, Some, None, Ok}
+use Rattle.serde_json.specs.Data.{Data}
+use Rattle.node_tree.specs.Nodes.{Branch, alone}
+use Rattle.node_tree.specs.Seen.{Seen}
+use Rattle.pipe_frames.specs.Frames.{frames_from, held_after}
+use Rattle.cdp_messages.specs.declared.down.ReplyBody.TheVariants.{Root}
+use Rattle.cdp_messages.specs.Told.{told_branch}
+use Rattle.cdp_messages.specs.Replies.{reply, fault, down_of, result_of}
+use Rattle.front_mirror.specs.declared.replies.Ask.{Ask}
+use Rattle.front_mirror.specs.Views.{IsView}
+use Rattle.front_mirror.specs.Front.{FrontValue, method_of, replied, refused, take_frame, outcome, fold_frames, fold, FrontState, first_state, after_take, after_ask}
+
+-- the front with one ask more that waits
+abbrev pub joined : FrontValue → Ask → FrontValue
+joined v ask = record v { asks = v.asks ++ ask ∷ [] }
+
+-- the fold of a longer stream goes on from the fold of the shorter one
+abbrev pub GoesOn : Type 0
+GoesOn =
+    (waiting : List Ask) (down more : List ℕ) (v : FrontValue) → fold waiting down ≡ Ok v
+    → fold waiting (down ++ more) ≡ fold_frames v (frames_from (held_after [] down) more)
+
+-- an ask more only joins those that wait
+abbrev pub AskJoins : Type 0
+AskJoins =
+    (waiting : List Ask) (ask : Ask) (down : List ℕ) (v : FrontValue) → fold waiting down ≡ Ok v
+    → fold (waiting ++ ask ∷ []) down ≡ Ok (joined v ask)
+
+-- ---- a front that runs
+
+-- The state of a front is that of the fold: of the bytes that it took, in whatever pieces, and the asks that it sent.
+pub record IsFold (waiting : List Ask) (down : List ℕ) (s : FrontState) : Type 0 where
+  pub value : fold waiting down ≡ Ok s.value
+  pub rest : s.rest ≡ held_after [] down
+  pub well : s.fault ≡ None
+
+-- a new front is the fold of nothing
+abbrev pub Begins : Type 0
+Begins = IsFold [] [] first_state
+
+-- after more bytes it has the value of the fold of them all, or the fault that this fold meets
+abbrev pub TakesFold : Type 0
+TakesFold =
+    (waiting : List Ask) (down piece : List ℕ) (s : FrontState) → IsFold waiting down s
+    → fold waiting (down ++ piece) ≡ outcome (after_take s piece).value (after_take s piece).fault
+
+-- and where there was no fault it is their fold
+abbrev pub StaysFold : Type 0
+StaysFold =
+    (waiting : List Ask) (down piece : List ℕ) (s : FrontState) → IsFold waiting down s
+    → (after_take s piece).fault ≡ None → IsFold waiting (down ++ piece) (after_take s piece)
+
+-- after an ask it is the fold that waits for this one too
+abbrev pub AsksFold : Type 0
+AsksFold =
+    (waiting : List Ask) (down method : List ℕ) (s : FrontState) → IsFold waiting down s
+    → IsFold (waiting ++ record { id = s.next; method = method } ∷ []) down (after_ask s method)
+
+-- ---- single messages
+
+-- a reply that tells a view as a document gives a front that has the view, and its ask waits no longer
+abbrev pub RootGives : Type 0
+RootGives =
+    (v : FrontValue) (id : ℕ) (frame : List ℕ) (result : Data) (method : List ℕ) (b : Branch Seen) → IsView (alone b)
+    → down_of frame ≡ Some (reply id result) → method_of id v.asks ≡ Some method → result_of method result ≡ Some (Root (told_branch 0 b))
+    → take_frame v frame ≡ Ok (replied v id frame true (alone b))
+
+-- an error reply to an ask that waits leaves the view as it is, and the ask waits no longer
+abbrev pub FaultStays : Type 0
+FaultStays =
+    (v : FrontValue) (id : ℕ) (frame : List ℕ) (code : ℤ) (text : List ℕ) (method : List ℕ)
+    → down_of frame ≡ Some (fault (Some id) code text) → method_of id v.asks ≡ Some method
+    → take_frame v frame ≡ Ok (replied v id frame false v.tree)
+
+-- an error reply that names no ask leaves the view and the asks as they are
+abbrev pub RefusalStays : Type 0
+RefusalStays =
+    (v : FrontValue) (frame : List ℕ) (code : ℤ) (text : List ℕ)
+    → down_of frame ≡ Some (fault None code text) → take_frame v frame ≡ Ok (refused v frame)

@@ -1,0 +1,27 @@
+ghost use Rattle.std.specs.Prelude.{◌≡◌, [], OnOk};
+ghost use Rattle.front_mirror.specs.Front.{folded};
+ghost use Rattle.front_mirror.specs.Known.{value_of, Ends};
+
+use crate::faults::{FrontErr, FrontFault};
+use crate::known::{FrameErr, Known};
+use pipe_frames::Splitter;
+use std::alloc::AllocError;
+
+/// Folds the frames that are whole, up to the first that is refused.
+pub(crate) fn fold_whole(known: &mut Known, splitter: &mut Splitter) -> Result<(), FrontErr>
+    ensures ends { Ends (folded (value_of known.old) splitter.old.whole) (value_of known.new) result }
+    ensures whole { OnOk result (splitter.new.whole ≡ []) }
+    ensures rest { splitter.new.rest ≡ splitter.old.rest }
+{
+    while let Some(frame) = splitter.next() {
+        let place = known.taken.checked_add(1).ok_or(AllocError)?;
+        match known.take_frame(frame) {
+            Ok(()) => {}
+            Err(FrameErr::Refused(kind)) => {
+                return Err(FrontErr::Fault(FrontFault { place, kind }));
+            }
+            Err(FrameErr::Memory) => return Err(FrontErr::Memory),
+        }
+    }
+    Ok(())
+}

@@ -1,0 +1,27 @@
+//! The front end of the inspector: it folds the messages of a back end into a mirror of the page, keeps the replies, and
+//! prints the mirror.
+#![tactic(auto)]
+
+mod asks;
+mod faults;
+mod folding;
+mod front;
+mod known;
+mod laws;
+mod lines;
+mod mirror;
+mod outline;
+mod replies;
+mod roots;
+mod told;
+
+pub use faults::{FrontErr, FrontFault, FrontKind};
+pub use front::Front;
+pub use laws::{front_law, move_law};
+pub use lines::write_node_line;
+pub use mirror::Mirror;
+pub use outline::write_outline;
+pub use replies::{Ask, Kept};
+
+#[cfg(test)]
+mod tests;

@@ -1,0 +1,116 @@
+ghost use Rattle.std.specs.Prelude.{◌≡◌, ℕ, ◌++◌, OnOk, IfOk, string_bytes, decimal};
+ghost use Rattle.std.specs.List.{flat_map};
+ghost use Rattle.front_mirror.specs.Outline.{indent, quoted, attribute_text, label_text, unshown_text, node_line};
+
+use node_tree::{Attributes, Kind};
+use serde_json::Value;
+use std::alloc::{AllocError, Global};
+
+/// Appends two spaces for each level.
+#[tactic(auto, using(crate::proofs::OutlineLemmas::indent_more))]
+pub(crate) fn write_indent(level: usize, out: &mut Vec<u8>) -> Result<(), AllocError>
+    ensures { OnOk result (out.new.items ≡ out.old.items ++ indent level) }
+{
+    for _ in 0..level {
+        out.extend_from_slice(b"  ")?;
+    }
+    Ok(())
+}
+
+fn write_decimal(alloc: Global, number: u64, out: &mut Vec<u8>) -> Result<(), AllocError>
+    ensures { OnOk result (out.new.items ≡ out.old.items ++ decimal number) }
+{
+    let digits = number.to_string(alloc)?;
+    out.extend_from_slice(digits.as_bytes())?;
+    Ok(())
+}
+
+fn write_quoted(alloc: Global, text: &str, out: &mut Vec<u8>) -> Result<(), AllocError>
+    ensures { OnOk result (out.new.items ≡ out.old.items ++ quoted text.now) }
+{
+    let value = Value::String(String::from_str(alloc, text)?);
+    let bytes = value.to_vec(alloc)?;
+    out.extend_from_slice(&bytes)?;
+    Ok(())
+}
+
+fn write_attributes(
+    alloc: Global,
+    attributes: &Attributes,
+    out: &mut Vec<u8>,
+) -> Result<(), AllocError>
+    ensures { OnOk result (out.new.items ≡ out.old.items ++ flat_map attribute_text attributes.now) }
+{
+    for (name, value) in attributes.as_slice() {
+        out.extend_from_slice(b" ")?;
+        out.extend_from_slice(name.as_str().as_bytes())?;
+        out.extend_from_slice(b"=")?;
+        write_quoted(alloc, value.as_str(), out)?;
+    }
+    Ok(())
+}
+
+fn write_label(
+    alloc: Global,
+    kind: Kind,
+    name: &str,
+    value: &str,
+    attributes: &Attributes,
+    out: &mut Vec<u8>,
+) -> Result<(), AllocError>
+    ensures { OnOk result (out.new.items ≡ out.old.items
+        ++ label_text (record { kind = kind; name = name.now; value = value.now; attributes = attributes.now })) }
+{
+    match kind {
+        Kind::Document => out.extend_from_slice(b"#document")?,
+        Kind::Element => {
+            out.extend_from_slice(b"<")?;
+            out.extend_from_slice(name.as_bytes())?;
+            write_attributes(alloc, attributes, out)?;
+            out.extend_from_slice(b">")?;
+        }
+        Kind::Text => write_quoted(alloc, value, out)?,
+        Kind::Comment => {
+            out.extend_from_slice(b"<!--")?;
+            write_quoted(alloc, value, out)?;
+            out.extend_from_slice(b"-->")?;
+        }
+        Kind::Doctype => {
+            out.extend_from_slice(b"<!")?;
+            out.extend_from_slice(name.as_bytes())?;
+            out.extend_from_slice(b">")?;
+        }
+    }
+    Ok(())
+}
+
+fn write_unshown(alloc: Global, unshown: u64, out: &mut Vec<u8>) -> Result<(), AllocError>
+    ensures { OnOk result (out.new.items ≡ out.old.items ++ unshown_text unshown) }
+{
+    if unshown == 0 {
+        return Ok(());
+    }
+    out.extend_from_slice(b" +")?;
+    write_decimal(alloc, unshown, out)
+}
+
+/// Appends the line of one node, without indent and line feed: its number, its label, and ` +n` where `unshown` children,
+/// at least one, are not shown.
+pub fn write_node_line(
+    alloc: Global,
+    number: u64,
+    kind: Kind,
+    name: &str,
+    value: &str,
+    attributes: &Attributes,
+    unshown: u64,
+    out: &mut Vec<u8>,
+) -> Result<(), AllocError>
+    ensures { OnOk result (out.new.items ≡ out.old.items
+        ++ node_line number (record { kind = kind; name = name.now; value = value.now; attributes = attributes.now }) unshown) }
+{
+    write_decimal(alloc, number, out)?;
+    out.extend_from_slice(b" ")?;
+    write_label(alloc, kind, name, value, attributes, out)?;
+    write_unshown(alloc, unshown, out)
+}

@@ -1,0 +1,11 @@
+pub mod TableLemmas
+pub mod Places
+pub mod BoundLemmas
+pub mod Known
+pub mod StandsLemmas
+pub mod OpeningLemmas
+pub mod RevealLemmas
+pub mod StartLemmas
+pub mod SessionLemmas
+pub mod CutLemmas
+pub mod PairLemmas

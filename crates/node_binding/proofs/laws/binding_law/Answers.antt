@@ -1,0 +1,9 @@
+use Rattle.node_binding.proofs.StandsLemmas.{Stands-begun, Stands-reset, Stands-document_opened}
+use Rattle.node_binding.proofs.laws.binding_law.Goals as goal
+
+pub returns : goal.returns
+returns c = record {
+  begun = Stands-begun;
+  reset = Stands-reset;
+  start = λ d n m w b distinct stands. Stands-document_opened d n w b distinct stands.next_is;
+}

@@ -1,0 +1,79 @@
+-- What one client's session has of the page: what is opened, and the ids.
+use Rattle.std.specs.Prelude.{◌≡◌, ℕ, ◌≤◌, ◌<◌, Bool, true, false, cond, ◌==◌, List, [], ◌∷◌, ◌++◌, option_map, length, drop, find, Option, Some, None, IfSome}
+use Rattle.node_tree.specs.Nodes.{Nodes, none, Branch}
+use Rattle.node_tree.specs.Seen.{Seen}
+use Rattle.page_tree.specs.Pages.{Row}
+use Rattle.node_binding.specs.Counts.{is_in, place}
+use Rattle.node_binding.specs.Cuts.{known, shown_anew, cut}
+use Rattle.node_binding.specs.Openings.{above, opened_without, IsOpenedSet}
+use Rattle.node_binding.specs.Ids.{id_of}
+
+-- The opened set, if anything is known; all serials pushed since the session began; their number at the last reset.
+pub record Session : Type 0 where
+  pub opened : Option (ℕ → Bool)
+  pub pushed : List ℕ
+  pub since : ℕ
+
+abbrev pub is_open : Option (ℕ → Bool) → ℕ → Bool
+is_open None s = false
+is_open (Some o) s = o s
+
+-- the known nodes, in document order; none where nothing is opened
+abbrev pub known_by : Option (ℕ → Bool) → Nodes Row → List ℕ
+known_by None n = []
+known_by (Some o) n = known o n
+
+abbrev pub cut_by : Option (ℕ → Bool) → (ℕ → ℕ) → Nodes Row → Nodes Seen
+cut_by None i n = none
+cut_by (Some o) i n = cut o i n
+
+-- the id of a serial, which counts where the node is known
+abbrev pub ids_in : Session → ℕ → ℕ
+ids_in w s = id_of w.pushed w.since s
+
+abbrev pub knows : Session → Nodes Row → ℕ → Bool
+knows w n s = is_in s (known_by w.opened n)
+
+-- the id of a known node
+abbrev pub id_at : Session → Nodes Row → ℕ → Option ℕ
+id_at w n s = cond (knows w n s) (Some (ids_in w s)) None
+
+-- the known node that has the id
+abbrev pub serial_at : Session → Nodes Row → ℕ → Option ℕ
+serial_at w n id = find (λ s. ids_in w s == id) (known_by w.opened n)
+
+-- the tree that the client sees of the page n
+abbrev pub view : Session → Nodes Row → Nodes Seen
+view w n = cut_by w.opened (ids_in w) n
+
+-- What holds of each session with the page n.
+pub record IsSession (n : Nodes Row) (w : Session) : Type 0 where
+  pub opened_set : IfSome w.opened (λ o. IsOpenedSet o n)
+  pub since_then : w.since ≤ length w.pushed
+  pub known_stand : (s : ℕ) → knows w n s ≡ true → 0 < place (drop w.since w.pushed) s
+
+-- ---- what changes a session
+
+-- as it begins
+abbrev pub begun : Session
+begun = record { opened = None; pushed = []; since = 0 }
+
+-- nothing is known, and the ids so far are dead
+abbrev pub reset : Session → Session
+reset w = record { opened = None; pushed = w.pushed; since = length w.pushed }
+
+-- reset, and then the containers of a level below d are opened, and all nodes that are known then get their ids
+abbrev pub document_opened : Option ℕ → Nodes Row → Session → Session
+document_opened d n w = record { opened = Some (above d n); pushed = w.pushed ++ known (above d n) n; since = length w.pushed }
+
+-- the opened set grows to p, and all nodes that become known get their ids
+abbrev pub grown : (o p : ℕ → Bool) → Nodes Row → Session → Session
+grown o p n w = record { opened = Some p; pushed = w.pushed ++ shown_anew o p n; since = w.since }
+
+-- a node was attached below an opened one, and gets its id
+abbrev pub attached : ℕ → Session → Session
+attached s w = record { opened = w.opened; pushed = w.pushed ++ s ∷ []; since = w.since }
+
+-- the tree x goes
+abbrev pub detached : Branch Row → Session → Session
+detached x w = record { opened = option_map (opened_without x) w.opened; pushed = w.pushed; since = w.since }

@@ -1,0 +1,134 @@
+ghost use Rattle.std.specs.Prelude.{◌≡◌, ◌+◌, ◌<◌, ◌^◌, OnOk};
+ghost use Rattle.std.specs.FinMap as map;
+ghost use Rattle.std.specs.FinSet as set;
+ghost use Rattle.node_tree.specs.Nodes.{nodes_of, alone, node_count};
+ghost use Rattle.node_binding.specs.Openings.{IsDepth, levels_of};
+ghost use Rattle.node_binding.specs.Bindings.{empty_from, cleared, started, revealed, with_bound, with_opened};
+
+use crate::levels::{is_reached, less, levels_of};
+use crate::tables::{NumberMap, NumberSet};
+use page_tree::{Page, Tree};
+use std::alloc::{AllocError, Global};
+use std::marker::Model;
+
+/// The opened containers, and the pairs of ids and serials of the known nodes.
+///
+/// Each look-up takes time that grows with the logarithm of the number of known nodes. After want of memory a binding
+/// may have a part of what was asked for.
+#[derive(Drop)]
+pub struct Binding {
+    opened: NumberSet,
+    ids: NumberMap,
+    serials: NumberMap,
+    next: u64,
+}
+
+impl Model for Binding {
+    ghost use Rattle.node_binding.specs.Bindings.{Bound, coded_bound};
+
+    ghost Value = { Bound };
+
+    ghost coded = { coded_bound };
+
+    ghost view = { λ a. record { opened = a.opened; ids = a.ids; serials = a.serials; next = a.next } };
+}
+
+impl Binding {
+    /// Nothing is known, and the first id is 1. Takes no memory.
+    pub fn new(alloc: Global) -> Binding
+        ensures { result ≡ empty_from 1 }
+    {
+        Binding {
+            opened: NumberSet::new(alloc),
+            ids: NumberMap::new(alloc),
+            serials: NumberMap::new(alloc),
+            next: 1,
+        }
+    }
+
+    /// Resets, and then opens the document by `depth` levels, or all of the page where it is -1. The known nodes get their
+    /// ids in document order.
+    pub fn start(&mut self, page: &Page, depth: i64) -> Result<(), AllocError>
+        requires depth { IsDepth depth }
+        requires room { self.old.next < 2 ^ 60 }
+        ensures { OnOk result
+            (self.new ≡ started (levels_of depth) (alone page.now.tree) self.old) }
+    {
+        page.valid();
+        self.reset();
+        let root = page.root();
+        let levels = levels_of(depth);
+        self.bind(root.serial)?;
+        self.open(root.serial)?;
+        self.reveal(&root.children, less(levels))?;
+        Ok(())
+    }
+
+    /// The trees become known, and their containers are opened to that many levels.
+    fn reveal(&mut self, trees: &[Tree], levels: Option<u64>) -> Result<(), AllocError>
+        requires { self.old.next + node_count (nodes_of trees.now) < 2 ^ 63 }
+        ensures { OnOk result (self.new ≡ revealed levels (nodes_of trees.now) self.old) }
+    {
+        for tree in trees {
+            self.bind(tree.serial)?;
+            if is_reached(tree.kind, levels) {
+                self.open(tree.serial)?;
+                self.reveal(&tree.children, less(levels))?;
+            }
+        }
+        Ok(())
+    }
+
+    /// Nothing is known from now on, and the ids so far are dead; none of them is given again.
+    pub fn reset(&mut self)
+        ensures { self.new ≡ cleared self.old }
+    {
+        self.opened.clear();
+        self.ids.clear();
+        self.serials.clear();
+    }
+
+    /// The id of a known node.
+    pub fn id_of(&self, serial: u64) -> Option<u64>
+        ensures { result ≡ map.get self.now.ids serial }
+    {
+        self.ids.get(serial)
+    }
+
+    /// The known node that has the id.
+    pub fn serial_of(&self, id: u64) -> Option<u64>
+        ensures { result ≡ map.get self.now.serials id }
+    {
+        self.serials.get(id)
+    }
+
+    /// Whether the node is an opened container.
+    pub fn is_opened(&self, serial: u64) -> bool
+        ensures { result ≡ set.contains self.now.opened serial }
+    {
+        self.opened.contains(serial)
+    }
+
+    /// The id that the next node gets that becomes known. Ids count from 1 over the whole session.
+    pub fn next_id(&self) -> u64
+        ensures { result ≡ self.now.next }
+    {
+        self.next
+    }
+
+    fn bind(&mut self, serial: u64) -> Result<(), AllocError>
+        requires { self.old.next < 2 ^ 63 }
+        ensures { OnOk result (self.new ≡ with_bound serial self.old) }
+    {
+        self.ids.insert(serial, self.next)?;
+        self.serials.insert(self.next, serial)?;
+        self.next += 1;
+        Ok(())
+    }
+
+    fn open(&mut self, serial: u64) -> Result<(), AllocError>
+        ensures { OnOk result (self.new ≡ with_opened serial self.old) }
+    {
+        self.opened.insert(serial)
+    }
+}

@@ -1,0 +1,13 @@
+//! What a session's client knows of the page: which containers are opened, and the pairs of node ids and serials.
+#![tactic(auto)]
+
+mod binding;
+mod laws;
+mod levels;
+mod tables;
+
+pub use binding::Binding;
+pub use laws::binding_law;
+
+#[cfg(test)]
+mod tests;

@@ -1,0 +1,95 @@
+ghost use Rattle.std.specs.Prelude.{◌≡◌, ℕ, OnOk};
+ghost use Rattle.std.specs.Ordering.{nat_cmp};
+ghost use Rattle.std.specs.Coded.{coded_ℕ};
+ghost use Rattle.std.specs.FinMap as map;
+ghost use Rattle.std.specs.FinSet as set;
+
+use std::alloc::{AllocError, Global};
+use std::collections::{BTreeMap, BTreeSet};
+use std::marker::Model;
+
+/// A set of numbers.
+#[derive(Drop)]
+pub(crate) struct NumberSet {
+    numbers: BTreeSet<u64>,
+}
+
+impl Model for NumberSet {
+    ghost Value = { set.FinSet nat_cmp };
+
+    ghost coded = { set.code coded_ℕ };
+
+    ghost view = { λ a. set.from_list a.numbers.keys };
+}
+
+impl NumberSet {
+    pub fn new(alloc: Global) -> NumberSet
+        ensures { result ≡ set.empty }
+    {
+        NumberSet {
+            numbers: BTreeSet::new(alloc),
+        }
+    }
+
+    pub fn contains(&self, number: u64) -> bool
+        ensures { result ≡ set.contains self.now number }
+    {
+        self.numbers.contains(&number)
+    }
+
+    pub fn insert(&mut self, number: u64) -> Result<(), AllocError>
+        ensures { OnOk result (self.new ≡ set.insert self.old number) }
+    {
+        self.numbers.insert(number)?;
+        Ok(())
+    }
+
+    pub fn clear(&mut self)
+        ensures { self.new ≡ set.empty }
+    {
+        self.numbers.clear();
+    }
+}
+
+/// A map from numbers to numbers.
+#[derive(Drop)]
+pub(crate) struct NumberMap {
+    pairs: BTreeMap<u64, u64>,
+}
+
+impl Model for NumberMap {
+    ghost Value = { map.FinMap nat_cmp ℕ };
+
+    ghost coded = { map.code coded_ℕ coded_ℕ };
+
+    ghost view = { λ a. map.from_entries a.pairs.entries };
+}
+
+impl NumberMap {
+    pub fn new(alloc: Global) -> NumberMap
+        ensures { result ≡ map.empty }
+    {
+        NumberMap {
+            pairs: BTreeMap::new(alloc),
+        }
+    }
+
+    pub fn get(&self, key: u64) -> Option<u64>
+        ensures { result ≡ map.get self.now key }
+    {
+        self.pairs.get(&key).copied()
+    }
+
+    pub fn insert(&mut self, key: u64, number: u64) -> Result<(), AllocError>
+        ensures { OnOk result (self.new ≡ map.insert self.old key number) }
+    {
+        self.pairs.insert(key, number)?;
+        Ok(())
+    }
+
+    pub fn clear(&mut self)
+        ensures { self.new ≡ map.empty }
+    {
+        self.pairs.clear();
+    }
+}

@@ -1,0 +1,5 @@
+pub mod Nodes
+pub mod Names
+pub mod Labels
+pub mod Keys
+pub mod Seen

@@ -1,0 +1,97 @@
+ghost use Rattle.std.specs.Prelude.{◌≡◌, ℕ, ◌<◌, List, [], ◌∷◌, ◌++◌, length, option_map, Some, IfOk, OnOk, OnErr, slice_get};
+ghost use Rattle.node_tree.specs.Labels.{value_of};
+
+use crate::texts::Text;
+use std::alloc::{AllocError, Global};
+use std::marker::Model;
+
+/// A list of attributes, each a name and a value, which contracts see as the list of the pairs of their bytes.
+#[derive(Drop, Debug)]
+pub struct Attributes {
+    pairs: Vec<(Text, Text)>,
+}
+
+impl Model for Attributes {
+    ghost use Rattle.std.specs.Prelude.{ℕ, List};
+
+    ghost Value = { List (List ℕ × List ℕ) };
+
+    ghost view = { λ a. a.pairs.items };
+}
+
+impl Attributes {
+    /// No attributes; takes no memory.
+    pub fn new(alloc: Global) -> Attributes
+        ensures { result ≡ [] }
+    {
+        Attributes {
+            pairs: Vec::new(alloc),
+        }
+    }
+
+    /// Takes no memory.
+    pub fn from_pairs(pairs: Vec<(Text, Text)>) -> Attributes
+        ensures { result ≡ pairs.items }
+    {
+        Attributes { pairs }
+    }
+
+    /// Gives the list back; takes no memory.
+    pub fn into_pairs(self) -> Vec<(Text, Text)>
+        ensures { result.items ≡ self }
+    {
+        self.pairs
+    }
+
+    pub fn as_slice(&self) -> &[(Text, Text)]
+        ensures { result.now ≡ self.now }
+    {
+        self.pairs.as_slice()
+    }
+
+    pub fn len(&self) -> usize
+        ensures { result ≡ length self.now }
+    {
+        self.pairs.len()
+    }
+
+    /// The name and the value at place `i`, counted from 0.
+    pub fn at(&self, i: usize) -> (&str, &str)
+        requires { i < length self.now }
+        ensures { slice_get self.now i ≡ Some (result.0.now, result.1.now) }
+    {
+        let pair = &self.pairs[i];
+        (pair.0.as_str(), pair.1.as_str())
+    }
+
+    /// The value of the first attribute of that name.
+    pub fn get(&self, name: &str) -> Option<&str>
+        ensures { option_map (λ v. v.now) result ≡ value_of name.now self.now }
+    {
+        for pair in &self.pairs {
+            if pair.0.as_str() == name {
+                return Some(pair.1.as_str());
+            }
+        }
+        None
+    }
+
+    /// Puts an attribute last, whatever its name.
+    pub fn push(&mut self, name: Text, value: Text) -> Result<(), AllocError>
+        ensures ok { OnOk result (self.new ≡ self.old ++ (name, value) ∷ []) }
+        ensures err { OnErr result (self.new ≡ self.old) }
+    {
+        self.pairs.push((name, value))?;
+        Ok(())
+    }
+
+    pub fn try_clone(&self, alloc: Global) -> Result<Attributes, AllocError>
+        ensures { IfOk result (λ copy. copy ≡ self.now) }
+    {
+        let mut pairs = Vec::new(alloc);
+        for pair in &self.pairs {
+            pairs.push((pair.0.try_clone()?, pair.1.try_clone()?))?;
+        }
+        Ok(Attributes { pairs })
+    }
+}

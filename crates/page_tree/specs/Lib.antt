@@ -1,0 +1,5 @@
+pub mod Forms
+pub mod Pages
+pub mod Loads
+pub mod Entries
+pub mod Rooms

@@ -1,0 +1,76 @@
+ghost use Rattle.std.specs.Prelude.{◌≡◌, [], ◌++◌, map, string_bytes, option_map, IfOk, OnOk};
+ghost use Rattle.serde_json.specs.View.{view, items_view};
+ghost use Rattle.page_tree.specs.Loads.{pairs_of, in_order, attributes_of};
+ghost use Rattle.page_tree.specs.Entries.{shown};
+
+use node_tree::{Attributes, Text};
+use serde_json::Value;
+use std::alloc::{AllocError, Global};
+use std::collections::BTreeMap;
+
+/// The pairs that a flat list of names and values spells.
+fn read_pairs(alloc: Global, values: &[Value]) -> Result<Option<Vec<(Text, Text)>>, AllocError>
+    ensures { IfOk result (λ pairs. option_map (λ v. v.items) pairs ≡ pairs_of (items_view values.now)) }
+{
+    let mut pairs = Vec::new(alloc);
+    let mut rest = values;
+    while let Some((name, others)) = rest.split_first() {
+        let Some((value, others)) = others.split_first() else {
+            return Ok(None);
+        };
+        let Some(name) = name.as_str() else {
+            return Ok(None);
+        };
+        let Some(value) = value.as_str() else {
+            return Ok(None);
+        };
+        pairs.push((Text::copied(alloc, name)?, Text::copied(alloc, value)?))?;
+        rest = others;
+    }
+    Ok(Some(pairs))
+}
+
+/// The pairs by name; none where a name is there twice.
+fn gather(
+    alloc: Global,
+    pairs: Vec<(Text, Text)>,
+) -> Result<Option<BTreeMap<String, Text>>, AllocError>
+    ensures { IfOk result (λ entries. option_map (λ m. shown m.entries) entries ≡ in_order [] pairs.items) }
+{
+    let mut entries = BTreeMap::new(alloc);
+    for (name, value) in pairs {
+        if entries.insert(name.into_string(), value)?.is_some() {
+            return Ok(None);
+        }
+    }
+    Ok(Some(entries))
+}
+
+fn list_entries(
+    alloc: Global,
+    entries: BTreeMap<String, Text>,
+) -> Result<Vec<(Text, Text)>, AllocError>
+    ensures { IfOk result (λ pairs. pairs.items ≡ shown entries.entries) }
+{
+    let mut pairs = Vec::new(alloc);
+    for (name, value) in entries {
+        pairs.push((Text::new(name), value))?;
+    }
+    Ok(pairs)
+}
+
+/// The attributes that a list spells, in ascending order of the names' bytes.
+pub fn read_attributes(alloc: Global, v: &Value) -> Result<Option<Attributes>, AllocError>
+    ensures { IfOk result (λ attributes. attributes ≡ attributes_of (view v.now)) }
+{
+    let Some(values) = v.as_array() else {
+        return Ok(None);
+    };
+    let Some(pairs) = read_pairs(alloc, values)? else {
+        return Ok(None);
+    };
+    let Some(entries) = gather(alloc, pairs)? else {
+        return Ok(None);
+    };
+    Ok(Some(Attributes::from_pairs(list_entries(alloc, entries)?)))
+}

@@ -1,0 +1,142 @@
+ghost use Rattle.std.specs.Prelude.{◌≡◌, [], codes, option_map, IfOk};
+ghost use Rattle.serde_json.specs.View.{view};
+ghost use Rattle.node_tree.specs.declared.Kind.TheVariants.{Doctype};
+ghost use Rattle.page_tree.specs.Loads.{property_count, times_of, text_at, text_alone, attributes_at, element_name, element_label, labelled, label_of};
+
+use crate::attributes::read_attributes;
+use node_tree::{Attributes, Kind, Text};
+use serde_json::Value;
+use std::alloc::{AllocError, Global};
+use std::marker::Model;
+
+/// A node of a load but for its children.
+#[derive(Drop)]
+pub struct NodeLabel {
+    pub kind: Kind,
+    pub name: Text,
+    pub value: Text,
+    pub attributes: Attributes,
+}
+
+impl Model for NodeLabel {
+    ghost use Rattle.node_tree.specs.Labels.{Label, coded_label};
+
+    ghost Value = { Label };
+
+    ghost coded = { coded_label };
+
+    ghost view = { λ l. record { kind = l.kind; name = l.name; value = l.value; attributes = l.attributes } };
+}
+
+fn property_count(v: &Value) -> usize
+    ensures { result ≡ property_count (view v.now) }
+{
+    match v.as_object() {
+        Some(members) => members.len(),
+        None => 0,
+    }
+}
+
+fn times_of(v: &Value, key: &str) -> usize
+    ensures { result ≡ times_of key.now (view v.now) }
+{
+    if v.get(key).is_some() { 1 } else { 0 }
+}
+
+fn text_at<'a>(v: &'a Value, key: &str) -> Option<&'a str>
+    ensures { option_map (λ s. s.now) result ≡ text_at key.now (view v.now) }
+{
+    match v.get(key) {
+        Some(value) => value.as_str(),
+        None => None,
+    }
+}
+
+fn text_alone<'a>(v: &'a Value, key: &str) -> Option<&'a str>
+    ensures { option_map (λ s. s.now) result ≡ text_alone key.now (view v.now) }
+{
+    if property_count(v) != 1 {
+        return None;
+    }
+    text_at(v, key)
+}
+
+fn element_name(v: &Value) -> Option<&str>
+    ensures { option_map (λ s. s.now) result ≡ element_name (view v.now) }
+{
+    if property_count(v) != 1 + times_of(v, "a") + times_of(v, "c") {
+        return None;
+    }
+    text_at(v, "e")
+}
+
+fn attributes_at(alloc: Global, v: &Value) -> Result<Option<Attributes>, AllocError>
+    ensures { IfOk result (λ attributes. attributes ≡ attributes_at (view v.now)) }
+{
+    match v.get("a") {
+        Some(list) => read_attributes(alloc, list),
+        None => Ok(Some(Attributes::new(alloc))),
+    }
+}
+
+fn element_label(alloc: Global, v: &Value) -> Result<Option<NodeLabel>, AllocError>
+    ensures { IfOk result (λ label. label ≡ element_label (view v.now)) }
+{
+    let Some(name) = element_name(v) else {
+        return Ok(None);
+    };
+    let Some(attributes) = attributes_at(alloc, v)? else {
+        return Ok(None);
+    };
+    Ok(Some(NodeLabel {
+        kind: Kind::Element,
+        name: Text::copied(alloc, name)?,
+        value: Text::empty(alloc),
+        attributes,
+    }))
+}
+
+/// The label of a text or a comment.
+fn value_label(alloc: Global, kind: Kind, value: &str) -> Result<NodeLabel, AllocError>
+    ensures { IfOk result (λ label. label ≡ labelled kind [] value.now []) }
+{
+    Ok(NodeLabel {
+        kind,
+        name: Text::empty(alloc),
+        value: Text::copied(alloc, value)?,
+        attributes: Attributes::new(alloc),
+    })
+}
+
+fn doctype_label(alloc: Global, name: &str) -> Result<NodeLabel, AllocError>
+    ensures { IfOk result (λ label. label ≡ labelled Doctype name.now [] []) }
+{
+    Ok(NodeLabel {
+        kind: Kind::Doctype,
+        name: Text::copied(alloc, name)?,
+        value: Text::empty(alloc),
+        attributes: Attributes::new(alloc),
+    })
+}
+
+/// The label of the node that a value spells, in any of the four forms; a doctype's only right below the document.
+pub fn read_label(alloc: Global, top: bool, v: &Value) -> Result<Option<NodeLabel>, AllocError>
+    ensures { IfOk result (λ label. label ≡ label_of top (view v.now)) }
+{
+    if let Some(label) = element_label(alloc, v)? {
+        return Ok(Some(label));
+    }
+    if let Some(text) = text_alone(v, "t") {
+        return Ok(Some(value_label(alloc, Kind::Text, text)?));
+    }
+    if let Some(text) = text_alone(v, "k") {
+        return Ok(Some(value_label(alloc, Kind::Comment, text)?));
+    }
+    if !top {
+        return Ok(None);
+    }
+    match text_alone(v, "d") {
+        Some(name) => Ok(Some(doctype_label(alloc, name)?)),
+        None => Ok(None),
+    }
+}

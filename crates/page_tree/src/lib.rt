@@ -1,0 +1,23 @@
+//! The page: a tree of nodes, each with a serial for the whole run, read from a load and asked by serial.
+#![tactic(auto)]
+
+mod attributes;
+mod faults;
+mod forms;
+mod labels;
+mod limits;
+mod loads;
+mod numbering;
+mod pages;
+mod search;
+mod trees;
+
+pub use faults::{LoadErr, LoadFault};
+pub use forms::NodeForm;
+pub use loads::read_nodes;
+pub use node_tree::{Attributes, Kind, Text};
+pub use pages::Page;
+pub use trees::Tree;
+
+#[cfg(test)]
+mod tests;

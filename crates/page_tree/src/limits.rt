@@ -1,0 +1,107 @@
+ghost use Rattle.std.specs.Prelude.{◌≡◌, nat_le, cond, true};
+ghost use Rattle.std.specs.List.{list_all};
+ghost use Rattle.node_tree.specs.Nodes.{nodes_of, node_count, height};
+ghost use Rattle.node_tree.specs.Labels.{has_name, is_named_label};
+ghost use Rattle.node_tree.specs.Names.{is_element_name, is_attribute_name};
+ghost use Rattle.page_tree.specs.Forms.{are_named};
+ghost use Rattle.page_tree.specs.Rooms.{room_after};
+ghost use Rattle.page_tree.specs.Loads.{are_few, first_true, limit_faults};
+
+use crate::faults::LoadFault;
+use crate::forms::NodeForm;
+use node_tree::{Kind, Text, is_attribute_name, is_element_name};
+
+/// The highest level of a node; the document has level 0.
+const MAX_LEVEL: usize = 60;
+
+/// The most nodes of a page, with the document.
+const MAX_NODES: usize = 100_000;
+
+/// The forms have no more than so many levels.
+fn are_within(forms: &[NodeForm], levels: usize) -> bool
+    ensures { result ≡ nat_le (height (nodes_of forms.now)) levels }
+{
+    for form in forms {
+        if levels == 0 {
+            return false;
+        }
+        if !are_within(&form.children, levels - 1) {
+            return false;
+        }
+    }
+    true
+}
+
+/// How much of the room for nodes is left beside the forms; none where they are more.
+fn room_beside(forms: &[NodeForm], room: usize) -> Option<usize>
+    ensures { result ≡ room_after (node_count (nodes_of forms.now)) room }
+{
+    let mut left = room;
+    for form in forms {
+        if left == 0 {
+            return None;
+        }
+        let Some(rest) = room_beside(&form.children, left - 1) else {
+            return None;
+        };
+        left = rest;
+    }
+    Some(left)
+}
+
+fn has_good_name(form: &NodeForm) -> bool
+    ensures { result ≡ cond (has_name form.now.row.kind) (is_element_name form.now.row.name) true }
+{
+    match form.kind {
+        Kind::Element | Kind::Doctype => is_element_name(form.name.as_str()),
+        Kind::Document | Kind::Text | Kind::Comment => true,
+    }
+}
+
+fn have_good_names(pairs: &[(Text, Text)]) -> bool
+    ensures { result ≡ list_all (λ p. is_attribute_name p.0) pairs.now }
+{
+    pairs.iter().all(|pair| is_attribute_name(pair.0.as_str()))
+}
+
+fn is_named(form: &NodeForm) -> bool
+    ensures { result ≡ is_named_label form.now.row }
+{
+    has_good_name(form) && have_good_names(form.attributes.as_slice())
+}
+
+fn are_named(forms: &[NodeForm]) -> bool
+    ensures { result ≡ are_named (nodes_of forms.now) }
+{
+    for form in forms {
+        if !is_named(form) {
+            return false;
+        }
+        if !are_named(&form.children) {
+            return false;
+        }
+    }
+    true
+}
+
+fn are_few(forms: &[NodeForm]) -> bool
+    ensures { result ≡ are_few (nodes_of forms.now) }
+{
+    room_beside(forms, MAX_NODES - 1).is_some()
+}
+
+/// The first of the faults that nodes in their form may have.
+pub fn limit_fault(forms: &[NodeForm]) -> Option<LoadFault>
+    ensures { result ≡ first_true (limit_faults (nodes_of forms.now)) }
+{
+    if !are_within(forms, MAX_LEVEL) {
+        return Some(LoadFault::TooDeep);
+    }
+    if !are_few(forms) {
+        return Some(LoadFault::TooMany);
+    }
+    if !are_named(forms) {
+        return Some(LoadFault::BadName);
+    }
+    None
+}

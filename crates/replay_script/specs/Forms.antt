@@ -1,0 +1,84 @@
+-- What a line of a script says: the forms of its JSON.
+use Rattle.std.specs.Prelude.{ℕ, List, Bool, true, false, if◌then◌else◌, Option, Some, None, option_map, option_and_then, bytes_eq, codes, ⊤}
+use Rattle.std.specs.Str.{is_utf8}
+use Rattle.serde_json.specs.Data.{Data, Members}
+use Rattle.serde_json.specs.Find.{as_object, as_str}
+use Rattle.serde_json.specs.Read.{read}
+use Rattle.cdp_json.specs.Kinds.{Kind, anything, text}
+use Rattle.cdp_json.specs.Rows.{first_at, after_first, is_done, ends, and_need, and_may, object_of}
+use Rattle.node_tree.specs.Nodes.{Nodes}
+use Rattle.node_tree.specs.Labels.{Label}
+use Rattle.node_tree.specs.Keys.{first_of}
+use Rattle.page_tree.specs.Loads.{nodes_in}
+
+-- a command that the front end is to send: its method, and its parameters and its session where they are given
+pub record AskForm : Type 0 where
+  pub method : List ℕ
+  pub params : Option Data
+  pub session : Option Data
+
+pub data LineForm : Type 0 where
+  -- a new page with these nodes below its document
+  load : Nodes Label → LineForm
+  ask : AskForm → LineForm
+  show_front : LineForm
+
+abbrev pub is_ask : LineForm → Bool
+is_ask (load nodes) = false
+is_ask (ask a) = true
+is_ask show_front = false
+
+-- ---- from a line's bytes
+
+-- the JSON value that the bytes spell, if they do
+abbrev pub data_of : List ℕ → Option Data
+data_of line = if is_utf8 line then read line else None
+
+-- the value of an object's one property, if that has this name
+abbrev pub only_member : List ℕ → Members → Option Data
+only_member name ms = if is_done (after_first ms) then first_at name ms else None
+
+abbrev pub only : List ℕ → Data → Option Data
+only name d = option_and_then (only_member name) (as_object d)
+
+-- ---- `{"load":PAGE}`, where PAGE is `{"document":[NODE,..]}`
+
+abbrev pub page_of : Data → Option Data
+page_of d = only (codes "load") d
+
+-- the nodes of a PAGE
+abbrev pub page_nodes : Data → Option (Nodes Label)
+page_nodes page = option_and_then nodes_in (only (codes "document") page)
+
+-- ---- `{"ask":{"method":TEXT,"params":ANY,"sessionId":ANY}}`, where `params` and `sessionId` may be absent
+
+abbrev pub AskParts : Type 0
+AskParts = List ℕ × (Option Data × (Option Data × ⊤))
+
+abbrev pub ask_kind : Kind AskParts
+ask_kind = object_of (and_need (codes "method") text (and_may (codes "params") anything (and_may (codes "sessionId") anything ends)))
+
+abbrev pub ask_from : AskParts → AskForm
+ask_from p = record { method = p.0; params = p.1.0; session = p.1.1.0 }
+
+abbrev pub ask_in : Data → Option AskForm
+ask_in d = option_map ask_from (ask_kind.reads d)
+
+abbrev pub ask_of : Data → Option AskForm
+ask_of d = option_and_then ask_in (only (codes "ask") d)
+
+-- ---- `{"show":WORD}`
+
+abbrev pub word_of : Data → Option (List ℕ)
+word_of d = option_and_then as_str (only (codes "show") d)
+
+abbrev pub show_from : List ℕ → Option LineForm
+show_from word = if bytes_eq word (codes "front") then Some show_front else None
+
+-- ---- the form of a line, if it has one
+
+abbrev pub form_of : Data → Option LineForm
+form_of d = first_of (option_map load (option_and_then page_nodes (page_of d))) (first_of (option_map ask (ask_of d)) (option_and_then show_from (word_of d)))
+
+abbrev pub line_form : List ℕ → Option LineForm
+line_form line = option_and_then form_of (data_of line)

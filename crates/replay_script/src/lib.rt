@@ -1,0 +1,16 @@
+//! The lines of a replay script, each read into its form or refused with its first fault.
+#![tactic(auto)]
+
+mod faults;
+mod forms;
+mod lines;
+mod reads;
+mod script;
+#[cfg(test)]
+mod tests;
+
+pub use faults::{LineErr, LineFault, fault_name};
+pub use forms::{Ask, Line};
+pub use lines::{Lines, has_long_line, lines_law};
+pub use reads::read_line;
+pub use script::script_law;
