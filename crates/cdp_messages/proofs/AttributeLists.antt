@@ -3,7 +3,7 @@ use Rattle.std.proofs.Common.{◌≡◌, ℕ, ◌+◌, ◌<◌, ◌≤◌, ◌==
 use Rattle.std.proofs.Math.Seq.{take-suc}
 use Rattle.std.proofs.lemmas.List.{map-append, take_all}
 use Rattle.serde_json.proofs.Views.{view-Array}
-use Rattle.serde_json.specs.Data.{Data, string, array}
+use Rattle.serde_json.specs.Data.{string, array}
 use Rattle.serde_json.specs.View.{view, items_of, items_view}
 use Rattle.serde_json.specs.declared.value.Value.{Value, Array}
 use Rattle.node_tree.specs.Labels.{Pair}
@@ -22,7 +22,7 @@ pub attribute_written : (done named valued : List Value) (a b : Value) (p : Pair
 attribute_written done named valued a b p ps i below at n v va vb so =
     let more : take (i + 1) ps ≡ take i ps ++ p ∷ [] = rw add-one (take-suc ps i p below ∙ ap (λ q. take i ps ++ q ∷ []) (sym at)) in
     let said : map string (flat (take (i + 1) ps)) ≡ map string (flat (take i ps)) ++ (string p.0 ∷ string p.1 ∷ []) =
-        ap (λ qs. map string (flat qs)) more ∙ ap (map string) (flat-append (take i ps) (p ∷ [])) ∙ map-append string (flat (take i ps)) (p.0 ∷ p.1 ∷ []) in
+    ap (λ qs. map string (flat qs)) more ∙ ap (map string) (flat-append (take i ps) (p ∷ [])) ∙ map-append string (flat (take i ps)) (p.0 ∷ p.1 ∷ []) in
     ap (map view) (v ∙ ap (λ l. l ++ b ∷ []) n ∙ append_assoc done (a ∷ []) (b ∷ [])) ∙ map-append view done (a ∷ b ∷ []) ∙ ap₂ (λ xs ys. xs ++ ys) so (ap₂ (λ x y. x ∷ y ∷ []) va vb) ∙ sym said
 
 pub attributes_written : (list : Vec Value Global) (ps qs : List Pair) (i : ℕ) → map view list.items ≡ map string (flat (take i ps)) → length ps ≤ i → ps ≡ qs

@@ -1,6 +1,6 @@
 -- A command with parameters is asked as it was written.
-use Rattle.std.proofs.Common.{◌≡◌, ℕ, ◌^◌, ◌<◌, ◌≤◌, ℤ, pos, negsuc, List, Bool, true, false, ◌&&◌, ◌||◌, nat_lt, Option, Some, None, Ok, refl, sym, subst, ap, ◌∙◌, arith, ltb-true, lt-ltb}
-use Rattle.std.specs.Prelude.{codes, IsUtf8, int_lt}
+use Rattle.std.proofs.Common.{◌≡◌, ℕ, ◌^◌, ◌<◌, ◌≤◌, ℤ, pos, negsuc, Bool, true, false, ◌||◌, nat_lt, Some, None, Ok, refl, sym, subst, ap, ◌∙◌, arith, ltb-true, lt-ltb}
+use Rattle.std.specs.Prelude.{codes, int_lt}
 use Rattle.std.specs.Ordering.{int_eq}
 use Rattle.std.proofs.lemmas.Bool.Decides.{Decides-int_eq}
 use Rattle.json.proofs.Printed.Utf8.{IsUtf8-are_ascii}

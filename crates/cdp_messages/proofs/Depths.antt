@@ -1,8 +1,7 @@
 -- How deep the JSON of a reply nests.
-use Rattle.std.proofs.Common.{◌≡◌, ℕ, suc, ◌+◌, ◌*◌, ◌≤◌, max, List, [], ◌∷◌, Bool, true, false, nat_lt, map, Option, Some, None, option_map, refl, arith}
+use Rattle.std.proofs.Common.{ℕ, suc, ◌+◌, ◌*◌, ◌≤◌, max, List, [], ◌∷◌, Bool, true, false, nat_lt, map, Option, Some, None, option_map, arith}
 use Rattle.std.specs.Prelude.{codes, ⊤}
 use Rattle.serde_json.specs.Data.{Data, string, Items, Members, no_members, member, depth, items_depth, members_depth}
-use Rattle.serde_json.specs.Read.{max_depth}
 use Rattle.serde_json.specs.View.{items_of}
 use Rattle.cdp_json.specs.Kinds.{whole, any_items}
 use Rattle.cdp_json.specs.Rows.{maybe_member}
@@ -12,8 +11,6 @@ use Rattle.node_tree.specs.Seen.{is_opened}
 use Rattle.cdp_messages.specs.Told.{Told}
 use Rattle.cdp_messages.specs.NodeObject.{flat, attribute_list, node_type, node_name, local_name, only_if, node_data}
 use Rattle.cdp_messages.specs.NodeData.{tree_items, tree_data}
-use Rattle.cdp_messages.specs.declared.down.ReplyBody.TheVariants.{Root}
-use Rattle.cdp_messages.specs.Replies.{reply, message_data, body_data}
 use Rattle.cdp_messages.specs.Laws.{RepliesAreShallow}
 
 -- a value, if any, nests no deeper
@@ -61,17 +58,17 @@ node_depth r ds =
     let m0 = maybe_member (codes "attributes") (option_map attribute_list.spell (only_if (is_element k) r.seen.label.attributes)) m1 in
     let e9 : members_depth m9 ≤ x = within_maybe x (codes "parentId") p1 no_members (whole_within x (nat_lt 0 r.parent) r.parent) (omega arith) in
     let e4 : members_depth m4 ≤ x =
-        within_member x (codes "localName") (string (local_name r.seen.label)) m5 (omega arith) (within_member x (codes "nodeId") (whole.spell r.seen.id) m6 (omega arith)
-        (within_member x (codes "nodeName") (string (node_name r.seen.label)) m7 (omega arith) (within_member x (codes "nodeType") (node_type.spell k) m8 (omega arith)
-        (within_member x (codes "nodeValue") (string r.seen.label.value) m9 (omega arith) e9)))) in
+    within_member x (codes "localName") (string (local_name r.seen.label)) m5 (omega arith) (within_member x (codes "nodeId") (whole.spell r.seen.id) m6 (omega arith)
+    (within_member x (codes "nodeName") (string (node_name r.seen.label)) m7 (omega arith) (within_member x (codes "nodeType") (node_type.spell k) m8 (omega arith)
+    (within_member x (codes "nodeValue") (string r.seen.label.value) m9 (omega arith) e9)))) in
     let e0 : members_depth m0 ≤ x =
-        within_maybe x (codes "attributes") (option_map attribute_list.spell (only_if (is_element k) r.seen.label.attributes)) m1 (attributes_within x (is_element k) r.seen.label.attributes (omega arith))
-        (within_member x (codes "backendNodeId") (whole.spell r.seen.serial) m2 (omega arith)
-        (within_maybe x (codes "childNodeCount") (option_map whole.spell (only_if (holds k) r.count)) m3 (whole_within x (holds k) r.count)
-        (within_maybe x (codes "children") (option_map any_items.spell (only_if (is_opened r.seen.hold) ds)) m4 (children_within (is_opened r.seen.hold) ds) e4))) in
+    within_maybe x (codes "attributes") (option_map attribute_list.spell (only_if (is_element k) r.seen.label.attributes)) m1 (attributes_within x (is_element k) r.seen.label.attributes (omega arith))
+    (within_member x (codes "backendNodeId") (whole.spell r.seen.serial) m2 (omega arith)
+    (within_maybe x (codes "childNodeCount") (option_map whole.spell (only_if (holds k) r.count)) m3 (whole_within x (holds k) r.count)
+    (within_maybe x (codes "children") (option_map any_items.spell (only_if (is_opened r.seen.hold) ds)) m4 (children_within (is_opened r.seen.hold) ds) e4))) in
     up (members_depth m0) (items_depth ds) e0 where
-  up : (m i : ℕ) → m ≤ suc i → suc m ≤ 2 + i
-  up m i h = omega arith
+      up : (m i : ℕ) → m ≤ suc i → suc m ≤ 2 + i
+      up m i h = omega arith
 
 trees_depth : (n : Nodes Told) → items_depth (tree_items n) ≤ 2 * height n
 trees_depth none = omega arith

@@ -62,7 +62,7 @@ node_free : (r : Told) (ds : Items) → items_have_float ds ≡ false → has_fl
 node_free r ds f =
     let k = r.seen.label.kind in
     let m5 = member (codes "localName") (string (local_name r.seen.label)) (member (codes "nodeId") (whole.spell r.seen.id) (member (codes "nodeName") (string (node_name r.seen.label))
-        (member (codes "nodeType") (node_type.spell k) (member (codes "nodeValue") (string r.seen.label.value) (maybe_member (codes "parentId") (option_map whole.spell (only_if (nat_lt 0 r.parent) r.parent)) no_members))))) in
+    (member (codes "nodeType") (node_type.spell k) (member (codes "nodeValue") (string r.seen.label.value) (maybe_member (codes "parentId") (option_map whole.spell (only_if (nat_lt 0 r.parent) r.parent)) no_members))))) in
     let m4 = maybe_member (codes "children") (option_map any_items.spell (only_if (is_opened r.seen.hold) ds)) m5 in
     let m3 = maybe_member (codes "childNodeCount") (option_map whole.spell (only_if (holds k) r.count)) m4 in
     let m2 = member (codes "backendNodeId") (whole.spell r.seen.serial) m3 in

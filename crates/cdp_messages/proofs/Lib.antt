@@ -6,6 +6,8 @@ mod Json
 pub mod Messages
 mod Options
 mod Rules
+pub mod TellableLaws
+pub mod TextsUtf8
 mod TreesRead
 mod Written
 pub mod ZeroFree

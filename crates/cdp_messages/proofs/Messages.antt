@@ -1,10 +1,9 @@
 -- The laws of the messages.
-use Rattle.std.proofs.Common.{◌≡◌, ℕ, ◌+◌, ◌*◌, ◌≤◌, max, List, [], ◌∷◌, Bool, true, false, ◌&&◌, cond, Option, Some, None, option_map, option_and_then, Ok, bytes_eq, refl, sym, ap, ◌∙◌, subst, arith}
+use Rattle.std.proofs.Common.{◌≡◌, ℕ, ◌≤◌, List, Bool, true, false, cond, Option, Some, None, option_map, option_and_then, Ok, refl, sym, ap, ◌∙◌, subst, arith}
 use Rattle.std.specs.Prelude.{codes, IsUtf8, ℤ, ◌⊎◌}
 use Rattle.std.proofs.Common.{inl, inr}
 use Rattle.json.proofs.Printed.Utf8.{IsUtf8-are_ascii}
-use Rattle.serde_json.specs.Data.{Data, null, boolean, number, string, array, object, Items, no_items, item, Members, no_members, member, depth, items_depth, members_depth}
-use Rattle.serde_json.specs.Find.{get}
+use Rattle.serde_json.specs.Data.{Data, depth}
 use Rattle.serde_json.specs.Read.{max_depth}
 use Rattle.serde_json.specs.Written.{compact_text}
 use Rattle.cdp_json.specs.Plain.{is_plain, HasUtf8}
@@ -22,9 +21,9 @@ use Rattle.cdp_messages.specs.declared.command.Refused.{Refused}
 use Rattle.cdp_messages.specs.declared.down.ReplyBody.{ReplyBody}
 use Rattle.cdp_messages.specs.declared.down.ReplyBody.TheVariants.{Root}
 use Rattle.cdp_messages.specs.Refusals.{code_of, text_of}
-use Rattle.cdp_messages.specs.NodeData.{tree_of, tree_data, fits_tree}
-use Rattle.cdp_messages.specs.Asked.{json_of, asked, asked_value, command_value, request}
-use Rattle.cdp_messages.specs.Replies.{Message, reply, fault, reply_kind, error_kind, fault_kind, reply_from, fault_from, or_else, message_data, fits_message, message_in, down_of, root_kind, root_from, body_data, fits_body, result_of, refusal_message, is_object}
+use Rattle.cdp_messages.specs.NodeData.{fits_tree}
+use Rattle.cdp_messages.specs.Asked.{json_of, asked_value, command_value, request}
+use Rattle.cdp_messages.specs.Replies.{Message, reply, fault, reply_kind, error_kind, fault_kind, reply_from, fault_from, or_else, message_data, fits_message, message_in, root_kind, root_from, body_data, fits_body, result_of, refusal_message, is_object}
 use Rattle.cdp_messages.specs.Laws.{CommandsAreAsked, RepliesAreRead, RefusalsAreRead, ResultsAreRead, MessagesAreSpelled, ResultsAreSpelled, OneMessage, OneResult}
 use Rattle.cdp_messages.proofs.Options.{both, both_parts, map_some}
 use Rattle.cdp_messages.proofs.Json.{json_is}
@@ -60,13 +59,13 @@ or_else_some (Some y) p x e = inl e
 
 pub messages_are_spelled : MessagesAreSpelled
 messages_are_spelled d m e = elim (or_else_some (option_map reply_from (reply_kind.reads d)) (option_map fault_from (fault_kind.reads d)) m e) as (λ _. (message_data m ≡ d) × (fits_message m ≡ true)) [
-    inl r ↦
+  | inl r ↦
       let p = map_some reply_from (reply_kind.reads d) m r in
       subst (λ (n : Message). (message_data n ≡ d) × (fits_message n ≡ true)) p.2 (reply_lawful.takes d p.0 p.1)
   | inr r ↦
       let p = map_some fault_from (fault_kind.reads d) m r in
       subst (λ (n : Message). (message_data n ≡ d) × (fits_message n ≡ true)) p.2 (fault_lawful.takes d p.0 p.1)
-  ]
+]
 
 pub one_message : OneMessage
 one_message m n fm fn e = let same : Some m ≡ Some n = sym (message_again m fm) ∙ ap message_in e ∙ message_again n fn in cc

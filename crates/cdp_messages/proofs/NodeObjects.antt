@@ -1,21 +1,21 @@
 -- A told row and its object say the same.
-use Rattle.std.proofs.Common.{◌≡◌, ℕ, zero, suc, ◌==◌, ◌<◌, List, [], ◌∷◌, Bool, true, false, not, ◌&&◌, cond, nat_lt, Option, Some, None, option_map, bytes_eq, refl, sym, ap, ◌∙◌, subst, arith, ◌≤◌, ltb-true, ltb-false, eqb-true}
-use Rattle.std.specs.Prelude.{codes, is_some, unwrap_or, ⊤}
+use Rattle.std.proofs.Common.{◌≡◌, ℕ, ◌==◌, List, [], ◌∷◌, Bool, true, false, cond, nat_lt, Option, Some, None, bytes_eq, refl, sym, ap, ◌∙◌, arith, ◌≤◌, ltb-false, eqb-true}
+use Rattle.std.specs.Prelude.{is_some, unwrap_or}
 use Rattle.std.specs.List.{list_all}
 use Rattle.std.proofs.lemmas.Slice.Eq.{bytes_eq-Decides}
-use Rattle.serde_json.specs.Data.{Data, Items, no_items}
+use Rattle.serde_json.specs.Data.{Items, no_items}
 use Rattle.serde_json.specs.Events.{items_len}
-use Rattle.cdp_json.specs.Kinds.{whole, text, any_items, is_counted, holds_of_some}
+use Rattle.cdp_json.specs.Kinds.{text, any_items, is_counted, holds_of_some}
 use Rattle.cdp_json.specs.Lawful.{LawfulKind}
 use Rattle.cdp_messages.proofs.Options.{both, both_parts, map_some}
 use Rattle.cdp_json.proofs.KindLaws.{whole_lawful, text_lawful, any_items_lawful, refined_lawful, through_lawful, list_lawful, same_name}
 use Rattle.cdp_json.proofs.RowLaws.{ends_lawful, and_need_lawful, and_may_lawful, object_lawful}
 use Rattle.node_tree.specs.declared.Kind.{Kind}
 use Rattle.node_tree.specs.declared.Kind.TheVariants.{Document, Element, Text, Comment, Doctype}
-use Rattle.node_tree.specs.Labels.{Pair, Label, is_document, is_element, holds, has_name, has_value, is_empty, is_ascending, is_formed_label}
+use Rattle.node_tree.specs.Labels.{Pair, Label, is_document, is_element, holds, has_name, has_value, is_empty, is_ascending, is_formed_label, is_named_label}
 use Rattle.node_tree.specs.Seen.{Hold, leaf, counted, opened, is_opened}
 use Rattle.cdp_messages.specs.Told.{Told, hold_of}
-use Rattle.cdp_messages.specs.NodeObject.{NodeObject, flat, paired, attribute_list, type_number, numbered, kind_of_type, node_type, Fields, node_row, fields_of, of_fields, node_fields, node_name, local_name, only_if, object_for, name_in, label_in, told_in, children_in, same, fits_hold, fits_place, is_counted_row, fits_row, agrees, tells, node_object}
+use Rattle.cdp_messages.specs.NodeObject.{NodeObject, flat, paired, attribute_list, type_number, numbered, kind_of_type, node_type, Fields, fields_of, of_fields, node_fields, node_name, local_name, only_if, object_for, name_in, label_in, told_in, children_in, same, fits_hold, fits_place, is_counted_row, fits_row, agrees, tells, node_object}
 
 -- ---- the fields are lawful
 
@@ -154,6 +154,7 @@ pub record Placed (top : Bool) (width : ℕ) (r : Told) : Type 0 where
   pub id : nat_lt 0 r.seen.id ≡ true
   pub serial : nat_lt 0 r.seen.serial ≡ true
   pub formed : is_formed_label r.seen.label ≡ true
+  pub named : is_named_label r.seen.label ≡ true
   pub at_top : same (is_document r.seen.label.kind) top ≡ true
   pub parent : same (r.parent == 0) top ≡ true
   pub hold : fits_hold r.seen.hold (holds r.seen.label.kind) r.count width ≡ true
@@ -166,7 +167,7 @@ placed top width r f =
     let p3 = both_parts _ _ p4.0 in
     let p2 = both_parts _ (is_formed_label r.seen.label) p3.0 in
     let p1 = both_parts (nat_lt 0 r.seen.id) (nat_lt 0 r.seen.serial) p2.0 in
-    record { id = p1.0; serial = p1.1; formed = p2.1; at_top = p4.1; parent = p5.1; hold = p6.1 }
+    record { id = p1.0; serial = p1.1; formed = p2.1; named = p3.1; at_top = p4.1; parent = p5.1; hold = p6.1 }
 
 -- the row is told again
 told_is : (r : Told) (parent count : ℕ) (name : List ℕ) (attributes : List Pair) (hold : Hold) → parent ≡ r.parent → count ≡ r.count → name ≡ r.seen.label.name → attributes ≡ r.seen.label.attributes → hold ≡ r.seen.hold

@@ -1,5 +1,5 @@
 -- What is written for a tree of nodes is read as that tree, and nothing else is read.
-use Rattle.std.proofs.Common.{◌≡◌, ℕ, suc, ◌+◌, ◌*◌, ◌≤◌, max, List, Bool, true, false, ◌&&◌, cond, Option, Some, None, option_map, option_and_then, bytes_eq, refl, sym, ap, ap₂, ◌∙◌, subst, arith}
+use Rattle.std.proofs.Common.{◌≡◌, ℕ, suc, Bool, true, false, cond, Option, Some, None, bytes_eq, refl, sym, ap, ap₂, ◌∙◌, subst}
 use Rattle.std.specs.Prelude.{codes, is_some, unwrap_or}
 use Rattle.serde_json.specs.Data.{Data, null, boolean, number, string, array, object, Items, no_items, item, Members, no_members, member}
 use Rattle.serde_json.specs.Events.{items_len}
@@ -8,13 +8,13 @@ use Rattle.cdp_json.specs.Kinds.{passes, holds_of_some, is_counted, any_items}
 use Rattle.cdp_json.specs.Lawful.{LawfulKind}
 use Rattle.cdp_json.specs.Rows.{members_of}
 use Rattle.node_tree.specs.Nodes.{Nodes, none, node, Branch, width}
-use Rattle.node_tree.specs.Seen.{Hold, is_opened}
+use Rattle.node_tree.specs.Seen.{is_opened}
 use Rattle.node_tree.specs.Labels.{holds}
 use Rattle.cdp_messages.specs.Told.{Told, hold_of}
 use Rattle.cdp_messages.specs.NodeObject.{NodeObject, Fields, attribute_list, node_type, agrees, node_row, fields_of, node_fields, node_data, object_for, told_in, children_in, only_if, fits_row, fits_place, is_counted_row, tells, node_object}
 use Rattle.cdp_messages.specs.NodeData.{tree_items, tree_data, is_none, fits_below, fits_nodes, fits_tree, over, before, tree_of, children_of, trees_in, trees_of}
 use Rattle.cdp_messages.specs.Replies.{document_kind}
-use Rattle.cdp_messages.proofs.Options.{both, both_parts, map_some, and_then_some}
+use Rattle.cdp_messages.proofs.Options.{both, both_parts}
 use Rattle.cdp_messages.proofs.NodeObjects.{fields_lawful, object_lawful_at, object_for-told_in, told_in-object_for, object_fits}
 
 -- ---- the children of an object
@@ -186,9 +186,10 @@ object_take top ms b rec e =
     let kids : tree_items n ≡ children_in x = r.0 ∙ ap child_items (sym (object_inside (members_of (node_row.writes (fields_of x))) ms t.0)) ∙ child_items-members (fields_of x) in
     let place = (both_parts (agrees x) (fits_place top (items_len (children_in x)) (told_in x)) f.1).1 in
     let wide : items_len (children_in x) ≡ width n = ap items_len (sym kids) ∙ items_len-tree_items n in
-    subst (λ (z : Branch Told). (tree_data z ≡ object ms) × (fits_tree top z ≡ true)) p.4
-    (ap (node_data (told_in x)) kids ∙ ap node_fields.spell (object_for-told_in top x f.1) ∙ t.0,
-     both (both (both (counted_told x f.0) (subst (λ w. fits_place top w (told_in x) ≡ true) wide place)) (below_told x n kids)) r.1)
+    subst (λ (z : Branch Told). (tree_data z ≡ object ms) × (fits_tree top z ≡ true)) p.4 (
+      ap (node_data (told_in x)) kids ∙ ap node_fields.spell (object_for-told_in top x f.1) ∙ t.0,
+      both (both (both (counted_told x f.0) (subst (λ w. fits_place top w (told_in x) ≡ true) wide place)) (below_told x n kids)) r.1,
+    )
 
 none_taken : (n : Nodes Told) → none ≡ n → (tree_items n ≡ no_items) × (fits_nodes n ≡ true)
 none_taken n e = subst (λ (m : Nodes Told). (tree_items m ≡ no_items) × (fits_nodes m ≡ true)) e (refl, refl)

@@ -1,7 +1,7 @@
 -- The tests of a node, as code makes them.
-use Rattle.std.proofs.Common.{◌≡◌, ℕ, ◌==◌, List, Bool, true, cond, ◌&&◌, length, Option, Some, None, option_map, Bor, refl, sym, ap, ◌∙◌}
+use Rattle.std.proofs.Common.{◌≡◌, ℕ, ◌==◌, List, Bool, true, ◌&&◌, length, Option, Some, None, option_map, Bor, sym, ap, ◌∙◌}
 use Rattle.std.specs.Prelude.{is_some, unwrap_or}
-use Rattle.serde_json.specs.Data.{Items, no_items}
+use Rattle.serde_json.specs.Data.{no_items}
 use Rattle.serde_json.specs.Events.{items_len}
 use Rattle.serde_json.specs.View.{items_view}
 use Rattle.serde_json.specs.declared.value.Value.{Value}

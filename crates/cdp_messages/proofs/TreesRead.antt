@@ -1,9 +1,9 @@
 -- A tree of nodes, read level by level.
-use Rattle.std.proofs.Common.{◌≡◌, ℕ, zero, suc, ◌+◌, add-one, ◌<◌, ◌≤◌, max, List, [], ◌∷◌, ◌++◌, length, get_or, drop, Bool, true, false, cond, Option, Some, None, option_map, option_and_then, is_some, Vec, Global, Result, Ok, Err, refl, sym, ap, ap₂, ◌∙◌, subst, arith}
+use Rattle.std.proofs.Common.{◌≡◌, ℕ, zero, suc, ◌+◌, add-one, ◌<◌, ◌≤◌, List, [], ◌∷◌, ◌++◌, length, get_or, drop, Bool, true, false, cond, Option, Some, None, option_map, option_and_then, is_some, Vec, Global, Err, refl, sym, ap, ap₂, ◌∙◌, subst, arith}
 use Rattle.std.specs.Prelude.{codes, unwrap_or}
 use Rattle.std.proofs.Math.Seq.{drop-cons}
 use Rattle.std.proofs.lemmas.List.{drop_all}
-use Rattle.serde_json.specs.Data.{Data, null, boolean, number, string, array, object, Items, no_items, item, Members, no_members, member, depth, items_depth, members_depth}
+use Rattle.serde_json.specs.Data.{Data, null, boolean, number, string, array, object, Items, Members, no_members, member, depth, items_depth, members_depth}
 use Rattle.serde_json.specs.View.{view, items_view}
 use Rattle.serde_json.specs.declared.value.Value.{Value}
 use Rattle.cdp_json.specs.Kinds.{if_holds, whole, text, any_items}
@@ -15,7 +15,7 @@ use Rattle.cdp_messages.specs.Told.{Told, hold_of, shown_children, told_tree}
 use Rattle.cdp_messages.specs.declared.down.DownErr.{DownErr}
 use Rattle.cdp_messages.specs.declared.down.DownErr.TheVariants.{NotMessage, Memory}
 use Rattle.cdp_messages.specs.Answers.{Gives}
-use Rattle.cdp_messages.specs.NodeObject.{NodeObject, attribute_list, node_type, node_members, node_row, fields_of, node_fields, label_in, told_in, tells, node_object}
+use Rattle.cdp_messages.specs.NodeObject.{NodeObject, attribute_list, node_type, node_members, node_row, fields_of, node_fields, label_in, told_in, tells}
 use Rattle.cdp_messages.specs.NodeData.{over, before, tree_of, children_of, trees_of}
 use Rattle.cdp_messages.proofs.NodeObjects.{fields_lawful}
 use Rattle.cdp_messages.proofs.NodeTrees.{trees_of_some, children_of-members, object_inside}
@@ -127,12 +127,12 @@ deep_members a s c k l i n t v p ds e =
     let m3 = maybe_member (codes "childNodeCount") c m4 in
     let m2 = member (codes "backendNodeId") s m3 in
     let below : suc (items_depth ds) ≤ members_depth (maybe_member (codes "attributes") a m2) =
-        deep_maybe _ (codes "attributes") a m2 (deep_member _ (codes "backendNodeId") s m3 (deep_maybe _ (codes "childNodeCount") c m4 (deep_list k ds m5 e))) in
+    deep_maybe _ (codes "attributes") a m2 (deep_member _ (codes "backendNodeId") s m3 (deep_maybe _ (codes "childNodeCount") c m4 (deep_list k ds m5 e))) in
     omega arith
 
 pub shallower : (d : Data) (o : NodeObject) (ds : Items) → node_fields.reads d ≡ Some o → o.children ≡ Some ds → items_depth ds + 1 < depth d
 shallower d o ds e c =
     let t = fields_lawful.takes d o e in
     let deep = deep_members (option_map attribute_list.spell o.attributes) (whole.spell o.serial) (option_map whole.spell o.count) o.children (text.spell o.local_name) (whole.spell o.id) (text.spell o.name)
-        (node_type.spell o.kind) (text.spell o.value) (option_map whole.spell o.parent) ds c in
+    (node_type.spell o.kind) (text.spell o.value) (option_map whole.spell o.parent) ds c in
     subst (λ x. items_depth ds + 1 < depth x) t.0 deep

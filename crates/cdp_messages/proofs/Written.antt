@@ -1,11 +1,9 @@
 -- What the writer of nodes writes.
-use Rattle.std.proofs.Common.{◌≡◌, ℕ, List, [], ◌∷◌, Bool, true, false, cond, map, Option, Some, None, option_map, Vec, Global, refl, sym, ap, ◌∙◌, subst}
-use Rattle.std.specs.Prelude.{codes, is_some}
-use Rattle.serde_json.specs.Data.{Data, object, Items, Members, no_members, member, item}
+use Rattle.std.proofs.Common.{◌≡◌, ℕ, List, [], ◌∷◌, Bool, true, false, map, Option, Some, None, option_map, Vec, Global, refl, ap, ◌∙◌, subst}
+use Rattle.serde_json.specs.Data.{Data, Items, item}
 use Rattle.serde_json.specs.View.{items_of}
-use Rattle.cdp_json.specs.Rows.{maybe_member}
 use Rattle.node_tree.specs.Labels.{Label, holds}
-use Rattle.node_tree.specs.Nodes.{Nodes, Branch, nodes_of}
+use Rattle.node_tree.specs.Nodes.{Branch, nodes_of}
 use Rattle.node_tree.specs.Seen.{is_opened}
 use Rattle.cdp_messages.specs.Told.{Told, hold_of, told_tree}
 use Rattle.cdp_messages.specs.NodeObject.{node_fields, only_if, node_members, object_with}

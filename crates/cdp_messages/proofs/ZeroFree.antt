@@ -1,6 +1,6 @@
 -- No text of JSON has a zero byte.
-use Rattle.std.proofs.Common.{◌≡◌, ℕ, zero, suc, ◌+◌, ◌/◌, ◌%◌, ◌^◌, ◌<◌, ◌≤◌, ℤ, pos, negsuc, List, [], ◌∷◌, ◌++◌, length, get_or, Bool, true, false, cond, nat_lt, decimal, refl, sym, ap, ◌∙◌, subst, arith, ltb-true, ltb-false}
-use Rattle.std.specs.Prelude.{All, ◌≢◌, ⊤}
+use Rattle.std.proofs.Common.{◌≡◌, ℕ, suc, ◌+◌, ◌/◌, ◌%◌, ◌^◌, ◌<◌, ◌≤◌, pos, negsuc, List, [], ◌∷◌, ◌++◌, length, get_or, Bool, true, false, cond, nat_lt, decimal, refl, arith, ltb-true, ltb-false}
+use Rattle.std.specs.Prelude.{◌≢◌}
 use Rattle.std.specs.Char.{digit_char}
 use Rattle.std.specs.List.{AllByRecursion}
 use Rattle.std.proofs.lemmas.List.Elements.{All-from_recursion}

@@ -1,12 +1,16 @@
 -- The laws of the messages: what is written is read as what was written, and nothing else is read.
-use Rattle.std.specs.Prelude.{◌≡◌, ◌≢◌, All, ℕ, ◌≤◌, List, codes, Bool, true, Option, Some, None, Ok, IsUtf8}
+use Rattle.std.specs.Prelude.{◌≡◌, ◌≢◌, All, ℕ, ◌≤◌, List, [], ◌∷◌, ⊤, codes, Bool, true, Some, None, Ok, IsUtf8}
 use Rattle.serde_json.specs.Data.{Data, depth}
 use Rattle.serde_json.specs.Read.{max_depth}
 use Rattle.serde_json.specs.Written.{compact_text}
 use Rattle.cdp_json.specs.Plain.{is_plain}
 use Rattle.cdp_json.specs.Kinds.{is_counted, holds_of_some}
-use Rattle.node_tree.specs.Nodes.{Branch, alone, height}
-use Rattle.cdp_messages.specs.Told.{Told}
+use Rattle.node_tree.specs.Labels.{Pair, Label}
+use Rattle.node_tree.specs.Nodes.{Nodes, none, node, Branch, alone, height}
+use Rattle.node_tree.specs.Seen.{Seen}
+use Rattle.cdp_messages.specs.Told.{Told, told_branch}
+use Rattle.cdp_messages.specs.NodeData.{fits_tree}
+use Rattle.cdp_messages.specs.Tellable.{suits_tree}
 use Rattle.cdp_messages.specs.declared.command.Command.{Command}
 use Rattle.cdp_messages.specs.declared.command.Command.TheVariants.{GetDocument}
 use Rattle.cdp_messages.specs.declared.command.Refused.{Refused}
@@ -40,6 +44,29 @@ Shallow d = depth d ≤ max_depth
 abbrev pub RepliesAreRead : Type 0
 RepliesAreRead = (id : ℕ) (body : ReplyBody) → is_counted id ≡ true → fits_body body ≡ true → Shallow (message_data (reply id (body_data body))) → IsUtf8 (reply_text id body)
     → down_of (reply_text id body) ≡ Some (reply id (body_data body))
+
+-- ---- UTF-8
+
+abbrev pub PairsHaveUtf8 : List Pair → Type 0
+PairsHaveUtf8 [] = ⊤
+PairsHaveUtf8 (p ∷ ps) = IsUtf8 p.0 × IsUtf8 p.1 × PairsHaveUtf8 ps
+
+abbrev pub LabelHasUtf8 : Label → Type 0
+LabelHasUtf8 l = IsUtf8 l.name × IsUtf8 l.value × PairsHaveUtf8 l.attributes
+
+abbrev pub NodesHaveUtf8 : Nodes Told → Type 0
+NodesHaveUtf8 none = ⊤
+NodesHaveUtf8 (node r c t) = LabelHasUtf8 r.seen.label × NodesHaveUtf8 c × NodesHaveUtf8 t
+
+-- the text of a reply is UTF-8 where its nodes' texts are
+abbrev pub RepliesAreUtf8 : Type 0
+RepliesAreUtf8 = (id : ℕ) (b : Branch Told) → is_counted id ≡ true → fits_tree true b ≡ true → NodesHaveUtf8 (alone b) → IsUtf8 (reply_text id (Root b))
+
+-- ---- further laws
+
+-- a shown document that suits a message is told in a form that fits
+abbrev pub ShownTreesFit : Type 0
+ShownTreesFit = (b : Branch Seen) → suits_tree true b ≡ true → fits_tree true (told_branch 0 b) ≡ true
 
 -- the reply with a document of 61 levels nests at most 124 deep
 abbrev pub RepliesAreShallow : Type 0

@@ -6,4 +6,5 @@ pub mod Asked
 pub mod Replies
 pub mod Answers
 pub mod Raw
+pub mod Tellable
 pub mod Laws

@@ -1,5 +1,5 @@
 -- A tree of nodes as JSON, and read from it.
-use Rattle.std.specs.Prelude.{ℕ, suc, List, codes, Bool, true, false, ◌&&◌, cond, Option, Some, None, option_map, option_and_then, bytes_eq}
+use Rattle.std.specs.Prelude.{codes, Bool, true, false, ◌&&◌, cond, Option, Some, None, option_map, bytes_eq}
 use Rattle.serde_json.specs.Data.{Data, null, boolean, number, string, array, object, Items, no_items, item, Members, no_members, member}
 use Rattle.node_tree.specs.Nodes.{Nodes, none, node, Branch, width}
 use Rattle.node_tree.specs.Seen.{is_opened}
@@ -17,7 +17,7 @@ tree_data b = node_data b.row (tree_items b.children)
 
 -- ---- which trees are written: each row fits, and what is not opened has no children here
 
-abbrev pub is_none : Nodes Told → Bool
+abbrev pub is_none : {R : Type 0} → Nodes R → Bool
 is_none none = true
 is_none (node r c t) = false
 

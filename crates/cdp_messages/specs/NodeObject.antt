@@ -1,7 +1,7 @@
 -- One node as a JSON object: its fields, and what has to hold across them. Its children are left as the items of an array.
-use Rattle.std.specs.Prelude.{ℕ, ◌^◌, ◌==◌, List, [], ◌∷◌, Bool, true, false, not, ◌&&◌, cond, nat_lt, codes, Option, Some, None, option_map, is_some, unwrap_or, bytes_eq, ⊤}
+use Rattle.std.specs.Prelude.{ℕ, ◌==◌, List, [], ◌∷◌, Bool, true, false, not, ◌&&◌, cond, nat_lt, codes, Option, Some, None, option_map, is_some, unwrap_or, bytes_eq, ⊤}
 use Rattle.std.specs.Str.{str_to_ascii_uppercase}
-use Rattle.serde_json.specs.Data.{Data, object, Items, no_items, Members, no_members, member}
+use Rattle.serde_json.specs.Data.{Data, object, Items, no_items, no_members, member}
 use Rattle.serde_json.specs.Events.{items_len}
 use Rattle.cdp_json.specs.Kinds.{Kind as Description, whole, text, any_items, is_counted, holds_of_some, refined, through, list_of}
 use Rattle.cdp_json.specs.Rows.{Row, maybe_member, ends, and_need, and_may, object_of}
@@ -162,7 +162,7 @@ abbrev pub told_in : NodeObject → Told
 told_in o = record {
   parent = unwrap_or o.parent 0;
   count = unwrap_or o.count 0;
-  seen = record { id = o.id; serial = o.serial; label = label_in o; hold = hold_of (is_some o.children) (holds o.kind) (unwrap_or o.count 0) }
+  seen = record { id = o.id; serial = o.serial; label = label_in o; hold = hold_of (is_some o.children) (holds o.kind) (unwrap_or o.count 0) };
 }
 
 abbrev pub children_in : NodeObject → Items

@@ -1,5 +1,5 @@
 -- Replies and error replies.
-use Rattle.std.specs.Prelude.{◌≡◌, ℕ, ℤ, List, codes, Bool, true, false, cond, Option, Some, None, option_map, option_and_then, Result, Ok, Err, bytes_eq, ⊤}
+use Rattle.std.specs.Prelude.{ℕ, ℤ, List, codes, Bool, true, false, cond, Option, Some, None, option_map, option_and_then, bytes_eq, ⊤}
 use Rattle.std.specs.Borrow.{Bor}
 use Rattle.serde_json.specs.Data.{Data, null, boolean, number, string, array, object}
 use Rattle.serde_json.specs.View.{view}
@@ -10,8 +10,6 @@ use Rattle.node_tree.specs.Nodes.{Branch}
 use Rattle.cdp_messages.specs.declared.command.Refused.{Refused}
 use Rattle.cdp_messages.specs.declared.down.Down.{Down}
 use Rattle.cdp_messages.specs.declared.down.Down.TheVariants.{Reply, Fault}
-use Rattle.cdp_messages.specs.declared.down.DownErr.{DownErr}
-use Rattle.cdp_messages.specs.declared.down.DownErr.TheVariants.{NotMessage, Memory}
 use Rattle.cdp_messages.specs.declared.down.ReplyBody.{ReplyBody}
 use Rattle.cdp_messages.specs.declared.down.ReplyBody.TheVariants.{Root}
 use Rattle.cdp_messages.specs.Told.{Told}

@@ -3,7 +3,6 @@ use Rattle.std.specs.Prelude.{◌≡◌, ℕ, Bool, cond, Option, Some, None, is
 use Rattle.std.specs.declared.alloc.Global.{Global}
 use Rattle.std.specs.Coded.{Coded, code_by, coded×, coded_ℕ}
 use Rattle.node_tree.specs.Nodes.{Nodes, none, node, Branch, nodes_of, width}
-
 use Rattle.node_tree.specs.Labels.{Label, holds}
 use Rattle.node_tree.specs.Seen.{Hold, leaf, counted, opened, Seen, coded_seen}
 

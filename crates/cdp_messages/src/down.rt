@@ -11,7 +11,10 @@ use std::alloc::{AllocError, AllocFailed};
 #[derive(Drop)]
 pub enum Down {
     /// The result is an object; what stands in it is for `read_result`.
-    Reply { id: u64, result: Value },
+    Reply {
+        id: u64,
+        result: Value,
+    },
     /// An error reply, without an id where the frame that is refused had none.
     Fault {
         id: Option<u64>,

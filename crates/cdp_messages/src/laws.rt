@@ -1,5 +1,5 @@
 // The laws of the messages, which make no call.
-ghost use Rattle.cdp_messages.specs.Laws.{CommandsAreAsked, ParametersAreAsked, RepliesAreRead, RepliesAreShallow, RefusalsAreRead, ResultsAreRead, MessagesAreSpelled, ResultsAreSpelled, OneMessage, OneResult, TextsHaveNoZero};
+ghost use Rattle.cdp_messages.specs.Laws.{CommandsAreAsked, ParametersAreAsked, RepliesAreRead, RepliesAreShallow, RefusalsAreRead, ResultsAreRead, MessagesAreSpelled, ResultsAreSpelled, OneMessage, OneResult, TextsHaveNoZero, RepliesAreUtf8, ShownTreesFit};
 
 /// What a writer appends is read as what it was given, nothing else is read, and no value spells two messages.
 pub fn spell_law()
@@ -14,5 +14,6 @@ pub fn spell_law()
     ensures one_message { OneMessage }
     ensures one_result { OneResult }
     ensures no_zero { TextsHaveNoZero }
-{
-}
+    ensures utf8 { RepliesAreUtf8 }
+    ensures shown_trees_fit { ShownTreesFit }
+{}

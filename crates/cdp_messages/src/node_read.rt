@@ -76,14 +76,16 @@ fn kind_of_type(number: u64) -> Option<Kind>
 }
 
 fn kind_field(fields: &mut Cursor<'_>) -> Option<Kind>
-    ensures { option_map (beside (left fields.new)) result ≡ need node_type.reads (codes "nodeType") (left fields.old) }
+    ensures { option_map (beside (left fields.new)) result
+        ≡ need node_type.reads (codes "nodeType") (left fields.old) }
 {
     let number = fields.need_whole("nodeType")?;
     kind_of_type(number)
 }
 
 fn attributes_field(alloc: Global, fields: &mut Cursor<'_>) -> Result<Option<Attributes>, DownErr>
-    ensures { Gives (beside (left fields.new)) result (may attribute_list.reads (codes "attributes") (left fields.old)) }
+    ensures { Gives (beside (left fields.new)) result
+        (may attribute_list.reads (codes "attributes") (left fields.old)) }
 {
     match fields.may_list("attributes") {
         None => Err(DownErr::NotMessage),
@@ -105,8 +107,12 @@ impl<'a> RawNode<'a> {
         let object = value.as_object().ok_or(DownErr::NotMessage)?;
         let mut fields = Cursor::new(object);
         let attributes = attributes_field(alloc, &mut fields)?;
-        let serial = fields.need_whole("backendNodeId").ok_or(DownErr::NotMessage)?;
-        let count = fields.may_whole("childNodeCount").ok_or(DownErr::NotMessage)?;
+        let serial = fields
+            .need_whole("backendNodeId")
+            .ok_or(DownErr::NotMessage)?;
+        let count = fields
+            .may_whole("childNodeCount")
+            .ok_or(DownErr::NotMessage)?;
         let children = fields.may_list("children").ok_or(DownErr::NotMessage)?;
         let local_name = fields.need_text("localName").ok_or(DownErr::NotMessage)?;
         let id = fields.need_whole("nodeId").ok_or(DownErr::NotMessage)?;
@@ -161,7 +167,8 @@ impl<'a> RawNode<'a> {
 
     // Whether the name that is shown is that of the node.
     fn shows_name(&self, alloc: Global) -> Result<bool, AllocError>
-        ensures { IfOk result (λ b. b ≡ bytes_eq self.now.name.now (node_name (label_in (object_in self.now)))) }
+        ensures { IfOk result (λ b. b
+            ≡ bytes_eq self.now.name.now (node_name (label_in (object_in self.now)))) }
     {
         let shown = node_name(alloc, self.kind, self.label_name())?;
         Ok(self.name == shown.as_str())
@@ -171,7 +178,8 @@ impl<'a> RawNode<'a> {
     fn agrees(&self, alloc: Global) -> Result<bool, AllocError>
         ensures { IfOk result (λ b. b ≡ agrees (object_in self.now)) }
     {
-        let same_parts = self.attributes.is_some() == is_element(self.kind) && self.count.is_some() == is_container(self.kind);
+        let same_parts = self.attributes.is_some() == is_element(self.kind)
+            && self.count.is_some() == is_container(self.kind);
         let same_local_name = self.local_name == local_name(self.kind, self.label_name());
         let named = self.shows_name(alloc)?;
         let parent = match self.parent {
@@ -183,14 +191,15 @@ impl<'a> RawNode<'a> {
 
     // Whether the node may stand here, at the top of a document or below it.
     fn fits_place(&self, top: bool) -> bool
-        ensures { result ≡ fits_place top (items_len (children_in (object_in self.now))) (told_in (object_in self.now)) }
+        ensures { result ≡ fits_place top (items_len (children_in (object_in self.now)))
+            (told_in (object_in self.now)) }
     {
         let count = self.count.unwrap_or(0);
         let parent = self.parent.unwrap_or(0);
         self.id > 0
             && self.serial > 0
             && is_formed_label(self.kind, self.label_name(), self.value, self.pairs())
-            && is_named_label(self.kind, self.label_name(), self.value, self.pairs())
+            && is_named_label(self.kind, self.label_name(), self.pairs())
             && is_document(self.kind) == top
             && (parent == 0) == top
             && fits_hold(self.children, is_container(self.kind), count)
@@ -203,9 +212,14 @@ impl<'a> RawNode<'a> {
     }
 
     // The node with these children.
-    fn finished(self, alloc: Global, children: Option<Vec<NodeTree>>) -> Result<NodeTree, AllocError>
-        ensures { IfOk result (λ tree. tree ≡ told_tree (unwrap_or self.entry.parent 0) (unwrap_or self.entry.count 0) self.entry.id
-            self.entry.serial (label_in (object_in self.entry)) children) }
+    fn finished(
+        self,
+        alloc: Global,
+        children: Option<Vec<NodeTree>>,
+    ) -> Result<NodeTree, AllocError>
+        ensures { IfOk result (λ tree. tree ≡ told_tree (unwrap_or self.entry.parent 0)
+            (unwrap_or self.entry.count 0) self.entry.id self.entry.serial
+            (label_in (object_in self.entry)) children) }
     {
         let name = Text::copied(alloc, self.label_name())?;
         let value = Text::copied(alloc, self.value)?;

@@ -1,5 +1,5 @@
 // What has to hold of a node that a message tells.
-ghost use Rattle.std.specs.Prelude.{◌≡◌, if◌then◌else◌, is_some, option_map, unwrap_or};
+ghost use Rattle.std.specs.Prelude.{◌≡◌, [], if◌then◌else◌, is_some, option_map, unwrap_or};
 ghost use Rattle.std.specs.List.{list_all};
 ghost use Rattle.serde_json.specs.Data.{no_items};
 ghost use Rattle.serde_json.specs.Events.{items_len};
@@ -98,16 +98,19 @@ fn are_formed(kind: Kind, pairs: &[(Text, Text)]) -> bool
 
 // What stands in a label but for the forms of names.
 pub(crate) fn is_formed_label(kind: Kind, name: &str, value: &str, pairs: &[(Text, Text)]) -> bool
-    ensures { result ≡ is_formed_label (record { kind = kind; name = name.now; value = value.now; attributes = pairs.now }) }
+    ensures { result ≡ is_formed_label
+        (record { kind = kind; name = name.now; value = value.now; attributes = pairs.now }) }
 {
-    are_formed(kind, pairs) && (has_name(kind) || is_blank(name)) && (has_value(kind) || is_blank(value))
+    are_formed(kind, pairs)
+        && (has_name(kind) || is_blank(name))
+        && (has_value(kind) || is_blank(value))
 }
 
 // The names of a label have their forms.
-pub(crate) fn is_named_label(kind: Kind, name: &str, value: &str, pairs: &[(Text, Text)]) -> bool
-    ensures { result ≡ is_named_label (record { kind = kind; name = name.now; value = value.now; attributes = pairs.now }) }
+pub(crate) fn is_named_label(kind: Kind, name: &str, pairs: &[(Text, Text)]) -> bool
+    ensures { result ≡ is_named_label
+        (record { kind = kind; name = name.now; value = []; attributes = pairs.now }) }
 {
-    let _value = value;
     (!has_name(kind) || is_element_name(name)) && are_attribute_names(pairs)
 }
 

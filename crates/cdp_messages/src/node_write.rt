@@ -86,8 +86,13 @@ pub(crate) fn local_name(kind: Kind, name: &str) -> &str
     if is_element(kind) { name } else { "" }
 }
 
-fn attributes_field(alloc: Global, kind: Kind, attributes: &Attributes) -> Result<Option<Value>, AllocError>
-    ensures { IfOk result (λ o. option_map view o ≡ option_map attribute_list.spell (only_if (is_element kind) attributes.now)) }
+fn attributes_field(
+    alloc: Global,
+    kind: Kind,
+    attributes: &Attributes,
+) -> Result<Option<Value>, AllocError>
+    ensures { IfOk result (λ o. option_map view o
+        ≡ option_map attribute_list.spell (only_if (is_element kind) attributes.now)) }
 {
     if is_element(kind) {
         return Ok(Some(attributes_value(alloc, attributes)?));
@@ -98,13 +103,21 @@ fn attributes_field(alloc: Global, kind: Kind, attributes: &Attributes) -> Resul
 fn count_field(kind: Kind, count: u64) -> Option<Value>
     ensures { option_map view result ≡ option_map whole.spell (only_if (holds kind) count) }
 {
-    if is_container(kind) { Some(Value::from(count)) } else { None }
+    if is_container(kind) {
+        Some(Value::from(count))
+    } else {
+        None
+    }
 }
 
 fn parent_field(parent: u64) -> Option<Value>
     ensures { option_map view result ≡ option_map whole.spell (only_if (nat_lt 0 parent) parent) }
 {
-    if parent > 0 { Some(Value::from(parent)) } else { None }
+    if parent > 0 {
+        Some(Value::from(parent))
+    } else {
+        None
+    }
 }
 
 // The values of a node's fields, but for its attributes, its children and its numbers.
@@ -117,7 +130,8 @@ struct Texts {
 }
 
 fn texts_of(alloc: Global, tree: &NodeTree) -> Result<Texts, AllocError>
-    ensures local_name { IfOk result (λ texts. view texts.local_name ≡ string (local_name tree.now.row.seen.label)) }
+    ensures local_name { IfOk result (λ texts. view texts.local_name
+        ≡ string (local_name tree.now.row.seen.label)) }
     ensures name { IfOk result (λ texts. view texts.name ≡ string (node_name tree.now.row.seen.label)) }
     ensures kind { IfOk result (λ texts. view texts.kind ≡ node_type.spell tree.now.row.seen.label.kind) }
     ensures value { IfOk result (λ texts. view texts.value ≡ string tree.now.row.seen.label.value) }
@@ -138,9 +152,11 @@ fn fields_value(
     children: Option<Value>,
     texts: Texts,
 ) -> Result<Value, AllocError>
-    ensures { IfOk result (λ v. view v ≡ node_members (option_map view attributes) (whole.spell tree.now.row.seen.serial)
-        (option_map whole.spell (only_if (holds tree.now.row.seen.label.kind) tree.now.row.count)) (option_map view children)
-        (view texts.local_name) (whole.spell tree.now.row.seen.id) (view texts.name) (view texts.kind) (view texts.value)
+    ensures { IfOk result (λ v. view v ≡ node_members (option_map view attributes)
+        (whole.spell tree.now.row.seen.serial)
+        (option_map whole.spell (only_if (holds tree.now.row.seen.label.kind) tree.now.row.count))
+        (option_map view children) (view texts.local_name) (whole.spell tree.now.row.seen.id)
+        (view texts.name) (view texts.kind) (view texts.value)
         (option_map whole.spell (only_if (nat_lt 0 tree.now.row.parent) tree.now.row.parent))) }
 {
     let count = count_field(tree.kind, tree.count);
@@ -155,12 +171,17 @@ fn fields_value(
         ("nodeName", Some(texts.name)),
         ("nodeType", Some(texts.kind)),
         ("nodeValue", Some(texts.value)),
-        ("parentId", parent)]?;
+        ("parentId", parent),
+    ]?;
     object(alloc, fields)
 }
 
 // A node's object, with these children.
-fn row_value(alloc: Global, tree: &NodeTree, children: Option<Vec<Value>>) -> Result<Value, AllocError>
+fn row_value(
+    alloc: Global,
+    tree: &NodeTree,
+    children: Option<Vec<Value>>,
+) -> Result<Value, AllocError>
     ensures { IfOk result (λ v. view v ≡ node_fields.spell
         (object_with tree.now.row (option_map (λ list. items_of (map view list.items)) children))) }
 {
@@ -171,7 +192,8 @@ fn row_value(alloc: Global, tree: &NodeTree, children: Option<Vec<Value>>) -> Re
 }
 
 fn list_field(list: Option<Vec<Value>>) -> Option<Value>
-    ensures { option_map view result ≡ option_map array (option_map (λ list. items_of (map view list.items)) list) }
+    ensures { option_map view result
+        ≡ option_map array (option_map (λ list. items_of (map view list.items)) list) }
 {
     match list {
         Some(list) => Some(Value::Array(list)),

@@ -48,7 +48,11 @@ fn has_session(frame: &Map<String, Value>) -> bool
     }
 }
 
-fn routed(frame: &Map<String, Value>, method: &str, params: &Map<String, Value>) -> Result<Command, Why>
+fn routed(
+    frame: &Map<String, Value>,
+    method: &str,
+    params: &Map<String, Value>,
+) -> Result<Command, Why>
     ensures { result ≡ unless_session (get_member (codes "sessionId") (members_view frame.now.entries))
         (command_for method.now (members_view params.now.entries)) }
 {
@@ -109,7 +113,8 @@ pub(crate) fn json_of(alloc: Global, bytes: &[u8]) -> Result<Option<Value>, Allo
 pub fn read_command(alloc: Global, bytes: &[u8], own: bool) -> Result<Asked, ReadErr>
     ensures { Asks result (asked bytes.now own) }
 {
-    let _own = own;
+    // No method is known so far that it would allow.
+    let _ = own;
     let Ok(found) = json_of(alloc, bytes) else {
         return Err(ReadErr::Memory);
     };

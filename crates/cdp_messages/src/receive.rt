@@ -34,7 +34,8 @@ fn into_result(value: Value) -> Option<Value>
 {
     match value {
         Value::Object(mut members) => members.remove("result"),
-        Value::Null | Value::Bool(_) | Value::Number(_) | Value::String(_) | Value::Array(_) => None,
+        Value::Null | Value::Bool(_) | Value::Number(_) | Value::String(_) | Value::Array(_) =>
+            None,
     }
 }
 
@@ -52,7 +53,8 @@ fn error_of(value: &Value) -> Option<(i64, &str)>
 }
 
 fn error_field<'a>(fields: &mut Cursor<'a>) -> Option<(i64, &'a str)>
-    ensures { option_map (λ e. beside (left fields.new) (error_seen e)) result ≡ need error_kind.reads (codes "error") (left fields.old) }
+    ensures { option_map (λ e. beside (left fields.new) (error_seen e)) result
+        ≡ need error_kind.reads (codes "error") (left fields.old) }
 {
     let value = fields.need("error")?;
     error_of(value)

@@ -1,11 +1,17 @@
 use crate::{
-    Attributes, Command, Down, DownErr, Kind, NodeTree, ReadErr, ReplyBody, Text, read_command, read_down, read_result,
-    write_command, write_refused, write_reply,
+    Attributes, Command, Down, DownErr, Kind, NodeTree, ReadErr, ReplyBody, Text, read_command,
+    read_down, read_result, write_command, write_refused, write_reply,
 };
 use std::alloc::{AllocError, Global};
 use std::test::Fail;
 
-fn node(alloc: Global, id: u64, parent: u64, kind: Kind, name: &str) -> Result<NodeTree, AllocError> {
+fn node(
+    alloc: Global,
+    id: u64,
+    parent: u64,
+    kind: Kind,
+    name: &str,
+) -> Result<NodeTree, AllocError> {
     Ok(NodeTree {
         id,
         serial: id,
@@ -29,7 +35,8 @@ fn small_page(alloc: Global) -> Result<ReplyBody, AllocError> {
     Ok(ReplyBody::Root(page))
 }
 
-const SMALL_REPLY: &[u8] = b"{\"id\":1,\"result\":{\"root\":{\"backendNodeId\":1,\"childNodeCount\":1,\"children\":[{\"attributes\":[],\"backendNodeId\":2,\"childNodeCount\":2,\"localName\":\"html\",\"nodeId\":2,\"nodeName\":\"HTML\",\"nodeType\":1,\"nodeValue\":\"\",\"parentId\":1}],\"localName\":\"\",\"nodeId\":1,\"nodeName\":\"#document\",\"nodeType\":9,\"nodeValue\":\"\"}}}";
+const SMALL_REPLY: &[u8] =
+    b"{\"id\":1,\"result\":{\"root\":{\"backendNodeId\":1,\"childNodeCount\":1,\"children\":[{\"attributes\":[],\"backendNodeId\":2,\"childNodeCount\":2,\"localName\":\"html\",\"nodeId\":2,\"nodeName\":\"HTML\",\"nodeType\":1,\"nodeValue\":\"\",\"parentId\":1}],\"localName\":\"\",\"nodeId\":1,\"nodeName\":\"#document\",\"nodeType\":9,\"nodeValue\":\"\"}}}";
 
 // The refusals of these frames, one after another.
 fn refusals(alloc: Global, frames: &[&[u8]]) -> Result<Vec<u8>, AllocError> {
@@ -66,7 +73,10 @@ fn a_reply_is_written_and_read_again(rt: HostRuntime) -> Result<(), Fail> {
     let mut copy = again(rt.alloc(), SMALL_REPLY)?;
     assert_eq!(rt; copy.pop(), Some(0));
     assert_eq!(rt; copy.as_slice(), SMALL_REPLY);
-    let fault = again(rt.alloc(), b"{\"error\":{\"code\":-32601,\"message\":\"unknown method\"},\"id\":3}")?;
+    let fault = again(
+        rt.alloc(),
+        b"{\"error\":{\"code\":-32601,\"message\":\"unknown method\"},\"id\":3}",
+    )?;
     assert_eq!(rt; fault.as_slice(), b"unknown method".as_slice());
     Ok(())
 }
@@ -84,7 +94,8 @@ fn refusals_come_in_order(rt: HostRuntime) -> Result<(), Fail> {
         b"{\"id\":4,\"method\":\"DOM.getDocument\",\"params\":{\"depth\":1.0}}",
     ];
     let out = refusals(rt.alloc(), frames.as_slice())?;
-    let expected = b"{\"error\":{\"code\":-32700,\"message\":\"not JSON\"}}\0{\"error\":{\"code\":-32700,\"message\":\"not JSON\"}}\0{\"error\":{\"code\":-32600,\"message\":\"no usable id\"}}\0{\"error\":{\"code\":-32600,\"message\":\"bad request\"},\"id\":1}\0{\"error\":{\"code\":-32001,\"message\":\"unknown session\"},\"id\":2}\0{\"error\":{\"code\":-32601,\"message\":\"unknown method\"},\"id\":3}\0{\"error\":{\"code\":-32602,\"message\":\"bad parameter: depth\"},\"id\":4}\0{\"error\":{\"code\":-32602,\"message\":\"bad parameter: depth\"},\"id\":4}\0";
+    let expected =
+        b"{\"error\":{\"code\":-32700,\"message\":\"not JSON\"}}\0{\"error\":{\"code\":-32700,\"message\":\"not JSON\"}}\0{\"error\":{\"code\":-32600,\"message\":\"no usable id\"}}\0{\"error\":{\"code\":-32600,\"message\":\"bad request\"},\"id\":1}\0{\"error\":{\"code\":-32001,\"message\":\"unknown session\"},\"id\":2}\0{\"error\":{\"code\":-32601,\"message\":\"unknown method\"},\"id\":3}\0{\"error\":{\"code\":-32602,\"message\":\"bad parameter: depth\"},\"id\":4}\0{\"error\":{\"code\":-32602,\"message\":\"bad parameter: depth\"},\"id\":4}\0";
     assert_eq!(rt; out.as_slice(), expected.as_slice());
     Ok(())
 }
@@ -93,9 +104,22 @@ fn refusals_come_in_order(rt: HostRuntime) -> Result<(), Fail> {
 fn a_command_is_written_and_asked(rt: HostRuntime) -> Result<(), Fail> {
     let mut out = Vec::new(rt.alloc());
     write_command(rt.alloc(), 1, "DOM.getDocument", None, None, &mut out)?;
-    assert_eq!(rt; out.as_slice(), b"{\"id\":1,\"method\":\"DOM.getDocument\"}\0".as_slice());
-    let asked = read_command(rt.alloc(), b"{\"id\":1,\"method\":\"DOM.getDocument\"}", false)?;
+    assert_eq!(rt;
+        out.as_slice(),
+        b"{\"id\":1,\"method\":\"DOM.getDocument\"}\0".as_slice()
+    );
+    let asked = read_command(
+        rt.alloc(),
+        b"{\"id\":1,\"method\":\"DOM.getDocument\"}",
+        false,
+    )?;
     assert_eq!(rt; asked.id, 1);
-    assert_eq!(rt; asked.command, Command::GetDocument { depth: None, pierce: None });
+    assert_eq!(rt;
+        asked.command,
+        Command::GetDocument {
+            depth: None,
+            pierce: None
+        }
+    );
     Ok(())
 }

@@ -31,17 +31,17 @@ impl Model for NodeTree {
     ghost coded = { coded_branch coded_told };
 
     ghost view = { λ t. record {
-        row = record {
-            parent = t.parent;
-            count = t.count;
-            seen = record {
-                id = t.id;
-                serial = t.serial;
-                label = record { kind = t.kind; name = t.name; value = t.value; attributes = t.attributes };
-                hold = hold_of (is_some t.children) (holds t.kind) t.count
-            }
+      row = record {
+        parent = t.parent;
+        count = t.count;
+        seen = record {
+          id = t.id;
+          serial = t.serial;
+          label = record { kind = t.kind; name = t.name; value = t.value; attributes = t.attributes };
+          hold = hold_of (is_some t.children) (holds t.kind) t.count;
         };
-        children = shown_children t.children
+      };
+      children = shown_children t.children;
     } };
 
     ghost size = { branch_count };
@@ -50,6 +50,7 @@ impl Model for NodeTree {
     ghost use Rattle.std.proofs.Common.{arith};
     ghost use Rattle.node_tree.specs.Nodes.{most_le-node_count};
 
-    ghost size_decreases = { λ a h. (elim a.children as (λ o. child_size (record a { children = o }) ≤ size (view (record a { children = o })))
+    ghost size_decreases = { λ a h. (elim a.children as
+        (λ o. child_size (record a { children = o }) ≤ size (view (record a { children = o })))
         [ None ↦ Prim.omega arith | Some v ↦ Prim.omega (arith, most_le-node_count v.items) ]) };
 }

@@ -49,7 +49,12 @@ fn command_value(
     let params = copied(params)?;
     let session = copied(session)?;
     let method = Value::try_from_str(alloc, method)?;
-    let fields = vec![in alloc; ("id", Some(Value::from(id))), ("method", Some(method)), ("params", params), ("sessionId", session)]?;
+    let fields = vec![in alloc;
+        ("id", Some(Value::from(id))),
+        ("method", Some(method)),
+        ("params", params),
+        ("sessionId", session),
+    ]?;
     object(alloc, fields)
 }
 
@@ -114,7 +119,10 @@ fn text_of(alloc: Global, why: Why) -> Result<String, AllocError>
 fn error_value(alloc: Global, code: i64, text: String) -> Result<Value, AllocError>
     ensures { IfOk result (λ v. view v ≡ error_kind.spell (code, (string_bytes text, tt))) }
 {
-    let fields = vec![in alloc; ("code", Some(Value::from(code))), ("message", Some(Value::String(text)))]?;
+    let fields = vec![in alloc;
+        ("code", Some(Value::from(code))),
+        ("message", Some(Value::String(text))),
+    ]?;
     object(alloc, fields)
 }
 
@@ -161,7 +169,12 @@ fn reply_value(alloc: Global, id: u64, body: Value) -> Result<Value, AllocError>
 }
 
 /// Appends a reply as one frame, with its zero byte.
-pub fn write_reply(alloc: Global, id: u64, body: &ReplyBody, out: &mut Vec<u8>) -> Result<(), AllocError>
+pub fn write_reply(
+    alloc: Global,
+    id: u64,
+    body: &ReplyBody,
+    out: &mut Vec<u8>,
+) -> Result<(), AllocError>
     ensures ok { OnOk result (out.new.items ≡ out.old.items ++ ended (reply_text id body.now)) }
     ensures utf8 { OnOk result (IsUtf8 (reply_text id body.now)) }
     ensures err { OnErr result (out.new.items ≡ out.old.items) }

@@ -1,21 +1,28 @@
 -- How a fold goes on, and that an ask more only waits.
-use Rattle.std.proofs.Common.{◌≡◌, ℕ, ℤ, suc, ◌+◌, ◌==◌, Bool, true, false, cond, List, [], ◌∷◌, ◌++◌, Option, Some, None, Result, Ok, Err, codes, refl, sym, ap, ◌∙◌, subst, append_assoc}
+use Rattle.std.proofs.Common.{◌≡◌, ◌≤◌, ℕ, ℤ, ◌==◌, Bool, true, false, cond, codes, List, [], ◌∷◌, ◌++◌, Option, Some, None, Result, Ok, Err, refl, sym, ap, ◌∙◌}
 use Rattle.serde_json.specs.Data.{Data}
-use Rattle.node_tree.specs.Nodes.{Nodes, none, node, Branch, alone}
+use Rattle.node_tree.specs.Nodes.{Nodes, Branch, alone, height}
 use Rattle.node_tree.specs.Seen.{Seen}
-use Rattle.pipe_frames.specs.Frames.{Frames, frames_of, frames_from, held_after, continued}
+use Rattle.pipe_frames.specs.Frames.{Frames, frames_of, frames_from, held_after}
 use Rattle.pipe_frames.proofs.FrameLemmas.{frames_of-append}
 use Rattle.cdp_messages.specs.declared.down.ReplyBody.{ReplyBody}
 use Rattle.cdp_messages.specs.declared.down.ReplyBody.TheVariants.{Root}
-use Rattle.cdp_messages.specs.Told.{Told, seen_nodes, told_nodes, told_branch, seen-told}
-use Rattle.cdp_messages.specs.Replies.{Message, reply, fault, down_of, result_of}
+use Rattle.cdp_messages.specs.Told.{Told, seen_nodes, told_branch, seen-told}
+use Rattle.cdp_messages.specs.Replies.{Message, reply, fault, down_of, result_of, body_data, reply_text}
+use Rattle.cdp_json.specs.Kinds.{is_counted}
+use Rattle.cdp_messages.specs.Laws.{NodesHaveUtf8}
+use Rattle.cdp_messages.specs.Tellable.{suits_tree}
+use Rattle.cdp_messages.proofs.Depths.{replies_are_shallow}
+use Rattle.cdp_messages.proofs.Messages.{replies_are_read, results_are_read}
+use Rattle.cdp_messages.proofs.TellableLaws.{shown_trees_fit}
+use Rattle.cdp_messages.proofs.TextsUtf8.{replies_are_utf8}
 use Rattle.front_mirror.specs.declared.replies.Ask.{Ask}
 use Rattle.front_mirror.specs.declared.faults.FrontKind.{FrontKind}
 use Rattle.front_mirror.specs.declared.faults.FrontFault.{FrontFault}
 use Rattle.front_mirror.specs.Views.{IsView}
-use Rattle.front_mirror.specs.Front.{FrontValue, first_value, method_of, without, root_fault, kept, replied, refused, with_root, with_body, with_reply, with_fault, with_message, take_frame, Folded, after_message, folded, outcome, fold_frames, fold, FrontState, first_state, after_bytes, unless_refused, after_take, after_ask}
+use Rattle.front_mirror.specs.Front.{FrontValue, first_value, method_of, without, root_fault, replied, refused, with_root, with_body, with_reply, with_fault, with_message, take_frame, Folded, after_message, folded, outcome, fold_frames, fold, FrontState, first_state, after_bytes, unless_refused, after_take, after_ask}
 use Rattle.front_mirror.specs.Laws.{joined, IsFold}
-use Rattle.front_mirror.proofs.ViewLemmas.{root_fault-told}
+use Rattle.front_mirror.proofs.ViewLemmas.{height-told, root_fault-told}
 
 -- ---- one fold after another
 
@@ -201,3 +208,15 @@ fold_asks waiting down method s is = record {
   rest = is.rest;
   well = is.well;
 }
+
+-- the same of the reply as it is written
+pub take_frame-reply : (v : FrontValue) (id : ℕ) (b : Branch Seen) → IsView (alone b) → suits_tree true b ≡ true → NodesHaveUtf8 (alone (told_branch 0 b))
+    → is_counted id ≡ true → method_of id v.asks ≡ Some (codes "DOM.getDocument")
+    → take_frame v (reply_text id (Root (told_branch 0 b))) ≡ Ok (replied v id (reply_text id (Root (told_branch 0 b))) true (alone b))
+take_frame-reply v id b view suits utf8 counted waits =
+    let fits = shown_trees_fit b suits in
+    let levels : height (alone (told_branch 0 b)) ≤ 61 = rw (height-told 0 (alone b)) view.levels in
+    let text = replies_are_utf8 id (told_branch 0 b) counted fits utf8 in
+    let read = replies_are_read id (Root (told_branch 0 b)) counted fits (replies_are_shallow id (told_branch 0 b) levels) text in
+    take_frame-root v id (reply_text id (Root (told_branch 0 b))) (body_data (Root (told_branch 0 b))) (codes "DOM.getDocument") b view read waits
+    (results_are_read (Root (told_branch 0 b)) fits)

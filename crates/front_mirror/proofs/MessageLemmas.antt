@@ -1,5 +1,5 @@
 -- What is known of a frame that is read, or that is not.
-use Rattle.std.proofs.Common.{◌≡◌, ℕ, List, [], Bool, true, false, cond, ◌&&◌, codes, Option, Some, None, option_map, option_and_then, Result, Ok, Err, IsOk, bytes_eq, refl, ap}
+use Rattle.std.proofs.Common.{◌≡◌, ℕ, List, Bool, true, false, cond, ◌&&◌, codes, Option, Some, None, option_map, option_and_then, Result, Ok, Err, IsOk, bytes_eq, refl, ap}
 use Rattle.std.specs.Str.{IsUtf8, is_utf8}
 use Rattle.std.proofs.lemmas.Str.{IsUtf8-from_is_utf8}
 use Rattle.serde_json.specs.Read.{read}
@@ -11,7 +11,7 @@ use Rattle.cdp_messages.specs.declared.down.ReplyBody.{ReplyBody}
 use Rattle.cdp_messages.specs.declared.down.ReplyBody.TheVariants.{Root}
 use Rattle.cdp_messages.specs.Told.{Told}
 use Rattle.cdp_messages.specs.NodeData.{fits_tree}
-use Rattle.cdp_messages.specs.Replies.{Message, message_in, down_of, root_kind, root_from, result_of, fits_body}
+use Rattle.cdp_messages.specs.Replies.{message_in, down_of, root_kind, root_from, result_of, fits_body}
 use Rattle.cdp_messages.proofs.NodeTrees.{document_lawful}
 use Rattle.front_mirror.specs.declared.faults.FrontKind.TheVariants.{NotMessage}
 use Rattle.front_mirror.specs.Front.{FrontValue, with_message, take_frame}

@@ -1,5 +1,5 @@
 -- Lines that are written piece by piece.
-use Rattle.std.proofs.Common.{◌≡◌, ◌≢◌, ℕ, zero, suc, ◌+◌, List, [], ◌∷◌, ◌++◌, refl, ap, sym, ◌∙◌, append_assoc, add-one}
+use Rattle.std.proofs.Common.{◌≡◌, ◌≢◌, ℕ, zero, suc, ◌+◌, List, [], ◌∷◌, ◌++◌, refl, ap, append_assoc, add-one}
 use Rattle.node_tree.specs.Nodes.{Nodes, none, node}
 use Rattle.node_tree.specs.Seen.{Seen}
 use Rattle.front_mirror.specs.Outline.{indent, lines_at, seen_line, outline_text}

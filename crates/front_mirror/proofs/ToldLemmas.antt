@@ -1,5 +1,5 @@
 -- Trees that messages tell, and what is shown of them.
-use Rattle.std.proofs.Common.{◌≡◌, ℕ, zero, suc, ◌+◌, ◌<◌, ◌≤◌, ◌==◌, cond, true, false, Bool, max, List, [], ◌∷◌, ◌++◌, length, get_or, drop, Option, Some, None, option_map, is_some, IsSome, IsTrue, refl, ap, sym, ◌∙◌, append_assoc, add-one, arith}
+use Rattle.std.proofs.Common.{◌≡◌, ℕ, zero, suc, ◌+◌, ◌<◌, ◌==◌, cond, true, false, Bool, List, [], ◌∷◌, ◌++◌, length, get_or, drop, Option, Some, None, option_map, is_some, IsSome, IsTrue, refl, ap, sym, ◌∙◌, append_assoc, add-one, arith}
 use Rattle.node_tree.specs.Nodes.{Nodes, none, node, Branch, nodes_of, tree_at, width, node_count, height}
 use Rattle.node_tree.specs.Keys.{first_of, find, parent_of, tally}
 use Rattle.std.proofs.lemmas.Bool.{ne_eqb}

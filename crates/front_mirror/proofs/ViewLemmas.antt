@@ -1,17 +1,17 @@
 -- A document that comes, and the view that it shows.
-use Rattle.std.proofs.Common.{◌≡◌, ◌≢◌, ℕ, zero, suc, ◌+◌, ◌<◌, ◌≤◌, ◌==◌, nat_eq, nat_lt, nat_le, Bool, true, false, not, cond, ◌&&◌, ◌||◌, List, [], ◌∷◌, ◌++◌, Option, Some, None, refl, sym, ap, ◌∙◌, inl, inr, arith, rules}
+use Rattle.std.proofs.Common.{◌≡◌, ◌≢◌, ℕ, ◌+◌, ◌≤◌, ◌==◌, nat_eq, nat_lt, nat_le, Bool, true, false, not, cond, ◌&&◌, ◌||◌, List, [], ◌∷◌, ◌++◌, None, refl, sym, ap, ◌∙◌, inl, inr, arith}
 use Rattle.std.proofs.lemmas.Bool.{cases_eq, ne_eqb}
 use Rattle.node_tree.specs.Nodes.{Nodes, none, node, Branch, alone, height, width}
 use Rattle.node_tree.specs.Keys.{tally}
 use Rattle.node_tree.specs.Labels.{is_document, is_formed_label, is_named_label}
 use Rattle.node_tree.specs.Seen.{Seen, is_opened, seen_id, seen_serial}
-use Rattle.cdp_messages.specs.Told.{Told, seen_nodes, seen_branch, told_nodes, told_branch, seen-told}
+use Rattle.cdp_messages.specs.Told.{Told, seen_nodes, told_nodes, told_branch}
 use Rattle.cdp_messages.specs.NodeObject.{fits_row, fits_place, is_counted_row, same, fits_hold}
 use Rattle.cdp_messages.specs.NodeData.{is_none, fits_below, fits_nodes, fits_tree}
 use Rattle.front_mirror.specs.Shown.{told_id, told_serial}
-use Rattle.front_mirror.specs.Views.{IsView, IsMirror, most_levels, is_empty, is_bare, has_formed_labels, is_document_tree, keys, is_in, is_distinct}
+use Rattle.front_mirror.specs.Views.{IsView, IsMirror, most_levels, is_empty, is_bare, has_formed_labels, keys, is_in, is_distinct}
 use Rattle.front_mirror.specs.Front.{is_kin, is_unique, first_true, root_fault}
-use Rattle.cdp_messages.proofs.NodeTrees.{Fitting, fitting_parts, FittingTree, tree_parts}
+use Rattle.cdp_messages.proofs.NodeTrees.{fitting_parts, tree_parts}
 use Rattle.front_mirror.proofs.DistinctLemmas.{absent_and}
 use Rattle.front_mirror.proofs.ToldLemmas.{height-seen, keys-seen}
 
@@ -205,7 +205,7 @@ keys-told : (key : Seen → ℕ) (p : ℕ) (n : Nodes Seen) → keys (λ r. key 
 keys-told key p none = refl
 keys-told key p (node r c t) = rw (keys-told key r.id c, keys-told key p t) refl
 
-height-told : (p : ℕ) (n : Nodes Seen) → height (told_nodes p n) ≡ height n
+pub height-told : (p : ℕ) (n : Nodes Seen) → height (told_nodes p n) ≡ height n
 height-told p none = refl
 height-told p (node r c t) = rw (height-told r.id c, height-told p t) refl
 

@@ -1,5 +1,5 @@
 -- What a front knows, as its value.
-use Rattle.std.specs.Prelude.{◌≡◌, Option, Some, None, Result, Ok, Err, ⊤}
+use Rattle.std.specs.Prelude.{◌≡◌, Some, None, Result, Ok, Err, ⊤}
 use Rattle.front_mirror.specs.declared.faults.FrontKind.{FrontKind}
 use Rattle.front_mirror.specs.declared.known.Known.{Known}
 use Rattle.front_mirror.specs.declared.known.FrameErr.{FrameErr}

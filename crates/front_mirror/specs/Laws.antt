@@ -1,12 +1,15 @@
 -- What the fold keeps.
-use Rattle.std.specs.Prelude.{◌≡◌, ℕ, ℤ, List, [], ◌∷◌, ◌++◌, true, false, Option, Some, None, Ok}
+use Rattle.std.specs.Prelude.{◌≡◌, ℕ, ℤ, List, [], ◌∷◌, ◌++◌, codes, true, false, Some, None, Ok}
 use Rattle.serde_json.specs.Data.{Data}
 use Rattle.node_tree.specs.Nodes.{Branch, alone}
 use Rattle.node_tree.specs.Seen.{Seen}
 use Rattle.pipe_frames.specs.Frames.{frames_from, held_after}
 use Rattle.cdp_messages.specs.declared.down.ReplyBody.TheVariants.{Root}
 use Rattle.cdp_messages.specs.Told.{told_branch}
-use Rattle.cdp_messages.specs.Replies.{reply, fault, down_of, result_of}
+use Rattle.cdp_json.specs.Kinds.{is_counted}
+use Rattle.cdp_messages.specs.Laws.{NodesHaveUtf8}
+use Rattle.cdp_messages.specs.Tellable.{suits_tree}
+use Rattle.cdp_messages.specs.Replies.{reply, fault, down_of, result_of, reply_text}
 use Rattle.front_mirror.specs.declared.replies.Ask.{Ask}
 use Rattle.front_mirror.specs.Views.{IsView}
 use Rattle.front_mirror.specs.Front.{FrontValue, method_of, replied, refused, take_frame, outcome, fold_frames, fold, FrontState, first_state, after_take, after_ask}
@@ -78,3 +81,11 @@ abbrev pub RefusalStays : Type 0
 RefusalStays =
     (v : FrontValue) (frame : List ℕ) (code : ℤ) (text : List ℕ)
     → down_of frame ≡ Some (fault None code text) → take_frame v frame ≡ Ok (refused v frame)
+
+-- The reply to `DOM.getDocument` that tells a view, as it is written, gives a front that has the view. The view suits a
+-- message, and its texts are UTF-8.
+abbrev pub ReplyGives : Type 0
+ReplyGives =
+    (v : FrontValue) (id : ℕ) (b : Branch Seen) → IsView (alone b) → suits_tree true b ≡ true → NodesHaveUtf8 (alone (told_branch 0 b))
+    → is_counted id ≡ true → method_of id v.asks ≡ Some (codes "DOM.getDocument")
+    → take_frame v (reply_text id (Root (told_branch 0 b))) ≡ Ok (replied v id (reply_text id (Root (told_branch 0 b))) true (alone b))

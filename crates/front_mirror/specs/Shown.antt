@@ -1,5 +1,5 @@
 -- What a mirror shows, and how its nodes are found.
-use Rattle.std.specs.Prelude.{ℕ, List, [], Option, Some, None, unwrap_or, option_map}
+use Rattle.std.specs.Prelude.{ℕ, List, [], unwrap_or}
 use Rattle.node_tree.specs.Nodes.{Nodes, none, node, Branch, nodes_of}
 use Rattle.node_tree.specs.declared.Kind.TheVariants.{Document}
 use Rattle.node_tree.specs.Keys.{find}

@@ -1,7 +1,7 @@
 -- Views: trees of shown nodes, as a client may know them.
-use Rattle.std.specs.Prelude.{◌≡◌, ◌≤◌, ℕ, Bool, true, false, not, ◌&&◌, ◌||◌, ◌==◌, nat_le, nat_eq, List, [], ◌∷◌, ◌++◌}
+use Rattle.std.specs.Prelude.{◌≡◌, ◌≤◌, ℕ, Bool, true, false, not, ◌&&◌, ◌||◌, nat_eq, List, [], ◌∷◌, ◌++◌}
 use Rattle.std.specs.List.{list_any}
-use Rattle.node_tree.specs.Nodes.{Nodes, none, node, width, height}
+use Rattle.node_tree.specs.Nodes.{Nodes, none, node, height}
 use Rattle.node_tree.specs.Labels.{is_document, is_formed_label, is_named_label}
 use Rattle.node_tree.specs.Keys.{tally}
 use Rattle.node_tree.specs.Seen.{Seen, is_opened, seen_id, seen_serial}

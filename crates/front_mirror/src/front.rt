@@ -48,17 +48,17 @@ impl Model for Front {
 }
 
 impl Front {
-    pub fn new(alloc: Global) -> Front
-        ensures { result ≡ first_state }
+    pub fn new(alloc: Global) -> Result<Front, AllocError>
+        ensures { IfOk result (λ front. front ≡ first_state) }
     {
-        Front {
+        Ok(Front {
             alloc,
             known: Known::new(alloc),
             splitter: Splitter::new(alloc),
             fault: None,
             next: 1,
             is_dead: false,
-        }
+        })
     }
 
     /// Whether there is an id for one ask more; ids of asks are below 2^30.

@@ -1,4 +1,4 @@
-ghost use Rattle.front_mirror.specs.Laws.{GoesOn, AskJoins, Begins, TakesFold, StaysFold, AsksFold, RootGives, FaultStays, RefusalStays};
+ghost use Rattle.front_mirror.specs.Laws.{GoesOn, AskJoins, Begins, TakesFold, StaysFold, AsksFold, RootGives, ReplyGives, FaultStays, RefusalStays};
 
 /// The law of the fold: it goes on from the fold of a shorter stream, and an ask that is sent only joins those that wait.
 /// So a front is at all times the fold of the asks that it sent and the bytes that it took, in whatever pieces, or has the
@@ -15,6 +15,7 @@ pub fn front_law()
 /// The law of single messages: each takes a front that has one view to a front that has the next.
 pub fn move_law()
     ensures root { RootGives }
+    ensures reply { ReplyGives }
     ensures fault { FaultStays }
     ensures refusal { RefusalStays }
 {}

@@ -1,4 +1,5 @@
-use crate::{Front, FrontErr, FrontKind, write_outline};
+use crate::{Front, FrontErr, FrontKind, write_node_line, write_outline};
+use node_tree::{Attributes, Kind};
 use std::alloc::{AllocError, Global};
 use std::test::Fail;
 
@@ -25,7 +26,7 @@ fn word(kind: FrontKind) -> &'static str {
 
 /// Asks for the document, takes the two pieces, and appends the fault of each, if any, and the outline.
 fn tell(alloc: Global, first: &[u8], second: &[u8], out: &mut Vec<u8>) -> Result<(), AllocError> {
-    let mut front = Front::new(alloc);
+    let mut front = Front::new(alloc)?;
     let _frame = front.ask("DOM.getDocument", None, None)?;
     take(&mut front, first, out)?;
     take(&mut front, second, out)?;
@@ -55,8 +56,19 @@ fn folds(rt: HostRuntime) -> Result<(), Fail> {
 }
 
 #[test]
+fn writes_a_line(rt: HostRuntime) -> Result<(), Fail> {
+    let alloc = rt.alloc();
+    let mut out = Vec::new(alloc);
+    let none = Attributes::new(alloc);
+    write_node_line(alloc, 3, Kind::Comment, "", "a\"b", &none, 0, &mut out)?;
+    write_node_line(alloc, 4, Kind::Element, "p", "", &none, 1, &mut out)?;
+    assert_eq!(rt; out.as_slice(), b"3 <!--\"a\\\"b\"-->4 <p> +1".as_slice());
+    Ok(())
+}
+
+#[test]
 fn asks(rt: HostRuntime) -> Result<(), Fail> {
-    let mut front = Front::new(rt.alloc());
+    let mut front = Front::new(rt.alloc())?;
     let frame = front.ask("DOM.getDocument", None, None)?;
     assert_eq!(rt;
         frame.as_slice(),

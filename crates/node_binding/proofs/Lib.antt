@@ -9,3 +9,8 @@ pub mod StartLemmas
 pub mod SessionLemmas
 pub mod CutLemmas
 pub mod PairLemmas
+pub mod GrowLemmas
+pub mod ForgetLemmas
+pub mod AnewLemmas
+pub mod OpenDownLemmas
+pub mod LawLemmas

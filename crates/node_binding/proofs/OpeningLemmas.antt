@@ -15,7 +15,7 @@ times-shown true s x xs = refl
 times-shown false s x xs = refl
 
 -- whether the node's children are known
-abbrev goes_on : Option ℕ → Row → Bool
+abbrev pub goes_on : Option ℕ → Row → Bool
 goes_on d r = holds r.label.kind && not (is_spent d)
 
 pub times-reached : (d : Option ℕ) (s : ℕ) (r : Row) (c t : Nodes Row) → times s (reached d (node r c t)) ≡ cond {A = ℕ} (goes_on d r) (cond {A = ℕ} (r.serial == s) 1 0 + times s (reached (less d) c)) 0 + times s (reached d t)
@@ -34,10 +34,10 @@ reached-tally d s (node r c t) =
 -- ---- a test that is `above` at each node of some trees
 
 -- o has, of the nodes of n, those that stand above d
-abbrev Agrees : (ℕ → Bool) → Option ℕ → Nodes Row → Type 0
+abbrev pub Agrees : (ℕ → Bool) → Option ℕ → Nodes Row → Type 0
 Agrees o d n = (s : ℕ) → 0 < tally row_serial s n → o s ≡ is_in s (reached d n)
 
-abbrev AreDistinct : Nodes Row → Type 0
+abbrev pub AreDistinct : Nodes Row → Type 0
 AreDistinct n = (s : ℕ) → tally row_serial s n ≤ 1
 
 same_count : (s : ℕ) (xs ys : List ℕ) → times s xs ≡ times s ys → is_in s xs ≡ is_in s ys
@@ -49,12 +49,12 @@ absent n e = ap (λ n. not (n == 0)) e
 present : (s : ℕ) (xs : List ℕ) → 0 < times s xs → is_in s xs ≡ true
 present s xs h = times-is_in xs s h
 
-self_times : (s : ℕ) → cond {A = ℕ} (s == s) 1 0 ≡ 1
+pub self_times : (s : ℕ) → cond {A = ℕ} (s == s) 1 0 ≡ 1
 self_times s = grind (arith, nat_tests)
 
 module _ (d : Option ℕ) (r : Row) (c t : Nodes Row) (distinct : AreDistinct (node r c t)) where
   -- what the three parts of the page have of one serial
-  in_rest : (s : ℕ) → 0 < tally row_serial s t → times s (reached d (node r c t)) ≡ times s (reached d t)
+  pub in_rest : (s : ℕ) → 0 < tally row_serial s t → times s (reached d (node r c t)) ≡ times s (reached d t)
   in_rest s h =
       times-reached d s r c t ∙ none (goes_on d r) (omega (arith, reached-tally (less d) s c, distinct s))
     where
@@ -62,7 +62,7 @@ module _ (d : Option ℕ) (r : Row) (c t : Nodes Row) (distinct : AreDistinct (n
       none true e = omega arith
       none false e = omega arith
 
-  in_children : (s : ℕ) → 0 < tally row_serial s c → times s (reached d (node r c t)) ≡ cond {A = ℕ} (goes_on d r) (times s (reached (less d) c)) 0
+  pub in_children : (s : ℕ) → 0 < tally row_serial s c → times s (reached d (node r c t)) ≡ cond {A = ℕ} (goes_on d r) (times s (reached (less d) c)) 0
   in_children s h =
       times-reached d s r c t ∙ only (goes_on d r) (omega (arith, distinct s)) (omega (arith, reached-tally d s t, distinct s))
     where
@@ -70,7 +70,7 @@ module _ (d : Option ℕ) (r : Row) (c t : Nodes Row) (distinct : AreDistinct (n
       only true e f = omega arith
       only false e f = omega arith
 
-  at_root : times r.serial (reached d (node r c t)) ≡ cond {A = ℕ} (goes_on d r) 1 0
+  pub at_root : times r.serial (reached d (node r c t)) ≡ cond {A = ℕ} (goes_on d r) 1 0
   at_root =
       times-reached d r.serial r c t
       ∙ only (goes_on d r) (self_times r.serial) (omega (arith, self_times r.serial, reached-tally (less d) r.serial c, distinct r.serial)) (omega (arith, self_times r.serial, reached-tally d r.serial t, distinct r.serial))

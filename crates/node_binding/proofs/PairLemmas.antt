@@ -1,18 +1,17 @@
 -- The ids and the serials of a binding are paired.
-use Rattle.std.proofs.Common.{◌≡◌, ℕ, zero, suc, ◌+◌, ◌<◌, ◌≤◌, ◌==◌, Bool, true, false, cond, not, List, [], ◌∷◌, length, length-drop, drop, find, Option, Some, None, unwrap_or, refl, sym, ap, subst, ◌∙◌, arith}
+use Rattle.std.proofs.Common.{◌≡◌, ℕ, ◌+◌, ◌<◌, ◌≤◌, ◌==◌, Bool, true, false, cond, List, [], ◌∷◌, length, length-drop, drop, find, Option, Some, None, unwrap_or, refl, sym, ap, subst, ◌∙◌, arith}
 use Rattle.std.proofs.lemmas.Bool.{cases_eq}
 use Rattle.std.proofs.Math.Logic.{⊎_elim}
 use Rattle.std.proofs.lemmas.Bool.Decides.{nat_tests}
-use Rattle.std.specs.Ordering.{nat_cmp}
 use Rattle.std.specs.FinMap as map
 use Rattle.node_tree.specs.Nodes.{Nodes}
 use Rattle.page_tree.specs.Pages.{Row}
-use Rattle.node_binding.specs.Counts.{times, is_in, place}
+use Rattle.node_binding.specs.Counts.{times, place}
 use Rattle.node_binding.specs.Sessions.{Session, IsSession, known_by, ids_in, id_at, serial_at, knows}
 use Rattle.node_binding.specs.Bindings.{Bound, with_bound, all_bound, with_opened, all_opened, Stands}
 use Rattle.node_binding.proofs.Places.{is_in-times, times-is_in, place-le, first, once}
 use Rattle.node_binding.proofs.SessionLemmas.{standing, standing-place}
-use Rattle.node_binding.proofs.BoundLemmas.{get-insert, opened-ids, opened-serials, opened-next}
+use Rattle.node_binding.proofs.BoundLemmas.{get-insert}
 
 -- ---- a search of which at most one is found
 
@@ -31,10 +30,10 @@ find-some q (x ∷ xs) s h t =
       | true ↦ λ _. (x, refl)
       | false ↦ λ f. find-some q xs s (later (x == s) refl f) t
     ] refl
-    where
-      later : (b : Bool) → (x == s) ≡ b → q x ≡ false → 0 < times s xs
-      later true e f = (let is : x ≡ s = grind (arith, nat_tests) in let bad : true ≡ false = sym t ∙ ap q (sym is) ∙ f in cc)
-      later false e f = (let none_here : cond {A = ℕ} (x == s) 1 0 ≡ 0 = ap (λ b. cond {A = ℕ} b 1 0) e in omega (arith, h))
+  where
+    later : (b : Bool) → (x == s) ≡ b → q x ≡ false → 0 < times s xs
+    later true e f = (let is : x ≡ s = grind (arith, nat_tests) in let bad : true ≡ false = sym t ∙ ap q (sym is) ∙ f in cc)
+    later false e f = (let none_here : cond {A = ℕ} (x == s) 1 0 ≡ 0 = ap (λ b. cond {A = ℕ} b 1 0) e in omega (arith, h))
 
 -- an answer that is in the list and passes, and is each that does, is what the search finds
 pub find-is : (q : ℕ → Bool) (xs : List ℕ) (r : Option ℕ) → ((s : ℕ) → r ≡ Some s → (0 < times s xs) × (q s ≡ true)) → ((s : ℕ) → 0 < times s xs → q s ≡ true → r ≡ Some s) → r ≡ find q xs
@@ -42,9 +41,9 @@ find-is q xs r sound complete =
     elim (find q xs) as (λ f. find q xs ≡ f → r ≡ f) [
       | Some s ↦ λ e. complete s (find-there q xs s e).0 (find-there q xs s e).1
       | None ↦ λ e. elim r as (λ r. ((s : ℕ) → r ≡ Some s → (0 < times s xs) × (q s ≡ true)) → r ≡ None) [
-          | None ↦ λ _. refl
-          | Some s ↦ λ sound. (let found = find-some q xs s (sound s refl).0 (sound s refl).1 in cc (found.1, e))
-        ] sound
+        | None ↦ λ _. refl
+        | Some s ↦ λ sound. (let found = find-some q xs s (sound s refl).0 (sound s refl).1 in cc (found.1, e))
+      ] sound
     ] refl
 
 -- ---- pairs
@@ -87,7 +86,7 @@ module _ (n : Nodes Row) (w : Session) (session : IsSession n w) where
         let found = find-some (λ x. ids_in w x == id) (known_by w.opened n) s (is_in-times (known_by w.opened n) s at.0) (equal_number (ids_in w s) id at.1) in
         let x = find-there (λ x. ids_in w x == id) (known_by w.opened n) found.0 found.1 in
         stands.serials_are id ∙ found.1 ∙ ap Some (same_id found.0 s (times-is_in (known_by w.opened n) found.0 x.0) at.0 (same_number (ids_in w found.0) id x.1 ∙ sym at.1)));
-    below = λ id s e. (let at = known_id (knows w n s) (ids_in w s) id (sym (stands.ids_are s) ∙ e) in omega (arith, stands.next_is, id_bound s, at.1))
+    below = λ id s e. (let at = known_id (knows w n s) (ids_in w s) id (sym (stands.ids_are s) ∙ e) in omega (arith, stands.next_is, id_bound s, at.1));
   }
 
 -- pairs that have the session's ids have its serials
@@ -99,16 +98,16 @@ serials-paired n w b ids_are paired id =
 
 -- ---- what keeps pairs
 
-some_is : {A : Type 0} (x y : A) → Some x ≡ Some y → x ≡ y
+pub some_is : {A : Type 0} (x y : A) → Some x ≡ Some y → x ≡ y
 some_is x y e = ap (λ o. unwrap_or o x) e
 
-no_id : {id : ℕ} → ¬ (None ≡ Some id)
+pub no_id : {id : ℕ} → ¬ (None ≡ Some id)
 no_id e = cc
 
-if_same : {A : Type 0} (a b : ℕ) (x y : A) → a ≡ b → cond (a == b) x y ≡ x
+pub if_same : {A : Type 0} (a b : ℕ) (x y : A) → a ≡ b → cond (a == b) x y ≡ x
 if_same a b x y e = ap (λ t. cond t x y) (equal_number a b e)
 
-if_other : {A : Type 0} (a b : ℕ) (x y : A) → ¬ (a ≡ b) → cond (a == b) x y ≡ y
+pub if_other : {A : Type 0} (a b : ℕ) (x y : A) → ¬ (a ≡ b) → cond (a == b) x y ≡ y
 if_other a b x y ne = ap (λ t. cond t x y) (let e : (a == b) ≡ false = grind (arith, nat_tests) in e)
 
 module _ (b : Bound) (s : ℕ) (paired : IsPaired b) (fresh : map.get b.ids s ≡ None) where
@@ -116,21 +115,21 @@ module _ (b : Bound) (s : ℕ) (paired : IsPaired b) (fresh : map.get b.ids s �
   IsPaired-with_bound = record {
     there = λ id x e. (⊎_elim
         (λ same. (let is : s ≡ x = some_is s x (sym (if_same b.next id (Some s) (map.get b.serials id) same) ∙ sym (get-insert b.serials b.next s id) ∙ e) in
-            get-insert b.ids s b.next x ∙ if_same s x (Some b.next) (map.get b.ids x) is ∙ ap Some same))
+        get-insert b.ids s b.next x ∙ if_same s x (Some b.next) (map.get b.ids x) is ∙ ap Some same))
         (λ other. (let was : map.get b.serials id ≡ Some x = sym (if_other b.next id (Some s) (map.get b.serials id) other) ∙ sym (get-insert b.serials b.next s id) ∙ e in
-            let had : map.get b.ids x ≡ Some id = paired.there id x was in
-            get-insert b.ids s b.next x ∙ if_other s x (Some b.next) (map.get b.ids x) (λ is. no_id (sym fresh ∙ ap (map.get b.ids) is ∙ had)) ∙ had))
+        let had : map.get b.ids x ≡ Some id = paired.there id x was in
+        get-insert b.ids s b.next x ∙ if_other s x (Some b.next) (map.get b.ids x) (λ is. no_id (sym fresh ∙ ap (map.get b.ids) is ∙ had)) ∙ had))
         (cases_eq b.next id));
     back = λ id x e. (⊎_elim
         (λ same. (let is : b.next ≡ id = some_is b.next id (sym (if_same s x (Some b.next) (map.get b.ids x) same) ∙ sym (get-insert b.ids s b.next x) ∙ e) in
-            get-insert b.serials b.next s id ∙ if_same b.next id (Some s) (map.get b.serials id) is ∙ ap Some same))
+        get-insert b.serials b.next s id ∙ if_same b.next id (Some s) (map.get b.serials id) is ∙ ap Some same))
         (λ other. (let had : map.get b.ids x ≡ Some id = sym (if_other s x (Some b.next) (map.get b.ids x) other) ∙ sym (get-insert b.ids s b.next x) ∙ e in
-            get-insert b.serials b.next s id ∙ if_other b.next id (Some s) (map.get b.serials id) (λ is. let small : id < b.next = paired.below id x had in absurd (omega arith)) ∙ paired.back id x had))
+        get-insert b.serials b.next s id ∙ if_other b.next id (Some s) (map.get b.serials id) (λ is. let small : id < b.next = paired.below id x had in absurd (omega arith)) ∙ paired.back id x had))
         (cases_eq s x));
     below = λ id x e. (⊎_elim
         (λ same. (let is : b.next ≡ id = some_is b.next id (sym (if_same s x (Some b.next) (map.get b.ids x) same) ∙ sym (get-insert b.ids s b.next x) ∙ e) in omega arith))
         (λ other. (let small : id < b.next = paired.below id x (sym (if_other s x (Some b.next) (map.get b.ids x) other) ∙ sym (get-insert b.ids s b.next x) ∙ e) in omega arith))
-        (cases_eq s x))
+        (cases_eq s x));
   }
 
 pub IsPaired-all_bound : (ss : List ℕ) (b : Bound) → IsPaired b → ((s : ℕ) → times s ss ≤ 1) → ((s : ℕ) → 0 < times s ss → map.get b.ids s ≡ None) → IsPaired (all_bound ss b)
@@ -138,9 +137,9 @@ IsPaired-all_bound [] b paired distinct fresh = paired
 IsPaired-all_bound (x ∷ xs) b paired distinct fresh =
     IsPaired-all_bound xs (with_bound x b) (IsPaired-with_bound b x paired (fresh x (first x xs))) (λ s. omega (arith, distinct s))
     (λ s h. get-insert b.ids x b.next s ∙ if_other x s (Some b.next) (map.get b.ids s) (λ is. let more : 0 < times x xs = ap_times is h in absurd (omega (arith, once x xs (distinct x)))) ∙ fresh s (omega arith))
-    where
-      ap_times : {s : ℕ} → x ≡ s → 0 < times s xs → 0 < times x xs
-      ap_times e h = subst (λ (y : ℕ). 0 < times y xs) (sym e) h
+  where
+    ap_times : {s : ℕ} → x ≡ s → 0 < times s xs → 0 < times x xs
+    ap_times e h = subst (λ (y : ℕ). 0 < times y xs) (sym e) h
 
 pub IsPaired-all_opened : (os : List ℕ) (b : Bound) → IsPaired b → IsPaired (all_opened os b)
 IsPaired-all_opened [] b paired = paired

@@ -1,8 +1,10 @@
 -- What one client's session has of the page: what is opened, and the ids.
 use Rattle.std.specs.Prelude.{◌≡◌, ℕ, ◌≤◌, ◌<◌, Bool, true, false, cond, ◌==◌, List, [], ◌∷◌, ◌++◌, option_map, length, drop, find, Option, Some, None, IfSome}
 use Rattle.node_tree.specs.Nodes.{Nodes, none, Branch}
+use Rattle.node_tree.specs.Keys.{find as find_node}
+use Rattle.node_tree.specs.Labels.{holds}
 use Rattle.node_tree.specs.Seen.{Seen}
-use Rattle.page_tree.specs.Pages.{Row}
+use Rattle.page_tree.specs.Pages.{Row, row_serial}
 use Rattle.node_binding.specs.Counts.{is_in, place}
 use Rattle.node_binding.specs.Cuts.{known, shown_anew, cut}
 use Rattle.node_binding.specs.Openings.{above, opened_without, IsOpenedSet}
@@ -13,6 +15,10 @@ pub record Session : Type 0 where
   pub opened : Option (ℕ → Bool)
   pub pushed : List ℕ
   pub since : ℕ
+
+-- one in which the document is opened
+abbrev pub session_of : (ℕ → Bool) → List ℕ → ℕ → Session
+session_of o pushed since = record { opened = Some o; pushed = pushed; since = since }
 
 abbrev pub is_open : Option (ℕ → Bool) → ℕ → Bool
 is_open None s = false
@@ -51,6 +57,13 @@ pub record IsSession (n : Nodes Row) (w : Session) : Type 0 where
   pub opened_set : IfSome w.opened (λ o. IsOpenedSet o n)
   pub since_then : w.since ≤ length w.pushed
   pub known_stand : (s : ℕ) → knows w n s ≡ true → 0 < place (drop w.since w.pushed) s
+
+-- x stands in the page n; it is a container that is known and not opened
+pub record CanOpen (n : Nodes Row) (o : ℕ → Bool) (x : Branch Row) : Type 0 where
+  pub stands : find_node row_serial x.row.serial n ≡ Some x
+  pub known_now : is_in x.row.serial (known o n) ≡ true
+  pub container : holds x.row.label.kind ≡ true
+  pub shut : o x.row.serial ≡ false
 
 -- ---- what changes a session
 

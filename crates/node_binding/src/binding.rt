@@ -1,11 +1,14 @@
-ghost use Rattle.std.specs.Prelude.{◌≡◌, ◌+◌, ◌<◌, ◌^◌, OnOk};
+ghost use Rattle.std.specs.Prelude.{◌≡◌, ◌+◌, ◌<◌, ◌^◌, IsTrue, IsSome, IfOk, OnOk};
 ghost use Rattle.std.specs.FinMap as map;
 ghost use Rattle.std.specs.FinSet as set;
 ghost use Rattle.node_tree.specs.Nodes.{nodes_of, alone, node_count};
+ghost use Rattle.node_tree.specs.Labels.{holds};
+ghost use Rattle.page_tree.specs.Pages.{find_in, node_at};
 ghost use Rattle.node_binding.specs.Openings.{IsDepth, levels_of};
-ghost use Rattle.node_binding.specs.Bindings.{empty_from, cleared, started, revealed, with_bound, with_opened};
+ghost use Rattle.node_binding.specs.Bindings.{empty_from, cleared, started, revealed, opened_down, with_bound, with_opened, forgotten, all_forgotten};
 
 use crate::levels::{is_reached, less, levels_of};
+use crate::search::tree_at;
 use crate::tables::{NumberMap, NumberSet};
 use page_tree::{Page, Tree};
 use std::alloc::{AllocError, Global};
@@ -77,6 +80,63 @@ impl Binding {
             }
         }
         Ok(())
+    }
+
+    /// Opens a container that is known and not opened by `levels` levels, or all below it where they are -1. What becomes
+    /// known gets its ids in document order.
+    pub fn open_down(&mut self, page: &Page, serial: u64, levels: i64) -> Result<(), AllocError>
+        requires live { IsSome (find_in serial page.now.tree) }
+        requires container { IsTrue (holds (node_at serial page.now.tree).row.label.kind) }
+        requires depth { IsDepth levels }
+        requires room { self.old.next < 2 ^ 60 }
+        ensures { OnOk result
+            (self.new ≡ opened_down (levels_of levels) (node_at serial page.now.tree) self.old) }
+    {
+        page.valid();
+        let node = tree_at(page, serial);
+        let levels = levels_of(levels);
+        self.open(node.serial)?;
+        self.reveal(&node.children, less(levels))?;
+        Ok(())
+    }
+
+    /// A node that was attached below an opened one becomes known. Gives its id.
+    pub fn bind_child(&mut self, _page: &Page, serial: u64) -> Result<u64, AllocError>
+        requires { self.old.next < 2 ^ 60 }
+        ensures id { IfOk result (λ id. id ≡ self.old.next) }
+        ensures known { OnOk result (self.new ≡ with_bound serial self.old) }
+    {
+        let id = self.next;
+        self.bind(serial)?;
+        Ok(id)
+    }
+
+    /// The node and all below it are not opened and have no ids any more. Comes before the detach; takes no memory.
+    pub fn forget_subtree(&mut self, page: &Page, serial: u64)
+        requires { IsSome (find_in serial page.now.tree) }
+        ensures { self.new ≡ all_forgotten (alone (node_at serial page.now.tree)) self.old }
+    {
+        let node = tree_at(page, serial);
+        self.forget(node.serial);
+        self.forget_all(&node.children);
+    }
+
+    fn forget_all(&mut self, trees: &[Tree])
+        ensures { self.new ≡ all_forgotten (nodes_of trees.now) self.old }
+    {
+        for tree in trees {
+            self.forget(tree.serial);
+            self.forget_all(&tree.children);
+        }
+    }
+
+    fn forget(&mut self, serial: u64)
+        ensures { self.new ≡ forgotten serial self.old }
+    {
+        self.opened.remove(serial);
+        if let Some(id) = self.ids.remove(serial) {
+            self.serials.remove(id);
+        }
     }
 
     /// Nothing is known from now on, and the ids so far are dead; none of them is given again.

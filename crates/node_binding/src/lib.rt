@@ -4,6 +4,7 @@
 mod binding;
 mod laws;
 mod levels;
+mod search;
 mod tables;
 
 pub use binding::Binding;

@@ -44,6 +44,12 @@ impl NumberSet {
         Ok(())
     }
 
+    pub fn remove(&mut self, number: u64)
+        ensures { self.new ≡ set.remove self.old number }
+    {
+        self.numbers.remove(&number);
+    }
+
     pub fn clear(&mut self)
         ensures { self.new ≡ set.empty }
     {
@@ -85,6 +91,14 @@ impl NumberMap {
     {
         self.pairs.insert(key, number)?;
         Ok(())
+    }
+
+    /// Gives the number that was there.
+    pub fn remove(&mut self, key: u64) -> Option<u64>
+        ensures was { result ≡ map.get self.old key }
+        ensures left { self.new ≡ map.remove self.old key }
+    {
+        self.pairs.remove(&key)
     }
 
     pub fn clear(&mut self)

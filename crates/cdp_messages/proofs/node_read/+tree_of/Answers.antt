@@ -1,4 +1,4 @@
-use Rattle.std.proofs.Common.{rules, ◌≡◌, true, Some, None, option_map, ap, sym, ◌∙◌, arith, Bor, List, Vec, Global}
+use Rattle.std.proofs.Common.{rules, ◌≡◌, true, option_map, ap, sym, ◌∙◌, arith, Bor, List, Vec, Global}
 use Rattle.serde_json.specs.View.{view, items_view}
 use Rattle.serde_json.specs.declared.value.Value.{Value}
 use Rattle.node_tree.specs.Nodes.{Branch, nodes_of}

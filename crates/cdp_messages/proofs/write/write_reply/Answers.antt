@@ -1,5 +1,3 @@
-use Rattle.std.proofs.Common.{ap, ◌∙◌}
-use Rattle.cdp_messages.specs.Replies.{reply, message_data}
 use Rattle.cdp_messages.proofs.Floats.{has_float-reply}
 use Rattle.cdp_messages.proofs.write.write_reply.Goals as goal
 

@@ -1,0 +1,11 @@
+pub mod Codes
+pub mod Escapes
+pub mod Runs
+pub mod Rows
+pub mod Pieces
+pub mod Units
+pub mod Marks
+pub mod First
+pub mod Forms
+pub mod Table
+pub mod Seams

@@ -1,0 +1,246 @@
+-- The ends follow the run as bytes are sent and given.
+use Rattle.std.proofs.Common.{◌≡◌, refl, false, ℕ, ◌+◌, ◌-◌, List, [], ◌∷◌, ◌++◌, length, take, drop, Some, None, sym, ◌∙◌, ap, subst, append_assoc, append-nil, Result, Ok, Err, arith, length-append}
+use Rattle.std.proofs.lemmas.List.{take-append-drop}
+use Rattle.node_binding.specs.Bindings.{Bound, Stands}
+use Rattle.node_binding.specs.Bindings.{empty_from}
+use Rattle.node_binding.proofs.StandsLemmas.{Stands-begun}
+use Rattle.node_tree.specs.Nodes.{Nodes}
+use Rattle.node_tree.specs.Labels.{Label}
+use Rattle.page_tree.specs.Forms.{CanLoad}
+use Rattle.page_tree.specs.Pages.{State, loaded}
+use Rattle.pipe_frames.specs.Pipe.{Pipe}
+use Rattle.pipe_frames.specs.Frames.{IsText, framed, frames_of, held_after}
+use Rattle.pipe_frames.proofs.FrameLemmas.{frames_of-append}
+use Rattle.front_mirror.specs.declared.faults.FrontKind.{FrontKind}
+use Rattle.front_mirror.specs.Front as front
+use Rattle.front_mirror.specs.Front.{FrontValue, FrontState, first_state, first_value, take_frame, Folded, after_message, after_ask, after_take}
+use Rattle.inspect_world.specs.Stream.{Stream, sent, put, passed, held, arriving, awaited}
+use Rattle.inspect_world.specs.World.{World, steps, asked, answered, given_up, delivered_down}
+use Rattle.inspect_world.specs.Fold.{folded, joined, then}
+use Rattle.inspect_world.specs.Sides.{Side, nodes_in, first_side, step}
+use Rattle.inspect_world.specs.Fits.{join, IsAsk, ask_in, ask_with, with_ask, IsFit, FitsWith}
+use Rattle.inspect_world.specs.Scripts.{loaded_world}
+use Rattle.inspect_world.specs.ScriptsFit.{HaveTexts}
+use Rattle.inspect_world.specs.Held.{Ends, good_front, InWorld}
+use Rattle.inspect_world.specs.Carried.{Carries}
+use Rattle.inspect_world.proofs.Frames.{sent-passed, awaited-passed}
+use Rattle.inspect_world.proofs.Worlds.{whole-after, frames_of-one, fits-asked, fits-given_up, fits-answered_one}
+use Rattle.inspect_world.proofs.FitLemmas.{world_laws}
+use Rattle.inspect_world.proofs.Scripts.{fits-loaded}
+use Rattle.inspect_world.proofs.Folds.{Halves, folded-append, folded-halves, folded-rest, joined-append}
+use Rattle.inspect_world.proofs.Pipes.{carries-start, carries-put, carries-get}
+
+-- ---- the front end's own fold
+
+-- what a front makes of frames that it does not refuse
+pub front-folded : (frames : List (List ℕ)) (v w : FrontValue) → folded take_frame v frames ≡ Ok w
+    → front.folded v frames ≡ record { value = w; fault = None }
+front-folded [] v w e = let same : v ≡ w = cc in ap (λ value. record { value = value; fault = None }) same
+front-folded (frame ∷ frames) v w e =
+    (elim (take_frame v frame) as (λ (r : Result FrontValue FrontKind). then r (λ next. folded take_frame next frames) ≡ Ok w
+    → after_message v (λ next. front.folded next frames) r ≡ record { value = w; fault = None }) [
+      | Ok next ↦ λ rest. front-folded frames next w rest
+      | Err kind ↦ λ rest. let no : ◌≡◌ {A = Result FrontValue FrontKind} (Err kind) (Ok w) = rest in cc
+    ]) e
+
+-- the whole frames that were given, and those that are on their way
+whole-sent : (s : Stream) → (frames_of (sent s)).whole ≡ (frames_of s.given).whole ++ awaited s
+whole-sent s = ap (λ fs. fs.whole) (frames_of-append s.given s.flying)
+
+whole-given : (n : ℕ) (s : Stream) → (frames_of (passed n s).given).whole ≡ (frames_of s.given).whole ++ arriving n s
+whole-given n s = ap (λ fs. fs.whole) (frames_of-append s.given (take n s.flying))
+
+rest-given : (n : ℕ) (s : Stream) → held (passed n s) ≡ held_after (held s) (take n s.flying)
+rest-given n s = ap (λ fs. fs.rest) (frames_of-append s.given (take n s.flying))
+
+-- how many bytes are left of a stream
+left-passed : (n there there' : ℕ) (piece : List ℕ) (s : Stream) → there ≡ length s.flying → piece ≡ take n s.flying
+    → there' ≡ there - length piece → there' ≡ length (passed n s).flying
+left-passed n there there' piece s is front after =
+    let whole : length (take n s.flying) + length (drop n s.flying) ≡ length s.flying =
+    sym (length-append (take n s.flying) (drop n s.flying)) ∙ ap length (take-append-drop n s.flying) in
+    let same : length piece ≡ length (take n s.flying) = ap length front in
+    omega (arith, is, after, whole, same)
+
+-- ---- bytes go down
+
+-- what the front end makes of the bytes that come down in an honest run
+pub record Takes (front1 : FrontState) (w : World Side) (n : ℕ) : Type 0 where
+  pub value : FrontValue
+  pub front_is : front1 ≡ good_front value (held (passed n w.down)) (w.asks + 1)
+  pub is_fold : folded take_frame (joined join (first_value []) (frames_of (sent w.up)).whole) (frames_of (passed n w.down).given).whole ≡ Ok value
+
+takes : (up0 down0 up down : Pipe) (w : World Side) (frames : List (List ℕ)) (e : Ends) (n : ℕ) (piece : List ℕ)
+    → InWorld up0 down0 up down w frames e → piece ≡ take n w.down.flying → Takes (after_take e.front piece) w n
+takes up0 down0 up down w frames e n piece in_world front_part =
+    let start = joined join (first_value []) (frames_of (sent w.up)).whole in
+    let given = (frames_of w.down.given).whole in
+    let all : folded take_frame start (given ++ awaited w.down) ≡ Ok in_world.fits.front =
+    ap (folded take_frame start) (sym (whole-sent w.down)) ∙ in_world.fits.is_fold in
+    let coming : folded take_frame in_world.value (awaited w.down) ≡ Ok in_world.fits.front =
+    folded-rest take_frame start in_world.value in_world.fits.front given (awaited w.down) in_world.is_fold all in
+    let halves : Halves take_frame in_world.value in_world.fits.front (arriving n w.down) (awaited (passed n w.down)) =
+    folded-halves take_frame in_world.value in_world.fits.front (arriving n w.down) (awaited (passed n w.down))
+    (ap (folded take_frame in_world.value) (sym (awaited-passed n w.down)) ∙ coming) in
+    let taken : front.folded in_world.value (arriving n w.down) ≡ record { value = halves.middle; fault = None } =
+    front-folded (arriving n w.down) in_world.value halves.middle halves.before in
+    record {
+      value = halves.middle;
+      front_is =
+          ap (λ state. after_take state piece) in_world.front_is
+          ∙ ap (λ bytes. after_take (good_front in_world.value (held w.down) (w.asks + 1)) bytes) front_part
+          ∙ ap (λ (end : Folded). record { value = end.value; rest = held_after (held w.down) (take n w.down.flying); fault = end.fault; next = w.asks + 1; dead = false }) taken
+          ∙ ap (λ rest. good_front halves.middle rest (w.asks + 1)) (sym (rest-given n w.down));
+      is_fold =
+          ap (folded take_frame start) (whole-given n w.down)
+          ∙ folded-append take_frame start given (arriving n w.down)
+          ∙ ap (λ result. then result (λ next. folded take_frame next (arriving n w.down))) in_world.is_fold
+          ∙ halves.before;
+    }
+
+-- bytes are delivered down
+pub world-delivered_down : (up0 down0 up down down1 : Pipe) (w : World Side) (frames : List (List ℕ)) (e : Ends) (n there : ℕ) (piece : List ℕ)
+    → InWorld up0 down0 up down w frames e → piece ≡ take n w.down.flying
+    → down1.sent ≡ down.sent → down1.given ≡ down.given ++ piece → there ≡ e.down_there - length piece
+    → InWorld up0 down0 up down1 (delivered_down n w) frames (record e { front = after_take e.front piece; down_there = there })
+world-delivered_down up0 down0 up down down1 w frames e n there piece in_world front_part sent_is given_is left =
+    let took : Takes (after_take e.front piece) w n = takes up0 down0 up down w frames e n piece in_world front_part in
+    record {
+      up_is = in_world.up_is;
+      down_is = carries-get down0 down down1 piece n w.down in_world.down_is sent_is given_is front_part;
+      page_is = in_world.page_is;
+      stands = in_world.stands;
+      back_is = in_world.back_is;
+      value = took.value;
+      front_is = took.front_is;
+      is_fold = took.is_fold;
+      up_left = in_world.up_left;
+      down_left = left-passed n e.down_there there piece w.down in_world.down_left front_part left;
+      fits = record {
+        front = in_world.fits.front;
+        is_fold =
+            ap (λ bytes. folded take_frame (joined join (first_value []) (frames_of (sent w.up)).whole) (frames_of bytes).whole) (sent-passed n w.down)
+            ∙ in_world.fits.is_fold;
+        fit = in_world.fits.fit;
+        up_whole = in_world.fits.up_whole;
+        down_whole = ap (λ bytes. (frames_of bytes).rest) (sent-passed n w.down) ∙ in_world.fits.down_whole;
+      };
+    }
+
+-- the front end meets no fault
+pub never-refuses : (up0 down0 up down : Pipe) (w : World Side) (frames : List (List ℕ)) (e : Ends) (n : ℕ) (piece : List ℕ)
+    → InWorld up0 down0 up down w frames e → piece ≡ take n w.down.flying → (after_take e.front piece).fault ≡ None
+never-refuses up0 down0 up down w frames e n piece in_world front_part =
+    ap (λ (state : FrontState). state.fault) (takes up0 down0 up down w frames e n piece in_world front_part).front_is
+
+-- ---- bytes go up
+
+-- an ask is sent
+pub world-asked : (up0 down0 up down up1 : Pipe) (w : World Side) (e : Ends) (text method : List ℕ) (there : ℕ)
+    → InWorld up0 down0 up down w (awaited w.up) e → IsText text → IsAsk (w.asks + 1) text
+    → ask_in text ≡ Some (ask_with method (w.asks + 1))
+    → up1.sent ≡ up.sent ++ framed text → up1.given ≡ up.given → there ≡ e.up_there + length (framed text)
+    → InWorld up0 down0 up1 down (asked text w) (awaited (asked text w).up)
+    (record e { front = after_ask e.front method; up_there = there })
+world-asked up0 down0 up down up1 w e text method there in_world letters is_ask is sent_is given_is left =
+    let start = joined join (first_value []) (frames_of (sent w.up)).whole in
+    let joins : join in_world.value text ≡ with_ask in_world.value (Some (ask_with method (w.asks + 1))) = ap (with_ask in_world.value) is in
+    let fits : FitsWith (asked text w) (awaited (asked text w).up) =
+    fits-asked step take_frame join IsAsk IsFit world_laws (first_value []) text w letters is_ask in_world.fits in
+    record {
+      up_is = carries-put up0 up up1 (framed text) w.up in_world.up_is sent_is given_is;
+      down_is = in_world.down_is;
+      page_is = in_world.page_is;
+      stands = in_world.stands;
+      back_is = in_world.back_is;
+      value = join in_world.value text;
+      front_is =
+          ap (λ front. after_ask front method) in_world.front_is
+          ∙ ap (λ value. good_front value (held w.down) (w.asks + 1 + 1)) (sym joins);
+      is_fold =
+          ap (λ frames. folded take_frame (joined join (first_value []) frames) (frames_of w.down.given).whole)
+          (ap (λ bytes. (frames_of bytes).whole) (sym (append_assoc w.up.given w.up.flying (framed text)))
+          ∙ whole-after (sent w.up) (framed text) in_world.fits.up_whole
+          ∙ ap (λ fs. (frames_of (sent w.up)).whole ++ fs.whole) (frames_of-one text letters))
+          ∙ ap (λ front. folded take_frame front (frames_of w.down.given).whole)
+          (joined-append join (first_value []) (frames_of (sent w.up)).whole (text ∷ []))
+          ∙ world_laws.later text start in_world.value (frames_of w.down.given).whole in_world.is_fold;
+      up_left = left ∙ ap (λ n. n + length (framed text)) in_world.up_left ∙ sym (length-append w.up.flying (framed text));
+      down_left = in_world.down_left;
+      fits = fits;
+    }
+
+-- bytes come up
+pub world-given_up : (up0 down0 up down up1 : Pipe) (w : World Side) (e : Ends) (n there : ℕ) (piece rest : List ℕ)
+    → InWorld up0 down0 up down w (awaited w.up) e → piece ≡ take n w.up.flying
+    → up1.sent ≡ up.sent → up1.given ≡ up.given ++ piece → there ≡ e.up_there - length piece
+    → rest ≡ held_after e.back_rest piece
+    → InWorld up0 down0 up1 down (given_up n w) (arriving n w.up ++ awaited (passed n w.up))
+    (record e { back_rest = rest; up_there = there })
+world-given_up up0 down0 up down up1 w e n there piece rest in_world front_part sent_is given_is left rest_is = record {
+  up_is = carries-get up0 up up1 piece n w.up in_world.up_is sent_is given_is front_part;
+  down_is = in_world.down_is;
+  page_is = in_world.page_is;
+  stands = in_world.stands;
+  back_is =
+      rest_is ∙ ap (λ held. held_after held piece) in_world.back_is
+      ∙ ap (λ bytes. held_after (held w.up) bytes) front_part ∙ sym (rest-given n w.up);
+  value = in_world.value;
+  front_is = in_world.front_is;
+  is_fold =
+      ap (λ bytes. folded take_frame (joined join (first_value []) (frames_of bytes).whole) (frames_of w.down.given).whole) (sent-passed n w.up)
+      ∙ in_world.is_fold;
+  up_left = left-passed n e.up_there there piece w.up in_world.up_left front_part left;
+  down_left = in_world.down_left;
+  fits = fits-given_up step take_frame join IsAsk IsFit world_laws (first_value []) n w in_world.fits;
+}
+
+-- a frame that came up whole is answered
+pub world-answered : (up0 down0 up down down1 : Pipe) (w : World Side) (frame : List ℕ) (frames : List (List ℕ)) (e : Ends)
+    → (page : State) (bound : Bound) (out : List ℕ) (there : ℕ)
+    → InWorld up0 down0 up down w (frame ∷ frames) e
+    → page ≡ (step w.side frame).side.page → Stands (nodes_in (step w.side frame).side) (step w.side frame).side.session bound
+    → out ≡ (step w.side frame).sent
+    → down1.sent ≡ down.sent ++ out → down1.given ≡ down.given → there ≡ e.down_there + length out
+    → InWorld up0 down0 up down1 (answered step (frame ∷ []) w) frames
+    (record e { page = page; bound = bound; down_there = there })
+world-answered up0 down0 up down down1 w frame frames e page bound out there in_world page_is stands out_is sent_is given_is left =
+    let all : out ≡ (steps step w.side (frame ∷ [])).sent = out_is ∙ sym (append-nil (step w.side frame).sent) in
+    record {
+      up_is = in_world.up_is;
+      down_is =
+          subst (λ bytes. Carries down0 down1 (put bytes w.down)) all
+          (carries-put down0 down down1 out w.down in_world.down_is sent_is given_is);
+      page_is = page_is;
+      stands = stands;
+      back_is = in_world.back_is;
+      value = in_world.value;
+      front_is = in_world.front_is;
+      is_fold = in_world.is_fold;
+      up_left = in_world.up_left;
+      down_left =
+          left ∙ ap (λ n. n + length out) in_world.down_left ∙ sym (length-append w.down.flying out)
+          ∙ ap (λ bytes. length (w.down.flying ++ bytes)) all;
+      fits = fits-answered_one step take_frame join IsAsk IsFit world_laws (first_value []) frame frames w in_world.fits;
+    }
+
+-- ---- the start
+
+-- a page was loaded, and nothing was sent since the pipes had nothing left to give
+pub world-first : (up0 down0 : Pipe) (nodes : Nodes Label) → CanLoad nodes → HaveTexts nodes → up0.given ≡ up0.sent → down0.given ≡ down0.sent
+    → InWorld up0 down0 up0 down0 (loaded_world nodes) []
+    (record { page = loaded 1 nodes; bound = empty_from 1; back_rest = []; front = first_state; up_there = 0; down_there = 0 })
+unfolding frames_of
+world-first up0 down0 nodes can texts up_level down_level = record {
+  up_is = carries-start up0 up_level;
+  down_is = carries-start down0 down_level;
+  page_is = refl;
+  stands = Stands-begun (nodes_in (first_side nodes));
+  back_is = refl;
+  value = first_value [];
+  front_is = refl;
+  is_fold = refl;
+  up_left = refl;
+  down_left = refl;
+  fits = fits-loaded nodes can texts;
+}

@@ -1,0 +1,14 @@
+pub mod Frames
+pub mod Folds
+pub mod Worlds
+pub mod Pipes
+pub mod Options
+pub mod Documents
+pub mod Messages
+pub mod FitLemmas
+pub mod Ends
+pub mod Scripts
+pub mod TokenTexts
+pub mod ReadTexts
+pub mod LoadTexts
+pub mod Inputs

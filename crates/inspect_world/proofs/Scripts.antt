@@ -1,0 +1,127 @@
+-- The streams of a script fit the side of the page, line by line.
+use Rattle.std.proofs.Common.{◌≡◌, ℕ, zero, suc, ◌+◌, ◌^◌, ◌≤◌, List, [], ◌∷◌, ◌++◌, length, take, map, append-nil, Option, Some, None, refl, sym, ◌∙◌, ap, subst, arith}
+use Rattle.std.proofs.lemmas.List.{drop_all}
+use Rattle.std.proofs.lemmas.Str.{IsUtf8-nil}
+use Rattle.node_tree.specs.Nodes.{Nodes, none, node, node_count}
+use Rattle.node_tree.specs.Labels.{Label}
+use Rattle.page_tree.specs.Forms.{CanLoad}
+use Rattle.page_tree.specs.Pages.{numbered}
+use Rattle.page_tree.proofs.NumberLemmas.{loaded_valid}
+use Rattle.node_binding.proofs.SessionLemmas.{IsSession-begun}
+use Rattle.cdp_messages.specs.Asked.{command_text}
+use Rattle.front_mirror.specs.Front.{first_value, take_frame}
+use Rattle.replay_script.specs.Forms.{LineForm, load, ask, show_front}
+use Rattle.pipe_frames.specs.Frames.{frames_of, frames_from}
+use Rattle.front_mirror.specs.declared.replies.Ask.{Ask}
+use Rattle.inspect_world.specs.Stream.{Stream, sent, passed, held, awaited}
+use Rattle.inspect_world.specs.Fold.{folded, joined}
+use Rattle.inspect_world.specs.World.{World, delivered_up, settled}
+use Rattle.inspect_world.specs.Sides.{Side, nodes_in, first_side, step}
+use Rattle.inspect_world.specs.Fits.{join, ask_in, AreTexts, IsAsk, IsFit, IsSide, Fits}
+use Rattle.inspect_world.specs.Scripts.{sends, after_line, after_lines, loaded_world}
+use Rattle.inspect_world.specs.ScriptsFit.{HaveTexts, document_ask, IsLater, AreLater, LinesFit, DeliveriesFit, SettledShows}
+use Rattle.inspect_world.proofs.Messages.{get_document, ask_in-command, IsText-command}
+use Rattle.inspect_world.proofs.Worlds.{fits-first, fits-asked, fits-delivered_up, fits-delivered_down, fits-settled}
+use Rattle.inspect_world.proofs.FitLemmas.{world_laws}
+
+-- ---- the start
+
+texts-numbered : (first : ℕ) (n : Nodes Label) → HaveTexts n → AreTexts (numbered first n)
+texts-numbered first none texts = tt
+texts-numbered first (node l c t) texts = (texts.0, texts-numbered (first + 1) c texts.1, texts-numbered (first + 1 + node_count c) t texts.2)
+
+pub IsSide-first : (nodes : Nodes Label) → CanLoad nodes → HaveTexts nodes → IsSide (first_side nodes)
+IsSide-first nodes can texts = record {
+  page = loaded_valid 1 nodes (omega arith) can;
+  serials = let room : suc (node_count nodes) ≤ 100000 = can.room in omega (arith, room);
+  texts = (record { name = IsUtf8-nil; value = IsUtf8-nil; attributes = tt }, texts-numbered 2 nodes texts, tt);
+  session = IsSession-begun (nodes_in (first_side nodes));
+}
+
+fit-first : (nodes : Nodes Label) → CanLoad nodes → HaveTexts nodes → IsFit 0 (first_value []) (first_side nodes) []
+fit-first nodes can texts = record {
+  tree = refl;
+  asks = refl;
+  side_is = IsSide-first nodes can texts;
+  taken = refl;
+  few = omega arith;
+  pushed = omega arith;
+}
+
+pub fits-loaded : (nodes : Nodes Label) → CanLoad nodes → HaveTexts nodes → Fits (loaded_world nodes)
+fits-loaded nodes can texts =
+    fits-first step take_frame join IsAsk IsFit world_laws (first_value []) (first_side nodes) (fit-first nodes can texts)
+
+-- ---- a line
+
+-- the k-th ask
+pub IsAsk-document : (k : ℕ) → k ≤ 2 ^ 26 → IsAsk k (command_text k get_document None None)
+IsAsk-document k few = record { method = get_document; is = ask_in-command k (omega (arith, few)); few = few }
+
+pub fits-sent : (w : World Side) → w.asks + 1 ≤ 2 ^ 26 → Fits w → Fits (sends document_ask w)
+fits-sent w few fits =
+    fits-asked step take_frame join IsAsk IsFit world_laws (first_value []) (command_text (w.asks + 1) get_document None None) w
+    (IsText-command (w.asks + 1) (omega (arith, few))) (IsAsk-document (w.asks + 1) few) fits
+
+pub fits-line : (line : LineForm) (w : World Side) → IsLater line → w.asks + 1 ≤ 2 ^ 26 → Fits w → Fits (after_line line w)
+fits-line (load nodes) w later few fits = fits
+fits-line (ask a) w later few fits = subst (λ b. Fits (sends b w)) (sym later) (fits-sent w few fits)
+fits-line show_front w later few fits = fits-settled step take_frame join IsAsk IsFit world_laws (first_value []) w fits
+
+asks-line : (line : LineForm) (w : World Side) → (after_line line w).asks ≤ w.asks + 1
+asks-line (load nodes) w = omega arith
+asks-line (ask a) w = omega arith
+asks-line show_front w = omega arith
+
+fits-lines : (n : ℕ) (lines : List LineForm) (w : World Side) → AreLater lines → w.asks + length lines ≤ 2 ^ 26 → Fits w → Fits (after_lines (take n lines) w)
+fits-lines zero lines w later few fits = fits
+fits-lines (suc n) [] w later few fits = fits
+fits-lines (suc n) (line ∷ lines) w later few fits =
+    let more : (after_line line w).asks ≤ w.asks + 1 = asks-line line w in
+    fits-lines n lines (after_line line w) later.1 (omega (arith, few, more)) (fits-line line w later.0 (omega (arith, few)) fits)
+
+pub lines-fit : LinesFit
+lines-fit nodes lines can texts later few n = fits-lines n lines (loaded_world nodes) later (omega (arith, few)) (fits-loaded nodes can texts)
+
+-- ---- deliveries
+
+pub deliveries-fit : DeliveriesFit
+deliveries-fit w n fits = (
+  fits-delivered_up step take_frame join IsAsk IsFit world_laws (first_value []) n w fits,
+  fits-delivered_down step take_frame join IsAsk IsFit world_laws (first_value []) n w fits,
+)
+
+-- nothing is on its way after all was given
+pub given-all : (s : Stream) → (passed (length s.flying) s).flying ≡ []
+given-all s = drop_all (length s.flying) s.flying (omega arith)
+
+sent-all : (s : Stream) → s.flying ≡ [] → sent s ≡ s.given
+sent-all s still = ap (λ bytes. s.given ++ bytes) still ∙ append-nil s.given
+
+-- no frame is awaited where nothing is held and nothing is on its way
+awaited-none : (s : Stream) → s.flying ≡ [] → held s ≡ [] → awaited s ≡ []
+unfolding frames_of
+awaited-none s still empty = ap (λ bytes. frames_from (held s) bytes) still ∙ ap (λ rest. frames_from rest []) empty
+
+no_asks : (asks : List Ask) → map Some asks ≡ [] → asks ≡ []
+no_asks [] e = refl
+no_asks (first ∷ asks) e = let no : ◌≡◌ {A = List (Option Ask)} (Some first ∷ map Some asks) [] = e in absurd cc
+
+pub settled-shows : SettledShows
+settled-shows w fits =
+    let w' = settled step w in
+    let all : Fits w' = fits-settled step take_frame join IsAsk IsFit world_laws (first_value []) w fits in
+    let up_none : w'.up.flying ≡ [] = given-all w.up in
+    let down_none : w'.down.flying ≡ [] = given-all (delivered_up step (length w.up.flying) w).down in
+    let up_held : held w'.up ≡ [] = ap (λ bytes. (frames_of bytes).rest) (sym (sent-all w'.up up_none)) ∙ all.up_whole in
+    let awaits : awaited w'.up ≡ [] = awaited-none w'.up up_none up_held in
+    record {
+      front = all.front;
+      is_fold =
+          ap (λ bytes. folded take_frame (joined join (first_value []) (frames_of bytes).whole) (frames_of w'.down.given).whole) (sym (sent-all w'.up up_none))
+          ∙ ap (λ bytes. folded take_frame (joined join (first_value []) (frames_of (sent w'.up)).whole) (frames_of bytes).whole) (sym (sent-all w'.down down_none))
+          ∙ all.is_fold;
+      shows = all.fit.tree;
+      waits = no_asks all.front.asks (sym all.fit.asks ∙ ap (map ask_in) awaits);
+      whole = ap (λ bytes. (frames_of bytes).rest) (sym (sent-all w'.down down_none)) ∙ all.down_whole;
+    }

@@ -1,0 +1,154 @@
+-- Each part of a run keeps that the whole streams, folded, fit the side.
+use Rattle.std.proofs.Common.{◌≡◌, ℕ, ◌+◌, List, [], ◌∷◌, ◌++◌, length, refl, sym, ◌∙◌, ap, subst, append_assoc, append-nil, Result}
+use Rattle.pipe_frames.specs.Frames.{IsText, framed, frames_of, frames_from, held_after}
+use Rattle.pipe_frames.proofs.FrameLemmas.{frames_of-append, frames_of-framed}
+use Rattle.inspect_world.specs.Stream.{Stream, sent, put, passed, held, arriving, awaited}
+use Rattle.inspect_world.specs.World.{World, Stepped, first_world, steps, asked, answered, given_up, delivered_up, delivered_down, settled}
+use Rattle.inspect_world.specs.Fold.{folded, joined, then, Laws, Answers, FitsWith, Fits}
+use Rattle.inspect_world.proofs.Frames.{frames_from-append, rest-sent, sent-passed, awaited-passed}
+use Rattle.inspect_world.proofs.Folds.{folded-append, joined-append}
+
+-- bytes after whole frames
+pub whole-after : (before more : List ℕ) → (frames_of before).rest ≡ []
+    → (frames_of (before ++ more)).whole ≡ (frames_of before).whole ++ (frames_of more).whole
+whole-after before more none =
+    ap (λ fs. fs.whole) (frames_of-append before more)
+    ∙ ap (λ rest. (frames_of before).whole ++ frames_from rest more) none
+
+pub rest-after : (before more : List ℕ) → (frames_of before).rest ≡ []
+    → (frames_of (before ++ more)).rest ≡ (frames_of more).rest
+rest-after before more none =
+    ap (λ fs. fs.rest) (frames_of-append before more) ∙ ap (λ rest. held_after rest more) none
+
+-- nothing is sent
+pub put-nil : (s : Stream) → put [] s ≡ s
+put-nil s = ap (λ bytes. record { given = s.given; flying = bytes }) (append-nil s.flying)
+
+-- one frame is answered, and then the others
+pub answered-cons : {S : Type 0} (step : S → List ℕ → Stepped S) (frame : List ℕ) (frames : List (List ℕ)) (w : World S)
+    → answered step (frame ∷ frames) w ≡ answered step frames (answered step (frame ∷ []) w)
+answered-cons step frame frames w =
+    let first = (step w.side frame).sent in
+    let later = (steps step (step w.side frame).side frames).sent in
+    let side = (steps step (step w.side frame).side frames).side in
+    let same : w.down.flying ++ (first ++ later) ≡ (w.down.flying ++ (first ++ [])) ++ later =
+    sym (append_assoc w.down.flying first later)
+    ∙ ap (λ bytes. (w.down.flying ++ bytes) ++ later) (sym (append-nil first)) in
+    ap (λ bytes. record { side = side; up = w.up; down = record { given = w.down.given; flying = bytes }; asks = w.asks }) same
+
+-- one framed text
+pub frames_of-one : (text : List ℕ) → IsText text → frames_of (framed text) ≡ record { whole = text ∷ []; rest = [] }
+unfolding frames_of
+frames_of-one text letters =
+    ap frames_of (sym (append-nil (framed text))) ∙ frames_of-framed text [] letters
+
+module _ {S F E : Type 0} (step : S → List ℕ → Stepped S) (take : F → List ℕ → Result F E) (join : F → List ℕ → F)
+    (IsAsk : ℕ → List ℕ → Type 0) (Fit : ℕ → F → S → List (List ℕ) → Type 0) (laws : Laws step take join IsAsk Fit) where
+  -- before anything was sent
+  pub fits-first : (start : F) (side : S) → Fit 0 start side [] → Fits take join Fit start (first_world side)
+  unfolding frames_of
+  fits-first start side fit = record { front = start; is_fold = refl; fit = fit; up_whole = refl; down_whole = refl }
+
+  -- an ask is sent
+  pub fits-asked : (start : F) (ask : List ℕ) (w : World S) → IsText ask → IsAsk (w.asks + 1) ask
+      → Fits take join Fit start w → Fits take join Fit start (asked ask w)
+  fits-asked start ask w letters is_ask fits =
+      let more : (frames_of (sent (asked ask w).up)).whole ≡ (frames_of (sent w.up)).whole ++ ask ∷ [] =
+      ap (λ bytes. (frames_of bytes).whole) (sym (append_assoc w.up.given w.up.flying (framed ask)))
+      ∙ whole-after (sent w.up) (framed ask) fits.up_whole
+      ∙ ap (λ fs. (frames_of (sent w.up)).whole ++ fs.whole) (frames_of-one ask letters) in
+      let none : held_after (held w.up) w.up.flying ≡ [] = sym (rest-sent w.up) ∙ fits.up_whole in
+      let last : awaited (asked ask w).up ≡ awaited w.up ++ ask ∷ [] =
+      frames_from-append (held w.up) w.up.flying (framed ask)
+      ∙ ap (λ rest. awaited w.up ++ frames_from rest (framed ask)) none
+      ∙ ap (λ fs. awaited w.up ++ fs.whole) (frames_of-one ask letters) in
+      record {
+        front = join fits.front ask;
+        is_fold =
+            ap (λ asks. folded take (joined join start asks) (frames_of (sent w.down)).whole) more
+            ∙ ap (λ front. folded take front (frames_of (sent w.down)).whole)
+            (joined-append join start (frames_of (sent w.up)).whole (ask ∷ []))
+            ∙ laws.later ask (joined join start (frames_of (sent w.up)).whole) fits.front (frames_of (sent w.down)).whole fits.is_fold;
+        fit = subst (λ frames. Fit (w.asks + 1) (join fits.front ask) w.side frames) (sym last)
+            (laws.asks w.asks ask fits.front w.side (awaited w.up) is_ask fits.fit);
+        up_whole =
+            ap (λ bytes. (frames_of bytes).rest) (sym (append_assoc w.up.given w.up.flying (framed ask)))
+            ∙ rest-after (sent w.up) (framed ask) fits.up_whole
+            ∙ ap (λ fs. fs.rest) (frames_of-one ask letters);
+        down_whole = fits.down_whole;
+      }
+
+  -- bytes are given up: the frames that become whole are the first that wait
+  pub fits-given_up : (start : F) (n : ℕ) (w : World S) → Fits take join Fit start w
+      → FitsWith take join Fit start (given_up n w) (arriving n w.up ++ awaited (passed n w.up))
+  fits-given_up start n w fits = record {
+    front = fits.front;
+    is_fold =
+        ap (λ bytes. folded take (joined join start (frames_of bytes).whole) (frames_of (sent w.down)).whole) (sent-passed n w.up)
+        ∙ fits.is_fold;
+    fit = subst (λ frames. Fit w.asks fits.front w.side frames) (awaited-passed n w.up) fits.fit;
+    up_whole = ap (λ bytes. (frames_of bytes).rest) (sent-passed n w.up) ∙ fits.up_whole;
+    down_whole = fits.down_whole;
+  }
+
+  -- one frame is answered
+  pub fits-answered_one : (start : F) (frame : List ℕ) (frames : List (List ℕ)) (w : World S)
+      → FitsWith take join Fit start w (frame ∷ frames)
+      → FitsWith take join Fit start (answered step (frame ∷ []) w) frames
+  fits-answered_one start frame frames w fits =
+      let first : Answers step take (Fit w.asks) frame fits.front w.side frames = laws.answers w.asks frame fits.front w.side frames fits.fit in
+      let out = (step w.side frame).sent in
+      let same : (steps step w.side (frame ∷ [])).sent ≡ out = append-nil out in
+      let front = joined join start (frames_of (sent w.up)).whole in
+      let more : (frames_of (sent (put out w.down))).whole ≡ (frames_of (sent w.down)).whole ++ (frames_of out).whole =
+      ap (λ bytes. (frames_of bytes).whole) (sym (append_assoc w.down.given w.down.flying out))
+      ∙ whole-after (sent w.down) out fits.down_whole in
+      record {
+        front = first.after;
+        is_fold =
+            ap (λ bytes. folded take front (frames_of (sent (put bytes w.down))).whole) same
+            ∙ ap (folded take front) more
+            ∙ folded-append take front (frames_of (sent w.down)).whole (frames_of out).whole
+            ∙ ap (λ result. then result (λ next. folded take next (frames_of out).whole)) fits.is_fold
+            ∙ first.is_fold;
+        fit = first.fit;
+        up_whole = fits.up_whole;
+        down_whole =
+            ap (λ bytes. (frames_of (sent (put bytes w.down))).rest) same
+            ∙ ap (λ bytes. (frames_of bytes).rest) (sym (append_assoc w.down.given w.down.flying out))
+            ∙ rest-after (sent w.down) out fits.down_whole
+            ∙ first.whole;
+      }
+
+  -- all of some frames are answered
+  pub fits-answered : (start : F) (frames more : List (List ℕ)) (w : World S)
+      → FitsWith take join Fit start w (frames ++ more)
+      → FitsWith take join Fit start (answered step frames w) more
+  fits-answered start [] more w fits =
+      subst (λ down. FitsWith take join Fit start (record { side = w.side; up = w.up; down = down; asks = w.asks }) more) (sym (put-nil w.down)) fits
+  fits-answered start (frame ∷ frames) more w fits =
+      subst (λ v. FitsWith take join Fit start v more) (sym (answered-cons step frame frames w))
+      (fits-answered start frames more (answered step (frame ∷ []) w) (fits-answered_one start frame (frames ++ more) w fits))
+
+  pub fits-delivered_up : (start : F) (n : ℕ) (w : World S)
+      → Fits take join Fit start w → Fits take join Fit start (delivered_up step n w)
+  fits-delivered_up start n w fits =
+      fits-answered start (arriving n w.up) (awaited (passed n w.up)) (given_up n w) (fits-given_up start n w fits)
+
+  pub fits-delivered_down : (start : F) (n : ℕ) (w : World S)
+      → Fits take join Fit start w → Fits take join Fit start (delivered_down n w)
+  fits-delivered_down start n w fits = record {
+    front = fits.front;
+    is_fold =
+        ap (λ bytes. folded take (joined join start (frames_of (sent w.up)).whole) (frames_of bytes).whole) (sent-passed n w.down)
+        ∙ fits.is_fold;
+    fit = fits.fit;
+    up_whole = fits.up_whole;
+    down_whole = ap (λ bytes. (frames_of bytes).rest) (sent-passed n w.down) ∙ fits.down_whole;
+  }
+
+  pub fits-settled : (start : F) (w : World S)
+      → Fits take join Fit start w → Fits take join Fit start (settled step w)
+  fits-settled start w fits =
+      let after = delivered_up step (length w.up.flying) w in
+      fits-delivered_down start (length after.down.flying) after (fits-delivered_up start (length w.up.flying) w fits)

@@ -1,0 +1,89 @@
+-- A front end that shows the side of the page, and waits for the answers that are to come.
+use Rattle.std.specs.Prelude.{◌≡◌, ◌≤◌, ℕ, ◌+◌, ◌*◌, ◌^◌, List, [], ◌∷◌, ◌++◌, length, map, Option, Some, None, option_and_then, codes, IsUtf8}
+use Rattle.serde_json.specs.Data.{Members}
+use Rattle.serde_json.specs.Find.{get_member, as_str, as_object}
+use Rattle.cdp_json.specs.Kinds.{as_whole}
+use Rattle.node_tree.specs.Nodes.{Nodes, none, node}
+use Rattle.node_tree.specs.Labels.{Label, Pair}
+use Rattle.page_tree.specs.Pages.{Row, IsValid}
+use Rattle.page_tree.specs.Forms.{max_nodes}
+use Rattle.node_binding.specs.Sessions.{IsSession}
+use Rattle.cdp_messages.specs.Asked.{json_of}
+use Rattle.front_mirror.specs.declared.replies.Ask.{Ask}
+use Rattle.front_mirror.specs.Front.{FrontValue, first_value, take_frame}
+use Rattle.inspect_world.specs.World.{World}
+use Rattle.inspect_world.specs.Sides.{Side, nodes_in, view_of}
+use Rattle.inspect_world.specs.Fold as fold
+
+-- ---- the asks that stand in frames
+
+abbrev pub ask_with : List ℕ → ℕ → Ask
+ask_with method id = record { id = id; method = method }
+
+abbrev pub ask_of : Members → Option Ask
+ask_of frame =
+    option_and_then (λ id. option_and_then (λ method. Some (ask_with method id)) (option_and_then as_str (get_member (codes "method") frame)))
+    (option_and_then as_whole (get_member (codes "id") frame))
+
+-- the ask that a frame is: an object with an id and a method
+abbrev pub ask_in : List ℕ → Option Ask
+ask_in frame = option_and_then ask_of (option_and_then as_object (json_of frame))
+
+-- the front waits for one more reply
+abbrev pub with_ask : FrontValue → Option Ask → FrontValue
+with_ask v None = v
+with_ask v (Some ask) = record v { asks = v.asks ++ ask ∷ [] }
+
+-- the front after a frame was sent
+abbrev pub join : FrontValue → List ℕ → FrontValue
+join v frame = with_ask v (ask_in frame)
+
+-- ---- what always holds of a side
+
+-- the texts of a label are texts: UTF-8
+abbrev pub AreTextPairs : List Pair → Type 0
+AreTextPairs [] = Unit {0}
+AreTextPairs (p ∷ ps) = IsUtf8 p.0 × IsUtf8 p.1 × AreTextPairs ps
+
+pub record IsTextLabel (l : Label) : Type 0 where
+  pub name : IsUtf8 l.name
+  pub value : IsUtf8 l.value
+  pub attributes : AreTextPairs l.attributes
+
+abbrev pub AreTexts : Nodes Row → Type 0
+AreTexts none = Unit {0}
+AreTexts (node r c t) = IsTextLabel r.label × AreTexts c × AreTexts t
+
+pub record IsSide (side : Side) : Type 0 where
+  pub page : IsValid side.page
+  pub serials : side.page.next ≤ 2 ^ 52
+  pub texts : AreTexts (nodes_in side)
+  pub session : IsSession (nodes_in side) side.session
+
+-- ---- fits
+
+-- how many asks a script can send at most: one for each byte of its input
+abbrev pub most_asks : ℕ
+most_asks = 2 ^ 26
+
+-- the text may be the n-th ask
+pub record IsAsk (n : ℕ) (text : List ℕ) : Type 0 where
+  pub method : List ℕ
+  pub is : ask_in text ≡ Some (ask_with method n)
+  pub few : n ≤ most_asks
+
+-- After n asks the front shows exactly what the side's client sees, and waits for the answers to these frames alone.
+pub record IsFit (n : ℕ) (v : FrontValue) (side : Side) (frames : List (List ℕ)) : Type 0 where
+  pub tree : v.tree ≡ view_of side
+  pub asks : map ask_in frames ≡ map Some v.asks
+  pub side_is : IsSide side
+  pub taken : v.taken + length frames ≡ n
+  pub few : n ≤ most_asks
+  pub pushed : length side.session.pushed ≤ v.taken * max_nodes
+
+-- the two whole streams of a run, folded, fit its side
+abbrev pub FitsWith : World Side → List (List ℕ) → Type 0
+FitsWith w frames = fold.FitsWith take_frame join IsFit (first_value []) w frames
+
+abbrev pub Fits : World Side → Type 0
+Fits w = fold.Fits take_frame join IsFit (first_value []) w

@@ -1,0 +1,42 @@
+-- What the two ends hold while a script is carried out over a link, and that they follow the run.
+use Rattle.std.specs.Prelude.{◌≡◌, ℕ, ◌+◌, false, List, [], length, None, Ok}
+use Rattle.page_tree.specs.Pages.{State}
+use Rattle.node_binding.specs.Bindings.{Bound, Stands}
+use Rattle.pipe_frames.specs.Pipe.{Pipe}
+use Rattle.pipe_frames.specs.Frames.{frames_of}
+use Rattle.front_mirror.specs.Front.{FrontValue, FrontState, first_value, take_frame}
+use Rattle.inspect_world.specs.Stream.{sent, held}
+use Rattle.inspect_world.specs.World.{World}
+use Rattle.inspect_world.specs.Fold.{folded, joined}
+use Rattle.inspect_world.specs.Carried.{Carries}
+use Rattle.inspect_world.specs.Sides.{Side, nodes_in}
+use Rattle.inspect_world.specs.Fits.{join, FitsWith}
+
+-- The back end's page and binding, what it has of a frame that is not whole, the front end, and how many bytes of each pipe
+-- were sent and not given.
+pub record Ends : Type 0 where
+  pub page : State
+  pub bound : Bound
+  pub back_rest : List ℕ
+  pub front : FrontState
+  pub up_there : ℕ
+  pub down_there : ℕ
+
+-- a front end that has met no fault
+abbrev pub good_front : FrontValue → List ℕ → ℕ → FrontState
+good_front value rest next = record { value = value; rest = rest; fault = None; next = next; dead = false }
+
+-- Since the pipes were as `up0` and `down0`, the link and the ends have come to where the run is; `frames` are whole at the
+-- back end and not yet answered, or on their way to it.
+pub record InWorld (up0 down0 up down : Pipe) (w : World Side) (frames : List (List ℕ)) (e : Ends) : Type 0 where
+  pub up_is : Carries up0 up w.up
+  pub down_is : Carries down0 down w.down
+  pub page_is : e.page ≡ w.side.page
+  pub stands : Stands (nodes_in w.side) w.side.session e.bound
+  pub back_is : e.back_rest ≡ held w.up
+  pub value : FrontValue
+  pub front_is : e.front ≡ good_front value (held w.down) (w.asks + 1)
+  pub is_fold : folded take_frame (joined join (first_value []) (frames_of (sent w.up)).whole) (frames_of w.down.given).whole ≡ Ok value
+  pub up_left : e.up_there ≡ length w.up.flying
+  pub down_left : e.down_there ≡ length w.down.flying
+  pub fits : FitsWith w frames

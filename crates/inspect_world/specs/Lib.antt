@@ -1,0 +1,9 @@
+pub mod Stream
+pub mod World
+pub mod Fold
+pub mod Carried
+pub mod Sides
+pub mod Fits
+pub mod Held
+pub mod Scripts
+pub mod ScriptsFit

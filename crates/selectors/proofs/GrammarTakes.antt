@@ -1,0 +1,838 @@
+-- What is read, the grammar spells.
+use Rattle.std.proofs.Common.{◌≡◌, ◌⊎◌, inl, inr, ℕ, zero, suc, ◌+◌, ◌<◌, Bool, true, false, not, cond, List, [], ◌∷◌, ◌++◌, length, Option, Some, None, refl, sym, ap, subst, ◌∙◌, append_assoc, append-nil, length-append, arith}
+use Rattle.std.specs.Prelude.{codes, ◌==◌, ◌&&◌, ◌||◌, ℤ, map, is_some, Result, Ok, Err, IfOk}
+use Rattle.std.specs.List.{AllByRecursion}
+use Rattle.std.specs.Char.{to_ascii_lowercase}
+use Rattle.std.proofs.lemmas.Bool.{eqb-true}
+use Rattle.css_tokens.specs.declared.token.Range.{Range}
+use Rattle.selectors.specs.declared.words.Word.{Word}
+use Rattle.selectors.specs.declared.words.WordKind.{WordKind}
+use Rattle.selectors.specs.declared.words.WordKind.TheVariants.{Ident, Function, Str, Id, AtKeyword, Mark, Cdo, Cdc, Bad, Other}
+use Rattle.selectors.specs.declared.selector.AttrOp.{AttrOp}
+use Rattle.selectors.specs.declared.selector.AttrOp.TheVariants as ops
+use Rattle.selectors.specs.declared.selector.NthKind.{NthKind}
+use Rattle.selectors.specs.declared.selector.Joint.{Joint}
+use Rattle.selectors.specs.declared.selector.Joint.TheVariants as joints
+use Rattle.selectors.specs.Words.{Reading, reading, next_word, is_mark, between, words_of}
+use Rattle.selectors.specs.Forms.{TestForm, any, tag, id, class, attr, nth, never, SimpleForm, is, is_not, CompoundForm, compound_form, SelectorForm, Gives, ◌>>=◌}
+use Rattle.selectors.specs.declared.selector.SelErr.{SelErr}
+use Rattle.selectors.specs.declared.selector.SelectorList.{SelectorList}
+use Rattle.selectors.specs.Lists.{list_seen}
+use Rattle.selectors.specs.Nth.{nth_of}
+use Rattle.selectors.specs.Parts.{many_in, with_front}
+use Rattle.selectors.specs.Reading.{value_of, id_of, string_of, lower_of, function_of, operator_of, pseudo_class, is_never, is_element, nth_kind, is_named, Item, ident_at, tight_ident_at, take_mark, tight_mark_at, with_rest, name_by, operator_at, operator_from, equals_at, operand_at, operand_by, exists_at, compare_at, attribute_after, attribute_at, first_is, closing, closing_at, nth_at, lang_at, function_at, class_at, plain_by, plain_from, named_at, called_at, pseudo_by, pseudo_at, argument_by, argument_from, argument_at, not_at, element_at, colon_named, colon_called, colon_by, colon_at, item_is, item_is_not, item_from, item_at, first_by, first_from, first_at, combinator_of, is_over, Joined, compound_of, tests_at, compound_at, joint_of, joint_at, joined_at, ends_compound, ends_selector, compounds_at, range_of, joined_of, selector_form, selector_of, segments, selectors_in, put_before, list_of, selectors_of}
+use Rattle.selectors.specs.Grammar.{IsOperator, equal, other, IsOperand, ident, string, IsTest, by_id, by_class, by_exists, by_compare, by_pseudo, by_nth, by_lang, IsArgument, a_tag, a_any, a_test, IsElement, one_colon, two_colons, IsItem, item_test, item_not, item_element, IsFirst, first_tag, first_any, first_item, Run, done, more, IsTight, IsNextItem, IsCompound, IsCombinator, mark, white, IsJoined, IsSelector, AreSelectors, IsSelectorList}
+use Rattle.selectors.proofs.GrammarAgain.{first_begins}
+
+-- ---- tests and binds
+
+none_some : {A : Type 0} (x : A) → None ≡ Some x → ⊥
+none_some x e = cc
+
+some_is : {A : Type 0} (x y : A) → Some x ≡ Some y → x ≡ y
+some_is x y e = cc
+
+chosen : {X : Type 0} (b : Bool) (x y z : X) → cond b x y ≡ z → ((b ≡ true) × (x ≡ z)) ⊎ ((b ≡ false) × (y ≡ z))
+chosen true x y z e = inl (refl, e)
+chosen false x y z e = inr (refl, e)
+
+-- a test whose failure gives none
+passed_test : {X : Type 0} (b : Bool) (o : Option X) (z : X) → cond b o None ≡ Some z → (b ≡ true) × (o ≡ Some z)
+passed_test true o z e = (refl, e)
+passed_test false o z e = absurd (none_some z e)
+
+-- a test whose success gives none
+failed_test : {X : Type 0} (b : Bool) (o : Option X) (z : X) → cond b None o ≡ Some z → (b ≡ false) × (o ≡ Some z)
+failed_test false o z e = (refl, e)
+failed_test true o z e = absurd (none_some z e)
+
+bind_some : {A B : Type 0} (o : Option A) (f : A → Option B) (y : B) → (o >>= f) ≡ Some y → (x : A) × (o ≡ Some x) × (f x ≡ Some y)
+bind_some None f y e = absurd (none_some y e)
+bind_some (Some x) f y e = (x, refl, e)
+
+both : (a b : Bool) → (a && b) ≡ true → (a ≡ true) × (b ≡ true)
+both true true e = (refl, refl)
+both true false e = absurd (cc)
+both false b e = absurd (cc)
+
+not_true : (b : Bool) → not b ≡ true → b ≡ false
+not_true false e = refl
+not_true true e = absurd (cc)
+
+mark_kind : (c : ℕ) (k : WordKind) → is_mark c k ≡ true → k ≡ Mark c
+mark_kind c (Mark d) e = ap (λ (n : ℕ). Mark n) (eqb-true d c e)
+mark_kind c _ e = absurd (cc)
+
+-- ---- words
+
+-- the words begin with this one, and the reading goes on behind it
+record Next (text : List ℕ) (ws : List Word) (w : Word) (r : Reading) : Type 0 where
+  rest : List Word
+  words : ws ≡ w ∷ rest
+  goes_on : r ≡ reading text rest
+
+next_takes : (text : List ℕ) (ws : List Word) (w : Word) (r : Reading) → next_word (reading text ws) ≡ Some (w, r) → Next text ws w r
+next_takes text [] w r e = absurd (none_some (w, r) e)
+next_takes text (v ∷ vs) w r e =
+    let same = some_is {A = Word × Reading} (v, reading text vs) (w, r) e in
+    record { rest = vs; words = ap (λ (p : Word × Reading). p.0 ∷ vs) same; goes_on = sym (ap (λ (p : Word × Reading). p.1) same) }
+
+abbrev some_reading : Reading → Option Reading
+some_reading r = Some r
+
+record Marked (c : ℕ) (text : List ℕ) (ws : List Word) (r : Reading) : Type 0 where
+  w : Word
+  rest : List Word
+  words : ws ≡ w ∷ rest
+  kind : w.kind ≡ Mark c
+  goes_on : r ≡ reading text rest
+
+mark_takes : (c : ℕ) (text : List ℕ) (ws : List Word) (r : Reading) → take_mark c (reading text ws) ≡ Some r → Marked c text ws r
+mark_takes c text [] r e = absurd (none_some r e)
+mark_takes c text (w ∷ ws) r e =
+    let h = passed_test (is_mark c w.kind) (some_reading (reading text ws)) r e in
+    record { w = w; rest = ws; words = refl; kind = mark_kind c w.kind h.0; goes_on = sym (some_is (reading text ws) r h.1) }
+
+-- whether the first word is spaced
+abbrev first_spaced : List Word → Bool
+first_spaced [] = true
+first_spaced (w ∷ ws) = w.spaced
+
+tight_mark_takes : (c : ℕ) (text : List ℕ) (ws : List Word) (r : Reading) → tight_mark_at c (reading text ws) ≡ Some r → (m : Marked c text ws r) × (m.w.spaced ≡ false)
+tight_mark_takes c text [] r e = absurd (none_some r e)
+tight_mark_takes c text (w ∷ ws) r e =
+    let h = passed_test (not w.spaced) (take_mark c (reading text (w ∷ ws))) r e in
+    let m = mark_takes c text (w ∷ ws) r h.1 in
+    (m, sym (ap first_spaced m.words) ∙ not_true w.spaced h.0)
+
+record Named (text : List ℕ) (ws : List Word) (v : List ℕ) (r : Reading) : Type 0 where
+  w : Word
+  rest : List Word
+  words : ws ≡ w ∷ rest
+  kind : w.kind ≡ Ident
+  value : value_of text w ≡ v
+  goes_on : r ≡ reading text rest
+
+named_by : (k : WordKind) (text : List ℕ) (w : Word) (ws : List Word) (v : List ℕ) (r : Reading) → w.kind ≡ k → with_rest (name_by (value_of text w) k) (reading text ws) ≡ Some (v, r) → Named text (w ∷ ws) v r
+named_by Ident text w ws v r k e =
+    let same = some_is {A = List ℕ × Reading} (value_of text w, reading text ws) (v, r) e in
+    record { w = w; rest = ws; words = refl; kind = k; value = ap (λ (p : List ℕ × Reading). p.0) same; goes_on = sym (ap (λ (p : List ℕ × Reading). p.1) same) }
+named_by _ text w ws v r k e = absurd (none_some (v, r) e)
+
+ident_takes : (text : List ℕ) (ws : List Word) (v : List ℕ) (r : Reading) → ident_at (reading text ws) ≡ Some (v, r) → Named text ws v r
+unfolding ident_at
+ident_takes text [] v r e = absurd (none_some (v, r) e)
+ident_takes text (w ∷ ws) v r e = named_by w.kind text w ws v r refl e
+
+tight_takes : (text : List ℕ) (ws : List Word) (v : List ℕ) (r : Reading) → tight_ident_at (reading text ws) ≡ Some (v, r) → (n : Named text ws v r) × (n.w.spaced ≡ false)
+tight_takes text [] v r e = absurd (none_some (v, r) e)
+tight_takes text (w ∷ ws) v r e =
+    let h = passed_test (not w.spaced) (ident_at (reading text (w ∷ ws))) (v, r) e in
+    let n = ident_takes text (w ∷ ws) v r h.1 in
+    (n, sym (ap first_spaced n.words) ∙ not_true w.spaced h.0)
+
+-- ---- attribute selectors
+
+-- What was read stands in front, and the reading goes on behind it.
+pub record Found {A : Type 0} (R : List Word → A → Type 0) (text : List ℕ) (ws : List Word) (x : A) (r : Reading) : Type 0 where
+  pub front : List Word
+  pub rest : List Word
+  pub words : ws ≡ front ++ rest
+  pub goes_on : r ≡ reading text rest
+  pub form : R front x
+
+abbrev some_op : AttrOp → Reading → Option (AttrOp × Reading)
+some_op op r = Some (op, r)
+
+equals_takes : (text : List ℕ) (w : Word) (ws : List Word) (known op : AttrOp) (r : Reading) → operator_of w.kind ≡ Some known → equals_at w known (reading text ws) ≡ Some (op, r) → Found IsOperator text (w ∷ ws) op r
+equals_takes text w [] known op r k e = absurd (none_some (op, r) e)
+equals_takes text w (v ∷ vs) known op r k e =
+    let h = passed_test (is_mark 61 v.kind && v.start == w.end) (some_op known (reading text vs)) (op, r) e in
+    let b = both (is_mark 61 v.kind) (v.start == w.end) h.0 in
+    let same = some_is {A = AttrOp × Reading} (known, reading text vs) (op, r) h.1 in
+    let R : AttrOp → Type 0 = λ o. IsOperator (w ∷ v ∷ []) o in
+    record {
+      front = w ∷ v ∷ [];
+      rest = vs;
+      words = refl;
+      goes_on = sym (ap (λ (p : AttrOp × Reading). p.1) same);
+      form = subst R (ap (λ (p : AttrOp × Reading). p.0) same) (other w v known k (mark_kind 61 v.kind b.0) (eqb-true v.start w.end b.1));
+    }
+
+operator_by : (text : List ℕ) (w : Word) (ws : List Word) (op : AttrOp) (r : Reading)
+    → ((is_mark 61 w.kind ≡ true) × (some_op ops.Equal (reading text ws) ≡ Some (op, r))) ⊎ ((is_mark 61 w.kind ≡ false) × ((operator_of w.kind >>= λ o. equals_at w o (reading text ws)) ≡ Some (op, r))) → Found IsOperator text (w ∷ ws) op r
+operator_by text w ws op r (inl h) =
+    let same = some_is {A = AttrOp × Reading} (ops.Equal, reading text ws) (op, r) h.1 in
+    let R : AttrOp → Type 0 = λ o. IsOperator (w ∷ []) o in
+    record {
+      front = w ∷ [];
+      rest = ws;
+      words = refl;
+      goes_on = sym (ap (λ (p : AttrOp × Reading). p.1) same);
+      form = subst R (ap (λ (p : AttrOp × Reading). p.0) same) (equal w (mark_kind 61 w.kind h.0));
+    }
+operator_by text w ws op r (inr h) =
+    let b = bind_some (operator_of w.kind) (λ o. equals_at w o (reading text ws)) (op, r) h.1 in
+    equals_takes text w ws b.0 op r b.1 b.2
+
+operator_takes : (text : List ℕ) (ws : List Word) (op : AttrOp) (r : Reading) → operator_at (reading text ws) ≡ Some (op, r) → Found IsOperator text ws op r
+unfolding operator_at
+operator_takes text [] op r e = absurd (none_some (op, r) e)
+operator_takes text (w ∷ ws) op r e =
+    operator_by text w ws op r (chosen (is_mark 61 w.kind) (some_op ops.Equal (reading text ws)) (operator_of w.kind >>= λ o. equals_at w o (reading text ws)) (Some (op, r)) e)
+
+record Operand (text : List ℕ) (ws : List Word) (v : List ℕ) (r : Reading) : Type 0 where
+  w : Word
+  rest : List Word
+  words : ws ≡ w ∷ rest
+  goes_on : r ≡ reading text rest
+  form : IsOperand text w v
+
+operand_kind : (k : WordKind) (text : List ℕ) (w : Word) (ws : List Word) (v : List ℕ) (r : Reading) → w.kind ≡ k → with_rest (operand_by (value_of text w) (string_of text w) k) (reading text ws) ≡ Some (v, r) → Operand text (w ∷ ws) v r
+operand_kind Ident text w ws v r k e =
+    let same = some_is {A = List ℕ × Reading} (value_of text w, reading text ws) (v, r) e in
+    let R : List ℕ → Type 0 = λ u. IsOperand text w u in
+    record { w = w; rest = ws; words = refl; goes_on = sym (ap (λ (p : List ℕ × Reading). p.1) same); form = subst R (ap (λ (p : List ℕ × Reading). p.0) same) (ident text w k) }
+operand_kind Str text w ws v r k e =
+    let same = some_is {A = List ℕ × Reading} (string_of text w, reading text ws) (v, r) e in
+    let R : List ℕ → Type 0 = λ u. IsOperand text w u in
+    record { w = w; rest = ws; words = refl; goes_on = sym (ap (λ (p : List ℕ × Reading). p.1) same); form = subst R (ap (λ (p : List ℕ × Reading). p.0) same) (string text w k) }
+operand_kind _ text w ws v r k e = absurd (none_some (v, r) e)
+
+operand_takes : (text : List ℕ) (ws : List Word) (v : List ℕ) (r : Reading) → operand_at (reading text ws) ≡ Some (v, r) → Operand text ws v r
+unfolding operand_at
+operand_takes text [] v r e = absurd (none_some (v, r) e)
+operand_takes text (w ∷ ws) v r e = operand_kind w.kind text w ws v r refl e
+
+-- what follows `[`
+abbrev InBrackets : List ℕ → List Word → TestForm → Type 0
+InBrackets text front t = (open_bracket : Word) → open_bracket.kind ≡ Mark 91 → IsTest text (open_bracket ∷ front) t
+
+abbrev some_test : TestForm → Reading → Option (TestForm × Reading)
+some_test t r = Some (t, r)
+
+exists_takes : (text : List ℕ) (name : Word) (ws : List Word) (t : TestForm) (r : Reading) → name.kind ≡ Ident → exists_at (value_of text name) (reading text ws) ≡ Some (t, r) → Found (InBrackets text) text (name ∷ ws) t r
+exists_takes text name ws t r k e =
+    let u = attr (value_of text name) ops.Exists [] in
+    let b = bind_some (take_mark 93 (reading text ws)) (λ x. some_test u x) (t, r) e in
+    let m = mark_takes 93 text ws b.0 b.1 in
+    let same = some_is {A = TestForm × Reading} (u, b.0) (t, r) b.2 in
+    let R : TestForm → Type 0 = λ x. InBrackets text (name ∷ m.w ∷ []) x in
+    record {
+      front = name ∷ m.w ∷ [];
+      rest = m.rest;
+      words = ap (λ (vs : List Word). name ∷ vs) m.words;
+      goes_on = sym (ap (λ (p : TestForm × Reading). p.1) same) ∙ m.goes_on;
+      form = subst R (ap (λ (p : TestForm × Reading). p.0) same) (λ ob e'. by_exists text ob name m.w e' k m.kind);
+    }
+
+compare_takes : (text : List ℕ) (name : Word) (ws : List Word) (t : TestForm) (r : Reading) → name.kind ≡ Ident → compare_at (value_of text name) (reading text ws) ≡ Some (t, r) → Found (InBrackets text) text (name ∷ ws) t r
+compare_takes text name ws t r k e =
+    let v = value_of text name in
+    let o = bind_some (operator_at (reading text ws)) (λ p. operand_at p.1 >>= λ q. take_mark 93 q.1 >>= λ x. some_test (attr v p.0 q.0) x) (t, r) e in
+    let f = operator_takes text ws o.0.0 o.0.1 o.1 in
+    let q = bind_some (operand_at o.0.1) (λ q. take_mark 93 q.1 >>= λ x. some_test (attr v o.0.0 q.0) x) (t, r) o.2 in
+    let g = operand_takes text f.rest q.0.0 q.0.1 (ap operand_at (sym f.goes_on) ∙ q.1) in
+    let x = bind_some (take_mark 93 q.0.1) (λ x. some_test (attr v o.0.0 q.0.0) x) (t, r) q.2 in
+    let m = mark_takes 93 text g.rest x.0 (ap (take_mark 93) (sym g.goes_on) ∙ x.1) in
+    let u = attr v o.0.0 q.0.0 in
+    let same = some_is {A = TestForm × Reading} (u, x.0) (t, r) x.2 in
+    let front = name ∷ (f.front ++ g.w ∷ m.w ∷ []) in
+    let R : TestForm → Type 0 = λ y. InBrackets text front y in
+    record {
+      front = front;
+      rest = m.rest;
+      words = ap (λ (vs : List Word). name ∷ vs) (f.words ∙ ap (λ (vs : List Word). f.front ++ vs) (g.words ∙ ap (λ (vs : List Word). g.w ∷ vs) m.words) ∙ sym (append_assoc f.front (g.w ∷ m.w ∷ []) m.rest));
+      goes_on = sym (ap (λ (p : TestForm × Reading). p.1) same) ∙ m.goes_on;
+      form = subst R (ap (λ (p : TestForm × Reading). p.0) same) (λ ob e'. by_compare text ob name g.w m.w f.front (ob ∷ front) o.0.0 q.0.0 refl e' k f.form g.form m.kind);
+    }
+
+attribute_after_takes : (text : List ℕ) (name : Word) (ws : List Word) (t : TestForm) (r : Reading) → name.kind ≡ Ident → attribute_after (value_of text name) (reading text ws) ≡ Some (t, r) → Found (InBrackets text) text (name ∷ ws) t r
+attribute_after_takes text name ws t r k e =
+    by_case (chosen (first_is (λ w. is_mark 93 w.kind) ws) (exists_at (value_of text name) (reading text ws)) (compare_at (value_of text name) (reading text ws)) (Some (t, r)) e)
+  where
+    by_case : ((first_is (λ w. is_mark 93 w.kind) ws ≡ true) × (exists_at (value_of text name) (reading text ws) ≡ Some (t, r))) ⊎ ((first_is (λ w. is_mark 93 w.kind) ws ≡ false) × (compare_at (value_of text name) (reading text ws) ≡ Some (t, r))) → Found (InBrackets text) text (name ∷ ws) t r
+    by_case (inl h) = exists_takes text name ws t r k h.1
+    by_case (inr h) = compare_takes text name ws t r k h.1
+
+attribute_takes : (text : List ℕ) (ws : List Word) (t : TestForm) (r : Reading) → attribute_at (reading text ws) ≡ Some (t, r) → Found (InBrackets text) text ws t r
+unfolding attribute_at
+attribute_takes text ws t r e =
+    let b = bind_some (ident_at (reading text ws)) (λ name. attribute_after name.0 name.1) (t, r) e in
+    let n = ident_takes text ws b.0.0 b.0.1 b.1 in
+    let f = attribute_after_takes text n.w n.rest t r n.kind (ap (λ (v : List ℕ). attribute_after v (reading text n.rest)) n.value ∙ ap (λ (s : Reading). attribute_after b.0.0 s) (sym n.goes_on) ∙ b.2) in
+    record { front = f.front; rest = f.rest; words = n.words ∙ f.words; goes_on = f.goes_on; form = f.form }
+
+-- ---- simple selectors
+
+-- what follows the first word of a simple selector
+abbrev Behind : List ℕ → Word → List Word → TestForm → Type 0
+Behind text w front t = IsTest text (w ∷ front) t
+
+class_takes : (text : List ℕ) (dot : Word) (ws : List Word) (t : TestForm) (r : Reading) → dot.kind ≡ Mark 46 → class_at (reading text ws) ≡ Some (t, r) → Found (Behind text dot) text ws t r
+class_takes text dot ws t r k e =
+    let b = bind_some (tight_ident_at (reading text ws)) (λ n. some_test (class n.0) n.1) (t, r) e in
+    let n = tight_takes text ws b.0.0 b.0.1 b.1 in
+    let same = some_is {A = TestForm × Reading} (class b.0.0, b.0.1) (t, r) b.2 in
+    let R : TestForm → Type 0 = λ x. IsTest text (dot ∷ n.0.w ∷ []) x in
+    record {
+      front = n.0.w ∷ [];
+      rest = n.0.rest;
+      words = n.0.words;
+      goes_on = sym (ap (λ (p : TestForm × Reading). p.1) same) ∙ n.0.goes_on;
+      form = subst R (ap (λ (v : List ℕ). class v) n.0.value ∙ ap (λ (p : TestForm × Reading). p.0) same) (by_class text dot n.0.w k n.0.kind n.1);
+    }
+
+plain_mark : (c : ℕ) (text : List ℕ) (w : Word) (ws : List Word) (t : TestForm) (r : Reading) → w.kind ≡ Mark c → cond (c == 46) (class_at (reading text ws)) (cond (c == 91) (attribute_at (reading text ws)) None) ≡ Some (t, r) → Found (Behind text w) text ws t r
+plain_mark c text w ws t r k e = by_case (chosen (c == 46) (class_at (reading text ws)) (cond (c == 91) (attribute_at (reading text ws)) None) (Some (t, r)) e)
+  where
+    by_case : (((c == 46) ≡ true) × (class_at (reading text ws) ≡ Some (t, r))) ⊎ (((c == 46) ≡ false) × (cond (c == 91) (attribute_at (reading text ws)) None ≡ Some (t, r))) → Found (Behind text w) text ws t r
+    by_case (inl h) = class_takes text w ws t r (k ∙ ap (λ (n : ℕ). Mark n) (eqb-true c 46 h.0)) h.1
+    by_case (inr h) =
+        let b = passed_test (c == 91) (attribute_at (reading text ws)) (t, r) h.1 in
+        let f = attribute_takes text ws t r b.1 in
+        record { front = f.front; rest = f.rest; words = f.words; goes_on = f.goes_on; form = f.form w (k ∙ ap (λ (n : ℕ). Mark n) (eqb-true c 91 b.0)) }
+
+plain_kind : (k : WordKind) (text : List ℕ) (w : Word) (ws : List Word) (t : TestForm) (r : Reading) → w.kind ≡ k → plain_by w (reading text ws) k ≡ Some (t, r) → Found (Behind text w) text ws t r
+plain_kind Id text w ws t r k e =
+    let same = some_is {A = TestForm × Reading} (id (id_of text w), reading text ws) (t, r) e in
+    let R : TestForm → Type 0 = λ x. IsTest text (w ∷ []) x in
+    record { front = []; rest = ws; words = refl; goes_on = sym (ap (λ (p : TestForm × Reading). p.1) same); form = subst R (ap (λ (p : TestForm × Reading). p.0) same) (by_id text w k) }
+plain_kind (Mark c) text w ws t r k e = plain_mark c text w ws t r k e
+plain_kind _ text w ws t r k e = absurd (none_some (t, r) e)
+
+plain_takes : (text : List ℕ) (w : Word) (ws : List Word) (t : TestForm) (r : Reading) → plain_from w (reading text ws) ≡ Some (t, r) → Found (Behind text w) text ws t r
+unfolding plain_from
+plain_takes text w ws t r e = plain_kind w.kind text w ws t r refl e
+
+-- ---- pseudo-classes
+
+record Closed (text : List ℕ) (ws : List Word) (close : Word) (rest : List Word) : Type 0 where
+  front : List Word
+  words : ws ≡ front ++ close ∷ rest
+  none : AllByRecursion (λ w. is_mark 41 w.kind ≡ false) front
+  kind : close.kind ≡ Mark 41
+
+closing_takes : (text : List ℕ) (ws : List Word) (close : Word) (rest : List Word) → closing ws ≡ Some (close, rest) → Closed text ws close rest
+unfolding closing
+closing_takes text [] close rest e = absurd (none_some (close, rest) e)
+closing_takes text (w ∷ ws) close rest e = by_case (chosen (is_mark 41 w.kind) (some_word w ws) (closing ws) (Some (close, rest)) e) (closing_takes text ws close rest)
+  where
+    some_word : Word → List Word → Option (Word × List Word)
+    some_word v vs = Some (v, vs)
+
+    by_case : ((is_mark 41 w.kind ≡ true) × (some_word w ws ≡ Some (close, rest))) ⊎ ((is_mark 41 w.kind ≡ false) × (closing ws ≡ Some (close, rest))) → (closing ws ≡ Some (close, rest) → Closed text ws close rest) → Closed text (w ∷ ws) close rest
+    by_case (inl h) further =
+        let same = some_is {A = Word × List Word} (w, ws) (close, rest) h.1 in
+        record { front = []; words = ap (λ (p : Word × List Word). p.0 ∷ p.1) same; none = tt; kind = ap (λ (p : Word × List Word). p.0.kind) (sym same) ∙ mark_kind 41 w.kind h.0 }
+    by_case (inr h) further =
+        let c = further h.1 in
+        record { front = w ∷ c.front; words = ap (λ (vs : List Word). w ∷ vs) c.words; none = (h.0, c.none); kind = c.kind }
+
+abbrev AfterColon : List ℕ → List Word → TestForm → Type 0
+AfterColon text front t = (colon : Word) → colon.kind ≡ Mark 58 → IsTest text (colon ∷ front) t
+
+-- what follows a function's word
+abbrev Called : List ℕ → Word → List Word → TestForm → Type 0
+Called text function front t = AfterColon text (function ∷ front) t
+
+nth_takes : (text : List ℕ) (function : Word) (ws : List Word) (kind : NthKind) (t : TestForm) (r : Reading) → function.kind ≡ Function → function.spaced ≡ false → nth_kind (function_of text function) ≡ Some kind → nth_at kind function.end (reading text ws) ≡ Some (t, r)
+    → Found (Called text function) text ws t r
+unfolding nth_at
+nth_takes text function ws kind t r k tight named e =
+    let b = bind_some (closing_at (reading text ws)) (λ close. nth_of (between text function.end close.0.start) >>= λ v. some_test (nth kind v.0 v.1) close.1) (t, r) e in
+    let a = bind_some (closing ws) (λ x. some_close x.0 (reading text x.1)) b.0 b.1 in
+    let at = some_is {A = Word × Reading} (a.0.0, reading text a.0.1) b.0 a.2 in
+    let c = closing_takes text ws a.0.0 a.0.1 a.1 in
+    let v = bind_some (nth_of (between text function.end b.0.0.start)) (λ v. some_test (nth kind v.0 v.1) b.0.1) (t, r) b.2 in
+    let same = some_is {A = TestForm × Reading} (nth kind v.0.0 v.0.1, b.0.1) (t, r) v.2 in
+    let value : nth_of (between text function.end a.0.0.start) ≡ Some v.0 = ap (λ (p : Word × Reading). nth_of (between text function.end p.0.start)) at ∙ v.1 in
+    let R : TestForm → Type 0 = λ x. Called text function (c.front ++ a.0.0 ∷ []) x in
+    record {
+      front = c.front ++ a.0.0 ∷ [];
+      rest = a.0.1;
+      words = c.words ∙ sym (append_assoc c.front (a.0.0 ∷ []) a.0.1);
+      goes_on = sym (ap (λ (p : TestForm × Reading). p.1) same) ∙ sym (ap (λ (p : Word × Reading). p.1) at);
+      form = subst R (ap (λ (p : TestForm × Reading). p.0) same)
+          (λ colon e'. by_nth text colon function a.0.0 c.front (colon ∷ function ∷ (c.front ++ a.0.0 ∷ [])) kind v.0.0 v.0.1 refl e' k tight named c.none c.kind value);
+    }
+  where
+    some_close : Word → Reading → Option (Word × Reading)
+    some_close w s = Some (w, s)
+
+lang_takes : (text : List ℕ) (function : Word) (ws : List Word) (t : TestForm) (r : Reading) → function.kind ≡ Function → function.spaced ≡ false → is_named (codes "lang") (function_of text function) ≡ true → lang_at (reading text ws) ≡ Some (t, r) → Found (Called text function) text ws t r
+unfolding lang_at
+lang_takes text function ws t r k tight named e =
+    let b = bind_some (tight_ident_at (reading text ws)) (λ i. tight_mark_at 41 i.1 >>= λ x. some_test never x) (t, r) e in
+    let n = tight_takes text ws b.0.0 b.0.1 b.1 in
+    let x = bind_some (tight_mark_at 41 b.0.1) (λ x. some_test never x) (t, r) b.2 in
+    let m = tight_mark_takes 41 text n.0.rest x.0 (ap (tight_mark_at 41) (sym n.0.goes_on) ∙ x.1) in
+    let same = some_is {A = TestForm × Reading} (never, x.0) (t, r) x.2 in
+    let R : TestForm → Type 0 = λ y. Called text function (n.0.w ∷ m.0.w ∷ []) y in
+    record {
+      front = n.0.w ∷ m.0.w ∷ [];
+      rest = m.0.rest;
+      words = n.0.words ∙ ap (λ (vs : List Word). n.0.w ∷ vs) m.0.words;
+      goes_on = sym (ap (λ (p : TestForm × Reading). p.1) same) ∙ m.0.goes_on;
+      form = subst R (ap (λ (p : TestForm × Reading). p.0) same) (λ colon e'. by_lang text colon function n.0.w m.0.w e' k tight named n.0.kind n.1 m.0.kind m.1);
+    }
+
+function_takes : (text : List ℕ) (function : Word) (ws : List Word) (t : TestForm) (r : Reading) → function.kind ≡ Function → function.spaced ≡ false → called_at function (reading text ws) ≡ Some (t, r) → Found (Called text function) text ws t r
+unfolding function_at
+function_takes text function ws t r k tight e =
+    by_case (chosen (is_named (codes "lang") (function_of text function)) (lang_at (reading text ws)) (nth_kind (function_of text function) >>= λ kind. nth_at kind function.end (reading text ws)) (Some (t, r)) e)
+  where
+    by_case : ((is_named (codes "lang") (function_of text function) ≡ true) × (lang_at (reading text ws) ≡ Some (t, r))) ⊎ ((is_named (codes "lang") (function_of text function) ≡ false) × ((nth_kind (function_of text function) >>= λ kind. nth_at kind function.end (reading text ws)) ≡ Some (t, r)))
+        → Found (Called text function) text ws t r
+    by_case (inl h) = lang_takes text function ws t r k tight h.0 h.1
+    by_case (inr h) =
+        let b = bind_some (nth_kind (function_of text function)) (λ kind. nth_at kind function.end (reading text ws)) (t, r) h.1 in
+        nth_takes text function ws b.0 t r k tight b.1 b.2
+
+with_rest_some : (o : Option TestForm) (s : Reading) (t : TestForm) (r : Reading) → with_rest o s ≡ Some (t, r) → (o ≡ Some t) × (r ≡ s)
+with_rest_some None s t r e = absurd (none_some (t, r) e)
+with_rest_some (Some x) s t r e =
+    let same = some_is {A = TestForm × Reading} (x, s) (t, r) e in
+    (ap (λ (p : TestForm × Reading). one p.0) same, sym (ap (λ (p : TestForm × Reading). p.1) same))
+  where
+    one : TestForm → Option TestForm
+    one y = Some y
+
+pseudo_kind : (k : WordKind) (text : List ℕ) (w : Word) (ws : List Word) (t : TestForm) (r : Reading) → w.kind ≡ k → w.spaced ≡ false → pseudo_by w (reading text ws) k ≡ Some (t, r) → Found (AfterColon text) text (w ∷ ws) t r
+pseudo_kind Ident text w ws t r k tight e =
+    let h = with_rest_some (pseudo_class (lower_of text w)) (reading text ws) t r e in
+    record { front = w ∷ []; rest = ws; words = refl; goes_on = h.1; form = λ colon e'. by_pseudo text colon w t e' k tight h.0 }
+pseudo_kind Function text w ws t r k tight e =
+    let f = function_takes text w ws t r k tight e in
+    record { front = w ∷ f.front; rest = f.rest; words = ap (λ (vs : List Word). w ∷ vs) f.words; goes_on = f.goes_on; form = f.form }
+pseudo_kind _ text w ws t r k tight e = absurd (none_some (t, r) e)
+
+pseudo_takes : (text : List ℕ) (ws : List Word) (t : TestForm) (r : Reading) → pseudo_at (reading text ws) ≡ Some (t, r) → Found (AfterColon text) text ws t r
+unfolding pseudo_at
+pseudo_takes text [] t r e = absurd (none_some (t, r) e)
+pseudo_takes text (w ∷ ws) t r e =
+    let h = failed_test w.spaced (pseudo_by w (reading text ws) w.kind) (t, r) e in
+    pseudo_kind w.kind text w ws t r refl h.0 h.1
+
+-- ---- parts of a compound
+
+-- what follows the first word of the argument of `:not`
+abbrev Argument : List ℕ → Word → List Word → TestForm → Type 0
+Argument text w front t = IsArgument text (w ∷ front) t
+
+plain_argument : (text : List ℕ) (w : Word) (ws : List Word) (t : TestForm) (r : Reading) → plain_from w (reading text ws) ≡ Some (t, r) → Found (Argument text w) text ws t r
+plain_argument text w ws t r e =
+    let f = plain_takes text w ws t r e in
+    record { front = f.front; rest = f.rest; words = f.words; goes_on = f.goes_on; form = a_test text (w ∷ f.front) t f.form }
+
+argument_colon : (c : ℕ) (text : List ℕ) (w : Word) (ws : List Word) (t : TestForm) (r : Reading) → w.kind ≡ Mark c → cond (c == 58) (pseudo_at (reading text ws)) (plain_from w (reading text ws)) ≡ Some (t, r) → Found (Argument text w) text ws t r
+argument_colon c text w ws t r k e = by_case (chosen (c == 58) (pseudo_at (reading text ws)) (plain_from w (reading text ws)) (Some (t, r)) e)
+  where
+    by_case : (((c == 58) ≡ true) × (pseudo_at (reading text ws) ≡ Some (t, r))) ⊎ (((c == 58) ≡ false) × (plain_from w (reading text ws) ≡ Some (t, r))) → Found (Argument text w) text ws t r
+    by_case (inl h) =
+        let f = pseudo_takes text ws t r h.1 in
+        record { front = f.front; rest = f.rest; words = f.words; goes_on = f.goes_on; form = a_test text (w ∷ f.front) t (f.form w (k ∙ ap (λ (n : ℕ). Mark n) (eqb-true c 58 h.0))) }
+    by_case (inr h) = plain_argument text w ws t r h.1
+
+argument_mark : (c : ℕ) (text : List ℕ) (w : Word) (ws : List Word) (t : TestForm) (r : Reading) → w.kind ≡ Mark c → argument_by w (reading text ws) (Mark c) ≡ Some (t, r) → Found (Argument text w) text ws t r
+argument_mark c text w ws t r k e = by_case (chosen (c == 42) (some_test any (reading text ws)) (cond (c == 58) (pseudo_at (reading text ws)) (plain_from w (reading text ws))) (Some (t, r)) e)
+  where
+    by_case : (((c == 42) ≡ true) × (some_test any (reading text ws) ≡ Some (t, r))) ⊎ (((c == 42) ≡ false) × (cond (c == 58) (pseudo_at (reading text ws)) (plain_from w (reading text ws)) ≡ Some (t, r))) → Found (Argument text w) text ws t r
+    by_case (inl h) =
+        let same = some_is {A = TestForm × Reading} (any, reading text ws) (t, r) h.1 in
+        let R : TestForm → Type 0 = λ x. IsArgument text (w ∷ []) x in
+        record { front = []; rest = ws; words = refl; goes_on = sym (ap (λ (p : TestForm × Reading). p.1) same); form = subst R (ap (λ (p : TestForm × Reading). p.0) same) (a_any text w (k ∙ ap (λ (n : ℕ). Mark n) (eqb-true c 42 h.0))) }
+    by_case (inr h) = argument_colon c text w ws t r k h.1
+
+argument_kind : (k : WordKind) (text : List ℕ) (w : Word) (ws : List Word) (t : TestForm) (r : Reading) → w.kind ≡ k → argument_by w (reading text ws) k ≡ Some (t, r) → Found (Argument text w) text ws t r
+argument_kind Ident text w ws t r k e =
+    let same = some_is {A = TestForm × Reading} (tag (value_of text w), reading text ws) (t, r) e in
+    let R : TestForm → Type 0 = λ x. IsArgument text (w ∷ []) x in
+    record { front = []; rest = ws; words = refl; goes_on = sym (ap (λ (p : TestForm × Reading). p.1) same); form = subst R (ap (λ (p : TestForm × Reading). p.0) same) (a_tag text w k) }
+argument_kind (Mark c) text w ws t r k e = argument_mark c text w ws t r k e
+argument_kind _ text w ws t r k e = plain_argument text w ws t r e
+
+argument_takes : (text : List ℕ) (ws : List Word) (t : TestForm) (r : Reading) → argument_at (reading text ws) ≡ Some (t, r) → Found (IsArgument text) text ws t r
+unfolding argument_from
+argument_takes text [] t r e = absurd (none_some (t, r) e)
+argument_takes text (w ∷ ws) t r e =
+    let f = argument_kind w.kind text w ws t r refl e in
+    record { front = w ∷ f.front; rest = f.rest; words = ap (λ (vs : List Word). w ∷ vs) f.words; goes_on = f.goes_on; form = f.form }
+
+-- what follows the colon of a part
+abbrev ItemBehind : List ℕ → List Word → Item → Type 0
+ItemBehind text front x = (colon : Word) → colon.kind ≡ Mark 58 → IsItem text (colon ∷ front) x
+
+abbrev some_item : Item → Reading → Option (Item × Reading)
+some_item x r = Some (x, r)
+
+item_is_some : (o : Option (TestForm × Reading)) (x : Item) (r : Reading) → item_is o ≡ Some (x, r) → (p : TestForm × Reading) × (o ≡ Some p) × ((is p.0 ∷ [], false) ≡ x) × (p.1 ≡ r)
+item_is_some None x r e = absurd (none_some (x, r) e)
+item_is_some (Some p) x r e =
+    let same = some_is {A = Item × Reading} ((is p.0 ∷ [], false), p.1) (x, r) e in
+    (p, refl, ap (λ (q : Item × Reading). q.0) same, ap (λ (q : Item × Reading). q.1) same)
+
+item_is_not_some : (o : Option (TestForm × Reading)) (x : Item) (r : Reading) → item_is_not o ≡ Some (x, r) → (p : TestForm × Reading) × (o ≡ Some p) × ((is_not p.0 ∷ [], false) ≡ x) × (p.1 ≡ r)
+item_is_not_some None x r e = absurd (none_some (x, r) e)
+item_is_not_some (Some p) x r e =
+    let same = some_is {A = Item × Reading} ((is_not p.0 ∷ [], false), p.1) (x, r) e in
+    (p, refl, ap (λ (q : Item × Reading). q.0) same, ap (λ (q : Item × Reading). q.1) same)
+
+not_takes : (text : List ℕ) (function : Word) (ws : List Word) (x : Item) (r : Reading) → function.kind ≡ Function → function.spaced ≡ false → is_named (codes "not") (function_of text function) ≡ true → item_is_not (not_at (reading text ws)) ≡ Some (x, r) → Found (ItemBehind text) text (function ∷ ws) x r
+unfolding not_at
+not_takes text function ws x r k tight named e =
+    let i = item_is_not_some (not_at (reading text ws)) x r e in
+    let b = bind_some (argument_at (reading text ws)) (λ t. take_mark 41 t.1 >>= λ s. some_test t.0 s) i.0 i.1 in
+    let a = argument_takes text ws b.0.0 b.0.1 b.1 in
+    let c = bind_some (take_mark 41 b.0.1) (λ s. some_test b.0.0 s) i.0 b.2 in
+    let m = mark_takes 41 text a.rest c.0 (ap (take_mark 41) (sym a.goes_on) ∙ c.1) in
+    let same = some_is {A = TestForm × Reading} (b.0.0, c.0) i.0 c.2 in
+    let front = function ∷ (a.front ++ m.w ∷ []) in
+    let R : Item → Type 0 = λ y. ItemBehind text front y in
+    record {
+      front = front;
+      rest = m.rest;
+      words = ap (λ (vs : List Word). function ∷ vs) (a.words ∙ ap (λ (vs : List Word). a.front ++ vs) m.words ∙ sym (append_assoc a.front (m.w ∷ []) m.rest));
+      goes_on = sym i.3 ∙ sym (ap (λ (p : TestForm × Reading). p.1) same) ∙ m.goes_on;
+      form = subst R (ap (λ (p : TestForm × Reading). item_not_of p.0) same ∙ i.2) (λ colon e'. item_not text colon function m.w a.front (colon ∷ front) b.0.0 refl e' k tight named a.form m.kind);
+    }
+  where
+    item_not_of : TestForm → Item
+    item_not_of t = (is_not t ∷ [], false)
+
+item_of_test : (text : List ℕ) (ws : List Word) (o : Option (TestForm × Reading)) (x : Item) (r : Reading) → ((t : TestForm) (s : Reading) → o ≡ Some (t, s) → Found (AfterColon text) text ws t s) → item_is o ≡ Some (x, r) → Found (ItemBehind text) text ws x r
+item_of_test text ws o x r takes e =
+    let i = item_is_some o x r e in
+    let f = takes i.0.0 i.0.1 i.1 in
+    let R : Item → Type 0 = λ y. ItemBehind text f.front y in
+    record { front = f.front; rest = f.rest; words = f.words; goes_on = sym i.3 ∙ f.goes_on; form = subst R i.2 (λ colon e'. item_test text (colon ∷ f.front) i.0.0 (f.form colon e')) }
+
+colon_ident : (text : List ℕ) (w : Word) (ws : List Word) (x : Item) (r : Reading) → w.kind ≡ Ident → w.spaced ≡ false → colon_named w (reading text ws) ≡ Some (x, r) → Found (ItemBehind text) text (w ∷ ws) x r
+colon_ident text w ws x r k tight e = by_case (chosen (is_element (lower_of text w)) (some_item ([], true) (reading text ws)) (item_is (named_at w (reading text ws))) (Some (x, r)) e)
+  where
+    named : (t : TestForm) (s : Reading) → named_at w (reading text ws) ≡ Some (t, s) → Found (AfterColon text) text (w ∷ ws) t s
+    named t s h = pseudo_kind Ident text w ws t s k tight h
+
+    by_case : ((is_element (lower_of text w) ≡ true) × (some_item ([], true) (reading text ws) ≡ Some (x, r))) ⊎ ((is_element (lower_of text w) ≡ false) × (item_is (named_at w (reading text ws)) ≡ Some (x, r))) → Found (ItemBehind text) text (w ∷ ws) x r
+    by_case (inl h) =
+        let same = some_is {A = Item × Reading} (([], true), reading text ws) (x, r) h.1 in
+        let R : Item → Type 0 = λ y. ItemBehind text (w ∷ []) y in
+        record { front = w ∷ []; rest = ws; words = refl; goes_on = sym (ap (λ (p : Item × Reading). p.1) same); form = subst R (ap (λ (p : Item × Reading). p.0) same) (λ colon e'. item_element text (colon ∷ w ∷ []) (one_colon text colon w e' k tight h.0)) }
+    by_case (inr h) = item_of_test text (w ∷ ws) (named_at w (reading text ws)) x r named h.1
+
+colon_function : (text : List ℕ) (w : Word) (ws : List Word) (x : Item) (r : Reading) → w.kind ≡ Function → w.spaced ≡ false → colon_called w (reading text ws) ≡ Some (x, r) → Found (ItemBehind text) text (w ∷ ws) x r
+colon_function text w ws x r k tight e = by_case (chosen (is_named (codes "not") (function_of text w)) (item_is_not (not_at (reading text ws))) (item_is (called_at w (reading text ws))) (Some (x, r)) e)
+  where
+    called : (t : TestForm) (s : Reading) → called_at w (reading text ws) ≡ Some (t, s) → Found (AfterColon text) text (w ∷ ws) t s
+    called t s h = pseudo_kind Function text w ws t s k tight h
+
+    by_case : ((is_named (codes "not") (function_of text w) ≡ true) × (item_is_not (not_at (reading text ws)) ≡ Some (x, r))) ⊎ ((is_named (codes "not") (function_of text w) ≡ false) × (item_is (called_at w (reading text ws)) ≡ Some (x, r))) → Found (ItemBehind text) text (w ∷ ws) x r
+    by_case (inl h) = not_takes text w ws x r k tight h.0 h.1
+    by_case (inr h) = item_of_test text (w ∷ ws) (called_at w (reading text ws)) x r called h.1
+
+element_takes : (text : List ℕ) (second : Word) (ws : List Word) (x : Item) (r : Reading) → second.kind ≡ Mark 58 → second.spaced ≡ false → element_at (reading text ws) ≡ Some (x, r) → Found (ItemBehind text) text (second ∷ ws) x r
+unfolding element_at
+element_takes text second ws x r k tight e =
+    let b = bind_some (tight_ident_at (reading text ws)) (λ n. cond (is_element (map to_ascii_lowercase n.0)) (some_item ([], true) n.1) None) (x, r) e in
+    let n = tight_takes text ws b.0.0 b.0.1 b.1 in
+    let h = passed_test (is_element (map to_ascii_lowercase b.0.0)) (some_item ([], true) b.0.1) (x, r) b.2 in
+    let same = some_is {A = Item × Reading} (([], true), b.0.1) (x, r) h.1 in
+    let named : is_element (lower_of text n.0.w) ≡ true = ap (λ (v : List ℕ). is_element (map to_ascii_lowercase v)) n.0.value ∙ h.0 in
+    let R : Item → Type 0 = λ y. ItemBehind text (second ∷ n.0.w ∷ []) y in
+    record {
+      front = second ∷ n.0.w ∷ [];
+      rest = n.0.rest;
+      words = ap (λ (vs : List Word). second ∷ vs) n.0.words;
+      goes_on = sym (ap (λ (p : Item × Reading). p.1) same) ∙ n.0.goes_on;
+      form = subst R (ap (λ (p : Item × Reading). p.0) same) (λ colon e'. item_element text (colon ∷ second ∷ n.0.w ∷ []) (two_colons text colon second n.0.w e' k tight n.0.kind n.1 named));
+    }
+
+colon_kind : (k : WordKind) (text : List ℕ) (w : Word) (ws : List Word) (x : Item) (r : Reading) → w.kind ≡ k → w.spaced ≡ false → colon_by w (reading text ws) k ≡ Some (x, r) → Found (ItemBehind text) text (w ∷ ws) x r
+colon_kind Ident text w ws x r k tight e = colon_ident text w ws x r k tight e
+colon_kind Function text w ws x r k tight e = colon_function text w ws x r k tight e
+colon_kind (Mark c) text w ws x r k tight e =
+    let h = passed_test (c == 58) (element_at (reading text ws)) (x, r) e in
+    element_takes text w ws x r (k ∙ ap (λ (n : ℕ). Mark n) (eqb-true c 58 h.0)) tight h.1
+colon_kind _ text w ws x r k tight e = absurd (none_some (x, r) e)
+
+colon_takes : (text : List ℕ) (ws : List Word) (x : Item) (r : Reading) → colon_at (reading text ws) ≡ Some (x, r) → Found (ItemBehind text) text ws x r
+unfolding colon_at
+colon_takes text [] x r e = absurd (none_some (x, r) e)
+colon_takes text (w ∷ ws) x r e =
+    let h = failed_test w.spaced (colon_by w (reading text ws) w.kind) (x, r) e in
+    colon_kind w.kind text w ws x r refl h.0 h.1
+
+abbrev ItemFrom : List ℕ → Word → List Word → Item → Type 0
+ItemFrom text w front x = IsItem text (w ∷ front) x
+
+item_takes : (text : List ℕ) (w : Word) (ws : List Word) (x : Item) (r : Reading) → item_from w (reading text ws) ≡ Some (x, r) → Found (ItemFrom text w) text ws x r
+unfolding item_from
+item_takes text w ws x r e = by_case (chosen (is_mark 58 w.kind) (colon_at (reading text ws)) (item_is (plain_from w (reading text ws))) (Some (x, r)) e)
+  where
+    by_case : ((is_mark 58 w.kind ≡ true) × (colon_at (reading text ws) ≡ Some (x, r))) ⊎ ((is_mark 58 w.kind ≡ false) × (item_is (plain_from w (reading text ws)) ≡ Some (x, r))) → Found (ItemFrom text w) text ws x r
+    by_case (inl h) =
+        let f = colon_takes text ws x r h.1 in
+        record { front = f.front; rest = f.rest; words = f.words; goes_on = f.goes_on; form = f.form w (mark_kind 58 w.kind h.0) }
+    by_case (inr h) =
+        let i = item_is_some (plain_from w (reading text ws)) x r h.1 in
+        let f = plain_takes text w ws i.0.0 i.0.1 i.1 in
+        let R : Item → Type 0 = λ y. IsItem text (w ∷ f.front) y in
+        record { front = f.front; rest = f.rest; words = f.words; goes_on = sym i.3 ∙ f.goes_on; form = subst R i.2 (item_test text (w ∷ f.front) i.0.0 f.form) }
+
+abbrev FirstFrom : List ℕ → Word → List Word → Item → Type 0
+FirstFrom text w front x = IsFirst text (w ∷ front) x
+
+first_item_takes : (text : List ℕ) (w : Word) (ws : List Word) (x : Item) (r : Reading) → item_from w (reading text ws) ≡ Some (x, r) → Found (FirstFrom text w) text ws x r
+first_item_takes text w ws x r e =
+    let f = item_takes text w ws x r e in
+    record { front = f.front; rest = f.rest; words = f.words; goes_on = f.goes_on; form = first_item text (w ∷ f.front) x f.form }
+
+first_kind : (k : WordKind) (text : List ℕ) (w : Word) (ws : List Word) (x : Item) (r : Reading) → w.kind ≡ k → first_by w (reading text ws) k ≡ Some (x, r) → Found (FirstFrom text w) text ws x r
+first_kind Ident text w ws x r k e =
+    let same = some_is {A = Item × Reading} ((is (tag (value_of text w)) ∷ [], false), reading text ws) (x, r) e in
+    let R : Item → Type 0 = λ y. IsFirst text (w ∷ []) y in
+    record { front = []; rest = ws; words = refl; goes_on = sym (ap (λ (p : Item × Reading). p.1) same); form = subst R (ap (λ (p : Item × Reading). p.0) same) (first_tag text w k) }
+first_kind (Mark c) text w ws x r k e = by_case (chosen (c == 42) (some_item (is any ∷ [], false) (reading text ws)) (item_from w (reading text ws)) (Some (x, r)) e)
+  where
+    by_case : (((c == 42) ≡ true) × (some_item (is any ∷ [], false) (reading text ws) ≡ Some (x, r))) ⊎ (((c == 42) ≡ false) × (item_from w (reading text ws) ≡ Some (x, r))) → Found (FirstFrom text w) text ws x r
+    by_case (inl h) =
+        let same = some_is {A = Item × Reading} ((is any ∷ [], false), reading text ws) (x, r) h.1 in
+        let R : Item → Type 0 = λ y. IsFirst text (w ∷ []) y in
+        record { front = []; rest = ws; words = refl; goes_on = sym (ap (λ (p : Item × Reading). p.1) same); form = subst R (ap (λ (p : Item × Reading). p.0) same) (first_any text w (k ∙ ap (λ (n : ℕ). Mark n) (eqb-true c 42 h.0))) }
+    by_case (inr h) = first_item_takes text w ws x r h.1
+first_kind _ text w ws x r k e = first_item_takes text w ws x r e
+
+first_takes : (text : List ℕ) (ws : List Word) (x : Item) (r : Reading) → first_at (reading text ws) ≡ Some (x, r) → Found (IsFirst text) text ws x r
+unfolding first_from
+first_takes text [] x r e = absurd (none_some (x, r) e)
+first_takes text (w ∷ ws) x r e =
+    let f = first_kind w.kind text w ws x r refl e in
+    record { front = w ∷ f.front; rest = f.rest; words = ap (λ (vs : List Word). w ∷ vs) f.words; goes_on = f.goes_on; form = f.form }
+
+-- ---- parts one behind the other
+
+abbrev pub Parts : Type 0 → Type 0
+Parts X = Option ((List X × Bool) × Reading)
+
+-- a run of parts stands in front, and behind it no part follows
+pub record FoundRun {X : Type 0} (ends : Reading → Bool) (R : List Word → List X × Bool → Type 0) (text : List ℕ) (element : Bool) (ws : List Word) (x : List X × Bool) (r : Reading) : Type 0 where
+  pub front : List Word
+  pub rest : List Word
+  pub words : ws ≡ front ++ rest
+  pub goes_on : r ≡ reading text rest
+  pub form : Run R element front x
+  pub stop : ends r ≡ true
+
+with_front_some : {X : Type 0} (front : List X) (o : Parts X) (x : List X × Bool) (r : Reading) → with_front front o ≡ Some (x, r) → (z : (List X × Bool) × Reading) × (o ≡ Some z) × ((front ++ z.0.0, z.0.1) ≡ x) × (z.1 ≡ r)
+with_front_some front None x r e = absurd (none_some (x, r) e)
+with_front_some {X = X} front (Some z) x r e =
+    let same = some_is {A = (List X × Bool) × Reading} ((front ++ z.0.0, z.0.1), z.1) (x, r) e in
+    (z, refl, ap (λ (p : (List X × Bool) × Reading). p.0) same, ap (λ (p : (List X × Bool) × Reading). p.1) same)
+
+pub many_takes : {X : Type 0} (ends : Reading → Bool) (read : Reading → Parts X) (R : List Word → List X × Bool → Type 0) (text : List ℕ)
+    → ((ws : List Word) (x : List X × Bool) (r : Reading) → ends (reading text ws) ≡ false → read (reading text ws) ≡ Some (x, r) → Found R text ws x r)
+    → (fuel : ℕ) (element : Bool) (ws : List Word) (x : List X × Bool) (r : Reading) → many_in ends read fuel element (reading text ws) ≡ Some (x, r) → FoundRun ends R text element ws x r
+unfolding many_in
+many_takes ends read R text takes zero element ws x r e = absurd (none_some (x, r) e)
+many_takes {X = X} ends read R text takes (suc n) element ws x r e =
+    by_case (chosen (ends (reading text ws)) (some_part ([], element) (reading text ws)) (cond element None (read (reading text ws) >>= λ y. with_front y.0.0 (many_in ends read n y.0.1 y.1))) (Some (x, r)) e)
+    (λ el vs y s h. many_takes ends read R text takes n el vs y s h)
+  where
+    some_part : List X × Bool → Reading → Parts X
+    some_part y s = Some (y, s)
+
+    by_case : ((ends (reading text ws) ≡ true) × (some_part ([], element) (reading text ws) ≡ Some (x, r))) ⊎ ((ends (reading text ws) ≡ false) × (cond element None (read (reading text ws) >>= λ y. with_front y.0.0 (many_in ends read n y.0.1 y.1)) ≡ Some (x, r)))
+        → ((el : Bool) (vs : List Word) (y : List X × Bool) (s : Reading) → many_in ends read n el (reading text vs) ≡ Some (y, s) → FoundRun ends R text el vs y s) → FoundRun ends R text element ws x r
+    by_case (inl h) further =
+        let same = some_is {A = (List X × Bool) × Reading} (([], element), reading text ws) (x, r) h.1 in
+        let F : List X × Bool → Type 0 = λ y. Run R element [] y in
+        record {
+          front = [];
+          rest = ws;
+          words = refl;
+          goes_on = sym (ap (λ (p : (List X × Bool) × Reading). p.1) same);
+          form = subst F (ap (λ (p : (List X × Bool) × Reading). p.0) same) (done element);
+          stop = ap (λ (p : (List X × Bool) × Reading). ends p.1) (sym same) ∙ h.0;
+        }
+    by_case (inr h) further =
+        let t = failed_test element (read (reading text ws) >>= λ y. with_front y.0.0 (many_in ends read n y.0.1 y.1)) (x, r) h.1 in
+        let b = bind_some (read (reading text ws)) (λ y. with_front y.0.0 (many_in ends read n y.0.1 y.1)) (x, r) t.1 in
+        let f = takes ws b.0.0 b.0.1 h.0 b.1 in
+        let z = with_front_some b.0.0.0 (many_in ends read n b.0.0.1 b.0.1) x r b.2 in
+        let g = further b.0.0.1 f.rest z.0.0 z.0.1 (ap (λ (s : Reading). many_in ends read n b.0.0.1 s) (sym f.goes_on) ∙ z.1) in
+        let E : Bool → Type 0 = λ v. Run R v (f.front ++ g.front) x in
+        let F : List X × Bool → Type 0 = λ y. Run R false (f.front ++ g.front) y in
+        record {
+          front = f.front ++ g.front;
+          rest = g.rest;
+          words = f.words ∙ ap (λ (vs : List Word). f.front ++ vs) g.words ∙ sym (append_assoc f.front g.front g.rest);
+          goes_on = sym z.3 ∙ g.goes_on;
+          form = subst E (sym t.0) (subst F z.2 (more f.front g.front (f.front ++ g.front) b.0.0 z.0.0 refl f.form g.form));
+          stop = ap ends (sym z.3) ∙ g.stop;
+        }
+
+-- ---- compounds
+
+or_false : (a b : Bool) → (a || b) ≡ false → a ≡ false
+or_false false b e = refl
+or_false true b e = absurd (cc)
+
+next_item_takes : (text : List ℕ) (ws : List Word) (x : Item) (r : Reading) → ends_compound (reading text ws) ≡ false → item_at (reading text ws) ≡ Some (x, r) → Found (IsNextItem text) text ws x r
+next_item_takes text [] x r go e = absurd (none_some (x, r) e)
+next_item_takes text (w ∷ ws) x r go e =
+    let f = item_takes text w ws x r e in
+    record { front = w ∷ f.front; rest = f.rest; words = ap (λ (vs : List Word). w ∷ vs) f.words; goes_on = f.goes_on; form = (or_false w.spaced (is_some (combinator_of w.kind)) go, f.form) }
+
+record FoundCompound (text : List ℕ) (joint : Joint) (ws : List Word) (x : Joined) (r : Reading) : Type 0 where
+  front : List Word
+  rest : List Word
+  item : Item
+  words : ws ≡ front ++ rest
+  goes_on : r ≡ reading text rest
+  form : IsCompound text front item
+  whole : x ≡ (compound_form joint item.0 ∷ [], item.1)
+  stop : ends_compound r ≡ true
+
+compound_of_some : (joint : Joint) (o : Option (Item × Reading)) (x : Joined) (r : Reading) → compound_of joint o ≡ Some (x, r) → (z : Item × Reading) × (o ≡ Some z) × ((compound_form joint z.0.0 ∷ [], z.0.1) ≡ x) × (z.1 ≡ r)
+compound_of_some joint None x r e = absurd (none_some (x, r) e)
+compound_of_some joint (Some z) x r e =
+    let same = some_is {A = Joined × Reading} ((compound_form joint z.0.0 ∷ [], z.0.1), z.1) (x, r) e in
+    (z, refl, ap (λ (p : Joined × Reading). p.0) same, ap (λ (p : Joined × Reading). p.1) same)
+
+compound_takes : (text : List ℕ) (joint : Joint) (ws : List Word) (x : Joined) (r : Reading) → compound_at joint (reading text ws) ≡ Some (x, r) → FoundCompound text joint ws x r
+unfolding compound_at tests_at
+compound_takes text joint ws x r e =
+    let b = bind_some (first_at (reading text ws)) (λ first. compound_of joint (with_front first.0.0 (tests_at first.0.1 first.1))) (x, r) e in
+    let f = first_takes text ws b.0.0 b.0.1 b.1 in
+    let c = compound_of_some joint (with_front b.0.0.0 (tests_at b.0.0.1 b.0.1)) x r b.2 in
+    let z = with_front_some b.0.0.0 (tests_at b.0.0.1 b.0.1) c.0.0 c.0.1 c.1 in
+    let g = many_takes ends_compound item_at (IsNextItem text) text (next_item_takes text) (suc (length f.rest)) b.0.0.1 f.rest z.0.0 z.0.1 (ap (λ (s : Reading). tests_at b.0.0.1 s) (sym f.goes_on) ∙ z.1) in
+    record {
+      front = f.front ++ g.front;
+      rest = g.rest;
+      item = c.0.0;
+      words = f.words ∙ ap (λ (vs : List Word). f.front ++ vs) g.words ∙ sym (append_assoc f.front g.front g.rest);
+      goes_on = sym c.3 ∙ sym z.3 ∙ g.goes_on;
+      form = record { front = f.front; rest = g.front; first = b.0.0; others = z.0.0; words = refl; is_first = f.form; run = g.form; whole = sym z.2 };
+      whole = sym c.2;
+      stop = ap ends_compound (sym (z.3 ∙ c.3)) ∙ g.stop;
+    }
+
+joint_cases : (text : List ℕ) (w : Word) (ws : List Word) (joint : Joint) (r : Reading) (o : Option Joint) (b : Bool) → combinator_of w.kind ≡ o → w.spaced ≡ b → joint_of (reading text (w ∷ ws)) (reading text ws) o b ≡ Some (joint, r)
+    → ((combinator_of w.kind ≡ Some joint) × (r ≡ reading text ws)) ⊎ ((w.spaced ≡ true) × (joint ≡ joints.Descendant) × (r ≡ reading text (w ∷ ws)))
+joint_cases text w ws joint r (Some j) b k s e =
+    let same = some_is {A = Joint × Reading} (j, reading text ws) (joint, r) e in
+    inl (k ∙ ap (λ (p : Joint × Reading). one p.0) same, sym (ap (λ (p : Joint × Reading). p.1) same))
+  where
+    one : Joint → Option Joint
+    one x = Some x
+joint_cases text w ws joint r None true k s e =
+    let same = some_is {A = Joint × Reading} (joints.Descendant, reading text (w ∷ ws)) (joint, r) e in
+    inr (s, sym (ap (λ (p : Joint × Reading). p.0) same), sym (ap (λ (p : Joint × Reading). p.1) same))
+joint_cases text w ws joint r None false k s e = absurd (none_some (joint, r) e)
+
+-- the first word of a compound's words
+record Begins (front : List Word) : Type 0 where
+  w : Word
+  tail : List Word
+  words : front ≡ w ∷ tail
+
+compound_begins : (text : List ℕ) (front : List Word) (x : Item) → IsCompound text front x → Begins front
+compound_begins text front x c =
+    let r = first_begins text c.front c.first c.is_first in
+    record { w = r.0; tail = r.1 ++ c.rest; words = c.words ∙ ap (λ (vs : List Word). vs ++ c.rest) r.2 }
+
+white_joined : (text : List ℕ) (w : Word) (ws front rest : List Word) (joint : Joint) → w ∷ ws ≡ front ++ rest → Begins front → w.spaced ≡ true → joint ≡ joints.Descendant → IsCombinator [] front joint
+white_joined text w ws front rest joint words b spaced is_white =
+    let F : List Word → Type 0 = λ vs. IsCombinator [] vs joint in
+    let J : Joint → Type 0 = λ j. IsCombinator [] (b.w ∷ b.tail) j in
+    let first : w.spaced ≡ b.w.spaced = ap first_spaced (words ∙ ap (λ (vs : List Word). vs ++ rest) b.words) in
+    subst F (sym b.words) (subst J (sym is_white) (white b.w b.tail (sym first ∙ spaced)))
+
+joined_takes : (text : List ℕ) (ws : List Word) (x : Joined) (r : Reading) → ends_selector (reading text ws) ≡ false → joined_at (reading text ws) ≡ Some (x, r) → Found (IsJoined text) text ws x r
+unfolding joined_at joint_at
+joined_takes text [] x r go e = absurd (none_some (x, r) e)
+joined_takes text (w ∷ ws) x r go e =
+    let b = bind_some (joint_at (reading text (w ∷ ws))) (λ j. compound_at j.0 j.1) (x, r) e in
+    by_case b.0.0 b.0.1 b.2 (joint_cases text w ws b.0.0 b.0.1 (combinator_of w.kind) w.spaced refl refl b.1)
+  where
+    by_case : (joint : Joint) (s : Reading) → compound_at joint s ≡ Some (x, r) → ((combinator_of w.kind ≡ Some joint) × (s ≡ reading text ws)) ⊎ ((w.spaced ≡ true) × (joint ≡ joints.Descendant) × (s ≡ reading text (w ∷ ws))) → Found (IsJoined text) text (w ∷ ws) x r
+    by_case joint s found (inl h) =
+        let c = compound_takes text joint ws x r (ap (λ (q : Reading). compound_at joint q) (sym h.1) ∙ found) in
+        record {
+          front = w ∷ c.front;
+          rest = c.rest;
+          words = ap (λ (vs : List Word). w ∷ vs) c.words;
+          goes_on = c.goes_on;
+          form = record { combinator = w ∷ []; compound = c.front; joint = joint; item = c.item; words = refl; is_combinator = mark w c.front joint h.0; is_compound = c.form; whole = c.whole };
+        }
+    by_case joint s found (inr h) =
+        let c = compound_takes text joint (w ∷ ws) x r (ap (λ (q : Reading). compound_at joint q) (sym h.2) ∙ found) in
+        record {
+          front = c.front;
+          rest = c.rest;
+          words = c.words;
+          goes_on = c.goes_on;
+          form = record { combinator = []; compound = c.front; joint = joint; item = c.item; words = refl; is_combinator = white_joined text w ws c.front c.rest joint c.words (compound_begins text c.front c.item c.form) h.0 h.1; is_compound = c.form; whole = c.whole };
+        }
+
+-- ---- selectors and lists
+
+no_more : (ws : List Word) → is_over ws ≡ true → ws ≡ []
+no_more [] e = refl
+no_more (w ∷ ws) e = absurd (cc)
+
+selector_takes : (text : List ℕ) (all : List Word) (s : SelectorForm) → selector_of (reading text all) ≡ Some s → IsSelector text all s
+unfolding selector_of joined_of compounds_at
+selector_takes text all s e =
+    let a = bind_some (range_of all) (λ range. joined_of (reading text all) >>= λ whole. some_selector (selector_form range whole.0)) s e in
+    let b = bind_some (joined_of (reading text all)) (λ whole. some_selector (selector_form a.0 whole.0)) s a.2 in
+    let is_s = some_is {A = SelectorForm} (selector_form a.0 b.0.0) s b.2 in
+    let c = bind_some (compound_at joints.Descendant (reading text all)) (λ first. with_front first.0.0 (compounds_at first.0.1 first.1)) b.0 b.1 in
+    let k = compound_takes text joints.Descendant all c.0.0 c.0.1 c.1 in
+    let z = with_front_some c.0.0.0 (compounds_at c.0.0.1 c.0.1) b.0.0 b.0.1 c.2 in
+    let g = many_takes ends_selector joined_at (IsJoined text) text (joined_takes text) (suc (length k.rest)) c.0.0.1 k.rest z.0.0 z.0.1 (ap (λ (q : Reading). compounds_at c.0.0.1 q) (sym k.goes_on) ∙ z.1) in
+    let over : g.rest ≡ [] = no_more g.rest (ap ends_selector (sym g.goes_on) ∙ g.stop) in
+    let B : Bool → Type 0 = λ v. Run (IsJoined text) v g.front z.0.0 in
+    let cs : b.0.0.0 ≡ compound_form joints.Descendant k.item.0 ∷ z.0.0.0 = ap (λ (j : Joined). j.0) (sym z.2) ∙ ap (λ (j : Joined). j.0 ++ z.0.0.0) k.whole in
+    record {
+      compound = k.front;
+      rest = g.front;
+      first = k.item;
+      others = z.0.0;
+      words = k.words ∙ ap (λ (vs : List Word). k.front ++ vs) (g.words ∙ ap (λ (vs : List Word). g.front ++ vs) over ∙ append-nil g.front);
+      is_compound = k.form;
+      run = subst B (ap (λ (j : Joined). j.1) k.whole) g.form;
+      compounds = ap (λ (f : SelectorForm). f.compounds) (sym is_s) ∙ cs;
+      element = ap (λ (f : SelectorForm). f.pseudo_element) (sym is_s) ∙ ap (λ (j : Joined). j.1) (sym z.2);
+      range = a.1 ∙ ap (λ (f : SelectorForm). some_range f.range) is_s;
+    }
+  where
+    some_selector : SelectorForm → Option SelectorForm
+    some_selector x = Some x
+
+    some_range : Range → Option Range
+    some_range x = Some x
+
+put_before_some : (s : SelectorForm) (o : Option (List SelectorForm)) (ss : List SelectorForm) → put_before s o ≡ Some ss → (xs : List SelectorForm) × (o ≡ Some xs) × ((s ∷ xs) ≡ ss)
+put_before_some s None ss e = absurd (none_some ss e)
+put_before_some s (Some xs) ss e = (xs, refl, some_is (s ∷ xs) ss e)
+
+list_takes : (text : List ℕ) (segs : List (List Word)) (ss : List SelectorForm) → selectors_in text segs ≡ Some ss → AreSelectors text segs ss
+unfolding selectors_in
+list_takes text [] ss e =
+    let P : List SelectorForm → Type 0 = λ xs. AreSelectors text [] xs in
+    subst P (some_is [] ss e) tt
+list_takes text (own ∷ others) ss e =
+    let b = bind_some (selector_of (reading text own)) (λ s. put_before s (selectors_in text others)) ss e in
+    let p = put_before_some b.0 (selectors_in text others) ss b.2 in
+    let P : List SelectorForm → Type 0 = λ xs. AreSelectors text (own ∷ others) xs in
+    subst P p.2 (selector_takes text own b.0 b.1, list_takes text others p.0 p.1)
+
+pub grammar_spells : (text : List ℕ) (ss : List SelectorForm) → selectors_of text ≡ Some ss → IsSelectorList text ss
+grammar_spells text ss h = list_takes text (segments (words_of text)) ss h
+
+-- the list that was read is spelled
+pub read_is_spelled : (r : Result SelectorList SelErr) (text : List ℕ) → Gives list_seen r (selectors_of text) → IfOk r (λ l. IsSelectorList text (list_seen l))
+read_is_spelled (Ok l) text read = grammar_spells text (list_seen l) read
+read_is_spelled (Err e) text read = tt

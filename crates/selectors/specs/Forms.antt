@@ -1,0 +1,80 @@
+-- Selectors without where they lie in memory.
+use Rattle.std.specs.Prelude.{◌≡◌, ℕ, ℤ, Bool, List, map, Option, Some, None, Result, Ok, Err, string_bytes}
+use Rattle.css_tokens.specs.declared.token.Range.{Range}
+use Rattle.selectors.specs.declared.selector.SelErr.{SelErr}
+use Rattle.selectors.specs.declared.selector.SelErr.TheVariants.{Invalid, Memory}
+use Rattle.selectors.specs.declared.selector.Joint.{Joint}
+use Rattle.selectors.specs.declared.selector.AttrOp.{AttrOp}
+use Rattle.selectors.specs.declared.selector.NthKind.{NthKind}
+use Rattle.selectors.specs.declared.selector.Test.{Test}
+use Rattle.selectors.specs.declared.selector.Test.TheVariants as tests
+use Rattle.selectors.specs.declared.selector.Simple.{Simple}
+use Rattle.selectors.specs.declared.selector.Simple.TheVariants as simples
+use Rattle.selectors.specs.declared.selector.Compound.{Compound}
+use Rattle.selectors.specs.declared.selector.Selector.{Selector}
+
+pub data TestForm : Type 0 where
+  any : TestForm
+  tag : List ℕ → TestForm
+  id : List ℕ → TestForm
+  class : List ℕ → TestForm
+  attr : List ℕ → AttrOp → List ℕ → TestForm
+  root : TestForm
+  empty : TestForm
+  nth : NthKind → ℤ → ℤ → TestForm
+  only_child : TestForm
+  only_of_type : TestForm
+  never : TestForm
+
+pub data SimpleForm : Type 0 where
+  is : TestForm → SimpleForm
+  is_not : TestForm → SimpleForm
+
+pub record CompoundForm : Type 0 where
+  pub joint : Joint
+  pub tests : List SimpleForm
+
+pub record SelectorForm : Type 0 where
+  pub compounds : List CompoundForm
+  pub pseudo_element : Bool
+  pub range : Range
+
+abbrev pub test_seen : Test → TestForm
+test_seen tests.Any = any
+test_seen (tests.Tag name) = tag (string_bytes name)
+test_seen (tests.Id name) = id (string_bytes name)
+test_seen (tests.Class name) = class (string_bytes name)
+test_seen (tests.Attr name op operand) = attr (string_bytes name) op (string_bytes operand)
+test_seen tests.Root = root
+test_seen tests.Empty = empty
+test_seen (tests.Nth kind step offset) = nth kind step offset
+test_seen tests.OnlyChild = only_child
+test_seen tests.OnlyOfType = only_of_type
+test_seen tests.Never = never
+
+abbrev pub simple_seen : Simple → SimpleForm
+simple_seen (simples.Is t) = is (test_seen t)
+simple_seen (simples.Not t) = is_not (test_seen t)
+
+abbrev pub compound_form : Joint → List SimpleForm → CompoundForm
+compound_form joint tests = record { joint = joint; tests = tests }
+
+abbrev pub compound_seen : Compound → CompoundForm
+compound_seen c = compound_form c.joint (map simple_seen c.tests.items)
+
+abbrev pub selector_seen : Selector → SelectorForm
+selector_seen s = record { compounds = map compound_seen s.compounds.items; pseudo_element = s.pseudo_element; range = s.range }
+
+infixl 10 ◌>>=◌
+abbrev pub ◌>>=◌ : {A B : Type 0} → Option A → (A → Option B) → Option B
+None >>= f = None
+(Some x) >>= f = f x
+
+-- What a function returned, seen by view, is what reading gives, unless memory ran out.
+abbrev pub Fails : {Y : Type 0} → SelErr → Option Y → Type 0
+Fails Memory read = Unit {0}
+Fails Invalid read = read ≡ None
+
+abbrev pub Gives : {X Y : Type 0} → (X → Y) → Result X SelErr → Option Y → Type 0
+Gives view (Ok x) read = read ≡ Some (view x)
+Gives view (Err e) read = Fails e read

@@ -1,0 +1,22 @@
+-- A selector list as its selectors.
+use Rattle.std.specs.Prelude.{ℕ, ◌+◌, ◌-◌, ◌^◌, ◌<◌, ◌≤◌, List, map}
+use Rattle.css_tokens.specs.declared.token.Range.{Range}
+use Rattle.selectors.specs.declared.selector.SelectorList.{SelectorList}
+use Rattle.selectors.specs.Forms.{SelectorForm, selector_seen}
+
+abbrev pub list_seen : SelectorList → List SelectorForm
+list_seen l = map selector_seen l.list.items
+
+-- the place that lies behind `to` as this one lies behind `from`
+abbrev pub moved : ℕ → ℕ → ℕ → ℕ
+moved from to place = place - from + to
+
+abbrev pub moved_range : ℕ → ℕ → Range → Range
+moved_range from to range = record { start = moved from to range.start; end = moved from to range.end }
+
+abbrev pub moved_selector : ℕ → ℕ → SelectorForm → SelectorForm
+moved_selector from to s = record { compounds = s.compounds; pseudo_element = s.pseudo_element; range = moved_range from to s.range }
+
+-- both places lie at or behind `from`, and where they are moved to are places
+abbrev pub CanMove : ℕ → ℕ → Range → Type 0
+CanMove from to range = (from ≤ range.start) × (from ≤ range.end) × (moved from to range.start < 2 ^ 64) × (moved from to range.end < 2 ^ 64)

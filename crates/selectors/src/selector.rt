@@ -1,0 +1,169 @@
+//! Selectors as they are read.
+
+ghost use Rattle.std.specs.Prelude.{◌≡◌};
+ghost use Rattle.selectors.specs.Lists.{moved_range, CanMove};
+
+use css_tokens::Range;
+use std::alloc::AllocError;
+use thiserror::Error;
+
+#[derive(Clone, Copy, PartialEq, Eq, Debug, Error)]
+pub enum SelErr {
+    #[error("the text spells no selector list")]
+    Invalid,
+    #[error("out of memory")]
+    Memory,
+}
+
+impl From<AllocError> for SelErr {
+    ghost use Rattle.std.specs.Prelude.{◌≡◌};
+    ghost use Rattle.selectors.specs.declared.selector.SelErr.TheVariants.{Memory};
+
+    ghost from_gives = { λ _ e. e ≡ Memory };
+
+    fn from(_: AllocError) -> SelErr {
+        SelErr::Memory
+    }
+}
+
+/// What ties a compound to the one on its left (Selectors 3, section 8).
+#[derive(Clone, Copy, PartialEq, Eq, Debug)]
+pub enum Joint {
+    /// White space. The first compound of a selector has this joint too.
+    Descendant,
+    /// `>`
+    Child,
+    /// `+`
+    Next,
+    /// `~`
+    Later,
+}
+
+/// How an attribute selector compares (Selectors 3, section 6.3).
+#[derive(Clone, Copy, PartialEq, Eq, Debug)]
+pub enum AttrOp {
+    /// No operator: the attribute is there.
+    Exists,
+    /// `=`
+    Equal,
+    /// `~=`
+    Word,
+    /// `|=`
+    Dash,
+    /// `^=`
+    Prefix,
+    /// `$=`
+    Suffix,
+    /// `*=`
+    Part,
+}
+
+/// Which siblings are counted, and from where (Selectors 3, section 6.6.5).
+#[derive(Clone, Copy, PartialEq, Eq, Debug)]
+pub enum NthKind {
+    Child,
+    LastChild,
+    OfType,
+    LastOfType,
+}
+
+/// What a simple selector asks of an element. Names and operands are values: escapes are read.
+#[derive(Drop)]
+pub enum Test {
+    /// `*`
+    Any,
+    Tag(String),
+    Id(String),
+    Class(String),
+    Attr {
+        name: String,
+        op: AttrOp,
+        /// Empty for `Exists`.
+        operand: String,
+    },
+    Root,
+    Empty,
+    /// The places `step * n + offset` among the siblings, for n from 0, counted from 1. `:first-child` and its like have
+    /// step 0 and offset 1.
+    Nth {
+        kind: NthKind,
+        step: i64,
+        offset: i64,
+    },
+    OnlyChild,
+    OnlyOfType,
+    /// A pseudo-class that no element here meets, as `:hover` and `:lang`.
+    Never,
+}
+
+#[derive(Drop)]
+pub enum Simple {
+    Is(Test),
+    /// `:not`
+    Not(Test),
+}
+
+#[derive(Drop)]
+pub struct Compound {
+    pub joint: Joint,
+    /// From left to right. Empty where a pseudo-element stands alone.
+    pub tests: Vec<Simple>,
+}
+
+#[derive(Drop)]
+pub struct Selector {
+    /// From left to right.
+    pub compounds: Vec<Compound>,
+    /// Whether the last compound ends in a pseudo-element.
+    pub pseudo_element: bool,
+    /// From the first to the last piece that is neither white space nor comment.
+    pub range: Range,
+}
+
+/// One or more selectors, in the order of their text.
+#[derive(Drop)]
+pub struct SelectorList {
+    pub(crate) list: Vec<Selector>,
+}
+
+impl SelectorList {
+    ghost use Rattle.std.specs.Prelude.{◌≡◌, ◌<◌, All, length, map, Some, slice_get};
+    ghost use Rattle.selectors.specs.Forms.{selector_seen};
+    ghost use Rattle.selectors.specs.Lists.{list_seen, moved_selector, CanMove};
+
+    pub fn len(&self) -> usize
+        ensures { result ≡ length (list_seen self.now) }
+    {
+        self.list.len()
+    }
+
+    pub fn at(&self, i: usize) -> &Selector
+        requires { i < length (list_seen self.now) }
+        ensures { slice_get (list_seen self.now) i ≡ Some (selector_seen result.now) }
+    {
+        &self.list[i]
+    }
+
+    /// Moves every range from base `from` to base `to`, as where the text that was read becomes part of a longer one.
+    /// Takes no memory.
+    pub fn shift(self, from: usize, to: usize) -> SelectorList
+        requires { All (λ s. CanMove from to s.range) (list_seen self) }
+        ensures { list_seen result ≡ map (moved_selector from to) (list_seen self) }
+    {
+        let SelectorList { mut list } = self;
+        for selector in list.iter_mut() {
+            selector.range = moved(selector.range, from, to);
+        }
+        SelectorList { list }
+    }
+}
+
+fn moved(range: Range, from: usize, to: usize) -> Range
+    requires { CanMove from to range }
+    ensures { result ≡ moved_range from to range }
+{
+    Range {
+        start: range.start - from + to,
+        end: range.end - from + to,
+    }
+}
