@@ -1,0 +1,229 @@
+-- What the calls on the link and on the ends make of a run.
+use Rattle.std.proofs.Common.{◌≡◌, ℕ, ◌+◌, ◌-◌, ◌≤◌, ◌<◌, ◌^◌, min, List, [], ◌∷◌, ◌++◌, length, take, drop, Option, Some, None, refl, sym, ◌∙◌, ap, subst, arith, append-nil, Result, Ok, Err, true, false}
+use Rattle.std.proofs.lemmas.List.{take_min}
+use Rattle.page_tree.specs.Pages.{State, IsValid}
+use Rattle.node_binding.specs.Bindings.{Bound, Stands}
+use Rattle.pipe_frames.specs.Pipe.{Pipe, waiting}
+use Rattle.pipe_frames.specs.Frames.{Frames, IsText, framed, frames_of, frames_from, held_after, continued}
+use Rattle.cdp_messages.specs.Asked.{asked}
+use Rattle.cdp_messages.specs.declared.command.Asked.{Asked}
+use Rattle.cdp_messages.specs.declared.command.Refused.{Refused}
+use Rattle.front_mirror.specs.Front.{FrontState, after_take, after_ask}
+use Rattle.front_mirror.specs.declared.faults.FrontFault.{FrontFault}
+use Rattle.std.specs.Borrow.{Bor}
+use Rattle.std.specs.Option.{option_copied, option_map}
+use Rattle.serde_json.specs.declared.value.Value.{Value}
+use Rattle.serde_json.specs.View.{view}
+use Rattle.replay_script.specs.declared.forms.Ask.{Ask}
+use Rattle.replay_script.specs.Seen.{seen_ask}
+use Rattle.replay_script.specs.Forms.{AskForm}
+use Rattle.replay_script.specs.Faults.{is_built_ask}
+use Rattle.cdp_messages.specs.Asked.{command_text}
+use Rattle.inspect_world.specs.Fits.{most_asks, IsAsk, ask_in, ask_with}
+use Rattle.inspect_world.specs.Scripts.{sends}
+use Rattle.inspect_world.specs.ScriptsFit.{document_ask}
+use Rattle.inspect_world.proofs.Messages.{get_document, ask_in-command, IsText-command}
+use Rattle.inspect_world.specs.Stream.{Stream, passed, arriving, awaited}
+use Rattle.inspect_world.specs.World.{World, Stepped, asked as asked_world, answered, given_up, delivered_up, delivered_down, settled}
+use Rattle.inspect_world.specs.Sides.{Side, nodes_in, step, on_asked}
+use Rattle.inspect_world.specs.Held.{Ends, InWorld}
+use Rattle.inspect_replay.proofs.BackLemmas.{on_ok}
+use Rattle.inspect_replay.specs.declared.ends.Ends.{Ends as ProgramEnds}
+use Rattle.inspect_replay.specs.Runs.{InRunWith, InRun, AnswersOne, AnswersAll, Steps, ends_of}
+use Rattle.inspect_replay.specs.Stops.{NotRefused}
+use Rattle.std.specs.Result.{OnOk}
+use Rattle.inspect_replay.specs.declared.stop.Stop.{Stop}
+use Rattle.inspect_world.proofs.Pipes.{waiting-is}
+use Rattle.inspect_world.proofs.Worlds.{answered-cons, put-nil}
+use Rattle.inspect_world.proofs.Ends.{world-asked, world-answered, world-given_up, world-delivered_down, never-refuses}
+
+-- ---- one frame is answered
+
+-- a step leaves the page as it is
+step-page : (side : Side) (frame : List ℕ) → (step side frame).side.page ≡ side.page
+step-page side frame =
+    (elim (asked frame false) as (λ (r : Result Asked Refused). (on_asked r side).side.page ≡ side.page) [ Ok a ↦ refl | Err r ↦ refl ])
+
+-- what the back end says that it did
+abbrev pub Stood : State → Bound → List ℕ → Bound → Type 0
+Stood page bound frame after = (side : Side) → page ≡ side.page → IsValid side.page → Stands (nodes_in side) side.session bound
+    → Stands (nodes_in (step side frame).side) (step side frame).side.session after
+
+abbrev pub Said : State → Bound → List ℕ → List ℕ → List ℕ → Type 0
+Said page bound frame old new = (side : Side) → page ≡ side.page → IsValid side.page → Stands (nodes_in side) side.session bound
+    → new ≡ old ++ (step side frame).sent
+
+pub answered_in : (up0 down0 up down up1 down1 : Pipe) (w : World Side) (frame : List ℕ) (frames : List (List ℕ)) (e : Ends)
+    (page : State) (bound : Bound) (old out bytes : List ℕ) (there : ℕ)
+    → InWorld up0 down0 up down w (frame ∷ frames) e
+    → page ≡ e.page → Stood e.page e.bound frame bound → Said e.page e.bound frame old out → old ≡ [] → bytes ≡ out
+    → up1 ≡ up → (down1.sent ≡ down.sent ++ bytes) × (down1.given ≡ down.given) → there ≡ e.down_there + length out
+    → InWorld up0 down0 up1 down1 (answered step (frame ∷ []) w) frames (record e { page = page; bound = bound; down_there = there })
+answered_in up0 down0 up down up1 down1 w frame frames e page bound old out bytes there in_world page_is stood said empty same_out same_up sent left =
+    let valid : IsValid w.side.page = in_world.fits.fit.side_is.page in
+    let all : InWorld up0 down0 up down1 (answered step (frame ∷ []) w) frames (record e { page = page; bound = bound; down_there = there }) =
+    world-answered up0 down0 up down down1 w frame frames e page bound out there in_world
+    (page_is ∙ in_world.page_is ∙ sym (step-page w.side frame))
+    (stood w.side in_world.page_is valid in_world.stands)
+    (said w.side in_world.page_is valid in_world.stands ∙ ap (λ bytes. bytes ++ (step w.side frame).sent) empty)
+    (sent.0 ∙ ap (λ piece. down.sent ++ piece) same_out) sent.1 left in
+    subst (λ pipe. InWorld up0 down0 pipe down1 (answered step (frame ∷ []) w) frames (record e { page = page; bound = bound; down_there = there })) (sym same_up) all
+
+-- ---- an ask is sent
+
+-- what an optional value behind a reference is seen as
+refs-seen : (r : Option (Bor Value)) (o : Option Value) → option_copied r ≡ o → option_map (λ (p : Bor Value). view p.now) r ≡ option_map view o
+refs-seen None o e = ap (option_map view) e
+refs-seen (Some p) o e = ap (option_map view) e
+
+-- the frame of an ask, as its line has it
+pub frame-seen : (next : ℕ) (ask : Ask) (frame method : List ℕ) (params session : Option (Bor Value))
+    → method ≡ ask.method → option_copied params ≡ ask.params → option_copied session ≡ ask.session
+    → frame ≡ framed (command_text next method (option_map (λ (p : Bor Value). view p.now) params) (option_map (λ (p : Bor Value). view p.now) session))
+    → frame ≡ framed (command_text next (seen_ask ask).method (seen_ask ask).params (seen_ask ask).session)
+frame-seen next ask frame method params session m p s is =
+    is
+    ∙ ap (λ m'. framed (command_text next m' (option_map (λ (q : Bor Value). view q.now) params) (option_map (λ (q : Bor Value). view q.now) session))) m
+    ∙ ap (λ p'. framed (command_text next ask.method p' (option_map (λ (q : Bor Value). view q.now) session))) (refs-seen params ask.params p)
+    ∙ ap (λ s'. framed (command_text next ask.method (option_map view ask.params) s')) (refs-seen session ask.session s)
+
+pub asked_in : (up0 down0 up down up1 down1 : Pipe) (w : World Side) (e : Ends) (a : AskForm) (whole : List (List ℕ)) (frame bytes : List ℕ) (there : ℕ) (front1 : FrontState)
+    → w.asks < most_asks → InWorld up0 down0 up down w (whole ++ awaited w.up) e → whole ≡ [] → a ≡ document_ask
+    → frame ≡ framed (command_text e.front.next a.method a.params a.session) → front1 ≡ after_ask e.front a.method
+    → bytes ≡ frame → (up1.sent ≡ up.sent ++ bytes) × (up1.given ≡ up.given) → down1 ≡ down → there ≡ e.up_there + length frame
+    → InWorld up0 down0 up1 down1 (sends a w) (whole ++ awaited (sends a w).up) (record e { front = front1; up_there = there })
+asked_in up0 down0 up down up1 down1 w e a whole frame bytes there front1 few in_world none built frame_is front_is same_bytes sent same_down left =
+    let is : a ≡ document_ask = built in
+    let next : e.front.next ≡ w.asks + 1 = ap (λ (f : FrontState). f.next) in_world.front_is in
+    let text = command_text (w.asks + 1) get_document None None in
+    let framed_is : frame ≡ framed text =
+    frame_is ∙ ap (λ n. framed (command_text n a.method a.params a.session)) next
+    ∙ ap (λ (b : AskForm). framed (command_text (w.asks + 1) b.method b.params b.session)) is in
+    let small : w.asks + 1 < 2 ^ 53 = omega (arith, few) in
+    let asks : ask_in text ≡ Some (ask_with get_document (w.asks + 1)) = ask_in-command (w.asks + 1) small in
+    let start : InWorld up0 down0 up down w (awaited w.up) e = subst (λ frames. InWorld up0 down0 up down w (frames ++ awaited w.up) e) none in_world in
+    let front2 : front1 ≡ after_ask e.front get_document = front_is ∙ ap (λ (b : AskForm). after_ask e.front b.method) is in
+    let all : InWorld up0 down0 up1 down (asked_world text w) (awaited (asked_world text w).up) (record e { front = after_ask e.front get_document; up_there = there }) =
+    world-asked up0 down0 up down up1 w e text get_document there start (IsText-command (w.asks + 1) small)
+    (record { method = get_document; is = asks; few = omega (arith, few) }) asks
+    (sent.0 ∙ ap (λ piece. up.sent ++ piece) (same_bytes ∙ framed_is)) sent.1
+    (left ∙ ap (λ piece. e.up_there + length piece) framed_is) in
+    let same : asked_world text w ≡ sends a w = ap (λ (b : AskForm). sends b w) (sym is) in
+    subst (λ pipe. InWorld up0 down0 up1 pipe (sends a w) (whole ++ awaited (sends a w).up) (record e { front = front1; up_there = there })) (sym same_down)
+    (subst (λ frames. InWorld up0 down0 up1 down (sends a w) (frames ++ awaited (sends a w).up) (record e { front = front1; up_there = there })) (sym none)
+    (subst (λ f. InWorld up0 down0 up1 down (sends a w) (awaited (sends a w).up) (record e { front = f; up_there = there })) (sym front2)
+    (subst (λ v. InWorld up0 down0 up1 down v (awaited v.up) (record e { front = after_ask e.front get_document; up_there = there })) same all)))
+
+-- ---- bytes come
+
+-- as many bytes as are asked for and are there
+take-min : (n there : ℕ) (bytes : List ℕ) → there ≡ length bytes → take (min n there) bytes ≡ take n bytes
+take-min n there bytes is = ap (λ m. take (min n m) bytes) is ∙ take_min n bytes
+
+pub came : (up0 now : Pipe) (start : Pipe) (n there max : ℕ) (piece : List ℕ) (s : Stream)
+    → waiting now ≡ s.flying → there ≡ length s.flying → max ≡ min n there → piece ≡ take max (waiting now) → piece ≡ take n s.flying
+came up0 now start n there max piece s waits is max_is front =
+    front ∙ ap (take max) waits ∙ ap (λ m. take m s.flying) max_is ∙ take-min n there s.flying is
+
+-- bytes come up, and are cut into frames
+pub given_in : (up0 down0 up down up1 down1 : Pipe) (w : World Side) (e : Ends) (n there max : ℕ) (piece : List ℕ) (s s1 : Frames)
+    → InWorld up0 down0 up down w (s.whole ++ awaited w.up) e → s.whole ≡ [] → s.rest ≡ e.back_rest
+    → max ≡ min n e.up_there → piece ≡ take max (waiting up)
+    → (up1.sent ≡ up.sent) × (up1.given ≡ up.given ++ piece) → down1 ≡ down → there ≡ e.up_there - length piece
+    → s1 ≡ continued s piece
+    → InWorld up0 down0 up1 down1 (given_up n w) (s1.whole ++ awaited (given_up n w).up) (record e { back_rest = s1.rest; up_there = there })
+    × (s1.whole ≡ arriving n w.up)
+given_in up0 down0 up down up1 down1 w e n there max piece s s1 in_world none rest max_is front moved same_down left cut =
+    let start : InWorld up0 down0 up down w (awaited w.up) e = subst (λ whole. InWorld up0 down0 up down w (whole ++ awaited w.up) e) none in_world in
+    let part : piece ≡ take n w.up.flying =
+    came up0 up up0 n e.up_there max piece w.up (waiting-is up0 up w.up in_world.up_is) in_world.up_left max_is front in
+    let rest_is : s1.rest ≡ held_after e.back_rest piece = ap (λ (f : Frames). f.rest) cut ∙ ap (λ held. held_after held piece) rest in
+    let whole : s1.whole ≡ arriving n w.up =
+    ap (λ (f : Frames). f.whole) cut
+    ∙ ap (λ frames. frames ++ frames_from s.rest piece) none
+    ∙ ap (λ held. frames_from held piece) (rest ∙ in_world.back_is)
+    ∙ ap (λ bytes. frames_from (frames_of w.up.given).rest bytes) part in
+    let all : InWorld up0 down0 up1 down (given_up n w) (arriving n w.up ++ awaited (passed n w.up)) (record e { back_rest = s1.rest; up_there = there }) =
+    world-given_up up0 down0 up down up1 w e n there piece s1.rest start part moved.0 moved.1 left rest_is in (
+      subst (λ frames. InWorld up0 down0 up1 down1 (given_up n w) (frames ++ awaited (passed n w.up)) (record e { back_rest = s1.rest; up_there = there })) (sym whole)
+          (subst (λ pipe. InWorld up0 down0 up1 pipe (given_up n w) (arriving n w.up ++ awaited (passed n w.up)) (record e { back_rest = s1.rest; up_there = there })) (sym same_down) all),
+      whole,
+    )
+
+-- bytes come down
+pub delivered_in : (up0 down0 up down up1 down1 : Pipe) (w : World Side) (frames : List (List ℕ)) (e : Ends) (n there max : ℕ) (piece : List ℕ) (front1 : FrontState)
+    → InWorld up0 down0 up down w frames e
+    → max ≡ min n e.down_there → piece ≡ take max (waiting down)
+    → (down1.sent ≡ down.sent) × (down1.given ≡ down.given ++ piece) → up1 ≡ up → there ≡ e.down_there - length piece
+    → front1 ≡ after_take e.front piece
+    → InWorld up0 down0 up1 down1 (delivered_down n w) frames (record e { front = front1; down_there = there })
+delivered_in up0 down0 up down up1 down1 w frames e n there max piece front1 in_world max_is front moved same_up left front_is =
+    let part : piece ≡ take n w.down.flying =
+    came down0 down down0 n e.down_there max piece w.down (waiting-is down0 down w.down in_world.down_is) in_world.down_left max_is front in
+    let all : InWorld up0 down0 up down1 (delivered_down n w) frames (record e { front = after_take e.front piece; down_there = there }) =
+    world-delivered_down up0 down0 up down down1 w frames e n there piece in_world part moved.0 moved.1 left in
+    subst (λ pipe. InWorld up0 down0 pipe down1 (delivered_down n w) frames (record e { front = front1; down_there = there })) (sym same_up)
+    (subst (λ front'. InWorld up0 down0 up down1 (delivered_down n w) frames (record e { front = front'; down_there = there })) (sym front_is) all)
+
+-- the front end is never at fault
+pub no_fault : (up0 down0 up down : Pipe) (w : World Side) (frames : List (List ℕ)) (e : Ends) (n max : ℕ) (piece : List ℕ) (front1 : FrontState) (f : FrontFault)
+    → InWorld up0 down0 up down w frames e
+    → max ≡ min n e.down_there → piece ≡ take max (waiting down)
+    → front1 ≡ after_take e.front piece → front1.fault ≡ Some f → ⊥
+no_fault up0 down0 up down w frames e n max piece front1 f in_world max_is front front_is fault =
+    let part : piece ≡ take n w.down.flying =
+    came down0 down down0 n e.down_there max piece w.down (waiting-is down0 down w.down in_world.down_is) in_world.down_left max_is front in
+    let none : (after_take e.front piece).fault ≡ None = never-refuses up0 down0 up down w frames e n piece in_world part in
+    let both : ◌≡◌ {A = Option FrontFault} (Some f) None = sym fault ∙ ap (λ (s : FrontState). s.fault) front_is ∙ none in
+    cc
+
+-- ---- frames are answered one after the other
+
+-- while frames are answered: where the run is, and that it goes to where it would have gone
+pub record Answering (honest : Type 0) (up0 down0 up down : Pipe) (target : World Side) (e : ProgramEnds) : Type 0 where
+  pub world : World Side
+  pub so_far : InRunWith honest up0 down0 up down world e
+  pub goes : answered step e.splitter.whole world ≡ target
+
+-- what the answer to the next frame makes of it
+pub answer_turn : {T : Type 0} (result : Result T Stop) (honest honest1 : Type 0) (up0 down0 up down up1 down1 : Pipe) (target : World Side)
+    (e e1 : ProgramEnds) (s : Frames) (frame : List ℕ)
+    → Answering honest up0 down0 up down target e
+    → e.splitter.whole ≡ frame ∷ s.whole → s.rest ≡ e.splitter.rest
+    → AnswersOne honest honest1 up down up1 down1 (record e { splitter = s }) e1 frame result → e1.splitter ≡ s
+    → NotRefused result × OnOk result (Answering honest1 up0 down0 up1 down1 target e1)
+answer_turn {T} result honest honest1 up0 down0 up down up1 down1 target e e1 s frame going whole rest answers same =
+    let w = going.world in
+    let start : InWorld up0 down0 up down w (frame ∷ (s.whole ++ awaited w.up)) (ends_of (record e { splitter = s })) =
+    subst (λ r. InWorld up0 down0 up down w (frame ∷ (s.whole ++ awaited w.up)) (record (ends_of e) { back_rest = r })) (sym rest)
+    (subst (λ frames. InWorld up0 down0 up down w (frames ++ awaited w.up) (ends_of e)) whole going.so_far.in_world) in
+    let both = answers up0 down0 w going.so_far.is_honest start in
+    let goes : answered step e1.splitter.whole (answered step (frame ∷ []) w) ≡ target =
+    ap (λ (f : Frames). answered step f.whole (answered step (frame ∷ []) w)) same
+    ∙ sym (answered-cons step frame s.whole w)
+    ∙ ap (λ frames. answered step frames w) (sym whole)
+    ∙ going.goes in
+    (both.0, on_ok result _ _ both.1 (λ run. record { world = answered step (frame ∷ []) w; so_far = run; goes = goes }))
+
+-- bytes came up, and their frames are answered
+pub deliver_goes : {T : Type 0} (result : Result T Stop) (honest honest1 : Type 0) (up0 down0 up down up1 down1 : Pipe) (w : World Side) (n : ℕ)
+    (e e1 : ProgramEnds)
+    → InRunWith honest up0 down0 up down (given_up n w) e × (e.splitter.whole ≡ arriving n w.up)
+    → AnswersAll honest honest1 up down up1 down1 e e1 result
+    → NotRefused result × OnOk result (InRun honest1 up0 down0 up1 down1 (delivered_up step n w) e1)
+deliver_goes result honest honest1 up0 down0 up down up1 down1 w n e e1 run answers =
+    subst (λ frames. NotRefused result × OnOk result (InRun honest1 up0 down0 up1 down1 (answered step frames (given_up n w)) e1)) run.1
+    (answers up0 down0 (given_up n w) run.0)
+
+-- all of the up pipe was delivered, and then all of the down pipe
+pub settle_goes : {T : Type 0} (result : Result T Stop) (honest honest1 : Type 0) (up0 down0 up down up1 down1 : Pipe) (w : World Side) (n : ℕ)
+    (e e1 : ProgramEnds)
+    → n ≡ length w.up.flying
+    → InRun honest up0 down0 up down (delivered_up step n w) e
+    → Steps honest honest1 up down up1 down1 e e1 result (λ v. delivered_down e.down_there v)
+    → NotRefused result × OnOk result (InRun honest1 up0 down0 up1 down1 (settled step w) e1)
+settle_goes result honest honest1 up0 down0 up down up1 down1 w n e e1 all run steps =
+    let same : delivered_down e.down_there (delivered_up step n w) ≡ settled step w =
+    ap (λ m. delivered_down m (delivered_up step n w)) run.so_far.in_world.down_left
+    ∙ ap (λ m. delivered_down (length (delivered_up step m w).down.flying) (delivered_up step m w)) all in
+    subst (λ v. NotRefused result × OnOk result (InRun honest1 up0 down0 up1 down1 v e1)) same (steps up0 down0 (delivered_up step n w) run)

@@ -1,0 +1,4 @@
+pub mod BackLemmas
+pub mod EndLemmas
+pub mod RunLemmas
+pub mod AnswerLemmas

@@ -1,0 +1,19 @@
+-- A frame that is answered takes the run one step on.
+use Rattle.std.proofs.Common.{◌≡◌, ◌+◌, ◌++◌, List, length, arith, ap}
+use Rattle.inspect_world.specs.Stream.{awaited}
+use Rattle.inspect_replay.specs.Runs.{ends_of}
+use Rattle.inspect_replay.proofs.EndLemmas.{answered_in}
+use Rattle.inspect_replay.proofs.ends.Ends.answer.Goals as goal
+
+pub returns-in-Ok-clause-steps : goal.returns-in-Ok-clause-steps
+returns-in-Ok-clause-steps g c = λ up0 down0 w honest in_world.
+    let left : c.in-Some.there ≡ c.args.self.now.down_there + length c.take_message.new.out.items = omega (arith, c.in-Some.ensures, c.len.ensures, c.take_message.new.out.ok) in (
+      tt,
+      record {
+        is_honest = c.send_down.ensures.honest honest;
+        in_world = answered_in up0 down0 _ _ _ _ w c.args.frame.now (c.args.self.now.splitter.whole ++ awaited w.up) (ends_of c.args.self.now)
+            c.take_message.new.self.page c.take_message.new.self.agent c.new-out.result.items c.take_message.new.out.items c.deref.result.now c.in-Some.there
+            in_world c.in_ok-take_message.ensures.page c.in_ok-take_message.ensures.stands c.in_ok-take_message.ensures.sent c.new-out.ensures.items
+            c.deref.ensures.value c.send_down.ensures.up c.in-Ok.ensures.down left;
+      },
+    )

@@ -1,0 +1,26 @@
+-- An ask that is sent takes the run to where the script takes it.
+use Rattle.std.proofs.Common.{◌≡◌, ◌+◌, ◌++◌, List, length, arith, ap, ◌∙◌}
+use Rattle.front_mirror.specs.Front.{after_ask}
+use Rattle.replay_script.specs.Seen.{seen_ask}
+use Rattle.inspect_replay.specs.Runs.{ends_of}
+use Rattle.inspect_replay.proofs.EndLemmas.{asked_in, frame-seen}
+use Rattle.inspect_replay.proofs.ends.Ends.ask.Goals as goal
+
+pub returns-in-Ok-clause-steps : goal.returns-in-Ok-clause-steps
+returns-in-Ok-clause-steps g c = λ up0 down0 w few run.
+    let e = ends_of c.args.self.now in
+    let frame = c.in_ok-frame.frame.items in
+    let left : c.in-Some.there ≡ c.args.self.now.up_there + length frame = omega (arith, c.in-Some.ensures, c.len.ensures, c.in_ok-frame.frame.ok) in (
+      tt,
+      record {
+        so_far = record {
+          is_honest = c.send_up.ensures.honest run.so_far.is_honest;
+          in_world = asked_in up0 down0 _ _ _ _ w e (seen_ask c.args.ask.now) c.args.self.now.splitter.whole frame c.deref.result.now c.in-Some.there c.ask.new.self
+              few run.so_far.in_world run.none_whole c.requires.built
+              (frame-seen c.args.self.now.front.next c.args.ask.now frame _ _ _ c.as_str.ensures c.as_ref.ensures.value c.as_ref-2.ensures.value c.in_ok-frame.ensures.frame)
+              (c.in_ok-frame.ensures.asked ∙ ap (after_ask c.args.self.now.front) c.as_str.ensures)
+              c.deref.ensures.value c.in-Ok.ensures.up c.send_up.ensures.down left;
+        };
+        none_whole = run.none_whole;
+      },
+    )

@@ -1,0 +1,36 @@
+-- Bytes that come down take the front end along, and never to a fault.
+use Rattle.std.proofs.Common.{◌≡◌, ◌-◌, ◌++◌, List, length, arith, ap, ◌∙◌, Result, Err}
+use Rattle.front_mirror.specs.declared.faults.FrontErr.{FrontErr}
+use Rattle.front_mirror.specs.declared.faults.FrontErr.TheVariants.{Fault}
+use Rattle.front_mirror.specs.Front.{after_take}
+use Rattle.inspect_world.specs.Stream.{awaited}
+use Rattle.inspect_replay.specs.Runs.{ends_of}
+use Rattle.inspect_replay.proofs.EndLemmas.{delivered_in, no_fault}
+use Rattle.inspect_replay.proofs.ends.Ends.deliver_down.Goals as goal
+
+pub returns-in-Ok-take-clause-steps : goal.returns-in-Ok-take-clause-steps
+returns-in-Ok-take-clause-steps g c = λ up0 down0 w run.
+    let e = ends_of c.args.self.now in
+    let left : c.saturating_sub-self.result ≡ c.args.self.now.down_there - length c.in-Ok.piece.items = omega (arith, c.saturating_sub-self.ensures, c.len.ensures, c.in-Ok.piece.ok) in (
+      tt,
+      record {
+        so_far = record {
+          is_honest = c.receive_down.ensures.honest run.so_far.is_honest;
+          in_world = delivered_in up0 down0 _ _ _ _ w (c.args.self.now.splitter.whole ++ awaited w.up) e c.args.n _ c.min.result c.in-Ok.piece.items _
+              run.so_far.in_world c.min.ensures (c.in-Ok.ensures.all run.so_far.is_honest) c.in-Ok.ensures.down c.receive_down.ensures.up left
+              (c.in-Ok-take.ensures.ok ∙ ap (after_take c.args.self.now.front) c.deref.ensures.value);
+        };
+        none_whole = run.none_whole;
+      },
+    )
+
+pub returns-in-Err-Fault-clause-steps : goal.returns-in-Err-Fault-clause-steps
+returns-in-Err-Fault-clause-steps g c = λ up0 down0 w run.
+    let e = ends_of c.args.self.now in
+    let is : ◌≡◌ {A = Result (Unit {0}) FrontErr} (Err c.in-Err-Fault.field-0) (Err (Fault c.in-Err-Fault.refused)) = ap (λ fault. Err fault) c.in-Err-Fault.field-0-is in (
+      no_fault up0 down0 _ _ w _ e c.args.n c.min.result c.in-Ok.piece.items c.take.new.self c.in-Err-Fault.refused
+          run.so_far.in_world c.min.ensures (c.in-Ok.ensures.all run.so_far.is_honest)
+          (c.in-Err-Fault.ensures.fault c.in-Err-Fault.refused is ∙ ap (after_take c.args.self.now.front) c.deref.ensures.value)
+          (c.in-Err-Fault.ensures.kept c.in-Err-Fault.refused is),
+      tt,
+    )

@@ -1,0 +1,8 @@
+-- Bytes come up, and the frames that become whole are answered.
+use Rattle.inspect_replay.proofs.EndLemmas.{deliver_goes}
+use Rattle.inspect_replay.proofs.ends.Ends.deliver_up.Goals as goal
+
+pub returns-in-Ok-clause-steps : goal.returns-in-Ok-clause-steps
+returns-in-Ok-clause-steps g c = λ up0 down0 w run.
+    deliver_goes c.answer_frames.result _ _ up0 down0 _ _ _ _ w c.args.n c.take_up.new.self c.answer_frames.new.self
+    (c.in-Ok.ensures.steps up0 down0 w run).1 c.answer_frames.ensures.steps

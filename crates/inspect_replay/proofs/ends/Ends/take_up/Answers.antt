@@ -1,0 +1,15 @@
+-- Bytes that come up are cut into the frames that become whole.
+use Rattle.std.proofs.Common.{◌≡◌, ◌-◌, ◌++◌, List, length, arith, ap, ◌∙◌, refl}
+use Rattle.pipe_frames.specs.Frames.{continued}
+use Rattle.inspect_replay.specs.Runs.{ends_of}
+use Rattle.inspect_replay.proofs.EndLemmas.{given_in}
+use Rattle.inspect_replay.proofs.ends.Ends.take_up.Goals as goal
+
+pub returns-in_ok-take-in-Ok-clause-steps : goal.returns-in_ok-take-in-Ok-clause-steps
+returns-in_ok-take-in-Ok-clause-steps g c = λ up0 down0 w run.
+    let e = ends_of c.args.self.now in
+    let left : c.saturating_sub-self.result ≡ c.args.self.now.up_there - length c.in-Ok.piece.items = omega (arith, c.saturating_sub-self.ensures, c.len.ensures, c.in-Ok.piece.ok) in
+    let all = given_in up0 down0 _ _ _ _ w e c.args.n _ c.min.result c.in-Ok.piece.items c.args.self.now.splitter c.take.new.self
+    run.so_far.in_world run.none_whole refl c.min.ensures (c.in-Ok.ensures.all run.so_far.is_honest) c.in-Ok.ensures.up c.receive_up.ensures.down left
+    (c.in_ok-take-in-Ok.ensures.ok ∙ ap (continued c.args.self.now.splitter) c.deref.ensures.value) in
+    (tt, (record { is_honest = c.receive_up.ensures.honest run.so_far.is_honest; in_world = all.0 }, all.1))

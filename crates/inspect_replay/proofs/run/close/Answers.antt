@@ -1,0 +1,14 @@
+-- The closing part is the outline of what the client sees.
+use Rattle.std.proofs.Common.{◌≡◌, ◌++◌, ◌∷◌, ap, ◌∙◌, sym, subst, codes, Ok, Err, refl, []}
+use Rattle.inspect_replay.proofs.RunLemmas.{closes-well, closes-not}
+use Rattle.inspect_replay.proofs.run.close.Goals as goal
+
+pub returns-in-Ok-clause-runs : goal.returns-in-Ok-clause-runs
+returns-in-Ok-clause-runs g c =
+    closes-well c.print_outline.result _ _ _ _ _ _ _ _ c.args.ends.now c.settle.new.self c.mirror.result.now
+    (λ up0 down0 w run. (c.in-Ok.ensures.steps up0 down0 w run).1) c.mirror.ensures c.print_outline.ensures.never c.print_outline.ensures.ok c.print_outline.ensures.err
+
+pub returns-in-Err-clause-runs : goal.returns-in-Err-clause-runs
+returns-in-Err-clause-runs g c =
+    closes-not c.in-Err.stop _ _ _ _ c.args.ends.now
+    (λ up0 down0 w run. (c.in-Err.ensures.steps up0 down0 w run).0)

@@ -1,0 +1,27 @@
+-- The lines so far were good, and the run has come to where they take it.
+use Rattle.std.proofs.Common.{◌≡◌, ◌≤◌, ◌+◌, ◌^◌, length, false}
+use Rattle.pipe_frames.specs.Pipe.{Pipe}
+use Rattle.replay_script.specs.Script.{first_bad, good_lines}
+use Rattle.inspect_world.specs.World.{World}
+use Rattle.inspect_world.specs.Sides.{Side}
+use Rattle.inspect_world.specs.Fits.{most_asks}
+use Rattle.inspect_world.specs.Scripts.{lines_text, after_lines}
+use Rattle.inspect_replay.specs.Runs.{InRun}
+use Rattle.inspect_replay.proofs.RunLemmas.{Running}
+use Rattle.inspect_replay.proofs.run.run_lines.Given as goal
+
+abbrev pub invariant-loop-text : goal.invariant-loop-text
+invariant-loop-text g l =
+    (first_bad 2 false l.initial.lines ≡ first_bad l.number l.is_asked l.lines)
+    × (2 ≤ l.number)
+    × (l.number + length l.lines ≤ 2 + length l.initial.lines)
+    × (g.L.Link.honest l.initial.link → g.L.Link.honest l.link)
+    × (g.K.Sink.faults l.initial.out ≤ g.K.Sink.faults l.out)
+    × (g.L.Link.faults l.initial.link ≤ g.L.Link.faults l.link)
+    × ((up0 down0 : Pipe) (w : World Side) → w.asks + length l.initial.lines ≤ most_asks
+    → InRun (g.L.Link.honest l.initial.link) up0 down0 (g.L.Link.up l.initial.link) (g.L.Link.down l.initial.link) w l.initial.ends
+    → Running (g.L.Link.honest l.link) up0 down0 (g.L.Link.up l.link) (g.L.Link.down l.link) (g.K.Sink.taken l.initial.out) (g.K.Sink.taken l.out)
+    (lines_text (good_lines 2 false l.initial.lines) w) (after_lines (good_lines 2 false l.initial.lines) w) l.number l.is_asked l.lines l.ends)
+
+abbrev pub decreases-loop-text : goal.decreases-loop-text
+decreases-loop-text g l = length l.lines

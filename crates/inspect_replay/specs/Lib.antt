@@ -1,0 +1,7 @@
+pub mod Words
+pub mod Statuses
+pub mod Stops
+pub mod Moved
+pub mod Runs
+pub mod Answers
+pub mod Prints

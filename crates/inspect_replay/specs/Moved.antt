@@ -1,0 +1,15 @@
+-- Bytes that went into a pipe, or came out of it.
+use Rattle.std.specs.Prelude.{◌≡◌, ℕ, List, ◌++◌, Vec, Result, Ok, Err}
+use Rattle.std.specs.declared.alloc.Global.{Global}
+use Rattle.pipe_frames.specs.Pipe.{Pipe}
+use Rattle.inspect_replay.specs.declared.stop.Stop.{Stop}
+
+-- the whole piece was sent, or nothing
+abbrev pub Sent : Pipe → Pipe → List ℕ → Result (Unit {0}) Stop → Type 0
+Sent old new piece (Ok done) = (new.sent ≡ old.sent ++ piece) × (new.given ≡ old.given)
+Sent old new piece (Err stop) = new ≡ old
+
+-- the piece was given, or nothing
+abbrev pub Got : Pipe → Pipe → Result (Vec ℕ Global) Stop → Type 0
+Got old new (Ok piece) = (new.sent ≡ old.sent) × (new.given ≡ old.given ++ piece.items)
+Got old new (Err stop) = new ≡ old

@@ -1,0 +1,8 @@
+-- The words of the command line.
+use Rattle.std.specs.Prelude.{ℕ, List, [], ◌∷◌, Bool, true, false, bytes_eq, codes}
+
+-- the one word `replay`
+abbrev pub is_replay : List (List ℕ) → Bool
+is_replay [] = false
+is_replay (word ∷ []) = bytes_eq word (codes "replay")
+is_replay (word ∷ next ∷ more) = false

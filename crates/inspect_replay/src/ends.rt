@@ -1,0 +1,194 @@
+ghost use Rattle.std.specs.Prelude.{◌≡◌, [], IfOk};
+ghost use Rattle.node_binding.specs.Bindings.{empty_from};
+ghost use Rattle.front_mirror.specs.Front.{first_state};
+ghost use Rattle.replay_script.specs.Seen.{seen_ask};
+ghost use Rattle.inspect_replay.specs.Stops.{HasStopCause};
+ghost use Rattle.inspect_world.specs.World.{delivered_up, delivered_down, settled};
+ghost use Rattle.inspect_world.specs.Sides.{step};
+ghost use Rattle.inspect_world.specs.Scripts.{sends};
+ghost use Rattle.inspect_world.specs.ScriptsFit.{document_ask};
+ghost use Rattle.inspect_replay.specs.Runs.{Steps, Asks, TakesUp, AnswersAll, AnswersOne};
+
+use crate::back::Back;
+use crate::pipes::{receive_down, receive_up, send_down, send_up};
+use crate::stop::Stop;
+use front_mirror::{Front, FrontErr, Mirror};
+use page_tree::Page;
+use pipe_frames::{Link, Splitter};
+use replay_script::Ask;
+use std::alloc::{AllocError, Global};
+
+/// The two ends of the link, and how many bytes of each pipe were sent and not given.
+#[derive(Drop)]
+pub(crate) struct Ends {
+    pub(crate) alloc: Global,
+    pub(crate) back: Back,
+    pub(crate) splitter: Splitter,
+    pub(crate) front: Front,
+    pub(crate) up_there: u64,
+    pub(crate) down_there: u64,
+}
+
+impl Ends {
+    pub(crate) fn new(alloc: Global, page: Page) -> Result<Ends, AllocError>
+        ensures page { IfOk result (λ ends. ends.back.page ≡ page) }
+        ensures agent { IfOk result (λ ends. ends.back.agent ≡ empty_from 1) }
+        ensures splitter { IfOk result (λ ends. ends.splitter ≡ record { whole = []; rest = [] }) }
+        ensures front { IfOk result (λ ends. ends.front ≡ first_state) }
+        ensures up { IfOk result (λ ends. ends.up_there ≡ 0) }
+        ensures down { IfOk result (λ ends. ends.down_there ≡ 0) }
+    {
+        Ok(Ends {
+            alloc,
+            back: Back::new(alloc, page),
+            splitter: Splitter::new(alloc),
+            front: Front::new(alloc)?,
+            up_there: 0,
+            down_there: 0,
+        })
+    }
+
+    /// What the front end shows.
+    pub(crate) fn mirror(&self) -> &Mirror
+        ensures { result.now ≡ self.now.front.value.tree }
+    {
+        self.front.mirror()
+    }
+
+    /// The front end sends a command.
+    pub(crate) fn ask<L: Link>(&mut self, link: &mut L, ask: &Ask) -> Result<(), Stop>
+        requires built { seen_ask ask.now ≡ document_ask }
+        ensures honest { L.honest link.old → L.honest link.new }
+        ensures cause { HasStopCause 0 0 (L.faults link.old) (L.faults link.new) result }
+        ensures steps { Asks (L.honest link.old) (L.honest link.new) (L.up link.old) (L.down link.old)
+            (L.up link.new) (L.down link.new) self.old self.new result (λ w. sends (seen_ask ask.now) w) }
+    {
+        if !self.front.has_room() {
+            return Err(Stop::Memory);
+        }
+        let frame = self.front.ask(
+            ask.method.as_str(),
+            ask.params.as_ref(),
+            ask.session.as_ref(),
+        )?;
+        let Some(there) = self.up_there.checked_add(frame.len() as u64) else {
+            return Err(Stop::Memory);
+        };
+        match send_up(link, &frame) {
+            Ok(()) => {
+                self.up_there = there;
+                Ok(())
+            }
+            Err(stop) => Err(stop),
+        }
+    }
+
+    /// Delivers `n` bytes up, or as many as are there. Each frame that becomes whole is answered at once.
+    pub(crate) fn deliver_up<L: Link>(&mut self, link: &mut L, n: u64) -> Result<(), Stop>
+        ensures honest { L.honest link.old → L.honest link.new }
+        ensures cause { HasStopCause 0 0 (L.faults link.old) (L.faults link.new) result }
+        ensures steps { Steps (L.honest link.old) (L.honest link.new) (L.up link.old) (L.down link.old)
+            (L.up link.new) (L.down link.new) self.old self.new result (λ w. delivered_up step n w) }
+    {
+        match self.take_up(link, n) {
+            Ok(()) => self.answer_frames(link),
+            Err(stop) => Err(stop),
+        }
+    }
+
+    /// Takes up to `n` bytes that come up, and cuts them into frames.
+    fn take_up<L: Link>(&mut self, link: &mut L, n: u64) -> Result<(), Stop>
+        ensures honest { L.honest link.old → L.honest link.new }
+        ensures cause { HasStopCause 0 0 (L.faults link.old) (L.faults link.new) result }
+        ensures steps { TakesUp (L.honest link.old) (L.honest link.new) (L.up link.old) (L.down link.old)
+            (L.up link.new) (L.down link.new) self.old self.new n result }
+    {
+        match receive_up(self.alloc, link, n.min(self.up_there) as usize) {
+            Ok(piece) => {
+                self.up_there = self.up_there.saturating_sub(piece.len() as u64);
+                self.splitter.take(&piece)?;
+                Ok(())
+            }
+            Err(stop) => Err(stop),
+        }
+    }
+
+    /// Answers the frames that came up whole.
+    fn answer_frames<L: Link>(&mut self, link: &mut L) -> Result<(), Stop>
+        ensures honest { L.honest link.old → L.honest link.new }
+        ensures cause { HasStopCause 0 0 (L.faults link.old) (L.faults link.new) result }
+        ensures steps { AnswersAll (L.honest link.old) (L.honest link.new) (L.up link.old) (L.down link.old)
+            (L.up link.new) (L.down link.new) self.old self.new result }
+    {
+        while let Some(frame) = self.splitter.next() {
+            match self.answer(link, &frame) {
+                Ok(()) => {}
+                Err(stop) => return Err(stop),
+            }
+        }
+        Ok(())
+    }
+
+    fn answer<L: Link>(&mut self, link: &mut L, frame: &[u8]) -> Result<(), Stop>
+        ensures same { self.new.splitter ≡ self.old.splitter }
+        ensures honest { L.honest link.old → L.honest link.new }
+        ensures cause { HasStopCause 0 0 (L.faults link.old) (L.faults link.new) result }
+        ensures steps { AnswersOne (L.honest link.old) (L.honest link.new) (L.up link.old) (L.down link.old)
+            (L.up link.new) (L.down link.new) self.old self.new frame.now result }
+    {
+        if !self.back.has_room() {
+            return Err(Stop::Memory);
+        }
+        let mut out = Vec::new(self.alloc);
+        self.back.take_message(frame, &mut out)?;
+        let Some(there) = self.down_there.checked_add(out.len() as u64) else {
+            return Err(Stop::Memory);
+        };
+        match send_down(link, &out) {
+            Ok(()) => {
+                self.down_there = there;
+                Ok(())
+            }
+            Err(stop) => Err(stop),
+        }
+    }
+
+    /// Delivers `n` bytes down, or as many as are there.
+    pub(crate) fn deliver_down<L: Link>(&mut self, link: &mut L, n: u64) -> Result<(), Stop>
+        ensures honest { L.honest link.old → L.honest link.new }
+        ensures cause { HasStopCause 0 0 (L.faults link.old) (L.faults link.new) result }
+        ensures steps { Steps (L.honest link.old) (L.honest link.new) (L.up link.old) (L.down link.old)
+            (L.up link.new) (L.down link.new) self.old self.new result (λ w. delivered_down n w) }
+    {
+        let piece = match receive_down(self.alloc, link, n.min(self.down_there) as usize) {
+            Ok(piece) => piece,
+            Err(stop) => return Err(stop),
+        };
+        self.down_there = self.down_there.saturating_sub(piece.len() as u64);
+        match self.front.take(&piece) {
+            Ok(()) => Ok(()),
+            Err(FrontErr::Fault(refused)) => Err(Stop::FrontRefused {
+                place: refused.place,
+                fault: refused.kind,
+            }),
+            Err(FrontErr::Memory) => Err(Stop::Memory),
+        }
+    }
+
+    /// Delivers all of the up pipe, and then all of the down pipe.
+    pub(crate) fn settle<L: Link>(&mut self, link: &mut L) -> Result<(), Stop>
+        ensures honest { L.honest link.old → L.honest link.new }
+        ensures cause { HasStopCause 0 0 (L.faults link.old) (L.faults link.new) result }
+        ensures steps { Steps (L.honest link.old) (L.honest link.new) (L.up link.old) (L.down link.old)
+            (L.up link.new) (L.down link.new) self.old self.new result (λ w. settled step w) }
+    {
+        let up = self.up_there;
+        match self.deliver_up(link, up) {
+            Ok(()) => {
+                let down = self.down_there;
+                self.deliver_down(link, down)
+            }
+            Err(stop) => Err(stop),
+        }
+    }
+}

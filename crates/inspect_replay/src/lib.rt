@@ -1,0 +1,20 @@
+//! The replay of a script: a back end and a front end over a link, and what the script's lines print.
+#![tactic(auto)]
+
+mod back;
+mod ends;
+mod pipes;
+mod program;
+mod run;
+mod show;
+mod status;
+mod stop;
+mod words;
+
+pub use inspect_world::fits_law;
+pub use program::{INPUT_LIMIT, LINE_LIMIT, inspect};
+pub use replay_script::LineFault;
+pub use status::{Status, exit_code, status_line};
+
+#[cfg(test)]
+mod tests;

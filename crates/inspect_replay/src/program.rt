@@ -1,0 +1,148 @@
+ghost use Rattle.std.specs.Prelude.{◌≡◌, ◌≤◌, ◌^◌, ◌↔◌, ℕ, List, map, string_bytes, length, Some, [], false, true, IfOk, OnOk};
+ghost use Rattle.pipe_frames.specs.Pipe.{IsLevel};
+ghost use Rattle.replay_script.specs.Script.{script_fault};
+ghost use Rattle.inspect_world.specs.Scripts.{report};
+ghost use Rattle.inspect_replay.specs.Words.{is_replay};
+ghost use Rattle.inspect_replay.specs.declared.status.Status.TheVariants.{Usage};
+ghost use Rattle.inspect_replay.specs.Answers.{FitsLimits, TellsLine, Took, WritesNothing, StatusRose, InputTells, IsInputStop, ReadsAll, IsLate, status_of};
+
+use crate::run::run_script;
+use crate::status::Status;
+use crate::stop::Stop;
+use crate::words::is_replay;
+use pipe_frames::{Link, ReadErr, Sink, Source, read_all};
+use replay_script::has_long_line;
+use std::alloc::Global;
+
+/// The most bytes of an input.
+pub const INPUT_LIMIT: usize = 67_108_864;
+
+/// The most bytes of a line of a script.
+pub const LINE_LIMIT: usize = 16_777_216;
+
+/// Runs the program that the words name.
+///
+/// `replay` reads the whole input, and then carries out its lines in order: a back end and a front end speak over `link`,
+/// and what the lines print goes to `out` before the next line is looked at.
+pub fn inspect<S: Source, K: Sink, L: Link>(
+    alloc: Global,
+    words: &[String],
+    src: &mut S,
+    out: &mut K,
+    link: &mut L,
+) -> Status
+    // the headline: over an honest link with nothing left to give, the sink takes the report of the input
+    ensures report { L.honest link.old → IsLevel (L.up link.old) → IsLevel (L.down link.old)
+        → (input : List ℕ) → S.left src.old ≡ Some input → is_replay (map string_bytes words.now) ≡ true
+        → Took result (K.taken out.old) (K.taken out.new) (report input) }
+    ensures usage { result ≡ Usage ↔ (is_replay (map string_bytes words.now) ≡ false) }
+    ensures unread { result ≡ Usage → src.new ≡ src.old }
+    ensures unwritten { result ≡ Usage → out.new ≡ out.old }
+    ensures unlinked { result ≡ Usage → link.new ≡ link.old }
+    ensures line { (input : List ℕ) → S.left src.old ≡ Some input → TellsLine result (script_fault input) }
+    ensures limits { (input : List ℕ) → S.left src.old ≡ Some input → FitsLimits result input }
+    ensures whole { (input : List ℕ) → S.left src.old ≡ Some input → ReadsAll result (S.left src.new) }
+    ensures nothing { WritesNothing result (K.taken out.old) (K.taken out.new) }
+    ensures cause { StatusRose (record {
+      source_before = S.faults src.old;
+      source_after = S.faults src.new;
+      sink_before = K.faults out.old;
+      sink_after = K.faults out.new;
+      link_before = L.faults link.old;
+      link_after = L.faults link.new;
+    }) result }
+    ensures honest { L.honest link.old → L.honest link.new }
+{
+    if !is_replay(words) {
+        return Status::Usage;
+    }
+    replay(alloc, src, out, link)
+}
+
+fn replay<S: Source, K: Sink, L: Link>(
+    alloc: Global,
+    src: &mut S,
+    out: &mut K,
+    link: &mut L,
+) -> Status
+    ensures report { L.honest link.old → IsLevel (L.up link.old) → IsLevel (L.down link.old)
+        → (input : List ℕ) → S.left src.old ≡ Some input
+        → Took result (K.taken out.old) (K.taken out.new) (report input) }
+    ensures used { result ≡ Usage → ⊥ }
+    ensures line { (input : List ℕ) → S.left src.old ≡ Some input → TellsLine result (script_fault input) }
+    ensures limits { (input : List ℕ) → S.left src.old ≡ Some input → FitsLimits result input }
+    ensures whole { (input : List ℕ) → S.left src.old ≡ Some input → ReadsAll result (S.left src.new) }
+    ensures nothing { WritesNothing result (K.taken out.old) (K.taken out.new) }
+    ensures cause { StatusRose (record {
+      source_before = S.faults src.old;
+      source_after = S.faults src.new;
+      sink_before = K.faults out.old;
+      sink_after = K.faults out.new;
+      link_before = L.faults link.old;
+      link_after = L.faults link.new;
+    }) result }
+    ensures honest { L.honest link.old → L.honest link.new }
+{
+    match read_input(alloc, src) {
+        Ok(input) => run_input(alloc, &input, out, link),
+        Err(stop) => status_of(stop),
+    }
+}
+
+/// Carries out the script that was read.
+fn run_input<K: Sink, L: Link>(alloc: Global, input: &[u8], out: &mut K, link: &mut L) -> Status
+    requires few { length input.now ≤ 2 ^ 26 }
+    ensures report { L.honest link.old → IsLevel (L.up link.old) → IsLevel (L.down link.old)
+        → Took result (K.taken out.old) (K.taken out.new) (report input.now) }
+    ensures used { result ≡ Usage → ⊥ }
+    ensures line { TellsLine result (script_fault input.now) }
+    ensures late { IsLate result }
+    ensures nothing { WritesNothing result (K.taken out.old) (K.taken out.new) }
+    ensures cause { StatusRose (record {
+      source_before = 0;
+      source_after = 0;
+      sink_before = K.faults out.old;
+      sink_after = K.faults out.new;
+      link_before = L.faults link.old;
+      link_after = L.faults link.new;
+    }) result }
+    ensures honest { L.honest link.old → L.honest link.new }
+{
+    match run_script(alloc, input, out, link) {
+        Ok(()) => Status::Done,
+        Err(stop) => status_of(stop),
+    }
+}
+
+/// The whole input, within its limits.
+fn read_input<S: Source>(alloc: Global, src: &mut S) -> Result<Vec<u8>, Stop>
+    ensures tells { (input : List ℕ) → S.left src.old ≡ Some input → InputTells result input }
+    ensures few { IfOk result (λ read. length read.items ≤ 2 ^ 26) }
+    ensures whole { (input : List ℕ) → S.left src.old ≡ Some input → OnOk result (S.left src.new ≡ Some []) }
+    ensures rose { IsInputStop (S.faults src.old) (S.faults src.new) result }
+{
+    let input = match read_all(alloc, src, INPUT_LIMIT) {
+        Ok(input) => input,
+        Err(ReadErr::Failed) => return Err(Stop::ReadFault),
+        Err(ReadErr::TooLong) => return Err(Stop::TooLong),
+        Err(ReadErr::Memory) => return Err(Stop::Memory),
+    };
+    if has_long_line(&input, LINE_LIMIT) {
+        return Err(Stop::TooLong);
+    }
+    Ok(input)
+}
+
+fn status_of(stop: Stop) -> Status
+    ensures { result ≡ status_of stop }
+{
+    match stop {
+        Stop::Line { number, fault } => Status::Line { number, fault },
+        Stop::TooLong => Status::TooLong,
+        Stop::ReadFault => Status::ReadFault,
+        Stop::WriteFault => Status::WriteFault,
+        Stop::LinkFault => Status::LinkFault,
+        Stop::FrontRefused { place, fault } => Status::FrontRefused { place, fault },
+        Stop::Memory => Status::Memory,
+    }
+}
