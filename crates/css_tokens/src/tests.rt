@@ -2,24 +2,24 @@ use crate::{Token, TokenKind, Tokens, all_tokens, unescape};
 use std::alloc::{AllocError, Global};
 use std::test::Fail;
 
-fn letter(kind: TokenKind) -> &'static str {
+fn name(kind: TokenKind) -> &'static str {
     match kind {
-        TokenKind::Comment => "/",
-        TokenKind::WhiteSpace => "_",
-        TokenKind::Str => "S",
-        TokenKind::BadString => "s",
-        TokenKind::Hash { flag: true } => "H",
-        TokenKind::Hash { flag: false } => "h",
-        TokenKind::Number => "N",
-        TokenKind::Percentage => "P",
-        TokenKind::Dimension => "D",
+        TokenKind::Comment => "comment",
+        TokenKind::WhiteSpace => "white",
+        TokenKind::Str => "string",
+        TokenKind::BadString => "bad-string",
+        TokenKind::Hash { flag: true } => "id-hash",
+        TokenKind::Hash { flag: false } => "hash",
+        TokenKind::Number => "number",
+        TokenKind::Percentage => "percentage",
+        TokenKind::Dimension => "dimension",
         TokenKind::Cdc => "cdc",
-        TokenKind::Ident => "I",
-        TokenKind::Function => "F",
-        TokenKind::Url => "U",
-        TokenKind::BadUrl => "u",
+        TokenKind::Ident => "ident",
+        TokenKind::Function => "function",
+        TokenKind::Url => "url",
+        TokenKind::BadUrl => "bad-url",
         TokenKind::Cdo => "cdo",
-        TokenKind::AtKeyword => "@",
+        TokenKind::AtKeyword => "at-keyword",
         TokenKind::Colon => ":",
         TokenKind::Semicolon => ";",
         TokenKind::Comma => ",",
@@ -29,17 +29,17 @@ fn letter(kind: TokenKind) -> &'static str {
         TokenKind::CloseRound => ")",
         TokenKind::OpenCurly => "{",
         TokenKind::CloseCurly => "}",
-        TokenKind::Delim => ".",
+        TokenKind::Delim => "delim",
     }
 }
 
-/// The letter and the bytes of each piece.
+/// The name of each piece's kind, and how many bytes it has.
 fn pieces(alloc: Global, text: &str) -> Result<String, AllocError> {
     let mut out = String::new(alloc);
     for token in all_tokens(alloc, text)? {
-        let kind = letter(token.kind);
+        let kind = name(token.kind);
         let len = token.end.saturating_sub(token.start);
-        out.push_str(format!(in alloc; "{kind}{len} ")?.as_str())?;
+        out.push_str(format!(in alloc; "{kind} {len} ")?.as_str())?;
     }
     Ok(out)
 }
@@ -48,32 +48,44 @@ fn pieces(alloc: Global, text: &str) -> Result<String, AllocError> {
 fn texts_and_their_pieces(rt: HostRuntime) -> Result<(), Fail> {
     for (text, want) in [
         ("", ""),
-        ("/**/a/*/", "/4 I1 /3 "),
-        ("/***/ \t\r\n\x0c/", "/5 _5 .1 "),
-        ("'a\\\r\nb'\"\\", "S7 S2 "),
-        ("'a\r\n\"\\", "s2 _2 S2 "),
-        ("#1 #- #-- #\\41 b #", "h2 _1 h2 _1 H3 _1 H6 _1 .1 "),
+        ("/**/a/*/", "comment 4 ident 1 comment 3 "),
+        ("/***/ \t\r\n\x0c/", "comment 5 white 5 delim 1 "),
+        ("'a\\\r\nb'\"\\", "string 7 string 2 "),
+        ("'a\r\n\"\\", "bad-string 2 white 2 string 2 "),
+        (
+            "#1 #- #-- #\\41 b #",
+            "hash 2 white 1 hash 2 white 1 id-hash 3 white 1 id-hash 6 white 1 delim 1 ",
+        ),
         (
             "+.5e-3 1e 1e+ 1.e 5% 1--",
-            "N6 _1 D2 _1 D2 .1 _1 N1 .1 I1 _1 P2 _1 D3 ",
+            "number 6 white 1 dimension 2 white 1 dimension 2 delim 1 white 1 number 1 delim 1 ident 1 white 1 percentage 2 white 1 dimension 3 ",
         ),
         (
             "--> -- -\\- - ---> <!--> <!-",
-            "cdc3 _1 I2 _1 I3 _1 .1 _1 I3 .1 _1 cdo4 .1 _1 .1 .1 .1 ",
+            "cdc 3 white 1 ident 2 white 1 ident 3 white 1 delim 1 white 1 ident 3 delim 1 white 1 cdo 4 delim 1 white 1 delim 1 delim 1 delim 1 ",
         ),
-        ("@a @- @-- @1", "@2 _1 .1 .1 _1 @3 _1 .1 N1 "),
+        (
+            "@a @- @-- @1",
+            "at-keyword 2 white 1 delim 1 delim 1 white 1 at-keyword 3 white 1 delim 1 number 1 ",
+        ),
         (
             "a( url( 'x') url(a b) u\\72l(a)",
-            "F2 _1 F4 _1 S3 )1 _1 u8 _1 U8 ",
+            "function 2 white 1 function 4 white 1 string 3 ) 1 white 1 bad-url 8 white 1 url 8 ",
         ),
-        ("URL( a )url(a(b\\)c)url(\x01)url(a\\)b)", "U8 u11 u6 U9 "),
-        ("url(\\\n)url(a\\", "u7 U6 "),
-        ("url(a'b", "u7 "),
-        (":;,[](){}!", ":1 ;1 ,1 [1 ]1 (1 )1 {1 }1 .1 "),
-        ("\\1234567 \\41 \\42\r\nb \\", "I8 _1 I10 _1 I1 "),
+        (
+            "URL( a )url(a(b\\)c)url(\x01)url(a\\)b)",
+            "url 8 bad-url 11 bad-url 6 url 9 ",
+        ),
+        ("url(\\\n)url(a\\", "bad-url 7 url 6 "),
+        ("url(a'b", "bad-url 7 "),
+        (":;,[](){}!", ": 1 ; 1 , 1 [ 1 ] 1 ( 1 ) 1 { 1 } 1 delim 1 "),
+        (
+            "\\1234567 \\41 \\42\r\nb \\",
+            "ident 8 white 1 ident 10 white 1 ident 1 ",
+        ),
         (
             "\\\n\0a \u{E9}1 1\u{E9} \\\u{E9} \u{2014}",
-            ".1 _1 I2 _1 I3 _1 D3 _1 I3 _1 I3 ",
+            "delim 1 white 1 ident 2 white 1 ident 3 white 1 dimension 3 white 1 ident 3 white 1 ident 3 ",
         ),
     ] {
         assert_eq!(rt; pieces(rt.alloc(), text)?.as_str(), want, "of {text:?}");

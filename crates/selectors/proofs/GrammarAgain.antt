@@ -24,14 +24,13 @@ use Rattle.selectors.specs.declared.selector.Joint.{Joint}
 use Rattle.selectors.specs.declared.selector.Joint.TheVariants as joints
 use Rattle.selectors.specs.Reading.{value_of, id_of, string_of, lower_of, function_of, operator_of, pseudo_class, is_never, is_element, nth_kind, is_named, Item, ident_at, tight_ident_at, take_mark, tight_mark_at, with_rest, name_by, Joined, compound_of, tests_at, compound_at, joint_of, joint_at, joined_at, ends_compound, ends_selector, compounds_at, joined_of, selector_form, selector_of, segments, selectors_in, put_before, selectors_of, operator_at, equals_at, operand_at, operand_by, exists_at, compare_at, attribute_after, attribute_at, first_is, closing, nth_at, lang_at, function_at, plain_by, plain_from, named_at, called_at, pseudo_by, pseudo_at, argument_by, argument_from, argument_at, not_at, element_at, colon_by, colon_at, item_is, item_is_not, item_from, item_at, first_by, first_from, first_at, combinator_of}
 use Rattle.selectors.specs.Grammar.{IsOperator, equal, other, IsOperand, ident, string, IsTest, by_id, by_class, by_exists, by_compare, by_pseudo, by_nth, by_lang, IsArgument, a_tag, a_any, a_test, one_colon, two_colons, IsItem, item_test, item_not, item_element, IsFirst, first_tag, first_any, first_item, Run, done, more, IsTight, IsNextItem, IsCompound, IsCombinator, mark, white, IsJoined, IsSelector, AreSelectors, IsSelectorList}
+use Rattle.selectors.proofs.NthAgain.{nth_reads}
+use Rattle.selectors.proofs.Choices.{none_some}
 
 -- ---- names
 
 named_is : (word name : List ℕ) → is_named word name ≡ true → name ≡ word
 named_is word name e = (bytes_eq-Decides name word).0 e
-
-none_some : {A : Type 0} (x : A) → None ≡ Some x → ⊥
-none_some x e = cc
 
 apart_by : {A : Type 0} (b : Bool) (f : List ℕ → Option A) (word name : List ℕ) (x : A) → is_named word name ≡ b → f word ≡ None → f name ≡ Some x → is_named word name ≡ false
 apart_by true f word name x e lacks has = absurd (none_some x (sym (ap f (named_is word name e) ∙ lacks) ∙ has))
@@ -312,8 +311,9 @@ test_read text front t (by_compare text' ob name value close operator all op ope
     (λ rest. compare_read text ob name value close operator rest op operand e f is_op is_value g))
 test_read text front t (by_pseudo text' colon name t' e f tight h) =
     colon_read text colon (name ∷ []) t e (λ rest. pseudo_named text name rest t f tight h) (λ rest. colon_named_again text name rest t f tight h)
-test_read text front t (by_nth text' colon function close argument all kind step offset same e f tight h none g value) =
+test_read text front t (by_nth text' colon function close argument all kind step offset same e f tight h none g says) =
     let u = nth kind step offset in
+    let value = nth_reads (between text function.end close.start) step offset says in
     retitle text all (colon ∷ function ∷ (argument ++ close ∷ [])) u same
     (colon_read text colon (function ∷ (argument ++ close ∷ [])) u e
     (λ rest. pseudo_called text function ((argument ++ close ∷ []) ++ rest) (some_test u (reading text rest)) f tight (nth_read text function close argument rest kind (step, offset) h none g value))

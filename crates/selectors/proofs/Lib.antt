@@ -2,5 +2,9 @@ pub mod WordForms
 pub mod PartForms
 pub mod ListForms
 pub mod ShiftForms
+pub mod Choices
+pub mod NthAgain
+pub mod NthTakes
 pub mod GrammarAgain
+pub mod PartTakes
 pub mod GrammarTakes

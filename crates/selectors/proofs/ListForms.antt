@@ -5,6 +5,7 @@ use Rattle.selectors.specs.declared.words.Word.{Word}
 use Rattle.selectors.specs.Words.{Reading, reading, next_word, is_mark, is_no_comma, before_comma, from_comma}
 use Rattle.selectors.specs.Forms.{SelectorForm, ◌>>=◌}
 use Rattle.selectors.specs.Reading.{closing, closing_at, segments, put_first, selector_of, selectors_in, put_before, list_of}
+use Rattle.selectors.proofs.Choices.{some_is}
 
 pub closing_skip : (w : Word) (ws : List Word) → is_mark 41 w.kind ≡ false → closing (w ∷ ws) ≡ closing ws
 unfolding closing
@@ -17,9 +18,6 @@ closing_stop w ws e = ap (λ (b : Bool). cond b (Some (w, ws)) (closing ws)) e
 pub closing_none : closing [] ≡ None
 unfolding closing
 closing_none = refl
-
-some_is : {A : Type 0} (x y : A) → Some x ≡ Some y → x ≡ y
-some_is x y e = cc
 
 closing_over_at : (text : List ℕ) (ws : List Word) (w : Word) (new : Reading) → next_word (reading text ws) ≡ Some (w, new) → is_mark 41 w.kind ≡ false → closing_at new ≡ closing_at (reading text ws)
 closing_over_at text [] w new e other = absurd (cc)

@@ -10,7 +10,7 @@ use Rattle.selectors.specs.declared.selector.AttrOp.TheVariants as ops
 use Rattle.selectors.specs.declared.selector.NthKind.{NthKind}
 use Rattle.selectors.specs.Words.{is_mark, words_of, between}
 use Rattle.selectors.specs.Forms.{TestForm, any, tag, id, class, attr, nth, never, is, is_not, compound_form, SelectorForm}
-use Rattle.selectors.specs.Nth.{nth_of}
+use Rattle.selectors.specs.NthGrammar.{IsNth}
 use Rattle.selectors.specs.Reading.{value_of, id_of, string_of, lower_of, function_of, operator_of, pseudo_class, is_element, nth_kind, is_named, combinator_of, range_of, Item, Joined, segments}
 
 -- `=`, or one of five characters and `=` with nothing between them
@@ -36,7 +36,7 @@ pub data IsTest : List ℕ → List Word → TestForm → Type 0 where
       → IsTest text (colon ∷ name ∷ []) t
   by_nth : (text : List ℕ) (colon function close : Word) (argument all : List Word) (kind : NthKind) (step offset : ℤ)
       → all ≡ colon ∷ function ∷ (argument ++ close ∷ []) → colon.kind ≡ Mark 58 → function.kind ≡ Function → function.spaced ≡ false → nth_kind (function_of text function) ≡ Some kind
-      → AllByRecursion (λ w. is_mark 41 w.kind ≡ false) argument → close.kind ≡ Mark 41 → nth_of (between text function.end close.start) ≡ Some (step, offset)
+      → AllByRecursion (λ w. is_mark 41 w.kind ≡ false) argument → close.kind ≡ Mark 41 → IsNth (between text function.end close.start) step offset
       → IsTest text all (nth kind step offset)
   by_lang : (text : List ℕ) (colon function language close : Word) → colon.kind ≡ Mark 58 → function.kind ≡ Function → function.spaced ≡ false → is_named (codes "lang") (function_of text function) ≡ true
       → language.kind ≡ Ident → language.spaced ≡ false → close.kind ≡ Mark 41 → close.spaced ≡ false

@@ -5,4 +5,5 @@ pub mod Parts
 pub mod Reading
 pub mod Lists
 pub mod Weight
+pub mod NthGrammar
 pub mod Grammar

@@ -1,13 +1,22 @@
 //! Laws of the definitions: selector lists in the words of their grammar.
 
-ghost use Rattle.std.specs.Prelude.{◌≡◌, ℕ, List, Some};
+ghost use Rattle.std.specs.Prelude.{◌≡◌, ℕ, ℤ, List, Some};
 ghost use Rattle.selectors.specs.Forms.{SelectorForm};
 ghost use Rattle.selectors.specs.Reading.{selectors_of};
 ghost use Rattle.selectors.specs.Grammar.{IsSelectorList};
+ghost use Rattle.selectors.specs.Nth.{nth_of};
+ghost use Rattle.selectors.specs.NthGrammar.{IsNth};
 
 /// A text spells a selector list by the grammar exactly where that list is read from it. So it spells one at most, and
 /// one from which none is read spells none.
 pub fn grammar_law()
     ensures read { (text : List ℕ) (ss : List SelectorForm) → IsSelectorList text ss → selectors_of text ≡ Some ss }
     ensures spelled { (text : List ℕ) (ss : List SelectorForm) → selectors_of text ≡ Some ss → IsSelectorList text ss }
+{}
+
+/// A text says a step and an offset by the grammar of an+b exactly where these two are read from it. So it says one pair
+/// at most, and one from which none is read says none.
+pub fn nth_law()
+    ensures read { (text : List ℕ) (a b : ℤ) → IsNth text a b → nth_of text ≡ Some (a, b) }
+    ensures spelled { (text : List ℕ) (a b : ℤ) → nth_of text ≡ Some (a, b) → IsNth text a b }
 {}
