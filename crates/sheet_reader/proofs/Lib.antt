@@ -1,0 +1,11 @@
+pub mod BracketLemmas
+pub mod PartLemmas
+pub mod BodyLemmas
+pub mod SheetLemmas
+pub mod PositionLemmas
+pub mod BookLemmas
+pub mod ValueForms
+pub mod GrammarForms
+pub mod ItemForms
+pub mod PlaceForms
+pub mod NestingForms

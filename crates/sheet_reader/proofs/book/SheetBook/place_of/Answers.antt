@@ -1,0 +1,16 @@
+use Rattle.std.proofs.Common.{List, ℕ, nat_eq, ap, subst, ◌∙◌}
+use Rattle.std.specs.Prelude.{position}
+use Rattle.std.specs.List.{IsDistinct}
+use Rattle.sheet_reader.specs.Books.{place_in, AreApart}
+use Rattle.sheet_reader.proofs.BookLemmas.{keys_are}
+use Rattle.sheet_reader.proofs.book.SheetBook.place_of.Goals as goal
+
+pub returns-clause-place : goal.returns-clause-place
+returns-clause-place c =
+    c.get_index_of.ensures.index
+    ∙ ap (λ (ks : List ℕ). position (nat_eq c.args.id) ks) (keys_are c.self.inside.entries.entries c.self.invariant)
+    ∙ ap (place_in c.args.id) c.self.view_is
+
+pub returns-clause-apart : goal.returns-clause-apart
+returns-clause-apart c =
+    subst AreApart c.self.view_is (subst (IsDistinct nat_eq) (keys_are c.self.inside.entries.entries c.self.invariant) c.get_index_of.ensures.unique)

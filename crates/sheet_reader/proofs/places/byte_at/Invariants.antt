@@ -1,0 +1,10 @@
+use Rattle.std.proofs.Common.{◌≡◌, ℕ, ◌<◌}
+use Rattle.std.specs.Str.{IsCharBoundary}
+use Rattle.sheet_reader.specs.Positions.{position, position_of}
+use Rattle.sheet_reader.proofs.places.byte_at.Given as goal
+
+abbrev pub invariant-loop-byte : goal.invariant-loop-byte
+invariant-loop-byte l = record {
+  place : l.place ≡ position_of l.text l.byte;
+  none_before : (k : ℕ) → k < l.byte → IsCharBoundary l.text k → position_of l.text k ≡ position l.line l.column → ⊥;
+}

@@ -1,0 +1,10 @@
+pub mod Brackets
+pub mod Forms
+pub mod Parts
+pub mod Declarations
+pub mod Sheets
+pub mod Sealing
+pub mod Positions
+pub mod Seen
+pub mod Books
+pub mod Grammar

@@ -1,0 +1,155 @@
+//! A book of style sheets: texts with their readings, in order.
+
+ghost use Rattle.std.specs.Prelude.{◌≡◌, ◌<◌, ◌++◌, ◌∷◌, [], length, None, Some, IsSome, IfSome, slice_get, option_copied, nat_eq, OnOk, OnErr, IfOk};
+ghost use Rattle.indexmap.specs.IndexMap.{get, shift_remove_entry};
+ghost use Rattle.sheet_reader.specs.Books.{IsEntry, AreApart, entry_of, place_in, changed, removed};
+
+use crate::rules::read_sheet;
+use crate::sheet::Sheet;
+use indexmap::IndexMap;
+use node_tree::Text;
+use std::alloc::{AllocError, Global};
+use std::marker::Model;
+
+/// Where a sheet comes from.
+#[derive(Clone, Copy, PartialEq, Eq, Debug)]
+pub enum Origin {
+    UserAgent,
+    Regular,
+}
+
+/// A sheet: its text, and what it says.
+#[derive(Drop)]
+pub struct SheetEntry {
+    pub id: u64,
+    pub origin: Origin,
+    pub text: Text,
+    pub reading: Sheet,
+}
+
+/// Style sheets in order, each with an id of its own from 1 to 2^53 - 1, a text of at most 2^24 bytes, and the reading of
+/// that text.
+#[derive(Drop)]
+pub struct SheetBook {
+    entries: IndexMap<u64, SheetEntry>,
+    alloc: Global,
+}
+
+impl Model for SheetBook {
+    ghost use Rattle.std.specs.Prelude.{List};
+    ghost use Rattle.sheet_reader.specs.declared.book.SheetEntry.{SheetEntry};
+    ghost use Rattle.sheet_reader.specs.Books.{AreEntries, entries_in};
+
+    ghost Value = { List SheetEntry };
+
+    ghost view = { λ b. entries_in b.entries.entries };
+
+    ghost invariant = { λ b. AreEntries b.entries.entries };
+}
+
+impl SheetBook {
+    /// An empty book; takes no memory.
+    pub fn new(alloc: Global) -> SheetBook
+        ensures { result ≡ [] }
+    {
+        SheetBook {
+            entries: IndexMap::new(alloc),
+            alloc,
+        }
+    }
+
+    /// The allocator that the book was made with.
+    pub fn allocator(&self) -> Global {
+        self.alloc
+    }
+
+    pub fn len(&self) -> usize
+        ensures { result ≡ length self.now }
+    {
+        self.entries.len()
+    }
+
+    /// The entry at place `i`, counted from 0.
+    pub fn at(&self, i: usize) -> &SheetEntry
+        requires { i < length self.now }
+        ensures at { slice_get self.now i ≡ Some result.now }
+        ensures read { IsEntry result.now }
+    {
+        match self.entries.get_index(i) {
+            Some((_id, entry)) => entry,
+            None => unreachable!(),
+        }
+    }
+
+    pub fn get(&self, id: u64) -> Option<&SheetEntry>
+        ensures found { option_copied result ≡ entry_of id self.now }
+        ensures read { IfSome result (λ e. IsEntry e.now) }
+    {
+        self.entries.get(&id)
+    }
+
+    /// The place of the entry with this id, counted from 0.
+    pub fn place_of(&self, id: u64) -> Option<usize>
+        ensures place { result ≡ place_in id self.now }
+        ensures apart { AreApart self.now }
+    {
+        self.entries.get_index_of(&id)
+    }
+
+    /// An entry that equals the one at place `i`.
+    pub fn copy_at(&self, i: usize) -> Result<SheetEntry, AllocError>
+        requires { i < length self.now }
+        ensures { IfOk result (λ e. slice_get self.now i ≡ Some e) }
+    {
+        let entry = self.at(i);
+        let reading = read_sheet(self.alloc, entry.text.as_str())?;
+        Ok(SheetEntry {
+            id: entry.id,
+            origin: entry.origin,
+            text: entry.text.try_clone()?,
+            reading,
+        })
+    }
+
+    /// Puts an entry last. On an error the book is as it was.
+    pub fn put(&mut self, entry: SheetEntry) -> Result<(), AllocError>
+        requires entry { IsEntry entry }
+        requires new { entry_of entry.id self.old ≡ None }
+        ensures last { OnOk result (self.new ≡ self.old ++ entry ∷ []) }
+        ensures unchanged { OnErr result (self.new ≡ self.old) }
+    {
+        match self.entries.insert(entry.id, entry) {
+            Ok(_) => Ok(()),
+            Err(_) => Err(AllocError),
+        }
+    }
+
+    /// Puts an entry in the place of the one with its id, and answers that one. Takes no memory.
+    pub fn change(&mut self, entry: SheetEntry) -> SheetEntry
+        requires entry { IsEntry entry }
+        requires there { IsSome (entry_of entry.id self.old) }
+        ensures old { entry_of entry.id self.old ≡ Some result }
+        ensures changed { self.new ≡ changed entry self.old }
+    {
+        match self.entries.insert(entry.id, entry) {
+            Ok(Some(old)) => old,
+            Ok(None) => unreachable!(),
+            Err(_) => unreachable!(),
+        }
+    }
+
+    /// Takes out the entry with this id; the others keep their order. Takes no memory.
+    pub fn remove(&mut self, id: u64) -> Option<SheetEntry>
+        ensures entry { result ≡ entry_of id self.old }
+        ensures others { self.new ≡ removed id self.old }
+    {
+        take_out(&mut self.entries, id)
+    }
+}
+
+fn take_out(entries: &mut IndexMap<u64, SheetEntry>, id: u64) -> Option<SheetEntry>
+    ensures value { result ≡ get nat_eq entries.old id }
+    ensures others { entries.new.entries ≡ shift_remove_entry (nat_eq id) entries.old.entries }
+{
+    entries.shift_remove(&id)
+}

@@ -1,0 +1,31 @@
+//! Style sheets and declarations by CSS Syntax 3, section 5, in a profile: what a text says as a sheet and as a body, where
+//! it says it, and a book of sheets that keeps texts and readings together.
+//!
+//! Every text has one reading. Places are bytes from 0, unless a name says otherwise.
+#![tactic(auto)]
+
+mod book;
+mod brackets;
+mod declarations;
+mod laws;
+mod lists;
+mod parts;
+mod place;
+mod places;
+mod rules;
+mod sealing;
+mod sheet;
+mod words;
+
+pub use book::{Origin, SheetBook, SheetEntry};
+pub use declarations::read_style;
+pub use laws::{grammar_law, nesting_law, position_law};
+pub use lists::{Places, Properties, StyleRules};
+pub use place::Position;
+pub use places::{byte_at, position};
+pub use rules::read_sheet;
+pub use sealing::sealed;
+pub use sheet::{Property, Sheet, StyleRule};
+
+#[cfg(test)]
+mod tests;

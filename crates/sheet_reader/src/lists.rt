@@ -1,0 +1,123 @@
+//! The lists of a sheet. Each is made from a `Vec` and gives it back without taking memory.
+
+ghost use Rattle.std.specs.Prelude.{◌≡◌, ◌<◌, length, map, Some, slice_get, IfOk};
+ghost use Rattle.sheet_reader.specs.Forms.{rule_seen};
+
+use crate::sheet::{Property, StyleRule};
+use std::marker::Model;
+
+/// The declarations of a body, in the order of the text.
+#[derive(Drop)]
+pub struct Properties {
+    properties: Vec<Property>,
+}
+
+impl Model for Properties {
+    ghost use Rattle.std.specs.Prelude.{List};
+    ghost use Rattle.sheet_reader.specs.declared.sheet.Property.{Property};
+
+    ghost Value = { List Property };
+
+    ghost view = { λ l. l.properties.items };
+}
+
+impl Properties {
+    pub fn new(properties: Vec<Property>) -> Properties
+        ensures { result ≡ properties.items }
+    {
+        Properties { properties }
+    }
+
+    pub fn as_slice(&self) -> &[Property]
+        ensures { result.now ≡ self.now }
+    {
+        self.properties.as_slice()
+    }
+
+    pub fn into_vec(self) -> Vec<Property>
+        ensures { result.items ≡ self }
+    {
+        self.properties
+    }
+
+    pub fn len(&self) -> usize
+        ensures { result ≡ length self.now }
+    {
+        self.properties.len()
+    }
+}
+
+/// The style rules of a sheet, in the order of the text.
+#[derive(Drop)]
+pub struct StyleRules {
+    rules: Vec<StyleRule>,
+}
+
+impl Model for StyleRules {
+    ghost use Rattle.std.specs.Prelude.{List, map};
+    ghost use Rattle.sheet_reader.specs.Forms.{RuleForm, rule_seen};
+
+    ghost Value = { List RuleForm };
+
+    ghost view = { λ l. map rule_seen l.rules.items };
+}
+
+impl StyleRules {
+    pub fn new(rules: Vec<StyleRule>) -> StyleRules
+        ensures { result ≡ map rule_seen rules.items }
+    {
+        StyleRules { rules }
+    }
+
+    pub fn as_slice(&self) -> &[StyleRule]
+        ensures { map rule_seen result.now ≡ self.now }
+    {
+        self.rules.as_slice()
+    }
+
+    pub fn into_vec(self) -> Vec<StyleRule>
+        ensures { map rule_seen result.items ≡ self }
+    {
+        self.rules
+    }
+
+    pub fn len(&self) -> usize
+        ensures { result ≡ length self.now }
+    {
+        self.rules.len()
+    }
+}
+
+/// Places in a text, in bytes.
+#[derive(Drop)]
+pub struct Places {
+    places: Vec<usize>,
+}
+
+impl Model for Places {
+    ghost use Rattle.std.specs.Prelude.{ℕ, List};
+
+    ghost Value = { List ℕ };
+
+    ghost view = { λ l. l.places.items };
+}
+
+impl Places {
+    pub fn new(places: Vec<usize>) -> Places
+        ensures { result ≡ places.items }
+    {
+        Places { places }
+    }
+
+    pub fn as_slice(&self) -> &[usize]
+        ensures { result.now ≡ self.now }
+    {
+        self.places.as_slice()
+    }
+
+    pub fn into_vec(self) -> Vec<usize>
+        ensures { result.items ≡ self }
+    {
+        self.places
+    }
+}

@@ -1,0 +1,85 @@
+//! Places in a text as lines and columns. A line ends at a line feed alone; a column counts UTF-16 units.
+
+ghost use Rattle.std.specs.Prelude.{◌≡◌, ℕ, ◌+◌, ◌<◌, ◌≤◌, ◌^◌, true, false, IfSome, IfNone};
+ghost use Rattle.std.specs.Str.{IsCharBoundary};
+ghost use Rattle.sheet_reader.specs.Positions.{units_at, position, position_of, behind_byte};
+
+use crate::place::Position;
+
+fn units_at(byte: u8) -> u64
+    ensures value { result ≡ units_at byte }
+    ensures few { result ≤ 2 }
+{
+    match byte {
+        0..=127 => 1,
+        128..=191 => 0,
+        192..=239 => 1,
+        _ => 2,
+    }
+}
+
+/// The position behind a byte, of which this is the position before it.
+fn behind_byte(before: Position, byte: u8) -> Position
+    requires line { before.line + 1 < 2 ^ 64 }
+    requires column { before.column + 2 < 2 ^ 64 }
+    ensures { result ≡ behind_byte before byte }
+{
+    if byte == b'\n' {
+        Position {
+            line: before.line + 1,
+            column: 0,
+        }
+    } else {
+        Position {
+            line: before.line,
+            column: before.column + units_at(byte),
+        }
+    }
+}
+
+/// The position of a byte, which is a character's edge or the text's end.
+pub fn position(text: &str, byte: usize) -> Position
+    requires edge { IsCharBoundary text.now byte }
+    ensures { result ≡ position_of text.now byte }
+{
+    let mut place = Position { line: 0, column: 0 };
+    for code in &text.as_bytes()[..byte] {
+        place = behind_byte(place, *code);
+    }
+    place
+}
+
+/// Whether this place is the wanted one, and the byte is a character's edge or the text's end.
+fn is_there(text: &str, byte: usize, place: Position, line: u64, column: u64) -> bool
+    ensures yes { result ≡ true → (place ≡ position line column) × IsCharBoundary text.now byte }
+    ensures no { result ≡ false → IsCharBoundary text.now byte → place ≡ position line column → ⊥ }
+{
+    if place.line != line {
+        return false;
+    }
+    if place.column != column {
+        return false;
+    }
+    text.is_char_boundary(byte)
+}
+
+/// The byte at a character's edge, or the text's end, that has this position. None where the line has no such column: past
+/// its end, or inside a pair of units; or where the text has no such line.
+pub fn byte_at(text: &str, line: u64, column: u64) -> Option<usize>
+    ensures edge { IfSome result (λ byte. IsCharBoundary text.now byte) }
+    ensures there { IfSome result (λ byte. position_of text.now byte ≡ position line column) }
+    ensures no_place { IfNone result ((byte : ℕ) → IsCharBoundary text.now byte → position_of text.now byte ≡ position line column → ⊥) }
+{
+    let mut place = Position { line: 0, column: 0 };
+    for (byte, code) in text.as_bytes().iter().enumerate() {
+        if is_there(text, byte, place, line, column) {
+            return Some(byte);
+        }
+        place = behind_byte(place, *code);
+    }
+    if is_there(text, text.len(), place, line, column) {
+        Some(text.len())
+    } else {
+        None
+    }
+}

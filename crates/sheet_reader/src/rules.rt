@@ -1,0 +1,182 @@
+//! Style rules, and sheets.
+
+ghost use Rattle.std.specs.Prelude.{◌≡◌, ◌++◌, All, map, false, IfOk, option_map, option_to_list};
+ghost use Rattle.css_tokens.specs.Marks.{IsPieceOf};
+ghost use Rattle.selectors.specs.Words.{words_after};
+ghost use Rattle.sheet_reader.specs.Seen.{part_seen, ending_seen};
+ghost use Rattle.sheet_reader.specs.Parts.{part_pieces, ending_pieces};
+ghost use Rattle.sheet_reader.specs.Forms.{rule_seen};
+ghost use Rattle.sheet_reader.specs.Sheets.{body_end, style_rule, rule_by, rule_of, is_closed_comment, passed_place, ending_place, place_of, sheet_of};
+
+use crate::declarations::read_body;
+use crate::lists::{Places, Properties, StyleRules};
+use crate::parts::{Ending, Part, behind, part_at, part_len};
+use crate::sheet::{Sheet, StyleRule};
+use crate::words::{range_of, words_among};
+use css_tokens::{Range, Token, TokenKind, all_tokens};
+use selectors::{SelErr, Words, read_list};
+use std::alloc::{AllocError, Global};
+
+/// Where a body ends that this piece closes: before it, or at the text's end.
+fn body_end(text: &str, close: Option<Token>) -> usize
+    ensures { result ≡ body_end text.now close }
+{
+    match close {
+        Some(close) => close.start,
+        None => text.len(),
+    }
+}
+
+/// The style rule with this prelude, if that is a selector list.
+fn style_rule(
+    alloc: Global,
+    text: &str,
+    prelude: &[Token],
+    body: Range,
+    inside: &[Token],
+) -> Result<Option<StyleRule>, AllocError>
+    requires prelude { All (IsPieceOf text.now) prelude.now }
+    requires inside { All (IsPieceOf text.now) inside.now }
+    ensures { IfOk result (λ r. option_map rule_seen r ≡ style_rule text.now (words_after text.now false prelude.now) body inside.now) }
+{
+    let words = words_among(alloc, text, prelude)?;
+    let Some(range) = range_of(words.as_slice()) else {
+        return Ok(None);
+    };
+    match read_list(alloc, &mut Words::new(text, words.as_slice())) {
+        Ok(selectors) => {
+            let properties = read_body(alloc, text, inside)?;
+            Ok(Some(StyleRule {
+                prelude: range,
+                selectors,
+                body,
+                properties: Properties::new(properties),
+            }))
+        }
+        Err(SelErr::Invalid) => Ok(None),
+        Err(SelErr::Memory) => Err(AllocError),
+    }
+}
+
+fn rule_by(
+    alloc: Global,
+    text: &str,
+    prelude: &[Token],
+    ending: Ending,
+) -> Result<Option<StyleRule>, AllocError>
+    requires prelude { All (IsPieceOf text.now) prelude.now }
+    requires inside { All (IsPieceOf text.now) (ending_pieces (ending_seen ending)) }
+    ensures { IfOk result (λ r. option_map rule_seen r ≡ rule_by text.now prelude.now (ending_seen ending.entry)) }
+{
+    match ending {
+        Ending::Block { first, body, close } => {
+            let range = Range {
+                start: first.end,
+                end: body_end(text, close),
+            };
+            style_rule(alloc, text, prelude, range, body)
+        }
+        _ => Ok(None),
+    }
+}
+
+/// The style rule that a part is, if it is one.
+#[tactic(auto, unfolding(crate::specs::Sheets::rule_of))]
+fn rule_of(alloc: Global, text: &str, part: Part) -> Result<Option<StyleRule>, AllocError>
+    requires { All (IsPieceOf text.now) (part_pieces (part_seen part)) }
+    ensures { IfOk result (λ r. option_map rule_seen r ≡ rule_of text.now (part_seen part.entry)) }
+{
+    match part {
+        Part::Qualified { prelude, ending } => rule_by(alloc, text, prelude, ending),
+        _ => Ok(None),
+    }
+}
+
+fn is_closed_comment(text: &str, piece: Token) -> bool
+    requires { IsPieceOf text.now piece }
+    ensures { result ≡ is_closed_comment text.now piece }
+{
+    let bytes = text.as_bytes();
+    piece.start + 4 <= piece.end && (bytes[piece.end - 2] == b'*' && bytes[piece.end - 1] == b'/')
+}
+
+fn passed_place(text: &str, piece: Token) -> Option<usize>
+    requires { IsPieceOf text.now piece }
+    ensures { result ≡ passed_place text.now piece piece.kind }
+{
+    match piece.kind {
+        TokenKind::Comment => {
+            if is_closed_comment(text, piece) {
+                Some(piece.end)
+            } else {
+                None
+            }
+        }
+        _ => Some(piece.end),
+    }
+}
+
+fn ending_place(ending: Ending) -> Option<usize>
+    ensures { result ≡ ending_place (ending_seen ending.entry) }
+{
+    match ending {
+        Ending::TextEnd => None,
+        Ending::Semicolon(semicolon) => Some(semicolon.end),
+        Ending::Block { close, .. } => match close {
+            Some(close) => Some(close.end),
+            None => None,
+        },
+    }
+}
+
+/// The place behind a part, unless the text's end cut the part short.
+#[tactic(auto, unfolding(crate::specs::Sheets::place_of))]
+fn place_of(text: &str, part: Part) -> Option<usize>
+    requires { All (IsPieceOf text.now) (part_pieces (part_seen part)) }
+    ensures { result ≡ place_of text.now (part_seen part.entry) }
+{
+    match part {
+        Part::Passed(piece) => passed_place(text, piece),
+        Part::AtRule { ending, .. } | Part::Qualified { ending, .. } => ending_place(ending),
+    }
+}
+
+fn push_rule(rules: &mut Vec<StyleRule>, rule: Option<StyleRule>) -> Result<(), AllocError>
+    ensures { IfOk result (λ _. map rule_seen rules.new.items ≡ map rule_seen rules.old.items ++ option_to_list (option_map rule_seen rule)) }
+{
+    if let Some(rule) = rule {
+        rules.push(rule)?;
+    }
+    Ok(())
+}
+
+fn push_place(places: &mut Vec<usize>, place: Option<usize>) -> Result<(), AllocError>
+    ensures { IfOk result (λ _. places.new.items ≡ places.old.items ++ option_to_list place) }
+{
+    if let Some(place) = place {
+        places.push(place)?;
+    }
+    Ok(())
+}
+
+/// What a text says as a style sheet.
+pub fn read_sheet(alloc: Global, text: &str) -> Result<Sheet, AllocError>
+    ensures { IfOk result (λ s. s ≡ sheet_of text.now) }
+{
+    let pieces = all_tokens(alloc, text)?;
+    let mut rules = Vec::new(alloc);
+    let mut places = Vec::new(alloc);
+    places.push(0)?;
+    let mut left = pieces.as_slice();
+    'parts: while let [first, ..] = left {
+        let part = part_at(alloc, *first, left)?;
+        let rule = rule_of(alloc, text, part)?;
+        push_rule(&mut rules, rule)?;
+        push_place(&mut places, place_of(text, part))?;
+        left = behind(left, part_len(part));
+    }
+    Ok(Sheet {
+        rules: StyleRules::new(rules),
+        places: Places::new(places),
+    })
+}
