@@ -1,4 +1,4 @@
--- How deep the JSON of a reply nests.
+-- How deep the JSON of a message nests.
 use Rattle.std.proofs.Common.{ℕ, suc, ◌+◌, ◌*◌, ◌≤◌, max, List, [], ◌∷◌, Bool, true, false, nat_lt, map, Option, Some, None, option_map, arith}
 use Rattle.std.specs.Prelude.{codes, ⊤}
 use Rattle.serde_json.specs.Data.{Data, string, Items, Members, no_members, member, depth, items_depth, members_depth}
@@ -11,7 +11,8 @@ use Rattle.node_tree.specs.Seen.{is_opened}
 use Rattle.cdp_messages.specs.Told.{Told}
 use Rattle.cdp_messages.specs.NodeObject.{flat, attribute_list, node_type, node_name, local_name, only_if, node_data}
 use Rattle.cdp_messages.specs.NodeData.{tree_items, tree_data}
-use Rattle.cdp_messages.specs.Laws.{RepliesAreShallow}
+use Rattle.cdp_messages.specs.declared.down.ReplyBody.TheVariants.{Nothing, Root, NodeId, NodeIds}
+use Rattle.cdp_messages.specs.Laws.{RepliesAreShallow, EventsAreShallow}
 
 -- a value, if any, nests no deeper
 abbrev Within : ℕ → Option Data → Type 0
@@ -81,7 +82,21 @@ tree_depth b = twice _ _ (node_depth b.row (tree_items b.children)) (trees_depth
   twice : (d h : ℕ) {i : ℕ} → d ≤ 2 + i → i ≤ 2 * h → d ≤ 2 * max (suc h) 0
   twice d h p q = omega arith
 
+numbers_depth : (ns : List ℕ) → items_depth (items_of (map whole.spell ns)) ≤ 0
+numbers_depth [] = omega arith
+numbers_depth (n ∷ ns) = omega (arith, numbers_depth ns)
+
 pub replies_are_shallow : RepliesAreShallow
-replies_are_shallow id b h = shallow (depth (tree_data b)) (height (alone b)) (tree_depth b) h where
+replies_are_shallow id Nothing h = omega arith
+replies_are_shallow id (Root b) h = shallow (depth (tree_data b)) (height (alone b)) (tree_depth b) h where
   shallow : (d g : ℕ) → d ≤ 2 * g → g ≤ 61 → suc (max 0 (max (suc (max d 0)) 0)) ≤ 127
+  shallow d g p q = omega arith
+replies_are_shallow id (NodeId n) h = omega arith
+replies_are_shallow id (NodeIds ns) h = shallow (items_depth (items_of (map whole.spell ns))) (numbers_depth ns) where
+  shallow : (d : ℕ) → d ≤ 0 → suc (max 0 (max (suc (max (suc d) 0)) 0)) ≤ 127
+  shallow d p = omega arith
+
+pub events_are_shallow : EventsAreShallow
+events_are_shallow parent nodes h = shallow (items_depth (tree_items nodes)) (height nodes) (trees_depth nodes) h where
+  shallow : (d g : ℕ) → d ≤ 2 * g → g ≤ 60 → suc (max 0 (max (suc (max (suc d) (max 0 0))) 0)) ≤ 127
   shallow d g p q = omega arith

@@ -14,7 +14,8 @@ use Rattle.cdp_messages.specs.NodeObject.{flat, attribute_list, node_type, node_
 use Rattle.cdp_messages.specs.NodeData.{tree_items, tree_data}
 use Rattle.cdp_messages.specs.Asked.{command_value, is_whole_where_there}
 use Rattle.cdp_messages.specs.declared.down.ReplyBody.{ReplyBody}
-use Rattle.cdp_messages.specs.declared.down.ReplyBody.TheVariants.{Root}
+use Rattle.cdp_messages.specs.declared.down.ReplyBody.TheVariants.{Nothing, Root, NodeId, NodeIds}
+use Rattle.cdp_messages.specs.Events.{News, set_children, document_updated, news_data}
 use Rattle.cdp_messages.specs.Replies.{reply, message_data, body_data}
 
 either : {a b : Bool} → a ≡ false → b ≡ false → (a || b) ≡ false
@@ -78,5 +79,16 @@ trees_free (node r c t) = either (node_free r (tree_items c) (trees_free c)) (tr
 tree_free : (b : Branch Told) → has_float (tree_data b) ≡ false
 tree_free b = node_free b.row (tree_items b.children) (trees_free b.children)
 
+numbers_free : (ns : List ℕ) → items_have_float (items_of (map whole.spell ns)) ≡ false
+numbers_free [] = refl
+numbers_free (n ∷ ns) = numbers_free ns
+
 pub has_float-reply : (id : ℕ) (body : ReplyBody) → has_float (message_data (reply id (body_data body))) ≡ false
+has_float-reply id Nothing = refl
 has_float-reply id (Root tree) = either (either (tree_free tree) refl) refl
+has_float-reply id (NodeId n) = refl
+has_float-reply id (NodeIds ns) = either (either (numbers_free ns) refl) refl
+
+pub has_float-news : (n : News) → has_float (news_data n) ≡ false
+has_float-news (set_children parent nodes) = either (either (trees_free nodes) refl) refl
+has_float-news document_updated = refl

@@ -1,7 +1,8 @@
 mod AttributeLists
 pub mod Commands
-mod Floats
 pub mod Depths
+mod EventsRead
+mod Floats
 mod Json
 pub mod Messages
 mod Options

@@ -13,6 +13,7 @@ use Rattle.node_tree.specs.Labels.{holds}
 use Rattle.cdp_messages.specs.Told.{Told, hold_of}
 use Rattle.cdp_messages.specs.NodeObject.{NodeObject, Fields, attribute_list, node_type, agrees, node_row, fields_of, node_fields, node_data, object_for, told_in, children_in, only_if, fits_row, fits_place, is_counted_row, tells, node_object}
 use Rattle.cdp_messages.specs.NodeData.{tree_items, tree_data, is_none, fits_below, fits_nodes, fits_tree, over, before, tree_of, children_of, trees_in, trees_of}
+use Rattle.cdp_messages.specs.Events.{nodes_kind}
 use Rattle.cdp_messages.specs.Replies.{document_kind}
 use Rattle.cdp_messages.proofs.Options.{both, both_parts}
 use Rattle.cdp_messages.proofs.NodeObjects.{fields_lawful, object_lawful_at, object_for-told_in, told_in-object_for, object_fits}
@@ -249,6 +250,18 @@ trees_plain (node r c t) f =
 
 pub tree_plain : (top : Bool) (b : Branch Told) → fits_tree top b ≡ true → is_plain (tree_data b) ≡ true
 tree_plain top b f = let p = tree_parts top b f in node_plain top b.row b.children p.row (trees_plain b.children p.children)
+
+nodes_take : (d : Data) (n : Nodes Told) → trees_in d ≡ Some n → (array (tree_items n) ≡ d) × (fits_nodes n ≡ true)
+nodes_take null n e = absurd cc
+nodes_take (boolean x) n e = absurd cc
+nodes_take (number x) n e = absurd cc
+nodes_take (string x) n e = absurd cc
+nodes_take (array ds) n e = let t = trees_take ds n e in (ap array t.0, t.1)
+nodes_take (object ms) n e = absurd cc
+
+-- nodes that are no document
+pub nodes_lawful : LawfulKind nodes_kind
+nodes_lawful = record { takes = nodes_take; again = trees_again; plain = λ n f l. trees_plain n f }
 
 -- a document with all that is shown of it
 pub document_lawful : LawfulKind document_kind

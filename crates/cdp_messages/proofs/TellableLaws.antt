@@ -1,5 +1,5 @@
 -- A shown tree that suits a message is told in a form that fits.
-use Rattle.std.proofs.Common.{◌≡◌, ℕ, suc, ◌==◌, ◌<◌, Bool, true, false, cond, nat_lt, refl, sym, ap, ◌∙◌, arith, ltb-true}
+use Rattle.std.proofs.Common.{◌≡◌, ℕ, suc, ◌==◌, ◌<◌, Bool, true, false, cond, nat_lt, refl, sym, ap, ◌∙◌, arith, ltb-true, lt-ltb}
 use Rattle.std.proofs.lemmas.Bool.{ne_eqb, eqb-false}
 use Rattle.cdp_json.specs.Kinds.{is_counted}
 use Rattle.node_tree.specs.Labels.{is_document, holds, is_formed_label, is_named_label}
@@ -9,7 +9,7 @@ use Rattle.cdp_messages.specs.Told.{count_in, told_nodes}
 use Rattle.cdp_messages.specs.NodeObject.{same, fits_hold, fits_row}
 use Rattle.cdp_messages.specs.NodeData.{is_none, fits_nodes}
 use Rattle.cdp_messages.specs.Tellable.{suits_hold, suits_row, suits_below, suits_nodes}
-use Rattle.cdp_messages.specs.Laws.{ShownTreesFit}
+use Rattle.cdp_messages.specs.Laws.{ShownTreesFit, ShownChildrenFit}
 use Rattle.cdp_messages.proofs.Options.{both, both_parts}
 
 width-told_nodes : (p : ℕ) (n : Nodes Seen) → width (told_nodes p n) ≡ width n
@@ -80,3 +80,8 @@ shown_trees_fit b s =
     let id = ids_suit true b.row (count_in b.row.hold b.children) p1.0 in
     both (both (told_row true 0 b.row b.children (width (told_nodes b.row.id b.children)) (sym (width-told_nodes b.row.id b.children)) refl refl p1.0) (told_below b.row.hold b.row.id b.children p1.1))
     (fits-told_nodes b.row.id b.children id.0 id.1 p2.1)
+
+pub shown_children_fit : ShownChildrenFit
+shown_children_fit p n c z s =
+    let positive : nat_lt 0 p ≡ true = lt-ltb 0 p z in
+    both (both (fits-told_nodes p n c positive s) (both (both c positive) refl)) refl

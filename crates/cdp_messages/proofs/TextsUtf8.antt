@@ -1,4 +1,4 @@
--- The text of a reply is UTF-8 where the texts of its nodes are.
+-- The text of a message is UTF-8 where the texts of its nodes are.
 use Rattle.std.proofs.Common.{◌≡◌, ℕ, ◌-◌, ◌==◌, ◌<◌, ◌≤◌, List, [], ◌∷◌, Bool, true, false, cond, ◌&&◌, ◌||◌, ◌⊎◌, inl, inr, nat_lt, map, length, Option, Some, None, option_map, refl, arith, lt-ltb, eqb-true}
 use Rattle.std.specs.Prelude.{codes, IsUtf8, nat_le, ⊤}
 use Rattle.std.specs.Char.{to_ascii_uppercase}
@@ -18,16 +18,18 @@ use Rattle.node_tree.specs.Labels.{Pair, is_element, holds, has_name, is_named_l
 use Rattle.node_tree.specs.Names.{is_letter, is_name_byte, is_element_name}
 use Rattle.node_tree.specs.Nodes.{Nodes, none, node, Branch, alone, width}
 use Rattle.node_tree.specs.Seen.{is_opened}
-use Rattle.cdp_messages.specs.declared.down.ReplyBody.TheVariants.{Root}
+use Rattle.cdp_messages.specs.declared.down.ReplyBody.{ReplyBody}
+use Rattle.cdp_messages.specs.declared.down.ReplyBody.TheVariants.{Nothing, Root, NodeId, NodeIds}
 use Rattle.cdp_messages.specs.Told.{Told}
 use Rattle.cdp_messages.specs.NodeObject.{flat, attribute_list, node_type, name_shown, local_name_of, node_name, local_name, only_if, node_data, is_counted_row, fits_place, fits_row}
 use Rattle.cdp_messages.specs.NodeData.{tree_items, tree_data, fits_nodes, fits_tree}
-use Rattle.cdp_messages.specs.Replies.{reply, message_data, body_data}
-use Rattle.cdp_messages.specs.Laws.{PairsHaveUtf8, LabelHasUtf8, NodesHaveUtf8, RepliesAreUtf8}
+use Rattle.cdp_messages.specs.Events.{News, set_children, document_updated, news_data, fits_news}
+use Rattle.cdp_messages.specs.Replies.{reply, message_data, body_data, fits_body}
+use Rattle.cdp_messages.specs.Laws.{PairsHaveUtf8, LabelHasUtf8, NodesHaveUtf8, BodyHasUtf8, NewsHaveUtf8, RepliesAreUtf8, EventsAreUtf8}
 use Rattle.cdp_messages.proofs.Options.{both, both_parts}
 use Rattle.cdp_messages.proofs.NodeObjects.{placed}
 use Rattle.cdp_messages.proofs.NodeTrees.{fitting_parts, tree_parts}
-use Rattle.cdp_messages.proofs.Messages.{reply_plain}
+use Rattle.cdp_messages.proofs.Messages.{reply_plain, news_plain}
 
 -- ---- names of elements are ASCII, and so are they in upper case
 
@@ -170,7 +172,36 @@ tree_utf8 b f u =
     let p = tree_parts true b f in
     node_utf8 b.row (tree_items b.children) (named_row true (width b.children) b.row p.row) u.0 (trees_utf8 b.children p.children u.1)
 
+numbers_utf8 : (ns : List ℕ) → ItemsHaveUtf8 (items_of (map whole.spell ns))
+numbers_utf8 [] = tt
+numbers_utf8 (n ∷ ns) = (tt, numbers_utf8 ns)
+
+body_utf8 : (body : ReplyBody) → fits_body body ≡ true → BodyHasUtf8 body → HasUtf8 (body_data body)
+body_utf8 Nothing f u = tt
+body_utf8 (Root b) f u = (IsUtf8-are_ascii (codes "root") refl, tree_utf8 b f u, tt)
+body_utf8 (NodeId n) f u = (IsUtf8-are_ascii (codes "nodeId") refl, tt, tt)
+body_utf8 (NodeIds ns) f u = (IsUtf8-are_ascii (codes "nodeIds") refl, numbers_utf8 ns, tt)
+
 pub replies_are_utf8 : RepliesAreUtf8
-replies_are_utf8 id b c f u =
-    IsUtf8-compact_text (message_data (reply id (body_data (Root b)))) (reply_plain id (Root b) c f)
-    (IsUtf8-are_ascii (codes "id") refl, tt, (IsUtf8-are_ascii (codes "result") refl, (IsUtf8-are_ascii (codes "root") refl, tree_utf8 b f u, tt), tt))
+replies_are_utf8 id body c f u =
+    IsUtf8-compact_text (message_data (reply id (body_data body))) (reply_plain id body c f)
+    (IsUtf8-are_ascii (codes "id") refl, tt, (IsUtf8-are_ascii (codes "result") refl, body_utf8 body f u, tt))
+
+-- the nodes of an event fit
+shown_fit : (parent : ℕ) (nodes : Nodes Told) → fits_news (set_children parent nodes) ≡ true → fits_nodes nodes ≡ true
+shown_fit parent nodes f = (both_parts (fits_nodes nodes) _ (both_parts _ true f).0).0
+
+news_utf8 : (n : News) → fits_news n ≡ true → NewsHaveUtf8 n → HasUtf8 (news_data n)
+news_utf8 (set_children parent nodes) f u = (
+  IsUtf8-are_ascii (codes "method") refl,
+  IsUtf8-are_ascii (codes "DOM.setChildNodes") refl,
+  (
+    IsUtf8-are_ascii (codes "params") refl,
+    (IsUtf8-are_ascii (codes "nodes") refl, trees_utf8 nodes (shown_fit parent nodes f) u, (IsUtf8-are_ascii (codes "parentId") refl, tt, tt)),
+    tt,
+  ),
+)
+news_utf8 document_updated f u = (IsUtf8-are_ascii (codes "method") refl, IsUtf8-are_ascii (codes "DOM.documentUpdated") refl, (IsUtf8-are_ascii (codes "params") refl, tt, tt))
+
+pub events_are_utf8 : EventsAreUtf8
+events_are_utf8 n f u = IsUtf8-compact_text (news_data n) (news_plain n f) (news_utf8 n f u)

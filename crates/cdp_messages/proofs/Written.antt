@@ -14,7 +14,7 @@ pub same_members : {a a' c c' k k' p p' : Option Data} {s s' l l' i i' n n' t t'
     → node_members a s c k l i n t v p ≡ node_members a' s' c' k' l' i' n' t' v' p'
 same_members a s c k l i n t v p = λ x. node_members (a x) (s x) (c x) (k x) (l x) (i x) (n x) (t x) (v x) (p x)
 
-tree_items-nodes_of : (bs : List (Branch Told)) → items_of (map tree_data bs) ≡ tree_items (nodes_of bs)
+pub tree_items-nodes_of : (bs : List (Branch Told)) → items_of (map tree_data bs) ≡ tree_items (nodes_of bs)
 tree_items-nodes_of [] = refl
 tree_items-nodes_of (b ∷ bs) = ap (item (tree_data b)) (tree_items-nodes_of bs)
 

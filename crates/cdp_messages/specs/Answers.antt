@@ -3,6 +3,9 @@ use Rattle.std.specs.Prelude.{◌≡◌, ℕ, List, [], ◌∷◌, ◌++◌, Opt
 use Rattle.cdp_messages.specs.declared.command.Asked.{Asked}
 use Rattle.cdp_messages.specs.declared.command.ReadErr.{ReadErr}
 use Rattle.cdp_messages.specs.declared.command.ReadErr.TheVariants as read_err
+use Rattle.cdp_messages.specs.declared.command.CommandErr.{CommandErr}
+use Rattle.cdp_messages.specs.declared.command.CommandErr.TheVariants as command_err
+use Rattle.cdp_messages.specs.declared.command.Why.{Why}
 use Rattle.cdp_messages.specs.declared.command.Refused.{Refused}
 use Rattle.cdp_messages.specs.declared.down.DownErr.{DownErr}
 use Rattle.cdp_messages.specs.declared.down.DownErr.TheVariants.{NotMessage, Memory}
@@ -12,6 +15,12 @@ abbrev pub Asks : Result Asked ReadErr → Result Asked Refused → Type 0
 Asks (Ok a) r = r ≡ Ok a
 Asks (Err (read_err.Refused x)) r = r ≡ Err x
 Asks (Err read_err.Memory) r = ⊤
+
+-- a method with its parameters is answered as the command, or as the first refusal
+abbrev pub Commands : {T : Type 0} → Result T CommandErr → Result T Why → Type 0
+Commands (Ok c) r = r ≡ Ok c
+Commands (Err (command_err.Refused why)) r = r ≡ Err why
+Commands (Err command_err.Memory) r = ⊤
 
 -- Ok tells, as f sees it, what was read; NotMessage comes exactly where nothing is
 abbrev pub Gives : {T X : Type 0} → (T → X) → Result T DownErr → Option X → Type 0

@@ -1,5 +1,5 @@
 -- The laws of the messages: what is written is read as what was written, and nothing else is read.
-use Rattle.std.specs.Prelude.{◌≡◌, ◌≢◌, All, ℕ, ◌≤◌, List, [], ◌∷◌, ⊤, codes, Bool, true, Some, None, Ok, IsUtf8}
+use Rattle.std.specs.Prelude.{◌≡◌, ◌≢◌, All, ℕ, ◌≤◌, ◌<◌, List, [], ◌∷◌, ⊤, codes, Bool, true, Option, Some, None, Ok, IsUtf8, bytes_eq}
 use Rattle.serde_json.specs.Data.{Data, depth}
 use Rattle.serde_json.specs.Read.{max_depth}
 use Rattle.serde_json.specs.Written.{compact_text}
@@ -8,37 +8,34 @@ use Rattle.cdp_json.specs.Kinds.{is_counted, holds_of_some}
 use Rattle.node_tree.specs.Labels.{Pair, Label}
 use Rattle.node_tree.specs.Nodes.{Nodes, none, node, Branch, alone, height}
 use Rattle.node_tree.specs.Seen.{Seen}
-use Rattle.cdp_messages.specs.Told.{Told, told_branch}
+use Rattle.cdp_messages.specs.Told.{Told, told_nodes, told_branch}
 use Rattle.cdp_messages.specs.NodeData.{fits_tree}
-use Rattle.cdp_messages.specs.Tellable.{suits_tree}
+use Rattle.cdp_messages.specs.Tellable.{suits_nodes, suits_tree}
 use Rattle.cdp_messages.specs.declared.command.Command.{Command}
-use Rattle.cdp_messages.specs.declared.command.Command.TheVariants.{GetDocument}
 use Rattle.cdp_messages.specs.declared.command.Refused.{Refused}
 use Rattle.cdp_messages.specs.declared.down.ReplyBody.{ReplyBody}
-use Rattle.cdp_messages.specs.declared.down.ReplyBody.TheVariants.{Root}
-use Rattle.cdp_messages.specs.Asked.{asked, method_name, parameters, fits_command, command_text}
-use Rattle.cdp_messages.specs.Replies.{Message, reply, message_data, fits_message, message_in, down_of, body_data, fits_body, result_of, reply_text, refusal_message, refused_text}
-
--- the method of which this is the result
-abbrev pub method_of : ReplyBody → List ℕ
-method_of (Root tree) = codes "DOM.getDocument"
-
--- a command without parameters is asked
-abbrev pub CommandsAreAsked : Type 0
-CommandsAreAsked = (own : Bool) (id : ℕ) → is_counted id ≡ true → asked (command_text id (codes "DOM.getDocument") None None) own ≡ Ok (record { id = id; command = GetDocument None None })
-
--- a command with its parameters is asked
-abbrev pub ParametersAreAsked : Type 0
-ParametersAreAsked = (own : Bool) (id : ℕ) (c : Command) → is_counted id ≡ true → fits_command c ≡ true
-    → asked (command_text id (method_name c) (Some (parameters c)) None) own ≡ Ok (record { id = id; command = c })
-
--- no text of plain JSON has a zero byte
-abbrev pub TextsHaveNoZero : Type 0
-TextsHaveNoZero = (d : Data) → is_plain d ≡ true → All (λ byte. byte ≢ 0) (compact_text d)
+use Rattle.cdp_messages.specs.declared.down.ReplyBody.TheVariants.{Nothing, Root, NodeId, NodeIds}
+use Rattle.cdp_messages.specs.Asked.{asked, asked_by, command_of, method_name, parameters, fits_command, command_value, command_text}
+use Rattle.cdp_messages.specs.Events.{News, set_children, document_updated, is_object, news_data, fits_news}
+use Rattle.cdp_messages.specs.Replies.{Message, reply, event, event_text, message_data, fits_message, message_in, down_of, body_data, fits_body, result_of, reply_text, refusal_message, refused_text}
 
 -- JSON nests as deep as it is read
 abbrev pub Shallow : Data → Type 0
 Shallow d = depth d ≤ max_depth
+
+-- a frame that was written is asked as its method, its parameters and its session say
+abbrev pub AsksAreAsked : Type 0
+AsksAreAsked = (own : Bool) (id : ℕ) (method : List ℕ) (params session : Option Data) → is_counted id ≡ true → holds_of_some is_plain params ≡ true → holds_of_some is_plain session ≡ true
+    → Shallow (command_value id method params session) → IsUtf8 (command_text id method params session)
+    → asked (command_text id method params session) own ≡ asked_by id (command_of method params session)
+
+-- a command with its parameters is that command
+abbrev pub ParametersAreRead : Type 0
+ParametersAreRead = (c : Command) → fits_command c ≡ true → command_of (method_name c) (Some (parameters c)) None ≡ Ok c
+
+-- no text of plain JSON has a zero byte
+abbrev pub TextsHaveNoZero : Type 0
+TextsHaveNoZero = (d : Data) → is_plain d ≡ true → All (λ byte. byte ≢ 0) (compact_text d)
 
 -- a reply is read as that reply
 abbrev pub RepliesAreRead : Type 0
@@ -47,20 +44,39 @@ RepliesAreRead = (id : ℕ) (body : ReplyBody) → is_counted id ≡ true → fi
 
 -- ---- UTF-8
 
+-- each name and each value is UTF-8
 abbrev pub PairsHaveUtf8 : List Pair → Type 0
 PairsHaveUtf8 [] = ⊤
 PairsHaveUtf8 (p ∷ ps) = IsUtf8 p.0 × IsUtf8 p.1 × PairsHaveUtf8 ps
 
+-- the texts of one node are UTF-8
 abbrev pub LabelHasUtf8 : Label → Type 0
 LabelHasUtf8 l = IsUtf8 l.name × IsUtf8 l.value × PairsHaveUtf8 l.attributes
 
+-- the texts of all nodes are UTF-8
 abbrev pub NodesHaveUtf8 : Nodes Told → Type 0
 NodesHaveUtf8 none = ⊤
 NodesHaveUtf8 (node r c t) = LabelHasUtf8 r.seen.label × NodesHaveUtf8 c × NodesHaveUtf8 t
 
+-- the nodes that a result tells have UTF-8 texts
+abbrev pub BodyHasUtf8 : ReplyBody → Type 0
+BodyHasUtf8 Nothing = ⊤
+BodyHasUtf8 (Root b) = NodesHaveUtf8 (alone b)
+BodyHasUtf8 (NodeId id) = ⊤
+BodyHasUtf8 (NodeIds ids) = ⊤
+
+-- those that an event tells
+abbrev pub NewsHaveUtf8 : News → Type 0
+NewsHaveUtf8 (set_children parent nodes) = NodesHaveUtf8 nodes
+NewsHaveUtf8 document_updated = ⊤
+
 -- the text of a reply is UTF-8 where its nodes' texts are
 abbrev pub RepliesAreUtf8 : Type 0
-RepliesAreUtf8 = (id : ℕ) (b : Branch Told) → is_counted id ≡ true → fits_tree true b ≡ true → NodesHaveUtf8 (alone b) → IsUtf8 (reply_text id (Root b))
+RepliesAreUtf8 = (id : ℕ) (body : ReplyBody) → is_counted id ≡ true → fits_body body ≡ true → BodyHasUtf8 body → IsUtf8 (reply_text id body)
+
+-- and so is that of an event
+abbrev pub EventsAreUtf8 : Type 0
+EventsAreUtf8 = (n : News) → fits_news n ≡ true → NewsHaveUtf8 n → IsUtf8 (event_text n)
 
 -- ---- further laws
 
@@ -68,25 +84,59 @@ RepliesAreUtf8 = (id : ℕ) (b : Branch Told) → is_counted id ≡ true → fit
 abbrev pub ShownTreesFit : Type 0
 ShownTreesFit = (b : Branch Seen) → suits_tree true b ≡ true → fits_tree true (told_branch 0 b) ≡ true
 
+-- and so are shown children of a node with this id
+abbrev pub ShownChildrenFit : Type 0
+ShownChildrenFit = (parent : ℕ) (n : Nodes Seen) → is_counted parent ≡ true → 0 < parent → suits_nodes n ≡ true → fits_news (set_children parent (told_nodes parent n)) ≡ true
+
+-- how many levels of nodes a result tells
+abbrev pub body_height : ReplyBody → ℕ
+body_height Nothing = 0
+body_height (Root b) = height (alone b)
+body_height (NodeId id) = 0
+body_height (NodeIds ids) = 0
+
 -- the reply with a document of 61 levels nests at most 124 deep
 abbrev pub RepliesAreShallow : Type 0
-RepliesAreShallow = (id : ℕ) (b : Branch Told) → height (alone b) ≤ 61 → Shallow (message_data (reply id (body_data (Root b))))
+RepliesAreShallow = (id : ℕ) (body : ReplyBody) → body_height body ≤ 61 → Shallow (message_data (reply id (body_data body)))
+
+-- and so does an event with children of 60 levels
+abbrev pub EventsAreShallow : Type 0
+EventsAreShallow = (parent : ℕ) (nodes : Nodes Told) → height nodes ≤ 60 → Shallow (news_data (set_children parent nodes))
+
+-- an event is read as that event
+abbrev pub EventsAreRead : Type 0
+EventsAreRead = (n : News) → fits_news n ≡ true → Shallow (news_data n) → IsUtf8 (event_text n) → down_of (event_text n) ≡ Some (event n)
 
 -- a refusal is read as that refusal
 abbrev pub RefusalsAreRead : Type 0
 RefusalsAreRead = (r : Refused) → holds_of_some is_counted r.id ≡ true → down_of (refused_text r) ≡ Some (refusal_message r)
 
+-- the method has such a result
+abbrev pub answers : List ℕ → ReplyBody → Bool
+answers method Nothing = bytes_eq method (codes "DOM.requestChildNodes")
+answers method (Root b) = bytes_eq method (codes "DOM.getDocument")
+answers method (NodeId id) = bytes_eq method (codes "DOM.pushNodeByPathToFrontend")
+answers method (NodeIds ids) = bytes_eq method (codes "DOM.pushNodesByBackendIdsToFrontend")
+
 -- a result is read as that result
 abbrev pub ResultsAreRead : Type 0
-ResultsAreRead = (body : ReplyBody) → fits_body body ≡ true → result_of (method_of body) (body_data body) ≡ Some body
+ResultsAreRead = (method : List ℕ) (body : ReplyBody) → answers method body ≡ true → fits_body body ≡ true → result_of method (body_data body) ≡ Some body
 
 -- a message that is read is spelled so
 abbrev pub MessagesAreSpelled : Type 0
 MessagesAreSpelled = (d : Data) (m : Message) → message_in d ≡ Some m → (message_data m ≡ d) × (fits_message m ≡ true)
 
--- a result that is read is spelled so
+-- the value spells the result; any object spells the empty one
+abbrev pub Spells : ReplyBody → Data → Type 0
+Spells Nothing d = is_object d ≡ true
+Spells (Root b) d = d ≡ body_data (Root b)
+Spells (NodeId id) d = d ≡ body_data (NodeId id)
+Spells (NodeIds ids) d = d ≡ body_data (NodeIds ids)
+
+-- a result that is read is spelled so, and is one of that method
 abbrev pub ResultsAreSpelled : Type 0
-ResultsAreSpelled = (method : List ℕ) (d : Data) (body : ReplyBody) → result_of method d ≡ Some body → (body_data body ≡ d) × (fits_body body ≡ true)
+ResultsAreSpelled = (method : List ℕ) (d : Data) (body : ReplyBody) → result_of method d ≡ Some body
+    → Spells body d × (fits_body body ≡ true) × (answers method body ≡ true)
 
 -- no value spells two messages
 abbrev pub OneMessage : Type 0

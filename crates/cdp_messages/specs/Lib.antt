@@ -3,8 +3,11 @@ pub mod NodeObject
 pub mod NodeData
 pub mod Refusals
 pub mod Asked
+pub mod Events
 pub mod Replies
 pub mod Answers
 pub mod Raw
 pub mod Tellable
 pub mod Laws
+pub mod Views
+pub mod Moves

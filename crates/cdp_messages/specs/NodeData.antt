@@ -8,15 +8,18 @@ use Rattle.cdp_messages.specs.NodeObject.{NodeObject, node_data, told_in, fits_r
 
 -- ---- written
 
+-- nodes side by side, as the items of an array
 abbrev pub tree_items : Nodes Told → Items
 tree_items none = no_items
 tree_items (node r c t) = item (node_data r (tree_items c)) (tree_items t)
 
+-- a node's object, with all that is shown below it
 abbrev pub tree_data : Branch Told → Data
 tree_data b = node_data b.row (tree_items b.children)
 
 -- ---- which trees are written: each row fits, and what is not opened has no children here
 
+-- there is no node
 abbrev pub is_none : {R : Type 0} → Nodes R → Bool
 is_none none = true
 is_none (node r c t) = false
@@ -25,6 +28,7 @@ is_none (node r c t) = false
 abbrev pub fits_below : Told → Nodes Told → Bool
 fits_below r c = cond (is_opened r.seen.hold) true (is_none c)
 
+-- nodes that are no document, each in its place
 abbrev pub fits_nodes : Nodes Told → Bool
 fits_nodes none = true
 fits_nodes (node r c t) = fits_row false (width c) r && fits_below r c && fits_nodes c && fits_nodes t
@@ -35,10 +39,12 @@ fits_tree top b = fits_row top (width b.children) b.row && fits_below b.row b.ch
 
 -- ---- read
 
+-- a row over the nodes that stand below it
 abbrev pub over : Option NodeObject → Option (Nodes Told) → Option (Branch Told)
 over None c = None
 over (Some o) c = option_map (λ n. record { row = told_in o; children = n }) c
 
+-- a tree before those that follow it
 abbrev pub before : Option (Branch Told) → Option (Nodes Told) → Option (Nodes Told)
 before None t = None
 before (Some b) t = option_map (node b.row b.children) t

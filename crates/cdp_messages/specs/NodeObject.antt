@@ -13,6 +13,7 @@ use Rattle.cdp_messages.specs.Told.{Told, hold_of}
 
 -- ---- the fields
 
+-- the fields of a node's object; an optional one is `None` where it is absent
 pub record NodeObject : Type 0 where
   pub attributes : Option (List Pair)
   pub serial : ℕ
@@ -30,11 +31,13 @@ abbrev pub flat : List Pair → List (List ℕ)
 flat [] = []
 flat (p ∷ ps) = p.0 ∷ p.1 ∷ flat ps
 
+-- names and values out of one list; none where a value is missing
 abbrev pub paired : List (List ℕ) → Option (List Pair)
 paired [] = Some []
 paired (name ∷ []) = None
 paired (name ∷ value ∷ rest) = option_map (λ ps. (name, value) ∷ ps) (paired rest)
 
+-- `attributes`: one list of names and values
 abbrev pub attribute_list : Description (List Pair)
 attribute_list = through (list_of text) flat paired
 
@@ -51,15 +54,19 @@ abbrev pub numbered : {T : Type 0} → (T → ℕ) → List T → ℕ → Option
 numbered number [] n = None
 numbered number (x ∷ xs) n = cond (number x == n) (Some x) (numbered number xs n)
 
+-- the kind of a type number
 abbrev pub kind_of_type : ℕ → Option Kind
 kind_of_type = numbered type_number (Element ∷ Text ∷ Comment ∷ Document ∷ Doctype ∷ [])
 
+-- `nodeType`: a kind by its number
 abbrev pub node_type : Description Kind
 node_type = through whole type_number kind_of_type
 
+-- the fields as pairs, in the order of their names
 abbrev pub Fields : Type 0
 Fields = Option (List Pair) × (ℕ × (Option ℕ × (Option Items × (List ℕ × (ℕ × (List ℕ × (Kind × (List ℕ × (Option ℕ × ⊤)))))))))
 
+-- the fields of `DOM.Node`
 abbrev pub node_row : Row Fields
 node_row =
     and_may (codes "attributes") attribute_list
@@ -73,9 +80,11 @@ node_row =
     (and_need (codes "nodeValue") text
     (and_may (codes "parentId") whole ends)))))))))
 
+-- an object as pairs
 abbrev pub fields_of : NodeObject → Fields
 fields_of o = (o.attributes, (o.serial, (o.count, (o.children, (o.local_name, (o.id, (o.name, (o.kind, (o.value, (o.parent, tt))))))))))
 
+-- pairs as an object
 abbrev pub of_fields : Fields → NodeObject
 of_fields f = record {
   attributes = f.0;
@@ -114,12 +123,15 @@ name_shown Doctype name = name
 abbrev pub local_name_of : Kind → List ℕ → List ℕ
 local_name_of k name = cond (is_element k) name []
 
+-- `nodeName` of a label
 abbrev pub node_name : Label → List ℕ
 node_name l = name_shown l.kind l.name
 
+-- `localName` of a label
 abbrev pub local_name : Label → List ℕ
 local_name l = local_name_of l.kind l.name
 
+-- the value, where the test holds
 abbrev pub only_if : {A : Type 0} → Bool → A → Option A
 only_if b x = cond b (Some x) None
 
@@ -142,6 +154,7 @@ object_with r children = record {
 abbrev pub object_for : Told → Items → NodeObject
 object_for r ds = object_with r (only_if (is_opened r.seen.hold) ds)
 
+-- a told row's JSON, with these as its children where they are shown
 abbrev pub node_data : Told → Items → Data
 node_data r ds = node_fields.spell (object_for r ds)
 
@@ -155,9 +168,11 @@ name_in Text local name = []
 name_in Comment local name = []
 name_in Doctype local name = name
 
+-- what the fields say of the node itself
 abbrev pub label_in : NodeObject → Label
 label_in o = record { kind = o.kind; name = name_in o.kind o.local_name o.name; value = o.value; attributes = unwrap_or o.attributes [] }
 
+-- what the fields tell
 abbrev pub told_in : NodeObject → Told
 told_in o = record {
   parent = unwrap_or o.parent 0;
@@ -165,11 +180,13 @@ told_in o = record {
   seen = record { id = o.id; serial = o.serial; label = label_in o; hold = hold_of (is_some o.children) (holds o.kind) (unwrap_or o.count 0) };
 }
 
+-- the items of `children`, none where it is absent
 abbrev pub children_in : NodeObject → Items
 children_in o = unwrap_or o.children no_items
 
 -- ---- which rows have an object
 
+-- two tests agree
 abbrev pub same : Bool → Bool → Bool
 same true b = b
 same false b = not b
@@ -206,5 +223,6 @@ agrees o =
 abbrev pub tells : Bool → NodeObject → Bool
 tells top o = agrees o && fits_place top (items_len (children_in o)) (told_in o)
 
+-- the object of a node that is a document, or is none (`top`)
 abbrev pub node_object : Bool → Description NodeObject
 node_object top = refined node_fields (tells top)

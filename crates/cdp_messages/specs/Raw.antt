@@ -4,6 +4,7 @@ use Rattle.serde_json.specs.View.{items_view}
 use Rattle.cdp_messages.specs.declared.node_read.RawNode.{RawNode}
 use Rattle.cdp_messages.specs.NodeObject.{NodeObject}
 
+-- the same fields as numbers, texts and items
 abbrev pub object_in : RawNode → NodeObject
 object_in r = record {
   attributes = r.attributes;

@@ -24,9 +24,11 @@ suits_row top r count =
 abbrev pub suits_below : Seen → Nodes Seen → Bool
 suits_below r c = cond (is_opened r.hold) true (is_none c)
 
+-- shown nodes that are no document, each in its place
 abbrev pub suits_nodes : Nodes Seen → Bool
 suits_nodes none = true
 suits_nodes (node r c t) = suits_row false r (count_in r.hold c) && suits_below r c && suits_nodes c && suits_nodes t
 
+-- a shown tree whose top is the document, or is not (`top`)
 abbrev pub suits_tree : Bool → Branch Seen → Bool
 suits_tree top b = suits_row top b.row (count_in b.row.hold b.children) && suits_below b.row b.children && suits_nodes b.children

@@ -12,6 +12,7 @@ pub record Told : Type 0 where
   pub count : ℕ
   pub seen : Seen
 
+-- a told row by its numbers
 abbrev pub coded_told : Coded Told
 coded_told = code_by ((ℕ × ℕ) × Seen) (coded× (coded× coded_ℕ coded_ℕ) coded_seen) (λ r. ((r.parent, r.count), r.seen)) (λ p. record { parent = p.0.0; count = p.0.1; seen = p.1 }) (λ _. refl)
 
@@ -36,6 +37,7 @@ abbrev pub seen_nodes : Nodes Told → Nodes Seen
 seen_nodes none = none
 seen_nodes (node r c t) = node r.seen (seen_nodes c) (seen_nodes t)
 
+-- what one tree of a message shows
 abbrev pub seen_branch : Branch Told → Branch Seen
 seen_branch b = record { row = b.row.seen; children = seen_nodes b.children }
 
@@ -50,6 +52,7 @@ abbrev pub told_nodes : ℕ → Nodes Seen → Nodes Told
 told_nodes parent none = none
 told_nodes parent (node r c t) = node (record { parent = parent; count = count_in r.hold c; seen = r }) (told_nodes r.id c) (told_nodes parent t)
 
+-- one shown tree, told under the parent of this id
 abbrev pub told_branch : ℕ → Branch Seen → Branch Told
 told_branch parent b = record { row = record { parent = parent; count = count_in b.row.hold b.children; seen = b.row }; children = told_nodes b.row.id b.children }
 

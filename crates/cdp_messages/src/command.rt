@@ -1,19 +1,44 @@
 // Commands, and why one is refused.
+ghost use Rattle.std.specs.Prelude.{◌≡◌};
+ghost use Rattle.cdp_messages.specs.declared.command.CommandErr.TheVariants as command_err;
+
+use crate::numbers::Numbers;
+use node_tree::Text;
+use std::alloc::{AllocError, AllocFailed};
 
 /// A command with its parameters; `None` stands for one that is absent.
-#[derive(Clone, Copy, PartialEq, Eq, Debug)]
+///
+/// `depth` counts levels, and -1 stands for all; absent it counts as 1. `pierce` has no effect.
+#[derive(Drop, Debug)]
 pub enum Command {
-    /// `DOM.getDocument`. `depth` counts levels, and -1 stands for all; `pierce` has no effect.
+    /// `DOM.getDocument`
     GetDocument {
         depth: Option<i64>,
         pierce: Option<bool>,
+    },
+    /// `DOM.requestChildNodes`: the node is named by its id.
+    RequestChildNodes {
+        node: u64,
+        depth: Option<i64>,
+        pierce: Option<bool>,
+    },
+    /// `DOM.pushNodeByPathToFrontend`: the path has an index and a node name for each level below the document.
+    PushByPath {
+        path: Text,
+    },
+    /// `DOM.pushNodesByBackendIdsToFrontend`: the nodes are named by their serials.
+    PushBySerials {
+        serials: Numbers,
     },
 }
 
 /// A parameter of a command, by its name.
 #[derive(Clone, Copy, PartialEq, Eq, Debug)]
 pub enum Param {
+    BackendNodeIds,
     Depth,
+    NodeId,
+    Path,
     Pierce,
 }
 
@@ -31,10 +56,18 @@ pub enum Why {
     NoMethod,
     /// The first parameter that is missing, of the wrong kind or out of range.
     BadParam(Param),
+    /// The domain DOM is off.
+    DomOff,
+    /// An id is not the id of a known node.
+    UnknownNode,
+    /// Nothing is known.
+    NotPushed,
+    /// The path is none, or leads nowhere.
+    NoPath,
 }
 
 /// A command and the id that its reply will have.
-#[derive(Clone, Copy, PartialEq, Eq, Debug)]
+#[derive(Drop, Debug)]
 pub struct Asked {
     pub id: u64,
     pub command: Command,
@@ -47,8 +80,39 @@ pub struct Refused {
     pub why: Why,
 }
 
-#[derive(Drop, PartialEq, Eq, Debug)]
+#[derive(Clone, Copy, PartialEq, Eq, Debug)]
 pub enum ReadErr {
     Refused(Refused),
     Memory,
+}
+
+/// Why a method with its parameters is no command.
+#[derive(Clone, Copy, PartialEq, Eq, Debug)]
+pub enum CommandErr {
+    Refused(Why),
+    Memory,
+}
+
+impl From<Why> for CommandErr {
+    ghost from_gives = { λ why e. e ≡ command_err.Refused why };
+
+    fn from(why: Why) -> CommandErr {
+        CommandErr::Refused(why)
+    }
+}
+
+impl From<AllocError> for CommandErr {
+    ghost from_gives = { λ _ e. e ≡ command_err.Memory };
+
+    fn from(_error: AllocError) -> CommandErr {
+        CommandErr::Memory
+    }
+}
+
+impl<T: Drop> From<AllocFailed<T>> for CommandErr {
+    ghost from_gives = { λ _ e. e ≡ command_err.Memory };
+
+    fn from(_error: AllocFailed<T>) -> CommandErr {
+        CommandErr::Memory
+    }
 }

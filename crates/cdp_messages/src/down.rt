@@ -2,6 +2,7 @@
 ghost use Rattle.std.specs.Prelude.{◌≡◌};
 ghost use Rattle.cdp_messages.specs.declared.down.DownErr.TheVariants.{Memory};
 
+use crate::numbers::Numbers;
 use crate::tree::NodeTree;
 use node_tree::Text;
 use serde_json::Value;
@@ -21,13 +22,33 @@ pub enum Down {
         code: i64,
         text: Text,
     },
+    Event(Event),
+}
+
+/// What the back end tells unasked.
+#[derive(Drop, Debug)]
+pub enum Event {
+    /// `DOM.setChildNodes`: the children of a node, which were not shown before.
+    SetChildNodes {
+        /// The id of the parent.
+        parent: u64,
+        nodes: Vec<NodeTree>,
+    },
+    /// `DOM.documentUpdated`: nothing is known any more.
+    DocumentUpdated,
 }
 
 /// The result of a reply.
 #[derive(Drop, Debug)]
 pub enum ReplyBody {
+    /// The empty result.
+    Nothing,
     /// Of `DOM.getDocument`: the document.
     Root(NodeTree),
+    /// The id of a node.
+    NodeId(u64),
+    /// The ids of nodes, 0 for each that is not there.
+    NodeIds(Numbers),
 }
 
 #[derive(Clone, Copy, PartialEq, Eq, Debug)]

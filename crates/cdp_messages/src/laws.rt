@@ -1,12 +1,15 @@
 // The laws of the messages, which make no call.
-ghost use Rattle.cdp_messages.specs.Laws.{CommandsAreAsked, ParametersAreAsked, RepliesAreRead, RepliesAreShallow, RefusalsAreRead, ResultsAreRead, MessagesAreSpelled, ResultsAreSpelled, OneMessage, OneResult, TextsHaveNoZero, RepliesAreUtf8, ShownTreesFit};
+ghost use Rattle.cdp_messages.specs.Laws.{AsksAreAsked, ParametersAreRead, RepliesAreRead, RepliesAreShallow, EventsAreRead, EventsAreShallow, EventsAreUtf8, ShownChildrenFit, RefusalsAreRead, ResultsAreRead, MessagesAreSpelled, ResultsAreSpelled, OneMessage, OneResult, TextsHaveNoZero, RepliesAreUtf8, ShownTreesFit};
 
 /// What a writer appends is read as what it was given, nothing else is read, and no value spells two messages.
 pub fn spell_law()
-    ensures commands { CommandsAreAsked }
-    ensures parameters { ParametersAreAsked }
+    ensures asks { AsksAreAsked }
+    ensures parameters { ParametersAreRead }
     ensures replies { RepliesAreRead }
     ensures shallow { RepliesAreShallow }
+    ensures events { EventsAreRead }
+    ensures events_shallow { EventsAreShallow }
+    ensures events_utf8 { EventsAreUtf8 }
     ensures refusals { RefusalsAreRead }
     ensures results { ResultsAreRead }
     ensures messages_spelled { MessagesAreSpelled }
@@ -16,4 +19,5 @@ pub fn spell_law()
     ensures no_zero { TextsHaveNoZero }
     ensures utf8 { RepliesAreUtf8 }
     ensures shown_trees_fit { ShownTreesFit }
+    ensures shown_children_fit { ShownChildrenFit }
 {}

@@ -1,26 +1,29 @@
 //! The messages of the protocol as typed values and as JSON, in frames that end with a zero byte: commands and their
-//! refusals on the way up, replies and error replies on the way down.
+//! refusals on the way up, replies, error replies and events on the way down.
 #![tactic(auto)]
 
 mod command;
 mod down;
+mod event_read;
 mod laws;
 mod node_read;
 mod node_rules;
 mod node_write;
+mod numbers;
 mod read;
 mod receive;
 mod tree;
 mod write;
 
-pub use command::{Asked, Command, Param, ReadErr, Refused, Why};
-pub use down::{Down, DownErr, ReplyBody};
+pub use command::{Asked, Command, CommandErr, Param, ReadErr, Refused, Why};
+pub use down::{Down, DownErr, Event, ReplyBody};
 pub use laws::spell_law;
 pub use node_tree::{Attributes, Kind, Kind as NodeType, Text};
-pub use read::read_command;
+pub use numbers::Numbers;
+pub use read::{read_ask, read_command};
 pub use receive::{read_down, read_result};
 pub use tree::NodeTree;
-pub use write::{write_command, write_refused, write_reply};
+pub use write::{write_command, write_event, write_refused, write_reply};
 
 #[cfg(test)]
 mod tests;

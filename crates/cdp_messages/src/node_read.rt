@@ -266,7 +266,7 @@ pub(crate) fn tree_of(alloc: Global, value: &Value, top: bool) -> Result<NodeTre
 }
 
 #[cycle(tree_of)]
-fn trees_of(alloc: Global, values: &[Value]) -> Result<Vec<NodeTree>, DownErr>
+pub(crate) fn trees_of(alloc: Global, values: &[Value]) -> Result<Vec<NodeTree>, DownErr>
     ensures { Gives (λ trees. nodes_of trees.items) result (trees_of (items_view values.now)) }
 {
     let mut trees = Vec::with_capacity(alloc, values.len())?;

@@ -219,7 +219,7 @@ pub(crate) fn node_value(alloc: Global, tree: &NodeTree) -> Result<Value, AllocE
 }
 
 #[cycle(node_value)]
-fn node_values(alloc: Global, trees: &Vec<NodeTree>) -> Result<Vec<Value>, AllocError>
+pub(crate) fn node_values(alloc: Global, trees: &Vec<NodeTree>) -> Result<Vec<Value>, AllocError>
     ensures { IfOk result (λ list. map view list.items ≡ map tree_data trees.now.items) }
 {
     let mut list = Vec::with_capacity(alloc, trees.len())?;

@@ -3,14 +3,18 @@ ghost use Rattle.std.specs.Prelude.{◌≡◌, codes, option_map};
 ghost use Rattle.serde_json.specs.Find.{get};
 ghost use Rattle.serde_json.specs.View.{view};
 ghost use Rattle.cdp_json.specs.Left.{left};
+ghost use Rattle.cdp_json.specs.Kinds.{list_of, whole};
 ghost use Rattle.cdp_json.specs.Rows.{beside, need};
 ghost use Rattle.cdp_messages.specs.Answers.{Gives};
-ghost use Rattle.cdp_messages.specs.Replies.{message_of, reply_kind, error_kind, error_seen, fault_kind, fault_from, message_in, down_of, root_kind, root_from, result_of};
+ghost use Rattle.cdp_messages.specs.Events.{news_in};
+ghost use Rattle.cdp_messages.specs.Replies.{message_of, event, reply_kind, error_kind, error_seen, fault_kind, fault_from, or_else, message_in, down_of, root_kind, root_from, nothing_kind, nothing_from, id_kind, id_from, ids_kind, ids_from, result_of};
 
 use crate::down::{Down, DownErr, ReplyBody};
+use crate::event_read::event_of;
 use crate::node_read::tree_of;
+use crate::numbers::Numbers;
 use crate::read::json_of;
-use cdp_json::Cursor;
+use cdp_json::{Cursor, wholes_of};
 use node_tree::Text;
 use serde_json::Value;
 use std::alloc::Global;
@@ -78,11 +82,26 @@ fn fault_of(alloc: Global, value: &Value) -> Result<Down, DownErr>
     })
 }
 
+// A message that is no reply.
+fn fault_or_event(alloc: Global, value: &Value) -> Result<Down, DownErr>
+    ensures { Gives message_of result (or_else (option_map fault_from (fault_kind.reads (view value.now)))
+        (option_map event (news_in (view value.now)))) }
+{
+    match fault_of(alloc, value) {
+        Ok(fault) => Ok(fault),
+        Err(DownErr::Memory) => Err(DownErr::Memory),
+        Err(DownErr::NotMessage) => match event_of(alloc, value) {
+            Ok(event) => Ok(Down::Event(event)),
+            Err(error) => Err(error),
+        },
+    }
+}
+
 fn message_in(alloc: Global, value: Value) -> Result<Down, DownErr>
     ensures { Gives message_of result (message_in (view value)) }
 {
     let Some(id) = reply_id(&value) else {
-        return fault_of(alloc, &value);
+        return fault_or_event(alloc, &value);
     };
     match into_result(value) {
         Some(result) => Ok(Down::Reply { id, result }),
@@ -119,12 +138,63 @@ fn root_of(alloc: Global, value: &Value) -> Result<ReplyBody, DownErr>
     }
 }
 
+// Any object is the empty result.
+fn nothing_of(value: &Value) -> Result<ReplyBody, DownErr>
+    ensures { Gives (λ body. body) result (option_map nothing_from (nothing_kind.reads (view value.now))) }
+{
+    if value.is_object() {
+        Ok(ReplyBody::Nothing)
+    } else {
+        Err(DownErr::NotMessage)
+    }
+}
+
+fn id_of(value: &Value) -> Result<ReplyBody, DownErr>
+    ensures { Gives (λ body. body) result (option_map id_from (id_kind.reads (view value.now))) }
+{
+    let object = value.as_object().ok_or(DownErr::NotMessage)?;
+    let mut fields = Cursor::new(object);
+    let id = fields.need_whole("nodeId").ok_or(DownErr::NotMessage)?;
+    if !fields.is_done() {
+        return Err(DownErr::NotMessage);
+    }
+    Ok(ReplyBody::NodeId(id))
+}
+
+fn wholes_field(alloc: Global, fields: &mut Cursor<'_>, name: &str) -> Result<Numbers, DownErr>
+    ensures { Gives (beside (left fields.new)) result
+        (need (list_of whole).reads name.now (left fields.old)) }
+{
+    match fields.need_list(name) {
+        Some(values) => match wholes_of(alloc, values)? {
+            Some(list) => Ok(Numbers::new(list)),
+            None => Err(DownErr::NotMessage),
+        },
+        None => Err(DownErr::NotMessage),
+    }
+}
+
+fn ids_of(alloc: Global, value: &Value) -> Result<ReplyBody, DownErr>
+    ensures { Gives (λ body. body) result (option_map ids_from (ids_kind.reads (view value.now))) }
+{
+    let object = value.as_object().ok_or(DownErr::NotMessage)?;
+    let mut fields = Cursor::new(object);
+    let ids = wholes_field(alloc, &mut fields, "nodeIds")?;
+    if !fields.is_done() {
+        return Err(DownErr::NotMessage);
+    }
+    Ok(ReplyBody::NodeIds(ids))
+}
+
 /// Reads the result of a reply to a command of that method. No result is one of a method that is not known.
 pub fn read_result(alloc: Global, method: &str, value: &Value) -> Result<ReplyBody, DownErr>
     ensures { Gives (λ body. body) result (result_of method.now (view value.now)) }
 {
     match method {
         "DOM.getDocument" => root_of(alloc, value),
+        "DOM.requestChildNodes" => nothing_of(value),
+        "DOM.pushNodeByPathToFrontend" => id_of(value),
+        "DOM.pushNodesByBackendIdsToFrontend" => ids_of(alloc, value),
         _ => Err(DownErr::NotMessage),
     }
 }

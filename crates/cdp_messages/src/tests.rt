@@ -1,7 +1,8 @@
 use crate::{
-    Attributes, Command, Down, DownErr, Kind, NodeTree, ReadErr, ReplyBody, Text, read_command,
-    read_down, read_result, write_command, write_refused, write_reply,
+    Attributes, Down, DownErr, Event, Kind, NodeTree, ReadErr, ReplyBody, Text, read_command,
+    read_down, read_result, write_command, write_event, write_refused, write_reply,
 };
+use serde_json::Value;
 use std::alloc::{AllocError, Global};
 use std::test::Fail;
 
@@ -35,6 +36,24 @@ fn small_page(alloc: Global) -> Result<ReplyBody, AllocError> {
     Ok(ReplyBody::Root(page))
 }
 
+// A title with its text, below node 3.
+fn title_shown(alloc: Global) -> Result<Event, AllocError> {
+    let mut text = node(alloc, 6, 5, Kind::Text, "")?;
+    text.serial = 5;
+    text.value = Text::copied(alloc, "T")?;
+    let mut title = node(alloc, 5, 3, Kind::Element, "title")?;
+    title.serial = 4;
+    title.count = 1;
+    title.children = Some(vec![in alloc; text]?);
+    Ok(Event::SetChildNodes {
+        parent: 3,
+        nodes: vec![in alloc; title]?,
+    })
+}
+
+const TITLE_SHOWN: &[u8] =
+    b"{\"method\":\"DOM.setChildNodes\",\"params\":{\"nodes\":[{\"attributes\":[],\"backendNodeId\":4,\"childNodeCount\":1,\"children\":[{\"backendNodeId\":5,\"localName\":\"\",\"nodeId\":6,\"nodeName\":\"#text\",\"nodeType\":3,\"nodeValue\":\"T\",\"parentId\":5}],\"localName\":\"title\",\"nodeId\":5,\"nodeName\":\"TITLE\",\"nodeType\":1,\"nodeValue\":\"\",\"parentId\":3}],\"parentId\":3}}";
+
 const SMALL_REPLY: &[u8] =
     b"{\"id\":1,\"result\":{\"root\":{\"backendNodeId\":1,\"childNodeCount\":1,\"children\":[{\"attributes\":[],\"backendNodeId\":2,\"childNodeCount\":2,\"localName\":\"html\",\"nodeId\":2,\"nodeName\":\"HTML\",\"nodeType\":1,\"nodeValue\":\"\",\"parentId\":1}],\"localName\":\"\",\"nodeId\":1,\"nodeName\":\"#document\",\"nodeType\":9,\"nodeValue\":\"\"}}}";
 
@@ -51,7 +70,7 @@ fn refusals(alloc: Global, frames: &[&[u8]]) -> Result<Vec<u8>, AllocError> {
     Ok(out)
 }
 
-// Reads a reply and its result, and writes it again.
+// Reads a reply and its result, or an event, and writes it again.
 fn again(alloc: Global, bytes: &[u8]) -> Result<Vec<u8>, DownErr> {
     let mut out = Vec::new(alloc);
     match read_down(alloc, bytes)? {
@@ -60,8 +79,21 @@ fn again(alloc: Global, bytes: &[u8]) -> Result<Vec<u8>, DownErr> {
             write_reply(alloc, id, &body, &mut out)?;
         }
         Down::Fault { id, code, text } => out.extend_from_slice(text.as_str().as_bytes())?,
+        Down::Event(event) => write_event(alloc, &event, &mut out)?,
     }
     Ok(out)
+}
+
+// The result of a method, as it is read.
+fn result_read(alloc: Global, method: &str, text: &str) -> Result<String, Fail> {
+    let body = read_result(alloc, method, &Value::from_str(alloc, text)?)?;
+    Ok(format!(in alloc; "{body:?}")?)
+}
+
+// What a frame asks.
+fn asked(alloc: Global, frame: &[u8]) -> Result<String, Fail> {
+    let asked = read_command(alloc, frame, false)?;
+    Ok(format!(in alloc; "{asked:?}")?)
 }
 
 #[test]
@@ -82,8 +114,43 @@ fn a_reply_is_written_and_read_again(rt: HostRuntime) -> Result<(), Fail> {
 }
 
 #[test]
+fn an_event_is_written_and_read_again(rt: HostRuntime) -> Result<(), Fail> {
+    let mut out = Vec::new(rt.alloc());
+    write_event(rt.alloc(), &title_shown(rt.alloc())?, &mut out)?;
+    assert_eq!(rt; out.pop(), Some(0));
+    assert_eq!(rt; out.as_slice(), TITLE_SHOWN);
+    let mut copy = again(rt.alloc(), TITLE_SHOWN)?;
+    assert_eq!(rt; copy.pop(), Some(0));
+    assert_eq!(rt; copy.as_slice(), TITLE_SHOWN);
+    let updated = again(
+        rt.alloc(),
+        b"{\"method\":\"DOM.documentUpdated\",\"params\":{}}",
+    )?;
+    assert_eq!(rt;
+        updated.as_slice(),
+        b"{\"method\":\"DOM.documentUpdated\",\"params\":{}}\0".as_slice()
+    );
+    Ok(())
+}
+
+#[test]
+fn results_are_read_by_method(rt: HostRuntime) -> Result<(), Fail> {
+    let nothing = result_read(rt.alloc(), "DOM.requestChildNodes", "{}")?;
+    assert_eq!(rt; nothing.as_str(), "Nothing");
+    let id = result_read(rt.alloc(), "DOM.pushNodeByPathToFrontend", "{\"nodeId\":0}")?;
+    assert_eq!(rt; id.as_str(), "NodeId(0)");
+    let ids = result_read(
+        rt.alloc(),
+        "DOM.pushNodesByBackendIdsToFrontend",
+        "{\"nodeIds\":[6,0,5]}",
+    )?;
+    assert_eq!(rt; ids.as_str(), "NodeIds(Numbers { list: [6, 0, 5] })");
+    Ok(())
+}
+
+#[test]
 fn refusals_come_in_order(rt: HostRuntime) -> Result<(), Fail> {
-    let frames: [&[u8]; 8] = [
+    let frames: [&[u8]; 12] = [
         b"[",
         b"",
         b"{\"id\":\"1\"}",
@@ -92,10 +159,14 @@ fn refusals_come_in_order(rt: HostRuntime) -> Result<(), Fail> {
         b"{\"id\":3,\"method\":\"DOM.nope\"}",
         b"{\"id\":4,\"method\":\"DOM.getDocument\",\"params\":{\"depth\":0}}",
         b"{\"id\":4,\"method\":\"DOM.getDocument\",\"params\":{\"depth\":1.0}}",
+        b"{\"id\":5,\"method\":\"DOM.requestChildNodes\",\"params\":{\"depth\":0}}",
+        b"{\"id\":5,\"method\":\"DOM.requestChildNodes\",\"params\":{\"depth\":0,\"nodeId\":1}}",
+        b"{\"id\":6,\"method\":\"DOM.pushNodeByPathToFrontend\"}",
+        b"{\"id\":7,\"method\":\"DOM.pushNodesByBackendIdsToFrontend\",\"params\":{\"backendNodeIds\":[1,-1]}}",
     ];
     let out = refusals(rt.alloc(), frames.as_slice())?;
     let expected =
-        b"{\"error\":{\"code\":-32700,\"message\":\"not JSON\"}}\0{\"error\":{\"code\":-32700,\"message\":\"not JSON\"}}\0{\"error\":{\"code\":-32600,\"message\":\"no usable id\"}}\0{\"error\":{\"code\":-32600,\"message\":\"bad request\"},\"id\":1}\0{\"error\":{\"code\":-32001,\"message\":\"unknown session\"},\"id\":2}\0{\"error\":{\"code\":-32601,\"message\":\"unknown method\"},\"id\":3}\0{\"error\":{\"code\":-32602,\"message\":\"bad parameter: depth\"},\"id\":4}\0{\"error\":{\"code\":-32602,\"message\":\"bad parameter: depth\"},\"id\":4}\0";
+        b"{\"error\":{\"code\":-32700,\"message\":\"not JSON\"}}\0{\"error\":{\"code\":-32700,\"message\":\"not JSON\"}}\0{\"error\":{\"code\":-32600,\"message\":\"no usable id\"}}\0{\"error\":{\"code\":-32600,\"message\":\"bad request\"},\"id\":1}\0{\"error\":{\"code\":-32001,\"message\":\"unknown session\"},\"id\":2}\0{\"error\":{\"code\":-32601,\"message\":\"unknown method\"},\"id\":3}\0{\"error\":{\"code\":-32602,\"message\":\"bad parameter: depth\"},\"id\":4}\0{\"error\":{\"code\":-32602,\"message\":\"bad parameter: depth\"},\"id\":4}\0{\"error\":{\"code\":-32602,\"message\":\"bad parameter: nodeId\"},\"id\":5}\0{\"error\":{\"code\":-32602,\"message\":\"bad parameter: depth\"},\"id\":5}\0{\"error\":{\"code\":-32602,\"message\":\"bad parameter: path\"},\"id\":6}\0{\"error\":{\"code\":-32602,\"message\":\"bad parameter: backendNodeIds\"},\"id\":7}\0";
     assert_eq!(rt; out.as_slice(), expected.as_slice());
     Ok(())
 }
@@ -108,18 +179,39 @@ fn a_command_is_written_and_asked(rt: HostRuntime) -> Result<(), Fail> {
         out.as_slice(),
         b"{\"id\":1,\"method\":\"DOM.getDocument\"}\0".as_slice()
     );
-    let asked = read_command(
-        rt.alloc(),
-        b"{\"id\":1,\"method\":\"DOM.getDocument\"}",
-        false,
-    )?;
-    assert_eq!(rt; asked.id, 1);
+    let document = asked(rt.alloc(), b"{\"id\":1,\"method\":\"DOM.getDocument\"}")?;
     assert_eq!(rt;
-        asked.command,
-        Command::GetDocument {
-            depth: None,
-            pierce: None
-        }
+        document.as_str(),
+        "Asked { id: 1, command: GetDocument { depth: None, pierce: None } }"
+    );
+    let children = asked(
+        rt.alloc(),
+        b"{\"id\":2,\"method\":\"DOM.requestChildNodes\",\"params\":{\"depth\":-1,\"nodeId\":3}}",
+    )?;
+    assert_eq!(rt;
+        children.as_str(),
+        "Asked { id: 2, command: RequestChildNodes { node: 3, depth: Some(-1), pierce: None } }"
+    );
+    Ok(())
+}
+
+#[test]
+fn nodes_are_asked_by_path_and_by_serial(rt: HostRuntime) -> Result<(), Fail> {
+    let path = asked(
+        rt.alloc(),
+        b"{\"id\":3,\"method\":\"DOM.pushNodeByPathToFrontend\",\"params\":{\"path\":\"0,HTML\"}}",
+    )?;
+    assert_eq!(rt;
+        path.as_str(),
+        "Asked { id: 3, command: PushByPath { path: Text { text: \"0,HTML\" } } }"
+    );
+    let serials = asked(
+        rt.alloc(),
+        b"{\"id\":4,\"method\":\"DOM.pushNodesByBackendIdsToFrontend\",\"params\":{\"backendNodeIds\":[5,9]}}",
+    )?;
+    assert_eq!(rt;
+        serials.as_str(),
+        "Asked { id: 4, command: PushBySerials { serials: Numbers { list: [5, 9] } } }"
     );
     Ok(())
 }

@@ -1,17 +1,21 @@
 // Writing frames.
-ghost use Rattle.std.specs.Prelude.{◌≡◌, ◌++◌, ℤ, IsTrue, IfOk, OnOk, OnErr, option_map, false, string_bytes, IsUtf8};
+ghost use Rattle.std.specs.Prelude.{◌≡◌, ◌++◌, ℤ, codes, IsTrue, IfOk, OnOk, OnErr, option_map, false, string_bytes, IsUtf8};
+ghost use Rattle.serde_json.specs.Data.{object as object_with, string, no_members, member};
 ghost use Rattle.serde_json.specs.View.{view};
 ghost use Rattle.serde_json.specs.Written.{compact_text, has_float};
 ghost use Rattle.cdp_messages.specs.Refusals.{param_name, code_of, text_of};
 ghost use Rattle.cdp_messages.specs.Asked.{command_value, command_text, is_whole_where_there};
-ghost use Rattle.cdp_messages.specs.Replies.{error_kind, reply, fault, message_data, body_data, reply_text, refused_text};
+ghost use Rattle.node_tree.specs.Nodes.{nodes_of};
+ghost use Rattle.cdp_messages.specs.Events.{news_of, nodes_kind, children_kind, news_data};
+ghost use Rattle.cdp_messages.specs.Replies.{error_kind, reply, fault, message_data, body_data, reply_text, refused_text, event_text};
 ghost use Rattle.cdp_messages.specs.Answers.{ended};
 
 use crate::command::{Param, Refused, Why};
-use crate::down::ReplyBody;
-use crate::node_write::node_value;
-use cdp_json::object;
-use serde_json::Value;
+use crate::down::{Event, ReplyBody};
+use crate::node_write::{node_value, node_values};
+use crate::tree::NodeTree;
+use cdp_json::{object, whole_list};
+use serde_json::{Map, Value};
 use std::alloc::{AllocError, Global};
 
 // Appends the text of a value and a zero byte.
@@ -81,7 +85,10 @@ fn param_name(param: Param) -> &'static str
     ensures { result.now ≡ param_name param }
 {
     match param {
+        Param::BackendNodeIds => "backendNodeIds",
         Param::Depth => "depth",
+        Param::NodeId => "nodeId",
+        Param::Path => "path",
         Param::Pierce => "pierce",
     }
 }
@@ -96,6 +103,10 @@ fn code_of(why: Why) -> i64
         Why::NoSession => -32001,
         Why::NoMethod => -32601,
         Why::BadParam(_) => -32602,
+        Why::DomOff => -32000,
+        Why::UnknownNode => -32000,
+        Why::NotPushed => -32000,
+        Why::NoPath => -32000,
     }
 }
 
@@ -113,6 +124,10 @@ fn text_of(alloc: Global, why: Why) -> Result<String, AllocError>
             text.push_str(param_name(param))?;
             Ok(text)
         }
+        Why::DomOff => String::from_str(alloc, "DOM is off"),
+        Why::UnknownNode => String::from_str(alloc, "unknown node"),
+        Why::NotPushed => String::from_str(alloc, "document not pushed"),
+        Why::NoPath => String::from_str(alloc, "no such path"),
     }
 }
 
@@ -153,9 +168,19 @@ fn body_value(alloc: Global, body: &ReplyBody) -> Result<Value, AllocError>
     ensures { IfOk result (λ v. view v ≡ body_data body.now) }
 {
     match body {
+        ReplyBody::Nothing => Ok(Value::Object(Map::new(alloc))),
         ReplyBody::Root(tree) => {
             let root = node_value(alloc, tree)?;
             let fields = vec![in alloc; ("root", Some(root))]?;
+            object(alloc, fields)
+        }
+        ReplyBody::NodeId(id) => {
+            let fields = vec![in alloc; ("nodeId", Some(Value::from(*id)))]?;
+            object(alloc, fields)
+        }
+        ReplyBody::NodeIds(ids) => {
+            let list = whole_list(alloc, ids.as_slice())?;
+            let fields = vec![in alloc; ("nodeIds", Some(list))]?;
             object(alloc, fields)
         }
     }
@@ -181,5 +206,59 @@ pub fn write_reply(
 {
     let body = body_value(alloc, body)?;
     let value = reply_value(alloc, id, body)?;
+    append(alloc, &value, out)
+}
+
+fn nodes_value(alloc: Global, nodes: &Vec<NodeTree>) -> Result<Value, AllocError>
+    ensures { IfOk result (λ v. view v ≡ nodes_kind.spell (nodes_of nodes.now.items)) }
+{
+    let list = node_values(alloc, nodes)?;
+    Ok(Value::Array(list))
+}
+
+// The parameters of an event that shows children.
+fn children_value(alloc: Global, parent: u64, nodes: &Vec<NodeTree>) -> Result<Value, AllocError>
+    ensures { IfOk result (λ v. view v ≡ children_kind.spell (nodes_of nodes.now.items, (parent, tt))) }
+{
+    let nodes = nodes_value(alloc, nodes)?;
+    let fields = vec![in alloc;
+        ("nodes", Some(nodes)),
+        ("parentId", Some(Value::from(parent))),
+    ]?;
+    object(alloc, fields)
+}
+
+// An event of that method.
+fn envelope_value(alloc: Global, method: &str, params: Value) -> Result<Value, AllocError>
+    ensures { IfOk result (λ v. view v ≡ object_with (member (codes "method") (string method.now)
+        (member (codes "params") (view params) no_members))) }
+{
+    let method = Value::try_from_str(alloc, method)?;
+    let fields = vec![in alloc; ("method", Some(method)), ("params", Some(params))]?;
+    object(alloc, fields)
+}
+
+fn event_value(alloc: Global, event: &Event) -> Result<Value, AllocError>
+    ensures { IfOk result (λ v. view v ≡ news_data (news_of event.now)) }
+{
+    match event {
+        Event::SetChildNodes { parent, nodes } => {
+            let params = children_value(alloc, *parent, nodes)?;
+            envelope_value(alloc, "DOM.setChildNodes", params)
+        }
+        Event::DocumentUpdated => {
+            let params = Value::Object(Map::new(alloc));
+            envelope_value(alloc, "DOM.documentUpdated", params)
+        }
+    }
+}
+
+/// Appends an event as one frame, with its zero byte.
+pub fn write_event(alloc: Global, event: &Event, out: &mut Vec<u8>) -> Result<(), AllocError>
+    ensures ok { OnOk result (out.new.items ≡ out.old.items ++ ended (event_text (news_of event.now))) }
+    ensures utf8 { OnOk result (IsUtf8 (event_text (news_of event.now))) }
+    ensures err { OnErr result (out.new.items ≡ out.old.items) }
+{
+    let value = event_value(alloc, event)?;
     append(alloc, &value, out)
 }

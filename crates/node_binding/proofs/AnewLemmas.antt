@@ -31,20 +31,20 @@ or-false true = refl
 or-false false = refl
 
 -- a node outside x is opened as before
-outside : (d : Option ℕ) (x : Branch Row) (o : ℕ → Bool) (s : ℕ) → tally row_serial s (alone x) ≡ 0 → o s ≡ opened_also d x o s
+pub outside : (d : Option ℕ) (x : Branch Row) (o : ℕ → Bool) (s : ℕ) → tally row_serial s (alone x) ≡ 0 → o s ≡ opened_also d x o s
 outside d x o s h = or-false (o s) ∙ ap (λ m. o s || not (m == 0)) (let e : 0 ≡ times s (reached d (alone x)) = omega (arith, reached-tally d s (alone x)) in e)
 
 -- ---- the node that is opened
 
-and-first : (a b : Bool) → (a && b) ≡ true → a ≡ true
+pub and-first : (a b : Bool) → (a && b) ≡ true → a ≡ true
 and-first true b e = refl
 and-first false b e = e
 
-and-second : (a b : Bool) → (a && b) ≡ true → b ≡ true
+pub and-second : (a b : Bool) → (a && b) ≡ true → b ≡ true
 and-second true b e = e
 and-second false b e = cc
 
-unopened-at : (o : ℕ → Bool) (n : Nodes Row) → is_unopened o n ≡ true → (s : ℕ) → 0 < tally row_serial s n → o s ≡ false
+pub unopened-at : (o : ℕ → Bool) (n : Nodes Row) → is_unopened o n ≡ true → (s : ℕ) → 0 < tally row_serial s n → o s ≡ false
 unopened-at o none e s h = absurd (omega arith)
 unopened-at o (node r c t) e s h =
     let here = and-first (not (o r.serial) && is_unopened o c) (is_unopened o t) e in
@@ -115,22 +115,22 @@ found-tally k (node r c t) x e s =
     (found_later k r c t x other e))
 
 -- the children of an opened node are closed
-closed_below : (a : Bool) (x y z : Bool) → a ≡ true → (cond a x y && z) ≡ true → x ≡ true
+pub closed_below : (a : Bool) (x y z : Bool) → a ≡ true → (cond a x y && z) ≡ true → x ≡ true
 closed_below true x y z e h = and-first x z h
 closed_below false x y z e h = cc
 
-is_opened_row : (h a : Bool) → cond h a false ≡ true → a ≡ true
+pub is_opened_row : (h a : Bool) → cond h a false ≡ true → a ≡ true
 is_opened_row true a e = e
 is_opened_row false a e = cc
 
 only_shown : (a b : Bool) (xs ys zs : List ℕ) → a ≡ true → zs ≡ [] → cond a xs (cond b ys []) ++ zs ≡ xs
 only_shown a b xs ys zs e h = rw (e, h) (append-nil xs)
 
-known_in_children : (a : Bool) (here k m : ℕ) → here ≡ 0 → m ≡ 0 → 0 < here + (cond {A = ℕ} a k 0 + m) → (a ≡ true) × (0 < k)
+pub known_in_children : (a : Bool) (here k m : ℕ) → here ≡ 0 → m ≡ 0 → 0 < here + (cond {A = ℕ} a k 0 + m) → (a ≡ true) × (0 < k)
 known_in_children true here k m e f h = (refl, omega arith)
 known_in_children false here k m e f h = absurd (omega arith)
 
-known_in_rest : (a : Bool) (here k m : ℕ) → here ≡ 0 → k ≡ 0 → 0 < here + (cond {A = ℕ} a k 0 + m) → 0 < m
+pub known_in_rest : (a : Bool) (here k m : ℕ) → here ≡ 0 → k ≡ 0 → 0 < here + (cond {A = ℕ} a k 0 + m) → 0 < m
 known_in_rest true here k m e f h = omega arith
 known_in_rest false here k m e f h = omega arith
 

@@ -22,13 +22,13 @@ times-anew_part true b s xs ys = refl
 times-anew_part false true s xs ys = refl
 times-anew_part false false s xs ys = refl
 
-grow_step : (a b : Bool) (here kp ko an tp to at : ℕ) → (a ≡ true → b ≡ true) → kp ≡ ko + an → tp ≡ to + at → here + (cond {A = ℕ} b kp 0 + tp) ≡ here + (cond {A = ℕ} a ko 0 + to) + (cond {A = ℕ} a an (cond {A = ℕ} b kp 0) + at)
+pub grow_step : (a b : Bool) (here kp ko an tp to at : ℕ) → (a ≡ true → b ≡ true) → kp ≡ ko + an → tp ≡ to + at → here + (cond {A = ℕ} b kp 0 + tp) ≡ here + (cond {A = ℕ} a ko 0 + to) + (cond {A = ℕ} a an (cond {A = ℕ} b kp 0) + at)
 grow_step true true here kp ko an tp to at grows e f = omega arith
 grow_step true false here kp ko an tp to at grows e f = cc (grows refl)
 grow_step false true here kp ko an tp to at grows e f = omega arith
 grow_step false false here kp ko an tp to at grows e f = omega arith
 
-if_holds : (h a b : Bool) → (a ≡ true → b ≡ true) → cond h a false ≡ true → cond h b false ≡ true
+pub if_holds : (h a b : Bool) → (a ≡ true → b ≡ true) → cond h a false ≡ true → cond h b false ≡ true
 if_holds true a b grows e = grows e
 if_holds false a b grows e = e
 

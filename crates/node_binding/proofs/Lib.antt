@@ -14,3 +14,5 @@ pub mod ForgetLemmas
 pub mod AnewLemmas
 pub mod OpenDownLemmas
 pub mod LawLemmas
+pub mod InViewLemmas
+pub mod OpenedLemmas

@@ -1,16 +1,18 @@
 -- One node and all below it are opened or forgotten.
-use Rattle.std.proofs.Common.{◌≡◌, ℕ, suc, ◌+◌, ◌<◌, ◌≤◌, ◌^◌, true, false, cond, not, ◌&&◌, List, [], ◌∷◌, ◌++◌, length, get_or, drop, drop-cons, add-one, append-nil, Option, Some, None, unwrap_or, ℤ, IsTrue, refl, sym, ap, subst, ◌∙◌, arith}
+use Rattle.std.proofs.Common.{◌≡◌, ℕ, zero, suc, ◌+◌, ◌<◌, ◌≤◌, ◌^◌, true, false, Bool, cond, not, ◌&&◌, List, [], ◌∷◌, ◌++◌, length, get_or, drop, drop-cons, add-one, append-nil, Option, Some, None, unwrap_or, refl, sym, ap, subst, ◌∙◌, arith}
 use Rattle.std.proofs.Math.Logic.{⊎_elim}
 use Rattle.node_tree.specs.Nodes.{Nodes, none, node, Branch, nodes_of, alone, node_count}
 use Rattle.node_tree.specs.Keys.{find}
 use Rattle.node_tree.specs.Labels.{holds}
 use Rattle.page_tree.specs.Pages.{Row, row_serial, State, IsValid, find_in, node_at}
-use Rattle.node_binding.specs.Openings.{less, is_spent, levels_of, IsDepth, reached, levelled}
+use Rattle.node_binding.specs.Openings.{less, is_spent, reached, levelled}
 use Rattle.node_binding.specs.Bindings.{Bound, with_opened, all_bound, all_opened, revealed, opened_down, forgotten, all_forgotten}
-use Rattle.node_binding.proofs.StartLemmas.{count-alone, levels-left}
+use Rattle.node_binding.proofs.StartLemmas.{count-alone}
+use Rattle.node_binding.proofs.BoundLemmas.{opened-next, bound-next}
+use Rattle.node_binding.proofs.RevealLemmas.{length-levelled}
 use Rattle.node_binding.proofs.AnewLemmas.{at_or_other, found_here, found_later}
 
-count-found : (k : ℕ) (n : Nodes Row) (x : Branch Row) → find row_serial k n ≡ Some x → node_count x.children ≤ node_count n
+pub count-found : (k : ℕ) (n : Nodes Row) (x : Branch Row) → find row_serial k n ≡ Some x → node_count x.children ≤ node_count n
 count-found k none x e = cc
 count-found k (node r c t) x e =
     at_or_other r.serial k
@@ -30,21 +32,53 @@ opened_down-revealed d x b container left =
     ∙ ap (λ g. all_bound (levelled (less d) x.children) (all_opened (cond (not g) (x.row.serial ∷ reached (less d) x.children) [] ++ []) b)) left
     ∙ ap (λ os. all_bound (levelled (less d) x.children) (all_opened os b)) (append-nil (x.row.serial ∷ reached (less d) x.children))
 
--- ---- the call
+shut : (b : Bool) (xs : List ℕ) → cond (b && false) xs [] ≡ []
+shut true xs = refl
+shut false xs = refl
+
+reached-spent : (n : Nodes Row) → reached (Some 0) n ≡ []
+reached-spent none = refl
+reached-spent (node r c t) =
+    ap (λ os. os ++ reached (Some 0) t) (shut (holds r.label.kind) (r.serial ∷ reached (Some 0) c)) ∙ reached-spent t
+
+-- with a container, whatever levels are left
+pub opened_down-reached : (d : Option ℕ) (x : Branch Row) (b : Bound) → holds x.row.label.kind ≡ true → opened_down d x b ≡ revealed (less d) x.children (cond (holds x.row.label.kind && not (is_spent d)) (with_opened x.row.serial b) b)
+opened_down-reached None x b container =
+    opened_down-revealed None x b container refl ∙ sym (ap (λ g. revealed None x.children (cond (g && true) (with_opened x.row.serial b) b)) container)
+opened_down-reached (Some zero) x b container =
+    ap (λ os. all_bound (levelled (Some 0) x.children) (all_opened os b)) (reached-spent (alone x))
+    ∙ sym (ap (λ os. all_bound (levelled (Some 0) x.children) (all_opened os b)) (reached-spent x.children))
+    ∙ sym (ap (λ g. revealed (Some 0) x.children (cond (g && false) (with_opened x.row.serial b) b)) container)
+opened_down-reached (Some (suc d)) x b container =
+    opened_down-revealed (Some (suc d)) x b container refl ∙ sym (ap (λ g. revealed (Some d) x.children (cond (g && true) (with_opened x.row.serial b) b)) container)
+
+-- at most one id a node
+pub opened_down-next : (d : Option ℕ) (x : Branch Row) (b : Bound) → (opened_down d x b).next ≤ b.next + node_count x.children
+opened_down-next d x b =
+    omega (arith, bound-next (levelled (less d) x.children) (all_opened (reached d (alone x)) b), opened-next (reached d (alone x)) b, length-levelled (less d) x.children)
+
+-- ---- the calls
+
+pub open_tree_room : (levels : Option ℕ) (x : Branch Row) (b b1 : Bound) (kids : List (Branch Row)) → b.next + node_count x.children < 2 ^ 63 → nodes_of kids ≡ x.children → b1 ≡ cond (holds x.row.label.kind && not (is_spent levels)) (with_opened x.row.serial b) b → b1.next + node_count (nodes_of kids) < 2 ^ 63
+open_tree_room levels x b b1 kids room kids_are opened =
+    let next : b1.next ≡ b.next = ap (λ m. m.next) opened ∙ next_same (holds x.row.label.kind && not (is_spent levels)) x.row.serial b in
+    omega (arith, ap node_count kids_are)
+  where
+    next_same : (g : Bool) (s : ℕ) (b : Bound) → (cond g (with_opened s b) b).next ≡ b.next
+    next_same true s b = refl
+    next_same false s b = refl
+
+pub open_tree_is : (levels left : Option ℕ) (x : Branch Row) (b b1 b2 : Bound) (kids : List (Branch Row)) → holds x.row.label.kind ≡ true → left ≡ less levels → nodes_of kids ≡ x.children → b1 ≡ cond (holds x.row.label.kind && not (is_spent levels)) (with_opened x.row.serial b) b → b2 ≡ revealed left (nodes_of kids) b1 → b2 ≡ opened_down levels x b
+open_tree_is levels left x b b1 b2 kids container left_is kids_are opened below =
+    below
+    ∙ ap (λ l. revealed l (nodes_of kids) b1) left_is
+    ∙ ap (λ n. revealed (less levels) n b1) kids_are
+    ∙ ap (revealed (less levels) x.children) opened
+    ∙ sym (opened_down-reached levels x b container)
 
 module _ (page : State) (valid : IsValid page) (s : ℕ) (x : Branch Row) (at : x ≡ node_at s page.tree) where
-  pub open_down_room : (kids : List (Branch Row)) (serial : ℕ) (b b1 : Bound) → b.next < 2 ^ 60 → nodes_of kids ≡ x.children → b1 ≡ with_opened serial b → b1.next + node_count (nodes_of kids) < 2 ^ 63
-  open_down_room kids serial b b1 room kids_are opened =
-      omega (arith, count-alone page valid, count-at s page.tree, ap (λ (y : Branch Row). node_count y.children) at, ap node_count kids_are, ap (λ m. m.next) opened)
-
-  pub open_down_is : (depth : ℤ) → IsDepth depth → IsTrue (holds (node_at s page.tree).row.label.kind) → (levels left : Option ℕ) (serial : ℕ) (kids : List (Branch Row)) (b b1 b2 : Bound) → levels ≡ levels_of depth → left ≡ less levels → serial ≡ x.row.serial → nodes_of kids ≡ x.children → b1 ≡ with_opened serial b → b2 ≡ revealed left (nodes_of kids) b1 → b2 ≡ opened_down (levels_of depth) (node_at s page.tree) b
-  open_down_is depth is_depth container levels left serial kids b b1 b2 levels_are left_is serial_is kids_are opened below =
-      below
-      ∙ ap (λ l. revealed l (nodes_of kids) b1) (left_is ∙ ap less levels_are)
-      ∙ ap (λ n. revealed (less (levels_of depth)) n b1) kids_are
-      ∙ ap (revealed (less (levels_of depth)) x.children) (opened ∙ ap (λ k. with_opened k b) serial_is)
-      ∙ sym (opened_down-revealed (levels_of depth) x b (ap (λ (y : Branch Row). holds y.row.label.kind) at ∙ container) (levels-left depth is_depth))
-      ∙ ap (λ (y : Branch Row). opened_down (levels_of depth) y b) at
+  pub open_down_room : (b : Bound) → b.next < 2 ^ 60 → b.next + node_count x.children < 2 ^ 63
+  open_down_room b room = omega (arith, count-alone page valid, count-at s page.tree, ap (λ (y : Branch Row). node_count y.children) at)
 
 -- ---- the loop over trees that go
 

@@ -134,7 +134,7 @@ all_unopened o none h = refl
 all_unopened o (node r c t) h =
     rw (h r.serial (omega (arith, self_times r.serial)), all_unopened o c (λ s k. h s (omega arith)), all_unopened o t (λ s k. h s (omega arith))) refl
 
-closed-above : (o : ℕ → Bool) (d : Option ℕ) (n : Nodes Row) → AreDistinct n → Agrees o d n → is_closed o n ≡ true
+pub closed-above : (o : ℕ → Bool) (d : Option ℕ) (n : Nodes Row) → AreDistinct n → Agrees o d n → is_closed o n ≡ true
 closed-above o d none distinct agrees = refl
 closed-above o d (node r c t) distinct agrees =
     let rest : is_closed o t ≡ true = closed-above o d t (distinct_rest o d r c t distinct agrees) (agrees_rest o d r c t distinct agrees) in
@@ -155,7 +155,7 @@ holds_of_goes_on : (h s : Bool) → (h && s) ≡ true → (h && true) ≡ true
 holds_of_goes_on true s e = refl
 holds_of_goes_on false s e = e
 
-reached-le-all : (d : Option ℕ) (s : ℕ) (n : Nodes Row) → times s (reached d n) ≤ times s (reached None n)
+pub reached-le-all : (d : Option ℕ) (s : ℕ) (n : Nodes Row) → times s (reached d n) ≤ times s (reached None n)
 reached-le-all d s none = omega arith
 reached-le-all d s (node r c t) =
     rw (times-reached d s r c t, times-reached None s r c t)

@@ -45,7 +45,7 @@ if_counted : (b : Bool) (xs : List ℕ) (n : ℕ) → length xs ≤ n → length
 if_counted true xs n h = h
 if_counted false xs n h = omega arith
 
-length-levelled : (d : Option ℕ) (n : Nodes Row) → length (levelled d n) ≤ node_count n
+pub length-levelled : (d : Option ℕ) (n : Nodes Row) → length (levelled d n) ≤ node_count n
 length-levelled d none = omega arith
 length-levelled d (node r c t) =
     omega (arith, length-append (cond (holds r.label.kind && not (is_spent d)) (levelled (less d) c) []) (levelled d t), if_counted (holds r.label.kind && not (is_spent d)) (levelled (less d) c) _ (length-levelled (less d) c), length-levelled d t)

@@ -1,10 +1,10 @@
-ghost use Rattle.std.specs.Prelude.{◌≡◌, ◌+◌, ◌<◌, ◌^◌, IsTrue, IsSome, IfOk, OnOk};
+ghost use Rattle.std.specs.Prelude.{◌≡◌, ◌+◌, ◌<◌, ◌^◌, ◌&&◌, not, cond, IsTrue, IsSome, IfOk, OnOk};
 ghost use Rattle.std.specs.FinMap as map;
 ghost use Rattle.std.specs.FinSet as set;
 ghost use Rattle.node_tree.specs.Nodes.{nodes_of, alone, node_count};
 ghost use Rattle.node_tree.specs.Labels.{holds};
 ghost use Rattle.page_tree.specs.Pages.{find_in, node_at};
-ghost use Rattle.node_binding.specs.Openings.{IsDepth, levels_of};
+ghost use Rattle.node_binding.specs.Openings.{IsDepth, is_spent, levels_of};
 ghost use Rattle.node_binding.specs.Bindings.{empty_from, cleared, started, revealed, opened_down, with_bound, with_opened, forgotten, all_forgotten};
 
 use crate::levels::{is_reached, less, levels_of};
@@ -94,9 +94,30 @@ impl Binding {
     {
         page.valid();
         let node = tree_at(page, serial);
-        let levels = levels_of(levels);
-        self.open(node.serial)?;
-        self.reveal(&node.children, less(levels))?;
+        self.open_tree(node, levels_of(levels))?;
+        Ok(())
+    }
+
+    /// The same of a node that the caller has found, and by levels that may be counted down already.
+    pub fn open_tree(&mut self, tree: &Tree, levels: Option<u64>) -> Result<(), AllocError>
+        requires container { IsTrue (holds tree.now.row.label.kind) }
+        requires room { self.old.next + node_count tree.now.children < 2 ^ 63 }
+        ensures { OnOk result (self.new ≡ opened_down levels tree.now self.old) }
+    {
+        self.open_reached(tree, levels)?;
+        let left = less(levels);
+        self.reveal(&tree.children, left)?;
+        Ok(())
+    }
+
+    fn open_reached(&mut self, tree: &Tree, levels: Option<u64>) -> Result<(), AllocError>
+        ensures { OnOk result (self.new
+            ≡ cond (holds tree.now.row.label.kind && not (is_spent levels)) (with_opened tree.now.row.serial self.old) self.old) }
+    {
+        if !is_reached(tree.kind, levels) {
+            return Ok(());
+        }
+        self.open(tree.serial)?;
         Ok(())
     }
 

@@ -5,7 +5,7 @@ ghost use Rattle.node_binding.specs.Openings.{levels_of, less, is_spent, IsDepth
 use page_tree::Kind;
 
 /// The number of levels that a depth of the protocol stands for; `None` stands for all.
-pub(crate) fn levels_of(depth: i64) -> Option<u64>
+pub fn levels_of(depth: i64) -> Option<u64>
     requires { IsDepth depth }
     ensures { result ≡ levels_of depth }
 {
@@ -13,7 +13,7 @@ pub(crate) fn levels_of(depth: i64) -> Option<u64>
 }
 
 /// One level less, down to 0.
-pub(crate) fn less(levels: Option<u64>) -> Option<u64>
+pub fn less(levels: Option<u64>) -> Option<u64>
     ensures { result ≡ less levels }
 {
     match levels {
@@ -23,16 +23,22 @@ pub(crate) fn less(levels: Option<u64>) -> Option<u64>
     }
 }
 
-/// Whether a node of that kind is opened where that many levels are left.
-pub(crate) fn is_reached(kind: Kind, levels: Option<u64>) -> bool
-    ensures { result ≡ (holds kind && not (is_spent levels)) }
+/// Only a container has children: the document or an element.
+pub fn is_container(kind: Kind) -> bool
+    ensures { result ≡ holds kind }
 {
-    let container = match kind {
+    match kind {
         Kind::Document => true,
         Kind::Element => true,
         Kind::Text => false,
         Kind::Comment => false,
         Kind::Doctype => false,
-    };
-    container && levels != Some(0)
+    }
+}
+
+/// Whether a node of that kind is opened where that many levels are left.
+pub fn is_reached(kind: Kind, levels: Option<u64>) -> bool
+    ensures { result ≡ (holds kind && not (is_spent levels)) }
+{
+    is_container(kind) && levels != Some(0)
 }

@@ -21,7 +21,8 @@ fn find_among(trees: &[Tree], serial: u64) -> Option<&Tree>
     None
 }
 
-fn find_in(page: &Page, serial: u64) -> Option<&Tree>
+/// The node of the page with that serial, with all below it.
+pub fn find_in(page: &Page, serial: u64) -> Option<&Tree>
     ensures { option_copied result ≡ find_in serial page.now.tree }
 {
     let root = page.root();

@@ -1,0 +1,62 @@
+-- Views: trees of shown nodes, as a client may know them.
+use Rattle.std.specs.Prelude.{◌≡◌, ◌≤◌, ℕ, Bool, true, false, not, ◌&&◌, ◌||◌, nat_eq, List, [], ◌∷◌, ◌++◌}
+use Rattle.std.specs.List.{list_any}
+use Rattle.node_tree.specs.Nodes.{Nodes, none, node, height}
+use Rattle.node_tree.specs.Labels.{is_document, is_formed_label, is_named_label}
+use Rattle.node_tree.specs.Keys.{tally}
+use Rattle.node_tree.specs.Seen.{Seen, is_opened, seen_id, seen_serial}
+
+-- how many levels a tree may have: the document has level 0, and no node stands at a level above 60
+abbrev pub most_levels : ℕ
+most_levels = 61
+
+-- no tree stands here
+abbrev pub is_empty : {R : Type 0} → Nodes R → Bool
+is_empty none = true
+is_empty (node r c t) = false
+
+-- children stand below opened nodes alone
+abbrev pub is_bare : Nodes Seen → Bool
+is_bare none = true
+is_bare (node r c t) = (is_opened r.hold || is_empty c) && is_bare c && is_bare t
+
+-- Ids and serials are distinct, no id is 0, no node stands above the level limit, and children stand below opened nodes
+-- alone. The empty view is one.
+pub record IsView (v : Nodes Seen) : Type 0 where
+  pub ids : (x : ℕ) → tally seen_id x v ≤ 1
+  pub serials : (x : ℕ) → tally seen_serial x v ≤ 1
+  pub above : tally seen_id 0 v ≡ 0
+  pub levels : height v ≤ most_levels
+  pub bare : is_bare v ≡ true
+
+-- the labels have their forms, and their names too
+abbrev pub has_formed_labels : Nodes Seen → Bool
+has_formed_labels none = true
+has_formed_labels (node r c t) = is_formed_label r.label && is_named_label r.label && has_formed_labels c && has_formed_labels t
+
+-- it is empty, or one tree whose root is a document
+abbrev pub is_document_tree : Nodes Seen → Bool
+is_document_tree none = true
+is_document_tree (node r c t) = is_document r.label.kind && is_empty t
+
+-- what every mirror is, whatever bytes it came from
+pub record IsMirror (v : Nodes Seen) : Type 0 where
+  pub view : IsView v
+  pub labels : has_formed_labels v ≡ true
+  pub document : is_document_tree v ≡ true
+
+-- ---- keys in document order
+
+module _ {R : Type 0} (key : R → ℕ) where
+  abbrev pub keys : Nodes R → List ℕ
+  keys none = []
+  keys (node r c t) = key r ∷ (keys c ++ keys t)
+
+-- the number stands in the list
+abbrev pub is_in : ℕ → List ℕ → Bool
+is_in x xs = list_any (nat_eq x) xs
+
+-- no number comes twice
+abbrev pub is_distinct : List ℕ → Bool
+is_distinct [] = true
+is_distinct (x ∷ xs) = not (is_in x xs) && is_distinct xs
