@@ -1,2 +1,16 @@
+pub mod OpeningsLemmas
+pub mod StepLemmas
+pub mod OutcomeLemmas
+pub mod KnownLemmas
+pub mod KeeperLemmas
+pub mod TellableLemmas
+pub mod MoveLemmas
 pub mod ToldLemmas
-pub mod DocumentLemmas
+pub mod SplitLemmas
+pub mod OpeningLemmas
+pub mod ServingLemmas
+pub mod RoomLemmas
+pub mod RequestLemmas
+pub mod PushLemmas
+pub mod PathLemmas
+pub mod StartedLemmas

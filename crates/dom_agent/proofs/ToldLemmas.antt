@@ -7,7 +7,7 @@ use Rattle.node_tree.proofs.NodeLemmas.{nodes_of-append, beside_assoc, beside-no
 use Rattle.page_tree.specs.Pages.{Row}
 use Rattle.node_binding.specs.Cuts.{opens, cut}
 use Rattle.cdp_messages.specs.Told.{Told, told_nodes, told_branch, hold_of}
-use Rattle.dom_agent.specs.Documents.{shown}
+use Rattle.dom_agent.specs.Requests.{shown}
 
 pub width-cut : (o : ℕ → Bool) (i : ℕ → ℕ) (n : Nodes Row) → width (cut o i n) ≡ width n
 width-cut o i none = refl

@@ -1,1 +1,5 @@
-pub mod Documents
+pub mod Keepers
+pub mod Paths
+pub mod Requests
+pub mod Openings
+pub mod Laws

@@ -1,17 +1,26 @@
-ghost use Rattle.std.specs.Prelude.{◌≡◌, ◌++◌, ◌<◌, ◌^◌, Some, OnOk};
+ghost use Rattle.std.specs.Prelude.{◌≡◌, ◌++◌, ◌<◌, ◌^◌, pos, true, Some, None, unwrap_or, IsSome, OnOk, IfOk};
+ghost use Rattle.std.specs.Option.{option_copied};
 ghost use Rattle.std.specs.FinMap as map;
 ghost use Rattle.node_tree.specs.Nodes.{alone};
+ghost use Rattle.page_tree.specs.Pages.{find_in};
 ghost use Rattle.node_binding.specs.Openings.{IsDepth, levels_of};
-ghost use Rattle.node_binding.specs.Bindings.{empty_from, cleared, started};
-ghost use Rattle.cdp_messages.specs.Replies.{reply_text};
+ghost use Rattle.node_binding.specs.Bindings.{empty_from, cleared, opened_in, id_in};
+ghost use Rattle.cdp_messages.specs.Asked.{fits_command};
+ghost use Rattle.cdp_messages.specs.declared.command.Command.TheVariants.{GetDocument, RequestChildNodes, PushByPath, PushBySerials};
 ghost use Rattle.cdp_messages.specs.Answers.{ended};
-ghost use Rattle.cdp_messages.specs.declared.down.ReplyBody.TheVariants.{Root};
-ghost use Rattle.dom_agent.specs.Documents.{asked_depth, told_by};
+ghost use Rattle.cdp_messages.specs.Replies.{refused_text};
+ghost use Rattle.dom_agent.specs.Keepers.{binding_keeper};
+ghost use Rattle.dom_agent.specs.Requests.{state_after, answer, pushed, frames_told, known_node};
+ghost use Rattle.dom_agent.specs.Laws.{binding_outcome};
 
+use crate::openings::request_tree;
+use crate::paths::node_at_path;
+use crate::pushes::{open_above, push_all};
+use crate::serving::open_all;
 use crate::told::told_tree;
-use cdp_messages::{Asked, Command, ReplyBody, write_reply};
-use node_binding::Binding;
-use page_tree::Page;
+use cdp_messages::{Asked, Command, Numbers, Refused, ReplyBody, Why, write_refused, write_reply};
+use node_binding::{Binding, find_in, levels_of};
+use page_tree::{Page, Tree};
 use std::alloc::{AllocError, Global};
 use std::marker::Model;
 
@@ -43,22 +52,154 @@ impl DomAgent {
         }
     }
 
-    /// Carries the command out, and appends the frames of its reply to `out`.
+    /// Carries the command out, and appends the frames that answer it to `out`, the reply last. What the command's own row of
+    /// refusals names is answered by an error reply, and changes nothing.
     pub fn ask(&mut self, page: &Page, asked: &Asked, out: &mut Vec<u8>) -> Result<(), AllocError>
-        requires depth { IsDepth (asked_depth asked.now.command) }
+        requires command { fits_command asked.now.command ≡ true }
         requires room { self.old.next < 2 ^ 52 }
         ensures known { OnOk result
-            (self.new ≡ started (levels_of (asked_depth asked.now.command)) (alone page.now.tree) self.old) }
-        ensures reply { OnOk result
-            (out.new.items ≡ out.old.items ++ ended (reply_text asked.now.id (Root (told_by self.new page.now.tree)))) }
+            (self.new ≡ state_after self.old (binding_outcome page.now asked.now.command self.old)) }
+        ensures sent { OnOk result
+            (out.new.items ≡ out.old.items
+            ++ answer asked.now.id (binding_outcome page.now asked.now.command self.old)) }
     {
-        let depth = match asked.command {
-            Command::GetDocument { depth, pierce: _ } => depth.unwrap_or(1),
-        };
-        self.binding.start(page, depth)?;
+        match &asked.command {
+            Command::GetDocument { depth, pierce: _ } => {
+                self.get_document(page, asked.id, *depth, out)
+            }
+            Command::RequestChildNodes {
+                node,
+                depth,
+                pierce: _,
+            } => self.request_child_nodes(page, asked.id, *node, *depth, out),
+            Command::PushByPath { path } => self.push_by_path(page, asked.id, path.as_str(), out),
+            Command::PushBySerials { serials } => {
+                self.push_by_serials(page, asked.id, serials.as_slice(), out)
+            }
+        }
+    }
+
+    fn get_document(
+        &mut self,
+        page: &Page,
+        id: u64,
+        depth: Option<i64>,
+        out: &mut Vec<u8>,
+    ) -> Result<(), AllocError>
+        requires depth { IsDepth (unwrap_or depth (pos 1)) }
+        requires room { self.old.next < 2 ^ 52 }
+        ensures known { OnOk result
+            (self.new ≡ state_after self.old (binding_outcome page.now (GetDocument depth None) self.old)) }
+        ensures sent { OnOk result
+            (out.new.items ≡ out.old.items
+            ++ answer id (binding_outcome page.now (GetDocument depth None) self.old)) }
+    {
+        self.binding.start(page, depth.unwrap_or(1))?;
         let document = told_tree(self.alloc, &self.binding, page.root(), 0)?;
-        write_reply(self.alloc, asked.id, &ReplyBody::Root(document), out)?;
+        write_reply(self.alloc, id, &ReplyBody::Root(document), out)?;
         Ok(())
+    }
+
+    /// The known node that has the id.
+    fn node_of<'a>(&self, page: &'a Page, id: u64) -> Option<&'a Tree>
+        ensures { option_copied result
+            ≡ known_node (binding_keeper (alone page.now.tree)) page.now.tree self.now (map.get self.now.serials id) }
+    {
+        let serial = self.serial_of(id)?;
+        find_in(page, serial)
+    }
+
+    fn request_child_nodes(
+        &mut self,
+        page: &Page,
+        id: u64,
+        node: u64,
+        depth: Option<i64>,
+        out: &mut Vec<u8>,
+    ) -> Result<(), AllocError>
+        requires depth { IsDepth (unwrap_or depth (pos 1)) }
+        requires room { self.old.next < 2 ^ 52 }
+        ensures known { OnOk result
+            (self.new
+            ≡ state_after self.old (binding_outcome page.now (RequestChildNodes node depth None) self.old)) }
+        ensures sent { OnOk result
+            (out.new.items ≡ out.old.items
+            ++ answer id (binding_outcome page.now (RequestChildNodes node depth None) self.old)) }
+    {
+        page.valid();
+        let Some(tree) = self.node_of(page, node) else {
+            return refuse(self.alloc, id, Why::UnknownNode, out);
+        };
+        let levels = levels_asked(depth);
+        let mut openings = Vec::new(self.alloc);
+        request_tree(&self.binding, tree, levels, &mut openings)?;
+        open_all(self.alloc, &mut self.binding, &openings, out)?;
+        write_reply(self.alloc, id, &ReplyBody::Nothing, out)?;
+        Ok(())
+    }
+
+    fn push_by_path(
+        &mut self,
+        page: &Page,
+        id: u64,
+        path: &str,
+        out: &mut Vec<u8>,
+    ) -> Result<(), AllocError>
+        requires room { self.old.next < 2 ^ 52 }
+        ensures known { OnOk result
+            (self.new ≡ state_after self.old (binding_outcome page.now (PushByPath path.now) self.old)) }
+        ensures sent { OnOk result
+            (out.new.items ≡ out.old.items ++ answer id (binding_outcome page.now (PushByPath path.now) self.old)) }
+    {
+        if !self.binding.is_opened(page.document()) {
+            return refuse(self.alloc, id, Why::NotPushed, out);
+        }
+        let Some(tree) = node_at_path(page.root(), path) else {
+            return refuse(self.alloc, id, Why::NoPath, out);
+        };
+        open_above(self.alloc, &mut self.binding, page, tree.serial, out)?;
+        let node = self.binding.id_of(tree.serial).unwrap_or(0);
+        write_reply(self.alloc, id, &ReplyBody::NodeId(node), out)?;
+        Ok(())
+    }
+
+    fn push_by_serials(
+        &mut self,
+        page: &Page,
+        id: u64,
+        serials: &[u64],
+        out: &mut Vec<u8>,
+    ) -> Result<(), AllocError>
+        ensures known { OnOk result
+            (self.new ≡ state_after self.old (binding_outcome page.now (PushBySerials serials.now) self.old)) }
+        ensures sent { OnOk result
+            (out.new.items ≡ out.old.items
+            ++ answer id (binding_outcome page.now (PushBySerials serials.now) self.old)) }
+    {
+        if !self.binding.is_opened(page.document()) {
+            return refuse(self.alloc, id, Why::NotPushed, out);
+        }
+        let ids = push_all(self.alloc, &mut self.binding, page, serials, out)?;
+        let body = ReplyBody::NodeIds(Numbers::new(ids));
+        write_reply(self.alloc, id, &body, out)?;
+        Ok(())
+    }
+
+    /// Opens each ancestor of the node that is not opened yet, from the top down, by one level; appends a frame for each.
+    /// Gives the id of the node.
+    pub fn push(&mut self, page: &Page, serial: u64, out: &mut Vec<u8>) -> Result<u64, AllocError>
+        requires live { IsSome (find_in serial page.now.tree) }
+        requires begun { opened_in self.old page.now.tree.row.serial ≡ true }
+        requires room { self.old.next < 2 ^ 52 }
+        ensures id { IfOk result (λ id. id ≡ id_in self.new serial) }
+        ensures known { OnOk result
+            (self.new ≡ (pushed (binding_keeper (alone page.now.tree)) page.now.tree serial self.old).state) }
+        ensures sent { OnOk result
+            (out.new.items ≡ out.old.items
+            ++ frames_told (pushed (binding_keeper (alone page.now.tree)) page.now.tree serial self.old).shown) }
+    {
+        open_above(self.alloc, &mut self.binding, page, serial, out)?;
+        Ok(self.binding.id_of(serial).unwrap_or(0))
     }
 
     /// The known node that has the id.
@@ -81,4 +222,20 @@ impl DomAgent {
     {
         self.binding.reset();
     }
+}
+
+/// The levels that a depth asks for; absent it counts as 1.
+fn levels_asked(depth: Option<i64>) -> Option<u64>
+    requires { IsDepth (unwrap_or depth (pos 1)) }
+    ensures { result ≡ levels_of (unwrap_or depth (pos 1)) }
+{
+    levels_of(depth.unwrap_or(1))
+}
+
+fn refuse(alloc: Global, id: u64, why: Why, out: &mut Vec<u8>) -> Result<(), AllocError>
+    ensures { OnOk result
+        (out.new.items ≡ out.old.items ++ ended (refused_text (record { id = Some id; why = why }))) }
+{
+    write_refused(alloc, &Refused { id: Some(id), why }, out)?;
+    Ok(())
 }

@@ -3,10 +3,14 @@
 
 mod agent;
 mod laws;
+mod openings;
+mod paths;
+mod pushes;
+mod serving;
 mod told;
 
 pub use agent::DomAgent;
-pub use laws::document_law;
+pub use laws::serve_law;
 
 #[cfg(test)]
 mod tests;

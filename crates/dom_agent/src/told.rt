@@ -4,25 +4,12 @@ ghost use Rattle.node_tree.specs.Labels.{holds};
 ghost use Rattle.node_binding.specs.Cuts.{opens, cut};
 ghost use Rattle.cdp_messages.specs.Told.{told_nodes, told_branch, hold_of, shown_children};
 ghost use Rattle.node_binding.specs.Bindings.{opened_in, id_in};
-ghost use Rattle.dom_agent.specs.Documents.{shown};
+ghost use Rattle.dom_agent.specs.Requests.{shown};
 
 use cdp_messages::NodeTree;
-use node_binding::Binding;
-use page_tree::{Kind, Tree};
+use node_binding::{Binding, is_container};
+use page_tree::Tree;
 use std::alloc::{AllocError, Global};
-
-/// Only a container has children: the document or an element.
-fn is_container(kind: Kind) -> bool
-    ensures { result ≡ holds kind }
-{
-    match kind {
-        Kind::Document => true,
-        Kind::Element => true,
-        Kind::Text => false,
-        Kind::Comment => false,
-        Kind::Doctype => false,
-    }
-}
 
 /// The number of its children, 0 for what can have none.
 fn count_of(tree: &Tree) -> u64
@@ -97,7 +84,7 @@ pub(crate) fn told_tree(
 
 /// The same of the children of a node.
 #[cycle(told)]
-fn told_trees(
+pub(crate) fn told_trees(
     alloc: Global,
     binding: &Binding,
     trees: &[Tree],

@@ -1,28 +1,21 @@
 -- How a fold goes on, and that an ask more only waits.
-use Rattle.std.proofs.Common.{◌≡◌, ◌≤◌, ℕ, ℤ, ◌==◌, Bool, true, false, cond, codes, List, [], ◌∷◌, ◌++◌, Option, Some, None, Result, Ok, Err, refl, sym, ap, ◌∙◌}
+use Rattle.std.proofs.Common.{◌≡◌, ℕ, ◌==◌, Bool, true, false, cond, List, [], ◌∷◌, ◌++◌, Option, Some, None, Result, Ok, Err, refl, sym, ap, ◌∙◌}
 use Rattle.serde_json.specs.Data.{Data}
-use Rattle.node_tree.specs.Nodes.{Nodes, Branch, alone, height}
-use Rattle.node_tree.specs.Seen.{Seen}
+use Rattle.node_tree.specs.Nodes.{Nodes, none, Branch, alone}
+use Rattle.node_tree.specs.Keys.{Spot, spot, put}
+use Rattle.node_tree.specs.Seen.{Seen, seen_id}
 use Rattle.pipe_frames.specs.Frames.{Frames, frames_of, frames_from, held_after}
 use Rattle.pipe_frames.proofs.FrameLemmas.{frames_of-append}
 use Rattle.cdp_messages.specs.declared.down.ReplyBody.{ReplyBody}
-use Rattle.cdp_messages.specs.declared.down.ReplyBody.TheVariants.{Root}
-use Rattle.cdp_messages.specs.Told.{Told, seen_nodes, told_branch, seen-told}
-use Rattle.cdp_messages.specs.Replies.{Message, reply, fault, down_of, result_of, body_data, reply_text}
-use Rattle.cdp_json.specs.Kinds.{is_counted}
-use Rattle.cdp_messages.specs.Laws.{NodesHaveUtf8}
-use Rattle.cdp_messages.specs.Tellable.{suits_tree}
-use Rattle.cdp_messages.proofs.Depths.{replies_are_shallow}
-use Rattle.cdp_messages.proofs.Messages.{replies_are_read, results_are_read}
-use Rattle.cdp_messages.proofs.TellableLaws.{shown_trees_fit}
-use Rattle.cdp_messages.proofs.TextsUtf8.{replies_are_utf8}
+use Rattle.cdp_messages.specs.declared.down.ReplyBody.TheVariants.{Nothing, Root, NodeId, NodeIds}
+use Rattle.cdp_messages.specs.Told.{Told, seen_nodes}
+use Rattle.cdp_messages.specs.Events.{News, set_children, document_updated}
+use Rattle.cdp_messages.specs.Replies.{Message, reply, fault, event, down_of, result_of}
 use Rattle.front_mirror.specs.declared.replies.Ask.{Ask}
 use Rattle.front_mirror.specs.declared.faults.FrontKind.{FrontKind}
 use Rattle.front_mirror.specs.declared.faults.FrontFault.{FrontFault}
-use Rattle.front_mirror.specs.Views.{IsView}
-use Rattle.front_mirror.specs.Front.{FrontValue, first_value, method_of, without, root_fault, replied, refused, with_root, with_body, with_reply, with_fault, with_message, take_frame, Folded, after_message, folded, outcome, fold_frames, fold, FrontState, first_state, after_bytes, unless_refused, after_take, after_ask}
+use Rattle.front_mirror.specs.Front.{FrontValue, first_value, method_of, without, root_fault, replied, refused, told, opened_with, children_fault, with_root, with_body, with_reply, with_fault, with_tree, with_children, with_news, with_message, take_frame, Folded, after_message, folded, outcome, fold_frames, fold, FrontState, first_state, after_bytes, unless_refused, after_take, after_ask}
 use Rattle.front_mirror.specs.Laws.{joined, IsFold}
-use Rattle.front_mirror.proofs.ViewLemmas.{height-told, root_fault-told}
 
 -- ---- one fold after another
 
@@ -107,7 +100,10 @@ with_root-more v w ask id frame root m (Some kind) waits e = cc
 with_body-more : (v w : FrontValue) (ask : Ask) (id : ℕ) (frame : List ℕ) (m : List ℕ) (body : Option ReplyBody) → method_of id v.asks ≡ Some m
     → with_body v id frame body ≡ Ok w → with_body (joined v ask) id frame body ≡ Ok (joined w ask)
 with_body-more v w ask id frame m None waits e = cc
+with_body-more v w ask id frame m (Some Nothing) waits e = replied-more v w ask id frame true v.tree m waits e
 with_body-more v w ask id frame m (Some (Root root)) waits e = with_root-more v w ask id frame root m (root_fault root) waits e
+with_body-more v w ask id frame m (Some (NodeId number)) waits e = replied-more v w ask id frame true v.tree m waits e
+with_body-more v w ask id frame m (Some (NodeIds numbers)) waits e = replied-more v w ask id frame true v.tree m waits e
 
 with_reply-more : (v w : FrontValue) (ask : Ask) (id : ℕ) (frame : List ℕ) (result : Data) (o : Option (List ℕ)) → method_of id v.asks ≡ o
     → with_reply v id frame result o ≡ Ok w → with_reply (joined v ask) id frame result (method_of id (v.asks ++ ask ∷ [])) ≡ Ok (joined w ask)
@@ -123,9 +119,27 @@ with_fault-more v w ask id frame (Some m) waits e =
     ap (with_fault (joined v ask) id frame) (method_of-more id v.asks ask m waits)
     ∙ replied-more v w ask id frame false v.tree m waits e
 
+told-more : (v w : FrontValue) (ask : Ask) (tree : Nodes Seen) → taken_well (told v tree) ≡ Ok w → taken_well (told (joined v ask) tree) ≡ Ok (joined w ask)
+told-more v w ask tree e = let same : told v tree ≡ w = cc in ap (λ (u : FrontValue). taken_well (joined u ask)) same
+
+with_tree-more : (v w : FrontValue) (ask : Ask) (tree : Nodes Seen) (wrong : Option FrontKind) → with_tree v tree wrong ≡ Ok w → with_tree (joined v ask) tree wrong ≡ Ok (joined w ask)
+with_tree-more v w ask tree None e = told-more v w ask tree e
+with_tree-more v w ask tree (Some kind) e = cc
+
+with_children-more : (v w : FrontValue) (ask : Ask) (parent : ℕ) (nodes : Nodes Told) (o : Option (Spot Seen))
+    → with_children v parent nodes o ≡ Ok w → with_children (joined v ask) parent nodes o ≡ Ok (joined w ask)
+with_children-more v w ask parent nodes None e = cc
+with_children-more v w ask parent nodes (Some s) e =
+    with_tree-more v w ask (put seen_id parent (opened_with nodes s.branch) v.tree) (children_fault v.tree parent nodes s) e
+
+with_news-more : (v w : FrontValue) (ask : Ask) (n : News) → with_news v n ≡ Ok w → with_news (joined v ask) n ≡ Ok (joined w ask)
+with_news-more v w ask (set_children parent nodes) e = with_children-more v w ask parent nodes (spot seen_id parent 0 v.tree) e
+with_news-more v w ask document_updated e = told-more v w ask none e
+
 with_message-more : (v w : FrontValue) (ask : Ask) (frame : List ℕ) (message : Option Message)
     → with_message v frame message ≡ Ok w → with_message (joined v ask) frame message ≡ Ok (joined w ask)
 with_message-more v w ask frame None e = cc
+with_message-more v w ask frame (Some (event n)) e = with_news-more v w ask n e
 with_message-more v w ask frame (Some (reply id result)) e = with_reply-more v w ask id frame result (method_of id v.asks) refl e
 with_message-more v w ask frame (Some (fault None code text)) e =
     let same : refused v frame ≡ w = cc in ap (λ (u : FrontValue). taken_well (joined u ask)) same
@@ -152,27 +166,6 @@ fold_frames-more (frame ∷ frames) ask v w e =
 
 pub fold-more : (waiting : List Ask) (ask : Ask) (down : List ℕ) (v : FrontValue) → fold waiting down ≡ Ok v → fold (waiting ++ ask ∷ []) down ≡ Ok (joined v ask)
 fold-more waiting ask down v e = fold_frames-more (frames_from [] down) ask (first_value waiting) v e
-
--- ---- one message
-
--- the reply to `DOM.getDocument` that tells a view gives that view
-pub take_frame-root : (v : FrontValue) (id : ℕ) (frame : List ℕ) (result : Data) (method : List ℕ) (b : Branch Seen) → IsView (alone b)
-    → down_of frame ≡ Some (reply id result) → method_of id v.asks ≡ Some method → result_of method result ≡ Some (Root (told_branch 0 b))
-    → take_frame v frame ≡ Ok (replied v id frame true (alone b))
-take_frame-root v id frame result method b view read waits body =
-    ap (with_message v frame) read
-    ∙ ap (with_reply v id frame result) waits
-    ∙ ap (with_body v id frame) body
-    ∙ ap (with_root v id frame (told_branch 0 b)) (root_fault-told b view)
-    ∙ ap (λ (tree : Nodes Seen). taken_well (replied v id frame true tree)) (seen-told 0 (alone b))
-
-pub take_frame-fault : (v : FrontValue) (id : ℕ) (frame : List ℕ) (code : ℤ) (text : List ℕ) (method : List ℕ)
-    → down_of frame ≡ Some (fault (Some id) code text) → method_of id v.asks ≡ Some method → take_frame v frame ≡ Ok (replied v id frame false v.tree)
-take_frame-fault v id frame code text method read waits = ap (with_message v frame) read ∙ ap (with_fault v id frame) waits
-
-pub take_frame-refusal : (v : FrontValue) (frame : List ℕ) (code : ℤ) (text : List ℕ)
-    → down_of frame ≡ Some (fault None code text) → take_frame v frame ≡ Ok (refused v frame)
-take_frame-refusal v frame code text read = ap (with_message v frame) read
 
 -- ---- a front that runs
 
@@ -208,15 +201,3 @@ fold_asks waiting down method s is = record {
   rest = is.rest;
   well = is.well;
 }
-
--- the same of the reply as it is written
-pub take_frame-reply : (v : FrontValue) (id : ℕ) (b : Branch Seen) → IsView (alone b) → suits_tree true b ≡ true → NodesHaveUtf8 (alone (told_branch 0 b))
-    → is_counted id ≡ true → method_of id v.asks ≡ Some (codes "DOM.getDocument")
-    → take_frame v (reply_text id (Root (told_branch 0 b))) ≡ Ok (replied v id (reply_text id (Root (told_branch 0 b))) true (alone b))
-take_frame-reply v id b view suits utf8 counted waits =
-    let fits = shown_trees_fit b suits in
-    let levels : height (alone (told_branch 0 b)) ≤ 61 = rw (height-told 0 (alone b)) view.levels in
-    let text = replies_are_utf8 id (told_branch 0 b) counted fits utf8 in
-    let read = replies_are_read id (Root (told_branch 0 b)) counted fits (replies_are_shallow id (told_branch 0 b) levels) text in
-    take_frame-root v id (reply_text id (Root (told_branch 0 b))) (body_data (Root (told_branch 0 b))) (codes "DOM.getDocument") b view read waits
-    (results_are_read (Root (told_branch 0 b)) fits)

@@ -1,6 +1,13 @@
+pub mod BoolLemmas
 pub mod OutlineLemmas
 pub mod ToldLemmas
 pub mod DistinctLemmas
 pub mod ViewLemmas
+pub mod SpotLemmas
+pub mod ApartLemmas
+pub mod ChildrenLemmas
+pub mod PutLemmas
+pub mod ShowLemmas
 pub mod MessageLemmas
 pub mod FoldLemmas
+pub mod MoveLemmas

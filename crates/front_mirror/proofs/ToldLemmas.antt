@@ -7,7 +7,7 @@ use Rattle.node_tree.proofs.NodeLemmas.{width-nodes_of, tree_at-nodes_of}
 use Rattle.node_tree.specs.Seen.{Seen, Hold, leaf, counted, opened, is_opened}
 use Rattle.cdp_messages.specs.Told.{Told, seen_nodes, seen_branch, count_in}
 use Rattle.front_mirror.specs.Shown.{shown}
-use Rattle.front_mirror.specs.Views.{keys}
+use Rattle.cdp_messages.specs.Views.{keys}
 use Rattle.front_mirror.specs.Outline.{indent, lines_at, seen_line, unshown_of}
 
 -- what stands below one tree of a list is smaller than the list
@@ -29,6 +29,13 @@ pub levels_more : (xs : List (Branch Told)) (i : ℕ) (b : Branch Told) (c : Nod
     → (level + 1 + height (seen_nodes c) < limit) × (level + height (shown (drop (i + 1) xs)) < limit)
 levels_more xs i b c level limit h is below levels =
     let e : level + height (shown (b ∷ drop (i + 1) xs)) < limit = rw (drop-at xs i b h is) at levels in
+    (rw below (omega arith), omega arith)
+
+pub told_levels_more : (xs : List (Branch Told)) (i : ℕ) (b : Branch Told) (c : Nodes Told) (level limit : ℕ)
+    → i < length xs → b ≡ get_or xs i b → c ≡ b.children → level + height (nodes_of (drop i xs)) < limit
+    → (level + 1 + height c < limit) × (level + height (nodes_of (drop (i + 1) xs)) < limit)
+told_levels_more xs i b c level limit h is below levels =
+    let e : level + height (nodes_of (b ∷ drop (i + 1) xs)) < limit = rw (drop-at xs i b h is) at levels in
     (rw below (omega arith), omega arith)
 
 -- the lines of one tree, and of those that are left

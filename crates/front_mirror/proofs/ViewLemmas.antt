@@ -9,30 +9,31 @@ use Rattle.cdp_messages.specs.Told.{Told, seen_nodes, told_nodes, told_branch}
 use Rattle.cdp_messages.specs.NodeObject.{fits_row, fits_place, is_counted_row, same, fits_hold}
 use Rattle.cdp_messages.specs.NodeData.{is_none, fits_below, fits_nodes, fits_tree}
 use Rattle.front_mirror.specs.Shown.{told_id, told_serial}
-use Rattle.front_mirror.specs.Views.{IsView, IsMirror, most_levels, is_empty, is_bare, has_formed_labels, keys, is_in, is_distinct}
+use Rattle.cdp_messages.specs.Views.{IsView, IsMirror, most_levels, is_empty, is_bare, has_formed_labels, keys, is_in, is_distinct}
 use Rattle.front_mirror.specs.Front.{is_kin, is_unique, first_true, root_fault}
 use Rattle.cdp_messages.proofs.NodeTrees.{fitting_parts, tree_parts}
 use Rattle.front_mirror.proofs.DistinctLemmas.{absent_and}
 use Rattle.front_mirror.proofs.ToldLemmas.{height-seen, keys-seen}
+use Rattle.front_mirror.proofs.BoolLemmas.{and_left, and_right}
 
 -- ---- how often a key comes
 
-times : ℕ → List ℕ → ℕ
+pub times : ℕ → List ℕ → ℕ
 times x [] = 0
 times x (y ∷ ys) = cond {A = ℕ} (y == x) 1 0 + times x ys
 
-times-append : (x : ℕ) (xs ys : List ℕ) → times x (xs ++ ys) ≡ times x xs + times x ys
+pub times-append : (x : ℕ) (xs ys : List ℕ) → times x (xs ++ ys) ≡ times x xs + times x ys
 unfolding times
 times-append x [] ys = omega arith
 times-append x (y ∷ xs) ys = let h = times-append x xs ys in omega arith
 
-tally-keys : {R : Type 0} (key : R → ℕ) (x : ℕ) (n : Nodes R) → tally key x n ≡ times x (keys key n)
+pub tally-keys : {R : Type 0} (key : R → ℕ) (x : ℕ) (n : Nodes R) → tally key x n ≡ times x (keys key n)
 unfolding times
 tally-keys key x none = refl
 tally-keys key x (node r c t) =
     let a = tally-keys key x c in let b = tally-keys key x t in let d = times-append x (keys key c) (keys key t) in omega arith
 
-times_absent : (x : ℕ) (xs : List ℕ) → is_in x xs ≡ false → times x xs ≡ 0
+pub times_absent : (x : ℕ) (xs : List ℕ) → is_in x xs ≡ false → times x xs ≡ 0
 unfolding times
 times_absent x [] absent = refl
 times_absent x (y ∷ xs) absent =
@@ -46,7 +47,7 @@ times_absent x (y ∷ xs) absent =
           rw (ne_eqb y x other2) (omega arith)
     ]
 
-absent_times : (x : ℕ) (xs : List ℕ) → times x xs ≡ 0 → is_in x xs ≡ false
+pub absent_times : (x : ℕ) (xs : List ℕ) → times x xs ≡ 0 → is_in x xs ≡ false
 unfolding times
 absent_times x [] none_of = refl
 absent_times x (y ∷ xs) none_of =
@@ -57,7 +58,7 @@ absent_times x (y ∷ xs) none_of =
           rw (ne_eqb x y (λ e. other (sym e))) (absent_times x xs h)
     ]
 
-distinct_times : (x : ℕ) (xs : List ℕ) → is_distinct xs ≡ true → times x xs ≤ 1
+pub distinct_times : (x : ℕ) (xs : List ℕ) → is_distinct xs ≡ true → times x xs ≤ 1
 unfolding times
 distinct_times x [] distinct = omega arith
 distinct_times x (y ∷ xs) distinct =
@@ -70,7 +71,7 @@ distinct_times x (y ∷ xs) distinct =
       | inr other ↦ let h = distinct_times x xs p.1 in rw (ne_eqb y x other) (omega arith)
     ]
 
-times_distinct : (xs : List ℕ) → ((x : ℕ) → times x xs ≤ 1) → is_distinct xs ≡ true
+pub times_distinct : (xs : List ℕ) → ((x : ℕ) → times x xs ≤ 1) → is_distinct xs ≡ true
 unfolding times
 times_distinct [] at_most = refl
 times_distinct (y ∷ xs) at_most =
@@ -81,20 +82,12 @@ times_distinct (y ∷ xs) at_most =
     rw (absent_times y xs h) (times_distinct xs rest)
 
 -- a key that comes at most once in a list of keys stands at most once in the trees
-tally_distinct : (key : Seen → ℕ) (n : Nodes Told) → is_distinct (keys (λ r. key r.seen) n) ≡ true → (x : ℕ) → tally key x (seen_nodes n) ≤ 1
+pub tally_distinct : (key : Seen → ℕ) (n : Nodes Told) → is_distinct (keys (λ r. key r.seen) n) ≡ true → (x : ℕ) → tally key x (seen_nodes n) ≤ 1
 tally_distinct key n distinct x = rw (tally-keys key x (seen_nodes n), keys-seen key n) (distinct_times x _ distinct)
 
 -- ---- what each row of a message says
 
-and_left : (a b : Bool) → (a && b) ≡ true → a ≡ true
-and_left true b e = refl
-and_left false b e = cc
-
-and_right : (a b : Bool) → (a && b) ≡ true → b ≡ true
-and_right true b e = e
-and_right false b e = cc
-
-not_true : (a : Bool) → not a ≡ false → a ≡ true
+pub not_true : (a : Bool) → not a ≡ false → a ≡ true
 not_true true e = refl
 not_true false e = cc
 
@@ -135,10 +128,10 @@ above_here : (r : Told) (n : ℕ) → nat_lt 0 r.seen.id ≡ true → n ≡ 0 �
 above_here r n positive e = grind arith
 
 -- what the rows of a message show together
-record Shows (n : Nodes Told) : Type 0 where
-  above : tally seen_id 0 (seen_nodes n) ≡ 0
-  bare : is_bare (seen_nodes n) ≡ true
-  labels : has_formed_labels (seen_nodes n) ≡ true
+pub record Shows (n : Nodes Told) : Type 0 where
+  pub above : tally seen_id 0 (seen_nodes n) ≡ 0
+  pub bare : is_bare (seen_nodes n) ≡ true
+  pub labels : has_formed_labels (seen_nodes n) ≡ true
 
 shows_more : (top : Bool) (w : ℕ) (r : Told) (c t : Nodes Told) → fits_row top w r ≡ true → fits_below r c ≡ true → Shows c → Shows t → Shows (node r c t)
 shows_more top w r c t fits below sc st =
@@ -150,7 +143,7 @@ shows_more top w r c t fits below sc st =
       labels = rw (p.formed, p.named, sc.labels, st.labels) refl;
     }
 
-shows_nodes : (n : Nodes Told) → fits_nodes n ≡ true → Shows n
+pub shows_nodes : (n : Nodes Told) → fits_nodes n ≡ true → Shows n
 shows_nodes none fits = record { above = refl; bare = refl; labels = refl }
 shows_nodes (node r c t) fits =
     let p = fitting_parts r c t fits in shows_more false (width c) r c t p.row p.below (shows_nodes c p.children) (shows_nodes t p.later)
@@ -162,7 +155,7 @@ record Clear (b : Branch Told) : Type 0 where
   unique : is_unique (alone b) ≡ true
   levels : nat_le (height (alone b)) most_levels ≡ true
 
-clear_three : {A : Type 0} (x y z : A) (p q r : Bool) → first_true ((x, not p) ∷ (y, not q) ∷ (z, not r) ∷ []) ≡ None → (p ≡ true) × ((q ≡ true) × (r ≡ true))
+pub clear_three : {A : Type 0} (x y z : A) (p q r : Bool) → first_true ((x, not p) ∷ (y, not q) ∷ (z, not r) ∷ []) ≡ None → (p ≡ true) × ((q ≡ true) × (r ≡ true))
 clear_three x y z true true true e = (refl, (refl, refl))
 clear_three x y z true true false e = cc
 clear_three x y z true false r e = cc
@@ -172,7 +165,7 @@ clear_root : (b : Branch Told) → root_fault b ≡ None → Clear b
 clear_root b e = let p = clear_three _ _ _ (is_kin b.row.seen.id b.children) (is_unique (alone b)) (nat_le (height (alone b)) most_levels) e in
     record { kin = p.0; unique = p.1.0; levels = p.1.1 }
 
-within_limit : (h limit : ℕ) → nat_le h limit ≡ true → h ≤ limit
+pub within_limit : (h limit : ℕ) → nat_le h limit ≡ true → h ≤ limit
 within_limit h limit e = grind arith
 
 -- the mirror that a document becomes
@@ -197,11 +190,11 @@ mirror_of_root b e fits =
 
 -- ---- a view, told as a document
 
-is_kin-told : (p : ℕ) (n : Nodes Seen) → is_kin p (told_nodes p n) ≡ true
+pub is_kin-told : (p : ℕ) (n : Nodes Seen) → is_kin p (told_nodes p n) ≡ true
 is_kin-told p none = refl
 is_kin-told p (node r c t) = let e : (p == p) ≡ true = grind arith in rw (e, is_kin-told r.id c, is_kin-told p t) refl
 
-keys-told : (key : Seen → ℕ) (p : ℕ) (n : Nodes Seen) → keys (λ r. key r.seen) (told_nodes p n) ≡ keys key n
+pub keys-told : (key : Seen → ℕ) (p : ℕ) (n : Nodes Seen) → keys (λ r. key r.seen) (told_nodes p n) ≡ keys key n
 keys-told key p none = refl
 keys-told key p (node r c t) = rw (keys-told key r.id c, keys-told key p t) refl
 
@@ -212,7 +205,7 @@ height-told p (node r c t) = rw (height-told r.id c, height-told p t) refl
 subst_times : (key : Seen → ℕ) (n : Nodes Seen) (x : ℕ) → tally key x n ≤ 1 → times x (keys key n) ≤ 1
 subst_times key n x h = let e = tally-keys key x n in omega arith
 
-unique_told : (p : ℕ) (n : Nodes Seen) → IsView n → is_unique (told_nodes p n) ≡ true
+pub unique_told : (p : ℕ) (n : Nodes Seen) → IsView n → is_unique (told_nodes p n) ≡ true
 unique_told p n view =
     let ids : is_distinct (keys told_id (told_nodes p n)) ≡ true
     = ap is_distinct (keys-told seen_id p n) ∙ times_distinct (keys seen_id n) (λ x. subst_times seen_id n x (view.ids x)) in

@@ -1,19 +1,22 @@
 -- The front end as a value, and the fold of the frames that come down.
-use Rattle.std.specs.Prelude.{ℕ, ◌+◌, ◌==◌, Bool, true, false, not, ◌&&◌, cond, nat_le, List, [], ◌∷◌, ◌++◌, Option, Some, None, Result, Ok, Err}
+use Rattle.std.specs.Prelude.{ℕ, suc, ◌+◌, ◌==◌, Bool, true, false, not, ◌&&◌, cond, nat_le, List, [], ◌∷◌, ◌++◌, Option, Some, None, Result, Ok, Err}
 use Rattle.serde_json.specs.Data.{Data}
 use Rattle.node_tree.specs.Nodes.{Nodes, none, node, Branch, alone, height}
-use Rattle.node_tree.specs.Seen.{Seen}
+use Rattle.node_tree.specs.Keys.{Spot, spot, put}
+use Rattle.node_tree.specs.Seen.{Seen, opened, is_counted, seen_id, seen_serial}
+use Rattle.std.specs.List.{list_any}
 use Rattle.pipe_frames.specs.Frames.{frames_from, held_after}
 use Rattle.cdp_messages.specs.declared.down.ReplyBody.{ReplyBody}
-use Rattle.cdp_messages.specs.declared.down.ReplyBody.TheVariants.{Root}
+use Rattle.cdp_messages.specs.declared.down.ReplyBody.TheVariants.{Nothing, Root, NodeId, NodeIds}
 use Rattle.cdp_messages.specs.Told.{Told, seen_nodes}
-use Rattle.cdp_messages.specs.Replies.{Message, reply, fault, down_of, result_of}
+use Rattle.cdp_messages.specs.Replies.{Message, reply, fault, event, down_of, result_of}
+use Rattle.cdp_messages.specs.Events.{News, set_children, document_updated}
 use Rattle.front_mirror.specs.declared.replies.Ask.{Ask}
 use Rattle.front_mirror.specs.declared.replies.Kept.{Kept}
 use Rattle.front_mirror.specs.declared.faults.FrontKind.{FrontKind}
-use Rattle.front_mirror.specs.declared.faults.FrontKind.TheVariants.{NotMessage, NotChild, IdTaken, TooDeep}
+use Rattle.front_mirror.specs.declared.faults.FrontKind.TheVariants.{NotMessage, UnknownNode, NotChild, IdTaken, TooDeep}
 use Rattle.front_mirror.specs.declared.faults.FrontFault.{FrontFault}
-use Rattle.front_mirror.specs.Views.{most_levels, keys, is_distinct}
+use Rattle.cdp_messages.specs.Views.{most_levels, keys, is_in, is_distinct}
 use Rattle.front_mirror.specs.Shown.{told_id, told_serial}
 
 -- The tree of the mirror, none where it is empty; the asks that wait for a reply, in the order in which they were sent; the
@@ -64,6 +67,29 @@ root_fault b = first_true
     ∷ (TooDeep, not (nat_le (height (alone b)) most_levels))
     ∷ [])
 
+-- ---- children that come for a node
+
+-- none of these numbers is one of those
+abbrev pub is_apart : List ℕ → List ℕ → Bool
+is_apart xs ys = not (list_any (λ x. is_in x ys) xs)
+
+-- no id and no serial of the nodes is in the tree
+abbrev pub is_fresh : Nodes Seen → Nodes Told → Bool
+is_fresh tree nodes = is_apart (keys told_id nodes) (keys seen_id tree) && is_apart (keys told_serial nodes) (keys seen_serial tree)
+
+-- what is wrong with nodes that come as the children of the node at this spot, the first by number
+abbrev pub children_fault : Nodes Seen → ℕ → Nodes Told → Spot Seen → Option FrontKind
+children_fault tree parent nodes s = first_true
+    ((UnknownNode, not (is_counted s.branch.row.hold))
+    ∷ (NotChild, not (is_kin parent nodes))
+    ∷ (IdTaken, not (is_unique nodes && is_fresh tree nodes))
+    ∷ (TooDeep, not (nat_le (suc (s.level + height nodes)) most_levels))
+    ∷ [])
+
+-- a node whose children are shown
+abbrev pub opened_with : Nodes Told → Branch Seen → Branch Seen
+opened_with nodes b = record { row = record b.row { hold = opened }; children = seen_nodes nodes }
+
 -- ---- one message
 
 -- a reply, kept with the frame that it came in
@@ -79,6 +105,10 @@ replied v id frame good tree =
 abbrev pub refused : FrontValue → List ℕ → FrontValue
 refused v frame = record v { replies = v.replies ++ kept None frame false ∷ []; taken = v.taken + 1 }
 
+-- the front after an event that leads to this tree
+abbrev pub told : FrontValue → Nodes Seen → FrontValue
+told v tree = record v { tree = tree; taken = v.taken + 1 }
+
 -- a document comes in place of the tree, unless something is wrong with it
 abbrev pub with_root : FrontValue → ℕ → List ℕ → Branch Told → Option FrontKind → Result FrontValue FrontKind
 with_root v id frame root None = Ok (replied v id frame true (seen_nodes (alone root)))
@@ -86,7 +116,10 @@ with_root v id frame root (Some kind) = Err kind
 
 abbrev pub with_body : FrontValue → ℕ → List ℕ → Option ReplyBody → Result FrontValue FrontKind
 with_body v id frame None = Err NotMessage
+with_body v id frame (Some Nothing) = Ok (replied v id frame true v.tree)
 with_body v id frame (Some (Root root)) = with_root v id frame root (root_fault root)
+with_body v id frame (Some (NodeId found)) = Ok (replied v id frame true v.tree)
+with_body v id frame (Some (NodeIds found)) = Ok (replied v id frame true v.tree)
 
 -- a reply to an ask of that method, if one waits
 abbrev pub with_reply : FrontValue → ℕ → List ℕ → Data → Option (List ℕ) → Result FrontValue FrontKind
@@ -98,8 +131,22 @@ abbrev pub with_fault : FrontValue → ℕ → List ℕ → Option (List ℕ) �
 with_fault v id frame None = Err NotMessage
 with_fault v id frame (Some method) = Ok (replied v id frame false v.tree)
 
+abbrev pub with_tree : FrontValue → Nodes Seen → Option FrontKind → Result FrontValue FrontKind
+with_tree v tree None = Ok (told v tree)
+with_tree v tree (Some kind) = Err kind
+
+-- nodes come as the children of a node, if it is known
+abbrev pub with_children : FrontValue → ℕ → Nodes Told → Option (Spot Seen) → Result FrontValue FrontKind
+with_children v parent nodes None = Err UnknownNode
+with_children v parent nodes (Some s) = with_tree v (put seen_id parent (opened_with nodes s.branch) v.tree) (children_fault v.tree parent nodes s)
+
+abbrev pub with_news : FrontValue → News → Result FrontValue FrontKind
+with_news v (set_children parent nodes) = with_children v parent nodes (spot seen_id parent 0 v.tree)
+with_news v document_updated = Ok (told v none)
+
 abbrev pub with_message : FrontValue → List ℕ → Option Message → Result FrontValue FrontKind
 with_message v frame None = Err NotMessage
+with_message v frame (Some (event n)) = with_news v n
 with_message v frame (Some (reply id result)) = with_reply v id frame result (method_of id v.asks)
 with_message v frame (Some (fault None code text)) = Ok (refused v frame)
 with_message v frame (Some (fault (Some id) code text)) = with_fault v id frame (method_of id v.asks)

@@ -1,18 +1,21 @@
 -- What the fold keeps.
-use Rattle.std.specs.Prelude.{◌≡◌, ℕ, ℤ, List, [], ◌∷◌, ◌++◌, codes, true, false, Some, None, Ok}
+use Rattle.std.specs.Prelude.{◌≡◌, ℕ, ℤ, Bool, List, [], ◌∷◌, ◌++◌, codes, true, false, Some, None, Ok}
 use Rattle.serde_json.specs.Data.{Data}
-use Rattle.node_tree.specs.Nodes.{Branch, alone}
+use Rattle.node_tree.specs.Nodes.{Nodes, none, Branch, alone}
 use Rattle.node_tree.specs.Seen.{Seen}
 use Rattle.pipe_frames.specs.Frames.{frames_from, held_after}
-use Rattle.cdp_messages.specs.declared.down.ReplyBody.TheVariants.{Root}
-use Rattle.cdp_messages.specs.Told.{told_branch}
+use Rattle.cdp_messages.specs.declared.down.ReplyBody.{ReplyBody}
+use Rattle.cdp_messages.specs.declared.down.ReplyBody.TheVariants.{Nothing, Root, NodeId, NodeIds}
+use Rattle.cdp_messages.specs.Events.{set_children, document_updated}
+use Rattle.cdp_messages.specs.Moves.{show, Moves, IsTellable}
+use Rattle.cdp_messages.specs.Told.{told_nodes, told_branch}
 use Rattle.cdp_json.specs.Kinds.{is_counted}
-use Rattle.cdp_messages.specs.Laws.{NodesHaveUtf8}
+use Rattle.cdp_messages.specs.Laws.{NodesHaveUtf8, answers}
 use Rattle.cdp_messages.specs.Tellable.{suits_tree}
-use Rattle.cdp_messages.specs.Replies.{reply, fault, down_of, result_of, reply_text}
+use Rattle.cdp_messages.specs.Replies.{reply, fault, event, fits_body, down_of, result_of, reply_text, event_text}
 use Rattle.front_mirror.specs.declared.replies.Ask.{Ask}
-use Rattle.front_mirror.specs.Views.{IsView}
-use Rattle.front_mirror.specs.Front.{FrontValue, method_of, replied, refused, take_frame, outcome, fold_frames, fold, FrontState, first_state, after_take, after_ask}
+use Rattle.cdp_messages.specs.Views.{IsView}
+use Rattle.front_mirror.specs.Front.{FrontValue, method_of, replied, refused, told, take_frame, outcome, fold_frames, fold, FrontState, first_state, after_take, after_ask}
 
 -- the front with one ask more that waits
 abbrev pub joined : FrontValue → Ask → FrontValue
@@ -89,3 +92,42 @@ ReplyGives =
     (v : FrontValue) (id : ℕ) (b : Branch Seen) → IsView (alone b) → suits_tree true b ≡ true → NodesHaveUtf8 (alone (told_branch 0 b))
     → is_counted id ≡ true → method_of id v.asks ≡ Some (codes "DOM.getDocument")
     → take_frame v (reply_text id (Root (told_branch 0 b))) ≡ Ok (replied v id (reply_text id (Root (told_branch 0 b))) true (alone b))
+
+-- ---- the moves of a view
+
+-- children that come for a node lead to the view that has them
+abbrev pub ShowGives : Type 0
+ShowGives =
+    (v : FrontValue) (frame : List ℕ) (id : ℕ) (kids w : Nodes Seen) → IsView v.tree → IsView w → Moves (show id kids) v.tree w
+    → down_of frame ≡ Some (event (set_children id (told_nodes id kids)))
+    → take_frame v frame ≡ Ok (told v w)
+
+-- an update of the document empties the view
+abbrev pub ClearGives : Type 0
+ClearGives = (v : FrontValue) (frame : List ℕ) → down_of frame ≡ Some (event document_updated) → take_frame v frame ≡ Ok (told v none)
+
+-- a reply that tells no document leaves the view as it is, and its ask waits no longer
+abbrev pub tells_document : ReplyBody → Bool
+tells_document Nothing = false
+tells_document (Root b) = true
+tells_document (NodeId id) = false
+tells_document (NodeIds ids) = false
+
+abbrev pub StayGives : Type 0
+StayGives =
+    (v : FrontValue) (id : ℕ) (frame : List ℕ) (result : Data) (method : List ℕ) (body : ReplyBody) → tells_document body ≡ false
+    → down_of frame ≡ Some (reply id result) → method_of id v.asks ≡ Some method → result_of method result ≡ Some body
+    → take_frame v frame ≡ Ok (replied v id frame true v.tree)
+
+-- the same of messages as they are written
+
+abbrev pub ShownIsTaken : Type 0
+ShownIsTaken =
+    (v : FrontValue) (id : ℕ) (kids w : Nodes Seen) → IsTellable v.tree → IsTellable w → Moves (show id kids) v.tree w
+    → take_frame v (event_text (set_children id (told_nodes id kids))) ≡ Ok (told v w)
+
+abbrev pub ReplyStays : Type 0
+ReplyStays =
+    (v : FrontValue) (id : ℕ) (method : List ℕ) (body : ReplyBody) → tells_document body ≡ false → fits_body body ≡ true → is_counted id ≡ true
+    → method_of id v.asks ≡ Some method → answers method body ≡ true
+    → take_frame v (reply_text id body) ≡ Ok (replied v id (reply_text id body) true v.tree)

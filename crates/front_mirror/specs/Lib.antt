@@ -1,7 +1,7 @@
 pub mod Outline
-pub mod Views
 pub mod Shown
 pub mod Front
+pub mod Children
 pub mod Codes
 pub mod Known
 pub mod Laws

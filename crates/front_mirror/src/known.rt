@@ -1,16 +1,21 @@
 ghost use Rattle.std.specs.Prelude.{◌≡◌, ◌+◌, [], ◌∷◌, ◌++◌, option_map, Some, None, Ok, true, IfOk, OnOk};
 ghost use Rattle.serde_json.specs.View.{view};
-ghost use Rattle.cdp_messages.specs.NodeData.{fits_tree};
+ghost use Rattle.node_tree.specs.Nodes.{none, nodes_of};
+ghost use Rattle.node_tree.specs.Keys.{spot};
+ghost use Rattle.node_tree.specs.Seen.{seen_id};
+ghost use Rattle.cdp_messages.specs.NodeData.{fits_tree, fits_nodes};
+ghost use Rattle.cdp_messages.specs.Events.{news_of, fits_news};
 ghost use Rattle.cdp_messages.specs.Replies.{fits_body};
 ghost use Rattle.front_mirror.specs.Known.{value_of, Takes};
-ghost use Rattle.front_mirror.specs.Front.{FrontValue, first_value, kept, method_of, replied, refused, with_root, with_body, with_reply, with_fault, take_frame, root_fault};
+ghost use Rattle.front_mirror.specs.Front.{FrontValue, first_value, kept, method_of, replied, refused, told, with_root, with_body, with_reply, with_fault, with_children, with_news, take_frame, root_fault};
 
 use crate::asks::{drop_ask, method_of};
+use crate::children::children_fault;
 use crate::faults::FrontKind;
 use crate::mirror::Mirror;
 use crate::replies::{Ask, Kept};
 use crate::roots::root_fault;
-use cdp_messages::{Down, DownErr, NodeTree, ReplyBody, read_down, read_result};
+use cdp_messages::{Down, DownErr, Event, NodeTree, ReplyBody, read_down, read_result};
 use node_tree::Text;
 use serde_json::Value;
 use std::alloc::{AllocError, Global};
@@ -72,6 +77,7 @@ impl Known {
             Ok(Down::Reply { id, result }) => self.take_reply(id, &result, frame),
             Ok(Down::Fault { id: Some(id), .. }) => self.take_fault(id, frame),
             Ok(Down::Fault { id: None, .. }) => self.take_refusal(frame),
+            Ok(Down::Event(event)) => self.take_event(event),
             Err(DownErr::NotMessage) => Err(FrameErr::Refused(FrontKind::NotMessage)),
             Err(DownErr::Memory) => Err(FrameErr::Memory),
         }
@@ -98,6 +104,10 @@ impl Known {
     {
         match body {
             ReplyBody::Root(root) => self.take_root(id, root, frame),
+            ReplyBody::Nothing | ReplyBody::NodeId(_) | ReplyBody::NodeIds(_) => {
+                self.keep_reply(id, frame, true)?;
+                Ok(())
+            }
         }
     }
 
@@ -130,6 +140,38 @@ impl Known {
         ensures { Takes (value_of self.old) (value_of self.new) result (Ok (refused (value_of self.old) frame)) }
     {
         self.keep(None, frame, false)?;
+        Ok(())
+    }
+
+    fn take_event(&mut self, event: Event) -> Result<(), FrameErr>
+        requires { fits_news (news_of event) ≡ true }
+        ensures { Takes (value_of self.old) (value_of self.new) result (with_news (value_of self.old) (news_of event)) }
+    {
+        match event {
+            Event::SetChildNodes { parent, nodes } => self.take_children(parent, nodes),
+            Event::DocumentUpdated => self.take_update(),
+        }
+    }
+
+    fn take_children(&mut self, parent: u64, nodes: Vec<NodeTree>) -> Result<(), FrameErr>
+        requires { fits_nodes (nodes_of nodes.items) ≡ true }
+        ensures { Takes (value_of self.old) (value_of self.new) result
+            (with_children (value_of self.old) parent (nodes_of nodes.items) (spot seen_id parent 0 (value_of self.old).tree)) }
+    {
+        if let Some(kind) = children_fault(self.alloc, &self.mirror, parent, &nodes)? {
+            return Err(FrameErr::Refused(kind));
+        }
+        let taken = self.taken.checked_add(1).ok_or(AllocError)?;
+        self.mirror.show(parent, nodes);
+        self.taken = taken;
+        Ok(())
+    }
+
+    fn take_update(&mut self) -> Result<(), FrameErr>
+        ensures { Takes (value_of self.old) (value_of self.new) result (Ok (told (value_of self.old) none)) }
+    {
+        self.taken = self.taken.checked_add(1).ok_or(AllocError)?;
+        self.mirror = Mirror::new(self.alloc);
         Ok(())
     }
 

@@ -1,4 +1,4 @@
-ghost use Rattle.front_mirror.specs.Laws.{GoesOn, AskJoins, Begins, TakesFold, StaysFold, AsksFold, RootGives, ReplyGives, FaultStays, RefusalStays};
+ghost use Rattle.front_mirror.specs.Laws.{GoesOn, AskJoins, Begins, TakesFold, StaysFold, AsksFold, RootGives, ReplyGives, FaultStays, RefusalStays, ShowGives, ClearGives, StayGives, ShownIsTaken, ReplyStays};
 
 /// The law of the fold: it goes on from the fold of a shorter stream, and an ask that is sent only joins those that wait.
 /// So a front is at all times the fold of the asks that it sent and the bytes that it took, in whatever pieces, or has the
@@ -18,4 +18,9 @@ pub fn move_law()
     ensures reply { ReplyGives }
     ensures fault { FaultStays }
     ensures refusal { RefusalStays }
+    ensures show { ShowGives }
+    ensures clear { ClearGives }
+    ensures stay { StayGives }
+    ensures shown { ShownIsTaken }
+    ensures reply_stays { ReplyStays }
 {}

@@ -3,6 +3,8 @@
 #![tactic(auto)]
 
 mod asks;
+mod checks;
+mod children;
 mod faults;
 mod folding;
 mod front;

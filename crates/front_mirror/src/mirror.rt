@@ -1,14 +1,16 @@
-ghost use Rattle.std.specs.Prelude.{◌≡◌, ◌≢◌, ◌↔◌, ◌<◌, ◌++◌, length, IsTrue, IsSome, is_some, Some, option_map, option_copied, slice_get, None, true, IfOk, OnOk};
-ghost use Rattle.node_tree.specs.Nodes.{none, alone, width, tree_at};
-ghost use Rattle.node_tree.specs.Keys.{find, parent_of};
+ghost use Rattle.std.specs.Prelude.{◌≡◌, ◌≢◌, ◌↔◌, ◌<◌, ◌++◌, length, IsTrue, IsSome, is_some, Some, option_map, option_copied, slice_get, None, true, IfOk, IfSome, OnOk};
+ghost use Rattle.node_tree.specs.Nodes.{none, alone, width, tree_at, nodes_of};
+ghost use Rattle.node_tree.specs.Keys.{find, parent_of, spot};
 ghost use Rattle.node_tree.specs.Seen.{is_opened, seen_id, seen_serial};
 ghost use Rattle.cdp_messages.specs.Told.{count_in, seen_nodes, seen_branch};
-ghost use Rattle.cdp_messages.specs.NodeData.{fits_tree};
-ghost use Rattle.front_mirror.specs.Shown.{shown, known_at, root_id};
+ghost use Rattle.cdp_messages.specs.NodeData.{fits_tree, fits_nodes};
+ghost use Rattle.front_mirror.specs.Shown.{shown, shown_spot, known_at, root_id};
 ghost use Rattle.front_mirror.specs.Outline.{outline_text, seen_line};
 
+use crate::children::show_among;
 use crate::told::{
     child_id, children_of, count_of, find_by_id, find_by_serial, is_opened, parent_among,
+    spot_by_id,
 };
 use cdp_messages::{Kind, NodeTree};
 use std::alloc::{AllocError, Global};
@@ -25,7 +27,7 @@ impl Model for Mirror {
     ghost use Rattle.node_tree.specs.Nodes.{Nodes, coded_nodes};
     ghost use Rattle.node_tree.specs.Seen.{Seen, coded_seen};
     ghost use Rattle.front_mirror.specs.Shown.{shown};
-    ghost use Rattle.front_mirror.specs.Views.{IsMirror};
+    ghost use Rattle.cdp_messages.specs.Views.{IsMirror};
 
     ghost Value = { Nodes Seen };
 
@@ -37,8 +39,9 @@ impl Model for Mirror {
 }
 
 impl Mirror {
-    ghost use Rattle.front_mirror.specs.Views.{IsMirror};
+    ghost use Rattle.cdp_messages.specs.Views.{IsMirror, most_levels};
     ghost use Rattle.front_mirror.specs.Front.{root_fault};
+    ghost use Rattle.front_mirror.specs.Children.{spot_fault, with_shown};
 
     pub(crate) fn new(alloc: Global) -> Mirror
         ensures { result ≡ none }
@@ -57,6 +60,15 @@ impl Mirror {
         let mut roots = Vec::new(alloc);
         roots.push(root)?;
         Ok(Mirror { roots })
+    }
+
+    /// Shows the nodes as the children of a known node, where nothing is wrong with them.
+    pub(crate) fn show(&mut self, parent: u64, nodes: Vec<NodeTree>)
+        requires fits { fits_nodes (nodes_of nodes.items) ≡ true }
+        requires clear { spot_fault self.old parent (nodes_of nodes.items) (spot seen_id parent 0 self.old) ≡ None }
+        ensures { self.new ≡ with_shown parent (nodes_of nodes.items) self.old }
+    {
+        show_among(&mut self.roots, parent, nodes);
     }
 
     /// What each mirror is: ids and serials are distinct, no node stands at a level above 60, names have their forms, and
@@ -108,6 +120,14 @@ impl Mirror {
             unreachable!()
         };
         node
+    }
+
+    /// The known node of that id, and its level.
+    pub(crate) fn spot(&self, id: u64) -> Option<(&NodeTree, usize)>
+        ensures spot { option_map shown_spot result ≡ spot seen_id id 0 self.now }
+        ensures level { IfSome result (λ p. p.1 < most_levels) }
+    {
+        spot_by_id(&self.roots, id, 0)
     }
 
     fn parent_of(&self, id: u64) -> Option<u64>

@@ -1,91 +1,13 @@
 // Whether the root of a document can be the mirror.
-ghost use Rattle.std.specs.Prelude.{◌≡◌, ◌++◌, nat_le, IfOk, OnOk};
-ghost use Rattle.node_tree.specs.Nodes.{nodes_of, height};
-ghost use Rattle.front_mirror.specs.Shown.{told_id, told_serial};
-ghost use Rattle.front_mirror.specs.Views.{keys, is_distinct};
-ghost use Rattle.front_mirror.specs.Front.{is_kin, is_unique, root_fault};
+ghost use Rattle.std.specs.Prelude.{◌≡◌, IfOk};
+ghost use Rattle.front_mirror.specs.Front.{root_fault};
 
+use crate::checks::{MOST_LEVELS, are_kin, are_new, are_within};
 use crate::faults::FrontKind;
 use crate::told::children_of;
 use cdp_messages::NodeTree;
 use std::alloc::{AllocError, Global};
-use std::collections::BTreeSet;
 use std::slice;
-
-/// How many levels a tree may have: the document has level 0, and no node stands at a level above 60.
-const MOST_LEVELS: usize = 61;
-
-/// Each of these nodes says that its parent is the one of this id, and so on below.
-#[tactic(auto, using(crate::proofs::ToldLemmas::node_count_below))]
-fn are_kin(nodes: &[NodeTree], parent: u64) -> bool
-    ensures { result ≡ is_kin parent (nodes_of nodes.now) }
-{
-    for node in nodes {
-        if node.parent != parent || !are_kin(children_of(node), node.id) {
-            return false;
-        }
-    }
-    true
-}
-
-/// The nodes have no more than so many levels.
-#[tactic(auto, using(crate::proofs::ToldLemmas::node_count_below))]
-fn are_within(nodes: &[NodeTree], levels: usize) -> bool
-    ensures { result ≡ nat_le (height (nodes_of nodes.now)) levels }
-{
-    for node in nodes {
-        if levels == 0 {
-            return false;
-        }
-        if !are_within(children_of(node), levels - 1) {
-            return false;
-        }
-    }
-    true
-}
-
-/// Appends the nodes' ids and serials, in document order.
-#[tactic(auto, using(crate::proofs::ToldLemmas::node_count_below))]
-fn push_keys(
-    nodes: &[NodeTree],
-    ids: &mut Vec<u64>,
-    serials: &mut Vec<u64>,
-) -> Result<(), AllocError>
-    ensures ids { OnOk result (ids.new.items ≡ ids.old.items ++ keys told_id (nodes_of nodes.now)) }
-    ensures serials { OnOk result (serials.new.items ≡ serials.old.items ++ keys told_serial (nodes_of nodes.now)) }
-{
-    for node in nodes {
-        ids.push(node.id)?;
-        serials.push(node.serial)?;
-        push_keys(children_of(node), ids, serials)?;
-    }
-    Ok(())
-}
-
-/// No number comes twice.
-fn are_distinct(alloc: Global, numbers: &[u64]) -> Result<bool, AllocError>
-    ensures { IfOk result (λ distinct. distinct ≡ is_distinct numbers.now) }
-{
-    let mut seen = BTreeSet::new(alloc);
-    for number in numbers {
-        if !seen.insert(*number)? {
-            return Ok(false);
-        }
-    }
-    Ok(true)
-}
-
-fn are_unique(alloc: Global, nodes: &[NodeTree]) -> Result<bool, AllocError>
-    ensures { IfOk result (λ unique. unique ≡ is_unique (nodes_of nodes.now)) }
-{
-    let mut ids = Vec::new(alloc);
-    let mut serials = Vec::new(alloc);
-    push_keys(nodes, &mut ids, &mut serials)?;
-    if !are_distinct(alloc, &ids)? {
-        return Ok(false);
-    }
-    are_distinct(alloc, &serials)
-}
 
 /// What is wrong with the root of a document, judged against an empty mirror, the first by number.
 pub(crate) fn root_fault(alloc: Global, root: &NodeTree) -> Result<Option<FrontKind>, AllocError>
@@ -95,7 +17,7 @@ pub(crate) fn root_fault(alloc: Global, root: &NodeTree) -> Result<Option<FrontK
         return Ok(Some(FrontKind::NotChild));
     }
     let all = slice::from_ref(root);
-    if !are_unique(alloc, all)? {
+    if !are_new(alloc, &[], all)? {
         return Ok(Some(FrontKind::IdTaken));
     }
     if !are_within(all, MOST_LEVELS) {

@@ -1,10 +1,10 @@
 // The nodes of messages, which the mirror keeps as they came: how one is found, and how they are printed.
 ghost use Rattle.std.specs.Prelude.{◌≡◌, ◌++◌, ◌+◌, ◌<◌, ◌^◌, length, Some, option_map, option_copied, OnOk};
 ghost use Rattle.node_tree.specs.Nodes.{nodes_of, tree_at, width, height};
-ghost use Rattle.node_tree.specs.Seen.{is_opened};
-ghost use Rattle.node_tree.specs.Keys.{find, parent_of};
+ghost use Rattle.node_tree.specs.Seen.{is_opened, is_counted};
+ghost use Rattle.node_tree.specs.Keys.{find, parent_of, spot};
 ghost use Rattle.cdp_messages.specs.Told.{count_in, seen_nodes};
-ghost use Rattle.front_mirror.specs.Shown.{told_id, told_serial, shown};
+ghost use Rattle.front_mirror.specs.Shown.{told_id, told_serial, told_spot, shown};
 ghost use Rattle.front_mirror.specs.Outline.{lines_at, seen_line, unshown_of};
 
 use crate::lines::{write_indent, write_node_line};
@@ -53,6 +53,23 @@ pub(crate) fn find_by_serial(nodes: &[NodeTree], serial: u64) -> Option<&NodeTre
     None
 }
 
+/// The node of that id and its level, where these nodes stand on the given one.
+#[tactic(auto, using(crate::proofs::ToldLemmas::node_count_below))]
+pub(crate) fn spot_by_id(nodes: &[NodeTree], id: u64, level: usize) -> Option<(&NodeTree, usize)>
+    requires { level + height (nodes_of nodes.now) < 2 ^ 64 }
+    ensures { option_map told_spot result ≡ spot told_id id level (nodes_of nodes.now) }
+{
+    for node in nodes {
+        if node.id == id {
+            return Some((node, level));
+        }
+        if let Some(found) = spot_by_id(children_of(node), id, level + 1) {
+            return Some(found);
+        }
+    }
+    None
+}
+
 /// The id of the node's parent, where these nodes are the children of the one with the id `above`.
 #[tactic(auto, using(crate::proofs::ToldLemmas::node_count_below))]
 pub(crate) fn parent_among(nodes: &[NodeTree], above: u64, id: u64) -> Option<u64>
@@ -87,6 +104,16 @@ pub(crate) fn is_opened(node: &NodeTree) -> bool
     ensures { result ≡ is_opened node.now.row.seen.hold }
 {
     node.children.is_some()
+}
+
+/// Whether the node can have children, and they are not shown.
+pub(crate) fn is_unopened(node: &NodeTree) -> bool
+    ensures { result ≡ is_counted node.now.row.seen.hold }
+{
+    match node.kind {
+        Kind::Document | Kind::Element => node.children.is_none(),
+        Kind::Text | Kind::Comment | Kind::Doctype => false,
+    }
 }
 
 /// How many children a node has, shown or only counted.

@@ -1,37 +1,34 @@
 -- Lemmas on the lines of a script up to the first that is refused.
-use Rattle.std.proofs.Common.{◌≡◌, ℕ, suc, ◌+◌, ◌-◌, ◌≤◌, List, [], ◌∷◌, ◌++◌, map, take, Bool, false, ◌||◌, Option, Some, None, MatchOption, refl, ap, subst, sym, ◌∙◌, arith}
-use Rattle.std.specs.Option.{option_map_or, option_to_list}
+use Rattle.std.proofs.Common.{◌≡◌, ℕ, suc, ◌+◌, ◌-◌, ◌≤◌, List, [], ◌∷◌, ◌++◌, map, take, Option, Some, None, MatchOption, refl, ap, subst, sym, ◌∙◌, arith}
+use Rattle.std.specs.Option.{option_to_list}
 use Rattle.replay_script.specs.Lines.{lines_of}
-use Rattle.replay_script.specs.Forms.{LineForm, is_ask, line_form}
+use Rattle.replay_script.specs.Forms.{LineForm, line_form}
 use Rattle.replay_script.specs.Faults.{line_fault}
-use Rattle.replay_script.specs.Script.{asked_after, numbered_or, first_bad, unless_bad, good_lines, fault_of_lines, StopsBefore, ScriptLaw}
+use Rattle.replay_script.specs.Script.{numbered_or, first_bad, unless_bad, good_lines, fault_of_lines, StopsBefore, ScriptLaw}
 use Rattle.replay_script.proofs.FormLemmas.{line_form-good}
 use Rattle.replay_script.specs.declared.faults.LineFault.{LineFault}
 
 -- ---- a step over one line
 
-pub first_bad-good : (number : ℕ) (is_asked : Bool) (line : List ℕ) (more : List (List ℕ)) → line_fault number is_asked line ≡ None
-    → first_bad number is_asked (line ∷ more) ≡ first_bad (number + 1) (asked_after is_asked line) more
-first_bad-good number is_asked line more h = ap (λ (f : Option LineFault). numbered_or number f (first_bad (number + 1) (asked_after is_asked line) more)) h
+pub first_bad-good : (number : ℕ) (line : List ℕ) (more : List (List ℕ)) → line_fault number line ≡ None
+    → first_bad number (line ∷ more) ≡ first_bad (number + 1) more
+first_bad-good number line more h = ap (λ (f : Option LineFault). numbered_or number f (first_bad (number + 1) more)) h
 
-pub first_bad-bad : (number : ℕ) (is_asked : Bool) (line : List ℕ) (more : List (List ℕ)) (fault : LineFault) → line_fault number is_asked line ≡ Some fault
-    → first_bad number is_asked (line ∷ more) ≡ Some (number, fault)
-first_bad-bad number is_asked line more fault h = ap (λ (f : Option LineFault). numbered_or number f (first_bad (number + 1) (asked_after is_asked line) more)) h
+pub first_bad-bad : (number : ℕ) (line : List ℕ) (more : List (List ℕ)) (fault : LineFault) → line_fault number line ≡ Some fault
+    → first_bad number (line ∷ more) ≡ Some (number, fault)
+first_bad-bad number line more fault h = ap (λ (f : Option LineFault). numbered_or number f (first_bad (number + 1) more)) h
 
-pub good_lines-good : (number : ℕ) (is_asked : Bool) (line : List ℕ) (more : List (List ℕ)) (form : LineForm)
-    → line_fault number is_asked line ≡ None → line_form line ≡ Some form
-    → good_lines number is_asked (line ∷ more) ≡ form ∷ good_lines (number + 1) (asked_after is_asked line) more
-good_lines-good number is_asked line more form good is =
-    let rest : List LineForm = good_lines (number + 1) (asked_after is_asked line) more in
+pub good_lines-good : (number : ℕ) (line : List ℕ) (more : List (List ℕ)) (form : LineForm)
+    → line_fault number line ≡ None → line_form line ≡ Some form
+    → good_lines number (line ∷ more) ≡ form ∷ good_lines (number + 1) more
+good_lines-good number line more form good is =
+    let rest : List LineForm = good_lines (number + 1) more in
     ap (λ (f : Option LineFault). unless_bad f (option_to_list (line_form line) ++ rest)) good ∙ ap (λ (o : Option LineForm). option_to_list o ++ rest) is
 
-pub good_lines-bad : (number : ℕ) (is_asked : Bool) (line : List ℕ) (more : List (List ℕ)) (fault : LineFault)
-    → line_fault number is_asked line ≡ Some fault → good_lines number is_asked (line ∷ more) ≡ []
-good_lines-bad number is_asked line more fault h =
-    ap (λ (f : Option LineFault). unless_bad f (option_to_list (line_form line) ++ good_lines (number + 1) (asked_after is_asked line) more)) h
-
-pub asked_after-form : (is_asked : Bool) (line : List ℕ) (form : LineForm) → line_form line ≡ Some form → asked_after is_asked line ≡ (is_asked || is_ask form)
-asked_after-form is_asked line form h = ap (λ (o : Option LineForm). is_asked || option_map_or is_ask o false) h
+pub good_lines-bad : (number : ℕ) (line : List ℕ) (more : List (List ℕ)) (fault : LineFault)
+    → line_fault number line ≡ Some fault → good_lines number (line ∷ more) ≡ []
+good_lines-bad number line more fault h =
+    ap (λ (f : Option LineFault). unless_bad f (option_to_list (line_form line) ++ good_lines (number + 1) more)) h
 
 -- ---- the law
 
@@ -50,16 +47,16 @@ walks-good number (Some at) forms line more form is h =
 walks-bad : (number : ℕ) (fault : LineFault) (line : List ℕ) (more : List (List ℕ)) → Walks number (Some (number, fault)) [] (line ∷ more)
 walks-bad number fault line more = let none_left : number - number ≡ 0 = omega arith in (omega arith, rw none_left refl)
 
-walks : (number : ℕ) (is_asked : Bool) (lines : List (List ℕ)) → Walks number (first_bad number is_asked lines) (good_lines number is_asked lines) lines
-walks number is_asked [] = refl
-walks number is_asked (line ∷ more) =
-    let later = walks (number + 1) (asked_after is_asked line) more in
-    let rest : List LineForm = good_lines (number + 1) (asked_after is_asked line) more in
-    (elim (line_fault number is_asked line) as (λ f. line_fault number is_asked line ≡ f
-    → Walks number (numbered_or number f (first_bad (number + 1) (asked_after is_asked line) more)) (unless_bad f (option_to_list (line_form line) ++ rest)) (line ∷ more)) [
+walks : (number : ℕ) (lines : List (List ℕ)) → Walks number (first_bad number lines) (good_lines number lines) lines
+walks number [] = refl
+walks number (line ∷ more) =
+    let later = walks (number + 1) more in
+    let rest : List LineForm = good_lines (number + 1) more in
+    (elim (line_fault number line) as (λ f. line_fault number line ≡ f
+    → Walks number (numbered_or number f (first_bad (number + 1) more)) (unless_bad f (option_to_list (line_form line) ++ rest)) (line ∷ more)) [
       | None ↦ λ e.
-          let form = line_form-good number is_asked line e in
-          subst (λ (o : Option LineForm). Walks number (first_bad (number + 1) (asked_after is_asked line) more) (option_to_list o ++ rest) (line ∷ more)) (sym form.1)
+          let form = line_form-good number line e in
+          subst (λ (o : Option LineForm). Walks number (first_bad (number + 1) more) (option_to_list o ++ rest) (line ∷ more)) (sym form.1)
           (walks-good number _ rest line more form.0 form.1 later)
       | Some fault ↦ λ e. walks-bad number fault line more
     ]) refl
@@ -69,9 +66,9 @@ law-walk : (bad : Option (ℕ × LineFault)) (forms : List LineForm) (lines : Li
 law-walk None forms lines h = h
 law-walk (Some at) forms lines h = record { least = h.0; before = h.1 }
 
-law-lines : (lines : List (List ℕ)) → MatchOption (fault_of_lines lines) (map Some (good_lines 1 false lines) ≡ map line_form lines) (λ bad. StopsBefore (good_lines 1 false lines) lines bad.0)
+law-lines : (lines : List (List ℕ)) → MatchOption (fault_of_lines lines) (map Some (good_lines 1 lines) ≡ map line_form lines) (λ bad. StopsBefore (good_lines 1 lines) lines bad.0)
 law-lines [] = record { least = omega arith; before = refl }
-law-lines (line ∷ more) = law-walk (first_bad 1 false (line ∷ more)) (good_lines 1 false (line ∷ more)) (line ∷ more) (walks 1 false (line ∷ more))
+law-lines (line ∷ more) = law-walk (first_bad 1 (line ∷ more)) (good_lines 1 (line ∷ more)) (line ∷ more) (walks 1 (line ∷ more))
 
 pub script_law : ScriptLaw
 script_law input = law-lines (lines_of input)

@@ -1,5 +1,5 @@
 -- Why a line is refused: the first that applies, in the order of the lists here.
-use Rattle.std.specs.Prelude.{ℕ, ◌==◌, List, [], ◌∷◌, Bool, true, false, ◌&&◌, not, if◌then◌else◌, Option, is_none, is_some, option_map, option_and_then, bytes_eq, codes}
+use Rattle.std.specs.Prelude.{ℕ, ◌==◌, List, [], ◌∷◌, Bool, true, false, ◌||◌, not, Result, Ok, Err, if◌then◌else◌, Option, is_none, is_some, option_map, option_and_then, codes}
 use Rattle.std.specs.Option.{option_map_or}
 use Rattle.serde_json.specs.Data.{Data}
 use Rattle.serde_json.specs.Find.{get}
@@ -7,7 +7,8 @@ use Rattle.serde_json.specs.Written.{has_float}
 use Rattle.node_tree.specs.Keys.{first_of}
 use Rattle.page_tree.specs.Loads.{first_true, first_load_fault}
 use Rattle.page_tree.specs.declared.faults.LoadFault.{LoadFault}
-use Rattle.replay_script.specs.Forms.{AskForm, LineForm, load, ask, show_front, data_of, page_of, page_nodes, form_of}
+use Rattle.replay_script.specs.Forms.{AskForm, LineForm, load, ask, up, down, settle, show_front, show_replies, data_of, page_of, page_nodes, form_of}
+use Rattle.cdp_messages.specs.Asked.{command_of}
 use Rattle.replay_script.specs.declared.faults.LineFault.{LineFault}
 use Rattle.replay_script.specs.declared.faults.LineFault.TheVariants.{NotJson, NotLoad, BadForm, BadLoad, NotBuilt}
 
@@ -25,26 +26,36 @@ first_line_fault d = first_of (first_true ((NotLoad, is_none (page_of d)) ∷ (B
 
 -- ---- the lines after it
 
--- `DOM.getDocument` without parameters, once
-abbrev pub is_built_ask : Bool → AskForm → Bool
-is_built_ask is_asked a = not is_asked && bytes_eq a.method (codes "DOM.getDocument") && is_none a.params && is_none a.session
+abbrev pub is_good : {A E : Type 0} → Result A E → Bool
+is_good (Ok x) = true
+is_good (Err e) = false
 
-abbrev pub is_built : Bool → LineForm → Bool
-is_built is_asked (load nodes) = false
-is_built is_asked (ask a) = is_built_ask is_asked a
-is_built is_asked show_front = true
+-- a command that the back end knows, with parameters that fit it
+abbrev pub is_built_ask : AskForm → Bool
+is_built_ask a = is_good (command_of a.method a.params a.session)
 
-abbrev pub later_line_fault : Bool → Data → Option LineFault
-later_line_fault is_asked d = first_true ((NotBuilt, not (option_map_or (is_built is_asked) (form_of d) false)) ∷ [])
+-- a later page is not built yet
+abbrev pub is_built : LineForm → Bool
+is_built (load nodes) = false
+is_built (ask a) = is_built_ask a
+is_built (up n) = true
+is_built (down n) = true
+is_built settle = true
+is_built show_front = true
+is_built show_replies = true
 
--- ---- any line; `is_asked` says that an ask came before it
+-- a line with a number that is not whole has none of the forms that are built
+abbrev pub later_line_fault : Data → Option LineFault
+later_line_fault d = first_true ((NotBuilt, has_float d || not (option_map_or is_built (form_of d) false)) ∷ [])
 
-abbrev pub fault_of_data : ℕ → Bool → Data → Option LineFault
-fault_of_data number is_asked d = if number == 1 then first_line_fault d else later_line_fault is_asked d
+-- ---- any line
+
+abbrev pub fault_of_data : ℕ → Data → Option LineFault
+fault_of_data number d = if number == 1 then first_line_fault d else later_line_fault d
 
 -- bytes that are no JSON
 abbrev pub json_fault : List ℕ → Option LineFault
 json_fault line = first_true ((NotJson, is_none (data_of line)) ∷ [])
 
-abbrev pub line_fault : ℕ → Bool → List ℕ → Option LineFault
-line_fault number is_asked line = first_of (json_fault line) (option_and_then (fault_of_data number is_asked) (data_of line))
+abbrev pub line_fault : ℕ → List ℕ → Option LineFault
+line_fault number line = first_of (json_fault line) (option_and_then (fault_of_data number) (data_of line))

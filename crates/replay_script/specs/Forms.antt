@@ -1,10 +1,10 @@
 -- What a line of a script says: the forms of its JSON.
-use Rattle.std.specs.Prelude.{ℕ, List, Bool, true, false, if◌then◌else◌, Option, Some, None, option_map, option_and_then, bytes_eq, codes, ⊤}
+use Rattle.std.specs.Prelude.{ℕ, List, [], ◌∷◌, if◌then◌else◌, Option, Some, None, option_map, option_and_then, bytes_eq, codes, ⊤}
 use Rattle.std.specs.Str.{is_utf8}
 use Rattle.serde_json.specs.Data.{Data, Members}
 use Rattle.serde_json.specs.Find.{as_object, as_str}
 use Rattle.serde_json.specs.Read.{read}
-use Rattle.cdp_json.specs.Kinds.{Kind, anything, text}
+use Rattle.cdp_json.specs.Kinds.{Kind, anything, text, as_whole, as_true}
 use Rattle.cdp_json.specs.Rows.{first_at, after_first, is_done, ends, and_need, and_may, object_of}
 use Rattle.node_tree.specs.Nodes.{Nodes}
 use Rattle.node_tree.specs.Labels.{Label}
@@ -21,12 +21,13 @@ pub data LineForm : Type 0 where
   -- a new page with these nodes below its document
   load : Nodes Label → LineForm
   ask : AskForm → LineForm
+  -- so many bytes are delivered up, or down
+  up : ℕ → LineForm
+  down : ℕ → LineForm
+  -- all that was sent is delivered
+  settle : LineForm
   show_front : LineForm
-
-abbrev pub is_ask : LineForm → Bool
-is_ask (load nodes) = false
-is_ask (ask a) = true
-is_ask show_front = false
+  show_replies : LineForm
 
 -- ---- from a line's bytes
 
@@ -67,18 +68,38 @@ ask_in d = option_map ask_from (ask_kind.reads d)
 abbrev pub ask_of : Data → Option AskForm
 ask_of d = option_and_then ask_in (only (codes "ask") d)
 
+-- ---- `{"up":n}` and `{"down":n}`, where n is a whole number from 0 to 2^53-1; `{"settle":true}`
+
+abbrev pub number_of : List ℕ → Data → Option ℕ
+number_of name d = option_and_then as_whole (only name d)
+
+abbrev pub settle_in : Data → Option ⊤
+settle_in d = option_and_then as_true (only (codes "settle") d)
+
 -- ---- `{"show":WORD}`
 
 abbrev pub word_of : Data → Option (List ℕ)
 word_of d = option_and_then as_str (only (codes "show") d)
 
 abbrev pub show_from : List ℕ → Option LineForm
-show_from word = if bytes_eq word (codes "front") then Some show_front else None
+show_from word = if bytes_eq word (codes "front") then Some show_front else if bytes_eq word (codes "replies") then Some show_replies else None
 
 -- ---- the form of a line, if it has one
 
+-- the first that is there
+abbrev pub first_form : List (Option LineForm) → Option LineForm
+first_form [] = None
+first_form (f ∷ fs) = first_of f (first_form fs)
+
 abbrev pub form_of : Data → Option LineForm
-form_of d = first_of (option_map load (option_and_then page_nodes (page_of d))) (first_of (option_map ask (ask_of d)) (option_and_then show_from (word_of d)))
+form_of d = first_form
+    (option_map load (option_and_then page_nodes (page_of d))
+    ∷ option_map ask (ask_of d)
+    ∷ option_map up (number_of (codes "up") d)
+    ∷ option_map down (number_of (codes "down") d)
+    ∷ option_map (λ _. settle) (settle_in d)
+    ∷ option_and_then show_from (word_of d)
+    ∷ [])
 
 abbrev pub line_form : List ℕ → Option LineForm
 line_form line = option_and_then form_of (data_of line)

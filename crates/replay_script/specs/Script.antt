@@ -1,47 +1,42 @@
 -- The lines of a script up to the first that is refused.
-use Rattle.std.specs.Prelude.{◌≡◌, ℕ, ◌+◌, ◌-◌, ◌≤◌, map, take, MatchOption, List, [], ◌∷◌, ◌++◌, Bool, false, ◌||◌, Option, Some, None}
-use Rattle.std.specs.Option.{option_map_or, option_to_list}
+use Rattle.std.specs.Prelude.{◌≡◌, ℕ, ◌+◌, ◌-◌, ◌≤◌, map, take, MatchOption, List, [], ◌∷◌, ◌++◌, Option, Some, None}
+use Rattle.std.specs.Option.{option_to_list}
 use Rattle.replay_script.specs.Lines.{lines_of}
-use Rattle.replay_script.specs.Forms.{LineForm, is_ask, line_form}
+use Rattle.replay_script.specs.Forms.{LineForm, line_form}
 use Rattle.replay_script.specs.Faults.{line_fault}
 use Rattle.replay_script.specs.declared.faults.LineFault.{LineFault}
 use Rattle.replay_script.specs.declared.faults.LineFault.TheVariants.{NotLoad}
-
--- an ask is among the lines before, or this line is one
-abbrev pub asked_after : Bool → List ℕ → Bool
-asked_after is_asked line = is_asked || option_map_or is_ask (line_form line) false
 
 abbrev pub numbered_or : ℕ → Option LineFault → Option (ℕ × LineFault) → Option (ℕ × LineFault)
 numbered_or number None later = later
 numbered_or number (Some fault) later = Some (number, fault)
 
 -- the number and the fault of the first line that is refused, where the first of these has this number
-abbrev pub first_bad : ℕ → Bool → List (List ℕ) → Option (ℕ × LineFault)
-first_bad number is_asked [] = None
-first_bad number is_asked (line ∷ more) = numbered_or number (line_fault number is_asked line) (first_bad (number + 1) (asked_after is_asked line) more)
+abbrev pub first_bad : ℕ → List (List ℕ) → Option (ℕ × LineFault)
+first_bad number [] = None
+first_bad number (line ∷ more) = numbered_or number (line_fault number line) (first_bad (number + 1) more)
 
 abbrev pub unless_bad : Option LineFault → List LineForm → List LineForm
 unless_bad None forms = forms
 unless_bad (Some fault) forms = []
 
 -- the forms of the lines before it
-abbrev pub good_lines : ℕ → Bool → List (List ℕ) → List LineForm
-good_lines number is_asked [] = []
-good_lines number is_asked (line ∷ more) =
-    unless_bad (line_fault number is_asked line) (option_to_list (line_form line) ++ good_lines (number + 1) (asked_after is_asked line) more)
+abbrev pub good_lines : ℕ → List (List ℕ) → List LineForm
+good_lines number [] = []
+good_lines number (line ∷ more) = unless_bad (line_fault number line) (option_to_list (line_form line) ++ good_lines (number + 1) more)
 
 -- ---- a whole script
 
 -- An input without a line has no load.
 abbrev pub fault_of_lines : List (List ℕ) → Option (ℕ × LineFault)
 fault_of_lines [] = Some (1, NotLoad)
-fault_of_lines (line ∷ more) = first_bad 1 false (line ∷ more)
+fault_of_lines (line ∷ more) = first_bad 1 (line ∷ more)
 
 abbrev pub script_fault : List ℕ → Option (ℕ × LineFault)
 script_fault input = fault_of_lines (lines_of input)
 
 abbrev pub script_forms : List ℕ → List LineForm
-script_forms input = good_lines 1 false (lines_of input)
+script_forms input = good_lines 1 (lines_of input)
 
 -- ---- what these are, in other words
 

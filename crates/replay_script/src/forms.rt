@@ -1,11 +1,10 @@
 // What a line says.
-ghost use Rattle.std.specs.Prelude.{◌≡◌, Some, is_none, option_map, IfOk, bytes_eq, codes};
+ghost use Rattle.std.specs.Prelude.{◌≡◌, is_some, option_map, IfOk};
 ghost use Rattle.serde_json.specs.View.{view};
-ghost use Rattle.replay_script.specs.Forms.{only, page_of, ask_in, ask_of, word_of};
-ghost use Rattle.replay_script.specs.Faults.{is_built_ask};
+ghost use Rattle.replay_script.specs.Forms.{only, ask_in, ask_of, number_of, settle_in, word_of};
 ghost use Rattle.replay_script.specs.Seen.{parts_form, seen_ask};
 
-use cdp_json::Cursor;
+use cdp_json::{Cursor, flag_of, whole_of};
 use node_tree::Text;
 use page_tree::NodeForm;
 use serde_json::Value;
@@ -17,7 +16,14 @@ pub enum Line {
     /// A new page with these nodes below its document.
     Load(Vec<NodeForm>),
     Ask(Ask),
+    /// So many bytes are delivered up, or as many as are on their way.
+    Up(u64),
+    /// So many bytes are delivered down, or as many as are on their way.
+    Down(u64),
+    /// All that was sent is delivered.
+    Settle,
     ShowFront,
+    ShowReplies,
 }
 
 /// A command that the front end is to send.
@@ -69,6 +75,22 @@ pub(crate) fn ask_of(value: &Value) -> Option<AskParts<'_>>
     ask_in(only(value, "ask")?)
 }
 
+// The whole number from 0 to 2^53-1 that stands under this name alone.
+pub(crate) fn number_of(value: &Value, name: &str) -> Option<u64>
+    ensures { result ≡ number_of name.now (view value.now) }
+{
+    whole_of(only(value, name)?)
+}
+
+pub(crate) fn is_settle(value: &Value) -> bool
+    ensures { result ≡ is_some (settle_in (view value.now)) }
+{
+    match only(value, "settle") {
+        Some(all) => flag_of(all) == Some(true),
+        None => false,
+    }
+}
+
 pub(crate) fn word_of(value: &Value) -> Option<&str>
     ensures { option_map (λ s. s.now) result ≡ word_of (view value.now) }
 {
@@ -93,15 +115,5 @@ impl AskParts<'_> {
             params: copied(self.params)?,
             session: copied(self.session)?,
         })
-    }
-
-    // `DOM.getDocument` without parameters, where no ask came before.
-    pub fn is_built(&self, is_asked: bool) -> bool
-        ensures { result ≡ is_built_ask is_asked (parts_form self.now) }
-    {
-        !is_asked
-            && self.method == "DOM.getDocument"
-            && self.params.is_none()
-            && self.session.is_none()
     }
 }

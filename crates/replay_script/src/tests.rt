@@ -2,21 +2,13 @@ use super::*;
 use std::alloc::Global;
 use std::test::Fail;
 
-fn is_ask(line: &Line) -> bool {
-    match line {
-        Line::Ask(ask) => ask.method.as_str() == "DOM.getDocument",
-        Line::Load(_) | Line::ShowFront => false,
-    }
-}
-
 // What a status line says of the script after its exit status.
 fn answer(alloc: Global, script: &[u8]) -> Result<String, Fail> {
     let mut number = 0u64;
-    let mut is_asked = false;
     for line in Lines::new(script) {
         number = number.wrapping_add(1);
-        match read_line(alloc, number, is_asked, line) {
-            Ok(line) => is_asked = is_asked || is_ask(&line),
+        match read_line(alloc, number, line) {
+            Ok(_) => {},
             Err(LineErr::Fault(fault)) => {
                 let name = fault_name(fault);
                 return Ok(format!(in alloc; "line {number}: {name} {fault}")?);
@@ -62,28 +54,45 @@ fn scripts(rt: HostRuntime) -> Result<(), Fail> {
 
 #[test]
 fn later_lines(rt: HostRuntime) -> Result<(), Fail> {
+    let refused = "line 2: NotBuilt NotBuilt";
+    for (line, want) in [
+        (r#"{"ask":{"method":"DOM.getDocument"}}"#, "2 lines"),
+        (
+            r#"{"ask":{"method":"DOM.getDocument","params":{"depth":0}}}"#,
+            refused,
+        ),
+        (
+            r#"{"ask":{"method":"DOM.getDocument","params":{"x":1.5}}}"#,
+            refused,
+        ),
+        (r#"{"ask":{"method":"DOM.nope"}}"#, refused),
+        (r#"{"up":9007199254740991}"#, "2 lines"),
+        (r#"{"down":9007199254740992}"#, refused),
+        (r#"{"settle":true}"#, "2 lines"),
+        (r#"{"settle":false}"#, refused),
+        (r#"{"show":"replies"}"#, "2 lines"),
+        (r#"{"show":"page"}"#, refused),
+        (r#"{"load":{"document":[]}}"#, refused),
+    ] {
+        let script = format!(in rt.alloc(); "{{\"load\":{{\"document\":[]}}}}\n{line}\n")?;
+        let got = answer(rt.alloc(), script.as_bytes())?;
+        assert_eq!(rt; got.as_str(), want, "of {line}");
+    }
+    Ok(())
+}
+
+#[test]
+fn numbers_of_lines(rt: HostRuntime) -> Result<(), Fail> {
     for (script, want) in [
         (
-            "{\"ask\":{\"method\":\"DOM.getDocument\"}}\n{\"show\":\"front\"}\n",
+            "{\"load\":{\"document\":[]}}\n{\"ask\":{\"method\":\"DOM.getDocument\"}}\n{\"ask\":{\"method\":\"DOM.getDocument\"}}\n",
             "3 lines",
         ),
         (
-            "{\"ask\": {\"method\": \"DOM.getDocument\"}}\n{\"show\":\"front\"}\nnonsense",
-            "line 4: NotJson NotJson",
+            "{\"load\": {\"document\": []}}\n{\"show\": \"front\"}\n\n",
+            "line 3: NotJson NotJson",
         ),
-        ("{\"show\":\"front\"}\n\n", "line 3: NotJson NotJson"),
-        (
-            "{\"ask\":{\"method\":\"DOM.getDocument\"}}\n{\"ask\":{\"method\":\"DOM.getDocument\"}}",
-            "line 3: NotBuilt NotBuilt",
-        ),
-        (
-            "{\"ask\":{\"method\":\"DOM.getDocument\",\"params\":{}}}",
-            "line 2: NotBuilt NotBuilt",
-        ),
-        ("{\"show\":\"page\"}", "line 2: NotBuilt NotBuilt"),
-        ("{\"load\":{\"document\":[]}}", "line 2: NotBuilt NotBuilt"),
     ] {
-        let script = format!(in rt.alloc(); "{{\"load\":{{\"document\":[]}}}}\n{script}")?;
         let got = answer(rt.alloc(), script.as_bytes())?;
         assert_eq!(rt; got.as_str(), want);
     }

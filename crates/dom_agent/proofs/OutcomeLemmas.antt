@@ -1,0 +1,164 @@
+-- What each command comes to for a session.
+use Rattle.std.proofs.Common.{◌≡◌, ℕ, zero, suc, ℤ, pos, negsuc, ◌+◌, ◌<◌, ◌≤◌, ◌^◌, ◌==◌, Bool, true, false, ◌&&◌, ◌||◌, cond, List, length, length-append, Option, Some, None, unwrap_or, refl, sym, ap, subst, ◌∙◌, arith, lt-ltb}
+use Rattle.std.proofs.lemmas.Bool.{and_parts, and_from}
+use Rattle.node_tree.specs.Nodes.{Nodes, none, node, Branch, alone, node_count, map_rows}
+use Rattle.node_tree.specs.Keys.{has, find}
+use Rattle.node_tree.specs.Labels.{holds, is_formed_label}
+use Rattle.node_tree.proofs.KeyLemmas.{found_key}
+use Rattle.page_tree.specs.Forms.{is_bare, may_stand, are_formed}
+use Rattle.page_tree.specs.Pages.{Row, State, IsValid, row_serial, row_label}
+use Rattle.node_binding.specs.Counts.{times}
+use Rattle.node_binding.specs.Cuts.{known}
+use Rattle.node_binding.specs.Openings.{levels_of, is_spent, above}
+use Rattle.node_binding.specs.Sessions.{Session, IsSession, session_of, ids_in, serial_at}
+use Rattle.node_binding.proofs.Known.{length-known}
+use Rattle.node_binding.proofs.StartLemmas.{root_holds, distinct-alone}
+use Rattle.node_binding.proofs.SessionLemmas.{IsSession-document_opened}
+use Rattle.node_binding.proofs.PairLemmas.{find-there}
+use Rattle.node_binding.proofs.InViewLemmas.{InView, in_view, in_view-tally}
+use Rattle.cdp_messages.specs.declared.command.Command.{Command}
+use Rattle.cdp_messages.specs.declared.command.Command.TheVariants.{GetDocument, RequestChildNodes, PushByPath, PushBySerials}
+use Rattle.cdp_messages.specs.declared.down.ReplyBody.TheVariants.{Nothing}
+use Rattle.cdp_messages.specs.Asked.{fits_command, method_name}
+use Rattle.cdp_messages.specs.Laws.{answers}
+use Rattle.cdp_messages.specs.Replies.{fits_body}
+use Rattle.dom_agent.specs.Keepers.{Keeper, session_keeper}
+use Rattle.dom_agent.specs.Paths.{node_at_path}
+use Rattle.dom_agent.specs.Requests.{Outcome, served, refused, Progress, requested, known_node, of_children, of_path, with_ids, all_pushed, pushed as push_of, state_after}
+use Rattle.dom_agent.specs.Laws.{session_outcome, StaysSession, DrawsFew}
+use Rattle.dom_agent.proofs.OpeningsLemmas.{AreContainers, requested-are}
+use Rattle.dom_agent.proofs.StepLemmas.{Goes, goes-few, goes-openings, goes-pushed, goes-all_pushed, is_small, ids-below}
+
+-- ---- depths
+
+pub document-left : (depth : Option ℤ) (pierce : Option Bool) → fits_command (GetDocument depth pierce) ≡ true → is_spent (levels_of (unwrap_or depth (pos 1))) ≡ false
+document-left None pierce h = refl
+document-left (Some (pos zero)) pierce h = let bad : false ≡ true = h in cc
+document-left (Some (pos (suc d))) pierce h = refl
+document-left (Some (negsuc d)) pierce h = refl
+
+-- ---- pages
+
+holds_above : (h : Bool) (c : Nodes Row) → (h || is_bare (map_rows row_label c)) ≡ true → (s : ℕ) → has row_serial s c ≡ true → h ≡ true
+holds_above true c e s there = refl
+holds_above false none e s there = cc
+holds_above false (node r c t) e s there = cc
+
+containers-formed : (top : Bool) (n : Nodes Row) → are_formed top (map_rows row_label n) ≡ true → AreContainers n
+containers-formed top none e = tt
+containers-formed top (node r c t) e =
+    let p4 = and_parts (is_formed_label r.label && may_stand top r.label.kind && (holds r.label.kind || is_bare (map_rows row_label c)) && are_formed false (map_rows row_label c)) (are_formed top (map_rows row_label t)) e in
+    let p3 = and_parts (is_formed_label r.label && may_stand top r.label.kind && (holds r.label.kind || is_bare (map_rows row_label c))) (are_formed false (map_rows row_label c)) p4.0 in
+    let p2 = and_parts (is_formed_label r.label && may_stand top r.label.kind) (holds r.label.kind || is_bare (map_rows row_label c)) p3.0 in
+    (holds_above (holds r.label.kind) c p2.1, containers-formed false c p3.1, containers-formed top t p4.1)
+
+pub containers-page : (page : State) → IsValid page → AreContainers (alone page.tree)
+containers-page page valid = (λ s there. root_holds page valid, containers-formed true page.tree.children valid.nodes.formed, tt)
+
+-- ---- commands
+
+-- what is served goes from the session as it was, and the reply is one of the command's
+abbrev pub OutcomeGoes : Nodes Row → Command → Session → Outcome Session → Type 0
+OutcomeGoes n c w (served p body) = Goes n w p.state p.shown × (length p.state.pushed < 2 ^ 53 → fits_body body ≡ true) × (answers (method_name c) body ≡ true)
+OutcomeGoes n c w (refused why) = Unit {0}
+
+begun_or : (P : Outcome Session → Type 0) (b : Bool) (x y : Outcome Session) → (b ≡ true → P x) → P y → P (cond b x y)
+begun_or P true x y f g = f refl
+begun_or P false x y f g = g
+
+module _ (page : State) (valid : IsValid page) where
+  abbrev n : Nodes Row
+  n = alone page.tree
+
+  abbrev keeper : Keeper Session
+  keeper = session_keeper n
+
+  -- a known node that is found by its id
+  pub known-found : (o : ℕ → Bool) (pushed : List ℕ) (since : ℕ) (serial : Option ℕ) → ((s : ℕ) → serial ≡ Some s → 0 < times s (known o n)) → (x : Branch Row) → known_node keeper page.tree (session_of o pushed since) serial ≡ Some x → InView o x n
+  known-found o pushed since None there x e = cc
+  known-found o pushed since (Some s) there x e =
+      let is : x.row.serial ≡ s = found_key row_serial s n x e in
+      in_view o x n (distinct-alone page valid) (ap (λ (k : ℕ). find row_serial k n) is ∙ e) (subst (λ (k : ℕ). 0 < times k (known o n)) (sym is) (there s refl))
+
+  children-go : (c : Command) (depth : Option ℤ) (o : ℕ → Bool) (pushed : List ℕ) (since : ℕ) → IsSession n (session_of o pushed since) → answers (method_name c) Nothing ≡ true → (found : Option (Branch Row)) → ((x : Branch Row) → found ≡ Some x → InView o x n)
+      → OutcomeGoes n c (session_of o pushed since) (of_children keeper page.tree depth found (session_of o pushed since))
+  children-go c depth o pushed since session one None there = tt
+  children-go c depth o pushed since session one (Some x) there =
+      let v : InView o x n = there x refl in (
+        goes-openings n (distinct-alone page valid) page.tree (requested o (levels_of (unwrap_or depth (pos 1))) (alone x)) o pushed since session
+            (requested-are n (distinct-alone page valid) o (levels_of (unwrap_or depth (pos 1))) (alone x) o (λ s. omega (arith, in_view-tally o x v s, distinct-alone page valid s)) (v, tt) (λ s h. refl)),
+        λ few. refl,
+        one,
+      )
+
+  path-goes : (path : List ℕ) (o : ℕ → Bool) (pushed : List ℕ) (since : ℕ) → IsSession n (session_of o pushed since) → (found : Option (Branch Row))
+      → OutcomeGoes n (PushByPath path) (session_of o pushed since) (of_path keeper page.tree found (session_of o pushed since))
+  path-goes path o pushed since session None = tt
+  path-goes path o pushed since session (Some x) =
+      let w : Session = session_of o pushed since in
+      let first : Progress Session = push_of keeper page.tree x.row.serial w in
+      let g = goes-pushed page.tree (distinct-alone page valid) (containers-page page valid) x.row.serial o pushed since session in
+      (g, λ few. and_from (is_small (ids_in first.state x.row.serial)) true (lt-ltb (ids_in first.state x.row.serial) (2 ^ 53) (omega (arith, ids-below n first.state x.row.serial g.session, few))) refl, refl)
+
+  serials-go : (serials : List ℕ) (o : ℕ → Bool) (pushed : List ℕ) (since : ℕ) → IsSession n (session_of o pushed since) → o page.tree.row.serial ≡ true
+      → OutcomeGoes n (PushBySerials serials) (session_of o pushed since) (with_ids keeper page.tree (all_pushed keeper page.tree serials (session_of o pushed since)))
+  serials-go serials o pushed since session begun =
+      let g = goes-all_pushed page.tree (distinct-alone page valid) (containers-page page valid) serials (Some o) pushed since begun session in
+      (g.goes, λ few. and_from _ true (g.ids few) refl, refl)
+
+  -- each command but `DOM.getDocument`
+  abbrev pub Asks : Command → Session → Type 0
+  Asks c w = OutcomeGoes n c w (session_outcome page c w)
+
+  pub request-goes : (id : ℕ) (depth : Option ℤ) (pierce : Option Bool) (o : Option (ℕ → Bool)) (pushed : List ℕ) (since : ℕ) → IsSession n (record { opened = o; pushed = pushed; since = since }) → Asks (RequestChildNodes id depth pierce) (record { opened = o; pushed = pushed; since = since })
+  request-goes id depth pierce None pushed since session = tt
+  request-goes id depth pierce (Some o) pushed since session =
+      let w : Session = session_of o pushed since in
+      children-go (RequestChildNodes id depth pierce) depth o pushed since session refl (known_node keeper page.tree w (serial_at w n id))
+      (known-found o pushed since (serial_at w n id) (λ s e. (find-there (λ s. ids_in w s == id) (known o n) s e).0))
+
+  pub path-pushed : (path : List ℕ) (o : Option (ℕ → Bool)) (pushed : List ℕ) (since : ℕ) → IsSession n (record { opened = o; pushed = pushed; since = since }) → Asks (PushByPath path) (record { opened = o; pushed = pushed; since = since })
+  path-pushed path None pushed since session = tt
+  path-pushed path (Some o) pushed since session =
+      let w : Session = session_of o pushed since in
+      begun_or (OutcomeGoes n (PushByPath path) w) (o page.tree.row.serial) (of_path keeper page.tree (node_at_path path page.tree) w) (refused _)
+      (λ _. path-goes path o pushed since session (node_at_path path page.tree)) tt
+
+  pub serials-pushed : (serials : List ℕ) (o : Option (ℕ → Bool)) (pushed : List ℕ) (since : ℕ) → IsSession n (record { opened = o; pushed = pushed; since = since }) → Asks (PushBySerials serials) (record { opened = o; pushed = pushed; since = since })
+  serials-pushed serials None pushed since session = tt
+  serials-pushed serials (Some o) pushed since session =
+      let w : Session = session_of o pushed since in
+      begun_or (OutcomeGoes n (PushBySerials serials) w) (o page.tree.row.serial) (with_ids keeper page.tree (all_pushed keeper page.tree serials w)) (refused _)
+      (λ begun. serials-go serials o pushed since session begun) tt
+
+-- ---- laws
+
+goes_session : (n : Nodes Row) (c : Command) (w : Session) (out : Outcome Session) → IsSession n w → OutcomeGoes n c w out → IsSession n (state_after w out)
+goes_session n c w (served p body) session g = g.0.session
+goes_session n c w (refused why) session g = session
+
+goes_few : (n : Nodes Row) (c : Command) (w : Session) (out : Outcome Session) → OutcomeGoes n c w out → length (state_after w out).pushed ≤ length w.pushed + node_count n
+goes_few n c w (served p body) g = goes-few n w p.state p.shown g.0
+goes_few n c w (refused why) g = omega arith
+
+pub stays_session : StaysSession
+stays_session page (GetDocument depth pierce) w valid fits session =
+    IsSession-document_opened (levels_of (unwrap_or depth (pos 1))) page.tree.row page.tree.children w (distinct-alone page valid) (root_holds page valid) (document-left depth pierce fits)
+stays_session page (RequestChildNodes id depth pierce) w valid fits session =
+    goes_session (alone page.tree) (RequestChildNodes id depth pierce) w (session_outcome page (RequestChildNodes id depth pierce) w) session (request-goes page valid id depth pierce w.opened w.pushed w.since session)
+stays_session page (PushByPath path) w valid fits session =
+    goes_session (alone page.tree) (PushByPath path) w (session_outcome page (PushByPath path) w) session (path-pushed page valid path w.opened w.pushed w.since session)
+stays_session page (PushBySerials serials) w valid fits session =
+    goes_session (alone page.tree) (PushBySerials serials) w (session_outcome page (PushBySerials serials) w) session (serials-pushed page valid serials w.opened w.pushed w.since session)
+
+pub draws_few : DrawsFew
+draws_few page (GetDocument depth pierce) w valid fits session =
+    let d : Option ℕ = levels_of (unwrap_or depth (pos 1)) in
+    let n : Nodes Row = alone page.tree in
+    omega (arith, length-append w.pushed (known (above d n) n), length-known (above d n) n)
+draws_few page (RequestChildNodes id depth pierce) w valid fits session =
+    goes_few (alone page.tree) (RequestChildNodes id depth pierce) w (session_outcome page (RequestChildNodes id depth pierce) w) (request-goes page valid id depth pierce w.opened w.pushed w.since session)
+draws_few page (PushByPath path) w valid fits session =
+    goes_few (alone page.tree) (PushByPath path) w (session_outcome page (PushByPath path) w) (path-pushed page valid path w.opened w.pushed w.since session)
+draws_few page (PushBySerials serials) w valid fits session =
+    goes_few (alone page.tree) (PushBySerials serials) w (session_outcome page (PushBySerials serials) w) (serials-pushed page valid serials w.opened w.pushed w.since session)

@@ -1,0 +1,157 @@
+-- What a list of openings comes to for a session.
+use Rattle.std.proofs.Common.{◌≡◌, ℕ, ◌+◌, ◌<◌, ◌≤◌, ◌^◌, Bool, true, false, cond, nat_lt, List, [], ◌∷◌, ◌++◌, length, length-append, length-drop, drop, Option, Some, None, refl, sym, subst, arith, lt-ltb}
+use Rattle.std.specs.List.{list_all}
+use Rattle.std.proofs.lemmas.Bool.{and_from}
+use Rattle.std.proofs.lemmas.List.{map-append}
+use Rattle.node_tree.specs.Nodes.{Nodes, Branch, alone, width, node_count}
+use Rattle.node_tree.specs.Keys.{has}
+use Rattle.node_tree.specs.Seen.{Seen, opened as children_shown}
+use Rattle.page_tree.specs.Pages.{Row, row_serial}
+use Rattle.node_binding.specs.Cuts.{shown_anew, cut}
+use Rattle.node_binding.specs.Openings.{is_spent, opened_also}
+use Rattle.node_binding.specs.Sessions.{Session, IsSession, CanOpen, session_of, is_open, known_by, ids_in, view, grown}
+use Rattle.node_binding.proofs.Places.{place-le}
+use Rattle.node_binding.proofs.Known.{length-known}
+use Rattle.node_binding.proofs.OpeningLemmas.{AreDistinct}
+use Rattle.node_binding.proofs.InViewLemmas.{roots_in_view, opened-grows}
+use Rattle.node_binding.proofs.OpenedLemmas.{IsSession-opened, length-opened, bare_row, view-opened}
+use Rattle.cdp_messages.specs.Moves.{Move, show, shows as shows_children, IsTellable, Course, ends, goes}
+use Rattle.dom_agent.specs.Keepers.{session_keeper}
+use Rattle.dom_agent.specs.Requests.{Opening, Showing, Progress, Pushes, pushing, all_opened, pushed as push_of, all_pushed}
+use Rattle.dom_agent.specs.Laws.{shows}
+use Rattle.dom_agent.proofs.OpeningsLemmas.{AreOpenings, AreContainers, pushing-are}
+
+-- messages can tell what any session shows that has pushed no more than that
+abbrev pub CanSay : Nodes Row → ℕ → Type 0
+CanSay n most = (v : Session) → IsSession n v → length v.pushed ≤ most → IsTellable (view v n)
+
+-- From w to z, with these openings told: z is a session, nothing is shut, each id is one of a node that became known, and
+-- the moves lead from the one view to the other.
+pub record Goes (n : Nodes Row) (w z : Session) (xs : List Showing) : Type 0 where
+  pub session : IsSession n z
+  pub grows : (s : ℕ) → is_open w.opened s ≡ true → is_open z.opened s ≡ true
+  pub counts : length z.pushed + length (known_by w.opened n) ≡ length w.pushed + length (known_by z.opened n)
+  pub longer : length w.pushed ≤ length z.pushed
+  pub course : (most : ℕ) → CanSay n most → length z.pushed ≤ most → Course (shows xs) (view w n) (view z n)
+
+course-join : {ms ks : List Move} {u v w : Nodes Seen} → Course ms u v → Course ks v w → Course (ms ++ ks) u w
+course-join (ends v t) d = d
+course-join {ks = ks} {w = x} (goes m ms u v w t moved c) d = goes m (ms ++ ks) u v x t moved (course-join c d)
+
+length-known_by : (o : Option (ℕ → Bool)) (n : Nodes Row) → length (known_by o n) ≤ node_count n
+length-known_by None n = omega arith
+length-known_by (Some o) n = length-known o n
+
+module _ (n : Nodes Row) where
+  pub goes-none : (w : Session) → IsSession n w → Goes n w w []
+  goes-none w session = record {
+    session = session;
+    grows = λ s e. e;
+    counts = refl;
+    longer = omega arith;
+    course = λ most say few. ends (view w n) (say w session few);
+  }
+
+  pub goes-on : (w v z : Session) (xs ys : List Showing) → Goes n w v xs → Goes n v z ys → Goes n w z (xs ++ ys)
+  goes-on w v z xs ys g h = record {
+    session = h.session;
+    grows = λ s e. h.grows s (g.grows s e);
+    counts = omega (arith, g.counts, h.counts);
+    longer = omega (arith, g.longer, h.longer);
+    course = λ most say few. subst (λ (ms : List Move). Course ms (view w n) (view z n)) (sym (map-append (λ (x : Showing). show x.parent x.children) xs ys))
+        (course-join (g.course most say (omega (arith, h.longer, few))) (h.course most say few));
+  }
+
+  -- no more ids are drawn than there are nodes
+  pub goes-few : (w z : Session) (xs : List Showing) → Goes n w z xs → length z.pushed ≤ length w.pushed + node_count n
+  goes-few w z xs g = omega (arith, g.counts, length-known_by z.opened n)
+
+  module _ (distinct : AreDistinct n) where
+    abbrev told : (z : Session) → Branch Row → Showing
+    told z x = record { parent = ids_in z x.row.serial; children = cut (is_open z.opened) (ids_in z) x.children }
+
+    -- one opening
+    pub goes-one : (y : Opening) (o : ℕ → Bool) (pushed : List ℕ) (since : ℕ) → is_spent y.levels ≡ false → CanOpen n o y.node → IsSession n (session_of o pushed since)
+        → Goes n (session_of o pushed since) (grown o (opened_also y.levels y.node o) n (session_of o pushed since)) (told (grown o (opened_also y.levels y.node o) n (session_of o pushed since)) y.node ∷ [])
+    goes-one y o pushed since left can session =
+        let d : Option ℕ = y.levels in
+        let x : Branch Row = y.node in
+        let w : Session = session_of o pushed since in
+        let z : Session = grown o (opened_also d x o) n w in
+        let after : IsSession n z = IsSession-opened d n x o pushed since distinct left can session in
+        let more : length pushed ≤ length (pushed ++ shown_anew o (opened_also d x o) n) = omega (arith, length-append pushed (shown_anew o (opened_also d x o) n)) in
+        let at = view-opened d n x o pushed since distinct left can session in
+        record {
+          session = after;
+          grows = opened-grows o d x;
+          counts = length-opened d n x o pushed since distinct left can session;
+          longer = more;
+          course = λ most say few. goes (show (ids_in z x.row.serial) (cut (opened_also d x o) (ids_in z) x.children)) [] (view w n) (view z n) (view z n) (say w session (omega (arith, more, few)))
+              (shows_children (width x.children) at.0 (bare_row o d x (ids_in z) children_shown) (cut (opened_also d x o) (ids_in z) x.children) (view w n) (view z n) at.1)
+              (ends (view z n) (say z after few));
+        }
+
+    module _ (document : Branch Row) where
+      -- several
+      pub goes-openings : (xs : List Opening) (o : ℕ → Bool) (pushed : List ℕ) (since : ℕ) → IsSession n (session_of o pushed since) → AreOpenings n o xs
+          → Goes n (session_of o pushed since) (all_opened (session_keeper n) document xs (session_of o pushed since)).state (all_opened (session_keeper n) document xs (session_of o pushed since)).shown
+      goes-openings [] o pushed since session are = goes-none (session_of o pushed since) session
+      goes-openings (y ∷ ys) o pushed since session are =
+          let w : Session = session_of o pushed since in
+          let p : ℕ → Bool = opened_also y.levels y.node o in
+          let z : Session = grown o p n w in
+          let first = goes-one y o pushed since are.0 are.1 session in
+          let rest : Progress Session = all_opened (session_keeper n) document ys z in
+          goes-on w z rest.state (told z y.node ∷ []) rest.shown first (goes-openings ys p z.pushed z.since first.session are.2)
+
+-- ---- pushes
+
+-- an id that a reply can tell
+abbrev pub is_small : ℕ → Bool
+is_small id = nat_lt id (2 ^ 53)
+
+-- what several pushes come to, with their ids
+pub record GoesPushing (n : Nodes Row) (w : Session) (q : Pushes Session) : Type 0 where
+  pub goes : Goes n w q.progress.state q.progress.shown
+  pub ids : length q.progress.state.pushed < 2 ^ 53 → list_all is_small q.ids ≡ true
+
+either : {A : Type 0} (P : A → Type 0) (b : Bool) (x y : A) → P x → P y → P (cond b x y)
+either P true x y f g = f
+either P false x y f g = g
+
+-- no id is above the number of serials pushed
+pub ids-below : (n : Nodes Row) (w : Session) (s : ℕ) → IsSession n w → ids_in w s ≤ length w.pushed
+ids-below n w s session = omega (arith, place-le (drop w.since w.pushed) s, length-drop w.since w.pushed, session.since_then)
+
+module _ (document : Branch Row) (distinct : AreDistinct (alone document)) (containers : AreContainers (alone document)) where
+  abbrev n : Nodes Row
+  n = alone document
+
+  -- one push
+  pub goes-pushed : (s : ℕ) (o : ℕ → Bool) (pushed : List ℕ) (since : ℕ) → IsSession n (session_of o pushed since)
+      → Goes n (session_of o pushed since) (push_of (session_keeper n) document s (session_of o pushed since)).state (push_of (session_keeper n) document s (session_of o pushed since)).shown
+  goes-pushed s o pushed since session =
+      goes-openings n distinct document (pushing o s n) o pushed since session (pushing-are n distinct o s n o containers distinct (roots_in_view o n) (λ k h. refl))
+
+  pub goes-all_pushed : (ss : List ℕ) (opened : Option (ℕ → Bool)) (pushed : List ℕ) (since : ℕ) → is_open opened document.row.serial ≡ true → IsSession n (record { opened = opened; pushed = pushed; since = since })
+      → GoesPushing n (record { opened = opened; pushed = pushed; since = since }) (all_pushed (session_keeper n) document ss (record { opened = opened; pushed = pushed; since = since }))
+  goes-all_pushed [] opened pushed since begun session = record { goes = goes-none n (record { opened = opened; pushed = pushed; since = since }) session; ids = λ _. refl }
+  goes-all_pushed (s ∷ ss) None pushed since begun session = cc
+  goes-all_pushed (s ∷ ss) (Some o) pushed since begun session =
+      let w : Session = session_of o pushed since in
+      let first : Progress Session = push_of (session_keeper n) document s w in
+      let one : Goes n w first.state first.shown = goes-pushed s o pushed since session in
+      let rest : Pushes Session = all_pushed (session_keeper n) document ss first.state in
+      let more : GoesPushing n first.state rest = goes-all_pushed ss first.state.opened first.state.pushed first.state.since (one.grows document.row.serial begun) one.session in
+      let others : Pushes Session = all_pushed (session_keeper n) document ss w in
+      let past : GoesPushing n w others = goes-all_pushed ss (Some o) pushed since begun session in
+      either (GoesPushing n w) (has row_serial s n)
+      (record { progress = record { state = rest.progress.state; shown = first.shown ++ rest.progress.shown }; ids = ids_in first.state s ∷ rest.ids })
+      (record { progress = record { state = others.progress.state; shown = others.progress.shown }; ids = 0 ∷ others.ids })
+      (record {
+        goes = goes-on n w first.state rest.progress.state first.shown rest.progress.shown one more.goes;
+        ids = λ few. and_from (is_small (ids_in first.state s)) (list_all is_small rest.ids)
+            (lt-ltb (ids_in first.state s) (2 ^ 53) (omega (arith, ids-below n first.state s one.session, more.goes.longer, few)))
+            (more.ids few);
+      })
+      (record { goes = past.goes; ids = λ few. past.ids few })

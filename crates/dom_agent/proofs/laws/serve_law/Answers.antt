@@ -1,0 +1,7 @@
+use Rattle.dom_agent.proofs.OutcomeLemmas.{stays_session, draws_few}
+use Rattle.dom_agent.proofs.KeeperLemmas.{stays_bound, same_answer}
+use Rattle.dom_agent.proofs.MoveLemmas.{steps_are_moves, replies_fit}
+use Rattle.dom_agent.proofs.laws.serve_law.Goals as goal
+
+pub returns : goal.returns
+returns c = record { session = stays_session; stands = stays_bound; answer = same_answer; few = draws_few; moves = steps_are_moves; replies = replies_fit }

@@ -1,0 +1,156 @@
+-- What each command of a client comes to: what becomes opened, what is told of it, and the reply.
+use Rattle.std.specs.Prelude.{ℕ, ℤ, pos, Bool, not, ◌&&◌, cond, List, [], ◌∷◌, ◌++◌, map, filter, Option, Some, None, unwrap_or}
+use Rattle.node_tree.specs.Nodes.{Nodes, none, node, Branch, alone}
+use Rattle.node_tree.specs.Keys.{has, find}
+use Rattle.node_tree.specs.Labels.{holds}
+use Rattle.node_tree.specs.Seen.{Seen}
+use Rattle.page_tree.specs.Pages.{Row, row_serial}
+use Rattle.node_binding.specs.Cuts.{opens, seen_of, cut}
+use Rattle.node_binding.specs.Openings.{levels_of, less, is_spent}
+use Rattle.cdp_messages.specs.declared.command.Command.{Command}
+use Rattle.cdp_messages.specs.declared.command.Command.TheVariants.{GetDocument, RequestChildNodes, PushByPath, PushBySerials}
+use Rattle.cdp_messages.specs.declared.command.Why.{Why}
+use Rattle.cdp_messages.specs.declared.command.Why.TheVariants.{UnknownNode, NotPushed, NoPath}
+use Rattle.cdp_messages.specs.declared.down.ReplyBody.{ReplyBody}
+use Rattle.cdp_messages.specs.declared.down.ReplyBody.TheVariants.{Nothing, Root, NodeId, NodeIds}
+use Rattle.cdp_messages.specs.Answers.{ended}
+use Rattle.cdp_messages.specs.Events.{set_children}
+use Rattle.cdp_messages.specs.Replies.{reply_text, refused_text, event_text}
+use Rattle.cdp_messages.specs.Told.{told_nodes, told_branch}
+use Rattle.dom_agent.specs.Keepers.{Keeper}
+use Rattle.dom_agent.specs.Paths.{node_at_path}
+
+-- a container that is opened, and by how many levels
+pub record Opening : Type 0 where
+  pub levels : Option ℕ
+  pub node : Branch Row
+
+-- what is told of an opening: the children of the node of that id, with what is shown below them
+pub record Showing : Type 0 where
+  pub parent : ℕ
+  pub children : Nodes Seen
+
+-- ---- which containers are opened
+
+-- By a request for the nodes n: in document order each container, at a distance k below d, that is not opened itself and is
+-- one of n or has an opened parent; by d - k levels.
+abbrev pub requested : (ℕ → Bool) → Option ℕ → Nodes Row → List Opening
+requested o d none = []
+requested o d (node r c t) =
+    cond (holds r.label.kind && not (is_spent d)) (cond (o r.serial) (requested o (less d) c) (record { levels = d; node = record { row = r; children = c } } ∷ [])) []
+    ++ requested o d t
+
+-- the proper ancestors of a node, from the top down
+abbrev pub ancestors : ℕ → Nodes Row → List (Branch Row)
+ancestors s none = []
+ancestors s (node r c t) = cond (has row_serial s c) (record { row = r; children = c } ∷ ancestors s c) (ancestors s t)
+
+-- by a push of a node: its ancestors that are not opened, from the top down, by one level each
+abbrev pub pushing : (ℕ → Bool) → ℕ → Nodes Row → List Opening
+pushing o s n = map (λ x. record { levels = Some 1; node = x }) (filter (λ (x : Branch Row). not (o x.row.serial)) (ancestors s n))
+
+-- ---- what is told of a page
+
+-- a tree of the page, cut to what is known of it
+abbrev pub shown : (ℕ → Bool) → (ℕ → ℕ) → Branch Row → Branch Seen
+shown o i b = record { row = seen_of o i b.row b.children; children = cond (opens o b.row) (cut o i b.children) none }
+
+-- ---- what a command comes to
+
+-- what is kept after some openings, and what is told of them, in their order
+pub record Progress (S : Type 0) : Type 0 where
+  pub state : S
+  pub shown : List Showing
+
+-- the same of several pushes, with the ids of their nodes, 0 for no node
+pub record Pushes (S : Type 0) : Type 0 where
+  pub progress : Progress S
+  pub ids : List ℕ
+
+-- A command is served, or refused and changes nothing.
+pub data Outcome (S : Type 0) : Type 0 where
+  served : Progress S → ReplyBody → Outcome S
+  refused : Why → Outcome S
+
+-- then further ones
+abbrev pub followed : {S : Type 0} → List Showing → Progress S → Progress S
+followed before later = record { state = later.state; shown = before ++ later.shown }
+
+module _ {S : Type 0} (k : Keeper S) (document : Branch Row) where
+  -- of a container that was opened
+  abbrev pub told_of : Branch Row → S → Showing
+  told_of x w = record { parent = k.id_of w x.row.serial; children = cut (k.is_open w) (k.id_of w) x.children }
+
+  -- one after the other, each told as it is opened
+  abbrev pub all_opened : List Opening → S → Progress S
+  all_opened [] w = record { state = w; shown = [] }
+  all_opened (x ∷ xs) w =
+      let after = k.opened x.levels x.node w in
+      followed (told_of x.node after ∷ []) (all_opened xs after)
+
+  abbrev pub pushed : ℕ → S → Progress S
+  pushed s w = all_opened (pushing (k.is_open w) s (alone document)) w
+
+  abbrev pub and_id : ℕ → Progress S → Pushes S → Pushes S
+  and_id id first later = record { progress = followed first.shown later.progress; ids = id ∷ later.ids }
+
+  -- each in turn; a serial that no node has counts for no node
+  abbrev pub all_pushed : List ℕ → S → Pushes S
+  all_pushed [] w = record { progress = record { state = w; shown = [] }; ids = [] }
+  all_pushed (s ∷ ss) w =
+      cond (has row_serial s (alone document))
+      (let first = pushed s w in and_id (k.id_of first.state s) first (all_pushed ss first.state))
+      (and_id 0 (record { state = w; shown = [] }) (all_pushed ss w))
+
+  abbrev pub started : Option ℤ → S → Progress S
+  started depth w = record { state = k.started (levels_of (unwrap_or depth (pos 1))) w; shown = [] }
+
+  -- the document, as it is told in the reply to `DOM.getDocument`
+  abbrev pub with_document : Progress S → Outcome S
+  with_document p = served p (Root (told_branch 0 (shown (k.is_open p.state) (k.id_of p.state) document)))
+
+  -- the children of the node x are asked for
+  abbrev pub of_children : Option ℤ → Option (Branch Row) → S → Outcome S
+  of_children depth None w = refused UnknownNode
+  of_children depth (Some x) w = served (all_opened (requested (k.is_open w) (levels_of (unwrap_or depth (pos 1))) (alone x)) w) Nothing
+
+  -- the known node of that id
+  abbrev pub known_node : S → Option ℕ → Option (Branch Row)
+  known_node w None = None
+  known_node w (Some s) = find row_serial s (alone document)
+
+  abbrev pub with_id : ℕ → Progress S → Outcome S
+  with_id s p = served p (NodeId (k.id_of p.state s))
+
+  abbrev pub of_path : Option (Branch Row) → S → Outcome S
+  of_path None w = refused NoPath
+  of_path (Some x) w = with_id x.row.serial (pushed x.row.serial w)
+
+  abbrev pub with_ids : Pushes S → Outcome S
+  with_ids p = served p.progress (NodeIds p.ids)
+
+  -- pushes come after the document: where it is not opened, nothing is known
+  abbrev pub once_begun : S → Outcome S → Outcome S
+  once_begun w outcome = cond (k.is_open w document.row.serial) outcome (refused NotPushed)
+
+  abbrev pub outcome : Command → S → Outcome S
+  outcome (GetDocument depth pierce) w = with_document (started depth w)
+  outcome (RequestChildNodes id depth pierce) w = of_children depth (known_node w (k.serial_of w id)) w
+  outcome (PushByPath path) w = once_begun w (of_path (node_at_path path document) w)
+  outcome (PushBySerials serials) w = once_begun w (with_ids (all_pushed serials w))
+
+-- ---- what is kept, and what is sent
+
+abbrev pub state_after : {S : Type 0} → S → Outcome S → S
+state_after w (served p body) = p.state
+state_after w (refused why) = w
+
+-- the frames of what is told
+abbrev pub frames_told : List Showing → List ℕ
+frames_told [] = []
+frames_told (x ∷ xs) = ended (event_text (set_children x.parent (told_nodes x.parent x.children))) ++ frames_told xs
+
+-- the frames that a command is answered with, the reply last
+abbrev pub answer : {S : Type 0} → ℕ → Outcome S → List ℕ
+answer id (served p body) = frames_told p.shown ++ ended (reply_text id body)
+answer id (refused why) = ended (refused_text (record { id = Some id; why = why }))

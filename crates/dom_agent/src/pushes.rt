@@ -1,0 +1,85 @@
+ghost use Rattle.std.specs.Prelude.{◌≡◌, ◌<◌, ◌^◌, ◌++◌, cond, IfOk, OnOk};
+ghost use Rattle.node_tree.specs.Nodes.{alone};
+ghost use Rattle.node_tree.specs.Keys.{has};
+ghost use Rattle.page_tree.specs.Pages.{row_serial};
+ghost use Rattle.node_binding.specs.Bindings.{id_in};
+ghost use Rattle.dom_agent.specs.Keepers.{binding_keeper};
+ghost use Rattle.dom_agent.specs.Requests.{pushed, all_pushed, frames_told};
+
+use crate::openings::openings_above;
+use crate::serving::open_all;
+use node_binding::Binding;
+use page_tree::Page;
+use std::alloc::{AllocError, Global};
+
+/// Opens each ancestor of the node that is not opened yet, from the top down, and appends an event for each. Says whether
+/// the page has the node; where it has not, nothing is opened.
+pub(crate) fn open_above(
+    alloc: Global,
+    binding: &mut Binding,
+    page: &Page,
+    serial: u64,
+    out: &mut Vec<u8>,
+) -> Result<bool, AllocError>
+    requires { binding.old.next < 2 ^ 60 }
+    ensures there { IfOk result (λ there. there ≡ has row_serial serial (alone page.now.tree)) }
+    ensures known { OnOk result (binding.new
+        ≡ (pushed (binding_keeper (alone page.now.tree)) page.now.tree serial binding.old).state) }
+    ensures sent { OnOk result (out.new.items
+        ≡ out.old.items ++ frames_told (pushed (binding_keeper (alone page.now.tree)) page.now.tree serial binding.old).shown) }
+{
+    page.valid();
+    let Some(openings) = openings_above(alloc, binding, page.root(), serial)? else {
+        return Ok(false);
+    };
+    open_all(alloc, binding, &openings, out)?;
+    Ok(true)
+}
+
+/// Gives the id of the node, and 0 where the page does not have it.
+fn push_if_there(
+    alloc: Global,
+    binding: &mut Binding,
+    page: &Page,
+    serial: u64,
+    out: &mut Vec<u8>,
+) -> Result<u64, AllocError>
+    ensures id { IfOk result
+        (λ id. id ≡ cond (has row_serial serial (alone page.now.tree)) (id_in binding.new serial) 0) }
+    ensures known { OnOk result (binding.new
+        ≡ (pushed (binding_keeper (alone page.now.tree)) page.now.tree serial binding.old).state) }
+    ensures sent { OnOk result (out.new.items
+        ≡ out.old.items ++ frames_told (pushed (binding_keeper (alone page.now.tree)) page.now.tree serial binding.old).shown) }
+{
+    // Never in use: what is opened is not opened again, so a whole list draws no more ids than the page has nodes.
+    if binding.next_id() >= 1 << 60 {
+        return Err(AllocError);
+    }
+    if !open_above(alloc, binding, page, serial, out)? {
+        return Ok(0);
+    }
+    Ok(binding.id_of(serial).unwrap_or(0))
+}
+
+/// Pushes the nodes in turn, and gives their ids.
+pub(crate) fn push_all(
+    alloc: Global,
+    binding: &mut Binding,
+    page: &Page,
+    serials: &[u64],
+    out: &mut Vec<u8>,
+) -> Result<Vec<u64>, AllocError>
+    ensures ids { IfOk result (λ ids. ids.items
+        ≡ (all_pushed (binding_keeper (alone page.now.tree)) page.now.tree serials.now binding.old).ids) }
+    ensures known { OnOk result (binding.new
+        ≡ (all_pushed (binding_keeper (alone page.now.tree)) page.now.tree serials.now binding.old).progress.state) }
+    ensures sent { OnOk result (out.new.items ≡ out.old.items
+        ++ frames_told (all_pushed (binding_keeper (alone page.now.tree)) page.now.tree serials.now binding.old).progress.shown) }
+{
+    let mut ids = Vec::new(alloc);
+    for serial in serials {
+        let id = push_if_there(alloc, binding, page, *serial, out)?;
+        ids.push(id)?;
+    }
+    Ok(ids)
+}

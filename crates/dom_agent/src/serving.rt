@@ -1,0 +1,50 @@
+ghost use Rattle.std.specs.Prelude.{◌≡◌, ◌+◌, ◌<◌, ◌^◌, ◌++◌, [], ◌∷◌, All, map, sum_by, OnOk};
+ghost use Rattle.node_tree.specs.Nodes.{Nodes, Branch, node_count};
+ghost use Rattle.page_tree.specs.Pages.{Row};
+ghost use Rattle.dom_agent.specs.Keepers.{binding_keeper};
+ghost use Rattle.dom_agent.specs.Requests.{told_of, all_opened, frames_told};
+ghost use Rattle.dom_agent.specs.Openings.{opening_of, IsOfContainer};
+
+use crate::openings::Opening;
+use crate::told::told_trees;
+use cdp_messages::{Event, write_event};
+use node_binding::Binding;
+use page_tree::Tree;
+use std::alloc::{AllocError, Global};
+
+/// Appends the event that tells the children of an opened node.
+fn tell_children(
+    alloc: Global,
+    binding: &Binding,
+    tree: &Tree,
+    out: &mut Vec<u8>,
+) -> Result<(), AllocError>
+    ensures { (n : Nodes Row) (document : Branch Row) → OnOk result (out.new.items
+        ≡ out.old.items ++ frames_told (told_of (binding_keeper n) document tree.now binding.now ∷ [])) }
+{
+    let parent = binding.id_of(tree.serial).unwrap_or(0);
+    let nodes = told_trees(alloc, binding, &tree.children, parent)?;
+    write_event(alloc, &Event::SetChildNodes { parent, nodes }, out)?;
+    Ok(())
+}
+
+/// Opens one after the other, and appends for each the event that tells it.
+pub(crate) fn open_all(
+    alloc: Global,
+    binding: &mut Binding,
+    openings: &[Opening],
+    out: &mut Vec<u8>,
+) -> Result<(), AllocError>
+    requires containers { All IsOfContainer (map opening_of openings.now) }
+    requires room { binding.old.next + sum_by (λ x. node_count x.node.children) (map opening_of openings.now) < 2 ^ 63 }
+    ensures known { (n : Nodes Row) (document : Branch Row) → OnOk result (binding.new
+        ≡ (all_opened (binding_keeper n) document (map opening_of openings.now) binding.old).state) }
+    ensures sent { (n : Nodes Row) (document : Branch Row) → OnOk result (out.new.items
+        ≡ out.old.items ++ frames_told (all_opened (binding_keeper n) document (map opening_of openings.now) binding.old).shown) }
+{
+    for opening in openings {
+        binding.open_tree(opening.node, opening.levels)?;
+        tell_children(alloc, binding, opening.node, out)?;
+    }
+    Ok(())
+}
