@@ -1,6 +1,6 @@
 -- The ends follow the run as bytes are sent and given.
-use Rattle.std.proofs.Common.{◌≡◌, refl, false, ℕ, ◌+◌, ◌-◌, List, [], ◌∷◌, ◌++◌, length, take, drop, Some, None, sym, ◌∙◌, ap, subst, append_assoc, append-nil, Result, Ok, Err, arith, length-append}
-use Rattle.std.proofs.lemmas.List.{take-append-drop}
+use Rattle.std.proofs.Common.{◌≡◌, refl, Bool, false, ℕ, ◌+◌, ◌-◌, ◌^◌, ◌<◌, List, [], ◌∷◌, ◌++◌, length, map, take, drop, Some, None, sym, ◌∙◌, ap, subst, append_assoc, append-nil, Result, Ok, Err, arith, length-append}
+use Rattle.std.proofs.lemmas.List.{take-append-drop, length-map}
 use Rattle.node_binding.specs.Bindings.{Bound, Stands}
 use Rattle.node_binding.specs.Bindings.{empty_from}
 use Rattle.node_binding.proofs.StandsLemmas.{Stands-begun}
@@ -10,22 +10,27 @@ use Rattle.page_tree.specs.Forms.{CanLoad}
 use Rattle.page_tree.specs.Pages.{State, loaded}
 use Rattle.pipe_frames.specs.Pipe.{Pipe}
 use Rattle.pipe_frames.specs.Frames.{IsText, framed, frames_of, held_after}
-use Rattle.pipe_frames.proofs.FrameLemmas.{frames_of-append}
+use Rattle.pipe_frames.proofs.FrameLemmas.{frames_of-append, frames_of-one}
+use Rattle.cdp_messages.specs.Asked.{command_text}
 use Rattle.front_mirror.specs.declared.faults.FrontKind.{FrontKind}
 use Rattle.front_mirror.specs.Front as front
 use Rattle.front_mirror.specs.Front.{FrontValue, FrontState, first_state, first_value, take_frame, Folded, after_message, after_ask, after_take}
+use Rattle.replay_script.specs.Forms.{AskForm}
 use Rattle.inspect_world.specs.Stream.{Stream, sent, put, passed, held, arriving, awaited}
 use Rattle.inspect_world.specs.World.{World, steps, asked, answered, given_up, delivered_down}
 use Rattle.inspect_world.specs.Fold.{folded, joined, then}
 use Rattle.inspect_world.specs.Sides.{Side, nodes_in, first_side, step}
-use Rattle.inspect_world.specs.Fits.{join, IsAsk, ask_in, ask_with, with_ask, IsFit, FitsWith}
-use Rattle.inspect_world.specs.Scripts.{loaded_world}
-use Rattle.inspect_world.specs.ScriptsFit.{HaveTexts}
+use Rattle.inspect_world.specs.Fits.{join, IsAsk, ask_in, ask_with, with_ask, most_asks, IsFit, FitsWith}
+use Rattle.inspect_world.specs.Scripts.{sends, all_told, loaded_world}
+use Rattle.inspect_world.specs.ScriptsFit.{HaveTexts, CanSend}
+use Rattle.inspect_world.specs.Told.{told_of, replies_in}
 use Rattle.inspect_world.specs.Held.{Ends, good_front, InWorld}
 use Rattle.inspect_world.specs.Carried.{Carries}
 use Rattle.inspect_world.proofs.Frames.{sent-passed, awaited-passed}
-use Rattle.inspect_world.proofs.Worlds.{whole-after, frames_of-one, fits-asked, fits-given_up, fits-answered_one}
+use Rattle.inspect_world.proofs.Worlds.{whole-after, fits-asked, fits-given_up, fits-answered_one}
 use Rattle.inspect_world.proofs.FitLemmas.{world_laws}
+use Rattle.inspect_world.proofs.Messages.{IsText-sent, ask_in-sent, IsAsk-sent}
+use Rattle.inspect_world.proofs.Replies.{replies-of}
 use Rattle.inspect_world.proofs.Scripts.{fits-loaded}
 use Rattle.inspect_world.proofs.Folds.{Halves, folded-append, folded-halves, folded-rest, joined-append}
 use Rattle.inspect_world.proofs.Pipes.{carries-start, carries-put, carries-get}
@@ -109,6 +114,7 @@ world-delivered_down up0 down0 up down down1 w frames e n there piece in_world f
       up_is = in_world.up_is;
       down_is = carries-get down0 down down1 piece n w.down in_world.down_is sent_is given_is front_part;
       page_is = in_world.page_is;
+      on_is = in_world.on_is;
       stands = in_world.stands;
       back_is = in_world.back_is;
       value = took.value;
@@ -116,6 +122,7 @@ world-delivered_down up0 down0 up down down1 w frames e n there piece in_world f
       is_fold = took.is_fold;
       up_left = in_world.up_left;
       down_left = left-passed n e.down_there there piece w.down in_world.down_left front_part left;
+      told_is = in_world.told_is;
       fits = record {
         front = in_world.fits.front;
         is_fold =
@@ -151,6 +158,7 @@ world-asked up0 down0 up down up1 w e text method there in_world letters is_ask 
       up_is = carries-put up0 up up1 (framed text) w.up in_world.up_is sent_is given_is;
       down_is = in_world.down_is;
       page_is = in_world.page_is;
+      on_is = in_world.on_is;
       stands = in_world.stands;
       back_is = in_world.back_is;
       value = join in_world.value text;
@@ -167,8 +175,22 @@ world-asked up0 down0 up down up1 w e text method there in_world letters is_ask 
           ∙ world_laws.later text start in_world.value (frames_of w.down.given).whole in_world.is_fold;
       up_left = left ∙ ap (λ n. n + length (framed text)) in_world.up_left ∙ sym (length-append w.up.flying (framed text));
       down_left = in_world.down_left;
+      told_is = in_world.told_is;
       fits = fits;
     }
+
+-- the ask of a line is sent
+pub world-sent : (up0 down0 up down up1 : Pipe) (w : World Side) (e : Ends) (a : AskForm) (text : List ℕ) (there : ℕ)
+    → InWorld up0 down0 up down w (awaited w.up) e → CanSend a → w.asks < most_asks
+    → text ≡ command_text (w.asks + 1) a.method a.params a.session
+    → up1.sent ≡ up.sent ++ framed text → up1.given ≡ up.given → there ≡ e.up_there + length (framed text)
+    → InWorld up0 down0 up1 down (sends a w) (awaited (sends a w).up)
+    (record e { front = after_ask e.front a.method; up_there = there })
+world-sent up0 down0 up down up1 w e a text there in_world can few text_is sent_is given_is left =
+    let small : w.asks + 1 < 2 ^ 53 = omega (arith, few) in
+    world-asked up0 down0 up down up1 w e (command_text (w.asks + 1) a.method a.params a.session) a.method there in_world
+    (IsText-sent (w.asks + 1) a can small) (IsAsk-sent (w.asks + 1) a can (omega (arith, few)) small) (ask_in-sent (w.asks + 1) a can small)
+    (sent_is ∙ ap (λ bytes. up.sent ++ framed bytes) text_is) given_is (left ∙ ap (λ bytes. e.up_there + length (framed bytes)) text_is)
 
 -- bytes come up
 pub world-given_up : (up0 down0 up down up1 : Pipe) (w : World Side) (e : Ends) (n there : ℕ) (piece rest : List ℕ)
@@ -181,6 +203,7 @@ world-given_up up0 down0 up down up1 w e n there piece rest in_world front_part 
   up_is = carries-get up0 up up1 piece n w.up in_world.up_is sent_is given_is front_part;
   down_is = in_world.down_is;
   page_is = in_world.page_is;
+  on_is = in_world.on_is;
   stands = in_world.stands;
   back_is =
       rest_is ∙ ap (λ held. held_after held piece) in_world.back_is
@@ -192,19 +215,20 @@ world-given_up up0 down0 up down up1 w e n there piece rest in_world front_part 
       ∙ in_world.is_fold;
   up_left = left-passed n e.up_there there piece w.up in_world.up_left front_part left;
   down_left = in_world.down_left;
+  told_is = in_world.told_is;
   fits = fits-given_up step take_frame join IsAsk IsFit world_laws (first_value []) n w in_world.fits;
 }
 
 -- a frame that came up whole is answered
 pub world-answered : (up0 down0 up down down1 : Pipe) (w : World Side) (frame : List ℕ) (frames : List (List ℕ)) (e : Ends)
-    → (page : State) (bound : Bound) (out : List ℕ) (there : ℕ)
+    → (page : State) (is_on : Bool) (bound : Bound) (out : List ℕ) (there : ℕ)
     → InWorld up0 down0 up down w (frame ∷ frames) e
-    → page ≡ (step w.side frame).side.page → Stands (nodes_in (step w.side frame).side) (step w.side frame).side.session bound
+    → page ≡ (step w.side frame).side.page → is_on ≡ (step w.side frame).side.is_on → Stands (nodes_in (step w.side frame).side) (step w.side frame).side.session bound
     → out ≡ (step w.side frame).sent
     → down1.sent ≡ down.sent ++ out → down1.given ≡ down.given → there ≡ e.down_there + length out
     → InWorld up0 down0 up down1 (answered step (frame ∷ []) w) frames
-    (record e { page = page; bound = bound; down_there = there })
-world-answered up0 down0 up down down1 w frame frames e page bound out there in_world page_is stands out_is sent_is given_is left =
+    (record e { page = page; is_on = is_on; bound = bound; down_there = there })
+world-answered up0 down0 up down down1 w frame frames e page is_on bound out there in_world page_is on_is stands out_is sent_is given_is left =
     let all : out ≡ (steps step w.side (frame ∷ [])).sent = out_is ∙ sym (append-nil (step w.side frame).sent) in
     record {
       up_is = in_world.up_is;
@@ -212,6 +236,7 @@ world-answered up0 down0 up down down1 w frame frames e page bound out there in_
           subst (λ bytes. Carries down0 down1 (put bytes w.down)) all
           (carries-put down0 down down1 out w.down in_world.down_is sent_is given_is);
       page_is = page_is;
+      on_is = on_is;
       stands = stands;
       back_is = in_world.back_is;
       value = in_world.value;
@@ -221,20 +246,57 @@ world-answered up0 down0 up down down1 w frame frames e page bound out there in_
       down_left =
           left ∙ ap (λ n. n + length out) in_world.down_left ∙ sym (length-append w.down.flying out)
           ∙ ap (λ bytes. length (w.down.flying ++ bytes)) all;
+      told_is = in_world.told_is;
       fits = fits-answered_one step take_frame join IsAsk IsFit world_laws (first_value []) frame frames w in_world.fits;
     }
+
+-- ---- the replies
+
+-- the front end has kept just the replies that came down
+pub world-replies : (up0 down0 up down : Pipe) (w : World Side) (frames : List (List ℕ)) (e : Ends)
+    → InWorld up0 down0 up down w frames e → map told_of e.front.value.replies ≡ replies_in w.down.given
+world-replies up0 down0 up down w frames e in_world =
+    ap (λ (s : FrontState). map told_of s.value.replies) in_world.front_is
+    ∙ replies-of (frames_of (sent w.up)).whole (frames_of w.down.given).whole in_world.value in_world.is_fold
+
+-- all of them are told
+pub world-told : (up0 down0 up down : Pipe) (w : World Side) (frames : List (List ℕ)) (e : Ends) (n : ℕ)
+    → InWorld up0 down0 up down w frames e → n ≡ length e.front.value.replies
+    → InWorld up0 down0 up down (all_told w) frames (record e { told = n })
+world-told up0 down0 up down w frames e n in_world all = record {
+  up_is = in_world.up_is;
+  down_is = in_world.down_is;
+  page_is = in_world.page_is;
+  on_is = in_world.on_is;
+  stands = in_world.stands;
+  back_is = in_world.back_is;
+  value = in_world.value;
+  front_is = in_world.front_is;
+  is_fold = in_world.is_fold;
+  up_left = in_world.up_left;
+  down_left = in_world.down_left;
+  told_is = all ∙ sym (length-map e.front.value.replies told_of) ∙ ap length (world-replies up0 down0 up down w frames e in_world);
+  fits = record {
+    front = in_world.fits.front;
+    is_fold = in_world.fits.is_fold;
+    fit = in_world.fits.fit;
+    up_whole = in_world.fits.up_whole;
+    down_whole = in_world.fits.down_whole;
+  };
+}
 
 -- ---- the start
 
 -- a page was loaded, and nothing was sent since the pipes had nothing left to give
 pub world-first : (up0 down0 : Pipe) (nodes : Nodes Label) → CanLoad nodes → HaveTexts nodes → up0.given ≡ up0.sent → down0.given ≡ down0.sent
     → InWorld up0 down0 up0 down0 (loaded_world nodes) []
-    (record { page = loaded 1 nodes; bound = empty_from 1; back_rest = []; front = first_state; up_there = 0; down_there = 0 })
+    (record { page = loaded 1 nodes; is_on = false; bound = empty_from 1; back_rest = []; front = first_state; up_there = 0; down_there = 0; told = 0 })
 unfolding frames_of
 world-first up0 down0 nodes can texts up_level down_level = record {
   up_is = carries-start up0 up_level;
   down_is = carries-start down0 down_level;
   page_is = refl;
+  on_is = refl;
   stands = Stands-begun (nodes_in (first_side nodes));
   back_is = refl;
   value = first_value [];
@@ -242,5 +304,6 @@ world-first up0 down0 nodes can texts up_level down_level = record {
   is_fold = refl;
   up_left = refl;
   down_left = refl;
+  told_is = refl;
   fits = fits-loaded nodes can texts;
 }

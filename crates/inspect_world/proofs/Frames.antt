@@ -1,16 +1,9 @@
 -- The frames of a stream as bytes are put in and given.
-use Rattle.std.proofs.Common.{◌≡◌, ℕ, List, ◌++◌, take, drop, sym, ◌∙◌, ap, append_assoc}
+use Rattle.std.proofs.Common.{◌≡◌, ℕ, ◌++◌, take, drop, sym, ◌∙◌, ap, append_assoc}
 use Rattle.std.proofs.lemmas.List.{take-append-drop}
 use Rattle.pipe_frames.specs.Frames.{frames_of, frames_from, held_after}
-use Rattle.pipe_frames.proofs.FrameLemmas.{frames_of-append}
+use Rattle.pipe_frames.proofs.FrameLemmas.{frames_of-append, frames_from-append}
 use Rattle.inspect_world.specs.Stream.{Stream, sent, passed, held, arriving, awaited}
-
--- the frames of more bytes come in two parts
-pub frames_from-append : (rest first second : List ℕ)
-    → frames_from rest (first ++ second) ≡ frames_from rest first ++ frames_from (held_after rest first) second
-frames_from-append rest first second =
-    ap (λ bytes. (frames_of bytes).whole) (sym (append_assoc rest first second))
-    ∙ ap (λ fs. fs.whole) (frames_of-append (rest ++ first) second)
 
 -- the rest of what was given and is on its way
 pub rest-sent : (s : Stream) → (frames_of (sent s)).rest ≡ held_after (held s) s.flying

@@ -12,7 +12,7 @@ use Rattle.node_tree.specs.Nodes.{Nodes, Branch}
 use Rattle.node_tree.specs.Labels.{Pair, Label}
 use Rattle.node_tree.specs.declared.Kind.TheVariants.{Element, Text, Comment, Doctype}
 use Rattle.page_tree.specs.Loads.{pairs_of, is_taken, placed, in_order, attributes_of, property_count, times_of, text_at, text_alone, labelled, attributes_at, element_name, element_label, label_of, branch_of, before, form_of, forms_of, below_of, list_of, nodes_in}
-use Rattle.inspect_world.specs.Fits.{AreTextPairs, IsTextLabel}
+use Rattle.cdp_messages.specs.Laws.{PairsHaveUtf8, LabelHasUtf8}
 use Rattle.inspect_world.specs.ScriptsFit.{HaveTexts}
 use Rattle.inspect_world.proofs.ReadTexts.{IfSome, map_keeps, then_keeps}
 
@@ -61,23 +61,23 @@ get_utf8 k (object ms) u = member_utf8 k ms u
 
 -- ---- attributes
 
-pairs_utf8 : (ds : Items) → ItemsHaveUtf8 ds → IfSome AreTextPairs (pairs_of ds)
+pairs_utf8 : (ds : Items) → ItemsHaveUtf8 ds → IfSome PairsHaveUtf8 (pairs_of ds)
 pairs_utf8 no_items u = tt
 pairs_utf8 (item n no_items) u = tt
 pairs_utf8 (item n (item v ds)) u =
-    then_keeps IsUtf8 AreTextPairs (λ name. option_and_then (λ value. option_map (λ ps. (name, value) ∷ ps) (pairs_of ds)) (as_str v))
-    (λ name un. then_keeps IsUtf8 AreTextPairs (λ value. option_map (λ ps. (name, value) ∷ ps) (pairs_of ds))
-    (λ value uv. map_keeps AreTextPairs AreTextPairs (λ ps. (name, value) ∷ ps) (λ ps us. (un, uv, us)) (pairs_of ds) (pairs_utf8 ds u.1.1))
+    then_keeps IsUtf8 PairsHaveUtf8 (λ name. option_and_then (λ value. option_map (λ ps. (name, value) ∷ ps) (pairs_of ds)) (as_str v))
+    (λ name un. then_keeps IsUtf8 PairsHaveUtf8 (λ value. option_map (λ ps. (name, value) ∷ ps) (pairs_of ds))
+    (λ value uv. map_keeps PairsHaveUtf8 PairsHaveUtf8 (λ ps. (name, value) ∷ ps) (λ ps us. (un, uv, us)) (pairs_of ds) (pairs_utf8 ds u.1.1))
     (as_str v) (str_utf8 v u.1.0))
     (as_str n) (str_utf8 n u.0)
 
-placed_at : (o : Ordering) (p q : Pair) (qs : List Pair) → IsUtf8 p.0 → IsUtf8 p.1 → IsUtf8 q.0 → IsUtf8 q.1 → AreTextPairs qs → AreTextPairs (placed p qs)
-    → AreTextPairs (match_ordering o (p ∷ q ∷ qs) ((q.0, p.1) ∷ qs) (q ∷ placed p qs))
+placed_at : (o : Ordering) (p q : Pair) (qs : List Pair) → IsUtf8 p.0 → IsUtf8 p.1 → IsUtf8 q.0 → IsUtf8 q.1 → PairsHaveUtf8 qs → PairsHaveUtf8 (placed p qs)
+    → PairsHaveUtf8 (match_ordering o (p ∷ q ∷ qs) ((q.0, p.1) ∷ qs) (q ∷ placed p qs))
 placed_at Less p q qs pn pv qn qv us later = (pn, pv, (qn, qv, us))
 placed_at Equal p q qs pn pv qn qv us later = (qn, pv, us)
 placed_at Greater p q qs pn pv qn qv us later = (qn, qv, later)
 
-placed_utf8 : (p : Pair) (qs : List Pair) → IsUtf8 p.0 → IsUtf8 p.1 → AreTextPairs qs → AreTextPairs (placed p qs)
+placed_utf8 : (p : Pair) (qs : List Pair) → IsUtf8 p.0 → IsUtf8 p.1 → PairsHaveUtf8 qs → PairsHaveUtf8 (placed p qs)
 placed_utf8 p [] pn pv us = (pn, pv, tt)
 placed_utf8 p (q ∷ qs) pn pv us = placed_at (slice_cmp nat_cmp p.0 q.0) p q qs pn pv us.0 us.1 us.2 (placed_utf8 p qs pn pv us.2)
 
@@ -89,15 +89,15 @@ pub when : {A : Type 0} (Q : A → Type 0) (b : Bool) (o : Option A) → IfSome 
 when Q true o u = u
 when Q false o u = tt
 
-ordered_utf8 : (ordered ps : List Pair) → AreTextPairs ordered → AreTextPairs ps → IfSome AreTextPairs (in_order ordered ps)
+ordered_utf8 : (ordered ps : List Pair) → PairsHaveUtf8 ordered → PairsHaveUtf8 ps → IfSome PairsHaveUtf8 (in_order ordered ps)
 ordered_utf8 ordered [] us vs = us
 ordered_utf8 ordered (p ∷ ps) us vs =
-    unless AreTextPairs (is_taken p.0 ordered) (in_order (placed p ordered) ps) (ordered_utf8 (placed p ordered) ps (placed_utf8 p ordered vs.0 vs.1 us) vs.2)
+    unless PairsHaveUtf8 (is_taken p.0 ordered) (in_order (placed p ordered) ps) (ordered_utf8 (placed p ordered) ps (placed_utf8 p ordered vs.0 vs.1 us) vs.2)
 
-attributes_utf8 : (d : Data) → HasUtf8 d → IfSome AreTextPairs (attributes_of d)
+attributes_utf8 : (d : Data) → HasUtf8 d → IfSome PairsHaveUtf8 (attributes_of d)
 attributes_utf8 d u =
-    then_keeps AreTextPairs AreTextPairs (in_order []) (λ ps us. ordered_utf8 [] ps tt us) (option_and_then pairs_of (as_array d))
-    (then_keeps ItemsHaveUtf8 AreTextPairs pairs_of pairs_utf8 (as_array d) (array_utf8 d u))
+    then_keeps PairsHaveUtf8 PairsHaveUtf8 (in_order []) (λ ps us. ordered_utf8 [] ps tt us) (option_and_then pairs_of (as_array d))
+    (then_keeps ItemsHaveUtf8 PairsHaveUtf8 pairs_of pairs_utf8 (as_array d) (array_utf8 d u))
 
 -- ---- labels
 
@@ -107,14 +107,14 @@ text_at-utf8 k d u = then_keeps HasUtf8 IsUtf8 as_str str_utf8 (get k d) (get_ut
 text_alone-utf8 : (k : List ℕ) (d : Data) → HasUtf8 d → IfSome IsUtf8 (text_alone k d)
 text_alone-utf8 k d u = when IsUtf8 (property_count d == 1) (text_at k d) (text_at-utf8 k d u)
 
-listed : (o : Option Data) → IfSome HasUtf8 o → IfSome AreTextPairs (option_map_or attributes_of o (Some []))
+listed : (o : Option Data) → IfSome HasUtf8 o → IfSome PairsHaveUtf8 (option_map_or attributes_of o (Some []))
 listed None u = tt
 listed (Some d) u = attributes_utf8 d u
 
-element_utf8 : (d : Data) → HasUtf8 d → IfSome IsTextLabel (element_label d)
+element_utf8 : (d : Data) → HasUtf8 d → IfSome LabelHasUtf8 (element_label d)
 element_utf8 d u =
-    then_keeps IsUtf8 IsTextLabel (λ name. option_map (labelled Element name []) (attributes_at d))
-    (λ name un. map_keeps AreTextPairs IsTextLabel (labelled Element name []) (λ ps us. record { name = un; value = IsUtf8-nil; attributes = us }) (attributes_at d)
+    then_keeps IsUtf8 LabelHasUtf8 (λ name. option_map (labelled Element name []) (attributes_at d))
+    (λ name un. map_keeps PairsHaveUtf8 LabelHasUtf8 (labelled Element name []) (λ ps us. (un, IsUtf8-nil, us)) (attributes_at d)
     (listed (get (codes "a") d) (get_utf8 (codes "a") d u)))
     (element_name d)
     (when IsUtf8 (property_count d == 1 + times_of (codes "a") d + times_of (codes "c") d) (text_at (codes "e") d) (text_at-utf8 (codes "e") d u))
@@ -123,22 +123,22 @@ either_utf8 : {A : Type 0} (Q : A → Type 0) (o p : Option A) → IfSome Q o �
 either_utf8 Q None p u v = v
 either_utf8 Q (Some x) p u v = u
 
-label_utf8 : (top : Bool) (d : Data) → HasUtf8 d → IfSome IsTextLabel (label_of top d)
+label_utf8 : (top : Bool) (d : Data) → HasUtf8 d → IfSome LabelHasUtf8 (label_of top d)
 label_utf8 top d u =
-    either_utf8 IsTextLabel (element_label d) _ (element_utf8 d u)
-    (either_utf8 IsTextLabel (option_map (λ text. labelled Text [] text []) (text_alone (codes "t") d)) _
-    (map_keeps IsUtf8 IsTextLabel (λ text. labelled Text [] text []) (λ text v. record { name = IsUtf8-nil; value = v; attributes = tt }) (text_alone (codes "t") d) (text_alone-utf8 (codes "t") d u))
-    (either_utf8 IsTextLabel (option_map (λ text. labelled Comment [] text []) (text_alone (codes "k") d)) _
-    (map_keeps IsUtf8 IsTextLabel (λ text. labelled Comment [] text []) (λ text v. record { name = IsUtf8-nil; value = v; attributes = tt }) (text_alone (codes "k") d) (text_alone-utf8 (codes "k") d u))
-    (when IsTextLabel top (option_map (λ name. labelled Doctype name [] []) (text_alone (codes "d") d))
-    (map_keeps IsUtf8 IsTextLabel (λ name. labelled Doctype name [] []) (λ name v. record { name = v; value = IsUtf8-nil; attributes = tt }) (text_alone (codes "d") d) (text_alone-utf8 (codes "d") d u)))))
+    either_utf8 LabelHasUtf8 (element_label d) _ (element_utf8 d u)
+    (either_utf8 LabelHasUtf8 (option_map (λ text. labelled Text [] text []) (text_alone (codes "t") d)) _
+    (map_keeps IsUtf8 LabelHasUtf8 (λ text. labelled Text [] text []) (λ text v. (IsUtf8-nil, v, tt)) (text_alone (codes "t") d) (text_alone-utf8 (codes "t") d u))
+    (either_utf8 LabelHasUtf8 (option_map (λ text. labelled Comment [] text []) (text_alone (codes "k") d)) _
+    (map_keeps IsUtf8 LabelHasUtf8 (λ text. labelled Comment [] text []) (λ text v. (IsUtf8-nil, v, tt)) (text_alone (codes "k") d) (text_alone-utf8 (codes "k") d u))
+    (when LabelHasUtf8 top (option_map (λ name. labelled Doctype name [] []) (text_alone (codes "d") d))
+    (map_keeps IsUtf8 LabelHasUtf8 (λ name. labelled Doctype name [] []) (λ name v. (v, IsUtf8-nil, tt)) (text_alone (codes "d") d) (text_alone-utf8 (codes "d") d u)))))
 
 -- ---- nodes
 
 abbrev TextBranch : Branch Label → Type 0
-TextBranch b = IsTextLabel b.row × HaveTexts b.children
+TextBranch b = LabelHasUtf8 b.row × HaveTexts b.children
 
-branch_utf8 : (l : Option Label) (n : Option (Nodes Label)) → IfSome IsTextLabel l → IfSome HaveTexts n → IfSome TextBranch (branch_of l n)
+branch_utf8 : (l : Option Label) (n : Option (Nodes Label)) → IfSome LabelHasUtf8 l → IfSome HaveTexts n → IfSome TextBranch (branch_of l n)
 branch_utf8 None n ul un = tt
 branch_utf8 (Some l) None ul un = tt
 branch_utf8 (Some l) (Some n) ul un = (ul, un)

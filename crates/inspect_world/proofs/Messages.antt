@@ -1,126 +1,198 @@
--- What a run needs of the messages: what is written is read as it was meant.
-use Rattle.std.proofs.Common.{◌≡◌, ℕ, ℤ, pos, negsuc, ◌^◌, ◌<◌, ◌≤◌, ◌||◌, ◌&&◌, cond, List, length, codes, Option, Some, None, option_and_then, Result, Ok, Err, Bool, true, false, nat_lt, bytes_eq, refl, sym, ◌∙◌, ap, subst, arith, ltb-true, lt-ltb}
-use Rattle.std.specs.Prelude.{int_lt}
-use Rattle.std.specs.Ordering.{int_eq}
+-- What a run needs of single messages: that an ask is the ask that it is meant to be, and what the back end makes of one.
+use Rattle.std.proofs.Common.{◌≡◌, ℕ, ℤ, ◌^◌, ◌<◌, ◌≤◌, Bool, true, false, cond, List, [], ◌∷◌, bytes_eq, codes, Option, Some, None, option_and_then, refl, sym, ◌∙◌, ap, subst, Result, Ok, Err, lt-ltb}
+use Rattle.std.specs.Prelude.{⊤}
+use Rattle.std.specs.List.{list_all}
 use Rattle.std.proofs.lemmas.Slice.Eq.{bytes_eq-Decides}
-use Rattle.std.proofs.lemmas.Bool.Decides.{Decides-int_eq}
-use Rattle.json.proofs.Printed.Utf8.{IsUtf8-are_ascii}
-use Rattle.serde_json.specs.Data.{Num, unsigned, negative, float, Data, Members, depth}
-use Rattle.serde_json.specs.Find.{get_member, as_bool, as_number, as_str, as_object, as_i64}
-use Rattle.serde_json.specs.Read.{max_depth}
-use Rattle.cdp_json.specs.Kinds.{is_counted, unsigned_from, as_whole, as_depth, is_depth, if_holds, holds_of_some}
-use Rattle.cdp_json.specs.Fields.{field_if, field_from, field_of}
-use Rattle.cdp_json.specs.Plain.{HasUtf8, is_plain}
+use Rattle.serde_json.specs.Data.{Data, Num, unsigned, negative, float, Items, no_items, item, Members}
+use Rattle.serde_json.specs.Find.{get_member, as_i64, as_number, as_str, as_array, as_object}
+use Rattle.cdp_json.specs.Kinds.{is_counted, holds_of_some, if_holds, is_depth, as_depth, as_whole, unsigned_from, whole, list_of, read_items, and_first}
+use Rattle.cdp_json.specs.Plain.{is_plain}
 use Rattle.cdp_json.specs.declared.fields.Field.{Field}
-use Rattle.cdp_json.specs.declared.fields.Field.TheVariants.{Is}
-use Rattle.inspect_world.proofs.Documents.{document_fits, document_utf8, document_levels}
-use Rattle.inspect_world.proofs.Options.{both_parts, and_then_some, if_some}
-use Rattle.cdp_json.proofs.ReadBack.{IsUtf8-compact_text}
-use Rattle.node_tree.specs.Nodes.{Branch, alone}
+use Rattle.cdp_json.specs.declared.fields.Field.TheVariants.{Is, Missing, WrongKind}
+use Rattle.cdp_json.specs.Fields.{field_if, field_from, field_of}
 use Rattle.pipe_frames.specs.Frames.{IsText}
 use Rattle.cdp_messages.specs.declared.command.Asked.{Asked}
 use Rattle.cdp_messages.specs.declared.command.Command.{Command}
-use Rattle.cdp_messages.specs.declared.command.Command.TheVariants.{GetDocument}
-use Rattle.cdp_messages.specs.declared.command.Param.TheVariants.{Depth, Pierce}
+use Rattle.cdp_messages.specs.declared.command.Command.TheVariants.{GetDocument, RequestChildNodes, PushByPath, PushBySerials}
+use Rattle.cdp_messages.specs.declared.command.Param.{Param}
+use Rattle.cdp_messages.specs.declared.command.Param.TheVariants.{BackendNodeIds, Depth, NodeId, Path}
 use Rattle.cdp_messages.specs.declared.command.Why.{Why}
-use Rattle.cdp_messages.specs.declared.command.Why.TheVariants.{NoSession, NoMethod}
+use Rattle.cdp_messages.specs.declared.command.Why.TheVariants.{NoSession, NoMethod, BadParam}
 use Rattle.cdp_messages.specs.declared.command.Refused.{Refused}
-use Rattle.cdp_messages.specs.declared.down.ReplyBody.TheVariants.{Root}
-use Rattle.cdp_messages.specs.Asked as commands
-use Rattle.cdp_messages.specs.Asked.{json_of, then_ok, optional, command_for, params_in, method_in, unless_session, command_in, asked_by, with_id, asked_in, asked_value, asked, command_value, command_text}
-use Rattle.cdp_messages.specs.NodeData.{tree_data, fits_tree}
-use Rattle.cdp_messages.specs.Replies.{reply, down_of, result_of, body_data, message_data, reply_text, refused_text, refusal_message}
+use Rattle.cdp_messages.specs.Asked.{json_of, then_ok, optional, required, depth_in, pierce_in, get_document, request_child_nodes, push_by_path, push_by_serials, methods, command_among, command_for, unless_session, params_of, command_of, method_in, command_in, asked_by, with_id, asked_in, asked_value, asked, command_value, command_text, method_name, fits_command}
 use Rattle.cdp_messages.specs.Refusals.{param_name}
-use Rattle.cdp_messages.specs.Told.{Told}
-use Rattle.cdp_messages.proofs.Messages.{json_of-compact_text, bare_plain, reply_plain, refusal_plain, replies_are_read, results_are_read, refusals_are_read}
-use Rattle.cdp_messages.proofs.Depths.{replies_are_shallow}
-use Rattle.cdp_messages.proofs.ZeroFree.{texts_have_no_zero}
-use Rattle.dom_agent.specs.Documents.{asked_depth, document_told}
-use Rattle.node_binding.specs.Openings.{IsDepth, levels_of, above}
 use Rattle.front_mirror.specs.declared.replies.Ask.{Ask}
-use Rattle.inspect_world.specs.Sides.{Side, after_document}
-use Rattle.inspect_world.specs.Fits.{ask_of, ask_in, ask_with, IsSide}
+use Rattle.replay_script.specs.Forms.{AskForm}
+use Rattle.inspect_world.specs.Fits.{ask_of, ask_in, ask_with, most_asks, IsAsk}
+use Rattle.inspect_world.specs.ScriptsFit.{CanSend}
+use Rattle.inspect_world.proofs.Options.{both, and_then_some, if_some, map_some}
+use Rattle.cdp_messages.proofs.Messages.{json_of-compact_text}
+use Rattle.cdp_messages.proofs.Commands.{ask_plain}
+use Rattle.cdp_messages.proofs.ZeroFree.{texts_have_no_zero}
 
--- the command of DOM.getDocument
-abbrev pub get_document : List ℕ
-get_document = codes "DOM.getDocument"
+-- ---- an ask that is sent
 
--- ---- asks
+sent_plain : (id : ℕ) (a : AskForm) → CanSend a → id < 2 ^ 53 → is_plain (command_value id a.method a.params a.session) ≡ true
+sent_plain id a can small = ask_plain id a.method a.params a.session (lt-ltb id (2 ^ 53) small) can.params (ap (holds_of_some is_plain) can.session)
 
--- what the back end reads in an ask: a command of its method, or a refusal with its id
-pub data AskedAs (ask : Ask) : Result Asked Refused → Type 0 where
-  commanded : (command : Command) → ask.method ≡ get_document → IsDepth (asked_depth command)
-      → AskedAs ask (Ok (record { id = ask.id; command = command }))
-  refused_as : (why : Why) → AskedAs ask (Err (record { id = Some ask.id; why = why }))
+pub IsText-sent : (id : ℕ) (a : AskForm) → CanSend a → id < 2 ^ 53 → IsText (command_text id a.method a.params a.session)
+IsText-sent id a can small = texts_have_no_zero (command_value id a.method a.params a.session) (sent_plain id a can small)
 
--- a depth that is read is one
-whole_depth : (z : ℤ) → is_depth z ≡ true → IsDepth z
-whole_depth (pos n) e =
-    let above : nat_lt 0 n ≡ true = (both_parts (int_lt (pos 0) (pos n)) (int_lt (pos n) (pos (2 ^ 53))) e).0 in
-    let some : 0 < n = ltb-true 0 n above in
-    omega arith
-whole_depth (negsuc n) e = only (int_eq (negsuc n) (negsuc 0)) refl e where
-  only : (b : Bool) → int_eq (negsuc n) (negsuc 0) ≡ b → (b || (int_lt (pos 0) (negsuc n) && int_lt (negsuc n) (pos (2 ^ 53)))) ≡ true → n ≡ 0
-  only true is e = let same : negsuc n ≡ negsuc 0 = (Decides-int_eq (negsuc n) (negsuc 0)).0 is in cc
-  only false is e = let no : false ≡ true = e in cc
+value_ask_in : (id : ℕ) (method : List ℕ) (params session : Option Data) → is_counted id ≡ true
+    → option_and_then ask_of (option_and_then as_object (Some (command_value id method params session))) ≡ Some (ask_with method id)
+value_ask_in id method None None c = rw c
+value_ask_in id method None (Some s) c = rw c
+value_ask_in id method (Some p) None c = rw c
+value_ask_in id method (Some p) (Some s) c = rw c
 
-as_depth-is : (d : Data) (z : ℤ) → as_depth d ≡ Some z → IsDepth z
-as_depth-is d z e =
-    let p = and_then_some (if_holds is_depth) (option_and_then as_i64 (as_number d)) z e in
-    let q = if_some (is_depth p.0) p.0 z p.2 in
-    subst IsDepth q.1 (whole_depth p.0 q.0)
+-- the front end's command is the ask that it is meant to be
+pub ask_in-sent : (id : ℕ) (a : AskForm) → CanSend a → id < 2 ^ 53 → ask_in (command_text id a.method a.params a.session) ≡ Some (ask_with a.method id)
+ask_in-sent id a can small =
+    let c : is_counted id ≡ true = lt-ltb id (2 ^ 53) small in
+    let d = command_value id a.method a.params a.session in
+    ap (λ o. option_and_then ask_of (option_and_then as_object o)) (json_of-compact_text d (sent_plain id a can small) (can.shallow id) (can.texts id c))
+    ∙ value_ask_in id a.method a.params a.session c
 
--- a depth, if any
-abbrev AreDepths : Option ℤ → Type 0
-AreDepths None = Unit {0}
-AreDepths (Some z) = IsDepth z
+pub IsAsk-sent : (id : ℕ) (a : AskForm) → CanSend a → id ≤ most_asks → id < 2 ^ 53 → IsAsk id (command_text id a.method a.params a.session)
+IsAsk-sent id a can few small = record { method = a.method; is = ask_in-sent id a can small; few = few }
 
-read_depth : (r : Option ℤ) (f : Option ℤ) → ((z : ℤ) → r ≡ Some z → IsDepth z) → optional Depth (field_if r) ≡ Ok f → AreDepths f
-read_depth None f is e = let no : ◌≡◌ {A = Result (Option ℤ) Why} (optional Depth (field_if None)) (Ok f) = e in absurd cc
-read_depth (Some z) f is e = let same : Some z ≡ f = cc in subst AreDepths same (is z refl)
-
-given_depth : (o : Option Data) (f : Option ℤ) → optional Depth (field_from as_depth o) ≡ Ok f → AreDepths f
-given_depth None f e = let same : None ≡ f = cc in subst AreDepths same tt
-given_depth (Some d) f e = read_depth (as_depth d) f (as_depth-is d) e
-
-depth-asked : (f : Option ℤ) (pierce : Option Bool) → AreDepths f → IsDepth (asked_depth (GetDocument f pierce))
-depth-asked None pierce is = omega arith
-depth-asked (Some z) pierce is = is
+-- ---- what a frame asks
 
 then_ok-parts : {A B E : Type 0} (r : Result A E) (f : A → Result B E) (y : B) → then_ok r f ≡ Ok y → (x : A) × (r ≡ Ok x) × (f x ≡ Ok y)
 then_ok-parts (Ok x) f y e = (x, refl, e)
 then_ok-parts {B} {E} (Err why) f y e = let no : ◌≡◌ {A = Result B E} (Err why) (Ok y) = e in absurd cc
 
-document-depth : (params : Members) (c : Command) → commands.get_document params ≡ Ok c → IsDepth (asked_depth c)
-document-depth params c e =
-    let p = then_ok-parts (optional Depth (field_of as_depth (param_name Depth) params))
-    (λ depth. then_ok (optional Pierce (field_of as_bool (param_name Pierce) params)) (λ pierce. Ok (GetDocument depth pierce))) c e in
-    let q = then_ok-parts (optional Pierce (field_of as_bool (param_name Pierce) params)) (λ pierce. Ok (GetDocument p.0 pierce)) c p.2 in
-    let same : GetDocument p.0 q.0 ≡ c = cc q.2 in
-    subst (λ command. IsDepth (asked_depth command)) same
-    (depth-asked p.0 q.0 (given_depth (get_member (param_name Depth) params) p.0 p.1))
+any_fits : {A : Type 0} (o : Option A) → holds_of_some (λ (x : A). true) o ≡ true
+any_fits None = refl
+any_fits (Some x) = refl
 
--- a command that is asked is of its method
-for_method : (method : List ℕ) (params : Members) (c : Command) (b : Bool) → bytes_eq method get_document ≡ b
-    → cond b (commands.get_document params) (Err NoMethod) ≡ Ok c → (method ≡ get_document) × (commands.get_document params ≡ Ok c)
-for_method method params c true is e = ((bytes_eq-Decides method get_document).0 is, e)
-for_method method params c false is e = let no : ◌≡◌ {A = Result Command Why} (Err NoMethod) (Ok c) = e in absurd cc
+-- a parameter that may be absent
+optional-fits : {A : Type 0} (p : Param) (reads : Data → Option A) (test : A → Bool) → ((d : Data) (x : A) → reads d ≡ Some x → test x ≡ true)
+    → (o : Option Data) (f : Option A) → optional p (field_from reads o) ≡ Ok f → holds_of_some test f ≡ true
+optional-fits {A} p reads test fits None f e = let same : ◌≡◌ {A = Option A} None f = cc e in ap (holds_of_some test) (sym same)
+optional-fits {A} p reads test fits (Some d) f e =
+    (elim (reads d) as (λ (r : Option A). reads d ≡ r → optional p (field_if r) ≡ Ok f → holds_of_some test f ≡ true) [
+      | None ↦ λ is no. let refused : ◌≡◌ {A = Result (Option A) Why} (Err (BadParam p)) (Ok f) = no in absurd cc
+      | Some x ↦ λ is yes. let same : ◌≡◌ {A = Option A} (Some x) f = cc yes in ap (holds_of_some test) (sym same) ∙ fits d x is
+    ]) refl e
+
+-- a parameter that has to be there
+required-fits : {A : Type 0} (p : Param) (reads : Data → Option A) (test : A → Bool) → ((d : Data) (x : A) → reads d ≡ Some x → test x ≡ true)
+    → (o : Option Data) (x : A) → required p (field_from reads o) ≡ Ok x → test x ≡ true
+required-fits {A} p reads test fits None x e = let refused : ◌≡◌ {A = Result A Why} (Err (BadParam p)) (Ok x) = e in absurd cc
+required-fits {A} p reads test fits (Some d) x e =
+    (elim (reads d) as (λ (r : Option A). reads d ≡ r → required p (field_if r) ≡ Ok x → test x ≡ true) [
+      | None ↦ λ is no. let refused : ◌≡◌ {A = Result A Why} (Err (BadParam p)) (Ok x) = no in absurd cc
+      | Some y ↦ λ is yes. let same : y ≡ x = cc yes in ap test (sym same) ∙ fits d y is
+    ]) refl e
+
+depth-is : (d : Data) (z : ℤ) → as_depth d ≡ Some z → is_depth z ≡ true
+depth-is d z e =
+    let p = and_then_some (if_holds is_depth) (option_and_then as_i64 (as_number d)) z e in
+    let q = if_some (is_depth p.0) p.0 z p.2 in
+    ap is_depth (sym q.1) ∙ q.0
+
+counted-is : (n : Num) (id : ℕ) → unsigned_from n ≡ Some id → is_counted id ≡ true
+counted-is (unsigned m) id e = let p = if_some (is_counted m) m id e in ap is_counted (sym p.1) ∙ p.0
+counted-is (negative z) id e = let no : ◌≡◌ {A = Option ℕ} None (Some id) = e in absurd cc
+counted-is (float x) id e = let no : ◌≡◌ {A = Option ℕ} None (Some id) = e in absurd cc
+
+whole-is : (d : Data) (id : ℕ) → as_whole d ≡ Some id → is_counted id ≡ true
+whole-is d id e = let p = and_then_some unsigned_from (as_number d) id e in counted-is p.0 id p.2
+
+wholes-are : (ds : Items) (ids : List ℕ) → read_items as_whole ds ≡ Some ids → list_all is_counted ids ≡ true
+wholes-are no_items ids e = let same : [] ≡ ids = cc e in ap (list_all is_counted) (sym same)
+wholes-are (item d ds) ids e =
+    let p = and_then_some (λ x. and_first x (read_items as_whole ds)) (as_whole d) ids e in
+    let q = map_some (λ xs. p.0 ∷ xs) (read_items as_whole ds) ids p.2 in
+    ap (list_all is_counted) (sym q.2) ∙ both (whole-is d p.0 p.1) (wholes-are ds q.0 q.1)
+
+list-is : (d : Data) (ids : List ℕ) → (list_of whole).reads d ≡ Some ids → list_all is_counted ids ≡ true
+list-is d ids e = let p = and_then_some (read_items as_whole) (as_array d) ids e in wholes-are p.0 ids p.2
+
+-- a command that is asked by a method has this method, and parameters in their ranges
+record Known (method : List ℕ) (c : Command) : Type 0 where
+  pub method_is : method ≡ method_name c
+  pub fits : fits_command c ≡ true
+
+known-document : (params : Members) (c : Command) → get_document params ≡ Ok c → Known (codes "DOM.getDocument") c
+known-document params c e =
+    let p = then_ok-parts (depth_in params) (λ depth. then_ok (pierce_in params) (λ pierce. Ok (GetDocument depth pierce))) c e in
+    let q = then_ok-parts (pierce_in params) (λ pierce. Ok (GetDocument p.0 pierce)) c p.2 in
+    let same : GetDocument p.0 q.0 ≡ c = cc q.2 in
+    let depth_fits : holds_of_some is_depth p.0 ≡ true = optional-fits Depth as_depth is_depth depth-is (get_member (param_name Depth) params) p.0 p.1 in
+    subst (Known (codes "DOM.getDocument")) same (record { method_is = refl; fits = both depth_fits (both (any_fits q.0) refl) })
+
+known-children : (params : Members) (c : Command) → request_child_nodes params ≡ Ok c → Known (codes "DOM.requestChildNodes") c
+known-children params c e =
+    let n = then_ok-parts (required NodeId (field_of as_whole (param_name NodeId) params))
+    (λ id. then_ok (depth_in params) (λ depth. then_ok (pierce_in params) (λ pierce. Ok (RequestChildNodes id depth pierce)))) c e in
+    let p = then_ok-parts (depth_in params) (λ depth. then_ok (pierce_in params) (λ pierce. Ok (RequestChildNodes n.0 depth pierce))) c n.2 in
+    let q = then_ok-parts (pierce_in params) (λ pierce. Ok (RequestChildNodes n.0 p.0 pierce)) c p.2 in
+    let same : RequestChildNodes n.0 p.0 q.0 ≡ c = cc q.2 in
+    let id_fits : is_counted n.0 ≡ true = required-fits NodeId as_whole is_counted whole-is (get_member (param_name NodeId) params) n.0 n.1 in
+    let depth_fits : holds_of_some is_depth p.0 ≡ true = optional-fits Depth as_depth is_depth depth-is (get_member (param_name Depth) params) p.0 p.1 in
+    subst (Known (codes "DOM.requestChildNodes")) same (record { method_is = refl; fits = both depth_fits (both id_fits (both (any_fits q.0) refl)) })
+
+known-path : (params : Members) (c : Command) → push_by_path params ≡ Ok c → Known (codes "DOM.pushNodeByPathToFrontend") c
+known-path params c e =
+    let p = then_ok-parts (required Path (field_of as_str (param_name Path) params)) (λ path. Ok (PushByPath path)) c e in
+    let same : PushByPath p.0 ≡ c = cc p.2 in
+    subst (Known (codes "DOM.pushNodeByPathToFrontend")) same (record { method_is = refl; fits = refl })
+
+known-serials : (params : Members) (c : Command) → push_by_serials params ≡ Ok c → Known (codes "DOM.pushNodesByBackendIdsToFrontend") c
+known-serials params c e =
+    let p = then_ok-parts (required BackendNodeIds (field_of (list_of whole).reads (param_name BackendNodeIds) params)) (λ serials. Ok (PushBySerials serials)) c e in
+    let same : PushBySerials p.0 ≡ c = cc p.2 in
+    let fits : list_all is_counted p.0 ≡ true = required-fits BackendNodeIds (list_of whole).reads (list_all is_counted) list-is (get_member (param_name BackendNodeIds) params) p.0 p.1 in
+    subst (Known (codes "DOM.pushNodesByBackendIdsToFrontend")) same (record { method_is = refl; fits = both fits refl })
+
+-- each of the methods gives commands of its own
+abbrev AreKnown : List (List ℕ × (Members → Result Command Why)) → Type 0
+AreKnown [] = ⊤
+AreKnown (m ∷ ms) = ((params : Members) (c : Command) → m.1 params ≡ Ok c → Known m.0 c) × AreKnown ms
+
+known-turn : (b : Bool) (method name : List ℕ) (here later : Result Command Why) (c : Command) → bytes_eq method name ≡ b
+    → (here ≡ Ok c → Known name c) → (later ≡ Ok c → Known method c) → cond b here later ≡ Ok c → Known method c
+known-turn true method name here later c is first others e =
+    let same : method ≡ name = (bytes_eq-Decides method name).0 is in
+    subst (λ m. Known m c) (sym same) (first e)
+known-turn false method name here later c is first others e = others e
+
+known-among : (ms : List (List ℕ × (Members → Result Command Why))) (method : List ℕ) (params : Members) (c : Command) → AreKnown ms
+    → command_among ms method params ≡ Ok c → Known method c
+known-among [] method params c all e = let no : ◌≡◌ {A = Result Command Why} (Err NoMethod) (Ok c) = e in absurd cc
+known-among (m ∷ ms) method params c all e =
+    known-turn (bytes_eq method m.0) method m.0 (m.1 params) (command_among ms method params) c refl (all.0 params c) (known-among ms method params c all.1) e
+
+known-for : (method : List ℕ) (params : Members) (c : Command) → command_for method params ≡ Ok c → Known method c
+known-for method params c e = known-among methods method params c (known-document, (known-children, (known-path, (known-serials, tt)))) e
 
 unless-parts : {A : Type 0} (s : Option Data) (r : Result A Why) (c : A) → unless_session s r ≡ Ok c → r ≡ Ok c
 unless-parts None r c e = e
 unless-parts {A} (Some d) r c e = let no : ◌≡◌ {A = Result A Why} (Err NoSession) (Ok c) = e in absurd cc
 
-command-asked : (method : List ℕ) (fields : Field Members) (s : Option Data) (c : Command)
-    → then_ok (params_in fields) (λ params. unless_session s (command_for method params)) ≡ Ok c
-    → (method ≡ get_document) × IsDepth (asked_depth c)
-command-asked method fields s c e =
-    let p = then_ok-parts (params_in fields) (λ params. unless_session s (command_for method params)) c e in
-    let q = for_method method p.0 c (bytes_eq method get_document) refl (unless-parts s (command_for method p.0) c p.2) in
-    (q.0, document-depth p.0 c q.1)
+known-of : (method : List ℕ) (params session : Option Data) (c : Command) → command_of method params session ≡ Ok c → Known method c
+known-of method params session c e =
+    let p = then_ok-parts (params_of params) (λ ps. unless_session session (command_for method ps)) c e in
+    known-for method p.0 c (unless-parts session (command_for method p.0) c p.2)
 
-by_command : (id : ℕ) (method : List ℕ) (r : Result Command Why) → ((c : Command) → r ≡ Ok c → (method ≡ get_document) × IsDepth (asked_depth c))
+-- the parameters of any command that a frame asks are in their ranges
+known-in : (frame : Members) (c : Command) → command_in frame ≡ Ok c → fits_command c ≡ true
+known-in frame c e =
+    let rest = λ (method : List ℕ). command_of method (get_member (codes "params") frame) (get_member (codes "sessionId") frame) in
+    let p = then_ok-parts (method_in (field_of as_str (codes "method") frame)) rest c e in
+    (known-of p.0 (get_member (codes "params") frame) (get_member (codes "sessionId") frame) c p.2).fits
+
+-- What the back end reads in an ask: a command of its method, or a refusal with its id.
+pub data AskedAs (ask : Ask) : Result Asked Refused → Type 0 where
+  commanded : (command : Command) → ask.method ≡ method_name command → fits_command command ≡ true
+      → AskedAs ask (Ok (record { id = ask.id; command = command }))
+  refused_as : (why : Why) → AskedAs ask (Err (record { id = Some ask.id; why = why }))
+
+by_command : (id : ℕ) (method : List ℕ) (r : Result Command Why) → ((c : Command) → r ≡ Ok c → Known method c)
     → AskedAs (ask_with method id) (asked_by id r)
-by_command id method (Ok c) is = let p = is c refl in commanded c p.0 p.1
+by_command id method (Ok c) is = let k : Known method c = is c refl in commanded c k.method_is k.fits
 by_command id method (Err why) is = refused_as why
 
 -- the id and the method of a frame that is an ask
@@ -139,13 +211,13 @@ there reads (Some d) x e = ap field_if e
 frame_ask : (frame : Members) (ask : Ask) → ask_of frame ≡ Some ask → AskedAs ask (asked_in (Some frame))
 frame_ask frame ask e =
     let p = id_method (option_and_then as_whole (get_member (codes "id") frame)) (option_and_then as_str (get_member (codes "method") frame)) ask e in
-    let rest = λ (method : List ℕ). then_ok (params_in (field_of as_object (codes "params") frame)) (λ params. unless_session (get_member (codes "sessionId") frame) (command_for method params)) in
+    let rest = λ (method : List ℕ). command_of method (get_member (codes "params") frame) (get_member (codes "sessionId") frame) in
     let id_is : field_of as_whole (codes "id") frame ≡ Is ask.id = there as_whole (get_member (codes "id") frame) ask.id p.0 in
     let method_is : field_of as_str (codes "method") frame ≡ Is ask.method = there as_str (get_member (codes "method") frame) ask.method p.1 in
     let is : asked_in (Some frame) ≡ asked_by ask.id (rest ask.method) =
     ap (λ f. with_id f (command_in frame)) id_is ∙ ap (λ f. asked_by ask.id (then_ok (method_in f) rest)) method_is in
     subst (AskedAs ask) (sym is)
-    (by_command ask.id ask.method (rest ask.method) (command-asked ask.method (field_of as_object (codes "params") frame) (get_member (codes "sessionId") frame)))
+    (by_command ask.id ask.method (rest ask.method) (known-of ask.method (get_member (codes "params") frame) (get_member (codes "sessionId") frame)))
 
 object_ask : (o : Option Members) (ask : Ask) → option_and_then ask_of o ≡ Some ask → AskedAs ask (asked_in o)
 object_ask None ask e = absurd cc
@@ -158,85 +230,52 @@ value_ask (Some d) ask e = object_ask (as_object d) ask e
 pub asked-ask : (frame : List ℕ) (ask : Ask) → ask_in frame ≡ Some ask → AskedAs ask (asked frame false)
 asked-ask frame ask is = value_ask (json_of frame) ask is
 
--- a whole number that is read is below 2^53
-unsigned-small : (x : Num) (n : ℕ) → unsigned_from x ≡ Some n → n < 2 ^ 53
-unsigned-small (unsigned m) n e = let p = if_some (is_counted m) m n e in subst (λ k. k < 2 ^ 53) p.1 (ltb-true m (2 ^ 53) p.0)
-unsigned-small (negative z) n e = let no : ◌≡◌ {A = Option ℕ} None (Some n) = e in absurd cc
-unsigned-small (float x) n e = let no : ◌≡◌ {A = Option ℕ} None (Some n) = e in absurd cc
-
-pub ask-id : (frame : List ℕ) (ask : Ask) → ask_in frame ≡ Some ask → ask.id < 2 ^ 53
+-- the id of an ask is below 2^53
+pub ask-id : (frame : List ℕ) (ask : Ask) → ask_in frame ≡ Some ask → is_counted ask.id ≡ true
 ask-id frame ask is =
     let o = and_then_some ask_of (option_and_then as_object (json_of frame)) ask is in
     let p = id_method (option_and_then as_whole (get_member (codes "id") o.0)) (option_and_then as_str (get_member (codes "method") o.0)) ask o.2 in
     let d = and_then_some as_whole (get_member (codes "id") o.0) ask.id p.0 in
-    let x = and_then_some unsigned_from (as_number d.0) ask.id d.2 in
-    unsigned-small x.0 ask.id x.2
+    whole-is d.0 ask.id d.2
 
--- ---- commands
+-- ---- what any frame asks
 
-command_utf8 : (id : ℕ) → HasUtf8 (command_value id get_document None None)
-command_utf8 id = (IsUtf8-are_ascii (codes "id") refl, tt, (IsUtf8-are_ascii (codes "method") refl, IsUtf8-are_ascii get_document refl, tt))
+-- the id of what is asked is below 2^53, and the command's parameters are in their ranges
+abbrev pub AskedFits : Result Asked Refused → Type 0
+AskedFits (Ok a) = (is_counted a.id ≡ true) × (fits_command a.command ≡ true)
+AskedFits (Err r) = holds_of_some is_counted r.id ≡ true
 
-command_shallow : (id : ℕ) → depth (command_value id get_document None None) ≤ max_depth
-command_shallow id = omega arith
+fits-by : (id : ℕ) (r : Result Command Why) → is_counted id ≡ true → ((c : Command) → r ≡ Ok c → fits_command c ≡ true) → AskedFits (asked_by id r)
+fits-by id (Ok c) counted fits = (counted, fits c refl)
+fits-by id (Err why) counted fits = counted
 
-value_in-command : (id : ℕ) → is_counted id ≡ true
-    → option_and_then ask_of (option_and_then as_object (Some (command_value id get_document None None))) ≡ Some (ask_with get_document id)
-value_in-command id c = rw c
+fits-field : (f : Field ℕ) (frame : Members) → ((id : ℕ) → f ≡ Is id → is_counted id ≡ true) → AskedFits (with_id f (command_in frame))
+fits-field Missing frame counted = refl
+fits-field WrongKind frame counted = refl
+fits-field (Is id) frame counted = fits-by id (command_in frame) (counted id refl) (known-in frame)
 
--- the front end's command is the ask that it is meant to be
-pub ask_in-command : (id : ℕ) → id < 2 ^ 53 → ask_in (command_text id get_document None None) ≡ Some (ask_with get_document id)
-ask_in-command id small =
-    let c : is_counted id ≡ true = lt-ltb id (2 ^ 53) small in
-    let d = command_value id get_document None None in
-    let plain : is_plain d ≡ true = bare_plain id get_document c in
-    ap (λ o. option_and_then ask_of (option_and_then as_object o)) (json_of-compact_text d plain (command_shallow id) (IsUtf8-compact_text d plain (command_utf8 id)))
-    ∙ value_in-command id c
+-- a field that is read as a whole number
+field-whole : (o : Option Data) (id : ℕ) → field_from as_whole o ≡ Is id → is_counted id ≡ true
+field-whole None id e = let no : ◌≡◌ {A = Field ℕ} Missing (Is id) = e in absurd cc
+field-whole (Some d) id e =
+    (elim (as_whole d) as (λ (r : Option ℕ). as_whole d ≡ r → field_if r ≡ Is id → is_counted id ≡ true) [
+      | None ↦ λ is no. let other : ◌≡◌ {A = Field ℕ} WrongKind (Is id) = no in absurd cc
+      | Some n ↦ λ is yes. let same : n ≡ id = cc yes in ap is_counted (sym same) ∙ whole-is d n is
+    ]) refl e
 
-pub IsText-command : (id : ℕ) → id < 2 ^ 53 → IsText (command_text id get_document None None)
-IsText-command id small = texts_have_no_zero (command_value id get_document None None) (bare_plain id get_document (lt-ltb id (2 ^ 53) small))
+fits-object : (o : Option Members) → AskedFits (asked_in o)
+fits-object None = refl
+fits-object (Some frame) = fits-field (field_of as_whole (codes "id") frame) frame (field-whole (get_member (codes "id") frame))
 
--- ---- replies
+fits-value : (o : Option Data) → AskedFits (asked_value false o)
+fits-value None = refl
+fits-value (Some d) = fits-object (as_object d)
 
--- fewer serials were pushed than there are ids
-abbrev pub HasRoom : Side → Type 0
-HasRoom side = length side.session.pushed < 2 ^ 53
+pub frame-fits : (frame : List ℕ) → AskedFits (asked frame false)
+frame-fits frame = fits-value (json_of frame)
 
--- the document that a side tells once it was opened is one that a message can tell
-pub fits-document : (depth : ℤ) (side : Side) → IsSide (after_document depth side) → HasRoom (after_document depth side)
-    → let after = after_document depth side in fits_tree true (document_told after.session after.page.tree) ≡ true
-fits-document depth side is_side room =
-    let after = after_document depth side in
-    document_fits after.page (above (levels_of depth) (alone after.page.tree)) after.session.pushed after.session.since
-    (record { valid = is_side.page; serials = is_side.serials; session = is_side.session; few = room })
+pub asked-fits : (frame : List ℕ) (a : Asked) → asked frame false ≡ Ok a → fits_command a.command ≡ true
+asked-fits frame a is = (subst AskedFits is (frame-fits frame)).1
 
-pub IsText-reply : (id : ℕ) (tree : Branch Told) → id < 2 ^ 53 → fits_tree true tree ≡ true → IsText (reply_text id (Root tree))
-IsText-reply id tree small fits =
-    texts_have_no_zero (message_data (reply id (body_data (Root tree)))) (reply_plain id (Root tree) (lt-ltb id (2 ^ 53) small) fits)
-
-reply_utf8 : (id : ℕ) (tree : Branch Told) → HasUtf8 (tree_data tree) → HasUtf8 (message_data (reply id (body_data (Root tree))))
-reply_utf8 id tree u = (IsUtf8-are_ascii (codes "id") refl, tt, (IsUtf8-are_ascii (codes "result") refl, (IsUtf8-are_ascii (codes "root") refl, u, tt), tt))
-
-pub reply-read : (id : ℕ) (side : Side) → id < 2 ^ 53 → IsSide side
-    → let tree = document_told side.session side.page.tree in
-    fits_tree true tree ≡ true → down_of (reply_text id (Root tree)) ≡ Some (reply id (body_data (Root tree)))
-reply-read id side small is_side fits =
-    let tree = document_told side.session side.page.tree in
-    let c : is_counted id ≡ true = lt-ltb id (2 ^ 53) small in
-    let utf8 : HasUtf8 (message_data (reply id (body_data (Root tree)))) =
-    reply_utf8 id tree (document_utf8 side.page side.session is_side.page is_side.texts) in
-    replies_are_read id (Root tree) c fits
-    (replies_are_shallow id tree (document_levels side.page side.session is_side.page))
-    (IsUtf8-compact_text (message_data (reply id (body_data (Root tree)))) (reply_plain id (Root tree) c fits) utf8)
-
-pub result-read : (tree : Branch Told) → fits_tree true tree ≡ true → result_of get_document (body_data (Root tree)) ≡ Some (Root tree)
-result-read tree fits = results_are_read (Root tree) fits
-
--- ---- error replies
-
-pub IsText-refused : (r : Refused) → holds_of_some is_counted r.id ≡ true → IsText (refused_text r)
-IsText-refused r c = texts_have_no_zero (message_data (refusal_message r)) (refusal_plain r c)
-
-pub refused-read : (id : ℕ) (why : Why) → id < 2 ^ 53
-    → down_of (refused_text (record { id = Some id; why = why })) ≡ Some (refusal_message (record { id = Some id; why = why }))
-refused-read id why small = refusals_are_read (record { id = Some id; why = why }) (lt-ltb id (2 ^ 53) small)
+pub refused-counted : (frame : List ℕ) (r : Refused) → asked frame false ≡ Err r → holds_of_some is_counted r.id ≡ true
+refused-counted frame r is = subst AskedFits is (frame-fits frame)

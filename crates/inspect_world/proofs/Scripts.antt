@@ -1,5 +1,5 @@
 -- The streams of a script fit the side of the page, line by line.
-use Rattle.std.proofs.Common.{◌≡◌, ℕ, zero, suc, ◌+◌, ◌^◌, ◌≤◌, List, [], ◌∷◌, ◌++◌, length, take, map, append-nil, Option, Some, None, refl, sym, ◌∙◌, ap, subst, arith}
+use Rattle.std.proofs.Common.{◌≡◌, ℕ, zero, suc, ◌+◌, ◌^◌, ◌<◌, ◌≤◌, List, [], ◌∷◌, ◌++◌, length, take, map, append-nil, Option, Some, Ok, refl, sym, ◌∙◌, ap, arith}
 use Rattle.std.proofs.lemmas.List.{drop_all}
 use Rattle.std.proofs.lemmas.Str.{IsUtf8-nil}
 use Rattle.node_tree.specs.Nodes.{Nodes, none, node, node_count}
@@ -9,24 +9,26 @@ use Rattle.page_tree.specs.Pages.{numbered}
 use Rattle.page_tree.proofs.NumberLemmas.{loaded_valid}
 use Rattle.node_binding.proofs.SessionLemmas.{IsSession-begun}
 use Rattle.cdp_messages.specs.Asked.{command_text}
+use Rattle.dom_agent.specs.Laws.{RowsHaveUtf8}
 use Rattle.front_mirror.specs.Front.{first_value, take_frame}
-use Rattle.replay_script.specs.Forms.{LineForm, load, ask, show_front}
+use Rattle.replay_script.specs.Forms.{AskForm, LineForm, load, ask, up, down, settle, show_front, show_replies}
 use Rattle.pipe_frames.specs.Frames.{frames_of, frames_from}
 use Rattle.front_mirror.specs.declared.replies.Ask.{Ask}
 use Rattle.inspect_world.specs.Stream.{Stream, sent, passed, held, awaited}
 use Rattle.inspect_world.specs.Fold.{folded, joined}
 use Rattle.inspect_world.specs.World.{World, delivered_up, settled}
 use Rattle.inspect_world.specs.Sides.{Side, nodes_in, first_side, step}
-use Rattle.inspect_world.specs.Fits.{join, ask_in, AreTexts, IsAsk, IsFit, IsSide, Fits}
+use Rattle.inspect_world.specs.Fits.{join, ask_in, IsAsk, IsFit, IsSide, Fits}
 use Rattle.inspect_world.specs.Scripts.{sends, after_line, after_lines, loaded_world}
-use Rattle.inspect_world.specs.ScriptsFit.{HaveTexts, document_ask, IsLater, AreLater, LinesFit, DeliveriesFit, SettledShows}
-use Rattle.inspect_world.proofs.Messages.{get_document, ask_in-command, IsText-command}
+use Rattle.inspect_world.specs.ScriptsFit.{HaveTexts, CanSend, IsLater, AreLater, LinesFit, DeliveriesFit, SettledShows}
+use Rattle.inspect_world.proofs.Messages.{IsText-sent, IsAsk-sent}
+use Rattle.inspect_world.proofs.Replies.{replies-of}
 use Rattle.inspect_world.proofs.Worlds.{fits-first, fits-asked, fits-delivered_up, fits-delivered_down, fits-settled}
 use Rattle.inspect_world.proofs.FitLemmas.{world_laws}
 
 -- ---- the start
 
-texts-numbered : (first : ℕ) (n : Nodes Label) → HaveTexts n → AreTexts (numbered first n)
+texts-numbered : (first : ℕ) (n : Nodes Label) → HaveTexts n → RowsHaveUtf8 (numbered first n)
 texts-numbered first none texts = tt
 texts-numbered first (node l c t) texts = (texts.0, texts-numbered (first + 1) c texts.1, texts-numbered (first + 1 + node_count c) t texts.2)
 
@@ -34,7 +36,7 @@ pub IsSide-first : (nodes : Nodes Label) → CanLoad nodes → HaveTexts nodes �
 IsSide-first nodes can texts = record {
   page = loaded_valid 1 nodes (omega arith) can;
   serials = let room : suc (node_count nodes) ≤ 100000 = can.room in omega (arith, room);
-  texts = (record { name = IsUtf8-nil; value = IsUtf8-nil; attributes = tt }, texts-numbered 2 nodes texts, tt);
+  texts = ((IsUtf8-nil, IsUtf8-nil, tt), texts-numbered 2 nodes texts, tt);
   session = IsSession-begun (nodes_in (first_side nodes));
 }
 
@@ -43,7 +45,7 @@ fit-first nodes can texts = record {
   tree = refl;
   asks = refl;
   side_is = IsSide-first nodes can texts;
-  taken = refl;
+  replied = refl;
   few = omega arith;
   pushed = omega arith;
 }
@@ -54,24 +56,36 @@ fits-loaded nodes can texts =
 
 -- ---- a line
 
--- the k-th ask
-pub IsAsk-document : (k : ℕ) → k ≤ 2 ^ 26 → IsAsk k (command_text k get_document None None)
-IsAsk-document k few = record { method = get_document; is = ask_in-command k (omega (arith, few)); few = few }
+pub fits-sent : (a : AskForm) (w : World Side) → CanSend a → w.asks + 1 ≤ 2 ^ 26 → Fits w → Fits (sends a w)
+fits-sent a w can few fits =
+    let small : w.asks + 1 < 2 ^ 53 = omega (arith, few) in
+    fits-asked step take_frame join IsAsk IsFit world_laws (first_value []) (command_text (w.asks + 1) a.method a.params a.session) w
+    (IsText-sent (w.asks + 1) a can small) (IsAsk-sent (w.asks + 1) a can few small) fits
 
-pub fits-sent : (w : World Side) → w.asks + 1 ≤ 2 ^ 26 → Fits w → Fits (sends document_ask w)
-fits-sent w few fits =
-    fits-asked step take_frame join IsAsk IsFit world_laws (first_value []) (command_text (w.asks + 1) get_document None None) w
-    (IsText-command (w.asks + 1) (omega (arith, few))) (IsAsk-document (w.asks + 1) few) fits
+-- how many replies were told says nothing of the streams
+pub fits-told : (w : World Side) (n : ℕ) → Fits w → Fits (record { side = w.side; up = w.up; down = w.down; asks = w.asks; told = n })
+fits-told w n fits = record { front = fits.front; is_fold = fits.is_fold; fit = fits.fit; up_whole = fits.up_whole; down_whole = fits.down_whole }
+
+settled-fits : (w : World Side) → Fits w → Fits (settled step w)
+settled-fits w fits = fits-settled step take_frame join IsAsk IsFit world_laws (first_value []) w fits
 
 pub fits-line : (line : LineForm) (w : World Side) → IsLater line → w.asks + 1 ≤ 2 ^ 26 → Fits w → Fits (after_line line w)
 fits-line (load nodes) w later few fits = fits
-fits-line (ask a) w later few fits = subst (λ b. Fits (sends b w)) (sym later) (fits-sent w few fits)
-fits-line show_front w later few fits = fits-settled step take_frame join IsAsk IsFit world_laws (first_value []) w fits
+fits-line (ask a) w later few fits = fits-sent a w later few fits
+fits-line (up n) w later few fits = fits-delivered_up step take_frame join IsAsk IsFit world_laws (first_value []) n w fits
+fits-line (down n) w later few fits = fits-delivered_down step take_frame join IsAsk IsFit world_laws (first_value []) n w fits
+fits-line settle w later few fits = settled-fits w fits
+fits-line show_front w later few fits = settled-fits w fits
+fits-line show_replies w later few fits = fits-told (settled step w) _ (settled-fits w fits)
 
 asks-line : (line : LineForm) (w : World Side) → (after_line line w).asks ≤ w.asks + 1
 asks-line (load nodes) w = omega arith
 asks-line (ask a) w = omega arith
+asks-line (up n) w = omega arith
+asks-line (down n) w = omega arith
+asks-line settle w = omega arith
 asks-line show_front w = omega arith
+asks-line show_replies w = omega arith
 
 fits-lines : (n : ℕ) (lines : List LineForm) (w : World Side) → AreLater lines → w.asks + length lines ≤ 2 ^ 26 → Fits w → Fits (after_lines (take n lines) w)
 fits-lines zero lines w later few fits = fits
@@ -115,13 +129,15 @@ settled-shows w fits =
     let down_none : w'.down.flying ≡ [] = given-all (delivered_up step (length w.up.flying) w).down in
     let up_held : held w'.up ≡ [] = ap (λ bytes. (frames_of bytes).rest) (sym (sent-all w'.up up_none)) ∙ all.up_whole in
     let awaits : awaited w'.up ≡ [] = awaited-none w'.up up_none up_held in
+    let given_fold : folded take_frame (joined join (first_value []) (frames_of w'.up.given).whole) (frames_of w'.down.given).whole ≡ Ok all.front =
+    ap (λ bytes. folded take_frame (joined join (first_value []) (frames_of bytes).whole) (frames_of w'.down.given).whole) (sym (sent-all w'.up up_none))
+    ∙ ap (λ bytes. folded take_frame (joined join (first_value []) (frames_of (sent w'.up)).whole) (frames_of bytes).whole) (sym (sent-all w'.down down_none))
+    ∙ all.is_fold in
     record {
       front = all.front;
-      is_fold =
-          ap (λ bytes. folded take_frame (joined join (first_value []) (frames_of bytes).whole) (frames_of w'.down.given).whole) (sym (sent-all w'.up up_none))
-          ∙ ap (λ bytes. folded take_frame (joined join (first_value []) (frames_of (sent w'.up)).whole) (frames_of bytes).whole) (sym (sent-all w'.down down_none))
-          ∙ all.is_fold;
+      is_fold = given_fold;
       shows = all.fit.tree;
+      told = replies-of (frames_of w'.up.given).whole (frames_of w'.down.given).whole all.front given_fold;
       waits = no_asks all.front.asks (sym all.fit.asks ∙ ap (map ask_in) awaits);
       whole = ap (λ bytes. (frames_of bytes).rest) (sym (sent-all w'.down down_none)) ∙ all.down_whole;
     }

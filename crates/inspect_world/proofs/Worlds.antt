@@ -1,11 +1,11 @@
 -- Each part of a run keeps that the whole streams, folded, fit the side.
 use Rattle.std.proofs.Common.{◌≡◌, ℕ, ◌+◌, List, [], ◌∷◌, ◌++◌, length, refl, sym, ◌∙◌, ap, subst, append_assoc, append-nil, Result}
 use Rattle.pipe_frames.specs.Frames.{IsText, framed, frames_of, frames_from, held_after}
-use Rattle.pipe_frames.proofs.FrameLemmas.{frames_of-append, frames_of-framed}
+use Rattle.pipe_frames.proofs.FrameLemmas.{frames_of-append, frames_of-one, frames_from-append}
 use Rattle.inspect_world.specs.Stream.{Stream, sent, put, passed, held, arriving, awaited}
 use Rattle.inspect_world.specs.World.{World, Stepped, first_world, steps, asked, answered, given_up, delivered_up, delivered_down, settled}
 use Rattle.inspect_world.specs.Fold.{folded, joined, then, Laws, Answers, FitsWith, Fits}
-use Rattle.inspect_world.proofs.Frames.{frames_from-append, rest-sent, sent-passed, awaited-passed}
+use Rattle.inspect_world.proofs.Frames.{rest-sent, sent-passed, awaited-passed}
 use Rattle.inspect_world.proofs.Folds.{folded-append, joined-append}
 
 -- bytes after whole frames
@@ -34,13 +34,7 @@ answered-cons step frame frames w =
     let same : w.down.flying ++ (first ++ later) ≡ (w.down.flying ++ (first ++ [])) ++ later =
     sym (append_assoc w.down.flying first later)
     ∙ ap (λ bytes. (w.down.flying ++ bytes) ++ later) (sym (append-nil first)) in
-    ap (λ bytes. record { side = side; up = w.up; down = record { given = w.down.given; flying = bytes }; asks = w.asks }) same
-
--- one framed text
-pub frames_of-one : (text : List ℕ) → IsText text → frames_of (framed text) ≡ record { whole = text ∷ []; rest = [] }
-unfolding frames_of
-frames_of-one text letters =
-    ap frames_of (sym (append-nil (framed text))) ∙ frames_of-framed text [] letters
+    ap (λ bytes. record { side = side; up = w.up; down = record { given = w.down.given; flying = bytes }; asks = w.asks; told = w.told }) same
 
 module _ {S F E : Type 0} (step : S → List ℕ → Stepped S) (take : F → List ℕ → Result F E) (join : F → List ℕ → F)
     (IsAsk : ℕ → List ℕ → Type 0) (Fit : ℕ → F → S → List (List ℕ) → Type 0) (laws : Laws step take join IsAsk Fit) where
@@ -125,7 +119,7 @@ module _ {S F E : Type 0} (step : S → List ℕ → Stepped S) (take : F → Li
       → FitsWith take join Fit start w (frames ++ more)
       → FitsWith take join Fit start (answered step frames w) more
   fits-answered start [] more w fits =
-      subst (λ down. FitsWith take join Fit start (record { side = w.side; up = w.up; down = down; asks = w.asks }) more) (sym (put-nil w.down)) fits
+      subst (λ down. FitsWith take join Fit start (record { side = w.side; up = w.up; down = down; asks = w.asks; told = w.told }) more) (sym (put-nil w.down)) fits
   fits-answered start (frame ∷ frames) more w fits =
       subst (λ v. FitsWith take join Fit start v more) (sym (answered-cons step frame frames w))
       (fits-answered start frames more (answered step (frame ∷ []) w) (fits-answered_one start frame (frames ++ more) w fits))

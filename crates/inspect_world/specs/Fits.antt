@@ -1,14 +1,13 @@
 -- A front end that shows the side of the page, and waits for the answers that are to come.
-use Rattle.std.specs.Prelude.{◌≡◌, ◌≤◌, ℕ, ◌+◌, ◌*◌, ◌^◌, List, [], ◌∷◌, ◌++◌, length, map, Option, Some, None, option_and_then, codes, IsUtf8}
+use Rattle.std.specs.Prelude.{◌≡◌, ◌≤◌, ℕ, ◌+◌, ◌*◌, ◌^◌, List, [], ◌∷◌, ◌++◌, length, map, Option, Some, None, option_and_then, codes}
 use Rattle.serde_json.specs.Data.{Members}
 use Rattle.serde_json.specs.Find.{get_member, as_str, as_object}
 use Rattle.cdp_json.specs.Kinds.{as_whole}
-use Rattle.node_tree.specs.Nodes.{Nodes, none, node}
-use Rattle.node_tree.specs.Labels.{Label, Pair}
-use Rattle.page_tree.specs.Pages.{Row, IsValid}
+use Rattle.page_tree.specs.Pages.{IsValid}
 use Rattle.page_tree.specs.Forms.{max_nodes}
 use Rattle.node_binding.specs.Sessions.{IsSession}
 use Rattle.cdp_messages.specs.Asked.{json_of}
+use Rattle.dom_agent.specs.Laws.{RowsHaveUtf8}
 use Rattle.front_mirror.specs.declared.replies.Ask.{Ask}
 use Rattle.front_mirror.specs.Front.{FrontValue, first_value, take_frame}
 use Rattle.inspect_world.specs.World.{World}
@@ -40,24 +39,10 @@ join v frame = with_ask v (ask_in frame)
 
 -- ---- what always holds of a side
 
--- the texts of a label are texts: UTF-8
-abbrev pub AreTextPairs : List Pair → Type 0
-AreTextPairs [] = Unit {0}
-AreTextPairs (p ∷ ps) = IsUtf8 p.0 × IsUtf8 p.1 × AreTextPairs ps
-
-pub record IsTextLabel (l : Label) : Type 0 where
-  pub name : IsUtf8 l.name
-  pub value : IsUtf8 l.value
-  pub attributes : AreTextPairs l.attributes
-
-abbrev pub AreTexts : Nodes Row → Type 0
-AreTexts none = Unit {0}
-AreTexts (node r c t) = IsTextLabel r.label × AreTexts c × AreTexts t
-
 pub record IsSide (side : Side) : Type 0 where
   pub page : IsValid side.page
   pub serials : side.page.next ≤ 2 ^ 52
-  pub texts : AreTexts (nodes_in side)
+  pub texts : RowsHaveUtf8 (nodes_in side)
   pub session : IsSession (nodes_in side) side.session
 
 -- ---- fits
@@ -77,9 +62,9 @@ pub record IsFit (n : ℕ) (v : FrontValue) (side : Side) (frames : List (List �
   pub tree : v.tree ≡ view_of side
   pub asks : map ask_in frames ≡ map Some v.asks
   pub side_is : IsSide side
-  pub taken : v.taken + length frames ≡ n
+  pub replied : length v.replies + length frames ≡ n
   pub few : n ≤ most_asks
-  pub pushed : length side.session.pushed ≤ v.taken * max_nodes
+  pub pushed : length side.session.pushed ≤ length v.replies * max_nodes
 
 -- the two whole streams of a run, folded, fit its side
 abbrev pub FitsWith : World Side → List (List ℕ) → Type 0

@@ -1,5 +1,5 @@
 -- What the two ends hold while a script is carried out over a link, and that they follow the run.
-use Rattle.std.specs.Prelude.{◌≡◌, ℕ, ◌+◌, false, List, [], length, None, Ok}
+use Rattle.std.specs.Prelude.{◌≡◌, ℕ, ◌+◌, Bool, false, List, [], length, None, Ok}
 use Rattle.page_tree.specs.Pages.{State}
 use Rattle.node_binding.specs.Bindings.{Bound, Stands}
 use Rattle.pipe_frames.specs.Pipe.{Pipe}
@@ -12,15 +12,17 @@ use Rattle.inspect_world.specs.Carried.{Carries}
 use Rattle.inspect_world.specs.Sides.{Side, nodes_in}
 use Rattle.inspect_world.specs.Fits.{join, FitsWith}
 
--- The back end's page and binding, what it has of a frame that is not whole, the front end, and how many bytes of each pipe
--- were sent and not given.
+-- The back end's page, whether DOM is on, and its binding; what it has of a frame that is not whole; the front end; how many
+-- bytes of each pipe were sent and not given; and how many of the replies were told.
 pub record Ends : Type 0 where
   pub page : State
+  pub is_on : Bool
   pub bound : Bound
   pub back_rest : List ℕ
   pub front : FrontState
   pub up_there : ℕ
   pub down_there : ℕ
+  pub told : ℕ
 
 -- a front end that has met no fault
 abbrev pub good_front : FrontValue → List ℕ → ℕ → FrontState
@@ -32,6 +34,7 @@ pub record InWorld (up0 down0 up down : Pipe) (w : World Side) (frames : List (L
   pub up_is : Carries up0 up w.up
   pub down_is : Carries down0 down w.down
   pub page_is : e.page ≡ w.side.page
+  pub on_is : e.is_on ≡ w.side.is_on
   pub stands : Stands (nodes_in w.side) w.side.session e.bound
   pub back_is : e.back_rest ≡ held w.up
   pub value : FrontValue
@@ -39,4 +42,5 @@ pub record InWorld (up0 down0 up down : Pipe) (w : World Side) (frames : List (L
   pub is_fold : folded take_frame (joined join (first_value []) (frames_of (sent w.up)).whole) (frames_of w.down.given).whole ≡ Ok value
   pub up_left : e.up_there ≡ length w.up.flying
   pub down_left : e.down_there ≡ length w.down.flying
+  pub told_is : e.told ≡ w.told
   pub fits : FitsWith w frames

@@ -5,5 +5,7 @@ pub mod Carried
 pub mod Sides
 pub mod Fits
 pub mod Held
+pub mod Told
 pub mod Scripts
 pub mod ScriptsFit
+pub mod Links

@@ -1,13 +1,14 @@
 -- A script carried out line by line, and what it prints.
-use Rattle.std.specs.Prelude.{ℕ, ◌+◌, List, [], ◌∷◌, ◌++◌, codes, Option, Some, None}
+use Rattle.std.specs.Prelude.{ℕ, ◌+◌, List, [], ◌∷◌, ◌++◌, length, drop, codes, Option, Some, None}
 use Rattle.node_tree.specs.Nodes.{Nodes}
 use Rattle.node_tree.specs.Labels.{Label}
 use Rattle.cdp_messages.specs.Asked.{command_text}
 use Rattle.front_mirror.specs.Outline.{outline_text, seen_line}
 use Rattle.replay_script.specs.declared.faults.LineFault.{LineFault}
-use Rattle.replay_script.specs.Forms.{AskForm, LineForm, load, ask, show_front}
+use Rattle.replay_script.specs.Forms.{AskForm, LineForm, load, ask, up, down, settle, show_front, show_replies}
 use Rattle.replay_script.specs.Script.{script_fault, script_forms}
-use Rattle.inspect_world.specs.World.{World, first_world, asked, settled}
+use Rattle.inspect_world.specs.World.{World, first_world, asked, delivered_up, delivered_down, settled}
+use Rattle.inspect_world.specs.Told.{Told, replies_in, told_lines}
 use Rattle.inspect_world.specs.Sides.{Side, first_side, view_of, step}
 
 -- ---- what a line does
@@ -16,11 +17,19 @@ use Rattle.inspect_world.specs.Sides.{Side, first_side, view_of, step}
 abbrev pub sends : AskForm → World Side → World Side
 sends a w = asked (command_text (w.asks + 1) a.method a.params a.session) w
 
+-- the replies that came are told
+abbrev pub all_told : World Side → World Side
+all_told w = record { side = w.side; up = w.up; down = w.down; asks = w.asks; told = length (replies_in w.down.given) }
+
 -- the run after a line; only the first line loads a page so far
 abbrev pub after_line : LineForm → World Side → World Side
 after_line (load nodes) w = w
 after_line (ask a) w = sends a w
+after_line (up n) w = delivered_up step n w
+after_line (down n) w = delivered_down n w
+after_line settle w = settled step w
 after_line show_front w = settled step w
+after_line show_replies w = all_told (settled step w)
 
 abbrev pub after_lines : List LineForm → World Side → World Side
 after_lines [] w = w
@@ -36,10 +45,18 @@ loaded_world nodes = first_world (first_side nodes)
 abbrev pub outline_of : World Side → List ℕ
 outline_of w = outline_text seen_line (view_of w.side)
 
+-- the replies that came after so many others
+abbrev pub replies_after : ℕ → World Side → List Told
+replies_after n w = drop n (replies_in w.down.given)
+
 abbrev pub line_text : LineForm → World Side → List ℕ
 line_text (load nodes) w = []
 line_text (ask a) w = []
+line_text (up n) w = []
+line_text (down n) w = []
+line_text settle w = []
 line_text show_front w = codes "# front" ++ 10 ∷ outline_of (settled step w)
+line_text show_replies w = codes "# replies" ++ 10 ∷ told_lines (replies_after w.told (settled step w))
 
 abbrev pub lines_text : List LineForm → World Side → List ℕ
 lines_text [] w = []
@@ -64,7 +81,11 @@ abbrev pub text_of : Option (ℕ × LineFault) → List LineForm → List ℕ
 text_of bad [] = []
 text_of bad (load nodes ∷ lines) = rest_text bad lines (loaded_world nodes)
 text_of bad (ask a ∷ lines) = []
+text_of bad (up n ∷ lines) = []
+text_of bad (down n ∷ lines) = []
+text_of bad (settle ∷ lines) = []
 text_of bad (show_front ∷ lines) = []
+text_of bad (show_replies ∷ lines) = []
 
 -- What a replay of the input writes: what each line before the first that is refused prints, and after the last line, where
 -- none is refused, the closing outline. No front end takes part in it.

@@ -1,10 +1,15 @@
 -- While a script is carried out, the whole streams between the ends stay such that the front end's fold meets no fault, and
 -- shows exactly what the client sees of the page.
-use Rattle.std.specs.Prelude.{◌≡◌, ℕ, ◌≤◌, List, [], ◌∷◌, length, take, codes, None, Ok, ⊤}
+use Rattle.std.specs.Prelude.{◌≡◌, ℕ, ◌≤◌, List, [], ◌∷◌, length, take, map, true, None, Ok, ⊤, IsUtf8}
 use Rattle.node_tree.specs.Nodes.{Nodes, none, node}
 use Rattle.node_tree.specs.Labels.{Label}
 use Rattle.page_tree.specs.Forms.{CanLoad}
-use Rattle.replay_script.specs.Forms.{AskForm, LineForm, load, ask, show_front}
+use Rattle.cdp_json.specs.Kinds.{is_counted, holds_of_some}
+use Rattle.cdp_json.specs.Plain.{is_plain}
+use Rattle.cdp_messages.specs.Asked.{command_value, command_text}
+use Rattle.cdp_messages.specs.Laws.{Shallow, LabelHasUtf8}
+use Rattle.replay_script.specs.Faults.{is_built_ask}
+use Rattle.replay_script.specs.Forms.{AskForm, LineForm, load, ask, up, down, settle, show_front, show_replies}
 use Rattle.replay_script.specs.Script.{script_forms}
 use Rattle.pipe_frames.specs.Frames.{frames_of}
 use Rattle.front_mirror.specs.Front.{FrontValue, first_value, take_frame}
@@ -12,23 +17,33 @@ use Rattle.inspect_world.specs.Stream.{held}
 use Rattle.inspect_world.specs.World.{World, delivered_up, delivered_down, settled}
 use Rattle.inspect_world.specs.Fold.{folded, joined}
 use Rattle.inspect_world.specs.Sides.{Side, view_of, step}
-use Rattle.inspect_world.specs.Fits.{join, IsTextLabel, most_asks, Fits}
+use Rattle.inspect_world.specs.Fits.{join, most_asks, Fits}
+use Rattle.inspect_world.specs.Told.{told_of, replies_in}
 use Rattle.inspect_world.specs.Scripts.{loaded_world, after_lines}
 
 -- the texts of the nodes that are loaded are UTF-8
 abbrev pub HaveTexts : Nodes Label → Type 0
 HaveTexts none = ⊤
-HaveTexts (node l c t) = IsTextLabel l × HaveTexts c × HaveTexts t
+HaveTexts (node l c t) = LabelHasUtf8 l × HaveTexts c × HaveTexts t
 
--- the one ask so far: `DOM.getDocument`, without parameters and without a session
-abbrev pub document_ask : AskForm
-document_ask = record { method = codes "DOM.getDocument"; params = None; session = None }
+-- The ask's parameters are JSON that is written and read again as it is: plain, UTF-8, and not too deep; and the back end
+-- knows the command.
+pub record CanSend (a : AskForm) : Type 0 where
+  pub built : is_built_ask a ≡ true
+  pub params : holds_of_some is_plain a.params ≡ true
+  pub session : a.session ≡ None
+  pub shallow : (id : ℕ) → Shallow (command_value id a.method a.params a.session)
+  pub texts : (id : ℕ) → is_counted id ≡ true → IsUtf8 (command_text id a.method a.params a.session)
 
 -- a line that may come after the load
 abbrev pub IsLater : LineForm → Type 0
 IsLater (load nodes) = ⊥
-IsLater (ask a) = a ≡ document_ask
+IsLater (ask a) = CanSend a
+IsLater (up n) = ⊤
+IsLater (down n) = ⊤
+IsLater settle = ⊤
 IsLater show_front = ⊤
+IsLater show_replies = ⊤
 
 abbrev pub AreLater : List LineForm → Type 0
 AreLater [] = ⊤
@@ -53,11 +68,13 @@ abbrev pub DeliveriesFit : Type 0
 DeliveriesFit = (w : World Side) (n : ℕ) → Fits w → Fits (delivered_up step n w) × Fits (delivered_down n w)
 
 -- A front end that has sent all that the up pipe has given, and has taken all that the down pipe has given, shows exactly what
--- the client sees of the page; it waits for no reply, and holds no part of a frame.
+-- the client sees of the page, and has kept just the replies that came down; it waits for no reply, and holds no part of a
+-- frame.
 pub record ShowsAll (w : World Side) : Type 0 where
   pub front : FrontValue
   pub is_fold : folded take_frame (joined join (first_value []) (frames_of w.up.given).whole) (frames_of w.down.given).whole ≡ Ok front
   pub shows : front.tree ≡ view_of w.side
+  pub told : map told_of front.replies ≡ replies_in w.down.given
   pub waits : front.asks ≡ []
   pub whole : held w.down ≡ []
 

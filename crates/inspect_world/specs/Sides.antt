@@ -1,5 +1,5 @@
--- The side of the page: the page, and the session of the client that inspects it; and the step on one frame.
-use Rattle.std.specs.Prelude.{ℤ, Bool, true, false, List, ℕ, Result, Ok, Err}
+-- The page's side of a run: the page, and what its one client has of it; and the step on each frame that comes up.
+use Rattle.std.specs.Prelude.{ℕ, List, Bool, true, false, not, ◌&&◌, cond, Result, Ok, Err}
 use Rattle.node_tree.specs.Nodes.{Nodes, alone}
 use Rattle.node_tree.specs.Seen.{Seen}
 use Rattle.node_tree.specs.Labels.{Label}
@@ -7,12 +7,14 @@ use Rattle.page_tree.specs.Pages.{Row, State, loaded}
 use Rattle.node_binding.specs.Sessions.{Session, begun, view}
 use Rattle.pipe_frames.specs.Frames.{framed}
 use Rattle.cdp_messages.specs.declared.command.Command.{Command}
+use Rattle.cdp_messages.specs.declared.command.Command.TheVariants.{GetDocument, RequestChildNodes, PushByPath, PushBySerials}
+use Rattle.cdp_messages.specs.declared.command.Why.TheVariants.{DomOff}
 use Rattle.cdp_messages.specs.declared.command.Asked.{Asked}
 use Rattle.cdp_messages.specs.declared.command.Refused.{Refused}
-use Rattle.cdp_messages.specs.declared.down.ReplyBody.TheVariants.{Root}
 use Rattle.cdp_messages.specs.Asked.{asked}
-use Rattle.cdp_messages.specs.Replies.{reply_text, refused_text}
-use Rattle.dom_agent.specs.Documents.{asked_depth, document_asked, document_told}
+use Rattle.cdp_messages.specs.Replies.{refused_text}
+use Rattle.dom_agent.specs.Requests.{Outcome, served, refused, answer}
+use Rattle.dom_agent.specs.Laws.{session_outcome}
 use Rattle.inspect_world.specs.World.{Stepped}
 
 -- The page, whether the domain DOM is on, and the client's session.
@@ -35,15 +37,24 @@ first_side nodes = record { page = loaded 1 nodes; is_on = false; session = begu
 
 -- ---- the step
 
--- `DOM.getDocument`: the ids so far are dead, the containers of a level below the depth are opened, and the known nodes get
--- new ids; the reply tells the page cut to what is opened.
-abbrev pub after_document : ℤ → Side → Side
-after_document depth side = record { page = side.page; is_on = true; session = document_asked depth side.page side.session }
+-- a command that is refused while DOM is off; `DOM.getDocument` turns it on
+abbrev pub needs_on : Command → Bool
+needs_on (GetDocument depth pierce) = false
+needs_on (RequestChildNodes id depth pierce) = true
+needs_on (PushByPath path) = true
+needs_on (PushBySerials serials) = true
+
+abbrev pub side_after : Side → Outcome Session → Side
+side_after side (served p body) = record { page = side.page; is_on = true; session = p.state }
+side_after side (refused why) = side
+
+-- what is opened and told, and the reply; or a refusal, which changes nothing
+abbrev pub on_outcome : ℕ → Outcome Session → Side → Stepped Side
+on_outcome id outcome side = record { side = side_after side outcome; sent = answer id outcome }
 
 abbrev pub on_command : ℕ → Command → Side → Stepped Side
 on_command id command side =
-    let after = after_document (asked_depth command) side in
-    record { side = after; sent = framed (reply_text id (Root (document_told after.session after.page.tree))) }
+    on_outcome id (cond (needs_on command && not side.is_on) (refused DomOff) (session_outcome side.page command side.session)) side
 
 -- a refused frame changes nothing, and gets one error reply
 abbrev pub on_asked : Result Asked Refused → Side → Stepped Side

@@ -1,0 +1,123 @@
+-- The replies that a front end keeps are those among the frames that it took.
+use Rattle.std.proofs.Common.{◌≡◌, Bool, false, ℕ, List, [], ◌∷◌, ◌++◌, map, Option, Some, None, refl, sym, ◌∙◌, ap, append-nil, append_assoc, Result, Ok, Err}
+use Rattle.std.proofs.lemmas.List.{map-append}
+use Rattle.serde_json.specs.Data.{Data}
+use Rattle.node_tree.specs.Nodes.{Nodes, Branch}
+use Rattle.node_tree.specs.Keys.{Spot, spot}
+use Rattle.node_tree.specs.Seen.{Seen, seen_id}
+use Rattle.cdp_messages.specs.declared.down.ReplyBody.{ReplyBody}
+use Rattle.cdp_messages.specs.declared.down.ReplyBody.TheVariants.{Nothing, Root, NodeId, NodeIds}
+use Rattle.cdp_messages.specs.Events.{News, set_children, document_updated}
+use Rattle.cdp_messages.specs.Replies.{Message, reply, fault, event, down_of, result_of}
+use Rattle.cdp_messages.specs.Told as told
+use Rattle.front_mirror.specs.declared.replies.Ask.{Ask}
+use Rattle.front_mirror.specs.declared.faults.FrontKind.{FrontKind}
+use Rattle.front_mirror.specs.declared.faults.FrontKind.TheVariants.{NotMessage, UnknownNode}
+use Rattle.front_mirror.specs.Front.{FrontValue, first_value, take_frame, method_of, replied, refused, with_root, root_fault, with_body, with_reply, with_fault, with_tree, with_children, children_fault, with_news, with_message}
+use Rattle.inspect_world.specs.Fold.{folded, joined, then}
+use Rattle.inspect_world.specs.Fits.{join, with_ask, ask_in}
+use Rattle.inspect_world.specs.Told.{Told, told_of, told_by, replies_among}
+
+-- the front has kept these replies more
+abbrev Keeps : FrontValue → List Told → FrontValue → Type 0
+Keeps v ts w = map told_of w.replies ≡ map told_of v.replies ++ ts
+
+refuses : {P : Type 0} (kind : FrontKind) (w : FrontValue) → ◌≡◌ {A = Result FrontValue FrontKind} (Err kind) (Ok w) → P
+refuses kind w e = absurd cc
+
+-- a reply more
+keeps-replied : (v : FrontValue) (id : ℕ) (frame : List ℕ) (good : Bool) (tree : Nodes Seen) (w : FrontValue)
+    → ◌≡◌ {A = Result FrontValue FrontKind} (Ok (replied v id frame good tree)) (Ok w) → Keeps v (record { id = Some id; text = frame } ∷ []) w
+keeps-replied v id frame good tree w e =
+    let same : replied v id frame good tree ≡ w = cc e in
+    ap (λ (x : FrontValue). map told_of x.replies) (sym same) ∙ map-append told_of v.replies (record { id = Some id; text = frame; good = good } ∷ [])
+
+-- nothing is kept
+keeps-none : (v x w : FrontValue) → x.replies ≡ v.replies → ◌≡◌ {A = Result FrontValue FrontKind} (Ok x) (Ok w) → Keeps v [] w
+keeps-none v x w same e =
+    let is : x ≡ w = cc e in
+    ap (λ (y : FrontValue). map told_of y.replies) (sym is) ∙ ap (map told_of) same ∙ sym (append-nil (map told_of v.replies))
+
+keeps-root : (v : FrontValue) (id : ℕ) (frame : List ℕ) (root : Branch told.Told) (o : Option FrontKind) (w : FrontValue)
+    → with_root v id frame root o ≡ Ok w → Keeps v (record { id = Some id; text = frame } ∷ []) w
+keeps-root v id frame root None w e = keeps-replied v id frame _ _ w e
+keeps-root v id frame root (Some kind) w e = refuses kind w e
+
+keeps-body : (v : FrontValue) (id : ℕ) (frame : List ℕ) (o : Option ReplyBody) (w : FrontValue)
+    → with_body v id frame o ≡ Ok w → Keeps v (record { id = Some id; text = frame } ∷ []) w
+keeps-body v id frame None w e = refuses NotMessage w e
+keeps-body v id frame (Some Nothing) w e = keeps-replied v id frame _ _ w e
+keeps-body v id frame (Some (Root root)) w e = keeps-root v id frame root (root_fault root) w e
+keeps-body v id frame (Some (NodeId given)) w e = keeps-replied v id frame _ _ w e
+keeps-body v id frame (Some (NodeIds given)) w e = keeps-replied v id frame _ _ w e
+
+keeps-reply : (v : FrontValue) (id : ℕ) (frame : List ℕ) (result : Data) (o : Option (List ℕ)) (w : FrontValue)
+    → with_reply v id frame result o ≡ Ok w → Keeps v (record { id = Some id; text = frame } ∷ []) w
+keeps-reply v id frame result None w e = refuses NotMessage w e
+keeps-reply v id frame result (Some method) w e = keeps-body v id frame (result_of method result) w e
+
+keeps-fault : (v : FrontValue) (id : ℕ) (frame : List ℕ) (o : Option (List ℕ)) (w : FrontValue)
+    → with_fault v id frame o ≡ Ok w → Keeps v (record { id = Some id; text = frame } ∷ []) w
+keeps-fault v id frame None w e = refuses NotMessage w e
+keeps-fault v id frame (Some method) w e = keeps-replied v id frame _ _ w e
+
+keeps-tree : (v : FrontValue) (tree : Nodes Seen) (o : Option FrontKind) (w : FrontValue) → with_tree v tree o ≡ Ok w → Keeps v [] w
+keeps-tree v tree None w e = keeps-none v _ w refl e
+keeps-tree v tree (Some kind) w e = refuses kind w e
+
+keeps-children : (v : FrontValue) (parent : ℕ) (nodes : Nodes told.Told) (o : Option (Spot Seen)) (w : FrontValue)
+    → with_children v parent nodes o ≡ Ok w → Keeps v [] w
+keeps-children v parent nodes None w e = refuses UnknownNode w e
+keeps-children v parent nodes (Some s) w e = keeps-tree v _ (children_fault v.tree parent nodes s) w e
+
+keeps-news : (v : FrontValue) (n : News) (w : FrontValue) → with_news v n ≡ Ok w → Keeps v [] w
+keeps-news v (set_children parent nodes) w e = keeps-children v parent nodes (spot seen_id parent 0 v.tree) w e
+keeps-news v document_updated w e = keeps-none v _ w refl e
+
+keeps-message : (v : FrontValue) (frame : List ℕ) (o : Option Message) (w : FrontValue) → with_message v frame o ≡ Ok w → Keeps v (told_by frame o) w
+keeps-message v frame None w e = refuses NotMessage w e
+keeps-message v frame (Some (event n)) w e = keeps-news v n w e
+keeps-message v frame (Some (reply id result)) w e = keeps-reply v id frame result (method_of id v.asks) w e
+keeps-message v frame (Some (fault None code text)) w e =
+    let same : refused v frame ≡ w = cc e in
+    ap (λ (x : FrontValue). map told_of x.replies) (sym same) ∙ map-append told_of v.replies (record { id = None; text = frame; good = false } ∷ [])
+keeps-message v frame (Some (fault (Some id) code text)) w e = keeps-fault v id frame (method_of id v.asks) w e
+
+-- one frame is taken
+pub replies-taken : (v : FrontValue) (frame : List ℕ) (w : FrontValue) → take_frame v frame ≡ Ok w → map told_of w.replies ≡ map told_of v.replies ++ told_by frame (down_of frame)
+replies-taken v frame w e = keeps-message v frame (down_of frame) w e
+
+-- all of some frames
+pub replies-folded : (frames : List (List ℕ)) (v w : FrontValue) → folded take_frame v frames ≡ Ok w → map told_of w.replies ≡ map told_of v.replies ++ replies_among frames
+replies-folded [] v w e = keeps-none v v w refl e
+replies-folded (frame ∷ frames) v w e =
+    (elim (take_frame v frame) as (λ (r : Result FrontValue FrontKind). take_frame v frame ≡ r
+    → then r (λ next. folded take_frame next frames) ≡ Ok w → Keeps v (told_by frame (down_of frame) ++ replies_among frames) w) [
+      | Ok next ↦ λ is rest.
+          replies-folded frames next w rest
+          ∙ ap (λ ts. ts ++ replies_among frames) (replies-taken v frame next is)
+          ∙ append_assoc (map told_of v.replies) (told_by frame (down_of frame)) (replies_among frames)
+      | Err kind ↦ λ is rest. refuses kind w rest
+    ]) refl e
+
+-- asks that wait are no replies
+replies-with_ask : (v : FrontValue) (o : Option Ask) → (with_ask v o).replies ≡ v.replies
+replies-with_ask v None = refl
+replies-with_ask v (Some ask) = refl
+
+pub replies-joined : (v : FrontValue) (frames : List (List ℕ)) → (joined join v frames).replies ≡ v.replies
+replies-joined v [] = refl
+replies-joined v (frame ∷ frames) = replies-joined (join v frame) frames ∙ replies-with_ask v (ask_in frame)
+
+-- a front end that began with no reply has those among the frames
+pub replies-of : (sent_frames frames : List (List ℕ)) (w : FrontValue) → folded take_frame (joined join (first_value []) sent_frames) frames ≡ Ok w
+    → map told_of w.replies ≡ replies_among frames
+replies-of sent_frames frames w e =
+    replies-folded frames (joined join (first_value []) sent_frames) w e
+    ∙ ap (λ ks. map told_of ks ++ replies_among frames) (replies-joined (first_value []) sent_frames)
+
+pub replies_among-append : (first second : List (List ℕ)) → replies_among (first ++ second) ≡ replies_among first ++ replies_among second
+replies_among-append [] second = refl
+replies_among-append (frame ∷ first) second =
+    ap (λ ts. told_by frame (down_of frame) ++ ts) (replies_among-append first second)
+    ∙ sym (append_assoc (told_by frame (down_of frame)) (replies_among first) (replies_among second))

@@ -1,0 +1,56 @@
+-- What holds over every link, whatever bytes it gives.
+use Rattle.std.specs.Prelude.{◌≡◌, ℕ, List, [], ◌∷◌, ◌++◌, map, Result, Ok}
+use Rattle.std.specs.Option.{option_to_list}
+use Rattle.node_binding.specs.Bindings.{Stands}
+use Rattle.pipe_frames.specs.Pipe.{Pipe}
+use Rattle.pipe_frames.specs.Frames.{frames_of}
+use Rattle.front_mirror.specs.declared.replies.Ask.{Ask}
+use Rattle.front_mirror.specs.declared.faults.FrontFault.{FrontFault}
+use Rattle.front_mirror.specs.Front.{FrontValue, fold}
+use Rattle.inspect_world.specs.World.{steps}
+use Rattle.inspect_world.specs.Sides.{Side, nodes_in, step}
+use Rattle.inspect_world.specs.Fits.{ask_in, IsSide}
+use Rattle.inspect_world.specs.Held.{Ends, good_front}
+use Rattle.inspect_world.specs.Told.{Told, replies_in, reply_id}
+
+-- the asks that stand in frames
+abbrev pub asks_among : List (List ℕ) → List Ask
+asks_among [] = []
+asks_among (frame ∷ frames) = option_to_list (ask_in frame) ++ asks_among frames
+
+-- The front end that sent these bytes up, and was given those bytes down: what it shows, or the first message that it refuses.
+-- A run stops at the first fault, so the asks that were sent by then are all that could wait.
+abbrev pub fold_of : (sent_up given_down : List ℕ) → Result FrontValue FrontFault
+fold_of sent_up given_down = fold (asks_among (frames_of sent_up).whole) given_down
+
+-- how a pipe goes on from an earlier moment
+pub record GoesOn (start now : Pipe) (sent given : List ℕ) : Type 0 where
+  pub sent_is : now.sent ≡ start.sent ++ sent
+  pub given_is : now.given ≡ start.given ++ given
+
+-- Since the pipes were as `up0` and `down0`, and the page's side was `side0`: the front end is the fold of what it sent and was
+-- given; the back end has carried out the frames that were given up, but for those that `waiting` holds whole, and has sent
+-- just what these steps send.
+pub record Follows (side0 : Side) (up0 down0 up down : Pipe) (waiting : List (List ℕ)) (e : Ends) : Type 0 where
+  pub sent_up : List ℕ
+  pub given_up : List ℕ
+  pub sent_down : List ℕ
+  pub given_down : List ℕ
+  pub up_is : GoesOn up0 up sent_up given_up
+  pub down_is : GoesOn down0 down sent_down given_down
+  pub up_whole : (frames_of sent_up).rest ≡ []
+  pub value : FrontValue
+  pub front_is : e.front ≡ good_front value (frames_of given_down).rest e.front.next
+  pub is_fold : fold_of sent_up given_down ≡ Ok value
+  pub answered : List (List ℕ)
+  pub frames_are : (frames_of given_up).whole ≡ answered ++ waiting
+  pub back_is : e.back_rest ≡ (frames_of given_up).rest
+  pub side : Side
+  pub side_is : (steps step side0 answered).side ≡ side
+  pub sent_is : sent_down ≡ (steps step side0 answered).sent
+  pub replies_are : map (λ (t : Told). t.id) (replies_in sent_down) ≡ map reply_id answered
+  pub down_whole : (frames_of sent_down).rest ≡ []
+  pub page_is : e.page ≡ side.page
+  pub on_is : e.is_on ≡ side.is_on
+  pub stands : Stands (nodes_in side) side.session e.bound
+  pub is_side : IsSide side
