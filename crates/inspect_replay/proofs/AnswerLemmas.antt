@@ -1,9 +1,6 @@
 -- What the answers of the whole call follow from.
-use Rattle.std.proofs.Common.{◌≡◌, ℕ, List, [], Option, Some, None, Result, Ok, Err, Vec, true, false, refl, sym, ◌∙◌, ap}
-use Rattle.std.specs.declared.alloc.Global.{Global}
-use Rattle.std.specs.Result.{OnOk}
+use Rattle.std.proofs.Common.{◌≡◌, ℕ, List, [], Option, Some, None, Err, ap}
 use Rattle.pipe_frames.specs.Whole.{IsAllOf}
-use Rattle.inspect_replay.specs.declared.status.Status.{Status}
 use Rattle.inspect_replay.specs.declared.stop.Stop.{Stop}
 use Rattle.inspect_replay.specs.declared.stop.Stop.TheVariants.{Line, TooLong, ReadFault, WriteFault, LinkFault, FrontRefused, Memory}
 use Rattle.inspect_replay.specs.Answers.{FitsLimits, InputTells, status_of}

@@ -1,78 +1,61 @@
 -- What the calls on the link and on the ends make of a run.
-use Rattle.std.proofs.Common.{◌≡◌, ℕ, ◌+◌, ◌-◌, ◌≤◌, ◌<◌, ◌^◌, min, List, [], ◌∷◌, ◌++◌, length, take, drop, Option, Some, None, refl, sym, ◌∙◌, ap, subst, arith, append-nil, Result, Ok, Err, true, false}
+use Rattle.std.proofs.Common.{◌≡◌, ℕ, ◌+◌, ◌-◌, ◌<◌, min, List, [], ◌∷◌, ◌++◌, length, take, Option, Some, None, refl, sym, ◌∙◌, ap, subst, Result}
 use Rattle.std.proofs.lemmas.List.{take_min}
-use Rattle.page_tree.specs.Pages.{State, IsValid}
-use Rattle.node_binding.specs.Bindings.{Bound, Stands}
 use Rattle.pipe_frames.specs.Pipe.{Pipe, waiting}
-use Rattle.pipe_frames.specs.Frames.{Frames, IsText, framed, frames_of, frames_from, held_after, continued}
-use Rattle.cdp_messages.specs.Asked.{asked}
-use Rattle.cdp_messages.specs.declared.command.Asked.{Asked}
-use Rattle.cdp_messages.specs.declared.command.Refused.{Refused}
+use Rattle.pipe_frames.specs.Frames.{Frames, framed, frames_of, frames_from, held_after, continued}
 use Rattle.front_mirror.specs.Front.{FrontState, after_take, after_ask}
 use Rattle.front_mirror.specs.declared.faults.FrontFault.{FrontFault}
 use Rattle.std.specs.Borrow.{Bor}
 use Rattle.std.specs.Option.{option_copied, option_map}
+use Rattle.std.specs.Result.{OnOk}
 use Rattle.serde_json.specs.declared.value.Value.{Value}
 use Rattle.serde_json.specs.View.{view}
 use Rattle.replay_script.specs.declared.forms.Ask.{Ask}
 use Rattle.replay_script.specs.Seen.{seen_ask}
 use Rattle.replay_script.specs.Forms.{AskForm}
-use Rattle.replay_script.specs.Faults.{is_built_ask}
 use Rattle.cdp_messages.specs.Asked.{command_text}
-use Rattle.inspect_world.specs.Fits.{most_asks, IsAsk, ask_in, ask_with}
+use Rattle.inspect_world.specs.Fits.{most_asks}
 use Rattle.inspect_world.specs.Scripts.{sends}
-use Rattle.inspect_world.specs.ScriptsFit.{document_ask}
-use Rattle.inspect_world.proofs.Messages.{get_document, ask_in-command, IsText-command}
+use Rattle.inspect_world.specs.ScriptsFit.{CanSend}
 use Rattle.inspect_world.specs.Stream.{Stream, passed, arriving, awaited}
-use Rattle.inspect_world.specs.World.{World, Stepped, asked as asked_world, answered, given_up, delivered_up, delivered_down, settled}
-use Rattle.inspect_world.specs.Sides.{Side, nodes_in, step, on_asked}
+use Rattle.inspect_world.specs.World.{World, answered, given_up, delivered_up, delivered_down, settled}
+use Rattle.inspect_world.specs.Sides.{Side, step}
 use Rattle.inspect_world.specs.Held.{Ends, InWorld}
-use Rattle.inspect_replay.proofs.BackLemmas.{on_ok}
+use Rattle.inspect_replay.specs.declared.back.Back.{Back}
 use Rattle.inspect_replay.specs.declared.ends.Ends.{Ends as ProgramEnds}
+use Rattle.inspect_replay.specs.declared.stop.Stop.{Stop}
+use Rattle.inspect_replay.specs.Backs.{StandsFor}
 use Rattle.inspect_replay.specs.Runs.{InRunWith, InRun, AnswersOne, AnswersAll, Steps, ends_of}
 use Rattle.inspect_replay.specs.Stops.{NotRefused}
-use Rattle.std.specs.Result.{OnOk}
-use Rattle.inspect_replay.specs.declared.stop.Stop.{Stop}
+use Rattle.inspect_replay.proofs.BackLemmas.{on_ok}
+use Rattle.inspect_world.proofs.Worlds.{answered-cons}
 use Rattle.inspect_world.proofs.Pipes.{waiting-is}
-use Rattle.inspect_world.proofs.Worlds.{answered-cons, put-nil}
-use Rattle.inspect_world.proofs.Ends.{world-asked, world-answered, world-given_up, world-delivered_down, never-refuses}
+use Rattle.inspect_world.proofs.Ends.{world-sent, world-answered, world-given_up, world-delivered_down, never-refuses}
 
 -- ---- one frame is answered
 
--- a step leaves the page as it is
-step-page : (side : Side) (frame : List ℕ) → (step side frame).side.page ≡ side.page
-step-page side frame =
-    (elim (asked frame false) as (λ (r : Result Asked Refused). (on_asked r side).side.page ≡ side.page) [ Ok a ↦ refl | Err r ↦ refl ])
-
--- what the back end says that it did
-abbrev pub Stood : State → Bound → List ℕ → Bound → Type 0
-Stood page bound frame after = (side : Side) → page ≡ side.page → IsValid side.page → Stands (nodes_in side) side.session bound
-    → Stands (nodes_in (step side frame).side) (step side frame).side.session after
-
-abbrev pub Said : State → Bound → List ℕ → List ℕ → List ℕ → Type 0
-Said page bound frame old new = (side : Side) → page ≡ side.page → IsValid side.page → Stands (nodes_in side) side.session bound
-    → new ≡ old ++ (step side frame).sent
-
-pub answered_in : (up0 down0 up down up1 down1 : Pipe) (w : World Side) (frame : List ℕ) (frames : List (List ℕ)) (e : Ends)
-    (page : State) (bound : Bound) (old out bytes : List ℕ) (there : ℕ)
-    → InWorld up0 down0 up down w (frame ∷ frames) e
-    → page ≡ e.page → Stood e.page e.bound frame bound → Said e.page e.bound frame old out → old ≡ [] → bytes ≡ out
+pub answered_in : (up0 down0 up down up1 down1 : Pipe) (w : World Side) (frame : List ℕ) (frames : List (List ℕ)) (b b1 : Back) (e : Ends)
+    (old out bytes : List ℕ) (there : ℕ)
+    → InWorld up0 down0 up down w (frame ∷ frames) (record e { page = b.page; is_on = b.is_on; bound = b.agent })
+    → ((side : Side) → StandsFor b side → StandsFor b1 (step side frame).side) → ((side : Side) → StandsFor b side → out ≡ old ++ (step side frame).sent)
+    → old ≡ [] → bytes ≡ out
     → up1 ≡ up → (down1.sent ≡ down.sent ++ bytes) × (down1.given ≡ down.given) → there ≡ e.down_there + length out
-    → InWorld up0 down0 up1 down1 (answered step (frame ∷ []) w) frames (record e { page = page; bound = bound; down_there = there })
-answered_in up0 down0 up down up1 down1 w frame frames e page bound old out bytes there in_world page_is stood said empty same_out same_up sent left =
-    let valid : IsValid w.side.page = in_world.fits.fit.side_is.page in
-    let all : InWorld up0 down0 up down1 (answered step (frame ∷ []) w) frames (record e { page = page; bound = bound; down_there = there }) =
-    world-answered up0 down0 up down down1 w frame frames e page bound out there in_world
-    (page_is ∙ in_world.page_is ∙ sym (step-page w.side frame))
-    (stood w.side in_world.page_is valid in_world.stands)
-    (said w.side in_world.page_is valid in_world.stands ∙ ap (λ bytes. bytes ++ (step w.side frame).sent) empty)
+    → InWorld up0 down0 up1 down1 (answered step (frame ∷ []) w) frames
+    (record e { page = b1.page; is_on = b1.is_on; bound = b1.agent; down_there = there })
+answered_in up0 down0 up down up1 down1 w frame frames b b1 e old out bytes there in_world stood said empty same_out same_up sent left =
+    let before : StandsFor b w.side = record { is_side = in_world.fits.fit.side_is; page_is = in_world.page_is; on_is = in_world.on_is; stands = in_world.stands } in
+    let after : StandsFor b1 (step w.side frame).side = stood w.side before in
+    let all : InWorld up0 down0 up down1 (answered step (frame ∷ []) w) frames (record e { page = b1.page; is_on = b1.is_on; bound = b1.agent; down_there = there }) =
+    world-answered up0 down0 up down down1 w frame frames (record e { page = b.page; is_on = b.is_on; bound = b.agent }) b1.page b1.is_on b1.agent out there in_world
+    after.page_is after.on_is after.stands
+    (said w.side before ∙ ap (λ start. start ++ (step w.side frame).sent) empty)
     (sent.0 ∙ ap (λ piece. down.sent ++ piece) same_out) sent.1 left in
-    subst (λ pipe. InWorld up0 down0 pipe down1 (answered step (frame ∷ []) w) frames (record e { page = page; bound = bound; down_there = there })) (sym same_up) all
+    subst (λ pipe. InWorld up0 down0 pipe down1 (answered step (frame ∷ []) w) frames (record e { page = b1.page; is_on = b1.is_on; bound = b1.agent; down_there = there })) (sym same_up) all
 
 -- ---- an ask is sent
 
 -- what an optional value behind a reference is seen as
-refs-seen : (r : Option (Bor Value)) (o : Option Value) → option_copied r ≡ o → option_map (λ (p : Bor Value). view p.now) r ≡ option_map view o
+pub refs-seen : (r : Option (Bor Value)) (o : Option Value) → option_copied r ≡ o → option_map (λ (p : Bor Value). view p.now) r ≡ option_map view o
 refs-seen None o e = ap (option_map view) e
 refs-seen (Some p) o e = ap (option_map view) e
 
@@ -88,31 +71,22 @@ frame-seen next ask frame method params session m p s is =
     ∙ ap (λ s'. framed (command_text next ask.method (option_map view ask.params) s')) (refs-seen session ask.session s)
 
 pub asked_in : (up0 down0 up down up1 down1 : Pipe) (w : World Side) (e : Ends) (a : AskForm) (whole : List (List ℕ)) (frame bytes : List ℕ) (there : ℕ) (front1 : FrontState)
-    → w.asks < most_asks → InWorld up0 down0 up down w (whole ++ awaited w.up) e → whole ≡ [] → a ≡ document_ask
+    → CanSend a → w.asks < most_asks → InWorld up0 down0 up down w (whole ++ awaited w.up) e → whole ≡ []
     → frame ≡ framed (command_text e.front.next a.method a.params a.session) → front1 ≡ after_ask e.front a.method
     → bytes ≡ frame → (up1.sent ≡ up.sent ++ bytes) × (up1.given ≡ up.given) → down1 ≡ down → there ≡ e.up_there + length frame
     → InWorld up0 down0 up1 down1 (sends a w) (whole ++ awaited (sends a w).up) (record e { front = front1; up_there = there })
-asked_in up0 down0 up down up1 down1 w e a whole frame bytes there front1 few in_world none built frame_is front_is same_bytes sent same_down left =
-    let is : a ≡ document_ask = built in
+asked_in up0 down0 up down up1 down1 w e a whole frame bytes there front1 can few in_world none frame_is front_is same_bytes sent same_down left =
     let next : e.front.next ≡ w.asks + 1 = ap (λ (f : FrontState). f.next) in_world.front_is in
-    let text = command_text (w.asks + 1) get_document None None in
-    let framed_is : frame ≡ framed text =
-    frame_is ∙ ap (λ n. framed (command_text n a.method a.params a.session)) next
-    ∙ ap (λ (b : AskForm). framed (command_text (w.asks + 1) b.method b.params b.session)) is in
-    let small : w.asks + 1 < 2 ^ 53 = omega (arith, few) in
-    let asks : ask_in text ≡ Some (ask_with get_document (w.asks + 1)) = ask_in-command (w.asks + 1) small in
+    let text = command_text (w.asks + 1) a.method a.params a.session in
+    let framed_is : frame ≡ framed text = frame_is ∙ ap (λ n. framed (command_text n a.method a.params a.session)) next in
     let start : InWorld up0 down0 up down w (awaited w.up) e = subst (λ frames. InWorld up0 down0 up down w (frames ++ awaited w.up) e) none in_world in
-    let front2 : front1 ≡ after_ask e.front get_document = front_is ∙ ap (λ (b : AskForm). after_ask e.front b.method) is in
-    let all : InWorld up0 down0 up1 down (asked_world text w) (awaited (asked_world text w).up) (record e { front = after_ask e.front get_document; up_there = there }) =
-    world-asked up0 down0 up down up1 w e text get_document there start (IsText-command (w.asks + 1) small)
-    (record { method = get_document; is = asks; few = omega (arith, few) }) asks
+    let all : InWorld up0 down0 up1 down (sends a w) (awaited (sends a w).up) (record e { front = after_ask e.front a.method; up_there = there }) =
+    world-sent up0 down0 up down up1 w e a text there start can few refl
     (sent.0 ∙ ap (λ piece. up.sent ++ piece) (same_bytes ∙ framed_is)) sent.1
     (left ∙ ap (λ piece. e.up_there + length piece) framed_is) in
-    let same : asked_world text w ≡ sends a w = ap (λ (b : AskForm). sends b w) (sym is) in
     subst (λ pipe. InWorld up0 down0 up1 pipe (sends a w) (whole ++ awaited (sends a w).up) (record e { front = front1; up_there = there })) (sym same_down)
     (subst (λ frames. InWorld up0 down0 up1 down (sends a w) (frames ++ awaited (sends a w).up) (record e { front = front1; up_there = there })) (sym none)
-    (subst (λ f. InWorld up0 down0 up1 down (sends a w) (awaited (sends a w).up) (record e { front = f; up_there = there })) (sym front2)
-    (subst (λ v. InWorld up0 down0 up1 down v (awaited v.up) (record e { front = after_ask e.front get_document; up_there = there })) same all)))
+    (subst (λ f. InWorld up0 down0 up1 down (sends a w) (awaited (sends a w).up) (record e { front = f; up_there = there })) (sym front_is) all))
 
 -- ---- bytes come
 

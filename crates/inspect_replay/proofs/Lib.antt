@@ -1,4 +1,6 @@
 pub mod BackLemmas
 pub mod EndLemmas
+pub mod FirstLine
 pub mod RunLemmas
+pub mod FollowLemmas
 pub mod AnswerLemmas

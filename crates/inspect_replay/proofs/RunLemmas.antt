@@ -1,44 +1,47 @@
 -- A run goes on line by line, and writes what the lines print.
-use Rattle.std.proofs.Common.{◌≡◌, ℕ, suc, ◌+◌, ◌≤◌, ◌<◌, ◌^◌, List, [], ◌∷◌, ◌++◌, length, Option, Some, None, Bool, false, refl, sym, ◌∙◌, ap, subst, arith, append_assoc, append-nil, codes, Result, Ok, Err}
+use Rattle.std.proofs.Common.{◌≡◌, ℕ, suc, ◌+◌, ◌≤◌, ◌<◌, min, List, [], ◌∷◌, ◌++◌, length, map, drop, Option, Some, None, false, refl, sym, ◌∙◌, ap, subst, arith, append_assoc, append-nil, codes, Result, Ok, Err}
+use Rattle.std.proofs.lemmas.List.{drop-map, drop_min}
 use Rattle.std.specs.Result.{OnOk, OnErr}
 use Rattle.std.specs.Io.KnownBytes.{Appends}
 use Rattle.pipe_frames.specs.Pipe.{Pipe, IsLevel}
+use Rattle.pipe_frames.specs.Frames.{Frames, frames_of}
 use Rattle.pipe_frames.specs.Whole.{WrotePart}
-use Rattle.pipe_frames.proofs.WholeLemmas.{Appends-nil, Appends-append, WrotePart-none, WrotePart-all, WrotePart-longer, WrotePart-after}
-use Rattle.replay_script.specs.Forms.{AskForm, LineForm, load, ask, show_front, line_form}
+use Rattle.pipe_frames.proofs.WholeLemmas.{Appends-nil, Appends-append, WrotePart-all, WrotePart-longer, WrotePart-after}
+use Rattle.replay_script.specs.Forms as forms_of
+use Rattle.replay_script.specs.Forms.{AskForm, LineForm, load, ask, show_front, show_replies, line_form}
 use Rattle.replay_script.specs.Faults.{line_fault}
 use Rattle.replay_script.specs.Lines.{lines_of}
-use Rattle.replay_script.specs.Script.{asked_after, first_bad, good_lines, fault_of_lines, script_fault, script_forms}
+use Rattle.replay_script.specs.Script.{first_bad, good_lines, fault_of_lines, script_fault, script_forms}
 use Rattle.replay_script.specs.declared.faults.LineFault.{LineFault}
-use Rattle.replay_script.proofs.ScriptLemmas.{first_bad-good, first_bad-bad, good_lines-good, good_lines-bad, asked_after-form}
-use Rattle.inspect_world.specs.World.{World, settled}
-use Rattle.inspect_world.specs.Sides.{Side, step, view_of}
-use Rattle.inspect_world.specs.Fits.{most_asks, FitsWith, Fits, join}
-use Rattle.inspect_world.specs.Stream.{awaited, sent}
-use Rattle.inspect_world.specs.ScriptsFit.{ShowsAll, HaveTexts}
-use Rattle.inspect_world.specs.Held.{Ends as HeldEnds, InWorld}
-use Rattle.inspect_world.proofs.Ends.{world-first}
 use Rattle.page_tree.specs.Forms.{CanLoad}
 use Rattle.page_tree.specs.Pages.{loaded}
 use Rattle.node_binding.specs.Bindings.{empty_from}
-use Rattle.inspect_world.proofs.Scripts.{settled-shows, given-all}
-use Rattle.inspect_world.proofs.Inputs.{later_data, input-script, Script, length-lines_of}
-use Rattle.front_mirror.specs.Outline.{outline_text, seen_line}
 use Rattle.node_tree.specs.Nodes.{Nodes}
 use Rattle.node_tree.specs.Labels.{Label}
 use Rattle.node_tree.specs.Seen.{Seen}
+use Rattle.front_mirror.specs.declared.replies.Kept.{Kept}
 use Rattle.front_mirror.specs.Front.{FrontValue, FrontState, first_state, first_value, take_frame}
-use Rattle.pipe_frames.specs.Frames.{Frames, frames_of}
+use Rattle.front_mirror.specs.Outline.{outline_text, seen_line}
+use Rattle.inspect_world.specs.Stream.{awaited, sent}
+use Rattle.inspect_world.specs.World.{World, settled}
 use Rattle.inspect_world.specs.Fold.{folded, joined}
-use Rattle.inspect_world.specs.Scripts.{sends, after_line, after_lines, line_text, lines_text, closing_text, closing_unless, rest_text, text_of, report, loaded_world}
+use Rattle.inspect_world.specs.Sides.{Side, step, view_of}
+use Rattle.inspect_world.specs.Fits.{most_asks, FitsWith, Fits, join}
+use Rattle.inspect_world.specs.Scripts.{sends, all_told, after_line, after_lines, line_text, lines_text, replies_after, closing_text, closing_unless, rest_text, text_of, report, loaded_world}
+use Rattle.inspect_world.specs.ScriptsFit.{ShowsAll, HaveTexts}
+use Rattle.inspect_world.specs.Held.{Ends as HeldEnds, InWorld}
+use Rattle.inspect_world.specs.Told.{told_of, told_lines, replies_in}
 use Rattle.inspect_replay.specs.declared.ends.Ends.{Ends}
 use Rattle.inspect_replay.specs.declared.stop.Stop.{Stop}
 use Rattle.inspect_replay.specs.declared.stop.Stop.TheVariants.{Line, TooLong, ReadFault, WriteFault, LinkFault, FrontRefused, Memory}
-use Rattle.inspect_replay.specs.Runs.{InRun, Asks, ends_of}
-use Rattle.inspect_replay.specs.Stops.{Counts, RoseFor, RoseAt, NotRefused, HasStopCause}
+use Rattle.inspect_replay.specs.Runs.{InRun, Asks, Steps, ends_of}
+use Rattle.inspect_replay.specs.Stops.{Counts, RoseFor, RoseAt, NotRefused}
 use Rattle.inspect_replay.specs.Answers.{RunTells, RunTook, Prints}
 use Rattle.inspect_replay.specs.Prints.{CarriesOut, Closes, IsRead}
-use Rattle.inspect_replay.proofs.BackLemmas.{on_ok}
+use Rattle.replay_script.proofs.ScriptLemmas.{first_bad-good, good_lines-good, good_lines-bad}
+use Rattle.inspect_world.proofs.Scripts.{settled-shows, given-all}
+use Rattle.inspect_world.proofs.Inputs.{input-script, Script, length-lines_of}
+use Rattle.inspect_world.proofs.Ends.{world-first, world-replies, world-told}
 
 -- a splitter that has taken nothing
 abbrev pub no_frames : Frames
@@ -83,6 +86,25 @@ ask-carries result honest honest1 up down up1 down1 taken e e1 a form is asks =
     subst (λ f. CarriesOut honest honest1 up down up1 down1 taken taken e e1 f result) (sym is)
     (λ up0 down0 w few run. let both = asks up0 down0 w few run in (both.0, both.1, prints-nothing result taken))
 
+-- nor does a line that delivers bytes
+pub move-carries : (result : Result (Unit {0}) Stop) (honest honest1 : Type 0) (up down up1 down1 : Pipe) (taken : Option (List ℕ)) (e e1 : Ends)
+    (f : World Side → World Side) (move form : LineForm)
+    → ((w : World Side) → f w ≡ after_line move w) → ((w : World Side) → [] ≡ line_text move w) → form ≡ move → Steps honest honest1 up down up1 down1 e e1 result f
+    → CarriesOut honest honest1 up down up1 down1 taken taken e e1 form result
+move-carries result honest honest1 up down up1 down1 taken e e1 f move form goes silent is steps =
+    subst (λ line. CarriesOut honest honest1 up down up1 down1 taken taken e e1 line result) (sym is)
+    (λ up0 down0 w few run. let both = steps up0 down0 w run in (
+      both.0,
+      subst (λ v. OnOk result (InRun honest1 up0 down0 up1 down1 v e1)) (goes w) both.1,
+      subst (λ text. Prints result taken taken text) (silent w) (prints-nothing result taken),
+    ))
+
+-- the same of equal lines
+pub same-carries : (result : Result (Unit {0}) Stop) (honest honest1 : Type 0) (up down up1 down1 : Pipe) (taken taken1 : Option (List ℕ)) (e e1 : Ends) (line form : LineForm)
+    → form ≡ line → CarriesOut honest honest1 up down up1 down1 taken taken1 e e1 line result → CarriesOut honest honest1 up down up1 down1 taken taken1 e e1 form result
+same-carries result honest honest1 up down up1 down1 taken taken1 e e1 line form is carries =
+    subst (λ f. CarriesOut honest honest1 up down up1 down1 taken taken1 e e1 f result) (sym is) carries
+
 -- after a settle the front end shows what the client sees of the page
 ok-same : {F E : Type 0} (r : Result F E) (a b : F) → r ≡ Ok a → r ≡ Ok b → a ≡ b
 ok-same r a b x y = let both : Ok a ≡ Ok b = sym x ∙ y in cc
@@ -111,27 +133,25 @@ abbrev pub SettlesTo : Type 0 → Type 0 → Pipe → Pipe → Pipe → Pipe →
 SettlesTo honest honest1 up down up1 down1 e e1 =
     (up0 down0 : Pipe) (w : World Side) → InRun honest up0 down0 up down w e → InRun honest1 up0 down0 up1 down1 (settled step w) e1
 
+after-ok : {T P : Type 0} (result : Result T Stop) → P → OnOk result P
+after-ok (Ok value) p = p
+after-ok (Err stop) p = tt
+
 -- a show that was printed
 pub show-carries : (result : Result (Unit {0}) Stop) (honest honest1 : Type 0) (up down up1 down1 : Pipe) (taken taken1 : Option (List ℕ)) (e e1 : Ends)
-    (tree : Nodes Seen) (form : LineForm)
-    → form ≡ show_front → SettlesTo honest honest1 up down up1 down1 e e1 → tree ≡ e1.front.value.tree → NotRefused result
+    (tree : Nodes Seen)
+    → SettlesTo honest honest1 up down up1 down1 e e1 → tree ≡ e1.front.value.tree → NotRefused result
     → OnOk result (Appends taken taken1 (codes "# front" ++ 10 ∷ outline_text seen_line tree))
     → OnErr result (WrotePart taken taken1 (codes "# front" ++ 10 ∷ outline_text seen_line tree))
-    → CarriesOut honest honest1 up down up1 down1 taken taken1 e e1 form result
-show-carries result honest honest1 up down up1 down1 taken taken1 e e1 tree form is settles same never ok err =
-    subst (λ f. CarriesOut honest honest1 up down up1 down1 taken taken1 e e1 f result) (sym is)
-    (λ up0 down0 w few run.
+    → CarriesOut honest honest1 up down up1 down1 taken taken1 e e1 show_front result
+show-carries result honest honest1 up down up1 down1 taken taken1 e e1 tree settles same never ok err = λ up0 down0 w few run.
     let after : InRun honest1 up0 down0 up1 down1 (settled step w) e1 = settles up0 down0 w run in
     let shows : tree ≡ view_of (settled step w).side = same ∙ shown-settled honest honest1 up0 down0 up down up1 down1 w e e1 run after in (
       never,
       after-ok result after,
       prints-same result taken taken1 (codes "# front" ++ 10 ∷ outline_text seen_line tree) (codes "# front" ++ 10 ∷ outline_text seen_line (view_of (settled step w).side))
           (ap (λ t. codes "# front" ++ 10 ∷ outline_text seen_line t) shows) ok err,
-    ))
-  where
-    after-ok : {P : Type 0} (result : Result (Unit {0}) Stop) → P → OnOk result P
-    after-ok (Ok value) p = p
-    after-ok (Err stop) p = tt
+    )
 
 -- a show that did not settle
 pub show-stops : (stop : Stop) (honest honest1 : Type 0) (up down up1 down1 : Pipe) (taken : Option (List ℕ)) (e e1 : Ends) (form : LineForm)
@@ -139,6 +159,68 @@ pub show-stops : (stop : Stop) (honest honest1 : Type 0) (up down up1 down1 : Pi
     → CarriesOut {T = Unit {0}} honest honest1 up down up1 down1 taken taken e e1 form (Err stop)
 show-stops stop honest honest1 up down up1 down1 taken e e1 form never = λ up0 down0 w few run.
     (never up0 down0 w run, tt, record { part = []; rest = line_text form w; whole = refl; wrote = Appends-nil taken })
+
+-- ---- the replies
+
+-- the replies that are left to tell
+pub record Untold (e : Ends) (kept : List Kept) : Type 0 where
+  pub all : List Kept
+  pub all_is : all ≡ e.front.value.replies
+  pub count : ℕ
+  pub count_is : count ≡ min e.told (length all)
+  pub kept_is : kept ≡ drop count all
+
+-- those that are printed after a settle are those that came since they were told last
+told-settled : (honest1 : Type 0) (up0 down0 up1 down1 : Pipe) (w : World Side) (e1 : Ends) (kept : List Kept)
+    → InRun honest1 up0 down0 up1 down1 (settled step w) e1 → Untold e1 kept → map told_of kept ≡ replies_after w.told (settled step w)
+told-settled honest1 up0 down0 up1 down1 w e1 kept after u =
+    let in_world = after.so_far.in_world in
+    let told : e1.told ≡ w.told = in_world.told_is in
+    let came : map told_of e1.front.value.replies ≡ replies_in (settled step w).down.given =
+    world-replies up0 down0 up1 down1 (settled step w) (e1.splitter.whole ++ awaited (settled step w).up) (ends_of e1) in_world in
+    ap (map told_of) u.kept_is
+    ∙ ap (λ m. map told_of (drop m u.all)) u.count_is
+    ∙ ap (map told_of) (drop_min e1.told u.all)
+    ∙ sym (drop-map told_of e1.told u.all)
+    ∙ ap (λ m. drop m (map told_of u.all)) told
+    ∙ ap (λ ks. drop w.told (map told_of ks)) u.all_is
+    ∙ ap (drop w.told) came
+
+abbrev pub replies_text : List Kept → List ℕ
+replies_text kept = codes "# replies" ++ 10 ∷ told_lines (map told_of kept)
+
+replies-same : (honest1 : Type 0) (up0 down0 up1 down1 : Pipe) (w : World Side) (e1 : Ends) (kept : List Kept)
+    → InRun honest1 up0 down0 up1 down1 (settled step w) e1 → Untold e1 kept → replies_text kept ≡ line_text show_replies w
+replies-same honest1 up0 down0 up1 down1 w e1 kept after u =
+    ap (λ ts. codes "# replies" ++ 10 ∷ told_lines ts) (told-settled honest1 up0 down0 up1 down1 w e1 kept after u)
+
+-- they were printed, and count as told
+pub replies-carried : (honest honest1 : Type 0) (up down up1 down1 : Pipe) (taken taken1 : Option (List ℕ)) (e e1 e2 : Ends) (kept : List Kept)
+    → SettlesTo honest honest1 up down up1 down1 e e1 → Untold e1 kept
+    → Appends taken taken1 (replies_text kept) → e2 ≡ record e1 { told = length e1.front.value.replies }
+    → CarriesOut {T = Unit {0}} honest honest1 up down up1 down1 taken taken1 e e2 show_replies (Ok tt)
+replies-carried honest honest1 up down up1 down1 taken taken1 e e1 e2 kept settles u printed told = λ up0 down0 w few run.
+    let after : InRun honest1 up0 down0 up1 down1 (settled step w) e1 = settles up0 down0 w run in
+    let count : ℕ = length e1.front.value.replies in (
+      tt,
+      subst (λ x. InRun honest1 up0 down0 up1 down1 (all_told (settled step w)) x) (sym told) (record {
+        so_far = record {
+          is_honest = after.so_far.is_honest;
+          in_world = world-told up0 down0 up1 down1 (settled step w) (e1.splitter.whole ++ awaited (settled step w).up) (ends_of e1) count after.so_far.in_world refl;
+        };
+        none_whole = after.none_whole;
+      }),
+      subst (λ t. Appends taken taken1 t) (replies-same honest1 up0 down0 up1 down1 w e1 kept after u) printed,
+    )
+
+-- or they were not
+pub replies-stop : (stop : Stop) (honest honest1 : Type 0) (up down up1 down1 : Pipe) (taken taken1 : Option (List ℕ)) (e e1 e2 : Ends) (kept : List Kept)
+    → SettlesTo honest honest1 up down up1 down1 e e1 → Untold e1 kept
+    → NotRefused {T = Unit {0}} (Err stop) → WrotePart taken taken1 (replies_text kept)
+    → CarriesOut {T = Unit {0}} honest honest1 up down up1 down1 taken taken1 e e2 show_replies (Err stop)
+replies-stop stop honest honest1 up down up1 down1 taken taken1 e e1 e2 kept settles u never wrote = λ up0 down0 w few run.
+    let after : InRun honest1 up0 down0 up1 down1 (settled step w) e1 = settles up0 down0 w run in
+    (never, tt, subst (λ t. WrotePart taken taken1 t) (replies-same honest1 up0 down0 up1 down1 w e1 kept after u) wrote)
 
 -- the closing part that was printed
 pub closes-well : (result : Result (Unit {0}) Stop) (honest honest1 : Type 0) (up down up1 down1 : Pipe) (taken taken1 : Option (List ℕ)) (e e1 : Ends)
@@ -165,14 +247,14 @@ closes-not stop honest up down taken e never = λ up0 down0 w run.
 
 -- where a run of lines is: the world, what was printed so far, and that the lines left do the rest
 pub record Running (honest : Type 0) (up0 down0 up down : Pipe) (taken0 taken : Option (List ℕ)) (all_text : List ℕ) (all_world : World Side)
-    (number : ℕ) (is_asked : Bool) (lines : List (List ℕ)) (e : Ends) : Type 0 where
+    (number : ℕ) (lines : List (List ℕ)) (e : Ends) : Type 0 where
   pub world : World Side
   pub in_run : InRun honest up0 down0 up down world e
   pub few : world.asks + length lines ≤ most_asks
   pub so_far : List ℕ
   pub wrote : Appends taken0 taken so_far
-  pub text : all_text ≡ so_far ++ lines_text (good_lines number is_asked lines) world
-  pub worlds : all_world ≡ after_lines (good_lines number is_asked lines) world
+  pub text : all_text ≡ so_far ++ lines_text (good_lines number lines) world
+  pub worlds : all_world ≡ after_lines (good_lines number lines) world
 
 -- an error came after a front part of the text was written
 abbrev pub FailsPart : {T : Type 0} → Result T Stop → Option (List ℕ) → Option (List ℕ) → List ℕ → Type 0
@@ -181,32 +263,35 @@ FailsPart (Err stop) before after text = WrotePart before after text
 
 -- the same of lines that are equal
 pub with_lines : (honest : Type 0) (up0 down0 up down : Pipe) (taken0 taken : Option (List ℕ)) (all_text : List ℕ) (all_world : World Side)
-    (number : ℕ) (is_asked : Bool) (lines lines1 : List (List ℕ)) (e : Ends) → lines ≡ lines1
-    → Running honest up0 down0 up down taken0 taken all_text all_world number is_asked lines e
-    → Running honest up0 down0 up down taken0 taken all_text all_world number is_asked lines1 e
-with_lines honest up0 down0 up down taken0 taken all_text all_world number is_asked lines lines1 e same running =
-    subst (λ ls. Running honest up0 down0 up down taken0 taken all_text all_world number is_asked ls e) same running
+    (number : ℕ) (lines lines1 : List (List ℕ)) (e : Ends) → lines ≡ lines1
+    → Running honest up0 down0 up down taken0 taken all_text all_world number lines e
+    → Running honest up0 down0 up down taken0 taken all_text all_world number lines1 e
+with_lines honest up0 down0 up down taken0 taken all_text all_world number lines lines1 e same running =
+    subst (λ ls. Running honest up0 down0 up down taken0 taken all_text all_world number ls e) same running
 
 -- how many asks a line sends
 asks-after : (line : LineForm) (w : World Side) → (after_line line w).asks ≤ w.asks + 1
 asks-after (load nodes) w = omega arith
 asks-after (ask a) w = omega arith
+asks-after (forms_of.up n) w = omega arith
+asks-after (forms_of.down n) w = omega arith
+asks-after forms_of.settle w = omega arith
 asks-after show_front w = omega arith
+asks-after show_replies w = omega arith
 
 -- one line is carried out
 pub run_turn : (result : Result (Unit {0}) Stop) (c : Counts) (honest honest1 : Type 0) (up0 down0 up down up1 down1 : Pipe) (taken0 taken taken1 : Option (List ℕ))
-    (all_text : List ℕ) (all_world : World Side) (number : ℕ) (is_asked is_asked1 : Bool) (line : List ℕ) (more : List (List ℕ)) (form : LineForm) (e e1 : Ends)
-    → Running honest up0 down0 up down taken0 taken all_text all_world number is_asked (line ∷ more) e
-    → line_fault number is_asked line ≡ None → line_form line ≡ Some form → is_asked1 ≡ asked_after is_asked line
-    → CarriesOut honest honest1 up down up1 down1 taken taken1 e e1 form result
+    (all_text : List ℕ) (all_world : World Side) (number : ℕ) (line : List ℕ) (more : List (List ℕ)) (form : LineForm) (e e1 : Ends)
+    → Running honest up0 down0 up down taken0 taken all_text all_world number (line ∷ more) e
+    → line_fault number line ≡ None → line_form line ≡ Some form → CarriesOut honest honest1 up down up1 down1 taken taken1 e e1 form result
     → NotRefused result
-    × OnOk result (Running honest1 up0 down0 up1 down1 taken0 taken1 all_text all_world (number + 1) is_asked1 more e1)
+    × OnOk result (Running honest1 up0 down0 up1 down1 taken0 taken1 all_text all_world (number + 1) more e1)
     × FailsPart result taken0 taken1 all_text
-run_turn result c honest honest1 up0 down0 up down up1 down1 taken0 taken taken1 all_text all_world number is_asked is_asked1 line more form e e1 running good is asked carries =
+run_turn result c honest honest1 up0 down0 up down up1 down1 taken0 taken taken1 all_text all_world number line more form e e1 running good is carries =
     let w = running.world in
-    let forms : good_lines number is_asked (line ∷ more) ≡ form ∷ good_lines (number + 1) is_asked1 more =
-    good_lines-good number is_asked line more form good is ∙ ap (λ b. form ∷ good_lines (number + 1) b more) (sym asked) in
-    let later = good_lines (number + 1) is_asked1 more in
+    let forms : good_lines number (line ∷ more) ≡ form ∷ good_lines (number + 1) more =
+    good_lines-good number line more form good is in
+    let later = good_lines (number + 1) more in
     let enough : w.asks < most_asks = (let h : w.asks + suc (length more) ≤ most_asks = running.few in omega (arith, h)) in
     let all = carries up0 down0 w enough running.in_run in
     let text : all_text ≡ running.so_far ++ (line_text form w ++ lines_text later (after_line form w)) =
@@ -214,20 +299,20 @@ run_turn result c honest honest1 up0 down0 up down up1 down1 taken0 taken taken1
     let worlds : all_world ≡ after_lines later (after_line form w) = running.worlds ∙ ap (λ fs. after_lines fs w) forms in
     let left : (after_line form w).asks + length more ≤ most_asks =
     (let h : w.asks + suc (length more) ≤ most_asks = running.few in omega (arith, h, asks-after form w)) in
-    let rest = by-result result c honest1 up0 down0 up1 down1 taken0 taken taken1 all_text all_world (number + 1) is_asked1 more e1 w form running.so_far later refl left running.wrote text worlds all.1 all.2 in
+    let rest = by-result result c honest1 up0 down0 up1 down1 taken0 taken taken1 all_text all_world (number + 1) more e1 w form running.so_far later refl left running.wrote text worlds all.1 all.2 in
     (all.0, rest.0, rest.1)
   where
     by-result : (result : Result (Unit {0}) Stop) (c : Counts) (honest1 : Type 0) (up0 down0 up1 down1 : Pipe) (taken0 taken taken1 : Option (List ℕ))
-        (all_text : List ℕ) (all_world : World Side) (number1 : ℕ) (is_asked1 : Bool) (more : List (List ℕ)) (e1 : Ends) (w : World Side) (form : LineForm) (so_far : List ℕ) (later : List LineForm)
-        → later ≡ good_lines number1 is_asked1 more
+        (all_text : List ℕ) (all_world : World Side) (number1 : ℕ) (more : List (List ℕ)) (e1 : Ends) (w : World Side) (form : LineForm) (so_far : List ℕ) (later : List LineForm)
+        → later ≡ good_lines number1 more
         → (after_line form w).asks + length more ≤ most_asks
         → Appends taken0 taken so_far
         → all_text ≡ so_far ++ (line_text form w ++ lines_text later (after_line form w))
         → all_world ≡ after_lines later (after_line form w)
         → OnOk result (InRun honest1 up0 down0 up1 down1 (after_line form w) e1) → Prints result taken taken1 (line_text form w)
-        → OnOk result (Running honest1 up0 down0 up1 down1 taken0 taken1 all_text all_world number1 is_asked1 more e1)
+        → OnOk result (Running honest1 up0 down0 up1 down1 taken0 taken1 all_text all_world number1 more e1)
         × FailsPart result taken0 taken1 all_text
-    by-result (Ok value) c honest1 up0 down0 up1 down1 taken0 taken taken1 all_text all_world number1 is_asked1 more e1 w form so_far later same left wrote text worlds run printed = (
+    by-result (Ok value) c honest1 up0 down0 up1 down1 taken0 taken taken1 all_text all_world number1 more e1 w form so_far later same left wrote text worlds run printed = (
       record {
         world = after_line form w;
         in_run = run;
@@ -240,7 +325,7 @@ run_turn result c honest honest1 up0 down0 up down up1 down1 taken0 taken taken1
       },
       tt,
     )
-    by-result (Err stop) c honest1 up0 down0 up1 down1 taken0 taken taken1 all_text all_world number1 is_asked1 more e1 w form so_far later same left wrote text worlds run printed = (
+    by-result (Err stop) c honest1 up0 down0 up1 down1 taken0 taken taken1 all_text all_world number1 more e1 w form so_far later same left wrote text worlds run printed = (
       tt,
       subst (λ t. WrotePart taken0 taken1 t)
           (append_assoc so_far (line_text form w) (lines_text later (after_line form w)) ∙ sym text)
@@ -255,32 +340,32 @@ nothing-left so_far w forms e = ap (λ fs. so_far ++ lines_text fs w) e ∙ appe
 
 -- a line is not read
 pub read-stops : (stop : Stop) (honest : Type 0) (up0 down0 up down : Pipe) (taken0 taken : Option (List ℕ)) (all_text : List ℕ) (all_world : World Side)
-    (number : ℕ) (is_asked : Bool) (line : List ℕ) (more : List (List ℕ)) (e : Ends)
-    → Running honest up0 down0 up down taken0 taken all_text all_world number is_asked (line ∷ more) e
-    → IsRead {T = Unit {0}} (Err stop) number (line_fault number is_asked line)
+    (number : ℕ) (line : List ℕ) (more : List (List ℕ)) (e : Ends)
+    → Running honest up0 down0 up down taken0 taken all_text all_world number (line ∷ more) e
+    → IsRead {T = Unit {0}} (Err stop) number (line_fault number line)
     → RunTook {T = Unit {0}} (Err stop) taken0 taken all_text
-read-stops (Line n fault) honest up0 down0 up down taken0 taken all_text all_world number is_asked line more e running read =
+read-stops (Line n fault) honest up0 down0 up down taken0 taken all_text all_world number line more e running read =
     subst (λ t. Appends taken0 taken t)
-    (sym (running.text ∙ nothing-left running.so_far running.world (good_lines number is_asked (line ∷ more)) (good_lines-bad number is_asked line more fault read.1)))
+    (sym (running.text ∙ nothing-left running.so_far running.world (good_lines number (line ∷ more)) (good_lines-bad number line more fault read.1)))
     running.wrote
-read-stops TooLong honest up0 down0 up down taken0 taken all_text all_world number is_asked line more e running read = absurd read
-read-stops ReadFault honest up0 down0 up down taken0 taken all_text all_world number is_asked line more e running read = absurd read
-read-stops WriteFault honest up0 down0 up down taken0 taken all_text all_world number is_asked line more e running read = absurd read
-read-stops LinkFault honest up0 down0 up down taken0 taken all_text all_world number is_asked line more e running read = absurd read
-read-stops (FrontRefused place kind) honest up0 down0 up down taken0 taken all_text all_world number is_asked line more e running read = absurd read
-read-stops Memory honest up0 down0 up down taken0 taken all_text all_world number is_asked line more e running read =
+read-stops TooLong honest up0 down0 up down taken0 taken all_text all_world number line more e running read = absurd read
+read-stops ReadFault honest up0 down0 up down taken0 taken all_text all_world number line more e running read = absurd read
+read-stops WriteFault honest up0 down0 up down taken0 taken all_text all_world number line more e running read = absurd read
+read-stops LinkFault honest up0 down0 up down taken0 taken all_text all_world number line more e running read = absurd read
+read-stops (FrontRefused place kind) honest up0 down0 up down taken0 taken all_text all_world number line more e running read = absurd read
+read-stops Memory honest up0 down0 up down taken0 taken all_text all_world number line more e running read =
     subst (λ t. WrotePart taken0 taken t) (sym running.text)
-    (WrotePart-all taken0 taken running.so_far (lines_text (good_lines number is_asked (line ∷ more)) running.world) running.wrote)
+    (WrotePart-all taken0 taken running.so_far (lines_text (good_lines number (line ∷ more)) running.world) running.wrote)
 
 -- no line is left
 pub lines-done : (honest : Type 0) (up0 down0 up down : Pipe) (taken0 taken : Option (List ℕ)) (all_text : List ℕ) (all_world : World Side)
-    (number : ℕ) (is_asked : Bool) (lines : List (List ℕ)) (e : Ends)
-    → Running honest up0 down0 up down taken0 taken all_text all_world number is_asked lines e → lines ≡ []
+    (number : ℕ) (lines : List (List ℕ)) (e : Ends)
+    → Running honest up0 down0 up down taken0 taken all_text all_world number lines e → lines ≡ []
     → InRun honest up0 down0 up down all_world e × Appends taken0 taken all_text
-lines-done honest up0 down0 up down taken0 taken all_text all_world number is_asked lines e running none =
-    let forms : good_lines number is_asked lines ≡ [] = ap (good_lines number is_asked) none in (
+lines-done honest up0 down0 up down taken0 taken all_text all_world number lines e running none =
+    let forms : good_lines number lines ≡ [] = ap (good_lines number) none in (
       subst (λ v. InRun honest up0 down0 up down v e) (sym (running.worlds ∙ ap (λ fs. after_lines fs running.world) forms)) running.in_run,
-      subst (λ t. Appends taken0 taken t) (sym (running.text ∙ nothing-left running.so_far running.world (good_lines number is_asked lines) forms)) running.wrote,
+      subst (λ t. Appends taken0 taken t) (sym (running.text ∙ nothing-left running.so_far running.world (good_lines number lines) forms)) running.wrote,
     )
 
 -- the part after the lines
@@ -313,38 +398,25 @@ stopped-took Memory taken0 taken bad forms w tells took = WrotePart-longer taken
 
 -- the lines of a script whose first line is good
 pub forms-first : (input first : List ℕ) (more : List (List ℕ)) (form : LineForm)
-    → lines_of input ≡ first ∷ more → line_fault 1 false first ≡ None → line_form first ≡ Some form
-    → script_forms input ≡ form ∷ good_lines 2 (asked_after false first) more
-forms-first input first more form lines good is = ap (good_lines 1 false) lines ∙ good_lines-good 1 false first more form good is
+    → lines_of input ≡ first ∷ more → line_fault 1 first ≡ None → line_form first ≡ Some form
+    → script_forms input ≡ form ∷ good_lines 2 more
+forms-first input first more form lines good is = ap (good_lines 1) lines ∙ good_lines-good 1 first more form good is
 
-pub bad-first : (input first : List ℕ) (more : List (List ℕ)) → lines_of input ≡ first ∷ more → line_fault 1 false first ≡ None
-    → script_fault input ≡ first_bad 2 (asked_after false first) more
-bad-first input first more lines good = ap fault_of_lines lines ∙ first_bad-good 1 false first more good
-
--- a load is no ask
-pub load-asks-not : (first : List ℕ) (nodes : Nodes Label) → line_form first ≡ Some (load nodes) → asked_after false first ≡ false
-load-asks-not first nodes is = asked_after-form false first (load nodes) is
+pub bad-first : (input first : List ℕ) (more : List (List ℕ)) → lines_of input ≡ first ∷ more → line_fault 1 first ≡ None
+    → script_fault input ≡ first_bad 2 more
+bad-first input first more lines good = ap fault_of_lines lines ∙ first_bad-good 1 first more good
 
 pub script-loads : (input first : List ℕ) (more : List (List ℕ)) (nodes : Nodes Label)
-    → lines_of input ≡ first ∷ more → line_fault 1 false first ≡ None → line_form first ≡ Some (load nodes)
-    → Script nodes (good_lines 2 false more) (length input)
-script-loads input first more nodes lines good is =
-    input-script input nodes (good_lines 2 false more)
-    (forms-first input first more (load nodes) lines good is ∙ ap (λ b. load nodes ∷ good_lines 2 b more) (load-asks-not first nodes is))
+    → lines_of input ≡ first ∷ more → line_fault 1 first ≡ None → line_form first ≡ Some (load nodes)
+    → Script nodes (good_lines 2 more) (length input)
+script-loads input first more nodes lines good is = input-script input nodes (good_lines 2 more) (forms-first input first more (load nodes) lines good is)
 
 pub report-loads : (input first : List ℕ) (more : List (List ℕ)) (nodes : Nodes Label)
-    → lines_of input ≡ first ∷ more → line_fault 1 false first ≡ None → line_form first ≡ Some (load nodes)
-    → report input ≡ rest_text (first_bad 2 false more) (good_lines 2 false more) (loaded_world nodes)
+    → lines_of input ≡ first ∷ more → line_fault 1 first ≡ None → line_form first ≡ Some (load nodes)
+    → report input ≡ rest_text (first_bad 2 more) (good_lines 2 more) (loaded_world nodes)
 report-loads input first more nodes lines good is =
-    let asked : asked_after false first ≡ false = load-asks-not first nodes is in
-    ap (λ bad. text_of bad (script_forms input)) (bad-first input first more lines good ∙ ap (λ b. first_bad 2 b more) asked)
-    ∙ ap (text_of (first_bad 2 false more))
-    (forms-first input first more (load nodes) lines good is ∙ ap (λ b. load nodes ∷ good_lines 2 b more) asked)
-
-pub fault-loads : (input first : List ℕ) (more : List (List ℕ)) (nodes : Nodes Label)
-    → lines_of input ≡ first ∷ more → line_fault 1 false first ≡ None → line_form first ≡ Some (load nodes)
-    → script_fault input ≡ first_bad 2 false more
-fault-loads input first more nodes lines good is = bad-first input first more lines good ∙ ap (λ b. first_bad 2 b more) (load-asks-not first nodes is)
+    ap (λ bad. text_of bad (script_forms input)) (bad-first input first more lines good)
+    ∙ ap (text_of (first_bad 2 more)) (forms-first input first more (load nodes) lines good is)
 
 pub few-lines : (input first : List ℕ) (more : List (List ℕ)) (limit : ℕ) → lines_of input ≡ first ∷ more → length input ≤ limit → length more ≤ limit
 few-lines input first more limit lines few =
@@ -354,23 +426,34 @@ few-lines input first more limit lines few =
 
 -- ---- the start
 
+-- the ends of a page that was just loaded
+abbrev pub first_ends : Nodes Label → HeldEnds
+first_ends nodes = record { page = loaded 1 nodes; is_on = false; bound = empty_from 1; back_rest = []; front = first_state; up_there = 0; down_there = 0; told = 0 }
+
+pub ends-first : (nodes : Nodes Label) (e : Ends)
+    → e.back.page ≡ loaded 1 nodes → e.back.is_on ≡ false → e.back.agent ≡ empty_from 1 → e.splitter ≡ no_frames → e.front ≡ first_state
+    → e.up_there ≡ 0 → e.down_there ≡ 0 → e.told ≡ 0 → ends_of e ≡ first_ends nodes
+ends-first nodes e page_is off agent_is splitter_is front_is up_none down_none told_none = λ i. record {
+  page = page_is i;
+  is_on = off i;
+  bound = agent_is i;
+  back_rest = (splitter_is i).rest;
+  front = front_is i;
+  up_there = up_none i;
+  down_there = down_none i;
+  told = told_none i;
+}
+
 nothing-awaited : (nodes : Nodes Label) → awaited (loaded_world nodes).up ≡ []
 unfolding frames_of
 nothing-awaited nodes = refl
 
 pub begins : (honest : Type 0) (up down : Pipe) (nodes : Nodes Label) (e : Ends) → honest → CanLoad nodes → HaveTexts nodes → IsLevel up → IsLevel down
-    → e.back.page ≡ loaded 1 nodes → e.back.agent ≡ empty_from 1 → e.splitter ≡ no_frames → e.front ≡ first_state → e.up_there ≡ 0 → e.down_there ≡ 0
+    → e.back.page ≡ loaded 1 nodes → e.back.is_on ≡ false → e.back.agent ≡ empty_from 1 → e.splitter ≡ no_frames → e.front ≡ first_state
+    → e.up_there ≡ 0 → e.down_there ≡ 0 → e.told ≡ 0
     → InRun honest up down up down (loaded_world nodes) e
-begins honest up down nodes e is_honest can texts up_level down_level page_is agent_is splitter_is front_is up_none down_none =
-    let first : HeldEnds = record { page = loaded 1 nodes; bound = empty_from 1; back_rest = []; front = first_state; up_there = 0; down_there = 0 } in
-    let same : first ≡ ends_of e = sym (λ i. record {
-      page = page_is i;
-      bound = agent_is i;
-      back_rest = (splitter_is i).rest;
-      front = front_is i;
-      up_there = up_none i;
-      down_there = down_none i;
-    }) in
+begins honest up down nodes e is_honest can texts up_level down_level page_is off agent_is splitter_is front_is up_none down_none told_none =
+    let same : first_ends nodes ≡ ends_of e = sym (ends-first nodes e page_is off agent_is splitter_is front_is up_none down_none told_none) in
     let none : e.splitter.whole ≡ [] = ap (λ (f : Frames). f.whole) splitter_is in
     let frames : [] ≡ e.splitter.whole ++ awaited (loaded_world nodes).up =
     sym (ap (λ whole. whole ++ awaited (loaded_world nodes).up) none ∙ nothing-awaited nodes) in
@@ -378,7 +461,7 @@ begins honest up down nodes e is_honest can texts up_level down_level page_is ag
       so_far = record {
         is_honest = is_honest;
         in_world = subst (λ h. InWorld up down up down (loaded_world nodes) (e.splitter.whole ++ awaited (loaded_world nodes).up) h) same
-            (subst (λ fs. InWorld up down up down (loaded_world nodes) fs first) frames (world-first up down nodes can texts up_level down_level));
+            (subst (λ fs. InWorld up down up down (loaded_world nodes) fs (first_ends nodes)) frames (world-first up down nodes can texts up_level down_level));
       };
       none_whole = none;
     }

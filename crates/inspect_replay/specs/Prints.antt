@@ -1,7 +1,10 @@
 -- What the parts of a run over an honest link take it to, and print.
-use Rattle.std.specs.Prelude.{◌≡◌, ◌≤◌, ◌<◌, ◌+◌, ℕ, List, length, false, Option, Some, Result, Ok, Err, OnOk, ⊤}
+use Rattle.std.specs.Prelude.{◌≡◌, ◌≤◌, ◌<◌, ◌+◌, ℕ, List, length, Option, Some, None, Result, Ok, Err, OnOk, ⊤}
 use Rattle.pipe_frames.specs.Pipe.{Pipe}
-use Rattle.replay_script.specs.Forms.{LineForm}
+use Rattle.node_tree.specs.Nodes.{Nodes}
+use Rattle.node_tree.specs.Labels.{Label}
+use Rattle.replay_script.specs.Forms.{LineForm, load, ask, show_front, show_replies}
+use Rattle.replay_script.specs.Forms as forms
 use Rattle.replay_script.specs.declared.faults.LineFault.{LineFault}
 use Rattle.replay_script.specs.Script.{good_lines}
 use Rattle.inspect_world.specs.World.{World}
@@ -27,8 +30,8 @@ CarriesOut honest_old honest_new up_old down_old up_new down_new taken_old taken
 abbrev pub RunsLines : {T : Type 0} → Type 0 → Type 0 → Pipe → Pipe → Pipe → Pipe → Option (List ℕ) → Option (List ℕ) → Ends → Ends → List (List ℕ) → Result T Stop → Type 0
 RunsLines honest_old honest_new up_old down_old up_new down_new taken_old taken_new old new lines result =
     (up0 down0 : Pipe) (w : World Side) → w.asks + length lines ≤ most_asks → InRun honest_old up0 down0 up_old down_old w old
-    → OnOk result (InRun honest_new up0 down0 up_new down_new (after_lines (good_lines 2 false lines) w) new)
-    × RunTook result taken_old taken_new (lines_text (good_lines 2 false lines) w)
+    → OnOk result (InRun honest_new up0 down0 up_new down_new (after_lines (good_lines 2 lines) w) new)
+    × RunTook result taken_old taken_new (lines_text (good_lines 2 lines) w)
 
 -- the closing part is printed
 abbrev pub Closes : {T : Type 0} → Type 0 → Pipe → Pipe → Option (List ℕ) → Option (List ℕ) → Ends → Result T Stop → Type 0
@@ -46,3 +49,13 @@ IsRead (Err WriteFault) number fault = ⊥
 IsRead (Err LinkFault) number fault = ⊥
 IsRead (Err (FrontRefused place kind)) number fault = ⊥
 IsRead (Err Memory) number fault = ⊤
+
+-- the nodes of a line that loads a page
+abbrev pub load_of : LineForm → Option (Nodes Label)
+load_of (load nodes) = Some nodes
+load_of (ask a) = None
+load_of (forms.up n) = None
+load_of (forms.down n) = None
+load_of forms.settle = None
+load_of show_front = None
+load_of show_replies = None

@@ -1,5 +1,5 @@
 -- A run in hand: the link is honest, and the link and the ends have come to where the run of the script is.
-use Rattle.std.specs.Prelude.{◌≡◌, ◌<◌, ℕ, ◌+◌, List, [], ◌∷◌, ◌++◌, Result, OnOk}
+use Rattle.std.specs.Prelude.{◌≡◌, ◌<◌, ℕ, List, [], ◌∷◌, ◌++◌, Result, OnOk}
 use Rattle.pipe_frames.specs.Pipe.{Pipe}
 use Rattle.inspect_world.specs.Stream.{arriving, awaited}
 use Rattle.inspect_world.specs.World.{World, given_up, answered}
@@ -14,11 +14,13 @@ use Rattle.inspect_replay.specs.Stops.{NotRefused}
 abbrev pub ends_of : Ends → HeldEnds
 ends_of e = record {
   page = e.back.page;
+  is_on = e.back.is_on;
   bound = e.back.agent;
   back_rest = e.splitter.rest;
   front = e.front;
   up_there = e.up_there;
   down_there = e.down_there;
+  told = e.told;
 }
 
 -- Over an honest link the run has come to the world w since the pipes were as `up0` and `down0`, with nothing left to give.

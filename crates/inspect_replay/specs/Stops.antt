@@ -1,8 +1,6 @@
 -- Why a run stops, and what a stop says of the outside.
-use Rattle.std.specs.Prelude.{◌≡◌, ◌≤◌, ℕ, List, Option, Result, Ok, Err, ⊤}
-use Rattle.std.specs.Io.KnownBytes.{Appends}
+use Rattle.std.specs.Prelude.{◌≤◌, ℕ, Result, Ok, Err, ⊤}
 use Rattle.pipe_frames.specs.Fault.{Rose}
-use Rattle.pipe_frames.specs.Whole.{WrotePart}
 use Rattle.inspect_replay.specs.declared.stop.Stop.{Stop}
 use Rattle.inspect_replay.specs.declared.stop.Stop.TheVariants.{Line, TooLong, ReadFault, WriteFault, LinkFault, FrontRefused, Memory}
 

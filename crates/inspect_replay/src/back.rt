@@ -1,29 +1,45 @@
-ghost use Rattle.std.specs.Prelude.{◌≡◌, ℕ, ◌<◌, ◌^◌, ◌++◌, ◌↔◌, IsTrue, OnOk};
-ghost use Rattle.node_binding.specs.Bindings.{Stands, empty_from};
-ghost use Rattle.page_tree.specs.Pages.{IsValid};
-ghost use Rattle.inspect_world.specs.Sides.{Side, nodes_in, step};
+ghost use Rattle.std.specs.Prelude.{◌≡◌, ◌<◌, ◌^◌, ◌++◌, ◌↔◌, ◌&&◌, not, false, true, IsTrue, OnOk};
+ghost use Rattle.node_binding.specs.Bindings.{empty_from};
+ghost use Rattle.cdp_messages.specs.Asked.{fits_command};
+ghost use Rattle.inspect_world.specs.Sides.{Side, needs_on, on_command, step};
+ghost use Rattle.inspect_replay.specs.Backs.{StandsFor};
 
-use cdp_messages::{ReadErr, read_command, write_refused};
+use cdp_messages::{Asked, Command, ReadErr, Refused, Why, read_command, write_refused};
 use dom_agent::DomAgent;
 use page_tree::Page;
 use std::alloc::{AllocError, Global};
 
-/// The back end: the page, and the session of the client that inspects it.
+/// The back end: the page, whether the domain DOM is on, and the session of the client that inspects it.
 #[derive(Drop)]
 pub(crate) struct Back {
     pub(crate) alloc: Global,
     pub(crate) page: Page,
+    pub(crate) is_on: bool,
     pub(crate) agent: DomAgent,
+}
+
+/// Whether a command is refused while DOM is off.
+fn needs_on(command: &Command) -> bool
+    ensures { result ≡ needs_on command.now }
+{
+    match command {
+        Command::GetDocument { .. } => false,
+        Command::RequestChildNodes { .. }
+        | Command::PushByPath { .. }
+        | Command::PushBySerials { .. } => true,
+    }
 }
 
 impl Back {
     pub(crate) fn new(alloc: Global, page: Page) -> Back
         ensures page { result.page ≡ page }
+        ensures off { result.is_on ≡ false }
         ensures agent { result.agent ≡ empty_from 1 }
     {
         Back {
             alloc,
             page,
+            is_on: false,
             agent: DomAgent::new(alloc),
         }
     }
@@ -36,19 +52,45 @@ impl Back {
         self.agent.next_id() < 1 << 52
     }
 
-    /// Answers one frame: its reply is appended to `out`.
+    /// Answers one frame: the messages of its step are appended to `out`.
     pub(crate) fn take_message(&mut self, frame: &[u8], out: &mut Vec<u8>) -> Result<(), AllocError>
-        requires { self.old.agent.next < 2 ^ 52 }
+        requires room { self.old.agent.next < 2 ^ 52 }
         ensures page { self.new.page ≡ self.old.page }
-        ensures stands { (side : Side) → self.old.page ≡ side.page → IsValid side.page → Stands (nodes_in side) side.session self.old.agent
-            → OnOk result (Stands (nodes_in (step side frame.now).side) (step side frame.now).side.session self.new.agent) }
-        ensures sent { (side : Side) → self.old.page ≡ side.page → IsValid side.page → Stands (nodes_in side) side.session self.old.agent
-            → OnOk result (out.new.items ≡ out.old.items ++ (step side frame.now).sent) }
+        ensures stands { (side : Side) → StandsFor self.old side → OnOk result (StandsFor self.new (step side frame.now).side) }
+        ensures sent { (side : Side) → StandsFor self.old side → OnOk result (out.new.items ≡ out.old.items ++ (step side frame.now).sent) }
     {
         match read_command(self.alloc, frame, false) {
-            Ok(asked) => self.agent.ask(&self.page, &asked, out),
+            Ok(asked) => self.carry_out(&asked, out),
             Err(ReadErr::Refused(refused)) => write_refused(self.alloc, &refused, out),
             Err(ReadErr::Memory) => Err(AllocError),
         }
+    }
+
+    /// Whether the command is refused since DOM is off.
+    fn is_refused(&self, command: &Command) -> bool
+        ensures { result ≡ (needs_on command.now && not self.now.is_on) }
+    {
+        needs_on(command) && !self.is_on
+    }
+
+    fn carry_out(&mut self, asked: &Asked, out: &mut Vec<u8>) -> Result<(), AllocError>
+        requires command { fits_command asked.now.command ≡ true }
+        requires room { self.old.agent.next < 2 ^ 52 }
+        ensures page { self.new.page ≡ self.old.page }
+        ensures stands { (side : Side) → StandsFor self.old side
+            → OnOk result (StandsFor self.new (on_command asked.now.id asked.now.command side).side) }
+        ensures sent { (side : Side) → StandsFor self.old side
+            → OnOk result (out.new.items ≡ out.old.items ++ (on_command asked.now.id asked.now.command side).sent) }
+    {
+        if self.is_refused(&asked.command) {
+            let refused = Refused {
+                id: Some(asked.id),
+                why: Why::DomOff,
+            };
+            return write_refused(self.alloc, &refused, out);
+        }
+        self.agent.ask(&self.page, asked, out)?;
+        self.is_on = true;
+        Ok(())
     }
 }

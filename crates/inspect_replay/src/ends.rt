@@ -1,4 +1,6 @@
-ghost use Rattle.std.specs.Prelude.{◌≡◌, [], IfOk};
+ghost use Rattle.std.specs.Prelude.{◌≡◌, [], false, length, option_map, IsTrue, IfOk};
+ghost use Rattle.serde_json.specs.View.{view};
+ghost use Rattle.cdp_messages.specs.Asked.{is_whole_where_there};
 ghost use Rattle.node_binding.specs.Bindings.{empty_from};
 ghost use Rattle.front_mirror.specs.Front.{first_state};
 ghost use Rattle.replay_script.specs.Seen.{seen_ask};
@@ -6,19 +8,20 @@ ghost use Rattle.inspect_replay.specs.Stops.{HasStopCause};
 ghost use Rattle.inspect_world.specs.World.{delivered_up, delivered_down, settled};
 ghost use Rattle.inspect_world.specs.Sides.{step};
 ghost use Rattle.inspect_world.specs.Scripts.{sends};
-ghost use Rattle.inspect_world.specs.ScriptsFit.{document_ask};
+ghost use Rattle.inspect_world.specs.ScriptsFit.{CanSend};
 ghost use Rattle.inspect_replay.specs.Runs.{Steps, Asks, TakesUp, AnswersAll, AnswersOne};
+ghost use Rattle.inspect_replay.specs.Followed.{KeepsFollowing, KeepsFollowingWith, FollowsAnswers, FollowsAnswer};
 
 use crate::back::Back;
 use crate::pipes::{receive_down, receive_up, send_down, send_up};
 use crate::stop::Stop;
-use front_mirror::{Front, FrontErr, Mirror};
+use front_mirror::{Front, FrontErr, Kept, Mirror};
 use page_tree::Page;
 use pipe_frames::{Link, Splitter};
 use replay_script::Ask;
 use std::alloc::{AllocError, Global};
 
-/// The two ends of the link, and how many bytes of each pipe were sent and not given.
+/// The two ends of the link, how many bytes of each pipe were sent and not given, and how many of the replies were told.
 #[derive(Drop)]
 pub(crate) struct Ends {
     pub(crate) alloc: Global,
@@ -27,16 +30,19 @@ pub(crate) struct Ends {
     pub(crate) front: Front,
     pub(crate) up_there: u64,
     pub(crate) down_there: u64,
+    pub(crate) told: usize,
 }
 
 impl Ends {
     pub(crate) fn new(alloc: Global, page: Page) -> Result<Ends, AllocError>
         ensures page { IfOk result (λ ends. ends.back.page ≡ page) }
+        ensures off { IfOk result (λ ends. ends.back.is_on ≡ false) }
         ensures agent { IfOk result (λ ends. ends.back.agent ≡ empty_from 1) }
         ensures splitter { IfOk result (λ ends. ends.splitter ≡ record { whole = []; rest = [] }) }
         ensures front { IfOk result (λ ends. ends.front ≡ first_state) }
         ensures up { IfOk result (λ ends. ends.up_there ≡ 0) }
         ensures down { IfOk result (λ ends. ends.down_there ≡ 0) }
+        ensures told { IfOk result (λ ends. ends.told ≡ 0) }
     {
         Ok(Ends {
             alloc,
@@ -45,6 +51,7 @@ impl Ends {
             front: Front::new(alloc)?,
             up_there: 0,
             down_there: 0,
+            told: 0,
         })
     }
 
@@ -55,11 +62,28 @@ impl Ends {
         self.front.mirror()
     }
 
+    /// The replies that came, in their order.
+    pub(crate) fn replies(&self) -> &[Kept]
+        ensures { result.now ≡ self.now.front.value.replies }
+    {
+        self.front.replies()
+    }
+
+    /// All replies that came are told.
+    pub(crate) fn tell_all(&mut self)
+        ensures { self.new ≡ record self.old { told = length self.old.front.value.replies } }
+    {
+        self.told = self.front.replies().len();
+    }
+
     /// The front end sends a command.
     pub(crate) fn ask<L: Link>(&mut self, link: &mut L, ask: &Ask) -> Result<(), Stop>
-        requires built { seen_ask ask.now ≡ document_ask }
+        requires can { CanSend (seen_ask ask.now) }
+        requires params { IsTrue (is_whole_where_there (option_map view ask.now.params)) }
+        requires session { IsTrue (is_whole_where_there (option_map view ask.now.session)) }
         ensures honest { L.honest link.old → L.honest link.new }
         ensures cause { HasStopCause 0 0 (L.faults link.old) (L.faults link.new) result }
+        ensures follows { KeepsFollowing (L.up link.old) (L.down link.old) (L.up link.new) (L.down link.new) self.old self.new result }
         ensures steps { Asks (L.honest link.old) (L.honest link.new) (L.up link.old) (L.down link.old)
             (L.up link.new) (L.down link.new) self.old self.new result (λ w. sends (seen_ask ask.now) w) }
     {
@@ -87,6 +111,7 @@ impl Ends {
     pub(crate) fn deliver_up<L: Link>(&mut self, link: &mut L, n: u64) -> Result<(), Stop>
         ensures honest { L.honest link.old → L.honest link.new }
         ensures cause { HasStopCause 0 0 (L.faults link.old) (L.faults link.new) result }
+        ensures follows { KeepsFollowing (L.up link.old) (L.down link.old) (L.up link.new) (L.down link.new) self.old self.new result }
         ensures steps { Steps (L.honest link.old) (L.honest link.new) (L.up link.old) (L.down link.old)
             (L.up link.new) (L.down link.new) self.old self.new result (λ w. delivered_up step n w) }
     {
@@ -100,6 +125,7 @@ impl Ends {
     fn take_up<L: Link>(&mut self, link: &mut L, n: u64) -> Result<(), Stop>
         ensures honest { L.honest link.old → L.honest link.new }
         ensures cause { HasStopCause 0 0 (L.faults link.old) (L.faults link.new) result }
+        ensures follows { KeepsFollowingWith (L.up link.old) (L.down link.old) (L.up link.new) (L.down link.new) self.old self.new result }
         ensures steps { TakesUp (L.honest link.old) (L.honest link.new) (L.up link.old) (L.down link.old)
             (L.up link.new) (L.down link.new) self.old self.new n result }
     {
@@ -117,6 +143,7 @@ impl Ends {
     fn answer_frames<L: Link>(&mut self, link: &mut L) -> Result<(), Stop>
         ensures honest { L.honest link.old → L.honest link.new }
         ensures cause { HasStopCause 0 0 (L.faults link.old) (L.faults link.new) result }
+        ensures follows { FollowsAnswers (L.up link.old) (L.down link.old) (L.up link.new) (L.down link.new) self.old self.new result }
         ensures steps { AnswersAll (L.honest link.old) (L.honest link.new) (L.up link.old) (L.down link.old)
             (L.up link.new) (L.down link.new) self.old self.new result }
     {
@@ -133,6 +160,7 @@ impl Ends {
         ensures same { self.new.splitter ≡ self.old.splitter }
         ensures honest { L.honest link.old → L.honest link.new }
         ensures cause { HasStopCause 0 0 (L.faults link.old) (L.faults link.new) result }
+        ensures follows { FollowsAnswer (L.up link.old) (L.down link.old) (L.up link.new) (L.down link.new) self.old self.new frame.now result }
         ensures steps { AnswersOne (L.honest link.old) (L.honest link.new) (L.up link.old) (L.down link.old)
             (L.up link.new) (L.down link.new) self.old self.new frame.now result }
     {
@@ -157,6 +185,7 @@ impl Ends {
     pub(crate) fn deliver_down<L: Link>(&mut self, link: &mut L, n: u64) -> Result<(), Stop>
         ensures honest { L.honest link.old → L.honest link.new }
         ensures cause { HasStopCause 0 0 (L.faults link.old) (L.faults link.new) result }
+        ensures follows { KeepsFollowing (L.up link.old) (L.down link.old) (L.up link.new) (L.down link.new) self.old self.new result }
         ensures steps { Steps (L.honest link.old) (L.honest link.new) (L.up link.old) (L.down link.old)
             (L.up link.new) (L.down link.new) self.old self.new result (λ w. delivered_down n w) }
     {
@@ -179,6 +208,7 @@ impl Ends {
     pub(crate) fn settle<L: Link>(&mut self, link: &mut L) -> Result<(), Stop>
         ensures honest { L.honest link.old → L.honest link.new }
         ensures cause { HasStopCause 0 0 (L.faults link.old) (L.faults link.new) result }
+        ensures follows { KeepsFollowing (L.up link.old) (L.down link.old) (L.up link.new) (L.down link.new) self.old self.new result }
         ensures steps { Steps (L.honest link.old) (L.honest link.new) (L.up link.old) (L.down link.old)
             (L.up link.new) (L.down link.new) self.old self.new result (λ w. settled step w) }
     {

@@ -3,7 +3,8 @@ ghost use Rattle.pipe_frames.specs.Pipe.{IsLevel};
 ghost use Rattle.replay_script.specs.Script.{script_fault};
 ghost use Rattle.inspect_world.specs.Scripts.{report};
 ghost use Rattle.inspect_replay.specs.Words.{is_replay};
-ghost use Rattle.inspect_replay.specs.declared.status.Status.TheVariants.{Usage};
+ghost use Rattle.inspect_replay.specs.declared.status.Status.TheVariants.{Done, Usage};
+ghost use Rattle.inspect_replay.specs.Followed.{StatusFolds, EndsShown, AnswersInOrder, fold_since};
 ghost use Rattle.inspect_replay.specs.Answers.{FitsLimits, TellsLine, Took, WritesNothing, StatusRose, InputTells, IsInputStop, ReadsAll, IsLate, status_of};
 
 use crate::run::run_script;
@@ -35,6 +36,13 @@ pub fn inspect<S: Source, K: Sink, L: Link>(
     ensures report { L.honest link.old → IsLevel (L.up link.old) → IsLevel (L.down link.old)
         → (input : List ℕ) → S.left src.old ≡ Some input → is_replay (map string_bytes words.now) ≡ true
         → Took result (K.taken out.old) (K.taken out.new) (report input) }
+    // over every link: a message is refused exactly where the fold of the bytes sent up and given down refuses it
+    ensures refused { StatusFolds result (fold_since (L.up link.old) (L.down link.old) (L.up link.new) (L.down link.new)) }
+    // over every link: what is written ends with the outline of what that fold shows
+    ensures closes { result ≡ Done → EndsShown (K.taken out.old) (K.taken out.new)
+        (fold_since (L.up link.old) (L.down link.old) (L.up link.new) (L.down link.new)) }
+    // over every link: the replies sent down answer the frames given up, in their order, each with its frame's id
+    ensures replies { result ≡ Done → AnswersInOrder (L.up link.old) (L.down link.old) (L.up link.new) (L.down link.new) }
     ensures usage { result ≡ Usage ↔ (is_replay (map string_bytes words.now) ≡ false) }
     ensures unread { result ≡ Usage → src.new ≡ src.old }
     ensures unwritten { result ≡ Usage → out.new ≡ out.old }
@@ -68,6 +76,10 @@ fn replay<S: Source, K: Sink, L: Link>(
     ensures report { L.honest link.old → IsLevel (L.up link.old) → IsLevel (L.down link.old)
         → (input : List ℕ) → S.left src.old ≡ Some input
         → Took result (K.taken out.old) (K.taken out.new) (report input) }
+    ensures refused { StatusFolds result (fold_since (L.up link.old) (L.down link.old) (L.up link.new) (L.down link.new)) }
+    ensures closes { result ≡ Done → EndsShown (K.taken out.old) (K.taken out.new)
+        (fold_since (L.up link.old) (L.down link.old) (L.up link.new) (L.down link.new)) }
+    ensures replies { result ≡ Done → AnswersInOrder (L.up link.old) (L.down link.old) (L.up link.new) (L.down link.new) }
     ensures used { result ≡ Usage → ⊥ }
     ensures line { (input : List ℕ) → S.left src.old ≡ Some input → TellsLine result (script_fault input) }
     ensures limits { (input : List ℕ) → S.left src.old ≡ Some input → FitsLimits result input }
@@ -94,6 +106,10 @@ fn run_input<K: Sink, L: Link>(alloc: Global, input: &[u8], out: &mut K, link: &
     requires few { length input.now ≤ 2 ^ 26 }
     ensures report { L.honest link.old → IsLevel (L.up link.old) → IsLevel (L.down link.old)
         → Took result (K.taken out.old) (K.taken out.new) (report input.now) }
+    ensures refused { StatusFolds result (fold_since (L.up link.old) (L.down link.old) (L.up link.new) (L.down link.new)) }
+    ensures closes { result ≡ Done → EndsShown (K.taken out.old) (K.taken out.new)
+        (fold_since (L.up link.old) (L.down link.old) (L.up link.new) (L.down link.new)) }
+    ensures replies { result ≡ Done → AnswersInOrder (L.up link.old) (L.down link.old) (L.up link.new) (L.down link.new) }
     ensures used { result ≡ Usage → ⊥ }
     ensures line { TellsLine result (script_fault input.now) }
     ensures late { IsLate result }

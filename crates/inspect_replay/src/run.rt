@@ -1,24 +1,74 @@
-ghost use Rattle.std.specs.Prelude.{◌≡◌, ◌≤◌, ◌^◌, ◌||◌, ◌∷◌, [], length, Some, None, IfOk, IfSome, IsNone, false};
+ghost use Rattle.std.specs.Prelude.{◌≡◌, ◌≤◌, ◌^◌, ◌∷◌, [], length, option_map, Some, None, IfOk, OnOk, IfSome, IsNone};
 ghost use Rattle.pipe_frames.specs.Pipe.{IsLevel};
 ghost use Rattle.node_tree.specs.Nodes.{nodes_of};
 ghost use Rattle.page_tree.specs.Forms.{CanLoad};
 ghost use Rattle.replay_script.specs.Faults.{line_fault};
-ghost use Rattle.replay_script.specs.Forms.{is_ask, line_form};
+ghost use Rattle.replay_script.specs.Forms.{load, line_form, show_front, show_replies};
 ghost use Rattle.replay_script.specs.Script.{first_bad, good_lines, script_fault};
-ghost use Rattle.replay_script.specs.Seen.{seen};
+ghost use Rattle.replay_script.specs.Seen.{seen, AreWhole};
 ghost use Rattle.inspect_world.specs.ScriptsFit.{IsLater, HaveTexts};
 ghost use Rattle.inspect_world.specs.Scripts.{report, rest_text, loaded_world};
 ghost use Rattle.inspect_replay.specs.Stops.{HasStopCause, HasRunCause};
 ghost use Rattle.inspect_replay.specs.Answers.{RunTells, RunTook};
-ghost use Rattle.inspect_replay.specs.Prints.{CarriesOut, RunsLines, Closes, IsRead};
+ghost use Rattle.inspect_replay.specs.Followed.{KeepsFollowing, PrintedSome, ClosesShown, StopFolds, fold_since, EndsShown, AnswersInOrder};
+ghost use Rattle.inspect_replay.specs.Prints.{CarriesOut, RunsLines, Closes, IsRead, load_of};
 
 use crate::ends::Ends;
-use crate::show::print_outline;
+use crate::show::{print_outline, print_replies};
 use crate::stop::Stop;
 use page_tree::{NodeForm, Page};
 use pipe_frames::{Link, Sink};
 use replay_script::{Line, LineErr, LineFault, Lines, read_line};
 use std::alloc::Global;
+
+/// Settles, and prints what the front end shows.
+fn show_front<K: Sink, L: Link>(
+    alloc: Global,
+    ends: &mut Ends,
+    out: &mut K,
+    link: &mut L,
+) -> Result<(), Stop>
+    ensures honest { L.honest link.old → L.honest link.new }
+    ensures cause { HasStopCause (K.faults out.old) (K.faults out.new) (L.faults link.old) (L.faults link.new) result }
+    ensures follows { KeepsFollowing (L.up link.old) (L.down link.old) (L.up link.new) (L.down link.new) ends.old ends.new result }
+    ensures some { OnOk result (PrintedSome (K.taken out.old) (K.taken out.new)) }
+    ensures runs { CarriesOut (L.honest link.old) (L.honest link.new) (L.up link.old) (L.down link.old) (L.up link.new)
+        (L.down link.new) (K.taken out.old) (K.taken out.new) ends.old ends.new show_front result }
+{
+    match ends.settle(link) {
+        Ok(()) => print_outline(alloc, "# front", ends.mirror(), out),
+        Err(stop) => Err(stop),
+    }
+}
+
+/// Settles, and prints the replies that came since the last time.
+fn show_replies<K: Sink, L: Link>(
+    alloc: Global,
+    ends: &mut Ends,
+    out: &mut K,
+    link: &mut L,
+) -> Result<(), Stop>
+    ensures honest { L.honest link.old → L.honest link.new }
+    ensures cause { HasStopCause (K.faults out.old) (K.faults out.new) (L.faults link.old) (L.faults link.new) result }
+    ensures follows { KeepsFollowing (L.up link.old) (L.down link.old) (L.up link.new) (L.down link.new) ends.old ends.new result }
+    ensures some { OnOk result (PrintedSome (K.taken out.old) (K.taken out.new)) }
+    ensures runs { CarriesOut (L.honest link.old) (L.honest link.new) (L.up link.old) (L.down link.old) (L.up link.new)
+        (L.down link.new) (K.taken out.old) (K.taken out.new) ends.old ends.new show_replies result }
+{
+    match ends.settle(link) {
+        Ok(()) => {}
+        Err(stop) => return Err(stop),
+    }
+    let replies = ends.replies();
+    let told = ends.told.min(replies.len());
+    match print_replies(alloc, replies.split_at(told).1, out) {
+        Ok(()) => {
+            ends.tell_all();
+            Ok(())
+        }
+        Err(stop) => Err(stop),
+    }
+}
 
 /// Carries out one line after the load, and writes what it prints.
 fn carry_out<K: Sink, L: Link>(
@@ -29,18 +79,22 @@ fn carry_out<K: Sink, L: Link>(
     link: &mut L,
 ) -> Result<(), Stop>
     requires later { IsLater (seen line.now) }
+    requires whole { AreWhole line.now }
     ensures honest { L.honest link.old → L.honest link.new }
     ensures cause { HasStopCause (K.faults out.old) (K.faults out.new) (L.faults link.old) (L.faults link.new) result }
+    ensures follows { KeepsFollowing (L.up link.old) (L.down link.old) (L.up link.new) (L.down link.new) ends.old ends.new result }
+    ensures some { OnOk result (PrintedSome (K.taken out.old) (K.taken out.new)) }
     ensures runs { CarriesOut (L.honest link.old) (L.honest link.new) (L.up link.old) (L.down link.old) (L.up link.new)
         (L.down link.new) (K.taken out.old) (K.taken out.new) ends.old ends.new (seen line.now) result }
 {
     match line {
         Line::Load(_) => unreachable!(),
         Line::Ask(ask) => ends.ask(link, ask),
-        Line::ShowFront => match ends.settle(link) {
-            Ok(()) => print_outline(alloc, "# front", ends.mirror(), out),
-            Err(stop) => Err(stop),
-        },
+        Line::Up(n) => ends.deliver_up(link, *n),
+        Line::Down(n) => ends.deliver_down(link, *n),
+        Line::Settle => ends.settle(link),
+        Line::ShowFront => show_front(alloc, ends, out, link),
+        Line::ShowReplies => show_replies(alloc, ends, out, link),
     }
 }
 
@@ -53,20 +107,20 @@ fn run_lines<K: Sink, L: Link>(
     link: &mut L,
 ) -> Result<(), Stop>
     requires few { length lines ≤ 2 ^ 26 }
-    ensures tells { RunTells result (first_bad 2 false lines.entry) }
+    ensures tells { RunTells result (first_bad 2 lines.entry) }
     ensures honest { L.honest link.old → L.honest link.new }
     ensures cause { HasRunCause (K.faults out.old) (K.faults out.new) (L.faults link.old) (L.faults link.new) result }
+    ensures follows { KeepsFollowing (L.up link.old) (L.down link.old) (L.up link.new) (L.down link.new) ends.old ends.new result }
+    ensures some { OnOk result (PrintedSome (K.taken out.old) (K.taken out.new)) }
     ensures runs { RunsLines (L.honest link.old) (L.honest link.new) (L.up link.old) (L.down link.old) (L.up link.new)
         (L.down link.new) (K.taken out.old) (K.taken out.new) ends.old ends.new lines.entry result }
 {
     let mut number = 2;
-    let mut is_asked = false;
     while let Some(text) = next_line(&mut lines) {
-        let line = match read(alloc, number, is_asked, text) {
+        let line = match read(alloc, number, text) {
             Ok(line) => line,
             Err(stop) => return Err(stop),
         };
-        is_asked = is_asked_after(is_asked, &line);
         let carried = carry_out(alloc, &line, ends, out, link);
         release(line);
         match carried {
@@ -88,26 +142,46 @@ fn next_line<'a>(lines: &mut Lines<'a>) -> Option<&'a [u8]>
 // Lets a line go that was carried out.
 fn release(_line: Line) {}
 
-// Whether an ask came before a line, or the line is one.
-fn is_asked_after(is_asked: bool, line: &Line) -> bool
-    ensures { result ≡ (is_asked || is_ask (seen line.now)) }
-{
-    match line {
-        Line::Load(_) => is_asked,
-        Line::Ask(_) => true,
-        Line::ShowFront => is_asked,
-    }
-}
-
-fn read(alloc: Global, number: u64, is_asked: bool, text: &[u8]) -> Result<Line, Stop>
-    ensures good { IfOk result (λ _. line_fault number is_asked text.now ≡ None) }
+fn read(alloc: Global, number: u64, text: &[u8]) -> Result<Line, Stop>
+    ensures good { IfOk result (λ _. line_fault number text.now ≡ None) }
     ensures form { IfOk result (λ line. line_form text.now ≡ Some (seen line)) }
-    ensures bad { IsRead result number (line_fault number is_asked text.now) }
+    ensures whole { IfOk result AreWhole }
+    ensures bad { IsRead result number (line_fault number text.now) }
 {
-    match read_line(alloc, number, is_asked, text) {
+    match read_line(alloc, number, text) {
         Ok(line) => Ok(line),
         Err(LineErr::Fault(fault)) => Err(Stop::Line { number, fault }),
         Err(LineErr::Memory) => Err(Stop::Memory),
+    }
+}
+
+/// The nodes of a line that loads a page.
+fn load_of(line: Line) -> Option<Vec<NodeForm>>
+    ensures { option_map (λ nodes. nodes_of nodes.items) result ≡ load_of (seen line) }
+{
+    match line {
+        Line::Load(nodes) => Some(nodes),
+        Line::Ask(_)
+        | Line::Up(_)
+        | Line::Down(_)
+        | Line::Settle
+        | Line::ShowFront
+        | Line::ShowReplies => None,
+    }
+}
+
+/// Reads the first line of a script, which loads a page.
+fn read_load(alloc: Global, text: &[u8]) -> Result<Vec<NodeForm>, Stop>
+    ensures good { IfOk result (λ _. line_fault 1 text.now ≡ None) }
+    ensures form { IfOk result (λ nodes. line_form text.now ≡ Some (load (nodes_of nodes.items))) }
+    ensures bad { IsRead result 1 (line_fault 1 text.now) }
+{
+    match read(alloc, 1, text) {
+        Ok(line) => match load_of(line) {
+            Some(nodes) => Ok(nodes),
+            None => unreachable!(),
+        },
+        Err(stop) => Err(stop),
     }
 }
 
@@ -120,6 +194,7 @@ fn close<K: Sink, L: Link>(
 ) -> Result<(), Stop>
     ensures honest { L.honest link.old → L.honest link.new }
     ensures cause { HasStopCause (K.faults out.old) (K.faults out.new) (L.faults link.old) (L.faults link.new) result }
+    ensures shown { ClosesShown (L.up link.old) (L.down link.old) (L.up link.new) (L.down link.new) (K.taken out.old) (K.taken out.new) ends.old result }
     ensures runs { Closes (L.honest link.old) (L.up link.old) (L.down link.old) (K.taken out.old) (K.taken out.new)
         ends.old result }
 {
@@ -138,13 +213,17 @@ fn run_loaded<K: Sink, L: Link>(
     link: &mut L,
 ) -> Result<(), Stop>
     requires can { CanLoad (nodes_of nodes.items) }
+    requires texts { HaveTexts (nodes_of nodes.items) }
     requires few { length lines ≤ 2 ^ 26 }
-    ensures tells { RunTells result (first_bad 2 false lines.entry) }
+    ensures tells { RunTells result (first_bad 2 lines.entry) }
     ensures honest { L.honest link.old → L.honest link.new }
     ensures cause { HasRunCause (K.faults out.old) (K.faults out.new) (L.faults link.old) (L.faults link.new) result }
-    ensures took { HaveTexts (nodes_of nodes.items) → L.honest link.old → IsLevel (L.up link.old) → IsLevel (L.down link.old)
+    ensures refused { StopFolds result (fold_since (L.up link.old) (L.down link.old) (L.up link.new) (L.down link.new)) }
+    ensures closes { OnOk result (EndsShown (K.taken out.old) (K.taken out.new) (fold_since (L.up link.old) (L.down link.old) (L.up link.new) (L.down link.new))) }
+    ensures replies { OnOk result (AnswersInOrder (L.up link.old) (L.down link.old) (L.up link.new) (L.down link.new)) }
+    ensures took { L.honest link.old → IsLevel (L.up link.old) → IsLevel (L.down link.old)
         → RunTook result (K.taken out.old) (K.taken out.new)
-        (rest_text (first_bad 2 false lines.entry) (good_lines 2 false lines.entry) (loaded_world (nodes_of nodes.items))) }
+        (rest_text (first_bad 2 lines.entry) (good_lines 2 lines.entry) (loaded_world (nodes_of nodes.items))) }
 {
     let page = Page::load(alloc, 1, nodes)?;
     let mut ends = Ends::new(alloc, page)?;
@@ -165,6 +244,9 @@ pub(crate) fn run_script<K: Sink, L: Link>(
     ensures tells { RunTells result (script_fault input.now) }
     ensures honest { L.honest link.old → L.honest link.new }
     ensures cause { HasRunCause (K.faults out.old) (K.faults out.new) (L.faults link.old) (L.faults link.new) result }
+    ensures refused { StopFolds result (fold_since (L.up link.old) (L.down link.old) (L.up link.new) (L.down link.new)) }
+    ensures closes { OnOk result (EndsShown (K.taken out.old) (K.taken out.new) (fold_since (L.up link.old) (L.down link.old) (L.up link.new) (L.down link.new))) }
+    ensures replies { OnOk result (AnswersInOrder (L.up link.old) (L.down link.old) (L.up link.new) (L.down link.new)) }
     ensures took { L.honest link.old → IsLevel (L.up link.old) → IsLevel (L.down link.old)
         → RunTook result (K.taken out.old) (K.taken out.new) (report input.now) }
 {
@@ -175,9 +257,8 @@ pub(crate) fn run_script<K: Sink, L: Link>(
             fault: LineFault::NotLoad,
         });
     };
-    match read(alloc, 1, false, first) {
-        Ok(Line::Load(nodes)) => run_loaded(alloc, nodes, lines, out, link),
-        Ok(_) => unreachable!(),
+    match read_load(alloc, first) {
+        Ok(nodes) => run_loaded(alloc, nodes, lines, out, link),
         Err(stop) => Err(stop),
     }
 }

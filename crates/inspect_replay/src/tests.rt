@@ -108,3 +108,60 @@ fn tells_of_other_words_and_of_lies(rt: HostRuntime) -> Result<(), Fail> {
     assert_eq!(rt; out.as_slice(), want.as_slice());
     Ok(())
 }
+
+#[test]
+fn replays_lazily(rt: HostRuntime) -> Result<(), Fail> {
+    let alloc = rt.alloc();
+    let mut out = Vec::new(alloc);
+    replay(
+        alloc,
+        b"{\"load\":{\"document\":[]}}\n{\"ask\":{\"method\":\"DOM.getDocument\",\"params\":{\"depth\":-1}}}\n{\"show\":\"replies\"}\n",
+        [0, 0, 0],
+        &mut out,
+    )?;
+    replay(
+        alloc,
+        b"{\"load\":{\"document\":[{\"e\":\"html\",\"c\":[{\"e\":\"head\",\"c\":[{\"e\":\"title\",\"c\":[{\"t\":\"T\"}]}]},{\"e\":\"body\",\"c\":[{\"e\":\"p\",\"c\":[{\"t\":\"x\"}]}]}]}]}}\n{\"ask\":{\"method\":\"DOM.getDocument\",\"params\":{\"depth\":2}}}\n{\"ask\":{\"method\":\"DOM.requestChildNodes\",\"params\":{\"nodeId\":2,\"depth\":3}}}\n{\"show\":\"front\"}\n",
+        [0, 0, 0],
+        &mut out,
+    )?;
+    replay(
+        alloc,
+        b"{\"load\":{\"document\":[{\"e\":\"html\",\"c\":[{\"e\":\"head\",\"c\":[{\"e\":\"title\",\"c\":[{\"t\":\"T\"}]}]},{\"e\":\"body\",\"c\":[{\"e\":\"p\",\"c\":[{\"t\":\"x\"}]}]}]}]}}\n{\"ask\":{\"method\":\"DOM.getDocument\"}}\n{\"up\":1}\n{\"ask\":{\"method\":\"DOM.pushNodeByPathToFrontend\",\"params\":{\"path\":\"0,HTML,1,BODY\"}}}\n{\"down\":3}\n{\"ask\":{\"method\":\"DOM.pushNodesByBackendIdsToFrontend\",\"params\":{\"backendNodeIds\":[5,99,4]}}}\n{\"up\":100000}\n{\"ask\":{\"method\":\"DOM.pushNodeByPathToFrontend\",\"params\":{\"path\":\"0,html\"}}}\n{\"show\":\"replies\"}\n",
+        [0, 0, 0],
+        &mut out,
+    )?;
+    let want =
+        b"0 \n# replies\n1 {\"id\":1,\"result\":{\"root\":{\"backendNodeId\":1,\"childNodeCount\":0,\"children\":[],\"localName\":\"\",\"nodeId\":1,\"nodeName\":\"#document\",\"nodeType\":9,\"nodeValue\":\"\"}}}\n# end\n1 #document\n0 \n# front\n1 #document\n  2 <html>\n    3 <head>\n      5 <title>\n        6 \"T\"\n    4 <body>\n      7 <p>\n        8 \"x\"\n# end\n1 #document\n  2 <html>\n    3 <head>\n      5 <title>\n        6 \"T\"\n    4 <body>\n      7 <p>\n        8 \"x\"\n0 \n# replies\n1 {\"id\":1,\"result\":{\"root\":{\"backendNodeId\":1,\"childNodeCount\":1,\"children\":[{\"attributes\":[],\"backendNodeId\":2,\"childNodeCount\":2,\"localName\":\"html\",\"nodeId\":2,\"nodeName\":\"HTML\",\"nodeType\":1,\"nodeValue\":\"\",\"parentId\":1}],\"localName\":\"\",\"nodeId\":1,\"nodeName\":\"#document\",\"nodeType\":9,\"nodeValue\":\"\"}}}\n2 {\"id\":2,\"result\":{\"nodeId\":4}}\n3 {\"id\":3,\"result\":{\"nodeIds\":[6,0,5]}}\n4 {\"error\":{\"code\":-32000,\"message\":\"no such path\"},\"id\":4}\n# end\n1 #document\n  2 <html>\n    3 <head>\n      5 <title>\n        6 \"T\"\n    4 <body> +1\n";
+    assert_eq!(rt; out.as_slice(), want.as_slice());
+    Ok(())
+}
+
+#[test]
+fn replays_two_documents(rt: HostRuntime) -> Result<(), Fail> {
+    let alloc = rt.alloc();
+    let mut out = Vec::new(alloc);
+    replay(
+        alloc,
+        b"{\"load\":{\"document\":[{\"e\":\"html\",\"c\":[{\"e\":\"head\"},{\"e\":\"body\"}]}]}}\n{\"ask\":{\"method\":\"DOM.getDocument\"}}\n{\"ask\":{\"method\":\"DOM.getDocument\"}}\n{\"ask\":{\"method\":\"DOM.requestChildNodes\",\"params\":{\"nodeId\":2}}}\n{\"ask\":{\"method\":\"DOM.requestChildNodes\",\"params\":{\"nodeId\":4}}}\n{\"show\":\"front\"}\n",
+        [0, 0, 0],
+        &mut out,
+    )?;
+    let want =
+        b"0 \n# front\n3 #document\n  4 <html>\n    5 <head>\n    6 <body>\n# end\n3 #document\n  4 <html>\n    5 <head>\n    6 <body>\n";
+    assert_eq!(rt; out.as_slice(), want.as_slice());
+
+    let mut deep = nested(alloc, 60)?;
+    deep.extend_from_slice(
+        b"\n{\"ask\":{\"method\":\"DOM.getDocument\",\"params\":{\"depth\":-1}}}\n",
+    )?;
+    out.clear();
+    replay(alloc, &deep, [0, 0, 0], &mut out)?;
+    assert!(rt;
+        out.as_slice()
+            .starts_with(b"0 \n# end\n1 #document\n  2 <p>\n")
+    );
+    assert_eq!(rt; out.iter().filter(|byte| **byte == b'p').count(), 60);
+    assert!(rt; out.as_slice().ends_with(b" 61 <p>\n"));
+    Ok(())
+}

@@ -1,9 +1,21 @@
 -- An input that is not read is refused by its limits.
-use Rattle.std.proofs.Common.{◌≡◌, sym, subst}
+use Rattle.std.proofs.Common.{sym, subst}
 use Rattle.inspect_replay.specs.Answers.{FitsLimits}
 use Rattle.inspect_replay.proofs.AnswerLemmas.{stop-limits}
+use Rattle.inspect_replay.proofs.FollowLemmas.{status-folds, input-folds, start-good, never-done}
 use Rattle.inspect_replay.proofs.program.replay.Goals as goal
 
 pub returns-in-Err-clause-limits : goal.returns-in-Err-clause-limits
 returns-in-Err-clause-limits g c = λ input left.
     subst (λ status. FitsLimits status input) (sym c.status_of.ensures) (stop-limits c.in-Err.stop input (c.in-Err.ensures.tells input left))
+
+pub returns-in-Err-clause-refused : goal.returns-in-Err-clause-refused
+returns-in-Err-clause-refused g c =
+    status-folds c.in-Err.stop c.status_of.result _ c.status_of.ensures
+    (input-folds c.in-Err.stop _ _ _ c.in-Err.ensures.rose (start-good (g.L.Link.up c.args.link.now) (g.L.Link.down c.args.link.now)))
+
+pub returns-in-Err-clause-closes : goal.returns-in-Err-clause-closes
+returns-in-Err-clause-closes g c = λ done. absurd (never-done c.in-Err.stop c.status_of.result c.status_of.ensures done)
+
+pub returns-in-Err-clause-replies : goal.returns-in-Err-clause-replies
+returns-in-Err-clause-replies g c = λ done. absurd (never-done c.in-Err.stop c.status_of.result c.status_of.ensures done)

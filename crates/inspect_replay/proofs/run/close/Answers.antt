@@ -1,6 +1,6 @@
 -- The closing part is the outline of what the client sees.
-use Rattle.std.proofs.Common.{◌≡◌, ◌++◌, ◌∷◌, ap, ◌∙◌, sym, subst, codes, Ok, Err, refl, []}
 use Rattle.inspect_replay.proofs.RunLemmas.{closes-well, closes-not}
+use Rattle.inspect_replay.proofs.FollowLemmas.{closes-shown}
 use Rattle.inspect_replay.proofs.run.close.Goals as goal
 
 pub returns-in-Ok-clause-runs : goal.returns-in-Ok-clause-runs
@@ -12,3 +12,8 @@ pub returns-in-Err-clause-runs : goal.returns-in-Err-clause-runs
 returns-in-Err-clause-runs g c =
     closes-not c.in-Err.stop _ _ _ _ c.args.ends.now
     (λ up0 down0 w run. (c.in-Err.ensures.steps up0 down0 w run).0)
+
+pub returns-in-Ok-clause-shown : goal.returns-in-Ok-clause-shown
+returns-in-Ok-clause-shown g c = λ side0 up0 down0 run.
+    closes-shown c.print_outline.result side0 up0 down0 _ _ _ _ c.settle.new.self c.mirror.result.now
+    (c.in-Ok.ensures.follows side0 up0 down0 run).0 c.mirror.ensures c.print_outline.ensures.never c.print_outline.ensures.ok

@@ -1,18 +1,19 @@
 -- The lines so far were good, and the run has come to where they take it.
-use Rattle.std.proofs.Common.{◌≡◌, ◌≤◌, ◌+◌, ◌^◌, length, false}
+use Rattle.std.proofs.Common.{◌≡◌, ◌≤◌, ◌+◌, length}
 use Rattle.pipe_frames.specs.Pipe.{Pipe}
 use Rattle.replay_script.specs.Script.{first_bad, good_lines}
 use Rattle.inspect_world.specs.World.{World}
 use Rattle.inspect_world.specs.Sides.{Side}
 use Rattle.inspect_world.specs.Fits.{most_asks}
 use Rattle.inspect_world.specs.Scripts.{lines_text, after_lines}
+use Rattle.inspect_replay.specs.Followed.{FollowsRun, PrintedSome}
 use Rattle.inspect_replay.specs.Runs.{InRun}
 use Rattle.inspect_replay.proofs.RunLemmas.{Running}
 use Rattle.inspect_replay.proofs.run.run_lines.Given as goal
 
 abbrev pub invariant-loop-text : goal.invariant-loop-text
 invariant-loop-text g l =
-    (first_bad 2 false l.initial.lines ≡ first_bad l.number l.is_asked l.lines)
+    (first_bad 2 l.initial.lines ≡ first_bad l.number l.lines)
     × (2 ≤ l.number)
     × (l.number + length l.lines ≤ 2 + length l.initial.lines)
     × (g.L.Link.honest l.initial.link → g.L.Link.honest l.link)
@@ -21,7 +22,10 @@ invariant-loop-text g l =
     × ((up0 down0 : Pipe) (w : World Side) → w.asks + length l.initial.lines ≤ most_asks
     → InRun (g.L.Link.honest l.initial.link) up0 down0 (g.L.Link.up l.initial.link) (g.L.Link.down l.initial.link) w l.initial.ends
     → Running (g.L.Link.honest l.link) up0 down0 (g.L.Link.up l.link) (g.L.Link.down l.link) (g.K.Sink.taken l.initial.out) (g.K.Sink.taken l.out)
-    (lines_text (good_lines 2 false l.initial.lines) w) (after_lines (good_lines 2 false l.initial.lines) w) l.number l.is_asked l.lines l.ends)
+    (lines_text (good_lines 2 l.initial.lines) w) (after_lines (good_lines 2 l.initial.lines) w) l.number l.lines l.ends)
+    × ((side0 : Side) (up0 down0 : Pipe) → FollowsRun side0 up0 down0 (g.L.Link.up l.initial.link) (g.L.Link.down l.initial.link) l.initial.ends
+    → FollowsRun side0 up0 down0 (g.L.Link.up l.link) (g.L.Link.down l.link) l.ends)
+    × PrintedSome (g.K.Sink.taken l.initial.out) (g.K.Sink.taken l.out)
 
 abbrev pub decreases-loop-text : goal.decreases-loop-text
 decreases-loop-text g l = length l.lines

@@ -1,31 +1,82 @@
 -- A script whose first line loads a page is carried out.
-use Rattle.std.proofs.Common.{◌≡◌, ℕ, ◌≤◌, ◌+◌, ◌^◌, ◌∙◌, ap, arith, length, false, Ok, Err}
+use Rattle.std.proofs.Common.{◌≤◌, ◌+◌, ◌^◌, ◌∙◌, arith, length}
 use Rattle.node_tree.specs.Nodes.{nodes_of}
 use Rattle.replay_script.specs.Script.{first_bad, good_lines}
-use Rattle.inspect_world.specs.Fits.{most_asks}
-use Rattle.inspect_world.specs.Scripts.{loaded_world, after_lines, lines_text}
+use Rattle.inspect_world.specs.Scripts.{loaded_world, after_lines}
 use Rattle.inspect_replay.proofs.RunLemmas.{begins, closed-took, stopped-took}
+use Rattle.inspect_world.specs.Sides.{first_side}
+use Rattle.inspect_replay.proofs.FollowLemmas.{run-first, ends-shown, in-order}
 use Rattle.inspect_replay.proofs.run.run_loaded.Goals as goal
 
 pub returns-in-Ok-clause-took : goal.returns-in-Ok-clause-took
-returns-in-Ok-clause-took g c = λ texts honest up_level down_level.
+returns-in-Ok-clause-took g c = λ honest up_level down_level.
     let nodes = nodes_of c.args.nodes.items in
     let w = loaded_world nodes in
-    let run = begins (g.L.Link.honest c.args.link.now) (g.L.Link.up c.args.link.now) (g.L.Link.down c.args.link.now) nodes c.in_ok-ends.ends honest c.requires.can texts up_level down_level
-    (c.in_ok-ends.ensures.page ∙ c.in_ok-page.ensures) c.in_ok-ends.ensures.agent c.in_ok-ends.ensures.splitter c.in_ok-ends.ensures.front c.in_ok-ends.ensures.up c.in_ok-ends.ensures.down in
+    let first = c.in_ok-ends.ensures in
+    let run = begins (g.L.Link.honest c.args.link.now) (g.L.Link.up c.args.link.now) (g.L.Link.down c.args.link.now) nodes c.in_ok-ends.ends honest c.requires.can c.requires.texts up_level down_level
+    (first.page ∙ c.in_ok-page.ensures) first.off first.agent first.splitter first.front first.up first.down first.told in
     let few : 0 + length c.args.lines ≤ 2 ^ 26 = omega (arith, c.requires.few) in
     let ran = (c.in-Ok.ensures {u = c.in-Ok.field-0}).runs (g.L.Link.up c.args.link.now) (g.L.Link.down c.args.link.now) w few run in
-    let closes = c.close.ensures.runs (g.L.Link.up c.args.link.now) (g.L.Link.down c.args.link.now) (after_lines (good_lines 2 false c.args.lines) w) ran.0 in
+    let closes = c.close.ensures.runs (g.L.Link.up c.args.link.now) (g.L.Link.down c.args.link.now) (after_lines (good_lines 2 c.args.lines) w) ran.0 in
     closed-took c.close.result _ (g.K.Sink.taken c.args.out.now) (g.K.Sink.taken c.run_lines.new.out) (g.K.Sink.taken c.close.new.out)
-    (first_bad 2 false c.args.lines) (good_lines 2 false c.args.lines) w (c.in-Ok.ensures {u = c.in-Ok.field-0}).tells c.close.ensures.cause.rose closes.0 ran.1 closes.1
+    (first_bad 2 c.args.lines) (good_lines 2 c.args.lines) w (c.in-Ok.ensures {u = c.in-Ok.field-0}).tells c.close.ensures.cause.rose closes.0 ran.1 closes.1
 
 pub returns-clause-took : goal.returns-clause-took
-returns-clause-took g c = λ texts honest up_level down_level.
+returns-clause-took g c = λ honest up_level down_level.
     let nodes = nodes_of c.args.nodes.items in
     let w = loaded_world nodes in
-    let run = begins (g.L.Link.honest c.args.link.now) (g.L.Link.up c.args.link.now) (g.L.Link.down c.args.link.now) nodes c.in_ok-ends.ends honest c.requires.can texts up_level down_level
-    (c.in_ok-ends.ensures.page ∙ c.in_ok-page.ensures) c.in_ok-ends.ensures.agent c.in_ok-ends.ensures.splitter c.in_ok-ends.ensures.front c.in_ok-ends.ensures.up c.in_ok-ends.ensures.down in
+    let first = c.in_ok-ends.ensures in
+    let run = begins (g.L.Link.honest c.args.link.now) (g.L.Link.up c.args.link.now) (g.L.Link.down c.args.link.now) nodes c.in_ok-ends.ends honest c.requires.can c.requires.texts up_level down_level
+    (first.page ∙ c.in_ok-page.ensures) first.off first.agent first.splitter first.front first.up first.down first.told in
     let few : 0 + length c.args.lines ≤ 2 ^ 26 = omega (arith, c.requires.few) in
     let ran = (c.in-Err.ensures {u = tt}).runs (g.L.Link.up c.args.link.now) (g.L.Link.down c.args.link.now) w few run in
     stopped-took c.in-Err.stop (g.K.Sink.taken c.args.out.now) (g.K.Sink.taken c.run_lines.new.out)
-    (first_bad 2 false c.args.lines) (good_lines 2 false c.args.lines) w (c.in-Err.ensures {u = tt}).tells ran.1
+    (first_bad 2 c.args.lines) (good_lines 2 c.args.lines) w (c.in-Err.ensures {u = tt}).tells ran.1
+
+pub returns-in-Ok-clause-refused : goal.returns-in-Ok-clause-refused
+returns-in-Ok-clause-refused g c =
+    let up = g.L.Link.up c.args.link.now in
+    let down = g.L.Link.down c.args.link.now in
+    let nodes = nodes_of c.args.nodes.items in
+    let first = c.in_ok-ends.ensures in
+    let start = run-first up down nodes c.in_ok-ends.ends c.requires.can c.requires.texts
+    (first.page ∙ c.in_ok-page.ensures) first.off first.agent first.splitter first.front first.up first.down first.told in
+    let ran = c.in-Ok.ensures {u = c.in-Ok.field-0} in
+    let shown = c.close.ensures.shown (first_side nodes) up down (ran.follows (first_side nodes) up down start).0 in
+    shown.1
+
+pub returns-in-Ok-clause-closes : goal.returns-in-Ok-clause-closes
+returns-in-Ok-clause-closes g c =
+    let up = g.L.Link.up c.args.link.now in
+    let down = g.L.Link.down c.args.link.now in
+    let nodes = nodes_of c.args.nodes.items in
+    let first = c.in_ok-ends.ensures in
+    let start = run-first up down nodes c.in_ok-ends.ends c.requires.can c.requires.texts
+    (first.page ∙ c.in_ok-page.ensures) first.off first.agent first.splitter first.front first.up first.down first.told in
+    let ran = c.in-Ok.ensures {u = c.in-Ok.field-0} in
+    let shown = c.close.ensures.shown (first_side nodes) up down (ran.follows (first_side nodes) up down start).0 in
+    ends-shown c.close.result (g.K.Sink.taken c.args.out.now) (g.K.Sink.taken c.run_lines.new.out) (g.K.Sink.taken c.close.new.out)
+    (g.L.Link.up c.args.link.now) (g.L.Link.down c.args.link.now) (g.L.Link.up c.close.new.link) (g.L.Link.down c.close.new.link) ran.some shown.0
+
+pub returns-in-Ok-clause-replies : goal.returns-in-Ok-clause-replies
+returns-in-Ok-clause-replies g c =
+    let up = g.L.Link.up c.args.link.now in
+    let down = g.L.Link.down c.args.link.now in
+    let nodes = nodes_of c.args.nodes.items in
+    let first = c.in_ok-ends.ensures in
+    let start = run-first up down nodes c.in_ok-ends.ends c.requires.can c.requires.texts
+    (first.page ∙ c.in_ok-page.ensures) first.off first.agent first.splitter first.front first.up first.down first.told in
+    let ran = c.in-Ok.ensures {u = c.in-Ok.field-0} in
+    let shown = c.close.ensures.shown (first_side nodes) up down (ran.follows (first_side nodes) up down start).0 in
+    in-order c.close.result (g.K.Sink.taken c.run_lines.new.out) (g.K.Sink.taken c.close.new.out)
+    (g.L.Link.up c.args.link.now) (g.L.Link.down c.args.link.now) (g.L.Link.up c.close.new.link) (g.L.Link.down c.close.new.link) shown.0
+
+pub returns-clause-refused : goal.returns-clause-refused
+returns-clause-refused g c =
+    let up = g.L.Link.up c.args.link.now in
+    let down = g.L.Link.down c.args.link.now in
+    let nodes = nodes_of c.args.nodes.items in
+    let first = c.in_ok-ends.ensures in
+    let start = run-first up down nodes c.in_ok-ends.ends c.requires.can c.requires.texts
+    (first.page ∙ c.in_ok-page.ensures) first.off first.agent first.splitter first.front first.up first.down first.told in
+    ((c.in-Err.ensures {u = tt}).follows (first_side nodes) up down start).1

@@ -1,8 +1,9 @@
 -- A frame that is answered takes the run one step on.
-use Rattle.std.proofs.Common.{◌≡◌, ◌+◌, ◌++◌, List, length, arith, ap}
+use Rattle.std.proofs.Common.{◌≡◌, ◌+◌, ◌++◌, length, arith, refl}
 use Rattle.inspect_world.specs.Stream.{awaited}
 use Rattle.inspect_replay.specs.Runs.{ends_of}
 use Rattle.inspect_replay.proofs.EndLemmas.{answered_in}
+use Rattle.inspect_replay.proofs.FollowLemmas.{answered-follows, follows-good}
 use Rattle.inspect_replay.proofs.ends.Ends.answer.Goals as goal
 
 pub returns-in-Ok-clause-steps : goal.returns-in-Ok-clause-steps
@@ -11,9 +12,18 @@ returns-in-Ok-clause-steps g c = λ up0 down0 w honest in_world.
       tt,
       record {
         is_honest = c.send_down.ensures.honest honest;
-        in_world = answered_in up0 down0 _ _ _ _ w c.args.frame.now (c.args.self.now.splitter.whole ++ awaited w.up) (ends_of c.args.self.now)
-            c.take_message.new.self.page c.take_message.new.self.agent c.new-out.result.items c.take_message.new.out.items c.deref.result.now c.in-Some.there
-            in_world c.in_ok-take_message.ensures.page c.in_ok-take_message.ensures.stands c.in_ok-take_message.ensures.sent c.new-out.ensures.items
+        in_world = answered_in up0 down0 _ _ _ _ w c.args.frame.now (c.args.self.now.splitter.whole ++ awaited w.up) c.args.self.now.back c.take_message.new.self
+            (ends_of c.args.self.now) c.new-out.result.items c.take_message.new.out.items c.deref.result.now c.in-Some.there
+            in_world c.in_ok-take_message.ensures.stands c.in_ok-take_message.ensures.sent c.new-out.ensures.items
             c.deref.ensures.value c.send_down.ensures.up c.in-Ok.ensures.down left;
       },
     )
+
+pub returns-in-Ok-clause-follows : goal.returns-in-Ok-clause-follows
+returns-in-Ok-clause-follows g c = λ side0 up0 down0 f.
+    let after = answered-follows side0 up0 down0 (g.L.Link.up c.args.link.now) (g.L.Link.down c.args.link.now) (g.L.Link.up c.send_down.new.link) (g.L.Link.down c.send_down.new.link)
+    c.args.frame.now c.args.self.now.splitter.whole c.args.self.now.back c.take_message.new.self
+    (ends_of c.args.self.now) c.new-out.result.items c.take_message.new.out.items c.deref.result.now c.in-Some.there
+    f (c.if-not-has_room.ensures.0 refl) c.in_ok-take_message.ensures.stands c.in_ok-take_message.ensures.sent c.new-out.ensures.items
+    c.deref.ensures.value c.send_down.ensures.up c.in-Ok.ensures.down in
+    (after, follows-good side0 up0 down0 (g.L.Link.up c.send_down.new.link) (g.L.Link.down c.send_down.new.link) c.args.self.now.splitter.whole _ after)

@@ -1,9 +1,10 @@
 -- An ask that is sent takes the run to where the script takes it.
-use Rattle.std.proofs.Common.{◌≡◌, ◌+◌, ◌++◌, List, length, arith, ap, ◌∙◌}
+use Rattle.std.proofs.Common.{◌≡◌, ◌+◌, length, arith, ap, ◌∙◌, refl, Ok}
 use Rattle.front_mirror.specs.Front.{after_ask}
 use Rattle.replay_script.specs.Seen.{seen_ask}
 use Rattle.inspect_replay.specs.Runs.{ends_of}
 use Rattle.inspect_replay.proofs.EndLemmas.{asked_in, frame-seen}
+use Rattle.inspect_replay.proofs.FollowLemmas.{asked-follows, kept-run}
 use Rattle.inspect_replay.proofs.ends.Ends.ask.Goals as goal
 
 pub returns-in-Ok-clause-steps : goal.returns-in-Ok-clause-steps
@@ -16,7 +17,7 @@ returns-in-Ok-clause-steps g c = λ up0 down0 w few run.
         so_far = record {
           is_honest = c.send_up.ensures.honest run.so_far.is_honest;
           in_world = asked_in up0 down0 _ _ _ _ w e (seen_ask c.args.ask.now) c.args.self.now.splitter.whole frame c.deref.result.now c.in-Some.there c.ask.new.self
-              few run.so_far.in_world run.none_whole c.requires.built
+              c.requires.can few run.so_far.in_world run.none_whole
               (frame-seen c.args.self.now.front.next c.args.ask.now frame _ _ _ c.as_str.ensures c.as_ref.ensures.value c.as_ref-2.ensures.value c.in_ok-frame.ensures.frame)
               (c.in_ok-frame.ensures.asked ∙ ap (after_ask c.args.self.now.front) c.as_str.ensures)
               c.deref.ensures.value c.in-Ok.ensures.up c.send_up.ensures.down left;
@@ -24,3 +25,17 @@ returns-in-Ok-clause-steps g c = λ up0 down0 w few run.
         none_whole = run.none_whole;
       },
     )
+
+pub returns-in-Ok-clause-follows : goal.returns-in-Ok-clause-follows
+returns-in-Ok-clause-follows g c = λ side0 up0 down0 run.
+    let e = ends_of c.args.self.now in
+    let frame = c.in_ok-frame.frame.items in
+    let next = c.args.self.now.front.next in
+    kept-run (Ok c.in-Ok.field-0) side0 up0 down0 _ _ _ tt (record {
+      so_far = asked-follows side0 up0 down0 _ _ _ _ e (seen_ask c.args.ask.now) c.args.self.now.splitter.whole frame c.deref.result.now c.in-Some.there c.ask.new.self
+          c.requires.can (c.if-not-has_room.ensures.0 refl) run.so_far
+          (frame-seen next c.args.ask.now frame _ _ _ c.as_str.ensures c.as_ref.ensures.value c.as_ref-2.ensures.value c.in_ok-frame.ensures.frame)
+          (c.in_ok-frame.ensures.asked ∙ ap (after_ask c.args.self.now.front) c.as_str.ensures)
+          c.deref.ensures.value c.in-Ok.ensures.up c.send_up.ensures.down;
+      none_whole = run.none_whole;
+    })

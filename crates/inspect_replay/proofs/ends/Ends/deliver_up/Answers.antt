@@ -6,3 +6,7 @@ pub returns-in-Ok-clause-steps : goal.returns-in-Ok-clause-steps
 returns-in-Ok-clause-steps g c = λ up0 down0 w run.
     deliver_goes c.answer_frames.result _ _ up0 down0 _ _ _ _ w c.args.n c.take_up.new.self c.answer_frames.new.self
     (c.in-Ok.ensures.steps up0 down0 w run).1 c.answer_frames.ensures.steps
+
+pub returns-in-Ok-clause-follows : goal.returns-in-Ok-clause-follows
+returns-in-Ok-clause-follows g c = λ side0 up0 down0 run.
+    c.answer_frames.ensures.follows side0 up0 down0 (c.in-Ok.ensures.follows side0 up0 down0 run).0

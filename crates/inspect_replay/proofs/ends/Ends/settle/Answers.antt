@@ -6,3 +6,7 @@ pub returns-in-Ok-clause-steps : goal.returns-in-Ok-clause-steps
 returns-in-Ok-clause-steps g c = λ up0 down0 w run.
     settle_goes c.deliver_down.result _ _ up0 down0 _ _ _ _ w c.args.self.now.up_there c.deliver_up.new.self c.deliver_down.new.self
     run.so_far.in_world.up_left (c.in-Ok.ensures.steps up0 down0 w run).1 c.deliver_down.ensures.steps
+
+pub returns-in-Ok-clause-follows : goal.returns-in-Ok-clause-follows
+returns-in-Ok-clause-follows g c = λ side0 up0 down0 run.
+    c.deliver_down.ensures.follows side0 up0 down0 (c.in-Ok.ensures.follows side0 up0 down0 run).0
