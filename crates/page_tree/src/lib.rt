@@ -2,6 +2,7 @@
 #![tactic(auto)]
 
 mod attributes;
+mod edits;
 mod faults;
 mod forms;
 mod labels;
@@ -12,6 +13,7 @@ mod pages;
 mod search;
 mod trees;
 
+pub use edits::TreeEdit;
 pub use faults::{LoadErr, LoadFault};
 pub use forms::NodeForm;
 pub use loads::read_nodes;
