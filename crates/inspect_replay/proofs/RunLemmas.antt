@@ -25,10 +25,11 @@ use Rattle.front_mirror.specs.Outline.{outline_text, seen_line}
 use Rattle.inspect_world.specs.Stream.{awaited, sent}
 use Rattle.inspect_world.specs.World.{World, settled}
 use Rattle.inspect_world.specs.Fold.{folded, joined}
-use Rattle.inspect_world.specs.Sides.{Side, step, view_of}
+use Rattle.back_end.specs.States.{State, step, view_of}
 use Rattle.inspect_world.specs.Fits.{most_asks, FitsWith, Fits, join}
 use Rattle.inspect_world.specs.Scripts.{sends, all_told, after_line, after_lines, line_text, lines_text, replies_after, closing_text, closing_unless, rest_text, text_of, report, loaded_world}
-use Rattle.inspect_world.specs.ScriptsFit.{ShowsAll, HaveTexts}
+use Rattle.back_end.specs.Texts.{HaveTexts}
+use Rattle.inspect_world.specs.ScriptsFit.{ShowsAll}
 use Rattle.inspect_world.specs.Held.{Ends as HeldEnds, InWorld}
 use Rattle.inspect_world.specs.Told.{told_of, told_lines, replies_in}
 use Rattle.inspect_replay.specs.declared.ends.Ends.{Ends}
@@ -88,8 +89,8 @@ ask-carries result honest honest1 up down up1 down1 taken e e1 a form is asks =
 
 -- nor does a line that delivers bytes
 pub move-carries : (result : Result (Unit {0}) Stop) (honest honest1 : Type 0) (up down up1 down1 : Pipe) (taken : Option (List ℕ)) (e e1 : Ends)
-    (f : World Side → World Side) (move form : LineForm)
-    → ((w : World Side) → f w ≡ after_line move w) → ((w : World Side) → [] ≡ line_text move w) → form ≡ move → Steps honest honest1 up down up1 down1 e e1 result f
+    (f : World State → World State) (move form : LineForm)
+    → ((w : World State) → f w ≡ after_line move w) → ((w : World State) → [] ≡ line_text move w) → form ≡ move → Steps honest honest1 up down up1 down1 e e1 result f
     → CarriesOut honest honest1 up down up1 down1 taken taken e e1 form result
 move-carries result honest honest1 up down up1 down1 taken e e1 f move form goes silent is steps =
     subst (λ line. CarriesOut honest honest1 up down up1 down1 taken taken e e1 line result) (sym is)
@@ -109,9 +110,9 @@ same-carries result honest honest1 up down up1 down1 taken taken1 e e1 line form
 ok-same : {F E : Type 0} (r : Result F E) (a b : F) → r ≡ Ok a → r ≡ Ok b → a ≡ b
 ok-same r a b x y = let both : Ok a ≡ Ok b = sym x ∙ y in cc
 
-pub shown-settled : (honest honest1 : Type 0) (up0 down0 up down up1 down1 : Pipe) (w : World Side) (e e1 : Ends)
+pub shown-settled : (honest honest1 : Type 0) (up0 down0 up down up1 down1 : Pipe) (w : World State) (e e1 : Ends)
     → InRun honest up0 down0 up down w e → InRun honest1 up0 down0 up1 down1 (settled step w) e1
-    → e1.front.value.tree ≡ view_of (settled step w).side
+    → e1.front.value.tree ≡ view_of (settled step w).state
 shown-settled honest honest1 up0 down0 up down up1 down1 w e e1 before after =
     let fits : Fits w = subst (λ frames. FitsWith w (frames ++ awaited w.up)) before.none_whole before.so_far.in_world.fits in
     let shows : ShowsAll (settled step w) = settled-shows w fits in
@@ -131,7 +132,7 @@ prints-same (Err stop) before after text text1 same ok err = subst (λ t. WroteP
 -- what a settle takes a run to
 abbrev pub SettlesTo : Type 0 → Type 0 → Pipe → Pipe → Pipe → Pipe → Ends → Ends → Type 0
 SettlesTo honest honest1 up down up1 down1 e e1 =
-    (up0 down0 : Pipe) (w : World Side) → InRun honest up0 down0 up down w e → InRun honest1 up0 down0 up1 down1 (settled step w) e1
+    (up0 down0 : Pipe) (w : World State) → InRun honest up0 down0 up down w e → InRun honest1 up0 down0 up1 down1 (settled step w) e1
 
 after-ok : {T P : Type 0} (result : Result T Stop) → P → OnOk result P
 after-ok (Ok value) p = p
@@ -146,16 +147,16 @@ pub show-carries : (result : Result (Unit {0}) Stop) (honest honest1 : Type 0) (
     → CarriesOut honest honest1 up down up1 down1 taken taken1 e e1 show_front result
 show-carries result honest honest1 up down up1 down1 taken taken1 e e1 tree settles same never ok err = λ up0 down0 w few run.
     let after : InRun honest1 up0 down0 up1 down1 (settled step w) e1 = settles up0 down0 w run in
-    let shows : tree ≡ view_of (settled step w).side = same ∙ shown-settled honest honest1 up0 down0 up down up1 down1 w e e1 run after in (
+    let shows : tree ≡ view_of (settled step w).state = same ∙ shown-settled honest honest1 up0 down0 up down up1 down1 w e e1 run after in (
       never,
       after-ok result after,
-      prints-same result taken taken1 (codes "# front" ++ 10 ∷ outline_text seen_line tree) (codes "# front" ++ 10 ∷ outline_text seen_line (view_of (settled step w).side))
+      prints-same result taken taken1 (codes "# front" ++ 10 ∷ outline_text seen_line tree) (codes "# front" ++ 10 ∷ outline_text seen_line (view_of (settled step w).state))
           (ap (λ t. codes "# front" ++ 10 ∷ outline_text seen_line t) shows) ok err,
     )
 
 -- a show that did not settle
 pub show-stops : (stop : Stop) (honest honest1 : Type 0) (up down up1 down1 : Pipe) (taken : Option (List ℕ)) (e e1 : Ends) (form : LineForm)
-    → ((up0 down0 : Pipe) (w : World Side) → InRun honest up0 down0 up down w e → NotRefused {T = Unit {0}} (Err stop))
+    → ((up0 down0 : Pipe) (w : World State) → InRun honest up0 down0 up down w e → NotRefused {T = Unit {0}} (Err stop))
     → CarriesOut {T = Unit {0}} honest honest1 up down up1 down1 taken taken e e1 form (Err stop)
 show-stops stop honest honest1 up down up1 down1 taken e e1 form never = λ up0 down0 w few run.
     (never up0 down0 w run, tt, record { part = []; rest = line_text form w; whole = refl; wrote = Appends-nil taken })
@@ -171,7 +172,7 @@ pub record Untold (e : Ends) (kept : List Kept) : Type 0 where
   pub kept_is : kept ≡ drop count all
 
 -- those that are printed after a settle are those that came since they were told last
-told-settled : (honest1 : Type 0) (up0 down0 up1 down1 : Pipe) (w : World Side) (e1 : Ends) (kept : List Kept)
+told-settled : (honest1 : Type 0) (up0 down0 up1 down1 : Pipe) (w : World State) (e1 : Ends) (kept : List Kept)
     → InRun honest1 up0 down0 up1 down1 (settled step w) e1 → Untold e1 kept → map told_of kept ≡ replies_after w.told (settled step w)
 told-settled honest1 up0 down0 up1 down1 w e1 kept after u =
     let in_world = after.so_far.in_world in
@@ -189,7 +190,7 @@ told-settled honest1 up0 down0 up1 down1 w e1 kept after u =
 abbrev pub replies_text : List Kept → List ℕ
 replies_text kept = codes "# replies" ++ 10 ∷ told_lines (map told_of kept)
 
-replies-same : (honest1 : Type 0) (up0 down0 up1 down1 : Pipe) (w : World Side) (e1 : Ends) (kept : List Kept)
+replies-same : (honest1 : Type 0) (up0 down0 up1 down1 : Pipe) (w : World State) (e1 : Ends) (kept : List Kept)
     → InRun honest1 up0 down0 up1 down1 (settled step w) e1 → Untold e1 kept → replies_text kept ≡ line_text show_replies w
 replies-same honest1 up0 down0 up1 down1 w e1 kept after u =
     ap (λ ts. codes "# replies" ++ 10 ∷ told_lines ts) (told-settled honest1 up0 down0 up1 down1 w e1 kept after u)
@@ -231,14 +232,14 @@ pub closes-well : (result : Result (Unit {0}) Stop) (honest honest1 : Type 0) (u
     → Closes honest up down taken taken1 e result
 closes-well result honest honest1 up down up1 down1 taken taken1 e e1 tree settles same never ok err = λ up0 down0 w run.
     let after : InRun honest1 up0 down0 up1 down1 (settled step w) e1 = settles up0 down0 w run in
-    let shows : tree ≡ view_of (settled step w).side = same ∙ shown-settled honest honest1 up0 down0 up down up1 down1 w e e1 run after in (
+    let shows : tree ≡ view_of (settled step w).state = same ∙ shown-settled honest honest1 up0 down0 up down up1 down1 w e e1 run after in (
       never,
-      prints-same result taken taken1 (codes "# end" ++ 10 ∷ outline_text seen_line tree) (codes "# end" ++ 10 ∷ outline_text seen_line (view_of (settled step w).side))
+      prints-same result taken taken1 (codes "# end" ++ 10 ∷ outline_text seen_line tree) (codes "# end" ++ 10 ∷ outline_text seen_line (view_of (settled step w).state))
           (ap (λ t. codes "# end" ++ 10 ∷ outline_text seen_line t) shows) ok err,
     )
 
 pub closes-not : (stop : Stop) (honest : Type 0) (up down : Pipe) (taken : Option (List ℕ)) (e : Ends)
-    → ((up0 down0 : Pipe) (w : World Side) → InRun honest up0 down0 up down w e → NotRefused {T = Unit {0}} (Err stop))
+    → ((up0 down0 : Pipe) (w : World State) → InRun honest up0 down0 up down w e → NotRefused {T = Unit {0}} (Err stop))
     → Closes {T = Unit {0}} honest up down taken taken e (Err stop)
 closes-not stop honest up down taken e never = λ up0 down0 w run.
     (never up0 down0 w run, record { part = []; rest = closing_text w; whole = refl; wrote = Appends-nil taken })
@@ -246,9 +247,9 @@ closes-not stop honest up down taken e never = λ up0 down0 w run.
 -- ---- the lines
 
 -- where a run of lines is: the world, what was printed so far, and that the lines left do the rest
-pub record Running (honest : Type 0) (up0 down0 up down : Pipe) (taken0 taken : Option (List ℕ)) (all_text : List ℕ) (all_world : World Side)
+pub record Running (honest : Type 0) (up0 down0 up down : Pipe) (taken0 taken : Option (List ℕ)) (all_text : List ℕ) (all_world : World State)
     (number : ℕ) (lines : List (List ℕ)) (e : Ends) : Type 0 where
-  pub world : World Side
+  pub world : World State
   pub in_run : InRun honest up0 down0 up down world e
   pub few : world.asks + length lines ≤ most_asks
   pub so_far : List ℕ
@@ -262,7 +263,7 @@ FailsPart (Ok value) before after text = Unit {0}
 FailsPart (Err stop) before after text = WrotePart before after text
 
 -- the same of lines that are equal
-pub with_lines : (honest : Type 0) (up0 down0 up down : Pipe) (taken0 taken : Option (List ℕ)) (all_text : List ℕ) (all_world : World Side)
+pub with_lines : (honest : Type 0) (up0 down0 up down : Pipe) (taken0 taken : Option (List ℕ)) (all_text : List ℕ) (all_world : World State)
     (number : ℕ) (lines lines1 : List (List ℕ)) (e : Ends) → lines ≡ lines1
     → Running honest up0 down0 up down taken0 taken all_text all_world number lines e
     → Running honest up0 down0 up down taken0 taken all_text all_world number lines1 e
@@ -270,7 +271,7 @@ with_lines honest up0 down0 up down taken0 taken all_text all_world number lines
     subst (λ ls. Running honest up0 down0 up down taken0 taken all_text all_world number ls e) same running
 
 -- how many asks a line sends
-asks-after : (line : LineForm) (w : World Side) → (after_line line w).asks ≤ w.asks + 1
+asks-after : (line : LineForm) (w : World State) → (after_line line w).asks ≤ w.asks + 1
 asks-after (load nodes) w = omega arith
 asks-after (ask a) w = omega arith
 asks-after (forms_of.up n) w = omega arith
@@ -281,7 +282,7 @@ asks-after show_replies w = omega arith
 
 -- one line is carried out
 pub run_turn : (result : Result (Unit {0}) Stop) (c : Counts) (honest honest1 : Type 0) (up0 down0 up down up1 down1 : Pipe) (taken0 taken taken1 : Option (List ℕ))
-    (all_text : List ℕ) (all_world : World Side) (number : ℕ) (line : List ℕ) (more : List (List ℕ)) (form : LineForm) (e e1 : Ends)
+    (all_text : List ℕ) (all_world : World State) (number : ℕ) (line : List ℕ) (more : List (List ℕ)) (form : LineForm) (e e1 : Ends)
     → Running honest up0 down0 up down taken0 taken all_text all_world number (line ∷ more) e
     → line_fault number line ≡ None → line_form line ≡ Some form → CarriesOut honest honest1 up down up1 down1 taken taken1 e e1 form result
     → NotRefused result
@@ -303,7 +304,7 @@ run_turn result c honest honest1 up0 down0 up down up1 down1 taken0 taken taken1
     (all.0, rest.0, rest.1)
   where
     by-result : (result : Result (Unit {0}) Stop) (c : Counts) (honest1 : Type 0) (up0 down0 up1 down1 : Pipe) (taken0 taken taken1 : Option (List ℕ))
-        (all_text : List ℕ) (all_world : World Side) (number1 : ℕ) (more : List (List ℕ)) (e1 : Ends) (w : World Side) (form : LineForm) (so_far : List ℕ) (later : List LineForm)
+        (all_text : List ℕ) (all_world : World State) (number1 : ℕ) (more : List (List ℕ)) (e1 : Ends) (w : World State) (form : LineForm) (so_far : List ℕ) (later : List LineForm)
         → later ≡ good_lines number1 more
         → (after_line form w).asks + length more ≤ most_asks
         → Appends taken0 taken so_far
@@ -335,11 +336,11 @@ run_turn result c honest honest1 up0 down0 up down up1 down1 taken0 taken taken1
 
 -- ---- how the lines end
 
-nothing-left : (so_far : List ℕ) (w : World Side) (forms : List LineForm) → forms ≡ [] → so_far ++ lines_text forms w ≡ so_far
+nothing-left : (so_far : List ℕ) (w : World State) (forms : List LineForm) → forms ≡ [] → so_far ++ lines_text forms w ≡ so_far
 nothing-left so_far w forms e = ap (λ fs. so_far ++ lines_text fs w) e ∙ append-nil so_far
 
 -- a line is not read
-pub read-stops : (stop : Stop) (honest : Type 0) (up0 down0 up down : Pipe) (taken0 taken : Option (List ℕ)) (all_text : List ℕ) (all_world : World Side)
+pub read-stops : (stop : Stop) (honest : Type 0) (up0 down0 up down : Pipe) (taken0 taken : Option (List ℕ)) (all_text : List ℕ) (all_world : World State)
     (number : ℕ) (line : List ℕ) (more : List (List ℕ)) (e : Ends)
     → Running honest up0 down0 up down taken0 taken all_text all_world number (line ∷ more) e
     → IsRead {T = Unit {0}} (Err stop) number (line_fault number line)
@@ -358,7 +359,7 @@ read-stops Memory honest up0 down0 up down taken0 taken all_text all_world numbe
     (WrotePart-all taken0 taken running.so_far (lines_text (good_lines number (line ∷ more)) running.world) running.wrote)
 
 -- no line is left
-pub lines-done : (honest : Type 0) (up0 down0 up down : Pipe) (taken0 taken : Option (List ℕ)) (all_text : List ℕ) (all_world : World Side)
+pub lines-done : (honest : Type 0) (up0 down0 up down : Pipe) (taken0 taken : Option (List ℕ)) (all_text : List ℕ) (all_world : World State)
     (number : ℕ) (lines : List (List ℕ)) (e : Ends)
     → Running honest up0 down0 up down taken0 taken all_text all_world number lines e → lines ≡ []
     → InRun honest up0 down0 up down all_world e × Appends taken0 taken all_text
@@ -369,7 +370,7 @@ lines-done honest up0 down0 up down taken0 taken all_text all_world number lines
     )
 
 -- the part after the lines
-pub closed-took : (result : Result (Unit {0}) Stop) (c : Counts) (taken0 taken taken1 : Option (List ℕ)) (bad : Option (ℕ × LineFault)) (forms : List LineForm) (w : World Side)
+pub closed-took : (result : Result (Unit {0}) Stop) (c : Counts) (taken0 taken taken1 : Option (List ℕ)) (bad : Option (ℕ × LineFault)) (forms : List LineForm) (w : World State)
     → bad ≡ None → RoseAt c result → NotRefused result
     → Appends taken0 taken (lines_text forms w) → Prints result taken taken1 (closing_text (after_lines forms w))
     → RunTook result taken0 taken1 (rest_text bad forms w)
@@ -382,7 +383,7 @@ closed-took (Err stop) c taken0 taken taken1 bad forms w none rose well wrote pr
     (WrotePart-after taken0 taken taken1 (lines_text forms w) (closing_text (after_lines forms w)) wrote printed))
 
 -- the lines stopped
-pub stopped-took : (stop : Stop) (taken0 taken : Option (List ℕ)) (bad : Option (ℕ × LineFault)) (forms : List LineForm) (w : World Side)
+pub stopped-took : (stop : Stop) (taken0 taken : Option (List ℕ)) (bad : Option (ℕ × LineFault)) (forms : List LineForm) (w : World State)
     → RunTells {T = Unit {0}} (Err stop) bad → RunTook {T = Unit {0}} (Err stop) taken0 taken (lines_text forms w)
     → RunTook {T = Unit {0}} (Err stop) taken0 taken (rest_text bad forms w)
 stopped-took (Line n fault) taken0 taken bad forms w tells took =
@@ -431,7 +432,7 @@ abbrev pub first_ends : Nodes Label → HeldEnds
 first_ends nodes = record { page = loaded 1 nodes; is_on = false; bound = empty_from 1; back_rest = []; front = first_state; up_there = 0; down_there = 0; told = 0 }
 
 pub ends-first : (nodes : Nodes Label) (e : Ends)
-    → e.back.page ≡ loaded 1 nodes → e.back.is_on ≡ false → e.back.agent ≡ empty_from 1 → e.splitter ≡ no_frames → e.front ≡ first_state
+    → e.side.page ≡ loaded 1 nodes → e.seat.is_on ≡ false → e.seat.agent ≡ empty_from 1 → e.splitter ≡ no_frames → e.front ≡ first_state
     → e.up_there ≡ 0 → e.down_there ≡ 0 → e.told ≡ 0 → ends_of e ≡ first_ends nodes
 ends-first nodes e page_is off agent_is splitter_is front_is up_none down_none told_none = λ i. record {
   page = page_is i;
@@ -449,7 +450,7 @@ unfolding frames_of
 nothing-awaited nodes = refl
 
 pub begins : (honest : Type 0) (up down : Pipe) (nodes : Nodes Label) (e : Ends) → honest → CanLoad nodes → HaveTexts nodes → IsLevel up → IsLevel down
-    → e.back.page ≡ loaded 1 nodes → e.back.is_on ≡ false → e.back.agent ≡ empty_from 1 → e.splitter ≡ no_frames → e.front ≡ first_state
+    → e.side.page ≡ loaded 1 nodes → e.seat.is_on ≡ false → e.seat.agent ≡ empty_from 1 → e.splitter ≡ no_frames → e.front ≡ first_state
     → e.up_there ≡ 0 → e.down_there ≡ 0 → e.told ≡ 0
     → InRun honest up down up down (loaded_world nodes) e
 begins honest up down nodes e is_honest can texts up_level down_level page_is off agent_is splitter_is front_is up_none down_none told_none =

@@ -6,7 +6,7 @@ use Rattle.pipe_frames.specs.Frames.{frames_of}
 use Rattle.front_mirror.specs.declared.faults.FrontFault.{FrontFault}
 use Rattle.front_mirror.specs.Front.{FrontValue}
 use Rattle.front_mirror.specs.Outline.{outline_text, seen_line}
-use Rattle.inspect_world.specs.Sides.{Side}
+use Rattle.back_end.specs.States.{State}
 use Rattle.inspect_world.specs.Links.{Follows, fold_of}
 use Rattle.inspect_world.specs.Told.{Told, replies_in, reply_id}
 use Rattle.inspect_replay.specs.declared.ends.Ends.{Ends}
@@ -58,36 +58,36 @@ StopFolds (Err (FrontRefused place kind)) fold = fold ≡ Err (record { place = 
 StopFolds (Err Memory) fold = ⊤
 
 -- the ends follow the link; the splitter may hold whole frames that are not yet answered
-abbrev pub FollowsWith : Side → (up0 down0 up down : Pipe) → Ends → Type 0
-FollowsWith side0 up0 down0 up down e = Follows side0 up0 down0 up down e.splitter.whole (ends_of e)
+abbrev pub FollowsWith : State → (up0 down0 up down : Pipe) → Ends → Type 0
+FollowsWith state0 up0 down0 up down e = Follows state0 up0 down0 up down e.splitter.whole (ends_of e)
 
-pub record FollowsRun (side0 : Side) (up0 down0 up down : Pipe) (e : Ends) : Type 0 where
-  pub so_far : FollowsWith side0 up0 down0 up down e
+pub record FollowsRun (state0 : State) (up0 down0 up down : Pipe) (e : Ends) : Type 0 where
+  pub so_far : FollowsWith state0 up0 down0 up down e
   pub none_whole : e.splitter.whole ≡ []
 
 -- a call goes on following, or stops as the fold says
 abbrev pub KeepsFollowing : {T : Type 0} → (up_old down_old up_new down_new : Pipe) → Ends → Ends → Result T Stop → Type 0
 KeepsFollowing up_old down_old up_new down_new old new result =
-    (side0 : Side) (up0 down0 : Pipe) → FollowsRun side0 up0 down0 up_old down_old old
-    → OnOk result (FollowsRun side0 up0 down0 up_new down_new new) × StopFolds result (fold_since up0 down0 up_new down_new)
+    (state0 : State) (up0 down0 : Pipe) → FollowsRun state0 up0 down0 up_old down_old old
+    → OnOk result (FollowsRun state0 up0 down0 up_new down_new new) × StopFolds result (fold_since up0 down0 up_new down_new)
 
 -- the same of a call that leaves whole frames in the splitter
 abbrev pub KeepsFollowingWith : {T : Type 0} → (up_old down_old up_new down_new : Pipe) → Ends → Ends → Result T Stop → Type 0
 KeepsFollowingWith up_old down_old up_new down_new old new result =
-    (side0 : Side) (up0 down0 : Pipe) → FollowsRun side0 up0 down0 up_old down_old old
-    → OnOk result (FollowsWith side0 up0 down0 up_new down_new new) × StopFolds result (fold_since up0 down0 up_new down_new)
+    (state0 : State) (up0 down0 : Pipe) → FollowsRun state0 up0 down0 up_old down_old old
+    → OnOk result (FollowsWith state0 up0 down0 up_new down_new new) × StopFolds result (fold_since up0 down0 up_new down_new)
 
 -- and of one that answers them all
 abbrev pub FollowsAnswers : {T : Type 0} → (up_old down_old up_new down_new : Pipe) → Ends → Ends → Result T Stop → Type 0
 FollowsAnswers up_old down_old up_new down_new old new result =
-    (side0 : Side) (up0 down0 : Pipe) → FollowsWith side0 up0 down0 up_old down_old old
-    → OnOk result (FollowsRun side0 up0 down0 up_new down_new new) × StopFolds result (fold_since up0 down0 up_new down_new)
+    (state0 : State) (up0 down0 : Pipe) → FollowsWith state0 up0 down0 up_old down_old old
+    → OnOk result (FollowsRun state0 up0 down0 up_new down_new new) × StopFolds result (fold_since up0 down0 up_new down_new)
 
 -- and of one that answers this frame, before those that the splitter holds
 abbrev pub FollowsAnswer : {T : Type 0} → (up_old down_old up_new down_new : Pipe) → Ends → Ends → List ℕ → Result T Stop → Type 0
 FollowsAnswer up_old down_old up_new down_new old new frame result =
-    (side0 : Side) (up0 down0 : Pipe) → Follows side0 up0 down0 up_old down_old (frame ∷ old.splitter.whole) (ends_of old)
-    → OnOk result (FollowsWith side0 up0 down0 up_new down_new new) × StopFolds result (fold_since up0 down0 up_new down_new)
+    (state0 : State) (up0 down0 : Pipe) → Follows state0 up0 down0 up_old down_old (frame ∷ old.splitter.whole) (ends_of old)
+    → OnOk result (FollowsWith state0 up0 down0 up_new down_new new) × StopFolds result (fold_since up0 down0 up_new down_new)
 
 -- something was printed, or nothing
 pub record PrintedSome (before after : Option (List ℕ)) : Type 0 where
@@ -97,6 +97,6 @@ pub record PrintedSome (before after : Option (List ℕ)) : Type 0 where
 -- the closing part is printed
 abbrev pub ClosesShown : {T : Type 0} → (up_old down_old up_new down_new : Pipe) → (before after : Option (List ℕ)) → Ends → Result T Stop → Type 0
 ClosesShown up_old down_old up_new down_new before after old result =
-    (side0 : Side) (up0 down0 : Pipe) → FollowsRun side0 up0 down0 up_old down_old old
+    (state0 : State) (up0 down0 : Pipe) → FollowsRun state0 up0 down0 up_old down_old old
     → OnOk result (EndsShown before after (fold_since up0 down0 up_new down_new) × AnswersInOrder up0 down0 up_new down_new)
     × StopFolds result (fold_since up0 down0 up_new down_new)

@@ -2,7 +2,6 @@ pub mod Words
 pub mod Statuses
 pub mod Stops
 pub mod Moved
-pub mod Backs
 pub mod Runs
 pub mod Followed
 pub mod Answers

@@ -8,7 +8,7 @@ use Rattle.replay_script.specs.Forms as forms
 use Rattle.replay_script.specs.declared.faults.LineFault.{LineFault}
 use Rattle.replay_script.specs.Script.{good_lines}
 use Rattle.inspect_world.specs.World.{World}
-use Rattle.inspect_world.specs.Sides.{Side}
+use Rattle.back_end.specs.States.{State}
 use Rattle.inspect_world.specs.Fits.{most_asks}
 use Rattle.inspect_world.specs.Scripts.{after_line, after_lines, line_text, lines_text, closing_text}
 use Rattle.inspect_replay.specs.declared.ends.Ends.{Ends}
@@ -21,7 +21,7 @@ use Rattle.inspect_replay.specs.Answers.{RunTook, Prints}
 -- a line is carried out, and prints what it prints
 abbrev pub CarriesOut : {T : Type 0} → Type 0 → Type 0 → Pipe → Pipe → Pipe → Pipe → Option (List ℕ) → Option (List ℕ) → Ends → Ends → LineForm → Result T Stop → Type 0
 CarriesOut honest_old honest_new up_old down_old up_new down_new taken_old taken_new old new line result =
-    (up0 down0 : Pipe) (w : World Side) → w.asks < most_asks → InRun honest_old up0 down0 up_old down_old w old
+    (up0 down0 : Pipe) (w : World State) → w.asks < most_asks → InRun honest_old up0 down0 up_old down_old w old
     → NotRefused result
     × OnOk result (InRun honest_new up0 down0 up_new down_new (after_line line w) new)
     × Prints result taken_old taken_new (line_text line w)
@@ -29,14 +29,14 @@ CarriesOut honest_old honest_new up_old down_old up_new down_new taken_old taken
 -- the lines after the load are carried out, up to the first that is refused
 abbrev pub RunsLines : {T : Type 0} → Type 0 → Type 0 → Pipe → Pipe → Pipe → Pipe → Option (List ℕ) → Option (List ℕ) → Ends → Ends → List (List ℕ) → Result T Stop → Type 0
 RunsLines honest_old honest_new up_old down_old up_new down_new taken_old taken_new old new lines result =
-    (up0 down0 : Pipe) (w : World Side) → w.asks + length lines ≤ most_asks → InRun honest_old up0 down0 up_old down_old w old
+    (up0 down0 : Pipe) (w : World State) → w.asks + length lines ≤ most_asks → InRun honest_old up0 down0 up_old down_old w old
     → OnOk result (InRun honest_new up0 down0 up_new down_new (after_lines (good_lines 2 lines) w) new)
     × RunTook result taken_old taken_new (lines_text (good_lines 2 lines) w)
 
 -- the closing part is printed
 abbrev pub Closes : {T : Type 0} → Type 0 → Pipe → Pipe → Option (List ℕ) → Option (List ℕ) → Ends → Result T Stop → Type 0
 Closes honest_old up_old down_old taken_old taken_new old result =
-    (up0 down0 : Pipe) (w : World Side) → InRun honest_old up0 down0 up_old down_old w old
+    (up0 down0 : Pipe) (w : World State) → InRun honest_old up0 down0 up_old down_old w old
     → NotRefused result × Prints result taken_old taken_new (closing_text w)
 
 -- a line is read, or refused with its number and fault

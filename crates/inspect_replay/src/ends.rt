@@ -6,15 +6,15 @@ ghost use Rattle.front_mirror.specs.Front.{first_state};
 ghost use Rattle.replay_script.specs.Seen.{seen_ask};
 ghost use Rattle.inspect_replay.specs.Stops.{HasStopCause};
 ghost use Rattle.inspect_world.specs.World.{delivered_up, delivered_down, settled};
-ghost use Rattle.inspect_world.specs.Sides.{step};
+ghost use Rattle.back_end.specs.States.{step};
 ghost use Rattle.inspect_world.specs.Scripts.{sends};
 ghost use Rattle.inspect_world.specs.ScriptsFit.{CanSend};
 ghost use Rattle.inspect_replay.specs.Runs.{Steps, Asks, TakesUp, AnswersAll, AnswersOne};
 ghost use Rattle.inspect_replay.specs.Followed.{KeepsFollowing, KeepsFollowingWith, FollowsAnswers, FollowsAnswer};
 
-use crate::back::Back;
 use crate::pipes::{receive_down, receive_up, send_down, send_up};
 use crate::stop::Stop;
+use back_end::{PageSide, Seat};
 use front_mirror::{Front, FrontErr, Kept, Mirror};
 use page_tree::Page;
 use pipe_frames::{Link, Splitter};
@@ -25,7 +25,8 @@ use std::alloc::{AllocError, Global};
 #[derive(Drop)]
 pub(crate) struct Ends {
     pub(crate) alloc: Global,
-    pub(crate) back: Back,
+    pub(crate) side: PageSide,
+    pub(crate) seat: Seat,
     pub(crate) splitter: Splitter,
     pub(crate) front: Front,
     pub(crate) up_there: u64,
@@ -35,9 +36,9 @@ pub(crate) struct Ends {
 
 impl Ends {
     pub(crate) fn new(alloc: Global, page: Page) -> Result<Ends, AllocError>
-        ensures page { IfOk result (λ ends. ends.back.page ≡ page) }
-        ensures off { IfOk result (λ ends. ends.back.is_on ≡ false) }
-        ensures agent { IfOk result (λ ends. ends.back.agent ≡ empty_from 1) }
+        ensures page { IfOk result (λ ends. ends.side.page ≡ page) }
+        ensures off { IfOk result (λ ends. ends.seat.is_on ≡ false) }
+        ensures agent { IfOk result (λ ends. ends.seat.agent ≡ empty_from 1) }
         ensures splitter { IfOk result (λ ends. ends.splitter ≡ record { whole = []; rest = [] }) }
         ensures front { IfOk result (λ ends. ends.front ≡ first_state) }
         ensures up { IfOk result (λ ends. ends.up_there ≡ 0) }
@@ -46,7 +47,8 @@ impl Ends {
     {
         Ok(Ends {
             alloc,
-            back: Back::new(alloc, page),
+            side: PageSide::new(page),
+            seat: Seat::new(alloc),
             splitter: Splitter::new(alloc),
             front: Front::new(alloc)?,
             up_there: 0,
@@ -164,11 +166,11 @@ impl Ends {
         ensures steps { AnswersOne (L.honest link.old) (L.honest link.new) (L.up link.old) (L.down link.old)
             (L.up link.new) (L.down link.new) self.old self.new frame.now result }
     {
-        if !self.back.has_room() {
+        if !self.seat.has_room() {
             return Err(Stop::Memory);
         }
         let mut out = Vec::new(self.alloc);
-        self.back.take_message(frame, &mut out)?;
+        self.seat.take_message(&mut self.side, frame, &mut out)?;
         let Some(there) = self.down_there.checked_add(out.len() as u64) else {
             return Err(Stop::Memory);
         };
