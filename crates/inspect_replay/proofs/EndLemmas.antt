@@ -25,6 +25,7 @@ use Rattle.inspect_replay.specs.declared.ends.Ends.{Ends as ProgramEnds}
 use Rattle.inspect_replay.specs.declared.stop.Stop.{Stop}
 use Rattle.back_end.specs.Seats.{StandsFor, Seated}
 use Rattle.inspect_replay.specs.Runs.{InRunWith, InRun, AnswersOne, AnswersAll, Steps, ends_of}
+use Rattle.inspect_replay.specs.Moments.{moment}
 use Rattle.inspect_replay.specs.Stops.{NotRefused}
 use Rattle.back_end.proofs.SeatLemmas.{on_ok}
 use Rattle.inspect_world.proofs.Worlds.{answered-cons}
@@ -163,7 +164,7 @@ pub answer_turn : {T : Type 0} (result : Result T Stop) (honest honest1 : Type 0
     (e e1 : ProgramEnds) (s : Frames) (frame : List ℕ)
     → Answering honest up0 down0 up down target e
     → e.splitter.whole ≡ frame ∷ s.whole → s.rest ≡ e.splitter.rest
-    → AnswersOne honest honest1 up down up1 down1 (record e { splitter = s }) e1 frame result → e1.splitter ≡ s
+    → AnswersOne (moment honest up down (record e { splitter = s })) (moment honest1 up1 down1 e1) frame result → e1.splitter ≡ s
     → NotRefused result × OnOk result (Answering honest1 up0 down0 up1 down1 target e1)
 answer_turn {T} result honest honest1 up0 down0 up down up1 down1 target e e1 s frame going whole rest answers same =
     let w = going.world in
@@ -182,7 +183,7 @@ answer_turn {T} result honest honest1 up0 down0 up down up1 down1 target e e1 s 
 pub deliver_goes : {T : Type 0} (result : Result T Stop) (honest honest1 : Type 0) (up0 down0 up down up1 down1 : Pipe) (w : World State) (n : ℕ)
     (e e1 : ProgramEnds)
     → InRunWith honest up0 down0 up down (given_up n w) e × (e.splitter.whole ≡ arriving n w.up)
-    → AnswersAll honest honest1 up down up1 down1 e e1 result
+    → AnswersAll (moment honest up down e) (moment honest1 up1 down1 e1) result
     → NotRefused result × OnOk result (InRun honest1 up0 down0 up1 down1 (delivered_up step n w) e1)
 deliver_goes result honest honest1 up0 down0 up down up1 down1 w n e e1 run answers =
     subst (λ frames. NotRefused result × OnOk result (InRun honest1 up0 down0 up1 down1 (answered step frames (given_up n w)) e1)) run.1
@@ -193,7 +194,7 @@ pub settle_goes : {T : Type 0} (result : Result T Stop) (honest honest1 : Type 0
     (e e1 : ProgramEnds)
     → n ≡ length w.up.flying
     → InRun honest up0 down0 up down (delivered_up step n w) e
-    → Steps honest honest1 up down up1 down1 e e1 result (λ v. delivered_down e.down_there v)
+    → Steps (moment honest up down e) (moment honest1 up1 down1 e1) result (λ v. delivered_down e.down_there v)
     → NotRefused result × OnOk result (InRun honest1 up0 down0 up1 down1 (settled step w) e1)
 settle_goes result honest honest1 up0 down0 up down up1 down1 w n e e1 all run steps =
     let same : delivered_down e.down_there (delivered_up step n w) ≡ settled step w =

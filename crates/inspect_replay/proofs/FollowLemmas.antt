@@ -29,11 +29,13 @@ use Rattle.inspect_replay.specs.declared.stop.Stop.{Stop}
 use Rattle.inspect_replay.specs.declared.stop.Stop.TheVariants.{Line, TooLong, ReadFault, WriteFault, LinkFault, FrontRefused, Memory}
 use Rattle.inspect_replay.specs.declared.status.Status.{Status}
 use Rattle.inspect_replay.specs.declared.status.Status.TheVariants as status
-use Rattle.inspect_replay.specs.Answers.{status_of, IsInputStop}
+use Rattle.inspect_replay.specs.Says.{Phase, untouched, reading, underway, ended, anywhen, PartRose, Says, says, status_of}
+use Rattle.inspect_replay.specs.Answers.{InReadOnly, source_counts, IsInputStop}
 use Rattle.back_end.specs.Seats.{StandsFor, Seated}
-use Rattle.inspect_replay.specs.Followed.{fold_since, StatusFolds, StopFolds, EndsShown, AnswersInOrder, FollowsWith, FollowsRun, FollowsAnswer, PrintedSome}
-use Rattle.inspect_replay.specs.Prints.{IsRead}
+use Rattle.inspect_replay.specs.Followed.{FoldsAt, fold_since, StatusFolds, StopFolds, EndsShown, AnswersInOrder, FollowsWith, FollowsRun, FollowsAnswer, PrintedSome}
+use Rattle.inspect_replay.specs.Prints.{IsRead, ReadsAt}
 use Rattle.inspect_replay.specs.Runs.{ends_of}
+use Rattle.inspect_replay.specs.Moments.{moment}
 use Rattle.inspect_replay.specs.Stops.{NotRefused}
 use Rattle.inspect_replay.proofs.RunLemmas.{no_frames, first_ends, ends-first}
 
@@ -143,7 +145,7 @@ refused-folds state0 up0 down0 up down up1 down1 waiting e piece bytes front1 fa
 -- the next frame is answered, before those that the splitter holds
 pub follow_turn : {T : Type 0} (result : Result T Stop) (state0 : State) (up0 down0 up down up1 down1 : Pipe) (e e1 : Ends) (s : Frames) (frame : List ℕ)
     → FollowsWith state0 up0 down0 up down e → e.splitter.whole ≡ frame ∷ s.whole → s.rest ≡ e.splitter.rest
-    → FollowsAnswer up down up1 down1 (record e { splitter = s }) e1 frame result
+    → FollowsAnswer (moment (Unit {0}) up down (record e { splitter = s })) (moment (Unit {0}) up1 down1 e1) frame result
     → OnOk result (FollowsWith state0 up0 down0 up1 down1 e1) × StopFolds result (fold_since up0 down0 up1 down1)
 follow_turn result state0 up0 down0 up down up1 down1 e e1 s frame f whole rest answers =
     answers state0 up0 down0
@@ -279,37 +281,31 @@ run-first up down nodes e can texts page_is off agent_is splitter_is front_is up
 -- a line that is not read
 pub read-folds : (stop : Stop) (number : ℕ) (bad : Option LineFault) (fold : Result FrontValue FrontFault) → IsRead {T = Unit {0}} (Err stop) number bad → IsOk fold
     → StopFolds {T = Unit {0}} (Err stop) fold
-read-folds (Line n fault) number bad fold read good = good
-read-folds TooLong number bad fold read good = absurd read
-read-folds ReadFault number bad fold read good = absurd read
-read-folds WriteFault number bad fold read good = absurd read
-read-folds LinkFault number bad fold read good = absurd read
-read-folds (FrontRefused place kind) number bad fold read good = absurd read
-read-folds Memory number bad fold read good = tt
+read-folds stop number bad fold read good = let s : Says = says (status_of stop) in at-line s.phase s.message s.line read
+  where
+    at-line : (phase : Phase) (message : Option FrontFault) (line : Option (ℕ × LineFault)) → ReadsAt phase line number bad → FoldsAt phase message fold
+    at-line untouched message line read = absurd read
+    at-line reading message line read = absurd read
+    at-line underway message line read = absurd read
+    at-line ended message line read = good
+    at-line anywhen message line read = tt
 
 -- the status that a stop is
 pub status-folds : (stop : Stop) (status : Status) (fold : Result FrontValue FrontFault) → status ≡ status_of stop → StopFolds {T = Unit {0}} (Err stop) fold → StatusFolds status fold
-status-folds stop status fold is folds = subst (λ s. StatusFolds s fold) (sym is) (by-stop stop fold folds)
-  where
-    by-stop : (stop : Stop) (fold : Result FrontValue FrontFault) → StopFolds {T = Unit {0}} (Err stop) fold → StatusFolds (status_of stop) fold
-    by-stop (Line number fault) fold folds = folds
-    by-stop TooLong fold folds = folds
-    by-stop ReadFault fold folds = folds
-    by-stop WriteFault fold folds = folds
-    by-stop LinkFault fold folds = folds
-    by-stop (FrontRefused place kind) fold folds = folds
-    by-stop Memory fold folds = tt
+status-folds stop status fold is folds = subst (λ s. StatusFolds s fold) (sym is) folds
 
 -- an input that is not read
 pub input-folds : (stop : Stop) (before after : ℕ) (fold : Result FrontValue FrontFault) → IsInputStop before after (Err stop) → IsOk fold → StopFolds {T = Unit {0}} (Err stop) fold
-input-folds (Line number fault) before after fold is good = absurd is
-input-folds TooLong before after fold is good = good
-input-folds ReadFault before after fold is good = good
-input-folds WriteFault before after fold is good = absurd is
-input-folds LinkFault before after fold is good = absurd is
-input-folds (FrontRefused place kind) before after fold is good = absurd is
-input-folds Memory before after fold is good = tt
+input-folds stop before after fold is good = let s : Says = says (status_of stop) in at-input s.phase s.message (PartRose (source_counts before after) s.failed) is
+  where
+    at-input : (phase : Phase) (message : Option FrontFault) (P : Type 0) → InReadOnly phase P → FoldsAt phase message fold
+    at-input untouched message P is = absurd is
+    at-input reading message P is = good
+    at-input underway message P is = absurd is
+    at-input ended message P is = absurd is
+    at-input anywhen message P is = tt
 
+-- a stop is not the end
 pub never-done : (stop : Stop) (s : Status) → s ≡ status_of stop → s ≡ status.Done → ⊥
 never-done stop s is done = by-stop stop (sym is ∙ done)
   where

@@ -36,8 +36,11 @@ use Rattle.inspect_replay.specs.declared.ends.Ends.{Ends}
 use Rattle.inspect_replay.specs.declared.stop.Stop.{Stop}
 use Rattle.inspect_replay.specs.declared.stop.Stop.TheVariants.{Line, TooLong, ReadFault, WriteFault, LinkFault, FrontRefused, Memory}
 use Rattle.inspect_replay.specs.Runs.{InRun, Asks, Steps, ends_of}
-use Rattle.inspect_replay.specs.Stops.{Counts, RoseFor, RoseAt, NotRefused}
-use Rattle.inspect_replay.specs.Answers.{RunTells, RunTook, Prints}
+use Rattle.inspect_replay.specs.Says.{Phase, untouched, reading, underway, ended, anywhen, Counts, PartRose, Says, says, status_of}
+use Rattle.inspect_replay.specs.Moments.{moment, scene}
+use Rattle.inspect_replay.specs.Stops.{AmidRun, two_counts, HasStopCause, NotRefused}
+use Rattle.front_mirror.specs.declared.faults.FrontFault.{FrontFault}
+use Rattle.inspect_replay.specs.Answers.{Absent, AtEnd, InRunOnly, TookAt, RunTells, RunTook, Prints}
 use Rattle.inspect_replay.specs.Prints.{CarriesOut, Closes, IsRead}
 use Rattle.replay_script.proofs.ScriptLemmas.{first_bad-good, good_lines-good, good_lines-bad}
 use Rattle.inspect_world.proofs.Scripts.{settled-shows, given-all}
@@ -50,7 +53,7 @@ no_frames = record { whole = []; rest = [] }
 
 -- counts of which nothing is asked
 abbrev pub no_counts : Counts
-no_counts = record { sink_before = 0; sink_after = 0; link_before = 0; link_after = 0 }
+no_counts = two_counts 0 0 0 0
 
 -- nothing is printed
 pub prints-nothing : {T : Type 0} (result : Result T Stop) (taken : Option (List ℕ)) → Prints result taken taken []
@@ -58,42 +61,51 @@ prints-nothing (Ok value) taken = Appends-nil taken
 prints-nothing (Err stop) taken = record { part = []; rest = []; whole = refl; wrote = Appends-nil taken }
 
 -- an error by which a part of a run stops is one by which the run stops
-pub part-took : (stop : Stop) (c : Counts) (before after : Option (List ℕ)) (text : List ℕ)
-    → RoseFor c stop → NotRefused {T = Unit {0}} (Err stop) → WrotePart before after text → RunTook {T = Unit {0}} (Err stop) before after text
-part-took (Line number fault) c before after text rose well wrote = absurd rose
-part-took TooLong c before after text rose well wrote = absurd rose
-part-took ReadFault c before after text rose well wrote = absurd rose
-part-took WriteFault c before after text rose well wrote = wrote
-part-took LinkFault c before after text rose well wrote = wrote
-part-took (FrontRefused place fault) c before after text rose well wrote = absurd well
-part-took Memory c before after text rose well wrote = wrote
+took-at : (phase : Phase) (message : Option FrontFault) (P : Type 0) (before after : Option (List ℕ)) (text : List ℕ)
+    → AmidRun phase P → Absent message → WrotePart before after text → InRunOnly phase (TookAt phase message before after text)
+took-at untouched message P before after text amid well wrote = absurd amid
+took-at reading message P before after text amid well wrote = absurd amid
+took-at underway None P before after text amid well wrote = wrote
+took-at underway (Some fault) P before after text amid well wrote = absurd well
+took-at ended message P before after text amid well wrote = absurd amid
+took-at anywhen message P before after text amid well wrote = wrote
 
-pub part-tells : (stop : Stop) (c : Counts) (bad : Option (ℕ × LineFault)) → RoseFor c stop → RunTells {T = Unit {0}} (Err stop) bad
-part-tells (Line number fault) c bad rose = absurd rose
-part-tells TooLong c bad rose = absurd rose
-part-tells ReadFault c bad rose = absurd rose
-part-tells WriteFault c bad rose = tt
-part-tells LinkFault c bad rose = tt
-part-tells (FrontRefused place fault) c bad rose = tt
-part-tells Memory c bad rose = tt
+pub part-took : (stop : Stop) (sink0 sink1 link0 link1 : ℕ) (before after : Option (List ℕ)) (text : List ℕ)
+    → HasStopCause {T = Unit {0}} sink0 sink1 link0 link1 (Err stop) → NotRefused {T = Unit {0}} (Err stop) → WrotePart before after text → RunTook {T = Unit {0}} (Err stop) before after text
+part-took stop sink0 sink1 link0 link1 before after text cause well wrote =
+    let s : Says = says (status_of stop) in
+    took-at s.phase s.message (PartRose (two_counts sink0 sink1 link0 link1) s.failed) before after text cause.rose well wrote
+
+-- it tells nothing of lines
+tells-at : (phase : Phase) (P Q : Type 0) → AmidRun phase P → InRunOnly phase (AtEnd phase Q)
+tells-at untouched P Q amid = absurd amid
+tells-at reading P Q amid = absurd amid
+tells-at underway P Q amid = tt
+tells-at ended P Q amid = absurd amid
+tells-at anywhen P Q amid = tt
+
+pub part-tells : (stop : Stop) (sink0 sink1 link0 link1 : ℕ) (bad : Option (ℕ × LineFault)) → HasStopCause {T = Unit {0}} sink0 sink1 link0 link1 (Err stop) → RunTells {T = Unit {0}} (Err stop) bad
+part-tells stop sink0 sink1 link0 link1 bad cause =
+    let s : Says = says (status_of stop) in
+    tells-at s.phase (PartRose (two_counts sink0 sink1 link0 link1) s.failed) (bad ≡ s.line) cause.rose
 
 -- ---- one line
 
 -- an ask prints nothing
 pub ask-carries : (result : Result (Unit {0}) Stop) (honest honest1 : Type 0) (up down up1 down1 : Pipe) (taken : Option (List ℕ)) (e e1 : Ends) (a : AskForm) (form : LineForm)
-    → form ≡ ask a → Asks honest honest1 up down up1 down1 e e1 result (λ w. sends a w)
-    → CarriesOut honest honest1 up down up1 down1 taken taken e e1 form result
+    → form ≡ ask a → Asks (moment honest up down e) (moment honest1 up1 down1 e1) result (λ w. sends a w)
+    → CarriesOut (scene (moment honest up down e) taken) (scene (moment honest1 up1 down1 e1) taken) form result
 ask-carries result honest honest1 up down up1 down1 taken e e1 a form is asks =
-    subst (λ f. CarriesOut honest honest1 up down up1 down1 taken taken e e1 f result) (sym is)
+    subst (λ f. CarriesOut (scene (moment honest up down e) taken) (scene (moment honest1 up1 down1 e1) taken) f result) (sym is)
     (λ up0 down0 w few run. let both = asks up0 down0 w few run in (both.0, both.1, prints-nothing result taken))
 
 -- nor does a line that delivers bytes
 pub move-carries : (result : Result (Unit {0}) Stop) (honest honest1 : Type 0) (up down up1 down1 : Pipe) (taken : Option (List ℕ)) (e e1 : Ends)
     (f : World State → World State) (move form : LineForm)
-    → ((w : World State) → f w ≡ after_line move w) → ((w : World State) → [] ≡ line_text move w) → form ≡ move → Steps honest honest1 up down up1 down1 e e1 result f
-    → CarriesOut honest honest1 up down up1 down1 taken taken e e1 form result
+    → ((w : World State) → f w ≡ after_line move w) → ((w : World State) → [] ≡ line_text move w) → form ≡ move → Steps (moment honest up down e) (moment honest1 up1 down1 e1) result f
+    → CarriesOut (scene (moment honest up down e) taken) (scene (moment honest1 up1 down1 e1) taken) form result
 move-carries result honest honest1 up down up1 down1 taken e e1 f move form goes silent is steps =
-    subst (λ line. CarriesOut honest honest1 up down up1 down1 taken taken e e1 line result) (sym is)
+    subst (λ line. CarriesOut (scene (moment honest up down e) taken) (scene (moment honest1 up1 down1 e1) taken) line result) (sym is)
     (λ up0 down0 w few run. let both = steps up0 down0 w run in (
       both.0,
       subst (λ v. OnOk result (InRun honest1 up0 down0 up1 down1 v e1)) (goes w) both.1,
@@ -102,9 +114,9 @@ move-carries result honest honest1 up down up1 down1 taken e e1 f move form goes
 
 -- the same of equal lines
 pub same-carries : (result : Result (Unit {0}) Stop) (honest honest1 : Type 0) (up down up1 down1 : Pipe) (taken taken1 : Option (List ℕ)) (e e1 : Ends) (line form : LineForm)
-    → form ≡ line → CarriesOut honest honest1 up down up1 down1 taken taken1 e e1 line result → CarriesOut honest honest1 up down up1 down1 taken taken1 e e1 form result
+    → form ≡ line → CarriesOut (scene (moment honest up down e) taken) (scene (moment honest1 up1 down1 e1) taken1) line result → CarriesOut (scene (moment honest up down e) taken) (scene (moment honest1 up1 down1 e1) taken1) form result
 same-carries result honest honest1 up down up1 down1 taken taken1 e e1 line form is carries =
-    subst (λ f. CarriesOut honest honest1 up down up1 down1 taken taken1 e e1 f result) (sym is) carries
+    subst (λ f. CarriesOut (scene (moment honest up down e) taken) (scene (moment honest1 up1 down1 e1) taken1) f result) (sym is) carries
 
 -- after a settle the front end shows what the client sees of the page
 ok-same : {F E : Type 0} (r : Result F E) (a b : F) → r ≡ Ok a → r ≡ Ok b → a ≡ b
@@ -144,7 +156,7 @@ pub show-carries : (result : Result (Unit {0}) Stop) (honest honest1 : Type 0) (
     → SettlesTo honest honest1 up down up1 down1 e e1 → tree ≡ e1.front.value.tree → NotRefused result
     → OnOk result (Appends taken taken1 (codes "# front" ++ 10 ∷ outline_text seen_line tree))
     → OnErr result (WrotePart taken taken1 (codes "# front" ++ 10 ∷ outline_text seen_line tree))
-    → CarriesOut honest honest1 up down up1 down1 taken taken1 e e1 show_front result
+    → CarriesOut (scene (moment honest up down e) taken) (scene (moment honest1 up1 down1 e1) taken1) show_front result
 show-carries result honest honest1 up down up1 down1 taken taken1 e e1 tree settles same never ok err = λ up0 down0 w few run.
     let after : InRun honest1 up0 down0 up1 down1 (settled step w) e1 = settles up0 down0 w run in
     let shows : tree ≡ view_of (settled step w).state = same ∙ shown-settled honest honest1 up0 down0 up down up1 down1 w e e1 run after in (
@@ -157,7 +169,7 @@ show-carries result honest honest1 up down up1 down1 taken taken1 e e1 tree sett
 -- a show that did not settle
 pub show-stops : (stop : Stop) (honest honest1 : Type 0) (up down up1 down1 : Pipe) (taken : Option (List ℕ)) (e e1 : Ends) (form : LineForm)
     → ((up0 down0 : Pipe) (w : World State) → InRun honest up0 down0 up down w e → NotRefused {T = Unit {0}} (Err stop))
-    → CarriesOut {T = Unit {0}} honest honest1 up down up1 down1 taken taken e e1 form (Err stop)
+    → CarriesOut {T = Unit {0}} (scene (moment honest up down e) taken) (scene (moment honest1 up1 down1 e1) taken) form (Err stop)
 show-stops stop honest honest1 up down up1 down1 taken e e1 form never = λ up0 down0 w few run.
     (never up0 down0 w run, tt, record { part = []; rest = line_text form w; whole = refl; wrote = Appends-nil taken })
 
@@ -199,7 +211,7 @@ replies-same honest1 up0 down0 up1 down1 w e1 kept after u =
 pub replies-carried : (honest honest1 : Type 0) (up down up1 down1 : Pipe) (taken taken1 : Option (List ℕ)) (e e1 e2 : Ends) (kept : List Kept)
     → SettlesTo honest honest1 up down up1 down1 e e1 → Untold e1 kept
     → Appends taken taken1 (replies_text kept) → e2 ≡ record e1 { told = length e1.front.value.replies }
-    → CarriesOut {T = Unit {0}} honest honest1 up down up1 down1 taken taken1 e e2 show_replies (Ok tt)
+    → CarriesOut {T = Unit {0}} (scene (moment honest up down e) taken) (scene (moment honest1 up1 down1 e2) taken1) show_replies (Ok tt)
 replies-carried honest honest1 up down up1 down1 taken taken1 e e1 e2 kept settles u printed told = λ up0 down0 w few run.
     let after : InRun honest1 up0 down0 up1 down1 (settled step w) e1 = settles up0 down0 w run in
     let count : ℕ = length e1.front.value.replies in (
@@ -218,7 +230,7 @@ replies-carried honest honest1 up down up1 down1 taken taken1 e e1 e2 kept settl
 pub replies-stop : (stop : Stop) (honest honest1 : Type 0) (up down up1 down1 : Pipe) (taken taken1 : Option (List ℕ)) (e e1 e2 : Ends) (kept : List Kept)
     → SettlesTo honest honest1 up down up1 down1 e e1 → Untold e1 kept
     → NotRefused {T = Unit {0}} (Err stop) → WrotePart taken taken1 (replies_text kept)
-    → CarriesOut {T = Unit {0}} honest honest1 up down up1 down1 taken taken1 e e2 show_replies (Err stop)
+    → CarriesOut {T = Unit {0}} (scene (moment honest up down e) taken) (scene (moment honest1 up1 down1 e2) taken1) show_replies (Err stop)
 replies-stop stop honest honest1 up down up1 down1 taken taken1 e e1 e2 kept settles u never wrote = λ up0 down0 w few run.
     let after : InRun honest1 up0 down0 up1 down1 (settled step w) e1 = settles up0 down0 w run in
     (never, tt, subst (λ t. WrotePart taken taken1 t) (replies-same honest1 up0 down0 up1 down1 w e1 kept after u) wrote)
@@ -229,7 +241,7 @@ pub closes-well : (result : Result (Unit {0}) Stop) (honest honest1 : Type 0) (u
     → SettlesTo honest honest1 up down up1 down1 e e1 → tree ≡ e1.front.value.tree → NotRefused result
     → OnOk result (Appends taken taken1 (codes "# end" ++ 10 ∷ outline_text seen_line tree))
     → OnErr result (WrotePart taken taken1 (codes "# end" ++ 10 ∷ outline_text seen_line tree))
-    → Closes honest up down taken taken1 e result
+    → Closes (scene (moment honest up down e) taken) taken1 result
 closes-well result honest honest1 up down up1 down1 taken taken1 e e1 tree settles same never ok err = λ up0 down0 w run.
     let after : InRun honest1 up0 down0 up1 down1 (settled step w) e1 = settles up0 down0 w run in
     let shows : tree ≡ view_of (settled step w).state = same ∙ shown-settled honest honest1 up0 down0 up down up1 down1 w e e1 run after in (
@@ -240,7 +252,7 @@ closes-well result honest honest1 up down up1 down1 taken taken1 e e1 tree settl
 
 pub closes-not : (stop : Stop) (honest : Type 0) (up down : Pipe) (taken : Option (List ℕ)) (e : Ends)
     → ((up0 down0 : Pipe) (w : World State) → InRun honest up0 down0 up down w e → NotRefused {T = Unit {0}} (Err stop))
-    → Closes {T = Unit {0}} honest up down taken taken e (Err stop)
+    → Closes {T = Unit {0}} (scene (moment honest up down e) taken) taken (Err stop)
 closes-not stop honest up down taken e never = λ up0 down0 w run.
     (never up0 down0 w run, record { part = []; rest = closing_text w; whole = refl; wrote = Appends-nil taken })
 
@@ -284,7 +296,7 @@ asks-after show_replies w = omega arith
 pub run_turn : (result : Result (Unit {0}) Stop) (c : Counts) (honest honest1 : Type 0) (up0 down0 up down up1 down1 : Pipe) (taken0 taken taken1 : Option (List ℕ))
     (all_text : List ℕ) (all_world : World State) (number : ℕ) (line : List ℕ) (more : List (List ℕ)) (form : LineForm) (e e1 : Ends)
     → Running honest up0 down0 up down taken0 taken all_text all_world number (line ∷ more) e
-    → line_fault number line ≡ None → line_form line ≡ Some form → CarriesOut honest honest1 up down up1 down1 taken taken1 e e1 form result
+    → line_fault number line ≡ None → line_form line ≡ Some form → CarriesOut (scene (moment honest up down e) taken) (scene (moment honest1 up1 down1 e1) taken1) form result
     → NotRefused result
     × OnOk result (Running honest1 up0 down0 up1 down1 taken0 taken1 all_text all_world (number + 1) more e1)
     × FailsPart result taken0 taken1 all_text
@@ -370,15 +382,15 @@ lines-done honest up0 down0 up down taken0 taken all_text all_world number lines
     )
 
 -- the part after the lines
-pub closed-took : (result : Result (Unit {0}) Stop) (c : Counts) (taken0 taken taken1 : Option (List ℕ)) (bad : Option (ℕ × LineFault)) (forms : List LineForm) (w : World State)
-    → bad ≡ None → RoseAt c result → NotRefused result
+pub closed-took : (result : Result (Unit {0}) Stop) (sink0 sink1 link0 link1 : ℕ) (taken0 taken taken1 : Option (List ℕ)) (bad : Option (ℕ × LineFault)) (forms : List LineForm) (w : World State)
+    → bad ≡ None → HasStopCause sink0 sink1 link0 link1 result → NotRefused result
     → Appends taken0 taken (lines_text forms w) → Prints result taken taken1 (closing_text (after_lines forms w))
     → RunTook result taken0 taken1 (rest_text bad forms w)
-closed-took (Ok value) c taken0 taken taken1 bad forms w none rose well wrote printed =
+closed-took (Ok value) sink0 sink1 link0 link1 taken0 taken taken1 bad forms w none cause well wrote printed =
     subst (λ b. Appends taken0 taken1 (rest_text b forms w)) (sym none)
     (Appends-append taken0 taken taken1 (lines_text forms w) (closing_text (after_lines forms w)) wrote printed)
-closed-took (Err stop) c taken0 taken taken1 bad forms w none rose well wrote printed =
-    part-took stop c taken0 taken1 (rest_text bad forms w) rose well
+closed-took (Err stop) sink0 sink1 link0 link1 taken0 taken taken1 bad forms w none cause well wrote printed =
+    part-took stop sink0 sink1 link0 link1 taken0 taken1 (rest_text bad forms w) cause well
     (subst (λ b. WrotePart taken0 taken1 (rest_text b forms w)) (sym none)
     (WrotePart-after taken0 taken taken1 (lines_text forms w) (closing_text (after_lines forms w)) wrote printed))
 

@@ -1,8 +1,10 @@
 pub mod Words
 pub mod Statuses
+pub mod Says
+pub mod Answers
 pub mod Stops
 pub mod Moved
+pub mod Moments
 pub mod Runs
 pub mod Followed
-pub mod Answers
 pub mod Prints

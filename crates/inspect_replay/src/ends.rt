@@ -10,6 +10,7 @@ ghost use Rattle.back_end.specs.States.{step};
 ghost use Rattle.inspect_world.specs.Scripts.{sends};
 ghost use Rattle.inspect_world.specs.ScriptsFit.{CanSend};
 ghost use Rattle.inspect_replay.specs.Runs.{Steps, Asks, TakesUp, AnswersAll, AnswersOne};
+ghost use Rattle.inspect_replay.specs.Moments.{moment};
 ghost use Rattle.inspect_replay.specs.Followed.{KeepsFollowing, KeepsFollowingWith, FollowsAnswers, FollowsAnswer};
 
 use crate::pipes::{receive_down, receive_up, send_down, send_up};
@@ -85,9 +86,10 @@ impl Ends {
         requires session { IsTrue (is_whole_where_there (option_map view ask.now.session)) }
         ensures honest { L.honest link.old → L.honest link.new }
         ensures cause { HasStopCause 0 0 (L.faults link.old) (L.faults link.new) result }
-        ensures follows { KeepsFollowing (L.up link.old) (L.down link.old) (L.up link.new) (L.down link.new) self.old self.new result }
-        ensures steps { Asks (L.honest link.old) (L.honest link.new) (L.up link.old) (L.down link.old)
-            (L.up link.new) (L.down link.new) self.old self.new result (λ w. sends (seen_ask ask.now) w) }
+        ensures follows { KeepsFollowing (moment (L.honest link.old) (L.up link.old) (L.down link.old) self.old)
+            (moment (L.honest link.new) (L.up link.new) (L.down link.new) self.new) result }
+        ensures steps { Asks (moment (L.honest link.old) (L.up link.old) (L.down link.old) self.old)
+            (moment (L.honest link.new) (L.up link.new) (L.down link.new) self.new) result (λ w. sends (seen_ask ask.now) w) }
     {
         if !self.front.has_room() {
             return Err(Stop::Memory);
@@ -113,9 +115,10 @@ impl Ends {
     pub(crate) fn deliver_up<L: Link>(&mut self, link: &mut L, n: u64) -> Result<(), Stop>
         ensures honest { L.honest link.old → L.honest link.new }
         ensures cause { HasStopCause 0 0 (L.faults link.old) (L.faults link.new) result }
-        ensures follows { KeepsFollowing (L.up link.old) (L.down link.old) (L.up link.new) (L.down link.new) self.old self.new result }
-        ensures steps { Steps (L.honest link.old) (L.honest link.new) (L.up link.old) (L.down link.old)
-            (L.up link.new) (L.down link.new) self.old self.new result (λ w. delivered_up step n w) }
+        ensures follows { KeepsFollowing (moment (L.honest link.old) (L.up link.old) (L.down link.old) self.old)
+            (moment (L.honest link.new) (L.up link.new) (L.down link.new) self.new) result }
+        ensures steps { Steps (moment (L.honest link.old) (L.up link.old) (L.down link.old) self.old)
+            (moment (L.honest link.new) (L.up link.new) (L.down link.new) self.new) result (λ w. delivered_up step n w) }
     {
         match self.take_up(link, n) {
             Ok(()) => self.answer_frames(link),
@@ -127,9 +130,10 @@ impl Ends {
     fn take_up<L: Link>(&mut self, link: &mut L, n: u64) -> Result<(), Stop>
         ensures honest { L.honest link.old → L.honest link.new }
         ensures cause { HasStopCause 0 0 (L.faults link.old) (L.faults link.new) result }
-        ensures follows { KeepsFollowingWith (L.up link.old) (L.down link.old) (L.up link.new) (L.down link.new) self.old self.new result }
-        ensures steps { TakesUp (L.honest link.old) (L.honest link.new) (L.up link.old) (L.down link.old)
-            (L.up link.new) (L.down link.new) self.old self.new n result }
+        ensures follows { KeepsFollowingWith (moment (L.honest link.old) (L.up link.old) (L.down link.old) self.old)
+            (moment (L.honest link.new) (L.up link.new) (L.down link.new) self.new) result }
+        ensures steps { TakesUp (moment (L.honest link.old) (L.up link.old) (L.down link.old) self.old)
+            (moment (L.honest link.new) (L.up link.new) (L.down link.new) self.new) n result }
     {
         match receive_up(self.alloc, link, n.min(self.up_there) as usize) {
             Ok(piece) => {
@@ -145,9 +149,10 @@ impl Ends {
     fn answer_frames<L: Link>(&mut self, link: &mut L) -> Result<(), Stop>
         ensures honest { L.honest link.old → L.honest link.new }
         ensures cause { HasStopCause 0 0 (L.faults link.old) (L.faults link.new) result }
-        ensures follows { FollowsAnswers (L.up link.old) (L.down link.old) (L.up link.new) (L.down link.new) self.old self.new result }
-        ensures steps { AnswersAll (L.honest link.old) (L.honest link.new) (L.up link.old) (L.down link.old)
-            (L.up link.new) (L.down link.new) self.old self.new result }
+        ensures follows { FollowsAnswers (moment (L.honest link.old) (L.up link.old) (L.down link.old) self.old)
+            (moment (L.honest link.new) (L.up link.new) (L.down link.new) self.new) result }
+        ensures steps { AnswersAll (moment (L.honest link.old) (L.up link.old) (L.down link.old) self.old)
+            (moment (L.honest link.new) (L.up link.new) (L.down link.new) self.new) result }
     {
         while let Some(frame) = self.splitter.next() {
             match self.answer(link, &frame) {
@@ -162,9 +167,10 @@ impl Ends {
         ensures same { self.new.splitter ≡ self.old.splitter }
         ensures honest { L.honest link.old → L.honest link.new }
         ensures cause { HasStopCause 0 0 (L.faults link.old) (L.faults link.new) result }
-        ensures follows { FollowsAnswer (L.up link.old) (L.down link.old) (L.up link.new) (L.down link.new) self.old self.new frame.now result }
-        ensures steps { AnswersOne (L.honest link.old) (L.honest link.new) (L.up link.old) (L.down link.old)
-            (L.up link.new) (L.down link.new) self.old self.new frame.now result }
+        ensures follows { FollowsAnswer (moment (L.honest link.old) (L.up link.old) (L.down link.old) self.old)
+            (moment (L.honest link.new) (L.up link.new) (L.down link.new) self.new) frame.now result }
+        ensures steps { AnswersOne (moment (L.honest link.old) (L.up link.old) (L.down link.old) self.old)
+            (moment (L.honest link.new) (L.up link.new) (L.down link.new) self.new) frame.now result }
     {
         if !self.seat.has_room() {
             return Err(Stop::Memory);
@@ -187,9 +193,10 @@ impl Ends {
     pub(crate) fn deliver_down<L: Link>(&mut self, link: &mut L, n: u64) -> Result<(), Stop>
         ensures honest { L.honest link.old → L.honest link.new }
         ensures cause { HasStopCause 0 0 (L.faults link.old) (L.faults link.new) result }
-        ensures follows { KeepsFollowing (L.up link.old) (L.down link.old) (L.up link.new) (L.down link.new) self.old self.new result }
-        ensures steps { Steps (L.honest link.old) (L.honest link.new) (L.up link.old) (L.down link.old)
-            (L.up link.new) (L.down link.new) self.old self.new result (λ w. delivered_down n w) }
+        ensures follows { KeepsFollowing (moment (L.honest link.old) (L.up link.old) (L.down link.old) self.old)
+            (moment (L.honest link.new) (L.up link.new) (L.down link.new) self.new) result }
+        ensures steps { Steps (moment (L.honest link.old) (L.up link.old) (L.down link.old) self.old)
+            (moment (L.honest link.new) (L.up link.new) (L.down link.new) self.new) result (λ w. delivered_down n w) }
     {
         let piece = match receive_down(self.alloc, link, n.min(self.down_there) as usize) {
             Ok(piece) => piece,
@@ -210,9 +217,10 @@ impl Ends {
     pub(crate) fn settle<L: Link>(&mut self, link: &mut L) -> Result<(), Stop>
         ensures honest { L.honest link.old → L.honest link.new }
         ensures cause { HasStopCause 0 0 (L.faults link.old) (L.faults link.new) result }
-        ensures follows { KeepsFollowing (L.up link.old) (L.down link.old) (L.up link.new) (L.down link.new) self.old self.new result }
-        ensures steps { Steps (L.honest link.old) (L.honest link.new) (L.up link.old) (L.down link.old)
-            (L.up link.new) (L.down link.new) self.old self.new result (λ w. settled step w) }
+        ensures follows { KeepsFollowing (moment (L.honest link.old) (L.up link.old) (L.down link.old) self.old)
+            (moment (L.honest link.new) (L.up link.new) (L.down link.new) self.new) result }
+        ensures steps { Steps (moment (L.honest link.old) (L.up link.old) (L.down link.old) self.old)
+            (moment (L.honest link.new) (L.up link.new) (L.down link.new) self.new) result (λ w. settled step w) }
     {
         let up = self.up_there;
         match self.deliver_up(link, up) {

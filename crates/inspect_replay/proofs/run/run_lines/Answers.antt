@@ -31,7 +31,7 @@ returns-in-Err-carried-clause-runs g c = λ up0 down0 w few run.
     c.in-Some.text.now more form c.loop-text.ends c.carry_out-carried.new.ends
     (with_lines _ up0 down0 _ _ _ _ _ _ c.loop-text.number c.loop-text.lines (c.in-Some.text.now ∷ more) c.loop-text.ends c.in-Some.ensures.some (c.loop-text.invariant.6 up0 down0 w few run))
     c.in-Ok.ensures.good c.in-Ok.ensures.form (c.in-Err-carried.ensures {u = tt}).runs in
-    (tt, part-took c.in-Err-carried.stop _ _ _ _ (c.in-Err-carried.ensures {u = tt}).cause.rose all.0 all.2)
+    (tt, part-took c.in-Err-carried.stop _ _ _ _ _ _ _ (c.in-Err-carried.ensures {u = tt}).cause all.0 all.2)
 
 pub loop-text-preserved : goal.loop-text-preserved
 loop-text-preserved g c =

@@ -18,8 +18,8 @@ returns-in-Ok-clause-took g c = λ honest up_level down_level.
     let few : 0 + length c.args.lines ≤ 2 ^ 26 = omega (arith, c.requires.few) in
     let ran = (c.in-Ok.ensures {u = c.in-Ok.field-0}).runs (g.L.Link.up c.args.link.now) (g.L.Link.down c.args.link.now) w few run in
     let closes = c.close.ensures.runs (g.L.Link.up c.args.link.now) (g.L.Link.down c.args.link.now) (after_lines (good_lines 2 c.args.lines) w) ran.0 in
-    closed-took c.close.result _ (g.K.Sink.taken c.args.out.now) (g.K.Sink.taken c.run_lines.new.out) (g.K.Sink.taken c.close.new.out)
-    (first_bad 2 c.args.lines) (good_lines 2 c.args.lines) w (c.in-Ok.ensures {u = c.in-Ok.field-0}).tells c.close.ensures.cause.rose closes.0 ran.1 closes.1
+    closed-took c.close.result _ _ _ _ (g.K.Sink.taken c.args.out.now) (g.K.Sink.taken c.run_lines.new.out) (g.K.Sink.taken c.close.new.out)
+    (first_bad 2 c.args.lines) (good_lines 2 c.args.lines) w (c.in-Ok.ensures {u = c.in-Ok.field-0}).tells c.close.ensures.cause closes.0 ran.1 closes.1
 
 pub returns-clause-took : goal.returns-clause-took
 returns-clause-took g c = λ honest up_level down_level.
