@@ -9,3 +9,4 @@ pub mod GrammarForms
 pub mod ItemForms
 pub mod PlaceForms
 pub mod NestingForms
+pub mod UsableForms

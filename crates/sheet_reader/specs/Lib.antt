@@ -8,3 +8,4 @@ pub mod Positions
 pub mod Seen
 pub mod Books
 pub mod Grammar
+pub mod Usable

@@ -19,7 +19,7 @@ mod words;
 
 pub use book::{Origin, SheetBook, SheetEntry};
 pub use declarations::read_style;
-pub use laws::{grammar_law, nesting_law, position_law};
+pub use laws::{grammar_law, nesting_law, position_law, usable_law};
 pub use lists::{Places, Properties, StyleRules};
 pub use place::Position;
 pub use places::{byte_at, position};
