@@ -10,3 +10,4 @@ pub mod ItemForms
 pub mod PlaceForms
 pub mod NestingForms
 pub mod UsableForms
+pub mod LoneForms

@@ -9,3 +9,4 @@ pub mod Seen
 pub mod Books
 pub mod Grammar
 pub mod Usable
+pub mod Lone
