@@ -1,5 +1,7 @@
 pub mod Forms
 pub mod Pages
+pub mod Zippers
+pub mod Siblings
 pub mod Loads
 pub mod Entries
 pub mod Rooms
