@@ -3,3 +3,5 @@ pub mod Pages
 pub mod Loads
 pub mod Entries
 pub mod Rooms
+pub mod Edits
+pub mod EditFaults
