@@ -5,3 +5,5 @@ pub mod Siblings
 pub mod Loads
 pub mod Entries
 pub mod Rooms
+pub mod Edits
+pub mod EditFaults

@@ -2,6 +2,7 @@
 #![tactic(auto)]
 
 mod attributes;
+mod edit_faults;
 mod edits;
 mod faults;
 mod forms;
@@ -14,6 +15,7 @@ mod pages;
 mod search;
 mod trees;
 
+pub use edit_faults::{EditErr, EditFault};
 pub use edits::TreeEdit;
 pub use faults::{LoadErr, LoadFault};
 pub use forms::NodeForm;
