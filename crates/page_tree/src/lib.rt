@@ -2,6 +2,7 @@
 #![tactic(auto)]
 
 mod attributes;
+mod cursors;
 mod edits;
 mod faults;
 mod forms;
@@ -13,6 +14,7 @@ mod pages;
 mod search;
 mod trees;
 
+pub use cursors::{Children, Node};
 pub use edits::TreeEdit;
 pub use faults::{LoadErr, LoadFault};
 pub use forms::NodeForm;
