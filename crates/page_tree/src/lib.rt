@@ -2,6 +2,7 @@
 #![tactic(auto)]
 
 mod attributes;
+mod cursors;
 mod edit_faults;
 mod edits;
 mod faults;
@@ -15,6 +16,7 @@ mod pages;
 mod search;
 mod trees;
 
+pub use cursors::{Children, Node};
 pub use edit_faults::{EditErr, EditFault};
 pub use edits::TreeEdit;
 pub use faults::{LoadErr, LoadFault};
