@@ -1,7 +1,7 @@
 -- Walks over the children of a node, by place.
 use Rattle.std.proofs.Common.{◌≡◌, ℕ, zero, suc, ◌+◌, ◌<◌, ◌≤◌, ◌∙◌, Option, Some, refl, sym, ap, add-one, arith}
 use Rattle.node_tree.specs.Nodes.{Nodes, none, node, Branch, from, tree_at, width, node_count}
-use Rattle.node_tree.proofs.NodeLemmas.{from-tree_at, from-width}
+use Rattle.node_tree.proofs.NodeLemmas.{from-tree_at}
 
 module _ {R : Type 0} where
   -- what is left at a place is the tree there, and what is left after it

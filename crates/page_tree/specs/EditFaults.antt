@@ -1,12 +1,11 @@
 -- Why an edit of a page is refused, and which edits a page takes.
-use Rattle.std.specs.Prelude.{◌≡◌, ℕ, suc, ◌+◌, ◌<◌, ◌≤◌, ◌==◌, ◌||◌, ◌&&◌, Bool, true, not, nat_le, List, [], ◌∷◌, Option, Some, None, is_some, Result, Ok, Err}
-use Rattle.node_tree.specs.Nodes.{Nodes, Branch, alone, height, map_rows, map_branch, branch_count}
+use Rattle.std.specs.Prelude.{◌≡◌, ℕ, ◌+◌, ◌<◌, ◌≤◌, ◌==◌, ◌||◌, ◌&&◌, Bool, true, not, nat_le, List, [], ◌∷◌, Option, Some, None, is_some, Result, Ok, Err}
+use Rattle.node_tree.specs.Nodes.{Branch, alone, height, map_branch, branch_count}
 use Rattle.node_tree.specs.Names.{is_attribute_name}
 use Rattle.node_tree.specs.Labels.{Label, value_of, holds, has_value, is_document, is_doctype, is_element}
-use Rattle.node_tree.specs.Keys as keys
 use Rattle.node_tree.specs.declared.Kind.{Kind}
 use Rattle.page_tree.specs.Forms.{max_level, max_nodes, are_formed, are_named}
-use Rattle.page_tree.specs.Pages.{Row, row_serial, row_label, State, find_in, node_at, level_at, times_in}
+use Rattle.page_tree.specs.Pages.{Row, row_label, State, find_in, node_at, level_at, times_in}
 use Rattle.page_tree.specs.Loads.{first_true}
 use Rattle.page_tree.specs.Edits.{label_at, children_at, is_among, form_at, moved_before, after}
 use Rattle.page_tree.specs.declared.edits.TreeEdit.{TreeEdit}

@@ -1,6 +1,6 @@
 -- What an edit makes of a page, and the edit that leads back. All reads nodes and texts; of the next serial an attach alone
 -- says something, and nothing hangs on it.
-use Rattle.std.specs.Prelude.{ℕ, suc, ◌+◌, ◌==◌, ◌||◌, ◌&&◌, max, Bool, false, cond, List, [], ◌∷◌, Option, Some, None, unwrap_or, bytes_eq}
+use Rattle.std.specs.Prelude.{ℕ, suc, ◌+◌, ◌==◌, ◌||◌, ◌&&◌, max, Bool, false, cond, List, [], ◌∷◌, Option, Some, None, bytes_eq}
 use Rattle.node_tree.specs.Nodes.{Nodes, none, node, Branch, alone, map_branch, branch_count}
 use Rattle.node_tree.specs.Labels.{Pair, Label, value_of}
 use Rattle.node_tree.specs.Keys as keys

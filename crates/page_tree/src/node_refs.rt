@@ -43,7 +43,7 @@ impl Page {
         ensures { result ≡ zipper_at serial self.now.tree }
     {
         self.valid();
-        match seat_among(slice::from_ref(self.root()), serial) {
+        match seat_among(slice::from_ref(self.tree()), serial) {
             Some((siblings, index)) => NodeRef {
                 page: self,
                 siblings,
