@@ -61,6 +61,7 @@ StopFolds result fold = FoldsAt (says_of result).phase (says_of result).message 
 abbrev pub FollowsWith : State → (up0 down0 up down : Pipe) → Ends → Type 0
 FollowsWith state0 up0 down0 up down e = Follows state0 up0 down0 up down e.splitter.whole (ends_of e)
 
+-- the ends follow the link, and every whole frame is answered
 pub record FollowsRun (state0 : State) (up0 down0 up down : Pipe) (e : Ends) : Type 0 where
   pub so_far : FollowsWith state0 up0 down0 up down e
   pub none_whole : e.splitter.whole ≡ []
