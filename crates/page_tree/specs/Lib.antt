@@ -5,3 +5,4 @@ pub mod Entries
 pub mod Rooms
 pub mod Edits
 pub mod EditFaults
+pub mod EditLaws

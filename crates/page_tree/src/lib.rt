@@ -3,6 +3,7 @@
 
 mod attributes;
 mod edit_faults;
+mod edit_laws;
 mod edits;
 mod faults;
 mod forms;
@@ -15,6 +16,7 @@ mod search;
 mod trees;
 
 pub use edit_faults::{EditErr, EditFault};
+pub use edit_laws::after_law;
 pub use edits::TreeEdit;
 pub use faults::{LoadErr, LoadFault};
 pub use forms::NodeForm;
