@@ -7,3 +7,5 @@ pub mod PairLemmas
 pub mod ChildLemmas
 pub mod WholeLemmas
 pub mod BackLemmas
+pub mod InsertLemmas
+pub mod MoveLemmas

@@ -11,6 +11,10 @@ use Rattle.page_tree.specs.declared.edits.TreeEdit.{TreeEdit}
 abbrev pub AfterLaw : Type 0
 AfterLaw = (page : State) (e : TreeEdit) → IsValid page → CanApply page.next e page.tree → IsValid (after e page)
 
+-- And its next serial is what it was: what is attached has its serials already.
+abbrev pub NextLaw : Type 0
+NextLaw = (page : State) (e : TreeEdit) → CanApply page.next e page.tree → (after e page).next ≡ page.next
+
 -- `back` leads back over the edit e of that tree: a page of the tree after e and of that next serial takes it, it leads to the very
 -- tree of before, serials and all, and its own way back is e.
 pub record LeadsBack (back e : TreeEdit) (tree : Branch Row) (next : ℕ) : Type 0 where

@@ -16,7 +16,7 @@ mod search;
 mod trees;
 
 pub use edit_faults::{EditErr, EditFault};
-pub use edit_laws::{after_law, back_law};
+pub use edit_laws::{after_law, back_law, copy_law, insert_law, move_law};
 pub use edits::TreeEdit;
 pub use faults::{LoadErr, LoadFault};
 pub use forms::NodeForm;
