@@ -7,3 +7,4 @@ pub mod Entries
 pub mod Rooms
 pub mod Edits
 pub mod EditFaults
+pub mod EditLaws
