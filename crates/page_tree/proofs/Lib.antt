@@ -2,3 +2,4 @@ pub mod NumberLemmas
 pub mod EntryLemmas
 pub mod LoadLemmas
 pub mod FormedLemmas
+pub mod AncestorLemmas
