@@ -12,3 +12,4 @@ pub mod WholeLemmas
 pub mod BackLemmas
 pub mod InsertLemmas
 pub mod MoveLemmas
+pub mod AncestorLemmas
