@@ -117,14 +117,14 @@ module _ (o p : ℕ → Bool) (grows : (s : ℕ) → o s ≡ true → p s ≡ tr
 -- ---- where two tests agree
 
 module _ (o p : ℕ → Bool) where
-  is_unopened-same : (n : Nodes Row) → ((s : ℕ) → 0 < tally row_serial s n → o s ≡ p s) → is_unopened o n ≡ is_unopened p n
+  pub is_unopened-same : (n : Nodes Row) → ((s : ℕ) → 0 < tally row_serial s n → o s ≡ p s) → is_unopened o n ≡ is_unopened p n
   is_unopened-same none h = refl
   is_unopened-same (node r c t) h =
       ap (λ b. not b && is_unopened o c && is_unopened o t) (h r.serial (omega (arith, self_times r.serial)))
       ∙ ap (λ b. not (p r.serial) && b && is_unopened o t) (is_unopened-same c (λ s k. h s (omega arith)))
       ∙ ap (λ b. not (p r.serial) && is_unopened p c && b) (is_unopened-same t (λ s k. h s (omega arith)))
 
-  is_closed-same : (n : Nodes Row) → ((s : ℕ) → 0 < tally row_serial s n → o s ≡ p s) → is_closed o n ≡ is_closed p n
+  pub is_closed-same : (n : Nodes Row) → ((s : ℕ) → 0 < tally row_serial s n → o s ≡ p s) → is_closed o n ≡ is_closed p n
   is_closed-same none h = refl
   is_closed-same (node r c t) h =
       ap (λ b. cond b (is_closed o c) (is_unopened o c) && is_closed o t) (h r.serial (omega (arith, self_times r.serial)))

@@ -129,7 +129,7 @@ known-above d n distinct = known-levelled (above d n) d n distinct (λ s _. refl
 
 -- ---- the containers above d are an opened set
 
-all_unopened : (o : ℕ → Bool) (n : Nodes Row) → ((s : ℕ) → 0 < tally row_serial s n → o s ≡ false) → is_unopened o n ≡ true
+pub all_unopened : (o : ℕ → Bool) (n : Nodes Row) → ((s : ℕ) → 0 < tally row_serial s n → o s ≡ false) → is_unopened o n ≡ true
 all_unopened o none h = refl
 all_unopened o (node r c t) h =
     rw (h r.serial (omega (arith, self_times r.serial)), all_unopened o c (λ s k. h s (omega arith)), all_unopened o t (λ s k. h s (omega arith))) refl
