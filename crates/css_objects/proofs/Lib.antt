@@ -1,0 +1,4 @@
+mod Ascending
+mod Options
+mod ReadLists
+pub mod SheetIds
