@@ -1,4 +1,6 @@
 mod Ascending
-mod Options
+pub mod Objects
+pub mod Options
 mod ReadLists
 pub mod SheetIds
+pub mod SoundKinds

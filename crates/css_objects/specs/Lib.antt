@@ -5,3 +5,4 @@ pub mod Selectors
 pub mod Styles
 pub mod Rules
 pub mod Results
+pub mod Laws

@@ -2,6 +2,7 @@
 //! sheets, and the results that are made of them.
 #![tactic(auto)]
 
+mod laws;
 mod listed;
 mod ranges;
 mod results;
@@ -10,6 +11,7 @@ mod selectors;
 mod sheets;
 mod styles;
 
+pub use laws::css_objects_law;
 pub use listed::Listed;
 pub use ranges::{SourceRange, range_of, range_value};
 pub use results::{
