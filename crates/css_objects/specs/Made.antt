@@ -12,6 +12,6 @@ by_fields k fields of = through k fields (λ s. Some (of s))
 abbrev pub only_field : {T : Type 0} → List ℕ → Kind T → Kind T
 only_field name k = by_fields (object_of (and_need name k ends)) (λ x. (x, tt)) (λ p. p.0)
 
--- the value of an object's one field, of any form
-abbrev pub only_member : List ℕ → Data → Option Data
-only_member name d = option_map (λ p. p.0) ((object_of (and_need name anything ends)).reads d)
+-- the value of an object's one field, if it has this name
+abbrev pub sole_field : List ℕ → Data → Option Data
+sole_field name d = option_map (λ p. p.0) ((object_of (and_need name anything ends)).reads d)

@@ -11,7 +11,11 @@ RangeFields = ℕ × (ℕ × (ℕ × (ℕ × ⊤)))
 
 -- the fields of `CSS.SourceRange`
 abbrev pub range_row : Row RangeFields
-range_row = and_need (codes "endColumn") whole (and_need (codes "endLine") whole (and_need (codes "startColumn") whole (and_need (codes "startLine") whole ends)))
+range_row =
+    and_need (codes "endColumn") whole
+    (and_need (codes "endLine") whole
+    (and_need (codes "startColumn") whole
+    (and_need (codes "startLine") whole ends)))
 
 -- a range as its fields
 abbrev pub range_fields : SourceRange → RangeFields

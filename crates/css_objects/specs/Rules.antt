@@ -22,7 +22,11 @@ RuleFields = SheetOrigin × (RuleSelectors × (Style × (ℕ × ⊤)))
 
 -- the fields of `CSS.CSSRule`
 abbrev pub rule_row : Row RuleFields
-rule_row = and_need (codes "origin") origin_kind (and_need (codes "selectorList") selectors_kind (and_need (codes "style") rule_style_kind (and_need (codes "styleSheetId") sheet_kind ends)))
+rule_row =
+    and_need (codes "origin") origin_kind
+    (and_need (codes "selectorList") selectors_kind
+    (and_need (codes "style") rule_style_kind
+    (and_need (codes "styleSheetId") sheet_kind ends)))
 
 -- a rule as its fields
 abbrev pub rule_fields : Rule → RuleFields
@@ -39,14 +43,14 @@ rule_kind = by_fields (object_of rule_row) rule_fields rule_from
 -- ---- a rule that matches
 
 -- the first number, if any, is above n
-abbrev pub is_below : ℕ → List ℕ → Bool
-is_below n [] = true
-is_below n (m ∷ ms) = nat_lt n m
+abbrev pub starts_above : ℕ → List ℕ → Bool
+starts_above n [] = true
+starts_above n (m ∷ ms) = nat_lt n m
 
 -- the numbers ascend, and so each stands once
 abbrev pub ascend : List ℕ → Bool
 ascend [] = true
-ascend (n ∷ ns) = is_below n ns && ascend ns
+ascend (n ∷ ns) = starts_above n ns && ascend ns
 
 -- places of selectors in their list, from 0
 abbrev pub places_kind : Kind (List ℕ)
@@ -100,7 +104,10 @@ MatchedFields = List Inherited × (Option Style × (List RuleMatch × ⊤))
 
 -- the fields of the result of `CSS.getMatchedStylesForNode`
 abbrev pub matched_row : Row MatchedFields
-matched_row = and_need (codes "inherited") (list_of inherited_kind) (and_may (codes "inlineStyle") inline_kind (and_need (codes "matchedCSSRules") (list_of match_kind) ends))
+matched_row =
+    and_need (codes "inherited") (list_of inherited_kind)
+    (and_may (codes "inlineStyle") inline_kind
+    (and_need (codes "matchedCSSRules") (list_of match_kind) ends))
 
 -- matched styles as their fields
 abbrev pub matched_fields : Matched → MatchedFields

@@ -28,9 +28,14 @@ sheet_in text = if_holds (is_text_of text) (digits_value 10 (drop 1 text))
 
 -- `CSS.StyleSheetId`
 abbrev pub sheet_kind : Kind ℕ
-sheet_kind = record { spell = λ n. string (sheet_text n); reads = λ d. option_and_then sheet_in (as_str d); fits = is_sheet; loose = None }
+sheet_kind = record {
+  spell = λ n. string (sheet_text n);
+  reads = λ d. option_and_then sheet_in (as_str d);
+  fits = is_sheet;
+  loose = None;
+}
 
--- `CSS.StyleSheetOrigin`
+-- the name of an origin (`CSS.StyleSheetOrigin`)
 abbrev pub origin_name : SheetOrigin → List ℕ
 origin_name UserAgent = codes "user-agent"
 origin_name Regular = codes "regular"

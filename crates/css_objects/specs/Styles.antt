@@ -20,7 +20,12 @@ PropertyFields = Bool × (List ℕ × (Option SourceRange × (List ℕ × (List 
 
 -- the fields of `CSS.CSSProperty`
 abbrev pub property_row : Row PropertyFields
-property_row = and_true (codes "important") (and_need (codes "name") text (and_may (codes "range") range_kind (and_need (codes "text") text (and_need (codes "value") text ends))))
+property_row =
+    and_true (codes "important")
+    (and_need (codes "name") text
+    (and_may (codes "range") range_kind
+    (and_need (codes "text") text
+    (and_need (codes "value") text ends))))
 
 -- a property as its fields
 abbrev pub property_fields : StyleProperty → PropertyFields
@@ -43,7 +48,12 @@ has_none (item d ds) = false
 
 -- the empty list
 abbrev pub empty_list : Kind ⊤
-empty_list = record { spell = λ _. array no_items; reads = λ d. option_and_then (λ ds. unit_if (has_none ds)) (as_array d); fits = λ _. true; loose = None }
+empty_list = record {
+  spell = λ _. array no_items;
+  reads = λ d. option_and_then (λ ds. unit_if (has_none ds)) (as_array d);
+  fits = λ _. true;
+  loose = None;
+}
 
 -- the fields of a style, in the order of their names
 abbrev pub StyleFields : Type 0

@@ -10,6 +10,8 @@ mod rules;
 mod selectors;
 mod sheets;
 mod styles;
+#[cfg(test)]
+mod tests;
 
 pub use laws::css_objects_law;
 pub use listed::Listed;
@@ -26,7 +28,9 @@ pub use selectors::{
     RuleSelectors, SelectorValue, Weight, selector_of, selector_value, selectors_of,
     selectors_value,
 };
-pub use sheets::{Header, SheetOrigin, header_of, header_value, sheet_in, sheet_text};
+pub use sheets::{
+    Header, SheetOrigin, header_of, header_value, sheet_in, sheet_of, sheet_text, sheet_value,
+};
 pub use styles::{
     Style, StyleProperty, inline_style_of, property_of, property_value, rule_style_of, style_value,
 };

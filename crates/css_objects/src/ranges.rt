@@ -38,6 +38,7 @@ pub fn range_of(value: &Value) -> Option<SourceRange>
     })
 }
 
+/// The range as JSON.
 pub fn range_value(alloc: Global, range: SourceRange) -> Result<Value, AllocError>
     ensures { IfOk result (λ v. view v ≡ range_kind.spell range) }
 {

@@ -7,7 +7,7 @@ ghost use Rattle.cdp_json.specs.Kinds.{Kind, text, list_of, read_items};
 ghost use Rattle.css_objects.specs.Selectors.{selectors_kind};
 ghost use Rattle.css_objects.specs.Styles.{rule_style_kind};
 ghost use Rattle.css_objects.specs.Rules.{rule_kind};
-ghost use Rattle.css_objects.specs.Made.{only_field, only_member};
+ghost use Rattle.css_objects.specs.Made.{only_field, sole_field};
 ghost use Rattle.css_objects.specs.Results.{sheet_text_result, class_names_result, styles_result, selectors_result, rule_result};
 
 use crate::listed::Listed;
@@ -19,9 +19,9 @@ use node_tree::Text;
 use serde_json::Value;
 use std::alloc::{AllocError, Global};
 
-// The value of the one member, which has this name.
-fn only_member<'a>(value: &'a Value, name: &str) -> Option<&'a Value>
-    ensures { option_map (λ v. view v.now) result ≡ only_member name.now (view value.now) }
+// The value of the object's one field, if it has this name.
+fn sole_field<'a>(value: &'a Value, name: &str) -> Option<&'a Value>
+    ensures { option_map (λ v. view v.now) result ≡ sole_field name.now (view value.now) }
 {
     let mut fields = Cursor::new(value.as_object()?);
     let value = fields.need(name)?;
@@ -97,12 +97,13 @@ fn name_list(alloc: Global, names: &[Text]) -> Result<Value, AllocError>
 pub fn sheet_text_of(alloc: Global, value: &Value) -> Result<Option<Text>, AllocError>
     ensures { IfOk result (λ o. o ≡ sheet_text_result.reads (view value.now)) }
 {
-    let Some(text) = only_member(value, "text") else {
+    let Some(text) = sole_field(value, "text") else {
         return Ok(None);
     };
     text_in(alloc, text)
 }
 
+/// The result of `CSS.getStyleSheetText`.
 pub fn sheet_text_value(alloc: Global, text: &Text) -> Result<Value, AllocError>
     ensures { IfOk result (λ v. view v ≡ sheet_text_result.spell text.now) }
 {
@@ -110,10 +111,11 @@ pub fn sheet_text_value(alloc: Global, text: &Text) -> Result<Value, AllocError>
     object_with(alloc, "text", text)
 }
 
+/// The names of classes.
 pub fn class_names_of(alloc: Global, value: &Value) -> Result<Option<Listed<Text>>, AllocError>
     ensures { IfOk result (λ o. o ≡ class_names_result.reads (view value.now)) }
 {
-    let Some(names) = only_member(value, "classNames") else {
+    let Some(names) = sole_field(value, "classNames") else {
         return Ok(None);
     };
     let Some(items) = list_of(names) else {
@@ -125,6 +127,7 @@ pub fn class_names_of(alloc: Global, value: &Value) -> Result<Option<Listed<Text
     }
 }
 
+/// The result of `CSS.collectClassNames`.
 pub fn class_names_value(alloc: Global, names: &[Text]) -> Result<Value, AllocError>
     ensures { IfOk result (λ v. view v ≡ class_names_result.spell names.now) }
 {
@@ -136,7 +139,7 @@ pub fn class_names_value(alloc: Global, names: &[Text]) -> Result<Value, AllocEr
 pub fn styles_of(alloc: Global, value: &Value) -> Result<Option<Listed<Style>>, AllocError>
     ensures { IfOk result (λ o. o ≡ styles_result.reads (view value.now)) }
 {
-    let Some(styles) = only_member(value, "styles") else {
+    let Some(styles) = sole_field(value, "styles") else {
         return Ok(None);
     };
     let Some(items) = list_of(styles) else {
@@ -148,6 +151,7 @@ pub fn styles_of(alloc: Global, value: &Value) -> Result<Option<Listed<Style>>, 
     }
 }
 
+/// The result of `CSS.setStyleTexts`.
 pub fn styles_value(alloc: Global, styles: &[Style]) -> Result<Value, AllocError>
     ensures { IfOk result (λ v. view v ≡ styles_result.spell styles.now) }
 {
@@ -159,12 +163,13 @@ pub fn styles_value(alloc: Global, styles: &[Style]) -> Result<Value, AllocError
 pub fn new_selectors_of(alloc: Global, value: &Value) -> Result<Option<RuleSelectors>, AllocError>
     ensures { IfOk result (λ o. o ≡ selectors_result.reads (view value.now)) }
 {
-    let Some(selectors) = only_member(value, "selectorList") else {
+    let Some(selectors) = sole_field(value, "selectorList") else {
         return Ok(None);
     };
     selectors_of(alloc, selectors)
 }
 
+/// The result of `CSS.setRuleSelector`.
 pub fn new_selectors_value(alloc: Global, selectors: &RuleSelectors) -> Result<Value, AllocError>
     ensures { IfOk result (λ v. view v ≡ selectors_result.spell selectors.now) }
 {
@@ -176,12 +181,13 @@ pub fn new_selectors_value(alloc: Global, selectors: &RuleSelectors) -> Result<V
 pub fn new_rule_of(alloc: Global, value: &Value) -> Result<Option<Rule>, AllocError>
     ensures { IfOk result (λ o. o ≡ rule_result.reads (view value.now)) }
 {
-    let Some(rule) = only_member(value, "rule") else {
+    let Some(rule) = sole_field(value, "rule") else {
         return Ok(None);
     };
     rule_of(alloc, rule)
 }
 
+/// The result of `CSS.addRule`.
 pub fn new_rule_value(alloc: Global, rule: &Rule) -> Result<Value, AllocError>
     ensures { IfOk result (λ v. view v ≡ rule_result.spell rule.now) }
 {

@@ -106,6 +106,7 @@ pub fn rule_of(alloc: Global, value: &Value) -> Result<Option<Rule>, AllocError>
     }))
 }
 
+/// The rule as JSON.
 pub fn rule_value(alloc: Global, rule: &Rule) -> Result<Value, AllocError>
     ensures { IfOk result (λ v. view v ≡ rule_kind.spell rule.now) }
 {
@@ -184,6 +185,7 @@ pub fn match_of(alloc: Global, value: &Value) -> Result<Option<RuleMatch>, Alloc
     Ok(Some(RuleMatch { matching, rule }))
 }
 
+/// The match as JSON.
 pub fn match_value(alloc: Global, found: &RuleMatch) -> Result<Value, AllocError>
     ensures { IfOk result (λ v. view v ≡ match_kind.spell found.now) }
 {
@@ -282,6 +284,7 @@ pub fn inherited_of(alloc: Global, value: &Value) -> Result<Option<Inherited>, A
     Ok(Some(Inherited { inline, rules }))
 }
 
+/// The entry as JSON.
 pub fn inherited_value(alloc: Global, entry: &Inherited) -> Result<Value, AllocError>
     ensures { IfOk result (λ v. view v ≡ inherited_kind.spell entry.now) }
 {
@@ -358,6 +361,7 @@ pub fn matched_of(alloc: Global, value: &Value) -> Result<Option<Matched>, Alloc
     }))
 }
 
+/// The matched styles as JSON.
 pub fn matched_value(alloc: Global, matched: &Matched) -> Result<Value, AllocError>
     ensures { IfOk result (λ v. view v ≡ matched_kind.spell matched.now) }
 {

@@ -96,6 +96,7 @@ pub fn selector_of(alloc: Global, value: &Value) -> Result<Option<SelectorValue>
     }))
 }
 
+/// The selector as JSON.
 pub fn selector_value(alloc: Global, selector: &SelectorValue) -> Result<Value, AllocError>
     ensures { IfOk result (λ v. view v ≡ selector_kind.spell selector.now) }
 {
@@ -171,6 +172,7 @@ pub fn selectors_of(alloc: Global, value: &Value) -> Result<Option<RuleSelectors
     Ok(Some(RuleSelectors { selectors, text }))
 }
 
+/// The list of selectors as JSON.
 pub fn selectors_value(alloc: Global, selectors: &RuleSelectors) -> Result<Value, AllocError>
     ensures { IfOk result (λ v. view v ≡ selectors_kind.spell selectors.now) }
 {

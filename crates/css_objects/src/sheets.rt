@@ -63,7 +63,8 @@ pub fn sheet_text(alloc: Global, sheet: u64) -> Result<String, AllocError>
     format!(in alloc; "s{sheet}")
 }
 
-fn sheet_of(value: &Value) -> Option<u64>
+/// `None` where the value is no sheet's id.
+pub fn sheet_of(value: &Value) -> Option<u64>
     ensures { result ≡ sheet_kind.reads (view value.now) }
 {
     sheet_in(text_of(value)?)
@@ -91,7 +92,8 @@ pub(crate) fn sheet_if_any(fields: &mut Cursor<'_>) -> Option<Option<u64>>
     }
 }
 
-pub(crate) fn sheet_value(alloc: Global, sheet: u64) -> Result<Value, AllocError>
+/// The id of a sheet as JSON.
+pub fn sheet_value(alloc: Global, sheet: u64) -> Result<Value, AllocError>
     ensures { IfOk result (λ v. view v ≡ sheet_kind.spell sheet) }
 {
     Ok(Value::String(sheet_text(alloc, sheet)?))
@@ -160,6 +162,7 @@ pub fn header_of(value: &Value) -> Option<Header>
     })
 }
 
+/// The header as JSON.
 pub fn header_value(alloc: Global, header: Header) -> Result<Value, AllocError>
     ensures { IfOk result (λ v. view v ≡ header_kind.spell header) }
 {

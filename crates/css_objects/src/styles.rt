@@ -80,6 +80,7 @@ fn true_if(holds: bool) -> Option<Value>
     if holds { Some(Value::Bool(true)) } else { None }
 }
 
+/// The property as JSON.
 pub fn property_value(alloc: Global, property: &StyleProperty) -> Result<Value, AllocError>
     ensures { IfOk result (λ v. view v ≡ property_kind.spell property.now) }
 {
@@ -255,7 +256,7 @@ pub fn rule_style_of(alloc: Global, value: &Value) -> Result<Option<Style>, Allo
     }
 }
 
-/// Of either form.
+/// The style as JSON, of either form.
 pub fn style_value(alloc: Global, style: &Style) -> Result<Value, AllocError>
     ensures { IfOk result (λ v. view v ≡ style_kind.spell style.now) }
 {
