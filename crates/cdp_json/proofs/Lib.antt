@@ -4,3 +4,4 @@ pub mod RowLaws
 mod Order
 pub mod ReadBack
 pub mod SpelledLaws
+pub mod LookupLaws
