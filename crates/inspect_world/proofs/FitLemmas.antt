@@ -9,9 +9,11 @@ use Rattle.node_binding.proofs.StartLemmas.{count-alone}
 use Rattle.pipe_frames.specs.Frames.{Frames, frames_of}
 use Rattle.cdp_messages.specs.declared.command.Asked.{Asked}
 use Rattle.cdp_messages.specs.declared.command.Command.{Command}
-use Rattle.cdp_messages.specs.declared.command.Command.TheVariants.{PushByPath}
+use Rattle.cdp_messages.specs.declared.dom_ask.DomAsk.{DomAsk}
+use Rattle.cdp_messages.specs.declared.dom_ask.DomAsk.TheVariants.{PushByPath}
+use Rattle.cdp_messages.specs.DomAsks.{as_command, dom_ask_in, ask_name, fits_ask}
 use Rattle.cdp_messages.specs.declared.command.Why.{Why}
-use Rattle.cdp_messages.specs.declared.command.Why.TheVariants.{DomOff}
+use Rattle.cdp_messages.specs.declared.command.Why.TheVariants.{NoMethod}
 use Rattle.cdp_messages.specs.declared.command.Refused.{Refused}
 use Rattle.cdp_messages.specs.Asked.{asked, method_name, fits_command}
 use Rattle.dom_agent.specs.Requests.{Outcome, refused, state_after}
@@ -21,8 +23,9 @@ use Rattle.front_mirror.specs.declared.faults.FrontKind.{FrontKind}
 use Rattle.front_mirror.specs.Front.{FrontValue, take_frame, method_of, without}
 use Rattle.inspect_world.specs.World.{Spent}
 use Rattle.inspect_world.specs.Fold.{folded, then, Laws, Leads}
-use Rattle.back_end.specs.States.{State, nodes_in, needs_on, on_outcome, on_asked, step, Stepped}
+use Rattle.back_end.specs.States.{Stepped, State, IsState, nodes_in, after_outcome, on_outcome, outcome_of, on_ask, on_asked, step}
 use Rattle.inspect_world.specs.Fits.{join, ask_in, ask_with, with_ask, IsNext, IsTurn, most_drawn, IsFit, replay}
+use Rattle.cdp_messages.proofs.DomAskLaws.{dom_asks_are_commands}
 use Rattle.back_end.proofs.StateLemmas.{session-after, IsState-after}
 use Rattle.front_mirror.proofs.FoldLemmas.{take_frame-more}
 use Rattle.inspect_world.proofs.Messages.{AskedAs, commanded, refused_as, asked-ask, ask-id}
@@ -117,7 +120,7 @@ answered_drawn pushed known others all most is few before = omega arith
 
 -- what a front makes of the frames of an ask's command
 answers-taken : (n : Spent) (frame : List ℕ) (front : FrontValue) (state : State) (frames : List (List ℕ)) (first : First frame frames front.asks)
-    (command : Command) (o : Outcome Session) → IsFit n front state (frame ∷ frames) → step state frame ≡ on_outcome first.ask.id o state → Good state command o
+    (command : DomAsk) (o : Outcome Session) → IsFit n front state (frame ∷ frames) → step state frame ≡ on_outcome first.ask.id o state → Good state command o
     → Taken first.ask.id o front state → Leads take_frame (IsFit n) front (step state frame) frames
 answers-taken n frame front state frames first command o fit is good t =
     let out : frames_of (step state frame).sent ≡ record { whole = t.texts; rest = [] } = ap (λ (d : Stepped State). frames_of d.sent) is ∙ t.frames_are in
@@ -138,31 +141,48 @@ answers-taken n frame front state frames first command o fit is good t =
       whole = ap (λ (fs : Frames). fs.rest) out;
     }
 
--- a command is carried out, or refused
-answers-command : (n : Spent) (frame : List ℕ) (front : FrontValue) (state : State) (frames : List (List ℕ)) (command : Command)
+-- what the agent is asked is carried out, or refused
+answers-ask : (n : Spent) (frame : List ℕ) (front : FrontValue) (state : State) (frames : List (List ℕ)) (ask : DomAsk)
     → IsFit n front state (frame ∷ frames) → (first : First frame frames front.asks)
-    → asked frame false ≡ Ok (record { id = first.ask.id; command = command }) → first.ask.method ≡ method_name command → fits_command command ≡ true
+    → step state frame ≡ on_ask first.ask.id (Some ask) state → first.ask.method ≡ ask_name ask → fits_ask ask ≡ true
     → Leads take_frame (IsFit n) front (step state frame) frames
-answers-command n frame front state frames command fit first is method_is fits =
+answers-ask n frame front state frames ask fit first is method_is fits =
     let id = first.ask.id in
-    let o : Outcome Session = cond (needs_on command && not state.client.dom_on) (refused DomOff) (session_outcome state.side.page command state.client.session) in
-    let good : Good state command o = good-command state command fit.is_state.page fit.is_state.session fits (can-tell n frame front state frames fit) in
-    let waits : method_of id front.asks ≡ Some (method_name command) = ap (method_of id) first.asks_are ∙ found first.ask first.rest ∙ ap Some method_is in
-    answers-taken n frame front state frames first command o fit (ap (λ result. on_asked result state) is) good
-    (taken id command o front state good (ask-id frame first.ask first.is) fit.tree waits)
+    let o : Outcome Session = outcome_of (Some ask) state in
+    let good : Good state ask o = good-command state ask fit.is_state.page fit.is_state.session fits (can-tell n frame front state frames fit) in
+    let waits : method_of id front.asks ≡ Some (ask_name ask) = ap (method_of id) first.asks_are ∙ found first.ask first.rest ∙ ap Some method_is in
+    answers-taken n frame front state frames first ask o fit is good
+    (taken id ask o front state good (ask-id frame first.ask first.is) fit.tree waits)
 
 -- a refusal changes nothing
 answers-refused : (n : Spent) (frame : List ℕ) (front : FrontValue) (state : State) (frames : List (List ℕ)) (why : Why)
     → IsFit n front state (frame ∷ frames) → (first : First frame frames front.asks)
-    → asked frame false ≡ Err (record { id = Some first.ask.id; why = why })
+    → step state frame ≡ on_outcome first.ask.id (refused why) state
     → Leads take_frame (IsFit n) front (step state frame) frames
 answers-refused n frame front state frames why fit first is =
     let id = first.ask.id in
     let waits : method_of id front.asks ≡ Some first.ask.method = ap (method_of id) first.asks_are ∙ found first.ask first.rest in
-    let any : Command = PushByPath [] in
-    answers-taken n frame front state frames first any (refused why) fit (ap (λ result. on_asked result state) is)
+    let any : DomAsk = PushByPath [] in
+    answers-taken n frame front state frames first any (refused why) fit is
     (good-refused state any why fit.is_state.session)
     (with-refusal id first.ask.method why front state (ask-id frame first.ask first.is) fit.tree waits)
+
+-- a command is one that the agent serves, or its method is not known
+answers-command : (n : Spent) (frame : List ℕ) (front : FrontValue) (state : State) (frames : List (List ℕ)) (command : Command)
+    → IsFit n front state (frame ∷ frames) → (first : First frame frames front.asks)
+    → asked frame false ≡ Ok (record { id = first.ask.id; command = command }) → first.ask.method ≡ method_name command → fits_command command ≡ true
+    → Leads take_frame (IsFit n) front (step state frame) frames
+answers-command n frame front state frames command fit first is method_is fits = at (dom_ask_in command) refl
+  where
+    at : (o : Option DomAsk) → dom_ask_in command ≡ o → Leads take_frame (IsFit n) front (step state frame) frames
+    at None none =
+        answers-refused n frame front state frames NoMethod fit first
+        (ap (λ result. on_asked result state) is ∙ ap (λ o. on_ask first.ask.id o state) none)
+    at (Some ask) some =
+        let same : command ≡ as_command ask = dom_asks_are_commands command ask some in
+        answers-ask n frame front state frames ask fit first
+        (ap (λ result. on_asked result state) is ∙ ap (λ o. on_ask first.ask.id o state) some)
+        (method_is ∙ ap method_name same) (ap fits_command (sym same) ∙ fits)
 
 by-asked : (n : Spent) (frame : List ℕ) (front : FrontValue) (state : State) (frames : List (List ℕ))
     → IsFit n front state (frame ∷ frames) → (first : First frame frames front.asks)
@@ -171,7 +191,7 @@ by-asked : (n : Spent) (frame : List ℕ) (front : FrontValue) (state : State) (
 by-asked n frame front state frames fit first _ (commanded command method_is fits) is =
     answers-command n frame front state frames command fit first is method_is fits
 by-asked n frame front state frames fit first _ (refused_as why) is =
-    answers-refused n frame front state frames why fit first is
+    answers-refused n frame front state frames why fit first (ap (λ result. on_asked result state) is)
 
 -- what a step sends takes the front along
 fit-answered : (n : Spent) (frame : List ℕ) (front : FrontValue) (state : State) (frames : List (List ℕ))
