@@ -20,7 +20,7 @@ pub use edit_laws::{after_law, back_law, copy_law, insert_law, move_law};
 pub use edits::TreeEdit;
 pub use faults::{LoadErr, LoadFault};
 pub use forms::NodeForm;
-pub use loads::read_nodes;
+pub use loads::{read_node, read_nodes};
 pub use node_tree::{Attributes, Kind, Text};
 pub use pages::Page;
 pub use trees::Tree;
