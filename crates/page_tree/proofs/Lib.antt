@@ -9,3 +9,4 @@ pub mod WholeLemmas
 pub mod BackLemmas
 pub mod InsertLemmas
 pub mod MoveLemmas
+pub mod EditRows

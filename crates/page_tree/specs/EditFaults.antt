@@ -1,12 +1,11 @@
 -- Why an edit of a page is refused, and which edits a page takes.
-use Rattle.std.specs.Prelude.{◌≡◌, ℕ, suc, ◌+◌, ◌<◌, ◌≤◌, ◌==◌, ◌||◌, ◌&&◌, Bool, true, not, nat_le, List, [], ◌∷◌, Option, Some, None, is_some, Result, Ok, Err}
-use Rattle.node_tree.specs.Nodes.{Nodes, Branch, alone, height, map_rows, map_branch, branch_count}
+use Rattle.std.specs.Prelude.{◌≡◌, ℕ, ◌+◌, ◌<◌, ◌≤◌, ◌==◌, ◌||◌, ◌&&◌, Bool, true, not, nat_le, List, [], ◌∷◌, Option, Some, None, is_some, Result, Ok, Err}
+use Rattle.node_tree.specs.Nodes.{Branch, alone, height, map_branch, branch_count}
 use Rattle.node_tree.specs.Names.{is_attribute_name}
 use Rattle.node_tree.specs.Labels.{Label, value_of, holds, has_value, is_document, is_doctype, is_element}
-use Rattle.node_tree.specs.Keys as keys
 use Rattle.node_tree.specs.declared.Kind.{Kind}
 use Rattle.page_tree.specs.Forms.{max_level, max_nodes, are_formed, are_named}
-use Rattle.page_tree.specs.Pages.{Row, row_serial, row_label, State, find_in, node_at, level_at, times_in}
+use Rattle.page_tree.specs.Pages.{Row, row_label, State, find_in, node_at, level_at, times_in}
 use Rattle.page_tree.specs.Loads.{first_true}
 use Rattle.page_tree.specs.Edits.{label_at, children_at, is_among, form_at, moved_before, after}
 use Rattle.page_tree.specs.declared.edits.TreeEdit.{TreeEdit}
@@ -56,6 +55,7 @@ has_attribute serial name tree = is_some (value_of name (label_at serial tree).a
 
 -- ---- faults by number: each with the test that says that it applies
 
+-- the faults of an attach of a tree of that form
 abbrev pub attach_faults : ℕ → ℕ → Branch Label → Branch Row → List (EditFault × Bool)
 attach_faults parent before form tree =
     (NoNode, not (is_live parent tree && is_live_or_0 before tree))
@@ -66,6 +66,7 @@ attach_faults parent before form tree =
     ∷ (NotContainer, not (may_hold (kind_at parent tree) form.row.kind))
     ∷ []
 
+-- the faults of an edit
 abbrev pub edit_faults : TreeEdit → Branch Row → List (EditFault × Bool)
 edit_faults (SetAttr serial name value) tree =
     (NoNode, not (is_live serial tree))
@@ -94,7 +95,8 @@ move_faults serial parent before tree =
     ∷ (NotContainer, not (may_hold (kind_at parent tree) (kind_at serial tree)))
     ∷ []
 
--- A copy may go below the node itself.
+-- The faults of a copy are those of an attach of the node's form, whose names have their forms already. A copy may go below the
+-- node itself.
 abbrev pub copy_faults : ℕ → ℕ → ℕ → Branch Row → List (EditFault × Bool)
 copy_faults serial parent before tree =
     (NoNode, not (is_live serial tree && is_live parent tree && is_live_or_0 before tree))
@@ -105,16 +107,19 @@ copy_faults serial parent before tree =
     ∷ (NotContainer, not (may_hold (kind_at parent tree) (kind_at serial tree)))
     ∷ []
 
--- the first fault of an edit, of an insert, of a move and of a copy
+-- the first fault of an edit
 abbrev pub first_fault : TreeEdit → Branch Row → Option EditFault
 first_fault e tree = first_true (edit_faults e tree)
 
+-- the first fault of an insert of that form
 abbrev pub insert_fault : ℕ → ℕ → Branch Label → Branch Row → Option EditFault
 insert_fault parent before form tree = first_true (attach_faults parent before form tree)
 
+-- the first fault of a move
 abbrev pub move_fault : ℕ → ℕ → ℕ → Branch Row → Option EditFault
 move_fault serial parent before tree = first_true (move_faults serial parent before tree)
 
+-- the first fault of a copy
 abbrev pub copy_fault : ℕ → ℕ → ℕ → Branch Row → Option EditFault
 copy_fault serial parent before tree = first_true (copy_faults serial parent before tree)
 
