@@ -1,27 +1,24 @@
 -- The edit that leads back leads back.
-use Rattle.std.proofs.Common.{◌≡◌, ◌⊎◌, ℕ, zero, suc, ◌+◌, ◌<◌, ◌≤◌, ◌==◌, max, List, [], ◌∷◌, Bool, true, false, not, ◌&&◌, ◌||◌, nat_le, cond, Option, Some, None, is_some, unwrap_or, inl, inr, subst, refl, sym, ap, ◌∙◌, arith}
-use Rattle.std.proofs.lemmas.Bool.{not-true, not-false, not_from_true, not_from_false, leb-true, le-leb, eq-eqb, eqb-true}
-use Rattle.std.proofs.lemmas.Bool.Decides.{eqb_tells}
-use Rattle.node_tree.specs.Nodes.{Nodes, none, node, Branch, alone, node_count, branch_count, height, map_branch}
-use Rattle.node_tree.specs.Names.{is_attribute_name}
-use Rattle.node_tree.specs.Labels.{Pair, Label, is_document, is_doctype, is_element, has_value, value_of, is_ascending, is_formed_label, is_named_label}
+use Rattle.std.proofs.Common.{◌≡◌, ◌⊎◌, ℕ, zero, suc, ◌+◌, ◌<◌, ◌≤◌, ◌==◌, List, Bool, true, false, not, ◌&&◌, ◌||◌, Option, Some, None, is_some, unwrap_or, inl, inr, subst, refl, sym, ap, ◌∙◌, arith}
+use Rattle.std.proofs.lemmas.Bool.{not-false, not_from_true, le-leb, eq-eqb, eqb-true}
+use Rattle.node_tree.specs.Nodes.{Nodes, none, node, Branch, alone, map_branch}
+use Rattle.node_tree.specs.Labels.{Pair, Label, is_document, is_doctype, is_element, has_value, value_of, is_formed_label}
 use Rattle.node_tree.specs.Keys.{tally, tally_in, find, put, At}
-use Rattle.node_tree.specs.declared.Kind.{Kind}
 use Rattle.node_tree.specs.declared.Kind.TheVariants.{Document}
 use Rattle.node_tree.proofs.NodeLemmas.{node_count-map_rows, height-map_rows}
 use Rattle.node_tree.proofs.KeyLemmas.{tally-at, tally_row, find-stands, put-at, Stands, stands-below, height_above-at}
 use Rattle.node_tree.proofs.ChangeLemmas.{at-old, at-new, at-back, count-at, tally_in-at, alone-put, parent-at, child-stands, child_of}
-use Rattle.page_tree.specs.Forms.{max_level, max_nodes, are_formed, are_named}
-use Rattle.page_tree.specs.Pages.{Row, row_serial, row_label, State, node_at, parent_at, level_at, times_in, IsValid}
+use Rattle.page_tree.specs.Forms.{are_formed, are_named}
+use Rattle.page_tree.specs.Pages.{Row, row_serial, row_label, node_at, parent_at, level_at}
 use Rattle.page_tree.specs.Edits.{with_attribute, without_attribute, with_value, relabelled, with_child, without_child, put_before, taken_out, put_in, changed_at, after_tree, back_tree, restored, label_at, children_at, next_sibling, sibling_after, is_among}
-use Rattle.page_tree.specs.EditFaults.{is_live, is_live_or_0, is_place, kind_at, has_attribute, may_hold, CanAttach, CanApply, first_fault, edit_faults}
+use Rattle.page_tree.specs.EditFaults.{is_live, kind_at, may_hold, CanAttach, CanApply, first_fault, edit_faults}
 use Rattle.page_tree.specs.EditLaws.{LeadsBack, BackLaw}
 use Rattle.page_tree.specs.declared.edits.TreeEdit.{TreeEdit}
 use Rattle.page_tree.specs.declared.edits.TreeEdit.TheVariants.{SetAttr, DropAttr, SetText, Attach, Detach}
-use Rattle.page_tree.proofs.FormedLemmas.{both, left, right}
+use Rattle.page_tree.proofs.FormedLemmas.{both, left}
 use Rattle.page_tree.proofs.PairLemmas.{value-placed, value-without, set_set, set_drop, drop_set}
-use Rattle.page_tree.proofs.ChildLemmas.{Inserted, tally-inserted, count-inserted, height-inserted, stands-inserted, inserted-before, inserted-taken, child-put, take-put, put-take, next-put_among, next-put_last, next-among, among-tally}
-use Rattle.page_tree.proofs.WholeLemmas.{Fits, Sound, Whole, whole-later, whole-valid, sound-there, formed-sound, inserted-sound}
+use Rattle.page_tree.proofs.ChildLemmas.{Inserted, tally-inserted, count-inserted, height-inserted, inserted-taken, child-put, take-put, put-take, next-put_among, next-put_last, next-among, among-tally}
+use Rattle.page_tree.proofs.WholeLemmas.{Sound, Whole, whole-later, whole-valid, formed-sound, inserted-sound}
 use Rattle.page_tree.proofs.EditLemmas.{clear, unfaulted, changed, serial-live, live-tally, level-changed, ascending-element, parted, fits-live, whole-after}
 
 -- ---- a change taken back

@@ -1,18 +1,17 @@
 -- The edits that an insert and a copy mean are taken.
-use Rattle.std.proofs.Common.{◌≡◌, ◌⊎◌, ℕ, zero, suc, ◌+◌, ◌<◌, ◌≤◌, max, List, [], ◌∷◌, Bool, true, false, ◌&&◌, Option, None, inl, inr, subst, refl, sym, ap, ◌∙◌, arith}
+use Rattle.std.proofs.Common.{◌≡◌, ◌⊎◌, ℕ, zero, suc, ◌+◌, ◌<◌, ◌≤◌, max, Bool, true, false, ◌&&◌, inl, inr, subst, refl, sym, ap, ◌∙◌, arith}
 use Rattle.std.proofs.lemmas.Bool.{not-false, not_from_true, cases_lt}
 use Rattle.node_tree.specs.Nodes.{Nodes, none, node, Branch, alone, node_count, branch_count, map_branch}
 use Rattle.node_tree.specs.Labels.{Label}
-use Rattle.node_tree.specs.Keys.{tally, tally_in}
+use Rattle.node_tree.specs.Keys.{tally}
 use Rattle.node_tree.proofs.KeyLemmas.{tally_row, tally_below}
 use Rattle.page_tree.specs.Pages.{Row, row_serial, row_label, State, numbered, times_in, IsValid}
 use Rattle.page_tree.specs.Loads.{first_true}
-use Rattle.page_tree.specs.Edits.{after, next_after, greatest_serial, numbered_branch, form_at}
+use Rattle.page_tree.specs.Edits.{after, greatest_serial, numbered_branch, form_at}
 use Rattle.page_tree.specs.EditFaults.{is_live, is_live_or_0, CanInsert, CanAttach, CanApply, attach_faults, edit_faults, copy_faults}
 use Rattle.page_tree.specs.EditLaws.{NextLaw, InsertLaw, CopyLaw}
-use Rattle.page_tree.specs.declared.edits.TreeEdit.{TreeEdit}
 use Rattle.page_tree.specs.declared.edits.TreeEdit.TheVariants.{SetAttr, DropAttr, SetText, Attach, Detach}
-use Rattle.page_tree.proofs.FormedLemmas.{both, left, right}
+use Rattle.page_tree.proofs.FormedLemmas.{both}
 use Rattle.page_tree.proofs.NumberLemmas.{map_rows-numbered, tally-numbered_once, tally-numbered_below, tally-numbered_above}
 use Rattle.page_tree.proofs.WholeLemmas.{whole-valid}
 use Rattle.page_tree.proofs.EditLemmas.{clear, unfaulted}

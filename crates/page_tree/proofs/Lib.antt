@@ -13,3 +13,4 @@ pub mod BackLemmas
 pub mod InsertLemmas
 pub mod MoveLemmas
 pub mod AncestorLemmas
+pub mod EditRows

@@ -1,23 +1,23 @@
 -- The edits that a move means are taken: what the attach asks of other nodes stands after the detach as it stood before.
-use Rattle.std.proofs.Common.{◌≡◌, ◌⊎◌, ℕ, zero, suc, ◌+◌, ◌<◌, ◌≤◌, ◌==◌, max, List, [], ◌∷◌, Bool, true, false, not, ◌&&◌, ◌||◌, nat_le, cond, Option, Some, None, is_some, unwrap_or, inl, inr, subst, refl, sym, ap, ◌∙◌, arith}
+use Rattle.std.proofs.Common.{◌≡◌, ◌⊎◌, ℕ, zero, suc, ◌+◌, ◌<◌, ◌≤◌, ◌==◌, Bool, true, false, not, ◌&&◌, ◌||◌, nat_le, cond, Option, Some, None, is_some, unwrap_or, inl, inr, subst, refl, sym, ap, ◌∙◌, arith}
 use Rattle.std.proofs.lemmas.Bool.{true≢false, not-false, not_from_true, le-leb, eq-eqb, ne_eqb}
-use Rattle.node_tree.specs.Nodes.{Nodes, none, node, Branch, alone, node_count, branch_count, height, map_branch}
-use Rattle.node_tree.specs.Labels.{Label, holds, is_document, is_doctype}
+use Rattle.node_tree.specs.Nodes.{Nodes, none, node, Branch, alone, height}
+use Rattle.node_tree.specs.Labels.{Label}
 use Rattle.node_tree.specs.Keys.{first_of, tally, tally_in, find, level_of, At, here, within, past}
 use Rattle.node_tree.proofs.NodeLemmas.{node_count-map_rows}
 use Rattle.node_tree.proofs.KeyLemmas.{tally_cases, tally_row, find-absent}
 use Rattle.node_tree.proofs.ChangeLemmas.{count-at, tally_in-at, child_of, child-key}
-use Rattle.page_tree.specs.Forms.{max_level, max_nodes}
+use Rattle.page_tree.specs.Forms.{max_level}
 use Rattle.page_tree.specs.Pages.{Row, row_serial, row_label, State, node_at, parent_at, level_at, IsValid}
-use Rattle.page_tree.specs.Edits.{after, without_child, taken_out, changed_at, label_at, children_at, next_sibling, is_among, form_at, moved_before, move_edits}
-use Rattle.page_tree.specs.EditFaults.{is_live, is_live_or_0, is_place, is_inside, kind_at, may_hold, CanApply, edit_faults, move_faults, move_fault}
+use Rattle.page_tree.specs.Edits.{without_child, taken_out, changed_at, label_at, children_at, next_sibling, is_among, form_at, moved_before}
+use Rattle.page_tree.specs.EditFaults.{is_live, is_live_or_0, is_place, kind_at, may_hold, CanApply, edit_faults, move_faults, move_fault}
 use Rattle.page_tree.specs.EditLaws.{MoveLaw}
 use Rattle.page_tree.specs.declared.edits.TreeEdit.TheVariants.{Attach, Detach}
 use Rattle.page_tree.proofs.FormedLemmas.{both, right}
 use Rattle.page_tree.proofs.ChildLemmas.{Inserted, front, behind, tally-inserted, count-inserted, inserted-taken, next-among, among-tally}
 use Rattle.page_tree.proofs.WholeLemmas.{Whole, whole-valid}
 use Rattle.page_tree.proofs.EditLemmas.{clear, unfaulted, changed, found-live, serial-live, live-tally}
-use Rattle.page_tree.proofs.BackLemmas.{detach-later, detach-inserted, detach-at, detach-tally, detach-ready, form-named}
+use Rattle.page_tree.proofs.BackLemmas.{detach-inserted, detach-at, detach-tally, detach-ready, form-named}
 use Rattle.page_tree.proofs.InsertLemmas.{all_three}
 
 -- ---- what an attach asks of a parent

@@ -1,5 +1,5 @@
 -- What holds of edits of pages.
-use Rattle.std.specs.Prelude.{◌≡◌, ℕ, ◌≤◌, List, Option, None}
+use Rattle.std.specs.Prelude.{◌≡◌, ℕ, ◌≤◌, List, None}
 use Rattle.node_tree.specs.Nodes.{Branch}
 use Rattle.node_tree.specs.Labels.{Label}
 use Rattle.page_tree.specs.Pages.{Row, State, IsValid}
@@ -24,7 +24,9 @@ pub record LeadsBack (back e : TreeEdit) (tree : Branch Row) (next : ℕ) : Type
 
 -- The edit that leads back does so on every page with the tree after the edit, whatever its next serial is, if that is no lower.
 abbrev pub BackLaw : Type 0
-BackLaw = (page : State) (e : TreeEdit) (next : ℕ) → IsValid page → CanApply page.next e page.tree → page.next ≤ next → LeadsBack (back_tree e page.tree) e page.tree next
+BackLaw =
+    (page : State) (e : TreeEdit) (next : ℕ) → IsValid page → CanApply page.next e page.tree → page.next ≤ next
+    → LeadsBack (back_tree e page.tree) e page.tree next
 
 -- Edits on a page that takes them one after another, with the page that they lead to.
 pub record Leads (edits : List TreeEdit) (page end : State) : Type 0 where
@@ -34,14 +36,20 @@ pub record Leads (edits : List TreeEdit) (page end : State) : Type 0 where
 -- Where an insert has no fault, its edits are taken as soon as its serials are drawn, and they lead to the same page as they would
 -- without that.
 abbrev pub InsertLaw : Type 0
-InsertLaw = (page : State) (parent before : ℕ) (form : Branch Label) → IsValid page → CanInsert form → insert_fault parent before form page.tree ≡ None
+InsertLaw =
+    (page : State) (parent before : ℕ) (form : Branch Label) → IsValid page → CanInsert form
+    → insert_fault parent before form page.tree ≡ None
     → Leads (insert_edits parent before form page) (drawn form page) (after_all (insert_edits parent before form page) page)
 
 -- The same of a copy.
 abbrev pub CopyLaw : Type 0
-CopyLaw = (page : State) (serial parent before : ℕ) → IsValid page → copy_fault serial parent before page.tree ≡ None
-    → Leads (copy_edits serial parent before page) (drawn (form_at serial page.tree) page) (after_all (copy_edits serial parent before page) page)
+CopyLaw =
+    (page : State) (serial parent before : ℕ) → IsValid page → copy_fault serial parent before page.tree ≡ None
+    → let edits = copy_edits serial parent before page in
+    Leads edits (drawn (form_at serial page.tree) page) (after_all edits page)
 
 -- Where a move has no fault, both its edits are taken.
 abbrev pub MoveLaw : Type 0
-MoveLaw = (page : State) (serial parent before : ℕ) → IsValid page → move_fault serial parent before page.tree ≡ None → CanApplyAll (move_edits serial parent before page.tree) page
+MoveLaw =
+    (page : State) (serial parent before : ℕ) → IsValid page → move_fault serial parent before page.tree ≡ None
+    → CanApplyAll (move_edits serial parent before page.tree) page

@@ -25,6 +25,7 @@ pub use faults::{LoadErr, LoadFault};
 pub use forms::NodeForm;
 pub use loads::read_nodes;
 pub use node_refs::NodeRef;
+pub use loads::{read_node, read_nodes};
 pub use node_tree::{Attributes, Kind, Text};
 pub use pages::Page;
 pub use trees::Tree;
