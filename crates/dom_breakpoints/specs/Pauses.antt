@@ -25,7 +25,9 @@ own_pause kind w node = cond (is_watched kind w node) (Some (record { kind = kin
 
 -- by the first node of the line with a subtree watch
 abbrev pub subtree_pause : Watched → ℕ → Bool → List ℕ → Option Pause
-subtree_pause w target insertion line = option_map (λ nearest. record { kind = Subtree; node = nearest; target = Some target; insertion = insertion }) (find (is_watched Subtree w) line)
+subtree_pause w target insertion line =
+    option_map (λ nearest. record { kind = Subtree; node = nearest; target = Some target; insertion = insertion })
+    (find (is_watched Subtree w) line)
 
 -- An attribute's edit pauses by an attribute watch on the node. A text's pauses by the nearest subtree watch above the node.
 -- An attach pauses by the nearest subtree watch from the parent upwards, and the parent is the target. A detach pauses by a

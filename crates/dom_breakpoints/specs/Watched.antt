@@ -19,7 +19,8 @@ pub record Watched : Type 0 where
 
 abbrev pub coded_watched : Coded Watched
 coded_watched =
-    code_by (Serials × (Serials × Serials)) (coded× (set.code coded_ℕ) (coded× (set.code coded_ℕ) (set.code coded_ℕ))) (λ w. (w.subtree, (w.attribute, w.removed)))
+    code_by (Serials × (Serials × Serials)) (coded× (set.code coded_ℕ) (coded× (set.code coded_ℕ) (set.code coded_ℕ)))
+    (λ w. (w.subtree, (w.attribute, w.removed)))
     (λ p. record { subtree = p.0; attribute = p.1.0; removed = p.1.1 })
     (λ _. refl)
 
@@ -54,4 +55,8 @@ outside root tree serials = set.retain serials (λ serial. not (is_within serial
 
 -- without the watches at and below that node
 abbrev pub without_subtree : ℕ → Branch Row → Watched → Watched
-without_subtree root tree w = record { subtree = outside root tree w.subtree; attribute = outside root tree w.attribute; removed = outside root tree w.removed }
+without_subtree root tree w = record {
+  subtree = outside root tree w.subtree;
+  attribute = outside root tree w.attribute;
+  removed = outside root tree w.removed;
+}

@@ -31,6 +31,7 @@ impl Watches {
     ghost use Rattle.dom_breakpoints.specs.Watched.{unwatched, is_watched, with_watch, without_watch, without_subtree};
     ghost use Rattle.dom_breakpoints.specs.Pauses.{edited_node, own_pause, subtree_pause, pause_of};
 
+    /// No watches; takes no memory.
     pub fn new(alloc: Global) -> Watches
         ensures { result ≡ unwatched }
     {
@@ -41,7 +42,7 @@ impl Watches {
         }
     }
 
-    /// A watch that is there stays.
+    /// Sets a watch on a node, by its serial; one that is set already stays.
     pub fn set(&mut self, node: u64, kind: WatchKind) -> Result<(), AllocError>
         ensures ok { OnOk result (self.new ≡ with_watch kind node self.old) }
         ensures err { OnErr result (self.new ≡ self.old) }
@@ -53,7 +54,7 @@ impl Watches {
         }
     }
 
-    /// Where there is no such watch, nothing changes.
+    /// Takes a watch away; where there is no such watch, nothing changes.
     pub fn remove(&mut self, node: u64, kind: WatchKind)
         ensures { self.new ≡ without_watch kind node self.old }
     {
@@ -64,6 +65,7 @@ impl Watches {
         }
     }
 
+    /// The watch is set.
     fn has(&self, node: u64, kind: WatchKind) -> bool
         ensures { result ≡ is_watched kind self.now node }
     {
@@ -74,6 +76,7 @@ impl Watches {
         }
     }
 
+    /// The pause by a watch on the node itself.
     fn own_pause(&self, node: u64, kind: WatchKind) -> Option<Pause>
         ensures { result ≡ own_pause kind self.now node }
     {
@@ -89,6 +92,7 @@ impl Watches {
         }
     }
 
+    /// The pause by the nearest subtree watch above the node.
     fn pause_above(&self, page: &Page, node: u64) -> Option<Pause>
         requires { IsSome (find_in node page.now.tree) }
         ensures { result ≡ subtree_pause self.now node false (ancestors_at node page.now.tree) }
@@ -102,6 +106,7 @@ impl Watches {
         })
     }
 
+    /// The pause of a node that is put into the parent.
     fn pause_into(&self, page: &Page, parent: u64) -> Option<Pause>
         requires { IsSome (find_in parent page.now.tree) }
         ensures { result ≡ subtree_pause self.now parent true (parent ∷ ancestors_at parent page.now.tree) }
@@ -115,7 +120,8 @@ impl Watches {
         })
     }
 
-    /// The pause that an edit by script comes to, by the page before the edit. Takes no memory.
+    /// The pause that an edit by script comes to, by the page before the edit; at most one.
+    /// Takes no memory.
     pub fn pause_for(&self, page: &Page, e: &TreeEdit) -> Option<Pause>
         requires { IsSome (find_in (edited_node e.now) page.now.tree) }
         ensures { result ≡ pause_of self.now page.now.tree e.now }
@@ -132,7 +138,7 @@ impl Watches {
         }
     }
 
-    /// Forgets the watches at and below a node, which is called before the node is taken out.
+    /// Forgets the watches at and below a node. This is called before the node is taken out.
     pub fn forget_subtree(&mut self, page: &Page, serial: u64)
         requires { IsSome (find_in serial page.now.tree) }
         ensures { self.new ≡ without_subtree serial page.now.tree self.old }
@@ -142,6 +148,7 @@ impl Watches {
         self.removed.remove_within(page, serial);
     }
 
+    /// Forgets all watches.
     pub fn clear(&mut self)
         ensures { self.new ≡ unwatched }
     {

@@ -38,6 +38,7 @@ pub fn nearest_above(serials: &SerialSet, page: &Page, serial: u64) -> Option<u6
     nearest_from(serials, page, parent)
 }
 
+/// The root is the node or above it.
 fn climbs_to(page: &Page, serial: u64, root: u64) -> bool
     requires { IsSome (find_in serial page.now.tree) }
     ensures { result ≡ list_any (λ k. k == root) (serial ∷ ancestors_at serial page.now.tree) }

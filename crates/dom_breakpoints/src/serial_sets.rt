@@ -26,6 +26,7 @@ impl Model for SerialSet {
 }
 
 impl SerialSet {
+    /// The empty set; takes no memory.
     pub fn new(alloc: Global) -> SerialSet
         ensures { result ≡ set.empty }
     {
@@ -34,12 +35,14 @@ impl SerialSet {
         }
     }
 
+    /// The serial is in the set.
     pub fn contains(&self, serial: u64) -> bool
         ensures { result ≡ set.contains self.now serial }
     {
         self.serials.contains(&serial)
     }
 
+    /// One that is there stays.
     pub fn insert(&mut self, serial: u64) -> Result<(), AllocError>
         ensures ok { OnOk result (self.new ≡ set.insert self.old serial) }
         ensures err { OnErr result (self.new ≡ self.old) }
@@ -48,6 +51,7 @@ impl SerialSet {
         Ok(())
     }
 
+    /// One that is not there changes nothing.
     pub fn remove(&mut self, serial: u64)
         ensures { self.new ≡ set.remove self.old serial }
     {
@@ -63,6 +67,7 @@ impl SerialSet {
             .retain(|serial| !is_within(page, *serial, root));
     }
 
+    /// Takes all serials out.
     pub fn clear(&mut self)
         ensures { self.new ≡ set.empty }
     {

@@ -8,7 +8,8 @@ use Rattle.page_tree.specs.Pages.{Row}
 -- `above`, the nearest first.
 abbrev pub ancestors_of : ℕ → List ℕ → Nodes Row → Option (List ℕ)
 ancestors_of serial above none = None
-ancestors_of serial above (node r c t) = cond (r.serial == serial) (Some above) (first_of (ancestors_of serial (r.serial ∷ above) c) (ancestors_of serial above t))
+ancestors_of serial above (node r c t) =
+    cond (r.serial == serial) (Some above) (first_of (ancestors_of serial (r.serial ∷ above) c) (ancestors_of serial above t))
 
 -- those of a node of a page; the document has none
 abbrev pub ancestors_at : ℕ → Branch Row → List ℕ
