@@ -13,3 +13,5 @@ pub mod RequestLemmas
 pub mod PushLemmas
 pub mod PathLemmas
 pub mod StartedLemmas
+pub mod SetLemmas
+pub mod SetsLemmas

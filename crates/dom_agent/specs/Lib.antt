@@ -3,3 +3,5 @@ pub mod Paths
 pub mod Requests
 pub mod Openings
 pub mod Laws
+pub mod Distances
+pub mod Sets
