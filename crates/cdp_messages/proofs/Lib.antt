@@ -1,9 +1,11 @@
 mod AttributeLists
 pub mod Commands
 pub mod Depths
+pub mod DomAskLaws
 mod EventsRead
 mod Floats
-mod Json
+mod FrameBytes
+mod FieldsRead
 pub mod Messages
 mod Options
 mod Rules

@@ -15,9 +15,9 @@ use Rattle.cdp_json.proofs.KindLaws.{whole_lawful, signed_lawful, text_lawful, a
 use Rattle.cdp_json.proofs.RowLaws.{ends_lawful, and_need_lawful, and_may_lawful, object_lawful}
 use Rattle.cdp_json.proofs.ReadBack.{read-compact_text, IsUtf8-compact_text}
 use Rattle.cdp_messages.specs.declared.command.Param.{Param}
-use Rattle.cdp_messages.specs.declared.command.Param.TheVariants.{BackendNodeIds, Depth, NodeId as NodeIdName, Path, Pierce}
+use Rattle.cdp_messages.specs.declared.command.Param.TheVariants as param
 use Rattle.cdp_messages.specs.declared.command.Why.{Why}
-use Rattle.cdp_messages.specs.declared.command.Why.TheVariants.{NotJson, NoId, BadRequest, NoSession, NoMethod, BadParam, DomOff, UnknownNode, NotPushed, NoPath}
+use Rattle.cdp_messages.specs.declared.command.Why.TheVariants.{NotJson, NoId, BadRequest, NoSession, NoMethod, BadParam, DomOff, CssOff, UnknownNode, NotPushed, NoPath, BadQuery, Crossed, NoNode, NotElement, NotText, IsDocument, NotChild, Inside, TooDeep, TooMany, BadName, NoAttr, NotContainer, NoSheet, NotMutable, BadRange, BadText, BadSelector, BadPlace, TooBig}
 use Rattle.cdp_messages.specs.declared.command.Refused.{Refused}
 use Rattle.cdp_messages.specs.declared.down.ReplyBody.{ReplyBody}
 use Rattle.cdp_messages.specs.declared.down.ReplyBody.TheVariants.{Nothing, Root, NodeId, NodeIds}
@@ -30,7 +30,7 @@ use Rattle.cdp_messages.specs.Events.{is_object, News, set_children, document_up
 use Rattle.cdp_messages.specs.Replies.{Message, reply, fault, event, reply_kind, error_kind, fault_kind, reply_from, fault_from, or_else, message_data, fits_message, message_in, root_kind, root_from, id_kind, ids_kind, nothing_from, id_from, ids_from, body_data, fits_body, result_of, refusal_message}
 use Rattle.cdp_messages.specs.Laws.{RepliesAreRead, EventsAreRead, RefusalsAreRead, answers, ResultsAreRead, MessagesAreSpelled, Spells, ResultsAreSpelled, OneMessage, OneResult}
 use Rattle.cdp_messages.proofs.Options.{both, both_parts, map_some}
-use Rattle.cdp_messages.proofs.Json.{json_is}
+use Rattle.cdp_messages.proofs.FrameBytes.{json_is}
 use Rattle.cdp_messages.proofs.NodeTrees.{nodes_lawful, document_lawful, tree_plain}
 
 -- ---- the descriptions are lawful
@@ -263,16 +263,51 @@ code_fits NoSession = refl
 code_fits NoMethod = refl
 code_fits (BadParam p) = refl
 code_fits DomOff = refl
+code_fits CssOff = refl
 code_fits UnknownNode = refl
 code_fits NotPushed = refl
 code_fits NoPath = refl
+code_fits BadQuery = refl
+code_fits Crossed = refl
+code_fits NoNode = refl
+code_fits NotElement = refl
+code_fits NotText = refl
+code_fits IsDocument = refl
+code_fits NotChild = refl
+code_fits Inside = refl
+code_fits TooDeep = refl
+code_fits TooMany = refl
+code_fits BadName = refl
+code_fits NoAttr = refl
+code_fits NotContainer = refl
+code_fits NoSheet = refl
+code_fits NotMutable = refl
+code_fits BadRange = refl
+code_fits BadText = refl
+code_fits BadSelector = refl
+code_fits BadPlace = refl
+code_fits TooBig = refl
 
 param_utf8 : (p : Param) → IsUtf8 (text_of (BadParam p))
-param_utf8 BackendNodeIds = IsUtf8-are_ascii (text_of (BadParam BackendNodeIds)) refl
-param_utf8 Depth = IsUtf8-are_ascii (text_of (BadParam Depth)) refl
-param_utf8 NodeIdName = IsUtf8-are_ascii (text_of (BadParam NodeIdName)) refl
-param_utf8 Path = IsUtf8-are_ascii (text_of (BadParam Path)) refl
-param_utf8 Pierce = IsUtf8-are_ascii (text_of (BadParam Pierce)) refl
+param_utf8 param.BackendNodeId = IsUtf8-are_ascii (text_of (BadParam param.BackendNodeId)) refl
+param_utf8 param.BackendNodeIds = IsUtf8-are_ascii (text_of (BadParam param.BackendNodeIds)) refl
+param_utf8 param.Depth = IsUtf8-are_ascii (text_of (BadParam param.Depth)) refl
+param_utf8 param.Edits = IsUtf8-are_ascii (text_of (BadParam param.Edits)) refl
+param_utf8 param.InsertBeforeNodeId = IsUtf8-are_ascii (text_of (BadParam param.InsertBeforeNodeId)) refl
+param_utf8 param.Location = IsUtf8-are_ascii (text_of (BadParam param.Location)) refl
+param_utf8 param.Name = IsUtf8-are_ascii (text_of (BadParam param.Name)) refl
+param_utf8 param.NodeId = IsUtf8-are_ascii (text_of (BadParam param.NodeId)) refl
+param_utf8 param.Params = IsUtf8-are_ascii (text_of (BadParam param.Params)) refl
+param_utf8 param.Path = IsUtf8-are_ascii (text_of (BadParam param.Path)) refl
+param_utf8 param.Pierce = IsUtf8-are_ascii (text_of (BadParam param.Pierce)) refl
+param_utf8 param.Range = IsUtf8-are_ascii (text_of (BadParam param.Range)) refl
+param_utf8 param.RuleText = IsUtf8-are_ascii (text_of (BadParam param.RuleText)) refl
+param_utf8 param.Selector = IsUtf8-are_ascii (text_of (BadParam param.Selector)) refl
+param_utf8 param.StyleSheetId = IsUtf8-are_ascii (text_of (BadParam param.StyleSheetId)) refl
+param_utf8 param.TargetNodeId = IsUtf8-are_ascii (text_of (BadParam param.TargetNodeId)) refl
+param_utf8 param.Text = IsUtf8-are_ascii (text_of (BadParam param.Text)) refl
+param_utf8 param.Type = IsUtf8-are_ascii (text_of (BadParam param.Type)) refl
+param_utf8 param.Value = IsUtf8-are_ascii (text_of (BadParam param.Value)) refl
 
 why_utf8 : (why : Why) → IsUtf8 (text_of why)
 why_utf8 NotJson = IsUtf8-are_ascii (text_of NotJson) refl
@@ -282,9 +317,30 @@ why_utf8 NoSession = IsUtf8-are_ascii (text_of NoSession) refl
 why_utf8 NoMethod = IsUtf8-are_ascii (text_of NoMethod) refl
 why_utf8 (BadParam p) = param_utf8 p
 why_utf8 DomOff = IsUtf8-are_ascii (text_of DomOff) refl
+why_utf8 CssOff = IsUtf8-are_ascii (text_of CssOff) refl
 why_utf8 UnknownNode = IsUtf8-are_ascii (text_of UnknownNode) refl
 why_utf8 NotPushed = IsUtf8-are_ascii (text_of NotPushed) refl
 why_utf8 NoPath = IsUtf8-are_ascii (text_of NoPath) refl
+why_utf8 BadQuery = IsUtf8-are_ascii (text_of BadQuery) refl
+why_utf8 Crossed = IsUtf8-are_ascii (text_of Crossed) refl
+why_utf8 NoNode = IsUtf8-are_ascii (text_of NoNode) refl
+why_utf8 NotElement = IsUtf8-are_ascii (text_of NotElement) refl
+why_utf8 NotText = IsUtf8-are_ascii (text_of NotText) refl
+why_utf8 IsDocument = IsUtf8-are_ascii (text_of IsDocument) refl
+why_utf8 NotChild = IsUtf8-are_ascii (text_of NotChild) refl
+why_utf8 Inside = IsUtf8-are_ascii (text_of Inside) refl
+why_utf8 TooDeep = IsUtf8-are_ascii (text_of TooDeep) refl
+why_utf8 TooMany = IsUtf8-are_ascii (text_of TooMany) refl
+why_utf8 BadName = IsUtf8-are_ascii (text_of BadName) refl
+why_utf8 NoAttr = IsUtf8-are_ascii (text_of NoAttr) refl
+why_utf8 NotContainer = IsUtf8-are_ascii (text_of NotContainer) refl
+why_utf8 NoSheet = IsUtf8-are_ascii (text_of NoSheet) refl
+why_utf8 NotMutable = IsUtf8-are_ascii (text_of NotMutable) refl
+why_utf8 BadRange = IsUtf8-are_ascii (text_of BadRange) refl
+why_utf8 BadText = IsUtf8-are_ascii (text_of BadText) refl
+why_utf8 BadSelector = IsUtf8-are_ascii (text_of BadSelector) refl
+why_utf8 BadPlace = IsUtf8-are_ascii (text_of BadPlace) refl
+why_utf8 TooBig = IsUtf8-are_ascii (text_of TooBig) refl
 
 refusal_fits : (r : Refused) → holds_of_some is_counted r.id ≡ true → fits_message (refusal_message r) ≡ true
 refusal_fits r c = both (both (code_fits r.why) refl) (both c refl)

@@ -3,23 +3,35 @@
 #![tactic(auto)]
 
 mod command;
+mod dom_ask;
 mod down;
+mod edits;
 mod event_read;
+mod kept;
 mod laws;
+mod method;
 mod node_read;
 mod node_rules;
 mod node_write;
 mod numbers;
+mod parameters;
+mod ranges;
 mod read;
+mod read_by;
 mod receive;
 mod tree;
 mod write;
 
-pub use command::{Asked, Command, CommandErr, Param, ReadErr, Refused, Why};
+pub use command::{Asked, Command, CommandErr, Param, ReadErr, Refused, WatchWord, Why};
+pub use dom_ask::DomAsk;
 pub use down::{Down, DownErr, Event, ReplyBody};
+pub use edits::{TextEdit, TextEdits};
+pub use kept::Json;
 pub use laws::spell_law;
+pub use method::Method;
 pub use node_tree::{Attributes, Kind, Kind as NodeType, Text};
 pub use numbers::Numbers;
+pub use ranges::SourceRange;
 pub use read::{read_ask, read_command};
 pub use receive::{read_down, read_result};
 pub use tree::NodeTree;

@@ -1,6 +1,6 @@
 use crate::{
-    Attributes, Down, DownErr, Event, Kind, NodeTree, ReadErr, ReplyBody, Text, read_command,
-    read_down, read_result, write_command, write_event, write_refused, write_reply,
+    Attributes, DomAsk, Down, DownErr, Event, Kind, NodeTree, ReadErr, ReplyBody, Text,
+    read_command, read_down, read_result, write_command, write_event, write_refused, write_reply,
 };
 use serde_json::Value;
 use std::alloc::{AllocError, Global};
@@ -93,7 +93,9 @@ fn result_read(alloc: Global, method: &str, text: &str) -> Result<String, Fail> 
 // What a frame asks.
 fn asked(alloc: Global, frame: &[u8]) -> Result<String, Fail> {
     let asked = read_command(alloc, frame, false)?;
-    Ok(format!(in alloc; "{asked:?}")?)
+    let id = asked.id;
+    let ask = DomAsk::of_command(asked.command).ok_or("an ask of the agent")?;
+    Ok(format!(in alloc; "{id} {ask:?}")?)
 }
 
 #[test]
@@ -182,7 +184,7 @@ fn a_command_is_written_and_asked(rt: HostRuntime) -> Result<(), Fail> {
     let document = asked(rt.alloc(), b"{\"id\":1,\"method\":\"DOM.getDocument\"}")?;
     assert_eq!(rt;
         document.as_str(),
-        "Asked { id: 1, command: GetDocument { depth: None, pierce: None } }"
+        "1 GetDocument { depth: None, pierce: None }"
     );
     let children = asked(
         rt.alloc(),
@@ -190,7 +192,7 @@ fn a_command_is_written_and_asked(rt: HostRuntime) -> Result<(), Fail> {
     )?;
     assert_eq!(rt;
         children.as_str(),
-        "Asked { id: 2, command: RequestChildNodes { node: 3, depth: Some(-1), pierce: None } }"
+        "2 RequestChildNodes { node: 3, depth: Some(-1), pierce: None }"
     );
     Ok(())
 }
@@ -203,7 +205,7 @@ fn nodes_are_asked_by_path_and_by_serial(rt: HostRuntime) -> Result<(), Fail> {
     )?;
     assert_eq!(rt;
         path.as_str(),
-        "Asked { id: 3, command: PushByPath { path: Text { text: \"0,HTML\" } } }"
+        "3 PushByPath { path: Text { text: \"0,HTML\" } }"
     );
     let serials = asked(
         rt.alloc(),
@@ -211,7 +213,7 @@ fn nodes_are_asked_by_path_and_by_serial(rt: HostRuntime) -> Result<(), Fail> {
     )?;
     assert_eq!(rt;
         serials.as_str(),
-        "Asked { id: 4, command: PushBySerials { serials: Numbers { list: [5, 9] } } }"
+        "4 PushBySerials { serials: Numbers { list: [5, 9] } }"
     );
     Ok(())
 }

@@ -3,7 +3,7 @@ ghost use Rattle.std.specs.Prelude.{◌≡◌, ◌++◌, ℤ, codes, IsTrue, IfO
 ghost use Rattle.serde_json.specs.Data.{object as object_with, string, no_members, member};
 ghost use Rattle.serde_json.specs.View.{view};
 ghost use Rattle.serde_json.specs.Written.{compact_text, has_float};
-ghost use Rattle.cdp_messages.specs.Refusals.{param_name, code_of, text_of};
+ghost use Rattle.cdp_messages.specs.Refusals.{param_name, code_of, said_first, said_of_param, text_of};
 ghost use Rattle.cdp_messages.specs.Asked.{command_value, command_text, is_whole_where_there};
 ghost use Rattle.node_tree.specs.Nodes.{nodes_of};
 ghost use Rattle.cdp_messages.specs.Events.{news_of, nodes_kind, children_kind, news_data};
@@ -81,15 +81,29 @@ pub fn write_command(
     append(alloc, &value, out)
 }
 
-fn param_name(param: Param) -> &'static str
+pub(crate) fn param_name(param: Param) -> &'static str
     ensures { result.now ≡ param_name param }
 {
     match param {
+        Param::BackendNodeId => "backendNodeId",
         Param::BackendNodeIds => "backendNodeIds",
         Param::Depth => "depth",
+        Param::Edits => "edits",
+        Param::InsertBeforeNodeId => "insertBeforeNodeId",
+        Param::Location => "location",
+        Param::Name => "name",
         Param::NodeId => "nodeId",
+        Param::Params => "params",
         Param::Path => "path",
         Param::Pierce => "pierce",
+        Param::Range => "range",
+        Param::RuleText => "ruleText",
+        Param::Selector => "selector",
+        Param::StyleSheetId => "styleSheetId",
+        Param::TargetNodeId => "targetNodeId",
+        Param::Text => "text",
+        Param::Type => "type",
+        Param::Value => "value",
     }
 }
 
@@ -103,32 +117,116 @@ fn code_of(why: Why) -> i64
         Why::NoSession => -32001,
         Why::NoMethod => -32601,
         Why::BadParam(_) => -32602,
-        Why::DomOff => -32000,
-        Why::UnknownNode => -32000,
-        Why::NotPushed => -32000,
-        Why::NoPath => -32000,
+        Why::DomOff
+        | Why::CssOff
+        | Why::UnknownNode
+        | Why::NotPushed
+        | Why::NoPath
+        | Why::BadQuery
+        | Why::Crossed
+        | Why::NoNode
+        | Why::NotElement
+        | Why::NotText
+        | Why::IsDocument
+        | Why::NotChild
+        | Why::Inside
+        | Why::TooDeep
+        | Why::TooMany
+        | Why::BadName
+        | Why::NoAttr
+        | Why::NotContainer
+        | Why::NoSheet
+        | Why::NotMutable
+        | Why::BadRange
+        | Why::BadText
+        | Why::BadSelector
+        | Why::BadPlace
+        | Why::TooBig => -32000,
+    }
+}
+
+fn said_first(why: Why) -> &'static str
+    ensures { result.now ≡ said_first why }
+{
+    match why {
+        Why::NotJson => "not JSON",
+        Why::NoId => "no usable id",
+        Why::BadRequest => "bad request",
+        Why::NoSession => "unknown session",
+        Why::NoMethod => "unknown method",
+        Why::BadParam(_) => "bad parameter: ",
+        Why::DomOff => "DOM is off",
+        Why::CssOff => "CSS is off",
+        Why::UnknownNode => "unknown node",
+        Why::NotPushed => "document not pushed",
+        Why::NoPath => "no such path",
+        Why::BadQuery => "bad selector",
+        Why::Crossed => "Crossed",
+        Why::NoNode => "NoNode",
+        Why::NotElement => "NotElement",
+        Why::NotText => "NotText",
+        Why::IsDocument => "IsDocument",
+        Why::NotChild => "NotChild",
+        Why::Inside => "Inside",
+        Why::TooDeep => "TooDeep",
+        Why::TooMany => "TooMany",
+        Why::BadName => "BadName",
+        Why::NoAttr => "NoAttr",
+        Why::NotContainer => "NotContainer",
+        Why::NoSheet => "NoSheet",
+        Why::NotMutable => "NotMutable",
+        Why::BadRange => "BadRange",
+        Why::BadText => "BadText",
+        Why::BadSelector => "BadSelector",
+        Why::BadPlace => "BadPlace",
+        Why::TooBig => "TooBig",
+    }
+}
+
+fn said_of_param(why: Why) -> &'static str
+    ensures { result.now ≡ said_of_param why }
+{
+    match why {
+        Why::BadParam(param) => param_name(param),
+        Why::NotJson
+        | Why::NoId
+        | Why::BadRequest
+        | Why::NoSession
+        | Why::NoMethod
+        | Why::DomOff
+        | Why::CssOff
+        | Why::UnknownNode
+        | Why::NotPushed
+        | Why::NoPath
+        | Why::BadQuery
+        | Why::Crossed
+        | Why::NoNode
+        | Why::NotElement
+        | Why::NotText
+        | Why::IsDocument
+        | Why::NotChild
+        | Why::Inside
+        | Why::TooDeep
+        | Why::TooMany
+        | Why::BadName
+        | Why::NoAttr
+        | Why::NotContainer
+        | Why::NoSheet
+        | Why::NotMutable
+        | Why::BadRange
+        | Why::BadText
+        | Why::BadSelector
+        | Why::BadPlace
+        | Why::TooBig => "",
     }
 }
 
 fn text_of(alloc: Global, why: Why) -> Result<String, AllocError>
     ensures { IfOk result (λ text. string_bytes text ≡ text_of why) }
 {
-    match why {
-        Why::NotJson => String::from_str(alloc, "not JSON"),
-        Why::NoId => String::from_str(alloc, "no usable id"),
-        Why::BadRequest => String::from_str(alloc, "bad request"),
-        Why::NoSession => String::from_str(alloc, "unknown session"),
-        Why::NoMethod => String::from_str(alloc, "unknown method"),
-        Why::BadParam(param) => {
-            let mut text = String::from_str(alloc, "bad parameter: ")?;
-            text.push_str(param_name(param))?;
-            Ok(text)
-        }
-        Why::DomOff => String::from_str(alloc, "DOM is off"),
-        Why::UnknownNode => String::from_str(alloc, "unknown node"),
-        Why::NotPushed => String::from_str(alloc, "document not pushed"),
-        Why::NoPath => String::from_str(alloc, "no such path"),
-    }
+    let mut text = String::from_str(alloc, said_first(why))?;
+    text.push_str(said_of_param(why))?;
+    Ok(text)
 }
 
 fn error_value(alloc: Global, code: i64, text: String) -> Result<Value, AllocError>

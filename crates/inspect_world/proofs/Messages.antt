@@ -1,5 +1,5 @@
 -- What a run needs of single messages: that an ask is the ask that it is meant to be, and what the back end makes of one.
-use Rattle.std.proofs.Common.{◌≡◌, ℕ, ◌^◌, ◌<◌, ◌≤◌, true, false, List, codes, Option, Some, None, option_and_then, refl, sym, ◌∙◌, ap, subst, Result, Ok, Err, lt-ltb}
+use Rattle.std.proofs.Common.{◌≡◌, ◌+◌, ℕ, ◌^◌, ◌<◌, ◌≤◌, true, false, List, codes, Option, Some, None, option_and_then, refl, sym, ◌∙◌, ap, subst, Result, Ok, Err, lt-ltb}
 use Rattle.serde_json.specs.Data.{Data, Members}
 use Rattle.serde_json.specs.Find.{get_member, as_str, as_object}
 use Rattle.cdp_json.specs.Kinds.{is_counted, holds_of_some, as_whole}
@@ -14,7 +14,8 @@ use Rattle.cdp_messages.specs.declared.command.Refused.{Refused}
 use Rattle.cdp_messages.specs.Asked.{json_of, then_ok, command_of, method_in, command_in, asked_by, with_id, asked_in, asked_value, asked, command_value, command_text, method_name, fits_command}
 use Rattle.front_mirror.specs.declared.replies.Ask.{Ask}
 use Rattle.replay_script.specs.Forms.{AskForm}
-use Rattle.inspect_world.specs.Fits.{ask_of, ask_in, ask_with, most_asks, IsAsk}
+use Rattle.inspect_world.specs.World.{Spent, one_ask}
+use Rattle.inspect_world.specs.Fits.{ask_of, ask_in, ask_with, most_asks, IsNext}
 use Rattle.inspect_world.specs.ScriptsFit.{CanSend}
 use Rattle.cdp_json.proofs.Options.{and_then_some}
 use Rattle.back_end.proofs.AskedLemmas.{Known, known-of, whole-is}
@@ -45,8 +46,9 @@ ask_in-sent id a can small =
     ap (λ o. option_and_then ask_of (option_and_then as_object o)) (json_of-compact_text d (sent_plain id a can small) (can.shallow id) (can.texts id c))
     ∙ value_ask_in id a.method a.params a.session c
 
-pub IsAsk-sent : (id : ℕ) (a : AskForm) → CanSend a → id ≤ most_asks → id < 2 ^ 53 → IsAsk id (command_text id a.method a.params a.session)
-IsAsk-sent id a can few small = record { method = a.method; is = ask_in-sent id a can small; few = few }
+pub IsNext-sent : (n : Spent) (a : AskForm) → CanSend a → n.asks + 1 ≤ most_asks → n.asks + 1 < 2 ^ 53
+    → IsNext n (command_text (n.asks + 1) a.method a.params a.session) (one_ask n)
+IsNext-sent n a can few small = record { method = a.method; is = ask_in-sent (n.asks + 1) a can small; next = refl; few = few }
 
 -- ---- what the back end reads in an ask
 

@@ -5,3 +5,11 @@ pub mod FormedLemmas
 pub mod ZipperLemmas
 pub mod SiblingLemmas
 pub mod CursorLemmas
+pub mod EditLemmas
+pub mod PairLemmas
+pub mod ChildLemmas
+pub mod WholeLemmas
+pub mod BackLemmas
+pub mod InsertLemmas
+pub mod MoveLemmas
+pub mod AncestorLemmas

@@ -7,3 +7,5 @@ pub mod Entries
 pub mod Rooms
 pub mod Edits
 pub mod EditFaults
+pub mod EditLaws
+pub mod Ancestors

@@ -4,6 +4,7 @@
 mod attributes;
 mod cursors;
 mod edit_faults;
+mod edit_laws;
 mod edits;
 mod faults;
 mod forms;
@@ -18,6 +19,7 @@ mod trees;
 
 pub use cursors::{Children, Node};
 pub use edit_faults::{EditErr, EditFault};
+pub use edit_laws::{after_law, back_law, copy_law, insert_law, move_law};
 pub use edits::TreeEdit;
 pub use faults::{LoadErr, LoadFault};
 pub use forms::NodeForm;

@@ -8,7 +8,9 @@ use Rattle.node_tree.specs.Keys.{first_of}
 use Rattle.page_tree.specs.Loads.{first_true, first_load_fault}
 use Rattle.page_tree.specs.declared.faults.LoadFault.{LoadFault}
 use Rattle.replay_script.specs.Forms.{AskForm, LineForm, load, ask, up, down, settle, show_front, show_replies, data_of, page_of, page_nodes, form_of}
+use Rattle.cdp_messages.specs.declared.command.Command.{Command}
 use Rattle.cdp_messages.specs.Asked.{command_of}
+use Rattle.cdp_messages.specs.DomAsks.{dom_ask_in}
 use Rattle.replay_script.specs.declared.faults.LineFault.{LineFault}
 use Rattle.replay_script.specs.declared.faults.LineFault.TheVariants.{NotJson, NotLoad, BadForm, BadLoad, NotBuilt}
 
@@ -18,21 +20,24 @@ use Rattle.replay_script.specs.declared.faults.LineFault.TheVariants.{NotJson, N
 abbrev pub has_sheets : Data → Bool
 has_sheets d = is_some (option_and_then (get (codes "sheets")) (page_of d))
 
+-- the first fault of the page that a line loads
 abbrev pub load_fault : Data → Option LoadFault
 load_fault d = first_load_fault (option_and_then page_nodes (page_of d))
 
+-- the first fault of the first line of a script
 abbrev pub first_line_fault : Data → Option LineFault
 first_line_fault d = first_of (first_true ((NotLoad, is_none (page_of d)) ∷ (BadForm, has_float d) ∷ (NotBuilt, has_sheets d) ∷ [])) (option_map BadLoad (load_fault d))
 
 -- ---- the lines after it
 
-abbrev pub is_good : {A E : Type 0} → Result A E → Bool
-is_good (Ok x) = true
-is_good (Err e) = false
+-- it is a command that the agent serves
+abbrev pub is_served : {E : Type 0} → Result Command E → Bool
+is_served (Ok c) = is_some (dom_ask_in c)
+is_served (Err e) = false
 
--- a command that the back end knows, with parameters that fit it
+-- a command that the back end serves, with parameters that fit it
 abbrev pub is_built_ask : AskForm → Bool
-is_built_ask a = is_good (command_of a.method a.params a.session)
+is_built_ask a = is_served (command_of false a.method a.params a.session)
 
 -- a later page is not built yet
 abbrev pub is_built : LineForm → Bool
@@ -50,6 +55,7 @@ later_line_fault d = first_true ((NotBuilt, has_float d || not (option_map_or is
 
 -- ---- any line
 
+-- the first fault of the line of that number, by its JSON
 abbrev pub fault_of_data : ℕ → Data → Option LineFault
 fault_of_data number d = if number == 1 then first_line_fault d else later_line_fault d
 
@@ -57,5 +63,6 @@ fault_of_data number d = if number == 1 then first_line_fault d else later_line_
 abbrev pub json_fault : List ℕ → Option LineFault
 json_fault line = first_true ((NotJson, is_none (data_of line)) ∷ [])
 
+-- the first fault of the line of that number
 abbrev pub line_fault : ℕ → List ℕ → Option LineFault
 line_fault number line = first_of (json_fault line) (option_and_then (fault_of_data number) (data_of line))

@@ -1,9 +1,9 @@
 -- Edits that are kept for a history are kept for it after each change.
-use Rattle.std.proofs.Common.{◌≡◌, ℕ, ◌+◌, ◌==◌, Bool, true, false, not, ◌&&◌, ◌||◌, cond, List, [], ◌∷◌, ◌++◌, length, map, reverse, Option, Some, None, refl, sym, ap, ◌∙◌, subst, append_assoc, arith}
+use Rattle.std.proofs.Common.{◌≡◌, ◌+◌, ◌==◌, Bool, true, false, not, ◌&&◌, ◌||◌, cond, List, [], ◌∷◌, length, map, reverse, Some, None, refl, sym, ap, ◌∙◌, subst, append_assoc, arith}
 use Rattle.std.proofs.lemmas.List.{length-map, length-reverse, map-append, reverse-reverse}
-use Rattle.undo_marks.specs.Marks.{Marks, entry_count, onto_newest, no_marks, handed_out, noted, noted_singly, edited, marked, crossed_over, undone, redone, past_popped, future_popped, past_pushed, future_pushed}
-use Rattle.undo_marks.specs.Changes.{Change, saved_after, saved_before, end_of, page_undone, page_redone, after_all, pages_on, changes_on, back_all, AllTaken, IsChange, LeadsOn, LeadHere, LeadFrom, IsHistory, backs_of, again_of, kept_of, KeptFor, AreBacks, IsUndo, IsRedo, IsNoUndo, IsNoRedo, KeepsOn}
-use Rattle.undo_marks.proofs.RunLemmas.{RunsTo, undo_group, redo_group, leads_append, leads_end}
+use Rattle.undo_marks.specs.Marks.{Marks, entry_count, onto_newest, handed_out, noted, noted_singly, edited, marked, crossed_over}
+use Rattle.undo_marks.specs.Changes.{Change, end_of, after_all, changes_on, back_all, AllTaken, LeadsOn, LeadHere, LeadFrom, IsHistory, backs_of, again_of, kept_of, KeptFor, AreBacks, IsUndo, IsRedo, IsNoUndo, IsNoRedo, KeepsOn}
+use Rattle.undo_marks.proofs.RunLemmas.{undo_group, redo_group, leads_append, leads_end}
 
 -- ---- notes
 

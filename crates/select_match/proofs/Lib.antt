@@ -1,0 +1,3 @@
+pub mod WalkLemmas
+pub mod TextLemmas
+pub mod SearchLemmas
