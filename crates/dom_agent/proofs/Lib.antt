@@ -15,3 +15,4 @@ pub mod PathLemmas
 pub mod StartedLemmas
 pub mod SetLemmas
 pub mod SetsLemmas
+pub mod NewlyLemmas

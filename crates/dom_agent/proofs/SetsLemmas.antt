@@ -1,26 +1,32 @@
 -- The commands open these sets.
-use Rattle.std.proofs.Common.{◌≡◌, ℕ, ℤ, ◌==◌, Bool, true, false, cond, ◌||◌, ◌⊎◌, ◌↔◌, inl, inr, List, [], ◌∷◌, Option, Some, None, refl, sym, ap, subst, ◌∙◌, arith}
+use Rattle.std.proofs.Common.{◌≡◌, ℕ, ℤ, ◌==◌, Bool, true, false, cond, not, ◌||◌, ◌⊎◌, ◌↔◌, inl, inr, List, [], ◌∷◌, ◌++◌, Option, Some, None, refl, sym, ap, subst, ◌∙◌, arith}
 use Rattle.std.proofs.Math.Logic.{⊎_elim}
+use Rattle.std.specs.List.{filter}
 use Rattle.std.proofs.lemmas.Bool.{eq-eqb, eqb-true}
 use Rattle.node_tree.proofs.KeyLemmas.{has-there}
 use Rattle.node_tree.specs.Nodes.{Nodes, none, node, Branch, alone}
-use Rattle.node_tree.specs.Keys.{has, find}
+use Rattle.node_tree.specs.Keys.{tally, has, find}
 use Rattle.page_tree.specs.Pages.{Row, row_serial, State, IsValid}
-use Rattle.node_binding.specs.Counts.{is_in}
+use Rattle.node_binding.specs.Counts.{times, is_in}
 use Rattle.node_binding.specs.Openings.{reached}
-use Rattle.node_binding.specs.Sessions.{Session, session_of, is_open, serial_at}
+use Rattle.node_binding.specs.Cuts.{known}
+use Rattle.node_binding.specs.Sessions.{Session, IsSession, session_of, is_open, ids_in, known_by, serial_at}
+use Rattle.node_binding.proofs.PairLemmas.{find-there}
+use Rattle.node_binding.proofs.OpeningLemmas.{AreDistinct, reached-tally}
+use Rattle.node_binding.proofs.InViewLemmas.{InView, in_view-tally}
+use Rattle.dom_agent.proofs.NewlyLemmas.{anew-filter, pushed-all, anew-all, anew-requested, anew-within, closed-in_view}
 use Rattle.node_binding.proofs.StartLemmas.{distinct-alone}
 use Rattle.node_binding.proofs.BoundLemmas.{is_in-cons}
 use Rattle.node_binding.proofs.AnewLemmas.{at_or_other, found_here, found_later}
 use Rattle.cdp_messages.specs.declared.command.Why.TheVariants.{NotPushed}
 use Rattle.dom_agent.specs.Keepers.{session_keeper}
 use Rattle.dom_agent.specs.Paths.{node_at_path}
-use Rattle.dom_agent.specs.Requests.{Outcome, refused, Pushes, requested, ancestors, pushing, known_node, of_children, of_path, with_ids, all_opened, all_pushed, pushed as push_of, state_after}
+use Rattle.dom_agent.specs.Requests.{Opening, Outcome, refused, Pushes, requested, ancestors, pushing, known_node, of_children, of_path, with_ids, all_opened, all_pushed, pushed as push_of, state_after}
 use Rattle.dom_agent.specs.Distances.{IsReached, IsAncestor, OpensAlso}
-use Rattle.dom_agent.specs.Sets.{levels_asked, DocumentOpens, RequestOpens, PathOpens, IsAncestorOfOne, SerialsOpen}
-use Rattle.dom_agent.proofs.OpeningsLemmas.{AreContainers}
+use Rattle.dom_agent.specs.Sets.{levels_asked, DocumentOpens, RequestOpens, newly_known, RequestPushes, PathOpens, IsAncestorOfOne, SerialsOpen}
+use Rattle.dom_agent.proofs.OpeningsLemmas.{AreContainers, requested-are, opened_all, opened_all-grows}
 use Rattle.dom_agent.proofs.KnownLemmas.{opened_after}
-use Rattle.dom_agent.proofs.OutcomeLemmas.{containers-page}
+use Rattle.dom_agent.proofs.OutcomeLemmas.{containers-page, known-found}
 use Rattle.dom_agent.proofs.SetLemmas.{there_once, stands-below, or_split, or_joined, opened_all-set, requested-set, reached-set, pushing-set, ancestors-hold, ancestors-set, serials_of}
 
 -- a test that is another or a set's
@@ -137,3 +143,41 @@ serials_open page serials w valid begun t =
     let n : Nodes Row = alone page.tree in
     subst (λ (b : Bool). (is_open (state_after w (cond b (with_ids (session_keeper n) page.tree (all_pushed (session_keeper n) page.tree serials w)) (refused NotPushed))).opened t ≡ true) ↔ ((is_open w.opened t ≡ true) ⊎ IsAncestorOfOne page.tree serials t)) (sym begun)
     (serials_by page valid serials w.opened w.pushed w.since begun t)
+
+-- ---- what becomes known by a request
+
+request_pushes_by : (page : State) → IsValid page → (depth : Option ℤ) (opened : Option (ℕ → Bool)) (pushed : List ℕ) (since id : ℕ) (x : Branch Row) → IsSession (alone page.tree) (record { opened = opened; pushed = pushed; since = since })
+    → known_node (session_keeper (alone page.tree)) page.tree (record { opened = opened; pushed = pushed; since = since }) (serial_at (record { opened = opened; pushed = pushed; since = since }) (alone page.tree) id) ≡ Some x
+    → (all_opened (session_keeper (alone page.tree)) page.tree (requested (is_open opened) (levels_asked depth) (alone x)) (record { opened = opened; pushed = pushed; since = since })).state.pushed
+    ≡ pushed ++ newly_known page (record { opened = opened; pushed = pushed; since = since }) (all_opened (session_keeper (alone page.tree)) page.tree (requested (is_open opened) (levels_asked depth) (alone x)) (record { opened = opened; pushed = pushed; since = since })).state
+request_pushes_by page valid depth None pushed since id x session found = cc
+request_pushes_by page valid depth (Some o) pushed since id x session found =
+    let n : Nodes Row = alone page.tree in
+    let d : Option ℕ = levels_asked depth in
+    let w : Session = session_of o pushed since in
+    let os : List Opening = requested o d (alone x) in
+    let q : ℕ → Bool = opened_all o os in
+    let distinct = distinct-alone page valid in
+    let v : InView o x n = known-found page valid o pushed since (serial_at w n id) (λ s e. (find-there (λ s. ids_in w s == id) (known o n) s e).0) x found in
+    let distinct_x : AreDistinct (alone x) = λ s. omega (arith, in_view-tally o x v s, distinct s) in
+    let set : (s : ℕ) → q s ≡ (o s || is_in s (reached d (alone x))) = λ s. opened_all-set os o s ∙ requested-set o s d (alone x) in
+    let outside : (s : ℕ) → tally row_serial s (alone x) ≡ 0 → o s ≡ q s = λ s h.
+    or_nothing (o s) ∙ sym (set s ∙ ap (λ k. o s || not (k == 0)) (let none_there : times s (reached d (alone x)) ≡ 0 = omega (arith, reached-tally d s (alone x)) in none_there)) in
+    let are = requested-are n distinct o d (alone x) o distinct_x (v, tt) (λ s h. refl) in
+    pushed-all n page.tree os o pushed since
+    ∙ ap (λ l. pushed ++ l)
+    (anew-all n page.tree os o pushed since distinct are session
+    ∙ sym (anew-requested o q d (alone x) distinct_x (closed-in_view o x v session.opened_set.closed) (λ s h. set s))
+    ∙ sym (anew-within o q x outside v distinct)
+    ∙ anew-filter o q (opened_all-grows o os) n distinct
+    ∙ ap (λ (z : Option (ℕ → Bool)). filter (λ s. not (is_in s (known o n))) (known_by z n)) (sym (opened_after n page.tree os o pushed since)))
+  where
+    or_nothing : (b : Bool) → b ≡ (b || false)
+    or_nothing true = refl
+    or_nothing false = refl
+
+pub request_pushes : RequestPushes
+request_pushes page id depth pierce w x valid session found =
+    let n : Nodes Row = alone page.tree in
+    subst (λ (f : Option (Branch Row)). (state_after w (of_children (session_keeper n) page.tree depth f w)).pushed ≡ w.pushed ++ newly_known page w (state_after w (of_children (session_keeper n) page.tree depth f w))) (sym found)
+    (request_pushes_by page valid depth w.opened w.pushed w.since id x session found)

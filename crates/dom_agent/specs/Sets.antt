@@ -1,11 +1,11 @@
 -- What the commands open, as sets of nodes of the page.
-use Rattle.std.specs.Prelude.{◌≡◌, ℕ, ℤ, pos, Bool, true, List, ◌↔◌, Option, Some, unwrap_or}
+use Rattle.std.specs.Prelude.{◌≡◌, ℕ, ℤ, pos, Bool, true, not, List, ◌++◌, filter, ◌↔◌, Option, Some, unwrap_or}
 use Rattle.node_tree.specs.Nodes.{Branch, alone}
 use Rattle.page_tree.specs.Pages.{Row, State, IsValid}
 use Rattle.node_binding.specs.Counts.{is_in}
 use Rattle.node_binding.specs.Openings.{levels_of}
-use Rattle.node_binding.specs.Sessions.{Session, is_open, serial_at}
-use Rattle.cdp_messages.specs.declared.command.Command.TheVariants.{GetDocument, RequestChildNodes, PushByPath, PushBySerials}
+use Rattle.node_binding.specs.Sessions.{Session, IsSession, is_open, known_by, knows, serial_at}
+use Rattle.cdp_messages.specs.declared.dom_ask.DomAsk.TheVariants.{GetDocument, RequestChildNodes, PushByPath, PushBySerials}
 use Rattle.dom_agent.specs.Keepers.{session_keeper}
 use Rattle.dom_agent.specs.Paths.{node_at_path}
 use Rattle.dom_agent.specs.Requests.{known_node, state_after}
@@ -26,6 +26,16 @@ abbrev pub RequestOpens : Type 0
 RequestOpens = (page : State) (id : ℕ) (depth : Option ℤ) (pierce : Option Bool) (w : Session) (x : Branch Row) → IsValid page
     → known_node (session_keeper (alone page.tree)) page.tree w (serial_at w (alone page.tree) id) ≡ Some x
     → OpensAlso w (state_after w (session_outcome page (RequestChildNodes id depth pierce) w)) (IsReached (levels_asked depth) x)
+
+-- the nodes of the page that are known afterwards and were not before, in document order
+abbrev pub newly_known : State → Session → Session → List ℕ
+newly_known page w z = filter (λ s. not (knows w (alone page.tree) s)) (known_by z.opened (alone page.tree))
+
+-- and the nodes that become known by it get the next ids, in document order
+abbrev pub RequestPushes : Type 0
+RequestPushes = (page : State) (id : ℕ) (depth : Option ℤ) (pierce : Option Bool) (w : Session) (x : Branch Row) → IsValid page → IsSession (alone page.tree) w
+    → known_node (session_keeper (alone page.tree)) page.tree w (serial_at w (alone page.tree) id) ≡ Some x
+    → (let z = state_after w (session_outcome page (RequestChildNodes id depth pierce) w) in z.pushed ≡ w.pushed ++ newly_known page w z)
 
 -- a push of the node that a path leads to opens its proper ancestors
 abbrev pub PathOpens : Type 0

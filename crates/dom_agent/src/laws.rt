@@ -1,4 +1,4 @@
-ghost use Rattle.dom_agent.specs.Sets.{DocumentOpens, RequestOpens, PathOpens, SerialsOpen};
+ghost use Rattle.dom_agent.specs.Sets.{DocumentOpens, RequestOpens, RequestPushes, PathOpens, SerialsOpen};
 ghost use Rattle.dom_agent.specs.Laws.{StaysSession, StaysBound, SameAnswer, DrawsFew, StepsAreMoves, RepliesFit};
 
 /// What serves a session by its binding is the step of the session.
@@ -16,6 +16,7 @@ pub fn serve_law()
     // what is opened after `DOM.getDocument`, after a request, and after pushes by a path and by serials
     ensures document_opens { DocumentOpens }
     ensures request_opens { RequestOpens }
+    ensures request_pushes { RequestPushes }
     ensures path_opens { PathOpens }
     ensures serials_open { SerialsOpen }
     // the reply is one of the command's, and its numbers are below 2^53
