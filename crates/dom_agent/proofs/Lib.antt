@@ -16,3 +16,4 @@ pub mod StartedLemmas
 pub mod SetLemmas
 pub mod SetsLemmas
 pub mod NewlyLemmas
+pub mod ShowsLemmas

@@ -107,12 +107,12 @@ module _ (y : Branch Row) where
   stands-tally (below k r c t v) = omega (arith, stands-tally v)
   stands-tally (beside k r c t v) = omega (arith, stands-tally v)
 
-near_here : (d : Option ℕ) → is_spent d ≡ false → IsWithin 0 d
+pub near_here : (d : Option ℕ) → is_spent d ≡ false → IsWithin 0 d
 near_here None e = tt
 near_here (Some zero) e = cc
 near_here (Some (suc d)) e = omega arith
 
-near_below : (d : Option ℕ) (k : ℕ) → is_spent d ≡ false → IsWithin k (less d) → IsWithin (suc k) d
+pub near_below : (d : Option ℕ) (k : ℕ) → is_spent d ≡ false → IsWithin k (less d) → IsWithin (suc k) d
 near_below None k e h = tt
 near_below (Some zero) k e h = cc
 near_below (Some (suc d)) k e h = omega arith
@@ -127,7 +127,7 @@ near_less None k h = tt
 near_less (Some zero) k h = absurd (omega arith)
 near_less (Some (suc d)) k h = omega arith
 
-unspent : (s : Bool) → not s ≡ true → s ≡ false
+pub unspent : (s : Bool) → not s ≡ true → s ≡ false
 unspent true e = cc
 unspent false e = refl
 

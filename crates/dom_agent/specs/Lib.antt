@@ -5,3 +5,4 @@ pub mod Openings
 pub mod Laws
 pub mod Distances
 pub mod Sets
+pub mod Shows

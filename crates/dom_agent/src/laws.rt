@@ -1,3 +1,4 @@
+ghost use Rattle.dom_agent.specs.Shows.{RequestTells};
 ghost use Rattle.dom_agent.specs.Sets.{DocumentOpens, RequestOpens, RequestPushes, PathOpens, SerialsOpen};
 ghost use Rattle.dom_agent.specs.Laws.{StaysSession, StaysBound, SameAnswer, DrawsFew, StepsAreMoves, RepliesFit};
 
@@ -17,6 +18,8 @@ pub fn serve_law()
     ensures document_opens { DocumentOpens }
     ensures request_opens { RequestOpens }
     ensures request_pushes { RequestPushes }
+    // its events, by levels
+    ensures request_tells { RequestTells }
     ensures path_opens { PathOpens }
     ensures serials_open { SerialsOpen }
     // the reply is one of the command's, and its numbers are below 2^53

@@ -1,3 +1,4 @@
+use Rattle.dom_agent.proofs.ShowsLemmas.{request_tells}
 use Rattle.dom_agent.proofs.OutcomeLemmas.{stays_session, draws_few}
 use Rattle.dom_agent.proofs.KeeperLemmas.{stays_bound, same_answer}
 use Rattle.dom_agent.proofs.MoveLemmas.{steps_are_moves, replies_fit}
@@ -14,6 +15,7 @@ returns c = record {
   document_opens = document_opens;
   request_opens = request_opens;
   request_pushes = request_pushes;
+  request_tells = request_tells;
   path_opens = path_opens;
   serials_open = serials_open;
   replies = replies_fit;
