@@ -28,7 +28,7 @@ use Rattle.node_binding.proofs.AttachLemmas.{IsSession-attached, Stands-attached
 use Rattle.node_binding.proofs.DetachLemmas.{IsOneOf, first, later, IsSession-detached, Stands-detached_at}
 use Rattle.node_binding.proofs.ForgetLemmas.{forgotten-ids, forgotten-opened, forgotten-next, IsPaired-all_forgotten}
 use Rattle.node_binding.proofs.PairLemmas.{IsPaired-stands, serials-paired}
-use Rattle.node_binding.proofs.HeldLemmas.{at-put_root, child_of, Held, held}
+use Rattle.node_tree.proofs.ChangeLemmas.{at-put_root, child_of, Held, held}
 
 pub begins : Begins
 begins page = record { session = IsSession-begun (alone page.tree); stands = Stands-begun (alone page.tree) }

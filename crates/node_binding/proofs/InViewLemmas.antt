@@ -172,7 +172,7 @@ module _ (o : ℕ → Bool) (d : Option ℕ) (x : Branch Row) where
     opened_now =
         or_right (o x.row.serial) _ (ap (λ m. not (m == 0)) (at_root d x.row x.children none distinct_x ∙ ap (λ b. cond {A = ℕ} b 1 0) on))
 
-    agrees_below : is_unopened o x.children ≡ true → Agrees p (less d) x.children
+    pub agrees_below : is_unopened o x.children ≡ true → Agrees p (less d) x.children
     agrees_below shut s h =
         ap (λ b. b || is_in s (reached d (alone x))) (unopened-at o x.children shut s h)
         ∙ ap (λ m. not (m == 0)) (in_children d x.row x.children none distinct_x s h ∙ ap (λ b. cond {A = ℕ} b (times s (reached (less d) x.children)) 0) on)

@@ -19,5 +19,4 @@ pub mod OpenedLemmas
 pub mod ChangedLemmas
 pub mod AttachLemmas
 pub mod DetachLemmas
-pub mod HeldLemmas
 pub mod ChangesLemmas
