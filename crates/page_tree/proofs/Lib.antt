@@ -4,3 +4,4 @@ pub mod LoadLemmas
 pub mod FormedLemmas
 pub mod ZipperLemmas
 pub mod SiblingLemmas
+pub mod RelationLemmas

@@ -11,6 +11,7 @@ mod loads;
 mod node_refs;
 mod numbering;
 mod pages;
+mod relations;
 mod search;
 mod trees;
 
@@ -21,6 +22,7 @@ pub use loads::read_nodes;
 pub use node_refs::NodeRef;
 pub use node_tree::{Attributes, Kind, Text};
 pub use pages::Page;
+pub use relations::relation_law;
 pub use trees::Tree;
 
 #[cfg(test)]
