@@ -12,3 +12,6 @@ pub use blocks::{Block, Decl, Declarations};
 pub use hits::Hit;
 pub use matching::matched;
 pub use winning::winners;
+
+#[cfg(test)]
+mod tests;
