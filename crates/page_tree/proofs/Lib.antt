@@ -14,3 +14,4 @@ pub mod InsertLemmas
 pub mod MoveLemmas
 pub mod AncestorLemmas
 pub mod EditRows
+pub mod RelationLemmas

@@ -1,5 +1,6 @@
 pub mod Forms
 pub mod Pages
+pub mod Members
 pub mod Zippers
 pub mod Siblings
 pub mod Loads

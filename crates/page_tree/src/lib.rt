@@ -14,6 +14,7 @@ mod loads;
 mod node_refs;
 mod numbering;
 mod pages;
+mod relations;
 mod search;
 mod trees;
 
@@ -28,6 +29,7 @@ pub use node_refs::NodeRef;
 pub use loads::{read_node, read_nodes};
 pub use node_tree::{Attributes, Kind, Text};
 pub use pages::Page;
+pub use relations::relation_law;
 pub use trees::Tree;
 
 #[cfg(test)]

@@ -5,7 +5,8 @@ use Rattle.std.proofs.lemmas.List.{map-append, reverse-append, length-reverse, l
 use Rattle.node_tree.specs.Nodes.{Nodes, node, Branch}
 use Rattle.page_tree.specs.Pages.{Row}
 use Rattle.page_tree.specs.Zippers.{Generation, Zipper, zipper_of, ancestors, ancestors_in, earlier, earlier_in, head, parent_of}
-use Rattle.page_tree.proofs.ZipperLemmas.{IsIn, at_head, in_tail, IsIn-append, IsIn-append_left, IsIn-append_right}
+use Rattle.page_tree.specs.Members.{IsIn, at_head, in_tail}
+use Rattle.page_tree.proofs.ZipperLemmas.{IsIn-append, IsIn-append_left, IsIn-append_right}
 use Rattle.selectors.specs.declared.selector.Joint.{Joint}
 use Rattle.selectors.specs.declared.selector.Joint.TheVariants.{Descendant, Child, Next, Later}
 use Rattle.selectors.specs.declared.selector.Compound.{Compound}

@@ -5,10 +5,15 @@
 
 mod chains;
 mod elements;
+mod laws;
 mod outcome;
 mod simple;
 mod texts;
 mod walks;
 
 pub use chains::matches_node;
+pub use laws::{not_law, nth_law, operand_law};
 pub use walks::{all_matches, first_match, list_matches_node, matches};
+
+#[cfg(test)]
+mod tests;
