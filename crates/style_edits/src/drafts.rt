@@ -45,7 +45,7 @@ fn spliced(
 }
 
 /// Whether the text has at most 2^24 bytes with a new part in the place of another.
-fn is_short(text: &str, part: Range, new: &str) -> bool
+pub(crate) fn is_short(text: &str, part: Range, new: &str) -> bool
     requires { IsRangeOf text.now part }
     ensures { result ≡ nat_le (length (spliced text.now part.start part.end new.now)) (2 ^ 24) }
 {
