@@ -5,7 +5,7 @@ use Rattle.std.proofs.lemmas.Bool.{eqb-true}
 use Rattle.std.proofs.lemmas.List.Elements.{All-weaker, All-pop, All-push}
 use Rattle.sheet_reader.specs.declared.book.SheetEntry.{SheetEntry}
 use Rattle.sheet_reader.specs.Books.{IsEntry, entry_of, changed, removed}
-use Rattle.style_edits.specs.Drafts.{IsOld, restored}
+use Rattle.style_edits.specs.Drafts.{IsOld, olds_restored}
 
 same_nat : (n : ℕ) → nat_eq n n ≡ true
 same_nat n = eq-eqb n n refl
@@ -85,7 +85,7 @@ removed_none id (x ∷ es) none = by (nat_eq id x.id) none (removed_none id es)
 
 -- ---- old entries
 
-pub restored_push : (olds : List SheetEntry) (old : SheetEntry) (book : List SheetEntry) → restored (olds ++ old ∷ []) book ≡ restored olds (changed old book)
+pub restored_push : (olds : List SheetEntry) (old : SheetEntry) (book : List SheetEntry) → olds_restored (olds ++ old ∷ []) book ≡ olds_restored olds (changed old book)
 restored_push [] old book = refl
 restored_push (x ∷ olds) old book = ap (changed x) (restored_push olds old book)
 
@@ -96,8 +96,8 @@ olds_stay new book olds all = All-weaker (IsOld book) (IsOld (changed new book))
 pub olds_popped : (olds rest : List SheetEntry) (old : SheetEntry) (book : List SheetEntry) → olds ≡ rest ++ option_to_list (Some old) → All (IsOld book) olds → All (IsOld book) rest × IsOld book old
 olds_popped olds rest old book is all = All-pop (IsOld book) olds rest (Some old) is all
 
-pub one_restored : (olds rest : List SheetEntry) (old : SheetEntry) (book next total : List SheetEntry) → olds ≡ rest ++ option_to_list (Some old) → next ≡ changed old book → restored olds book ≡ total → restored rest next ≡ total
-one_restored olds rest old book next total is new so_far = ap (restored rest) new ∙ sym (restored_push rest old book) ∙ ap (λ (xs : List SheetEntry). restored xs book) (sym is) ∙ so_far
+pub one_restored : (olds rest : List SheetEntry) (old : SheetEntry) (book next total : List SheetEntry) → olds ≡ rest ++ option_to_list (Some old) → next ≡ changed old book → olds_restored olds book ≡ total → olds_restored rest next ≡ total
+one_restored olds rest old book next total is new so_far = ap (olds_restored rest) new ∙ sym (restored_push rest old book) ∙ ap (λ (xs : List SheetEntry). olds_restored xs book) (sym is) ∙ so_far
 
 -- an entry that went in, and the old one behind the others
 pub olds_pushed : (new old : SheetEntry) (book next olds more : List SheetEntry) → next ≡ changed new book → IsOld book old → more ≡ olds ++ old ∷ [] → All (IsOld book) olds → All (IsOld next) more
@@ -105,10 +105,10 @@ olds_pushed new old book next olds more is own pushed all =
     subst (λ (b : List SheetEntry). All (IsOld b) more) (sym is)
     (olds_stay new book more (subst (All (IsOld book)) (sym pushed) (All-push (IsOld book) olds old all own)))
 
-pub pushed_restored : (new old : SheetEntry) (book next olds more : List SheetEntry) → next ≡ changed new book → new.id ≡ old.id → entry_of old.id book ≡ Some old → more ≡ olds ++ old ∷ [] → restored more next ≡ restored olds book
+pub pushed_restored : (new old : SheetEntry) (book next olds more : List SheetEntry) → next ≡ changed new book → new.id ≡ old.id → entry_of old.id book ≡ Some old → more ≡ olds ++ old ∷ [] → olds_restored more next ≡ olds_restored olds book
 pushed_restored new old book next olds more is same there pushed =
-    ap (λ (xs : List SheetEntry). restored xs next) pushed ∙ restored_push olds old next
-    ∙ ap (λ (b : List SheetEntry). restored olds (changed old b)) is ∙ ap (restored olds) (changed_back old new book same there)
+    ap (λ (xs : List SheetEntry). olds_restored xs next) pushed ∙ restored_push olds old next
+    ∙ ap (λ (b : List SheetEntry). olds_restored olds (changed old b)) is ∙ ap (olds_restored olds) (changed_back old new book same there)
 
 -- one entry in the place of another in a book
 pub record IsSwap (book next : List SheetEntry) (new old : SheetEntry) : Type 0 where
@@ -127,7 +127,7 @@ swapped book next new e old entry there same found is =
 pub swap_olds : (book next : List SheetEntry) (new old : SheetEntry) (olds more : List SheetEntry) → IsSwap book next new old → more ≡ olds ++ old ∷ [] → All (IsOld book) olds → All (IsOld next) more
 swap_olds book next new old olds more s pushed all = olds_pushed new old book next olds more s.is s.own pushed all
 
-pub swap_restored : (book next : List SheetEntry) (new old : SheetEntry) (olds more : List SheetEntry) → IsSwap book next new old → more ≡ olds ++ old ∷ [] → restored more next ≡ restored olds book
+pub swap_restored : (book next : List SheetEntry) (new old : SheetEntry) (olds more : List SheetEntry) → IsSwap book next new old → more ≡ olds ++ old ∷ [] → olds_restored more next ≡ olds_restored olds book
 swap_restored book next new old olds more s pushed = pushed_restored new old book next olds more s.is s.same s.there pushed
 
 pub swap_there : (book next : List SheetEntry) (new old again : SheetEntry) → IsSwap book next new old → again ≡ old → IsSome (entry_of again.id next)

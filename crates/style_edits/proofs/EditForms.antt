@@ -8,13 +8,13 @@ use Rattle.style_edits.specs.declared.faults.SheetFault.{SheetFault}
 use Rattle.style_edits.specs.declared.splice.Splice.{Splice}
 use Rattle.style_edits.specs.declared.faults.SheetErr.{SheetErr}
 use Rattle.style_edits.specs.declared.faults.SheetErr.TheVariants.{Fault, Memory}
-use Rattle.style_edits.specs.Edits.{Found, Outcome, style_splice, edited, with_back, go_on, styles_edited, IfFault}
+use Rattle.style_edits.specs.Edits.{Found, EditsOutcome, style_splice, edited, with_back, go_on, styles_edited, IfFault}
 use Rattle.style_edits.specs.Drafts.{with_backs}
 
-one_back : (backs : List Splice) (back : Splice) (o : Outcome) → with_backs backs (with_back back o) ≡ with_backs (backs ++ back ∷ []) o
+one_back : (backs : List Splice) (back : Splice) (o : EditsOutcome) → with_backs backs (with_back back o) ≡ with_backs (backs ++ back ∷ []) o
 one_back backs back (Ok rest) = ap (λ (xs : List Splice). done rest.0 xs) (sym (append_assoc backs (back ∷ []) rest.1))
   where
-    done : List SheetEntry → List Splice → Outcome
+    done : List SheetEntry → List Splice → EditsOutcome
     done book xs = Ok (book, xs)
 one_back backs back (Err f) = refl
 
@@ -27,7 +27,7 @@ step backs more x xs book next back done pushed =
     ∙ ap (λ (bs : List Splice). with_backs bs (styles_edited xs next)) (sym pushed)
 
 -- an edit more is made
-pub edits_more : (edits : List StyleEdit) (i : ℕ) (x : StyleEdit) (backs more : List Splice) (book next : List SheetEntry) (back : Splice) (total : Outcome) → i < length edits → x ≡ get_or edits i x
+pub edits_more : (edits : List StyleEdit) (i : ℕ) (x : StyleEdit) (backs more : List Splice) (book next : List SheetEntry) (back : Splice) (total : EditsOutcome) → i < length edits → x ≡ get_or edits i x
     → edited book (style_splice x book) ≡ Ok (next, back) → more ≡ backs ++ back ∷ []
     → with_backs backs (styles_edited (drop i edits) book) ≡ total → with_backs more (styles_edited (drop (i + 1) edits) next) ≡ total
 edits_more edits i x backs more book next back total within is done pushed so_far =
@@ -38,8 +38,8 @@ edits_more edits i x backs more book next back total within is done pushed so_fa
     ∙ ap (λ (xs : List StyleEdit). with_backs backs (styles_edited xs book)) (sym cut)
     ∙ so_far
 
-fault_is : (backs : List Splice) (o : Outcome) (f : SheetFault) → with_backs backs o ≡ Err f → o ≡ Err f
-fault_is backs (Ok rest) f e = let wrong : ◌≡◌ {A = Outcome} (Ok (rest.0, backs ++ rest.1)) (Err f) = e in absurd (cc)
+fault_is : (backs : List Splice) (o : EditsOutcome) (f : SheetFault) → with_backs backs o ≡ Err f → o ≡ Err f
+fault_is backs (Ok rest) f e = let wrong : ◌≡◌ {A = EditsOutcome} (Ok (rest.0, backs ++ rest.1)) (Err f) = e in absurd (cc)
 fault_is backs (Err g) f e = e
 
 -- an edit has a fault, and so have all
@@ -52,20 +52,20 @@ edits_fail edits i x f backs first book old within is found so_far =
     (sym so_far ∙ ap (λ (xs : List StyleEdit). with_backs backs (styles_edited xs book)) cut
     ∙ ap (λ (r : Found). with_backs backs (go_on (edited book r) (λ b. styles_edited (drop (suc i) edits) b))) found)
 
-pub edits_none : (edits : List StyleEdit) (i : ℕ) (backs : List Splice) (book : List SheetEntry) (total : Outcome) → length edits ≤ i → with_backs backs (styles_edited (drop i edits) book) ≡ total → total ≡ Ok (book, backs)
+pub edits_none : (edits : List StyleEdit) (i : ℕ) (backs : List Splice) (book : List SheetEntry) (total : EditsOutcome) → length edits ≤ i → with_backs backs (styles_edited (drop i edits) book) ≡ total → total ≡ Ok (book, backs)
 unfolding styles_edited
 edits_none edits i backs book total over so_far =
     sym so_far ∙ ap (λ (xs : List StyleEdit). with_backs backs (styles_edited xs book)) (drop_all i edits over) ∙ ap (λ (xs : List Splice). done xs) (append-nil backs)
   where
-    done : List Splice → Outcome
+    done : List Splice → EditsOutcome
     done xs = Ok (book, xs)
 
 -- with no splices before them
-pub no_backs : (o : Outcome) → with_backs [] o ≡ o
+pub no_backs : (o : EditsOutcome) → with_backs [] o ≡ o
 no_backs (Ok rest) = refl
 no_backs (Err f) = refl
 
 -- a fault of one is a fault of all
-pub fault_of_all : (A B : Type 0) (stop : SheetErr) (found : Found) (all : Outcome) → IfFault {A = A} (Err stop) (λ f. found ≡ Err f) → ((f : SheetFault) → found ≡ Err f → all ≡ Err f) → IfFault {A = B} (Err stop) (λ f. all ≡ Err f)
+pub fault_of_all : (A B : Type 0) (stop : SheetErr) (found : Found) (all : EditsOutcome) → IfFault {A = A} (Err stop) (λ f. found ≡ Err f) → ((f : SheetFault) → found ≡ Err f → all ≡ Err f) → IfFault {A = B} (Err stop) (λ f. all ≡ Err f)
 fault_of_all A B (Fault f) found all own carries = carries f own
 fault_of_all A B Memory found all own carries = tt

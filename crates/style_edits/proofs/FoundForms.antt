@@ -13,7 +13,7 @@ use Rattle.sheet_reader.specs.declared.book.Origin.TheVariants as origins
 use Rattle.sheet_reader.specs.declared.book.SheetEntry.{SheetEntry}
 use Rattle.sheet_reader.specs.declared.lone.LoneRule.{LoneRule}
 use Rattle.sheet_reader.specs.declared.lone.LoneRule.TheVariants as lone
-use Rattle.sheet_reader.specs.Books.{entry_of}
+use Rattle.sheet_reader.specs.Books.{IsStored, entry_of}
 use Rattle.sheet_reader.specs.Sealing.{is_sealed}
 use Rattle.sheet_reader.specs.Lone.{lone_rule}
 use Rattle.style_edits.specs.declared.edits.StyleEdit.{StyleEdit}
@@ -21,8 +21,8 @@ use Rattle.style_edits.specs.declared.faults.SheetFault.{SheetFault}
 use Rattle.style_edits.specs.declared.faults.SheetFault.TheVariants.{BadText, BadSelector, TooBig}
 use Rattle.style_edits.specs.declared.lines.LineRange.{LineRange}
 use Rattle.style_edits.specs.declared.splice.Splice.{Splice}
-use Rattle.style_edits.specs.Splices.{spliced, after_splice, back_splice, after_splices, IsStored, TakesSplice}
-use Rattle.style_edits.specs.Edits.{HasText, Found, Outcome, splice_at, placed, body_at, prelude_at, place_at, style_by, style_in, selector_by, selector_in, whole, text_in, put_by, rule_by, rule_in, mutable, client_by, client_sheet, found_by, style_splice, selector_splice, text_splice, rule_splice, edited, with_back, go_on, styles_edited}
+use Rattle.style_edits.specs.Splices.{spliced, after_splice, back_splice, after_splices, TakesSplice}
+use Rattle.style_edits.specs.Edits.{HasText, Found, EditsOutcome, splice_at, placed_text, body_at, prelude_at, place_at, style_by, style_in, selector_by, selector_in, whole_range, text_in, put_by, added_by, rule_in, mutable, client_by, client_sheet, found_by, style_splice, selector_splice, text_splice, rule_splice, edited, with_back, go_on, styles_edited}
 use Rattle.style_edits.proofs.BookForms.{entry_again}
 use Rattle.style_edits.proofs.LineForms.{body_range, prelude_range, place_range, whole_usable}
 use Rattle.style_edits.proofs.SpliceForms.{leads_back, stored_after}
@@ -39,7 +39,7 @@ stored_of id (x ∷ book) e h all = by (nat_eq id x.id) h (All-head IsStored x b
     by false k own rest = rest k
 
 -- a text that goes into the place of a part
-placed_takes : (book : List SheetEntry) (e : SheetEntry) (part : Range) (text : List ℕ) (s : Splice) → entry_of e.id book ≡ Some e → IsStored e → IsRangeOf e.text part → IsUtf8 text → placed e part text ≡ Ok s → TakesSplice s book
+placed_takes : (book : List SheetEntry) (e : SheetEntry) (part : Range) (text : List ℕ) (s : Splice) → entry_of e.id book ≡ Some e → IsStored e → IsRangeOf e.text part → IsUtf8 text → placed_text e part text ≡ Ok s → TakesSplice s book
 placed_takes book e part text s found stored r utf8 h = by (nat_le (length (spliced e.text part.start part.end text)) (2 ^ 24)) refl h
   where
     short : nat_le (length (spliced e.text part.start part.end text)) (2 ^ 24) ≡ true → length (spliced e.text part.start part.end text) ≤ 2 ^ 24
@@ -65,7 +65,7 @@ style_takes x utf8 book e s found stored h = by (body_at e.text x.range) (body_r
   where
     by : (o : Option Range) → IfSome o (IsRangeOf e.text) → style_by x e o ≡ Ok s → TakesSplice s book
     by None r k = absurd (cc)
-    by (Some part) r k = placed_takes book e part x.text s found stored r utf8 (sealed_takes (is_sealed x.text) (placed e part x.text) BadText s k)
+    by (Some part) r k = placed_takes book e part x.text s found stored r utf8 (sealed_takes (is_sealed x.text) (placed_text e part x.text) BadText s k)
 
 selector_takes : (lines : LineRange) (text : List ℕ) → IsUtf8 text → Takes (selector_in lines text)
 selector_takes lines text utf8 book e s found stored h = by (prelude_at e.text lines) (prelude_range e e.text lines (prelude_at e.text lines) refl stored.utf8 refl) h
@@ -73,21 +73,21 @@ selector_takes lines text utf8 book e s found stored h = by (prelude_at e.text l
     by : (o : Option Range) → IfSome o (IsRangeOf e.text) → selector_by text e o ≡ Ok s → TakesSplice s book
     by None r k = absurd (cc)
     by (Some part) r k =
-        let inside = sealed_takes (is_sealed text) (cond (is_some (selectors_of text)) (placed e part text) (Err BadSelector)) BadText s k in
-        placed_takes book e part text s found stored r utf8 (sealed_takes (is_some (selectors_of text)) (placed e part text) BadSelector s inside)
+        let inside = sealed_takes (is_sealed text) (cond (is_some (selectors_of text)) (placed_text e part text) (Err BadSelector)) BadText s k in
+        placed_takes book e part text s found stored r utf8 (sealed_takes (is_some (selectors_of text)) (placed_text e part text) BadSelector s inside)
 
 text_takes : (text : List ℕ) → IsUtf8 text → Takes (text_in text)
-text_takes text utf8 book e s found stored h = placed_takes book e (whole e.text) text s found stored (whole_usable e.text e.text (whole e.text) refl stored.utf8 refl) utf8 h
+text_takes text utf8 book e s found stored h = placed_takes book e (whole_range e.text) text s found stored (whole_usable e.text e.text (whole_range e.text) refl stored.utf8 refl) utf8 h
 
 rule_takes : (lines : LineRange) (text : List ℕ) → IsUtf8 text → Takes (rule_in lines text)
 rule_takes lines text utf8 book e s found stored h =
-    by (lone_rule text) (place_at e.text lines) (place_range e e.text lines (place_at e.text lines) refl stored.utf8 refl) (sealed_takes (is_sealed text) (rule_by text e (place_at e.text lines) (lone_rule text)) BadText s h)
+    by (lone_rule text) (place_at e.text lines) (place_range e e.text lines (place_at e.text lines) refl stored.utf8 refl) (sealed_takes (is_sealed text) (added_by text e (place_at e.text lines) (lone_rule text)) BadText s h)
   where
     put : (o : Option Range) → IfSome o (IsRangeOf e.text) → put_by text e o ≡ Ok s → TakesSplice s book
     put None r k = absurd (cc)
     put (Some part) r k = placed_takes book e part text s found stored r utf8 k
 
-    by : (l : LoneRule) (o : Option Range) → IfSome o (IsRangeOf e.text) → rule_by text e o l ≡ Ok s → TakesSplice s book
+    by : (l : LoneRule) (o : Option Range) → IfSome o (IsRangeOf e.text) → added_by text e o l ≡ Ok s → TakesSplice s book
     by lone.Other o r k = absurd (cc)
     by lone.Dropped o r k = absurd (cc)
     by lone.Style o r k = put o r k
@@ -130,7 +130,7 @@ styles_back [] book new backs all texts h =
 styles_back (x ∷ xs) book new backs all texts h =
     by (style_splice x book) refl h (λ next b stored e. styles_back xs next new b stored (All-tail HasText x xs texts) e)
   where
-    rest_back : (s : Splice) → TakesSplice s book → (o : Outcome) → styles_edited xs (after_splice s book) ≡ o → with_back (back_splice s book) o ≡ Ok (new, backs)
+    rest_back : (s : Splice) → TakesSplice s book → (o : EditsOutcome) → styles_edited xs (after_splice s book) ≡ o → with_back (back_splice s book) o ≡ Ok (new, backs)
         → ((b : List Splice) → styles_edited xs (after_splice s book) ≡ Ok (new, b) → after_splices (reverse b) new ≡ after_splice s book) → after_splices (reverse backs) new ≡ book
     rest_back s takes (Err f) is k more = absurd (cc)
     rest_back s takes (Ok r) is k more =
@@ -144,7 +144,7 @@ styles_back (x ∷ xs) book new backs all texts h =
         ∙ ap (λ (b : List SheetEntry). after_splice (back_splice s book) b) ends
         ∙ leads_back s book takes
       where
-        done : List SheetEntry → List Splice → Outcome
+        done : List SheetEntry → List Splice → EditsOutcome
         done b bs = Ok (b, bs)
 
     by : (found : Found) → style_splice x book ≡ found → go_on (edited book found) (λ next. styles_edited xs next) ≡ Ok (new, backs)

@@ -20,8 +20,8 @@ use Rattle.sheet_reader.specs.Usable.{IsRuleOf, AreEdgesBehind, AreEdges}
 use Rattle.sheet_reader.proofs.PlaceForms.{one_place}
 use Rattle.sheet_reader.proofs.UsableForms.{sheet_usable}
 use Rattle.style_edits.specs.declared.lines.LineRange.{LineRange}
-use Rattle.style_edits.specs.Drafts.{IsAt, is_same}
-use Rattle.style_edits.specs.Edits.{is_position, is_at, body_at, prelude_at, place_at, whole}
+use Rattle.style_edits.specs.Drafts.{IsAt, is_same_range}
+use Rattle.style_edits.specs.Edits.{is_position, is_at, body_at, prelude_at, place_at, whole_range}
 
 same_nat : (n : ℕ) → nat_eq n n ≡ true
 same_nat n = eq-eqb n n refl
@@ -58,16 +58,16 @@ is_position_at line column p e =
 abbrev pub IsCut : List ℕ → Range → Type 0
 IsCut text r = IsCharBoundary text r.start × IsCharBoundary text r.end
 
-same_is : (a b : Range) → is_same a b ≡ true → a ≡ b
+same_is : (a b : Range) → is_same_range a b ≡ true → a ≡ b
 same_is a b e =
     let k = and_is (nat_eq a.start b.start) (nat_eq a.end b.end) e in
     let s = eqb-true a.start b.start k.0 in
     let t = eqb-true a.end b.end k.1 in
     λ i. range (s i) (t i)
 
-at_here : (text : List ℕ) (lines : LineRange) (wanted r : Range) → IsAt text lines wanted → IsCut text r → is_same wanted r ≡ is_at text lines r
+at_here : (text : List ℕ) (lines : LineRange) (wanted r : Range) → IsAt text lines wanted → IsCut text r → is_same_range wanted r ≡ is_at text lines r
 at_here text lines wanted r at cut =
-    agree (is_same wanted r) (is_at text lines r)
+    agree (is_same_range wanted r) (is_at text lines r)
     (λ e.
     let same : wanted ≡ r = same_is wanted r e in
     subst (λ (x : Range). is_at text lines x ≡ true) same
@@ -86,9 +86,9 @@ find_agree p q (r ∷ rs) all =
     ∙ ap (λ (o : Option Range). cond (q r) (Some r) o) (find_agree p q rs (All-tail (λ x. p x ≡ q x) r rs all))
 
 -- ranges that can be cut out are found by their bytes
-pub found_at : (text : List ℕ) (lines : LineRange) (wanted : Range) (rs : List Range) → IsAt text lines wanted → All (IsCut text) rs → find (is_same wanted) rs ≡ find (is_at text lines) rs
+pub found_at : (text : List ℕ) (lines : LineRange) (wanted : Range) (rs : List Range) → IsAt text lines wanted → All (IsCut text) rs → find (is_same_range wanted) rs ≡ find (is_at text lines) rs
 found_at text lines wanted rs at all =
-    find_agree (is_same wanted) (is_at text lines) rs (All-weaker (IsCut text) (λ r. is_same wanted r ≡ is_at text lines r) (λ r cut. at_here text lines wanted r at cut) rs all)
+    find_agree (is_same_range wanted) (is_at text lines) rs (All-weaker (IsCut text) (λ r. is_same_range wanted r ≡ is_at text lines r) (λ r cut. at_here text lines wanted r at cut) rs all)
 
 pub none_at : (text : List ℕ) (lines : LineRange) (rs : List Range) → ((r : Range) → IsCharBoundary text r.start → IsCharBoundary text r.end → is_at text lines r ≡ false) → All (IsCut text) rs → None ≡ find (is_at text lines) rs
 none_at text lines [] none all = refl
@@ -154,27 +154,27 @@ seen_preludes (r ∷ rules) = ap (λ (rs : List Range). r.prelude ∷ rs) (seen_
 -- ---- what the code finds in an entry
 
 pub body_found : (e : SheetEntry) (text : List ℕ) (lines : LineRange) (wanted : Range) (rules : List StyleRule) → IsEntry e → text ≡ e.text → IsUtf8 text → IsAt text lines wanted → map rule_seen rules ≡ e.reading.rules
-    → find (is_same wanted) (map (λ r. r.body) rules) ≡ body_at e.text lines
+    → find (is_same_range wanted) (map (λ r. r.body) rules) ≡ body_at e.text lines
 body_found e text lines wanted rules own is utf8 at seen =
     let read = ap (λ (x : Sheet). x.rules) own.read in
     let utf : IsUtf8 e.text = subst IsUtf8 is utf8 in
-    ap (find (is_same wanted)) (seen_bodies rules ∙ ap bodies (seen ∙ read))
+    ap (find (is_same_range wanted)) (seen_bodies rules ∙ ap bodies (seen ∙ read))
     ∙ found_at e.text lines wanted (bodies (sheet_of e.text).rules) (subst (λ (t : List ℕ). IsAt t lines wanted) is at) (all_cut e.text (bodies (sheet_of e.text).rules) (bodies_usable e.text utf))
 
 pub prelude_found : (e : SheetEntry) (text : List ℕ) (lines : LineRange) (wanted : Range) (rules : List StyleRule) → IsEntry e → text ≡ e.text → IsUtf8 text → IsAt text lines wanted → map rule_seen rules ≡ e.reading.rules
-    → find (is_same wanted) (map (λ r. r.prelude) rules) ≡ prelude_at e.text lines
+    → find (is_same_range wanted) (map (λ r. r.prelude) rules) ≡ prelude_at e.text lines
 prelude_found e text lines wanted rules own is utf8 at seen =
     let read = ap (λ (x : Sheet). x.rules) own.read in
     let utf : IsUtf8 e.text = subst IsUtf8 is utf8 in
-    ap (find (is_same wanted)) (seen_preludes rules ∙ ap preludes (seen ∙ read))
+    ap (find (is_same_range wanted)) (seen_preludes rules ∙ ap preludes (seen ∙ read))
     ∙ found_at e.text lines wanted (preludes (sheet_of e.text).rules) (subst (λ (t : List ℕ). IsAt t lines wanted) is at) (all_cut e.text (preludes (sheet_of e.text).rules) (preludes_usable e.text utf))
 
 pub place_found : (e : SheetEntry) (text : List ℕ) (lines : LineRange) (wanted : Range) (places : List ℕ) → IsEntry e → text ≡ e.text → IsUtf8 text → IsAt text lines wanted → places ≡ e.reading.places
-    → find (is_same wanted) (map (λ p. range p p) places) ≡ place_at e.text lines
+    → find (is_same_range wanted) (map (λ p. range p p) places) ≡ place_at e.text lines
 place_found e text lines wanted places own is utf8 at seen =
     let read = ap (λ (x : Sheet). x.places) own.read in
     let utf : IsUtf8 e.text = subst IsUtf8 is utf8 in
-    ap (λ (ps : List ℕ). find (is_same wanted) (empties ps)) (seen ∙ read)
+    ap (λ (ps : List ℕ). find (is_same_range wanted) (empties ps)) (seen ∙ read)
     ∙ found_at e.text lines wanted (empties (sheet_of e.text).places) (subst (λ (t : List ℕ). IsAt t lines wanted) is at) (all_cut e.text (empties (sheet_of e.text).places) (places_usable e.text utf))
 
 unfoldable pub NoneThere : List ℕ → LineRange → Type 0
@@ -207,8 +207,8 @@ prelude_range e text lines o is utf8 found = found_range e.text lines (preludes 
 pub place_range : (e : SheetEntry) (text : List ℕ) (lines : LineRange) (o : Option Range) → text ≡ e.text → IsUtf8 text → o ≡ place_at e.text lines → IfSome o (IsRangeOf e.text)
 place_range e text lines o is utf8 found = found_range e.text lines (empties (sheet_of e.text).places) o found (places_usable e.text (subst IsUtf8 is utf8))
 
--- a whole text can be cut out
-pub whole_usable : (text same : List ℕ) (r : Range) → same ≡ text → IsUtf8 same → r ≡ whole same → IsRangeOf text r
+-- a whole_range text can be cut out
+pub whole_usable : (text same : List ℕ) (r : Range) → same ≡ text → IsUtf8 same → r ≡ whole_range same → IsRangeOf text r
 whole_usable text same r is utf8 e =
-    let own : IsRangeOf same (whole same) = record { order = omega arith; front = IsCharBoundary-start same utf8; back = IsCharBoundary-end same } in
-    subst (λ (x : Range). IsRangeOf text x) (sym e) (subst (λ (t : List ℕ). IsRangeOf t (whole same)) is own)
+    let own : IsRangeOf same (whole_range same) = record { order = omega arith; front = IsCharBoundary-start same utf8; back = IsCharBoundary-end same } in
+    subst (λ (x : Range). IsRangeOf text x) (sym e) (subst (λ (t : List ℕ). IsRangeOf t (whole_range same)) is own)

@@ -9,9 +9,9 @@ use Rattle.std.proofs.lemmas.List.Elements.{All-nil, All-cons, All-head, All-tai
 use Rattle.selectors.specs.Ranges.{IsRangeOf}
 use Rattle.sheet_reader.specs.declared.book.SheetEntry.{SheetEntry}
 use Rattle.sheet_reader.specs.Forms.{range}
-use Rattle.sheet_reader.specs.Books.{IsEntry, entry_of, changed}
+use Rattle.sheet_reader.specs.Books.{IsEntry, IsStored, entry_of, changed}
 use Rattle.style_edits.specs.declared.splice.Splice.{Splice}
-use Rattle.style_edits.specs.Splices.{spliced, with_text, spliced_entry, back_in, after_by, after_splice, back_by, back_splice, FitsIn, FitsSplice, IsStored, TakesSplice}
+use Rattle.style_edits.specs.Splices.{spliced, with_text, spliced_entry, back_in, after_by, after_splice, back_by, back_splice, FitsIn, FitsSplice, TakesSplice}
 use Rattle.style_edits.proofs.BookForms.{entry_id, entry_again, some_there, entry_changed, changed_back}
 
 -- ---- texts

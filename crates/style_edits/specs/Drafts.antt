@@ -11,7 +11,7 @@ use Rattle.style_edits.specs.declared.faults.SheetErr.TheVariants.{Fault, Memory
 use Rattle.style_edits.specs.declared.lines.LineRange.{LineRange}
 use Rattle.style_edits.specs.declared.splice.Splice.{Splice}
 use Rattle.style_edits.specs.Splices.{spliced_entry, back_in}
-use Rattle.style_edits.specs.Edits.{Found, Outcome}
+use Rattle.style_edits.specs.Edits.{Found, EditsOutcome}
 
 -- the bytes at the ends have these lines and columns, and the text can be cut there
 pub record IsAt (text : List ℕ) (lines : LineRange) (r : Range) : Type 0 where
@@ -20,8 +20,8 @@ pub record IsAt (text : List ℕ) (lines : LineRange) (r : Range) : Type 0 where
   pub start : position_of text r.start ≡ position lines.start_line lines.start_column
   pub end : position_of text r.end ≡ position lines.end_line lines.end_column
 
-abbrev pub is_same : Range → Range → Bool
-is_same a b = a.start == b.start && a.end == b.end
+abbrev pub is_same_range : Range → Range → Bool
+is_same_range a b = a.start == b.start && a.end == b.end
 
 -- the sheet after the splice that was found, and the splice that leads back
 pub record IsDraft (e : SheetEntry) (found : Found) (d : Draft) : Type 0 where
@@ -43,11 +43,11 @@ pub record IsOld (book : List SheetEntry) (e : SheetEntry) : Type 0 where
   pub there : IsSome (entry_of e.id book)
 
 -- entries back in their places, the last one first
-abbrev pub restored : List SheetEntry → List SheetEntry → List SheetEntry
-restored [] book = book
-restored (old ∷ olds) book = changed old (restored olds book)
+abbrev pub olds_restored : List SheetEntry → List SheetEntry → List SheetEntry
+olds_restored [] book = book
+olds_restored (old ∷ olds) book = changed old (olds_restored olds book)
 
 -- what edits come to behind others, whose splices back these are
-abbrev pub with_backs : List Splice → Outcome → Outcome
+abbrev pub with_backs : List Splice → EditsOutcome → EditsOutcome
 with_backs backs (Ok rest) = Ok (rest.0, backs ++ rest.1)
 with_backs backs (Err f) = Err f

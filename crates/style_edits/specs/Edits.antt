@@ -58,12 +58,12 @@ abbrev pub splice_at : SheetEntry → Range → List ℕ → Splice
 splice_at e part text = record { sheet = e.id; start = part.start; end = part.end; text = text }
 
 -- a text in the place of a part of a sheet, unless that makes the sheet's text too long
-abbrev pub placed : SheetEntry → Range → List ℕ → Found
-placed e part text = if nat_le (length (spliced e.text part.start part.end text)) (2 ^ 24) then Ok (splice_at e part text) else Err TooBig
+abbrev pub placed_text : SheetEntry → Range → List ℕ → Found
+placed_text e part text = if nat_le (length (spliced e.text part.start part.end text)) (2 ^ 24) then Ok (splice_at e part text) else Err TooBig
 
 abbrev pub style_by : StyleEdit → SheetEntry → Option Range → Found
 style_by x e None = Err BadRange
-style_by x e (Some part) = if is_sealed x.text then placed e part x.text else Err BadText
+style_by x e (Some part) = if is_sealed x.text then placed_text e part x.text else Err BadText
 
 -- the body of a style rule becomes a text that is sealed
 abbrev pub style_in : StyleEdit → SheetEntry → Found
@@ -71,31 +71,31 @@ style_in x e = style_by x e (body_at e.text x.range)
 
 abbrev pub selector_by : List ℕ → SheetEntry → Option Range → Found
 selector_by text e None = Err BadRange
-selector_by text e (Some part) = if is_sealed text then (if is_some (selectors_of text) then placed e part text else Err BadSelector) else Err BadText
+selector_by text e (Some part) = if is_sealed text then (if is_some (selectors_of text) then placed_text e part text else Err BadSelector) else Err BadText
 
 -- the prelude of a style rule becomes a text that is sealed and a selector list
 abbrev pub selector_in : LineRange → List ℕ → SheetEntry → Found
 selector_in lines text e = selector_by text e (prelude_at e.text lines)
 
-abbrev pub whole : List ℕ → Range
-whole text = range 0 (length text)
+abbrev pub whole_range : List ℕ → Range
+whole_range text = range 0 (length text)
 
--- the whole text becomes another
+-- the whole_range text becomes another
 abbrev pub text_in : List ℕ → SheetEntry → Found
-text_in text e = placed e (whole e.text) text
+text_in text e = placed_text e (whole_range e.text) text
 
 abbrev pub put_by : List ℕ → SheetEntry → Option Range → Found
 put_by text e None = Err BadPlace
-put_by text e (Some part) = placed e part text
+put_by text e (Some part) = placed_text e part text
 
-abbrev pub rule_by : List ℕ → SheetEntry → Option Range → LoneRule → Found
-rule_by text e place lone.Other = Err BadText
-rule_by text e place lone.Dropped = Err BadSelector
-rule_by text e place lone.Style = put_by text e place
+abbrev pub added_by : List ℕ → SheetEntry → Option Range → LoneRule → Found
+added_by text e place lone.Other = Err BadText
+added_by text e place lone.Dropped = Err BadSelector
+added_by text e place lone.Style = put_by text e place
 
 -- a text that is sealed and one style rule, but for white space and comments, is put at a place
 abbrev pub rule_in : LineRange → List ℕ → SheetEntry → Found
-rule_in lines text e = if is_sealed text then rule_by text e (place_at e.text lines) (lone_rule text) else Err BadText
+rule_in lines text e = if is_sealed text then added_by text e (place_at e.text lines) (lone_rule text) else Err BadText
 
 -- ---- edits of a book
 
@@ -133,19 +133,19 @@ edited book (Ok s) = Ok (after_splice s book, back_splice s book)
 edited book (Err f) = Err f
 
 -- the book after edits, and the splices that lead back, in the order of the edits
-abbrev pub Outcome : Type 0
-Outcome = Result (List SheetEntry × List Splice) SheetFault
+abbrev pub EditsOutcome : Type 0
+EditsOutcome = Result (List SheetEntry × List Splice) SheetFault
 
-abbrev pub with_back : Splice → Outcome → Outcome
+abbrev pub with_back : Splice → EditsOutcome → EditsOutcome
 with_back back (Ok rest) = Ok (rest.0, back ∷ rest.1)
 with_back back (Err f) = Err f
 
-abbrev pub go_on : Result (List SheetEntry × Splice) SheetFault → (List SheetEntry → Outcome) → Outcome
+abbrev pub go_on : Result (List SheetEntry × Splice) SheetFault → (List SheetEntry → EditsOutcome) → EditsOutcome
 go_on (Ok first) rest = with_back first.1 (rest first.0)
 go_on (Err f) rest = Err f
 
 -- edits, each in the book that the earlier ones left; the first one's fault is the fault of all
-unfoldable pub styles_edited : List StyleEdit → List SheetEntry → Outcome
+unfoldable pub styles_edited : List StyleEdit → List SheetEntry → EditsOutcome
 styles_edited [] book = Ok (book, [])
 styles_edited (x ∷ xs) book = go_on (edited book (style_splice x book)) (λ next. styles_edited xs next)
 

@@ -5,7 +5,7 @@ use Rattle.selectors.specs.Ranges.{IsRangeOf}
 use Rattle.sheet_reader.specs.declared.book.SheetEntry.{SheetEntry}
 use Rattle.sheet_reader.specs.Forms.{range}
 use Rattle.sheet_reader.specs.Sheets.{sheet_of}
-use Rattle.sheet_reader.specs.Books.{IsEntry, entry_of, changed}
+use Rattle.sheet_reader.specs.Books.{IsStored, entry_of, changed}
 use Rattle.style_edits.specs.declared.splice.Splice.{Splice}
 
 -- a text with a new part in the place of the bytes from start to end
@@ -54,11 +54,6 @@ abbrev pub FitsSplice : Splice → List SheetEntry → Type 0
 FitsSplice s book = IsSomeAnd (entry_of s.sheet book) (FitsIn s)
 
 -- ---- splices that can be made
-
--- an entry as a book has it, whose text is a text
-pub record IsStored (e : SheetEntry) : Type 0 where
-  pub entry : IsEntry e
-  pub utf8 : IsUtf8 e.text
 
 -- the sheet is in the book, and the splice fits in it and has a text
 pub record TakesSplice (s : Splice) (book : List SheetEntry) : Type 0 where

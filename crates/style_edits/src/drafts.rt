@@ -5,8 +5,8 @@ ghost use Rattle.std.specs.Str.{IsCharBoundary};
 ghost use Rattle.selectors.specs.Ranges.{IsRangeOf};
 ghost use Rattle.sheet_reader.specs.Books.{IsEntry, entry_of, changed};
 ghost use Rattle.style_edits.specs.Splices.{spliced, spliced_entry, back_in};
-ghost use Rattle.style_edits.specs.Edits.{splice_at, placed};
-ghost use Rattle.style_edits.specs.Drafts.{Drafts, restored};
+ghost use Rattle.style_edits.specs.Edits.{splice_at, placed_text};
+ghost use Rattle.style_edits.specs.Drafts.{Drafts};
 
 use crate::faults::{SheetErr, SheetFault};
 use crate::splice::Splice;
@@ -45,7 +45,7 @@ fn spliced(
 }
 
 /// Whether the text has at most 2^24 bytes with a new part in the place of another.
-fn is_short(text: &str, part: Range, new: &str) -> bool
+pub(crate) fn is_short(text: &str, part: Range, new: &str) -> bool
     requires { IsRangeOf text.now part }
     ensures { result ≡ nat_le (length (spliced text.now part.start part.end new.now)) (2 ^ 24) }
 {
@@ -96,7 +96,7 @@ pub(crate) fn placed(
 ) -> Result<Draft, SheetErr>
     requires entry { IsEntry entry.now }
     requires part { IsRangeOf entry.now.text part }
-    ensures found { Drafts entry.now (placed entry.now part new.now) result }
+    ensures found { Drafts entry.now (placed_text entry.now part new.now) result }
     ensures whole { IfOk result (λ d. IsEntry d.entry) }
 {
     if !is_short(entry.text.as_str(), part, new) {

@@ -2,8 +2,8 @@
 
 ghost use Rattle.std.specs.Prelude.{◌≡◌, All, ◌++◌, ◌∷◌, [], List, Ok, Err, Some, IfOk, OnOk, OnErr, MatchResult, IsSome};
 ghost use Rattle.sheet_reader.specs.Books.{IsEntry, entry_of, changed};
-ghost use Rattle.style_edits.specs.Edits.{style_in, selector_in, text_in, rule_in, client_sheet, style_splice, selector_splice, text_splice, rule_splice, edited, styles_edited, IfFault, whole};
-ghost use Rattle.style_edits.specs.Drafts.{Drafts, IsOld, restored, with_backs};
+ghost use Rattle.style_edits.specs.Edits.{style_in, selector_in, text_in, rule_in, client_sheet, style_splice, selector_splice, text_splice, rule_splice, edited, styles_edited, IfFault, whole_range};
+ghost use Rattle.style_edits.specs.Drafts.{Drafts, IsOld, olds_restored, with_backs};
 
 use crate::drafts::{Draft, apply, placed};
 use crate::faults::{SheetErr, SheetFault};
@@ -77,7 +77,7 @@ fn selector_in(
 }
 
 fn whole(text: &str) -> Range
-    ensures { result ≡ whole text.now }
+    ensures { result ≡ whole_range text.now }
 {
     Range {
         start: 0,
@@ -126,7 +126,7 @@ fn set_style(
     ensures done { IfOk result (λ back. edited book.old (style_splice edit.now book.old) ≡ Ok (book.new, back)) }
     ensures fault { IfFault result (λ f. style_splice edit.now book.old ≡ Err f) }
     ensures olds { All (IsOld book.new) olds.new.items }
-    ensures same { restored olds.new.items book.new ≡ restored olds.old.items book.old }
+    ensures same { olds_restored olds.new.items book.new ≡ olds_restored olds.old.items book.old }
 {
     let entry = match client_sheet(book, edit.sheet) {
         Ok(entry) => entry,
@@ -210,7 +210,7 @@ pub fn add_rule(
 /// Puts the old sheets back, the last one first. Takes no memory.
 fn restore(book: &mut SheetBook, mut olds: Vec<SheetEntry>)
     requires { All (IsOld book.old) olds.items }
-    ensures { book.new ≡ restored olds.items book.old }
+    ensures { book.new ≡ olds_restored olds.items book.old }
 {
     while let Some(old) = olds.pop() {
         book.change(old);
@@ -228,7 +228,7 @@ fn set_each(
     ensures done { OnOk result (with_backs backs.old.items (styles_edited edits.now book.old) ≡ Ok (book.new, backs.new.items)) }
     ensures fault { IfFault result (λ f. styles_edited edits.now book.old ≡ Err f) }
     ensures olds { All (IsOld book.new) olds.new.items }
-    ensures same { restored olds.new.items book.new ≡ restored olds.old.items book.old }
+    ensures same { olds_restored olds.new.items book.new ≡ olds_restored olds.old.items book.old }
 {
     for edit in edits {
         let back = match set_style(book, edit, olds) {

@@ -3,10 +3,11 @@
 ghost use Rattle.std.specs.Prelude.{◌≡◌, ℕ, List, All, Ok, reverse};
 ghost use Rattle.std.specs.Str.{IsUtf8};
 ghost use Rattle.sheet_reader.specs.declared.book.SheetEntry.{SheetEntry};
+ghost use Rattle.sheet_reader.specs.Books.{IsStored};
 ghost use Rattle.style_edits.specs.declared.edits.StyleEdit.{StyleEdit};
 ghost use Rattle.style_edits.specs.declared.lines.LineRange.{LineRange};
 ghost use Rattle.style_edits.specs.declared.splice.Splice.{Splice};
-ghost use Rattle.style_edits.specs.Splices.{TakesSplice, FitsSplice, IsStored, after_splice, back_splice, after_splices};
+ghost use Rattle.style_edits.specs.Splices.{TakesSplice, FitsSplice, after_splice, back_splice, after_splices};
 ghost use Rattle.style_edits.specs.Edits.{HasText, style_splice, selector_splice, text_splice, rule_splice, styles_edited};
 
 /// A splice that can be made in a book can be taken back: the splice that leads back can be made in the book that it leaves,

@@ -18,3 +18,6 @@ pub use laws::{edits_law, splice_law};
 pub use lines::LineRange;
 pub use sheets::{add_sheet, drop_sheet};
 pub use splice::{Splice, put_back};
+
+#[cfg(test)]
+mod tests;

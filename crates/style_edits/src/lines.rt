@@ -7,7 +7,7 @@ ghost use Rattle.css_tokens.specs.declared.token.Range.{Range};
 ghost use Rattle.selectors.specs.Ranges.{IsRangeOf};
 ghost use Rattle.sheet_reader.specs.Forms.{range, rule_seen};
 ghost use Rattle.sheet_reader.specs.Books.{IsEntry};
-ghost use Rattle.style_edits.specs.Drafts.{IsAt, is_same};
+ghost use Rattle.style_edits.specs.Drafts.{IsAt, is_same_range};
 ghost use Rattle.style_edits.specs.Edits.{is_at, body_at, prelude_at, place_at};
 
 use css_tokens::Range;
@@ -33,14 +33,14 @@ fn bytes_at(text: &str, lines: LineRange) -> Option<Range>
 }
 
 fn is_same(a: Range, b: Range) -> bool
-    ensures { result ≡ is_same a b }
+    ensures { result ≡ is_same_range a b }
 {
     a.start == b.start && a.end == b.end
 }
 
 /// The range, if a rule has its body there.
 fn body_among(rules: &[StyleRule], wanted: Range) -> Option<Range>
-    ensures { result ≡ find (is_same wanted) (map (λ r. r.body) rules.now) }
+    ensures { result ≡ find (is_same_range wanted) (map (λ r. r.body) rules.now) }
 {
     rules
         .iter()
@@ -50,7 +50,7 @@ fn body_among(rules: &[StyleRule], wanted: Range) -> Option<Range>
 
 /// The range, if a rule has its prelude there.
 fn prelude_among(rules: &[StyleRule], wanted: Range) -> Option<Range>
-    ensures { result ≡ find (is_same wanted) (map (λ r. r.prelude) rules.now) }
+    ensures { result ≡ find (is_same_range wanted) (map (λ r. r.prelude) rules.now) }
 {
     rules
         .iter()
@@ -69,7 +69,7 @@ fn empty_at(place: usize) -> Range
 
 /// The range, if it is empty and at one of the places.
 fn place_among(places: &[usize], wanted: Range) -> Option<Range>
-    ensures { result ≡ find (is_same wanted) (map (λ p. range p p) places.now) }
+    ensures { result ≡ find (is_same_range wanted) (map (λ p. range p p) places.now) }
 {
     places
         .iter()

@@ -1,6 +1,6 @@
 use Rattle.std.proofs.Common.{List, All, ap, subst, sym}
 use Rattle.sheet_reader.specs.declared.book.SheetEntry.{SheetEntry}
-use Rattle.style_edits.specs.Drafts.{IsOld, restored}
+use Rattle.style_edits.specs.Drafts.{IsOld, olds_restored}
 use Rattle.style_edits.proofs.BookForms.{swapped, swap_olds, swap_restored, swap_there, swap_back}
 use Rattle.style_edits.proofs.edits.set_style.Goals as goal
 
@@ -29,4 +29,4 @@ pub returns-in-Err-push-clause-same : goal.returns-in-Err-push-clause-same
 returns-in-Err-push-clause-same c =
     let swap = swapped c.args.book.now c.change.new.self c.in-Ok-style_in.draft.entry c.in-Ok.entry.now c.change.result c.in-Ok.ensures.entry c.in-Ok.ensures.there (ap (λ (e : SheetEntry). e.id) c.in-Ok-style_in.ensures.found.entry) c.change.ensures.old c.change.ensures.changed in
     let back = swap_back c.args.book.now c.change.new.self c.change-in-Err-push.new.self c.in-Ok-style_in.draft.entry c.change.result c.in-Err-push.failed.value swap c.in-Err-push.ensures.value_returned c.change-in-Err-push.ensures.changed in
-    (λ i. restored (c.in-Err-push.ensures.items i) (back i))
+    (λ i. olds_restored (c.in-Err-push.ensures.items i) (back i))
