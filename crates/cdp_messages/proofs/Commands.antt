@@ -30,15 +30,16 @@ use Rattle.cdp_messages.specs.declared.method.Method.{Method}
 use Rattle.cdp_messages.specs.declared.method.Method.TheVariants as method
 use Rattle.cdp_messages.specs.declared.ranges.SourceRange.{SourceRange}
 use Rattle.cdp_messages.specs.Methods.{name_of, all_methods, method_named, is_own, if_known, known_method}
-use Rattle.cdp_messages.specs.Parameters.{depth_number, place_fields, place_parts, place_from, place, edit_fields, edit_parts, edit_from, text_edit, watch_name, all_watches, watch, allowed, one_there, one_of, depth_fields, children_fields, path_field, serials_field, node_field, query_fields, describe_fields, attribute_fields, name_fields, value_fields, move_fields, sheet_field, edits_field, selector_fields, sheet_text_fields, rule_fields, watch_fields, reading, command_by, Form, form, form_of}
+use Rattle.cdp_messages.specs.Parameters.{depth_number, place_fields, place_parts, place_from, place, edit_fields, edit_parts, edit_from, text_edit, allowed, one_there, one_of, depth_fields, children_fields, path_field, serials_field, node_field, query_fields, describe_fields, attribute_fields, name_fields, value_fields, move_fields, sheet_field, edits_field, selector_fields, sheet_text_fields, rule_fields, watch_fields, reading, command_by, Form, form, form_of}
 use Rattle.cdp_messages.specs.Asked.{refusal, of_method, command_for, params_of, unless_session, command_of, method_in, command_in, with_id, asked_in, asked_value, asked_by, json_of, method_of, method_name, parameters, fits_command, command_value, request}
 use Rattle.cdp_messages.specs.Laws.{AsksAreAsked, CommandsAreAsked, ParametersAreRead, ParametersArePlain, CommandsAreNamed, AsksFit}
 use Rattle.cdp_messages.specs.Answers.{Asks}
-use Rattle.cdp_messages.specs.Events.{is_object}
+use Rattle.cdp_messages.specs.Events.{is_object, watch_name, all_watches, watch}
 use Rattle.cdp_messages.specs.Refusals.{param_name}
 use Rattle.cdp_messages.specs.declared.command.ReadErr.{ReadErr}
 use Rattle.cdp_messages.proofs.Options.{both, both_parts, and_then_some}
 use Rattle.cdp_messages.proofs.Messages.{json_of-compact_text}
+use Rattle.cdp_messages.proofs.NewsLaws.{watch_lawful}
 
 -- ---- depths
 
@@ -106,13 +107,8 @@ edit_only s x e = ap edit_parts (same_edit _ x e) where
 edit_faithful : FaithfulKind text_edit
 edit_faithful = through_faithful edit_parts edit_from edit_only (λ x. refl) (object_with_faithful edit_fields_faithful)
 
-first_watch : (w : WatchWord) → named watch_name all_watches (watch_name w) ≡ Some w
-first_watch Subtree = refl
-first_watch Attribute = refl
-first_watch Removed = refl
-
 watch_faithful : FaithfulKind watch
-watch_faithful = faithful (choice_lawful watch_name all_watches first_watch)
+watch_faithful = faithful watch_lawful
 
 -- ---- one of two parameters
 

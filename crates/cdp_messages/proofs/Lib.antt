@@ -2,12 +2,13 @@ mod AttributeLists
 pub mod Commands
 pub mod Depths
 pub mod DomAskLaws
-mod EventsRead
 mod Floats
 mod FrameBytes
 mod FieldsRead
 pub mod Messages
 mod Options
+mod NeedsRead
+pub mod NewsLaws
 mod Rules
 pub mod TellableLaws
 pub mod TextsUtf8

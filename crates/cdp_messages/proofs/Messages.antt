@@ -26,12 +26,13 @@ use Rattle.node_tree.specs.Nodes.{Branch}
 use Rattle.cdp_messages.specs.Told.{Told}
 use Rattle.cdp_messages.specs.NodeData.{fits_tree}
 use Rattle.cdp_messages.specs.Asked.{json_of, request}
-use Rattle.cdp_messages.specs.Events.{is_object, News, set_children, document_updated, set_children_kind, document_updated_kind, children_from, updated_from, first_news, news_data, fits_news, news_in}
+use Rattle.cdp_messages.specs.Events.{is_object, News, news_data, fits_news, news_in}
 use Rattle.cdp_messages.specs.Replies.{Message, reply, fault, event, reply_kind, error_kind, fault_kind, reply_from, fault_from, or_else, message_data, fits_message, message_in, root_kind, root_from, id_kind, ids_kind, nothing_from, id_from, ids_from, body_data, fits_body, result_of, refusal_message}
 use Rattle.cdp_messages.specs.Laws.{RepliesAreRead, EventsAreRead, RefusalsAreRead, answers, ResultsAreRead, MessagesAreSpelled, Spells, ResultsAreSpelled, OneMessage, OneResult}
 use Rattle.cdp_messages.proofs.Options.{both, both_parts, map_some}
 use Rattle.cdp_messages.proofs.FrameBytes.{json_is}
-use Rattle.cdp_messages.proofs.NodeTrees.{nodes_lawful, document_lawful, tree_plain}
+use Rattle.cdp_messages.proofs.NodeTrees.{document_lawful, tree_plain}
+use Rattle.cdp_messages.proofs.NewsLaws.{news_again, news_take, news_plain}
 
 -- ---- the descriptions are lawful
 
@@ -56,34 +57,6 @@ id_lawful = object_lawful (and_need_lawful _ whole_lawful ends_lawful refl)
 pub ids_lawful : LawfulKind ids_kind
 ids_lawful = object_lawful (and_need_lawful _ (list_lawful whole_lawful) ends_lawful refl)
 
-pub set_children_lawful : LawfulKind set_children_kind
-set_children_lawful = object_lawful (and_need_lawful _ (only_text_lawful (codes "DOM.setChildNodes")) (and_need_lawful _
-    (object_lawful (and_need_lawful _ nodes_lawful (and_need_lawful _ (refined_lawful (nat_lt 0) whole_lawful) ends_lawful refl) refl)) ends_lawful refl) refl)
-
-pub document_updated_lawful : LawfulKind document_updated_kind
-document_updated_lawful = object_lawful (and_need_lawful _ (only_text_lawful (codes "DOM.documentUpdated")) (and_need_lawful _ (object_lawful ends_lawful) ends_lawful refl) refl)
-
--- ---- events
-
-news_again : (n : News) → fits_news n ≡ true → news_in (news_data n) ≡ Some n
-news_again (set_children parent nodes) f =
-    ap (λ o. first_news (option_map children_from o) (option_map updated_from (document_updated_kind.reads (news_data (set_children parent nodes))))) (set_children_lawful.again (tt, ((nodes, (parent, tt)), tt)) f)
-news_again document_updated f = refl
-
-first_news_some : (o p : Option News) (x : News) → first_news o p ≡ Some x → (o ≡ Some x) ⊎ (p ≡ Some x)
-first_news_some None p x e = inr e
-first_news_some (Some y) p x e = inl e
-
-news_take : (d : Data) (n : News) → news_in d ≡ Some n → (news_data n ≡ d) × (fits_news n ≡ true)
-news_take d n e = elim (first_news_some (option_map children_from (set_children_kind.reads d)) (option_map updated_from (document_updated_kind.reads d)) n e) as (λ _. (news_data n ≡ d) × (fits_news n ≡ true)) [
-  | inl r ↦
-      let p = map_some children_from (set_children_kind.reads d) n r in
-      subst (λ (m : News). (news_data m ≡ d) × (fits_news m ≡ true)) p.2 (set_children_lawful.takes d p.0 p.1)
-  | inr r ↦
-      let p = map_some updated_from (document_updated_kind.reads d) n r in
-      subst (λ (m : News). (news_data m ≡ d) × (fits_news m ≡ true)) p.2 ((document_updated_lawful.takes d p.0 p.1).0, refl)
-]
-
 -- ---- values
 
 pub message_again : (m : Message) → fits_message m ≡ true → message_in (message_data m) ≡ Some m
@@ -92,8 +65,7 @@ message_again (reply id result) f =
     ap (λ o. or_else (option_map reply_from o) (or_else (option_map fault_from (fault_kind.reads d)) (option_map event (news_in d)))) (reply_lawful.again (id, (result, tt)) f)
 message_again (fault id code said) f =
     ap (λ o. or_else (option_map fault_from o) (option_map event (news_in (message_data (fault id code said))))) (fault_lawful.again ((code, (said, tt)), (id, tt)) f)
-message_again (event (set_children parent nodes)) f = ap (option_map event) (news_again (set_children parent nodes) f)
-message_again (event document_updated) f = refl
+message_again (event n) f = ap (option_map event) (news_again n f)
 
 or_else_some : {A : Type 0} (o p : Option A) (x : A) → or_else o p ≡ Some x → (o ≡ Some x) ⊎ (p ≡ Some x)
 or_else_some None p x e = inr e
@@ -245,10 +217,6 @@ reply_plain id body c f = reply_lawful.plain (id, (body_data body, tt)) (reply_f
 pub replies_are_read : RepliesAreRead
 replies_are_read id body c f s u =
     ap (option_and_then message_in) (json_of-compact_text (message_data (reply id (body_data body))) (reply_plain id body c f) s u) ∙ message_again (reply id (body_data body)) (reply_fits id body c)
-
-pub news_plain : (n : News) → fits_news n ≡ true → is_plain (news_data n) ≡ true
-news_plain (set_children parent nodes) f = set_children_lawful.plain (tt, ((nodes, (parent, tt)), tt)) f refl
-news_plain document_updated f = refl
 
 pub events_are_read : EventsAreRead
 events_are_read n f s u = ap (option_and_then message_in) (json_of-compact_text (news_data n) (news_plain n f) s u) ∙ message_again (event n) f

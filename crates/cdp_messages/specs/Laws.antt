@@ -20,7 +20,7 @@ use Rattle.cdp_messages.specs.DomAsks.{as_command, dom_ask_in}
 use Rattle.cdp_messages.specs.declared.down.ReplyBody.{ReplyBody}
 use Rattle.cdp_messages.specs.declared.down.ReplyBody.TheVariants.{Nothing, Root, NodeId, NodeIds}
 use Rattle.cdp_messages.specs.Asked.{asked, asked_by, command_of, method_of, method_name, parameters, fits_command, command_value, command_text}
-use Rattle.cdp_messages.specs.Events.{News, set_children, document_updated, is_object, news_data, fits_news}
+use Rattle.cdp_messages.specs.Events.{News, attribute_modified, attribute_removed, text_modified, count_updated, inserted, removed, set_children, document_updated, paused, is_object, news_data, fits_news}
 use Rattle.cdp_messages.specs.Replies.{Message, reply, event, event_text, message_data, fits_message, message_in, down_of, body_data, fits_body, result_of, reply_text, refusal_message, refused_text}
 
 -- JSON nests as deep as it is read
@@ -93,8 +93,15 @@ BodyHasUtf8 (NodeIds ids) = ⊤
 
 -- those that an event tells
 abbrev pub NewsHaveUtf8 : News → Type 0
+NewsHaveUtf8 (attribute_modified id name value) = IsUtf8 name × IsUtf8 value
+NewsHaveUtf8 (attribute_removed id name) = IsUtf8 name
+NewsHaveUtf8 (text_modified id value) = IsUtf8 value
+NewsHaveUtf8 (count_updated id count) = ⊤
+NewsHaveUtf8 (inserted parent previous b) = NodesHaveUtf8 (alone b)
+NewsHaveUtf8 (removed parent id) = ⊤
 NewsHaveUtf8 (set_children parent nodes) = NodesHaveUtf8 nodes
 NewsHaveUtf8 document_updated = ⊤
+NewsHaveUtf8 (paused why) = ⊤
 
 -- the text of a reply is UTF-8 where its nodes' texts are
 abbrev pub RepliesAreUtf8 : Type 0
@@ -125,9 +132,21 @@ body_height (NodeIds ids) = 0
 abbrev pub RepliesAreShallow : Type 0
 RepliesAreShallow = (id : ℕ) (body : ReplyBody) → body_height body ≤ 61 → Shallow (message_data (reply id (body_data body)))
 
--- and so does an event with children of 60 levels
+-- how many levels of nodes an event tells
+abbrev pub news_height : News → ℕ
+news_height (attribute_modified id name value) = 0
+news_height (attribute_removed id name) = 0
+news_height (text_modified id value) = 0
+news_height (count_updated id count) = 0
+news_height (inserted parent previous b) = height (alone b)
+news_height (removed parent id) = 0
+news_height (set_children parent nodes) = height nodes
+news_height document_updated = 0
+news_height (paused why) = 0
+
+-- and so does an event with nodes of 60 levels
 abbrev pub EventsAreShallow : Type 0
-EventsAreShallow = (parent : ℕ) (nodes : Nodes Told) → height nodes ≤ 60 → Shallow (news_data (set_children parent nodes))
+EventsAreShallow = (n : News) → news_height n ≤ 60 → Shallow (news_data n)
 
 -- an event is read as that event
 abbrev pub EventsAreRead : Type 0

@@ -12,12 +12,11 @@ use Rattle.cdp_messages.specs.declared.command.Param.TheVariants as param
 use Rattle.cdp_messages.specs.declared.command.Why.{Why}
 use Rattle.cdp_messages.specs.declared.command.Why.TheVariants.{BadParam}
 use Rattle.cdp_messages.specs.declared.command.WatchWord.{WatchWord}
-use Rattle.cdp_messages.specs.declared.command.WatchWord.TheVariants.{Subtree, Attribute, Removed}
 use Rattle.cdp_messages.specs.declared.edits.TextEdit.{TextEdit}
 use Rattle.cdp_messages.specs.declared.method.Method.{Method}
 use Rattle.cdp_messages.specs.declared.method.Method.TheVariants as method
 use Rattle.cdp_messages.specs.declared.ranges.SourceRange.{SourceRange}
-use Rattle.cdp_messages.specs.Events.{is_object}
+use Rattle.cdp_messages.specs.Events.{is_object, watch}
 use Rattle.cdp_messages.specs.Refusals.{param_name}
 
 -- ---- kinds of parameters
@@ -57,20 +56,6 @@ edit_from x = Some (record { sheet = x.0; range = x.1.0; text = x.1.1.0 })
 -- an edit as JSON
 abbrev pub text_edit : Kind TextEdit
 text_edit = through (object_with edit_fields) edit_parts edit_from
-
--- what is watched of a node, by its word
-abbrev pub watch_name : WatchWord → List ℕ
-watch_name Subtree = codes "subtree-modified"
-watch_name Attribute = codes "attribute-modified"
-watch_name Removed = codes "node-removed"
-
--- each of the words
-abbrev pub all_watches : List WatchWord
-all_watches = Subtree ∷ Attribute ∷ Removed ∷ []
-
--- what is watched, as JSON
-abbrev pub watch : Kind WatchWord
-watch = choice watch_name all_watches
 
 -- ---- the parameters, in the order shown
 

@@ -164,6 +164,34 @@ pub enum WatchWord {
     Removed,
 }
 
+impl WatchWord {
+    ghost use Rattle.cdp_json.specs.Kinds.{named};
+    ghost use Rattle.cdp_messages.specs.Events.{watch_name, all_watches};
+
+    /// As it stands in messages.
+    pub fn as_str(self) -> &'static str
+        ensures { result.now ≡ watch_name self }
+    {
+        match self {
+            WatchWord::Subtree => "subtree-modified",
+            WatchWord::Attribute => "attribute-modified",
+            WatchWord::Removed => "node-removed",
+        }
+    }
+
+    // What is watched, by its word.
+    pub(crate) fn named(word: &str) -> Option<WatchWord>
+        ensures { result ≡ named watch_name all_watches word.now }
+    {
+        match word {
+            "subtree-modified" => Some(WatchWord::Subtree),
+            "attribute-modified" => Some(WatchWord::Attribute),
+            "node-removed" => Some(WatchWord::Removed),
+            _ => None,
+        }
+    }
+}
+
 /// A parameter of a command, by its name.
 #[derive(Clone, Copy, PartialEq, Eq, Debug)]
 pub enum Param {

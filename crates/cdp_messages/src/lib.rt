@@ -6,7 +6,9 @@ mod command;
 mod dom_ask;
 mod down;
 mod edits;
+mod event_names;
 mod event_read;
+mod event_write;
 mod kept;
 mod laws;
 mod method;
@@ -24,8 +26,9 @@ mod write;
 
 pub use command::{Asked, Command, CommandErr, Param, ReadErr, Refused, WatchWord, Why};
 pub use dom_ask::DomAsk;
-pub use down::{Down, DownErr, Event, ReplyBody};
+pub use down::{Down, DownErr, Event, PauseData, ReplyBody};
 pub use edits::{TextEdit, TextEdits};
+pub use event_write::write_event;
 pub use kept::Json;
 pub use laws::spell_law;
 pub use method::Method;
@@ -35,7 +38,7 @@ pub use ranges::SourceRange;
 pub use read::{read_ask, read_command};
 pub use receive::{read_down, read_result};
 pub use tree::NodeTree;
-pub use write::{write_command, write_event, write_refused, write_reply};
+pub use write::{write_command, write_refused, write_reply};
 
 #[cfg(test)]
 mod tests;

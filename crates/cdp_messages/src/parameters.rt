@@ -3,11 +3,12 @@ ghost use Rattle.std.specs.Prelude.{◌≡◌, codes, IfOk, option_and_then};
 ghost use Rattle.serde_json.specs.Find.{as_bool, as_str};
 ghost use Rattle.serde_json.specs.View.{view, items_view, members_view};
 ghost use Rattle.cdp_json.specs.Fields.{field_of};
-ghost use Rattle.cdp_json.specs.Kinds.{as_whole, as_depth, list_of, named, whole, read_items};
+ghost use Rattle.cdp_json.specs.Kinds.{as_whole, as_depth, list_of, whole, read_items};
 ghost use Rattle.cdp_json.specs.Lookups.{optional, required, value_of};
 ghost use Rattle.cdp_messages.specs.declared.command.Why.TheVariants.{BadParam};
 ghost use Rattle.cdp_messages.specs.Refusals.{param_name};
-ghost use Rattle.cdp_messages.specs.Parameters.{place_fields, place_from, place, text_edit, watch_name, all_watches, watch};
+ghost use Rattle.cdp_messages.specs.Events.{watch};
+ghost use Rattle.cdp_messages.specs.Parameters.{place_fields, place_from, place, text_edit};
 ghost use Rattle.cdp_messages.specs.Answers.{Commands};
 
 use crate::command::{CommandErr, Param, WatchWord, Why};
@@ -128,23 +129,11 @@ pub(crate) fn wholes(
     required_of(param, field)
 }
 
-// What is watched, by its word.
-fn watch_named(word: &str) -> Option<WatchWord>
-    ensures { result ≡ named watch_name all_watches word.now }
-{
-    match word {
-        "subtree-modified" => Some(WatchWord::Subtree),
-        "attribute-modified" => Some(WatchWord::Attribute),
-        "node-removed" => Some(WatchWord::Removed),
-        _ => None,
-    }
-}
-
 fn watch_field(params: &Map<String, Value>, name: &str) -> Field<WatchWord>
     ensures { result ≡ field_of watch.reads name.now (members_view params.now.entries) }
 {
     match text_field(params, name) {
-        Field::Is(word) => match watch_named(word) {
+        Field::Is(word) => match WatchWord::named(word) {
             Some(found) => Field::Is(found),
             None => Field::WrongKind,
         },

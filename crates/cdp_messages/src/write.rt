@@ -1,19 +1,15 @@
 // Writing frames.
-ghost use Rattle.std.specs.Prelude.{◌≡◌, ◌++◌, ℤ, codes, IsTrue, IfOk, OnOk, OnErr, option_map, false, string_bytes, IsUtf8};
-ghost use Rattle.serde_json.specs.Data.{object as object_with, string, no_members, member};
+ghost use Rattle.std.specs.Prelude.{◌≡◌, ◌++◌, ℤ, IsTrue, IfOk, OnOk, OnErr, option_map, false, string_bytes, IsUtf8};
 ghost use Rattle.serde_json.specs.View.{view};
 ghost use Rattle.serde_json.specs.Written.{compact_text, has_float};
 ghost use Rattle.cdp_messages.specs.Refusals.{param_name, code_of, said_first, said_of_param, text_of};
 ghost use Rattle.cdp_messages.specs.Asked.{command_value, command_text, is_whole_where_there};
-ghost use Rattle.node_tree.specs.Nodes.{nodes_of};
-ghost use Rattle.cdp_messages.specs.Events.{news_of, nodes_kind, children_kind, news_data};
-ghost use Rattle.cdp_messages.specs.Replies.{error_kind, reply, fault, message_data, body_data, reply_text, refused_text, event_text};
+ghost use Rattle.cdp_messages.specs.Replies.{error_kind, reply, fault, message_data, body_data, reply_text, refused_text};
 ghost use Rattle.cdp_messages.specs.Answers.{ended};
 
 use crate::command::{Param, Refused, Why};
-use crate::down::{Event, ReplyBody};
-use crate::node_write::{node_value, node_values};
-use crate::tree::NodeTree;
+use crate::down::ReplyBody;
+use crate::node_write::node_value;
 use cdp_json::{object, whole_list};
 use serde_json::{Map, Value};
 use std::alloc::{AllocError, Global};
@@ -304,59 +300,5 @@ pub fn write_reply(
 {
     let body = body_value(alloc, body)?;
     let value = reply_value(alloc, id, body)?;
-    append(alloc, &value, out)
-}
-
-fn nodes_value(alloc: Global, nodes: &Vec<NodeTree>) -> Result<Value, AllocError>
-    ensures { IfOk result (λ v. view v ≡ nodes_kind.spell (nodes_of nodes.now.items)) }
-{
-    let list = node_values(alloc, nodes)?;
-    Ok(Value::Array(list))
-}
-
-// The parameters of an event that shows children.
-fn children_value(alloc: Global, parent: u64, nodes: &Vec<NodeTree>) -> Result<Value, AllocError>
-    ensures { IfOk result (λ v. view v ≡ children_kind.spell (nodes_of nodes.now.items, (parent, tt))) }
-{
-    let nodes = nodes_value(alloc, nodes)?;
-    let fields = vec![in alloc;
-        ("nodes", Some(nodes)),
-        ("parentId", Some(Value::from(parent))),
-    ]?;
-    object(alloc, fields)
-}
-
-// An event of that method.
-fn envelope_value(alloc: Global, method: &str, params: Value) -> Result<Value, AllocError>
-    ensures { IfOk result (λ v. view v ≡ object_with (member (codes "method") (string method.now)
-        (member (codes "params") (view params) no_members))) }
-{
-    let method = Value::try_from_str(alloc, method)?;
-    let fields = vec![in alloc; ("method", Some(method)), ("params", Some(params))]?;
-    object(alloc, fields)
-}
-
-fn event_value(alloc: Global, event: &Event) -> Result<Value, AllocError>
-    ensures { IfOk result (λ v. view v ≡ news_data (news_of event.now)) }
-{
-    match event {
-        Event::SetChildNodes { parent, nodes } => {
-            let params = children_value(alloc, *parent, nodes)?;
-            envelope_value(alloc, "DOM.setChildNodes", params)
-        }
-        Event::DocumentUpdated => {
-            let params = Value::Object(Map::new(alloc));
-            envelope_value(alloc, "DOM.documentUpdated", params)
-        }
-    }
-}
-
-/// Appends an event as one frame, with its zero byte.
-pub fn write_event(alloc: Global, event: &Event, out: &mut Vec<u8>) -> Result<(), AllocError>
-    ensures ok { OnOk result (out.new.items ≡ out.old.items ++ ended (event_text (news_of event.now))) }
-    ensures utf8 { OnOk result (IsUtf8 (event_text (news_of event.now))) }
-    ensures err { OnErr result (out.new.items ≡ out.old.items) }
-{
-    let value = event_value(alloc, event)?;
     append(alloc, &value, out)
 }

@@ -35,7 +35,8 @@ use Rattle.cdp_json.proofs.Options.{both_parts}
 use Rattle.inspect_world.proofs.Folds.{folded-append}
 use Rattle.dom_agent.proofs.OutcomeLemmas.{stays_session, draws_few}
 use Rattle.dom_agent.proofs.MoveLemmas.{steps_are_moves, replies_fit}
-use Rattle.cdp_messages.proofs.Messages.{refusals_are_read, reply_plain, news_plain, refusal_plain}
+use Rattle.cdp_messages.proofs.Messages.{refusals_are_read, reply_plain, refusal_plain}
+use Rattle.cdp_messages.proofs.NewsLaws.{news_plain}
 use Rattle.cdp_messages.proofs.ZeroFree.{texts_have_no_zero}
 use Rattle.cdp_messages.proofs.TellableLaws.{shown_children_fit}
 use Rattle.front_mirror.proofs.ShowLemmas.{Tellable, tellable_kids, texts-told}
