@@ -3,3 +3,4 @@ pub mod Pages
 pub mod Loads
 pub mod Entries
 pub mod Rooms
+pub mod Arenas

@@ -1,6 +1,7 @@
 //! The page: a tree of nodes, each with a serial for the whole run, read from a load and asked by serial.
 #![tactic(auto)]
 
+mod arenas;
 mod attributes;
 mod edits;
 mod faults;
@@ -11,6 +12,7 @@ mod loads;
 mod numbering;
 mod pages;
 mod search;
+mod slots;
 mod trees;
 
 pub use edits::TreeEdit;

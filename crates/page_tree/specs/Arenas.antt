@@ -1,0 +1,92 @@
+-- The slots of a page, and what they keep.
+use Rattle.std.specs.Prelude.{◌≡◌, ℕ, zero, suc, ◌+◌, ◌==◌, cond, List, [], ◌∷◌, Option, Some, option_and_then}
+use Rattle.std.specs.Option.{option_map_or}
+use Rattle.std.specs.Ordering.{nat_cmp}
+use Rattle.std.specs.BTreeMap as map
+use Rattle.slab.specs.Slab as slab
+use Rattle.node_tree.specs.Nodes.{Nodes, none, node, Branch}
+use Rattle.node_tree.specs.Arena.{SlotForm, times, Keeps, kept_trees, IsFiled, IsArena, IsFresh, Grows, Shrinks, Comes, Turns}
+use Rattle.page_tree.specs.Forms.{max_level}
+use Rattle.page_tree.specs.Pages.{Row, row_serial, document_label, IsValid}
+use Rattle.page_tree.specs.declared.slots.Slot.{Slot}
+use Rattle.page_tree.specs.declared.arenas.Arena.{Arena}
+
+-- the row of a slot's node
+abbrev pub slot_row : Slot → Row
+slot_row s = record { serial = s.serial; label = record { kind = s.kind; name = s.name; value = s.value; attributes = s.attributes } }
+
+abbrev pub page_slots : SlotForm Slot Row
+page_slots = record { row = slot_row; number = row_serial; parent = λ s. s.parent; children = λ s. s.children }
+
+-- the slot under a key, and the key of a serial's slot
+abbrev pub slots_in : Arena → ℕ → Option Slot
+slots_in a = slab.get a.slots
+
+abbrev pub keys_in : Arena → ℕ → Option ℕ
+keys_in a = map.get nat_cmp a.keys
+
+-- the serials have the keys of their slots
+abbrev pub Filed : Arena → Type 0
+Filed a = IsFiled page_slots (slots_in a) (keys_in a)
+
+-- the slots under these keys keep these trees
+abbrev pub Stored : Arena → Nodes Row → Option ℕ → List ℕ → Type 0
+Stored a n above ks = Keeps page_slots (slots_in a) n above ks
+
+-- the trees in the slots under these keys, so many levels down
+abbrev pub stored_trees : Arena → ℕ → List ℕ → Nodes Row
+stored_trees a levels ks = kept_trees page_slots (slots_in a) levels ks
+
+-- these trees may come in
+abbrev pub Fresh : Arena → Nodes Row → Type 0
+Fresh a n = IsFresh page_slots (slots_in a) n
+
+-- slots of some of these trees' nodes came in, and all others stay
+abbrev pub Grown : Arena → Arena → Nodes Row → Type 0
+Grown a b n = Grows page_slots (slots_in a) (slots_in b) (λ x. times page_slots x n)
+
+-- how often the list has the number
+abbrev pub listed : ℕ → List ℕ → ℕ
+listed x [] = 0
+listed x (y ∷ ys) = cond {A = ℕ} (y == x) 1 0 + listed x ys
+
+-- the slots of these serials are gone, and all others stay
+abbrev pub Shrunk : Arena → Arena → List ℕ → Type 0
+Shrunk a b serials = Shrinks page_slots (slots_in a) (slots_in b) (λ x. listed x serials)
+
+-- the slot came in under that key
+abbrev pub Came : Arena → Arena → ℕ → Slot → Type 0
+Came a b k slot = Comes page_slots (slots_in a) (slots_in b) k slot
+
+-- the slot of that key, where it has one, became what `f` makes of it
+abbrev pub Turned : Arena → Arena → ℕ → (Slot → Slot) → Type 0
+Turned a b k f = (was : Slot) → slots_in a k ≡ Some was → Turns page_slots (slots_in a) (slots_in b) k was (f was)
+
+-- each key has the same slot
+abbrev pub SameSlots : Arena → Arena → Type 0
+SameSlots a b = (k : ℕ) → slots_in b k ≡ slots_in a k
+
+-- the slot of a serial
+abbrev pub slot_of : Arena → ℕ → Option Slot
+slot_of a serial = option_and_then (slots_in a) (keys_in a serial)
+
+-- How many slots there are from the one under that key up, looked for no further than so many levels.
+abbrev pub climbed : Arena → ℕ → Option ℕ → ℕ
+climbed a zero above = 0
+climbed a (suc levels) above = option_map_or (λ k. suc (climbed a levels (option_and_then (λ slot. slot.parent) (slots_in a k)))) above 0
+
+-- ---- a page in an arena
+
+-- the first of the trees; a page has one
+abbrev pub first_tree : Nodes Row → Branch Row
+first_tree none = record { row = record { serial = 0; label = document_label }; children = none }
+first_tree (node r c t) = record { row = r; children = c }
+
+-- the tree from the root's slot on
+unfoldable pub tree_of : Arena → ℕ → Branch Row
+tree_of a root = first_tree (stored_trees a (suc max_level) (root ∷ []))
+
+-- the slots keep a valid page's tree, and nothing else
+pub record IsPage (a : Arena) (root next : ℕ) : Type 0 where
+  pub arena : IsArena page_slots (slots_in a) (keys_in a) root (tree_of a root)
+  pub valid : IsValid (record { tree = tree_of a root; next = next })
