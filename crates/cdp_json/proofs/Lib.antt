@@ -1,6 +1,9 @@
-mod Options
+pub mod Options
 pub mod KindLaws
 pub mod RowLaws
 mod Order
 pub mod ReadBack
 pub mod SpelledLaws
+pub mod TokenTexts
+pub mod ReadTexts
+pub mod ReadPlain

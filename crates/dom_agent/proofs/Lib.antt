@@ -6,7 +6,6 @@ pub mod KeeperLemmas
 pub mod TellableLemmas
 pub mod MoveLemmas
 pub mod ToldLemmas
-pub mod SplitLemmas
 pub mod OpeningLemmas
 pub mod ServingLemmas
 pub mod RoomLemmas

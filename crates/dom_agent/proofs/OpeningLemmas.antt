@@ -1,14 +1,15 @@
 -- What a request and a push open.
-use Rattle.std.proofs.Common.{◌≡◌, ℕ, zero, suc, ◌+◌, ◌<◌, ◌≤◌, Bool, true, false, not, ◌||◌, ◌==◌, cond, List, [], ◌∷◌, ◌++◌, map, reverse, length, get_or, drop, append_assoc, append-nil, Option, Some, None, refl, sym, ap, ◌∙◌, subst, inl, inr, arith}
+use Rattle.std.proofs.Common.{◌≡◌, ℕ, zero, suc, ◌+◌, ◌<◌, ◌≤◌, Bool, true, false, not, ◌||◌, ◌==◌, cond, List, [], ◌∷◌, ◌++◌, map, reverse, append_assoc, append-nil, Option, Some, None, refl, sym, ap, ◌∙◌, subst, inl, inr, arith}
 use Rattle.std.proofs.lemmas.Bool.{false≢true}
 use Rattle.std.proofs.lemmas.List.{map-append, reverse-append, reverse-reverse}
 use Rattle.std.specs.List.{filter}
-use Rattle.node_tree.specs.Nodes.{Nodes, none, node, Branch, nodes_of, alone}
+use Rattle.node_tree.specs.Nodes.{Nodes, none, node, Branch, alone, from, tree_at, width}
 use Rattle.node_tree.specs.Keys.{has, tally}
+use Rattle.node_tree.proofs.NodeLemmas.{from-zero}
 use Rattle.node_tree.proofs.KeyLemmas.{tally_cases, has-absent}
 use Rattle.page_tree.specs.Pages.{Row, row_serial}
 use Rattle.dom_agent.specs.Requests.{Opening, requested, ancestors, pushing}
-use Rattle.dom_agent.proofs.SplitLemmas.{nodes_of-drop}
+use Rattle.page_tree.proofs.CursorLemmas.{from-next}
 
 -- ---- requests
 
@@ -16,17 +17,17 @@ use Rattle.dom_agent.proofs.SplitLemmas.{nodes_of-drop}
 pub requested-node : (o : ℕ → Bool) (d : Option ℕ) (x : Branch Row) (t : Nodes Row) → requested o d (node x.row x.children t) ≡ requested o d (alone x) ++ requested o d t
 requested-node o d x t = ap (λ l. l ++ requested o d t) (sym (append-nil _))
 
-pub request_turn : (o : ℕ → Bool) (d : Option ℕ) (trees : List (Branch Row)) (k : ℕ) (x : Branch Row) (before after all : List Opening) → k < length trees → x ≡ get_or trees k x → after ≡ before ++ requested o d (alone x) → before ++ requested o d (nodes_of (drop k trees)) ≡ all → after ++ requested o d (nodes_of (drop (k + 1) trees)) ≡ all
-request_turn o d trees k x before after all h is this was =
-    ap (λ l. l ++ requested o d (nodes_of (drop (k + 1) trees))) this
-    ∙ append_assoc before (requested o d (alone x)) (requested o d (nodes_of (drop (k + 1) trees)))
-    ∙ ap (λ l. before ++ l) (sym (requested-node o d x (nodes_of (drop (k + 1) trees))))
-    ∙ ap (λ n. before ++ requested o d n) (sym (nodes_of-drop trees k x h is))
+pub request_turn : (o : ℕ → Bool) (d : Option ℕ) (n : Nodes Row) (k : ℕ) (x : Branch Row) (before after all : List Opening) → k < width n → tree_at k n ≡ Some x → after ≡ before ++ requested o d (alone x) → before ++ requested o d (from k n) ≡ all → after ++ requested o d (from (k + 1) n) ≡ all
+request_turn o d n k x before after all h at this was =
+    ap (λ l. l ++ requested o d (from (k + 1) n)) this
+    ∙ append_assoc before (requested o d (alone x)) (requested o d (from (k + 1) n))
+    ∙ ap (λ l. before ++ l) (sym (requested-node o d x (from (k + 1) n)))
+    ∙ ap (λ m. before ++ requested o d m) (sym (from-next n k x h at))
     ∙ was
 
-pub request_end : (o : ℕ → Bool) (d : Option ℕ) (trees : List (Branch Row)) (k : ℕ) (before all : List Opening) → drop k trees ≡ [] → before ++ requested o d (nodes_of (drop k trees)) ≡ all → before ≡ all
-request_end o d trees k before all ended was =
-    sym (append-nil before) ∙ ap (λ l. before ++ requested o d (nodes_of l)) (sym ended) ∙ was
+pub request_end : (o : ℕ → Bool) (d : Option ℕ) (left : Nodes Row) (before all : List Opening) → left ≡ none → before ++ requested o d left ≡ all → before ≡ all
+request_end o d left before all ended was =
+    sym (append-nil before) ∙ ap (λ m. before ++ requested o d m) (sym ended) ∙ was
 
 -- ---- ancestors
 
@@ -87,12 +88,69 @@ module _ (o : ℕ → Bool) (s : ℕ) where
       let apart : tally row_serial s t ≡ 0 = omega arith in
       ap (λ l. opened_by_push o (cond (has row_serial s x.children) (x ∷ ancestors s x.children) l)) (ancestors-absent s t (has-absent row_serial s t apart))
 
-  pub climb_found : (trees : List (Branch Row)) (k : ℕ) (x : Branch Row) (begin before after all : List Opening) → k < length trees → x ≡ get_or trees k x → has row_serial s (alone x) ≡ true → tally row_serial s (nodes_of (drop k trees)) ≤ 1 → before ≡ begin → pushing o s (nodes_of (drop k trees)) ≡ all → after ≡ before ++ reverse (pushing o s (alone x)) → after ≡ begin ++ reverse all
-  climb_found trees k x begin before after all h is found once same was climbed =
-      let split = nodes_of-drop trees k x h is in
+  pub climb_found : (n : Nodes Row) (k : ℕ) (x : Branch Row) (begin before after all : List Opening) → k < width n → tree_at k n ≡ Some x → has row_serial s (alone x) ≡ true → tally row_serial s (from k n) ≤ 1 → before ≡ begin → pushing o s (from k n) ≡ all → after ≡ before ++ reverse (pushing o s (alone x)) → after ≡ begin ++ reverse all
+  climb_found n k x begin before after all h at found once same was climbed =
+      let split = from-next n k x h at in
       climbed
       ∙ ap (λ l. l ++ reverse (pushing o s (alone x))) same
-      ∙ ap (λ l. begin ++ reverse l) (sym (pushing-first x (nodes_of (drop (k + 1) trees)) found (subst (λ n. tally row_serial s n ≤ 1) split once)) ∙ sym (ap (pushing o s) split) ∙ was)
+      ∙ ap (λ l. begin ++ reverse l) (sym (pushing-first x (from (k + 1) n) found (subst (λ m. tally row_serial s m ≤ 1) split once)) ∙ sym (ap (pushing o s) split) ∙ was)
+
+  or_last : (a b : Bool) → a ≡ true → (a || b) ≡ true
+  or_last true b h = refl
+  or_last false b h = cc
+
+  three : (a b c : Bool) → (a || b || c) ≡ ((a || b || false) || c)
+  three true b c = refl
+  three false true c = refl
+  three false false c = refl
+
+  has-node : (x : Branch Row) (t : Nodes Row) → has row_serial s (node x.row x.children t) ≡ (has row_serial s (alone x) || has row_serial s t)
+  has-node x t = three (row_serial x.row == s) (has row_serial s x.children) (has row_serial s t)
+
+  pub climb_there : (n : Nodes Row) (k : ℕ) (x : Branch Row) (there : Bool) → k < width n → tree_at k n ≡ Some x → has row_serial s (alone x) ≡ true → has row_serial s (from k n) ≡ there → true ≡ there
+  climb_there n k x there h at found was =
+      sym (or_last (has row_serial s (alone x)) (has row_serial s (from (k + 1) n)) found) ∙ sym (has-node x (from (k + 1) n)) ∙ ap (has row_serial s) (sym (from-next n k x h at)) ∙ was
+
+  -- what is left of the trees n answers for all of them
+  pub record Climbs (left n : Nodes Row) : Type 0 where
+    pub there : has row_serial s left ≡ has row_serial s n
+    pub above : pushing o s left ≡ pushing o s n
+    pub once : tally row_serial s left ≤ 1
+
+  pub climb_start : (n : Nodes Row) → tally row_serial s n ≤ 1 → Climbs (from 0 n) n
+  climb_start n once = record {
+    there = ap (has row_serial s) (from-zero n);
+    above = ap (pushing o s) (from-zero n);
+    once = subst (λ m. tally row_serial s m ≤ 1) (sym (from-zero n)) once;
+  }
+
+  no_first : (a b : Bool) → a ≡ false → (a || b) ≡ b
+  no_first true b h = absurd (cc)
+  no_first false b h = refl
+
+  pushing-past : (x : Branch Row) (t : Nodes Row) → has row_serial s (alone x) ≡ false → pushing o s (node x.row x.children t) ≡ pushing o s t
+  pushing-past x t absent =
+      ap (opened_by_push o) (ap (λ b. cond b (x ∷ ancestors s x.children) (ancestors s t)) (no_or (row_serial x.row == s) (has row_serial s x.children) false absent))
+
+  pub record Turned (n later : Nodes Row) (x : Branch Row) : Type 0 where
+    pub same : (before after : List Opening) → after ≡ before ++ reverse (pushing o s (alone x)) → after ≡ before
+    pub left : Climbs later n
+
+  pub climb_turn : (n : Nodes Row) (k : ℕ) (x : Branch Row) → k < width n → tree_at k n ≡ Some x → has row_serial s (alone x) ≡ false → Climbs (from k n) n → Turned n (from (k + 1) n) x
+  climb_turn n k x h at absent was =
+      let split = from-next n k x h at in
+      record {
+        same = λ before after climbed. climbed ∙ ap (λ l. before ++ reverse l) (pushing-absent (alone x) absent) ∙ append-nil before;
+        left = record {
+          there = sym (no_first (has row_serial s (alone x)) (has row_serial s (from (k + 1) n)) absent) ∙ sym (has-node x (from (k + 1) n)) ∙ ap (has row_serial s) (sym split) ∙ was.there;
+          above = sym (pushing-past x (from (k + 1) n) absent) ∙ ap (pushing o s) (sym split) ∙ was.above;
+          once = omega (arith, was.once, ap (tally row_serial s) split);
+        };
+      }
+
+  pub climb_end : (n : Nodes Row) (k : ℕ) (before begin : List Opening) → from k n ≡ none → before ≡ begin → pushing o s (from k n) ≡ pushing o s n → before ≡ begin ++ reverse (pushing o s n)
+  climb_end n k before begin ended same was =
+      same ∙ sym (append-nil begin) ∙ ap (λ l. begin ++ reverse l) (ap (pushing o s) (sym ended) ∙ was)
 
   -- nothing is pushed
   pub climbed_none : (n : Nodes Row) (before after : List Opening) → pushing o s n ≡ [] → after ≡ before → after ≡ before ++ reverse (pushing o s n)

@@ -4,7 +4,7 @@ use Rattle.std.specs.List.{prefix_len, position, onto_first}
 use Rattle.std.specs.Option.{option_and_then}
 use Rattle.std.proofs.lemmas.List.{take_all}
 use Rattle.std.proofs.lemmas.Bool.Decides.{nat_tests}
-use Rattle.node_tree.specs.Nodes.{Nodes, Branch, nodes_of, tree_at}
+use Rattle.node_tree.specs.Nodes.{Nodes, none, node, Branch, tree_at, width}
 use Rattle.page_tree.specs.Pages.{Row}
 use Rattle.dom_agent.specs.Paths.{parts_of, parts_after, Step, step_of, onto, steps_of, child_by, node_by}
 
@@ -60,10 +60,10 @@ parts_first text i e =
 
 -- ---- the walk
 
-pub tree_at-past : (trees : List (Branch Row)) (i : ℕ) → length trees ≤ i → tree_at i (nodes_of trees) ≡ None
-tree_at-past [] i h = refl
-tree_at-past (x ∷ xs) zero h = absurd (omega arith)
-tree_at-past (x ∷ xs) (suc i) h = tree_at-past xs i (omega arith)
+pub tree_at-past : (n : Nodes Row) (i : ℕ) → width n ≤ i → tree_at i n ≡ None
+tree_at-past none i h = refl
+tree_at-past (node r c t) zero h = absurd (omega arith)
+tree_at-past (node r c t) (suc i) h = tree_at-past t i (omega arith)
 
 parts_some : (text : List ℕ) → (p : List ℕ) × ((ps : List (List ℕ)) × (parts_of text ≡ p ∷ ps))
 parts_some [] = ([], ([], refl))

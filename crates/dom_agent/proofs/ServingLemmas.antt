@@ -56,10 +56,10 @@ module _ (os : List held.Opening) (i : ℕ) (x : held.Opening) (b : Bound) (out 
   pub next_container : IsOfContainer (opening_of x)
   next_container = All-head IsOfContainer (opening_of x) (map opening_of (drop (i + 1) os)) parted.containers
 
-  pub next_room : b.next + node_count x.node.now.children < 2 ^ 63
+  pub next_room : b.next + node_count x.node.children < 2 ^ 63
   next_room = omega (arith, parted.room, sum_by-cons below (opening_of x) (map opening_of (drop (i + 1) os)))
 
-  pub opens_turn : (b1 : Bound) (out1 : List ℕ) → b1 ≡ opened_down x.levels x.node.now b → ((n : Nodes Row) (d : Branch Row) → out1 ≡ out ++ frames_told (told_of (binding_keeper n) d x.node.now b1 ∷ [])) → Opens (map opening_of (drop (i + 1) os)) b1 out1 all begin sent
+  pub opens_turn : (b1 : Bound) (out1 : List ℕ) → b1 ≡ opened_down x.levels x.node b → ((n : Nodes Row) (d : Branch Row) → out1 ≡ out ++ frames_told (told_of (binding_keeper n) d x.node b1 ∷ [])) → Opens (map opening_of (drop (i + 1) os)) b1 out1 all begin sent
   opens_turn b1 out1 opened told = opened_next (opening_of x) (map opening_of (drop (i + 1) os)) b b1 out out1 all begin sent opened told parted
 
 pub opens_end : (os : List held.Opening) (i : ℕ) (b : Bound) (out : List ℕ) (all : List Opening) (begin : Bound) (sent : List ℕ) → drop i os ≡ [] → Opens (map opening_of (drop i os)) b out all begin sent → Opens [] b out all begin sent

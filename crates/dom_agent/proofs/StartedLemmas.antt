@@ -1,5 +1,5 @@
 -- The document is opened once it was asked for.
-use Rattle.std.proofs.Common.{◌≡◌, ℕ, ◌+◌, Bool, true, false, not, ◌&&◌, cond, List, [], ◌∷◌, ◌++◌, length, Option, ap, ◌∙◌}
+use Rattle.std.proofs.Common.{◌≡◌, ℕ, ◌+◌, true, false, not, ◌&&◌, cond, [], ◌∷◌, ◌++◌, length, Option, ap, ◌∙◌}
 use Rattle.node_tree.specs.Nodes.{alone}
 use Rattle.page_tree.specs.Pages.{State, IsValid}
 use Rattle.node_binding.specs.Counts.{is_in}

@@ -1,10 +1,11 @@
 -- A node as a message tells it is what is shown of it.
-use Rattle.std.proofs.Common.{◌≡◌, ℕ, suc, ◌+◌, ◌<◌, Bool, true, false, cond, List, [], ◌∷◌, ◌++◌, length, get_or, drop, drop-cons, add-one, refl, sym, ap, ◌∙◌}
-use Rattle.node_tree.specs.Nodes.{Nodes, none, node, Branch, nodes_of, beside, width}
+use Rattle.std.proofs.Common.{◌≡◌, ℕ, suc, ◌+◌, ◌<◌, Bool, true, false, cond, List, [], ◌∷◌, ◌++◌, Some, refl, sym, ap, ◌∙◌}
+use Rattle.node_tree.specs.Nodes.{Nodes, none, node, Branch, nodes_of, beside, from, tree_at, width}
 use Rattle.node_tree.specs.Labels.{holds}
 use Rattle.node_tree.specs.Seen.{Seen, leaf, counted, opened}
 use Rattle.node_tree.proofs.NodeLemmas.{nodes_of-append, beside_assoc, beside-none}
 use Rattle.page_tree.specs.Pages.{Row}
+use Rattle.page_tree.proofs.CursorLemmas.{from-next}
 use Rattle.node_binding.specs.Cuts.{opens, cut}
 use Rattle.cdp_messages.specs.Told.{Told, told_nodes, told_branch, hold_of}
 use Rattle.dom_agent.specs.Requests.{shown}
@@ -49,16 +50,15 @@ module _ (o : ℕ → Bool) (i : ℕ → ℕ) (parent : ℕ) (b : Branch Row) wh
 
 -- ---- the loop over the trees
 
-pub told_turn : (o : ℕ → Bool) (i : ℕ → ℕ) (parent : ℕ) (trees : List (Branch Row)) (k : ℕ) (x : Branch Row) (so_far : List (Branch Told)) (t : Branch Told) (all : Nodes Told) → k < length trees → x ≡ get_or trees k x → t ≡ told_branch parent (shown o i x) → beside (nodes_of so_far) (told_nodes parent (cut o i (nodes_of (drop k trees)))) ≡ all → beside (nodes_of (so_far ++ t ∷ [])) (told_nodes parent (cut o i (nodes_of (drop (k + 1) trees)))) ≡ all
-told_turn o i parent trees k x so_far t all h is told was =
-    let rest : Nodes Told = told_nodes parent (cut o i (nodes_of (drop (k + 1) trees))) in
-    let split : nodes_of (drop k trees) ≡ node x.row x.children (nodes_of (drop (k + 1) trees)) = rw (add-one, drop-cons trees k x) (ap (λ y. node y.row y.children (nodes_of (drop (suc k) trees))) (sym is)) in
-    ap (λ n. beside n rest) (nodes_of-append so_far (t ∷ []))
+pub told_turn : (o : ℕ → Bool) (i : ℕ → ℕ) (parent : ℕ) (n : Nodes Row) (k : ℕ) (x : Branch Row) (so_far : List (Branch Told)) (t : Branch Told) (all : Nodes Told) → k < width n → tree_at k n ≡ Some x → t ≡ told_branch parent (shown o i x) → beside (nodes_of so_far) (told_nodes parent (cut o i (from k n))) ≡ all → beside (nodes_of (so_far ++ t ∷ [])) (told_nodes parent (cut o i (from (k + 1) n))) ≡ all
+told_turn o i parent n k x so_far t all h at told was =
+    let rest : Nodes Told = told_nodes parent (cut o i (from (k + 1) n)) in
+    ap (λ m. beside m rest) (nodes_of-append so_far (t ∷ []))
     ∙ beside_assoc (nodes_of so_far) (node t.row t.children none) rest
     ∙ ap (λ b. beside (nodes_of so_far) (node b.row b.children rest)) told
-    ∙ ap (λ n. beside (nodes_of so_far) (told_nodes parent (cut o i n))) (sym split)
+    ∙ ap (λ m. beside (nodes_of so_far) (told_nodes parent (cut o i m))) (sym (from-next n k x h at))
     ∙ was
 
-pub told_end : (o : ℕ → Bool) (i : ℕ → ℕ) (parent : ℕ) (trees : List (Branch Row)) (k : ℕ) (told : List (Branch Told)) (all : Nodes Told) → drop k trees ≡ [] → beside (nodes_of told) (told_nodes parent (cut o i (nodes_of (drop k trees)))) ≡ all → nodes_of told ≡ all
-told_end o i parent trees k told all ended was =
-    sym (beside-none (nodes_of told)) ∙ ap (λ l. beside (nodes_of told) (told_nodes parent (cut o i (nodes_of l)))) (sym ended) ∙ was
+pub told_end : (o : ℕ → Bool) (i : ℕ → ℕ) (parent : ℕ) (left : Nodes Row) (told : List (Branch Told)) (all : Nodes Told) → left ≡ none → beside (nodes_of told) (told_nodes parent (cut o i left)) ≡ all → nodes_of told ≡ all
+told_end o i parent left told all ended was =
+    sym (beside-none (nodes_of told)) ∙ ap (λ m. beside (nodes_of told) (told_nodes parent (cut o i m))) (sym ended) ∙ was

@@ -5,7 +5,7 @@ use Rattle.dom_agent.specs.declared.openings.Opening as held
 use Rattle.dom_agent.specs.Requests.{Opening}
 
 abbrev pub opening_of : held.Opening → Opening
-opening_of o = record { levels = o.levels; node = o.node.now }
+opening_of o = record { levels = o.levels; node = o.node }
 
 -- only a container is opened
 abbrev pub IsOfContainer : Opening → Type 0

@@ -1,5 +1,4 @@
 ghost use Rattle.std.specs.Prelude.{◌≡◌, ◌++◌, ◌<◌, ◌^◌, pos, true, Some, None, unwrap_or, IsSome, OnOk, IfOk};
-ghost use Rattle.std.specs.Option.{option_copied};
 ghost use Rattle.std.specs.FinMap as map;
 ghost use Rattle.node_tree.specs.Nodes.{alone};
 ghost use Rattle.page_tree.specs.Pages.{find_in};
@@ -13,14 +12,14 @@ ghost use Rattle.dom_agent.specs.Keepers.{binding_keeper};
 ghost use Rattle.dom_agent.specs.Requests.{state_after, answer, pushed, frames_told, known_node};
 ghost use Rattle.dom_agent.specs.Laws.{binding_outcome};
 
-use crate::openings::request_tree;
+use crate::openings::request_node;
 use crate::paths::node_at_path;
 use crate::pushes::{open_above, push_all};
 use crate::serving::open_all;
 use crate::told::told_tree;
 use cdp_messages::{Asked, Command, Numbers, Refused, ReplyBody, Why, write_refused, write_reply};
 use node_binding::{Binding, find_in, levels_of};
-use page_tree::{Page, Tree};
+use page_tree::{Node, Page};
 use std::alloc::{AllocError, Global};
 use std::marker::Model;
 
@@ -95,14 +94,14 @@ impl DomAgent {
             ++ answer id (binding_outcome page.now (GetDocument depth None) self.old)) }
     {
         self.binding.start(page, depth.unwrap_or(1))?;
-        let document = told_tree(self.alloc, &self.binding, page.root(), 0)?;
+        let document = told_tree(self.alloc, &self.binding, &page.root(), 0)?;
         write_reply(self.alloc, id, &ReplyBody::Root(document), out)?;
         Ok(())
     }
 
     /// The known node that has the id.
-    fn node_of<'a>(&self, page: &'a Page, id: u64) -> Option<&'a Tree>
-        ensures { option_copied result
+    fn node_of<'a>(&self, page: &'a Page, id: u64) -> Option<Node<'a>>
+        ensures { result
             ≡ known_node (binding_keeper (alone page.now.tree)) page.now.tree self.now (map.get self.now.serials id) }
     {
         let serial = self.serial_of(id)?;
@@ -127,12 +126,12 @@ impl DomAgent {
             ++ answer id (binding_outcome page.now (RequestChildNodes node depth None) self.old)) }
     {
         page.valid();
-        let Some(tree) = self.node_of(page, node) else {
+        let Some(found) = self.node_of(page, node) else {
             return refuse(self.alloc, id, Why::UnknownNode, out);
         };
         let levels = levels_asked(depth);
         let mut openings = Vec::new(self.alloc);
-        request_tree(&self.binding, tree, levels, &mut openings)?;
+        request_node(&self.binding, &found, levels, &mut openings)?;
         open_all(self.alloc, &mut self.binding, &openings, out)?;
         write_reply(self.alloc, id, &ReplyBody::Nothing, out)?;
         Ok(())
@@ -154,11 +153,12 @@ impl DomAgent {
         if !self.binding.is_opened(page.document()) {
             return refuse(self.alloc, id, Why::NotPushed, out);
         }
-        let Some(tree) = node_at_path(page.root(), path) else {
+        let Some(found) = node_at_path(&page.root(), path) else {
             return refuse(self.alloc, id, Why::NoPath, out);
         };
-        open_above(self.alloc, &mut self.binding, page, tree.serial, out)?;
-        let node = self.binding.id_of(tree.serial).unwrap_or(0);
+        let serial = found.serial();
+        open_above(self.alloc, &mut self.binding, page, serial, out)?;
+        let node = self.binding.id_of(serial).unwrap_or(0);
         write_reply(self.alloc, id, &ReplyBody::NodeId(node), out)?;
         Ok(())
     }

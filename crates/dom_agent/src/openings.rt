@@ -1,5 +1,5 @@
 ghost use Rattle.std.specs.Prelude.{◌≡◌, ◌≤◌, ◌++◌, map, reverse, option_map, cond, Option, Some, None, IfOk, OnOk};
-ghost use Rattle.node_tree.specs.Nodes.{nodes_of, alone};
+ghost use Rattle.node_tree.specs.Nodes.{alone};
 ghost use Rattle.node_tree.specs.Keys.{has, tally};
 ghost use Rattle.page_tree.specs.Pages.{row_serial};
 ghost use Rattle.node_binding.specs.Bindings.{opened_in};
@@ -7,52 +7,56 @@ ghost use Rattle.dom_agent.specs.Requests.{requested, pushing};
 ghost use Rattle.dom_agent.specs.Openings.{opening_of};
 
 use node_binding::{Binding, is_reached, less};
-use page_tree::Tree;
+use page_tree::{Children, Node};
 use std::alloc::{AllocError, Global};
 
 /// A container that is to be opened, and by how many levels; `None` stands for all.
-#[derive(Clone, Copy)]
+#[derive(Drop)]
 pub(crate) struct Opening<'a> {
     pub levels: Option<u64>,
-    pub node: &'a Tree,
+    pub node: Node<'a>,
 }
 
 /// Appends what a request for this node opens, in document order: the containers at and below it that are not opened
 /// themselves and stand below opened ones alone, by the levels that are left there.
 #[cycle(request)]
-pub(crate) fn request_tree<'a>(
+pub(crate) fn request_node<'a>(
     binding: &Binding,
-    tree: &'a Tree,
+    node: &Node<'a>,
     levels: Option<u64>,
     openings: &mut Vec<Opening<'a>>,
 ) -> Result<(), AllocError>
     ensures { OnOk result (map opening_of openings.new.items
-        ≡ map opening_of openings.old.items ++ requested (opened_in binding.now) levels (alone tree.now)) }
+        ≡ map opening_of openings.old.items ++ requested (opened_in binding.now) levels (alone node.now)) }
 {
-    if !is_reached(tree.kind, levels) {
+    if !is_reached(node.kind(), levels) {
         return Ok(());
     }
-    if !binding.is_opened(tree.serial) {
-        openings.push(Opening { levels, node: tree })?;
+    if !binding.is_opened(node.serial()) {
+        openings.push(Opening {
+            levels,
+            node: node.again(),
+        })?;
         return Ok(());
     }
     let left = less(levels);
-    request_trees(binding, &tree.children, left, openings)?;
+    request_children(binding, &node.children(), left, openings)?;
     Ok(())
 }
 
 #[cycle(request)]
-fn request_trees<'a>(
+fn request_children<'a>(
     binding: &Binding,
-    trees: &'a [Tree],
+    children: &Children<'a>,
     levels: Option<u64>,
     openings: &mut Vec<Opening<'a>>,
 ) -> Result<(), AllocError>
     ensures { OnOk result (map opening_of openings.new.items
-        ≡ map opening_of openings.old.items ++ requested (opened_in binding.now) levels (nodes_of trees.now)) }
+        ≡ map opening_of openings.old.items ++ requested (opened_in binding.now) levels children.now) }
 {
-    for tree in trees {
-        request_tree(binding, tree, levels, openings)?;
+    for i in 0..children.len() {
+        let node = children.at(i);
+        request_node(binding, &node, levels, openings)?;
     }
     Ok(())
 }
@@ -60,47 +64,48 @@ fn request_trees<'a>(
 /// Appends the ancestors of the node with that serial among these that are not opened, from the bottom up, each with one
 /// level. Says whether the node is there.
 #[cycle(climb)]
-fn climb_tree<'a>(
+fn climb_node<'a>(
     binding: &Binding,
-    tree: &'a Tree,
+    node: &Node<'a>,
     serial: u64,
     openings: &mut Vec<Opening<'a>>,
 ) -> Result<bool, AllocError>
-    requires once { tally row_serial serial (alone tree.now) ≤ 1 }
-    ensures there { IfOk result (λ there. there ≡ has row_serial serial (alone tree.now)) }
+    requires once { tally row_serial serial (alone node.now) ≤ 1 }
+    ensures there { IfOk result (λ there. there ≡ has row_serial serial (alone node.now)) }
     ensures above { OnOk result (map opening_of openings.new.items
-        ≡ map opening_of openings.old.items ++ reverse (pushing (opened_in binding.now) serial (alone tree.now))) }
+        ≡ map opening_of openings.old.items ++ reverse (pushing (opened_in binding.now) serial (alone node.now))) }
 {
-    if tree.serial == serial {
+    if node.serial() == serial {
         return Ok(true);
     }
-    if !climb_trees(binding, &tree.children, serial, openings)? {
+    if !climb_children(binding, &node.children(), serial, openings)? {
         return Ok(false);
     }
-    if binding.is_opened(tree.serial) {
+    if binding.is_opened(node.serial()) {
         return Ok(true);
     }
     openings.push(Opening {
         levels: Some(1),
-        node: tree,
+        node: node.again(),
     })?;
     Ok(true)
 }
 
 #[cycle(climb)]
-fn climb_trees<'a>(
+fn climb_children<'a>(
     binding: &Binding,
-    trees: &'a [Tree],
+    children: &Children<'a>,
     serial: u64,
     openings: &mut Vec<Opening<'a>>,
 ) -> Result<bool, AllocError>
-    requires once { tally row_serial serial (nodes_of trees.now) ≤ 1 }
-    ensures there { IfOk result (λ there. there ≡ has row_serial serial (nodes_of trees.now)) }
+    requires once { tally row_serial serial children.now ≤ 1 }
+    ensures there { IfOk result (λ there. there ≡ has row_serial serial children.now) }
     ensures above { OnOk result (map opening_of openings.new.items
-        ≡ map opening_of openings.old.items ++ reverse (pushing (opened_in binding.now) serial (nodes_of trees.now))) }
+        ≡ map opening_of openings.old.items ++ reverse (pushing (opened_in binding.now) serial children.now)) }
 {
-    for tree in trees {
-        if climb_tree(binding, tree, serial, openings)? {
+    for i in 0..children.len() {
+        let node = children.at(i);
+        if climb_node(binding, &node, serial, openings)? {
             return Ok(true);
         }
     }
@@ -111,7 +116,7 @@ fn climb_trees<'a>(
 pub(crate) fn openings_above<'a>(
     alloc: Global,
     binding: &Binding,
-    document: &'a Tree,
+    document: &Node<'a>,
     serial: u64,
 ) -> Result<Option<Vec<Opening<'a>>>, AllocError>
     requires { tally row_serial serial (alone document.now) ≤ 1 }
@@ -119,7 +124,7 @@ pub(crate) fn openings_above<'a>(
         ≡ cond (has row_serial serial (alone document.now)) (Some (pushing (opened_in binding.now) serial (alone document.now))) None) }
 {
     let mut openings = Vec::new(alloc);
-    if !climb_tree(binding, document, serial, &mut openings)? {
+    if !climb_node(binding, document, serial, &mut openings)? {
         return Ok(None);
     }
     openings.reverse();

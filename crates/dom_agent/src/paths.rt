@@ -2,35 +2,35 @@ ghost use Rattle.std.specs.Prelude.{◌≡◌, ◌<◌, ◌≤◌, ◌==◌, ◌
 ghost use Rattle.std.specs.Option.{option_copied};
 ghost use Rattle.std.specs.List.{list_all, position};
 ghost use Rattle.std.specs.Str.{str_to_ascii_uppercase};
-ghost use Rattle.node_tree.specs.Nodes.{nodes_of, tree_at};
+ghost use Rattle.node_tree.specs.Nodes.{tree_at};
 ghost use Rattle.cdp_messages.specs.NodeObject.{node_name};
 ghost use Rattle.dom_agent.specs.Paths.{parts_of, parts_after, is_digit, leads_badly, is_index, number_in, step_of, steps_of, child_by, node_by, node_at_path};
 
-use page_tree::{Kind, Tree};
+use page_tree::{Children, Kind, Node};
 
 /// The node that a path leads to: an index, counted from 0, and a `nodeName` for each level, from the document's children
 /// down, with commas between.
-pub(crate) fn node_at_path<'a>(document: &'a Tree, path: &str) -> Option<&'a Tree>
-    ensures { option_copied result ≡ node_at_path path.now document.now }
+pub(crate) fn node_at_path<'a>(document: &Node<'a>, path: &str) -> Option<Node<'a>>
+    ensures { result ≡ node_at_path path.now document.now }
 {
-    node_by(&document.children, path.as_bytes())
+    node_by(&document.children(), path.as_bytes())
 }
 
-fn node_by<'a>(trees: &'a [Tree], path: &[u8]) -> Option<&'a Tree>
-    ensures { option_copied result
-        ≡ option_and_then (λ steps. node_by steps (nodes_of trees.now)) (steps_of (parts_of path.now)) }
+fn node_by<'a>(children: &Children<'a>, path: &[u8]) -> Option<Node<'a>>
+    ensures { result
+        ≡ option_and_then (λ steps. node_by steps children.now) (steps_of (parts_of path.now)) }
 {
     let (index, named) = first_part(path);
     let Some(named) = named else {
         return None;
     };
     let (name, rest) = first_part(named);
-    let Some(child) = child_by(trees, index, name) else {
+    let Some(child) = child_by(children, index, name) else {
         return None;
     };
     match rest {
         None => Some(child),
-        Some(rest) => node_by(&child.children, rest),
+        Some(rest) => node_by(&child.children(), rest),
     }
 }
 
@@ -51,25 +51,25 @@ fn comma_in(text: &[u8]) -> Option<usize>
     text.iter().position(|byte| *byte == b',')
 }
 
-fn child_by<'a>(trees: &'a [Tree], index: &[u8], name: &[u8]) -> Option<&'a Tree>
-    ensures { option_copied result
-        ≡ option_and_then (λ step. child_by step (nodes_of trees.now)) (step_of index.now name.now) }
+fn child_by<'a>(children: &Children<'a>, index: &[u8], name: &[u8]) -> Option<Node<'a>>
+    ensures { result
+        ≡ option_and_then (λ step. child_by step children.now) (step_of index.now name.now) }
 {
     let place = index_in(index)?;
-    let child = tree_at(trees, place)?;
-    if !has_node_name(child, name) {
+    let child = child_at(children, place)?;
+    if !has_node_name(&child, name) {
         return None;
     }
     Some(child)
 }
 
-fn tree_at(trees: &[Tree], place: usize) -> Option<&Tree>
-    ensures { option_copied result ≡ tree_at place (nodes_of trees.now) }
+fn child_at<'a>(children: &Children<'a>, place: usize) -> Option<Node<'a>>
+    ensures { result ≡ tree_at place children.now }
 {
-    if place >= trees.len() {
+    if place >= children.len() {
         return None;
     }
-    Some(&trees[place])
+    Some(children.at(place))
 }
 
 /// Decimal digits without a leading zero, at most 9.
@@ -125,15 +125,15 @@ fn number_in(digits: &[u8]) -> usize
 }
 
 /// Whether that is the node's `nodeName` (DOM, section 4.4); an element's is in upper case.
-fn has_node_name(tree: &Tree, name: &[u8]) -> bool
-    ensures { result ≡ bytes_eq (node_name tree.now.row.label) name.now }
+fn has_node_name(node: &Node, name: &[u8]) -> bool
+    ensures { result ≡ bytes_eq (node_name node.now.row.label) name.now }
 {
-    match tree.kind {
+    match node.kind() {
         Kind::Document => "#document".as_bytes() == name,
-        Kind::Element => is_in_upper_case(tree.name.as_str().as_bytes(), name),
+        Kind::Element => is_in_upper_case(node.name().as_bytes(), name),
         Kind::Text => "#text".as_bytes() == name,
         Kind::Comment => "#comment".as_bytes() == name,
-        Kind::Doctype => tree.name.as_str().as_bytes() == name,
+        Kind::Doctype => node.name().as_bytes() == name,
     }
 }
 

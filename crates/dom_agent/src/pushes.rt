@@ -29,7 +29,8 @@ pub(crate) fn open_above(
         ≡ out.old.items ++ frames_told (pushed (binding_keeper (alone page.now.tree)) page.now.tree serial binding.old).shown) }
 {
     page.valid();
-    let Some(openings) = openings_above(alloc, binding, page.root(), serial)? else {
+    let root = page.root();
+    let Some(openings) = openings_above(alloc, binding, &root, serial)? else {
         return Ok(false);
     };
     open_all(alloc, binding, &openings, out)?;

@@ -9,21 +9,21 @@ use crate::openings::Opening;
 use crate::told::told_trees;
 use cdp_messages::{Event, write_event};
 use node_binding::Binding;
-use page_tree::Tree;
+use page_tree::Node;
 use std::alloc::{AllocError, Global};
 
 /// Appends the event that tells the children of an opened node.
 fn tell_children(
     alloc: Global,
     binding: &Binding,
-    tree: &Tree,
+    node: &Node,
     out: &mut Vec<u8>,
 ) -> Result<(), AllocError>
     ensures { (n : Nodes Row) (document : Branch Row) → OnOk result (out.new.items
-        ≡ out.old.items ++ frames_told (told_of (binding_keeper n) document tree.now binding.now ∷ [])) }
+        ≡ out.old.items ++ frames_told (told_of (binding_keeper n) document node.now binding.now ∷ [])) }
 {
-    let parent = binding.id_of(tree.serial).unwrap_or(0);
-    let nodes = told_trees(alloc, binding, &tree.children, parent)?;
+    let parent = binding.id_of(node.serial()).unwrap_or(0);
+    let nodes = told_trees(alloc, binding, &node.children(), parent)?;
     write_event(alloc, &Event::SetChildNodes { parent, nodes }, out)?;
     Ok(())
 }
@@ -43,8 +43,8 @@ pub(crate) fn open_all(
         ≡ out.old.items ++ frames_told (all_opened (binding_keeper n) document (map opening_of openings.now) binding.old).shown) }
 {
     for opening in openings {
-        binding.open_tree(opening.node, opening.levels)?;
-        tell_children(alloc, binding, opening.node, out)?;
+        binding.open_tree(&opening.node, opening.levels)?;
+        tell_children(alloc, binding, &opening.node, out)?;
     }
     Ok(())
 }

@@ -8,23 +8,23 @@ ghost use Rattle.dom_agent.specs.Requests.{shown};
 
 use cdp_messages::NodeTree;
 use node_binding::{Binding, is_container};
-use page_tree::Tree;
+use page_tree::{Children, Node, Text};
 use std::alloc::{AllocError, Global};
 
 /// The number of its children, 0 for what can have none.
-fn count_of(tree: &Tree) -> u64
-    ensures { result ≡ cond (holds tree.now.row.label.kind) (width tree.now.children) 0 }
+fn count_of(node: &Node) -> u64
+    ensures { result ≡ cond (holds node.now.row.label.kind) (width node.now.children) 0 }
 {
-    if !is_container(tree.kind) {
+    if !is_container(node.kind()) {
         return 0;
     }
-    tree.children.len() as u64
+    node.len() as u64
 }
 
 /// One node of the page with the children that are shown of it, if they are.
 fn told_node(
     alloc: Global,
-    tree: &Tree,
+    node: &Node,
     id: u64,
     parent: u64,
     children: Option<Vec<NodeTree>>,
@@ -32,12 +32,12 @@ fn told_node(
     ensures { IfOk result (λ t. t ≡ record {
       row = record {
         parent = parent;
-        count = cond (holds tree.now.row.label.kind) (width tree.now.children) 0;
+        count = cond (holds node.now.row.label.kind) (width node.now.children) 0;
         seen = record {
           id = id;
-          serial = tree.now.row.serial;
-          label = tree.now.row.label;
-          hold = hold_of (is_some children) (holds tree.now.row.label.kind) (cond (holds tree.now.row.label.kind) (width tree.now.children) 0);
+          serial = node.now.row.serial;
+          label = node.now.row.label;
+          hold = hold_of (is_some children) (holds node.now.row.label.kind) (cond (holds node.now.row.label.kind) (width node.now.children) 0);
         };
       };
       children = shown_children children;
@@ -45,21 +45,21 @@ fn told_node(
 {
     Ok(NodeTree {
         id,
-        serial: tree.serial,
+        serial: node.serial(),
         parent,
-        kind: tree.kind,
-        name: tree.name.try_clone()?,
-        value: tree.value.try_clone()?,
-        attributes: tree.attributes.try_clone(alloc)?,
-        count: count_of(tree),
+        kind: node.kind(),
+        name: Text::copied(alloc, node.name())?,
+        value: Text::copied(alloc, node.value())?,
+        attributes: node.attributes().try_clone(alloc)?,
+        count: count_of(node),
         children,
     })
 }
 
-fn is_opened(binding: &Binding, tree: &Tree) -> bool
-    ensures { result ≡ opens (opened_in binding.now) tree.now.row }
+fn is_opened(binding: &Binding, node: &Node) -> bool
+    ensures { result ≡ opens (opened_in binding.now) node.now.row }
 {
-    is_container(tree.kind) && binding.is_opened(tree.serial)
+    is_container(node.kind()) && binding.is_opened(node.serial())
 }
 
 /// A tree of the page, cut to what is known of it, as a child of the node with the id `parent`.
@@ -67,18 +67,18 @@ fn is_opened(binding: &Binding, tree: &Tree) -> bool
 pub(crate) fn told_tree(
     alloc: Global,
     binding: &Binding,
-    tree: &Tree,
+    node: &Node,
     parent: u64,
 ) -> Result<NodeTree, AllocError>
     ensures { IfOk result
-        (λ told. told ≡ told_branch parent (shown (opened_in binding.now) (id_in binding.now) tree.now)) }
+        (λ told. told ≡ told_branch parent (shown (opened_in binding.now) (id_in binding.now) node.now)) }
 {
-    let id = binding.id_of(tree.serial).unwrap_or(0);
-    if !is_opened(binding, tree) {
-        return told_node(alloc, tree, id, parent, None);
+    let id = binding.id_of(node.serial()).unwrap_or(0);
+    if !is_opened(binding, node) {
+        return told_node(alloc, node, id, parent, None);
     }
-    let children = told_trees(alloc, binding, &tree.children, id)?;
-    let told = told_node(alloc, tree, id, parent, Some(children))?;
+    let children = told_trees(alloc, binding, &node.children(), id)?;
+    let told = told_node(alloc, node, id, parent, Some(children))?;
     Ok(told)
 }
 
@@ -87,16 +87,17 @@ pub(crate) fn told_tree(
 pub(crate) fn told_trees(
     alloc: Global,
     binding: &Binding,
-    trees: &[Tree],
+    children: &Children,
     parent: u64,
 ) -> Result<Vec<NodeTree>, AllocError>
     ensures { IfOk result (λ told. nodes_of told.items
-        ≡ told_nodes parent (cut (opened_in binding.now) (id_in binding.now) (nodes_of trees.now))) }
+        ≡ told_nodes parent (cut (opened_in binding.now) (id_in binding.now) children.now)) }
 {
     let mut told = Vec::new(alloc);
-    for tree in trees {
-        let node = told_tree(alloc, binding, tree, parent)?;
-        told.push(node)?;
+    for i in 0..children.len() {
+        let child = children.at(i);
+        let tree = told_tree(alloc, binding, &child, parent)?;
+        told.push(tree)?;
     }
     Ok(told)
 }

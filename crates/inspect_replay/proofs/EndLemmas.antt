@@ -19,38 +19,38 @@ use Rattle.inspect_world.specs.Scripts.{sends}
 use Rattle.inspect_world.specs.ScriptsFit.{CanSend}
 use Rattle.inspect_world.specs.Stream.{Stream, passed, arriving, awaited}
 use Rattle.inspect_world.specs.World.{World, answered, given_up, delivered_up, delivered_down, settled}
-use Rattle.inspect_world.specs.Sides.{Side, step}
+use Rattle.back_end.specs.States.{State, step}
 use Rattle.inspect_world.specs.Held.{Ends, InWorld}
-use Rattle.inspect_replay.specs.declared.back.Back.{Back}
 use Rattle.inspect_replay.specs.declared.ends.Ends.{Ends as ProgramEnds}
 use Rattle.inspect_replay.specs.declared.stop.Stop.{Stop}
-use Rattle.inspect_replay.specs.Backs.{StandsFor}
+use Rattle.back_end.specs.Seats.{StandsFor, Seated}
 use Rattle.inspect_replay.specs.Runs.{InRunWith, InRun, AnswersOne, AnswersAll, Steps, ends_of}
+use Rattle.inspect_replay.specs.Moments.{moment}
 use Rattle.inspect_replay.specs.Stops.{NotRefused}
-use Rattle.inspect_replay.proofs.BackLemmas.{on_ok}
+use Rattle.back_end.proofs.SeatLemmas.{on_ok}
 use Rattle.inspect_world.proofs.Worlds.{answered-cons}
 use Rattle.inspect_world.proofs.Pipes.{waiting-is}
 use Rattle.inspect_world.proofs.Ends.{world-sent, world-answered, world-given_up, world-delivered_down, never-refuses}
 
 -- ---- one frame is answered
 
-pub answered_in : (up0 down0 up down up1 down1 : Pipe) (w : World Side) (frame : List ℕ) (frames : List (List ℕ)) (b b1 : Back) (e : Ends)
+pub answered_in : (up0 down0 up down up1 down1 : Pipe) (w : World State) (frame : List ℕ) (frames : List (List ℕ)) (b b1 : Seated) (e : Ends)
     (old out bytes : List ℕ) (there : ℕ)
-    → InWorld up0 down0 up down w (frame ∷ frames) (record e { page = b.page; is_on = b.is_on; bound = b.agent })
-    → ((side : Side) → StandsFor b side → StandsFor b1 (step side frame).side) → ((side : Side) → StandsFor b side → out ≡ old ++ (step side frame).sent)
+    → InWorld up0 down0 up down w (frame ∷ frames) (record e { page = b.side.page; is_on = b.seat.is_on; bound = b.seat.agent })
+    → ((state : State) → StandsFor b.seat b.side state → StandsFor b1.seat b1.side (step state frame).state) → ((state : State) → StandsFor b.seat b.side state → out ≡ old ++ (step state frame).sent)
     → old ≡ [] → bytes ≡ out
     → up1 ≡ up → (down1.sent ≡ down.sent ++ bytes) × (down1.given ≡ down.given) → there ≡ e.down_there + length out
     → InWorld up0 down0 up1 down1 (answered step (frame ∷ []) w) frames
-    (record e { page = b1.page; is_on = b1.is_on; bound = b1.agent; down_there = there })
+    (record e { page = b1.side.page; is_on = b1.seat.is_on; bound = b1.seat.agent; down_there = there })
 answered_in up0 down0 up down up1 down1 w frame frames b b1 e old out bytes there in_world stood said empty same_out same_up sent left =
-    let before : StandsFor b w.side = record { is_side = in_world.fits.fit.side_is; page_is = in_world.page_is; on_is = in_world.on_is; stands = in_world.stands } in
-    let after : StandsFor b1 (step w.side frame).side = stood w.side before in
-    let all : InWorld up0 down0 up down1 (answered step (frame ∷ []) w) frames (record e { page = b1.page; is_on = b1.is_on; bound = b1.agent; down_there = there }) =
-    world-answered up0 down0 up down down1 w frame frames (record e { page = b.page; is_on = b.is_on; bound = b.agent }) b1.page b1.is_on b1.agent out there in_world
+    let before : StandsFor b.seat b.side w.state = record { is_state = in_world.fits.fit.side_is; page_is = in_world.page_is; on_is = in_world.on_is; stands = in_world.stands } in
+    let after : StandsFor b1.seat b1.side (step w.state frame).state = stood w.state before in
+    let all : InWorld up0 down0 up down1 (answered step (frame ∷ []) w) frames (record e { page = b1.side.page; is_on = b1.seat.is_on; bound = b1.seat.agent; down_there = there }) =
+    world-answered up0 down0 up down down1 w frame frames (record e { page = b.side.page; is_on = b.seat.is_on; bound = b.seat.agent }) b1.side.page b1.seat.is_on b1.seat.agent out there in_world
     after.page_is after.on_is after.stands
-    (said w.side before ∙ ap (λ start. start ++ (step w.side frame).sent) empty)
+    (said w.state before ∙ ap (λ start. start ++ (step w.state frame).sent) empty)
     (sent.0 ∙ ap (λ piece. down.sent ++ piece) same_out) sent.1 left in
-    subst (λ pipe. InWorld up0 down0 pipe down1 (answered step (frame ∷ []) w) frames (record e { page = b1.page; is_on = b1.is_on; bound = b1.agent; down_there = there })) (sym same_up) all
+    subst (λ pipe. InWorld up0 down0 pipe down1 (answered step (frame ∷ []) w) frames (record e { page = b1.side.page; is_on = b1.seat.is_on; bound = b1.seat.agent; down_there = there })) (sym same_up) all
 
 -- ---- an ask is sent
 
@@ -70,7 +70,7 @@ frame-seen next ask frame method params session m p s is =
     ∙ ap (λ p'. framed (command_text next ask.method p' (option_map (λ (q : Bor Value). view q.now) session))) (refs-seen params ask.params p)
     ∙ ap (λ s'. framed (command_text next ask.method (option_map view ask.params) s')) (refs-seen session ask.session s)
 
-pub asked_in : (up0 down0 up down up1 down1 : Pipe) (w : World Side) (e : Ends) (a : AskForm) (whole : List (List ℕ)) (frame bytes : List ℕ) (there : ℕ) (front1 : FrontState)
+pub asked_in : (up0 down0 up down up1 down1 : Pipe) (w : World State) (e : Ends) (a : AskForm) (whole : List (List ℕ)) (frame bytes : List ℕ) (there : ℕ) (front1 : FrontState)
     → CanSend a → w.asks < most_asks → InWorld up0 down0 up down w (whole ++ awaited w.up) e → whole ≡ []
     → frame ≡ framed (command_text e.front.next a.method a.params a.session) → front1 ≡ after_ask e.front a.method
     → bytes ≡ frame → (up1.sent ≡ up.sent ++ bytes) × (up1.given ≡ up.given) → down1 ≡ down → there ≡ e.up_there + length frame
@@ -100,7 +100,7 @@ came up0 now start n there max piece s waits is max_is front =
     front ∙ ap (take max) waits ∙ ap (λ m. take m s.flying) max_is ∙ take-min n there s.flying is
 
 -- bytes come up, and are cut into frames
-pub given_in : (up0 down0 up down up1 down1 : Pipe) (w : World Side) (e : Ends) (n there max : ℕ) (piece : List ℕ) (s s1 : Frames)
+pub given_in : (up0 down0 up down up1 down1 : Pipe) (w : World State) (e : Ends) (n there max : ℕ) (piece : List ℕ) (s s1 : Frames)
     → InWorld up0 down0 up down w (s.whole ++ awaited w.up) e → s.whole ≡ [] → s.rest ≡ e.back_rest
     → max ≡ min n e.up_there → piece ≡ take max (waiting up)
     → (up1.sent ≡ up.sent) × (up1.given ≡ up.given ++ piece) → down1 ≡ down → there ≡ e.up_there - length piece
@@ -125,7 +125,7 @@ given_in up0 down0 up down up1 down1 w e n there max piece s s1 in_world none re
     )
 
 -- bytes come down
-pub delivered_in : (up0 down0 up down up1 down1 : Pipe) (w : World Side) (frames : List (List ℕ)) (e : Ends) (n there max : ℕ) (piece : List ℕ) (front1 : FrontState)
+pub delivered_in : (up0 down0 up down up1 down1 : Pipe) (w : World State) (frames : List (List ℕ)) (e : Ends) (n there max : ℕ) (piece : List ℕ) (front1 : FrontState)
     → InWorld up0 down0 up down w frames e
     → max ≡ min n e.down_there → piece ≡ take max (waiting down)
     → (down1.sent ≡ down.sent) × (down1.given ≡ down.given ++ piece) → up1 ≡ up → there ≡ e.down_there - length piece
@@ -140,7 +140,7 @@ delivered_in up0 down0 up down up1 down1 w frames e n there max piece front1 in_
     (subst (λ front'. InWorld up0 down0 up down1 (delivered_down n w) frames (record e { front = front'; down_there = there })) (sym front_is) all)
 
 -- the front end is never at fault
-pub no_fault : (up0 down0 up down : Pipe) (w : World Side) (frames : List (List ℕ)) (e : Ends) (n max : ℕ) (piece : List ℕ) (front1 : FrontState) (f : FrontFault)
+pub no_fault : (up0 down0 up down : Pipe) (w : World State) (frames : List (List ℕ)) (e : Ends) (n max : ℕ) (piece : List ℕ) (front1 : FrontState) (f : FrontFault)
     → InWorld up0 down0 up down w frames e
     → max ≡ min n e.down_there → piece ≡ take max (waiting down)
     → front1 ≡ after_take e.front piece → front1.fault ≡ Some f → ⊥
@@ -154,17 +154,17 @@ no_fault up0 down0 up down w frames e n max piece front1 f in_world max_is front
 -- ---- frames are answered one after the other
 
 -- while frames are answered: where the run is, and that it goes to where it would have gone
-pub record Answering (honest : Type 0) (up0 down0 up down : Pipe) (target : World Side) (e : ProgramEnds) : Type 0 where
-  pub world : World Side
+pub record Answering (honest : Type 0) (up0 down0 up down : Pipe) (target : World State) (e : ProgramEnds) : Type 0 where
+  pub world : World State
   pub so_far : InRunWith honest up0 down0 up down world e
   pub goes : answered step e.splitter.whole world ≡ target
 
 -- what the answer to the next frame makes of it
-pub answer_turn : {T : Type 0} (result : Result T Stop) (honest honest1 : Type 0) (up0 down0 up down up1 down1 : Pipe) (target : World Side)
+pub answer_turn : {T : Type 0} (result : Result T Stop) (honest honest1 : Type 0) (up0 down0 up down up1 down1 : Pipe) (target : World State)
     (e e1 : ProgramEnds) (s : Frames) (frame : List ℕ)
     → Answering honest up0 down0 up down target e
     → e.splitter.whole ≡ frame ∷ s.whole → s.rest ≡ e.splitter.rest
-    → AnswersOne honest honest1 up down up1 down1 (record e { splitter = s }) e1 frame result → e1.splitter ≡ s
+    → AnswersOne (moment honest up down (record e { splitter = s })) (moment honest1 up1 down1 e1) frame result → e1.splitter ≡ s
     → NotRefused result × OnOk result (Answering honest1 up0 down0 up1 down1 target e1)
 answer_turn {T} result honest honest1 up0 down0 up down up1 down1 target e e1 s frame going whole rest answers same =
     let w = going.world in
@@ -180,21 +180,21 @@ answer_turn {T} result honest honest1 up0 down0 up down up1 down1 target e e1 s 
     (both.0, on_ok result _ _ both.1 (λ run. record { world = answered step (frame ∷ []) w; so_far = run; goes = goes }))
 
 -- bytes came up, and their frames are answered
-pub deliver_goes : {T : Type 0} (result : Result T Stop) (honest honest1 : Type 0) (up0 down0 up down up1 down1 : Pipe) (w : World Side) (n : ℕ)
+pub deliver_goes : {T : Type 0} (result : Result T Stop) (honest honest1 : Type 0) (up0 down0 up down up1 down1 : Pipe) (w : World State) (n : ℕ)
     (e e1 : ProgramEnds)
     → InRunWith honest up0 down0 up down (given_up n w) e × (e.splitter.whole ≡ arriving n w.up)
-    → AnswersAll honest honest1 up down up1 down1 e e1 result
+    → AnswersAll (moment honest up down e) (moment honest1 up1 down1 e1) result
     → NotRefused result × OnOk result (InRun honest1 up0 down0 up1 down1 (delivered_up step n w) e1)
 deliver_goes result honest honest1 up0 down0 up down up1 down1 w n e e1 run answers =
     subst (λ frames. NotRefused result × OnOk result (InRun honest1 up0 down0 up1 down1 (answered step frames (given_up n w)) e1)) run.1
     (answers up0 down0 (given_up n w) run.0)
 
 -- all of the up pipe was delivered, and then all of the down pipe
-pub settle_goes : {T : Type 0} (result : Result T Stop) (honest honest1 : Type 0) (up0 down0 up down up1 down1 : Pipe) (w : World Side) (n : ℕ)
+pub settle_goes : {T : Type 0} (result : Result T Stop) (honest honest1 : Type 0) (up0 down0 up down up1 down1 : Pipe) (w : World State) (n : ℕ)
     (e e1 : ProgramEnds)
     → n ≡ length w.up.flying
     → InRun honest up0 down0 up down (delivered_up step n w) e
-    → Steps honest honest1 up down up1 down1 e e1 result (λ v. delivered_down e.down_there v)
+    → Steps (moment honest up down e) (moment honest1 up1 down1 e1) result (λ v. delivered_down e.down_there v)
     → NotRefused result × OnOk result (InRun honest1 up0 down0 up1 down1 (settled step w) e1)
 settle_goes result honest honest1 up0 down0 up down up1 down1 w n e e1 all run steps =
     let same : delivered_down e.down_there (delivered_up step n w) ≡ settled step w =

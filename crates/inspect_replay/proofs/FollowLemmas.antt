@@ -1,10 +1,10 @@
 -- What the calls on the link and on the ends keep over every link.
-use Rattle.std.proofs.Common.{◌≡◌, ℕ, ◌+◌, ◌<◌, ◌≤◌, ◌^◌, List, [], ◌∷◌, ◌++◌, length, drop, codes, Option, Some, None, false, refl, sym, ◌∙◌, ap, subst, arith, append_assoc, Result, Ok, Err}
+use Rattle.std.proofs.Common.{◌≡◌, ℕ, ◌<◌, ◌^◌, List, [], ◌∷◌, ◌++◌, length, drop, codes, Option, Some, None, false, refl, sym, ◌∙◌, ap, subst, arith, append_assoc, Result, Ok, Err}
 use Rattle.std.proofs.lemmas.List.{drop_all}
 use Rattle.std.specs.Result.{OnOk, IsOk}
 use Rattle.std.specs.Io.KnownBytes.{Appends}
-use Rattle.pipe_frames.specs.Pipe.{Pipe, sent_since, given_since}
-use Rattle.pipe_frames.specs.Frames.{Frames, framed, frames_of, frames_from, held_after, continued}
+use Rattle.pipe_frames.specs.Pipe.{Pipe, given_since}
+use Rattle.pipe_frames.specs.Frames.{Frames, framed, frames_of, held_after, continued}
 use Rattle.pipe_frames.proofs.WholeLemmas.{Appends-nil, Appends-append}
 use Rattle.node_tree.specs.Nodes.{Nodes}
 use Rattle.node_tree.specs.Labels.{Label}
@@ -18,22 +18,24 @@ use Rattle.front_mirror.specs.Outline.{outline_text, seen_line}
 use Rattle.front_mirror.specs.declared.faults.FrontFault.{FrontFault}
 use Rattle.replay_script.specs.Forms.{AskForm}
 use Rattle.replay_script.specs.declared.faults.LineFault.{LineFault}
-use Rattle.inspect_world.specs.Sides.{Side, first_side, step}
-use Rattle.inspect_world.specs.ScriptsFit.{HaveTexts, CanSend}
+use Rattle.back_end.specs.States.{State, loaded_state, step}
+use Rattle.back_end.specs.Texts.{HaveTexts}
+use Rattle.inspect_world.specs.ScriptsFit.{CanSend}
 use Rattle.inspect_world.specs.Held.{Ends as HeldEnds}
 use Rattle.inspect_world.specs.Links.{Follows, fold_of}
 use Rattle.inspect_world.proofs.LinkLemmas.{follows-start, follows-sends, follows-given_up, follows-answered, follows-delivered_down, follows-refused, follows-fold, follows-replies}
-use Rattle.inspect_replay.specs.declared.back.Back.{Back}
 use Rattle.inspect_replay.specs.declared.ends.Ends.{Ends}
 use Rattle.inspect_replay.specs.declared.stop.Stop.{Stop}
 use Rattle.inspect_replay.specs.declared.stop.Stop.TheVariants.{Line, TooLong, ReadFault, WriteFault, LinkFault, FrontRefused, Memory}
 use Rattle.inspect_replay.specs.declared.status.Status.{Status}
 use Rattle.inspect_replay.specs.declared.status.Status.TheVariants as status
-use Rattle.inspect_replay.specs.Answers.{status_of, IsInputStop}
-use Rattle.inspect_replay.specs.Backs.{StandsFor}
-use Rattle.inspect_replay.specs.Followed.{fold_since, StatusFolds, StopFolds, EndsShown, AnswersInOrder, FollowsWith, FollowsRun, FollowsAnswer, PrintedSome}
-use Rattle.inspect_replay.specs.Prints.{IsRead}
+use Rattle.inspect_replay.specs.Says.{Phase, untouched, reading, underway, ended, anywhen, PartRose, Says, says, status_of}
+use Rattle.inspect_replay.specs.Answers.{InReadOnly, source_counts, IsInputStop}
+use Rattle.back_end.specs.Seats.{StandsFor, Seated}
+use Rattle.inspect_replay.specs.Followed.{FoldsAt, fold_since, StatusFolds, StopFolds, EndsShown, AnswersInOrder, FollowsWith, FollowsRun, FollowsAnswer, PrintedSome}
+use Rattle.inspect_replay.specs.Prints.{IsRead, ReadsAt}
 use Rattle.inspect_replay.specs.Runs.{ends_of}
+use Rattle.inspect_replay.specs.Moments.{moment}
 use Rattle.inspect_replay.specs.Stops.{NotRefused}
 use Rattle.inspect_replay.proofs.RunLemmas.{no_frames, first_ends, ends-first}
 
@@ -50,123 +52,123 @@ stop-folds (FrontRefused place kind) fold never good = absurd never
 stop-folds Memory fold never good = tt
 
 -- the fold of a run that follows meets no fault
-pub follows-good : (side0 : Side) (up0 down0 up down : Pipe) (waiting : List (List ℕ)) (e : HeldEnds) → Follows side0 up0 down0 up down waiting e
+pub follows-good : (state0 : State) (up0 down0 up down : Pipe) (waiting : List (List ℕ)) (e : HeldEnds) → Follows state0 up0 down0 up down waiting e
     → IsOk (fold_since up0 down0 up down)
-follows-good side0 up0 down0 up down waiting e f = subst IsOk (sym (follows-fold side0 up0 down0 up down waiting e f)) refl
+follows-good state0 up0 down0 up down waiting e f = subst IsOk (sym (follows-fold state0 up0 down0 up down waiting e f)) refl
 
-pub run-good : (side0 : Side) (up0 down0 up down : Pipe) (e : Ends) → FollowsRun side0 up0 down0 up down e → IsOk (fold_since up0 down0 up down)
-run-good side0 up0 down0 up down e run = follows-good side0 up0 down0 up down e.splitter.whole (ends_of e) run.so_far
+pub run-good : (state0 : State) (up0 down0 up down : Pipe) (e : Ends) → FollowsRun state0 up0 down0 up down e → IsOk (fold_since up0 down0 up down)
+run-good state0 up0 down0 up down e run = follows-good state0 up0 down0 up down e.splitter.whole (ends_of e) run.so_far
 
 -- nothing was sent or given when a call stops
-pub same-stop : (stop : Stop) (side0 : Side) (up0 down0 up down up1 down1 : Pipe) (waiting : List (List ℕ)) (e : HeldEnds)
-    → Follows side0 up0 down0 up down waiting e → NotRefused {T = Unit {0}} (Err stop) → up1 ≡ up → down1 ≡ down → StopFolds {T = Unit {0}} (Err stop) (fold_since up0 down0 up1 down1)
-same-stop stop side0 up0 down0 up down up1 down1 waiting e f never same_up same_down =
+pub same-stop : (stop : Stop) (state0 : State) (up0 down0 up down up1 down1 : Pipe) (waiting : List (List ℕ)) (e : HeldEnds)
+    → Follows state0 up0 down0 up down waiting e → NotRefused {T = Unit {0}} (Err stop) → up1 ≡ up → down1 ≡ down → StopFolds {T = Unit {0}} (Err stop) (fold_since up0 down0 up1 down1)
+same-stop stop state0 up0 down0 up down up1 down1 waiting e f never same_up same_down =
     stop-folds stop (fold_since up0 down0 up1 down1) never
     (subst (λ u. IsOk (fold_since up0 down0 u down1)) (sym same_up)
-    (subst (λ d. IsOk (fold_since up0 down0 up d)) (sym same_down) (follows-good side0 up0 down0 up down waiting e f)))
+    (subst (λ d. IsOk (fold_since up0 down0 up d)) (sym same_down) (follows-good state0 up0 down0 up down waiting e f)))
 
 -- ---- what a call keeps
 
 -- it has come through, or not
-pub kept-run : (result : Result (Unit {0}) Stop) (side0 : Side) (up0 down0 up down : Pipe) (e : Ends) → NotRefused result → FollowsRun side0 up0 down0 up down e
-    → OnOk result (FollowsRun side0 up0 down0 up down e) × StopFolds result (fold_since up0 down0 up down)
-kept-run (Ok value) side0 up0 down0 up down e never run = (run, run-good side0 up0 down0 up down e run)
-kept-run (Err stop) side0 up0 down0 up down e never run = (tt, stop-folds stop (fold_since up0 down0 up down) never (run-good side0 up0 down0 up down e run))
+pub kept-run : (result : Result (Unit {0}) Stop) (state0 : State) (up0 down0 up down : Pipe) (e : Ends) → NotRefused result → FollowsRun state0 up0 down0 up down e
+    → OnOk result (FollowsRun state0 up0 down0 up down e) × StopFolds result (fold_since up0 down0 up down)
+kept-run (Ok value) state0 up0 down0 up down e never run = (run, run-good state0 up0 down0 up down e run)
+kept-run (Err stop) state0 up0 down0 up down e never run = (tt, stop-folds stop (fold_since up0 down0 up down) never (run-good state0 up0 down0 up down e run))
 
 -- ---- the link and the ends
 
-pub asked-follows : (side0 : Side) (up0 down0 up down up1 down1 : Pipe) (e : HeldEnds) (a : AskForm) (waiting : List (List ℕ)) (frame bytes : List ℕ) (there : ℕ) (front1 : FrontState)
-    → CanSend a → e.front.next < 2 ^ 30 → Follows side0 up0 down0 up down waiting e
+pub asked-follows : (state0 : State) (up0 down0 up down up1 down1 : Pipe) (e : HeldEnds) (a : AskForm) (waiting : List (List ℕ)) (frame bytes : List ℕ) (there : ℕ) (front1 : FrontState)
+    → CanSend a → e.front.next < 2 ^ 30 → Follows state0 up0 down0 up down waiting e
     → frame ≡ framed (command_text e.front.next a.method a.params a.session) → front1 ≡ after_ask e.front a.method
     → bytes ≡ frame → (up1.sent ≡ up.sent ++ bytes) × (up1.given ≡ up.given) → down1 ≡ down
-    → Follows side0 up0 down0 up1 down1 waiting (record e { front = front1; up_there = there })
-asked-follows side0 up0 down0 up down up1 down1 e a waiting frame bytes there front1 can room f frame_is front_is same_bytes sent same_down =
+    → Follows state0 up0 down0 up1 down1 waiting (record e { front = front1; up_there = there })
+asked-follows state0 up0 down0 up down up1 down1 e a waiting frame bytes there front1 can room f frame_is front_is same_bytes sent same_down =
     let text = command_text e.front.next a.method a.params a.session in
-    let all : Follows side0 up0 down0 up1 down waiting (record e { front = after_ask e.front a.method; up_there = there }) =
-    follows-sends side0 up0 down0 up down up1 waiting e a text there f can (omega (arith, room)) refl
+    let all : Follows state0 up0 down0 up1 down waiting (record e { front = after_ask e.front a.method; up_there = there }) =
+    follows-sends state0 up0 down0 up down up1 waiting e a text there f can (omega (arith, room)) refl
     (sent.0 ∙ ap (λ piece. up.sent ++ piece) (same_bytes ∙ frame_is)) sent.1 in
-    subst (λ pipe. Follows side0 up0 down0 up1 pipe waiting (record e { front = front1; up_there = there })) (sym same_down)
-    (subst (λ s. Follows side0 up0 down0 up1 down waiting (record e { front = s; up_there = there })) (sym front_is) all)
+    subst (λ pipe. Follows state0 up0 down0 up1 pipe waiting (record e { front = front1; up_there = there })) (sym same_down)
+    (subst (λ s. Follows state0 up0 down0 up1 down waiting (record e { front = s; up_there = there })) (sym front_is) all)
 
 -- bytes came up, and were cut into frames
-pub given-follows : (side0 : Side) (up0 down0 up down up1 down1 : Pipe) (e : HeldEnds) (s s1 : Frames) (piece bytes : List ℕ) (there : ℕ)
-    → Follows side0 up0 down0 up down s.whole (record e { back_rest = s.rest }) → (up1.sent ≡ up.sent) × (up1.given ≡ up.given ++ bytes) → down1 ≡ down
+pub given-follows : (state0 : State) (up0 down0 up down up1 down1 : Pipe) (e : HeldEnds) (s s1 : Frames) (piece bytes : List ℕ) (there : ℕ)
+    → Follows state0 up0 down0 up down s.whole (record e { back_rest = s.rest }) → (up1.sent ≡ up.sent) × (up1.given ≡ up.given ++ bytes) → down1 ≡ down
     → piece ≡ bytes → s1 ≡ continued s piece
-    → Follows side0 up0 down0 up1 down1 s1.whole (record e { back_rest = s1.rest; up_there = there })
-given-follows side0 up0 down0 up down up1 down1 e s s1 piece bytes there f moved same_down same_bytes cut =
-    let all : Follows side0 up0 down0 up1 down (continued s bytes).whole (record e { back_rest = (continued s bytes).rest; up_there = there }) =
-    follows-given_up side0 up0 down0 up down up1 s.whole (record e { back_rest = s.rest }) bytes (held_after s.rest bytes) there f moved.0 moved.1 refl in
+    → Follows state0 up0 down0 up1 down1 s1.whole (record e { back_rest = s1.rest; up_there = there })
+given-follows state0 up0 down0 up down up1 down1 e s s1 piece bytes there f moved same_down same_bytes cut =
+    let all : Follows state0 up0 down0 up1 down (continued s bytes).whole (record e { back_rest = (continued s bytes).rest; up_there = there }) =
+    follows-given_up state0 up0 down0 up down up1 s.whole (record e { back_rest = s.rest }) bytes (held_after s.rest bytes) there f moved.0 moved.1 refl in
     let now : continued s bytes ≡ s1 = sym (cut ∙ ap (continued s) same_bytes) in
-    subst (λ pipe. Follows side0 up0 down0 up1 pipe s1.whole (record e { back_rest = s1.rest; up_there = there })) (sym same_down)
-    (subst (λ (x : Frames). Follows side0 up0 down0 up1 down x.whole (record e { back_rest = x.rest; up_there = there })) now all)
+    subst (λ pipe. Follows state0 up0 down0 up1 pipe s1.whole (record e { back_rest = s1.rest; up_there = there })) (sym same_down)
+    (subst (λ (x : Frames). Follows state0 up0 down0 up1 down x.whole (record e { back_rest = x.rest; up_there = there })) now all)
 
 -- a frame was answered
-pub answered-follows : (side0 : Side) (up0 down0 up down up1 down1 : Pipe) (frame : List ℕ) (frames : List (List ℕ)) (b b1 : Back) (e : HeldEnds)
+pub answered-follows : (state0 : State) (up0 down0 up down up1 down1 : Pipe) (frame : List ℕ) (frames : List (List ℕ)) (b b1 : Seated) (e : HeldEnds)
     (old out bytes : List ℕ) (there : ℕ)
-    → Follows side0 up0 down0 up down (frame ∷ frames) (record e { page = b.page; is_on = b.is_on; bound = b.agent })
-    → b.agent.next < 2 ^ 52
-    → ((side : Side) → StandsFor b side → StandsFor b1 (step side frame).side) → ((side : Side) → StandsFor b side → out ≡ old ++ (step side frame).sent)
+    → Follows state0 up0 down0 up down (frame ∷ frames) (record e { page = b.side.page; is_on = b.seat.is_on; bound = b.seat.agent })
+    → b.seat.agent.next < 2 ^ 52
+    → ((state : State) → StandsFor b.seat b.side state → StandsFor b1.seat b1.side (step state frame).state) → ((state : State) → StandsFor b.seat b.side state → out ≡ old ++ (step state frame).sent)
     → old ≡ [] → bytes ≡ out → up1 ≡ up → (down1.sent ≡ down.sent ++ bytes) × (down1.given ≡ down.given)
-    → Follows side0 up0 down0 up1 down1 frames (record e { page = b1.page; is_on = b1.is_on; bound = b1.agent; down_there = there })
-answered-follows side0 up0 down0 up down up1 down1 frame frames b b1 e old out bytes there f room stood said empty same_out same_up sent =
-    let before : StandsFor b f.side = record { is_side = f.is_side; page_is = f.page_is; on_is = f.on_is; stands = f.stands } in
-    let after : StandsFor b1 (step f.side frame).side = stood f.side before in
-    let all : Follows side0 up0 down0 up down1 frames (record e { page = b1.page; is_on = b1.is_on; bound = b1.agent; down_there = there }) =
-    follows-answered side0 up0 down0 up down down1 frame frames (record e { page = b.page; is_on = b.is_on; bound = b.agent }) b1.page b1.is_on b1.agent out there f room
+    → Follows state0 up0 down0 up1 down1 frames (record e { page = b1.side.page; is_on = b1.seat.is_on; bound = b1.seat.agent; down_there = there })
+answered-follows state0 up0 down0 up down up1 down1 frame frames b b1 e old out bytes there f room stood said empty same_out same_up sent =
+    let before : StandsFor b.seat b.side f.state = record { is_state = f.is_state; page_is = f.page_is; on_is = f.on_is; stands = f.stands } in
+    let after : StandsFor b1.seat b1.side (step f.state frame).state = stood f.state before in
+    let all : Follows state0 up0 down0 up down1 frames (record e { page = b1.side.page; is_on = b1.seat.is_on; bound = b1.seat.agent; down_there = there }) =
+    follows-answered state0 up0 down0 up down down1 frame frames (record e { page = b.side.page; is_on = b.seat.is_on; bound = b.seat.agent }) b1.side.page b1.seat.is_on b1.seat.agent out there f room
     after.page_is after.on_is after.stands
-    (said f.side before ∙ ap (λ start. start ++ (step f.side frame).sent) empty)
+    (said f.state before ∙ ap (λ start. start ++ (step f.state frame).sent) empty)
     (sent.0 ∙ ap (λ piece. down.sent ++ piece) same_out) sent.1 in
-    subst (λ pipe. Follows side0 up0 down0 pipe down1 frames (record e { page = b1.page; is_on = b1.is_on; bound = b1.agent; down_there = there })) (sym same_up) all
+    subst (λ pipe. Follows state0 up0 down0 pipe down1 frames (record e { page = b1.side.page; is_on = b1.seat.is_on; bound = b1.seat.agent; down_there = there })) (sym same_up) all
 
 -- bytes came down, and the front end refused none of the messages
-pub delivered-follows : (side0 : Side) (up0 down0 up down up1 down1 : Pipe) (waiting : List (List ℕ)) (e : HeldEnds) (piece bytes : List ℕ) (there : ℕ) (front1 : FrontState)
-    → Follows side0 up0 down0 up down waiting e → (down1.sent ≡ down.sent) × (down1.given ≡ down.given ++ bytes) → up1 ≡ up
+pub delivered-follows : (state0 : State) (up0 down0 up down up1 down1 : Pipe) (waiting : List (List ℕ)) (e : HeldEnds) (piece bytes : List ℕ) (there : ℕ) (front1 : FrontState)
+    → Follows state0 up0 down0 up down waiting e → (down1.sent ≡ down.sent) × (down1.given ≡ down.given ++ bytes) → up1 ≡ up
     → piece ≡ bytes → front1 ≡ after_take e.front piece → front1.fault ≡ None
-    → Follows side0 up0 down0 up1 down1 waiting (record e { front = front1; down_there = there })
-delivered-follows side0 up0 down0 up down up1 down1 waiting e piece bytes there front1 f moved same_up same_bytes front_is good =
+    → Follows state0 up0 down0 up1 down1 waiting (record e { front = front1; down_there = there })
+delivered-follows state0 up0 down0 up down up1 down1 waiting e piece bytes there front1 f moved same_up same_bytes front_is good =
     let now : front1 ≡ after_take e.front bytes = front_is ∙ ap (after_take e.front) same_bytes in
-    let all : Follows side0 up0 down0 up down1 waiting (record e { front = after_take e.front bytes; down_there = there }) =
-    follows-delivered_down side0 up0 down0 up down down1 waiting e bytes there f moved.0 moved.1 (sym (ap (λ (s : FrontState). s.fault) now) ∙ good) in
-    subst (λ pipe. Follows side0 up0 down0 pipe down1 waiting (record e { front = front1; down_there = there })) (sym same_up)
-    (subst (λ s. Follows side0 up0 down0 up down1 waiting (record e { front = s; down_there = there })) (sym now) all)
+    let all : Follows state0 up0 down0 up down1 waiting (record e { front = after_take e.front bytes; down_there = there }) =
+    follows-delivered_down state0 up0 down0 up down down1 waiting e bytes there f moved.0 moved.1 (sym (ap (λ (s : FrontState). s.fault) now) ∙ good) in
+    subst (λ pipe. Follows state0 up0 down0 pipe down1 waiting (record e { front = front1; down_there = there })) (sym same_up)
+    (subst (λ s. Follows state0 up0 down0 up down1 waiting (record e { front = s; down_there = there })) (sym now) all)
 
 -- or it refused one
-pub refused-folds : (side0 : Side) (up0 down0 up down up1 down1 : Pipe) (waiting : List (List ℕ)) (e : HeldEnds) (piece bytes : List ℕ) (front1 : FrontState) (fault : FrontFault)
-    → Follows side0 up0 down0 up down waiting e → (down1.sent ≡ down.sent) × (down1.given ≡ down.given ++ bytes) → up1 ≡ up
+pub refused-folds : (state0 : State) (up0 down0 up down up1 down1 : Pipe) (waiting : List (List ℕ)) (e : HeldEnds) (piece bytes : List ℕ) (front1 : FrontState) (fault : FrontFault)
+    → Follows state0 up0 down0 up down waiting e → (down1.sent ≡ down.sent) × (down1.given ≡ down.given ++ bytes) → up1 ≡ up
     → piece ≡ bytes → front1 ≡ after_take e.front piece → front1.fault ≡ Some fault
     → fold_since up0 down0 up1 down1 ≡ Err fault
-refused-folds side0 up0 down0 up down up1 down1 waiting e piece bytes front1 fault f moved same_up same_bytes front_is bad =
+refused-folds state0 up0 down0 up down up1 down1 waiting e piece bytes front1 fault f moved same_up same_bytes front_is bad =
     let now : front1 ≡ after_take e.front bytes = front_is ∙ ap (after_take e.front) same_bytes in
     ap (λ pipe. fold_since up0 down0 pipe down1) same_up
-    ∙ follows-refused side0 up0 down0 up down down1 waiting e bytes fault f moved.0 moved.1 (sym (ap (λ (s : FrontState). s.fault) now) ∙ bad)
+    ∙ follows-refused state0 up0 down0 up down down1 waiting e bytes fault f moved.0 moved.1 (sym (ap (λ (s : FrontState). s.fault) now) ∙ bad)
 
 -- the next frame is answered, before those that the splitter holds
-pub follow_turn : {T : Type 0} (result : Result T Stop) (side0 : Side) (up0 down0 up down up1 down1 : Pipe) (e e1 : Ends) (s : Frames) (frame : List ℕ)
-    → FollowsWith side0 up0 down0 up down e → e.splitter.whole ≡ frame ∷ s.whole → s.rest ≡ e.splitter.rest
-    → FollowsAnswer up down up1 down1 (record e { splitter = s }) e1 frame result
-    → OnOk result (FollowsWith side0 up0 down0 up1 down1 e1) × StopFolds result (fold_since up0 down0 up1 down1)
-follow_turn result side0 up0 down0 up down up1 down1 e e1 s frame f whole rest answers =
-    answers side0 up0 down0
-    (subst (λ r. Follows side0 up0 down0 up down (frame ∷ s.whole) (record (ends_of e) { back_rest = r })) (sym rest)
-    (subst (λ frames. Follows side0 up0 down0 up down frames (ends_of e)) whole f))
+pub follow_turn : {T : Type 0} (result : Result T Stop) (state0 : State) (up0 down0 up down up1 down1 : Pipe) (e e1 : Ends) (s : Frames) (frame : List ℕ)
+    → FollowsWith state0 up0 down0 up down e → e.splitter.whole ≡ frame ∷ s.whole → s.rest ≡ e.splitter.rest
+    → FollowsAnswer (moment (Unit {0}) up down (record e { splitter = s })) (moment (Unit {0}) up1 down1 e1) frame result
+    → OnOk result (FollowsWith state0 up0 down0 up1 down1 e1) × StopFolds result (fold_since up0 down0 up1 down1)
+follow_turn result state0 up0 down0 up down up1 down1 e e1 s frame f whole rest answers =
+    answers state0 up0 down0
+    (subst (λ r. Follows state0 up0 down0 up down (frame ∷ s.whole) (record (ends_of e) { back_rest = r })) (sym rest)
+    (subst (λ frames. Follows state0 up0 down0 up down frames (ends_of e)) whole f))
 
 -- no frame is left
-pub follow_end : (side0 : Side) (up0 down0 up down : Pipe) (e : Ends) (s : Frames) → FollowsWith side0 up0 down0 up down e → s ≡ e.splitter → s.whole ≡ []
-    → FollowsRun side0 up0 down0 up down (record e { splitter = s }) × IsOk (fold_since up0 down0 up down)
-follow_end side0 up0 down0 up down e s f same none = (
+pub follow_end : (state0 : State) (up0 down0 up down : Pipe) (e : Ends) (s : Frames) → FollowsWith state0 up0 down0 up down e → s ≡ e.splitter → s.whole ≡ []
+    → FollowsRun state0 up0 down0 up down (record e { splitter = s }) × IsOk (fold_since up0 down0 up down)
+follow_end state0 up0 down0 up down e s f same none = (
   record {
-    so_far = subst (λ (x : Frames). FollowsWith side0 up0 down0 up down (record e { splitter = x })) (sym same) f;
+    so_far = subst (λ (x : Frames). FollowsWith state0 up0 down0 up down (record e { splitter = x })) (sym same) f;
     none_whole = none;
   },
-  follows-good side0 up0 down0 up down e.splitter.whole (ends_of e) f,
+  follows-good state0 up0 down0 up down e.splitter.whole (ends_of e) f,
 )
 
 -- ---- what is told and printed
 
 -- how many replies were told is nothing that the link sees
-told-follows : (side0 : Side) (up0 down0 up down : Pipe) (waiting : List (List ℕ)) (e : HeldEnds) (n : ℕ) → Follows side0 up0 down0 up down waiting e
-    → Follows side0 up0 down0 up down waiting (record e { told = n })
-told-follows side0 up0 down0 up down waiting e n f = record {
+told-follows : (state0 : State) (up0 down0 up down : Pipe) (waiting : List (List ℕ)) (e : HeldEnds) (n : ℕ) → Follows state0 up0 down0 up down waiting e
+    → Follows state0 up0 down0 up down waiting (record e { told = n })
+told-follows state0 up0 down0 up down waiting e n f = record {
   sent_up = f.sent_up;
   given_up = f.given_up;
   sent_down = f.sent_down;
@@ -180,7 +182,7 @@ told-follows side0 up0 down0 up down waiting e n f = record {
   answered = f.answered;
   frames_are = f.frames_are;
   back_is = f.back_is;
-  side = f.side;
+  state = f.state;
   side_is = f.side_is;
   sent_is = f.sent_is;
   replies_are = f.replies_are;
@@ -188,14 +190,14 @@ told-follows side0 up0 down0 up down waiting e n f = record {
   page_is = f.page_is;
   on_is = f.on_is;
   stands = f.stands;
-  is_side = f.is_side;
+  is_state = f.is_state;
 }
 
-pub told-run : (side0 : Side) (up0 down0 up down : Pipe) (e e1 : Ends) (n : ℕ) → e1 ≡ record e { told = n } → FollowsRun side0 up0 down0 up down e
-    → FollowsRun side0 up0 down0 up down e1
-told-run side0 up0 down0 up down e e1 n is run =
-    subst (λ x. FollowsRun side0 up0 down0 up down x) (sym is)
-    (record { so_far = told-follows side0 up0 down0 up down e.splitter.whole (ends_of e) n run.so_far; none_whole = run.none_whole })
+pub told-run : (state0 : State) (up0 down0 up down : Pipe) (e e1 : Ends) (n : ℕ) → e1 ≡ record e { told = n } → FollowsRun state0 up0 down0 up down e
+    → FollowsRun state0 up0 down0 up down e1
+told-run state0 up0 down0 up down e e1 n is run =
+    subst (λ x. FollowsRun state0 up0 down0 up down x) (sym is)
+    (record { so_far = told-follows state0 up0 down0 up down e.splitter.whole (ends_of e) n run.so_far; none_whole = run.none_whole })
 
 pub some-printed : {T : Type 0} (result : Result T Stop) (before after : Option (List ℕ)) (text : List ℕ) → OnOk result (Appends before after text) → OnOk result (PrintedSome before after)
 some-printed (Ok value) before after text printed = record { written = text; printed = printed }
@@ -209,23 +211,23 @@ pub more-printed : (before middle after : Option (List ℕ)) → PrintedSome bef
 more-printed before middle after a b = record { written = a.written ++ b.written; printed = Appends-append before middle after a.written b.written a.printed b.printed }
 
 -- the closing part, where it was printed
-pub closes-shown : (result : Result (Unit {0}) Stop) (side0 : Side) (up0 down0 up down : Pipe) (before after : Option (List ℕ)) (e : Ends) (tree : Nodes Seen)
-    → FollowsRun side0 up0 down0 up down e → tree ≡ e.front.value.tree → NotRefused result
+pub closes-shown : (result : Result (Unit {0}) Stop) (state0 : State) (up0 down0 up down : Pipe) (before after : Option (List ℕ)) (e : Ends) (tree : Nodes Seen)
+    → FollowsRun state0 up0 down0 up down e → tree ≡ e.front.value.tree → NotRefused result
     → OnOk result (Appends before after (codes "# end" ++ 10 ∷ outline_text seen_line tree))
     → OnOk result (EndsShown before after (fold_since up0 down0 up down) × AnswersInOrder up0 down0 up down) × StopFolds result (fold_since up0 down0 up down)
-closes-shown (Ok value) side0 up0 down0 up down before after e tree run shows never printed = (
+closes-shown (Ok value) state0 up0 down0 up down before after e tree run shows never printed = (
   (
     record {
       value = e.front.value;
-      is_fold = follows-fold side0 up0 down0 up down e.splitter.whole (ends_of e) run.so_far;
+      is_fold = follows-fold state0 up0 down0 up down e.splitter.whole (ends_of e) run.so_far;
       written = [];
       printed = subst (λ t. Appends before after (codes "# end" ++ 10 ∷ outline_text seen_line t)) shows printed;
     },
-    follows-replies side0 up0 down0 up down (ends_of e) (subst (λ frames. Follows side0 up0 down0 up down frames (ends_of e)) run.none_whole run.so_far),
+    follows-replies state0 up0 down0 up down (ends_of e) (subst (λ frames. Follows state0 up0 down0 up down frames (ends_of e)) run.none_whole run.so_far),
   ),
-  run-good side0 up0 down0 up down e run,
+  run-good state0 up0 down0 up down e run,
 )
-closes-shown (Err stop) side0 up0 down0 up down before after e tree run shows never printed = (tt, stop-folds stop (fold_since up0 down0 up down) never (run-good side0 up0 down0 up down e run))
+closes-shown (Err stop) state0 up0 down0 up down before after e tree run shows never printed = (tt, stop-folds stop (fold_since up0 down0 up down) never (run-good state0 up0 down0 up down e run))
 
 -- after what was printed before
 ends-after : (before middle after : Option (List ℕ)) (fold : Result FrontValue FrontFault) → PrintedSome before middle → EndsShown middle after fold → EndsShown before after fold
@@ -264,52 +266,46 @@ start-good up down =
     (subst (λ bytes. IsOk (fold_of [] bytes)) (sym (none down.given)) folds)
 
 pub run-first : (up down : Pipe) (nodes : Nodes Label) (e : Ends) → CanLoad nodes → HaveTexts nodes
-    → e.back.page ≡ loaded 1 nodes → e.back.is_on ≡ false → e.back.agent ≡ empty_from 1 → e.splitter ≡ no_frames → e.front ≡ first_state
+    → e.side.page ≡ loaded 1 nodes → e.seat.is_on ≡ false → e.seat.agent ≡ empty_from 1 → e.splitter ≡ no_frames → e.front ≡ first_state
     → e.up_there ≡ 0 → e.down_there ≡ 0 → e.told ≡ 0
-    → FollowsRun (first_side nodes) up down up down e
+    → FollowsRun (loaded_state nodes) up down up down e
 run-first up down nodes e can texts page_is off agent_is splitter_is front_is up_none down_none told_none =
     let same : ends_of e ≡ first_ends nodes = ends-first nodes e page_is off agent_is splitter_is front_is up_none down_none told_none in
     let none : e.splitter.whole ≡ [] = ap (λ (f : Frames). f.whole) splitter_is in
     record {
-      so_far = subst (λ h. Follows (first_side nodes) up down up down e.splitter.whole h) (sym same)
-          (subst (λ frames. Follows (first_side nodes) up down up down frames (first_ends nodes)) (sym none) (follows-start up down nodes can texts));
+      so_far = subst (λ h. Follows (loaded_state nodes) up down up down e.splitter.whole h) (sym same)
+          (subst (λ frames. Follows (loaded_state nodes) up down up down frames (first_ends nodes)) (sym none) (follows-start up down nodes can texts));
       none_whole = none;
     }
 
 -- a line that is not read
 pub read-folds : (stop : Stop) (number : ℕ) (bad : Option LineFault) (fold : Result FrontValue FrontFault) → IsRead {T = Unit {0}} (Err stop) number bad → IsOk fold
     → StopFolds {T = Unit {0}} (Err stop) fold
-read-folds (Line n fault) number bad fold read good = good
-read-folds TooLong number bad fold read good = absurd read
-read-folds ReadFault number bad fold read good = absurd read
-read-folds WriteFault number bad fold read good = absurd read
-read-folds LinkFault number bad fold read good = absurd read
-read-folds (FrontRefused place kind) number bad fold read good = absurd read
-read-folds Memory number bad fold read good = tt
+read-folds stop number bad fold read good = let s : Says = says (status_of stop) in at-line s.phase s.message s.line read
+  where
+    at-line : (phase : Phase) (message : Option FrontFault) (line : Option (ℕ × LineFault)) → ReadsAt phase line number bad → FoldsAt phase message fold
+    at-line untouched message line read = absurd read
+    at-line reading message line read = absurd read
+    at-line underway message line read = absurd read
+    at-line ended message line read = good
+    at-line anywhen message line read = tt
 
 -- the status that a stop is
 pub status-folds : (stop : Stop) (status : Status) (fold : Result FrontValue FrontFault) → status ≡ status_of stop → StopFolds {T = Unit {0}} (Err stop) fold → StatusFolds status fold
-status-folds stop status fold is folds = subst (λ s. StatusFolds s fold) (sym is) (by-stop stop fold folds)
-  where
-    by-stop : (stop : Stop) (fold : Result FrontValue FrontFault) → StopFolds {T = Unit {0}} (Err stop) fold → StatusFolds (status_of stop) fold
-    by-stop (Line number fault) fold folds = folds
-    by-stop TooLong fold folds = folds
-    by-stop ReadFault fold folds = folds
-    by-stop WriteFault fold folds = folds
-    by-stop LinkFault fold folds = folds
-    by-stop (FrontRefused place kind) fold folds = folds
-    by-stop Memory fold folds = tt
+status-folds stop status fold is folds = subst (λ s. StatusFolds s fold) (sym is) folds
 
 -- an input that is not read
 pub input-folds : (stop : Stop) (before after : ℕ) (fold : Result FrontValue FrontFault) → IsInputStop before after (Err stop) → IsOk fold → StopFolds {T = Unit {0}} (Err stop) fold
-input-folds (Line number fault) before after fold is good = absurd is
-input-folds TooLong before after fold is good = good
-input-folds ReadFault before after fold is good = good
-input-folds WriteFault before after fold is good = absurd is
-input-folds LinkFault before after fold is good = absurd is
-input-folds (FrontRefused place kind) before after fold is good = absurd is
-input-folds Memory before after fold is good = tt
+input-folds stop before after fold is good = let s : Says = says (status_of stop) in at-input s.phase s.message (PartRose (source_counts before after) s.failed) is
+  where
+    at-input : (phase : Phase) (message : Option FrontFault) (P : Type 0) → InReadOnly phase P → FoldsAt phase message fold
+    at-input untouched message P is = absurd is
+    at-input reading message P is = good
+    at-input underway message P is = absurd is
+    at-input ended message P is = absurd is
+    at-input anywhen message P is = tt
 
+-- a stop is not the end
 pub never-done : (stop : Stop) (s : Status) → s ≡ status_of stop → s ≡ status.Done → ⊥
 never-done stop s is done = by-stop stop (sym is ∙ done)
   where

@@ -1,4 +1,3 @@
-pub mod BackLemmas
 pub mod EndLemmas
 pub mod FirstLine
 pub mod RunLemmas

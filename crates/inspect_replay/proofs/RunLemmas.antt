@@ -25,18 +25,22 @@ use Rattle.front_mirror.specs.Outline.{outline_text, seen_line}
 use Rattle.inspect_world.specs.Stream.{awaited, sent}
 use Rattle.inspect_world.specs.World.{World, settled}
 use Rattle.inspect_world.specs.Fold.{folded, joined}
-use Rattle.inspect_world.specs.Sides.{Side, step, view_of}
+use Rattle.back_end.specs.States.{State, step, view_of}
 use Rattle.inspect_world.specs.Fits.{most_asks, FitsWith, Fits, join}
 use Rattle.inspect_world.specs.Scripts.{sends, all_told, after_line, after_lines, line_text, lines_text, replies_after, closing_text, closing_unless, rest_text, text_of, report, loaded_world}
-use Rattle.inspect_world.specs.ScriptsFit.{ShowsAll, HaveTexts}
+use Rattle.back_end.specs.Texts.{HaveTexts}
+use Rattle.inspect_world.specs.ScriptsFit.{ShowsAll}
 use Rattle.inspect_world.specs.Held.{Ends as HeldEnds, InWorld}
 use Rattle.inspect_world.specs.Told.{told_of, told_lines, replies_in}
 use Rattle.inspect_replay.specs.declared.ends.Ends.{Ends}
 use Rattle.inspect_replay.specs.declared.stop.Stop.{Stop}
 use Rattle.inspect_replay.specs.declared.stop.Stop.TheVariants.{Line, TooLong, ReadFault, WriteFault, LinkFault, FrontRefused, Memory}
 use Rattle.inspect_replay.specs.Runs.{InRun, Asks, Steps, ends_of}
-use Rattle.inspect_replay.specs.Stops.{Counts, RoseFor, RoseAt, NotRefused}
-use Rattle.inspect_replay.specs.Answers.{RunTells, RunTook, Prints}
+use Rattle.inspect_replay.specs.Says.{Phase, untouched, reading, underway, ended, anywhen, Counts, PartRose, Says, says, status_of}
+use Rattle.inspect_replay.specs.Moments.{moment, scene}
+use Rattle.inspect_replay.specs.Stops.{AmidRun, two_counts, HasStopCause, NotRefused}
+use Rattle.front_mirror.specs.declared.faults.FrontFault.{FrontFault}
+use Rattle.inspect_replay.specs.Answers.{Absent, AtEnd, InRunOnly, TookAt, RunTells, RunTook, Prints}
 use Rattle.inspect_replay.specs.Prints.{CarriesOut, Closes, IsRead}
 use Rattle.replay_script.proofs.ScriptLemmas.{first_bad-good, good_lines-good, good_lines-bad}
 use Rattle.inspect_world.proofs.Scripts.{settled-shows, given-all}
@@ -49,7 +53,7 @@ no_frames = record { whole = []; rest = [] }
 
 -- counts of which nothing is asked
 abbrev pub no_counts : Counts
-no_counts = record { sink_before = 0; sink_after = 0; link_before = 0; link_after = 0 }
+no_counts = two_counts 0 0 0 0
 
 -- nothing is printed
 pub prints-nothing : {T : Type 0} (result : Result T Stop) (taken : Option (List ℕ)) → Prints result taken taken []
@@ -57,42 +61,51 @@ prints-nothing (Ok value) taken = Appends-nil taken
 prints-nothing (Err stop) taken = record { part = []; rest = []; whole = refl; wrote = Appends-nil taken }
 
 -- an error by which a part of a run stops is one by which the run stops
-pub part-took : (stop : Stop) (c : Counts) (before after : Option (List ℕ)) (text : List ℕ)
-    → RoseFor c stop → NotRefused {T = Unit {0}} (Err stop) → WrotePart before after text → RunTook {T = Unit {0}} (Err stop) before after text
-part-took (Line number fault) c before after text rose well wrote = absurd rose
-part-took TooLong c before after text rose well wrote = absurd rose
-part-took ReadFault c before after text rose well wrote = absurd rose
-part-took WriteFault c before after text rose well wrote = wrote
-part-took LinkFault c before after text rose well wrote = wrote
-part-took (FrontRefused place fault) c before after text rose well wrote = absurd well
-part-took Memory c before after text rose well wrote = wrote
+took-at : (phase : Phase) (message : Option FrontFault) (P : Type 0) (before after : Option (List ℕ)) (text : List ℕ)
+    → AmidRun phase P → Absent message → WrotePart before after text → InRunOnly phase (TookAt phase message before after text)
+took-at untouched message P before after text amid well wrote = absurd amid
+took-at reading message P before after text amid well wrote = absurd amid
+took-at underway None P before after text amid well wrote = wrote
+took-at underway (Some fault) P before after text amid well wrote = absurd well
+took-at ended message P before after text amid well wrote = absurd amid
+took-at anywhen message P before after text amid well wrote = wrote
 
-pub part-tells : (stop : Stop) (c : Counts) (bad : Option (ℕ × LineFault)) → RoseFor c stop → RunTells {T = Unit {0}} (Err stop) bad
-part-tells (Line number fault) c bad rose = absurd rose
-part-tells TooLong c bad rose = absurd rose
-part-tells ReadFault c bad rose = absurd rose
-part-tells WriteFault c bad rose = tt
-part-tells LinkFault c bad rose = tt
-part-tells (FrontRefused place fault) c bad rose = tt
-part-tells Memory c bad rose = tt
+pub part-took : (stop : Stop) (sink0 sink1 link0 link1 : ℕ) (before after : Option (List ℕ)) (text : List ℕ)
+    → HasStopCause {T = Unit {0}} sink0 sink1 link0 link1 (Err stop) → NotRefused {T = Unit {0}} (Err stop) → WrotePart before after text → RunTook {T = Unit {0}} (Err stop) before after text
+part-took stop sink0 sink1 link0 link1 before after text cause well wrote =
+    let s : Says = says (status_of stop) in
+    took-at s.phase s.message (PartRose (two_counts sink0 sink1 link0 link1) s.failed) before after text cause.rose well wrote
+
+-- it tells nothing of lines
+tells-at : (phase : Phase) (P Q : Type 0) → AmidRun phase P → InRunOnly phase (AtEnd phase Q)
+tells-at untouched P Q amid = absurd amid
+tells-at reading P Q amid = absurd amid
+tells-at underway P Q amid = tt
+tells-at ended P Q amid = absurd amid
+tells-at anywhen P Q amid = tt
+
+pub part-tells : (stop : Stop) (sink0 sink1 link0 link1 : ℕ) (bad : Option (ℕ × LineFault)) → HasStopCause {T = Unit {0}} sink0 sink1 link0 link1 (Err stop) → RunTells {T = Unit {0}} (Err stop) bad
+part-tells stop sink0 sink1 link0 link1 bad cause =
+    let s : Says = says (status_of stop) in
+    tells-at s.phase (PartRose (two_counts sink0 sink1 link0 link1) s.failed) (bad ≡ s.line) cause.rose
 
 -- ---- one line
 
 -- an ask prints nothing
 pub ask-carries : (result : Result (Unit {0}) Stop) (honest honest1 : Type 0) (up down up1 down1 : Pipe) (taken : Option (List ℕ)) (e e1 : Ends) (a : AskForm) (form : LineForm)
-    → form ≡ ask a → Asks honest honest1 up down up1 down1 e e1 result (λ w. sends a w)
-    → CarriesOut honest honest1 up down up1 down1 taken taken e e1 form result
+    → form ≡ ask a → Asks (moment honest up down e) (moment honest1 up1 down1 e1) result (λ w. sends a w)
+    → CarriesOut (scene (moment honest up down e) taken) (scene (moment honest1 up1 down1 e1) taken) form result
 ask-carries result honest honest1 up down up1 down1 taken e e1 a form is asks =
-    subst (λ f. CarriesOut honest honest1 up down up1 down1 taken taken e e1 f result) (sym is)
+    subst (λ f. CarriesOut (scene (moment honest up down e) taken) (scene (moment honest1 up1 down1 e1) taken) f result) (sym is)
     (λ up0 down0 w few run. let both = asks up0 down0 w few run in (both.0, both.1, prints-nothing result taken))
 
 -- nor does a line that delivers bytes
 pub move-carries : (result : Result (Unit {0}) Stop) (honest honest1 : Type 0) (up down up1 down1 : Pipe) (taken : Option (List ℕ)) (e e1 : Ends)
-    (f : World Side → World Side) (move form : LineForm)
-    → ((w : World Side) → f w ≡ after_line move w) → ((w : World Side) → [] ≡ line_text move w) → form ≡ move → Steps honest honest1 up down up1 down1 e e1 result f
-    → CarriesOut honest honest1 up down up1 down1 taken taken e e1 form result
+    (f : World State → World State) (move form : LineForm)
+    → ((w : World State) → f w ≡ after_line move w) → ((w : World State) → [] ≡ line_text move w) → form ≡ move → Steps (moment honest up down e) (moment honest1 up1 down1 e1) result f
+    → CarriesOut (scene (moment honest up down e) taken) (scene (moment honest1 up1 down1 e1) taken) form result
 move-carries result honest honest1 up down up1 down1 taken e e1 f move form goes silent is steps =
-    subst (λ line. CarriesOut honest honest1 up down up1 down1 taken taken e e1 line result) (sym is)
+    subst (λ line. CarriesOut (scene (moment honest up down e) taken) (scene (moment honest1 up1 down1 e1) taken) line result) (sym is)
     (λ up0 down0 w few run. let both = steps up0 down0 w run in (
       both.0,
       subst (λ v. OnOk result (InRun honest1 up0 down0 up1 down1 v e1)) (goes w) both.1,
@@ -101,17 +114,17 @@ move-carries result honest honest1 up down up1 down1 taken e e1 f move form goes
 
 -- the same of equal lines
 pub same-carries : (result : Result (Unit {0}) Stop) (honest honest1 : Type 0) (up down up1 down1 : Pipe) (taken taken1 : Option (List ℕ)) (e e1 : Ends) (line form : LineForm)
-    → form ≡ line → CarriesOut honest honest1 up down up1 down1 taken taken1 e e1 line result → CarriesOut honest honest1 up down up1 down1 taken taken1 e e1 form result
+    → form ≡ line → CarriesOut (scene (moment honest up down e) taken) (scene (moment honest1 up1 down1 e1) taken1) line result → CarriesOut (scene (moment honest up down e) taken) (scene (moment honest1 up1 down1 e1) taken1) form result
 same-carries result honest honest1 up down up1 down1 taken taken1 e e1 line form is carries =
-    subst (λ f. CarriesOut honest honest1 up down up1 down1 taken taken1 e e1 f result) (sym is) carries
+    subst (λ f. CarriesOut (scene (moment honest up down e) taken) (scene (moment honest1 up1 down1 e1) taken1) f result) (sym is) carries
 
 -- after a settle the front end shows what the client sees of the page
 ok-same : {F E : Type 0} (r : Result F E) (a b : F) → r ≡ Ok a → r ≡ Ok b → a ≡ b
 ok-same r a b x y = let both : Ok a ≡ Ok b = sym x ∙ y in cc
 
-pub shown-settled : (honest honest1 : Type 0) (up0 down0 up down up1 down1 : Pipe) (w : World Side) (e e1 : Ends)
+pub shown-settled : (honest honest1 : Type 0) (up0 down0 up down up1 down1 : Pipe) (w : World State) (e e1 : Ends)
     → InRun honest up0 down0 up down w e → InRun honest1 up0 down0 up1 down1 (settled step w) e1
-    → e1.front.value.tree ≡ view_of (settled step w).side
+    → e1.front.value.tree ≡ view_of (settled step w).state
 shown-settled honest honest1 up0 down0 up down up1 down1 w e e1 before after =
     let fits : Fits w = subst (λ frames. FitsWith w (frames ++ awaited w.up)) before.none_whole before.so_far.in_world.fits in
     let shows : ShowsAll (settled step w) = settled-shows w fits in
@@ -131,7 +144,7 @@ prints-same (Err stop) before after text text1 same ok err = subst (λ t. WroteP
 -- what a settle takes a run to
 abbrev pub SettlesTo : Type 0 → Type 0 → Pipe → Pipe → Pipe → Pipe → Ends → Ends → Type 0
 SettlesTo honest honest1 up down up1 down1 e e1 =
-    (up0 down0 : Pipe) (w : World Side) → InRun honest up0 down0 up down w e → InRun honest1 up0 down0 up1 down1 (settled step w) e1
+    (up0 down0 : Pipe) (w : World State) → InRun honest up0 down0 up down w e → InRun honest1 up0 down0 up1 down1 (settled step w) e1
 
 after-ok : {T P : Type 0} (result : Result T Stop) → P → OnOk result P
 after-ok (Ok value) p = p
@@ -143,20 +156,20 @@ pub show-carries : (result : Result (Unit {0}) Stop) (honest honest1 : Type 0) (
     → SettlesTo honest honest1 up down up1 down1 e e1 → tree ≡ e1.front.value.tree → NotRefused result
     → OnOk result (Appends taken taken1 (codes "# front" ++ 10 ∷ outline_text seen_line tree))
     → OnErr result (WrotePart taken taken1 (codes "# front" ++ 10 ∷ outline_text seen_line tree))
-    → CarriesOut honest honest1 up down up1 down1 taken taken1 e e1 show_front result
+    → CarriesOut (scene (moment honest up down e) taken) (scene (moment honest1 up1 down1 e1) taken1) show_front result
 show-carries result honest honest1 up down up1 down1 taken taken1 e e1 tree settles same never ok err = λ up0 down0 w few run.
     let after : InRun honest1 up0 down0 up1 down1 (settled step w) e1 = settles up0 down0 w run in
-    let shows : tree ≡ view_of (settled step w).side = same ∙ shown-settled honest honest1 up0 down0 up down up1 down1 w e e1 run after in (
+    let shows : tree ≡ view_of (settled step w).state = same ∙ shown-settled honest honest1 up0 down0 up down up1 down1 w e e1 run after in (
       never,
       after-ok result after,
-      prints-same result taken taken1 (codes "# front" ++ 10 ∷ outline_text seen_line tree) (codes "# front" ++ 10 ∷ outline_text seen_line (view_of (settled step w).side))
+      prints-same result taken taken1 (codes "# front" ++ 10 ∷ outline_text seen_line tree) (codes "# front" ++ 10 ∷ outline_text seen_line (view_of (settled step w).state))
           (ap (λ t. codes "# front" ++ 10 ∷ outline_text seen_line t) shows) ok err,
     )
 
 -- a show that did not settle
 pub show-stops : (stop : Stop) (honest honest1 : Type 0) (up down up1 down1 : Pipe) (taken : Option (List ℕ)) (e e1 : Ends) (form : LineForm)
-    → ((up0 down0 : Pipe) (w : World Side) → InRun honest up0 down0 up down w e → NotRefused {T = Unit {0}} (Err stop))
-    → CarriesOut {T = Unit {0}} honest honest1 up down up1 down1 taken taken e e1 form (Err stop)
+    → ((up0 down0 : Pipe) (w : World State) → InRun honest up0 down0 up down w e → NotRefused {T = Unit {0}} (Err stop))
+    → CarriesOut {T = Unit {0}} (scene (moment honest up down e) taken) (scene (moment honest1 up1 down1 e1) taken) form (Err stop)
 show-stops stop honest honest1 up down up1 down1 taken e e1 form never = λ up0 down0 w few run.
     (never up0 down0 w run, tt, record { part = []; rest = line_text form w; whole = refl; wrote = Appends-nil taken })
 
@@ -171,7 +184,7 @@ pub record Untold (e : Ends) (kept : List Kept) : Type 0 where
   pub kept_is : kept ≡ drop count all
 
 -- those that are printed after a settle are those that came since they were told last
-told-settled : (honest1 : Type 0) (up0 down0 up1 down1 : Pipe) (w : World Side) (e1 : Ends) (kept : List Kept)
+told-settled : (honest1 : Type 0) (up0 down0 up1 down1 : Pipe) (w : World State) (e1 : Ends) (kept : List Kept)
     → InRun honest1 up0 down0 up1 down1 (settled step w) e1 → Untold e1 kept → map told_of kept ≡ replies_after w.told (settled step w)
 told-settled honest1 up0 down0 up1 down1 w e1 kept after u =
     let in_world = after.so_far.in_world in
@@ -189,7 +202,7 @@ told-settled honest1 up0 down0 up1 down1 w e1 kept after u =
 abbrev pub replies_text : List Kept → List ℕ
 replies_text kept = codes "# replies" ++ 10 ∷ told_lines (map told_of kept)
 
-replies-same : (honest1 : Type 0) (up0 down0 up1 down1 : Pipe) (w : World Side) (e1 : Ends) (kept : List Kept)
+replies-same : (honest1 : Type 0) (up0 down0 up1 down1 : Pipe) (w : World State) (e1 : Ends) (kept : List Kept)
     → InRun honest1 up0 down0 up1 down1 (settled step w) e1 → Untold e1 kept → replies_text kept ≡ line_text show_replies w
 replies-same honest1 up0 down0 up1 down1 w e1 kept after u =
     ap (λ ts. codes "# replies" ++ 10 ∷ told_lines ts) (told-settled honest1 up0 down0 up1 down1 w e1 kept after u)
@@ -198,7 +211,7 @@ replies-same honest1 up0 down0 up1 down1 w e1 kept after u =
 pub replies-carried : (honest honest1 : Type 0) (up down up1 down1 : Pipe) (taken taken1 : Option (List ℕ)) (e e1 e2 : Ends) (kept : List Kept)
     → SettlesTo honest honest1 up down up1 down1 e e1 → Untold e1 kept
     → Appends taken taken1 (replies_text kept) → e2 ≡ record e1 { told = length e1.front.value.replies }
-    → CarriesOut {T = Unit {0}} honest honest1 up down up1 down1 taken taken1 e e2 show_replies (Ok tt)
+    → CarriesOut {T = Unit {0}} (scene (moment honest up down e) taken) (scene (moment honest1 up1 down1 e2) taken1) show_replies (Ok tt)
 replies-carried honest honest1 up down up1 down1 taken taken1 e e1 e2 kept settles u printed told = λ up0 down0 w few run.
     let after : InRun honest1 up0 down0 up1 down1 (settled step w) e1 = settles up0 down0 w run in
     let count : ℕ = length e1.front.value.replies in (
@@ -217,7 +230,7 @@ replies-carried honest honest1 up down up1 down1 taken taken1 e e1 e2 kept settl
 pub replies-stop : (stop : Stop) (honest honest1 : Type 0) (up down up1 down1 : Pipe) (taken taken1 : Option (List ℕ)) (e e1 e2 : Ends) (kept : List Kept)
     → SettlesTo honest honest1 up down up1 down1 e e1 → Untold e1 kept
     → NotRefused {T = Unit {0}} (Err stop) → WrotePart taken taken1 (replies_text kept)
-    → CarriesOut {T = Unit {0}} honest honest1 up down up1 down1 taken taken1 e e2 show_replies (Err stop)
+    → CarriesOut {T = Unit {0}} (scene (moment honest up down e) taken) (scene (moment honest1 up1 down1 e2) taken1) show_replies (Err stop)
 replies-stop stop honest honest1 up down up1 down1 taken taken1 e e1 e2 kept settles u never wrote = λ up0 down0 w few run.
     let after : InRun honest1 up0 down0 up1 down1 (settled step w) e1 = settles up0 down0 w run in
     (never, tt, subst (λ t. WrotePart taken taken1 t) (replies-same honest1 up0 down0 up1 down1 w e1 kept after u) wrote)
@@ -228,27 +241,27 @@ pub closes-well : (result : Result (Unit {0}) Stop) (honest honest1 : Type 0) (u
     → SettlesTo honest honest1 up down up1 down1 e e1 → tree ≡ e1.front.value.tree → NotRefused result
     → OnOk result (Appends taken taken1 (codes "# end" ++ 10 ∷ outline_text seen_line tree))
     → OnErr result (WrotePart taken taken1 (codes "# end" ++ 10 ∷ outline_text seen_line tree))
-    → Closes honest up down taken taken1 e result
+    → Closes (scene (moment honest up down e) taken) taken1 result
 closes-well result honest honest1 up down up1 down1 taken taken1 e e1 tree settles same never ok err = λ up0 down0 w run.
     let after : InRun honest1 up0 down0 up1 down1 (settled step w) e1 = settles up0 down0 w run in
-    let shows : tree ≡ view_of (settled step w).side = same ∙ shown-settled honest honest1 up0 down0 up down up1 down1 w e e1 run after in (
+    let shows : tree ≡ view_of (settled step w).state = same ∙ shown-settled honest honest1 up0 down0 up down up1 down1 w e e1 run after in (
       never,
-      prints-same result taken taken1 (codes "# end" ++ 10 ∷ outline_text seen_line tree) (codes "# end" ++ 10 ∷ outline_text seen_line (view_of (settled step w).side))
+      prints-same result taken taken1 (codes "# end" ++ 10 ∷ outline_text seen_line tree) (codes "# end" ++ 10 ∷ outline_text seen_line (view_of (settled step w).state))
           (ap (λ t. codes "# end" ++ 10 ∷ outline_text seen_line t) shows) ok err,
     )
 
 pub closes-not : (stop : Stop) (honest : Type 0) (up down : Pipe) (taken : Option (List ℕ)) (e : Ends)
-    → ((up0 down0 : Pipe) (w : World Side) → InRun honest up0 down0 up down w e → NotRefused {T = Unit {0}} (Err stop))
-    → Closes {T = Unit {0}} honest up down taken taken e (Err stop)
+    → ((up0 down0 : Pipe) (w : World State) → InRun honest up0 down0 up down w e → NotRefused {T = Unit {0}} (Err stop))
+    → Closes {T = Unit {0}} (scene (moment honest up down e) taken) taken (Err stop)
 closes-not stop honest up down taken e never = λ up0 down0 w run.
     (never up0 down0 w run, record { part = []; rest = closing_text w; whole = refl; wrote = Appends-nil taken })
 
 -- ---- the lines
 
 -- where a run of lines is: the world, what was printed so far, and that the lines left do the rest
-pub record Running (honest : Type 0) (up0 down0 up down : Pipe) (taken0 taken : Option (List ℕ)) (all_text : List ℕ) (all_world : World Side)
+pub record Running (honest : Type 0) (up0 down0 up down : Pipe) (taken0 taken : Option (List ℕ)) (all_text : List ℕ) (all_world : World State)
     (number : ℕ) (lines : List (List ℕ)) (e : Ends) : Type 0 where
-  pub world : World Side
+  pub world : World State
   pub in_run : InRun honest up0 down0 up down world e
   pub few : world.asks + length lines ≤ most_asks
   pub so_far : List ℕ
@@ -262,7 +275,7 @@ FailsPart (Ok value) before after text = Unit {0}
 FailsPart (Err stop) before after text = WrotePart before after text
 
 -- the same of lines that are equal
-pub with_lines : (honest : Type 0) (up0 down0 up down : Pipe) (taken0 taken : Option (List ℕ)) (all_text : List ℕ) (all_world : World Side)
+pub with_lines : (honest : Type 0) (up0 down0 up down : Pipe) (taken0 taken : Option (List ℕ)) (all_text : List ℕ) (all_world : World State)
     (number : ℕ) (lines lines1 : List (List ℕ)) (e : Ends) → lines ≡ lines1
     → Running honest up0 down0 up down taken0 taken all_text all_world number lines e
     → Running honest up0 down0 up down taken0 taken all_text all_world number lines1 e
@@ -270,7 +283,7 @@ with_lines honest up0 down0 up down taken0 taken all_text all_world number lines
     subst (λ ls. Running honest up0 down0 up down taken0 taken all_text all_world number ls e) same running
 
 -- how many asks a line sends
-asks-after : (line : LineForm) (w : World Side) → (after_line line w).asks ≤ w.asks + 1
+asks-after : (line : LineForm) (w : World State) → (after_line line w).asks ≤ w.asks + 1
 asks-after (load nodes) w = omega arith
 asks-after (ask a) w = omega arith
 asks-after (forms_of.up n) w = omega arith
@@ -281,9 +294,9 @@ asks-after show_replies w = omega arith
 
 -- one line is carried out
 pub run_turn : (result : Result (Unit {0}) Stop) (c : Counts) (honest honest1 : Type 0) (up0 down0 up down up1 down1 : Pipe) (taken0 taken taken1 : Option (List ℕ))
-    (all_text : List ℕ) (all_world : World Side) (number : ℕ) (line : List ℕ) (more : List (List ℕ)) (form : LineForm) (e e1 : Ends)
+    (all_text : List ℕ) (all_world : World State) (number : ℕ) (line : List ℕ) (more : List (List ℕ)) (form : LineForm) (e e1 : Ends)
     → Running honest up0 down0 up down taken0 taken all_text all_world number (line ∷ more) e
-    → line_fault number line ≡ None → line_form line ≡ Some form → CarriesOut honest honest1 up down up1 down1 taken taken1 e e1 form result
+    → line_fault number line ≡ None → line_form line ≡ Some form → CarriesOut (scene (moment honest up down e) taken) (scene (moment honest1 up1 down1 e1) taken1) form result
     → NotRefused result
     × OnOk result (Running honest1 up0 down0 up1 down1 taken0 taken1 all_text all_world (number + 1) more e1)
     × FailsPart result taken0 taken1 all_text
@@ -303,7 +316,7 @@ run_turn result c honest honest1 up0 down0 up down up1 down1 taken0 taken taken1
     (all.0, rest.0, rest.1)
   where
     by-result : (result : Result (Unit {0}) Stop) (c : Counts) (honest1 : Type 0) (up0 down0 up1 down1 : Pipe) (taken0 taken taken1 : Option (List ℕ))
-        (all_text : List ℕ) (all_world : World Side) (number1 : ℕ) (more : List (List ℕ)) (e1 : Ends) (w : World Side) (form : LineForm) (so_far : List ℕ) (later : List LineForm)
+        (all_text : List ℕ) (all_world : World State) (number1 : ℕ) (more : List (List ℕ)) (e1 : Ends) (w : World State) (form : LineForm) (so_far : List ℕ) (later : List LineForm)
         → later ≡ good_lines number1 more
         → (after_line form w).asks + length more ≤ most_asks
         → Appends taken0 taken so_far
@@ -335,11 +348,11 @@ run_turn result c honest honest1 up0 down0 up down up1 down1 taken0 taken taken1
 
 -- ---- how the lines end
 
-nothing-left : (so_far : List ℕ) (w : World Side) (forms : List LineForm) → forms ≡ [] → so_far ++ lines_text forms w ≡ so_far
+nothing-left : (so_far : List ℕ) (w : World State) (forms : List LineForm) → forms ≡ [] → so_far ++ lines_text forms w ≡ so_far
 nothing-left so_far w forms e = ap (λ fs. so_far ++ lines_text fs w) e ∙ append-nil so_far
 
 -- a line is not read
-pub read-stops : (stop : Stop) (honest : Type 0) (up0 down0 up down : Pipe) (taken0 taken : Option (List ℕ)) (all_text : List ℕ) (all_world : World Side)
+pub read-stops : (stop : Stop) (honest : Type 0) (up0 down0 up down : Pipe) (taken0 taken : Option (List ℕ)) (all_text : List ℕ) (all_world : World State)
     (number : ℕ) (line : List ℕ) (more : List (List ℕ)) (e : Ends)
     → Running honest up0 down0 up down taken0 taken all_text all_world number (line ∷ more) e
     → IsRead {T = Unit {0}} (Err stop) number (line_fault number line)
@@ -358,7 +371,7 @@ read-stops Memory honest up0 down0 up down taken0 taken all_text all_world numbe
     (WrotePart-all taken0 taken running.so_far (lines_text (good_lines number (line ∷ more)) running.world) running.wrote)
 
 -- no line is left
-pub lines-done : (honest : Type 0) (up0 down0 up down : Pipe) (taken0 taken : Option (List ℕ)) (all_text : List ℕ) (all_world : World Side)
+pub lines-done : (honest : Type 0) (up0 down0 up down : Pipe) (taken0 taken : Option (List ℕ)) (all_text : List ℕ) (all_world : World State)
     (number : ℕ) (lines : List (List ℕ)) (e : Ends)
     → Running honest up0 down0 up down taken0 taken all_text all_world number lines e → lines ≡ []
     → InRun honest up0 down0 up down all_world e × Appends taken0 taken all_text
@@ -369,20 +382,20 @@ lines-done honest up0 down0 up down taken0 taken all_text all_world number lines
     )
 
 -- the part after the lines
-pub closed-took : (result : Result (Unit {0}) Stop) (c : Counts) (taken0 taken taken1 : Option (List ℕ)) (bad : Option (ℕ × LineFault)) (forms : List LineForm) (w : World Side)
-    → bad ≡ None → RoseAt c result → NotRefused result
+pub closed-took : (result : Result (Unit {0}) Stop) (sink0 sink1 link0 link1 : ℕ) (taken0 taken taken1 : Option (List ℕ)) (bad : Option (ℕ × LineFault)) (forms : List LineForm) (w : World State)
+    → bad ≡ None → HasStopCause sink0 sink1 link0 link1 result → NotRefused result
     → Appends taken0 taken (lines_text forms w) → Prints result taken taken1 (closing_text (after_lines forms w))
     → RunTook result taken0 taken1 (rest_text bad forms w)
-closed-took (Ok value) c taken0 taken taken1 bad forms w none rose well wrote printed =
+closed-took (Ok value) sink0 sink1 link0 link1 taken0 taken taken1 bad forms w none cause well wrote printed =
     subst (λ b. Appends taken0 taken1 (rest_text b forms w)) (sym none)
     (Appends-append taken0 taken taken1 (lines_text forms w) (closing_text (after_lines forms w)) wrote printed)
-closed-took (Err stop) c taken0 taken taken1 bad forms w none rose well wrote printed =
-    part-took stop c taken0 taken1 (rest_text bad forms w) rose well
+closed-took (Err stop) sink0 sink1 link0 link1 taken0 taken taken1 bad forms w none cause well wrote printed =
+    part-took stop sink0 sink1 link0 link1 taken0 taken1 (rest_text bad forms w) cause well
     (subst (λ b. WrotePart taken0 taken1 (rest_text b forms w)) (sym none)
     (WrotePart-after taken0 taken taken1 (lines_text forms w) (closing_text (after_lines forms w)) wrote printed))
 
 -- the lines stopped
-pub stopped-took : (stop : Stop) (taken0 taken : Option (List ℕ)) (bad : Option (ℕ × LineFault)) (forms : List LineForm) (w : World Side)
+pub stopped-took : (stop : Stop) (taken0 taken : Option (List ℕ)) (bad : Option (ℕ × LineFault)) (forms : List LineForm) (w : World State)
     → RunTells {T = Unit {0}} (Err stop) bad → RunTook {T = Unit {0}} (Err stop) taken0 taken (lines_text forms w)
     → RunTook {T = Unit {0}} (Err stop) taken0 taken (rest_text bad forms w)
 stopped-took (Line n fault) taken0 taken bad forms w tells took =
@@ -431,7 +444,7 @@ abbrev pub first_ends : Nodes Label → HeldEnds
 first_ends nodes = record { page = loaded 1 nodes; is_on = false; bound = empty_from 1; back_rest = []; front = first_state; up_there = 0; down_there = 0; told = 0 }
 
 pub ends-first : (nodes : Nodes Label) (e : Ends)
-    → e.back.page ≡ loaded 1 nodes → e.back.is_on ≡ false → e.back.agent ≡ empty_from 1 → e.splitter ≡ no_frames → e.front ≡ first_state
+    → e.side.page ≡ loaded 1 nodes → e.seat.is_on ≡ false → e.seat.agent ≡ empty_from 1 → e.splitter ≡ no_frames → e.front ≡ first_state
     → e.up_there ≡ 0 → e.down_there ≡ 0 → e.told ≡ 0 → ends_of e ≡ first_ends nodes
 ends-first nodes e page_is off agent_is splitter_is front_is up_none down_none told_none = λ i. record {
   page = page_is i;
@@ -449,7 +462,7 @@ unfolding frames_of
 nothing-awaited nodes = refl
 
 pub begins : (honest : Type 0) (up down : Pipe) (nodes : Nodes Label) (e : Ends) → honest → CanLoad nodes → HaveTexts nodes → IsLevel up → IsLevel down
-    → e.back.page ≡ loaded 1 nodes → e.back.is_on ≡ false → e.back.agent ≡ empty_from 1 → e.splitter ≡ no_frames → e.front ≡ first_state
+    → e.side.page ≡ loaded 1 nodes → e.seat.is_on ≡ false → e.seat.agent ≡ empty_from 1 → e.splitter ≡ no_frames → e.front ≡ first_state
     → e.up_there ≡ 0 → e.down_there ≡ 0 → e.told ≡ 0
     → InRun honest up down up down (loaded_world nodes) e
 begins honest up down nodes e is_honest can texts up_level down_level page_is off agent_is splitter_is front_is up_none down_none told_none =

@@ -2,14 +2,23 @@
 use Rattle.std.specs.Prelude.{◌≡◌, ◌^◌, ℕ, Vec, List, [], Bool, true, false, ◌||◌, nat_lt, length, Option, Some, None, Result, Ok, Err, ⊤}
 use Rattle.std.specs.Io.KnownBytes.{Appends}
 use Rattle.std.specs.declared.alloc.Global.{Global}
-use Rattle.pipe_frames.specs.Fault.{Rose}
 use Rattle.pipe_frames.specs.Whole.{WrotePart}
 use Rattle.replay_script.specs.declared.faults.LineFault.{LineFault}
 use Rattle.replay_script.specs.Lines.{has_long_line}
+use Rattle.front_mirror.specs.declared.faults.FrontFault.{FrontFault}
 use Rattle.inspect_replay.specs.declared.status.Status.{Status}
-use Rattle.inspect_replay.specs.declared.status.Status.TheVariants as status
 use Rattle.inspect_replay.specs.declared.stop.Stop.{Stop}
-use Rattle.inspect_replay.specs.declared.stop.Stop.TheVariants.{Line, TooLong, ReadFault, WriteFault, LinkFault, FrontRefused, Memory}
+use Rattle.inspect_replay.specs.Says.{Phase, untouched, reading, underway, ended, anywhen, Counts, PartRose, says, says_of}
+
+-- where the test holds, the statement does
+abbrev pub OnTrue : Bool → Type 0 → Type 0
+OnTrue true P = P
+OnTrue false P = ⊤
+
+-- there is none
+abbrev pub Absent : {A : Type 0} → Option A → Type 0
+Absent None = ⊤
+Absent (Some x) = ⊥
 
 -- ---- the input
 
@@ -17,158 +26,123 @@ use Rattle.inspect_replay.specs.declared.stop.Stop.TheVariants.{Line, TooLong, R
 abbrev pub is_too_long : List ℕ → Bool
 is_too_long input = nat_lt (2 ^ 26) (length input) || has_long_line input (2 ^ 24)
 
+-- what an answer says of the limits of the input
+abbrev pub LimitsAt : Phase → Bool → List ℕ → Type 0
+LimitsAt untouched over input = ⊤
+LimitsAt reading over input = OnTrue over (is_too_long input ≡ true)
+LimitsAt underway over input = is_too_long input ≡ false
+LimitsAt ended over input = is_too_long input ≡ false
+LimitsAt anywhen over input = ⊤
+
 -- TooLong is answered where the input is too long, and each later answer where it is not
 abbrev pub FitsLimits : Status → List ℕ → Type 0
-FitsLimits status.Done input = is_too_long input ≡ false
-FitsLimits status.Usage input = ⊤
-FitsLimits (status.Line number fault) input = is_too_long input ≡ false
-FitsLimits status.TooLong input = is_too_long input ≡ true
-FitsLimits status.ReadFault input = ⊤
-FitsLimits status.WriteFault input = is_too_long input ≡ false
-FitsLimits status.LinkFault input = is_too_long input ≡ false
-FitsLimits (status.FrontRefused place fault) input = is_too_long input ≡ false
-FitsLimits status.Memory input = ⊤
+FitsLimits status input = LimitsAt (says status).phase (says status).over input
+
+-- a statement that holds at the end, and says nothing of other answers
+abbrev pub AtEnd : Phase → Type 0 → Type 0
+AtEnd untouched P = ⊤
+AtEnd reading P = ⊤
+AtEnd underway P = ⊤
+AtEnd ended P = P
+AtEnd anywhen P = ⊤
 
 -- Done is answered where no line is refused, and a line with its fault where it is the first that is refused
 abbrev pub TellsLine : Status → Option (ℕ × LineFault) → Type 0
-TellsLine status.Done bad = bad ≡ None
-TellsLine status.Usage bad = ⊤
-TellsLine (status.Line number fault) bad = bad ≡ Some (number, fault)
-TellsLine status.TooLong bad = ⊤
-TellsLine status.ReadFault bad = ⊤
-TellsLine status.WriteFault bad = ⊤
-TellsLine status.LinkFault bad = ⊤
-TellsLine (status.FrontRefused place fault) bad = ⊤
-TellsLine status.Memory bad = ⊤
+TellsLine status bad = AtEnd (says status).phase (bad ≡ (says status).line)
+
+-- a statement that holds once the input was read, and says nothing of earlier answers
+abbrev pub OnceRead : Phase → Type 0 → Type 0
+OnceRead untouched P = ⊤
+OnceRead reading P = ⊤
+OnceRead underway P = P
+OnceRead ended P = P
+OnceRead anywhen P = ⊤
+
+-- the source has nothing left after an answer that came of the whole input
+abbrev pub ReadsAll : Status → Option (List ℕ) → Type 0
+ReadsAll status left = OnceRead (says status).phase (left ≡ Some [])
 
 -- ---- what was written, over an honest link
+
+-- what the sink took of the report, by how far the call had come and whether the front end refused a message
+abbrev pub TookAt : Phase → Option FrontFault → Option (List ℕ) → Option (List ℕ) → List ℕ → Type 0
+TookAt untouched message before after report = after ≡ before
+TookAt reading message before after report = after ≡ before
+TookAt underway None before after report = WrotePart before after report
+TookAt underway (Some fault) before after report = ⊥
+TookAt ended message before after report = Appends before after report
+TookAt anywhen message before after report = WrotePart before after report
 
 -- The report on Done; of a script with a line that is refused, the report is what the lines before that one print.
 -- Nothing before the input was read; a front part of the report on any other answer. The front end never refuses.
 abbrev pub Took : Status → Option (List ℕ) → Option (List ℕ) → List ℕ → Type 0
-Took status.Done before after report = Appends before after report
-Took status.Usage before after report = after ≡ before
-Took (status.Line number fault) before after report = Appends before after report
-Took status.TooLong before after report = after ≡ before
-Took status.ReadFault before after report = after ≡ before
-Took status.WriteFault before after report = WrotePart before after report
-Took status.LinkFault before after report = WrotePart before after report
-Took (status.FrontRefused place fault) before after report = ⊥
-Took status.Memory before after report = WrotePart before after report
+Took status before after report = TookAt (says status).phase (says status).message before after report
+
+-- a statement of answers that come before the input was read
+abbrev pub BeforeRead : Phase → Type 0 → Type 0
+BeforeRead untouched P = P
+BeforeRead reading P = P
+BeforeRead underway P = ⊤
+BeforeRead ended P = ⊤
+BeforeRead anywhen P = ⊤
 
 -- nothing is written before the whole input was read
 abbrev pub WritesNothing : Status → Option (List ℕ) → Option (List ℕ) → Type 0
-WritesNothing status.Done before after = ⊤
-WritesNothing status.Usage before after = after ≡ before
-WritesNothing (status.Line number fault) before after = ⊤
-WritesNothing status.TooLong before after = after ≡ before
-WritesNothing status.ReadFault before after = after ≡ before
-WritesNothing status.WriteFault before after = ⊤
-WritesNothing status.LinkFault before after = ⊤
-WritesNothing (status.FrontRefused place fault) before after = ⊤
-WritesNothing status.Memory before after = ⊤
+WritesNothing status before after = BeforeRead (says status).phase (after ≡ before)
 
 -- ---- the same of a run over an input that was read
 
-abbrev pub RunTells : {T : Type 0} → Result T Stop → Option (ℕ × LineFault) → Type 0
-RunTells (Ok value) bad = bad ≡ None
-RunTells (Err (Line number fault)) bad = bad ≡ Some (number, fault)
-RunTells (Err TooLong) bad = ⊥
-RunTells (Err ReadFault) bad = ⊥
-RunTells (Err WriteFault) bad = ⊤
-RunTells (Err LinkFault) bad = ⊤
-RunTells (Err (FrontRefused place fault)) bad = ⊤
-RunTells (Err Memory) bad = ⊤
+-- an answer of a run over an input that was read: it is none of those that come before
+abbrev pub InRunOnly : Phase → Type 0 → Type 0
+InRunOnly untouched P = ⊥
+InRunOnly reading P = ⊥
+InRunOnly underway P = P
+InRunOnly ended P = P
+InRunOnly anywhen P = P
 
+-- a run ends where no line is refused, or stops at the first that is
+abbrev pub RunTells : {T : Type 0} → Result T Stop → Option (ℕ × LineFault) → Type 0
+RunTells result bad = InRunOnly (says_of result).phase (AtEnd (says_of result).phase (bad ≡ (says_of result).line))
+
+-- what the sink took of what a run prints
 abbrev pub RunTook : {T : Type 0} → Result T Stop → Option (List ℕ) → Option (List ℕ) → List ℕ → Type 0
-RunTook (Ok value) before after text = Appends before after text
-RunTook (Err (Line number fault)) before after text = Appends before after text
-RunTook (Err TooLong) before after text = ⊥
-RunTook (Err ReadFault) before after text = ⊥
-RunTook (Err WriteFault) before after text = WrotePart before after text
-RunTook (Err LinkFault) before after text = WrotePart before after text
-RunTook (Err (FrontRefused place fault)) before after text = ⊥
-RunTook (Err Memory) before after text = WrotePart before after text
+RunTook result before after text = InRunOnly (says_of result).phase (TookAt (says_of result).phase (says_of result).message before after text)
 
 -- a part of a run that prints a text, and is not one that refuses lines
 abbrev pub Prints : {T : Type 0} → Result T Stop → Option (List ℕ) → Option (List ℕ) → List ℕ → Type 0
 Prints (Ok value) before after text = Appends before after text
 Prints (Err stop) before after text = WrotePart before after text
 
+-- an answer that comes after the input was read
+abbrev pub IsLate : Status → Type 0
+IsLate status = InRunOnly (says status).phase ⊤
+
 -- ---- the whole call
 
 -- A fault is answered only where the count of its cause rose in this call.
-pub record SixCounts : Type 0 where
-  pub source_before : ℕ
-  pub source_after : ℕ
-  pub sink_before : ℕ
-  pub sink_after : ℕ
-  pub link_before : ℕ
-  pub link_after : ℕ
+abbrev pub StatusRose : Counts → Status → Type 0
+StatusRose c status = PartRose c (says status).failed
 
-abbrev pub StatusRose : SixCounts → Status → Type 0
-StatusRose c status.Done = ⊤
-StatusRose c status.Usage = ⊤
-StatusRose c (status.Line number fault) = ⊤
-StatusRose c status.TooLong = ⊤
-StatusRose c status.ReadFault = Rose c.source_before c.source_after
-StatusRose c status.WriteFault = Rose c.sink_before c.sink_after
-StatusRose c status.LinkFault = Rose c.link_before c.link_after
-StatusRose c (status.FrontRefused place fault) = ⊤
-StatusRose c status.Memory = ⊤
+-- ---- the reading of the input
 
--- the status that a stop is
-abbrev pub status_of : Stop → Status
-status_of (Line number fault) = status.Line number fault
-status_of TooLong = status.TooLong
-status_of ReadFault = status.ReadFault
-status_of WriteFault = status.WriteFault
-status_of LinkFault = status.LinkFault
-status_of (FrontRefused place fault) = status.FrontRefused place fault
-status_of Memory = status.Memory
+-- an answer of the reading: it is none of those that come later
+abbrev pub InReadOnly : Phase → Type 0 → Type 0
+InReadOnly untouched P = ⊥
+InReadOnly reading P = P
+InReadOnly underway P = ⊥
+InReadOnly ended P = ⊥
+InReadOnly anywhen P = ⊤
 
 -- An input that is read within its limits, or the one reason why not.
 abbrev pub InputTells : Result (Vec ℕ Global) Stop → List ℕ → Type 0
 InputTells (Ok read) input = (read.items ≡ input) × (is_too_long input ≡ false)
-InputTells (Err (Line number fault)) input = ⊥
-InputTells (Err TooLong) input = is_too_long input ≡ true
-InputTells (Err ReadFault) input = ⊤
-InputTells (Err WriteFault) input = ⊥
-InputTells (Err LinkFault) input = ⊥
-InputTells (Err (FrontRefused place fault)) input = ⊥
-InputTells (Err Memory) input = ⊤
+InputTells (Err stop) input = InReadOnly (says_of {T = Vec ℕ Global} (Err stop)).phase (OnTrue (says_of {T = Vec ℕ Global} (Err stop)).over (is_too_long input ≡ true))
 
--- the source has nothing left after an answer that came of the whole input
-abbrev pub ReadsAll : Status → Option (List ℕ) → Type 0
-ReadsAll status.Done left = left ≡ Some []
-ReadsAll status.Usage left = ⊤
-ReadsAll (status.Line number fault) left = left ≡ Some []
-ReadsAll status.TooLong left = ⊤
-ReadsAll status.ReadFault left = ⊤
-ReadsAll status.WriteFault left = left ≡ Some []
-ReadsAll status.LinkFault left = left ≡ Some []
-ReadsAll (status.FrontRefused place fault) left = left ≡ Some []
-ReadsAll status.Memory left = ⊤
+-- the counts of a source, with no sink and no link
+abbrev pub source_counts : (before after : ℕ) → Counts
+source_counts before after = record { source_before = before; source_after = after; sink_before = 0; sink_after = 0; link_before = 0; link_after = 0 }
 
--- reading stops by one of three reasons, and by a fault of the source only where its count rose
-abbrev pub IsInputStop : ℕ → ℕ → Result (Vec ℕ Global) Stop → Type 0
+-- reading stops by a fault of the source only where its count rose
+abbrev pub IsInputStop : (before after : ℕ) → Result (Vec ℕ Global) Stop → Type 0
 IsInputStop before after (Ok read) = ⊤
-IsInputStop before after (Err (Line number fault)) = ⊥
-IsInputStop before after (Err TooLong) = ⊤
-IsInputStop before after (Err ReadFault) = Rose before after
-IsInputStop before after (Err WriteFault) = ⊥
-IsInputStop before after (Err LinkFault) = ⊥
-IsInputStop before after (Err (FrontRefused place fault)) = ⊥
-IsInputStop before after (Err Memory) = ⊤
-
--- an answer that comes after the input was read
-abbrev pub IsLate : Status → Type 0
-IsLate status.Done = ⊤
-IsLate status.Usage = ⊥
-IsLate (status.Line number fault) = ⊤
-IsLate status.TooLong = ⊥
-IsLate status.ReadFault = ⊥
-IsLate status.WriteFault = ⊤
-IsLate status.LinkFault = ⊤
-IsLate (status.FrontRefused place fault) = ⊤
-IsLate status.Memory = ⊤
+IsInputStop before after (Err stop) = InReadOnly (says_of {T = Vec ℕ Global} (Err stop)).phase (PartRose (source_counts before after) (says_of {T = Vec ℕ Global} (Err stop)).failed)

@@ -1,19 +1,19 @@
 -- What holds of a run over every link, whatever bytes it gives.
-use Rattle.std.specs.Prelude.{◌≡◌, ℕ, List, [], ◌∷◌, ◌++◌, map, codes, Option, Result, Ok, Err, IsOk, OnOk, ⊤}
+use Rattle.std.specs.Prelude.{◌≡◌, ℕ, List, [], ◌∷◌, ◌++◌, map, codes, Option, Some, None, Result, Ok, Err, IsOk, OnOk, ⊤}
 use Rattle.std.specs.Io.KnownBytes.{Appends}
 use Rattle.pipe_frames.specs.Pipe.{Pipe, sent_since, given_since}
 use Rattle.pipe_frames.specs.Frames.{frames_of}
 use Rattle.front_mirror.specs.declared.faults.FrontFault.{FrontFault}
 use Rattle.front_mirror.specs.Front.{FrontValue}
 use Rattle.front_mirror.specs.Outline.{outline_text, seen_line}
-use Rattle.inspect_world.specs.Sides.{Side}
+use Rattle.back_end.specs.States.{State}
 use Rattle.inspect_world.specs.Links.{Follows, fold_of}
 use Rattle.inspect_world.specs.Told.{Told, replies_in, reply_id}
 use Rattle.inspect_replay.specs.declared.ends.Ends.{Ends}
 use Rattle.inspect_replay.specs.declared.status.Status.{Status}
-use Rattle.inspect_replay.specs.declared.status.Status.TheVariants as status
 use Rattle.inspect_replay.specs.declared.stop.Stop.{Stop}
-use Rattle.inspect_replay.specs.declared.stop.Stop.TheVariants.{Line, TooLong, ReadFault, WriteFault, LinkFault, FrontRefused, Memory}
+use Rattle.inspect_replay.specs.Says.{Phase, untouched, reading, underway, ended, anywhen, says, says_of}
+use Rattle.inspect_replay.specs.Moments.{Moment, Scene}
 use Rattle.inspect_replay.specs.Runs.{ends_of}
 
 -- ---- what the clauses of the whole call say
@@ -22,17 +22,18 @@ use Rattle.inspect_replay.specs.Runs.{ends_of}
 abbrev pub fold_since : (up0 down0 up down : Pipe) → Result FrontValue FrontFault
 fold_since up0 down0 up down = fold_of (sent_since up0 up) (given_since down0 down)
 
+-- what an answer says of the fold: it is the message that was refused, or there is none; want of memory says nothing
+abbrev pub FoldsAt : Phase → Option FrontFault → Result FrontValue FrontFault → Type 0
+FoldsAt untouched message fold = IsOk fold
+FoldsAt reading message fold = IsOk fold
+FoldsAt underway None fold = IsOk fold
+FoldsAt underway (Some fault) fold = fold ≡ Err fault
+FoldsAt ended message fold = IsOk fold
+FoldsAt anywhen message fold = ⊤
+
 -- The front end refuses a message exactly where this fold does, with its place and its fault.
 abbrev pub StatusFolds : Status → Result FrontValue FrontFault → Type 0
-StatusFolds status.Done fold = IsOk fold
-StatusFolds status.Usage fold = IsOk fold
-StatusFolds (status.Line number fault) fold = IsOk fold
-StatusFolds status.TooLong fold = IsOk fold
-StatusFolds status.ReadFault fold = IsOk fold
-StatusFolds status.WriteFault fold = IsOk fold
-StatusFolds status.LinkFault fold = IsOk fold
-StatusFolds (status.FrontRefused place kind) fold = fold ≡ Err (record { place = place; kind = kind })
-StatusFolds status.Memory fold = ⊤
+StatusFolds status fold = FoldsAt (says status).phase (says status).message fold
 
 -- what was written ends with `# end` and the outline of what the fold shows
 pub record EndsShown (before after : Option (List ℕ)) (fold : Result FrontValue FrontFault) : Type 0 where
@@ -47,47 +48,41 @@ AnswersInOrder up0 down0 up down = map (λ (t : Told). t.id) (replies_in (sent_s
 
 -- ---- the same of its parts
 
+-- what the result of a part says of the fold
 abbrev pub StopFolds : {T : Type 0} → Result T Stop → Result FrontValue FrontFault → Type 0
-StopFolds (Ok value) fold = IsOk fold
-StopFolds (Err (Line number fault)) fold = IsOk fold
-StopFolds (Err TooLong) fold = IsOk fold
-StopFolds (Err ReadFault) fold = IsOk fold
-StopFolds (Err WriteFault) fold = IsOk fold
-StopFolds (Err LinkFault) fold = IsOk fold
-StopFolds (Err (FrontRefused place kind)) fold = fold ≡ Err (record { place = place; kind = kind })
-StopFolds (Err Memory) fold = ⊤
+StopFolds result fold = FoldsAt (says_of result).phase (says_of result).message fold
 
 -- the ends follow the link; the splitter may hold whole frames that are not yet answered
-abbrev pub FollowsWith : Side → (up0 down0 up down : Pipe) → Ends → Type 0
-FollowsWith side0 up0 down0 up down e = Follows side0 up0 down0 up down e.splitter.whole (ends_of e)
+abbrev pub FollowsWith : State → (up0 down0 up down : Pipe) → Ends → Type 0
+FollowsWith state0 up0 down0 up down e = Follows state0 up0 down0 up down e.splitter.whole (ends_of e)
 
-pub record FollowsRun (side0 : Side) (up0 down0 up down : Pipe) (e : Ends) : Type 0 where
-  pub so_far : FollowsWith side0 up0 down0 up down e
+pub record FollowsRun (state0 : State) (up0 down0 up down : Pipe) (e : Ends) : Type 0 where
+  pub so_far : FollowsWith state0 up0 down0 up down e
   pub none_whole : e.splitter.whole ≡ []
 
 -- a call goes on following, or stops as the fold says
-abbrev pub KeepsFollowing : {T : Type 0} → (up_old down_old up_new down_new : Pipe) → Ends → Ends → Result T Stop → Type 0
-KeepsFollowing up_old down_old up_new down_new old new result =
-    (side0 : Side) (up0 down0 : Pipe) → FollowsRun side0 up0 down0 up_old down_old old
-    → OnOk result (FollowsRun side0 up0 down0 up_new down_new new) × StopFolds result (fold_since up0 down0 up_new down_new)
+abbrev pub KeepsFollowing : {T : Type 0} → Moment → Moment → Result T Stop → Type 0
+KeepsFollowing old new result =
+    (state0 : State) (up0 down0 : Pipe) → FollowsRun state0 up0 down0 old.up old.down old.ends
+    → OnOk result (FollowsRun state0 up0 down0 new.up new.down new.ends) × StopFolds result (fold_since up0 down0 new.up new.down)
 
 -- the same of a call that leaves whole frames in the splitter
-abbrev pub KeepsFollowingWith : {T : Type 0} → (up_old down_old up_new down_new : Pipe) → Ends → Ends → Result T Stop → Type 0
-KeepsFollowingWith up_old down_old up_new down_new old new result =
-    (side0 : Side) (up0 down0 : Pipe) → FollowsRun side0 up0 down0 up_old down_old old
-    → OnOk result (FollowsWith side0 up0 down0 up_new down_new new) × StopFolds result (fold_since up0 down0 up_new down_new)
+abbrev pub KeepsFollowingWith : {T : Type 0} → Moment → Moment → Result T Stop → Type 0
+KeepsFollowingWith old new result =
+    (state0 : State) (up0 down0 : Pipe) → FollowsRun state0 up0 down0 old.up old.down old.ends
+    → OnOk result (FollowsWith state0 up0 down0 new.up new.down new.ends) × StopFolds result (fold_since up0 down0 new.up new.down)
 
 -- and of one that answers them all
-abbrev pub FollowsAnswers : {T : Type 0} → (up_old down_old up_new down_new : Pipe) → Ends → Ends → Result T Stop → Type 0
-FollowsAnswers up_old down_old up_new down_new old new result =
-    (side0 : Side) (up0 down0 : Pipe) → FollowsWith side0 up0 down0 up_old down_old old
-    → OnOk result (FollowsRun side0 up0 down0 up_new down_new new) × StopFolds result (fold_since up0 down0 up_new down_new)
+abbrev pub FollowsAnswers : {T : Type 0} → Moment → Moment → Result T Stop → Type 0
+FollowsAnswers old new result =
+    (state0 : State) (up0 down0 : Pipe) → FollowsWith state0 up0 down0 old.up old.down old.ends
+    → OnOk result (FollowsRun state0 up0 down0 new.up new.down new.ends) × StopFolds result (fold_since up0 down0 new.up new.down)
 
 -- and of one that answers this frame, before those that the splitter holds
-abbrev pub FollowsAnswer : {T : Type 0} → (up_old down_old up_new down_new : Pipe) → Ends → Ends → List ℕ → Result T Stop → Type 0
-FollowsAnswer up_old down_old up_new down_new old new frame result =
-    (side0 : Side) (up0 down0 : Pipe) → Follows side0 up0 down0 up_old down_old (frame ∷ old.splitter.whole) (ends_of old)
-    → OnOk result (FollowsWith side0 up0 down0 up_new down_new new) × StopFolds result (fold_since up0 down0 up_new down_new)
+abbrev pub FollowsAnswer : {T : Type 0} → Moment → Moment → List ℕ → Result T Stop → Type 0
+FollowsAnswer old new frame result =
+    (state0 : State) (up0 down0 : Pipe) → Follows state0 up0 down0 old.up old.down (frame ∷ old.ends.splitter.whole) (ends_of old.ends)
+    → OnOk result (FollowsWith state0 up0 down0 new.up new.down new.ends) × StopFolds result (fold_since up0 down0 new.up new.down)
 
 -- something was printed, or nothing
 pub record PrintedSome (before after : Option (List ℕ)) : Type 0 where
@@ -95,8 +90,8 @@ pub record PrintedSome (before after : Option (List ℕ)) : Type 0 where
   pub printed : Appends before after written
 
 -- the closing part is printed
-abbrev pub ClosesShown : {T : Type 0} → (up_old down_old up_new down_new : Pipe) → (before after : Option (List ℕ)) → Ends → Result T Stop → Type 0
-ClosesShown up_old down_old up_new down_new before after old result =
-    (side0 : Side) (up0 down0 : Pipe) → FollowsRun side0 up0 down0 up_old down_old old
-    → OnOk result (EndsShown before after (fold_since up0 down0 up_new down_new) × AnswersInOrder up0 down0 up_new down_new)
-    × StopFolds result (fold_since up0 down0 up_new down_new)
+abbrev pub ClosesShown : {T : Type 0} → Scene → Scene → Result T Stop → Type 0
+ClosesShown old new result =
+    (state0 : State) (up0 down0 : Pipe) → FollowsRun state0 up0 down0 old.now.up old.now.down old.now.ends
+    → OnOk result (EndsShown old.taken new.taken (fold_since up0 down0 new.now.up new.now.down) × AnswersInOrder up0 down0 new.now.up new.now.down)
+    × StopFolds result (fold_since up0 down0 new.now.up new.now.down)

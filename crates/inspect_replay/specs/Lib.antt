@@ -1,9 +1,10 @@
 pub mod Words
 pub mod Statuses
+pub mod Says
+pub mod Answers
 pub mod Stops
 pub mod Moved
-pub mod Backs
+pub mod Moments
 pub mod Runs
 pub mod Followed
-pub mod Answers
 pub mod Prints

@@ -8,47 +8,54 @@ use Rattle.replay_script.specs.Forms as forms
 use Rattle.replay_script.specs.declared.faults.LineFault.{LineFault}
 use Rattle.replay_script.specs.Script.{good_lines}
 use Rattle.inspect_world.specs.World.{World}
-use Rattle.inspect_world.specs.Sides.{Side}
+use Rattle.back_end.specs.States.{State}
 use Rattle.inspect_world.specs.Fits.{most_asks}
 use Rattle.inspect_world.specs.Scripts.{after_line, after_lines, line_text, lines_text, closing_text}
-use Rattle.inspect_replay.specs.declared.ends.Ends.{Ends}
 use Rattle.inspect_replay.specs.declared.stop.Stop.{Stop}
-use Rattle.inspect_replay.specs.declared.stop.Stop.TheVariants.{Line, TooLong, ReadFault, WriteFault, LinkFault, FrontRefused, Memory}
+use Rattle.inspect_replay.specs.Says.{Phase, untouched, reading, underway, ended, anywhen, says, status_of}
+use Rattle.inspect_replay.specs.Moments.{Scene}
 use Rattle.inspect_replay.specs.Runs.{InRun}
 use Rattle.inspect_replay.specs.Stops.{NotRefused}
 use Rattle.inspect_replay.specs.Answers.{RunTook, Prints}
 
 -- a line is carried out, and prints what it prints
-abbrev pub CarriesOut : {T : Type 0} → Type 0 → Type 0 → Pipe → Pipe → Pipe → Pipe → Option (List ℕ) → Option (List ℕ) → Ends → Ends → LineForm → Result T Stop → Type 0
-CarriesOut honest_old honest_new up_old down_old up_new down_new taken_old taken_new old new line result =
-    (up0 down0 : Pipe) (w : World Side) → w.asks < most_asks → InRun honest_old up0 down0 up_old down_old w old
+abbrev pub CarriesOut : {T : Type 0} → Scene → Scene → LineForm → Result T Stop → Type 0
+CarriesOut old new line result =
+    (up0 down0 : Pipe) (w : World State) → w.asks < most_asks → InRun old.now.honest up0 down0 old.now.up old.now.down w old.now.ends
     → NotRefused result
-    × OnOk result (InRun honest_new up0 down0 up_new down_new (after_line line w) new)
-    × Prints result taken_old taken_new (line_text line w)
+    × OnOk result (InRun new.now.honest up0 down0 new.now.up new.now.down (after_line line w) new.now.ends)
+    × Prints result old.taken new.taken (line_text line w)
 
 -- the lines after the load are carried out, up to the first that is refused
-abbrev pub RunsLines : {T : Type 0} → Type 0 → Type 0 → Pipe → Pipe → Pipe → Pipe → Option (List ℕ) → Option (List ℕ) → Ends → Ends → List (List ℕ) → Result T Stop → Type 0
-RunsLines honest_old honest_new up_old down_old up_new down_new taken_old taken_new old new lines result =
-    (up0 down0 : Pipe) (w : World Side) → w.asks + length lines ≤ most_asks → InRun honest_old up0 down0 up_old down_old w old
-    → OnOk result (InRun honest_new up0 down0 up_new down_new (after_lines (good_lines 2 lines) w) new)
-    × RunTook result taken_old taken_new (lines_text (good_lines 2 lines) w)
+abbrev pub RunsLines : {T : Type 0} → Scene → Scene → List (List ℕ) → Result T Stop → Type 0
+RunsLines old new lines result =
+    (up0 down0 : Pipe) (w : World State) → w.asks + length lines ≤ most_asks → InRun old.now.honest up0 down0 old.now.up old.now.down w old.now.ends
+    → OnOk result (InRun new.now.honest up0 down0 new.now.up new.now.down (after_lines (good_lines 2 lines) w) new.now.ends)
+    × RunTook result old.taken new.taken (lines_text (good_lines 2 lines) w)
 
 -- the closing part is printed
-abbrev pub Closes : {T : Type 0} → Type 0 → Pipe → Pipe → Option (List ℕ) → Option (List ℕ) → Ends → Result T Stop → Type 0
-Closes honest_old up_old down_old taken_old taken_new old result =
-    (up0 down0 : Pipe) (w : World Side) → InRun honest_old up0 down0 up_old down_old w old
-    → NotRefused result × Prints result taken_old taken_new (closing_text w)
+abbrev pub Closes : {T : Type 0} → Scene → Option (List ℕ) → Result T Stop → Type 0
+Closes old taken result =
+    (up0 down0 : Pipe) (w : World State) → InRun old.now.honest up0 down0 old.now.up old.now.down w old.now.ends
+    → NotRefused result × Prints result old.taken taken (closing_text w)
+
+-- the line is the one of that number, with that fault
+abbrev pub IsLine : Option (ℕ × LineFault) → ℕ → Option LineFault → Type 0
+IsLine None number fault = ⊥
+IsLine (Some line) number fault = (line.0 ≡ number) × (fault ≡ Some line.1)
+
+-- an answer of the reading of one line
+abbrev pub ReadsAt : Phase → Option (ℕ × LineFault) → ℕ → Option LineFault → Type 0
+ReadsAt untouched line number fault = ⊥
+ReadsAt reading line number fault = ⊥
+ReadsAt underway line number fault = ⊥
+ReadsAt ended line number fault = IsLine line number fault
+ReadsAt anywhen line number fault = ⊤
 
 -- a line is read, or refused with its number and fault
 abbrev pub IsRead : {T : Type 0} → Result T Stop → ℕ → Option LineFault → Type 0
 IsRead (Ok line) number fault = ⊤
-IsRead (Err (Line n f)) number fault = (n ≡ number) × (fault ≡ Some f)
-IsRead (Err TooLong) number fault = ⊥
-IsRead (Err ReadFault) number fault = ⊥
-IsRead (Err WriteFault) number fault = ⊥
-IsRead (Err LinkFault) number fault = ⊥
-IsRead (Err (FrontRefused place kind)) number fault = ⊥
-IsRead (Err Memory) number fault = ⊤
+IsRead (Err stop) number fault = ReadsAt (says (status_of stop)).phase (says (status_of stop)).line number fault
 
 -- the nodes of a line that loads a page
 abbrev pub load_of : LineForm → Option (Nodes Label)

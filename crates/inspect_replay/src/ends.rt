@@ -6,15 +6,16 @@ ghost use Rattle.front_mirror.specs.Front.{first_state};
 ghost use Rattle.replay_script.specs.Seen.{seen_ask};
 ghost use Rattle.inspect_replay.specs.Stops.{HasStopCause};
 ghost use Rattle.inspect_world.specs.World.{delivered_up, delivered_down, settled};
-ghost use Rattle.inspect_world.specs.Sides.{step};
+ghost use Rattle.back_end.specs.States.{step};
 ghost use Rattle.inspect_world.specs.Scripts.{sends};
 ghost use Rattle.inspect_world.specs.ScriptsFit.{CanSend};
 ghost use Rattle.inspect_replay.specs.Runs.{Steps, Asks, TakesUp, AnswersAll, AnswersOne};
+ghost use Rattle.inspect_replay.specs.Moments.{moment};
 ghost use Rattle.inspect_replay.specs.Followed.{KeepsFollowing, KeepsFollowingWith, FollowsAnswers, FollowsAnswer};
 
-use crate::back::Back;
 use crate::pipes::{receive_down, receive_up, send_down, send_up};
 use crate::stop::Stop;
+use back_end::{PageSide, Seat};
 use front_mirror::{Front, FrontErr, Kept, Mirror};
 use page_tree::Page;
 use pipe_frames::{Link, Splitter};
@@ -25,7 +26,8 @@ use std::alloc::{AllocError, Global};
 #[derive(Drop)]
 pub(crate) struct Ends {
     pub(crate) alloc: Global,
-    pub(crate) back: Back,
+    pub(crate) side: PageSide,
+    pub(crate) seat: Seat,
     pub(crate) splitter: Splitter,
     pub(crate) front: Front,
     pub(crate) up_there: u64,
@@ -35,9 +37,9 @@ pub(crate) struct Ends {
 
 impl Ends {
     pub(crate) fn new(alloc: Global, page: Page) -> Result<Ends, AllocError>
-        ensures page { IfOk result (λ ends. ends.back.page ≡ page) }
-        ensures off { IfOk result (λ ends. ends.back.is_on ≡ false) }
-        ensures agent { IfOk result (λ ends. ends.back.agent ≡ empty_from 1) }
+        ensures page { IfOk result (λ ends. ends.side.page ≡ page) }
+        ensures off { IfOk result (λ ends. ends.seat.is_on ≡ false) }
+        ensures agent { IfOk result (λ ends. ends.seat.agent ≡ empty_from 1) }
         ensures splitter { IfOk result (λ ends. ends.splitter ≡ record { whole = []; rest = [] }) }
         ensures front { IfOk result (λ ends. ends.front ≡ first_state) }
         ensures up { IfOk result (λ ends. ends.up_there ≡ 0) }
@@ -46,7 +48,8 @@ impl Ends {
     {
         Ok(Ends {
             alloc,
-            back: Back::new(alloc, page),
+            side: PageSide::new(page),
+            seat: Seat::new(alloc),
             splitter: Splitter::new(alloc),
             front: Front::new(alloc)?,
             up_there: 0,
@@ -83,9 +86,10 @@ impl Ends {
         requires session { IsTrue (is_whole_where_there (option_map view ask.now.session)) }
         ensures honest { L.honest link.old → L.honest link.new }
         ensures cause { HasStopCause 0 0 (L.faults link.old) (L.faults link.new) result }
-        ensures follows { KeepsFollowing (L.up link.old) (L.down link.old) (L.up link.new) (L.down link.new) self.old self.new result }
-        ensures steps { Asks (L.honest link.old) (L.honest link.new) (L.up link.old) (L.down link.old)
-            (L.up link.new) (L.down link.new) self.old self.new result (λ w. sends (seen_ask ask.now) w) }
+        ensures follows { KeepsFollowing (moment (L.honest link.old) (L.up link.old) (L.down link.old) self.old)
+            (moment (L.honest link.new) (L.up link.new) (L.down link.new) self.new) result }
+        ensures steps { Asks (moment (L.honest link.old) (L.up link.old) (L.down link.old) self.old)
+            (moment (L.honest link.new) (L.up link.new) (L.down link.new) self.new) result (λ w. sends (seen_ask ask.now) w) }
     {
         if !self.front.has_room() {
             return Err(Stop::Memory);
@@ -111,9 +115,10 @@ impl Ends {
     pub(crate) fn deliver_up<L: Link>(&mut self, link: &mut L, n: u64) -> Result<(), Stop>
         ensures honest { L.honest link.old → L.honest link.new }
         ensures cause { HasStopCause 0 0 (L.faults link.old) (L.faults link.new) result }
-        ensures follows { KeepsFollowing (L.up link.old) (L.down link.old) (L.up link.new) (L.down link.new) self.old self.new result }
-        ensures steps { Steps (L.honest link.old) (L.honest link.new) (L.up link.old) (L.down link.old)
-            (L.up link.new) (L.down link.new) self.old self.new result (λ w. delivered_up step n w) }
+        ensures follows { KeepsFollowing (moment (L.honest link.old) (L.up link.old) (L.down link.old) self.old)
+            (moment (L.honest link.new) (L.up link.new) (L.down link.new) self.new) result }
+        ensures steps { Steps (moment (L.honest link.old) (L.up link.old) (L.down link.old) self.old)
+            (moment (L.honest link.new) (L.up link.new) (L.down link.new) self.new) result (λ w. delivered_up step n w) }
     {
         match self.take_up(link, n) {
             Ok(()) => self.answer_frames(link),
@@ -125,9 +130,10 @@ impl Ends {
     fn take_up<L: Link>(&mut self, link: &mut L, n: u64) -> Result<(), Stop>
         ensures honest { L.honest link.old → L.honest link.new }
         ensures cause { HasStopCause 0 0 (L.faults link.old) (L.faults link.new) result }
-        ensures follows { KeepsFollowingWith (L.up link.old) (L.down link.old) (L.up link.new) (L.down link.new) self.old self.new result }
-        ensures steps { TakesUp (L.honest link.old) (L.honest link.new) (L.up link.old) (L.down link.old)
-            (L.up link.new) (L.down link.new) self.old self.new n result }
+        ensures follows { KeepsFollowingWith (moment (L.honest link.old) (L.up link.old) (L.down link.old) self.old)
+            (moment (L.honest link.new) (L.up link.new) (L.down link.new) self.new) result }
+        ensures steps { TakesUp (moment (L.honest link.old) (L.up link.old) (L.down link.old) self.old)
+            (moment (L.honest link.new) (L.up link.new) (L.down link.new) self.new) n result }
     {
         match receive_up(self.alloc, link, n.min(self.up_there) as usize) {
             Ok(piece) => {
@@ -143,9 +149,10 @@ impl Ends {
     fn answer_frames<L: Link>(&mut self, link: &mut L) -> Result<(), Stop>
         ensures honest { L.honest link.old → L.honest link.new }
         ensures cause { HasStopCause 0 0 (L.faults link.old) (L.faults link.new) result }
-        ensures follows { FollowsAnswers (L.up link.old) (L.down link.old) (L.up link.new) (L.down link.new) self.old self.new result }
-        ensures steps { AnswersAll (L.honest link.old) (L.honest link.new) (L.up link.old) (L.down link.old)
-            (L.up link.new) (L.down link.new) self.old self.new result }
+        ensures follows { FollowsAnswers (moment (L.honest link.old) (L.up link.old) (L.down link.old) self.old)
+            (moment (L.honest link.new) (L.up link.new) (L.down link.new) self.new) result }
+        ensures steps { AnswersAll (moment (L.honest link.old) (L.up link.old) (L.down link.old) self.old)
+            (moment (L.honest link.new) (L.up link.new) (L.down link.new) self.new) result }
     {
         while let Some(frame) = self.splitter.next() {
             match self.answer(link, &frame) {
@@ -160,15 +167,16 @@ impl Ends {
         ensures same { self.new.splitter ≡ self.old.splitter }
         ensures honest { L.honest link.old → L.honest link.new }
         ensures cause { HasStopCause 0 0 (L.faults link.old) (L.faults link.new) result }
-        ensures follows { FollowsAnswer (L.up link.old) (L.down link.old) (L.up link.new) (L.down link.new) self.old self.new frame.now result }
-        ensures steps { AnswersOne (L.honest link.old) (L.honest link.new) (L.up link.old) (L.down link.old)
-            (L.up link.new) (L.down link.new) self.old self.new frame.now result }
+        ensures follows { FollowsAnswer (moment (L.honest link.old) (L.up link.old) (L.down link.old) self.old)
+            (moment (L.honest link.new) (L.up link.new) (L.down link.new) self.new) frame.now result }
+        ensures steps { AnswersOne (moment (L.honest link.old) (L.up link.old) (L.down link.old) self.old)
+            (moment (L.honest link.new) (L.up link.new) (L.down link.new) self.new) frame.now result }
     {
-        if !self.back.has_room() {
+        if !self.seat.has_room() {
             return Err(Stop::Memory);
         }
         let mut out = Vec::new(self.alloc);
-        self.back.take_message(frame, &mut out)?;
+        self.seat.take_message(&mut self.side, frame, &mut out)?;
         let Some(there) = self.down_there.checked_add(out.len() as u64) else {
             return Err(Stop::Memory);
         };
@@ -185,9 +193,10 @@ impl Ends {
     pub(crate) fn deliver_down<L: Link>(&mut self, link: &mut L, n: u64) -> Result<(), Stop>
         ensures honest { L.honest link.old → L.honest link.new }
         ensures cause { HasStopCause 0 0 (L.faults link.old) (L.faults link.new) result }
-        ensures follows { KeepsFollowing (L.up link.old) (L.down link.old) (L.up link.new) (L.down link.new) self.old self.new result }
-        ensures steps { Steps (L.honest link.old) (L.honest link.new) (L.up link.old) (L.down link.old)
-            (L.up link.new) (L.down link.new) self.old self.new result (λ w. delivered_down n w) }
+        ensures follows { KeepsFollowing (moment (L.honest link.old) (L.up link.old) (L.down link.old) self.old)
+            (moment (L.honest link.new) (L.up link.new) (L.down link.new) self.new) result }
+        ensures steps { Steps (moment (L.honest link.old) (L.up link.old) (L.down link.old) self.old)
+            (moment (L.honest link.new) (L.up link.new) (L.down link.new) self.new) result (λ w. delivered_down n w) }
     {
         let piece = match receive_down(self.alloc, link, n.min(self.down_there) as usize) {
             Ok(piece) => piece,
@@ -208,9 +217,10 @@ impl Ends {
     pub(crate) fn settle<L: Link>(&mut self, link: &mut L) -> Result<(), Stop>
         ensures honest { L.honest link.old → L.honest link.new }
         ensures cause { HasStopCause 0 0 (L.faults link.old) (L.faults link.new) result }
-        ensures follows { KeepsFollowing (L.up link.old) (L.down link.old) (L.up link.new) (L.down link.new) self.old self.new result }
-        ensures steps { Steps (L.honest link.old) (L.honest link.new) (L.up link.old) (L.down link.old)
-            (L.up link.new) (L.down link.new) self.old self.new result (λ w. settled step w) }
+        ensures follows { KeepsFollowing (moment (L.honest link.old) (L.up link.old) (L.down link.old) self.old)
+            (moment (L.honest link.new) (L.up link.new) (L.down link.new) self.new) result }
+        ensures steps { Steps (moment (L.honest link.old) (L.up link.old) (L.down link.old) self.old)
+            (moment (L.honest link.new) (L.up link.new) (L.down link.new) self.new) result (λ w. settled step w) }
     {
         let up = self.up_there;
         match self.deliver_up(link, up) {

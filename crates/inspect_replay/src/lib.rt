@@ -1,7 +1,6 @@
 //! The replay of a script: a back end and a front end over a link, and what the script's lines print.
 #![tactic(auto)]
 
-mod back;
 mod ends;
 mod pipes;
 mod program;

@@ -1,11 +1,13 @@
-ghost use Rattle.std.specs.Prelude.{◌≡◌, ◌≤◌, ◌^◌, ◌↔◌, ℕ, List, map, string_bytes, length, Some, [], false, true, IfOk, OnOk};
+ghost use Rattle.std.specs.Prelude.{◌≡◌, ◌≤◌, ◌+◌, ◌^◌, ◌↔◌, ℕ, List, map, string_bytes, length, Some, [], false, true, IfOk, OnOk};
 ghost use Rattle.pipe_frames.specs.Pipe.{IsLevel};
+ghost use Rattle.pipe_frames.specs.Whole.{ReadPart};
 ghost use Rattle.replay_script.specs.Script.{script_fault};
 ghost use Rattle.inspect_world.specs.Scripts.{report};
 ghost use Rattle.inspect_replay.specs.Words.{is_replay};
 ghost use Rattle.inspect_replay.specs.declared.status.Status.TheVariants.{Done, Usage};
 ghost use Rattle.inspect_replay.specs.Followed.{StatusFolds, EndsShown, AnswersInOrder, fold_since};
-ghost use Rattle.inspect_replay.specs.Answers.{FitsLimits, TellsLine, Took, WritesNothing, StatusRose, InputTells, IsInputStop, ReadsAll, IsLate, status_of};
+ghost use Rattle.inspect_replay.specs.Answers.{FitsLimits, TellsLine, Took, WritesNothing, StatusRose, InputTells, IsInputStop, ReadsAll, IsLate};
+ghost use Rattle.inspect_replay.specs.Says.{status_of};
 
 use crate::run::run_script;
 use crate::status::Status;
@@ -50,6 +52,8 @@ pub fn inspect<S: Source, K: Sink, L: Link>(
     ensures line { (input : List ℕ) → S.left src.old ≡ Some input → TellsLine result (script_fault input) }
     ensures limits { (input : List ℕ) → S.left src.old ≡ Some input → FitsLimits result input }
     ensures whole { (input : List ℕ) → S.left src.old ≡ Some input → ReadsAll result (S.left src.new) }
+    // reading stops as soon as more than 2^26 bytes came
+    ensures reads { ReadPart (S.left src.old) (S.left src.new) (2 ^ 26 + 1) }
     ensures nothing { WritesNothing result (K.taken out.old) (K.taken out.new) }
     ensures cause { StatusRose (record {
       source_before = S.faults src.old;
@@ -84,6 +88,8 @@ fn replay<S: Source, K: Sink, L: Link>(
     ensures line { (input : List ℕ) → S.left src.old ≡ Some input → TellsLine result (script_fault input) }
     ensures limits { (input : List ℕ) → S.left src.old ≡ Some input → FitsLimits result input }
     ensures whole { (input : List ℕ) → S.left src.old ≡ Some input → ReadsAll result (S.left src.new) }
+    // reading stops as soon as more than 2^26 bytes came
+    ensures reads { ReadPart (S.left src.old) (S.left src.new) (2 ^ 26 + 1) }
     ensures nothing { WritesNothing result (K.taken out.old) (K.taken out.new) }
     ensures cause { StatusRose (record {
       source_before = S.faults src.old;
@@ -136,6 +142,7 @@ fn read_input<S: Source>(alloc: Global, src: &mut S) -> Result<Vec<u8>, Stop>
     ensures few { IfOk result (λ read. length read.items ≤ 2 ^ 26) }
     ensures whole { (input : List ℕ) → S.left src.old ≡ Some input → OnOk result (S.left src.new ≡ Some []) }
     ensures rose { IsInputStop (S.faults src.old) (S.faults src.new) result }
+    ensures part { ReadPart (S.left src.old) (S.left src.new) (2 ^ 26 + 1) }
 {
     let input = match read_all(alloc, src, INPUT_LIMIT) {
         Ok(input) => input,

@@ -6,10 +6,12 @@ ghost use Rattle.replay_script.specs.Faults.{line_fault};
 ghost use Rattle.replay_script.specs.Forms.{load, line_form, show_front, show_replies};
 ghost use Rattle.replay_script.specs.Script.{first_bad, good_lines, script_fault};
 ghost use Rattle.replay_script.specs.Seen.{seen, AreWhole};
-ghost use Rattle.inspect_world.specs.ScriptsFit.{IsLater, HaveTexts};
+ghost use Rattle.back_end.specs.Texts.{HaveTexts};
+ghost use Rattle.inspect_world.specs.ScriptsFit.{IsLater};
 ghost use Rattle.inspect_world.specs.Scripts.{report, rest_text, loaded_world};
 ghost use Rattle.inspect_replay.specs.Stops.{HasStopCause, HasRunCause};
 ghost use Rattle.inspect_replay.specs.Answers.{RunTells, RunTook};
+ghost use Rattle.inspect_replay.specs.Moments.{moment, scene};
 ghost use Rattle.inspect_replay.specs.Followed.{KeepsFollowing, PrintedSome, ClosesShown, StopFolds, fold_since, EndsShown, AnswersInOrder};
 ghost use Rattle.inspect_replay.specs.Prints.{CarriesOut, RunsLines, Closes, IsRead, load_of};
 
@@ -30,10 +32,11 @@ fn show_front<K: Sink, L: Link>(
 ) -> Result<(), Stop>
     ensures honest { L.honest link.old → L.honest link.new }
     ensures cause { HasStopCause (K.faults out.old) (K.faults out.new) (L.faults link.old) (L.faults link.new) result }
-    ensures follows { KeepsFollowing (L.up link.old) (L.down link.old) (L.up link.new) (L.down link.new) ends.old ends.new result }
+    ensures follows { KeepsFollowing (moment (L.honest link.old) (L.up link.old) (L.down link.old) ends.old)
+        (moment (L.honest link.new) (L.up link.new) (L.down link.new) ends.new) result }
     ensures some { OnOk result (PrintedSome (K.taken out.old) (K.taken out.new)) }
-    ensures runs { CarriesOut (L.honest link.old) (L.honest link.new) (L.up link.old) (L.down link.old) (L.up link.new)
-        (L.down link.new) (K.taken out.old) (K.taken out.new) ends.old ends.new show_front result }
+    ensures runs { CarriesOut (scene (moment (L.honest link.old) (L.up link.old) (L.down link.old) ends.old) (K.taken out.old))
+        (scene (moment (L.honest link.new) (L.up link.new) (L.down link.new) ends.new) (K.taken out.new)) show_front result }
 {
     match ends.settle(link) {
         Ok(()) => print_outline(alloc, "# front", ends.mirror(), out),
@@ -50,10 +53,11 @@ fn show_replies<K: Sink, L: Link>(
 ) -> Result<(), Stop>
     ensures honest { L.honest link.old → L.honest link.new }
     ensures cause { HasStopCause (K.faults out.old) (K.faults out.new) (L.faults link.old) (L.faults link.new) result }
-    ensures follows { KeepsFollowing (L.up link.old) (L.down link.old) (L.up link.new) (L.down link.new) ends.old ends.new result }
+    ensures follows { KeepsFollowing (moment (L.honest link.old) (L.up link.old) (L.down link.old) ends.old)
+        (moment (L.honest link.new) (L.up link.new) (L.down link.new) ends.new) result }
     ensures some { OnOk result (PrintedSome (K.taken out.old) (K.taken out.new)) }
-    ensures runs { CarriesOut (L.honest link.old) (L.honest link.new) (L.up link.old) (L.down link.old) (L.up link.new)
-        (L.down link.new) (K.taken out.old) (K.taken out.new) ends.old ends.new show_replies result }
+    ensures runs { CarriesOut (scene (moment (L.honest link.old) (L.up link.old) (L.down link.old) ends.old) (K.taken out.old))
+        (scene (moment (L.honest link.new) (L.up link.new) (L.down link.new) ends.new) (K.taken out.new)) show_replies result }
 {
     match ends.settle(link) {
         Ok(()) => {}
@@ -82,10 +86,11 @@ fn carry_out<K: Sink, L: Link>(
     requires whole { AreWhole line.now }
     ensures honest { L.honest link.old → L.honest link.new }
     ensures cause { HasStopCause (K.faults out.old) (K.faults out.new) (L.faults link.old) (L.faults link.new) result }
-    ensures follows { KeepsFollowing (L.up link.old) (L.down link.old) (L.up link.new) (L.down link.new) ends.old ends.new result }
+    ensures follows { KeepsFollowing (moment (L.honest link.old) (L.up link.old) (L.down link.old) ends.old)
+        (moment (L.honest link.new) (L.up link.new) (L.down link.new) ends.new) result }
     ensures some { OnOk result (PrintedSome (K.taken out.old) (K.taken out.new)) }
-    ensures runs { CarriesOut (L.honest link.old) (L.honest link.new) (L.up link.old) (L.down link.old) (L.up link.new)
-        (L.down link.new) (K.taken out.old) (K.taken out.new) ends.old ends.new (seen line.now) result }
+    ensures runs { CarriesOut (scene (moment (L.honest link.old) (L.up link.old) (L.down link.old) ends.old) (K.taken out.old))
+        (scene (moment (L.honest link.new) (L.up link.new) (L.down link.new) ends.new) (K.taken out.new)) (seen line.now) result }
 {
     match line {
         Line::Load(_) => unreachable!(),
@@ -110,10 +115,11 @@ fn run_lines<K: Sink, L: Link>(
     ensures tells { RunTells result (first_bad 2 lines.entry) }
     ensures honest { L.honest link.old → L.honest link.new }
     ensures cause { HasRunCause (K.faults out.old) (K.faults out.new) (L.faults link.old) (L.faults link.new) result }
-    ensures follows { KeepsFollowing (L.up link.old) (L.down link.old) (L.up link.new) (L.down link.new) ends.old ends.new result }
+    ensures follows { KeepsFollowing (moment (L.honest link.old) (L.up link.old) (L.down link.old) ends.old)
+        (moment (L.honest link.new) (L.up link.new) (L.down link.new) ends.new) result }
     ensures some { OnOk result (PrintedSome (K.taken out.old) (K.taken out.new)) }
-    ensures runs { RunsLines (L.honest link.old) (L.honest link.new) (L.up link.old) (L.down link.old) (L.up link.new)
-        (L.down link.new) (K.taken out.old) (K.taken out.new) ends.old ends.new lines.entry result }
+    ensures runs { RunsLines (scene (moment (L.honest link.old) (L.up link.old) (L.down link.old) ends.old) (K.taken out.old))
+        (scene (moment (L.honest link.new) (L.up link.new) (L.down link.new) ends.new) (K.taken out.new)) lines.entry result }
 {
     let mut number = 2;
     while let Some(text) = next_line(&mut lines) {
@@ -194,9 +200,9 @@ fn close<K: Sink, L: Link>(
 ) -> Result<(), Stop>
     ensures honest { L.honest link.old → L.honest link.new }
     ensures cause { HasStopCause (K.faults out.old) (K.faults out.new) (L.faults link.old) (L.faults link.new) result }
-    ensures shown { ClosesShown (L.up link.old) (L.down link.old) (L.up link.new) (L.down link.new) (K.taken out.old) (K.taken out.new) ends.old result }
-    ensures runs { Closes (L.honest link.old) (L.up link.old) (L.down link.old) (K.taken out.old) (K.taken out.new)
-        ends.old result }
+    ensures shown { ClosesShown (scene (moment (L.honest link.old) (L.up link.old) (L.down link.old) ends.old) (K.taken out.old))
+        (scene (moment (L.honest link.new) (L.up link.new) (L.down link.new) ends.new) (K.taken out.new)) result }
+    ensures runs { Closes (scene (moment (L.honest link.old) (L.up link.old) (L.down link.old) ends.old) (K.taken out.old)) (K.taken out.new) result }
 {
     match ends.settle(link) {
         Ok(()) => print_outline(alloc, "# end", ends.mirror(), out),

@@ -30,8 +30,8 @@ use Rattle.front_mirror.specs.declared.replies.Kept.{Kept}
 use Rattle.front_mirror.specs.Front.{FrontValue, take_frame, method_of, without, kept, replied, told}
 use Rattle.front_mirror.specs.Laws.{tells_document}
 use Rattle.inspect_world.specs.Fold.{folded, then}
-use Rattle.inspect_world.specs.Sides.{Side, nodes_in, view_of, side_after, needs_on}
-use Rattle.inspect_world.proofs.Options.{both_parts}
+use Rattle.back_end.specs.States.{State, nodes_in, view_of, after_outcome, needs_on}
+use Rattle.cdp_json.proofs.Options.{both_parts}
 use Rattle.inspect_world.proofs.Folds.{folded-append}
 use Rattle.dom_agent.proofs.OutcomeLemmas.{stays_session, draws_few}
 use Rattle.dom_agent.proofs.MoveLemmas.{steps_are_moves, replies_fit}
@@ -43,31 +43,31 @@ use Rattle.front_mirror.proofs.MoveLemmas.{take_frame-show_text, take_frame-stay
 
 -- ---- what the laws of the step say of one command
 
-pub record Good (side : Side) (c : Command) (o : Outcome Session) : Type 0 where
-  pub session : IsSession (nodes_in side) (state_after side.session o)
-  pub few : length (state_after side.session o).pushed ≤ length side.session.pushed + node_count (nodes_in side)
-  pub moved : IsMoved side.page side.session o
+pub record Good (state : State) (c : Command) (o : Outcome Session) : Type 0 where
+  pub session : IsSession (nodes_in state) (state_after state.client.session o)
+  pub few : length (state_after state.client.session o).pushed ≤ length state.client.session.pushed + node_count (nodes_in state)
+  pub moved : IsMoved state.side.page state.client.session o
   pub replies : IsReplyTo c o
 
-good-served : (side : Side) (c : Command) → IsValid side.page → IsSession (nodes_in side) side.session → fits_command c ≡ true → CanTell side.page side.session
-    → Good side c (session_outcome side.page c side.session)
-good-served side c valid session fits can = record {
-  session = stays_session side.page c side.session valid fits session;
-  few = draws_few side.page c side.session valid fits session;
-  moved = steps_are_moves side.page c side.session valid fits session can;
-  replies = replies_fit side.page c side.session valid fits session can;
+good-served : (state : State) (c : Command) → IsValid state.side.page → IsSession (nodes_in state) state.client.session → fits_command c ≡ true → CanTell state.side.page state.client.session
+    → Good state c (session_outcome state.side.page c state.client.session)
+good-served state c valid session fits can = record {
+  session = stays_session state.side.page c state.client.session valid fits session;
+  few = draws_few state.side.page c state.client.session valid fits session;
+  moved = steps_are_moves state.side.page c state.client.session valid fits session can;
+  replies = replies_fit state.side.page c state.client.session valid fits session can;
 }
 
-pub good-refused : (side : Side) (c : Command) (why : Why) → IsSession (nodes_in side) side.session → Good side c (refused why)
-good-refused side c why session = record { session = session; few = omega arith; moved = tt; replies = tt }
+pub good-refused : (state : State) (c : Command) (why : Why) → IsSession (nodes_in state) state.client.session → Good state c (refused why)
+good-refused state c why session = record { session = session; few = omega arith; moved = tt; replies = tt }
 
 -- what a command comes to, where it may be refused since DOM is off
-pub good-command : (side : Side) (c : Command) → IsValid side.page → IsSession (nodes_in side) side.session → fits_command c ≡ true → CanTell side.page side.session
-    → Good side c (cond (needs_on c && not side.is_on) (refused DomOff) (session_outcome side.page c side.session))
-good-command side c valid session fits can = at (needs_on c && not side.is_on) where
-  at : (b : Bool) → Good side c (cond b (refused DomOff) (session_outcome side.page c side.session))
-  at true = good-refused side c DomOff session
-  at false = good-served side c valid session fits can
+pub good-command : (state : State) (c : Command) → IsValid state.side.page → IsSession (nodes_in state) state.client.session → fits_command c ≡ true → CanTell state.side.page state.client.session
+    → Good state c (cond (needs_on c && not state.client.dom_on) (refused DomOff) (session_outcome state.side.page c state.client.session))
+good-command state c valid session fits can = at (needs_on c && not state.client.dom_on) where
+  at : (b : Bool) → Good state c (cond b (refused DomOff) (session_outcome state.side.page c state.client.session))
+  at true = good-refused state c DomOff session
+  at false = good-served state c valid session fits can
 
 -- ---- the events
 
@@ -138,23 +138,23 @@ led (x ∷ xs) u w front same course =
 -- ---- all frames of a command
 
 -- A front that has taken the frames of what a command came to: the last of them, and no other, is a reply, with the command's id.
-pub record Taken (id : ℕ) (o : Outcome Session) (front : FrontValue) (side : Side) : Type 0 where
+pub record Taken (id : ℕ) (o : Outcome Session) (front : FrontValue) (state : State) : Type 0 where
   pub texts : List (List ℕ)
   pub frames_are : frames_of (answer id o) ≡ record { whole = texts; rest = [] }
   pub after : FrontValue
   pub is_fold : folded take_frame front texts ≡ Ok after
-  pub tree : after.tree ≡ view_of (side_after side o)
+  pub tree : after.tree ≡ view_of (after_outcome state o)
   pub asks : after.asks ≡ without id front.asks
   pub reply : Kept
   pub replies : after.replies ≡ front.replies ++ reply ∷ []
   pub id_is : reply.id ≡ Some id
 
 -- the events, and then a reply that the front takes
-with-reply : (id : ℕ) (p : Progress Session) (body : ReplyBody) (front : FrontValue) (side : Side) (w : Nodes Seen)
+with-reply : (id : ℕ) (p : Progress Session) (body : ReplyBody) (front : FrontValue) (state : State) (w : Nodes Seen)
     → is_counted id ≡ true → fits_body body ≡ true → (before : Led front p.shown w)
     → (tree : Nodes Seen) → take_frame before.after (reply_text id body) ≡ Ok (replied before.after id (reply_text id body) true tree)
-    → tree ≡ view p.state (nodes_in side) → Taken id (served p body) front side
-with-reply id p body front side w c fits before tree takes tree_is =
+    → tree ≡ view p.state (nodes_in state) → Taken id (served p body) front state
+with-reply id p body front state w c fits before tree takes tree_is =
     let text = reply_text id body in
     let letters : IsText text = texts_have_no_zero (message_data (reply id (body_data body))) (reply_plain id body c fits) in
     record {
@@ -175,40 +175,40 @@ with-reply id p body front side w c fits before tree takes tree_is =
     }
 
 -- a reply that tells no document
-with-stay : (id : ℕ) (c : Command) (p : Progress Session) (body : ReplyBody) (front : FrontValue) (side : Side)
+with-stay : (id : ℕ) (c : Command) (p : Progress Session) (body : ReplyBody) (front : FrontValue) (state : State)
     → is_counted id ≡ true → fits_body body ≡ true → answers (method_name c) body ≡ true → tells_document body ≡ false
-    → front.tree ≡ view_of side → method_of id front.asks ≡ Some (method_name c)
-    → Course (shows p.shown) (view side.session (nodes_in side)) (view p.state (nodes_in side)) → Taken id (served p body) front side
-with-stay id c p body front side counted fits method stays tree waits course =
-    let before : Led front p.shown (view p.state (nodes_in side)) = led p.shown (view side.session (nodes_in side)) (view p.state (nodes_in side)) front tree course in
-    with-reply id p body front side (view p.state (nodes_in side)) counted fits before before.after.tree
+    → front.tree ≡ view_of state → method_of id front.asks ≡ Some (method_name c)
+    → Course (shows p.shown) (view state.client.session (nodes_in state)) (view p.state (nodes_in state)) → Taken id (served p body) front state
+with-stay id c p body front state counted fits method stays tree waits course =
+    let before : Led front p.shown (view p.state (nodes_in state)) = led p.shown (view state.client.session (nodes_in state)) (view p.state (nodes_in state)) front tree course in
+    with-reply id p body front state (view p.state (nodes_in state)) counted fits before before.after.tree
     (take_frame-stay_text before.after id (method_name c) body stays fits counted (ap (method_of id) before.asks ∙ waits) method) before.tree
 
 -- a reply that tells a document
-with-root : (id : ℕ) (c : Command) (p : Progress Session) (b : Branch Seen) (front : FrontValue) (side : Side)
+with-root : (id : ℕ) (c : Command) (p : Progress Session) (b : Branch Seen) (front : FrontValue) (state : State)
     → is_counted id ≡ true → fits_body (Root (told_branch 0 b)) ≡ true → answers (method_name c) (Root (told_branch 0 b)) ≡ true
-    → method_of id front.asks ≡ Some (method_name c) → p.shown ≡ [] → view p.state (nodes_in side) ≡ alone b → IsTellable (alone b)
-    → Taken id (served p (Root (told_branch 0 b))) front side
-with-root id c p b front side counted fits method waits none_shown view_is tellable =
+    → method_of id front.asks ≡ Some (method_name c) → p.shown ≡ [] → view p.state (nodes_in state) ≡ alone b → IsTellable (alone b)
+    → Taken id (served p (Root (told_branch 0 b))) front state
+with-root id c p b front state counted fits method waits none_shown view_is tellable =
     let before : Led front p.shown front.tree = subst (λ xs. Led front xs front.tree) (sym none_shown) (record { after = front; is_fold = refl; tree = refl; asks = refl; replies = refl; texts = tt }) in
     let named : method_name c ≡ codes "DOM.getDocument" = (bytes_eq-Decides (method_name c) (codes "DOM.getDocument")).0 method in
     let suits : suits_tree true b ≡ true = (both_parts (suits_tree true b) true tellable.forms).0 in
-    with-reply id p (Root (told_branch 0 b)) front side front.tree counted fits before (alone b)
+    with-reply id p (Root (told_branch 0 b)) front state front.tree counted fits before (alone b)
     (take_frame-reply before.after id b tellable.view suits (texts-told 0 (alone b) tellable.texts) counted (ap (method_of id) before.asks ∙ waits ∙ ap Some named)) (sym view_is)
 
-with-document : (id : ℕ) (c : Command) (p : Progress Session) (t : _) (front : FrontValue) (side : Side)
+with-document : (id : ℕ) (c : Command) (p : Progress Session) (t : _) (front : FrontValue) (state : State)
     → is_counted id ≡ true → fits_body (Root t) ≡ true → answers (method_name c) (Root t) ≡ true
-    → method_of id front.asks ≡ Some (method_name c) → Leads side.page side.session p (Root t) → Taken id (served p (Root t)) front side
-with-document id c p t front side counted fits method waits leads =
-    let b : Branch Seen = shown_by p.state side.page in
-    subst (λ u. Taken id (served p (Root u)) front side) (sym leads.1)
-    (with-root id c p b front side counted (subst (λ u. fits_body (Root u) ≡ true) leads.1 fits) (subst (λ u. answers (method_name c) (Root u) ≡ true) leads.1 method)
+    → method_of id front.asks ≡ Some (method_name c) → Leads state.side.page state.client.session p (Root t) → Taken id (served p (Root t)) front state
+with-document id c p t front state counted fits method waits leads =
+    let b : Branch Seen = shown_by p.state state.side.page in
+    subst (λ u. Taken id (served p (Root u)) front state) (sym leads.1)
+    (with-root id c p b front state counted (subst (λ u. fits_body (Root u) ≡ true) leads.1 fits) (subst (λ u. answers (method_name c) (Root u) ≡ true) leads.1 method)
     waits leads.0 leads.2 (subst IsTellable leads.2 leads.3))
 
 -- an error reply
-pub with-refusal : (id : ℕ) (method : List ℕ) (why : Why) (front : FrontValue) (side : Side) → is_counted id ≡ true → front.tree ≡ view_of side
-    → method_of id front.asks ≡ Some method → Taken id (refused why) front side
-with-refusal id method why front side counted tree waits =
+pub with-refusal : (id : ℕ) (method : List ℕ) (why : Why) (front : FrontValue) (state : State) → is_counted id ≡ true → front.tree ≡ view_of state
+    → method_of id front.asks ≡ Some method → Taken id (refused why) front state
+with-refusal id method why front state counted tree waits =
     let r : Refused = record { id = Some id; why = why } in
     let text = refused_text r in
     record {
@@ -225,14 +225,14 @@ with-refusal id method why front side counted tree waits =
       id_is = refl;
     }
 
-pub taken : (id : ℕ) (c : Command) (o : Outcome Session) (front : FrontValue) (side : Side) → Good side c o → is_counted id ≡ true → front.tree ≡ view_of side
-    → method_of id front.asks ≡ Some (method_name c) → Taken id o front side
-taken id c (served p Nothing) front side good counted tree waits =
-    with-stay id c p Nothing front side counted good.replies.0 good.replies.1 refl tree waits good.moved
-taken id c (served p (Root t)) front side good counted tree waits =
-    with-document id c p t front side counted good.replies.0 good.replies.1 waits good.moved
-taken id c (served p (NodeId given)) front side good counted tree waits =
-    with-stay id c p (NodeId given) front side counted good.replies.0 good.replies.1 refl tree waits good.moved
-taken id c (served p (NodeIds given)) front side good counted tree waits =
-    with-stay id c p (NodeIds given) front side counted good.replies.0 good.replies.1 refl tree waits good.moved
-taken id c (refused why) front side good counted tree waits = with-refusal id (method_name c) why front side counted tree waits
+pub taken : (id : ℕ) (c : Command) (o : Outcome Session) (front : FrontValue) (state : State) → Good state c o → is_counted id ≡ true → front.tree ≡ view_of state
+    → method_of id front.asks ≡ Some (method_name c) → Taken id o front state
+taken id c (served p Nothing) front state good counted tree waits =
+    with-stay id c p Nothing front state counted good.replies.0 good.replies.1 refl tree waits good.moved
+taken id c (served p (Root t)) front state good counted tree waits =
+    with-document id c p t front state counted good.replies.0 good.replies.1 waits good.moved
+taken id c (served p (NodeId given)) front state good counted tree waits =
+    with-stay id c p (NodeId given) front state counted good.replies.0 good.replies.1 refl tree waits good.moved
+taken id c (served p (NodeIds given)) front state good counted tree waits =
+    with-stay id c p (NodeIds given) front state counted good.replies.0 good.replies.1 refl tree waits good.moved
+taken id c (refused why) front state good counted tree waits = with-refusal id (method_name c) why front state counted tree waits

@@ -7,7 +7,7 @@ use Rattle.node_binding.proofs.StandsLemmas.{Stands-begun}
 use Rattle.node_tree.specs.Nodes.{Nodes}
 use Rattle.node_tree.specs.Labels.{Label}
 use Rattle.page_tree.specs.Forms.{CanLoad}
-use Rattle.page_tree.specs.Pages.{State, loaded}
+use Rattle.page_tree.specs.Pages.{State as PageValue, loaded}
 use Rattle.pipe_frames.specs.Pipe.{Pipe}
 use Rattle.pipe_frames.specs.Frames.{IsText, framed, frames_of, held_after}
 use Rattle.pipe_frames.proofs.FrameLemmas.{frames_of-append, frames_of-one}
@@ -19,10 +19,11 @@ use Rattle.replay_script.specs.Forms.{AskForm}
 use Rattle.inspect_world.specs.Stream.{Stream, sent, put, passed, held, arriving, awaited}
 use Rattle.inspect_world.specs.World.{World, steps, asked, answered, given_up, delivered_down}
 use Rattle.inspect_world.specs.Fold.{folded, joined, then}
-use Rattle.inspect_world.specs.Sides.{Side, nodes_in, first_side, step}
+use Rattle.back_end.specs.States.{State, nodes_in, loaded_state, step}
 use Rattle.inspect_world.specs.Fits.{join, IsAsk, ask_in, ask_with, with_ask, most_asks, IsFit, FitsWith}
 use Rattle.inspect_world.specs.Scripts.{sends, all_told, loaded_world}
-use Rattle.inspect_world.specs.ScriptsFit.{HaveTexts, CanSend}
+use Rattle.back_end.specs.Texts.{HaveTexts}
+use Rattle.inspect_world.specs.ScriptsFit.{CanSend}
 use Rattle.inspect_world.specs.Told.{told_of, replies_in}
 use Rattle.inspect_world.specs.Held.{Ends, good_front, InWorld}
 use Rattle.inspect_world.specs.Carried.{Carries}
@@ -70,12 +71,12 @@ left-passed n there there' piece s is front after =
 -- ---- bytes go down
 
 -- what the front end makes of the bytes that come down in an honest run
-pub record Takes (front1 : FrontState) (w : World Side) (n : ℕ) : Type 0 where
+pub record Takes (front1 : FrontState) (w : World State) (n : ℕ) : Type 0 where
   pub value : FrontValue
   pub front_is : front1 ≡ good_front value (held (passed n w.down)) (w.asks + 1)
   pub is_fold : folded take_frame (joined join (first_value []) (frames_of (sent w.up)).whole) (frames_of (passed n w.down).given).whole ≡ Ok value
 
-takes : (up0 down0 up down : Pipe) (w : World Side) (frames : List (List ℕ)) (e : Ends) (n : ℕ) (piece : List ℕ)
+takes : (up0 down0 up down : Pipe) (w : World State) (frames : List (List ℕ)) (e : Ends) (n : ℕ) (piece : List ℕ)
     → InWorld up0 down0 up down w frames e → piece ≡ take n w.down.flying → Takes (after_take e.front piece) w n
 takes up0 down0 up down w frames e n piece in_world front_part =
     let start = joined join (first_value []) (frames_of (sent w.up)).whole in
@@ -104,7 +105,7 @@ takes up0 down0 up down w frames e n piece in_world front_part =
     }
 
 -- bytes are delivered down
-pub world-delivered_down : (up0 down0 up down down1 : Pipe) (w : World Side) (frames : List (List ℕ)) (e : Ends) (n there : ℕ) (piece : List ℕ)
+pub world-delivered_down : (up0 down0 up down down1 : Pipe) (w : World State) (frames : List (List ℕ)) (e : Ends) (n there : ℕ) (piece : List ℕ)
     → InWorld up0 down0 up down w frames e → piece ≡ take n w.down.flying
     → down1.sent ≡ down.sent → down1.given ≡ down.given ++ piece → there ≡ e.down_there - length piece
     → InWorld up0 down0 up down1 (delivered_down n w) frames (record e { front = after_take e.front piece; down_there = there })
@@ -135,7 +136,7 @@ world-delivered_down up0 down0 up down down1 w frames e n there piece in_world f
     }
 
 -- the front end meets no fault
-pub never-refuses : (up0 down0 up down : Pipe) (w : World Side) (frames : List (List ℕ)) (e : Ends) (n : ℕ) (piece : List ℕ)
+pub never-refuses : (up0 down0 up down : Pipe) (w : World State) (frames : List (List ℕ)) (e : Ends) (n : ℕ) (piece : List ℕ)
     → InWorld up0 down0 up down w frames e → piece ≡ take n w.down.flying → (after_take e.front piece).fault ≡ None
 never-refuses up0 down0 up down w frames e n piece in_world front_part =
     ap (λ (state : FrontState). state.fault) (takes up0 down0 up down w frames e n piece in_world front_part).front_is
@@ -143,7 +144,7 @@ never-refuses up0 down0 up down w frames e n piece in_world front_part =
 -- ---- bytes go up
 
 -- an ask is sent
-pub world-asked : (up0 down0 up down up1 : Pipe) (w : World Side) (e : Ends) (text method : List ℕ) (there : ℕ)
+pub world-asked : (up0 down0 up down up1 : Pipe) (w : World State) (e : Ends) (text method : List ℕ) (there : ℕ)
     → InWorld up0 down0 up down w (awaited w.up) e → IsText text → IsAsk (w.asks + 1) text
     → ask_in text ≡ Some (ask_with method (w.asks + 1))
     → up1.sent ≡ up.sent ++ framed text → up1.given ≡ up.given → there ≡ e.up_there + length (framed text)
@@ -180,7 +181,7 @@ world-asked up0 down0 up down up1 w e text method there in_world letters is_ask 
     }
 
 -- the ask of a line is sent
-pub world-sent : (up0 down0 up down up1 : Pipe) (w : World Side) (e : Ends) (a : AskForm) (text : List ℕ) (there : ℕ)
+pub world-sent : (up0 down0 up down up1 : Pipe) (w : World State) (e : Ends) (a : AskForm) (text : List ℕ) (there : ℕ)
     → InWorld up0 down0 up down w (awaited w.up) e → CanSend a → w.asks < most_asks
     → text ≡ command_text (w.asks + 1) a.method a.params a.session
     → up1.sent ≡ up.sent ++ framed text → up1.given ≡ up.given → there ≡ e.up_there + length (framed text)
@@ -193,7 +194,7 @@ world-sent up0 down0 up down up1 w e a text there in_world can few text_is sent_
     (sent_is ∙ ap (λ bytes. up.sent ++ framed bytes) text_is) given_is (left ∙ ap (λ bytes. e.up_there + length (framed bytes)) text_is)
 
 -- bytes come up
-pub world-given_up : (up0 down0 up down up1 : Pipe) (w : World Side) (e : Ends) (n there : ℕ) (piece rest : List ℕ)
+pub world-given_up : (up0 down0 up down up1 : Pipe) (w : World State) (e : Ends) (n there : ℕ) (piece rest : List ℕ)
     → InWorld up0 down0 up down w (awaited w.up) e → piece ≡ take n w.up.flying
     → up1.sent ≡ up.sent → up1.given ≡ up.given ++ piece → there ≡ e.up_there - length piece
     → rest ≡ held_after e.back_rest piece
@@ -220,16 +221,16 @@ world-given_up up0 down0 up down up1 w e n there piece rest in_world front_part 
 }
 
 -- a frame that came up whole is answered
-pub world-answered : (up0 down0 up down down1 : Pipe) (w : World Side) (frame : List ℕ) (frames : List (List ℕ)) (e : Ends)
-    → (page : State) (is_on : Bool) (bound : Bound) (out : List ℕ) (there : ℕ)
+pub world-answered : (up0 down0 up down down1 : Pipe) (w : World State) (frame : List ℕ) (frames : List (List ℕ)) (e : Ends)
+    → (page : PageValue) (is_on : Bool) (bound : Bound) (out : List ℕ) (there : ℕ)
     → InWorld up0 down0 up down w (frame ∷ frames) e
-    → page ≡ (step w.side frame).side.page → is_on ≡ (step w.side frame).side.is_on → Stands (nodes_in (step w.side frame).side) (step w.side frame).side.session bound
-    → out ≡ (step w.side frame).sent
+    → page ≡ (step w.state frame).state.side.page → is_on ≡ (step w.state frame).state.client.dom_on → Stands (nodes_in (step w.state frame).state) (step w.state frame).state.client.session bound
+    → out ≡ (step w.state frame).sent
     → down1.sent ≡ down.sent ++ out → down1.given ≡ down.given → there ≡ e.down_there + length out
     → InWorld up0 down0 up down1 (answered step (frame ∷ []) w) frames
     (record e { page = page; is_on = is_on; bound = bound; down_there = there })
 world-answered up0 down0 up down down1 w frame frames e page is_on bound out there in_world page_is on_is stands out_is sent_is given_is left =
-    let all : out ≡ (steps step w.side (frame ∷ [])).sent = out_is ∙ sym (append-nil (step w.side frame).sent) in
+    let all : out ≡ (steps step w.state (frame ∷ [])).sent = out_is ∙ sym (append-nil (step w.state frame).sent) in
     record {
       up_is = in_world.up_is;
       down_is =
@@ -253,14 +254,14 @@ world-answered up0 down0 up down down1 w frame frames e page is_on bound out the
 -- ---- the replies
 
 -- the front end has kept just the replies that came down
-pub world-replies : (up0 down0 up down : Pipe) (w : World Side) (frames : List (List ℕ)) (e : Ends)
+pub world-replies : (up0 down0 up down : Pipe) (w : World State) (frames : List (List ℕ)) (e : Ends)
     → InWorld up0 down0 up down w frames e → map told_of e.front.value.replies ≡ replies_in w.down.given
 world-replies up0 down0 up down w frames e in_world =
     ap (λ (s : FrontState). map told_of s.value.replies) in_world.front_is
     ∙ replies-of (frames_of (sent w.up)).whole (frames_of w.down.given).whole in_world.value in_world.is_fold
 
 -- all of them are told
-pub world-told : (up0 down0 up down : Pipe) (w : World Side) (frames : List (List ℕ)) (e : Ends) (n : ℕ)
+pub world-told : (up0 down0 up down : Pipe) (w : World State) (frames : List (List ℕ)) (e : Ends) (n : ℕ)
     → InWorld up0 down0 up down w frames e → n ≡ length e.front.value.replies
     → InWorld up0 down0 up down (all_told w) frames (record e { told = n })
 world-told up0 down0 up down w frames e n in_world all = record {
@@ -297,7 +298,7 @@ world-first up0 down0 nodes can texts up_level down_level = record {
   down_is = carries-start down0 down_level;
   page_is = refl;
   on_is = refl;
-  stands = Stands-begun (nodes_in (first_side nodes));
+  stands = Stands-begun (nodes_in (loaded_state nodes));
   back_is = refl;
   value = first_value [];
   front_is = refl;

@@ -1,10 +1,10 @@
--- The front end and the side of the page keep fitting: what a run needs of the messages.
+-- The front end and the state of the page keep fitting: what a run needs of the messages.
 use Rattle.std.proofs.Common.{◌≡◌, ◌&&◌, not, cond, ℕ, suc, ◌+◌, ◌*◌, ◌^◌, ◌<◌, ◌≤◌, List, [], ◌∷◌, ◌++◌, length, map, Option, Some, None, true, false, refl, sym, ◌∙◌, ap, subst, length-append, Result, Ok, Err, arith}
 use Rattle.std.proofs.lemmas.List.{map-append}
 use Rattle.std.proofs.lemmas.Bool.{eq-eqb}
 use Rattle.node_tree.specs.Nodes.{node_count}
 use Rattle.page_tree.specs.Forms.{max_nodes}
-use Rattle.node_binding.specs.Sessions.{Session, IsSession}
+use Rattle.node_binding.specs.Sessions.{Session}
 use Rattle.node_binding.proofs.StartLemmas.{count-alone}
 use Rattle.pipe_frames.specs.Frames.{Frames, frames_of}
 use Rattle.cdp_messages.specs.declared.command.Asked.{Asked}
@@ -14,15 +14,15 @@ use Rattle.cdp_messages.specs.declared.command.Why.{Why}
 use Rattle.cdp_messages.specs.declared.command.Why.TheVariants.{DomOff}
 use Rattle.cdp_messages.specs.declared.command.Refused.{Refused}
 use Rattle.cdp_messages.specs.Asked.{asked, method_name, fits_command}
-use Rattle.dom_agent.specs.Requests.{Outcome, served, refused, state_after}
+use Rattle.dom_agent.specs.Requests.{Outcome, refused, state_after}
 use Rattle.dom_agent.specs.Laws.{session_outcome, CanTell}
 use Rattle.front_mirror.specs.declared.replies.Ask.{Ask}
 use Rattle.front_mirror.specs.declared.faults.FrontKind.{FrontKind}
 use Rattle.front_mirror.specs.Front.{FrontValue, take_frame, method_of, without}
-use Rattle.inspect_world.specs.World.{Stepped}
 use Rattle.inspect_world.specs.Fold.{folded, then, Laws, Answers}
-use Rattle.inspect_world.specs.Sides.{Side, nodes_in, needs_on, side_after, on_outcome, on_asked, step}
-use Rattle.inspect_world.specs.Fits.{join, ask_in, ask_with, with_ask, IsAsk, IsFit, IsSide}
+use Rattle.back_end.specs.States.{State, nodes_in, needs_on, on_outcome, on_asked, step, Stepped}
+use Rattle.inspect_world.specs.Fits.{join, ask_in, ask_with, with_ask, IsAsk, IsFit}
+use Rattle.back_end.proofs.StateLemmas.{session-after, IsState-after}
 use Rattle.front_mirror.proofs.FoldLemmas.{take_frame-more}
 use Rattle.inspect_world.proofs.Messages.{AskedAs, commanded, refused_as, asked-ask, ask-id}
 use Rattle.inspect_world.proofs.Answered.{Good, good-command, good-refused, Taken, taken, with-refusal}
@@ -47,9 +47,9 @@ folded-join ask before after (frame ∷ frames) e =
     ]) refl e
 
 -- an ask that is sent is the last of those that wait
-fit-asked : (n : ℕ) (ask : List ℕ) (front : FrontValue) (side : Side) (frames : List (List ℕ))
-    → IsAsk (n + 1) ask → IsFit n front side frames → IsFit (n + 1) (join front ask) side (frames ++ ask ∷ [])
-fit-asked n ask front side frames is_ask fit =
+fit-asked : (n : ℕ) (ask : List ℕ) (front : FrontValue) (state : State) (frames : List (List ℕ))
+    → IsAsk (n + 1) ask → IsFit n front state frames → IsFit (n + 1) (join front ask) state (frames ++ ask ∷ [])
+fit-asked n ask front state frames is_ask fit =
     let joins : join front ask ≡ with_ask front (Some (ask_with is_ask.method (n + 1))) = ap (with_ask front) is_ask.is in
     let same : length (join front ask).replies ≡ length front.replies = ap (λ (v : FrontValue). length v.replies) joins in
     record {
@@ -65,7 +65,7 @@ fit-asked n ask front side frames is_ask fit =
           let more : length (frames ++ ask ∷ []) ≡ length frames + 1 = length-append frames (ask ∷ []) in
           omega (arith, same, more, fit.replied);
       few = is_ask.few;
-      pushed = subst (λ k. length side.session.pushed ≤ k * max_nodes) (sym same) fit.pushed;
+      pushed = subst (λ k. length state.client.session.pushed ≤ k * max_nodes) (sym same) fit.pushed;
     }
 
 -- ---- one frame is answered
@@ -95,96 +95,87 @@ gone ask rest = rw (eq-eqb ask.id ask.id refl) refl
 room_left : (replied others n pushed nodes : ℕ) → replied + suc others ≡ n → n ≤ 2 ^ 26 → pushed ≤ replied * max_nodes → nodes ≤ 100000 → pushed + nodes < 2 ^ 53
 room_left replied others n pushed nodes all few h count = omega arith
 
-can-tell : (n : ℕ) (frame : List ℕ) (front : FrontValue) (side : Side) (frames : List (List ℕ)) → IsFit n front side (frame ∷ frames) → CanTell side.page side.session
-can-tell n frame front side frames fit = record {
-  serials = let h : side.page.next ≤ 2 ^ 52 = fit.side_is.serials in omega (arith, h);
+can-tell : (n : ℕ) (frame : List ℕ) (front : FrontValue) (state : State) (frames : List (List ℕ)) → IsFit n front state (frame ∷ frames) → CanTell state.side.page state.client.session
+can-tell n frame front state frames fit = record {
+  serials = let h : state.side.page.next ≤ 2 ^ 52 = fit.side_is.serials in omega (arith, h);
   ids =
       let all : length front.replies + suc (length frames) ≡ n = fit.replied in
       let few : n ≤ 2 ^ 26 = fit.few in
-      room_left (length front.replies) (length frames) n (length side.session.pushed) (node_count (nodes_in side)) all few fit.pushed (count-alone side.page fit.side_is.page);
+      room_left (length front.replies) (length frames) n (length state.client.session.pushed) (node_count (nodes_in state)) all few fit.pushed (count-alone state.side.page fit.side_is.page);
   texts = fit.side_is.texts;
 }
 
 pushed_more : (pushed known replied all : ℕ) → all ≤ pushed + known → pushed ≤ replied * max_nodes → known ≤ 100000 → all ≤ (replied + 1) * max_nodes
 pushed_more pushed known replied all is before few = omega arith
 
--- the side after a command is one
-pub IsSide-after : (side : Side) (o : Outcome Session) → IsSide side → IsSession (nodes_in side) (state_after side.session o) → IsSide (side_after side o)
-IsSide-after side (served p body) is session = record { page = is.page; serials = is.serials; texts = is.texts; session = session }
-IsSide-after side (refused why) is session = is
-
-session-after : (side : Side) (o : Outcome Session) → (side_after side o).session ≡ state_after side.session o
-session-after side (served p body) = refl
-session-after side (refused why) = refl
-
 -- what a front makes of the frames of an ask's command
-answers-taken : (n : ℕ) (frame : List ℕ) (front : FrontValue) (side : Side) (frames : List (List ℕ)) (first : First frame frames front.asks)
-    (command : Command) (o : Outcome Session) → IsFit n front side (frame ∷ frames) → step side frame ≡ on_outcome first.ask.id o side → Good side command o
-    → Taken first.ask.id o front side → Answers step take_frame (IsFit n) frame front side frames
-answers-taken n frame front side frames first command o fit is good t =
-    let out : frames_of (step side frame).sent ≡ record { whole = t.texts; rest = [] } = ap (λ (d : Stepped Side). frames_of d.sent) is ∙ t.frames_are in
+answers-taken : (n : ℕ) (frame : List ℕ) (front : FrontValue) (state : State) (frames : List (List ℕ)) (first : First frame frames front.asks)
+    (command : Command) (o : Outcome Session) → IsFit n front state (frame ∷ frames) → step state frame ≡ on_outcome first.ask.id o state → Good state command o
+    → Taken first.ask.id o front state → Answers step take_frame (IsFit n) frame front state frames
+answers-taken n frame front state frames first command o fit is good t =
+    let out : frames_of (step state frame).sent ≡ record { whole = t.texts; rest = [] } = ap (λ (d : Stepped State). frames_of d.sent) is ∙ t.frames_are in
     let one : length t.after.replies ≡ length front.replies + 1 = ap length t.replies ∙ length-append front.replies (t.reply ∷ []) in
     let all : length front.replies + suc (length frames) ≡ n = fit.replied in
-    let more : length (state_after side.session o).pushed ≤ length side.session.pushed + node_count (nodes_in side) = good.few in
-    let pushed : length (state_after side.session o).pushed ≤ (length front.replies + 1) * max_nodes =
-    pushed_more (length side.session.pushed) (node_count (nodes_in side)) (length front.replies) _ more fit.pushed (count-alone side.page fit.side_is.page) in
+    let more : length (state_after state.client.session o).pushed ≤ length state.client.session.pushed + node_count (nodes_in state) = good.few in
+    let pushed : length (state_after state.client.session o).pushed ≤ (length front.replies + 1) * max_nodes =
+    pushed_more (length state.client.session.pushed) (node_count (nodes_in state)) (length front.replies) _ more fit.pushed (count-alone state.side.page fit.side_is.page) in
     record {
       after = t.after;
       is_fold = ap (λ (fs : Frames). folded take_frame front fs.whole) out ∙ t.is_fold;
-      fit = subst (λ (d : Stepped Side). IsFit n t.after d.side frames) (sym is) (record {
+      fit = subst (λ (d : Stepped State). IsFit n t.after d.state frames) (sym is) (record {
         tree = t.tree;
         asks = first.others ∙ ap (map Some) (sym (t.asks ∙ ap (without first.ask.id) first.asks_are ∙ gone first.ask first.rest));
-        side_is = IsSide-after side o fit.side_is good.session;
+        side_is = IsState-after state o fit.side_is good.session;
         replied = omega (arith, one, all);
         few = fit.few;
         pushed =
-            subst (λ (w : Session). length w.pushed ≤ length t.after.replies * max_nodes) (sym (session-after side o))
-            (subst (λ k. length (state_after side.session o).pushed ≤ k * max_nodes) (sym one) pushed);
+            subst (λ (w : Session). length w.pushed ≤ length t.after.replies * max_nodes) (sym (session-after state o))
+            (subst (λ k. length (state_after state.client.session o).pushed ≤ k * max_nodes) (sym one) pushed);
       });
       whole = ap (λ (fs : Frames). fs.rest) out;
     }
 
 -- a command is carried out, or refused
-answers-command : (n : ℕ) (frame : List ℕ) (front : FrontValue) (side : Side) (frames : List (List ℕ)) (command : Command)
-    → IsFit n front side (frame ∷ frames) → (first : First frame frames front.asks)
+answers-command : (n : ℕ) (frame : List ℕ) (front : FrontValue) (state : State) (frames : List (List ℕ)) (command : Command)
+    → IsFit n front state (frame ∷ frames) → (first : First frame frames front.asks)
     → asked frame false ≡ Ok (record { id = first.ask.id; command = command }) → first.ask.method ≡ method_name command → fits_command command ≡ true
-    → Answers step take_frame (IsFit n) frame front side frames
-answers-command n frame front side frames command fit first is method_is fits =
+    → Answers step take_frame (IsFit n) frame front state frames
+answers-command n frame front state frames command fit first is method_is fits =
     let id = first.ask.id in
-    let o : Outcome Session = cond (needs_on command && not side.is_on) (refused DomOff) (session_outcome side.page command side.session) in
-    let good : Good side command o = good-command side command fit.side_is.page fit.side_is.session fits (can-tell n frame front side frames fit) in
+    let o : Outcome Session = cond (needs_on command && not state.client.dom_on) (refused DomOff) (session_outcome state.side.page command state.client.session) in
+    let good : Good state command o = good-command state command fit.side_is.page fit.side_is.session fits (can-tell n frame front state frames fit) in
     let waits : method_of id front.asks ≡ Some (method_name command) = ap (method_of id) first.asks_are ∙ found first.ask first.rest ∙ ap Some method_is in
-    answers-taken n frame front side frames first command o fit (ap (λ result. on_asked result side) is) good
-    (taken id command o front side good (ask-id frame first.ask first.is) fit.tree waits)
+    answers-taken n frame front state frames first command o fit (ap (λ result. on_asked result state) is) good
+    (taken id command o front state good (ask-id frame first.ask first.is) fit.tree waits)
 
 -- a refusal changes nothing
-answers-refused : (n : ℕ) (frame : List ℕ) (front : FrontValue) (side : Side) (frames : List (List ℕ)) (why : Why)
-    → IsFit n front side (frame ∷ frames) → (first : First frame frames front.asks)
+answers-refused : (n : ℕ) (frame : List ℕ) (front : FrontValue) (state : State) (frames : List (List ℕ)) (why : Why)
+    → IsFit n front state (frame ∷ frames) → (first : First frame frames front.asks)
     → asked frame false ≡ Err (record { id = Some first.ask.id; why = why })
-    → Answers step take_frame (IsFit n) frame front side frames
-answers-refused n frame front side frames why fit first is =
+    → Answers step take_frame (IsFit n) frame front state frames
+answers-refused n frame front state frames why fit first is =
     let id = first.ask.id in
     let waits : method_of id front.asks ≡ Some first.ask.method = ap (method_of id) first.asks_are ∙ found first.ask first.rest in
     let any : Command = PushByPath [] in
-    answers-taken n frame front side frames first any (refused why) fit (ap (λ result. on_asked result side) is)
-    (good-refused side any why fit.side_is.session)
-    (with-refusal id first.ask.method why front side (ask-id frame first.ask first.is) fit.tree waits)
+    answers-taken n frame front state frames first any (refused why) fit (ap (λ result. on_asked result state) is)
+    (good-refused state any why fit.side_is.session)
+    (with-refusal id first.ask.method why front state (ask-id frame first.ask first.is) fit.tree waits)
 
-by-asked : (n : ℕ) (frame : List ℕ) (front : FrontValue) (side : Side) (frames : List (List ℕ))
-    → IsFit n front side (frame ∷ frames) → (first : First frame frames front.asks)
+by-asked : (n : ℕ) (frame : List ℕ) (front : FrontValue) (state : State) (frames : List (List ℕ))
+    → IsFit n front state (frame ∷ frames) → (first : First frame frames front.asks)
     → (result : Result Asked Refused) → AskedAs first.ask result → asked frame false ≡ result
-    → Answers step take_frame (IsFit n) frame front side frames
-by-asked n frame front side frames fit first _ (commanded command method_is fits) is =
-    answers-command n frame front side frames command fit first is method_is fits
-by-asked n frame front side frames fit first _ (refused_as why) is =
-    answers-refused n frame front side frames why fit first is
+    → Answers step take_frame (IsFit n) frame front state frames
+by-asked n frame front state frames fit first _ (commanded command method_is fits) is =
+    answers-command n frame front state frames command fit first is method_is fits
+by-asked n frame front state frames fit first _ (refused_as why) is =
+    answers-refused n frame front state frames why fit first is
 
 -- what a step sends takes the front along
-fit-answered : (n : ℕ) (frame : List ℕ) (front : FrontValue) (side : Side) (frames : List (List ℕ))
-    → IsFit n front side (frame ∷ frames) → Answers step take_frame (IsFit n) frame front side frames
-fit-answered n frame front side frames fit =
+fit-answered : (n : ℕ) (frame : List ℕ) (front : FrontValue) (state : State) (frames : List (List ℕ))
+    → IsFit n front state (frame ∷ frames) → Answers step take_frame (IsFit n) frame front state frames
+fit-answered n frame front state frames fit =
     let first : First frame frames front.asks = first-ask frame frames front.asks fit.asks in
-    by-asked n frame front side frames fit first (asked frame false) (asked-ask frame first.ask first.is) refl
+    by-asked n frame front state frames fit first (asked frame false) (asked-ask frame first.ask first.is) refl
 
 pub world_laws : Laws step take_frame join IsAsk IsFit
 world_laws = record { later = folded-join; asks = fit-asked; answers = fit-answered }

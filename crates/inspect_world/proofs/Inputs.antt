@@ -26,14 +26,15 @@ use Rattle.replay_script.specs.Lines.{is_line_feed, lines_of}
 use Rattle.replay_script.specs.Forms.{AskForm, LineForm, load, ask, up, down, settle, show_front, show_replies, data_of, only_member, only, page_of, page_nodes, ask_of, number_of, settle_in, word_of, show_from, first_form, form_of, line_form}
 use Rattle.replay_script.specs.Faults.{first_line_fault, later_line_fault, is_built, fault_of_data, line_fault}
 use Rattle.replay_script.specs.Script.{script_forms, good_lines}
-use Rattle.inspect_world.specs.ScriptsFit.{HaveTexts, IsLater, AreLater, InputsFit}
+use Rattle.back_end.specs.Texts.{HaveTexts}
+use Rattle.inspect_world.specs.ScriptsFit.{IsLater, AreLater, InputsFit}
 use Rattle.replay_script.proofs.FormLemmas.{line_form-good}
 use Rattle.replay_script.proofs.ScriptLemmas.{good_lines-good, good_lines-bad}
-use Rattle.inspect_world.proofs.ReadPlain.{read_plain}
+use Rattle.cdp_json.proofs.ReadPlain.{read_plain}
 use Rattle.inspect_world.proofs.SendForms.{can_send}
-use Rattle.inspect_world.proofs.Options.{and_then_some}
-use Rattle.inspect_world.proofs.ReadTexts.{IfSome, then_keeps, read_utf8}
-use Rattle.inspect_world.proofs.LoadTexts.{when, object_utf8, nodes_utf8}
+use Rattle.cdp_json.proofs.Options.{and_then_some}
+use Rattle.cdp_json.proofs.ReadTexts.{IfSome, then_keeps, read_utf8}
+use Rattle.back_end.proofs.LoadTexts.{when, object_utf8, nodes_utf8}
 use Rattle.inspect_world.proofs.Scripts.{lines-fit}
 
 -- ---- a line after the load

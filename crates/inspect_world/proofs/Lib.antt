@@ -2,7 +2,6 @@ pub mod Frames
 pub mod Folds
 pub mod Worlds
 pub mod Pipes
-pub mod Options
 pub mod Replies
 pub mod Messages
 pub mod Answered
@@ -10,9 +9,5 @@ pub mod FitLemmas
 pub mod Scripts
 pub mod Ends
 pub mod LinkLemmas
-pub mod TokenTexts
-pub mod ReadTexts
-pub mod LoadTexts
-pub mod ReadPlain
 pub mod SendForms
 pub mod Inputs

@@ -8,7 +8,7 @@ use Rattle.cdp_json.specs.Kinds.{is_counted, holds_of_some}
 use Rattle.node_tree.specs.Nodes.{Nodes, node_count}
 use Rattle.node_tree.specs.Labels.{Label}
 use Rattle.page_tree.specs.Forms.{CanLoad}
-use Rattle.page_tree.specs.Pages.{State, loaded}
+use Rattle.page_tree.specs.Pages.{State as PageValue, loaded}
 use Rattle.node_binding.specs.Sessions.{Session}
 use Rattle.node_binding.specs.Bindings.{Bound, Stands, empty_from}
 use Rattle.node_binding.proofs.StandsLemmas.{Stands-begun}
@@ -29,37 +29,39 @@ use Rattle.front_mirror.specs.Front as front
 use Rattle.front_mirror.specs.Front.{FrontValue, FrontState, Folded, first_value, first_state, take_frame, method_of, fold, fold_frames, outcome, after_ask, after_take}
 use Rattle.front_mirror.specs.Laws as front_laws
 use Rattle.replay_script.specs.Forms.{AskForm}
-use Rattle.inspect_world.specs.World.{Stepped, steps}
-use Rattle.inspect_world.specs.Sides.{Side, nodes_in, view_of, first_side, needs_on, on_asked, on_outcome, step}
-use Rattle.inspect_world.specs.Fits.{ask_in, ask_with, IsSide}
+use Rattle.inspect_world.specs.World.{steps}
+use Rattle.back_end.specs.States.{State, nodes_in, view_of, loaded_state, needs_on, on_asked, on_outcome, step, Stepped, IsState}
+use Rattle.inspect_world.specs.Fits.{ask_in, ask_with}
 use Rattle.inspect_world.specs.Held.{Ends, good_front}
 use Rattle.inspect_world.specs.Links.{asks_among, fold_of, GoesOn, Follows}
-use Rattle.inspect_world.specs.ScriptsFit.{HaveTexts, CanSend}
+use Rattle.back_end.specs.Texts.{HaveTexts}
+use Rattle.inspect_world.specs.ScriptsFit.{CanSend}
 use Rattle.inspect_world.specs.Told.{Told, told_of, told_by, replies_among, replies_in, id_asked, reply_id}
 use Rattle.inspect_world.proofs.Answered.{Good, good-command, Taken, taken}
-use Rattle.inspect_world.proofs.FitLemmas.{IsSide-after}
+use Rattle.back_end.proofs.StateLemmas.{IsState-after}
 use Rattle.cdp_messages.proofs.Messages.{refusals_are_read, refusal_plain}
 use Rattle.cdp_messages.proofs.ZeroFree.{texts_have_no_zero}
 use Rattle.front_mirror.proofs.FoldLemmas.{fold-append, fold-more}
-use Rattle.inspect_world.proofs.Messages.{AskedFits, frame-fits, IsText-sent, ask_in-sent}
+use Rattle.back_end.proofs.AskedLemmas.{frame-fits, AskedFits}
+use Rattle.inspect_world.proofs.Messages.{IsText-sent, ask_in-sent}
 use Rattle.inspect_world.proofs.Replies.{replies-folded, replies_among-append}
-use Rattle.inspect_world.proofs.Scripts.{IsSide-first}
+use Rattle.inspect_world.proofs.Scripts.{IsState-first}
 use Rattle.inspect_world.proofs.Worlds.{whole-after, rest-after}
 
 -- ---- what a step sends
 
--- The frames of a step are whole, and hold one reply, which has the frame's id; the side after it is one.
-pub record Sends (side : Side) (frame : List ℕ) : Type 0 where
+-- The frames of a step are whole, and hold one reply, which has the frame's id; the state after it is one.
+pub record Sends (state : State) (frame : List ℕ) : Type 0 where
   pub texts : List (List ℕ)
-  pub frames_are : frames_of (step side frame).sent ≡ record { whole = texts; rest = [] }
+  pub frames_are : frames_of (step state frame).sent ≡ record { whole = texts; rest = [] }
   pub ids_are : map (λ (t : Told). t.id) (replies_among texts) ≡ reply_id frame ∷ []
-  pub is_side : IsSide (step side frame).side
+  pub is_state : IsState (step state frame).state
 
--- a side that has room for another command
-can-tell : (side : Side) → IsSide side → length side.session.pushed < 2 ^ 52 → CanTell side.page side.session
-can-tell side is room = record {
-  serials = let h : side.page.next ≤ 2 ^ 52 = is.serials in omega (arith, h);
-  ids = let few : node_count (nodes_in side) ≤ 100000 = count-alone side.page is.page in omega (arith, room, few);
+-- a state that has room for another command
+can-tell : (state : State) → IsState state → length state.client.session.pushed < 2 ^ 52 → CanTell state.side.page state.client.session
+can-tell state is room = record {
+  serials = let h : state.side.page.next ≤ 2 ^ 52 = is.serials in omega (arith, h);
+  ids = let few : node_count (nodes_in state) ≤ 100000 = count-alone state.side.page is.page in omega (arith, room, few);
   texts = is.texts;
 }
 
@@ -67,53 +69,53 @@ can-tell side is room = record {
 found : (id : ℕ) (method : List ℕ) → method_of id (ask_with method id ∷ []) ≡ Some method
 found id method = rw (eq-eqb id id refl) refl
 
-sends-command : (side : Side) (frame : List ℕ) (a : Asked) → IsSide side → length side.session.pushed < 2 ^ 52
-    → is_counted a.id ≡ true → fits_command a.command ≡ true → asked frame false ≡ Ok a → Sends side frame
-sends-command side frame a is room counted fits asks =
-    let o : Outcome Session = cond (needs_on a.command && not side.is_on) (refused DomOff) (session_outcome side.page a.command side.session) in
-    let good : Good side a.command o = good-command side a.command is.page is.session fits (can-tell side is room) in
-    let start : FrontValue = record { tree = view_of side; asks = ask_with (method_name a.command) a.id ∷ []; replies = []; taken = 0 } in
-    let t : Taken a.id o start side = taken a.id a.command o start side good counted refl (found a.id (method_name a.command)) in
-    let is_step : step side frame ≡ on_outcome a.id o side = ap (λ result. on_asked result side) asks in
+sends-command : (state : State) (frame : List ℕ) (a : Asked) → IsState state → length state.client.session.pushed < 2 ^ 52
+    → is_counted a.id ≡ true → fits_command a.command ≡ true → asked frame false ≡ Ok a → Sends state frame
+sends-command state frame a is room counted fits asks =
+    let o : Outcome Session = cond (needs_on a.command && not state.client.dom_on) (refused DomOff) (session_outcome state.side.page a.command state.client.session) in
+    let good : Good state a.command o = good-command state a.command is.page is.session fits (can-tell state is room) in
+    let start : FrontValue = record { tree = view_of state; asks = ask_with (method_name a.command) a.id ∷ []; replies = []; taken = 0 } in
+    let t : Taken a.id o start state = taken a.id a.command o start state good counted refl (found a.id (method_name a.command)) in
+    let is_step : step state frame ≡ on_outcome a.id o state = ap (λ result. on_asked result state) asks in
     let kept : replies_among t.texts ≡ told_of t.reply ∷ [] = sym (replies-folded t.texts start t.after t.is_fold) ∙ ap (map told_of) t.replies in
     record {
       texts = t.texts;
-      frames_are = ap (λ (d : Stepped Side). frames_of d.sent) is_step ∙ t.frames_are;
+      frames_are = ap (λ (d : Stepped State). frames_of d.sent) is_step ∙ t.frames_are;
       ids_are = ap (map (λ (x : Told). x.id)) kept ∙ ap (λ id. id ∷ []) (t.id_is ∙ sym (ap id_asked asks));
-      is_side = subst (λ (d : Stepped Side). IsSide d.side) (sym is_step) (IsSide-after side o is good.session);
+      is_state = subst (λ (d : Stepped State). IsState d.state) (sym is_step) (IsState-after state o is good.session);
     }
 
-sends-refusal : (side : Side) (frame : List ℕ) (r : Refused) → IsSide side → holds_of_some is_counted r.id ≡ true → asked frame false ≡ Err r → Sends side frame
-sends-refusal side frame r is counted asks =
+sends-refusal : (state : State) (frame : List ℕ) (r : Refused) → IsState state → holds_of_some is_counted r.id ≡ true → asked frame false ≡ Err r → Sends state frame
+sends-refusal state frame r is counted asks =
     let text = refused_text r in
-    let is_step : step side frame ≡ record { side = side; sent = framed text } = ap (λ result. on_asked result side) asks in
+    let is_step : step state frame ≡ record { state = state; sent = framed text } = ap (λ result. on_asked result state) asks in
     record {
       texts = text ∷ [];
       frames_are =
-          ap (λ (d : Stepped Side). frames_of d.sent) is_step
+          ap (λ (d : Stepped State). frames_of d.sent) is_step
           ∙ frames_of-one text (texts_have_no_zero (message_data (refusal_message r)) (refusal_plain r counted));
       ids_are = ap (λ m. map (λ (x : Told). x.id) (told_by text m ++ [])) (refusals_are_read r counted) ∙ ap (λ id. id ∷ []) (sym (ap id_asked asks));
-      is_side = subst (λ (d : Stepped Side). IsSide d.side) (sym is_step) is;
+      is_state = subst (λ (d : Stepped State). IsState d.state) (sym is_step) is;
     }
 
-pub step-sends : (side : Side) (frame : List ℕ) → IsSide side → length side.session.pushed < 2 ^ 52 → Sends side frame
-step-sends side frame is room = at (asked frame false) (frame-fits frame) refl where
-  at : (r : Result Asked Refused) → AskedFits r → asked frame false ≡ r → Sends side frame
-  at (Ok a) fits asks = sends-command side frame a is room fits.0 fits.1 asks
-  at (Err r) fits asks = sends-refusal side frame r is fits asks
+pub step-sends : (state : State) (frame : List ℕ) → IsState state → length state.client.session.pushed < 2 ^ 52 → Sends state frame
+step-sends state frame is room = at (asked frame false) (frame-fits frame) refl where
+  at : (r : Result Asked Refused) → AskedFits r → asked frame false ≡ r → Sends state frame
+  at (Ok a) fits asks = sends-command state frame a is room fits.0 fits.1 asks
+  at (Err r) fits asks = sends-refusal state frame r is fits asks
 
 -- one step more
-steps-last-side : {S : Type 0} (step : S → List ℕ → Stepped S) (side : S) (frames : List (List ℕ)) (frame : List ℕ)
-    → (steps step side (frames ++ frame ∷ [])).side ≡ (step (steps step side frames).side frame).side
-steps-last-side step side [] frame = refl
-steps-last-side step side (first ∷ frames) frame = steps-last-side step (step side first).side frames frame
+steps-last-state : {S : Type 0} (step : S → List ℕ → Stepped S) (state : S) (frames : List (List ℕ)) (frame : List ℕ)
+    → (steps step state (frames ++ frame ∷ [])).state ≡ (step (steps step state frames).state frame).state
+steps-last-state step state [] frame = refl
+steps-last-state step state (first ∷ frames) frame = steps-last-state step (step state first).state frames frame
 
-steps-last-sent : {S : Type 0} (step : S → List ℕ → Stepped S) (side : S) (frames : List (List ℕ)) (frame : List ℕ)
-    → (steps step side (frames ++ frame ∷ [])).sent ≡ (steps step side frames).sent ++ (step (steps step side frames).side frame).sent
-steps-last-sent step side [] frame = append-nil (step side frame).sent
-steps-last-sent step side (first ∷ frames) frame =
-    ap (λ bytes. (step side first).sent ++ bytes) (steps-last-sent step (step side first).side frames frame)
-    ∙ sym (append_assoc (step side first).sent (steps step (step side first).side frames).sent (step (steps step (step side first).side frames).side frame).sent)
+steps-last-sent : {S : Type 0} (step : S → List ℕ → Stepped S) (state : S) (frames : List (List ℕ)) (frame : List ℕ)
+    → (steps step state (frames ++ frame ∷ [])).sent ≡ (steps step state frames).sent ++ (step (steps step state frames).state frame).sent
+steps-last-sent step state [] frame = append-nil (step state frame).sent
+steps-last-sent step state (first ∷ frames) frame =
+    ap (λ bytes. (step state first).sent ++ bytes) (steps-last-sent step (step state first).state frames frame)
+    ∙ sym (append_assoc (step state first).sent (steps step (step state first).state frames).sent (step (steps step (step state first).state frames).state frame).sent)
 
 -- ---- pipes that go on
 
@@ -172,7 +174,7 @@ folds-sent sent_up more given_down v whole e =
 
 -- a page was loaded, and both ends are new
 pub follows-start : (up0 down0 : Pipe) (nodes : Nodes Label) → CanLoad nodes → HaveTexts nodes
-    → Follows (first_side nodes) up0 down0 up0 down0 []
+    → Follows (loaded_state nodes) up0 down0 up0 down0 []
     (record { page = loaded 1 nodes; is_on = false; bound = empty_from 1; back_rest = []; front = first_state; up_there = 0; down_there = 0; told = 0 })
 unfolding frames_of
 follows-start up0 down0 nodes can texts = record {
@@ -189,25 +191,25 @@ follows-start up0 down0 nodes can texts = record {
   answered = [];
   frames_are = refl;
   back_is = refl;
-  side = first_side nodes;
+  state = loaded_state nodes;
   side_is = refl;
   sent_is = refl;
   replies_are = refl;
   down_whole = refl;
   page_is = refl;
   on_is = refl;
-  stands = Stands-begun (nodes_in (first_side nodes));
-  is_side = IsSide-first nodes can texts;
+  stands = Stands-begun (nodes_in (loaded_state nodes));
+  is_state = IsState-first nodes can texts;
 }
 
-module _ (side0 : Side) (up0 down0 : Pipe) where
+module _ (state0 : State) (up0 down0 : Pipe) where
   -- ---- bytes go up
 
   -- an ask is sent
   pub follows-asked : (up down up1 : Pipe) (waiting : List (List ℕ)) (e : Ends) (text method : List ℕ) (there : ℕ)
-      → Follows side0 up0 down0 up down waiting e → IsText text → ask_in text ≡ Some (ask_with method e.front.next)
+      → Follows state0 up0 down0 up down waiting e → IsText text → ask_in text ≡ Some (ask_with method e.front.next)
       → up1.sent ≡ up.sent ++ framed text → up1.given ≡ up.given
-      → Follows side0 up0 down0 up1 down waiting (record e { front = after_ask e.front method; up_there = there })
+      → Follows state0 up0 down0 up1 down waiting (record e { front = after_ask e.front method; up_there = there })
   follows-asked up down up1 waiting e text method there f letters is sent_is given_is =
       let ask = ask_with method e.front.next in
       let frames : (frames_of (f.sent_up ++ framed text)).whole ≡ (frames_of f.sent_up).whole ++ text ∷ [] =
@@ -229,7 +231,7 @@ module _ (side0 : Side) (up0 down0 : Pipe) where
         answered = f.answered;
         frames_are = f.frames_are;
         back_is = f.back_is;
-        side = f.side;
+        state = f.state;
         side_is = f.side_is;
         sent_is = f.sent_is;
         replies_are = f.replies_are;
@@ -237,22 +239,22 @@ module _ (side0 : Side) (up0 down0 : Pipe) where
         page_is = f.page_is;
         on_is = f.on_is;
         stands = f.stands;
-        is_side = f.is_side;
+        is_state = f.is_state;
       }
 
   -- the ask of a line
   pub follows-sends : (up down up1 : Pipe) (waiting : List (List ℕ)) (e : Ends) (a : AskForm) (text : List ℕ) (there : ℕ)
-      → Follows side0 up0 down0 up down waiting e → CanSend a → e.front.next < 2 ^ 53 → text ≡ command_text e.front.next a.method a.params a.session
+      → Follows state0 up0 down0 up down waiting e → CanSend a → e.front.next < 2 ^ 53 → text ≡ command_text e.front.next a.method a.params a.session
       → up1.sent ≡ up.sent ++ framed text → up1.given ≡ up.given
-      → Follows side0 up0 down0 up1 down waiting (record e { front = after_ask e.front a.method; up_there = there })
+      → Follows state0 up0 down0 up1 down waiting (record e { front = after_ask e.front a.method; up_there = there })
   follows-sends up down up1 waiting e a text there f can small text_is sent_is given_is =
       follows-asked up down up1 waiting e (command_text e.front.next a.method a.params a.session) a.method there f
       (IsText-sent e.front.next a can small) (ask_in-sent e.front.next a can small) (sent_is ∙ ap (λ bytes. up.sent ++ framed bytes) text_is) given_is
 
   -- any bytes are given up; the frames that become whole wait
   pub follows-given_up : (up down up1 : Pipe) (waiting : List (List ℕ)) (e : Ends) (piece rest : List ℕ) (there : ℕ)
-      → Follows side0 up0 down0 up down waiting e → up1.sent ≡ up.sent → up1.given ≡ up.given ++ piece → rest ≡ held_after e.back_rest piece
-      → Follows side0 up0 down0 up1 down (waiting ++ frames_from e.back_rest piece) (record e { back_rest = rest; up_there = there })
+      → Follows state0 up0 down0 up down waiting e → up1.sent ≡ up.sent → up1.given ≡ up.given ++ piece → rest ≡ held_after e.back_rest piece
+      → Follows state0 up0 down0 up1 down (waiting ++ frames_from e.back_rest piece) (record e { back_rest = rest; up_there = there })
   follows-given_up up down up1 waiting e piece rest there f sent_is given_is rest_is = record {
     sent_up = f.sent_up;
     given_up = f.given_up ++ piece;
@@ -271,7 +273,7 @@ module _ (side0 : Side) (up0 down0 : Pipe) where
         ∙ ap (λ held. (f.answered ++ waiting) ++ frames_from held piece) (sym f.back_is)
         ∙ append_assoc f.answered waiting (frames_from e.back_rest piece);
     back_is = rest_is ∙ ap (λ held. held_after held piece) f.back_is ∙ sym (ap (λ (fs : Frames). fs.rest) (frames_of-append f.given_up piece));
-    side = f.side;
+    state = f.state;
     side_is = f.side_is;
     sent_is = f.sent_is;
     replies_are = f.replies_are;
@@ -279,22 +281,22 @@ module _ (side0 : Side) (up0 down0 : Pipe) where
     page_is = f.page_is;
     on_is = f.on_is;
     stands = f.stands;
-    is_side = f.is_side;
+    is_state = f.is_state;
   }
 
   -- ---- a frame is answered
 
   -- its step is carried out, and what it sends is put down
-  pub follows-answered : (up down down1 : Pipe) (frame : List ℕ) (frames : List (List ℕ)) (e : Ends) (page : State) (is_on : Bool) (bound : Bound) (out : List ℕ) (there : ℕ)
-      → (f : Follows side0 up0 down0 up down (frame ∷ frames) e) → e.bound.next < 2 ^ 52
-      → page ≡ (step f.side frame).side.page → is_on ≡ (step f.side frame).side.is_on
-      → Stands (nodes_in (step f.side frame).side) (step f.side frame).side.session bound
-      → out ≡ (step f.side frame).sent → down1.sent ≡ down.sent ++ out → down1.given ≡ down.given
-      → Follows side0 up0 down0 up down1 frames (record e { page = page; is_on = is_on; bound = bound; down_there = there })
+  pub follows-answered : (up down down1 : Pipe) (frame : List ℕ) (frames : List (List ℕ)) (e : Ends) (page : PageValue) (is_on : Bool) (bound : Bound) (out : List ℕ) (there : ℕ)
+      → (f : Follows state0 up0 down0 up down (frame ∷ frames) e) → e.bound.next < 2 ^ 52
+      → page ≡ (step f.state frame).state.side.page → is_on ≡ (step f.state frame).state.client.dom_on
+      → Stands (nodes_in (step f.state frame).state) (step f.state frame).state.client.session bound
+      → out ≡ (step f.state frame).sent → down1.sent ≡ down.sent ++ out → down1.given ≡ down.given
+      → Follows state0 up0 down0 up down1 frames (record e { page = page; is_on = is_on; bound = bound; down_there = there })
   follows-answered up down down1 frame frames e page is_on bound out there f room page_is on_is stands out_is sent_is given_is =
-      let next : e.bound.next ≡ length f.side.session.pushed + 1 = f.stands.next_is in
-      let s : Sends f.side frame = step-sends f.side frame f.is_side (omega (arith, room, next)) in
-      let old : Side = (steps step side0 f.answered).side in
+      let next : e.bound.next ≡ length f.state.client.session.pushed + 1 = f.stands.next_is in
+      let s : Sends f.state frame = step-sends f.state frame f.is_state (omega (arith, room, next)) in
+      let old : State = (steps step state0 f.answered).state in
       let out_frames : frames_of out ≡ record { whole = s.texts; rest = [] } = ap frames_of out_is ∙ s.frames_are in
       let more : (frames_of (f.sent_down ++ out)).whole ≡ (frames_of f.sent_down).whole ++ s.texts =
       whole-after f.sent_down out f.down_whole ∙ ap (λ (fs : Frames). (frames_of f.sent_down).whole ++ fs.whole) out_frames in
@@ -312,12 +314,12 @@ module _ (side0 : Side) (up0 down0 : Pipe) where
         answered = f.answered ++ frame ∷ [];
         frames_are = f.frames_are ∙ sym (append_assoc f.answered (frame ∷ []) frames);
         back_is = f.back_is;
-        side = (step f.side frame).side;
-        side_is = steps-last-side step side0 f.answered frame ∙ ap (λ side. (step side frame).side) f.side_is;
+        state = (step f.state frame).state;
+        side_is = steps-last-state step state0 f.answered frame ∙ ap (λ state. (step state frame).state) f.side_is;
         sent_is =
-            ap (λ bytes. f.sent_down ++ bytes) (out_is ∙ ap (λ side. (step side frame).sent) (sym f.side_is))
+            ap (λ bytes. f.sent_down ++ bytes) (out_is ∙ ap (λ state. (step state frame).sent) (sym f.side_is))
             ∙ ap (λ bytes. bytes ++ (step old frame).sent) f.sent_is
-            ∙ sym (steps-last-sent step side0 f.answered frame);
+            ∙ sym (steps-last-sent step state0 f.answered frame);
         replies_are =
             ap (λ fs. map (λ (t : Told). t.id) (replies_among fs)) more
             ∙ ap (map (λ (t : Told). t.id)) (replies_among-append (frames_of f.sent_down).whole s.texts)
@@ -329,27 +331,27 @@ module _ (side0 : Side) (up0 down0 : Pipe) where
         page_is = page_is;
         on_is = on_is;
         stands = stands;
-        is_side = s.is_side;
+        is_state = s.is_state;
       }
 
   -- ---- bytes go down
 
   -- the fold of what was given with these bytes more is what the front makes of them
-  fold-down : (up down : Pipe) (waiting : List (List ℕ)) (e : Ends) (piece : List ℕ) (f : Follows side0 up0 down0 up down waiting e)
+  fold-down : (up down : Pipe) (waiting : List (List ℕ)) (e : Ends) (piece : List ℕ) (f : Follows state0 up0 down0 up down waiting e)
       → let end = front.folded f.value (frames_from (frames_of f.given_down).rest piece) in
       fold_of f.sent_up (f.given_down ++ piece) ≡ outcome end.value end.fault
   fold-down up down waiting e piece f = fold-append (asks_among (frames_of f.sent_up).whole) f.given_down piece f.value f.is_fold
 
   -- what the front is after these bytes
-  front-down : (up down : Pipe) (waiting : List (List ℕ)) (e : Ends) (piece : List ℕ) (f : Follows side0 up0 down0 up down waiting e)
+  front-down : (up down : Pipe) (waiting : List (List ℕ)) (e : Ends) (piece : List ℕ) (f : Follows state0 up0 down0 up down waiting e)
       → let end = front.folded f.value (frames_from (frames_of f.given_down).rest piece) in
       after_take e.front piece ≡ record { value = end.value; rest = held_after (frames_of f.given_down).rest piece; fault = end.fault; next = e.front.next; dead = false }
   front-down up down waiting e piece f = ap (λ s. after_take s piece) f.front_is
 
   -- any bytes are given down, and the front refuses none of the messages
   pub follows-delivered_down : (up down down1 : Pipe) (waiting : List (List ℕ)) (e : Ends) (piece : List ℕ) (there : ℕ)
-      → Follows side0 up0 down0 up down waiting e → down1.sent ≡ down.sent → down1.given ≡ down.given ++ piece → (after_take e.front piece).fault ≡ None
-      → Follows side0 up0 down0 up down1 waiting (record e { front = after_take e.front piece; down_there = there })
+      → Follows state0 up0 down0 up down waiting e → down1.sent ≡ down.sent → down1.given ≡ down.given ++ piece → (after_take e.front piece).fault ≡ None
+      → Follows state0 up0 down0 up down1 waiting (record e { front = after_take e.front piece; down_there = there })
   follows-delivered_down up down down1 waiting e piece there f sent_is given_is good =
       let end : Folded = front.folded f.value (frames_from (frames_of f.given_down).rest piece) in
       let front_now = front-down up down waiting e piece f in
@@ -373,7 +375,7 @@ module _ (side0 : Side) (up0 down0 : Pipe) where
         answered = f.answered;
         frames_are = f.frames_are;
         back_is = f.back_is;
-        side = f.side;
+        state = f.state;
         side_is = f.side_is;
         sent_is = f.sent_is;
         replies_are = f.replies_are;
@@ -381,12 +383,12 @@ module _ (side0 : Side) (up0 down0 : Pipe) where
         page_is = f.page_is;
         on_is = f.on_is;
         stands = f.stands;
-        is_side = f.is_side;
+        is_state = f.is_state;
       }
 
   -- or the front refuses one, and the fold is this fault
   pub follows-refused : (up down down1 : Pipe) (waiting : List (List ℕ)) (e : Ends) (piece : List ℕ) (fault : FrontFault)
-      → Follows side0 up0 down0 up down waiting e → down1.sent ≡ down.sent → down1.given ≡ down.given ++ piece → (after_take e.front piece).fault ≡ Some fault
+      → Follows state0 up0 down0 up down waiting e → down1.sent ≡ down.sent → down1.given ≡ down.given ++ piece → (after_take e.front piece).fault ≡ Some fault
       → fold_of (sent_since up0 up) (given_since down0 down1) ≡ Err fault
   follows-refused up down down1 waiting e piece fault f sent_is given_is bad =
       let end : Folded = front.folded f.value (frames_from (frames_of f.given_down).rest piece) in
@@ -399,7 +401,7 @@ module _ (side0 : Side) (up0 down0 : Pipe) where
   -- ---- what it says of the pipes
 
   -- the fold of what was sent up and given down is what the front end shows
-  pub follows-fold : (up down : Pipe) (waiting : List (List ℕ)) (e : Ends) → Follows side0 up0 down0 up down waiting e
+  pub follows-fold : (up down : Pipe) (waiting : List (List ℕ)) (e : Ends) → Follows state0 up0 down0 up down waiting e
       → fold_of (sent_since up0 up) (given_since down0 down) ≡ Ok e.front.value
   follows-fold up down waiting e f =
       ap (λ bytes. fold_of bytes (given_since down0 down)) (sent_since-is up0 up f.sent_up f.given_up f.up_is)
@@ -407,7 +409,7 @@ module _ (side0 : Side) (up0 down0 : Pipe) where
       ∙ f.is_fold ∙ ap (λ v. Ok v) (sym (ap (λ (s : FrontState). s.value) f.front_is))
 
   -- whatever more is sent up, and while nothing more is given down, the fold meets no fault
-  pub follows-still : (up down up1 down1 : Pipe) (waiting : List (List ℕ)) (e : Ends) (piece : List ℕ) → Follows side0 up0 down0 up down waiting e
+  pub follows-still : (up down up1 down1 : Pipe) (waiting : List (List ℕ)) (e : Ends) (piece : List ℕ) → Follows state0 up0 down0 up down waiting e
       → up1.sent ≡ up.sent ++ piece → down1.given ≡ down.given → (v : FrontValue) × (fold_of (sent_since up0 up1) (given_since down0 down1) ≡ Ok v)
   follows-still up down up1 down1 waiting e piece f sent_is given_is =
       let folds : Folds (asks_among (frames_of (f.sent_up ++ piece)).whole) f.given_down = folds-sent f.sent_up piece f.given_down f.value f.up_whole f.is_fold in
@@ -417,7 +419,7 @@ module _ (side0 : Side) (up0 down0 : Pipe) where
       (folds.value, ap (λ bytes. fold_of bytes (given_since down0 down1)) sent ∙ ap (fold_of (f.sent_up ++ piece)) given ∙ folds.is_fold)
 
   -- the replies that were sent down answer the frames that were given up, in their order
-  pub follows-replies : (up down : Pipe) (e : Ends) → Follows side0 up0 down0 up down [] e
+  pub follows-replies : (up down : Pipe) (e : Ends) → Follows state0 up0 down0 up down [] e
       → map (λ (t : Told). t.id) (replies_in (sent_since down0 down)) ≡ map reply_id (frames_of (given_since up0 up)).whole
   follows-replies up down e f =
       ap (λ bytes. map (λ (t : Told). t.id) (replies_in bytes)) (sent_since-is down0 down f.sent_down f.given_down f.down_is)
@@ -427,8 +429,8 @@ module _ (side0 : Side) (up0 down0 : Pipe) where
 
   -- ---- how many replies were told says nothing of the link
 
-  pub follows-told : (up down : Pipe) (waiting : List (List ℕ)) (e : Ends) (n : ℕ) → Follows side0 up0 down0 up down waiting e
-      → Follows side0 up0 down0 up down waiting (record e { told = n })
+  pub follows-told : (up down : Pipe) (waiting : List (List ℕ)) (e : Ends) (n : ℕ) → Follows state0 up0 down0 up down waiting e
+      → Follows state0 up0 down0 up down waiting (record e { told = n })
   follows-told up down waiting e n f = record {
     sent_up = f.sent_up;
     given_up = f.given_up;
@@ -443,7 +445,7 @@ module _ (side0 : Side) (up0 down0 : Pipe) where
     answered = f.answered;
     frames_are = f.frames_are;
     back_is = f.back_is;
-    side = f.side;
+    state = f.state;
     side_is = f.side_is;
     sent_is = f.sent_is;
     replies_are = f.replies_are;
@@ -451,5 +453,5 @@ module _ (side0 : Side) (up0 down0 : Pipe) where
     page_is = f.page_is;
     on_is = f.on_is;
     stands = f.stands;
-    is_side = f.is_side;
+    is_state = f.is_state;
   }

@@ -1,4 +1,4 @@
--- The streams of a script fit the side of the page, line by line.
+-- The streams of a script fit the state of the page, line by line.
 use Rattle.std.proofs.Common.{◌≡◌, ℕ, zero, suc, ◌+◌, ◌^◌, ◌<◌, ◌≤◌, List, [], ◌∷◌, ◌++◌, length, take, map, append-nil, Option, Some, Ok, refl, sym, ◌∙◌, ap, arith}
 use Rattle.std.proofs.lemmas.List.{drop_all}
 use Rattle.std.proofs.lemmas.Str.{IsUtf8-nil}
@@ -17,10 +17,11 @@ use Rattle.front_mirror.specs.declared.replies.Ask.{Ask}
 use Rattle.inspect_world.specs.Stream.{Stream, sent, passed, held, awaited}
 use Rattle.inspect_world.specs.Fold.{folded, joined}
 use Rattle.inspect_world.specs.World.{World, delivered_up, settled}
-use Rattle.inspect_world.specs.Sides.{Side, nodes_in, first_side, step}
-use Rattle.inspect_world.specs.Fits.{join, ask_in, IsAsk, IsFit, IsSide, Fits}
+use Rattle.back_end.specs.States.{State, nodes_in, loaded_state, step, IsState}
+use Rattle.inspect_world.specs.Fits.{join, ask_in, IsAsk, IsFit, Fits}
 use Rattle.inspect_world.specs.Scripts.{sends, after_line, after_lines, loaded_world}
-use Rattle.inspect_world.specs.ScriptsFit.{HaveTexts, CanSend, IsLater, AreLater, LinesFit, DeliveriesFit, SettledShows}
+use Rattle.back_end.specs.Texts.{HaveTexts}
+use Rattle.inspect_world.specs.ScriptsFit.{CanSend, IsLater, AreLater, LinesFit, DeliveriesFit, SettledShows}
 use Rattle.inspect_world.proofs.Messages.{IsText-sent, IsAsk-sent}
 use Rattle.inspect_world.proofs.Replies.{replies-of}
 use Rattle.inspect_world.proofs.Worlds.{fits-first, fits-asked, fits-delivered_up, fits-delivered_down, fits-settled}
@@ -32,19 +33,19 @@ texts-numbered : (first : ℕ) (n : Nodes Label) → HaveTexts n → RowsHaveUtf
 texts-numbered first none texts = tt
 texts-numbered first (node l c t) texts = (texts.0, texts-numbered (first + 1) c texts.1, texts-numbered (first + 1 + node_count c) t texts.2)
 
-pub IsSide-first : (nodes : Nodes Label) → CanLoad nodes → HaveTexts nodes → IsSide (first_side nodes)
-IsSide-first nodes can texts = record {
+pub IsState-first : (nodes : Nodes Label) → CanLoad nodes → HaveTexts nodes → IsState (loaded_state nodes)
+IsState-first nodes can texts = record {
   page = loaded_valid 1 nodes (omega arith) can;
   serials = let room : suc (node_count nodes) ≤ 100000 = can.room in omega (arith, room);
   texts = ((IsUtf8-nil, IsUtf8-nil, tt), texts-numbered 2 nodes texts, tt);
-  session = IsSession-begun (nodes_in (first_side nodes));
+  session = IsSession-begun (nodes_in (loaded_state nodes));
 }
 
-fit-first : (nodes : Nodes Label) → CanLoad nodes → HaveTexts nodes → IsFit 0 (first_value []) (first_side nodes) []
+fit-first : (nodes : Nodes Label) → CanLoad nodes → HaveTexts nodes → IsFit 0 (first_value []) (loaded_state nodes) []
 fit-first nodes can texts = record {
   tree = refl;
   asks = refl;
-  side_is = IsSide-first nodes can texts;
+  side_is = IsState-first nodes can texts;
   replied = refl;
   few = omega arith;
   pushed = omega arith;
@@ -52,24 +53,24 @@ fit-first nodes can texts = record {
 
 pub fits-loaded : (nodes : Nodes Label) → CanLoad nodes → HaveTexts nodes → Fits (loaded_world nodes)
 fits-loaded nodes can texts =
-    fits-first step take_frame join IsAsk IsFit world_laws (first_value []) (first_side nodes) (fit-first nodes can texts)
+    fits-first step take_frame join IsAsk IsFit world_laws (first_value []) (loaded_state nodes) (fit-first nodes can texts)
 
 -- ---- a line
 
-pub fits-sent : (a : AskForm) (w : World Side) → CanSend a → w.asks + 1 ≤ 2 ^ 26 → Fits w → Fits (sends a w)
+pub fits-sent : (a : AskForm) (w : World State) → CanSend a → w.asks + 1 ≤ 2 ^ 26 → Fits w → Fits (sends a w)
 fits-sent a w can few fits =
     let small : w.asks + 1 < 2 ^ 53 = omega (arith, few) in
     fits-asked step take_frame join IsAsk IsFit world_laws (first_value []) (command_text (w.asks + 1) a.method a.params a.session) w
     (IsText-sent (w.asks + 1) a can small) (IsAsk-sent (w.asks + 1) a can few small) fits
 
 -- how many replies were told says nothing of the streams
-pub fits-told : (w : World Side) (n : ℕ) → Fits w → Fits (record { side = w.side; up = w.up; down = w.down; asks = w.asks; told = n })
+pub fits-told : (w : World State) (n : ℕ) → Fits w → Fits (record { state = w.state; up = w.up; down = w.down; asks = w.asks; told = n })
 fits-told w n fits = record { front = fits.front; is_fold = fits.is_fold; fit = fits.fit; up_whole = fits.up_whole; down_whole = fits.down_whole }
 
-settled-fits : (w : World Side) → Fits w → Fits (settled step w)
+settled-fits : (w : World State) → Fits w → Fits (settled step w)
 settled-fits w fits = fits-settled step take_frame join IsAsk IsFit world_laws (first_value []) w fits
 
-pub fits-line : (line : LineForm) (w : World Side) → IsLater line → w.asks + 1 ≤ 2 ^ 26 → Fits w → Fits (after_line line w)
+pub fits-line : (line : LineForm) (w : World State) → IsLater line → w.asks + 1 ≤ 2 ^ 26 → Fits w → Fits (after_line line w)
 fits-line (load nodes) w later few fits = fits
 fits-line (ask a) w later few fits = fits-sent a w later few fits
 fits-line (up n) w later few fits = fits-delivered_up step take_frame join IsAsk IsFit world_laws (first_value []) n w fits
@@ -78,7 +79,7 @@ fits-line settle w later few fits = settled-fits w fits
 fits-line show_front w later few fits = settled-fits w fits
 fits-line show_replies w later few fits = fits-told (settled step w) _ (settled-fits w fits)
 
-asks-line : (line : LineForm) (w : World Side) → (after_line line w).asks ≤ w.asks + 1
+asks-line : (line : LineForm) (w : World State) → (after_line line w).asks ≤ w.asks + 1
 asks-line (load nodes) w = omega arith
 asks-line (ask a) w = omega arith
 asks-line (up n) w = omega arith
@@ -87,7 +88,7 @@ asks-line settle w = omega arith
 asks-line show_front w = omega arith
 asks-line show_replies w = omega arith
 
-fits-lines : (n : ℕ) (lines : List LineForm) (w : World Side) → AreLater lines → w.asks + length lines ≤ 2 ^ 26 → Fits w → Fits (after_lines (take n lines) w)
+fits-lines : (n : ℕ) (lines : List LineForm) (w : World State) → AreLater lines → w.asks + length lines ≤ 2 ^ 26 → Fits w → Fits (after_lines (take n lines) w)
 fits-lines zero lines w later few fits = fits
 fits-lines (suc n) [] w later few fits = fits
 fits-lines (suc n) (line ∷ lines) w later few fits =

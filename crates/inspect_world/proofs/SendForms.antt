@@ -15,7 +15,7 @@ use Rattle.replay_script.specs.Faults.{is_good, is_built_ask}
 use Rattle.replay_script.specs.Forms.{AskForm, AskParts, ask_kind, ask_from, ask_in, ask_of, only_member, only}
 use Rattle.inspect_world.specs.ScriptsFit.{CanSend}
 use Rattle.cdp_messages.proofs.Commands.{ask_plain}
-use Rattle.inspect_world.proofs.Options.{both_parts, and_then_some, map_some, if_some}
+use Rattle.cdp_json.proofs.Options.{both_parts, and_then_some, map_some, if_some}
 
 -- the value of an object's one property is plain and UTF-8 as the object is, and nests less deep
 record Within (q d : Data) : Type 0 where

@@ -1,9 +1,10 @@
--- Each part of a run keeps that the whole streams, folded, fit the side.
+-- Each part of a run keeps that the whole streams, folded, fit the state.
 use Rattle.std.proofs.Common.{◌≡◌, ℕ, ◌+◌, List, [], ◌∷◌, ◌++◌, length, refl, sym, ◌∙◌, ap, subst, append_assoc, append-nil, Result}
 use Rattle.pipe_frames.specs.Frames.{IsText, framed, frames_of, frames_from, held_after}
 use Rattle.pipe_frames.proofs.FrameLemmas.{frames_of-append, frames_of-one, frames_from-append}
 use Rattle.inspect_world.specs.Stream.{Stream, sent, put, passed, held, arriving, awaited}
-use Rattle.inspect_world.specs.World.{World, Stepped, first_world, steps, asked, answered, given_up, delivered_up, delivered_down, settled}
+use Rattle.back_end.specs.States.{Stepped}
+use Rattle.inspect_world.specs.World.{World, first_world, steps, asked, answered, given_up, delivered_up, delivered_down, settled}
 use Rattle.inspect_world.specs.Fold.{folded, joined, then, Laws, Answers, FitsWith, Fits}
 use Rattle.inspect_world.proofs.Frames.{rest-sent, sent-passed, awaited-passed}
 use Rattle.inspect_world.proofs.Folds.{folded-append, joined-append}
@@ -28,20 +29,20 @@ put-nil s = ap (λ bytes. record { given = s.given; flying = bytes }) (append-ni
 pub answered-cons : {S : Type 0} (step : S → List ℕ → Stepped S) (frame : List ℕ) (frames : List (List ℕ)) (w : World S)
     → answered step (frame ∷ frames) w ≡ answered step frames (answered step (frame ∷ []) w)
 answered-cons step frame frames w =
-    let first = (step w.side frame).sent in
-    let later = (steps step (step w.side frame).side frames).sent in
-    let side = (steps step (step w.side frame).side frames).side in
+    let first = (step w.state frame).sent in
+    let later = (steps step (step w.state frame).state frames).sent in
+    let state = (steps step (step w.state frame).state frames).state in
     let same : w.down.flying ++ (first ++ later) ≡ (w.down.flying ++ (first ++ [])) ++ later =
     sym (append_assoc w.down.flying first later)
     ∙ ap (λ bytes. (w.down.flying ++ bytes) ++ later) (sym (append-nil first)) in
-    ap (λ bytes. record { side = side; up = w.up; down = record { given = w.down.given; flying = bytes }; asks = w.asks; told = w.told }) same
+    ap (λ bytes. record { state = state; up = w.up; down = record { given = w.down.given; flying = bytes }; asks = w.asks; told = w.told }) same
 
 module _ {S F E : Type 0} (step : S → List ℕ → Stepped S) (take : F → List ℕ → Result F E) (join : F → List ℕ → F)
     (IsAsk : ℕ → List ℕ → Type 0) (Fit : ℕ → F → S → List (List ℕ) → Type 0) (laws : Laws step take join IsAsk Fit) where
   -- before anything was sent
-  pub fits-first : (start : F) (side : S) → Fit 0 start side [] → Fits take join Fit start (first_world side)
+  pub fits-first : (start : F) (state : S) → Fit 0 start state [] → Fits take join Fit start (first_world state)
   unfolding frames_of
-  fits-first start side fit = record { front = start; is_fold = refl; fit = fit; up_whole = refl; down_whole = refl }
+  fits-first start state fit = record { front = start; is_fold = refl; fit = fit; up_whole = refl; down_whole = refl }
 
   -- an ask is sent
   pub fits-asked : (start : F) (ask : List ℕ) (w : World S) → IsText ask → IsAsk (w.asks + 1) ask
@@ -63,8 +64,8 @@ module _ {S F E : Type 0} (step : S → List ℕ → Stepped S) (take : F → Li
             ∙ ap (λ front. folded take front (frames_of (sent w.down)).whole)
             (joined-append join start (frames_of (sent w.up)).whole (ask ∷ []))
             ∙ laws.later ask (joined join start (frames_of (sent w.up)).whole) fits.front (frames_of (sent w.down)).whole fits.is_fold;
-        fit = subst (λ frames. Fit (w.asks + 1) (join fits.front ask) w.side frames) (sym last)
-            (laws.asks w.asks ask fits.front w.side (awaited w.up) is_ask fits.fit);
+        fit = subst (λ frames. Fit (w.asks + 1) (join fits.front ask) w.state frames) (sym last)
+            (laws.asks w.asks ask fits.front w.state (awaited w.up) is_ask fits.fit);
         up_whole =
             ap (λ bytes. (frames_of bytes).rest) (sym (append_assoc w.up.given w.up.flying (framed ask)))
             ∙ rest-after (sent w.up) (framed ask) fits.up_whole
@@ -80,7 +81,7 @@ module _ {S F E : Type 0} (step : S → List ℕ → Stepped S) (take : F → Li
     is_fold =
         ap (λ bytes. folded take (joined join start (frames_of bytes).whole) (frames_of (sent w.down)).whole) (sent-passed n w.up)
         ∙ fits.is_fold;
-    fit = subst (λ frames. Fit w.asks fits.front w.side frames) (awaited-passed n w.up) fits.fit;
+    fit = subst (λ frames. Fit w.asks fits.front w.state frames) (awaited-passed n w.up) fits.fit;
     up_whole = ap (λ bytes. (frames_of bytes).rest) (sent-passed n w.up) ∙ fits.up_whole;
     down_whole = fits.down_whole;
   }
@@ -90,9 +91,9 @@ module _ {S F E : Type 0} (step : S → List ℕ → Stepped S) (take : F → Li
       → FitsWith take join Fit start w (frame ∷ frames)
       → FitsWith take join Fit start (answered step (frame ∷ []) w) frames
   fits-answered_one start frame frames w fits =
-      let first : Answers step take (Fit w.asks) frame fits.front w.side frames = laws.answers w.asks frame fits.front w.side frames fits.fit in
-      let out = (step w.side frame).sent in
-      let same : (steps step w.side (frame ∷ [])).sent ≡ out = append-nil out in
+      let first : Answers step take (Fit w.asks) frame fits.front w.state frames = laws.answers w.asks frame fits.front w.state frames fits.fit in
+      let out = (step w.state frame).sent in
+      let same : (steps step w.state (frame ∷ [])).sent ≡ out = append-nil out in
       let front = joined join start (frames_of (sent w.up)).whole in
       let more : (frames_of (sent (put out w.down))).whole ≡ (frames_of (sent w.down)).whole ++ (frames_of out).whole =
       ap (λ bytes. (frames_of bytes).whole) (sym (append_assoc w.down.given w.down.flying out))
@@ -119,7 +120,7 @@ module _ {S F E : Type 0} (step : S → List ℕ → Stepped S) (take : F → Li
       → FitsWith take join Fit start w (frames ++ more)
       → FitsWith take join Fit start (answered step frames w) more
   fits-answered start [] more w fits =
-      subst (λ down. FitsWith take join Fit start (record { side = w.side; up = w.up; down = down; asks = w.asks; told = w.told }) more) (sym (put-nil w.down)) fits
+      subst (λ down. FitsWith take join Fit start (record { state = w.state; up = w.up; down = down; asks = w.asks; told = w.told }) more) (sym (put-nil w.down)) fits
   fits-answered start (frame ∷ frames) more w fits =
       subst (λ v. FitsWith take join Fit start v more) (sym (answered-cons step frame frames w))
       (fits-answered start frames more (answered step (frame ∷ []) w) (fits-answered_one start frame (frames ++ more) w fits))

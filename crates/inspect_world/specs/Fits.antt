@@ -1,17 +1,14 @@
--- A front end that shows the side of the page, and waits for the answers that are to come.
+-- A front end that shows the state of the page, and waits for the answers that are to come.
 use Rattle.std.specs.Prelude.{◌≡◌, ◌≤◌, ℕ, ◌+◌, ◌*◌, ◌^◌, List, [], ◌∷◌, ◌++◌, length, map, Option, Some, None, option_and_then, codes}
 use Rattle.serde_json.specs.Data.{Members}
 use Rattle.serde_json.specs.Find.{get_member, as_str, as_object}
 use Rattle.cdp_json.specs.Kinds.{as_whole}
-use Rattle.page_tree.specs.Pages.{IsValid}
 use Rattle.page_tree.specs.Forms.{max_nodes}
-use Rattle.node_binding.specs.Sessions.{IsSession}
 use Rattle.cdp_messages.specs.Asked.{json_of}
-use Rattle.dom_agent.specs.Laws.{RowsHaveUtf8}
 use Rattle.front_mirror.specs.declared.replies.Ask.{Ask}
 use Rattle.front_mirror.specs.Front.{FrontValue, first_value, take_frame}
 use Rattle.inspect_world.specs.World.{World}
-use Rattle.inspect_world.specs.Sides.{Side, nodes_in, view_of}
+use Rattle.back_end.specs.States.{State, IsState, view_of}
 use Rattle.inspect_world.specs.Fold as fold
 
 -- ---- the asks that stand in frames
@@ -37,14 +34,6 @@ with_ask v (Some ask) = record v { asks = v.asks ++ ask ∷ [] }
 abbrev pub join : FrontValue → List ℕ → FrontValue
 join v frame = with_ask v (ask_in frame)
 
--- ---- what always holds of a side
-
-pub record IsSide (side : Side) : Type 0 where
-  pub page : IsValid side.page
-  pub serials : side.page.next ≤ 2 ^ 52
-  pub texts : RowsHaveUtf8 (nodes_in side)
-  pub session : IsSession (nodes_in side) side.session
-
 -- ---- fits
 
 -- how many asks a script can send at most: one for each byte of its input
@@ -57,18 +46,18 @@ pub record IsAsk (n : ℕ) (text : List ℕ) : Type 0 where
   pub is : ask_in text ≡ Some (ask_with method n)
   pub few : n ≤ most_asks
 
--- After n asks the front shows exactly what the side's client sees, and waits for the answers to these frames alone.
-pub record IsFit (n : ℕ) (v : FrontValue) (side : Side) (frames : List (List ℕ)) : Type 0 where
-  pub tree : v.tree ≡ view_of side
+-- After n asks the front shows exactly what the state's client sees, and waits for the answers to these frames alone.
+pub record IsFit (n : ℕ) (v : FrontValue) (state : State) (frames : List (List ℕ)) : Type 0 where
+  pub tree : v.tree ≡ view_of state
   pub asks : map ask_in frames ≡ map Some v.asks
-  pub side_is : IsSide side
+  pub side_is : IsState state
   pub replied : length v.replies + length frames ≡ n
   pub few : n ≤ most_asks
-  pub pushed : length side.session.pushed ≤ length v.replies * max_nodes
+  pub pushed : length state.client.session.pushed ≤ length v.replies * max_nodes
 
--- the two whole streams of a run, folded, fit its side
-abbrev pub FitsWith : World Side → List (List ℕ) → Type 0
+-- the two whole streams of a run, folded, fit its state
+abbrev pub FitsWith : World State → List (List ℕ) → Type 0
 FitsWith w frames = fold.FitsWith take_frame join IsFit (first_value []) w frames
 
-abbrev pub Fits : World Side → Type 0
+abbrev pub Fits : World State → Type 0
 Fits w = fold.Fits take_frame join IsFit (first_value []) w

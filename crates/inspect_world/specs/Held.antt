@@ -1,6 +1,6 @@
 -- What the two ends hold while a script is carried out over a link, and that they follow the run.
 use Rattle.std.specs.Prelude.{◌≡◌, ℕ, ◌+◌, Bool, false, List, [], length, None, Ok}
-use Rattle.page_tree.specs.Pages.{State}
+use Rattle.page_tree.specs.Pages.{State as PageValue}
 use Rattle.node_binding.specs.Bindings.{Bound, Stands}
 use Rattle.pipe_frames.specs.Pipe.{Pipe}
 use Rattle.pipe_frames.specs.Frames.{frames_of}
@@ -9,13 +9,13 @@ use Rattle.inspect_world.specs.Stream.{sent, held}
 use Rattle.inspect_world.specs.World.{World}
 use Rattle.inspect_world.specs.Fold.{folded, joined}
 use Rattle.inspect_world.specs.Carried.{Carries}
-use Rattle.inspect_world.specs.Sides.{Side, nodes_in}
+use Rattle.back_end.specs.States.{State, nodes_in}
 use Rattle.inspect_world.specs.Fits.{join, FitsWith}
 
 -- The back end's page, whether DOM is on, and its binding; what it has of a frame that is not whole; the front end; how many
 -- bytes of each pipe were sent and not given; and how many of the replies were told.
 pub record Ends : Type 0 where
-  pub page : State
+  pub page : PageValue
   pub is_on : Bool
   pub bound : Bound
   pub back_rest : List ℕ
@@ -30,12 +30,12 @@ good_front value rest next = record { value = value; rest = rest; fault = None; 
 
 -- Since the pipes were as `up0` and `down0`, the link and the ends have come to where the run is; `frames` are whole at the
 -- back end and not yet answered, or on their way to it.
-pub record InWorld (up0 down0 up down : Pipe) (w : World Side) (frames : List (List ℕ)) (e : Ends) : Type 0 where
+pub record InWorld (up0 down0 up down : Pipe) (w : World State) (frames : List (List ℕ)) (e : Ends) : Type 0 where
   pub up_is : Carries up0 up w.up
   pub down_is : Carries down0 down w.down
-  pub page_is : e.page ≡ w.side.page
-  pub on_is : e.is_on ≡ w.side.is_on
-  pub stands : Stands (nodes_in w.side) w.side.session e.bound
+  pub page_is : e.page ≡ w.state.side.page
+  pub on_is : e.is_on ≡ w.state.client.dom_on
+  pub stands : Stands (nodes_in w.state) w.state.client.session e.bound
   pub back_is : e.back_rest ≡ held w.up
   pub value : FrontValue
   pub front_is : e.front ≡ good_front value (held w.down) (w.asks + 1)

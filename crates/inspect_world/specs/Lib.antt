@@ -2,7 +2,6 @@ pub mod Stream
 pub mod World
 pub mod Fold
 pub mod Carried
-pub mod Sides
 pub mod Fits
 pub mod Held
 pub mod Told

@@ -8,8 +8,8 @@ use Rattle.front_mirror.specs.declared.replies.Ask.{Ask}
 use Rattle.front_mirror.specs.declared.faults.FrontFault.{FrontFault}
 use Rattle.front_mirror.specs.Front.{FrontValue, fold}
 use Rattle.inspect_world.specs.World.{steps}
-use Rattle.inspect_world.specs.Sides.{Side, nodes_in, step}
-use Rattle.inspect_world.specs.Fits.{ask_in, IsSide}
+use Rattle.back_end.specs.States.{State, nodes_in, step, IsState}
+use Rattle.inspect_world.specs.Fits.{ask_in}
 use Rattle.inspect_world.specs.Held.{Ends, good_front}
 use Rattle.inspect_world.specs.Told.{Told, replies_in, reply_id}
 
@@ -28,10 +28,10 @@ pub record GoesOn (start now : Pipe) (sent given : List ℕ) : Type 0 where
   pub sent_is : now.sent ≡ start.sent ++ sent
   pub given_is : now.given ≡ start.given ++ given
 
--- Since the pipes were as `up0` and `down0`, and the page's side was `side0`: the front end is the fold of what it sent and was
+-- Since the pipes were as `up0` and `down0`, and the page's state was `state0`: the front end is the fold of what it sent and was
 -- given; the back end has carried out the frames that were given up, but for those that `waiting` holds whole, and has sent
 -- just what these steps send.
-pub record Follows (side0 : Side) (up0 down0 up down : Pipe) (waiting : List (List ℕ)) (e : Ends) : Type 0 where
+pub record Follows (state0 : State) (up0 down0 up down : Pipe) (waiting : List (List ℕ)) (e : Ends) : Type 0 where
   pub sent_up : List ℕ
   pub given_up : List ℕ
   pub sent_down : List ℕ
@@ -45,12 +45,12 @@ pub record Follows (side0 : Side) (up0 down0 up down : Pipe) (waiting : List (Li
   pub answered : List (List ℕ)
   pub frames_are : (frames_of given_up).whole ≡ answered ++ waiting
   pub back_is : e.back_rest ≡ (frames_of given_up).rest
-  pub side : Side
-  pub side_is : (steps step side0 answered).side ≡ side
-  pub sent_is : sent_down ≡ (steps step side0 answered).sent
+  pub state : State
+  pub side_is : (steps step state0 answered).state ≡ state
+  pub sent_is : sent_down ≡ (steps step state0 answered).sent
   pub replies_are : map (λ (t : Told). t.id) (replies_in sent_down) ≡ map reply_id answered
   pub down_whole : (frames_of sent_down).rest ≡ []
-  pub page_is : e.page ≡ side.page
-  pub on_is : e.is_on ≡ side.is_on
-  pub stands : Stands (nodes_in side) side.session e.bound
-  pub is_side : IsSide side
+  pub page_is : e.page ≡ state.side.page
+  pub on_is : e.is_on ≡ state.client.dom_on
+  pub stands : Stands (nodes_in state) state.client.session e.bound
+  pub is_state : IsState state

@@ -1,13 +1,13 @@
 -- While a script is carried out, the whole streams between the ends stay such that the front end's fold meets no fault, and
 -- shows exactly what the client sees of the page.
 use Rattle.std.specs.Prelude.{◌≡◌, ℕ, ◌≤◌, List, [], ◌∷◌, length, take, map, true, None, Ok, ⊤, IsUtf8}
-use Rattle.node_tree.specs.Nodes.{Nodes, none, node}
+use Rattle.node_tree.specs.Nodes.{Nodes}
 use Rattle.node_tree.specs.Labels.{Label}
 use Rattle.page_tree.specs.Forms.{CanLoad}
 use Rattle.cdp_json.specs.Kinds.{is_counted, holds_of_some}
 use Rattle.cdp_json.specs.Plain.{is_plain}
 use Rattle.cdp_messages.specs.Asked.{command_value, command_text}
-use Rattle.cdp_messages.specs.Laws.{Shallow, LabelHasUtf8}
+use Rattle.cdp_messages.specs.Laws.{Shallow}
 use Rattle.replay_script.specs.Faults.{is_built_ask}
 use Rattle.replay_script.specs.Forms.{AskForm, LineForm, load, ask, up, down, settle, show_front, show_replies}
 use Rattle.replay_script.specs.Script.{script_forms}
@@ -16,15 +16,11 @@ use Rattle.front_mirror.specs.Front.{FrontValue, first_value, take_frame}
 use Rattle.inspect_world.specs.Stream.{held}
 use Rattle.inspect_world.specs.World.{World, delivered_up, delivered_down, settled}
 use Rattle.inspect_world.specs.Fold.{folded, joined}
-use Rattle.inspect_world.specs.Sides.{Side, view_of, step}
+use Rattle.back_end.specs.Texts.{HaveTexts}
+use Rattle.back_end.specs.States.{State, view_of, step}
 use Rattle.inspect_world.specs.Fits.{join, most_asks, Fits}
 use Rattle.inspect_world.specs.Told.{told_of, replies_in}
 use Rattle.inspect_world.specs.Scripts.{loaded_world, after_lines}
-
--- the texts of the nodes that are loaded are UTF-8
-abbrev pub HaveTexts : Nodes Label → Type 0
-HaveTexts none = ⊤
-HaveTexts (node l c t) = LabelHasUtf8 l × HaveTexts c × HaveTexts t
 
 -- The ask's parameters are JSON that is written and read again as it is: plain, UTF-8, and not too deep; and the back end
 -- knows the command.
@@ -49,7 +45,7 @@ abbrev pub AreLater : List LineForm → Type 0
 AreLater [] = ⊤
 AreLater (line ∷ lines) = IsLater line × AreLater lines
 
--- after any number of lines, the two whole streams fit the side of the page
+-- after any number of lines, the two whole streams fit the state of the page
 abbrev pub FitThroughout : Nodes Label → List LineForm → Type 0
 FitThroughout nodes lines = (n : ℕ) → Fits (after_lines (take n lines) (loaded_world nodes))
 
@@ -65,19 +61,19 @@ InputsFit = (input : List ℕ) (nodes : Nodes Label) (lines : List LineForm) →
 
 -- bytes come in any pieces
 abbrev pub DeliveriesFit : Type 0
-DeliveriesFit = (w : World Side) (n : ℕ) → Fits w → Fits (delivered_up step n w) × Fits (delivered_down n w)
+DeliveriesFit = (w : World State) (n : ℕ) → Fits w → Fits (delivered_up step n w) × Fits (delivered_down n w)
 
 -- A front end that has sent all that the up pipe has given, and has taken all that the down pipe has given, shows exactly what
 -- the client sees of the page, and has kept just the replies that came down; it waits for no reply, and holds no part of a
 -- frame.
-pub record ShowsAll (w : World Side) : Type 0 where
+pub record ShowsAll (w : World State) : Type 0 where
   pub front : FrontValue
   pub is_fold : folded take_frame (joined join (first_value []) (frames_of w.up.given).whole) (frames_of w.down.given).whole ≡ Ok front
-  pub shows : front.tree ≡ view_of w.side
+  pub shows : front.tree ≡ view_of w.state
   pub told : map told_of front.replies ≡ replies_in w.down.given
   pub waits : front.asks ≡ []
   pub whole : held w.down ≡ []
 
 -- once all that is on its way has come
 abbrev pub SettledShows : Type 0
-SettledShows = (w : World Side) → Fits w → ShowsAll (settled step w)
+SettledShows = (w : World State) → Fits w → ShowsAll (settled step w)

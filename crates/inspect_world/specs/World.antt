@@ -1,47 +1,43 @@
--- The run of a script over a link that gives what was sent: the page's side, and the two streams between the ends.
--- A step of the side on one frame gives the side after it, and the bytes that it sends down.
+-- The run of a script over a link that gives what was sent: the page's state, and the two streams between the ends.
+-- A step of the state on one frame gives the state after it, and the bytes that it sends down.
 use Rattle.std.specs.Prelude.{ℕ, ◌+◌, List, [], ◌∷◌, ◌++◌, length}
 use Rattle.pipe_frames.specs.Frames.{framed}
+use Rattle.back_end.specs.States.{Stepped}
 use Rattle.inspect_world.specs.Stream.{Stream, no_stream, put, passed, arriving}
 
--- the page's side, the two streams, how many asks the front end has sent, and how many of the replies were told
+-- the page's state, the two streams, how many asks the front end has sent, and how many of the replies were told
 pub record World (S : Type 0) : Type 0 where
-  pub side : S
+  pub state : S
   pub up : Stream
   pub down : Stream
   pub asks : ℕ
   pub told : ℕ
 
--- what a step makes: the side after it, and the bytes sent down
-pub record Stepped (S : Type 0) : Type 0 where
-  pub side : S
-  pub sent : List ℕ
-
 -- before anything was sent
 abbrev pub first_world : {S : Type 0} → S → World S
-first_world side = record { side = side; up = no_stream; down = no_stream; asks = 0; told = 0 }
+first_world state = record { state = state; up = no_stream; down = no_stream; asks = 0; told = 0 }
 
 -- the steps on frames, one after the other
 abbrev pub steps : {S : Type 0} → (S → List ℕ → Stepped S) → S → List (List ℕ) → Stepped S
-steps step side [] = record { side = side; sent = [] }
-steps step side (frame ∷ frames) =
-    let first = step side frame in
-    let later = steps step first.side frames in
-    record { side = later.side; sent = first.sent ++ later.sent }
+steps step state [] = record { state = state; sent = [] }
+steps step state (frame ∷ frames) =
+    let first = step state frame in
+    let later = steps step first.state frames in
+    record { state = later.state; sent = first.sent ++ later.sent }
 
 -- the front end sends an ask
 abbrev pub asked : {S : Type 0} → List ℕ → World S → World S
-asked text w = record { side = w.side; up = put (framed text) w.up; down = w.down; asks = w.asks + 1; told = w.told }
+asked text w = record { state = w.state; up = put (framed text) w.up; down = w.down; asks = w.asks + 1; told = w.told }
 
--- the side answers frames that have come up whole
+-- the state answers frames that have come up whole
 abbrev pub answered : {S : Type 0} → (S → List ℕ → Stepped S) → List (List ℕ) → World S → World S
 answered step frames w =
-    let done = steps step w.side frames in
-    record { side = done.side; up = w.up; down = put done.sent w.down; asks = w.asks; told = w.told }
+    let done = steps step w.state frames in
+    record { state = done.state; up = w.up; down = put done.sent w.down; asks = w.asks; told = w.told }
 
 -- n bytes are given up, or as many as are there; the frames that become whole are still to be answered
 abbrev pub given_up : {S : Type 0} → ℕ → World S → World S
-given_up n w = record { side = w.side; up = passed n w.up; down = w.down; asks = w.asks; told = w.told }
+given_up n w = record { state = w.state; up = passed n w.up; down = w.down; asks = w.asks; told = w.told }
 
 -- n bytes are delivered up, or as many as are there: each frame that becomes whole is one step
 abbrev pub delivered_up : {S : Type 0} → (S → List ℕ → Stepped S) → ℕ → World S → World S
@@ -49,7 +45,7 @@ delivered_up step n w = answered step (arriving n w.up) (given_up n w)
 
 -- n bytes are delivered down, or as many as are there
 abbrev pub delivered_down : {S : Type 0} → ℕ → World S → World S
-delivered_down n w = record { side = w.side; up = w.up; down = passed n w.down; asks = w.asks; told = w.told }
+delivered_down n w = record { state = w.state; up = w.up; down = passed n w.down; asks = w.asks; told = w.told }
 
 -- all of the up pipe is delivered, then all of the down pipe
 abbrev pub settled : {S : Type 0} → (S → List ℕ → Stepped S) → World S → World S

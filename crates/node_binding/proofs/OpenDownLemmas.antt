@@ -1,10 +1,11 @@
 -- One node and all below it are opened or forgotten.
-use Rattle.std.proofs.Common.{◌≡◌, ℕ, zero, suc, ◌+◌, ◌<◌, ◌≤◌, ◌^◌, true, false, Bool, cond, not, ◌&&◌, List, [], ◌∷◌, ◌++◌, length, get_or, drop, drop-cons, add-one, append-nil, Option, Some, None, unwrap_or, refl, sym, ap, subst, ◌∙◌, arith}
+use Rattle.std.proofs.Common.{◌≡◌, ℕ, zero, suc, ◌+◌, ◌<◌, ◌≤◌, ◌^◌, true, false, Bool, cond, not, ◌&&◌, List, [], ◌∷◌, ◌++◌, append-nil, Option, Some, None, unwrap_or, refl, sym, ap, subst, ◌∙◌, arith}
 use Rattle.std.proofs.Math.Logic.{⊎_elim}
-use Rattle.node_tree.specs.Nodes.{Nodes, none, node, Branch, nodes_of, alone, node_count}
+use Rattle.node_tree.specs.Nodes.{Nodes, none, node, Branch, from, tree_at, width, alone, node_count}
 use Rattle.node_tree.specs.Keys.{find}
 use Rattle.node_tree.specs.Labels.{holds}
 use Rattle.page_tree.specs.Pages.{Row, row_serial, State, IsValid, find_in, node_at}
+use Rattle.page_tree.proofs.CursorLemmas.{from-next}
 use Rattle.node_binding.specs.Openings.{less, is_spent, reached, levelled}
 use Rattle.node_binding.specs.Bindings.{Bound, with_opened, all_bound, all_opened, revealed, opened_down, forgotten, all_forgotten}
 use Rattle.node_binding.proofs.StartLemmas.{count-alone}
@@ -59,7 +60,7 @@ opened_down-next d x b =
 
 -- ---- the calls
 
-pub open_tree_room : (levels : Option ℕ) (x : Branch Row) (b b1 : Bound) (kids : List (Branch Row)) → b.next + node_count x.children < 2 ^ 63 → nodes_of kids ≡ x.children → b1 ≡ cond (holds x.row.label.kind && not (is_spent levels)) (with_opened x.row.serial b) b → b1.next + node_count (nodes_of kids) < 2 ^ 63
+pub open_tree_room : (levels : Option ℕ) (x : Branch Row) (b b1 : Bound) (kids : Nodes Row) → b.next + node_count x.children < 2 ^ 63 → kids ≡ x.children → b1 ≡ cond (holds x.row.label.kind && not (is_spent levels)) (with_opened x.row.serial b) b → b1.next + node_count kids < 2 ^ 63
 open_tree_room levels x b b1 kids room kids_are opened =
     let next : b1.next ≡ b.next = ap (λ m. m.next) opened ∙ next_same (holds x.row.label.kind && not (is_spent levels)) x.row.serial b in
     omega (arith, ap node_count kids_are)
@@ -68,10 +69,10 @@ open_tree_room levels x b b1 kids room kids_are opened =
     next_same true s b = refl
     next_same false s b = refl
 
-pub open_tree_is : (levels left : Option ℕ) (x : Branch Row) (b b1 b2 : Bound) (kids : List (Branch Row)) → holds x.row.label.kind ≡ true → left ≡ less levels → nodes_of kids ≡ x.children → b1 ≡ cond (holds x.row.label.kind && not (is_spent levels)) (with_opened x.row.serial b) b → b2 ≡ revealed left (nodes_of kids) b1 → b2 ≡ opened_down levels x b
+pub open_tree_is : (levels left : Option ℕ) (x : Branch Row) (b b1 b2 : Bound) (kids : Nodes Row) → holds x.row.label.kind ≡ true → left ≡ less levels → kids ≡ x.children → b1 ≡ cond (holds x.row.label.kind && not (is_spent levels)) (with_opened x.row.serial b) b → b2 ≡ revealed left kids b1 → b2 ≡ opened_down levels x b
 open_tree_is levels left x b b1 b2 kids container left_is kids_are opened below =
     below
-    ∙ ap (λ l. revealed l (nodes_of kids) b1) left_is
+    ∙ ap (λ l. revealed l kids b1) left_is
     ∙ ap (λ n. revealed (less levels) n b1) kids_are
     ∙ ap (revealed (less levels) x.children) opened
     ∙ sym (opened_down-reached levels x b container)
@@ -82,13 +83,12 @@ module _ (page : State) (valid : IsValid page) (s : ℕ) (x : Branch Row) (at : 
 
 -- ---- the loop over trees that go
 
-pub forget_turn : (trees : List (Branch Row)) (i : ℕ) (x : Branch Row) (serial : ℕ) (kids : List (Branch Row)) (b b1 b2 all : Bound) → i < length trees → x ≡ get_or trees i x → serial ≡ x.row.serial → nodes_of kids ≡ x.children → b1 ≡ forgotten serial b → b2 ≡ all_forgotten (nodes_of kids) b1 → all_forgotten (nodes_of (drop i trees)) b ≡ all → all_forgotten (nodes_of (drop (i + 1) trees)) b2 ≡ all
-forget_turn trees i x serial kids b b1 b2 all h is serial_is kids_are first below was =
-    let split : nodes_of (drop i trees) ≡ node x.row x.children (nodes_of (drop (i + 1) trees)) = rw (add-one, drop-cons trees i x) (ap (λ y. node y.row y.children (nodes_of (drop (suc i) trees))) (sym is)) in
-    ap (all_forgotten (nodes_of (drop (i + 1) trees))) (below ∙ ap (λ n. all_forgotten n b1) kids_are ∙ ap (all_forgotten x.children) (first ∙ ap (λ k. forgotten k b) serial_is))
-    ∙ ap (λ n. all_forgotten n b) (sym split)
+pub forget_turn : (n : Nodes Row) (i : ℕ) (x : Branch Row) (serial : ℕ) (kids : Nodes Row) (b b1 b2 all : Bound) → i < width n → tree_at i n ≡ Some x → serial ≡ x.row.serial → kids ≡ x.children → b1 ≡ forgotten serial b → b2 ≡ all_forgotten kids b1 → all_forgotten (from i n) b ≡ all → all_forgotten (from (i + 1) n) b2 ≡ all
+forget_turn n i x serial kids b b1 b2 all h at serial_is kids_are first below was =
+    ap (all_forgotten (from (i + 1) n)) (below ∙ ap (λ m. all_forgotten m b1) kids_are ∙ ap (all_forgotten x.children) (first ∙ ap (λ k. forgotten k b) serial_is))
+    ∙ ap (λ m. all_forgotten m b) (sym (from-next n i x h at))
     ∙ was
 
-pub forget_tree : (x y : Branch Row) (serial : ℕ) (kids : List (Branch Row)) (b b1 b2 : Bound) → x ≡ y → serial ≡ x.row.serial → nodes_of kids ≡ x.children → b1 ≡ forgotten serial b → b2 ≡ all_forgotten (nodes_of kids) b1 → b2 ≡ all_forgotten (alone y) b
+pub forget_tree : (x y : Branch Row) (serial : ℕ) (kids : Nodes Row) (b b1 b2 : Bound) → x ≡ y → serial ≡ x.row.serial → kids ≡ x.children → b1 ≡ forgotten serial b → b2 ≡ all_forgotten kids b1 → b2 ≡ all_forgotten (alone y) b
 forget_tree x y serial kids b b1 b2 is serial_is kids_are first below =
     below ∙ ap (λ n. all_forgotten n b1) kids_are ∙ ap (all_forgotten x.children) (first ∙ ap (λ k. forgotten k b) serial_is) ∙ ap (λ (z : Branch Row). all_forgotten (alone z) b) is

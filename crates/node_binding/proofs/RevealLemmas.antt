@@ -1,8 +1,9 @@
 -- Trees become known one after another.
-use Rattle.std.proofs.Common.{◌≡◌, ℕ, suc, ◌+◌, ◌<◌, ◌≤◌, ◌^◌, Bool, true, false, cond, not, ◌&&◌, List, [], ◌∷◌, ◌++◌, length, get_or, length-append, drop, drop-cons, add-one, Option, refl, sym, ap, ◌∙◌, arith}
-use Rattle.node_tree.specs.Nodes.{Nodes, none, node, Branch, nodes_of, node_count}
+use Rattle.std.proofs.Common.{◌≡◌, ℕ, ◌+◌, ◌<◌, ◌≤◌, ◌^◌, Bool, true, false, cond, not, ◌&&◌, List, [], ◌∷◌, ◌++◌, length, length-append, Option, Some, refl, sym, ap, ◌∙◌, arith}
+use Rattle.node_tree.specs.Nodes.{Nodes, none, node, Branch, from, tree_at, width, node_count}
 use Rattle.node_tree.specs.Labels.{holds}
 use Rattle.page_tree.specs.Pages.{Row}
+use Rattle.page_tree.proofs.CursorLemmas.{from-next}
 use Rattle.node_binding.specs.Openings.{less, is_spent, reached, levelled}
 use Rattle.node_binding.specs.Bindings.{Bound, with_bound, all_bound, with_opened, all_opened, revealed}
 use Rattle.node_binding.proofs.BoundLemmas.{opened-next, bound-next}
@@ -61,11 +62,11 @@ abbrev pub goes_on : Option ℕ → Branch Row → Bool
 goes_on d x = holds x.row.label.kind && not (is_spent d)
 
 -- a tree that is opened
-pub opened_tree : (d left : Option ℕ) (x : Branch Row) (serial : ℕ) (kids : List (Branch Row)) (b b1 b2 b3 b4 : Bound) → goes_on d x ≡ true → serial ≡ x.row.serial → nodes_of kids ≡ x.children → left ≡ less d → b1 ≡ with_bound serial b → b2 ≡ with_opened serial b1 → b3 ≡ revealed left (nodes_of kids) b2 → b4 ≡ b3 → b4 ≡ after_first (goes_on d x) d x.row x.children b
+pub opened_tree : (d left : Option ℕ) (x : Branch Row) (serial : ℕ) (kids : Nodes Row) (b b1 b2 b3 b4 : Bound) → goes_on d x ≡ true → serial ≡ x.row.serial → kids ≡ x.children → left ≡ less d → b1 ≡ with_bound serial b → b2 ≡ with_opened serial b1 → b3 ≡ revealed left kids b2 → b4 ≡ b3 → b4 ≡ after_first (goes_on d x) d x.row x.children b
 opened_tree d left x serial kids b b1 b2 b3 b4 goes serial_is kids_are left_is bound opened below end =
     end
     ∙ below
-    ∙ ap (λ l. revealed l (nodes_of kids) b2) left_is
+    ∙ ap (λ l. revealed l kids b2) left_is
     ∙ ap (λ n. revealed (less d) n b2) kids_are
     ∙ ap (revealed (less d) x.children) (opened ∙ ap (with_opened serial) bound ∙ ap (λ s. with_opened s (with_bound s b)) serial_is)
     ∙ ap (λ g. after_first g d x.row x.children b) (sym goes)
@@ -75,21 +76,23 @@ pub closed_tree : (d : Option ℕ) (x : Branch Row) (serial : ℕ) (b b1 b4 : Bo
 closed_tree d x serial b b1 b4 goes serial_is bound end =
     end ∙ bound ∙ ap (λ s. with_bound s b) serial_is ∙ ap (λ g. after_first g d x.row x.children b) (sym goes)
 
-pub record RevealTurn (d : Option ℕ) (trees : List (Branch Row)) (i : ℕ) (b : Bound) (all : Bound) : Type 0 where
-  pub same : revealed d (nodes_of (drop i trees)) b ≡ all
-  pub room : b.next + node_count (nodes_of (drop i trees)) < 2 ^ 63
-
-nodes_of-drop : (trees : List (Branch Row)) (i : ℕ) (x : Branch Row) → i < length trees → x ≡ get_or trees i x → nodes_of (drop i trees) ≡ node x.row x.children (nodes_of (drop (i + 1) trees))
-nodes_of-drop trees i x h is = rw (add-one, drop-cons trees i x) (ap (λ y. node y.row y.children (nodes_of (drop (suc i) trees))) (sym is))
+pub record RevealTurn (d : Option ℕ) (left : Nodes Row) (b : Bound) (all : Bound) : Type 0 where
+  pub same : revealed d left b ≡ all
+  pub room : b.next + node_count left < 2 ^ 63
 
 after_first-next : (shown : Bool) (d : Option ℕ) (r : Row) (c : Nodes Row) (b : Bound) → (after_first shown d r c b).next ≤ b.next + 1 + node_count c
 after_first-next true d r c b = revealed-next (less d) c (with_opened r.serial (with_bound r.serial b))
 after_first-next false d r c b = omega arith
 
-pub reveal_turn : (d : Option ℕ) (trees : List (Branch Row)) (i : ℕ) (x : Branch Row) (b b4 all : Bound) → i < length trees → x ≡ get_or trees i x → b4 ≡ after_first (goes_on d x) d x.row x.children b → RevealTurn d trees i b all → RevealTurn d trees (i + 1) b4 all
-reveal_turn d trees i x b b4 all h is turned was =
-    let split = nodes_of-drop trees i x h is in
+pub reveal_turn : (d : Option ℕ) (n : Nodes Row) (i : ℕ) (x : Branch Row) (b b4 all : Bound) → i < width n → tree_at i n ≡ Some x → b4 ≡ after_first (goes_on d x) d x.row x.children b → RevealTurn d (from i n) b all → RevealTurn d (from (i + 1) n) b4 all
+reveal_turn d n i x b b4 all h at turned was =
+    let split = from-next n i x h at in
     record {
-      same = ap (revealed d (nodes_of (drop (i + 1) trees))) turned ∙ sym (revealed-node d x.row x.children (nodes_of (drop (i + 1) trees)) b) ∙ sym (ap (λ n. revealed d n b) split) ∙ was.same;
+      same = ap (revealed d (from (i + 1) n)) turned ∙ sym (revealed-node d x.row x.children (from (i + 1) n) b) ∙ sym (ap (λ m. revealed d m b) split) ∙ was.same;
       room = omega (arith, was.room, ap node_count split, ap (λ m. m.next) turned, after_first-next (goes_on d x) d x.row x.children b);
     }
+
+-- there is room for the children of the next tree
+pub reveal_room : (n : Nodes Row) (i : ℕ) (x : Branch Row) (s s2 : ℕ) (b b1 b2 : Bound) (kids : Nodes Row) → i < width n → tree_at i n ≡ Some x → b.next + node_count (from i n) < 2 ^ 63 → b1 ≡ with_bound s b → b2 ≡ with_opened s2 b1 → kids ≡ x.children → b2.next + node_count kids < 2 ^ 63
+reveal_room n i x s s2 b b1 b2 kids h at room bound opened kids_are =
+    omega (arith, ap node_count (from-next n i x h at), ap (λ m. m.next) bound, ap (λ m. m.next) opened, ap node_count kids_are)

@@ -1,16 +1,15 @@
 ghost use Rattle.std.specs.Prelude.{◌≡◌, ◌+◌, ◌<◌, ◌^◌, ◌&&◌, not, cond, IsTrue, IsSome, IfOk, OnOk};
 ghost use Rattle.std.specs.FinMap as map;
 ghost use Rattle.std.specs.FinSet as set;
-ghost use Rattle.node_tree.specs.Nodes.{nodes_of, alone, node_count};
+ghost use Rattle.node_tree.specs.Nodes.{alone, node_count};
 ghost use Rattle.node_tree.specs.Labels.{holds};
 ghost use Rattle.page_tree.specs.Pages.{find_in, node_at};
 ghost use Rattle.node_binding.specs.Openings.{IsDepth, is_spent, levels_of};
 ghost use Rattle.node_binding.specs.Bindings.{empty_from, cleared, started, revealed, opened_down, with_bound, with_opened, forgotten, all_forgotten};
 
 use crate::levels::{is_reached, less, levels_of};
-use crate::search::tree_at;
 use crate::tables::{NumberMap, NumberSet};
-use page_tree::{Page, Tree};
+use page_tree::{Children, Node, Page};
 use std::alloc::{AllocError, Global};
 use std::marker::Model;
 
@@ -61,22 +60,25 @@ impl Binding {
         self.reset();
         let root = page.root();
         let levels = levels_of(depth);
-        self.bind(root.serial)?;
-        self.open(root.serial)?;
-        self.reveal(&root.children, less(levels))?;
+        let serial = root.serial();
+        self.bind(serial)?;
+        self.open(serial)?;
+        self.reveal(&root.children(), less(levels))?;
         Ok(())
     }
 
-    /// The trees become known, and their containers are opened to that many levels.
-    fn reveal(&mut self, trees: &[Tree], levels: Option<u64>) -> Result<(), AllocError>
-        requires { self.old.next + node_count (nodes_of trees.now) < 2 ^ 63 }
-        ensures { OnOk result (self.new ≡ revealed levels (nodes_of trees.now) self.old) }
+    /// The nodes become known, and the containers among them and below them are opened to that many levels.
+    fn reveal(&mut self, children: &Children, levels: Option<u64>) -> Result<(), AllocError>
+        requires { self.old.next + node_count children.now < 2 ^ 63 }
+        ensures { OnOk result (self.new ≡ revealed levels children.now self.old) }
     {
-        for tree in trees {
-            self.bind(tree.serial)?;
-            if is_reached(tree.kind, levels) {
-                self.open(tree.serial)?;
-                self.reveal(&tree.children, less(levels))?;
+        for i in 0..children.len() {
+            let shown = children.at(i);
+            let serial = shown.serial();
+            self.bind(serial)?;
+            if is_reached(shown.kind(), levels) {
+                self.open(serial)?;
+                self.reveal(&shown.children(), less(levels))?;
             }
         }
         Ok(())
@@ -93,31 +95,31 @@ impl Binding {
             (self.new ≡ opened_down (levels_of levels) (node_at serial page.now.tree) self.old) }
     {
         page.valid();
-        let node = tree_at(page, serial);
-        self.open_tree(node, levels_of(levels))?;
+        let node = page.node(serial);
+        self.open_tree(&node, levels_of(levels))?;
         Ok(())
     }
 
     /// The same of a node that the caller has found, and by levels that may be counted down already.
-    pub fn open_tree(&mut self, tree: &Tree, levels: Option<u64>) -> Result<(), AllocError>
-        requires container { IsTrue (holds tree.now.row.label.kind) }
-        requires room { self.old.next + node_count tree.now.children < 2 ^ 63 }
-        ensures { OnOk result (self.new ≡ opened_down levels tree.now self.old) }
+    pub fn open_tree(&mut self, node: &Node, levels: Option<u64>) -> Result<(), AllocError>
+        requires container { IsTrue (holds node.now.row.label.kind) }
+        requires room { self.old.next + node_count node.now.children < 2 ^ 63 }
+        ensures { OnOk result (self.new ≡ opened_down levels node.now self.old) }
     {
-        self.open_reached(tree, levels)?;
+        self.open_reached(node, levels)?;
         let left = less(levels);
-        self.reveal(&tree.children, left)?;
+        self.reveal(&node.children(), left)?;
         Ok(())
     }
 
-    fn open_reached(&mut self, tree: &Tree, levels: Option<u64>) -> Result<(), AllocError>
+    fn open_reached(&mut self, node: &Node, levels: Option<u64>) -> Result<(), AllocError>
         ensures { OnOk result (self.new
-            ≡ cond (holds tree.now.row.label.kind && not (is_spent levels)) (with_opened tree.now.row.serial self.old) self.old) }
+            ≡ cond (holds node.now.row.label.kind && not (is_spent levels)) (with_opened node.now.row.serial self.old) self.old) }
     {
-        if !is_reached(tree.kind, levels) {
+        if !is_reached(node.kind(), levels) {
             return Ok(());
         }
-        self.open(tree.serial)?;
+        self.open(node.serial())?;
         Ok(())
     }
 
@@ -137,17 +139,18 @@ impl Binding {
         requires { IsSome (find_in serial page.now.tree) }
         ensures { self.new ≡ all_forgotten (alone (node_at serial page.now.tree)) self.old }
     {
-        let node = tree_at(page, serial);
-        self.forget(node.serial);
-        self.forget_all(&node.children);
+        let node = page.node(serial);
+        self.forget(node.serial());
+        self.forget_all(&node.children());
     }
 
-    fn forget_all(&mut self, trees: &[Tree])
-        ensures { self.new ≡ all_forgotten (nodes_of trees.now) self.old }
+    fn forget_all(&mut self, children: &Children)
+        ensures { self.new ≡ all_forgotten children.now self.old }
     {
-        for tree in trees {
-            self.forget(tree.serial);
-            self.forget_all(&tree.children);
+        for i in 0..children.len() {
+            let child = children.at(i);
+            self.forget(child.serial());
+            self.forget_all(&child.children());
         }
     }
 

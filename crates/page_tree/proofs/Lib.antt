@@ -4,3 +4,6 @@ pub mod LoadLemmas
 pub mod FormedLemmas
 pub mod ArenaSteps
 pub mod PlaceLemmas
+pub mod ZipperLemmas
+pub mod SiblingLemmas
+pub mod CursorLemmas

@@ -1,6 +1,10 @@
 pub mod Forms
 pub mod Pages
+pub mod Zippers
+pub mod Siblings
 pub mod Loads
 pub mod Entries
 pub mod Rooms
 pub mod Arenas
+pub mod Edits
+pub mod EditFaults

@@ -3,22 +3,28 @@
 
 mod arenas;
 mod attributes;
+mod cursors;
+mod edit_faults;
 mod edits;
 mod faults;
 mod forms;
 mod labels;
 mod limits;
 mod loads;
+mod node_refs;
 mod numbering;
 mod pages;
 mod search;
 mod slots;
 mod trees;
 
+pub use cursors::{Children, Node};
+pub use edit_faults::{EditErr, EditFault};
 pub use edits::TreeEdit;
 pub use faults::{LoadErr, LoadFault};
 pub use forms::NodeForm;
 pub use loads::read_nodes;
+pub use node_refs::NodeRef;
 pub use node_tree::{Attributes, Kind, Text};
 pub use pages::Page;
 pub use trees::Tree;

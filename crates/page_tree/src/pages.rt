@@ -61,9 +61,8 @@ impl Page {
         let _ = &self.tree;
     }
 
-    /// The document with all below it, for a caller that walks the whole page in document order. It is there while a
-    /// page is kept as one tree; the calls by serial outlive that.
-    pub fn root(&self) -> &Tree
+    /// The document with all below it.
+    pub(crate) fn tree(&self) -> &Tree
         ensures { result.now ≡ self.now.tree }
     {
         &self.tree
@@ -92,7 +91,7 @@ impl Page {
         find_among(&self.tree.children, serial)
     }
 
-    fn at(&self, serial: u64) -> &Tree
+    pub(crate) fn at(&self, serial: u64) -> &Tree
         requires { IsSome (find_in serial self.now.tree) }
         ensures { result.now ≡ node_at serial self.now.tree }
     {

@@ -8,3 +8,4 @@ pub mod NthTakes
 pub mod GrammarAgain
 pub mod PartTakes
 pub mod GrammarTakes
+pub mod RangeForms

@@ -7,3 +7,4 @@ pub mod Lists
 pub mod Weight
 pub mod NthGrammar
 pub mod Grammar
+pub mod Ranges

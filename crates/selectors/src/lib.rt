@@ -14,7 +14,7 @@ mod values;
 mod weight;
 mod words;
 
-pub use laws::{grammar_law, nth_law};
+pub use laws::{grammar_law, nth_law, usable_law};
 pub use read::{read_list, read_selectors};
 pub use selector::{
     AttrOp, Compound, Joint, NthKind, SelErr, Selector, SelectorList, Simple, Test,

@@ -9,3 +9,5 @@ pub mod GrammarForms
 pub mod ItemForms
 pub mod PlaceForms
 pub mod NestingForms
+pub mod UsableForms
+pub mod LoneForms

@@ -8,3 +8,5 @@ pub mod Positions
 pub mod Seen
 pub mod Books
 pub mod Grammar
+pub mod Usable
+pub mod Lone

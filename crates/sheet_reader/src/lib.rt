@@ -9,6 +9,7 @@ mod brackets;
 mod declarations;
 mod laws;
 mod lists;
+mod lone;
 mod parts;
 mod place;
 mod places;
@@ -19,8 +20,9 @@ mod words;
 
 pub use book::{Origin, SheetBook, SheetEntry};
 pub use declarations::read_style;
-pub use laws::{grammar_law, nesting_law, position_law};
+pub use laws::{grammar_law, nesting_law, position_law, usable_law};
 pub use lists::{Places, Properties, StyleRules};
+pub use lone::{LoneRule, lone_rule};
 pub use place::Position;
 pub use places::{byte_at, position};
 pub use rules::read_sheet;

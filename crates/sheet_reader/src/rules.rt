@@ -82,7 +82,11 @@ fn rule_by(
 
 /// The style rule that a part is, if it is one.
 #[tactic(auto, unfolding(crate::specs::Sheets::rule_of))]
-fn rule_of(alloc: Global, text: &str, part: Part) -> Result<Option<StyleRule>, AllocError>
+pub(crate) fn rule_of(
+    alloc: Global,
+    text: &str,
+    part: Part,
+) -> Result<Option<StyleRule>, AllocError>
     requires { All (IsPieceOf text.now) (part_pieces (part_seen part)) }
     ensures { IfOk result (λ r. option_map rule_seen r ≡ rule_of text.now (part_seen part.entry)) }
 {

@@ -1,5 +1,5 @@
-use Rattle.std.proofs.Common.{◌≡◌, ◌≤◌, map, drop}
-use Rattle.node_tree.specs.Nodes.{nodes_of}
+use Rattle.std.proofs.Common.{◌≡◌, ◌≤◌, ◌+◌, ◌*◌, map}
+use Rattle.node_tree.specs.Nodes.{from, node_count, branch_count}
 use Rattle.node_tree.specs.Keys.{has, tally}
 use Rattle.page_tree.specs.Pages.{row_serial}
 use Rattle.node_binding.specs.Bindings.{opened_in}
@@ -7,10 +7,16 @@ use Rattle.dom_agent.specs.Requests.{pushing}
 use Rattle.dom_agent.specs.Openings.{opening_of}
 use Rattle.dom_agent.proofs.openings.+climb.Given as goal
 
-abbrev pub invariant-climb_trees-loop-tree : goal.invariant-climb_trees-loop-tree
-invariant-climb_trees-loop-tree l = record {
+abbrev pub decreases-climb_node : goal.decreases-climb_node
+decreases-climb_node l = 2 * branch_count l.node.now
+
+abbrev pub decreases-climb_children : goal.decreases-climb_children
+decreases-climb_children l = 2 * node_count l.children.now + 1
+
+abbrev pub invariant-climb_children-loop-i : goal.invariant-climb_children-loop-i
+invariant-climb_children-loop-i l = record {
   same : map opening_of l.openings.items ≡ map opening_of l.initial.openings.items;
-  there : has row_serial l.serial (nodes_of (drop l.tree-index l.trees)) ≡ has row_serial l.serial (nodes_of l.trees);
-  above : pushing (opened_in l.binding) l.serial (nodes_of (drop l.tree-index l.trees)) ≡ pushing (opened_in l.binding) l.serial (nodes_of l.trees);
-  once : tally row_serial l.serial (nodes_of (drop l.tree-index l.trees)) ≤ 1;
+  there : has row_serial l.serial (from l.i l.children) ≡ has row_serial l.serial l.children;
+  above : pushing (opened_in l.binding) l.serial (from l.i l.children) ≡ pushing (opened_in l.binding) l.serial l.children;
+  once : tally row_serial l.serial (from l.i l.children) ≤ 1;
 }

@@ -1,13 +1,28 @@
-use Rattle.std.proofs.Common.{map, drop_of_length-le}
+use Rattle.std.proofs.Common.{◌+◌, ◌*◌, ◌<◌, ◌++◌, map, ap, subst, arith}
+use Rattle.node_tree.specs.Nodes.{width, node_count, branch_count}
+use Rattle.node_tree.proofs.NodeLemmas.{from-zero}
+use Rattle.page_tree.proofs.CursorLemmas.{from-end, child-smaller}
 use Rattle.node_binding.specs.Bindings.{opened_in}
 use Rattle.dom_agent.specs.Openings.{opening_of}
+use Rattle.dom_agent.specs.Requests.{requested}
 use Rattle.dom_agent.proofs.OpeningLemmas.{request_turn, request_end}
 use Rattle.dom_agent.proofs.openings.+request.Goals as goal
 
-pub request_trees-loop-tree-preserved : goal.request_trees-loop-tree-preserved
-request_trees-loop-tree-preserved t c =
-    request_turn (opened_in c.args.binding.now) c.args.levels c.args.trees.now c.loop-tree.tree-index c.tree-item.result (map opening_of c.loop-tree.openings.items) _ _ c.loop-tree-test.true c.tree-item.is c.in_ok-request_tree.ensures c.loop-tree.invariant
+pub request_children-loop-i-init : goal.request_children-loop-i-init
+request_children-loop-i-init t c =
+    ap (λ n. map opening_of c.args.openings.now.items ++ requested (opened_in c.args.binding.now) c.args.levels n) (from-zero c.args.children.now)
 
-pub request_trees-returns : goal.request_trees-returns
-request_trees-returns t c =
-    request_end (opened_in c.args.binding.now) c.args.levels c.args.trees.now c.loop-tree.tree-index (map opening_of c.loop-tree.openings.items) _ (drop_of_length-le c.args.trees.now c.loop-tree-test.false) c.loop-tree.invariant
+pub request_children-request_node-requires : goal.request_children-request_node-requires
+request_children-request_node-requires t c =
+    let inside : c.loop-i.i < width c.args.children.now = omega (arith, c.loop-i-test.true, c.len-i-end.ensures) in
+    let small : 2 * branch_count c.at-node.result < 2 * node_count c.args.children.now + 1 = omega (arith, child-smaller c.args.children.now c.loop-i.i c.at-node.result inside c.at-node.ensures) in
+    (subst (λ m. 2 * branch_count c.at-node.result < m) c.decreases small, tt)
+
+pub request_children-loop-i-preserved : goal.request_children-loop-i-preserved
+request_children-loop-i-preserved t c =
+    let inside : c.loop-i.i < width c.args.children.now = omega (arith, c.loop-i-test.true, c.len-i-end.ensures) in
+    request_turn (opened_in c.args.binding.now) c.args.levels c.args.children.now c.loop-i.i c.at-node.result (map opening_of c.loop-i.openings.items) _ _ inside c.at-node.ensures c.in_ok-request_node.ensures c.loop-i.invariant
+
+pub request_children-returns : goal.request_children-returns
+request_children-returns t c =
+    request_end (opened_in c.args.binding.now) c.args.levels _ (map opening_of c.loop-i.openings.items) _ (from-end c.args.children.now c.loop-i.i (omega (arith, c.loop-i-test.false, c.len-i-end.ensures))) c.loop-i.invariant

@@ -1,11 +1,17 @@
-use Rattle.std.proofs.Common.{◌≡◌, ◌++◌, map, drop}
-use Rattle.node_tree.specs.Nodes.{nodes_of}
+use Rattle.std.proofs.Common.{◌≡◌, ◌+◌, ◌*◌, ◌++◌, map}
+use Rattle.node_tree.specs.Nodes.{from, node_count, branch_count}
 use Rattle.node_binding.specs.Bindings.{opened_in}
 use Rattle.dom_agent.specs.Requests.{requested}
 use Rattle.dom_agent.specs.Openings.{opening_of}
 use Rattle.dom_agent.proofs.openings.+request.Given as goal
 
-abbrev pub invariant-request_trees-loop-tree : goal.invariant-request_trees-loop-tree
-invariant-request_trees-loop-tree l =
-    map opening_of l.openings.items ++ requested (opened_in l.binding) l.levels (nodes_of (drop l.tree-index l.trees))
-    ≡ map opening_of l.initial.openings.items ++ requested (opened_in l.binding) l.levels (nodes_of l.trees)
+abbrev pub decreases-request_node : goal.decreases-request_node
+decreases-request_node l = 2 * branch_count l.node.now
+
+abbrev pub decreases-request_children : goal.decreases-request_children
+decreases-request_children l = 2 * node_count l.children.now + 1
+
+abbrev pub invariant-request_children-loop-i : goal.invariant-request_children-loop-i
+invariant-request_children-loop-i l =
+    map opening_of l.openings.items ++ requested (opened_in l.binding) l.levels (from l.i l.children)
+    ≡ map opening_of l.initial.openings.items ++ requested (opened_in l.binding) l.levels l.children

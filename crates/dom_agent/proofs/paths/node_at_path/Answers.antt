@@ -1,11 +1,10 @@
 use Rattle.std.proofs.Common.{ap, ◌∙◌}
 use Rattle.std.specs.Option.{option_and_then}
-use Rattle.node_tree.specs.Nodes.{nodes_of}
 use Rattle.dom_agent.specs.Paths.{parts_of, steps_of, node_by}
 use Rattle.dom_agent.proofs.paths.node_at_path.Goals as goal
 
 pub returns : goal.returns
 returns c =
     c.node_by.ensures
-    ∙ ap (λ text. option_and_then (λ steps. node_by steps (nodes_of c.deref.result.now)) (steps_of (parts_of text))) c.as_bytes.ensures.value
-    ∙ ap (λ n. option_and_then (λ steps. node_by steps n) (steps_of (parts_of c.args.path.now))) (ap (λ l. nodes_of l) c.deref.ensures.value ∙ ap (λ y. y.children) c.document.view_is)
+    ∙ ap (λ text. option_and_then (λ steps. node_by steps c.children.result) (steps_of (parts_of text))) c.as_bytes.ensures.value
+    ∙ ap (λ n. option_and_then (λ steps. node_by steps n) (steps_of (parts_of c.args.path.now))) c.children.ensures

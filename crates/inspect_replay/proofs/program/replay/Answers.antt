@@ -1,7 +1,8 @@
 -- An input that is not read is refused by its limits.
 use Rattle.std.proofs.Common.{sym, subst}
-use Rattle.inspect_replay.specs.Answers.{FitsLimits}
-use Rattle.inspect_replay.proofs.AnswerLemmas.{stop-limits}
+use Rattle.inspect_world.specs.Scripts.{report}
+use Rattle.inspect_replay.specs.Answers.{FitsLimits, Took}
+use Rattle.inspect_replay.proofs.AnswerLemmas.{stop-limits, stop-took}
 use Rattle.inspect_replay.proofs.FollowLemmas.{status-folds, input-folds, start-good, never-done}
 use Rattle.inspect_replay.proofs.program.replay.Goals as goal
 
@@ -19,3 +20,8 @@ returns-in-Err-clause-closes g c = λ done. absurd (never-done c.in-Err.stop c.s
 
 pub returns-in-Err-clause-replies : goal.returns-in-Err-clause-replies
 returns-in-Err-clause-replies g c = λ done. absurd (never-done c.in-Err.stop c.status_of.result c.status_of.ensures done)
+
+pub returns-in-Err-clause-report : goal.returns-in-Err-clause-report
+returns-in-Err-clause-report g c = λ honest up_level down_level input left.
+    subst (λ status. Took status (g.K.Sink.taken c.args.out.now) (g.K.Sink.taken c.args.out.now) (report input)) (sym c.status_of.ensures)
+    (stop-took c.in-Err.stop input (g.K.Sink.taken c.args.out.now) (report input) (c.in-Err.ensures.tells input left))

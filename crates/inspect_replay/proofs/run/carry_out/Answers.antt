@@ -3,7 +3,7 @@ use Rattle.std.proofs.Common.{refl, ap}
 use Rattle.replay_script.specs.Forms.{up, down, settle, show_front, show_replies}
 use Rattle.replay_script.specs.Seen.{seen, seen_ask}
 use Rattle.inspect_world.specs.World.{delivered_up, delivered_down, settled}
-use Rattle.inspect_world.specs.Sides.{step}
+use Rattle.back_end.specs.States.{step}
 use Rattle.inspect_replay.proofs.RunLemmas.{ask-carries, move-carries, same-carries}
 use Rattle.inspect_replay.proofs.FollowLemmas.{none-printed}
 use Rattle.inspect_replay.proofs.run.carry_out.Goals as goal

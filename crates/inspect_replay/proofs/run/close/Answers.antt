@@ -14,6 +14,6 @@ returns-in-Err-clause-runs g c =
     (λ up0 down0 w run. (c.in-Err.ensures.steps up0 down0 w run).0)
 
 pub returns-in-Ok-clause-shown : goal.returns-in-Ok-clause-shown
-returns-in-Ok-clause-shown g c = λ side0 up0 down0 run.
-    closes-shown c.print_outline.result side0 up0 down0 _ _ _ _ c.settle.new.self c.mirror.result.now
-    (c.in-Ok.ensures.follows side0 up0 down0 run).0 c.mirror.ensures c.print_outline.ensures.never c.print_outline.ensures.ok
+returns-in-Ok-clause-shown g c = λ state0 up0 down0 run.
+    closes-shown c.print_outline.result state0 up0 down0 _ _ _ _ c.settle.new.self c.mirror.result.now
+    (c.in-Ok.ensures.follows state0 up0 down0 run).0 c.mirror.ensures c.print_outline.ensures.never c.print_outline.ensures.ok

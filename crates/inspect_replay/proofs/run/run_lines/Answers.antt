@@ -31,7 +31,7 @@ returns-in-Err-carried-clause-runs g c = λ up0 down0 w few run.
     c.in-Some.text.now more form c.loop-text.ends c.carry_out-carried.new.ends
     (with_lines _ up0 down0 _ _ _ _ _ _ c.loop-text.number c.loop-text.lines (c.in-Some.text.now ∷ more) c.loop-text.ends c.in-Some.ensures.some (c.loop-text.invariant.6 up0 down0 w few run))
     c.in-Ok.ensures.good c.in-Ok.ensures.form (c.in-Err-carried.ensures {u = tt}).runs in
-    (tt, part-took c.in-Err-carried.stop _ _ _ _ (c.in-Err-carried.ensures {u = tt}).cause.rose all.0 all.2)
+    (tt, part-took c.in-Err-carried.stop _ _ _ _ _ _ _ (c.in-Err-carried.ensures {u = tt}).cause all.0 all.2)
 
 pub loop-text-preserved : goal.loop-text-preserved
 loop-text-preserved g c =
@@ -54,7 +54,7 @@ loop-text-preserved g c =
           c.in-Some.text.now more form c.loop-text.ends c.carry_out-carried.new.ends
           (with_lines _ up0 down0 _ _ _ _ _ _ c.loop-text.number c.loop-text.lines (c.in-Some.text.now ∷ more) c.loop-text.ends c.in-Some.ensures.some (c.loop-text.invariant.6 up0 down0 w few run))
           c.in-Ok.ensures.good c.in-Ok.ensures.form carried.runs).1,
-      λ side0 up0 down0 run. (carried.follows side0 up0 down0 (c.loop-text.invariant.7 side0 up0 down0 run)).0,
+      λ state0 up0 down0 run. (carried.follows state0 up0 down0 (c.loop-text.invariant.7 state0 up0 down0 run)).0,
       more-printed _ (g.K.Sink.taken c.loop-text.out) _ c.loop-text.invariant.8 carried.some,
     )
 
@@ -66,16 +66,16 @@ returns-clause-runs g c = λ up0 down0 w few run.
     (c.loop-text.invariant.6 up0 down0 w few run) ((c.in_default.ensures {u = tt}).none refl)
 
 pub returns-in-Err-clause-follows : goal.returns-in-Err-clause-follows
-returns-in-Err-clause-follows g c = λ side0 up0 down0 run. (
+returns-in-Err-clause-follows g c = λ state0 up0 down0 run. (
   tt,
   read-folds c.in-Err.stop c.loop-text.number _ _ c.in-Err.ensures.bad
-      (run-good side0 up0 down0 (g.L.Link.up c.loop-text.link) (g.L.Link.down c.loop-text.link) c.loop-text.ends (c.loop-text.invariant.7 side0 up0 down0 run)),
+      (run-good state0 up0 down0 (g.L.Link.up c.loop-text.link) (g.L.Link.down c.loop-text.link) c.loop-text.ends (c.loop-text.invariant.7 state0 up0 down0 run)),
 )
 
 pub returns-in-Err-carried-clause-follows : goal.returns-in-Err-carried-clause-follows
-returns-in-Err-carried-clause-follows g c = λ side0 up0 down0 run.
-    (c.in-Err-carried.ensures {u = tt}).follows side0 up0 down0 (c.loop-text.invariant.7 side0 up0 down0 run)
+returns-in-Err-carried-clause-follows g c = λ state0 up0 down0 run.
+    (c.in-Err-carried.ensures {u = tt}).follows state0 up0 down0 (c.loop-text.invariant.7 state0 up0 down0 run)
 
 pub returns-clause-follows : goal.returns-clause-follows
-returns-clause-follows g c = λ side0 up0 down0 run.
-    kept-run (Ok tt) side0 up0 down0 (g.L.Link.up c.loop-text.link) (g.L.Link.down c.loop-text.link) c.loop-text.ends tt (c.loop-text.invariant.7 side0 up0 down0 run)
+returns-clause-follows g c = λ state0 up0 down0 run.
+    kept-run (Ok tt) state0 up0 down0 (g.L.Link.up c.loop-text.link) (g.L.Link.down c.loop-text.link) c.loop-text.ends tt (c.loop-text.invariant.7 state0 up0 down0 run)

@@ -4,7 +4,7 @@ use Rattle.node_tree.specs.Nodes.{nodes_of}
 use Rattle.replay_script.specs.Script.{first_bad, good_lines}
 use Rattle.inspect_world.specs.Scripts.{loaded_world, after_lines}
 use Rattle.inspect_replay.proofs.RunLemmas.{begins, closed-took, stopped-took}
-use Rattle.inspect_world.specs.Sides.{first_side}
+use Rattle.back_end.specs.States.{loaded_state}
 use Rattle.inspect_replay.proofs.FollowLemmas.{run-first, ends-shown, in-order}
 use Rattle.inspect_replay.proofs.run.run_loaded.Goals as goal
 
@@ -18,8 +18,8 @@ returns-in-Ok-clause-took g c = λ honest up_level down_level.
     let few : 0 + length c.args.lines ≤ 2 ^ 26 = omega (arith, c.requires.few) in
     let ran = (c.in-Ok.ensures {u = c.in-Ok.field-0}).runs (g.L.Link.up c.args.link.now) (g.L.Link.down c.args.link.now) w few run in
     let closes = c.close.ensures.runs (g.L.Link.up c.args.link.now) (g.L.Link.down c.args.link.now) (after_lines (good_lines 2 c.args.lines) w) ran.0 in
-    closed-took c.close.result _ (g.K.Sink.taken c.args.out.now) (g.K.Sink.taken c.run_lines.new.out) (g.K.Sink.taken c.close.new.out)
-    (first_bad 2 c.args.lines) (good_lines 2 c.args.lines) w (c.in-Ok.ensures {u = c.in-Ok.field-0}).tells c.close.ensures.cause.rose closes.0 ran.1 closes.1
+    closed-took c.close.result _ _ _ _ (g.K.Sink.taken c.args.out.now) (g.K.Sink.taken c.run_lines.new.out) (g.K.Sink.taken c.close.new.out)
+    (first_bad 2 c.args.lines) (good_lines 2 c.args.lines) w (c.in-Ok.ensures {u = c.in-Ok.field-0}).tells c.close.ensures.cause closes.0 ran.1 closes.1
 
 pub returns-clause-took : goal.returns-clause-took
 returns-clause-took g c = λ honest up_level down_level.
@@ -42,7 +42,7 @@ returns-in-Ok-clause-refused g c =
     let start = run-first up down nodes c.in_ok-ends.ends c.requires.can c.requires.texts
     (first.page ∙ c.in_ok-page.ensures) first.off first.agent first.splitter first.front first.up first.down first.told in
     let ran = c.in-Ok.ensures {u = c.in-Ok.field-0} in
-    let shown = c.close.ensures.shown (first_side nodes) up down (ran.follows (first_side nodes) up down start).0 in
+    let shown = c.close.ensures.shown (loaded_state nodes) up down (ran.follows (loaded_state nodes) up down start).0 in
     shown.1
 
 pub returns-in-Ok-clause-closes : goal.returns-in-Ok-clause-closes
@@ -54,7 +54,7 @@ returns-in-Ok-clause-closes g c =
     let start = run-first up down nodes c.in_ok-ends.ends c.requires.can c.requires.texts
     (first.page ∙ c.in_ok-page.ensures) first.off first.agent first.splitter first.front first.up first.down first.told in
     let ran = c.in-Ok.ensures {u = c.in-Ok.field-0} in
-    let shown = c.close.ensures.shown (first_side nodes) up down (ran.follows (first_side nodes) up down start).0 in
+    let shown = c.close.ensures.shown (loaded_state nodes) up down (ran.follows (loaded_state nodes) up down start).0 in
     ends-shown c.close.result (g.K.Sink.taken c.args.out.now) (g.K.Sink.taken c.run_lines.new.out) (g.K.Sink.taken c.close.new.out)
     (g.L.Link.up c.args.link.now) (g.L.Link.down c.args.link.now) (g.L.Link.up c.close.new.link) (g.L.Link.down c.close.new.link) ran.some shown.0
 
@@ -67,7 +67,7 @@ returns-in-Ok-clause-replies g c =
     let start = run-first up down nodes c.in_ok-ends.ends c.requires.can c.requires.texts
     (first.page ∙ c.in_ok-page.ensures) first.off first.agent first.splitter first.front first.up first.down first.told in
     let ran = c.in-Ok.ensures {u = c.in-Ok.field-0} in
-    let shown = c.close.ensures.shown (first_side nodes) up down (ran.follows (first_side nodes) up down start).0 in
+    let shown = c.close.ensures.shown (loaded_state nodes) up down (ran.follows (loaded_state nodes) up down start).0 in
     in-order c.close.result (g.K.Sink.taken c.run_lines.new.out) (g.K.Sink.taken c.close.new.out)
     (g.L.Link.up c.args.link.now) (g.L.Link.down c.args.link.now) (g.L.Link.up c.close.new.link) (g.L.Link.down c.close.new.link) shown.0
 
@@ -79,4 +79,4 @@ returns-clause-refused g c =
     let first = c.in_ok-ends.ensures in
     let start = run-first up down nodes c.in_ok-ends.ends c.requires.can c.requires.texts
     (first.page ∙ c.in_ok-page.ensures) first.off first.agent first.splitter first.front first.up first.down first.told in
-    ((c.in-Err.ensures {u = tt}).follows (first_side nodes) up down start).1
+    ((c.in-Err.ensures {u = tt}).follows (loaded_state nodes) up down start).1

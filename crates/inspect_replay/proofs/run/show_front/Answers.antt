@@ -15,8 +15,8 @@ returns-in-Err-clause-runs g c =
     (λ up0 down0 w run. (c.in-Err.ensures.steps up0 down0 w run).0)
 
 pub returns-in-Ok-clause-follows : goal.returns-in-Ok-clause-follows
-returns-in-Ok-clause-follows g c = λ side0 up0 down0 run.
-    kept-run c.print_outline.result side0 up0 down0 _ _ c.settle.new.self c.print_outline.ensures.never (c.in-Ok.ensures.follows side0 up0 down0 run).0
+returns-in-Ok-clause-follows g c = λ state0 up0 down0 run.
+    kept-run c.print_outline.result state0 up0 down0 _ _ c.settle.new.self c.print_outline.ensures.never (c.in-Ok.ensures.follows state0 up0 down0 run).0
 
 pub returns-in-Ok-clause-some : goal.returns-in-Ok-clause-some
 returns-in-Ok-clause-some g c = some-printed c.print_outline.result _ _ _ c.print_outline.ensures.ok

@@ -37,13 +37,13 @@ returns-in-Err-print_replies-clause-runs g c =
     (λ up0 down0 w run. (c.in-Ok.ensures.steps up0 down0 w run).1) untold c.in-Err-print_replies.ensures.never c.in-Err-print_replies.ensures.err
 
 pub returns-in-Ok-print_replies-clause-follows : goal.returns-in-Ok-print_replies-clause-follows
-returns-in-Ok-print_replies-clause-follows g c = λ side0 up0 down0 run.
-    kept-run (Ok c.in-Ok-print_replies.field-0) side0 up0 down0 _ _ c.tell_all.new.self tt
-    (told-run side0 up0 down0 _ _ c.settle.new.self c.tell_all.new.self (length c.settle.new.self.front.value.replies) c.tell_all.ensures (c.in-Ok.ensures.follows side0 up0 down0 run).0)
+returns-in-Ok-print_replies-clause-follows g c = λ state0 up0 down0 run.
+    kept-run (Ok c.in-Ok-print_replies.field-0) state0 up0 down0 _ _ c.tell_all.new.self tt
+    (told-run state0 up0 down0 _ _ c.settle.new.self c.tell_all.new.self (length c.settle.new.self.front.value.replies) c.tell_all.ensures (c.in-Ok.ensures.follows state0 up0 down0 run).0)
 
 pub returns-in-Ok-print_replies-clause-some : goal.returns-in-Ok-print_replies-clause-some
 returns-in-Ok-print_replies-clause-some g c = some-printed (Ok c.in-Ok-print_replies.field-0) _ _ _ c.in-Ok-print_replies.ensures.ok
 
 pub returns-in-Err-print_replies-clause-follows : goal.returns-in-Err-print_replies-clause-follows
-returns-in-Err-print_replies-clause-follows g c = λ side0 up0 down0 run.
-    kept-run (Err c.in-Err-print_replies.stop) side0 up0 down0 _ _ c.settle.new.self c.in-Err-print_replies.ensures.never (c.in-Ok.ensures.follows side0 up0 down0 run).0
+returns-in-Err-print_replies-clause-follows g c = λ state0 up0 down0 run.
+    kept-run (Err c.in-Err-print_replies.stop) state0 up0 down0 _ _ c.settle.new.self c.in-Err-print_replies.ensures.never (c.in-Ok.ensures.follows state0 up0 down0 run).0

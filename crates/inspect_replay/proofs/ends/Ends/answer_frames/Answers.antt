@@ -2,7 +2,7 @@
 use Rattle.std.proofs.Common.{◌∷◌, arith, refl, sym, ap, ◌∙◌, Err, Ok}
 use Rattle.pipe_frames.specs.Frames.{Frames}
 use Rattle.inspect_world.specs.World.{answered}
-use Rattle.inspect_world.specs.Sides.{step}
+use Rattle.back_end.specs.States.{step}
 use Rattle.inspect_replay.proofs.EndLemmas.{answer_turn}
 use Rattle.inspect_replay.proofs.FollowLemmas.{follow_turn, follow_end}
 use Rattle.inspect_replay.proofs.ends.Ends.answer_frames.Goals as goal
@@ -25,22 +25,22 @@ loop-frame-preserved g c = (
       (c.in-Some.ensures.first ∙ ap (λ f. f ∷ c.next.new.self.whole) (sym c.deref.ensures.value)) c.in-Some.ensures.rest
       (c.in-Ok.ensures {u = c.in-Ok.field-0}).steps c.answer.ensures.same in
       both.1,
-  λ side0 up0 down0 f.
-      (follow_turn (Ok c.in-Ok.field-0) side0 up0 down0 (g.L.Link.up c.loop-frame.link) (g.L.Link.down c.loop-frame.link) (g.L.Link.up c.answer.new.link) (g.L.Link.down c.answer.new.link)
-      c.loop-frame.self c.answer.new.self c.next.new.self c.deref.result.now (c.loop-frame.invariant.3 side0 up0 down0 f)
+  λ state0 up0 down0 f.
+      (follow_turn (Ok c.in-Ok.field-0) state0 up0 down0 (g.L.Link.up c.loop-frame.link) (g.L.Link.down c.loop-frame.link) (g.L.Link.up c.answer.new.link) (g.L.Link.down c.answer.new.link)
+      c.loop-frame.self c.answer.new.self c.next.new.self c.deref.result.now (c.loop-frame.invariant.3 state0 up0 down0 f)
       (c.in-Some.ensures.first ∙ ap (λ f. f ∷ c.next.new.self.whole) (sym c.deref.ensures.value)) c.in-Some.ensures.rest
       (c.in-Ok.ensures {u = c.in-Ok.field-0}).follows).0,
 )
 
 pub returns-in-Err-clause-follows : goal.returns-in-Err-clause-follows
-returns-in-Err-clause-follows g c = λ side0 up0 down0 f.
-    follow_turn {T = Unit {0}} (Err c.in-Err.stop) side0 up0 down0 (g.L.Link.up c.loop-frame.link) (g.L.Link.down c.loop-frame.link) (g.L.Link.up c.answer.new.link) (g.L.Link.down c.answer.new.link)
-    c.loop-frame.self c.answer.new.self c.next.new.self c.deref.result.now (c.loop-frame.invariant.3 side0 up0 down0 f)
+returns-in-Err-clause-follows g c = λ state0 up0 down0 f.
+    follow_turn {T = Unit {0}} (Err c.in-Err.stop) state0 up0 down0 (g.L.Link.up c.loop-frame.link) (g.L.Link.down c.loop-frame.link) (g.L.Link.up c.answer.new.link) (g.L.Link.down c.answer.new.link)
+    c.loop-frame.self c.answer.new.self c.next.new.self c.deref.result.now (c.loop-frame.invariant.3 state0 up0 down0 f)
     (c.in-Some.ensures.first ∙ ap (λ f. f ∷ c.next.new.self.whole) (sym c.deref.ensures.value)) c.in-Some.ensures.rest
     c.in-Err.ensures.follows
 
 pub returns-clause-follows : goal.returns-clause-follows
-returns-clause-follows g c = λ side0 up0 down0 f.
+returns-clause-follows g c = λ state0 up0 down0 f.
     let last = c.in_default.ensures {u = tt} in
-    follow_end side0 up0 down0 (g.L.Link.up c.loop-frame.link) (g.L.Link.down c.loop-frame.link) c.loop-frame.self c.next.new.self
-    (c.loop-frame.invariant.3 side0 up0 down0 f) last.unchanged (ap (λ (s : Frames). s.whole) last.unchanged ∙ last.none.0 refl)
+    follow_end state0 up0 down0 (g.L.Link.up c.loop-frame.link) (g.L.Link.down c.loop-frame.link) c.loop-frame.self c.next.new.self
+    (c.loop-frame.invariant.3 state0 up0 down0 f) last.unchanged (ap (λ (s : Frames). s.whole) last.unchanged ∙ last.none.0 refl)

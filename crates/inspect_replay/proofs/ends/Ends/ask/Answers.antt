@@ -27,12 +27,12 @@ returns-in-Ok-clause-steps g c = λ up0 down0 w few run.
     )
 
 pub returns-in-Ok-clause-follows : goal.returns-in-Ok-clause-follows
-returns-in-Ok-clause-follows g c = λ side0 up0 down0 run.
+returns-in-Ok-clause-follows g c = λ state0 up0 down0 run.
     let e = ends_of c.args.self.now in
     let frame = c.in_ok-frame.frame.items in
     let next = c.args.self.now.front.next in
-    kept-run (Ok c.in-Ok.field-0) side0 up0 down0 _ _ _ tt (record {
-      so_far = asked-follows side0 up0 down0 _ _ _ _ e (seen_ask c.args.ask.now) c.args.self.now.splitter.whole frame c.deref.result.now c.in-Some.there c.ask.new.self
+    kept-run (Ok c.in-Ok.field-0) state0 up0 down0 _ _ _ tt (record {
+      so_far = asked-follows state0 up0 down0 _ _ _ _ e (seen_ask c.args.ask.now) c.args.self.now.splitter.whole frame c.deref.result.now c.in-Some.there c.ask.new.self
           c.requires.can (c.if-not-has_room.ensures.0 refl) run.so_far
           (frame-seen next c.args.ask.now frame _ _ _ c.as_str.ensures c.as_ref.ensures.value c.as_ref-2.ensures.value c.in_ok-frame.ensures.frame)
           (c.in_ok-frame.ensures.asked ∙ ap (after_ask c.args.self.now.front) c.as_str.ensures)

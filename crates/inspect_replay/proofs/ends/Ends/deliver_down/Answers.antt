@@ -37,19 +37,19 @@ returns-in-Err-Fault-clause-steps g c = λ up0 down0 w run.
     )
 
 pub returns-in-Ok-take-clause-follows : goal.returns-in-Ok-take-clause-follows
-returns-in-Ok-take-clause-follows g c = λ side0 up0 down0 run.
-    kept-run (Ok c.in-Ok-take.field-0) side0 up0 down0 _ _ _ tt (record {
-      so_far = delivered-follows side0 up0 down0 (g.L.Link.up c.args.link.now) (g.L.Link.down c.args.link.now) (g.L.Link.up c.receive_down.new.link) (g.L.Link.down c.receive_down.new.link)
+returns-in-Ok-take-clause-follows g c = λ state0 up0 down0 run.
+    kept-run (Ok c.in-Ok-take.field-0) state0 up0 down0 _ _ _ tt (record {
+      so_far = delivered-follows state0 up0 down0 (g.L.Link.up c.args.link.now) (g.L.Link.down c.args.link.now) (g.L.Link.up c.receive_down.new.link) (g.L.Link.down c.receive_down.new.link)
           c.args.self.now.splitter.whole (ends_of c.args.self.now) c.deref.result.now c.in-Ok.piece.items c.saturating_sub-self.result c.take.new.self
           run.so_far c.in-Ok.ensures.down c.receive_down.ensures.up c.deref.ensures.value c.in-Ok-take.ensures.ok c.in-Ok-take.ensures.well;
       none_whole = run.none_whole;
     })
 
 pub returns-in-Err-Fault-clause-follows : goal.returns-in-Err-Fault-clause-follows
-returns-in-Err-Fault-clause-follows g c = λ side0 up0 down0 run.
+returns-in-Err-Fault-clause-follows g c = λ state0 up0 down0 run.
     let is : ◌≡◌ {A = Result (Unit {0}) FrontErr} (Err c.in-Err-Fault.field-0) (Err (Fault c.in-Err-Fault.refused)) = ap (λ fault. Err fault) c.in-Err-Fault.field-0-is in (
       tt,
-      refused-folds side0 up0 down0 (g.L.Link.up c.args.link.now) (g.L.Link.down c.args.link.now) (g.L.Link.up c.receive_down.new.link) (g.L.Link.down c.receive_down.new.link)
+      refused-folds state0 up0 down0 (g.L.Link.up c.args.link.now) (g.L.Link.down c.args.link.now) (g.L.Link.up c.receive_down.new.link) (g.L.Link.down c.receive_down.new.link)
           c.args.self.now.splitter.whole (ends_of c.args.self.now) c.deref.result.now c.in-Ok.piece.items c.take.new.self c.in-Err-Fault.refused
           run.so_far c.in-Ok.ensures.down c.receive_down.ensures.up c.deref.ensures.value
           (c.in-Err-Fault.ensures.fault c.in-Err-Fault.refused is) (c.in-Err-Fault.ensures.kept c.in-Err-Fault.refused is),

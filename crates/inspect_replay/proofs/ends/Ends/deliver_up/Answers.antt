@@ -8,5 +8,5 @@ returns-in-Ok-clause-steps g c = λ up0 down0 w run.
     (c.in-Ok.ensures.steps up0 down0 w run).1 c.answer_frames.ensures.steps
 
 pub returns-in-Ok-clause-follows : goal.returns-in-Ok-clause-follows
-returns-in-Ok-clause-follows g c = λ side0 up0 down0 run.
-    c.answer_frames.ensures.follows side0 up0 down0 (c.in-Ok.ensures.follows side0 up0 down0 run).0
+returns-in-Ok-clause-follows g c = λ state0 up0 down0 run.
+    c.answer_frames.ensures.follows state0 up0 down0 (c.in-Ok.ensures.follows state0 up0 down0 run).0

@@ -8,5 +8,5 @@ returns-in-Ok-clause-steps g c = λ up0 down0 w run.
     run.so_far.in_world.up_left (c.in-Ok.ensures.steps up0 down0 w run).1 c.deliver_down.ensures.steps
 
 pub returns-in-Ok-clause-follows : goal.returns-in-Ok-clause-follows
-returns-in-Ok-clause-follows g c = λ side0 up0 down0 run.
-    c.deliver_down.ensures.follows side0 up0 down0 (c.in-Ok.ensures.follows side0 up0 down0 run).0
+returns-in-Ok-clause-follows g c = λ state0 up0 down0 run.
+    c.deliver_down.ensures.follows state0 up0 down0 (c.in-Ok.ensures.follows state0 up0 down0 run).0

@@ -1,0 +1,4 @@
+pub mod LoadTexts
+pub mod AskedLemmas
+pub mod StateLemmas
+pub mod SeatLemmas

@@ -1,0 +1,107 @@
+ghost use Rattle.std.specs.Prelude.{◌≡◌, ◌<◌, ◌^◌, ◌++◌, ◌↔◌, ◌&&◌, not, false, true, IsTrue, OnOk};
+ghost use Rattle.node_binding.specs.Bindings.{empty_from};
+ghost use Rattle.cdp_messages.specs.Asked.{fits_command};
+ghost use Rattle.back_end.specs.States.{State, needs_on, on_command, step};
+ghost use Rattle.back_end.specs.Seats.{StandsFor};
+
+use crate::side::PageSide;
+use cdp_messages::{Asked, Command, ReadErr, Refused, Why, read_command, write_refused};
+use dom_agent::DomAgent;
+use std::alloc::{AllocError, Global};
+
+/// A client's seat at the page's side: whether the domain DOM is on, and what the client knows of the page.
+#[derive(Drop)]
+pub struct Seat {
+    alloc: Global,
+    is_on: bool,
+    agent: DomAgent,
+}
+
+/// Whether a command is refused while DOM is off.
+fn needs_on(command: &Command) -> bool
+    ensures { result ≡ needs_on command.now }
+{
+    match command {
+        Command::GetDocument { .. } => false,
+        Command::RequestChildNodes { .. }
+        | Command::PushByPath { .. }
+        | Command::PushBySerials { .. } => true,
+    }
+}
+
+impl Seat {
+    /// The seat of a client that has asked for nothing yet.
+    pub fn new(alloc: Global) -> Seat
+        ensures off { result.is_on ≡ false }
+        ensures agent { result.agent ≡ empty_from 1 }
+    {
+        Seat {
+            alloc,
+            is_on: false,
+            agent: DomAgent::new(alloc),
+        }
+    }
+
+    /// Whether ids are left for another command. They are over every link that gives no more bytes than it was sent: a
+    /// command has more than 16 bytes and draws fewer than 2^17 ids, and a script has at most 2^26 bytes.
+    pub fn has_room(&self) -> bool
+        ensures { IsTrue result ↔ (self.now.agent.next < 2 ^ 52) }
+    {
+        self.agent.next_id() < 1 << 52
+    }
+
+    /// Answers one frame: the messages of its step are appended to `out`. A frame that is refused gets one error reply, and
+    /// changes nothing.
+    pub fn take_message(
+        &mut self,
+        side: &mut PageSide,
+        frame: &[u8],
+        out: &mut Vec<u8>,
+    ) -> Result<(), AllocError>
+        requires room { self.old.agent.next < 2 ^ 52 }
+        ensures page { side.new.page ≡ side.old.page }
+        ensures stands { (state : State) → StandsFor self.old side.old state
+            → OnOk result (StandsFor self.new side.new (step state frame.now).state) }
+        ensures sent { (state : State) → StandsFor self.old side.old state
+            → OnOk result (out.new.items ≡ out.old.items ++ (step state frame.now).sent) }
+    {
+        match read_command(self.alloc, frame, false) {
+            Ok(asked) => self.carry_out(side, &asked, out),
+            Err(ReadErr::Refused(refused)) => write_refused(self.alloc, &refused, out),
+            Err(ReadErr::Memory) => Err(AllocError),
+        }
+    }
+
+    /// Whether the command is refused since DOM is off.
+    fn is_refused(&self, command: &Command) -> bool
+        ensures { result ≡ (needs_on command.now && not self.now.is_on) }
+    {
+        needs_on(command) && !self.is_on
+    }
+
+    fn carry_out(
+        &mut self,
+        side: &mut PageSide,
+        asked: &Asked,
+        out: &mut Vec<u8>,
+    ) -> Result<(), AllocError>
+        requires command { fits_command asked.now.command ≡ true }
+        requires room { self.old.agent.next < 2 ^ 52 }
+        ensures page { side.new.page ≡ side.old.page }
+        ensures stands { (state : State) → StandsFor self.old side.old state
+            → OnOk result (StandsFor self.new side.new (on_command asked.now.id asked.now.command state).state) }
+        ensures sent { (state : State) → StandsFor self.old side.old state
+            → OnOk result (out.new.items ≡ out.old.items ++ (on_command asked.now.id asked.now.command state).sent) }
+    {
+        if self.is_refused(&asked.command) {
+            let refused = Refused {
+                id: Some(asked.id),
+                why: Why::DomOff,
+            };
+            return write_refused(self.alloc, &refused, out);
+        }
+        self.agent.ask(side.page(), asked, out)?;
+        self.is_on = true;
+        Ok(())
+    }
+}

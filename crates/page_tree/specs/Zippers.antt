@@ -1,0 +1,119 @@
+-- A node with all that a tree has around it: a zipper (Huet), whose focus is the node.
+use Rattle.std.specs.Prelude.{ℕ, Bool, ◌==◌, List, [], ◌∷◌, ◌++◌, Option, Some, None, unwrap_or, refl}
+use Rattle.std.specs.List.{find}
+use Rattle.std.specs.Coded.{Coded, code_by, coded×, coded_list}
+use Rattle.node_tree.specs.Nodes.{Nodes, none, node, Branch, alone, coded_nodes, coded_branch}
+use Rattle.page_tree.specs.Pages.{Row, coded_row}
+
+-- a node among its siblings: those before it, the nearest first, and those after it
+pub record Generation : Type 0 where
+  pub branch : Branch Row
+  pub before : List (Branch Row)
+  pub after : Nodes Row
+
+-- a node among its siblings, and above it its parent, the parent's parent and so on up to the root, each in the same way
+pub record Zipper : Type 0 where
+  pub branch : Branch Row
+  pub before : List (Branch Row)
+  pub after : Nodes Row
+  pub above : List Generation
+
+abbrev pub coded_generation : Coded Generation
+coded_generation =
+    code_by (Branch Row × (List (Branch Row) × Nodes Row)) (coded× (coded_branch coded_row) (coded× (coded_list (coded_branch coded_row)) (coded_nodes coded_row)))
+    (λ g. (g.branch, (g.before, g.after)))
+    (λ p. record { branch = p.0; before = p.1.0; after = p.1.1 })
+    (λ _. refl)
+
+abbrev pub generation_of : Zipper → Generation
+generation_of z = record { branch = z.branch; before = z.before; after = z.after }
+
+abbrev pub zipper_of : Generation → List Generation → Zipper
+zipper_of g above = record { branch = g.branch; before = g.before; after = g.after; above = above }
+
+abbrev pub coded_zipper : Coded Zipper
+coded_zipper = code_by (Generation × List Generation) (coded× coded_generation (coded_list coded_generation)) (λ z. (generation_of z, z.above)) (λ p. zipper_of p.0 p.1) (λ _. refl)
+
+abbrev pub serial_of : Zipper → ℕ
+serial_of z = z.branch.row.serial
+
+-- ---- the nodes around a node
+
+-- the parent, the parent's parent and so on up to the root
+abbrev pub ancestors_in : List Generation → List Zipper
+ancestors_in [] = []
+ancestors_in (g ∷ above) = zipper_of g above ∷ ancestors_in above
+
+abbrev pub ancestors : Zipper → List Zipper
+ancestors z = ancestors_in z.above
+
+-- the siblings before these nodes, the nearest first
+abbrev pub earlier_in : List Generation → List (Branch Row) → Nodes Row → List Zipper
+earlier_in above [] here = []
+earlier_in above (b ∷ before) here = record { branch = b; before = before; after = here; above = above } ∷ earlier_in above before (node b.row b.children here)
+
+-- the siblings before a node, the nearest first
+abbrev pub earlier : Zipper → List Zipper
+earlier z = earlier_in z.above z.before (node z.branch.row z.branch.children z.after)
+
+-- these nodes, which have siblings before them, in order
+abbrev pub in_row : List Generation → List (Branch Row) → Nodes Row → List Zipper
+in_row above before none = []
+in_row above before (node r c t) = record { branch = record { row = r; children = c }; before = before; after = t; above = above } ∷ in_row above (record { row = r; children = c } ∷ before) t
+
+-- the siblings after a node, in order
+abbrev pub later : Zipper → List Zipper
+later z = in_row z.above (z.branch ∷ z.before) z.after
+
+-- a node's children, in order
+abbrev pub children_of : Zipper → List Zipper
+children_of z = in_row (generation_of z ∷ z.above) [] z.branch.children
+
+abbrev pub head : List Zipper → Option Zipper
+head [] = None
+head (z ∷ zs) = Some z
+
+abbrev pub parent_of : Zipper → Option Zipper
+parent_of z = head (ancestors z)
+
+-- the sibling just before it
+abbrev pub previous_of : Zipper → Option Zipper
+previous_of z = head (earlier z)
+
+-- the sibling just after it
+abbrev pub next_of : Zipper → Option Zipper
+next_of z = head (later z)
+
+abbrev pub first_child_of : Zipper → Option Zipper
+first_child_of z = head (children_of z)
+
+-- ---- the nodes of a tree
+
+-- these nodes and all below them in document order, where nodes stand before and above them
+abbrev pub all_in : List Generation → List (Branch Row) → Nodes Row → List Zipper
+all_in above before none = []
+all_in above before (node r c t) =
+    record { branch = record { row = r; children = c }; before = before; after = t; above = above }
+    ∷ (all_in (record { branch = record { row = r; children = c }; before = before; after = t } ∷ above) [] c ++ all_in above (record { row = r; children = c } ∷ before) t)
+
+-- all below a node, in document order
+abbrev pub below : Zipper → List Zipper
+below z = all_in (generation_of z ∷ z.above) [] z.branch.children
+
+-- all nodes of a tree, in document order
+abbrev pub zippers : Branch Row → List Zipper
+zippers tree = all_in [] [] (alone tree)
+
+abbrev pub root_of : Branch Row → Zipper
+root_of tree = record { branch = tree; before = []; after = none; above = [] }
+
+abbrev pub has_serial : ℕ → Zipper → Bool
+has_serial serial z = serial_of z == serial
+
+-- the node of the tree with that serial
+abbrev pub find_zipper : ℕ → Branch Row → Option Zipper
+find_zipper serial tree = find (has_serial serial) (zippers tree)
+
+-- the same, where it is there
+abbrev pub zipper_at : ℕ → Branch Row → Zipper
+zipper_at serial tree = unwrap_or (find_zipper serial tree) (root_of tree)

@@ -1,0 +1,175 @@
+ghost use Rattle.std.specs.Prelude.{◌≡◌, ◌<◌, length, option_map, Some, IsSome, slice_get};
+ghost use Rattle.node_tree.specs.Nodes.{width, tree_at};
+ghost use Rattle.node_tree.specs.Labels.{value_of};
+ghost use Rattle.page_tree.specs.Pages.{find_in, node_at};
+
+use crate::pages::Page;
+use crate::trees::Tree;
+use node_tree::{Attributes, Kind};
+use std::marker::Model;
+
+/// A node of a page, for a walk of the page. It sees what is below it, and not what is above.
+#[derive(Drop)]
+pub struct Node<'a> {
+    tree: &'a Tree,
+}
+
+impl<'a> Model for Node<'a> {
+    ghost use Rattle.node_tree.specs.Nodes.{Branch, coded_branch};
+    ghost use Rattle.page_tree.specs.Pages.{Row, coded_row};
+
+    ghost Value = { Branch Row };
+
+    ghost coded = { coded_branch coded_row };
+
+    ghost view = { λ n. n.tree.now };
+}
+
+/// The children of a node, in their order.
+#[derive(Drop)]
+pub struct Children<'a> {
+    trees: &'a Vec<Tree>,
+}
+
+impl<'a> Model for Children<'a> {
+    ghost use Rattle.node_tree.specs.Nodes.{Nodes, nodes_of, coded_nodes};
+    ghost use Rattle.page_tree.specs.Pages.{Row, coded_row};
+
+    ghost Value = { Nodes Row };
+
+    ghost coded = { coded_nodes coded_row };
+
+    ghost view = { λ c. nodes_of c.trees.now.items };
+}
+
+impl Page {
+    /// The document.
+    pub fn root(&self) -> Node<'_>
+        ensures { result ≡ self.now.tree }
+    {
+        Node { tree: self.tree() }
+    }
+
+    /// The node with that serial.
+    pub fn node(&self, serial: u64) -> Node<'_>
+        requires { IsSome (find_in serial self.now.tree) }
+        ensures { result ≡ node_at serial self.now.tree }
+    {
+        Node {
+            tree: self.at(serial),
+        }
+    }
+}
+
+impl<'a> Node<'a> {
+    pub fn serial(&self) -> u64
+        ensures { result ≡ self.now.row.serial }
+    {
+        let tree = self.tree;
+        tree.serial
+    }
+
+    pub fn kind(&self) -> Kind
+        ensures { result ≡ self.now.row.label.kind }
+    {
+        let tree = self.tree;
+        tree.kind
+    }
+
+    /// An element's or a doctype's name, and else the empty text.
+    pub fn name(&self) -> &'a str
+        ensures { result.now ≡ self.now.row.label.name }
+    {
+        let tree = self.tree;
+        tree.name.as_str()
+    }
+
+    /// A text's or a comment's value, and else the empty text.
+    pub fn value(&self) -> &'a str
+        ensures { result.now ≡ self.now.row.label.value }
+    {
+        let tree = self.tree;
+        tree.value.as_str()
+    }
+
+    /// All attributes, in ascending order of their names' bytes.
+    pub fn attributes(&self) -> &'a Attributes
+        ensures { result.now ≡ self.now.row.label.attributes }
+    {
+        let tree = self.tree;
+        &tree.attributes
+    }
+
+    /// The value of the attribute of that name.
+    pub fn attr(&self, name: &str) -> Option<&'a str>
+        ensures { option_map (λ v. v.now) result ≡ value_of name.now self.now.row.label.attributes }
+    {
+        let tree = self.tree;
+        tree.attributes.get(name)
+    }
+
+    pub fn attr_len(&self) -> usize
+        ensures { result ≡ length self.now.row.label.attributes }
+    {
+        let tree = self.tree;
+        tree.attributes.len()
+    }
+
+    /// The name and the value of the attribute at place `i`, counted from 0 in ascending order of the names' bytes.
+    pub fn attr_at(&self, i: usize) -> (&'a str, &'a str)
+        requires { i < length self.now.row.label.attributes }
+        ensures { slice_get self.now.row.label.attributes i ≡ Some (result.0.now, result.1.now) }
+    {
+        let tree = self.tree;
+        tree.attributes.at(i)
+    }
+
+    /// The number of its children.
+    pub fn len(&self) -> usize
+        ensures { result ≡ width self.now.children }
+    {
+        let tree = self.tree;
+        tree.children.len()
+    }
+
+    /// The child at place `i`, counted from 0.
+    pub fn child(&self, i: usize) -> Node<'a>
+        requires { i < width self.now.children }
+        ensures { tree_at i self.now.children ≡ Some result }
+    {
+        self.children().at(i)
+    }
+
+    pub fn children(&self) -> Children<'a>
+        ensures { result ≡ self.now.children }
+    {
+        let tree = self.tree;
+        Children {
+            trees: &tree.children,
+        }
+    }
+
+    /// The same node once more, since a node is not `Copy`.
+    pub fn again(&self) -> Node<'a>
+        ensures { result ≡ self.now }
+    {
+        Node { tree: self.tree }
+    }
+}
+
+impl<'a> Children<'a> {
+    pub fn len(&self) -> usize
+        ensures { result ≡ width self.now }
+    {
+        self.trees.len()
+    }
+
+    /// The child at place `i`, counted from 0.
+    pub fn at(&self, i: usize) -> Node<'a>
+        requires { i < width self.now }
+        ensures { tree_at i self.now ≡ Some result }
+    {
+        let trees = self.trees;
+        Node { tree: &trees[i] }
+    }
+}

@@ -1,0 +1,149 @@
+ghost use Rattle.std.specs.Prelude.{◌≡◌, ◌+◌, None, OnOk, OnErr};
+ghost use Rattle.undo_marks.specs.Marks.{no_marks, entry_count, handed_out, noted, marked, crossed_over, past_popped, future_popped, past_pushed, future_pushed};
+
+use crate::groups::Groups;
+use crate::inverse_lists::{Inverse, Inverses, Popped};
+use std::alloc::{AllocError, Global};
+use std::marker::Model;
+
+/// A history of edits: groups that can be taken back, and groups that were taken back and can be done again.
+#[derive(Drop)]
+pub struct History {
+    past: Groups,
+    future: Groups,
+    going: bool,
+    crossed: bool,
+}
+
+impl Model for History {
+    ghost use Rattle.undo_marks.specs.Marks.{Marks, coded_marks};
+    ghost use Rattle.undo_marks.specs.declared.inverse_lists.Inverse.{Inverse};
+    ghost use Rattle.undo_marks.specs.Codes.{coded_inverse};
+
+    ghost Value = { Marks Inverse };
+
+    ghost coded = { coded_marks coded_inverse };
+
+    ghost view = { λ h. record { past = h.past; future = h.future; going = h.going; crossed = h.crossed } };
+}
+
+impl History {
+    ghost use Rattle.undo_marks.specs.Pops.{IsPopped};
+
+    pub fn new(alloc: Global) -> History
+        ensures { result ≡ no_marks }
+    {
+        History {
+            past: Groups::new(alloc),
+            future: Groups::new(alloc),
+            going: false,
+            crossed: false,
+        }
+    }
+
+    /// Notes a client's edit by its inverse. A command of several edits notes each, in order.
+    pub fn note(&mut self, inverse: Inverse) -> Result<(), AllocError>
+        ensures ok { OnOk result (self.new ≡ noted inverse self.old) }
+        ensures err { OnErr result (self.new ≡ self.old) }
+    {
+        if self.going {
+            self.past.join(inverse)?;
+        } else {
+            self.past.start(inverse)?;
+        }
+        self.future.clear();
+        self.going = true;
+        self.crossed = false;
+        Ok(())
+    }
+
+    /// Ends the group that is going on.
+    pub fn mark(&mut self)
+        ensures { self.new ≡ marked self.old }
+    {
+        self.going = false;
+    }
+
+    fn nothing(&self) -> Popped
+        ensures { IsPopped result None self.now.crossed }
+    {
+        if self.crossed {
+            Popped::Crossed
+        } else {
+            Popped::Nothing
+        }
+    }
+
+    /// Hands out the group that is to be taken back. What applying it gives goes to `push_undone`. Takes no memory.
+    pub fn pop_undo(&mut self) -> Popped
+        ensures popped { IsPopped result (handed_out self.old.past) self.old.crossed }
+        ensures after { self.new ≡ past_popped self.old }
+    {
+        let Some(group) = self.past.pop() else {
+            return self.nothing();
+        };
+        self.going = false;
+        Popped::Group(Inverses::reversed(group))
+    }
+
+    /// Hands out the group that is to be done again. What applying it gives goes to `push_redone`. Takes no memory.
+    pub fn pop_redo(&mut self) -> Popped
+        ensures popped { IsPopped result (handed_out self.old.future) self.old.crossed }
+        ensures after { self.new ≡ future_popped self.old }
+    {
+        let Some(group) = self.future.pop() else {
+            return self.nothing();
+        };
+        self.going = false;
+        Popped::Group(Inverses::reversed(group))
+    }
+
+    /// Takes the inverses that applying a group of `pop_undo` gave, in the order in which they were made.
+    pub fn push_undone(&mut self, group: Vec<Inverse>) -> Result<(), AllocError>
+        ensures ok { OnOk result (self.new ≡ future_pushed group.items self.old) }
+        ensures err { OnErr result (self.new ≡ self.old) }
+    {
+        self.future.push(group)?;
+        self.going = false;
+        Ok(())
+    }
+
+    /// Takes the inverses that applying a group of `pop_redo` gave, in the order in which they were made.
+    pub fn push_redone(&mut self, group: Vec<Inverse>) -> Result<(), AllocError>
+        ensures ok { OnOk result (self.new ≡ past_pushed group.items self.old) }
+        ensures err { OnErr result (self.new ≡ self.old) }
+    {
+        self.past.push(group)?;
+        self.going = false;
+        Ok(())
+    }
+
+    /// A change that is not the client's: nothing can be taken back or done again from here.
+    pub fn cross(&mut self)
+        ensures { self.new ≡ crossed_over self.old }
+    {
+        if self.kept() > 0 {
+            self.crossed = true;
+        }
+        self.past.clear();
+        self.future.clear();
+        self.going = false;
+    }
+
+    /// A load.
+    pub fn clear(&mut self)
+        ensures { self.new ≡ no_marks }
+    {
+        self.past.clear();
+        self.future.clear();
+        self.going = false;
+        self.crossed = false;
+    }
+
+    /// How many edits both lists have.
+    pub fn kept(&self) -> u64
+        ensures { result ≡ entry_count self.now.past + entry_count self.now.future }
+    {
+        self.past.count() + self.future.count()
+    }
+}
