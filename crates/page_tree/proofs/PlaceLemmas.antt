@@ -1,5 +1,5 @@
 -- Nodes of a page by the slots that keep them.
-use Rattle.std.proofs.Common.{◌≡◌, ◌⊎◌, ℕ, zero, suc, ◌+◌, ◌<◌, ◌≤◌, ◌==◌, Bool, true, false, cond, [], ◌∷◌, length, slice_get, Option, Some, None, option_map, refl, sym, ap, subst, ◌∙◌, inl, inr, arith}
+use Rattle.std.proofs.Common.{◌≡◌, ◌⊎◌, ℕ, zero, suc, ◌+◌, ◌<◌, ◌≤◌, ◌==◌, Bool, true, false, cond, [], ◌∷◌, length, slice_get, Option, Some, None, is_some, IsSome, option_map, refl, sym, ap, subst, ◌∙◌, inl, inr, arith}
 use Rattle.std.specs.Option.{option_and_then, unwrap_or}
 use Rattle.std.proofs.lemmas.Option.{option_and_then_some}
 use Rattle.node_tree.specs.Nodes.{Nodes, none, node, Branch, alone, tree_at, width, height}
@@ -9,7 +9,7 @@ use Rattle.node_tree.proofs.NodeLemmas.{height-map_rows}
 use Rattle.node_tree.proofs.ArenaLemmas.{kept_trees-keeps, keeps-width, keeps-tree_at, keeps-up, IsAtKey, key-find, find-key}
 use Rattle.page_tree.specs.Forms.{max_level}
 use Rattle.page_tree.specs.Pages.{Row, row_serial, row_label, IsValid, find_in, node_at, parent_at, level_at}
-use Rattle.page_tree.specs.Arenas.{page_slots, slot_row, slots_in, keys_in, Filed, Stored, Fresh, Grown, slot_of, climbed, first_tree, tree_of, IsPage}
+use Rattle.page_tree.specs.Arenas.{page_slots, slot_row, slots_in, keys_in, Filed, Stored, Fresh, Grown, slot_of, climbed, first_tree, tree_of, IsPage, Looks}
 use Rattle.page_tree.specs.declared.slots.Slot.{Slot}
 use Rattle.page_tree.specs.declared.arenas.Arena.{Arena}
 
@@ -26,6 +26,14 @@ level_of-low x level (node r c t) l e =
     (λ same. omega arith)
     (λ f. let h = level_of-low x (suc level) c l f in omega arith)
     (λ f. let h = level_of-low x level t l f in omega arith)
+
+climbed_none : (a : Arena) (levels : ℕ) → climbed a levels None ≡ 0
+climbed_none a zero = refl
+climbed_none a (suc levels) = refl
+
+pub climbed_lost : (a : Arena) (levels k : ℕ) → 0 < levels → slots_in a k ≡ None → 1 ≡ climbed a levels (Some k)
+climbed_lost a zero k some e = absurd (omega arith)
+climbed_lost a (suc levels) k some e = sym (ap (λ (o : Option Slot). suc (climbed a levels (option_and_then (λ (s : Slot). s.parent) o))) e ∙ ap suc (climbed_none a levels))
 
 -- a tree that the slots keep is the page's
 module _ (a : Arena) (root next : ℕ) (tree : Branch Row) (arena : IsArena page_slots (slots_in a) (keys_in a) root tree) (valid : IsValid (record { tree = tree; next = next })) where
@@ -44,11 +52,6 @@ module _ (a : Arena) (root next : ℕ) (tree : Branch Row) (arena : IsArena page
       }
 
 -- ---- readers
-
--- what a slot says of the node that is found
-abbrev pub Looks : Option Slot → Option (Branch Row) → Type 0
-Looks None f = f ≡ None
-Looks (Some slot) f = (b : Branch Row) × (f ≡ Some b) × (slot_row slot ≡ b.row) × (length slot.children ≡ width b.children)
 
 module _ (a : Arena) (root next : ℕ) (page : IsPage a root next) where
   once : (x : ℕ) → times page_slots x (alone (tree_of a root)) ≤ 1
@@ -182,6 +185,49 @@ module _ (a : Arena) (root next : ℕ) (page : IsPage a root next) where
         | None ↦ λ f. omega arith
         | Some l ↦ λ f. let w = level_of-low x 0 (alone (tree_of a root)) l f in omega arith
       ]) refl
+
+-- ---- the same, of the tree that a page is seen as
+
+pub looks-live : (o : Option Slot) (f : Option (Branch Row)) → Looks o f → is_some o ≡ is_some f
+looks-live None f e = sym (ap (λ (g : Option (Branch Row)). is_some g) e)
+looks-live (Some slot) f (b, e, row_is, length_is) = sym (ap (λ (g : Option (Branch Row)). is_some g) e)
+
+module _ (a : Arena) (root next : ℕ) (page : IsPage a root next) (t : Branch Row) (is : tree_of a root ≡ t) where
+  pub reads-looks : (x : ℕ) → Looks (slot_of a x) (find_in x t)
+  reads-looks x = subst (λ (b : Branch Row). Looks (slot_of a x) (find_in x b)) is (looks a root next page x)
+
+  pub reads-there : (x : ℕ) → IsSome (find_in x t) → slot_of a x ≡ None → ⊥
+  reads-there x some e =
+      let f : find_in x t ≡ None = subst (λ (o : Option Slot). Looks o (find_in x t)) e (reads-looks x) in
+      let clash : IsSome {T = Branch Row} None = subst (λ (o : Option (Branch Row)). IsSome o) f some in absurd (cc)
+
+  pub reads-node : (x : ℕ) (slot : Slot) → slot_of a x ≡ Some slot → (slot_row slot ≡ (node_at x t).row) × (length slot.children ≡ width (node_at x t).children)
+  reads-node x slot e =
+      let (b, found, row_is, length_is) = subst (λ (o : Option Slot). Looks o (find_in x t)) e (reads-looks x) in
+      let at : node_at x t ≡ b = ap (λ (o : Option (Branch Row)). unwrap_or o t) found in
+      (row_is ∙ sym (ap (λ (n : Branch Row). n.row) at), length_is ∙ sym (ap (λ (n : Branch Row). width n.children) at))
+
+  pub reads-child : (x : ℕ) (slot : Slot) (i k : ℕ) → slot_of a x ≡ Some slot → slice_get slot.children i ≡ Some k
+      → (child : Slot) × (slots_in a k ≡ Some child) × (option_map (λ (b : Branch Row). b.row.serial) (tree_at i (node_at x t).children) ≡ Some child.serial)
+  reads-child x slot i k e at =
+      subst (λ (n : Branch Row). (child : Slot) × (slots_in a k ≡ Some child) × (option_map (λ (b : Branch Row). b.row.serial) (tree_at i (node_at x n).children) ≡ Some child.serial)) is (child_is a root next page x slot i k e at)
+
+  pub reads-top : (x : ℕ) (slot : Slot) → slot_of a x ≡ Some slot → slot.parent ≡ None → 0 ≡ parent_at x t
+  reads-top x slot e up = elim (placed_up a root next page x slot e) [
+    | inl top ↦ sym (sym (ap (λ (n : Branch Row). parent_at x n) is) ∙ top.parent_is)
+    | inr low ↦ absurd (let clash : None ≡ Some low.key = sym up ∙ low.up in cc)
+  ]
+
+  pub reads-over : (x : ℕ) (slot : Slot) (k : ℕ) → slot_of a x ≡ Some slot → slot.parent ≡ Some k → (over : Slot) × (slots_in a k ≡ Some over) × (over.serial ≡ parent_at x t)
+  reads-over x slot k e up = elim (placed_up a root next page x slot e) [
+    | inl top ↦ absurd (let clash : None ≡ Some k = sym top.up ∙ up in cc)
+    | inr low ↦
+        let same : low.key ≡ k = let both : Some low.key ≡ Some k = sym low.up ∙ up in cc in
+        (low.over, sym (ap (λ (y : ℕ). slots_in a y) same) ∙ low.over_at, sym (sym (ap (λ (n : Branch Row). parent_at x n) is) ∙ low.parent_is))
+  ]
+
+  pub reads-level : (x : ℕ) (slot : Slot) → slot_of a x ≡ Some slot → climbed a max_level slot.parent ≡ level_at x t
+  reads-level x slot e = climbs a root next page max_level x slot e (level_low a root next page x) ∙ ap (λ (n : Branch Row). level_at x n) is
 
 -- ---- a load
 

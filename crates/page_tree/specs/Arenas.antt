@@ -1,10 +1,10 @@
 -- The slots of a page, and what they keep.
-use Rattle.std.specs.Prelude.{◌≡◌, ℕ, zero, suc, ◌+◌, ◌==◌, cond, List, [], ◌∷◌, Option, Some, option_and_then}
+use Rattle.std.specs.Prelude.{◌≡◌, ℕ, zero, suc, ◌+◌, ◌==◌, cond, List, [], ◌∷◌, length, Option, Some, None, option_and_then}
 use Rattle.std.specs.Option.{option_map_or}
 use Rattle.std.specs.Ordering.{nat_cmp}
 use Rattle.std.specs.BTreeMap as map
 use Rattle.slab.specs.Slab as slab
-use Rattle.node_tree.specs.Nodes.{Nodes, none, node, Branch}
+use Rattle.node_tree.specs.Nodes.{Nodes, none, node, Branch, width}
 use Rattle.node_tree.specs.Arena.{SlotForm, times, Keeps, kept_trees, IsFiled, IsArena, IsFresh, Grows, Shrinks, Comes, Turns}
 use Rattle.page_tree.specs.Forms.{max_level}
 use Rattle.page_tree.specs.Pages.{Row, row_serial, document_label, IsValid}
@@ -90,3 +90,8 @@ tree_of a root = first_tree (stored_trees a (suc max_level) (root ∷ []))
 pub record IsPage (a : Arena) (root next : ℕ) : Type 0 where
   pub arena : IsArena page_slots (slots_in a) (keys_in a) root (tree_of a root)
   pub valid : IsValid (record { tree = tree_of a root; next = next })
+
+-- what the slot of a serial says of the node that is found
+abbrev pub Looks : Option Slot → Option (Branch Row) → Type 0
+Looks None f = f ≡ None
+Looks (Some slot) f = (b : Branch Row) × (f ≡ Some b) × (slot_row slot ≡ b.row) × (length slot.children ≡ width b.children)

@@ -1,9 +1,9 @@
-ghost use Rattle.std.specs.Prelude.{◌≡◌, ◌≢◌, ◌+◌, ℕ, [], ◌∷◌, Option, Some, None, IfOk, OnOk, OnErr, vec_len};
-ghost use Rattle.slab.specs.Slab.{get};
+ghost use Rattle.std.specs.Prelude.{◌≡◌, ◌≢◌, ◌+◌, ◌≤◌, ℕ, [], ◌∷◌, Option, Some, None, IfOk, OnOk, OnErr, vec_len};
+ghost use Rattle.std.specs.Option.{option_copied};
 ghost use Rattle.node_tree.specs.Nodes.{alone, nodes_of, node_count};
 ghost use Rattle.node_tree.specs.Keys.{tally};
 ghost use Rattle.page_tree.specs.Pages.{row_serial};
-ghost use Rattle.page_tree.specs.Arenas.{slots_in, keys_in, Filed, Stored, stored_trees, Fresh, Grown, Shrunk, Came, Turned, SameSlots, listed, slot_row};
+ghost use Rattle.page_tree.specs.Arenas.{slots_in, keys_in, Filed, Stored, stored_trees, Fresh, Grown, Shrunk, Came, Turned, SameSlots, listed, slot_row, slot_of, climbed};
 
 use crate::slots::{Keys, Slot};
 use crate::trees::Tree;
@@ -28,6 +28,33 @@ impl Arena {
             slots: Slab::new(alloc),
             keys: BTreeMap::new(alloc),
         }
+    }
+
+    /// The slot of a serial.
+    pub fn find(&self, serial: u64) -> Option<&Slot>
+        ensures { option_copied result ≡ slot_of self.now serial }
+    {
+        let Some(key) = self.keys.get(&serial) else {
+            return None;
+        };
+        self.slots.get(*key)
+    }
+
+    /// How many slots there are from the one under that key up, at most so many.
+    pub fn climb(&self, above: Option<usize>, levels: u64) -> u64
+        ensures rise { result ≡ climbed self.now levels above }
+        ensures few { result ≤ levels }
+    {
+        if levels == 0 {
+            return 0;
+        }
+        let Some(key) = above else {
+            return 0;
+        };
+        let Some(slot) = self.slots.get(key) else {
+            return 1;
+        };
+        self.climb(slot.parent, levels - 1) + 1
     }
 
     /// Puts a node into a slot of its own.
@@ -78,7 +105,7 @@ impl Arena {
 
     /// Puts a tree into slots of their own, below the slot `above`. After want of memory some of them may stand.
     #[cycle(planting)]
-    fn plant(
+    pub fn plant(
         &mut self,
         alloc: Global,
         tree: Tree,
