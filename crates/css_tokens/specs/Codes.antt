@@ -24,9 +24,11 @@ is_ident c = is_ident_start c || (is_ascii_digit c || c == 45)
 abbrev pub is_non_printable : ℕ → Bool
 is_non_printable c = (is_in_range 1 8 c || c == 11) || (is_in_range 14 31 c || c == 127)
 
+-- `"` or `'`
 abbrev pub is_quote : ℕ → Bool
 is_quote c = c == 34 || c == 39
 
+-- `+` or `-`
 abbrev pub is_sign : ℕ → Bool
 is_sign c = c == 43 || c == 45
 

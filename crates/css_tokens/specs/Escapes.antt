@@ -33,6 +33,7 @@ unfoldable pub escape_len : List ℕ → ℕ
 escape_len [] = 0
 escape_len (c ∷ rest) = if c == 92 && not (begins is_newline rest) then 1 + escape_tail rest else 0
 
+-- the text begins with an escape
 abbrev pub begins_escape : List ℕ → Bool
 begins_escape [] = false
 begins_escape (c ∷ rest) = c == 92 && not (begins is_newline rest)
@@ -74,6 +75,7 @@ unescaped_after zero (c ∷ rest) =
     else escape_bytes rest ++ unescaped_after (escape_tail rest) rest)
     else c ∷ unescaped_after 0 rest
 
+-- the text with its escapes replaced by their values
 abbrev pub unescaped : List ℕ → List ℕ
 unescaped text = unescaped_after 0 text
 

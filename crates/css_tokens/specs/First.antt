@@ -5,6 +5,7 @@ use Rattle.css_tokens.specs.declared.rows.First.{First}
 use Rattle.css_tokens.specs.declared.rows.First.TheVariants.{Slash, White, Quote, Number, Dash, Name, Back, Pound, Less, At, Other}
 use Rattle.css_tokens.specs.Codes.{is_white, is_quote, is_ident_start}
 
+-- the first byte is of that kind
 abbrev pub Tells : First → ℕ → Type 0
 Tells Slash c = c ≡ 47
 Tells White c = is_white c ≡ true

@@ -119,6 +119,7 @@ pub record HashForm (kind : TokenKind) (piece rest : List ℕ) : Type 0 where
   pub some : 0 < length name
   pub a_name : IsName name rest
 
+-- digits, at least one
 abbrev pub AreDigits : List ℕ → Type 0
 AreDigits digits = (0 < length digits) × (list_all is_ascii_digit digits ≡ true)
 
@@ -127,6 +128,7 @@ pub data IsDecimal : List ℕ → Type 0 where
   decimal_whole : {digits : List ℕ} → AreDigits digits → IsDecimal digits
   decimal_fraction : {all : List ℕ} (whole digits : List ℕ) → list_all is_ascii_digit whole ≡ true → AreDigits digits → all ≡ whole ++ 46 ∷ digits → IsDecimal all
 
+-- an optional sign
 pub data IsSign : List ℕ → Type 0 where
   sign_none : IsSign []
   sign_plus : IsSign (43 ∷ [])

@@ -9,6 +9,7 @@ use Rattle.css_tokens.specs.Codes.{is_newline, is_white, is_quote, begins}
 use Rattle.css_tokens.specs.Escapes.{escape_tail, escape_value}
 use Rattle.css_tokens.specs.Runs.{run, white_run, comment_unit, string_unit, url_unit, bad_url_unit, name_len, starts_ident, number_len}
 
+-- a piece of that kind and length
 abbrev pub piece : TokenKind → ℕ → Piece
 piece kind len = record { kind = kind; len = len }
 
@@ -16,6 +17,7 @@ piece kind len = record { kind = kind; len = len }
 abbrev pub IsFront : List ℕ → Piece → Type 0
 IsFront text p = (0 < p.len) × (p.len ≤ length text)
 
+-- the piece, where the test holds
 abbrev pub when : Bool → Piece → Option Piece
 when test p = if test then Some p else None
 
@@ -147,6 +149,7 @@ mark [] = None
 mark (c ∷ rest) = Some (piece (mark_kind c) 1)
 
 infixr 10 ◌or◌
+-- the first of two that is there
 abbrev pub ◌or◌ : Option Piece → Option Piece → Option Piece
 (Some p) or q = Some p
 None or q = q

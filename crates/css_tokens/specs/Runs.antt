@@ -16,12 +16,15 @@ run_after unit skip [] = 0
 run_after unit (suc skip) (c ∷ rest) = suc (run_after unit skip rest)
 run_after unit zero (c ∷ rest) = unit_then (unit (c ∷ rest)) (λ skip. run_after unit skip rest)
 
+-- how long the run of units is that the text begins with
 abbrev pub run : (List ℕ → ℕ) → List ℕ → ℕ
 run unit text = run_after unit 0 text
 
+-- the length of the white space that the text begins with
 abbrev pub white_run : List ℕ → ℕ
 white_run text = prefix_len is_white text
 
+-- the length of the digits that the text begins with
 abbrev pub digits : List ℕ → ℕ
 digits text = prefix_len is_ascii_digit text
 
@@ -47,6 +50,7 @@ string_unit quote (c ∷ rest) =
 abbrev pub ends_url : ℕ → Bool
 ends_url c = ((is_white c || is_non_printable c) || is_quote c) || (c == 40 || c == 41)
 
+-- the length of the unit of an unquoted url that the text begins with, 0 for none
 abbrev pub url_unit : List ℕ → ℕ
 url_unit [] = 0
 url_unit (c ∷ rest) = if ends_url c then 0 else (if c == 92 then escape_len (c ∷ rest) else 1)
@@ -57,6 +61,7 @@ bad_url_unit [] = 0
 bad_url_unit (c ∷ rest) =
     if c == 41 then 0 else (if begins_escape (c ∷ rest) then escape_len (c ∷ rest) else 1)
 
+-- the length of the name that the text begins with
 abbrev pub name_len : List ℕ → ℕ
 name_len text = run name_unit text
 
@@ -75,6 +80,7 @@ fraction_len text = if begins (λ c. c == 46) text && begins is_ascii_digit (dro
 abbrev pub decimal_len : List ℕ → ℕ
 decimal_len text = digits text + fraction_len (drop (digits text) text)
 
+-- the length of the sign that the text begins with
 abbrev pub sign_len : List ℕ → ℕ
 sign_len text = if begins is_sign text then 1 else 0
 

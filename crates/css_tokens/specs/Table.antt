@@ -6,6 +6,7 @@ use Rattle.css_tokens.specs.declared.token.Piece.{Piece}
 use Rattle.css_tokens.specs.Rows.{piece, comment, white_space, string, bad_string, hash, numeric, cdc, url, bad_url, ident, cdo, at_keyword, mark}
 use Rattle.css_tokens.specs.Forms.{CommentForm, WhiteSpaceForm, StringForm, BadStringForm, HashForm, NumericForm, CdcForm, UrlForm, BadUrlForm, IdentForm, CdoForm, AtKeywordForm, MarkForm}
 
+-- the rows of the table of pieces, in its order
 pub data Row : Type 0 where
   comment_row : Row
   white_space_row : Row
@@ -77,6 +78,7 @@ pub record Gives (Form : TokenKind → List ℕ → List ℕ → Type 0) (row : 
   pub longest : (text : List ℕ) (p : Piece) → row text ≡ Some p → IsLongest Form text p
   pub where_any : (text front rest : List ℕ) (kind : TokenKind) → text ≡ front ++ rest → Form kind front rest → IsSome (row text)
 
+-- none of the rows has a piece at the head of the text
 abbrev pub NoneOf : List Row → List ℕ → Type 0
 NoneOf [] text = Unit {0}
 NoneOf (row ∷ rows) text = HasNone (FormOf row) text × NoneOf rows text

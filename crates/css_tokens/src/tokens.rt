@@ -28,6 +28,7 @@ impl<'a> Model for Tokens<'a> {
 }
 
 impl<'a> Tokens<'a> {
+    /// The pieces of the text, from its start.
     pub fn new(text: &'a str) -> Tokens<'a>
         ensures whole { result.text ≡ text.now }
         ensures left { result.left ≡ pieces text.now }

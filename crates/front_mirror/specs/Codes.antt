@@ -10,17 +10,21 @@ use Rattle.front_mirror.specs.declared.faults.FrontKind.{FrontKind}
 use Rattle.front_mirror.specs.declared.faults.FrontFault.{FrontFault}
 use Rattle.front_mirror.specs.Front.{FrontValue, FrontState}
 
+-- an ask by its parts
 abbrev pub coded_ask : Coded Ask
 coded_ask = code_by (ℕ × List ℕ) (coded× coded_ℕ (coded_list coded_ℕ)) (λ a. (a.id, a.method)) (λ p. record { id = p.0; method = p.1 }) (λ _. refl)
 
+-- a kept reply by its parts
 abbrev pub coded_kept : Coded Kept
 coded_kept =
     code_by (Option ℕ × (List ℕ × Bool)) (coded× (coded_option coded_ℕ) (coded× (coded_list coded_ℕ) coded_bool)) (λ k. (k.id, (k.text, k.good)))
     (λ p. record { id = p.0; text = p.1.0; good = p.1.1 }) (λ _. refl)
 
+-- a fault by its place and kind
 abbrev pub coded_fault : Coded FrontFault
 coded_fault = code_by (ℕ × FrontKind) (coded× coded_ℕ kind.the_row.coded) (λ f. (f.place, f.kind)) (λ p. record { place = p.0; kind = p.1 }) (λ _. refl)
 
+-- what a front shows, by its parts
 abbrev pub coded_value : Coded FrontValue
 coded_value =
     code_by ((Nodes Seen × List Ask) × (List Kept × ℕ)) (coded× (coded× (coded_nodes coded_seen) (coded_list coded_ask)) (coded× (coded_list coded_kept) coded_ℕ))
@@ -28,6 +32,7 @@ coded_value =
     (λ p. record { tree = p.0.0; asks = p.0.1; replies = p.1.0; taken = p.1.1 })
     (λ _. refl)
 
+-- a front by its parts
 abbrev pub coded_state : Coded FrontState
 coded_state =
     code_by ((FrontValue × List ℕ) × (Option FrontFault × (ℕ × Bool)))

@@ -114,6 +114,7 @@ abbrev pub with_root : FrontValue → ℕ → List ℕ → Branch Told → Optio
 with_root v id frame root None = Ok (replied v id frame true (seen_nodes (alone root)))
 with_root v id frame root (Some kind) = Err kind
 
+-- after an Ok reply with this result; none is of the method that was asked
 abbrev pub with_body : FrontValue → ℕ → List ℕ → Option ReplyBody → Result FrontValue FrontKind
 with_body v id frame None = Err NotMessage
 with_body v id frame (Some Nothing) = Ok (replied v id frame true v.tree)
@@ -131,6 +132,7 @@ abbrev pub with_fault : FrontValue → ℕ → List ℕ → Option (List ℕ) �
 with_fault v id frame None = Err NotMessage
 with_fault v id frame (Some method) = Ok (replied v id frame false v.tree)
 
+-- after an event that leads to this tree, or is refused
 abbrev pub with_tree : FrontValue → Nodes Seen → Option FrontKind → Result FrontValue FrontKind
 with_tree v tree None = Ok (told v tree)
 with_tree v tree (Some kind) = Err kind
@@ -140,10 +142,12 @@ abbrev pub with_children : FrontValue → ℕ → Nodes Told → Option (Spot Se
 with_children v parent nodes None = Err UnknownNode
 with_children v parent nodes (Some s) = with_tree v (put seen_id parent (opened_with nodes s.branch) v.tree) (children_fault v.tree parent nodes s)
 
+-- after an event
 abbrev pub with_news : FrontValue → News → Result FrontValue FrontKind
 with_news v (set_children parent nodes) = with_children v parent nodes (spot seen_id parent 0 v.tree)
 with_news v document_updated = Ok (told v none)
 
+-- after a message; none is what the frame spells
 abbrev pub with_message : FrontValue → List ℕ → Option Message → Result FrontValue FrontKind
 with_message v frame None = Err NotMessage
 with_message v frame (Some (event n)) = with_news v n
@@ -177,6 +181,7 @@ abbrev pub outcome : FrontValue → Option FrontFault → Result FrontValue Fron
 outcome v None = Ok v
 outcome v (Some f) = Err f
 
+-- frames folded one after the other, or the first fault
 abbrev pub fold_frames : FrontValue → List (List ℕ) → Result FrontValue FrontFault
 fold_frames v frames = let end = folded v frames in outcome end.value end.fault
 
@@ -196,6 +201,7 @@ pub record FrontState : Type 0 where
   pub next : ℕ
   pub dead : Bool
 
+-- a front that has sent and taken nothing
 abbrev pub first_state : FrontState
 first_state = record { value = first_value []; rest = []; fault = None; next = 1; dead = false }
 
@@ -205,6 +211,7 @@ after_bytes s bytes =
     let end = folded s.value (frames_from s.rest bytes) in
     record s { value = end.value; rest = held_after s.rest bytes; fault = end.fault }
 
+-- a front that has met a fault stays as it is
 abbrev pub unless_refused : Option FrontFault → FrontState → FrontState → FrontState
 unless_refused None before after = after
 unless_refused (Some f) before after = before

@@ -8,6 +8,7 @@ use Rattle.front_mirror.specs.declared.faults.FrontErr.{FrontErr}
 use Rattle.front_mirror.specs.declared.faults.FrontErr.TheVariants as front_err
 use Rattle.front_mirror.specs.Front.{FrontValue, Folded}
 
+-- what is known, as contracts see it
 abbrev pub value_of : Known → FrontValue
 value_of k = record { tree = k.mirror; asks = k.asks.items; replies = k.replies.items; taken = k.taken }
 

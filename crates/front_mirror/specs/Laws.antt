@@ -113,6 +113,7 @@ tells_document (Root b) = true
 tells_document (NodeId id) = false
 tells_document (NodeIds ids) = false
 
+-- a reply that tells no tree leaves the view
 abbrev pub StayGives : Type 0
 StayGives =
     (v : FrontValue) (id : ℕ) (frame : List ℕ) (result : Data) (method : List ℕ) (body : ReplyBody) → tells_document body ≡ false
@@ -121,11 +122,13 @@ StayGives =
 
 -- the same of messages as they are written
 
+-- children that are shown are taken in
 abbrev pub ShownIsTaken : Type 0
 ShownIsTaken =
     (v : FrontValue) (id : ℕ) (kids w : Nodes Seen) → IsTellable v.tree → IsTellable w → Moves (show id kids) v.tree w
     → take_frame v (event_text (set_children id (told_nodes id kids))) ≡ Ok (told v w)
 
+-- an error reply leaves the view
 abbrev pub ReplyStays : Type 0
 ReplyStays =
     (v : FrontValue) (id : ℕ) (method : List ℕ) (body : ReplyBody) → tells_document body ≡ false → fits_body body ≡ true → is_counted id ≡ true

@@ -22,6 +22,7 @@ quoted text = compact_text (string text)
 abbrev pub attribute_text : Pair → List ℕ
 attribute_text p = codes " " ++ p.0 ++ codes "=" ++ quoted p.1
 
+-- a node as an outline writes it, by its kind
 abbrev pub label_text_of : Kind → Label → List ℕ
 label_text_of Document l = codes "#document"
 label_text_of Element l = codes "<" ++ l.name ++ flat_map attribute_text l.attributes ++ codes ">"

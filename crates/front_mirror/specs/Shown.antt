@@ -31,6 +31,7 @@ root_id (node r c t) = r.id
 abbrev pub told_id : Told → ℕ
 told_id r = r.seen.id
 
+-- the serial of a told node
 abbrev pub told_serial : Told → ℕ
 told_serial r = r.seen.serial
 
@@ -42,5 +43,6 @@ told_spot p = record { branch = p.0.now; level = p.1 }
 abbrev pub seen_spot : Spot Told → Spot Seen
 seen_spot s = record { branch = seen_branch s.branch; level = s.level }
 
+-- the node and the level that a search answers
 abbrev pub shown_spot : Bor (Branch Told) × ℕ → Spot Seen
 shown_spot p = seen_spot (told_spot p)

@@ -48,6 +48,7 @@ impl Model for Front {
 }
 
 impl Front {
+    /// A front end that has sent nothing and shows nothing.
     pub fn new(alloc: Global) -> Result<Front, AllocError>
         ensures { IfOk result (λ front. front ≡ first_state) }
     {
@@ -130,6 +131,7 @@ impl Front {
         }
     }
 
+    /// What the front end shows.
     pub fn mirror(&self) -> &Mirror
         ensures { result.now ≡ self.now.value.tree }
     {

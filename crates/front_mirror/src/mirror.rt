@@ -85,6 +85,7 @@ impl Mirror {
         self.roots.as_slice()
     }
 
+    /// Whether nothing is shown.
     pub fn is_empty(&self) -> bool
         ensures { IsTrue result ↔ (self.now ≡ none) }
     {
@@ -136,6 +137,7 @@ impl Mirror {
         parent_among(&self.roots, 0, id)
     }
 
+    /// Whether a node of that id is shown.
     pub fn known(&self, id: u64) -> bool
         ensures { result ≡ is_some (find seen_id id self.now) }
     {
@@ -152,6 +154,7 @@ impl Mirror {
         }
     }
 
+    /// The kind of the node of that id.
     pub fn kind(&self, id: u64) -> Kind
         requires known { IsSome (find seen_id id self.now) }
         ensures { result ≡ (known_at id self.now).row.label.kind }
@@ -175,6 +178,7 @@ impl Mirror {
         self.node(id).value.as_str()
     }
 
+    /// The serial of the node of that id, the protocol's `backendNodeId`.
     pub fn serial(&self, id: u64) -> u64
         requires known { IsSome (find seen_id id self.now) }
         ensures { result ≡ (known_at id self.now).row.serial }
@@ -229,6 +233,7 @@ impl Mirror {
         child_id(self.node(id), i)
     }
 
+    /// How many attributes the node of that id has.
     pub fn attr_len(&self, id: u64) -> usize
         requires known { IsSome (find seen_id id self.now) }
         ensures { result ≡ length (known_at id self.now).row.label.attributes }

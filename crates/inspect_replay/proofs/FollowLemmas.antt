@@ -1,5 +1,5 @@
 -- What the calls on the link and on the ends keep over every link.
-use Rattle.std.proofs.Common.{◌≡◌, ℕ, ◌<◌, ◌^◌, List, [], ◌∷◌, ◌++◌, length, drop, codes, Option, Some, None, false, refl, sym, ◌∙◌, ap, subst, arith, append_assoc, Result, Ok, Err}
+use Rattle.std.proofs.Common.{◌≡◌, ◌+◌, ℕ, ◌<◌, ◌^◌, List, [], ◌∷◌, ◌++◌, length, drop, codes, Option, Some, None, false, refl, sym, ◌∙◌, ap, subst, arith, append_assoc, Result, Ok, Err}
 use Rattle.std.proofs.lemmas.List.{drop_all}
 use Rattle.std.specs.Result.{OnOk, IsOk}
 use Rattle.std.specs.Io.KnownBytes.{Appends}
@@ -23,7 +23,7 @@ use Rattle.back_end.specs.Texts.{HaveTexts}
 use Rattle.inspect_world.specs.ScriptsFit.{CanSend}
 use Rattle.inspect_world.specs.Held.{Ends as HeldEnds}
 use Rattle.inspect_world.specs.Links.{Follows, fold_of}
-use Rattle.inspect_world.proofs.LinkLemmas.{follows-start, follows-sends, follows-given_up, follows-answered, follows-delivered_down, follows-refused, follows-fold, follows-replies}
+use Rattle.inspect_world.proofs.LinkLemmas.{follows-told, follows-less, follows-start, follows-sends, follows-given_up, follows-answered, follows-delivered_down, follows-refused, follows-fold, follows-replies}
 use Rattle.inspect_replay.specs.declared.ends.Ends.{Ends}
 use Rattle.inspect_replay.specs.declared.stop.Stop.{Stop}
 use Rattle.inspect_replay.specs.declared.stop.Stop.TheVariants.{Line, TooLong, ReadFault, WriteFault, LinkFault, FrontRefused, Memory}
@@ -32,7 +32,7 @@ use Rattle.inspect_replay.specs.declared.status.Status.TheVariants as status
 use Rattle.inspect_replay.specs.Says.{Phase, untouched, reading, underway, ended, anywhen, PartRose, Says, says, status_of}
 use Rattle.inspect_replay.specs.Answers.{InReadOnly, source_counts, IsInputStop}
 use Rattle.back_end.specs.Seats.{StandsFor, Seated}
-use Rattle.inspect_replay.specs.Followed.{FoldsAt, fold_since, StatusFolds, StopFolds, EndsShown, AnswersInOrder, FollowsWith, FollowsRun, FollowsAnswer, PrintedSome}
+use Rattle.inspect_replay.specs.Followed.{GivesNoMore, FoldsAt, fold_since, StatusFolds, StopFolds, EndsShown, AnswersInOrder, FollowsWith, FollowsRun, FollowsAnswer, PrintedSome}
 use Rattle.inspect_replay.specs.Prints.{IsRead, ReadsAt}
 use Rattle.inspect_replay.specs.Runs.{ends_of}
 use Rattle.inspect_replay.specs.Moments.{moment}
@@ -78,26 +78,26 @@ kept-run (Err stop) state0 up0 down0 up down e never run = (tt, stop-folds stop 
 -- ---- the link and the ends
 
 pub asked-follows : (state0 : State) (up0 down0 up down up1 down1 : Pipe) (e : HeldEnds) (a : AskForm) (waiting : List (List ℕ)) (frame bytes : List ℕ) (there : ℕ) (front1 : FrontState)
-    → CanSend a → e.front.next < 2 ^ 30 → Follows state0 up0 down0 up down waiting e
+    → CanSend a → e.front.next < 2 ^ 30 → Follows state0 up0 down0 up down waiting e → there ≡ e.up_there + length frame
     → frame ≡ framed (command_text e.front.next a.method a.params a.session) → front1 ≡ after_ask e.front a.method
     → bytes ≡ frame → (up1.sent ≡ up.sent ++ bytes) × (up1.given ≡ up.given) → down1 ≡ down
     → Follows state0 up0 down0 up1 down1 waiting (record e { front = front1; up_there = there })
-asked-follows state0 up0 down0 up down up1 down1 e a waiting frame bytes there front1 can room f frame_is front_is same_bytes sent same_down =
+asked-follows state0 up0 down0 up down up1 down1 e a waiting frame bytes there front1 can room f left frame_is front_is same_bytes sent same_down =
     let text = command_text e.front.next a.method a.params a.session in
     let all : Follows state0 up0 down0 up1 down waiting (record e { front = after_ask e.front a.method; up_there = there }) =
-    follows-sends state0 up0 down0 up down up1 waiting e a text there f can (omega (arith, room)) refl
+    follows-sends state0 up0 down0 up down up1 waiting e a text there f (left ∙ ap (λ bytes. e.up_there + length bytes) frame_is) can (omega (arith, room)) refl
     (sent.0 ∙ ap (λ piece. up.sent ++ piece) (same_bytes ∙ frame_is)) sent.1 in
     subst (λ pipe. Follows state0 up0 down0 up1 pipe waiting (record e { front = front1; up_there = there })) (sym same_down)
     (subst (λ s. Follows state0 up0 down0 up1 down waiting (record e { front = s; up_there = there })) (sym front_is) all)
 
 -- bytes came up, and were cut into frames
 pub given-follows : (state0 : State) (up0 down0 up down up1 down1 : Pipe) (e : HeldEnds) (s s1 : Frames) (piece bytes : List ℕ) (there : ℕ)
-    → Follows state0 up0 down0 up down s.whole (record e { back_rest = s.rest }) → (up1.sent ≡ up.sent) × (up1.given ≡ up.given ++ bytes) → down1 ≡ down
+    → Follows state0 up0 down0 up down s.whole (record e { back_rest = s.rest }) → there + length bytes ≡ e.up_there → (up1.sent ≡ up.sent) × (up1.given ≡ up.given ++ bytes) → down1 ≡ down
     → piece ≡ bytes → s1 ≡ continued s piece
     → Follows state0 up0 down0 up1 down1 s1.whole (record e { back_rest = s1.rest; up_there = there })
-given-follows state0 up0 down0 up down up1 down1 e s s1 piece bytes there f moved same_down same_bytes cut =
+given-follows state0 up0 down0 up down up1 down1 e s s1 piece bytes there f left moved same_down same_bytes cut =
     let all : Follows state0 up0 down0 up1 down (continued s bytes).whole (record e { back_rest = (continued s bytes).rest; up_there = there }) =
-    follows-given_up state0 up0 down0 up down up1 s.whole (record e { back_rest = s.rest }) bytes (held_after s.rest bytes) there f moved.0 moved.1 refl in
+    follows-given_up state0 up0 down0 up down up1 s.whole (record e { back_rest = s.rest }) bytes (held_after s.rest bytes) there f left moved.0 moved.1 refl in
     let now : continued s bytes ≡ s1 = sym (cut ∙ ap (continued s) same_bytes) in
     subst (λ pipe. Follows state0 up0 down0 up1 pipe s1.whole (record e { back_rest = s1.rest; up_there = there })) (sym same_down)
     (subst (λ (x : Frames). Follows state0 up0 down0 up1 down x.whole (record e { back_rest = x.rest; up_there = there })) now all)
@@ -105,16 +105,16 @@ given-follows state0 up0 down0 up down up1 down1 e s s1 piece bytes there f move
 -- a frame was answered
 pub answered-follows : (state0 : State) (up0 down0 up down up1 down1 : Pipe) (frame : List ℕ) (frames : List (List ℕ)) (b b1 : Seated) (e : HeldEnds)
     (old out bytes : List ℕ) (there : ℕ)
-    → Follows state0 up0 down0 up down (frame ∷ frames) (record e { page = b.side.page; is_on = b.seat.is_on; bound = b.seat.agent })
+    → Follows state0 up0 down0 up down (frame ∷ frames) (record e { page = b.side.page; is_on = b.seat.is_on; bound = b.seat.agent }) → there ≡ e.down_there + length out
     → b.seat.agent.next < 2 ^ 52
     → ((state : State) → StandsFor b.seat b.side state → StandsFor b1.seat b1.side (step state frame).state) → ((state : State) → StandsFor b.seat b.side state → out ≡ old ++ (step state frame).sent)
     → old ≡ [] → bytes ≡ out → up1 ≡ up → (down1.sent ≡ down.sent ++ bytes) × (down1.given ≡ down.given)
     → Follows state0 up0 down0 up1 down1 frames (record e { page = b1.side.page; is_on = b1.seat.is_on; bound = b1.seat.agent; down_there = there })
-answered-follows state0 up0 down0 up down up1 down1 frame frames b b1 e old out bytes there f room stood said empty same_out same_up sent =
+answered-follows state0 up0 down0 up down up1 down1 frame frames b b1 e old out bytes there f left room stood said empty same_out same_up sent =
     let before : StandsFor b.seat b.side f.state = record { is_state = f.is_state; page_is = f.page_is; on_is = f.on_is; stands = f.stands } in
     let after : StandsFor b1.seat b1.side (step f.state frame).state = stood f.state before in
     let all : Follows state0 up0 down0 up down1 frames (record e { page = b1.side.page; is_on = b1.seat.is_on; bound = b1.seat.agent; down_there = there }) =
-    follows-answered state0 up0 down0 up down down1 frame frames (record e { page = b.side.page; is_on = b.seat.is_on; bound = b.seat.agent }) b1.side.page b1.seat.is_on b1.seat.agent out there f room
+    follows-answered state0 up0 down0 up down down1 frame frames (record e { page = b.side.page; is_on = b.seat.is_on; bound = b.seat.agent }) b1.side.page b1.seat.is_on b1.seat.agent out there f left room
     after.page_is after.on_is after.stands
     (said f.state before ∙ ap (λ start. start ++ (step f.state frame).sent) empty)
     (sent.0 ∙ ap (λ piece. down.sent ++ piece) same_out) sent.1 in
@@ -122,13 +122,13 @@ answered-follows state0 up0 down0 up down up1 down1 frame frames b b1 e old out 
 
 -- bytes came down, and the front end refused none of the messages
 pub delivered-follows : (state0 : State) (up0 down0 up down up1 down1 : Pipe) (waiting : List (List ℕ)) (e : HeldEnds) (piece bytes : List ℕ) (there : ℕ) (front1 : FrontState)
-    → Follows state0 up0 down0 up down waiting e → (down1.sent ≡ down.sent) × (down1.given ≡ down.given ++ bytes) → up1 ≡ up
+    → Follows state0 up0 down0 up down waiting e → there + length bytes ≡ e.down_there → (down1.sent ≡ down.sent) × (down1.given ≡ down.given ++ bytes) → up1 ≡ up
     → piece ≡ bytes → front1 ≡ after_take e.front piece → front1.fault ≡ None
     → Follows state0 up0 down0 up1 down1 waiting (record e { front = front1; down_there = there })
-delivered-follows state0 up0 down0 up down up1 down1 waiting e piece bytes there front1 f moved same_up same_bytes front_is good =
+delivered-follows state0 up0 down0 up down up1 down1 waiting e piece bytes there front1 f left moved same_up same_bytes front_is good =
     let now : front1 ≡ after_take e.front bytes = front_is ∙ ap (after_take e.front) same_bytes in
     let all : Follows state0 up0 down0 up down1 waiting (record e { front = after_take e.front bytes; down_there = there }) =
-    follows-delivered_down state0 up0 down0 up down down1 waiting e bytes there f moved.0 moved.1 (sym (ap (λ (s : FrontState). s.fault) now) ∙ good) in
+    follows-delivered_down state0 up0 down0 up down down1 waiting e bytes there f left moved.0 moved.1 (sym (ap (λ (s : FrontState). s.fault) now) ∙ good) in
     subst (λ pipe. Follows state0 up0 down0 pipe down1 waiting (record e { front = front1; down_there = there })) (sym same_up)
     (subst (λ s. Follows state0 up0 down0 up down1 waiting (record e { front = s; down_there = there })) (sym now) all)
 
@@ -165,39 +165,11 @@ follow_end state0 up0 down0 up down e s f same none = (
 
 -- ---- what is told and printed
 
--- how many replies were told is nothing that the link sees
-told-follows : (state0 : State) (up0 down0 up down : Pipe) (waiting : List (List ℕ)) (e : HeldEnds) (n : ℕ) → Follows state0 up0 down0 up down waiting e
-    → Follows state0 up0 down0 up down waiting (record e { told = n })
-told-follows state0 up0 down0 up down waiting e n f = record {
-  sent_up = f.sent_up;
-  given_up = f.given_up;
-  sent_down = f.sent_down;
-  given_down = f.given_down;
-  up_is = f.up_is;
-  down_is = f.down_is;
-  up_whole = f.up_whole;
-  value = f.value;
-  front_is = f.front_is;
-  is_fold = f.is_fold;
-  answered = f.answered;
-  frames_are = f.frames_are;
-  back_is = f.back_is;
-  state = f.state;
-  side_is = f.side_is;
-  sent_is = f.sent_is;
-  replies_are = f.replies_are;
-  down_whole = f.down_whole;
-  page_is = f.page_is;
-  on_is = f.on_is;
-  stands = f.stands;
-  is_state = f.is_state;
-}
-
 pub told-run : (state0 : State) (up0 down0 up down : Pipe) (e e1 : Ends) (n : ℕ) → e1 ≡ record e { told = n } → FollowsRun state0 up0 down0 up down e
     → FollowsRun state0 up0 down0 up down e1
 told-run state0 up0 down0 up down e e1 n is run =
     subst (λ x. FollowsRun state0 up0 down0 up down x) (sym is)
-    (record { so_far = told-follows state0 up0 down0 up down e.splitter.whole (ends_of e) n run.so_far; none_whole = run.none_whole })
+    (record { so_far = follows-told state0 up0 down0 up down e.splitter.whole (ends_of e) n run.so_far; none_whole = run.none_whole })
 
 pub some-printed : {T : Type 0} (result : Result T Stop) (before after : Option (List ℕ)) (text : List ℕ) → OnOk result (Appends before after text) → OnOk result (PrintedSome before after)
 some-printed (Ok value) before after text printed = record { written = text; printed = printed }
@@ -214,7 +186,7 @@ more-printed before middle after a b = record { written = a.written ++ b.written
 pub closes-shown : (result : Result (Unit {0}) Stop) (state0 : State) (up0 down0 up down : Pipe) (before after : Option (List ℕ)) (e : Ends) (tree : Nodes Seen)
     → FollowsRun state0 up0 down0 up down e → tree ≡ e.front.value.tree → NotRefused result
     → OnOk result (Appends before after (codes "# end" ++ 10 ∷ outline_text seen_line tree))
-    → OnOk result (EndsShown before after (fold_since up0 down0 up down) × AnswersInOrder up0 down0 up down) × StopFolds result (fold_since up0 down0 up down)
+    → OnOk result (EndsShown before after (fold_since up0 down0 up down) × AnswersInOrder up0 down0 up down × GivesNoMore up0 down0 up down) × StopFolds result (fold_since up0 down0 up down)
 closes-shown (Ok value) state0 up0 down0 up down before after e tree run shows never printed = (
   (
     record {
@@ -224,6 +196,7 @@ closes-shown (Ok value) state0 up0 down0 up down before after e tree run shows n
       printed = subst (λ t. Appends before after (codes "# end" ++ 10 ∷ outline_text seen_line t)) shows printed;
     },
     follows-replies state0 up0 down0 up down (ends_of e) (subst (λ frames. Follows state0 up0 down0 up down frames (ends_of e)) run.none_whole run.so_far),
+    follows-less state0 up0 down0 up down e.splitter.whole (ends_of e) run.so_far,
   ),
   run-good state0 up0 down0 up down e run,
 )
@@ -245,14 +218,19 @@ ends-after before middle after fold some shown =
     }
 
 pub ends-shown : {T : Type 0} (result : Result T Stop) (before middle after : Option (List ℕ)) (up0 down0 up down : Pipe) → PrintedSome before middle
-    → OnOk result (EndsShown middle after (fold_since up0 down0 up down) × AnswersInOrder up0 down0 up down) → OnOk result (EndsShown before after (fold_since up0 down0 up down))
+    → OnOk result (EndsShown middle after (fold_since up0 down0 up down) × AnswersInOrder up0 down0 up down × GivesNoMore up0 down0 up down) → OnOk result (EndsShown before after (fold_since up0 down0 up down))
 ends-shown (Ok value) before middle after up0 down0 up down some both = ends-after before middle after (fold_since up0 down0 up down) some both.0
 ends-shown (Err stop) before middle after up0 down0 up down some both = tt
 
 pub in-order : {T : Type 0} (result : Result T Stop) (before after : Option (List ℕ)) (up0 down0 up down : Pipe)
-    → OnOk result (EndsShown before after (fold_since up0 down0 up down) × AnswersInOrder up0 down0 up down) → OnOk result (AnswersInOrder up0 down0 up down)
+    → OnOk result (EndsShown before after (fold_since up0 down0 up down) × AnswersInOrder up0 down0 up down × GivesNoMore up0 down0 up down) → OnOk result (AnswersInOrder up0 down0 up down)
 in-order (Ok value) before after up0 down0 up down both = both.1
 in-order (Err stop) before after up0 down0 up down both = tt
+
+pub no-more : {T : Type 0} (result : Result T Stop) (before after : Option (List ℕ)) (up0 down0 up down : Pipe)
+    → OnOk result (EndsShown before after (fold_since up0 down0 up down) × AnswersInOrder up0 down0 up down × GivesNoMore up0 down0 up down) → OnOk result (GivesNoMore up0 down0 up down)
+no-more (Ok value) before after up0 down0 up down all = all.2
+no-more (Err stop) before after up0 down0 up down all = tt
 
 -- ---- the start and the end
 

@@ -1,5 +1,5 @@
 -- What holds of a run over every link, whatever bytes it gives.
-use Rattle.std.specs.Prelude.{◌≡◌, ℕ, List, [], ◌∷◌, ◌++◌, map, codes, Option, Some, None, Result, Ok, Err, IsOk, OnOk, ⊤}
+use Rattle.std.specs.Prelude.{◌≡◌, ◌≤◌, ℕ, List, [], ◌∷◌, ◌++◌, length, map, codes, Option, Some, None, Result, Ok, Err, IsOk, OnOk, ⊤}
 use Rattle.std.specs.Io.KnownBytes.{Appends}
 use Rattle.pipe_frames.specs.Pipe.{Pipe, sent_since, given_since}
 use Rattle.pipe_frames.specs.Frames.{frames_of}
@@ -46,6 +46,11 @@ pub record EndsShown (before after : Option (List ℕ)) (fold : Result FrontValu
 abbrev pub AnswersInOrder : (up0 down0 up down : Pipe) → Type 0
 AnswersInOrder up0 down0 up down = map (λ (t : Told). t.id) (replies_in (sent_since down0 down)) ≡ map reply_id (frames_of (given_since up0 up)).whole
 
+-- Of each pipe no more bytes were given than were sent: a delivery asks for no more than are there.
+abbrev pub GivesNoMore : (up0 down0 up down : Pipe) → Type 0
+GivesNoMore up0 down0 up down =
+    (length (given_since up0 up) ≤ length (sent_since up0 up)) × (length (given_since down0 down) ≤ length (sent_since down0 down))
+
 -- ---- the same of its parts
 
 -- what the result of a part says of the fold
@@ -56,6 +61,7 @@ StopFolds result fold = FoldsAt (says_of result).phase (says_of result).message 
 abbrev pub FollowsWith : State → (up0 down0 up down : Pipe) → Ends → Type 0
 FollowsWith state0 up0 down0 up down e = Follows state0 up0 down0 up down e.splitter.whole (ends_of e)
 
+-- the ends follow the link, and every whole frame is answered
 pub record FollowsRun (state0 : State) (up0 down0 up down : Pipe) (e : Ends) : Type 0 where
   pub so_far : FollowsWith state0 up0 down0 up down e
   pub none_whole : e.splitter.whole ≡ []
@@ -93,5 +99,6 @@ pub record PrintedSome (before after : Option (List ℕ)) : Type 0 where
 abbrev pub ClosesShown : {T : Type 0} → Scene → Scene → Result T Stop → Type 0
 ClosesShown old new result =
     (state0 : State) (up0 down0 : Pipe) → FollowsRun state0 up0 down0 old.now.up old.now.down old.now.ends
-    → OnOk result (EndsShown old.taken new.taken (fold_since up0 down0 new.now.up new.now.down) × AnswersInOrder up0 down0 new.now.up new.now.down)
+    → OnOk result (EndsShown old.taken new.taken (fold_since up0 down0 new.now.up new.now.down) × AnswersInOrder up0 down0 new.now.up new.now.down
+    × GivesNoMore up0 down0 new.now.up new.now.down)
     × StopFolds result (fold_since up0 down0 new.now.up new.now.down)

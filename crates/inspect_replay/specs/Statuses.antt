@@ -6,6 +6,7 @@ use Rattle.front_mirror.specs.declared.faults.FrontKind.TheVariants.{NotMessage,
 use Rattle.inspect_replay.specs.declared.status.Status.{Status}
 use Rattle.inspect_replay.specs.declared.status.Status.TheVariants.{Done, Usage, Line, TooLong, ReadFault, WriteFault, LinkFault, FrontRefused, Memory}
 
+-- how a status line names the fault of a message
 abbrev pub kind_name : FrontKind → List ℕ
 kind_name NotMessage = codes "NotMessage"
 kind_name UnknownNode = codes "UnknownNode"
@@ -14,6 +15,7 @@ kind_name IdTaken = codes "IdTaken"
 kind_name UnknownSheet = codes "UnknownSheet"
 kind_name TooDeep = codes "TooDeep"
 
+-- the line on standard error
 abbrev pub line_of_status : Status → List ℕ
 line_of_status Done = []
 line_of_status Usage = codes "usage: inspect replay, inspect serve or inspect drill N"
@@ -25,6 +27,7 @@ line_of_status LinkFault = codes "link fault"
 line_of_status (FrontRefused place fault) = codes "front refused message " ++ decimal place ++ codes ": " ++ kind_name fault
 line_of_status Memory = codes "out of memory"
 
+-- the exit status
 abbrev pub code_of_status : Status → ℕ
 code_of_status Done = 0
 code_of_status Usage = 2

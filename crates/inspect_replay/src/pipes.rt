@@ -38,7 +38,7 @@ pub(crate) fn send_down<L: Link>(link: &mut L, bytes: &[u8]) -> Result<(), Stop>
 
 /// The next bytes that come up, at most `max`.
 pub(crate) fn receive_up<L: Link>(alloc: Global, link: &mut L, max: usize) -> Result<Vec<u8>, Stop>
-    ensures up { Got (L.up link.old) (L.up link.new) result }
+    ensures up { Got (L.up link.old) (L.up link.new) max result }
     ensures down { L.down link.new ≡ L.down link.old }
     ensures honest { L.honest link.old → L.honest link.new }
     ensures all { L.honest link.old → IfOk result (λ piece. piece.items ≡ take max (waiting (L.up link.old))) }
@@ -59,7 +59,7 @@ pub(crate) fn receive_down<L: Link>(
     link: &mut L,
     max: usize,
 ) -> Result<Vec<u8>, Stop>
-    ensures down { Got (L.down link.old) (L.down link.new) result }
+    ensures down { Got (L.down link.old) (L.down link.new) max result }
     ensures up { L.up link.new ≡ L.up link.old }
     ensures honest { L.honest link.old → L.honest link.new }
     ensures all { L.honest link.old → IfOk result (λ piece. piece.items ≡ take max (waiting (L.down link.old))) }

@@ -5,7 +5,7 @@ ghost use Rattle.replay_script.specs.Script.{script_fault};
 ghost use Rattle.inspect_world.specs.Scripts.{report};
 ghost use Rattle.inspect_replay.specs.Words.{is_replay};
 ghost use Rattle.inspect_replay.specs.declared.status.Status.TheVariants.{Done, Usage};
-ghost use Rattle.inspect_replay.specs.Followed.{StatusFolds, EndsShown, AnswersInOrder, fold_since};
+ghost use Rattle.inspect_replay.specs.Followed.{StatusFolds, EndsShown, AnswersInOrder, GivesNoMore, fold_since};
 ghost use Rattle.inspect_replay.specs.Answers.{FitsLimits, TellsLine, Took, WritesNothing, StatusRose, InputTells, IsInputStop, ReadsAll, IsLate};
 ghost use Rattle.inspect_replay.specs.Says.{status_of};
 
@@ -45,6 +45,8 @@ pub fn inspect<S: Source, K: Sink, L: Link>(
         (fold_since (L.up link.old) (L.down link.old) (L.up link.new) (L.down link.new)) }
     // over every link: the replies sent down answer the frames given up, in their order, each with its frame's id
     ensures replies { result ≡ Done → AnswersInOrder (L.up link.old) (L.down link.old) (L.up link.new) (L.down link.new) }
+    // over every link: a delivery asks for no more bytes than are there, so no more are given than were sent
+    ensures less { result ≡ Done → GivesNoMore (L.up link.old) (L.down link.old) (L.up link.new) (L.down link.new) }
     ensures usage { result ≡ Usage ↔ (is_replay (map string_bytes words.now) ≡ false) }
     ensures unread { result ≡ Usage → src.new ≡ src.old }
     ensures unwritten { result ≡ Usage → out.new ≡ out.old }
@@ -84,6 +86,7 @@ fn replay<S: Source, K: Sink, L: Link>(
     ensures closes { result ≡ Done → EndsShown (K.taken out.old) (K.taken out.new)
         (fold_since (L.up link.old) (L.down link.old) (L.up link.new) (L.down link.new)) }
     ensures replies { result ≡ Done → AnswersInOrder (L.up link.old) (L.down link.old) (L.up link.new) (L.down link.new) }
+    ensures less { result ≡ Done → GivesNoMore (L.up link.old) (L.down link.old) (L.up link.new) (L.down link.new) }
     ensures used { result ≡ Usage → ⊥ }
     ensures line { (input : List ℕ) → S.left src.old ≡ Some input → TellsLine result (script_fault input) }
     ensures limits { (input : List ℕ) → S.left src.old ≡ Some input → FitsLimits result input }
@@ -116,6 +119,7 @@ fn run_input<K: Sink, L: Link>(alloc: Global, input: &[u8], out: &mut K, link: &
     ensures closes { result ≡ Done → EndsShown (K.taken out.old) (K.taken out.new)
         (fold_since (L.up link.old) (L.down link.old) (L.up link.new) (L.down link.new)) }
     ensures replies { result ≡ Done → AnswersInOrder (L.up link.old) (L.down link.old) (L.up link.new) (L.down link.new) }
+    ensures less { result ≡ Done → GivesNoMore (L.up link.old) (L.down link.old) (L.up link.new) (L.down link.new) }
     ensures used { result ≡ Usage → ⊥ }
     ensures line { TellsLine result (script_fault input.now) }
     ensures late { IsLate result }

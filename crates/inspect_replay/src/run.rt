@@ -12,7 +12,7 @@ ghost use Rattle.inspect_world.specs.Scripts.{report, rest_text, loaded_world};
 ghost use Rattle.inspect_replay.specs.Stops.{HasStopCause, HasRunCause};
 ghost use Rattle.inspect_replay.specs.Answers.{RunTells, RunTook};
 ghost use Rattle.inspect_replay.specs.Moments.{moment, scene};
-ghost use Rattle.inspect_replay.specs.Followed.{KeepsFollowing, PrintedSome, ClosesShown, StopFolds, fold_since, EndsShown, AnswersInOrder};
+ghost use Rattle.inspect_replay.specs.Followed.{KeepsFollowing, PrintedSome, ClosesShown, StopFolds, fold_since, EndsShown, AnswersInOrder, GivesNoMore};
 ghost use Rattle.inspect_replay.specs.Prints.{CarriesOut, RunsLines, Closes, IsRead, load_of};
 
 use crate::ends::Ends;
@@ -227,6 +227,7 @@ fn run_loaded<K: Sink, L: Link>(
     ensures refused { StopFolds result (fold_since (L.up link.old) (L.down link.old) (L.up link.new) (L.down link.new)) }
     ensures closes { OnOk result (EndsShown (K.taken out.old) (K.taken out.new) (fold_since (L.up link.old) (L.down link.old) (L.up link.new) (L.down link.new))) }
     ensures replies { OnOk result (AnswersInOrder (L.up link.old) (L.down link.old) (L.up link.new) (L.down link.new)) }
+    ensures less { OnOk result (GivesNoMore (L.up link.old) (L.down link.old) (L.up link.new) (L.down link.new)) }
     ensures took { L.honest link.old → IsLevel (L.up link.old) → IsLevel (L.down link.old)
         → RunTook result (K.taken out.old) (K.taken out.new)
         (rest_text (first_bad 2 lines.entry) (good_lines 2 lines.entry) (loaded_world (nodes_of nodes.items))) }
@@ -253,6 +254,7 @@ pub(crate) fn run_script<K: Sink, L: Link>(
     ensures refused { StopFolds result (fold_since (L.up link.old) (L.down link.old) (L.up link.new) (L.down link.new)) }
     ensures closes { OnOk result (EndsShown (K.taken out.old) (K.taken out.new) (fold_since (L.up link.old) (L.down link.old) (L.up link.new) (L.down link.new))) }
     ensures replies { OnOk result (AnswersInOrder (L.up link.old) (L.down link.old) (L.up link.new) (L.down link.new)) }
+    ensures less { OnOk result (GivesNoMore (L.up link.old) (L.down link.old) (L.up link.new) (L.down link.new)) }
     ensures took { L.honest link.old → IsLevel (L.up link.old) → IsLevel (L.down link.old)
         → RunTook result (K.taken out.old) (K.taken out.new) (report input.now) }
 {

@@ -1,5 +1,5 @@
 -- The ends follow every link, whatever bytes it gives.
-use Rattle.std.proofs.Common.{◌≡◌, refl, Bool, true, false, not, ◌&&◌, cond, ℕ, ◌+◌, ◌^◌, ◌<◌, ◌≤◌, List, [], ◌∷◌, ◌++◌, length, map, drop, Some, None, sym, ◌∙◌, ap, subst, append_assoc, append-nil, Result, Ok, Err, arith}
+use Rattle.std.proofs.Common.{◌≡◌, refl, Bool, true, false, not, ◌&&◌, cond, ℕ, ◌+◌, ◌^◌, ◌<◌, ◌≤◌, List, [], ◌∷◌, ◌++◌, length, map, drop, Some, None, sym, ◌∙◌, ap, subst, append_assoc, append-nil, length-append, Result, Ok, Err, arith}
 use Rattle.std.specs.Option.{option_to_list}
 use Rattle.std.proofs.Math.Seq.{drop-append_seam}
 use Rattle.std.proofs.lemmas.List.{map-append}
@@ -200,6 +200,8 @@ follows-start up0 down0 nodes can texts = record {
   on_is = refl;
   stands = Stands-begun (nodes_in (loaded_state nodes));
   is_state = IsState-first nodes can texts;
+  up_left = refl;
+  down_left = refl;
 }
 
 module _ (state0 : State) (up0 down0 : Pipe) where
@@ -207,10 +209,10 @@ module _ (state0 : State) (up0 down0 : Pipe) where
 
   -- an ask is sent
   pub follows-asked : (up down up1 : Pipe) (waiting : List (List ℕ)) (e : Ends) (text method : List ℕ) (there : ℕ)
-      → Follows state0 up0 down0 up down waiting e → IsText text → ask_in text ≡ Some (ask_with method e.front.next)
+      → Follows state0 up0 down0 up down waiting e → there ≡ e.up_there + length (framed text) → IsText text → ask_in text ≡ Some (ask_with method e.front.next)
       → up1.sent ≡ up.sent ++ framed text → up1.given ≡ up.given
       → Follows state0 up0 down0 up1 down waiting (record e { front = after_ask e.front method; up_there = there })
-  follows-asked up down up1 waiting e text method there f letters is sent_is given_is =
+  follows-asked up down up1 waiting e text method there f left letters is sent_is given_is =
       let ask = ask_with method e.front.next in
       let frames : (frames_of (f.sent_up ++ framed text)).whole ≡ (frames_of f.sent_up).whole ++ text ∷ [] =
       whole-after f.sent_up (framed text) f.up_whole ∙ ap (λ (fs : Frames). (frames_of f.sent_up).whole ++ fs.whole) (frames_of-one text letters) in
@@ -240,22 +242,27 @@ module _ (state0 : State) (up0 down0 : Pipe) where
         on_is = f.on_is;
         stands = f.stands;
         is_state = f.is_state;
+        up_left =
+            let more : length (f.sent_up ++ framed text) ≡ length f.sent_up + length (framed text) = length-append f.sent_up (framed text) in
+            let before : e.up_there + length f.given_up ≡ length f.sent_up = f.up_left in
+            omega (arith, more, before, left);
+        down_left = f.down_left;
       }
 
   -- the ask of a line
   pub follows-sends : (up down up1 : Pipe) (waiting : List (List ℕ)) (e : Ends) (a : AskForm) (text : List ℕ) (there : ℕ)
-      → Follows state0 up0 down0 up down waiting e → CanSend a → e.front.next < 2 ^ 53 → text ≡ command_text e.front.next a.method a.params a.session
+      → Follows state0 up0 down0 up down waiting e → there ≡ e.up_there + length (framed text) → CanSend a → e.front.next < 2 ^ 53 → text ≡ command_text e.front.next a.method a.params a.session
       → up1.sent ≡ up.sent ++ framed text → up1.given ≡ up.given
       → Follows state0 up0 down0 up1 down waiting (record e { front = after_ask e.front a.method; up_there = there })
-  follows-sends up down up1 waiting e a text there f can small text_is sent_is given_is =
-      follows-asked up down up1 waiting e (command_text e.front.next a.method a.params a.session) a.method there f
+  follows-sends up down up1 waiting e a text there f left can small text_is sent_is given_is =
+      follows-asked up down up1 waiting e (command_text e.front.next a.method a.params a.session) a.method there f (left ∙ ap (λ bytes. e.up_there + length (framed bytes)) text_is)
       (IsText-sent e.front.next a can small) (ask_in-sent e.front.next a can small) (sent_is ∙ ap (λ bytes. up.sent ++ framed bytes) text_is) given_is
 
   -- any bytes are given up; the frames that become whole wait
   pub follows-given_up : (up down up1 : Pipe) (waiting : List (List ℕ)) (e : Ends) (piece rest : List ℕ) (there : ℕ)
-      → Follows state0 up0 down0 up down waiting e → up1.sent ≡ up.sent → up1.given ≡ up.given ++ piece → rest ≡ held_after e.back_rest piece
+      → Follows state0 up0 down0 up down waiting e → there + length piece ≡ e.up_there → up1.sent ≡ up.sent → up1.given ≡ up.given ++ piece → rest ≡ held_after e.back_rest piece
       → Follows state0 up0 down0 up1 down (waiting ++ frames_from e.back_rest piece) (record e { back_rest = rest; up_there = there })
-  follows-given_up up down up1 waiting e piece rest there f sent_is given_is rest_is = record {
+  follows-given_up up down up1 waiting e piece rest there f left sent_is given_is rest_is = record {
     sent_up = f.sent_up;
     given_up = f.given_up ++ piece;
     sent_down = f.sent_down;
@@ -282,18 +289,23 @@ module _ (state0 : State) (up0 down0 : Pipe) where
     on_is = f.on_is;
     stands = f.stands;
     is_state = f.is_state;
+    up_left =
+        let more : length (f.given_up ++ piece) ≡ length f.given_up + length piece = length-append f.given_up piece in
+        let before : e.up_there + length f.given_up ≡ length f.sent_up = f.up_left in
+        omega (arith, more, before, left);
+    down_left = f.down_left;
   }
 
   -- ---- a frame is answered
 
   -- its step is carried out, and what it sends is put down
   pub follows-answered : (up down down1 : Pipe) (frame : List ℕ) (frames : List (List ℕ)) (e : Ends) (page : PageValue) (is_on : Bool) (bound : Bound) (out : List ℕ) (there : ℕ)
-      → (f : Follows state0 up0 down0 up down (frame ∷ frames) e) → e.bound.next < 2 ^ 52
+      → (f : Follows state0 up0 down0 up down (frame ∷ frames) e) → there ≡ e.down_there + length out → e.bound.next < 2 ^ 52
       → page ≡ (step f.state frame).state.side.page → is_on ≡ (step f.state frame).state.client.dom_on
       → Stands (nodes_in (step f.state frame).state) (step f.state frame).state.client.session bound
       → out ≡ (step f.state frame).sent → down1.sent ≡ down.sent ++ out → down1.given ≡ down.given
       → Follows state0 up0 down0 up down1 frames (record e { page = page; is_on = is_on; bound = bound; down_there = there })
-  follows-answered up down down1 frame frames e page is_on bound out there f room page_is on_is stands out_is sent_is given_is =
+  follows-answered up down down1 frame frames e page is_on bound out there f left room page_is on_is stands out_is sent_is given_is =
       let next : e.bound.next ≡ length f.state.client.session.pushed + 1 = f.stands.next_is in
       let s : Sends f.state frame = step-sends f.state frame f.is_state (omega (arith, room, next)) in
       let old : State = (steps step state0 f.answered).state in
@@ -332,6 +344,11 @@ module _ (state0 : State) (up0 down0 : Pipe) where
         on_is = on_is;
         stands = stands;
         is_state = s.is_state;
+        up_left = f.up_left;
+        down_left =
+            let longer : length (f.sent_down ++ out) ≡ length f.sent_down + length out = length-append f.sent_down out in
+            let before : e.down_there + length f.given_down ≡ length f.sent_down = f.down_left in
+            omega (arith, longer, before, left);
       }
 
   -- ---- bytes go down
@@ -350,9 +367,9 @@ module _ (state0 : State) (up0 down0 : Pipe) where
 
   -- any bytes are given down, and the front refuses none of the messages
   pub follows-delivered_down : (up down down1 : Pipe) (waiting : List (List ℕ)) (e : Ends) (piece : List ℕ) (there : ℕ)
-      → Follows state0 up0 down0 up down waiting e → down1.sent ≡ down.sent → down1.given ≡ down.given ++ piece → (after_take e.front piece).fault ≡ None
+      → Follows state0 up0 down0 up down waiting e → there + length piece ≡ e.down_there → down1.sent ≡ down.sent → down1.given ≡ down.given ++ piece → (after_take e.front piece).fault ≡ None
       → Follows state0 up0 down0 up down1 waiting (record e { front = after_take e.front piece; down_there = there })
-  follows-delivered_down up down down1 waiting e piece there f sent_is given_is good =
+  follows-delivered_down up down down1 waiting e piece there f left sent_is given_is good =
       let end : Folded = front.folded f.value (frames_from (frames_of f.given_down).rest piece) in
       let front_now = front-down up down waiting e piece f in
       let none : end.fault ≡ None = sym (ap (λ (s : FrontState). s.fault) front_now) ∙ good in
@@ -384,6 +401,11 @@ module _ (state0 : State) (up0 down0 : Pipe) where
         on_is = f.on_is;
         stands = f.stands;
         is_state = f.is_state;
+        up_left = f.up_left;
+        down_left =
+            let more : length (f.given_down ++ piece) ≡ length f.given_down + length piece = length-append f.given_down piece in
+            let before : e.down_there + length f.given_down ≡ length f.sent_down = f.down_left in
+            omega (arith, more, before, left);
       }
 
   -- or the front refuses one, and the fold is this fault
@@ -427,6 +449,18 @@ module _ (state0 : State) (up0 down0 : Pipe) where
       ∙ ap (map reply_id) (sym (append-nil f.answered) ∙ sym f.frames_are)
       ∙ ap (λ bytes. map reply_id (frames_of bytes).whole) (sym (given_since-is up0 up f.sent_up f.given_up f.up_is))
 
+  -- no more bytes were given than were sent
+  pub follows-less : (up down : Pipe) (waiting : List (List ℕ)) (e : Ends) → Follows state0 up0 down0 up down waiting e
+      → (length (given_since up0 up) ≤ length (sent_since up0 up)) × (length (given_since down0 down) ≤ length (sent_since down0 down))
+  follows-less up down waiting e f =
+      let up_sent : length (sent_since up0 up) ≡ length f.sent_up = ap length (sent_since-is up0 up f.sent_up f.given_up f.up_is) in
+      let up_given : length (given_since up0 up) ≡ length f.given_up = ap length (given_since-is up0 up f.sent_up f.given_up f.up_is) in
+      let down_sent : length (sent_since down0 down) ≡ length f.sent_down = ap length (sent_since-is down0 down f.sent_down f.given_down f.down_is) in
+      let down_given : length (given_since down0 down) ≡ length f.given_down = ap length (given_since-is down0 down f.sent_down f.given_down f.down_is) in
+      let up_left : e.up_there + length f.given_up ≡ length f.sent_up = f.up_left in
+      let down_left : e.down_there + length f.given_down ≡ length f.sent_down = f.down_left in
+      (omega (arith, up_sent, up_given, up_left), omega (arith, down_sent, down_given, down_left))
+
   -- ---- how many replies were told says nothing of the link
 
   pub follows-told : (up down : Pipe) (waiting : List (List ℕ)) (e : Ends) (n : ℕ) → Follows state0 up0 down0 up down waiting e
@@ -454,4 +488,6 @@ module _ (state0 : State) (up0 down0 : Pipe) where
     on_is = f.on_is;
     stands = f.stands;
     is_state = f.is_state;
+    up_left = f.up_left;
+    down_left = f.down_left;
   }

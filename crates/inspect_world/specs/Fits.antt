@@ -13,9 +13,11 @@ use Rattle.inspect_world.specs.Fold as fold
 
 -- ---- the asks that stand in frames
 
+-- an ask of that method and id
 abbrev pub ask_with : List ℕ → ℕ → Ask
 ask_with method id = record { id = id; method = method }
 
+-- the ask that an object is
 abbrev pub ask_of : Members → Option Ask
 ask_of frame =
     option_and_then (λ id. option_and_then (λ method. Some (ask_with method id)) (option_and_then as_str (get_member (codes "method") frame)))
@@ -59,5 +61,6 @@ pub record IsFit (n : ℕ) (v : FrontValue) (state : State) (frames : List (List
 abbrev pub FitsWith : World State → List (List ℕ) → Type 0
 FitsWith w frames = fold.FitsWith take_frame join IsFit (first_value []) w frames
 
+-- the same, where all whole frames are answered
 abbrev pub Fits : World State → Type 0
 Fits w = fold.Fits take_frame join IsFit (first_value []) w

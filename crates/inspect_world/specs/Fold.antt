@@ -10,6 +10,7 @@ abbrev pub then : {F E G : Type 0} → Result F E → (F → Result G E) → Res
 then (Ok value) next = next value
 then (Err fault) next = Err fault
 
+-- frames taken one after the other, up to the first fault
 abbrev pub folded : {F E : Type 0} → (F → List ℕ → Result F E) → F → List (List ℕ) → Result F E
 folded take front [] = Ok front
 folded take front (frame ∷ frames) = then (take front frame) (λ next. folded take next frames)

@@ -1,5 +1,5 @@
 -- What holds over every link, whatever bytes it gives.
-use Rattle.std.specs.Prelude.{◌≡◌, ℕ, List, [], ◌∷◌, ◌++◌, map, Result, Ok}
+use Rattle.std.specs.Prelude.{◌≡◌, ℕ, ◌+◌, List, [], ◌∷◌, ◌++◌, length, map, Result, Ok}
 use Rattle.std.specs.Option.{option_to_list}
 use Rattle.node_binding.specs.Bindings.{Stands}
 use Rattle.pipe_frames.specs.Pipe.{Pipe}
@@ -30,7 +30,7 @@ pub record GoesOn (start now : Pipe) (sent given : List ℕ) : Type 0 where
 
 -- Since the pipes were as `up0` and `down0`, and the page's state was `state0`: the front end is the fold of what it sent and was
 -- given; the back end has carried out the frames that were given up, but for those that `waiting` holds whole, and has sent
--- just what these steps send.
+-- just what these steps send. What the ends count as sent and not given is just that.
 pub record Follows (state0 : State) (up0 down0 up down : Pipe) (waiting : List (List ℕ)) (e : Ends) : Type 0 where
   pub sent_up : List ℕ
   pub given_up : List ℕ
@@ -54,3 +54,5 @@ pub record Follows (state0 : State) (up0 down0 up down : Pipe) (waiting : List (
   pub on_is : e.is_on ≡ state.client.dom_on
   pub stands : Stands (nodes_in state) state.client.session e.bound
   pub is_state : IsState state
+  pub up_left : e.up_there + length given_up ≡ length sent_up
+  pub down_left : e.down_there + length given_down ≡ length sent_down

@@ -31,6 +31,7 @@ after_line settle w = settled step w
 after_line show_front w = settled step w
 after_line show_replies w = all_told (settled step w)
 
+-- the run after some lines
 abbrev pub after_lines : List LineForm → World State → World State
 after_lines [] w = w
 after_lines (line ∷ lines) w = after_lines lines (after_line line w)
@@ -49,6 +50,7 @@ outline_of w = outline_text seen_line (view_of w.state)
 abbrev pub replies_after : ℕ → World State → List Told
 replies_after n w = drop n (replies_in w.down.given)
 
+-- what a line prints
 abbrev pub line_text : LineForm → World State → List ℕ
 line_text (load nodes) w = []
 line_text (ask a) w = []
@@ -58,6 +60,7 @@ line_text settle w = []
 line_text show_front w = codes "# front" ++ 10 ∷ outline_of (settled step w)
 line_text show_replies w = codes "# replies" ++ 10 ∷ told_lines (replies_after w.told (settled step w))
 
+-- what some lines print
 abbrev pub lines_text : List LineForm → World State → List ℕ
 lines_text [] w = []
 lines_text (line ∷ lines) w = line_text line w ++ lines_text lines (after_line line w)
@@ -77,6 +80,7 @@ closing_unless (Some bad) w = []
 abbrev pub rest_text : Option (ℕ × LineFault) → List LineForm → World State → List ℕ
 rest_text bad lines w = lines_text lines w ++ closing_unless bad (after_lines lines w)
 
+-- what the lines of a script print, by the first that is refused
 abbrev pub text_of : Option (ℕ × LineFault) → List LineForm → List ℕ
 text_of bad [] = []
 text_of bad (load nodes ∷ lines) = rest_text bad lines (loaded_world nodes)

@@ -41,6 +41,7 @@ IsLater settle = ⊤
 IsLater show_front = ⊤
 IsLater show_replies = ⊤
 
+-- lines that may come after the load
 abbrev pub AreLater : List LineForm → Type 0
 AreLater [] = ⊤
 AreLater (line ∷ lines) = IsLater line × AreLater lines

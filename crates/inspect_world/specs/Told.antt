@@ -13,6 +13,7 @@ pub record Told : Type 0 where
   pub id : Option ℕ
   pub text : List ℕ
 
+-- the reply that a frame is, by its message
 abbrev pub told_by : List ℕ → Option Message → List Told
 told_by frame None = []
 told_by frame (Some (reply id result)) = record { id = Some id; text = frame } ∷ []
@@ -37,14 +38,17 @@ abbrev pub id_text : Option ℕ → List ℕ
 id_text None = codes "-"
 id_text (Some id) = decimal id
 
+-- the line that a show prints for a reply
 abbrev pub told_line : Told → List ℕ
 told_line t = id_text t.id ++ codes " " ++ t.text ++ 10 ∷ []
 
+-- the lines of some replies
 abbrev pub told_lines : List Told → List ℕ
 told_lines ts = flat_map told_line ts
 
 -- ---- the ids that replies have to have
 
+-- the id of what is asked, or of the refusal
 abbrev pub id_asked : Result Asked Refused → Option ℕ
 id_asked (Ok a) = Some a.id
 id_asked (Err r) = r.id

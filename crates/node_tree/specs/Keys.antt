@@ -18,6 +18,7 @@ module _ {R : Type 0} (key : R → ℕ) (x : ℕ) where
   tally none = 0
   tally (node r c t) = cond {A = ℕ} (key r == x) 1 0 + tally c + tally t
 
+  -- the same in one tree
   abbrev pub tally_in : Branch R → ℕ
   tally_in b = cond {A = ℕ} (key b.row == x) 1 0 + tally b.children
 
@@ -49,6 +50,7 @@ module _ {R : Type 0} (key : R → ℕ) (x : ℕ) where
   abbrev pub level_in : Branch R → Option ℕ
   level_in b = level_of 0 (alone b)
 
+  -- the key of its parent in one tree; 0 for the root
   abbrev pub parent_in : Branch R → Option ℕ
   parent_in b = parent_of 0 (alone b)
 

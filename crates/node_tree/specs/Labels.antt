@@ -13,21 +13,26 @@ use Rattle.node_tree.specs.Names.{is_element_name, is_attribute_name}
 abbrev pub Pair : Type 0
 Pair = List ℕ × List ℕ
 
+-- what a node is but for its place
 pub record Label : Type 0 where
   pub kind : Kind
   pub name : List ℕ
   pub value : List ℕ
   pub attributes : List Pair
 
+-- a text by its bytes
 abbrev pub coded_bytes : Coded (List ℕ)
 coded_bytes = coded_list coded_ℕ
 
+-- attributes by their texts
 abbrev pub coded_pairs : Coded (List Pair)
 coded_pairs = coded_list (coded× coded_bytes coded_bytes)
 
+-- a kind by its number
 abbrev pub coded_kind : Coded Kind
 coded_kind = kind.the_row.coded
 
+-- a label by its parts
 abbrev pub coded_label : Coded Label
 coded_label =
     code_by ((Kind × List ℕ) × (List ℕ × List Pair)) (coded× (coded× coded_kind coded_bytes) (coded× coded_bytes coded_pairs)) (λ l. ((l.kind, l.name), (l.value, l.attributes)))
@@ -36,6 +41,7 @@ coded_label =
 
 -- ---- kinds
 
+-- the document
 abbrev pub is_document : Kind → Bool
 is_document Document = true
 is_document Element = false
@@ -43,6 +49,7 @@ is_document Text = false
 is_document Comment = false
 is_document Doctype = false
 
+-- an element
 abbrev pub is_element : Kind → Bool
 is_element Document = false
 is_element Element = true
@@ -50,6 +57,7 @@ is_element Text = false
 is_element Comment = false
 is_element Doctype = false
 
+-- a doctype
 abbrev pub is_doctype : Kind → Bool
 is_doctype Document = false
 is_doctype Element = false
@@ -83,6 +91,7 @@ has_value Doctype = false
 
 -- ---- lists of attributes
 
+-- the list has nothing
 abbrev pub is_empty : {A : Type 0} → List A → Bool
 is_empty [] = true
 is_empty (x ∷ xs) = false

@@ -50,6 +50,7 @@ abbrev pub node_count : {R : Type 0} → Nodes R → ℕ
 node_count none = 0
 node_count (node r c t) = suc (node_count c + node_count t)
 
+-- how many nodes one tree has
 abbrev pub branch_count : {R : Type 0} → Branch R → ℕ
 branch_count b = suc (node_count b.children)
 
@@ -63,6 +64,7 @@ abbrev pub map_rows : {R S : Type 0} → (R → S) → Nodes R → Nodes S
 map_rows f none = none
 map_rows f (node r c t) = node (f r) (map_rows f c) (map_rows f t)
 
+-- the same of one tree
 abbrev pub map_branch : {R S : Type 0} → (R → S) → Branch R → Branch S
 map_branch f b = record { row = f b.row; children = map_rows f b.children }
 
@@ -74,20 +76,24 @@ most_le-node_count (b ∷ bs) = omega (arith, most_le-node_count bs)
 -- ---- codes: a tree in Polish notation, which is read back from its end, over a stack
 
 module _ {R : Type 0} where
+  -- the trees in Polish notation, before the rest
   abbrev pub written : Nodes R → List (Option R) → List (Option R)
   written none rest = None ∷ rest
   written (node r c t) rest = Some r ∷ written c (written t rest)
 
+  -- a row joins the two trees on the top of the stack
   abbrev pub joined : R → List (Nodes R) → List (Nodes R)
   joined r [] = []
   joined r (c ∷ []) = []
   joined r (c ∷ t ∷ rest) = node r c t ∷ rest
 
+  -- the stack that a notation is read to
   abbrev pub stacked : List (Option R) → List (Nodes R)
   stacked [] = []
   stacked (None ∷ rest) = none ∷ stacked rest
   stacked (Some r ∷ rest) = joined r (stacked rest)
 
+  -- the trees on the top of the stack
   abbrev pub topmost : List (Nodes R) → Nodes R
   topmost [] = none
   topmost (n ∷ rest) = n
@@ -99,8 +105,10 @@ module _ {R : Type 0} where
   pub read_back : (n : Nodes R) → topmost (stacked (written n [])) ≡ n
   read_back n = rw (stacked-written n [])
 
+  -- trees by their notation
   abbrev pub coded_nodes : Coded R → Coded (Nodes R)
   coded_nodes code = code_by (List (Option R)) (coded_list (coded_option code)) (λ n. written n []) (λ s. topmost (stacked s)) read_back
 
+  -- one tree by its row and its children
   abbrev pub coded_branch : Coded R → Coded (Branch R)
   coded_branch code = code_by (R × Nodes R) (coded× code (coded_nodes code)) (λ b. (b.row, b.children)) (λ p. record { row = p.0; children = p.1 }) (λ _. refl)

@@ -16,11 +16,13 @@ pub record Seen : Type 0 where
   pub label : Label
   pub hold : Hold
 
+-- its children are shown
 abbrev pub is_opened : Hold → Bool
 is_opened leaf = false
 is_opened (counted n) = false
 is_opened opened = true
 
+-- only the number of its children is shown
 abbrev pub is_counted : Hold → Bool
 is_counted leaf = false
 is_counted (counted n) = true
@@ -30,6 +32,7 @@ is_counted opened = false
 abbrev pub seen_id : Seen → ℕ
 seen_id r = r.id
 
+-- by its serial
 abbrev pub seen_serial : Seen → ℕ
 seen_serial r = r.serial
 
@@ -41,6 +44,7 @@ hold_code leaf = None
 hold_code (counted n) = Some (Some n)
 hold_code opened = Some None
 
+-- and read back
 abbrev pub code_hold : Option (Option ℕ) → Hold
 code_hold None = leaf
 code_hold (Some None) = opened
@@ -51,9 +55,11 @@ code_hold-hold_code leaf = refl
 code_hold-hold_code (counted n) = refl
 code_hold-hold_code opened = refl
 
+-- what is shown below a node, as code writes it
 abbrev pub coded_hold : Coded Hold
 coded_hold = code_by (Option (Option ℕ)) (coded_option (coded_option coded_ℕ)) hold_code code_hold code_hold-hold_code
 
+-- a shown row by its parts
 abbrev pub coded_seen : Coded Seen
 coded_seen =
     code_by ((ℕ × ℕ) × (Label × Hold)) (coded× (coded× coded_ℕ coded_ℕ) (coded× coded_label coded_hold)) (λ r. ((r.id, r.serial), (r.label, r.hold)))

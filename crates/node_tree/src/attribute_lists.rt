@@ -43,12 +43,14 @@ impl Attributes {
         self.pairs
     }
 
+    /// The names and values, in their order.
     pub fn as_slice(&self) -> &[(Text, Text)]
         ensures { result.now ≡ self.now }
     {
         self.pairs.as_slice()
     }
 
+    /// How many attributes there are.
     pub fn len(&self) -> usize
         ensures { result ≡ length self.now }
     {
@@ -85,6 +87,7 @@ impl Attributes {
         Ok(())
     }
 
+    /// A copy of the attributes.
     pub fn try_clone(&self, alloc: Global) -> Result<Attributes, AllocError>
         ensures { IfOk result (λ copy. copy ≡ self.now) }
     {

@@ -16,6 +16,7 @@ impl Model for Text {
 }
 
 impl Text {
+    /// The text of a string; takes no memory.
     pub fn new(text: String) -> Text
         ensures { result ≡ string_bytes text }
     {
@@ -31,6 +32,7 @@ impl Text {
         }
     }
 
+    /// A copy of the text.
     pub fn copied(alloc: Global, text: &str) -> Result<Text, AllocError>
         ensures { IfOk result (λ copy. copy ≡ text.now) }
     {
@@ -39,6 +41,7 @@ impl Text {
         })
     }
 
+    /// The text.
     pub fn as_str(&self) -> &str
         ensures { result.now ≡ self.now }
     {
@@ -59,12 +62,14 @@ impl Text {
         self.text.len()
     }
 
+    /// Whether the text has no bytes.
     pub fn is_empty(&self) -> bool
         ensures { IsTrue result ↔ (self.now ≡ []) }
     {
         self.text.is_empty()
     }
 
+    /// A copy of the text.
     pub fn try_clone(&self) -> Result<Text, AllocError>
         ensures { IfOk result (λ copy. copy ≡ self.now) }
     {

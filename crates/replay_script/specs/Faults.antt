@@ -18,14 +18,17 @@ use Rattle.replay_script.specs.declared.faults.LineFault.TheVariants.{NotJson, N
 abbrev pub has_sheets : Data → Bool
 has_sheets d = is_some (option_and_then (get (codes "sheets")) (page_of d))
 
+-- the first fault of the page that a line loads
 abbrev pub load_fault : Data → Option LoadFault
 load_fault d = first_load_fault (option_and_then page_nodes (page_of d))
 
+-- the first fault of the first line of a script
 abbrev pub first_line_fault : Data → Option LineFault
 first_line_fault d = first_of (first_true ((NotLoad, is_none (page_of d)) ∷ (BadForm, has_float d) ∷ (NotBuilt, has_sheets d) ∷ [])) (option_map BadLoad (load_fault d))
 
 -- ---- the lines after it
 
+-- it is Ok
 abbrev pub is_good : {A E : Type 0} → Result A E → Bool
 is_good (Ok x) = true
 is_good (Err e) = false
@@ -50,6 +53,7 @@ later_line_fault d = first_true ((NotBuilt, has_float d || not (option_map_or is
 
 -- ---- any line
 
+-- the first fault of the line of that number, by its JSON
 abbrev pub fault_of_data : ℕ → Data → Option LineFault
 fault_of_data number d = if number == 1 then first_line_fault d else later_line_fault d
 
@@ -57,5 +61,6 @@ fault_of_data number d = if number == 1 then first_line_fault d else later_line_
 abbrev pub json_fault : List ℕ → Option LineFault
 json_fault line = first_true ((NotJson, is_none (data_of line)) ∷ [])
 
+-- the first fault of the line of that number
 abbrev pub line_fault : ℕ → List ℕ → Option LineFault
 line_fault number line = first_of (json_fault line) (option_and_then (fault_of_data number) (data_of line))

@@ -17,6 +17,7 @@ pub record AskForm : Type 0 where
   pub params : Option Data
   pub session : Option Data
 
+-- what a line says
 pub data LineForm : Type 0 where
   -- a new page with these nodes below its document
   load : Nodes Label → LineForm
@@ -39,11 +40,13 @@ data_of line = if is_utf8 line then read line else None
 abbrev pub only_member : List ℕ → Members → Option Data
 only_member name ms = if is_done (after_first ms) then first_at name ms else None
 
+-- the value of the only property, where it has that name
 abbrev pub only : List ℕ → Data → Option Data
 only name d = option_and_then (only_member name) (as_object d)
 
 -- ---- `{"load":PAGE}`, where PAGE is `{"document":[NODE,..]}`
 
+-- the page of `{"load":PAGE}`
 abbrev pub page_of : Data → Option Data
 page_of d = only (codes "load") d
 
@@ -53,34 +56,43 @@ page_nodes page = option_and_then nodes_in (only (codes "document") page)
 
 -- ---- `{"ask":{"method":TEXT,"params":ANY,"sessionId":ANY}}`, where `params` and `sessionId` may be absent
 
+-- a method, and parameters and a session where they are given
 abbrev pub AskParts : Type 0
 AskParts = List ℕ × (Option Data × (Option Data × ⊤))
 
+-- an ask as JSON
 abbrev pub ask_kind : Kind AskParts
 ask_kind = object_of (and_need (codes "method") text (and_may (codes "params") anything (and_may (codes "sessionId") anything ends)))
 
+-- the ask of these parts
 abbrev pub ask_from : AskParts → AskForm
 ask_from p = record { method = p.0; params = p.1.0; session = p.1.1.0 }
 
+-- the ask that a value spells
 abbrev pub ask_in : Data → Option AskForm
 ask_in d = option_map ask_from (ask_kind.reads d)
 
+-- the ask of `{"ask":..}`
 abbrev pub ask_of : Data → Option AskForm
 ask_of d = option_and_then ask_in (only (codes "ask") d)
 
 -- ---- `{"up":n}` and `{"down":n}`, where n is a whole number from 0 to 2^53-1; `{"settle":true}`
 
+-- the number of `{NAME:n}`
 abbrev pub number_of : List ℕ → Data → Option ℕ
 number_of name d = option_and_then as_whole (only name d)
 
+-- `{"settle":true}`
 abbrev pub settle_in : Data → Option ⊤
 settle_in d = option_and_then as_true (only (codes "settle") d)
 
 -- ---- `{"show":WORD}`
 
+-- the word of `{"show":WORD}`
 abbrev pub word_of : Data → Option (List ℕ)
 word_of d = option_and_then as_str (only (codes "show") d)
 
+-- the form of a show by its word
 abbrev pub show_from : List ℕ → Option LineForm
 show_from word = if bytes_eq word (codes "front") then Some show_front else if bytes_eq word (codes "replies") then Some show_replies else None
 
@@ -91,6 +103,7 @@ abbrev pub first_form : List (Option LineForm) → Option LineForm
 first_form [] = None
 first_form (f ∷ fs) = first_of f (first_form fs)
 
+-- the form of a line by its JSON; none where it has none of the forms
 abbrev pub form_of : Data → Option LineForm
 form_of d = first_form
     (option_map load (option_and_then page_nodes (page_of d))
@@ -101,5 +114,6 @@ form_of d = first_form
     ∷ option_and_then show_from (word_of d)
     ∷ [])
 
+-- the form of a line
 abbrev pub line_form : List ℕ → Option LineForm
 line_form line = option_and_then form_of (data_of line)

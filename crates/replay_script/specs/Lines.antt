@@ -2,9 +2,11 @@
 use Rattle.std.specs.Prelude.{◌≡◌, ℕ, ◌==◌, List, [], ◌∷◌, ◌++◌, length, Bool, false, nat_lt, if◌then◌else◌}
 use Rattle.std.specs.List.{list_any, onto_first}
 
+-- LF
 abbrev pub is_line_feed : ℕ → Bool
 is_line_feed b = b == 10
 
+-- the stretches between LF bytes; an empty one after the last LF is no line
 abbrev pub lines_of : List ℕ → List (List ℕ)
 lines_of [] = []
 lines_of (b ∷ more) = if is_line_feed b then [] ∷ lines_of more else onto_first b (lines_of more)
@@ -31,5 +33,6 @@ pub record AreLinesOf (lines : List (List ℕ)) (input : List ℕ) : Type 0 wher
   pub no_line_feed : list_any (list_any is_line_feed) lines ≡ false
   pub whole : ended lines ≡ with_end input
 
+-- an input is the lines that it is cut into
 abbrev pub LinesLaw : Type 0
 LinesLaw = (input : List ℕ) → AreLinesOf (lines_of input) input

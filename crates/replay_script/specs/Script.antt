@@ -7,6 +7,7 @@ use Rattle.replay_script.specs.Faults.{line_fault}
 use Rattle.replay_script.specs.declared.faults.LineFault.{LineFault}
 use Rattle.replay_script.specs.declared.faults.LineFault.TheVariants.{NotLoad}
 
+-- the fault with its number, or the later one where there is none
 abbrev pub numbered_or : ℕ → Option LineFault → Option (ℕ × LineFault) → Option (ℕ × LineFault)
 numbered_or number None later = later
 numbered_or number (Some fault) later = Some (number, fault)
@@ -16,6 +17,7 @@ abbrev pub first_bad : ℕ → List (List ℕ) → Option (ℕ × LineFault)
 first_bad number [] = None
 first_bad number (line ∷ more) = numbered_or number (line_fault number line) (first_bad (number + 1) more)
 
+-- no forms where the line is refused
 abbrev pub unless_bad : Option LineFault → List LineForm → List LineForm
 unless_bad None forms = forms
 unless_bad (Some fault) forms = []
@@ -32,9 +34,11 @@ abbrev pub fault_of_lines : List (List ℕ) → Option (ℕ × LineFault)
 fault_of_lines [] = Some (1, NotLoad)
 fault_of_lines (line ∷ more) = first_bad 1 (line ∷ more)
 
+-- the number and the fault of the first line that is refused
 abbrev pub script_fault : List ℕ → Option (ℕ × LineFault)
 script_fault input = fault_of_lines (lines_of input)
 
+-- the forms of the lines before it
 abbrev pub script_forms : List ℕ → List LineForm
 script_forms input = good_lines 1 (lines_of input)
 

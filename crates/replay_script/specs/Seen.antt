@@ -13,6 +13,7 @@ use Rattle.replay_script.specs.declared.forms.AskParts.{AskParts}
 use Rattle.replay_script.specs.declared.forms.Line.{Line}
 use Rattle.replay_script.specs.declared.forms.Line.TheVariants.{Load, Ask as AskLine, Up, Down, Settle, ShowFront, ShowReplies}
 
+-- an ask, as contracts see it
 abbrev pub seen_ask : Ask → AskForm
 seen_ask a = record { method = a.method; params = option_map view a.params; session = option_map view a.session }
 
@@ -20,6 +21,7 @@ seen_ask a = record { method = a.method; params = option_map view a.params; sess
 abbrev pub parts_form : AskParts → AskForm
 parts_form a = record { method = a.method.now; params = option_map (λ v. view v.now) a.params; session = option_map (λ v. view v.now) a.session }
 
+-- a line, as contracts see it
 abbrev pub seen : Line → LineForm
 seen (Load forms) = load (nodes_of forms.items)
 seen (AskLine a) = ask (seen_ask a)

@@ -107,6 +107,7 @@ fn copied(value: Option<&Value>) -> Result<Option<Value>, AllocError>
 }
 
 impl AskParts<'_> {
+    /// A copy of the ask.
     pub fn to_ask(&self, alloc: Global) -> Result<Ask, AllocError>
         ensures { IfOk result (λ ask. seen_ask ask ≡ parts_form self.now) }
     {

@@ -19,6 +19,7 @@ impl<'a> Model for Lines<'a> {
 }
 
 impl<'a> Lines<'a> {
+    /// The lines of the input, from its start.
     pub fn new(input: &'a [u8]) -> Lines<'a>
         ensures { result ≡ lines_of input.now }
     {

@@ -25,3 +25,6 @@ pub returns-in-Err-clause-report : goal.returns-in-Err-clause-report
 returns-in-Err-clause-report g c = λ honest up_level down_level input left.
     subst (λ status. Took status (g.K.Sink.taken c.args.out.now) (g.K.Sink.taken c.args.out.now) (report input)) (sym c.status_of.ensures)
     (stop-took c.in-Err.stop input (g.K.Sink.taken c.args.out.now) (report input) (c.in-Err.ensures.tells input left))
+
+pub returns-in-Err-clause-less : goal.returns-in-Err-clause-less
+returns-in-Err-clause-less g c = λ done. absurd (never-done c.in-Err.stop c.status_of.result c.status_of.ensures done)

@@ -10,3 +10,6 @@ returns-in-Err-clause-closes g c = λ done. absurd (never-done c.in-Err.stop c.s
 
 pub returns-in-Err-clause-replies : goal.returns-in-Err-clause-replies
 returns-in-Err-clause-replies g c = λ done. absurd (never-done c.in-Err.stop c.status_of.result c.status_of.ensures done)
+
+pub returns-in-Err-clause-less : goal.returns-in-Err-clause-less
+returns-in-Err-clause-less g c = λ done. absurd (never-done c.in-Err.stop c.status_of.result c.status_of.ensures done)

@@ -5,7 +5,7 @@ use Rattle.replay_script.specs.Script.{first_bad, good_lines}
 use Rattle.inspect_world.specs.Scripts.{loaded_world, after_lines}
 use Rattle.inspect_replay.proofs.RunLemmas.{begins, closed-took, stopped-took}
 use Rattle.back_end.specs.States.{loaded_state}
-use Rattle.inspect_replay.proofs.FollowLemmas.{run-first, ends-shown, in-order}
+use Rattle.inspect_replay.proofs.FollowLemmas.{run-first, ends-shown, in-order, no-more}
 use Rattle.inspect_replay.proofs.run.run_loaded.Goals as goal
 
 pub returns-in-Ok-clause-took : goal.returns-in-Ok-clause-took
@@ -69,6 +69,19 @@ returns-in-Ok-clause-replies g c =
     let ran = c.in-Ok.ensures {u = c.in-Ok.field-0} in
     let shown = c.close.ensures.shown (loaded_state nodes) up down (ran.follows (loaded_state nodes) up down start).0 in
     in-order c.close.result (g.K.Sink.taken c.run_lines.new.out) (g.K.Sink.taken c.close.new.out)
+    (g.L.Link.up c.args.link.now) (g.L.Link.down c.args.link.now) (g.L.Link.up c.close.new.link) (g.L.Link.down c.close.new.link) shown.0
+
+pub returns-in-Ok-clause-less : goal.returns-in-Ok-clause-less
+returns-in-Ok-clause-less g c =
+    let up = g.L.Link.up c.args.link.now in
+    let down = g.L.Link.down c.args.link.now in
+    let nodes = nodes_of c.args.nodes.items in
+    let first = c.in_ok-ends.ensures in
+    let start = run-first up down nodes c.in_ok-ends.ends c.requires.can c.requires.texts
+    (first.page ∙ c.in_ok-page.ensures) first.off first.agent first.splitter first.front first.up first.down first.told in
+    let ran = c.in-Ok.ensures {u = c.in-Ok.field-0} in
+    let shown = c.close.ensures.shown (loaded_state nodes) up down (ran.follows (loaded_state nodes) up down start).0 in
+    no-more c.close.result (g.K.Sink.taken c.run_lines.new.out) (g.K.Sink.taken c.close.new.out)
     (g.L.Link.up c.args.link.now) (g.L.Link.down c.args.link.now) (g.L.Link.up c.close.new.link) (g.L.Link.down c.close.new.link) shown.0
 
 pub returns-clause-refused : goal.returns-clause-refused

@@ -1,5 +1,5 @@
 -- Bytes that come down take the front end along, and never to a fault.
-use Rattle.std.proofs.Common.{◌≡◌, ◌-◌, ◌++◌, length, arith, ap, ◌∙◌, Result, Ok, Err}
+use Rattle.std.proofs.Common.{◌≡◌, ◌≤◌, ◌+◌, ◌-◌, ◌++◌, length, arith, ap, ◌∙◌, Result, Ok, Err}
 use Rattle.front_mirror.specs.declared.faults.FrontErr.{FrontErr}
 use Rattle.front_mirror.specs.declared.faults.FrontErr.TheVariants.{Fault}
 use Rattle.front_mirror.specs.Front.{after_take}
@@ -18,7 +18,7 @@ returns-in-Ok-take-clause-steps g c = λ up0 down0 w run.
         so_far = record {
           is_honest = c.receive_down.ensures.honest run.so_far.is_honest;
           in_world = delivered_in up0 down0 _ _ _ _ w (c.args.self.now.splitter.whole ++ awaited w.up) e c.args.n _ c.min.result c.in-Ok.piece.items _
-              run.so_far.in_world c.min.ensures (c.in-Ok.ensures.all run.so_far.is_honest) c.in-Ok.ensures.down c.receive_down.ensures.up left
+              run.so_far.in_world c.min.ensures (c.in-Ok.ensures.all run.so_far.is_honest) (c.in-Ok.ensures.down.0, c.in-Ok.ensures.down.1) c.receive_down.ensures.up left
               (c.in-Ok-take.ensures.ok ∙ ap (after_take c.args.self.now.front) c.deref.ensures.value);
         };
         none_whole = run.none_whole;
@@ -38,10 +38,12 @@ returns-in-Err-Fault-clause-steps g c = λ up0 down0 w run.
 
 pub returns-in-Ok-take-clause-follows : goal.returns-in-Ok-take-clause-follows
 returns-in-Ok-take-clause-follows g c = λ state0 up0 down0 run.
+    let most : length c.in-Ok.piece.items ≤ c.min.result = c.in-Ok.ensures.down.2 in
+    let left : c.saturating_sub-self.result + length c.in-Ok.piece.items ≡ c.args.self.now.down_there = omega (arith, c.saturating_sub-self.ensures, c.len.ensures, c.in-Ok.piece.ok, most, c.min.ensures) in
     kept-run (Ok c.in-Ok-take.field-0) state0 up0 down0 _ _ _ tt (record {
       so_far = delivered-follows state0 up0 down0 (g.L.Link.up c.args.link.now) (g.L.Link.down c.args.link.now) (g.L.Link.up c.receive_down.new.link) (g.L.Link.down c.receive_down.new.link)
           c.args.self.now.splitter.whole (ends_of c.args.self.now) c.deref.result.now c.in-Ok.piece.items c.saturating_sub-self.result c.take.new.self
-          run.so_far c.in-Ok.ensures.down c.receive_down.ensures.up c.deref.ensures.value c.in-Ok-take.ensures.ok c.in-Ok-take.ensures.well;
+          run.so_far left (c.in-Ok.ensures.down.0, c.in-Ok.ensures.down.1) c.receive_down.ensures.up c.deref.ensures.value c.in-Ok-take.ensures.ok c.in-Ok-take.ensures.well;
       none_whole = run.none_whole;
     })
 
@@ -51,6 +53,6 @@ returns-in-Err-Fault-clause-follows g c = λ state0 up0 down0 run.
       tt,
       refused-folds state0 up0 down0 (g.L.Link.up c.args.link.now) (g.L.Link.down c.args.link.now) (g.L.Link.up c.receive_down.new.link) (g.L.Link.down c.receive_down.new.link)
           c.args.self.now.splitter.whole (ends_of c.args.self.now) c.deref.result.now c.in-Ok.piece.items c.take.new.self c.in-Err-Fault.refused
-          run.so_far c.in-Ok.ensures.down c.receive_down.ensures.up c.deref.ensures.value
+          run.so_far (c.in-Ok.ensures.down.0, c.in-Ok.ensures.down.1) c.receive_down.ensures.up c.deref.ensures.value
           (c.in-Err-Fault.ensures.fault c.in-Err-Fault.refused is) (c.in-Err-Fault.ensures.kept c.in-Err-Fault.refused is),
     )
