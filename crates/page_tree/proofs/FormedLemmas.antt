@@ -21,15 +21,15 @@ use Rattle.page_tree.specs.declared.faults.LoadFault.TheVariants.{TooDeep, TooMa
 
 -- ---- tests
 
-both : (a b : Bool) → a ≡ true → b ≡ true → (a && b) ≡ true
+pub both : (a b : Bool) → a ≡ true → b ≡ true → (a && b) ≡ true
 both true b e f = f
 both false b e f = absurd (cc)
 
-left : (a b : Bool) → (a && b) ≡ true → a ≡ true
+pub left : (a b : Bool) → (a && b) ≡ true → a ≡ true
 left true b e = refl
 left false b e = e
 
-right : (a b : Bool) → (a && b) ≡ true → b ≡ true
+pub right : (a b : Bool) → (a && b) ≡ true → b ≡ true
 right true b e = e
 right false b e = absurd (cc)
 
@@ -44,34 +44,29 @@ is_below-placed : (name : List ℕ) (p : Pair) (qs : List Pair) → is_before na
 is_below-placed name p [] e f = e
 is_below-placed name p (q ∷ qs) e f = is_below-placed_at (slice_cmp nat_cmp p.0 q.0) name p q qs e f
 
-is_ascending-placed_at : (o : Ordering) (p q : Pair) (qs : List Pair) → slice_cmp nat_cmp p.0 q.0 ≡ o → bytes_eq p.0 q.0 ≡ false → is_below q.0 qs ≡ true → is_ascending qs ≡ true → is_ascending (placed p qs) ≡ true
+is_ascending-placed_at : (o : Ordering) (p q : Pair) (qs : List Pair) → slice_cmp nat_cmp p.0 q.0 ≡ o → is_below q.0 qs ≡ true → is_ascending qs ≡ true → is_ascending (placed p qs) ≡ true
     → is_ascending (match_ordering o (p ∷ q ∷ qs) ((q.0, p.1) ∷ qs) (q ∷ placed p qs)) ≡ true
-is_ascending-placed_at Less p q qs is other below rest placed_rest = both _ _ (ap is_lt is) (both _ _ below rest)
-is_ascending-placed_at Equal p q qs is other below rest placed_rest = let same : bytes_eq p.0 q.0 ≡ true = sym (is_eq-slice_cmp p.0 q.0) ∙ ap is_eq is in absurd (cc)
-is_ascending-placed_at Greater p q qs is other below rest placed_rest =
+is_ascending-placed_at Less p q qs is below rest placed_rest = both _ _ (ap is_lt is) (both _ _ below rest)
+is_ascending-placed_at Equal p q qs is below rest placed_rest = both _ _ below rest
+is_ascending-placed_at Greater p q qs is below rest placed_rest =
     let before_p : is_before q.0 p.0 ≡ true = ap is_lt (nat_list_cmp_total.antisymm q.0 p.0 ∙ ap ordering_reverse is) in
     both _ _ (is_below-placed q.0 p qs before_p below) placed_rest
 
-neither : (a b : Bool) → (a || b) ≡ false → (a ≡ false) × (b ≡ false)
-neither true b e = absurd (cc)
-neither false b e = (refl, e)
-
-is_ascending-placed : (p : Pair) (qs : List Pair) → is_taken p.0 qs ≡ false → is_ascending qs ≡ true → is_ascending (placed p qs) ≡ true
-is_ascending-placed p [] free h = refl
-is_ascending-placed p (q ∷ qs) free h =
-    let apart = neither (bytes_eq p.0 q.0) (is_taken p.0 qs) free in
+-- pairs that ascend still do with one more in its place
+pub is_ascending-placed : (p : Pair) (qs : List Pair) → is_ascending qs ≡ true → is_ascending (placed p qs) ≡ true
+is_ascending-placed p [] h = refl
+is_ascending-placed p (q ∷ qs) h =
     let below = left (is_below q.0 qs) (is_ascending qs) h in
     let rest = right (is_below q.0 qs) (is_ascending qs) h in
-    is_ascending-placed_at (slice_cmp nat_cmp p.0 q.0) p q qs refl apart.0 below rest (is_ascending-placed p qs apart.1 rest)
+    is_ascending-placed_at (slice_cmp nat_cmp p.0 q.0) p q qs refl below rest (is_ascending-placed p qs rest)
 
-in_order_step : (b : Bool) (p : Pair) (ordered qs : List Pair) (rest : Option (List Pair)) → is_taken p.0 ordered ≡ b → is_ascending ordered ≡ true → cond b None rest ≡ Some qs
-    → (is_ascending (placed p ordered) ≡ true → rest ≡ Some qs → is_ascending qs ≡ true) → is_ascending qs ≡ true
-in_order_step true p ordered qs rest free h e after = absurd (cc)
-in_order_step false p ordered qs rest free h e after = after (is_ascending-placed p ordered free h) e
+in_order_step : (b : Bool) (p : Pair) (ordered qs : List Pair) (rest : Option (List Pair)) → is_ascending ordered ≡ true → cond b None rest ≡ Some qs → (is_ascending (placed p ordered) ≡ true → rest ≡ Some qs → is_ascending qs ≡ true) → is_ascending qs ≡ true
+in_order_step true p ordered qs rest h e after = absurd (cc)
+in_order_step false p ordered qs rest h e after = after (is_ascending-placed p ordered h) e
 
 is_ascending-in_order : (ps : List Pair) (ordered qs : List Pair) → is_ascending ordered ≡ true → in_order ordered ps ≡ Some qs → is_ascending qs ≡ true
 is_ascending-in_order [] ordered qs h e = let same : ordered ≡ qs = cc in sym (ap is_ascending same) ∙ h
-is_ascending-in_order (p ∷ ps) ordered qs h e = in_order_step (is_taken p.0 ordered) p ordered qs (in_order (placed p ordered) ps) refl h e (is_ascending-in_order ps (placed p ordered) qs)
+is_ascending-in_order (p ∷ ps) ordered qs h e = in_order_step (is_taken p.0 ordered) p ordered qs (in_order (placed p ordered) ps) h e (is_ascending-in_order ps (placed p ordered) qs)
 
 listed_ascending : (o : Option (List Pair)) (ps : List Pair) → option_and_then (in_order []) o ≡ Some ps → is_ascending ps ≡ true
 listed_ascending None ps e = absurd (cc)

@@ -7,3 +7,7 @@ pub mod PlaceLemmas
 pub mod ZipperLemmas
 pub mod SiblingLemmas
 pub mod CursorLemmas
+pub mod EditLemmas
+pub mod PairLemmas
+pub mod ChildLemmas
+pub mod WholeLemmas

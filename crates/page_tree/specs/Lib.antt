@@ -8,3 +8,4 @@ pub mod Rooms
 pub mod Arenas
 pub mod Edits
 pub mod EditFaults
+pub mod EditLaws

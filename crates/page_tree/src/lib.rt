@@ -6,6 +6,7 @@ mod arenas;
 mod attributes;
 mod cursors;
 mod edit_faults;
+mod edit_laws;
 mod edits;
 mod faults;
 mod forms;
@@ -21,6 +22,7 @@ mod trees;
 
 pub use cursors::{Children, Node};
 pub use edit_faults::{EditErr, EditFault};
+pub use edit_laws::after_law;
 pub use edits::TreeEdit;
 pub use faults::{LoadErr, LoadFault};
 pub use forms::NodeForm;
