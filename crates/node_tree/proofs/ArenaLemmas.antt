@@ -11,7 +11,7 @@ node_equal r s c d t u p q e = cc
 
 module _ {Slot Row : Type 0} (form : SlotForm Slot Row) where
   -- a slot's number is among the trees that begin with its row
-  row_there : (slot : Slot) (r : Row) (c t : Nodes Row) → form.row slot ≡ r → 0 < times form (slot_number form slot) (node r c t)
+  pub row_there : (slot : Slot) (r : Row) (c t : Nodes Row) → form.row slot ≡ r → 0 < times form (slot_number form slot) (node r c t)
   row_there slot r c t is = tally_row form.number (slot_number form slot) r c t (ap form.number (sym is))
 
   -- slots that have what the nodes of a tree stand in keep the tree
@@ -56,7 +56,7 @@ module _ {Slot Row : Type 0} (form : SlotForm Slot Row) where
   times-at x (past depth r c t m e) = let h = times-at x e in let w = tally_below form.number x r c t in omega arith
 
   -- where numbers are distinct, a slot's number is not among the trees below it and after it
-  row_alone : (slot : Slot) (r : Row) (c t : Nodes Row) → form.row slot ≡ r → times form (slot_number form slot) (node r c t) ≤ 1 → times form (slot_number form slot) c + times form (slot_number form slot) t ≡ 0
+  pub row_alone : (slot : Slot) (r : Row) (c t : Nodes Row) → form.row slot ≡ r → times form (slot_number form slot) (node r c t) ≤ 1 → times form (slot_number form slot) c + times form (slot_number form slot) t ≡ 0
   row_alone slot r c t is once =
       elim (tally_cases form.number (slot_number form slot) r c t) [
         | inl p ↦ let e = p.1 in omega arith

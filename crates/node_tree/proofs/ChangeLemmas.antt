@@ -1,10 +1,9 @@
 -- One node changed, and changed back; and where a node stands in a tree: its level and its parent.
-use Rattle.std.proofs.Common.{◌⊎◌, ◌≡◌, ℕ, zero, suc, ◌+◌, ◌<◌, ◌≤◌, ◌==◌, ◌||◌, Bool, true, false, cond, Option, Some, None, subst, refl, ap, sym, ◌∙◌, inl, inr, arith}
+use Rattle.std.proofs.Common.{◌⊎◌, ◌≡◌, ℕ, suc, ◌+◌, ◌<◌, ◌≤◌, ◌==◌, ◌||◌, Bool, true, false, cond, Option, Some, None, subst, refl, ap, sym, inl, inr, arith}
 use Rattle.std.proofs.lemmas.Bool.{eq-eqb, eqb-true, ne_eqb}
-use Rattle.std.proofs.lemmas.Bool.Decides.{eqb_tells}
 use Rattle.node_tree.specs.Nodes.{Nodes, none, node, Branch, alone, node_count, branch_count}
 use Rattle.node_tree.specs.Keys.{first_of, tally, tally_in, has, find, level_of, parent_of, put, At, here, within, past}
-use Rattle.node_tree.proofs.KeyLemmas.{tally_row, tally_below, other_row, tally_cases, has-absent, at-put, At-tally, Stands}
+use Rattle.node_tree.proofs.KeyLemmas.{tally_row, tally_below, other_row, tally_cases, at-put, At-tally, Stands}
 
 -- ---- there and back
 

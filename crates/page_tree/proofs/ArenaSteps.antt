@@ -1,12 +1,16 @@
 -- Slots taken out one by one, lists of serials, and trees copied out.
-use Rattle.std.proofs.Common.{◌≡◌, ℕ, zero, suc, ◌+◌, ◌-◌, ◌<◌, ◌≤◌, List, [], ◌∷◌, ◌++◌, length, get_or, slice_get, drop, Option, Some, None, refl, sym, ap, subst, ◌∙◌, arith}
+use Rattle.std.proofs.Common.{◌≡◌, ℕ, zero, suc, ◌+◌, ◌-◌, ◌<◌, ◌≤◌, Bool, true, false, cond, List, [], ◌∷◌, ◌++◌, length, get_or, slice_get, drop, Option, Some, None, IsSome, Result, Ok, Err, OnOk, OnErr, refl, sym, ap, subst, ◌∙◌, arith}
+use Rattle.std.specs.Ordering.{nat_cmp}
+use Rattle.std.specs.BTreeMap as map
 use Rattle.std.proofs.lemmas.List.{drop_more}
-use Rattle.node_tree.specs.Nodes.{Nodes, none, node, Branch, nodes_of, beside, node_count}
+use Rattle.node_tree.specs.Nodes.{Nodes, none, node, Branch, alone, nodes_of, beside, node_count}
 use Rattle.node_tree.specs.Keys.{tally}
-use Rattle.node_tree.specs.Arena.{Shrinks, slot_tree, slot_trees, kept_trees}
+use Rattle.node_tree.specs.Arena.{Shrinks, IsFiled, slot_tree, slot_trees, kept_trees}
 use Rattle.node_tree.proofs.NodeLemmas.{nodes_of-append, beside_assoc, beside-none}
+use Rattle.node_tree.proofs.ArenaLemmas.{files-turn, files-same}
 use Rattle.page_tree.specs.Pages.{Row, row_serial}
-use Rattle.page_tree.specs.Arenas.{page_slots, slot_row, listed}
+use Rattle.page_tree.specs.Arenas.{page_slots, slot_row, slots_in, keys_in, Filed, Turned, SameSlots, listed, is_numbered, place_in}
+use Rattle.page_tree.specs.declared.arenas.Arena.{Arena}
 use Rattle.page_tree.specs.declared.slots.Slot.{Slot}
 
 -- some of the serials were taken out, and `rest` is left
@@ -97,3 +101,49 @@ nest_end slots (suc levels) ks rest done some empty so_far =
 pub none_left : (bs : List (Branch Row)) → length bs ≡ 0 → nodes_of bs ≡ none
 none_left [] e = refl
 none_left (b ∷ bs) e = absurd (omega arith)
+
+-- ---- the place of a key
+
+module _ (a : Arena) (serial : ℕ) (ks : List ℕ) (i k : ℕ) (at : slice_get ks i ≡ Some k) where
+  key_next : drop i ks ≡ k ∷ drop (i + 1) ks
+  key_next = let e : i + 1 ≡ suc i = omega arith in rw e (drop-get ks i k at)
+
+  pub place_here : is_numbered a serial k ≡ true → place_in a serial (drop i ks) ≡ 0
+  place_here e = ap (λ (js : List ℕ). place_in a serial js) key_next ∙ ap (λ (b : Bool). cond {A = ℕ} b 0 (suc (place_in a serial (drop (i + 1) ks)))) e
+
+  pub place_on : is_numbered a serial k ≡ false → place_in a serial (drop i ks) ≡ suc (place_in a serial (drop (i + 1) ks))
+  place_on e = ap (λ (js : List ℕ). place_in a serial js) key_next ∙ ap (λ (b : Bool). cond {A = ℕ} b 0 (suc (place_in a serial (drop (i + 1) ks)))) e
+
+pub place_le : (a : Arena) (serial : ℕ) (ks : List ℕ) → place_in a serial ks ≤ length ks
+place_le a serial [] = omega arith
+place_le a serial (k ∷ ks) =
+    elim (is_numbered a serial k) as (λ (b : Bool). cond {A = ℕ} b 0 (suc (place_in a serial ks)) ≤ suc (length ks)) [
+      | true ↦ omega arith
+      | false ↦ let e = place_le a serial ks in omega arith
+    ]
+
+-- the serials of one tree
+pub listing_of : (x : ℕ) (l new first : List ℕ) (ts : List (Branch Row)) (b : Branch Row) → l ≡ new → first ≡ [] → ts ≡ b ∷ [] → listed x new ≡ listed x first + tally row_serial x (nodes_of ts) → listed x l ≡ tally row_serial x (alone b)
+listing_of x l new first ts b same empty one e =
+    let p = ap (λ (y : List ℕ). listed x y) same in
+    let q = ap (λ (y : List ℕ). listed x y) empty in
+    let r = ap (λ (y : List (Branch Row)). tally row_serial x (nodes_of y)) one in
+    omega (arith, p, q, r)
+
+-- ---- slots that were changed
+
+pub either_way : {A E : Type 0} (r : Result A E) (P Q F : Type 0) → OnOk r P → OnErr r Q → (P → F) → (Q → F) → F
+either_way (Ok x) P Q F p q f g = f p
+either_way (Err e) P Q F p q f g = g q
+
+pub filed_turned : (a b : Arena) (key : ℕ) (slot : Slot) (f : Slot → Slot) → slots_in a key ≡ Some slot → (f slot).serial ≡ slot.serial → Turned a b key f → b.keys ≡ a.keys → Filed a → Filed b
+filed_turned a b key slot f at number_is turned keys_are files =
+    subst (λ m. IsFiled page_slots (slots_in b) (map.get nat_cmp m)) (sym keys_are) (files-turn page_slots (slots_in a) (slots_in b) (keys_in a) (keys_in a) key slot (f slot) files (turned slot at) number_is)
+
+pub filed_same : (a b : Arena) → SameSlots a b → b.keys ≡ a.keys → Filed a → Filed b
+filed_same a b same keys_are files =
+    subst (λ m. IsFiled page_slots (slots_in b) (map.get nat_cmp m)) (sym keys_are) (files-same page_slots (slots_in a) (slots_in b) (keys_in a) (keys_in a) files same (λ y. refl))
+
+pub some_slot : (o : Option Slot) → IsSome o → (slot : Slot) × (o ≡ Some slot)
+some_slot None some = absurd (cc)
+some_slot (Some slot) some = (slot, refl)

@@ -1,10 +1,10 @@
 -- A tree put among others, and taken out.
-use Rattle.std.proofs.Common.{◌≡◌, ◌⊎◌, ℕ, suc, ◌+◌, ◌<◌, ◌≤◌, ◌==◌, ◌||◌, max, Bool, true, false, cond, Option, Some, None, inl, inr, subst, refl, sym, ap, ◌∙◌, arith}
+use Rattle.std.proofs.Common.{◌≡◌, ◌⊎◌, ℕ, ◌+◌, ◌<◌, ◌≤◌, ◌==◌, ◌||◌, max, Bool, true, false, cond, Some, inl, inr, subst, refl, sym, ap, ◌∙◌, arith}
 use Rattle.std.proofs.lemmas.Bool.{eq-eqb, eqb-true, ne_eqb}
 use Rattle.node_tree.specs.Nodes.{Nodes, none, node, Branch, alone, node_count, branch_count, height}
-use Rattle.node_tree.specs.Keys.{tally, tally_in, At, here, within, past}
+use Rattle.node_tree.specs.Keys.{tally, tally_in, here, past}
 use Rattle.node_tree.proofs.KeyLemmas.{tally_row, tally_below, tally_cases, other_row, Stands}
-use Rattle.node_tree.proofs.ChangeLemmas.{child_of, child-tally}
+use Rattle.node_tree.proofs.ChangeLemmas.{child_of}
 use Rattle.page_tree.specs.Pages.{Row, row_serial}
 use Rattle.page_tree.specs.Edits.{put_before, taken_out, first_serial, next_sibling, is_among}
 

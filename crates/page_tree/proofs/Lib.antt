@@ -11,3 +11,4 @@ pub mod EditLemmas
 pub mod PairLemmas
 pub mod ChildLemmas
 pub mod WholeLemmas
+pub mod TurnLemmas

@@ -54,7 +54,7 @@ module _ (a : Arena) (root next : ℕ) (tree : Branch Row) (arena : IsArena page
 -- ---- readers
 
 module _ (a : Arena) (root next : ℕ) (page : IsPage a root next) where
-  once : (x : ℕ) → times page_slots x (alone (tree_of a root)) ≤ 1
+  pub once : (x : ℕ) → times page_slots x (alone (tree_of a root)) ≤ 1
   once x = let d = page.valid.distinct x in omega arith
 
   at_slot : (x k : ℕ) (b : Branch Row) → IsAtKey page_slots (slots_in a) (keys_in a) k x b → (slot : Slot) × (slot_of a x ≡ Some slot) × (slot_row slot ≡ b.row) × (length slot.children ≡ width b.children)

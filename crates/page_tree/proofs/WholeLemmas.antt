@@ -1,15 +1,15 @@
 -- A valid page as a property of each node, and what one changed node leaves of it.
-use Rattle.std.proofs.Common.{◌≡◌, ◌⊎◌, ℕ, zero, suc, ◌+◌, ◌<◌, ◌≤◌, max, List, [], ◌∷◌, Bool, true, false, not, ◌&&◌, ◌||◌, cond, Option, Some, None, inl, inr, subst, refl, sym, ap, ◌∙◌, arith}
-use Rattle.std.proofs.lemmas.Bool.{not-true, not_from_false}
-use Rattle.node_tree.specs.Nodes.{Nodes, none, node, Branch, alone, node_count, branch_count, height, map_rows, map_branch}
+use Rattle.std.proofs.Common.{◌≡◌, ◌⊎◌, ℕ, zero, suc, ◌+◌, ◌<◌, ◌≤◌, List, [], ◌∷◌, Bool, true, false, not, ◌&&◌, ◌||◌, Option, Some, None, inl, inr, subst, refl, sym, arith}
+use Rattle.std.proofs.lemmas.Bool.{not-true}
+use Rattle.node_tree.specs.Nodes.{Nodes, none, node, Branch, alone, node_count, branch_count, height, map_rows}
 use Rattle.node_tree.specs.Labels.{Pair, Label, is_document, is_doctype, holds, is_formed_label, is_named_label}
 use Rattle.node_tree.specs.Keys.{tally, tally_in, At, here, within, past}
 use Rattle.node_tree.specs.declared.Kind.{Kind}
 use Rattle.node_tree.specs.declared.Kind.TheVariants.{Document, Element, Text, Comment, Doctype}
 use Rattle.node_tree.proofs.NodeLemmas.{node_count-map_rows, height-map_rows}
 use Rattle.node_tree.proofs.KeyLemmas.{tally-at, height-at}
-use Rattle.node_tree.proofs.ChangeLemmas.{at-new, count-at}
-use Rattle.page_tree.specs.Forms.{max_level, max_nodes, may_stand, is_bare, are_formed, are_named, CanLoad}
+use Rattle.node_tree.proofs.ChangeLemmas.{count-at}
+use Rattle.page_tree.specs.Forms.{max_level, max_nodes, may_stand, is_bare, are_formed, are_named}
 use Rattle.page_tree.specs.Pages.{Row, row_serial, row_label, State, IsValid}
 use Rattle.page_tree.specs.EditFaults.{may_hold}
 use Rattle.page_tree.proofs.FormedLemmas.{both, left, right}

@@ -1,10 +1,11 @@
 -- The slots of a page, and what they keep.
-use Rattle.std.specs.Prelude.{◌≡◌, ℕ, zero, suc, ◌+◌, ◌==◌, cond, List, [], ◌∷◌, length, Option, Some, None, option_and_then}
+use Rattle.std.specs.Prelude.{◌≡◌, ℕ, zero, suc, ◌+◌, ◌==◌, Bool, false, cond, List, [], ◌∷◌, length, Option, Some, None, option_and_then}
 use Rattle.std.specs.Option.{option_map_or}
+use Rattle.std.specs.List.{insert, remove}
 use Rattle.std.specs.Ordering.{nat_cmp}
 use Rattle.std.specs.BTreeMap as map
 use Rattle.slab.specs.Slab as slab
-use Rattle.node_tree.specs.Nodes.{Nodes, none, node, Branch, width}
+use Rattle.node_tree.specs.Nodes.{Nodes, none, node, Branch, alone, width}
 use Rattle.node_tree.specs.Arena.{SlotForm, times, Keeps, kept_trees, IsFiled, IsArena, IsFresh, Grows, Shrinks, Comes, Turns}
 use Rattle.page_tree.specs.Forms.{max_level}
 use Rattle.page_tree.specs.Pages.{Row, row_serial, document_label, IsValid}
@@ -95,3 +96,37 @@ pub record IsPage (a : Arena) (root next : ℕ) : Type 0 where
 abbrev pub Looks : Option Slot → Option (Branch Row) → Type 0
 Looks None f = f ≡ None
 Looks (Some slot) f = (b : Branch Row) × (f ≡ Some b) × (slot_row slot ≡ b.row) × (length slot.children ≡ width b.children)
+
+-- ---- a tree put among the children of a slot, and taken out
+
+-- the slot under the key has the serial
+abbrev pub is_numbered : Arena → ℕ → ℕ → Bool
+is_numbered a serial key = option_map_or (λ slot. slot.serial == serial) (slots_in a key) false
+
+-- the place of the first key whose slot has the serial, and else the number of the keys
+abbrev pub place_in : Arena → ℕ → List ℕ → ℕ
+place_in a serial [] = 0
+place_in a serial (k ∷ ks) = cond {A = ℕ} (is_numbered a serial k) 0 (suc (place_in a serial ks))
+
+-- the slot with one key more among its children's, before the one of that serial; and with the key of that serial less
+abbrev pub with_child_key : Arena → ℕ → ℕ → Slot → Slot
+with_child_key a before child slot = record slot { children = insert slot.children (place_in a before slot.children) child }
+
+abbrev pub without_child_key : Arena → ℕ → Slot → Slot
+without_child_key a serial slot = record slot { children = remove slot.children (place_in a serial slot.children) }
+
+-- the tree came in below the slot of that key, before the child of that serial
+pub record Grafted (a b : Arena) (key before : ℕ) (tree : Branch Row) : Type 0 where
+  pub mid : Arena
+  pub child : ℕ
+  pub grown : Grown a mid (alone tree)
+  pub stored : Stored mid (alone tree) (Some key) (child ∷ [])
+  pub turned : Turned mid b key (with_child_key a before child)
+
+-- the tree of that serial's slot went out, from among the children of the slot of that key
+pub record Cut (a b : Arena) (key serial : ℕ) (tree : Branch Row) : Type 0 where
+  pub mid : Arena
+  pub serials : List ℕ
+  pub turned : Turned a mid key (without_child_key a serial)
+  pub shrunk : Shrunk mid b serials
+  pub listing : (x : ℕ) → listed x serials ≡ times page_slots x (alone tree)

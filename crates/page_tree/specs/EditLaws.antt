@@ -1,5 +1,5 @@
 -- What holds of edits of pages.
-use Rattle.std.specs.Prelude.{◌≡◌, ℕ, ◌≤◌, List, Option, None}
+use Rattle.std.specs.Prelude.{◌≡◌, ℕ, ◌≤◌, List, None}
 use Rattle.node_tree.specs.Nodes.{Branch}
 use Rattle.node_tree.specs.Labels.{Label}
 use Rattle.page_tree.specs.Pages.{Row, State, IsValid}

@@ -156,7 +156,7 @@ impl Arena {
 
     /// The tree of a slot, so many levels below it, copied.
     #[cycle(nesting)]
-    fn nested(&self, alloc: Global, slot: &Slot, levels: u64) -> Result<Tree, AllocError>
+    pub fn nested(&self, alloc: Global, slot: &Slot, levels: u64) -> Result<Tree, AllocError>
         ensures { IfOk result (λ tree. tree ≡ record { row = slot_row slot.now; children = stored_trees self.now levels slot.now.children }) }
     {
         let children = self.nested_all(alloc, &slot.children, levels)?;

@@ -10,6 +10,7 @@ mod edit_laws;
 mod edits;
 mod faults;
 mod forms;
+mod grafts;
 mod labels;
 mod limits;
 mod loads;

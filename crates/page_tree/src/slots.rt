@@ -61,12 +61,13 @@ impl Keys {
         Ok(())
     }
 
-    /// Takes the key at place `i` out.
+    /// Takes the key at place `i` out, where there is one.
     pub fn remove(&mut self, i: usize)
-        requires { i < length self.old }
         ensures { self.new ≡ remove self.old i }
     {
-        self.keys.remove(i);
+        if i < self.keys.len() {
+            self.keys.remove(i);
+        }
     }
 }
 
