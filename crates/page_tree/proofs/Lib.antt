@@ -12,3 +12,4 @@ pub mod PairLemmas
 pub mod ChildLemmas
 pub mod WholeLemmas
 pub mod TurnLemmas
+pub mod ArenaEdits

@@ -18,9 +18,9 @@ use std::marker::Model;
 /// A page: the document with all below it, and the serial that the next new node gets.
 #[derive(Drop)]
 pub struct ArenaPage {
-    arena: Arena,
-    root: usize,
-    next: u64,
+    pub(crate) arena: Arena,
+    pub(crate) root: usize,
+    pub(crate) next: u64,
 }
 
 impl Model for ArenaPage {

@@ -40,6 +40,13 @@ impl Arena {
         self.slots.get(*key)
     }
 
+    /// The key of a serial's slot.
+    pub fn key(&self, serial: u64) -> Option<usize>
+        ensures { result ≡ keys_in self.now serial }
+    {
+        self.keys.get(&serial).copied()
+    }
+
     /// How many slots there are from the one under that key up, at most so many.
     pub fn climb(&self, above: Option<usize>, levels: u64) -> u64
         ensures rise { result ≡ climbed self.now levels above }

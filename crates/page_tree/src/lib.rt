@@ -1,6 +1,7 @@
 //! The page: a tree of nodes, each with a serial for the whole run, read from a load and asked by serial.
 #![tactic(auto)]
 
+mod arena_edits;
 mod arena_pages;
 mod arenas;
 mod attributes;
