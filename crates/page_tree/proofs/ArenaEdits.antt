@@ -3,7 +3,7 @@ use Rattle.std.proofs.Common.{◌≡◌, ◌⊎◌, ℕ, suc, ◌+◌, ◌<◌, 
 use Rattle.std.specs.Option.{option_and_then}
 use Rattle.std.proofs.lemmas.Bool.{not-false, cases_lt}
 use Rattle.node_tree.specs.Nodes.{Nodes, none, node, Branch, alone, height}
-use Rattle.node_tree.specs.Labels.{is_document}
+use Rattle.node_tree.specs.Labels.{Label, is_document, is_element, is_ascending, value_of}
 use Rattle.node_tree.specs.Keys.{tally}
 use Rattle.node_tree.specs.Arena.{times, Keeps, IsArena, kept_trees}
 use Rattle.node_tree.proofs.KeyLemmas.{tally_row, tally_below, height_above-at}
@@ -12,10 +12,11 @@ use Rattle.node_tree.proofs.NodeLemmas.{height-map_rows}
 use Rattle.node_tree.proofs.ArenaLemmas.{keeps-same, kept_trees-keeps}
 use Rattle.page_tree.specs.Forms.{max_level}
 use Rattle.page_tree.specs.Pages.{Row, row_serial, row_label, State, IsValid, find_in, node_at, parent_at}
-use Rattle.page_tree.specs.Edits.{with_value, relabelled, with_child, without_child, taken_out, changed_at, greatest_serial, after, after_tree, children_at, label_at}
+use Rattle.page_tree.specs.Loads.{placed}
+use Rattle.page_tree.specs.Edits.{with_attribute, without_attribute, pairs_without, with_value, relabelled, with_child, without_child, taken_out, changed_at, greatest_serial, after, after_tree, children_at, label_at}
 use Rattle.page_tree.specs.EditFaults.{is_live, CanAttach, CanApply, edit_faults}
 use Rattle.page_tree.specs.declared.edits.TreeEdit.{TreeEdit}
-use Rattle.page_tree.specs.declared.edits.TreeEdit.TheVariants.{SetText, Attach, Detach}
+use Rattle.page_tree.specs.declared.edits.TreeEdit.TheVariants.{SetAttr, DropAttr, SetText, Attach, Detach}
 use Rattle.page_tree.specs.Arenas.{page_slots, slot_row, slots_in, keys_in, Filed, Fresh, SameSlots, Turned, slot_of, stored_trees, first_tree, Grafted, Cut, tree_of, IsPage, Looks}
 use Rattle.page_tree.specs.declared.slots.Slot.{Slot}
 use Rattle.page_tree.specs.declared.arenas.Arena.{Arena}
@@ -24,7 +25,7 @@ use Rattle.page_tree.proofs.TurnLemmas.{Seat, seat, page_relabelled, page_grafte
 use Rattle.page_tree.proofs.ChildLemmas.{Inserted, inserted-taken}
 use Rattle.page_tree.proofs.FormedLemmas.{left}
 use Rattle.page_tree.proofs.WholeLemmas.{whole-valid}
-use Rattle.page_tree.proofs.EditLemmas.{clear, changed, serial-live, found-live, parted, valid-after}
+use Rattle.page_tree.proofs.EditLemmas.{fits-live, ascending-element, clear, changed, serial-live, found-live, parted, valid-after}
 
 -- the page as it was, where no slot changed
 pub same_page : (a b : Arena) (root next : ℕ) → IsPage a root next → SameSlots a b → Filed b → (tree_of b root ≡ tree_of a root) × IsPage b root next
@@ -104,6 +105,79 @@ module _ (a b : Arena) (root next : ℕ) (page : IsPage a root next) (p : State)
       let (slot, at, number_is) = page.arena.files.found serial key e in
       let s = seat a root next page serial slot (ap (λ (o : Option ℕ). option_and_then (slots_in a) o) e ∙ at) in
       (slot, at, ap (λ (r : Row). r.label) s.row_is ∙ ap (λ (q : State). label_at serial q.tree) view)
+
+  -- ---- an element with other attributes
+
+  -- the label of a live node changed
+  label_set : (e : TreeEdit) (f : Label → Label) (g : Slot → Slot) (serial key : ℕ) → ((q : State) → after e q ≡ record { tree = changed_at serial (relabelled f) q.tree; next = q.next }) → CanApply p.next e p.tree
+      → is_live serial (tree_of a root) ≡ true → keys_in a serial ≡ Some key → Turned a b key g → ((s : Slot) → slot_row (g s) ≡ record { serial = s.serial; label = f (slot_row s).label }) → ((s : Slot) → (g s).parent ≡ s.parent) → ((s : Slot) → (g s).children ≡ s.children)
+      → Filed b → IsAfter b root next e p
+  label_set e f g serial key means can live key_is turned rows parents children files =
+      let (slot, at) = slot_here serial live in
+      let s = seat a root next page serial slot at in
+      let same : key ≡ s.key = let both : Some key ≡ Some s.key = sym key_is ∙ s.key_is in cc in
+      let turns = subst (λ (k : ℕ). Turned a b k g) same turned in
+      let here : State = record { tree = tree_of a root; next = next } in
+      let valid = subst IsValid (means here) (valid_here e can) in
+      let done = page_relabelled a root next page serial slot at b f (g slot) files (turns slot s.at) (rows slot) (parents slot) (children slot) valid in
+      record {
+        shown = ap (λ (t : Branch Row). record { tree = t; next = next }) done.0 ∙ sym (means here) ∙ ap (λ (q : State). after e q) view;
+        page = done.1;
+      }
+
+  attr_live : (serial : ℕ) (name value : List ℕ) → CanApply p.next (SetAttr serial name value) p.tree → is_live serial (tree_of a root) ≡ true
+  attr_live serial name value can = not-false _ (clear (edit_faults (SetAttr serial name value) (tree_of a root)) (can_here (SetAttr serial name value) can).fits).0
+
+  drop_live : (serial : ℕ) (name : List ℕ) → CanApply p.next (DropAttr serial name) p.tree → is_live serial (tree_of a root) ≡ true
+  drop_live serial name can = not-false _ (clear (edit_faults (DropAttr serial name) (tree_of a root)) (can_here (DropAttr serial name) can).fits).0
+
+  pub attr_set : (serial key : ℕ) (name value : List ℕ) → CanApply p.next (SetAttr serial name value) p.tree → keys_in a serial ≡ Some key → Turned a b key (λ slot. record slot { attributes = placed (name, value) slot.attributes }) → Filed b
+      → IsAfter b root next (SetAttr serial name value) p
+  attr_set serial key name value can key_is turned files =
+      label_set (SetAttr serial name value) (with_attribute name value) (λ slot. record slot { attributes = placed (name, value) slot.attributes }) serial key (λ q. refl) can (attr_live serial name value can) key_is turned (λ s. refl) (λ s. refl) (λ s. refl) files
+
+  pub attr_dropped : (serial key : ℕ) (name : List ℕ) → CanApply p.next (DropAttr serial name) p.tree → keys_in a serial ≡ Some key → Turned a b key (λ slot. record slot { attributes = pairs_without name slot.attributes }) → Filed b
+      → IsAfter b root next (DropAttr serial name) p
+  attr_dropped serial key name can key_is turned files =
+      label_set (DropAttr serial name) (without_attribute name) (λ slot. record slot { attributes = pairs_without name slot.attributes }) serial key (λ q. refl) can (drop_live serial name can) key_is turned (λ s. refl) (λ s. refl) (λ s. refl) files
+
+  -- a live serial has a key
+  key_there : (serial : ℕ) → is_live serial (tree_of a root) ≡ true → keys_in a serial ≡ None → ⊥
+  key_there serial live e =
+      let (slot, at) = slot_here serial live in
+      let s = seat a root next page serial slot at in
+      let clash : None ≡ Some s.key = sym e ∙ s.key_is in absurd (cc)
+
+  pub attr_there : (serial : ℕ) (name value : List ℕ) → CanApply p.next (SetAttr serial name value) p.tree → keys_in a serial ≡ None → ⊥
+  attr_there serial name value can e = key_there serial (attr_live serial name value can) e
+
+  pub drop_there : (serial : ℕ) (name : List ℕ) → CanApply p.next (DropAttr serial name) p.tree → keys_in a serial ≡ None → ⊥
+  drop_there serial name can e = key_there serial (drop_live serial name can) e
+
+  -- an element's attributes ascend
+  ascends : (serial key : ℕ) (slot : Slot) → is_live serial (tree_of a root) ≡ true → is_element (label_at serial (tree_of a root)).kind ≡ true → keys_in a serial ≡ Some key → slots_in a key ≡ Some slot → is_ascending slot.attributes ≡ true
+  ascends serial key slot live element key_is at =
+      let fits = (fits-live next (tree_of a root) (whole-valid (record { tree = tree_of a root; next = next }) page.valid) serial live).1 in
+      let order = ascending-element (label_at serial (tree_of a root)) element fits.formed in
+      let s = seat a root next page serial slot (ap (λ (o : Option ℕ). option_and_then (slots_in a) o) key_is ∙ at) in
+      ap (λ (r : Row). is_ascending r.label.attributes) s.row_is ∙ order
+
+  pub attr_ascends : (serial key : ℕ) (name value : List ℕ) → CanApply p.next (SetAttr serial name value) p.tree → keys_in a serial ≡ Some key → (slot : Slot) → slots_in a key ≡ Some slot → is_ascending slot.attributes ≡ true
+  attr_ascends serial key name value can key_is slot at =
+      let tests = clear (edit_faults (SetAttr serial name value) (tree_of a root)) (can_here (SetAttr serial name value) can).fits in
+      ascends serial key slot (not-false _ tests.0) (not-false _ tests.1.0) key_is at
+
+  pub drop_ascends : (serial key : ℕ) (name : List ℕ) → CanApply p.next (DropAttr serial name) p.tree → keys_in a serial ≡ Some key → (slot : Slot) → slots_in a key ≡ Some slot → is_ascending slot.attributes ≡ true
+  drop_ascends serial key name can key_is slot at =
+      let tests = clear (edit_faults (DropAttr serial name) (tree_of a root)) (can_here (DropAttr serial name) can).fits in
+      ascends serial key slot (not-false _ tests.0) (not-false _ tests.1.0) key_is at
+
+  pub drop_has : (serial key : ℕ) (name : List ℕ) → CanApply p.next (DropAttr serial name) p.tree → keys_in a serial ≡ Some key → (slot : Slot) → slots_in a key ≡ Some slot → IsSome (value_of name slot.attributes)
+  drop_has serial key name can key_is slot at =
+      let tests = clear (edit_faults (DropAttr serial name) (tree_of a root)) (can_here (DropAttr serial name) can).fits in
+      let has = not-false _ tests.1.1.1.0 in
+      let s = seat a root next page serial slot (ap (λ (o : Option ℕ). option_and_then (slots_in a) o) key_is ∙ at) in
+      ap (λ (r : Row). is_some (value_of name r.label.attributes)) s.row_is ∙ has
 
   -- ---- a tree more
 

@@ -61,7 +61,7 @@ module _ (x : ℕ) (bs : List (Branch Row)) (i : ℕ) (b : Branch Row) (done mid
 
 -- ---- trees copied out
 
-drop-get : (ks : List ℕ) (i k : ℕ) → slice_get ks i ≡ Some k → drop i ks ≡ k ∷ drop (suc i) ks
+pub drop-get : {A : Type 0} (ks : List A) (i : ℕ) (k : A) → slice_get ks i ≡ Some k → drop i ks ≡ k ∷ drop (suc i) ks
 drop-get [] i k e = absurd (cc)
 drop-get (x ∷ ks) zero k e = let same : x ≡ k = cc in ap (λ y. y ∷ ks) same
 drop-get (x ∷ ks) (suc i) k e = drop-get ks i k e

@@ -13,3 +13,4 @@ pub mod ChildLemmas
 pub mod WholeLemmas
 pub mod TurnLemmas
 pub mod ArenaEdits
+pub mod SearchedLemmas

@@ -9,3 +9,4 @@ pub mod Arenas
 pub mod Edits
 pub mod EditFaults
 pub mod EditLaws
+pub mod Searches

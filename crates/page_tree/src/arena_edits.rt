@@ -1,4 +1,5 @@
 ghost use Rattle.std.specs.Prelude.{◌≡◌, IfOk, OnOk, OnErr};
+ghost use Rattle.node_tree.specs.Labels.{value_of};
 ghost use Rattle.page_tree.specs.Pages.{node_at};
 ghost use Rattle.page_tree.specs.Edits.{after, label_at};
 ghost use Rattle.page_tree.specs.EditFaults.{CanApply};
@@ -23,6 +24,36 @@ impl ArenaPage {
             Some(was) => was,
             None => unreachable!(),
         }
+    }
+
+    /// Sets an attribute of an element, and gives its old value.
+    pub(crate) fn set_attr(
+        &mut self,
+        serial: u64,
+        name: Text,
+        value: Text,
+    ) -> Result<Option<Text>, AllocError>
+        requires { CanApply self.old.next (TreeEdit.SetAttr serial name value) self.old.tree }
+        ensures ok { OnOk result (self.new ≡ after (TreeEdit.SetAttr serial name value) self.old) }
+        ensures was { IfOk result (λ was. was ≡ value_of name (label_at serial self.old.tree).attributes) }
+        ensures err { OnErr result (self.new ≡ self.old) }
+    {
+        let Some(key) = self.arena.key(serial) else {
+            unreachable!()
+        };
+        self.arena.set_attr(key, name, value)
+    }
+
+    /// Takes an attribute of an element away, and gives its value.
+    pub(crate) fn drop_attr(&mut self, serial: u64, name: &str) -> Option<Text>
+        requires { CanApply self.old.next (TreeEdit.DropAttr serial name.now) self.old.tree }
+        ensures after { self.new ≡ after (TreeEdit.DropAttr serial name.now) self.old }
+        ensures was { result ≡ value_of name.now (label_at serial self.old.tree).attributes }
+    {
+        let Some(key) = self.arena.key(serial) else {
+            unreachable!()
+        };
+        self.arena.drop_attr(key, name)
     }
 
     /// Puts a tree among the children of a node, before the one of that serial, or last where there is none.

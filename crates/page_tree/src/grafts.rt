@@ -1,10 +1,14 @@
-ghost use Rattle.std.specs.Prelude.{◌≡◌, ◌≤◌, [], ◌∷◌, length, Option, Some, None, IfOk, OnOk, OnErr, IfSome, IsSome};
+ghost use Rattle.std.specs.Prelude.{◌≡◌, ◌≤◌, [], ◌∷◌, true, length, Option, Some, None, IfOk, OnOk, OnErr, IfSome, IsSome};
 ghost use Rattle.std.specs.List.{insert, remove};
 ghost use Rattle.node_tree.specs.Nodes.{alone};
+ghost use Rattle.node_tree.specs.Labels.{is_ascending, value_of};
+ghost use Rattle.page_tree.specs.Loads.{placed};
+ghost use Rattle.page_tree.specs.Edits.{pairs_without};
 ghost use Rattle.page_tree.specs.Arenas.{slots_in, Filed, Fresh, Grown, Turned, SameSlots, slot_of, slot_row, stored_trees, is_numbered, place_in, without_child_key, Grafted, Cut};
 ghost use Rattle.page_tree.specs.declared.slots.Slot.{Slot};
 
 use crate::arenas::{Arena, list_serials};
+use crate::attribute_edits::{drop_attribute, set_attribute};
 use crate::slots::Keys;
 use crate::trees::Tree;
 use node_tree::Text;
@@ -41,6 +45,39 @@ impl Arena {
     {
         match self.slots.get_mut(key) {
             Some(slot) => Some(mem::replace(&mut slot.value, value)),
+            None => None,
+        }
+    }
+
+    /// Sets an attribute of a slot, and gives its old value.
+    pub fn set_attr(
+        &mut self,
+        key: usize,
+        name: Text,
+        value: Text,
+    ) -> Result<Option<Text>, AllocError>
+        requires { (slot : Slot) → slots_in self.old key ≡ Some slot → is_ascending slot.attributes ≡ true }
+        ensures keys { self.new.keys ≡ self.old.keys }
+        ensures ok { OnOk result (Turned self.old self.new key (λ slot. record slot { attributes = placed (name, value) slot.attributes })) }
+        ensures was { IfOk result (λ was. (slot : Slot) → slots_in self.old key ≡ Some slot → was ≡ value_of name slot.attributes) }
+        ensures err { OnErr result (SameSlots self.old self.new) }
+    {
+        match self.slots.get_mut(key) {
+            Some(slot) => set_attribute(&mut slot.attributes, name, value),
+            None => Ok(None),
+        }
+    }
+
+    /// Takes an attribute of a slot away, and gives its value.
+    pub fn drop_attr(&mut self, key: usize, name: &str) -> Option<Text>
+        requires ascending { (slot : Slot) → slots_in self.old key ≡ Some slot → is_ascending slot.attributes ≡ true }
+        requires there { (slot : Slot) → slots_in self.old key ≡ Some slot → IsSome (value_of name.now slot.attributes) }
+        ensures keys { self.new.keys ≡ self.old.keys }
+        ensures slots { Turned self.old self.new key (λ slot. record slot { attributes = pairs_without name.now slot.attributes }) }
+        ensures was { (slot : Slot) → slots_in self.old key ≡ Some slot → result ≡ value_of name.now slot.attributes }
+    {
+        match self.slots.get_mut(key) {
+            Some(slot) => Some(drop_attribute(&mut slot.attributes, name)),
             None => None,
         }
     }

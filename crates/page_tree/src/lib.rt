@@ -4,6 +4,7 @@
 mod arena_edits;
 mod arena_pages;
 mod arenas;
+mod attribute_edits;
 mod attributes;
 mod cursors;
 mod edit_faults;
