@@ -3,3 +3,4 @@ pub mod Names
 pub mod Labels
 pub mod Keys
 pub mod Seen
+pub mod Arena

@@ -1,9 +1,11 @@
-ghost use Rattle.std.specs.Prelude.{◌≡◌, ℕ, ◌<◌, List, [], ◌∷◌, ◌++◌, length, option_map, Some, IfOk, OnOk, OnErr, slice_get};
+ghost use Rattle.std.specs.Prelude.{◌≡◌, ℕ, ◌<◌, ◌≤◌, List, [], ◌∷◌, ◌++◌, length, option_map, Some, IfOk, OnOk, OnErr, slice_get, slice_set};
+ghost use Rattle.std.specs.List.{insert, remove};
 ghost use Rattle.node_tree.specs.Labels.{value_of};
 
 use crate::texts::Text;
 use std::alloc::{AllocError, Global};
 use std::marker::Model;
+use std::mem;
 
 /// A list of attributes, each a name and a value, which contracts see as the list of the pairs of their bytes.
 #[derive(Drop, Debug)]
@@ -88,6 +90,35 @@ impl Attributes {
     }
 
     /// A copy of the attributes.
+    /// Puts an attribute before the one at place `i`, or last.
+    pub fn insert(&mut self, i: usize, name: Text, value: Text) -> Result<(), AllocError>
+        requires { i ≤ length self.old }
+        ensures ok { OnOk result (self.new ≡ insert self.old i (name, value)) }
+        ensures err { OnErr result (self.new ≡ self.old) }
+    {
+        self.pairs.insert(i, (name, value))?;
+        Ok(())
+    }
+
+    /// Takes the attribute at place `i` out.
+    pub fn remove(&mut self, i: usize) -> (Text, Text)
+        requires { i < length self.old }
+        ensures pair { slice_get self.old i ≡ Some result }
+        ensures rest { self.new ≡ remove self.old i }
+    {
+        self.pairs.remove(i)
+    }
+
+    /// Gives the attribute at place `i` another value, and gives the old one.
+    pub fn set_value(&mut self, i: usize, value: Text) -> Text
+        requires { i < length self.old }
+        ensures { (name : List ℕ) → (was : List ℕ) → slice_get self.old i ≡ Some (name, was)
+            → (self.new ≡ slice_set self.old i (name, value)) × (result ≡ was) }
+    {
+        let pair = &mut self.pairs[i];
+        mem::replace(&mut pair.1, value)
+    }
+
     pub fn try_clone(&self, alloc: Global) -> Result<Attributes, AllocError>
         ensures { IfOk result (λ copy. copy ≡ self.now) }
     {

@@ -2,6 +2,8 @@ pub mod NumberLemmas
 pub mod EntryLemmas
 pub mod LoadLemmas
 pub mod FormedLemmas
+pub mod ArenaSteps
+pub mod PlaceLemmas
 pub mod ZipperLemmas
 pub mod SiblingLemmas
 pub mod CursorLemmas
@@ -15,3 +17,6 @@ pub mod MoveLemmas
 pub mod AncestorLemmas
 pub mod EditRows
 pub mod RelationLemmas
+pub mod TurnLemmas
+pub mod ArenaEdits
+pub mod SearchedLemmas

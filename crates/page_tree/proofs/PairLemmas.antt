@@ -14,10 +14,10 @@ use Rattle.page_tree.proofs.FormedLemmas.{both, left, right}
 -- ---- names in order
 
 -- the order of two names, and whether they are the same
-same_name : (n m : List ℕ) (o : Ordering) → slice_cmp nat_cmp n m ≡ o → bytes_eq m n ≡ is_eq (ordering_reverse o)
+pub same_name : (n m : List ℕ) (o : Ordering) → slice_cmp nat_cmp n m ≡ o → bytes_eq m n ≡ is_eq (ordering_reverse o)
 same_name n m o is = sym (is_eq-slice_cmp m n) ∙ ap is_eq (nat_list_cmp_total.antisymm m n ∙ ap ordering_reverse is)
 
-lt_less : (o : Ordering) → is_lt o ≡ true → o ≡ Less
+pub lt_less : (o : Ordering) → is_lt o ≡ true → o ≡ Less
 lt_less Less e = refl
 lt_less Equal e = absurd (cc)
 lt_less Greater e = absurd (cc)
@@ -38,7 +38,7 @@ below_trans a b [] e f = refl
 below_trans a b (p ∷ ps) e f = before_trans a b p.0 e f
 
 -- a name before all others is not there
-value-below : (n : List ℕ) (ps : List Pair) → is_below n ps ≡ true → is_ascending ps ≡ true → value_of n ps ≡ None
+pub value-below : (n : List ℕ) (ps : List Pair) → is_below n ps ≡ true → is_ascending ps ≡ true → value_of n ps ≡ None
 value-below n [] e h = refl
 value-below n (p ∷ ps) e h =
     rw (same_name n p.0 Less (lt_less _ e)) (value-below n ps (below_trans n p.0 ps e (left _ _ h)) (right (is_below p.0 ps) (is_ascending ps) h))

@@ -6,7 +6,9 @@ pub mod Siblings
 pub mod Loads
 pub mod Entries
 pub mod Rooms
+pub mod Arenas
 pub mod Edits
 pub mod EditFaults
 pub mod EditLaws
 pub mod Ancestors
+pub mod Searches

@@ -1,6 +1,10 @@
 //! The page: a tree of nodes, each with a serial for the whole run, read from a load and asked by serial.
 #![tactic(auto)]
 
+mod arena_edits;
+mod arena_pages;
+mod arenas;
+mod attribute_edits;
 mod attributes;
 mod cursors;
 mod edit_faults;
@@ -8,6 +12,7 @@ mod edit_laws;
 mod edits;
 mod faults;
 mod forms;
+mod grafts;
 mod labels;
 mod limits;
 mod loads;
@@ -16,6 +21,7 @@ mod numbering;
 mod pages;
 mod relations;
 mod search;
+mod slots;
 mod trees;
 
 pub use cursors::{Children, Node};
