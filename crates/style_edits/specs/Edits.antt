@@ -1,6 +1,6 @@
 -- What a client's edits of sheets come to: a splice of a sheet's text, or the first fault in the order of their numbers. Only
 -- the sheets' ids, origins and texts count, and what the texts say.
-use Rattle.std.specs.Prelude.{ℕ, ◌^◌, nat_le, nat_lt, Bool, ◌&&◌, ◌||◌, ◌==◌, List, [], ◌∷◌, map, length, Option, Some, None, is_some, Result, Ok, Err, if◌then◌else◌}
+use Rattle.std.specs.Prelude.{◌≡◌, ℕ, ◌^◌, nat_le, nat_lt, Bool, ◌&&◌, ◌||◌, ◌==◌, List, [], ◌∷◌, All, map, reverse, length, Option, Some, None, is_some, Result, Ok, Err, if◌then◌else◌}
 use Rattle.std.specs.List.{find}
 use Rattle.std.specs.Str.{IsUtf8}
 use Rattle.css_tokens.specs.declared.token.Range.{Range}
@@ -16,7 +16,7 @@ use Rattle.sheet_reader.specs.Positions.{position_of}
 use Rattle.sheet_reader.specs.Sheets.{sheet_of}
 use Rattle.sheet_reader.specs.Sealing.{is_sealed}
 use Rattle.sheet_reader.specs.Lone.{lone_rule}
-use Rattle.sheet_reader.specs.Books.{entry_of}
+use Rattle.sheet_reader.specs.Books.{IsStored, entry_of}
 use Rattle.style_edits.specs.declared.edits.StyleEdit.{StyleEdit}
 use Rattle.style_edits.specs.declared.faults.SheetErr.{SheetErr}
 use Rattle.style_edits.specs.declared.faults.SheetErr.TheVariants.{Fault, Memory}
@@ -24,7 +24,7 @@ use Rattle.style_edits.specs.declared.faults.SheetFault.{SheetFault}
 use Rattle.style_edits.specs.declared.faults.SheetFault.TheVariants.{NoSheet, NotMutable, BadRange, BadText, BadSelector, BadPlace, TooBig}
 use Rattle.style_edits.specs.declared.lines.LineRange.{LineRange}
 use Rattle.style_edits.specs.declared.splice.Splice.{Splice}
-use Rattle.style_edits.specs.Splices.{spliced, after_splice, back_splice}
+use Rattle.style_edits.specs.Splices.{spliced, after_splice, back_splice, after_splices, TakesSplice}
 
 -- ---- ranges of lines and columns
 
@@ -34,7 +34,8 @@ is_position line column p = p.line == line && p.column == column
 -- the bytes from start to end have these lines and columns
 abbrev pub is_at : List ℕ → LineRange → Range → Bool
 is_at text lines r =
-    is_position lines.start_line lines.start_column (position_of text r.start) && is_position lines.end_line lines.end_column (position_of text r.end)
+    is_position lines.start_line lines.start_column (position_of text r.start)
+    && is_position lines.end_line lines.end_column (position_of text r.end)
 
 -- the body of a style rule with these lines and columns
 abbrev pub body_at : List ℕ → LineRange → Option Range
@@ -59,7 +60,8 @@ splice_at e part text = record { sheet = e.id; start = part.start; end = part.en
 
 -- a text in the place of a part of a sheet, unless that makes the sheet's text too long
 abbrev pub placed_text : SheetEntry → Range → List ℕ → Found
-placed_text e part text = if nat_le (length (spliced e.text part.start part.end text)) (2 ^ 24) then Ok (splice_at e part text) else Err TooBig
+placed_text e part text =
+    if nat_le (length (spliced e.text part.start part.end text)) (2 ^ 24) then Ok (splice_at e part text) else Err TooBig
 
 abbrev pub style_by : StyleEdit → SheetEntry → Option Range → Found
 style_by x e None = Err BadRange
@@ -71,7 +73,8 @@ style_in x e = style_by x e (body_at e.text x.range)
 
 abbrev pub selector_by : List ℕ → SheetEntry → Option Range → Found
 selector_by text e None = Err BadRange
-selector_by text e (Some part) = if is_sealed text then (if is_some (selectors_of text) then placed_text e part text else Err BadSelector) else Err BadText
+selector_by text e (Some part) =
+    if is_sealed text then (if is_some (selectors_of text) then placed_text e part text else Err BadSelector) else Err BadText
 
 -- the prelude of a style rule becomes a text that is sealed and a selector list
 abbrev pub selector_in : LineRange → List ℕ → SheetEntry → Found
@@ -152,6 +155,16 @@ styles_edited (x ∷ xs) book = go_on (edited book (style_splice x book)) (λ ne
 -- the edit's text is a text
 abbrev pub HasText : StyleEdit → Type 0
 HasText x = IsUtf8 x.text
+
+-- what is found in a book can be made in it
+abbrev pub FindsSplices : (List SheetEntry → Found) → Type 0
+FindsSplices find_in = (book : List SheetEntry) (s : Splice) → All IsStored book → find_in book ≡ Ok s → TakesSplice s book
+
+-- the splices that the edits answer lead back to the book, the last one first
+abbrev pub LeadBack : List StyleEdit → Type 0
+LeadBack xs =
+    (book new : List SheetEntry) (backs : List Splice) → All IsStored book → styles_edited xs book ≡ Ok (new, backs)
+    → after_splices (reverse backs) new ≡ book
 
 -- ---- sheets that come
 
