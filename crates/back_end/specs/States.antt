@@ -1,5 +1,5 @@
 -- The state of a back end: the page's side, and what its client has of it; and the step on each frame that comes up.
-use Rattle.std.specs.Prelude.{◌≤◌, ◌^◌, ℕ, List, Bool, true, false, not, ◌&&◌, cond, Result, Ok, Err}
+use Rattle.std.specs.Prelude.{◌≤◌, ◌^◌, ℕ, List, Bool, true, false, not, ◌&&◌, cond, Option, Some, None, Result, Ok, Err}
 use Rattle.node_tree.specs.Nodes.{Nodes, alone}
 use Rattle.node_tree.specs.Seen.{Seen}
 use Rattle.node_tree.specs.Labels.{Label}
@@ -7,8 +7,10 @@ use Rattle.page_tree.specs.Pages.{Row, State as PageValue, IsValid, loaded}
 use Rattle.node_binding.specs.Sessions.{Session, IsSession, begun, view}
 use Rattle.pipe_frames.specs.Frames.{framed}
 use Rattle.cdp_messages.specs.declared.command.Command.{Command}
-use Rattle.cdp_messages.specs.declared.command.Command.TheVariants.{GetDocument, RequestChildNodes, PushByPath, PushBySerials}
-use Rattle.cdp_messages.specs.declared.command.Why.TheVariants.{DomOff}
+use Rattle.cdp_messages.specs.declared.dom_ask.DomAsk.{DomAsk}
+use Rattle.cdp_messages.specs.declared.dom_ask.DomAsk.TheVariants.{GetDocument, RequestChildNodes, PushByPath, PushBySerials}
+use Rattle.cdp_messages.specs.DomAsks.{dom_ask_in}
+use Rattle.cdp_messages.specs.declared.command.Why.TheVariants.{NoMethod, DomOff}
 use Rattle.cdp_messages.specs.declared.command.Asked.{Asked}
 use Rattle.cdp_messages.specs.declared.command.Refused.{Refused}
 use Rattle.cdp_messages.specs.Asked.{asked}
@@ -63,8 +65,8 @@ pub record Stepped (S : Type 0) : Type 0 where
   pub state : S
   pub sent : List ℕ
 
--- a command that is refused while DOM is off; `DOM.getDocument` turns it on
-abbrev pub needs_on : Command → Bool
+-- an ask that is refused while DOM is off; `DOM.getDocument` turns it on
+abbrev pub needs_on : DomAsk → Bool
 needs_on (GetDocument depth pierce) = false
 needs_on (RequestChildNodes id depth pierce) = true
 needs_on (PushByPath path) = true
@@ -79,10 +81,19 @@ after_outcome state (refused why) = state
 abbrev pub on_outcome : ℕ → Outcome Session → State → Stepped State
 on_outcome id outcome state = record { state = after_outcome state outcome; sent = answer id outcome }
 
--- what a command comes to: a refusal while DOM is off, or what the agent makes of it
+-- What an ask comes to: a refusal while DOM is off, or what the agent makes of it. A command that the agent does not serve has
+-- a method that is not known so far.
+abbrev pub outcome_of : Option DomAsk → State → Outcome Session
+outcome_of None state = refused NoMethod
+outcome_of (Some ask) state = cond (needs_on ask && not state.client.dom_on) (refused DomOff) (session_outcome state.side.page ask state.client.session)
+
+-- the step on what the agent is asked
+abbrev pub on_ask : ℕ → Option DomAsk → State → Stepped State
+on_ask id ask state = on_outcome id (outcome_of ask state) state
+
+-- the step on a command
 abbrev pub on_command : ℕ → Command → State → Stepped State
-on_command id command state =
-    on_outcome id (cond (needs_on command && not state.client.dom_on) (refused DomOff) (session_outcome state.side.page command state.client.session)) state
+on_command id command state = on_ask id (dom_ask_in command) state
 
 -- a refused frame changes nothing, and gets one error reply
 abbrev pub on_asked : Result Asked Refused → State → Stepped State

@@ -1,11 +1,13 @@
-ghost use Rattle.std.specs.Prelude.{◌≡◌, ◌<◌, ◌^◌, ◌++◌, ◌↔◌, ◌&&◌, not, false, true, IsTrue, OnOk};
+ghost use Rattle.std.specs.Prelude.{◌≡◌, ◌<◌, ◌^◌, ◌++◌, ◌↔◌, ◌&&◌, not, false, true, Some, IfSome, IsTrue, OnOk};
+ghost use Rattle.node_binding.specs.Sessions.{Session};
+ghost use Rattle.dom_agent.specs.Requests.{refused, answer};
 ghost use Rattle.node_binding.specs.Bindings.{empty_from};
-ghost use Rattle.cdp_messages.specs.Asked.{fits_command};
-ghost use Rattle.back_end.specs.States.{State, needs_on, on_command, step};
+ghost use Rattle.cdp_messages.specs.DomAsks.{fits_ask};
+ghost use Rattle.back_end.specs.States.{State, needs_on, on_ask, step};
 ghost use Rattle.back_end.specs.Seats.{StandsFor};
 
 use crate::side::PageSide;
-use cdp_messages::{Asked, Command, ReadErr, Refused, Why, read_command, write_refused};
+use cdp_messages::{DomAsk, ReadErr, Refused, Why, read_command, write_refused};
 use dom_agent::DomAgent;
 use std::alloc::{AllocError, Global};
 
@@ -17,15 +19,15 @@ pub struct Seat {
     agent: DomAgent,
 }
 
-/// Whether a command is refused while DOM is off.
-fn needs_on(command: &Command) -> bool
-    ensures { result ≡ needs_on command.now }
+/// Whether an ask is refused while DOM is off.
+fn needs_on(ask: &DomAsk) -> bool
+    ensures { result ≡ needs_on ask.now }
 {
-    match command {
-        Command::GetDocument { .. } => false,
-        Command::RequestChildNodes { .. }
-        | Command::PushByPath { .. }
-        | Command::PushBySerials { .. } => true,
+    match ask {
+        DomAsk::GetDocument { .. } => false,
+        DomAsk::RequestChildNodes { .. }
+        | DomAsk::PushByPath { .. }
+        | DomAsk::PushBySerials { .. } => true,
     }
 }
 
@@ -66,41 +68,67 @@ impl Seat {
             → OnOk result (out.new.items ≡ out.old.items ++ (step state frame.now).sent) }
     {
         match read_command(self.alloc, frame, false) {
-            Ok(asked) => self.carry_out(side, &asked, out),
+            Ok(asked) => self.answer(side, asked.id, DomAsk::of_command(asked.command), out),
             Err(ReadErr::Refused(refused)) => write_refused(self.alloc, &refused, out),
             Err(ReadErr::Memory) => Err(AllocError),
         }
     }
 
-    /// Whether the command is refused since DOM is off.
-    fn is_refused(&self, command: &Command) -> bool
-        ensures { result ≡ (needs_on command.now && not self.now.is_on) }
+    /// Answers what the agent is asked; a command that it does not serve has an unknown method.
+    fn answer(
+        &mut self,
+        side: &mut PageSide,
+        id: u64,
+        ask: Option<DomAsk>,
+        out: &mut Vec<u8>,
+    ) -> Result<(), AllocError>
+        requires ask { IfSome ask (λ a. fits_ask a ≡ true) }
+        requires room { self.old.agent.next < 2 ^ 52 }
+        ensures page { side.new.page ≡ side.old.page }
+        ensures stands { (state : State) → StandsFor self.old side.old state
+            → OnOk result (StandsFor self.new side.new (on_ask id ask state).state) }
+        ensures sent { (state : State) → StandsFor self.old side.old state
+            → OnOk result (out.new.items ≡ out.old.items ++ (on_ask id ask state).sent) }
     {
-        needs_on(command) && !self.is_on
+        match ask {
+            Some(ask) => self.carry_out(side, id, &ask, out),
+            None => self.refuse(id, Why::NoMethod, out),
+        }
+    }
+
+    fn refuse(&self, id: u64, why: Why, out: &mut Vec<u8>) -> Result<(), AllocError>
+        ensures { OnOk result (out.new.items ≡ out.old.items ++ answer {S = Session} id (refused why)) }
+    {
+        let refused = Refused { id: Some(id), why };
+        write_refused(self.alloc, &refused, out)
+    }
+
+    /// Whether the ask is refused since DOM is off.
+    fn is_refused(&self, ask: &DomAsk) -> bool
+        ensures { result ≡ (needs_on ask.now && not self.now.is_on) }
+    {
+        needs_on(ask) && !self.is_on
     }
 
     fn carry_out(
         &mut self,
         side: &mut PageSide,
-        asked: &Asked,
+        id: u64,
+        ask: &DomAsk,
         out: &mut Vec<u8>,
     ) -> Result<(), AllocError>
-        requires command { fits_command asked.now.command ≡ true }
+        requires ask { fits_ask ask.now ≡ true }
         requires room { self.old.agent.next < 2 ^ 52 }
         ensures page { side.new.page ≡ side.old.page }
         ensures stands { (state : State) → StandsFor self.old side.old state
-            → OnOk result (StandsFor self.new side.new (on_command asked.now.id asked.now.command state).state) }
+            → OnOk result (StandsFor self.new side.new (on_ask id (Some ask.now) state).state) }
         ensures sent { (state : State) → StandsFor self.old side.old state
-            → OnOk result (out.new.items ≡ out.old.items ++ (on_command asked.now.id asked.now.command state).sent) }
+            → OnOk result (out.new.items ≡ out.old.items ++ (on_ask id (Some ask.now) state).sent) }
     {
-        if self.is_refused(&asked.command) {
-            let refused = Refused {
-                id: Some(asked.id),
-                why: Why::DomOff,
-            };
-            return write_refused(self.alloc, &refused, out);
+        if self.is_refused(ask) {
+            return self.refuse(id, Why::DomOff, out);
         }
-        self.agent.ask(side.page(), asked, out)?;
+        self.agent.ask(side.page(), id, ask, out)?;
         self.is_on = true;
         Ok(())
     }

@@ -9,6 +9,7 @@ use Rattle.serde_json.specs.View.{items_of}
 use Rattle.cdp_json.specs.Plain.{is_plain, items_are_plain}
 use Rattle.cdp_json.specs.Kinds.{Kind, passes, if_holds, is_counted, as_whole, is_signed, as_signed, as_true, whole, signed, text, flag, only_true, anything, any_items, any_object, refined, through, named, choice, only_text, and_first, read_items, list_of}
 use Rattle.cdp_json.specs.Lawful.{LawfulKind}
+use Rattle.cdp_json.specs.Faithful.{FaithfulKind}
 use Rattle.cdp_json.proofs.Options.{both, both_parts, if_some, and_then_some, map_some}
 
 -- ---- the kinds that stand alone
@@ -160,7 +161,7 @@ named_at : {T : Type 0} (name : T → List ℕ) (y : T) (xs : List T) (s : List 
 named_at name y xs s x true is later e = let same : y ≡ x = cc in ap name (sym same) ∙ (bytes_eq-Decides (name y) s).0 is
 named_at name y xs s x false is later e = later e
 
-named_is : {T : Type 0} (name : T → List ℕ) (xs : List T) (s : List ℕ) (x : T) → named name xs s ≡ Some x → name x ≡ s
+pub named_is : {T : Type 0} (name : T → List ℕ) (xs : List T) (s : List ℕ) (x : T) → named name xs s ≡ Some x → name x ≡ s
 named_is name [] s x e = absurd cc
 named_is name (y ∷ xs) s x e = named_at name y xs s x _ refl (named_is name xs s x) e
 
@@ -201,22 +202,22 @@ items_take {T} {k} law (item d ds) xs e =
     let rest = items_take law ds q.0 q.1 in
     subst (λ (ys : List T). (items_of (map k.spell ys) ≡ item d ds) × (list_all k.fits ys ≡ true)) q.2 (ap₂ item first.0 rest.0, both first.1 rest.1)
 
-items_again : {T : Type 0} {k : Kind T} → LawfulKind k → (xs : List T) → list_all k.fits xs ≡ true → read_items k.reads (items_of (map k.spell xs)) ≡ Some xs
-items_again law [] f = refl
-items_again {T} {k} law (x ∷ xs) f =
+items_again : {T : Type 0} (k : Kind T) → ((x : T) → k.fits x ≡ true → k.reads (k.spell x) ≡ Some x) → (xs : List T) → list_all k.fits xs ≡ true → read_items k.reads (items_of (map k.spell xs)) ≡ Some xs
+items_again k again [] f = refl
+items_again k again (x ∷ xs) f =
     let p = both_parts (k.fits x) (list_all k.fits xs) f in
-    rw (law.again x p.0, items_again law xs p.1)
+    rw (again x p.0, items_again k again xs p.1)
 
-items_plain : {T : Type 0} {k : Kind T} → LawfulKind k → (loose : Option (T → Bool)) → k.loose ≡ loose → (xs : List T) → list_all k.fits xs ≡ true → passes (option_map list_all loose) xs ≡ true
-    → items_are_plain (items_of (map k.spell xs)) ≡ true
-items_plain law loose is [] f l = refl
-items_plain {T} {k} law None is (x ∷ xs) f l =
+items_plain : {T : Type 0} (k : Kind T) → ((x : T) → k.fits x ≡ true → passes k.loose x ≡ true → is_plain (k.spell x) ≡ true) → (loose : Option (T → Bool)) → k.loose ≡ loose
+    → (xs : List T) → list_all k.fits xs ≡ true → passes (option_map list_all loose) xs ≡ true → items_are_plain (items_of (map k.spell xs)) ≡ true
+items_plain k plain loose is [] f l = refl
+items_plain k plain None is (x ∷ xs) f l =
     let p = both_parts (k.fits x) (list_all k.fits xs) f in
-    both (law.plain x p.0 (ap (λ o. passes o x) is)) (items_plain law None is xs p.1 refl)
-items_plain {T} {k} law (Some test) is (x ∷ xs) f l =
+    both (plain x p.0 (ap (λ o. passes o x) is)) (items_plain k plain None is xs p.1 refl)
+items_plain k plain (Some test) is (x ∷ xs) f l =
     let p = both_parts (k.fits x) (list_all k.fits xs) f in
     let q = both_parts (test x) (list_all test xs) l in
-    both (law.plain x p.0 (ap (λ o. passes o x) is ∙ q.0)) (items_plain law (Some test) is xs p.1 q.1)
+    both (plain x p.0 (ap (λ o. passes o x) is ∙ q.0)) (items_plain k plain (Some test) is xs p.1 q.1)
 
 pub list_lawful : {T : Type 0} {k : Kind T} → LawfulKind k → LawfulKind (list_of k)
 list_lawful {T} {k} law = record {
@@ -225,6 +226,39 @@ list_lawful {T} {k} law = record {
       let whole = any_items_takes d p.0 p.1 in
       let all = items_take law p.0 xs p.2 in
       (ap array all.0 ∙ whole.0, all.1);
-  again = λ xs f. items_again law xs f;
-  plain = λ xs f l. items_plain law k.loose refl xs f l;
+  again = λ xs f. items_again k law.again xs f;
+  plain = λ xs f l. items_plain k law.plain k.loose refl xs f l;
+}
+
+-- ---- kinds that read more than they spell
+
+pub faithful : {T : Type 0} {k : Kind T} → LawfulKind k → FaithfulKind k
+faithful law = record { fit = λ d x e. (law.takes d x e).1; again = law.again; plain = law.plain }
+
+items_fit : {T : Type 0} (k : Kind T) → ((d : Data) (x : T) → k.reads d ≡ Some x → k.fits x ≡ true) → (ds : Items) (xs : List T) → read_items k.reads ds ≡ Some xs → list_all k.fits xs ≡ true
+items_fit {T} k fit no_items xs e = let same : [] ≡ xs = cc in subst (λ (ys : List T). list_all k.fits ys ≡ true) same refl
+items_fit {T} k fit (item d ds) xs e =
+    let p = and_then_some (λ x. and_first x (read_items k.reads ds)) (k.reads d) xs e in
+    let q = map_some (λ ys. p.0 ∷ ys) (read_items k.reads ds) xs p.2 in
+    subst (λ (ys : List T). list_all k.fits ys ≡ true) q.2 (both (fit d p.0 p.1) (items_fit k fit ds q.0 q.1))
+
+pub list_faithful : {T : Type 0} {k : Kind T} → FaithfulKind k → FaithfulKind (list_of k)
+list_faithful {T} {k} law = record {
+  fit = λ d xs e.
+      let p = and_then_some (read_items k.reads) (any_items.reads d) xs e in
+      items_fit k law.fit p.0 xs p.2;
+  again = λ xs f. items_again k law.again xs f;
+  plain = λ xs f l. items_plain k law.plain k.loose refl xs f l;
+}
+
+pub through_faithful : {S T : Type 0} {k : Kind S} (to : T → S) (from : S → Option T)
+    → ((s : S) (x : T) → from s ≡ Some x → to x ≡ s) → ((x : T) → from (to x) ≡ Some x)
+    → FaithfulKind k → FaithfulKind (through k to from)
+through_faithful {S} {T} {k} to from only back law = record {
+  fit = λ d x e.
+      let p = and_then_some from (k.reads d) x e in
+      let same : to x ≡ p.0 = only p.0 x p.2 in
+      ap k.fits same ∙ law.fit d p.0 p.1;
+  again = λ x f. ap (option_and_then from) (law.again (to x) f) ∙ back x;
+  plain = λ x f l. law.plain (to x) f (sym (passes-through k.loose to x) ∙ l);
 }

@@ -7,3 +7,4 @@ pub mod SpelledLaws
 pub mod TokenTexts
 pub mod ReadTexts
 pub mod ReadPlain
+pub mod LookupLaws

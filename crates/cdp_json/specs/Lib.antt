@@ -7,3 +7,5 @@ pub mod Fields
 pub mod Writes
 pub mod Gives
 pub mod Lists
+pub mod Lookups
+pub mod Faithful

@@ -12,6 +12,8 @@ use Rattle.cdp_messages.specs.Told.{Told}
 use Rattle.cdp_messages.specs.NodeObject.{flat, attribute_list, node_type, node_name, local_name, only_if, node_data}
 use Rattle.cdp_messages.specs.NodeData.{tree_items, tree_data}
 use Rattle.cdp_messages.specs.declared.down.ReplyBody.TheVariants.{Nothing, Root, NodeId, NodeIds}
+use Rattle.cdp_messages.specs.Events.{attribute_modified, attribute_removed, text_modified, count_updated, inserted, removed, set_children, document_updated, paused}
+use Rattle.cdp_messages.specs.declared.down.PauseData.TheVariants as pause
 use Rattle.cdp_messages.specs.Laws.{RepliesAreShallow, EventsAreShallow}
 
 -- a value, if any, nests no deeper
@@ -97,6 +99,18 @@ replies_are_shallow id (NodeIds ns) h = shallow (items_depth (items_of (map whol
   shallow d p = omega arith
 
 pub events_are_shallow : EventsAreShallow
-events_are_shallow parent nodes h = shallow (items_depth (tree_items nodes)) (height nodes) (trees_depth nodes) h where
+events_are_shallow (attribute_modified id m value) h = omega arith
+events_are_shallow (attribute_removed id m) h = omega arith
+events_are_shallow (text_modified id value) h = omega arith
+events_are_shallow (count_updated id count) h = omega arith
+events_are_shallow (inserted parent previous b) h = shallow (depth (tree_data b)) (height (alone b)) (tree_depth b) h where
+  shallow : (d g : ℕ) → d ≤ 2 * g → g ≤ 60 → suc (max 0 (max (suc (max d (max 0 (max 0 0)))) 0)) ≤ 127
+  shallow d g p q = omega arith
+events_are_shallow (removed parent id) h = omega arith
+events_are_shallow (set_children parent nodes) h = shallow (items_depth (tree_items nodes)) (height nodes) (trees_depth nodes) h where
   shallow : (d g : ℕ) → d ≤ 2 * g → g ≤ 60 → suc (max 0 (max (suc (max (suc d) (max 0 0))) 0)) ≤ 127
   shallow d g p q = omega arith
+events_are_shallow document_updated h = omega arith
+events_are_shallow (paused (pause.Subtree id target insertion)) h = omega arith
+events_are_shallow (paused (pause.Attribute id)) h = omega arith
+events_are_shallow (paused (pause.Removed id)) h = omega arith

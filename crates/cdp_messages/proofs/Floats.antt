@@ -15,7 +15,8 @@ use Rattle.cdp_messages.specs.NodeData.{tree_items, tree_data}
 use Rattle.cdp_messages.specs.Asked.{command_value, is_whole_where_there}
 use Rattle.cdp_messages.specs.declared.down.ReplyBody.{ReplyBody}
 use Rattle.cdp_messages.specs.declared.down.ReplyBody.TheVariants.{Nothing, Root, NodeId, NodeIds}
-use Rattle.cdp_messages.specs.Events.{News, set_children, document_updated, news_data}
+use Rattle.cdp_messages.specs.Events.{News, attribute_modified, attribute_removed, text_modified, count_updated, inserted, removed, set_children, document_updated, paused, news_data}
+use Rattle.cdp_messages.specs.declared.down.PauseData.TheVariants as pause
 use Rattle.cdp_messages.specs.Replies.{reply, message_data, body_data}
 
 either : {a b : Bool} → a ≡ false → b ≡ false → (a || b) ≡ false
@@ -90,5 +91,14 @@ has_float-reply id (NodeId n) = refl
 has_float-reply id (NodeIds ns) = either (either (numbers_free ns) refl) refl
 
 pub has_float-news : (n : News) → has_float (news_data n) ≡ false
+has_float-news (attribute_modified id m value) = refl
+has_float-news (attribute_removed id m) = refl
+has_float-news (text_modified id value) = refl
+has_float-news (count_updated id count) = refl
+has_float-news (inserted parent previous b) = either (either (tree_free b) refl) refl
+has_float-news (removed parent id) = refl
 has_float-news (set_children parent nodes) = either (either (trees_free nodes) refl) refl
 has_float-news document_updated = refl
+has_float-news (paused (pause.Subtree id target insertion)) = refl
+has_float-news (paused (pause.Attribute id)) = refl
+has_float-news (paused (pause.Removed id)) = refl

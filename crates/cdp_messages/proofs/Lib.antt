@@ -1,11 +1,14 @@
 mod AttributeLists
 pub mod Commands
 pub mod Depths
-mod EventsRead
+pub mod DomAskLaws
 mod Floats
-mod Json
+mod FrameBytes
+mod FieldsRead
 pub mod Messages
 mod Options
+mod NeedsRead
+pub mod NewsLaws
 mod Rules
 pub mod TellableLaws
 pub mod TextsUtf8

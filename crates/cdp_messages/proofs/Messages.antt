@@ -15,9 +15,9 @@ use Rattle.cdp_json.proofs.KindLaws.{whole_lawful, signed_lawful, text_lawful, a
 use Rattle.cdp_json.proofs.RowLaws.{ends_lawful, and_need_lawful, and_may_lawful, object_lawful}
 use Rattle.cdp_json.proofs.ReadBack.{read-compact_text, IsUtf8-compact_text}
 use Rattle.cdp_messages.specs.declared.command.Param.{Param}
-use Rattle.cdp_messages.specs.declared.command.Param.TheVariants.{BackendNodeIds, Depth, NodeId as NodeIdName, Path, Pierce}
+use Rattle.cdp_messages.specs.declared.command.Param.TheVariants as param
 use Rattle.cdp_messages.specs.declared.command.Why.{Why}
-use Rattle.cdp_messages.specs.declared.command.Why.TheVariants.{NotJson, NoId, BadRequest, NoSession, NoMethod, BadParam, DomOff, UnknownNode, NotPushed, NoPath}
+use Rattle.cdp_messages.specs.declared.command.Why.TheVariants.{NotJson, NoId, BadRequest, NoSession, NoMethod, BadParam, DomOff, CssOff, UnknownNode, NotPushed, NoPath, BadQuery, Crossed, NoNode, NotElement, NotText, IsDocument, NotChild, Inside, TooDeep, TooMany, BadName, NoAttr, NotContainer, NoSheet, NotMutable, BadRange, BadText, BadSelector, BadPlace, TooBig}
 use Rattle.cdp_messages.specs.declared.command.Refused.{Refused}
 use Rattle.cdp_messages.specs.declared.down.ReplyBody.{ReplyBody}
 use Rattle.cdp_messages.specs.declared.down.ReplyBody.TheVariants.{Nothing, Root, NodeId, NodeIds}
@@ -26,12 +26,13 @@ use Rattle.node_tree.specs.Nodes.{Branch}
 use Rattle.cdp_messages.specs.Told.{Told}
 use Rattle.cdp_messages.specs.NodeData.{fits_tree}
 use Rattle.cdp_messages.specs.Asked.{json_of, request}
-use Rattle.cdp_messages.specs.Events.{is_object, News, set_children, document_updated, set_children_kind, document_updated_kind, children_from, updated_from, first_news, news_data, fits_news, news_in}
+use Rattle.cdp_messages.specs.Events.{is_object, News, news_data, fits_news, news_in}
 use Rattle.cdp_messages.specs.Replies.{Message, reply, fault, event, reply_kind, error_kind, fault_kind, reply_from, fault_from, or_else, message_data, fits_message, message_in, root_kind, root_from, id_kind, ids_kind, nothing_from, id_from, ids_from, body_data, fits_body, result_of, refusal_message}
 use Rattle.cdp_messages.specs.Laws.{RepliesAreRead, EventsAreRead, RefusalsAreRead, answers, ResultsAreRead, MessagesAreSpelled, Spells, ResultsAreSpelled, OneMessage, OneResult}
 use Rattle.cdp_messages.proofs.Options.{both, both_parts, map_some}
-use Rattle.cdp_messages.proofs.Json.{json_is}
-use Rattle.cdp_messages.proofs.NodeTrees.{nodes_lawful, document_lawful, tree_plain}
+use Rattle.cdp_messages.proofs.FrameBytes.{json_is}
+use Rattle.cdp_messages.proofs.NodeTrees.{document_lawful, tree_plain}
+use Rattle.cdp_messages.proofs.NewsLaws.{news_again, news_take, news_plain}
 
 -- ---- the descriptions are lawful
 
@@ -56,34 +57,6 @@ id_lawful = object_lawful (and_need_lawful _ whole_lawful ends_lawful refl)
 pub ids_lawful : LawfulKind ids_kind
 ids_lawful = object_lawful (and_need_lawful _ (list_lawful whole_lawful) ends_lawful refl)
 
-pub set_children_lawful : LawfulKind set_children_kind
-set_children_lawful = object_lawful (and_need_lawful _ (only_text_lawful (codes "DOM.setChildNodes")) (and_need_lawful _
-    (object_lawful (and_need_lawful _ nodes_lawful (and_need_lawful _ (refined_lawful (nat_lt 0) whole_lawful) ends_lawful refl) refl)) ends_lawful refl) refl)
-
-pub document_updated_lawful : LawfulKind document_updated_kind
-document_updated_lawful = object_lawful (and_need_lawful _ (only_text_lawful (codes "DOM.documentUpdated")) (and_need_lawful _ (object_lawful ends_lawful) ends_lawful refl) refl)
-
--- ---- events
-
-news_again : (n : News) → fits_news n ≡ true → news_in (news_data n) ≡ Some n
-news_again (set_children parent nodes) f =
-    ap (λ o. first_news (option_map children_from o) (option_map updated_from (document_updated_kind.reads (news_data (set_children parent nodes))))) (set_children_lawful.again (tt, ((nodes, (parent, tt)), tt)) f)
-news_again document_updated f = refl
-
-first_news_some : (o p : Option News) (x : News) → first_news o p ≡ Some x → (o ≡ Some x) ⊎ (p ≡ Some x)
-first_news_some None p x e = inr e
-first_news_some (Some y) p x e = inl e
-
-news_take : (d : Data) (n : News) → news_in d ≡ Some n → (news_data n ≡ d) × (fits_news n ≡ true)
-news_take d n e = elim (first_news_some (option_map children_from (set_children_kind.reads d)) (option_map updated_from (document_updated_kind.reads d)) n e) as (λ _. (news_data n ≡ d) × (fits_news n ≡ true)) [
-  | inl r ↦
-      let p = map_some children_from (set_children_kind.reads d) n r in
-      subst (λ (m : News). (news_data m ≡ d) × (fits_news m ≡ true)) p.2 (set_children_lawful.takes d p.0 p.1)
-  | inr r ↦
-      let p = map_some updated_from (document_updated_kind.reads d) n r in
-      subst (λ (m : News). (news_data m ≡ d) × (fits_news m ≡ true)) p.2 ((document_updated_lawful.takes d p.0 p.1).0, refl)
-]
-
 -- ---- values
 
 pub message_again : (m : Message) → fits_message m ≡ true → message_in (message_data m) ≡ Some m
@@ -92,8 +65,7 @@ message_again (reply id result) f =
     ap (λ o. or_else (option_map reply_from o) (or_else (option_map fault_from (fault_kind.reads d)) (option_map event (news_in d)))) (reply_lawful.again (id, (result, tt)) f)
 message_again (fault id code said) f =
     ap (λ o. or_else (option_map fault_from o) (option_map event (news_in (message_data (fault id code said))))) (fault_lawful.again ((code, (said, tt)), (id, tt)) f)
-message_again (event (set_children parent nodes)) f = ap (option_map event) (news_again (set_children parent nodes) f)
-message_again (event document_updated) f = refl
+message_again (event n) f = ap (option_map event) (news_again n f)
 
 or_else_some : {A : Type 0} (o p : Option A) (x : A) → or_else o p ≡ Some x → (o ≡ Some x) ⊎ (p ≡ Some x)
 or_else_some None p x e = inr e
@@ -246,10 +218,6 @@ pub replies_are_read : RepliesAreRead
 replies_are_read id body c f s u =
     ap (option_and_then message_in) (json_of-compact_text (message_data (reply id (body_data body))) (reply_plain id body c f) s u) ∙ message_again (reply id (body_data body)) (reply_fits id body c)
 
-pub news_plain : (n : News) → fits_news n ≡ true → is_plain (news_data n) ≡ true
-news_plain (set_children parent nodes) f = set_children_lawful.plain (tt, ((nodes, (parent, tt)), tt)) f refl
-news_plain document_updated f = refl
-
 pub events_are_read : EventsAreRead
 events_are_read n f s u = ap (option_and_then message_in) (json_of-compact_text (news_data n) (news_plain n f) s u) ∙ message_again (event n) f
 
@@ -263,16 +231,51 @@ code_fits NoSession = refl
 code_fits NoMethod = refl
 code_fits (BadParam p) = refl
 code_fits DomOff = refl
+code_fits CssOff = refl
 code_fits UnknownNode = refl
 code_fits NotPushed = refl
 code_fits NoPath = refl
+code_fits BadQuery = refl
+code_fits Crossed = refl
+code_fits NoNode = refl
+code_fits NotElement = refl
+code_fits NotText = refl
+code_fits IsDocument = refl
+code_fits NotChild = refl
+code_fits Inside = refl
+code_fits TooDeep = refl
+code_fits TooMany = refl
+code_fits BadName = refl
+code_fits NoAttr = refl
+code_fits NotContainer = refl
+code_fits NoSheet = refl
+code_fits NotMutable = refl
+code_fits BadRange = refl
+code_fits BadText = refl
+code_fits BadSelector = refl
+code_fits BadPlace = refl
+code_fits TooBig = refl
 
 param_utf8 : (p : Param) → IsUtf8 (text_of (BadParam p))
-param_utf8 BackendNodeIds = IsUtf8-are_ascii (text_of (BadParam BackendNodeIds)) refl
-param_utf8 Depth = IsUtf8-are_ascii (text_of (BadParam Depth)) refl
-param_utf8 NodeIdName = IsUtf8-are_ascii (text_of (BadParam NodeIdName)) refl
-param_utf8 Path = IsUtf8-are_ascii (text_of (BadParam Path)) refl
-param_utf8 Pierce = IsUtf8-are_ascii (text_of (BadParam Pierce)) refl
+param_utf8 param.BackendNodeId = IsUtf8-are_ascii (text_of (BadParam param.BackendNodeId)) refl
+param_utf8 param.BackendNodeIds = IsUtf8-are_ascii (text_of (BadParam param.BackendNodeIds)) refl
+param_utf8 param.Depth = IsUtf8-are_ascii (text_of (BadParam param.Depth)) refl
+param_utf8 param.Edits = IsUtf8-are_ascii (text_of (BadParam param.Edits)) refl
+param_utf8 param.InsertBeforeNodeId = IsUtf8-are_ascii (text_of (BadParam param.InsertBeforeNodeId)) refl
+param_utf8 param.Location = IsUtf8-are_ascii (text_of (BadParam param.Location)) refl
+param_utf8 param.Name = IsUtf8-are_ascii (text_of (BadParam param.Name)) refl
+param_utf8 param.NodeId = IsUtf8-are_ascii (text_of (BadParam param.NodeId)) refl
+param_utf8 param.Params = IsUtf8-are_ascii (text_of (BadParam param.Params)) refl
+param_utf8 param.Path = IsUtf8-are_ascii (text_of (BadParam param.Path)) refl
+param_utf8 param.Pierce = IsUtf8-are_ascii (text_of (BadParam param.Pierce)) refl
+param_utf8 param.Range = IsUtf8-are_ascii (text_of (BadParam param.Range)) refl
+param_utf8 param.RuleText = IsUtf8-are_ascii (text_of (BadParam param.RuleText)) refl
+param_utf8 param.Selector = IsUtf8-are_ascii (text_of (BadParam param.Selector)) refl
+param_utf8 param.StyleSheetId = IsUtf8-are_ascii (text_of (BadParam param.StyleSheetId)) refl
+param_utf8 param.TargetNodeId = IsUtf8-are_ascii (text_of (BadParam param.TargetNodeId)) refl
+param_utf8 param.Text = IsUtf8-are_ascii (text_of (BadParam param.Text)) refl
+param_utf8 param.Type = IsUtf8-are_ascii (text_of (BadParam param.Type)) refl
+param_utf8 param.Value = IsUtf8-are_ascii (text_of (BadParam param.Value)) refl
 
 why_utf8 : (why : Why) → IsUtf8 (text_of why)
 why_utf8 NotJson = IsUtf8-are_ascii (text_of NotJson) refl
@@ -282,9 +285,30 @@ why_utf8 NoSession = IsUtf8-are_ascii (text_of NoSession) refl
 why_utf8 NoMethod = IsUtf8-are_ascii (text_of NoMethod) refl
 why_utf8 (BadParam p) = param_utf8 p
 why_utf8 DomOff = IsUtf8-are_ascii (text_of DomOff) refl
+why_utf8 CssOff = IsUtf8-are_ascii (text_of CssOff) refl
 why_utf8 UnknownNode = IsUtf8-are_ascii (text_of UnknownNode) refl
 why_utf8 NotPushed = IsUtf8-are_ascii (text_of NotPushed) refl
 why_utf8 NoPath = IsUtf8-are_ascii (text_of NoPath) refl
+why_utf8 BadQuery = IsUtf8-are_ascii (text_of BadQuery) refl
+why_utf8 Crossed = IsUtf8-are_ascii (text_of Crossed) refl
+why_utf8 NoNode = IsUtf8-are_ascii (text_of NoNode) refl
+why_utf8 NotElement = IsUtf8-are_ascii (text_of NotElement) refl
+why_utf8 NotText = IsUtf8-are_ascii (text_of NotText) refl
+why_utf8 IsDocument = IsUtf8-are_ascii (text_of IsDocument) refl
+why_utf8 NotChild = IsUtf8-are_ascii (text_of NotChild) refl
+why_utf8 Inside = IsUtf8-are_ascii (text_of Inside) refl
+why_utf8 TooDeep = IsUtf8-are_ascii (text_of TooDeep) refl
+why_utf8 TooMany = IsUtf8-are_ascii (text_of TooMany) refl
+why_utf8 BadName = IsUtf8-are_ascii (text_of BadName) refl
+why_utf8 NoAttr = IsUtf8-are_ascii (text_of NoAttr) refl
+why_utf8 NotContainer = IsUtf8-are_ascii (text_of NotContainer) refl
+why_utf8 NoSheet = IsUtf8-are_ascii (text_of NoSheet) refl
+why_utf8 NotMutable = IsUtf8-are_ascii (text_of NotMutable) refl
+why_utf8 BadRange = IsUtf8-are_ascii (text_of BadRange) refl
+why_utf8 BadText = IsUtf8-are_ascii (text_of BadText) refl
+why_utf8 BadSelector = IsUtf8-are_ascii (text_of BadSelector) refl
+why_utf8 BadPlace = IsUtf8-are_ascii (text_of BadPlace) refl
+why_utf8 TooBig = IsUtf8-are_ascii (text_of TooBig) refl
 
 refusal_fits : (r : Refused) → holds_of_some is_counted r.id ≡ true → fits_message (refusal_message r) ≡ true
 refusal_fits r c = both (both (code_fits r.why) refl) (both c refl)

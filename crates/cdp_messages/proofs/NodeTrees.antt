@@ -13,7 +13,7 @@ use Rattle.node_tree.specs.Labels.{holds}
 use Rattle.cdp_messages.specs.Told.{Told, hold_of}
 use Rattle.cdp_messages.specs.NodeObject.{NodeObject, Fields, attribute_list, node_type, agrees, node_row, fields_of, node_fields, node_data, object_for, told_in, children_in, only_if, fits_row, fits_place, is_counted_row, tells, node_object}
 use Rattle.cdp_messages.specs.NodeData.{tree_items, tree_data, is_none, fits_below, fits_nodes, fits_tree, over, before, tree_of, children_of, trees_in, trees_of}
-use Rattle.cdp_messages.specs.Events.{nodes_kind}
+use Rattle.cdp_messages.specs.Events.{nodes_kind, tree_kind}
 use Rattle.cdp_messages.specs.Replies.{document_kind}
 use Rattle.cdp_messages.proofs.Options.{both, both_parts}
 use Rattle.cdp_messages.proofs.NodeObjects.{fields_lawful, object_lawful_at, object_for-told_in, told_in-object_for, object_fits}
@@ -262,6 +262,10 @@ nodes_take (object ms) n e = absurd cc
 -- nodes that are no document
 pub nodes_lawful : LawfulKind nodes_kind
 nodes_lawful = record { takes = nodes_take; again = trees_again; plain = λ n f l. trees_plain n f }
+
+-- one of these
+pub tree_lawful : LawfulKind tree_kind
+tree_lawful = record { takes = tree_take false; again = tree_again false; plain = λ b f l. tree_plain false b f }
 
 -- a document with all that is shown of it
 pub document_lawful : LawfulKind document_kind

@@ -84,4 +84,4 @@ shown_trees_fit b s =
 pub shown_children_fit : ShownChildrenFit
 shown_children_fit p n c z s =
     let positive : nat_lt 0 p ≡ true = lt-ltb 0 p z in
-    both (both (fits-told_nodes p n c positive s) (both (both c positive) refl)) refl
+    both (fits-told_nodes p n c positive s) (both (both c positive) refl)

@@ -23,13 +23,18 @@ use Rattle.cdp_messages.specs.declared.down.ReplyBody.TheVariants.{Nothing, Root
 use Rattle.cdp_messages.specs.Told.{Told}
 use Rattle.cdp_messages.specs.NodeObject.{flat, attribute_list, node_type, name_shown, local_name_of, node_name, local_name, only_if, node_data, is_counted_row, fits_place, fits_row}
 use Rattle.cdp_messages.specs.NodeData.{tree_items, tree_data, fits_nodes, fits_tree}
-use Rattle.cdp_messages.specs.Events.{News, set_children, document_updated, news_data, fits_news}
+use Rattle.cdp_messages.specs.Events.{News, attribute_modified, attribute_removed, text_modified, count_updated, inserted, removed, set_children, document_updated, paused, event_name, is_unopened, pause_kind, news_form, news_data, fits_news}
+use Rattle.cdp_messages.specs.declared.down.PauseData.{PauseData}
+use Rattle.cdp_messages.specs.declared.down.PauseData.TheVariants as pause
+use Rattle.cdp_messages.specs.declared.event_names.EventName.{EventName}
+use Rattle.cdp_messages.specs.declared.event_names.EventName.TheVariants as name
 use Rattle.cdp_messages.specs.Replies.{reply, message_data, body_data, fits_body}
 use Rattle.cdp_messages.specs.Laws.{PairsHaveUtf8, LabelHasUtf8, NodesHaveUtf8, BodyHasUtf8, NewsHaveUtf8, RepliesAreUtf8, EventsAreUtf8}
 use Rattle.cdp_messages.proofs.Options.{both, both_parts}
 use Rattle.cdp_messages.proofs.NodeObjects.{placed}
 use Rattle.cdp_messages.proofs.NodeTrees.{fitting_parts, tree_parts}
-use Rattle.cdp_messages.proofs.Messages.{reply_plain, news_plain}
+use Rattle.cdp_messages.proofs.Messages.{reply_plain}
+use Rattle.cdp_messages.proofs.NewsLaws.{news_plain}
 
 -- ---- names of elements are ASCII, and so are they in upper case
 
@@ -167,10 +172,10 @@ trees_utf8 (node r c t) f u =
     let p = fitting_parts r c t f in
     (node_utf8 r (tree_items c) (named_row false (width c) r p.row) u.0 (trees_utf8 c p.children u.1), trees_utf8 t p.later u.2)
 
-tree_utf8 : (b : Branch Told) → fits_tree true b ≡ true → NodesHaveUtf8 (alone b) → HasUtf8 (tree_data b)
-tree_utf8 b f u =
-    let p = tree_parts true b f in
-    node_utf8 b.row (tree_items b.children) (named_row true (width b.children) b.row p.row) u.0 (trees_utf8 b.children p.children u.1)
+tree_utf8 : (top : Bool) (b : Branch Told) → fits_tree top b ≡ true → NodesHaveUtf8 (alone b) → HasUtf8 (tree_data b)
+tree_utf8 top b f u =
+    let p = tree_parts top b f in
+    node_utf8 b.row (tree_items b.children) (named_row top (width b.children) b.row p.row) u.0 (trees_utf8 b.children p.children u.1)
 
 numbers_utf8 : (ns : List ℕ) → ItemsHaveUtf8 (items_of (map whole.spell ns))
 numbers_utf8 [] = tt
@@ -178,7 +183,7 @@ numbers_utf8 (n ∷ ns) = (tt, numbers_utf8 ns)
 
 body_utf8 : (body : ReplyBody) → fits_body body ≡ true → BodyHasUtf8 body → HasUtf8 (body_data body)
 body_utf8 Nothing f u = tt
-body_utf8 (Root b) f u = (IsUtf8-are_ascii (codes "root") refl, tree_utf8 b f u, tt)
+body_utf8 (Root b) f u = (IsUtf8-are_ascii (codes "root") refl, tree_utf8 true b f u, tt)
 body_utf8 (NodeId n) f u = (IsUtf8-are_ascii (codes "nodeId") refl, tt, tt)
 body_utf8 (NodeIds ns) f u = (IsUtf8-are_ascii (codes "nodeIds") refl, numbers_utf8 ns, tt)
 
@@ -187,21 +192,43 @@ replies_are_utf8 id body c f u =
     IsUtf8-compact_text (message_data (reply id (body_data body))) (reply_plain id body c f)
     (IsUtf8-are_ascii (codes "id") refl, tt, (IsUtf8-are_ascii (codes "result") refl, body_utf8 body f u, tt))
 
--- the nodes of an event fit
-shown_fit : (parent : ℕ) (nodes : Nodes Told) → fits_news (set_children parent nodes) ≡ true → fits_nodes nodes ≡ true
-shown_fit parent nodes f = (both_parts (fits_nodes nodes) _ (both_parts _ true f).0).0
+pause_utf8 : (why : PauseData) → HasUtf8 (pause_kind.spell why)
+pause_utf8 (pause.Subtree id target insertion) = (
+  IsUtf8-are_ascii (codes "insertion") refl,
+  tt,
+  (IsUtf8-are_ascii (codes "nodeId") refl, tt, (IsUtf8-are_ascii (codes "targetNodeId") refl, tt, (IsUtf8-are_ascii (codes "type") refl, IsUtf8-are_ascii (codes "subtree-modified") refl, tt))),
+)
+pause_utf8 (pause.Attribute id) = (IsUtf8-are_ascii (codes "nodeId") refl, tt, (IsUtf8-are_ascii (codes "type") refl, IsUtf8-are_ascii (codes "attribute-modified") refl, tt))
+pause_utf8 (pause.Removed id) = (IsUtf8-are_ascii (codes "nodeId") refl, tt, (IsUtf8-are_ascii (codes "type") refl, IsUtf8-are_ascii (codes "node-removed") refl, tt))
+
+params_utf8 : (n : News) → fits_news n ≡ true → NewsHaveUtf8 n → HasUtf8 (news_form n).params
+params_utf8 (attribute_modified id m value) f u = (IsUtf8-are_ascii (codes "name") refl, u.0, (IsUtf8-are_ascii (codes "nodeId") refl, tt, (IsUtf8-are_ascii (codes "value") refl, u.1, tt)))
+params_utf8 (attribute_removed id m) f u = (IsUtf8-are_ascii (codes "name") refl, u, (IsUtf8-are_ascii (codes "nodeId") refl, tt, tt))
+params_utf8 (text_modified id value) f u = (IsUtf8-are_ascii (codes "characterData") refl, u, (IsUtf8-are_ascii (codes "nodeId") refl, tt, tt))
+params_utf8 (count_updated id count) f u = (IsUtf8-are_ascii (codes "childNodeCount") refl, tt, (IsUtf8-are_ascii (codes "nodeId") refl, tt, tt))
+params_utf8 (inserted parent previous b) f u = (
+  IsUtf8-are_ascii (codes "node") refl,
+  tree_utf8 false b (both_parts (fits_tree false b) (is_unopened b) (both_parts (fits_tree false b && is_unopened b) _ f).0).0 u,
+  (IsUtf8-are_ascii (codes "parentNodeId") refl, tt, (IsUtf8-are_ascii (codes "previousNodeId") refl, tt, tt)),
+)
+params_utf8 (removed parent id) f u = (IsUtf8-are_ascii (codes "nodeId") refl, tt, (IsUtf8-are_ascii (codes "parentNodeId") refl, tt, tt))
+params_utf8 (set_children parent nodes) f u = (IsUtf8-are_ascii (codes "nodes") refl, trees_utf8 nodes (both_parts (fits_nodes nodes) _ f).0 u, (IsUtf8-are_ascii (codes "parentId") refl, tt, tt))
+params_utf8 document_updated f u = tt
+params_utf8 (paused why) f u = (IsUtf8-are_ascii (codes "callFrames") refl, tt, (IsUtf8-are_ascii (codes "data") refl, pause_utf8 why, (IsUtf8-are_ascii (codes "reason") refl, IsUtf8-are_ascii (codes "DOM") refl, tt)))
+
+event_name_utf8 : (n : EventName) → IsUtf8 (event_name n)
+event_name_utf8 name.AttributeModified = IsUtf8-are_ascii (event_name name.AttributeModified) refl
+event_name_utf8 name.AttributeRemoved = IsUtf8-are_ascii (event_name name.AttributeRemoved) refl
+event_name_utf8 name.CharacterDataModified = IsUtf8-are_ascii (event_name name.CharacterDataModified) refl
+event_name_utf8 name.ChildNodeCountUpdated = IsUtf8-are_ascii (event_name name.ChildNodeCountUpdated) refl
+event_name_utf8 name.ChildNodeInserted = IsUtf8-are_ascii (event_name name.ChildNodeInserted) refl
+event_name_utf8 name.ChildNodeRemoved = IsUtf8-are_ascii (event_name name.ChildNodeRemoved) refl
+event_name_utf8 name.SetChildNodes = IsUtf8-are_ascii (event_name name.SetChildNodes) refl
+event_name_utf8 name.DocumentUpdated = IsUtf8-are_ascii (event_name name.DocumentUpdated) refl
+event_name_utf8 name.Paused = IsUtf8-are_ascii (event_name name.Paused) refl
 
 news_utf8 : (n : News) → fits_news n ≡ true → NewsHaveUtf8 n → HasUtf8 (news_data n)
-news_utf8 (set_children parent nodes) f u = (
-  IsUtf8-are_ascii (codes "method") refl,
-  IsUtf8-are_ascii (codes "DOM.setChildNodes") refl,
-  (
-    IsUtf8-are_ascii (codes "params") refl,
-    (IsUtf8-are_ascii (codes "nodes") refl, trees_utf8 nodes (shown_fit parent nodes f) u, (IsUtf8-are_ascii (codes "parentId") refl, tt, tt)),
-    tt,
-  ),
-)
-news_utf8 document_updated f u = (IsUtf8-are_ascii (codes "method") refl, IsUtf8-are_ascii (codes "DOM.documentUpdated") refl, (IsUtf8-are_ascii (codes "params") refl, tt, tt))
+news_utf8 n f u = (IsUtf8-are_ascii (codes "method") refl, event_name_utf8 (news_form n).name, (IsUtf8-are_ascii (codes "params") refl, params_utf8 n f u, tt))
 
 pub events_are_utf8 : EventsAreUtf8
 events_are_utf8 n f u = IsUtf8-compact_text (news_data n) (news_plain n f) (news_utf8 n f u)

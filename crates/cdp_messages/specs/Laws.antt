@@ -1,5 +1,5 @@
 -- The laws of the messages: what is written is read as what was written, and nothing else is read.
-use Rattle.std.specs.Prelude.{◌≡◌, ◌≢◌, All, ℕ, ◌≤◌, ◌<◌, List, [], ◌∷◌, ⊤, codes, Bool, true, Option, Some, None, Ok, IsUtf8, bytes_eq}
+use Rattle.std.specs.Prelude.{◌≡◌, ◌≢◌, All, ℕ, ◌≤◌, ◌<◌, List, [], ◌∷◌, ⊤, codes, Bool, true, false, not, ◌&&◌, Option, Some, None, Ok, IsUtf8, bytes_eq}
 use Rattle.serde_json.specs.Data.{Data, depth}
 use Rattle.serde_json.specs.Read.{max_depth}
 use Rattle.serde_json.specs.Written.{compact_text}
@@ -12,11 +12,15 @@ use Rattle.cdp_messages.specs.Told.{Told, told_nodes, told_branch}
 use Rattle.cdp_messages.specs.NodeData.{fits_tree}
 use Rattle.cdp_messages.specs.Tellable.{suits_nodes, suits_tree}
 use Rattle.cdp_messages.specs.declared.command.Command.{Command}
+use Rattle.cdp_messages.specs.declared.command.Asked.{Asked}
 use Rattle.cdp_messages.specs.declared.command.Refused.{Refused}
+use Rattle.cdp_messages.specs.Methods.{is_own}
+use Rattle.cdp_messages.specs.declared.dom_ask.DomAsk.{DomAsk}
+use Rattle.cdp_messages.specs.DomAsks.{as_command, dom_ask_in}
 use Rattle.cdp_messages.specs.declared.down.ReplyBody.{ReplyBody}
 use Rattle.cdp_messages.specs.declared.down.ReplyBody.TheVariants.{Nothing, Root, NodeId, NodeIds}
-use Rattle.cdp_messages.specs.Asked.{asked, asked_by, command_of, method_name, parameters, fits_command, command_value, command_text}
-use Rattle.cdp_messages.specs.Events.{News, set_children, document_updated, is_object, news_data, fits_news}
+use Rattle.cdp_messages.specs.Asked.{asked, asked_by, command_of, method_of, method_name, parameters, fits_command, command_value, command_text}
+use Rattle.cdp_messages.specs.Events.{News, attribute_modified, attribute_removed, text_modified, count_updated, inserted, removed, set_children, document_updated, paused, is_object, news_data, fits_news}
 use Rattle.cdp_messages.specs.Replies.{Message, reply, event, event_text, message_data, fits_message, message_in, down_of, body_data, fits_body, result_of, reply_text, refusal_message, refused_text}
 
 -- JSON nests as deep as it is read
@@ -27,11 +31,33 @@ Shallow d = depth d ≤ max_depth
 abbrev pub AsksAreAsked : Type 0
 AsksAreAsked = (own : Bool) (id : ℕ) (method : List ℕ) (params session : Option Data) → is_counted id ≡ true → holds_of_some is_plain params ≡ true → holds_of_some is_plain session ≡ true
     → Shallow (command_value id method params session) → IsUtf8 (command_text id method params session)
-    → asked (command_text id method params session) own ≡ asked_by id (command_of method params session)
+    → asked (command_text id method params session) own ≡ asked_by id (command_of own method params session)
 
--- a command with its parameters is that command
+-- a command with its parameters is that command, where its method is known
 abbrev pub ParametersAreRead : Type 0
-ParametersAreRead = (c : Command) → fits_command c ≡ true → command_of (method_name c) (Some (parameters c)) None ≡ Ok c
+ParametersAreRead = (own : Bool) (c : Command) → fits_command c ≡ true → (is_own (method_of c) && not own) ≡ false → command_of own (method_name c) (Some (parameters c)) None ≡ Ok c
+
+-- the parameters of the protocol's commands are plain: those of our own two methods are as they were given
+abbrev pub ParametersArePlain : Type 0
+ParametersArePlain = (c : Command) → fits_command c ≡ true → is_own (method_of c) ≡ false → is_plain (parameters c) ≡ true
+
+-- a command that was written with its parameters is asked as that command, where its method is known
+abbrev pub CommandsAreAsked : Type 0
+CommandsAreAsked = (own : Bool) (id : ℕ) (c : Command) → is_counted id ≡ true → fits_command c ≡ true → (is_own (method_of c) && not own) ≡ false → is_plain (parameters c) ≡ true
+    → Shallow (command_value id (method_name c) (Some (parameters c)) None) → IsUtf8 (command_text id (method_name c) (Some (parameters c)) None)
+    → asked (command_text id (method_name c) (Some (parameters c)) None) own ≡ Ok (record { id = id; command = c })
+
+-- a command that is asked by a method is one of that method, with its parameters in their ranges
+abbrev pub CommandsAreNamed : Type 0
+CommandsAreNamed = (own : Bool) (method : List ℕ) (params session : Option Data) (c : Command) → command_of own method params session ≡ Ok c → (method ≡ method_name c) × (fits_command c ≡ true)
+
+-- what any bytes ask has an id below 2^53, and its parameters in their ranges
+abbrev pub AsksFit : Type 0
+AsksFit = (own : Bool) (bytes : List ℕ) (a : Asked) → asked bytes own ≡ Ok a → (is_counted a.id ≡ true) × (fits_command a.command ≡ true)
+
+-- what the agent is asked is the command that it was, for each that it serves
+abbrev pub DomAsksAreCommands : Type 0
+DomAsksAreCommands = (c : Command) (a : DomAsk) → dom_ask_in c ≡ Some a → c ≡ as_command a
 
 -- no text of plain JSON has a zero byte
 abbrev pub TextsHaveNoZero : Type 0
@@ -67,8 +93,15 @@ BodyHasUtf8 (NodeIds ids) = ⊤
 
 -- those that an event tells
 abbrev pub NewsHaveUtf8 : News → Type 0
+NewsHaveUtf8 (attribute_modified id name value) = IsUtf8 name × IsUtf8 value
+NewsHaveUtf8 (attribute_removed id name) = IsUtf8 name
+NewsHaveUtf8 (text_modified id value) = IsUtf8 value
+NewsHaveUtf8 (count_updated id count) = ⊤
+NewsHaveUtf8 (inserted parent previous b) = NodesHaveUtf8 (alone b)
+NewsHaveUtf8 (removed parent id) = ⊤
 NewsHaveUtf8 (set_children parent nodes) = NodesHaveUtf8 nodes
 NewsHaveUtf8 document_updated = ⊤
+NewsHaveUtf8 (paused why) = ⊤
 
 -- the text of a reply is UTF-8 where its nodes' texts are
 abbrev pub RepliesAreUtf8 : Type 0
@@ -99,9 +132,21 @@ body_height (NodeIds ids) = 0
 abbrev pub RepliesAreShallow : Type 0
 RepliesAreShallow = (id : ℕ) (body : ReplyBody) → body_height body ≤ 61 → Shallow (message_data (reply id (body_data body)))
 
--- and so does an event with children of 60 levels
+-- how many levels of nodes an event tells
+abbrev pub news_height : News → ℕ
+news_height (attribute_modified id name value) = 0
+news_height (attribute_removed id name) = 0
+news_height (text_modified id value) = 0
+news_height (count_updated id count) = 0
+news_height (inserted parent previous b) = height (alone b)
+news_height (removed parent id) = 0
+news_height (set_children parent nodes) = height nodes
+news_height document_updated = 0
+news_height (paused why) = 0
+
+-- and so does an event with nodes of 60 levels
 abbrev pub EventsAreShallow : Type 0
-EventsAreShallow = (parent : ℕ) (nodes : Nodes Told) → height nodes ≤ 60 → Shallow (news_data (set_children parent nodes))
+EventsAreShallow = (n : News) → news_height n ≤ 60 → Shallow (news_data n)
 
 -- an event is read as that event
 abbrev pub EventsAreRead : Type 0

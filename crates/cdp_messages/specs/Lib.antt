@@ -1,9 +1,13 @@
 pub mod Told
 pub mod NodeObject
 pub mod NodeData
+pub mod JsonCode
+pub mod Methods
 pub mod Refusals
-pub mod Asked
 pub mod Events
+pub mod Parameters
+pub mod Asked
+pub mod DomAsks
 pub mod Replies
 pub mod Answers
 pub mod Raw

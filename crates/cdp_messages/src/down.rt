@@ -25,9 +25,42 @@ pub enum Down {
     Event(Event),
 }
 
-/// What the back end tells unasked.
+/// What the back end tells unasked. Nodes are named by their ids.
 #[derive(Drop, Debug)]
 pub enum Event {
+    /// `DOM.attributeModified`: the attribute has this value now.
+    AttributeModified {
+        node: u64,
+        name: Text,
+        value: Text,
+    },
+    /// `DOM.attributeRemoved`
+    AttributeRemoved {
+        node: u64,
+        name: Text,
+    },
+    /// `DOM.characterDataModified`: the value of a text or a comment.
+    CharacterDataModified {
+        node: u64,
+        text: Text,
+    },
+    /// `DOM.childNodeCountUpdated`: the number of children of a node whose children are not shown.
+    ChildNodeCountUpdated {
+        node: u64,
+        count: u64,
+    },
+    /// `DOM.childNodeInserted`: a new child, none of whose children are shown.
+    ChildNodeInserted {
+        parent: u64,
+        /// The sibling before it, 0 where it is the first child.
+        previous: u64,
+        node: NodeTree,
+    },
+    /// `DOM.childNodeRemoved`
+    ChildNodeRemoved {
+        parent: u64,
+        node: u64,
+    },
     /// `DOM.setChildNodes`: the children of a node, which were not shown before.
     SetChildNodes {
         /// The id of the parent.
@@ -36,6 +69,27 @@ pub enum Event {
     },
     /// `DOM.documentUpdated`: nothing is known any more.
     DocumentUpdated,
+    /// `Debugger.paused`
+    Paused(PauseData),
+}
+
+/// Why script pauses: what was watched of the node.
+#[derive(Clone, Copy, PartialEq, Eq, Debug, Drop)]
+pub enum PauseData {
+    /// `subtree-modified`: the target was put in, or else taken out or changed.
+    Subtree {
+        node: u64,
+        target: u64,
+        insertion: bool,
+    },
+    /// `attribute-modified`
+    Attribute {
+        node: u64,
+    },
+    /// `node-removed`
+    Removed {
+        node: u64,
+    },
 }
 
 /// The result of a reply.

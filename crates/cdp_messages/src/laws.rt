@@ -1,10 +1,15 @@
 // The laws of the messages, which make no call.
-ghost use Rattle.cdp_messages.specs.Laws.{AsksAreAsked, ParametersAreRead, RepliesAreRead, RepliesAreShallow, EventsAreRead, EventsAreShallow, EventsAreUtf8, ShownChildrenFit, RefusalsAreRead, ResultsAreRead, MessagesAreSpelled, ResultsAreSpelled, OneMessage, OneResult, TextsHaveNoZero, RepliesAreUtf8, ShownTreesFit};
+ghost use Rattle.cdp_messages.specs.Laws.{AsksAreAsked, AsksFit, CommandsAreAsked, ParametersAreRead, ParametersArePlain, CommandsAreNamed, DomAsksAreCommands, RepliesAreRead, RepliesAreShallow, EventsAreRead, EventsAreShallow, EventsAreUtf8, ShownChildrenFit, RefusalsAreRead, ResultsAreRead, MessagesAreSpelled, ResultsAreSpelled, OneMessage, OneResult, TextsHaveNoZero, RepliesAreUtf8, ShownTreesFit};
 
 /// What a writer appends is read as what it was given, nothing else is read, and no value spells two messages.
 pub fn spell_law()
     ensures asks { AsksAreAsked }
     ensures parameters { ParametersAreRead }
+    ensures plain { ParametersArePlain }
+    ensures commands { CommandsAreAsked }
+    ensures named { CommandsAreNamed }
+    ensures asks_fit { AsksFit }
+    ensures dom_asks { DomAsksAreCommands }
     ensures replies { RepliesAreRead }
     ensures shallow { RepliesAreShallow }
     ensures events { EventsAreRead }

@@ -3,27 +3,42 @@
 #![tactic(auto)]
 
 mod command;
+mod dom_ask;
 mod down;
+mod edits;
+mod event_names;
 mod event_read;
+mod event_write;
+mod kept;
 mod laws;
+mod method;
 mod node_read;
 mod node_rules;
 mod node_write;
 mod numbers;
+mod parameters;
+mod ranges;
 mod read;
+mod read_by;
 mod receive;
 mod tree;
 mod write;
 
-pub use command::{Asked, Command, CommandErr, Param, ReadErr, Refused, Why};
-pub use down::{Down, DownErr, Event, ReplyBody};
+pub use command::{Asked, Command, CommandErr, Param, ReadErr, Refused, WatchWord, Why};
+pub use dom_ask::DomAsk;
+pub use down::{Down, DownErr, Event, PauseData, ReplyBody};
+pub use edits::{TextEdit, TextEdits};
+pub use event_write::write_event;
+pub use kept::Json;
 pub use laws::spell_law;
+pub use method::Method;
 pub use node_tree::{Attributes, Kind, Kind as NodeType, Text};
 pub use numbers::Numbers;
+pub use ranges::SourceRange;
 pub use read::{read_ask, read_command};
 pub use receive::{read_down, read_result};
 pub use tree::NodeTree;
-pub use write::{write_command, write_event, write_refused, write_reply};
+pub use write::{write_command, write_refused, write_reply};
 
 #[cfg(test)]
 mod tests;

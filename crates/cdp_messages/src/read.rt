@@ -1,160 +1,83 @@
 // Reading frames on their way up.
-ghost use Rattle.std.specs.Prelude.{◌≡◌, codes, option_map, IfOk, false};
+ghost use Rattle.std.specs.Prelude.{◌≡◌, option_map, IfOk, true, false};
 ghost use Rattle.serde_json.specs.Find.{as_object, get_member};
 ghost use Rattle.serde_json.specs.View.{view, members_view};
-ghost use Rattle.cdp_json.specs.Fields.{field_of};
-ghost use Rattle.cdp_json.specs.Kinds.{list_of, whole};
-ghost use Rattle.cdp_messages.specs.Asked.{json_of, optional, required, get_document, request_child_nodes, push_by_path, push_by_serials, command_for, unless_session, command_of, command_in, asked_in, asked_value, asked};
+ghost use Rattle.cdp_json.specs.Lookups.{then_ok};
+ghost use Rattle.cdp_messages.specs.Methods.{known_method};
+ghost use Rattle.cdp_messages.specs.Asked.{json_of, of_method, unless_session, or_bad_request, command_of, command_in, asked_in, asked_value, asked, fits_command};
 ghost use Rattle.cdp_messages.specs.Answers.{Asks, Commands};
 
-use crate::command::{Asked, Command, CommandErr, Param, ReadErr, Refused, Why};
-use crate::numbers::Numbers;
-use cdp_json::{Field, depth_field, flag_field, int_field, list_field, text_field, wholes_of};
-use node_tree::Text;
+use crate::command::{Asked, Command, CommandErr, ReadErr, Refused, Why};
+use crate::method::Method;
+use crate::read_by::command_by;
+use cdp_json::{Field, int_field, text_field};
 use serde_json::{Map, Value};
 use std::alloc::{AllocError, Global};
 
-// A parameter that may be absent.
-fn optional<T: Drop>(param: Param, field: Field<T>) -> Result<Option<T>, Why>
-    ensures { result ≡ optional param field }
+// Our own two methods are known where `own` says so.
+fn known_method(name: &str, own: bool) -> Option<Method>
+    ensures { result ≡ known_method own name.now }
 {
-    match field {
-        Field::Missing => Ok(None),
-        Field::WrongKind => Err(Why::BadParam(param)),
-        Field::Is(found) => Ok(Some(found)),
+    let method = Method::named(name)?;
+    if method.is_own() && !own {
+        None
+    } else {
+        Some(method)
     }
 }
 
-// A parameter that is there.
-fn required<T: Drop>(param: Param, field: Field<T>) -> Result<T, Why>
-    ensures { result ≡ required param field }
-{
-    match field {
-        Field::Missing | Field::WrongKind => Err(Why::BadParam(param)),
-        Field::Is(found) => Ok(found),
-    }
-}
-
-fn get_document(params: &Map<String, Value>) -> Result<Command, Why>
-    ensures { result ≡ get_document (members_view params.now.entries) }
-{
-    let depth = optional(Param::Depth, depth_field(params, "depth"))?;
-    let pierce = optional(Param::Pierce, flag_field(params, "pierce"))?;
-    Ok(Command::GetDocument { depth, pierce })
-}
-
-fn request_child_nodes(params: &Map<String, Value>) -> Result<Command, Why>
-    ensures { result ≡ request_child_nodes (members_view params.now.entries) }
-{
-    let node = required(Param::NodeId, int_field(params, "nodeId"))?;
-    let depth = optional(Param::Depth, depth_field(params, "depth"))?;
-    let pierce = optional(Param::Pierce, flag_field(params, "pierce"))?;
-    Ok(Command::RequestChildNodes {
-        node,
-        depth,
-        pierce,
-    })
-}
-
-fn push_by_path(alloc: Global, params: &Map<String, Value>) -> Result<Command, CommandErr>
-    ensures { Commands result (push_by_path (members_view params.now.entries)) }
-{
-    match text_field(params, "path") {
-        Field::Is(path) => {
-            let path = Text::copied(alloc, path)?;
-            Ok(Command::PushByPath { path })
-        }
-        Field::Missing | Field::WrongKind => Err(CommandErr::Refused(Why::BadParam(Param::Path))),
-    }
-}
-
-// A list of whole numbers.
-fn wholes_field(
-    alloc: Global,
-    params: &Map<String, Value>,
-    name: &str,
-) -> Result<Field<Numbers>, AllocError>
-    ensures { IfOk result (λ field. field
-        ≡ field_of (list_of whole).reads name.now (members_view params.now.entries)) }
-{
-    match list_field(params, name) {
-        Field::Is(values) => match wholes_of(alloc, values)? {
-            Some(list) => Ok(Field::Is(Numbers::new(list))),
-            None => Ok(Field::WrongKind),
-        },
-        Field::Missing => Ok(Field::Missing),
-        Field::WrongKind => Ok(Field::WrongKind),
-    }
-}
-
-fn push_by_serials(alloc: Global, params: &Map<String, Value>) -> Result<Command, CommandErr>
-    ensures { Commands result (push_by_serials (members_view params.now.entries)) }
-{
-    let field = wholes_field(alloc, params, "backendNodeIds")?;
-    match required(Param::BackendNodeIds, field) {
-        Ok(serials) => Ok(Command::PushBySerials { serials }),
-        Err(why) => Err(CommandErr::Refused(why)),
-    }
-}
-
-// A command that takes no memory.
-fn small(command: Result<Command, Why>) -> Result<Command, CommandErr>
-    ensures { Commands result command }
-{
-    match command {
-        Ok(command) => Ok(command),
-        Err(why) => Err(CommandErr::Refused(why)),
-    }
-}
-
-fn command_for(
-    alloc: Global,
-    method: &str,
-    params: &Map<String, Value>,
-) -> Result<Command, CommandErr>
-    ensures { Commands result (command_for method.now (members_view params.now.entries)) }
-{
-    match method {
-        "DOM.getDocument" => small(get_document(params)),
-        "DOM.requestChildNodes" => small(request_child_nodes(params)),
-        "DOM.pushNodeByPathToFrontend" => push_by_path(alloc, params),
-        "DOM.pushNodesByBackendIdsToFrontend" => push_by_serials(alloc, params),
-        _ => Err(CommandErr::Refused(Why::NoMethod)),
-    }
-}
-
+// The parameters are an object.
 fn routed(
     alloc: Global,
-    method: &str,
-    params: &Map<String, Value>,
+    method: Option<Method>,
+    params: &Value,
     session: Option<&Value>,
 ) -> Result<Command, CommandErr>
-    ensures { Commands result (unless_session (option_map (λ s. view s.now) session.entry)
-        (command_for method.now (members_view params.now.entries))) }
+    ensures { Commands result (then_ok (or_bad_request (as_object (view params.now))) (λ ps.
+        unless_session (option_map (λ s. view s.now) session.entry) (of_method method ps))) }
 {
-    match session {
-        Some(_) => Err(CommandErr::Refused(Why::NoSession)),
-        None => command_for(alloc, method, params),
+    let Some(members) = params.as_object() else {
+        return Err(CommandErr::Refused(Why::BadRequest));
+    };
+    if session.is_some() {
+        return Err(CommandErr::Refused(Why::NoSession));
+    }
+    match method {
+        Some(method) => command_by(alloc, method, params, members),
+        None => Err(CommandErr::Refused(Why::NoMethod)),
     }
 }
 
-/// The command of that method, with parameters and a session where they are given, or the first refusal that applies.
+// The command of the method of that name.
+fn command_of(
+    alloc: Global,
+    name: &str,
+    params: Option<&Value>,
+    session: Option<&Value>,
+    own: bool,
+) -> Result<Command, CommandErr>
+    ensures { Commands result (command_of own name.now
+        (option_map (λ p. view p.now) params.entry) (option_map (λ s. view s.now) session.entry)) }
+{
+    let method = known_method(name, own);
+    match params {
+        None => routed(alloc, method, &Value::Object(Map::new(alloc)), session),
+        Some(params) => routed(alloc, method, params, session),
+    }
+}
+
+/// The command of that method of the protocol, with parameters and a session where they are given, or the first refusal that
+/// applies.
 pub fn read_ask(
     alloc: Global,
     method: &str,
     params: Option<&Value>,
     session: Option<&Value>,
 ) -> Result<Command, CommandErr>
-    ensures { Commands result (command_of method.now
+    ensures { Commands result (command_of false method.now
         (option_map (λ p. view p.now) params.entry) (option_map (λ s. view s.now) session.entry)) }
 {
-    match params {
-        None => routed(alloc, method, &Map::new(alloc), session),
-        Some(value) => match value.as_object() {
-            Some(params) => routed(alloc, method, params, session),
-            None => Err(CommandErr::Refused(Why::BadRequest)),
-        },
-    }
+    command_of(alloc, method, params, session, false)
 }
 
 fn member<'a>(object: &'a Map<String, Value>, name: &str) -> Option<&'a Value>
@@ -164,19 +87,19 @@ fn member<'a>(object: &'a Map<String, Value>, name: &str) -> Option<&'a Value>
     object.get(name)
 }
 
-fn command_in(alloc: Global, frame: &Map<String, Value>) -> Result<Command, CommandErr>
-    ensures { Commands result (command_in (members_view frame.now.entries)) }
+fn command_in(alloc: Global, frame: &Map<String, Value>, own: bool) -> Result<Command, CommandErr>
+    ensures { Commands result (command_in own (members_view frame.now.entries)) }
 {
     let Field::Is(method) = text_field(frame, "method") else {
         return Err(CommandErr::Refused(Why::BadRequest));
     };
     let params = member(frame, "params");
     let session = member(frame, "sessionId");
-    read_ask(alloc, method, params, session)
+    command_of(alloc, method, params, session, own)
 }
 
-fn asked_in(alloc: Global, value: &Value) -> Result<Asked, ReadErr>
-    ensures { Asks result (asked_in (as_object (view value.now))) }
+fn asked_in(alloc: Global, value: &Value, own: bool) -> Result<Asked, ReadErr>
+    ensures { Asks result (asked_in own (as_object (view value.now))) }
 {
     let refused = ReadErr::Refused(Refused {
         id: None,
@@ -188,7 +111,7 @@ fn asked_in(alloc: Global, value: &Value) -> Result<Asked, ReadErr>
     let Field::Is(id) = int_field(frame, "id") else {
         return Err(refused);
     };
-    match command_in(alloc, frame) {
+    match command_in(alloc, frame, own) {
         Ok(command) => Ok(Asked { id, command }),
         Err(CommandErr::Refused(why)) => Err(ReadErr::Refused(Refused { id: Some(id), why })),
         Err(CommandErr::Memory) => Err(ReadErr::Memory),
@@ -210,11 +133,11 @@ pub(crate) fn json_of(alloc: Global, bytes: &[u8]) -> Result<Option<Value>, Allo
 }
 
 // What is asked by a frame that is this value, if it is any.
-fn asked_by(alloc: Global, found: &Option<Value>) -> Result<Asked, ReadErr>
-    ensures { Asks result (asked_value false (option_map view found.now)) }
+fn asked_by(alloc: Global, found: &Option<Value>, own: bool) -> Result<Asked, ReadErr>
+    ensures { Asks result (asked_value own (option_map view found.now)) }
 {
     match found {
-        Some(value) => asked_in(alloc, value),
+        Some(value) => asked_in(alloc, value, own),
         None => Err(ReadErr::Refused(Refused {
             id: None,
             why: Why::NotJson,
@@ -222,15 +145,14 @@ fn asked_by(alloc: Global, found: &Option<Value>) -> Result<Asked, ReadErr>
     }
 }
 
-/// Reads what a frame asks: a command, or the first refusal that applies. `own` says whether the methods are known that
-/// are no part of the protocol; there is none so far.
+/// Reads what a frame asks: a command, or the first refusal that applies. `own` says whether our own two methods are known,
+/// `Replay.load` and `Replay.act`. Each parameter of the command is in its range.
 pub fn read_command(alloc: Global, bytes: &[u8], own: bool) -> Result<Asked, ReadErr>
-    ensures { Asks result (asked bytes.now own) }
+    ensures asked { Asks result (asked bytes.now own) }
+    ensures fits { IfOk result (λ a. fits_command a.command ≡ true) }
 {
-    // No method is known so far that it would allow.
-    let _ = own;
     let Ok(found) = json_of(alloc, bytes) else {
         return Err(ReadErr::Memory);
     };
-    asked_by(alloc, &found)
+    asked_by(alloc, &found, own)
 }

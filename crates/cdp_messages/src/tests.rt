@@ -1,6 +1,6 @@
 use crate::{
-    Attributes, Down, DownErr, Event, Kind, NodeTree, ReadErr, ReplyBody, Text, read_command,
-    read_down, read_result, write_command, write_event, write_refused, write_reply,
+    Attributes, DomAsk, Down, DownErr, Event, Kind, NodeTree, ReadErr, ReplyBody, Text,
+    read_command, read_down, read_result, write_command, write_event, write_refused, write_reply,
 };
 use serde_json::Value;
 use std::alloc::{AllocError, Global};
@@ -57,15 +57,13 @@ const TITLE_SHOWN: &[u8] =
 const SMALL_REPLY: &[u8] =
     b"{\"id\":1,\"result\":{\"root\":{\"backendNodeId\":1,\"childNodeCount\":1,\"children\":[{\"attributes\":[],\"backendNodeId\":2,\"childNodeCount\":2,\"localName\":\"html\",\"nodeId\":2,\"nodeName\":\"HTML\",\"nodeType\":1,\"nodeValue\":\"\",\"parentId\":1}],\"localName\":\"\",\"nodeId\":1,\"nodeName\":\"#document\",\"nodeType\":9,\"nodeValue\":\"\"}}}";
 
-// The refusals of these frames, one after another.
-fn refusals(alloc: Global, frames: &[&[u8]]) -> Result<Vec<u8>, AllocError> {
+// How a frame is refused, with the zero byte.
+fn refusal(alloc: Global, frame: &str) -> Result<Vec<u8>, AllocError> {
     let mut out = Vec::new(alloc);
-    for frame in frames {
-        match read_command(alloc, frame, false) {
-            Ok(_) => out.extend_from_slice(b"a command\0")?,
-            Err(ReadErr::Refused(refused)) => write_refused(alloc, &refused, &mut out)?,
-            Err(ReadErr::Memory) => return Err(AllocError),
-        }
+    match read_command(alloc, frame.as_bytes(), false) {
+        Ok(_) => out.extend_from_slice(b"a command")?,
+        Err(ReadErr::Refused(refused)) => write_refused(alloc, &refused, &mut out)?,
+        Err(ReadErr::Memory) => return Err(AllocError),
     }
     Ok(out)
 }
@@ -93,7 +91,9 @@ fn result_read(alloc: Global, method: &str, text: &str) -> Result<String, Fail> 
 // What a frame asks.
 fn asked(alloc: Global, frame: &[u8]) -> Result<String, Fail> {
     let asked = read_command(alloc, frame, false)?;
-    Ok(format!(in alloc; "{asked:?}")?)
+    let id = asked.id;
+    let ask = DomAsk::of_command(asked.command).ok_or("an ask of the agent")?;
+    Ok(format!(in alloc; "{id} {ask:?}")?)
 }
 
 #[test]
@@ -122,14 +122,22 @@ fn an_event_is_written_and_read_again(rt: HostRuntime) -> Result<(), Fail> {
     let mut copy = again(rt.alloc(), TITLE_SHOWN)?;
     assert_eq!(rt; copy.pop(), Some(0));
     assert_eq!(rt; copy.as_slice(), TITLE_SHOWN);
-    let updated = again(
-        rt.alloc(),
-        b"{\"method\":\"DOM.documentUpdated\",\"params\":{}}",
-    )?;
-    assert_eq!(rt;
-        updated.as_slice(),
-        b"{\"method\":\"DOM.documentUpdated\",\"params\":{}}\0".as_slice()
-    );
+    Ok(())
+}
+
+#[test]
+fn each_event_is_read_and_written_again(rt: HostRuntime) -> Result<(), Fail> {
+    for text in [
+        r#"{"method":"DOM.documentUpdated","params":{}}"#,
+        r#"{"method":"DOM.attributeModified","params":{"name":"lang","nodeId":2,"value":"en"}}"#,
+        r#"{"method":"DOM.childNodeCountUpdated","params":{"childNodeCount":3,"nodeId":2}}"#,
+        r#"{"method":"DOM.childNodeInserted","params":{"node":{"backendNodeId":7,"localName":"","nodeId":3,"nodeName":"html","nodeType":10,"nodeValue":"","parentId":1},"parentNodeId":1,"previousNodeId":0}}"#,
+        r#"{"method":"Debugger.paused","params":{"callFrames":[],"data":{"insertion":true,"nodeId":4,"targetNodeId":4,"type":"subtree-modified"},"reason":"DOM"}}"#,
+    ] {
+        let mut copy = again(rt.alloc(), text.as_bytes())?;
+        assert_eq!(rt; copy.pop(), Some(0));
+        assert_eq!(rt; copy.as_slice(), text.as_bytes());
+    }
     Ok(())
 }
 
@@ -150,24 +158,41 @@ fn results_are_read_by_method(rt: HostRuntime) -> Result<(), Fail> {
 
 #[test]
 fn refusals_come_in_order(rt: HostRuntime) -> Result<(), Fail> {
-    let frames: [&[u8]; 12] = [
-        b"[",
-        b"",
-        b"{\"id\":\"1\"}",
-        b"{\"id\":1}",
-        b"{\"id\":2,\"method\":\"DOM.nope\",\"sessionId\":\"x\"}",
-        b"{\"id\":3,\"method\":\"DOM.nope\"}",
-        b"{\"id\":4,\"method\":\"DOM.getDocument\",\"params\":{\"depth\":0}}",
-        b"{\"id\":4,\"method\":\"DOM.getDocument\",\"params\":{\"depth\":1.0}}",
-        b"{\"id\":5,\"method\":\"DOM.requestChildNodes\",\"params\":{\"depth\":0}}",
-        b"{\"id\":5,\"method\":\"DOM.requestChildNodes\",\"params\":{\"depth\":0,\"nodeId\":1}}",
-        b"{\"id\":6,\"method\":\"DOM.pushNodeByPathToFrontend\"}",
-        b"{\"id\":7,\"method\":\"DOM.pushNodesByBackendIdsToFrontend\",\"params\":{\"backendNodeIds\":[1,-1]}}",
-    ];
-    let out = refusals(rt.alloc(), frames.as_slice())?;
-    let expected =
-        b"{\"error\":{\"code\":-32700,\"message\":\"not JSON\"}}\0{\"error\":{\"code\":-32700,\"message\":\"not JSON\"}}\0{\"error\":{\"code\":-32600,\"message\":\"no usable id\"}}\0{\"error\":{\"code\":-32600,\"message\":\"bad request\"},\"id\":1}\0{\"error\":{\"code\":-32001,\"message\":\"unknown session\"},\"id\":2}\0{\"error\":{\"code\":-32601,\"message\":\"unknown method\"},\"id\":3}\0{\"error\":{\"code\":-32602,\"message\":\"bad parameter: depth\"},\"id\":4}\0{\"error\":{\"code\":-32602,\"message\":\"bad parameter: depth\"},\"id\":4}\0{\"error\":{\"code\":-32602,\"message\":\"bad parameter: nodeId\"},\"id\":5}\0{\"error\":{\"code\":-32602,\"message\":\"bad parameter: depth\"},\"id\":5}\0{\"error\":{\"code\":-32602,\"message\":\"bad parameter: path\"},\"id\":6}\0{\"error\":{\"code\":-32602,\"message\":\"bad parameter: backendNodeIds\"},\"id\":7}\0";
-    assert_eq!(rt; out.as_slice(), expected.as_slice());
+    for (frame, answer) in [
+        ("[", r#"{"error":{"code":-32700,"message":"not JSON"}}"#),
+        (
+            r#"{"id":"1"}"#,
+            r#"{"error":{"code":-32600,"message":"no usable id"}}"#,
+        ),
+        (
+            r#"{"id":1}"#,
+            r#"{"error":{"code":-32600,"message":"bad request"},"id":1}"#,
+        ),
+        (
+            r#"{"id":2,"method":"DOM.nope","sessionId":"x"}"#,
+            r#"{"error":{"code":-32001,"message":"unknown session"},"id":2}"#,
+        ),
+        (
+            r#"{"id":3,"method":"Replay.act"}"#,
+            r#"{"error":{"code":-32601,"message":"unknown method"},"id":3}"#,
+        ),
+        (
+            r#"{"id":4,"method":"DOM.getDocument","params":{"depth":1.0}}"#,
+            r#"{"error":{"code":-32602,"message":"bad parameter: depth"},"id":4}"#,
+        ),
+        (
+            r#"{"id":5,"method":"DOM.describeNode","params":{"depth":0}}"#,
+            r#"{"error":{"code":-32602,"message":"bad parameter: nodeId"},"id":5}"#,
+        ),
+        (
+            r#"{"id":6,"method":"CSS.addRule","params":{"ruleText":"u{}","styleSheetId":"s1"}}"#,
+            r#"{"error":{"code":-32602,"message":"bad parameter: location"},"id":6}"#,
+        ),
+    ] {
+        let mut out = refusal(rt.alloc(), frame)?;
+        assert_eq!(rt; out.pop(), Some(0));
+        assert_eq!(rt; out.as_slice(), answer.as_bytes());
+    }
     Ok(())
 }
 
@@ -182,7 +207,7 @@ fn a_command_is_written_and_asked(rt: HostRuntime) -> Result<(), Fail> {
     let document = asked(rt.alloc(), b"{\"id\":1,\"method\":\"DOM.getDocument\"}")?;
     assert_eq!(rt;
         document.as_str(),
-        "Asked { id: 1, command: GetDocument { depth: None, pierce: None } }"
+        "1 GetDocument { depth: None, pierce: None }"
     );
     let children = asked(
         rt.alloc(),
@@ -190,7 +215,7 @@ fn a_command_is_written_and_asked(rt: HostRuntime) -> Result<(), Fail> {
     )?;
     assert_eq!(rt;
         children.as_str(),
-        "Asked { id: 2, command: RequestChildNodes { node: 3, depth: Some(-1), pierce: None } }"
+        "2 RequestChildNodes { node: 3, depth: Some(-1), pierce: None }"
     );
     Ok(())
 }
@@ -203,7 +228,7 @@ fn nodes_are_asked_by_path_and_by_serial(rt: HostRuntime) -> Result<(), Fail> {
     )?;
     assert_eq!(rt;
         path.as_str(),
-        "Asked { id: 3, command: PushByPath { path: Text { text: \"0,HTML\" } } }"
+        "3 PushByPath { path: Text { text: \"0,HTML\" } }"
     );
     let serials = asked(
         rt.alloc(),
@@ -211,7 +236,7 @@ fn nodes_are_asked_by_path_and_by_serial(rt: HostRuntime) -> Result<(), Fail> {
     )?;
     assert_eq!(rt;
         serials.as_str(),
-        "Asked { id: 4, command: PushBySerials { serials: Numbers { list: [5, 9] } } }"
+        "4 PushBySerials { serials: Numbers { list: [5, 9] } }"
     );
     Ok(())
 }

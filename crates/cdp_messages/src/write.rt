@@ -1,19 +1,15 @@
 // Writing frames.
-ghost use Rattle.std.specs.Prelude.{◌≡◌, ◌++◌, ℤ, codes, IsTrue, IfOk, OnOk, OnErr, option_map, false, string_bytes, IsUtf8};
-ghost use Rattle.serde_json.specs.Data.{object as object_with, string, no_members, member};
+ghost use Rattle.std.specs.Prelude.{◌≡◌, ◌++◌, ℤ, IsTrue, IfOk, OnOk, OnErr, option_map, false, string_bytes, IsUtf8};
 ghost use Rattle.serde_json.specs.View.{view};
 ghost use Rattle.serde_json.specs.Written.{compact_text, has_float};
-ghost use Rattle.cdp_messages.specs.Refusals.{param_name, code_of, text_of};
+ghost use Rattle.cdp_messages.specs.Refusals.{param_name, code_of, said_first, said_of_param, text_of};
 ghost use Rattle.cdp_messages.specs.Asked.{command_value, command_text, is_whole_where_there};
-ghost use Rattle.node_tree.specs.Nodes.{nodes_of};
-ghost use Rattle.cdp_messages.specs.Events.{news_of, nodes_kind, children_kind, news_data};
-ghost use Rattle.cdp_messages.specs.Replies.{error_kind, reply, fault, message_data, body_data, reply_text, refused_text, event_text};
+ghost use Rattle.cdp_messages.specs.Replies.{error_kind, reply, fault, message_data, body_data, reply_text, refused_text};
 ghost use Rattle.cdp_messages.specs.Answers.{ended};
 
 use crate::command::{Param, Refused, Why};
-use crate::down::{Event, ReplyBody};
-use crate::node_write::{node_value, node_values};
-use crate::tree::NodeTree;
+use crate::down::ReplyBody;
+use crate::node_write::node_value;
 use cdp_json::{object, whole_list};
 use serde_json::{Map, Value};
 use std::alloc::{AllocError, Global};
@@ -81,15 +77,29 @@ pub fn write_command(
     append(alloc, &value, out)
 }
 
-fn param_name(param: Param) -> &'static str
+pub(crate) fn param_name(param: Param) -> &'static str
     ensures { result.now ≡ param_name param }
 {
     match param {
+        Param::BackendNodeId => "backendNodeId",
         Param::BackendNodeIds => "backendNodeIds",
         Param::Depth => "depth",
+        Param::Edits => "edits",
+        Param::InsertBeforeNodeId => "insertBeforeNodeId",
+        Param::Location => "location",
+        Param::Name => "name",
         Param::NodeId => "nodeId",
+        Param::Params => "params",
         Param::Path => "path",
         Param::Pierce => "pierce",
+        Param::Range => "range",
+        Param::RuleText => "ruleText",
+        Param::Selector => "selector",
+        Param::StyleSheetId => "styleSheetId",
+        Param::TargetNodeId => "targetNodeId",
+        Param::Text => "text",
+        Param::Type => "type",
+        Param::Value => "value",
     }
 }
 
@@ -103,32 +113,116 @@ fn code_of(why: Why) -> i64
         Why::NoSession => -32001,
         Why::NoMethod => -32601,
         Why::BadParam(_) => -32602,
-        Why::DomOff => -32000,
-        Why::UnknownNode => -32000,
-        Why::NotPushed => -32000,
-        Why::NoPath => -32000,
+        Why::DomOff
+        | Why::CssOff
+        | Why::UnknownNode
+        | Why::NotPushed
+        | Why::NoPath
+        | Why::BadQuery
+        | Why::Crossed
+        | Why::NoNode
+        | Why::NotElement
+        | Why::NotText
+        | Why::IsDocument
+        | Why::NotChild
+        | Why::Inside
+        | Why::TooDeep
+        | Why::TooMany
+        | Why::BadName
+        | Why::NoAttr
+        | Why::NotContainer
+        | Why::NoSheet
+        | Why::NotMutable
+        | Why::BadRange
+        | Why::BadText
+        | Why::BadSelector
+        | Why::BadPlace
+        | Why::TooBig => -32000,
+    }
+}
+
+fn said_first(why: Why) -> &'static str
+    ensures { result.now ≡ said_first why }
+{
+    match why {
+        Why::NotJson => "not JSON",
+        Why::NoId => "no usable id",
+        Why::BadRequest => "bad request",
+        Why::NoSession => "unknown session",
+        Why::NoMethod => "unknown method",
+        Why::BadParam(_) => "bad parameter: ",
+        Why::DomOff => "DOM is off",
+        Why::CssOff => "CSS is off",
+        Why::UnknownNode => "unknown node",
+        Why::NotPushed => "document not pushed",
+        Why::NoPath => "no such path",
+        Why::BadQuery => "bad selector",
+        Why::Crossed => "Crossed",
+        Why::NoNode => "NoNode",
+        Why::NotElement => "NotElement",
+        Why::NotText => "NotText",
+        Why::IsDocument => "IsDocument",
+        Why::NotChild => "NotChild",
+        Why::Inside => "Inside",
+        Why::TooDeep => "TooDeep",
+        Why::TooMany => "TooMany",
+        Why::BadName => "BadName",
+        Why::NoAttr => "NoAttr",
+        Why::NotContainer => "NotContainer",
+        Why::NoSheet => "NoSheet",
+        Why::NotMutable => "NotMutable",
+        Why::BadRange => "BadRange",
+        Why::BadText => "BadText",
+        Why::BadSelector => "BadSelector",
+        Why::BadPlace => "BadPlace",
+        Why::TooBig => "TooBig",
+    }
+}
+
+fn said_of_param(why: Why) -> &'static str
+    ensures { result.now ≡ said_of_param why }
+{
+    match why {
+        Why::BadParam(param) => param_name(param),
+        Why::NotJson
+        | Why::NoId
+        | Why::BadRequest
+        | Why::NoSession
+        | Why::NoMethod
+        | Why::DomOff
+        | Why::CssOff
+        | Why::UnknownNode
+        | Why::NotPushed
+        | Why::NoPath
+        | Why::BadQuery
+        | Why::Crossed
+        | Why::NoNode
+        | Why::NotElement
+        | Why::NotText
+        | Why::IsDocument
+        | Why::NotChild
+        | Why::Inside
+        | Why::TooDeep
+        | Why::TooMany
+        | Why::BadName
+        | Why::NoAttr
+        | Why::NotContainer
+        | Why::NoSheet
+        | Why::NotMutable
+        | Why::BadRange
+        | Why::BadText
+        | Why::BadSelector
+        | Why::BadPlace
+        | Why::TooBig => "",
     }
 }
 
 fn text_of(alloc: Global, why: Why) -> Result<String, AllocError>
     ensures { IfOk result (λ text. string_bytes text ≡ text_of why) }
 {
-    match why {
-        Why::NotJson => String::from_str(alloc, "not JSON"),
-        Why::NoId => String::from_str(alloc, "no usable id"),
-        Why::BadRequest => String::from_str(alloc, "bad request"),
-        Why::NoSession => String::from_str(alloc, "unknown session"),
-        Why::NoMethod => String::from_str(alloc, "unknown method"),
-        Why::BadParam(param) => {
-            let mut text = String::from_str(alloc, "bad parameter: ")?;
-            text.push_str(param_name(param))?;
-            Ok(text)
-        }
-        Why::DomOff => String::from_str(alloc, "DOM is off"),
-        Why::UnknownNode => String::from_str(alloc, "unknown node"),
-        Why::NotPushed => String::from_str(alloc, "document not pushed"),
-        Why::NoPath => String::from_str(alloc, "no such path"),
-    }
+    let mut text = String::from_str(alloc, said_first(why))?;
+    text.push_str(said_of_param(why))?;
+    Ok(text)
 }
 
 fn error_value(alloc: Global, code: i64, text: String) -> Result<Value, AllocError>
@@ -206,59 +300,5 @@ pub fn write_reply(
 {
     let body = body_value(alloc, body)?;
     let value = reply_value(alloc, id, body)?;
-    append(alloc, &value, out)
-}
-
-fn nodes_value(alloc: Global, nodes: &Vec<NodeTree>) -> Result<Value, AllocError>
-    ensures { IfOk result (λ v. view v ≡ nodes_kind.spell (nodes_of nodes.now.items)) }
-{
-    let list = node_values(alloc, nodes)?;
-    Ok(Value::Array(list))
-}
-
-// The parameters of an event that shows children.
-fn children_value(alloc: Global, parent: u64, nodes: &Vec<NodeTree>) -> Result<Value, AllocError>
-    ensures { IfOk result (λ v. view v ≡ children_kind.spell (nodes_of nodes.now.items, (parent, tt))) }
-{
-    let nodes = nodes_value(alloc, nodes)?;
-    let fields = vec![in alloc;
-        ("nodes", Some(nodes)),
-        ("parentId", Some(Value::from(parent))),
-    ]?;
-    object(alloc, fields)
-}
-
-// An event of that method.
-fn envelope_value(alloc: Global, method: &str, params: Value) -> Result<Value, AllocError>
-    ensures { IfOk result (λ v. view v ≡ object_with (member (codes "method") (string method.now)
-        (member (codes "params") (view params) no_members))) }
-{
-    let method = Value::try_from_str(alloc, method)?;
-    let fields = vec![in alloc; ("method", Some(method)), ("params", Some(params))]?;
-    object(alloc, fields)
-}
-
-fn event_value(alloc: Global, event: &Event) -> Result<Value, AllocError>
-    ensures { IfOk result (λ v. view v ≡ news_data (news_of event.now)) }
-{
-    match event {
-        Event::SetChildNodes { parent, nodes } => {
-            let params = children_value(alloc, *parent, nodes)?;
-            envelope_value(alloc, "DOM.setChildNodes", params)
-        }
-        Event::DocumentUpdated => {
-            let params = Value::Object(Map::new(alloc));
-            envelope_value(alloc, "DOM.documentUpdated", params)
-        }
-    }
-}
-
-/// Appends an event as one frame, with its zero byte.
-pub fn write_event(alloc: Global, event: &Event, out: &mut Vec<u8>) -> Result<(), AllocError>
-    ensures ok { OnOk result (out.new.items ≡ out.old.items ++ ended (event_text (news_of event.now))) }
-    ensures utf8 { OnOk result (IsUtf8 (event_text (news_of event.now))) }
-    ensures err { OnErr result (out.new.items ≡ out.old.items) }
-{
-    let value = event_value(alloc, event)?;
     append(alloc, &value, out)
 }

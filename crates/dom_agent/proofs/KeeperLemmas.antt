@@ -19,8 +19,8 @@ use Rattle.node_binding.proofs.OpeningLemmas.{AreDistinct}
 use Rattle.node_binding.proofs.LawLemmas.{Stands-open_down}
 use Rattle.node_binding.proofs.InViewLemmas.{InView, in_view-known, in_view-tally, in_view-grows, can_open-in_view, known-in_view, roots_in_view, opened-grows}
 use Rattle.node_binding.proofs.OpenedLemmas.{IsSession-opened, open_afterwards}
-use Rattle.cdp_messages.specs.declared.command.Command.{Command}
-use Rattle.cdp_messages.specs.declared.command.Command.TheVariants.{GetDocument, RequestChildNodes, PushByPath, PushBySerials}
+use Rattle.cdp_messages.specs.declared.dom_ask.DomAsk.{DomAsk}
+use Rattle.cdp_messages.specs.declared.dom_ask.DomAsk.TheVariants.{GetDocument, RequestChildNodes, PushByPath, PushBySerials}
 use Rattle.cdp_messages.specs.declared.command.Why.TheVariants.{NotPushed}
 use Rattle.cdp_messages.specs.declared.down.ReplyBody.TheVariants.{Root, NodeId, NodeIds}
 use Rattle.cdp_messages.specs.Answers.{ended}
@@ -247,7 +247,7 @@ module _ (page : State) (valid : IsValid page) where
         ap (λ (v : Nodes Seen). Root (told_branch 0 (root_of (record { row = record { id = 0; serial = 0; label = page.tree.row.label; hold = leaf }; children = none }) v))) same,
       )
 
-  pub outcomes_alike : (c : Command) (w : Session) (b : Bound) → IsSession m w → Stands m w b → AlikeOutcomes m (session_outcome page c w) (binding_outcome page c b)
+  pub outcomes_alike : (c : DomAsk) (w : Session) (b : Bound) → IsSession m w → Stands m w b → AlikeOutcomes m (session_outcome page c w) (binding_outcome page c b)
   outcomes_alike (GetDocument depth pierce) w b session stands = document_alike depth pierce w b stands
   outcomes_alike (RequestChildNodes id depth pierce) w b session stands = request_alike id depth pierce w.opened w.pushed w.since b session stands
   outcomes_alike (PushByPath path) w b session stands = by_path_alike path w.opened w.pushed w.since b session stands

@@ -13,3 +13,7 @@ pub mod RequestLemmas
 pub mod PushLemmas
 pub mod PathLemmas
 pub mod StartedLemmas
+pub mod SetLemmas
+pub mod SetsLemmas
+pub mod NewlyLemmas
+pub mod ShowsLemmas

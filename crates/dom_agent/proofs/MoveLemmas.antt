@@ -7,10 +7,10 @@ use Rattle.node_binding.specs.Cuts.{known}
 use Rattle.node_binding.specs.Openings.{levels_of, above}
 use Rattle.node_binding.specs.Sessions.{Session, IsSession, document_opened, view}
 use Rattle.node_binding.proofs.Known.{length-known}
-use Rattle.cdp_messages.specs.declared.command.Command.{Command}
-use Rattle.cdp_messages.specs.declared.command.Command.TheVariants.{GetDocument, RequestChildNodes, PushByPath, PushBySerials}
+use Rattle.cdp_messages.specs.declared.dom_ask.DomAsk.{DomAsk}
+use Rattle.cdp_messages.specs.declared.dom_ask.DomAsk.TheVariants.{GetDocument, RequestChildNodes, PushByPath, PushBySerials}
 use Rattle.cdp_messages.specs.declared.down.ReplyBody.TheVariants.{Nothing, Root, NodeId, NodeIds}
-use Rattle.cdp_messages.specs.Asked.{method_name, fits_command}
+use Rattle.cdp_messages.specs.DomAsks.{ask_name, fits_ask}
 use Rattle.cdp_messages.specs.Laws.{answers}
 use Rattle.cdp_messages.specs.Moves.{IsTellable}
 use Rattle.cdp_messages.specs.Tellable.{suits_tree}
@@ -22,22 +22,22 @@ use Rattle.dom_agent.proofs.OutcomeLemmas.{OutcomeGoes, request-goes, path-pushe
 use Rattle.dom_agent.proofs.TellableLemmas.{can_say, shown_fits}
 
 -- the command's reply is no document
-abbrev TellsNoRoot : Command → Type 0
-TellsNoRoot c = (b : Branch Told) → answers (method_name c) (Root b) ≡ false
+abbrev TellsNoRoot : DomAsk → Type 0
+TellsNoRoot c = (b : Branch Told) → answers (ask_name c) (Root b) ≡ false
 
-moved : (page : State) (c : Command) (w : Session) (out : Outcome Session) → TellsNoRoot c → CanSay (alone page.tree) (length w.pushed + node_count (alone page.tree)) → OutcomeGoes (alone page.tree) c w out → IsMoved page w out
+moved : (page : State) (c : DomAsk) (w : Session) (out : Outcome Session) → TellsNoRoot c → CanSay (alone page.tree) (length w.pushed + node_count (alone page.tree)) → OutcomeGoes (alone page.tree) c w out → IsMoved page w out
 moved page c w (served p Nothing) other say g = g.0.course _ say (goes-few (alone page.tree) w p.state p.shown g.0)
 moved page c w (served p (Root b)) other say g = let no : false ≡ true = sym (other b) ∙ g.2 in cc
 moved page c w (served p (NodeId id)) other say g = g.0.course _ say (goes-few (alone page.tree) w p.state p.shown g.0)
 moved page c w (served p (NodeIds ids)) other say g = g.0.course _ say (goes-few (alone page.tree) w p.state p.shown g.0)
 moved page c w (refused why) other say g = tt
 
-replied : (page : State) (c : Command) (w : Session) (out : Outcome Session) → CanTell page w → OutcomeGoes (alone page.tree) c w out → IsReplyTo c out
+replied : (page : State) (c : DomAsk) (w : Session) (out : Outcome Session) → CanTell page w → OutcomeGoes (alone page.tree) c w out → IsReplyTo c out
 replied page c w (served p body) can g = (g.1 (omega (arith, goes-few (alone page.tree) w p.state p.shown g.0, can.ids)), g.2)
 replied page c w (refused why) can g = tt
 
 -- the session after `DOM.getDocument` can be told
-document_tellable : (page : State) (depth : Option ℤ) (pierce : Option Bool) (w : Session) → IsValid page → fits_command (GetDocument depth pierce) ≡ true → IsSession (alone page.tree) w → CanTell page w
+document_tellable : (page : State) (depth : Option ℤ) (pierce : Option Bool) (w : Session) → IsValid page → fits_ask (GetDocument depth pierce) ≡ true → IsSession (alone page.tree) w → CanTell page w
     → IsTellable (view (document_opened (levels_of (unwrap_or depth (pos 1))) (alone page.tree) w) (alone page.tree))
 document_tellable page depth pierce w valid fits session can =
     let n : Nodes Row = alone page.tree in

@@ -100,7 +100,7 @@ abbrev pub closed_of : (ℕ → Bool) → List (Branch Row) → List Opening
 closed_of o xs = map by_one (filter (λ (x : Branch Row). not (o x.row.serial)) xs)
 
 -- nothing is reached where no level is left
-reached-spent : (n : Nodes Row) → reached (Some 0) n ≡ []
+pub reached-spent : (n : Nodes Row) → reached (Some 0) n ≡ []
 reached-spent none = refl
 reached-spent (node r c t) = nothing (holds r.label.kind) ∙ reached-spent t
   where

@@ -16,10 +16,10 @@ use Rattle.node_binding.proofs.StartLemmas.{root_holds, distinct-alone}
 use Rattle.node_binding.proofs.SessionLemmas.{IsSession-document_opened}
 use Rattle.node_binding.proofs.PairLemmas.{find-there}
 use Rattle.node_binding.proofs.InViewLemmas.{InView, in_view, in_view-tally}
-use Rattle.cdp_messages.specs.declared.command.Command.{Command}
-use Rattle.cdp_messages.specs.declared.command.Command.TheVariants.{GetDocument, RequestChildNodes, PushByPath, PushBySerials}
+use Rattle.cdp_messages.specs.declared.dom_ask.DomAsk.{DomAsk}
+use Rattle.cdp_messages.specs.declared.dom_ask.DomAsk.TheVariants.{GetDocument, RequestChildNodes, PushByPath, PushBySerials}
 use Rattle.cdp_messages.specs.declared.down.ReplyBody.TheVariants.{Nothing}
-use Rattle.cdp_messages.specs.Asked.{fits_command, method_name}
+use Rattle.cdp_messages.specs.DomAsks.{fits_ask, ask_name}
 use Rattle.cdp_messages.specs.Laws.{answers}
 use Rattle.cdp_messages.specs.Replies.{fits_body}
 use Rattle.dom_agent.specs.Keepers.{Keeper, session_keeper}
@@ -31,7 +31,7 @@ use Rattle.dom_agent.proofs.StepLemmas.{Goes, goes-few, goes-openings, goes-push
 
 -- ---- depths
 
-pub document-left : (depth : Option ℤ) (pierce : Option Bool) → fits_command (GetDocument depth pierce) ≡ true → is_spent (levels_of (unwrap_or depth (pos 1))) ≡ false
+pub document-left : (depth : Option ℤ) (pierce : Option Bool) → fits_ask (GetDocument depth pierce) ≡ true → is_spent (levels_of (unwrap_or depth (pos 1))) ≡ false
 document-left None pierce h = refl
 document-left (Some (pos zero)) pierce h = let bad : false ≡ true = h in cc
 document-left (Some (pos (suc d))) pierce h = refl
@@ -58,8 +58,8 @@ containers-page page valid = (λ s there. root_holds page valid, containers-form
 -- ---- commands
 
 -- what is served goes from the session as it was, and the reply is one of the command's
-abbrev pub OutcomeGoes : Nodes Row → Command → Session → Outcome Session → Type 0
-OutcomeGoes n c w (served p body) = Goes n w p.state p.shown × (length p.state.pushed < 2 ^ 53 → fits_body body ≡ true) × (answers (method_name c) body ≡ true)
+abbrev pub OutcomeGoes : Nodes Row → DomAsk → Session → Outcome Session → Type 0
+OutcomeGoes n c w (served p body) = Goes n w p.state p.shown × (length p.state.pushed < 2 ^ 53 → fits_body body ≡ true) × (answers (ask_name c) body ≡ true)
 OutcomeGoes n c w (refused why) = Unit {0}
 
 begun_or : (P : Outcome Session → Type 0) (b : Bool) (x y : Outcome Session) → (b ≡ true → P x) → P y → P (cond b x y)
@@ -80,7 +80,7 @@ module _ (page : State) (valid : IsValid page) where
       let is : x.row.serial ≡ s = found_key row_serial s n x e in
       in_view o x n (distinct-alone page valid) (ap (λ (k : ℕ). find row_serial k n) is ∙ e) (subst (λ (k : ℕ). 0 < times k (known o n)) (sym is) (there s refl))
 
-  children-go : (c : Command) (depth : Option ℤ) (o : ℕ → Bool) (pushed : List ℕ) (since : ℕ) → IsSession n (session_of o pushed since) → answers (method_name c) Nothing ≡ true → (found : Option (Branch Row)) → ((x : Branch Row) → found ≡ Some x → InView o x n)
+  children-go : (c : DomAsk) (depth : Option ℤ) (o : ℕ → Bool) (pushed : List ℕ) (since : ℕ) → IsSession n (session_of o pushed since) → answers (ask_name c) Nothing ≡ true → (found : Option (Branch Row)) → ((x : Branch Row) → found ≡ Some x → InView o x n)
       → OutcomeGoes n c (session_of o pushed since) (of_children keeper page.tree depth found (session_of o pushed since))
   children-go c depth o pushed since session one None there = tt
   children-go c depth o pushed since session one (Some x) there =
@@ -107,7 +107,7 @@ module _ (page : State) (valid : IsValid page) where
       (g.goes, λ few. and_from _ true (g.ids few) refl, refl)
 
   -- each command but `DOM.getDocument`
-  abbrev pub Asks : Command → Session → Type 0
+  abbrev pub Asks : DomAsk → Session → Type 0
   Asks c w = OutcomeGoes n c w (session_outcome page c w)
 
   pub request-goes : (id : ℕ) (depth : Option ℤ) (pierce : Option Bool) (o : Option (ℕ → Bool)) (pushed : List ℕ) (since : ℕ) → IsSession n (record { opened = o; pushed = pushed; since = since }) → Asks (RequestChildNodes id depth pierce) (record { opened = o; pushed = pushed; since = since })
@@ -133,11 +133,11 @@ module _ (page : State) (valid : IsValid page) where
 
 -- ---- laws
 
-goes_session : (n : Nodes Row) (c : Command) (w : Session) (out : Outcome Session) → IsSession n w → OutcomeGoes n c w out → IsSession n (state_after w out)
+goes_session : (n : Nodes Row) (c : DomAsk) (w : Session) (out : Outcome Session) → IsSession n w → OutcomeGoes n c w out → IsSession n (state_after w out)
 goes_session n c w (served p body) session g = g.0.session
 goes_session n c w (refused why) session g = session
 
-goes_few : (n : Nodes Row) (c : Command) (w : Session) (out : Outcome Session) → OutcomeGoes n c w out → length (state_after w out).pushed ≤ length w.pushed + node_count n
+goes_few : (n : Nodes Row) (c : DomAsk) (w : Session) (out : Outcome Session) → OutcomeGoes n c w out → length (state_after w out).pushed ≤ length w.pushed + node_count n
 goes_few n c w (served p body) g = goes-few n w p.state p.shown g.0
 goes_few n c w (refused why) g = omega arith
 

@@ -5,8 +5,8 @@ use Rattle.node_tree.specs.Seen.{Seen}
 use Rattle.page_tree.specs.Pages.{Row, State, IsValid}
 use Rattle.node_binding.specs.Sessions.{Session, IsSession, is_open, ids_in, view}
 use Rattle.node_binding.specs.Bindings.{Bound, Stands}
-use Rattle.cdp_messages.specs.declared.command.Command.{Command}
-use Rattle.cdp_messages.specs.Asked.{fits_command, method_name}
+use Rattle.cdp_messages.specs.declared.dom_ask.DomAsk.{DomAsk}
+use Rattle.cdp_messages.specs.DomAsks.{fits_ask, ask_name}
 use Rattle.cdp_messages.specs.Laws.{LabelHasUtf8, answers}
 use Rattle.cdp_messages.specs.Replies.{fits_body}
 use Rattle.cdp_messages.specs.declared.down.ReplyBody.{ReplyBody}
@@ -16,30 +16,30 @@ use Rattle.cdp_messages.specs.Told.{told_branch}
 use Rattle.dom_agent.specs.Keepers.{session_keeper, binding_keeper}
 use Rattle.dom_agent.specs.Requests.{Progress, Outcome, served, refused, Showing, shown, outcome, state_after, answer}
 
-abbrev pub session_outcome : State → Command → Session → Outcome Session
+abbrev pub session_outcome : State → DomAsk → Session → Outcome Session
 session_outcome page c w = outcome (session_keeper (alone page.tree)) page.tree c w
 
-abbrev pub binding_outcome : State → Command → Bound → Outcome Bound
+abbrev pub binding_outcome : State → DomAsk → Bound → Outcome Bound
 binding_outcome page c b = outcome (binding_keeper (alone page.tree)) page.tree c b
 
 -- a session stays one
 abbrev pub StaysSession : Type 0
-StaysSession = (page : State) (c : Command) (w : Session) → IsValid page → fits_command c ≡ true → IsSession (alone page.tree) w
+StaysSession = (page : State) (c : DomAsk) (w : Session) → IsValid page → fits_ask c ≡ true → IsSession (alone page.tree) w
     → IsSession (alone page.tree) (state_after w (session_outcome page c w))
 
 -- the binding stands for the session after the step
 abbrev pub StaysBound : Type 0
-StaysBound = (page : State) (c : Command) (w : Session) (b : Bound) → IsValid page → fits_command c ≡ true → IsSession (alone page.tree) w
+StaysBound = (page : State) (c : DomAsk) (w : Session) (b : Bound) → IsValid page → fits_ask c ≡ true → IsSession (alone page.tree) w
     → Stands (alone page.tree) w b → Stands (alone page.tree) (state_after w (session_outcome page c w)) (state_after b (binding_outcome page c b))
 
 -- and the frames are those of the step
 abbrev pub SameAnswer : Type 0
-SameAnswer = (page : State) (c : Command) (w : Session) (b : Bound) (id : ℕ) → IsValid page → fits_command c ≡ true → IsSession (alone page.tree) w
+SameAnswer = (page : State) (c : DomAsk) (w : Session) (b : Bound) (id : ℕ) → IsValid page → fits_ask c ≡ true → IsSession (alone page.tree) w
     → Stands (alone page.tree) w b → answer id (binding_outcome page c b) ≡ answer id (session_outcome page c w)
 
 -- no command draws more ids than the page has nodes
 abbrev pub DrawsFew : Type 0
-DrawsFew = (page : State) (c : Command) (w : Session) → IsValid page → fits_command c ≡ true → IsSession (alone page.tree) w
+DrawsFew = (page : State) (c : DomAsk) (w : Session) → IsValid page → fits_ask c ≡ true → IsSession (alone page.tree) w
     → length (state_after w (session_outcome page c w)).pushed ≤ length w.pushed + node_count (alone page.tree)
 
 -- ---- a step is a list of moves
@@ -74,16 +74,16 @@ IsMoved page w (served p body) = Leads page w p body
 IsMoved page w (refused why) = ⊤
 
 abbrev pub StepsAreMoves : Type 0
-StepsAreMoves = (page : State) (c : Command) (w : Session) → IsValid page → fits_command c ≡ true → IsSession (alone page.tree) w → CanTell page w
+StepsAreMoves = (page : State) (c : DomAsk) (w : Session) → IsValid page → fits_ask c ≡ true → IsSession (alone page.tree) w → CanTell page w
     → IsMoved page w (session_outcome page c w)
 
 -- ---- the reply
 
 -- a reply's ids are below 2^53, and it is one of the command's method
-abbrev pub IsReplyTo : Command → Outcome Session → Type 0
-IsReplyTo c (served p body) = (fits_body body ≡ true) × (answers (method_name c) body ≡ true)
+abbrev pub IsReplyTo : DomAsk → Outcome Session → Type 0
+IsReplyTo c (served p body) = (fits_body body ≡ true) × (answers (ask_name c) body ≡ true)
 IsReplyTo c (refused why) = ⊤
 
 abbrev pub RepliesFit : Type 0
-RepliesFit = (page : State) (c : Command) (w : Session) → IsValid page → fits_command c ≡ true → IsSession (alone page.tree) w → CanTell page w
+RepliesFit = (page : State) (c : DomAsk) (w : Session) → IsValid page → fits_ask c ≡ true → IsSession (alone page.tree) w → CanTell page w
     → IsReplyTo c (session_outcome page c w)

@@ -7,8 +7,8 @@ use Rattle.node_tree.specs.Seen.{Seen}
 use Rattle.page_tree.specs.Pages.{Row, row_serial}
 use Rattle.node_binding.specs.Cuts.{opens, seen_of, cut}
 use Rattle.node_binding.specs.Openings.{levels_of, less, is_spent}
-use Rattle.cdp_messages.specs.declared.command.Command.{Command}
-use Rattle.cdp_messages.specs.declared.command.Command.TheVariants.{GetDocument, RequestChildNodes, PushByPath, PushBySerials}
+use Rattle.cdp_messages.specs.declared.dom_ask.DomAsk.{DomAsk}
+use Rattle.cdp_messages.specs.declared.dom_ask.DomAsk.TheVariants.{GetDocument, RequestChildNodes, PushByPath, PushBySerials}
 use Rattle.cdp_messages.specs.declared.command.Why.{Why}
 use Rattle.cdp_messages.specs.declared.command.Why.TheVariants.{UnknownNode, NotPushed, NoPath}
 use Rattle.cdp_messages.specs.declared.down.ReplyBody.{ReplyBody}
@@ -133,7 +133,7 @@ module _ {S : Type 0} (k : Keeper S) (document : Branch Row) where
   abbrev pub once_begun : S → Outcome S → Outcome S
   once_begun w outcome = cond (k.is_open w document.row.serial) outcome (refused NotPushed)
 
-  abbrev pub outcome : Command → S → Outcome S
+  abbrev pub outcome : DomAsk → S → Outcome S
   outcome (GetDocument depth pierce) w = with_document (started depth w)
   outcome (RequestChildNodes id depth pierce) w = of_children depth (known_node w (k.serial_of w id)) w
   outcome (PushByPath path) w = once_begun w (of_path (node_at_path path document) w)

@@ -4,8 +4,8 @@ ghost use Rattle.node_tree.specs.Nodes.{alone};
 ghost use Rattle.page_tree.specs.Pages.{find_in};
 ghost use Rattle.node_binding.specs.Openings.{IsDepth, levels_of};
 ghost use Rattle.node_binding.specs.Bindings.{empty_from, cleared, opened_in, id_in};
-ghost use Rattle.cdp_messages.specs.Asked.{fits_command};
-ghost use Rattle.cdp_messages.specs.declared.command.Command.TheVariants.{GetDocument, RequestChildNodes, PushByPath, PushBySerials};
+ghost use Rattle.cdp_messages.specs.DomAsks.{fits_ask};
+ghost use Rattle.cdp_messages.specs.declared.dom_ask.DomAsk.TheVariants.{GetDocument, RequestChildNodes, PushByPath, PushBySerials};
 ghost use Rattle.cdp_messages.specs.Answers.{ended};
 ghost use Rattle.cdp_messages.specs.Replies.{refused_text};
 ghost use Rattle.dom_agent.specs.Keepers.{binding_keeper};
@@ -17,7 +17,7 @@ use crate::paths::node_at_path;
 use crate::pushes::{open_above, push_all};
 use crate::serving::open_all;
 use crate::told::told_tree;
-use cdp_messages::{Asked, Command, Numbers, Refused, ReplyBody, Why, write_refused, write_reply};
+use cdp_messages::{DomAsk, Numbers, Refused, ReplyBody, Why, write_refused, write_reply};
 use node_binding::{Binding, find_in, levels_of};
 use page_tree::{Node, Page};
 use std::alloc::{AllocError, Global};
@@ -51,29 +51,33 @@ impl DomAgent {
         }
     }
 
-    /// Carries the command out, and appends the frames that answer it to `out`, the reply last. What the command's own row of
-    /// refusals names is answered by an error reply, and changes nothing.
-    pub fn ask(&mut self, page: &Page, asked: &Asked, out: &mut Vec<u8>) -> Result<(), AllocError>
-        requires command { fits_command asked.now.command ≡ true }
+    /// Carries the command out, and appends the frames that answer it to `out`, the reply last, with the id of the command's
+    /// frame. What the command's own row of refusals names is answered by an error reply, and changes nothing.
+    pub fn ask(
+        &mut self,
+        page: &Page,
+        id: u64,
+        ask: &DomAsk,
+        out: &mut Vec<u8>,
+    ) -> Result<(), AllocError>
+        requires ask { fits_ask ask.now ≡ true }
         requires room { self.old.next < 2 ^ 52 }
         ensures known { OnOk result
-            (self.new ≡ state_after self.old (binding_outcome page.now asked.now.command self.old)) }
+            (self.new ≡ state_after self.old (binding_outcome page.now ask.now self.old)) }
         ensures sent { OnOk result
             (out.new.items ≡ out.old.items
-            ++ answer asked.now.id (binding_outcome page.now asked.now.command self.old)) }
+            ++ answer id (binding_outcome page.now ask.now self.old)) }
     {
-        match &asked.command {
-            Command::GetDocument { depth, pierce: _ } => {
-                self.get_document(page, asked.id, *depth, out)
-            }
-            Command::RequestChildNodes {
+        match ask {
+            DomAsk::GetDocument { depth, pierce: _ } => { self.get_document(page, id, *depth, out) }
+            DomAsk::RequestChildNodes {
                 node,
                 depth,
                 pierce: _,
-            } => self.request_child_nodes(page, asked.id, *node, *depth, out),
-            Command::PushByPath { path } => self.push_by_path(page, asked.id, path.as_str(), out),
-            Command::PushBySerials { serials } => {
-                self.push_by_serials(page, asked.id, serials.as_slice(), out)
+            } => self.request_child_nodes(page, id, *node, *depth, out),
+            DomAsk::PushByPath { path } => self.push_by_path(page, id, path.as_str(), out),
+            DomAsk::PushBySerials { serials } => {
+                self.push_by_serials(page, id, serials.as_slice(), out)
             }
         }
     }

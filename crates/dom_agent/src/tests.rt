@@ -1,8 +1,8 @@
 ghost use Rattle.std.specs.Prelude.{◌≡◌, true};
-ghost use Rattle.cdp_messages.specs.Asked.{fits_command};
+ghost use Rattle.cdp_messages.specs.DomAsks.{fits_ask};
 
 use crate::DomAgent;
-use cdp_messages::{Asked, Command, Numbers, Text};
+use cdp_messages::{DomAsk, Numbers, Text};
 use page_tree::{Page, read_nodes};
 use serde_json::Value;
 use std::alloc::Global;
@@ -23,18 +23,17 @@ fn page(alloc: Global) -> Result<Page, Fail> {
 fn expect_answer(
     rt: &(impl Abort + AllocGlobal),
     agent: &mut DomAgent,
-    command: Command,
+    command: DomAsk,
     frames: usize,
     first: &str,
     last: &str,
 ) -> Result<(), Fail>
-    requires { fits_command command ≡ true }
+    requires { fits_ask command ≡ true }
 {
     let page = page(rt.alloc())?;
-    let asked = Asked { id: 7, command };
     let mut out = Vec::new(rt.alloc());
     assert!(rt; agent.next_id() < 100);
-    agent.ask(&page, &asked, &mut out)?;
+    agent.ask(&page, 7, &command, &mut out)?;
     assert_eq!(rt; out.iter().filter(|byte| **byte == 0).count(), frames);
     assert!(rt; out.as_slice().starts_with(first.as_bytes()), "{first}");
     assert!(rt; out.as_slice().ends_with(last.as_bytes()), "{last}");
@@ -48,7 +47,7 @@ fn pushes_open_what_is_above(rt: HostRuntime) -> Result<(), Fail> {
     expect_answer(
         &rt,
         &mut agent,
-        Command::PushByPath { path },
+        DomAsk::PushByPath { path },
         1,
         "{\"error\":{\"code\":-32000,",
         "\"message\":\"document not pushed\"},\"id\":7}\0",
@@ -56,7 +55,7 @@ fn pushes_open_what_is_above(rt: HostRuntime) -> Result<(), Fail> {
     expect_answer(
         &rt,
         &mut agent,
-        Command::GetDocument {
+        DomAsk::GetDocument {
             depth: None,
             pierce: None,
         },
@@ -68,7 +67,7 @@ fn pushes_open_what_is_above(rt: HostRuntime) -> Result<(), Fail> {
     expect_answer(
         &rt,
         &mut agent,
-        Command::PushByPath { path },
+        DomAsk::PushByPath { path },
         2,
         "{\"method\":\"DOM.setChildNodes\",\"params\":{\"nodes\":[{\"attributes\":[],\"backendNodeId\":3,\"childNodeCount\":1,\"localName\":\"head\",\"nodeId\":3,",
         "\"nodeId\":4,\"nodeName\":\"BODY\",\"nodeType\":1,\"nodeValue\":\"\",\"parentId\":2}],\"parentId\":2}}\0{\"id\":7,\"result\":{\"nodeId\":4}}\0",
@@ -77,7 +76,7 @@ fn pushes_open_what_is_above(rt: HostRuntime) -> Result<(), Fail> {
     expect_answer(
         &rt,
         &mut agent,
-        Command::PushBySerials { serials },
+        DomAsk::PushBySerials { serials },
         3,
         "{\"method\":\"DOM.setChildNodes\",\"params\":{\"nodes\":[{\"attributes\":[],\"backendNodeId\":4,",
         "\0{\"id\":7,\"result\":{\"nodeIds\":[6,0,5]}}\0",
@@ -86,7 +85,7 @@ fn pushes_open_what_is_above(rt: HostRuntime) -> Result<(), Fail> {
     expect_answer(
         &rt,
         &mut agent,
-        Command::PushByPath { path },
+        DomAsk::PushByPath { path },
         1,
         "{\"error\":{\"code\":-32000,",
         "\"message\":\"no such path\"},\"id\":7}\0",
@@ -100,7 +99,7 @@ fn children_are_told_once(rt: HostRuntime) -> Result<(), Fail> {
     expect_answer(
         &rt,
         &mut agent,
-        Command::GetDocument {
+        DomAsk::GetDocument {
             depth: Some(2),
             pierce: None,
         },
@@ -111,7 +110,7 @@ fn children_are_told_once(rt: HostRuntime) -> Result<(), Fail> {
     expect_answer(
         &rt,
         &mut agent,
-        Command::RequestChildNodes {
+        DomAsk::RequestChildNodes {
             node: 2,
             depth: Some(3),
             pierce: None,
@@ -123,7 +122,7 @@ fn children_are_told_once(rt: HostRuntime) -> Result<(), Fail> {
     expect_answer(
         &rt,
         &mut agent,
-        Command::RequestChildNodes {
+        DomAsk::RequestChildNodes {
             node: 2,
             depth: None,
             pierce: None,
@@ -135,7 +134,7 @@ fn children_are_told_once(rt: HostRuntime) -> Result<(), Fail> {
     expect_answer(
         &rt,
         &mut agent,
-        Command::RequestChildNodes {
+        DomAsk::RequestChildNodes {
             node: 9,
             depth: None,
             pierce: None,
@@ -155,11 +154,11 @@ fn a_push_gives_the_id(rt: HostRuntime) -> Result<(), Fail> {
     let page = page(rt.alloc())?;
     let mut agent = DomAgent::new(rt.alloc());
     let mut out = Vec::new(rt.alloc());
-    let command = Command::GetDocument {
+    let command = DomAsk::GetDocument {
         depth: None,
         pierce: None,
     };
-    agent.ask(&page, &Asked { id: 7, command }, &mut out)?;
+    agent.ask(&page, 7, &command, &mut out)?;
     out.clear();
     assert!(rt; agent.next_id() < 100);
     assert!(rt; page.live(6));

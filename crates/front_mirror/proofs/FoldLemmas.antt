@@ -9,7 +9,7 @@ use Rattle.pipe_frames.proofs.FrameLemmas.{frames_of-append}
 use Rattle.cdp_messages.specs.declared.down.ReplyBody.{ReplyBody}
 use Rattle.cdp_messages.specs.declared.down.ReplyBody.TheVariants.{Nothing, Root, NodeId, NodeIds}
 use Rattle.cdp_messages.specs.Told.{Told, seen_nodes}
-use Rattle.cdp_messages.specs.Events.{News, set_children, document_updated}
+use Rattle.cdp_messages.specs.Events.{News, attribute_modified, attribute_removed, text_modified, count_updated, inserted, removed, set_children, document_updated, paused}
 use Rattle.cdp_messages.specs.Replies.{Message, reply, fault, event, down_of, result_of}
 use Rattle.front_mirror.specs.declared.replies.Ask.{Ask}
 use Rattle.front_mirror.specs.declared.faults.FrontKind.{FrontKind}
@@ -135,6 +135,13 @@ with_children-more v w ask parent nodes (Some s) e =
 with_news-more : (v w : FrontValue) (ask : Ask) (n : News) → with_news v n ≡ Ok w → with_news (joined v ask) n ≡ Ok (joined w ask)
 with_news-more v w ask (set_children parent nodes) e = with_children-more v w ask parent nodes (spot seen_id parent 0 v.tree) e
 with_news-more v w ask document_updated e = told-more v w ask none e
+with_news-more v w ask (attribute_modified id name value) e = cc
+with_news-more v w ask (attribute_removed id name) e = cc
+with_news-more v w ask (text_modified id value) e = cc
+with_news-more v w ask (count_updated id count) e = cc
+with_news-more v w ask (inserted parent previous b) e = cc
+with_news-more v w ask (removed parent id) e = cc
+with_news-more v w ask (paused why) e = cc
 
 with_message-more : (v w : FrontValue) (ask : Ask) (frame : List ℕ) (message : Option Message)
     → with_message v frame message ≡ Ok w → with_message (joined v ask) frame message ≡ Ok (joined w ask)

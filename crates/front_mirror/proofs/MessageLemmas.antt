@@ -35,9 +35,7 @@ news_fit bytes d e read is = message_fits (json_of bytes) (event (news_of e)) (r
 
 -- the children that it shows have the forms of nodes
 fits_below_parent : (parent : ℕ) (nodes : Nodes Told) → fits_news (set_children parent nodes) ≡ true → fits_nodes nodes ≡ true
-fits_below_parent parent nodes e =
-    let params : (fits_nodes nodes && (node_id.fits parent && true)) ≡ true = and_left _ true (and_right true _ e) in
-    and_left (fits_nodes nodes) _ params
+fits_below_parent parent nodes e = and_left (fits_nodes nodes) _ e
 
 pub children_fit : (e : Event) (parent : ℕ) (nodes : Vec (Branch Told) Global) → fits_news (news_of e) ≡ true → e ≡ SetChildNodes parent nodes
     → fits_nodes (nodes_of nodes.items) ≡ true

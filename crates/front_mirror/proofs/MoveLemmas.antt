@@ -111,5 +111,5 @@ take_frame-show_text v id kids w before after move =
     let t = tellable_kids v.tree w id kids before after move in
     let news = set_children id (told_nodes id kids) in
     let fits = shown_children_fit id kids t.counted t.positive t.forms in
-    let read = events_are_read news fits (events_are_shallow id (told_nodes id kids) t.levels) (events_are_utf8 news fits t.texts) in
+    let read = events_are_read news fits (events_are_shallow news t.levels) (events_are_utf8 news fits t.texts) in
     take_frame-show v (event_text news) id kids w before.view after.view move read

@@ -10,7 +10,7 @@ use Rattle.cdp_messages.specs.declared.down.ReplyBody.{ReplyBody}
 use Rattle.cdp_messages.specs.declared.down.ReplyBody.TheVariants.{Nothing, Root, NodeId, NodeIds}
 use Rattle.cdp_messages.specs.Told.{Told, seen_nodes}
 use Rattle.cdp_messages.specs.Replies.{Message, reply, fault, event, down_of, result_of}
-use Rattle.cdp_messages.specs.Events.{News, set_children, document_updated}
+use Rattle.cdp_messages.specs.Events.{News, attribute_modified, attribute_removed, text_modified, count_updated, inserted, removed, set_children, document_updated, paused}
 use Rattle.front_mirror.specs.declared.replies.Ask.{Ask}
 use Rattle.front_mirror.specs.declared.replies.Kept.{Kept}
 use Rattle.front_mirror.specs.declared.faults.FrontKind.{FrontKind}
@@ -142,10 +142,17 @@ abbrev pub with_children : FrontValue → ℕ → Nodes Told → Option (Spot Se
 with_children v parent nodes None = Err UnknownNode
 with_children v parent nodes (Some s) = with_tree v (put seen_id parent (opened_with nodes s.branch) v.tree) (children_fault v.tree parent nodes s)
 
--- after an event
+-- after an event; one that is not folded yet is none
 abbrev pub with_news : FrontValue → News → Result FrontValue FrontKind
 with_news v (set_children parent nodes) = with_children v parent nodes (spot seen_id parent 0 v.tree)
 with_news v document_updated = Ok (told v none)
+with_news v (attribute_modified id name value) = Err NotMessage
+with_news v (attribute_removed id name) = Err NotMessage
+with_news v (text_modified id value) = Err NotMessage
+with_news v (count_updated id count) = Err NotMessage
+with_news v (inserted parent previous b) = Err NotMessage
+with_news v (removed parent id) = Err NotMessage
+with_news v (paused why) = Err NotMessage
 
 -- after a message; none is what the frame spells
 abbrev pub with_message : FrontValue → List ℕ → Option Message → Result FrontValue FrontKind

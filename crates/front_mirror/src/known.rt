@@ -150,6 +150,13 @@ impl Known {
         match event {
             Event::SetChildNodes { parent, nodes } => self.take_children(parent, nodes),
             Event::DocumentUpdated => self.take_update(),
+            Event::AttributeModified { .. }
+            | Event::AttributeRemoved { .. }
+            | Event::CharacterDataModified { .. }
+            | Event::ChildNodeCountUpdated { .. }
+            | Event::ChildNodeInserted { .. }
+            | Event::ChildNodeRemoved { .. }
+            | Event::Paused(_) => Err(FrameErr::Refused(FrontKind::NotMessage)),
         }
     }
 

@@ -43,7 +43,7 @@ pub answered_in : (up0 down0 up down up1 down1 : Pipe) (w : World State) (frame 
     → InWorld up0 down0 up1 down1 (answered step (frame ∷ []) w) frames
     (record e { page = b1.side.page; is_on = b1.seat.is_on; bound = b1.seat.agent; down_there = there })
 answered_in up0 down0 up down up1 down1 w frame frames b b1 e old out bytes there in_world stood said empty same_out same_up sent left =
-    let before : StandsFor b.seat b.side w.state = record { is_state = in_world.fits.fit.side_is; page_is = in_world.page_is; on_is = in_world.on_is; stands = in_world.stands } in
+    let before : StandsFor b.seat b.side w.state = record { is_state = in_world.fits.fit.is_state; page_is = in_world.page_is; on_is = in_world.on_is; stands = in_world.stands } in
     let after : StandsFor b1.seat b1.side (step w.state frame).state = stood w.state before in
     let all : InWorld up0 down0 up down1 (answered step (frame ∷ []) w) frames (record e { page = b1.side.page; is_on = b1.seat.is_on; bound = b1.seat.agent; down_there = there }) =
     world-answered up0 down0 up down down1 w frame frames (record e { page = b.side.page; is_on = b.seat.is_on; bound = b.seat.agent }) b1.side.page b1.seat.is_on b1.seat.agent out there in_world
@@ -71,13 +71,13 @@ frame-seen next ask frame method params session m p s is =
     ∙ ap (λ s'. framed (command_text next ask.method (option_map view ask.params) s')) (refs-seen session ask.session s)
 
 pub asked_in : (up0 down0 up down up1 down1 : Pipe) (w : World State) (e : Ends) (a : AskForm) (whole : List (List ℕ)) (frame bytes : List ℕ) (there : ℕ) (front1 : FrontState)
-    → CanSend a → w.asks < most_asks → InWorld up0 down0 up down w (whole ++ awaited w.up) e → whole ≡ []
+    → CanSend a → w.spent.asks < most_asks → InWorld up0 down0 up down w (whole ++ awaited w.up) e → whole ≡ []
     → frame ≡ framed (command_text e.front.next a.method a.params a.session) → front1 ≡ after_ask e.front a.method
     → bytes ≡ frame → (up1.sent ≡ up.sent ++ bytes) × (up1.given ≡ up.given) → down1 ≡ down → there ≡ e.up_there + length frame
     → InWorld up0 down0 up1 down1 (sends a w) (whole ++ awaited (sends a w).up) (record e { front = front1; up_there = there })
 asked_in up0 down0 up down up1 down1 w e a whole frame bytes there front1 can few in_world none frame_is front_is same_bytes sent same_down left =
-    let next : e.front.next ≡ w.asks + 1 = ap (λ (f : FrontState). f.next) in_world.front_is in
-    let text = command_text (w.asks + 1) a.method a.params a.session in
+    let next : e.front.next ≡ w.spent.asks + 1 = ap (λ (f : FrontState). f.next) in_world.front_is in
+    let text = command_text (w.spent.asks + 1) a.method a.params a.session in
     let framed_is : frame ≡ framed text = frame_is ∙ ap (λ n. framed (command_text n a.method a.params a.session)) next in
     let start : InWorld up0 down0 up down w (awaited w.up) e = subst (λ frames. InWorld up0 down0 up down w (frames ++ awaited w.up) e) none in_world in
     let all : InWorld up0 down0 up1 down (sends a w) (awaited (sends a w).up) (record e { front = after_ask e.front a.method; up_there = there }) =

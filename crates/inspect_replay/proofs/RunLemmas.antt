@@ -263,7 +263,7 @@ pub record Running (honest : Type 0) (up0 down0 up down : Pipe) (taken0 taken : 
     (number : ℕ) (lines : List (List ℕ)) (e : Ends) : Type 0 where
   pub world : World State
   pub in_run : InRun honest up0 down0 up down world e
-  pub few : world.asks + length lines ≤ most_asks
+  pub few : world.spent.asks + length lines ≤ most_asks
   pub so_far : List ℕ
   pub wrote : Appends taken0 taken so_far
   pub text : all_text ≡ so_far ++ lines_text (good_lines number lines) world
@@ -283,7 +283,7 @@ with_lines honest up0 down0 up down taken0 taken all_text all_world number lines
     subst (λ ls. Running honest up0 down0 up down taken0 taken all_text all_world number ls e) same running
 
 -- how many asks a line sends
-asks-after : (line : LineForm) (w : World State) → (after_line line w).asks ≤ w.asks + 1
+asks-after : (line : LineForm) (w : World State) → (after_line line w).spent.asks ≤ w.spent.asks + 1
 asks-after (load nodes) w = omega arith
 asks-after (ask a) w = omega arith
 asks-after (forms_of.up n) w = omega arith
@@ -305,20 +305,20 @@ run_turn result c honest honest1 up0 down0 up down up1 down1 taken0 taken taken1
     let forms : good_lines number (line ∷ more) ≡ form ∷ good_lines (number + 1) more =
     good_lines-good number line more form good is in
     let later = good_lines (number + 1) more in
-    let enough : w.asks < most_asks = (let h : w.asks + suc (length more) ≤ most_asks = running.few in omega (arith, h)) in
+    let enough : w.spent.asks < most_asks = (let h : w.spent.asks + suc (length more) ≤ most_asks = running.few in omega (arith, h)) in
     let all = carries up0 down0 w enough running.in_run in
     let text : all_text ≡ running.so_far ++ (line_text form w ++ lines_text later (after_line form w)) =
     running.text ∙ ap (λ fs. running.so_far ++ lines_text fs w) forms in
     let worlds : all_world ≡ after_lines later (after_line form w) = running.worlds ∙ ap (λ fs. after_lines fs w) forms in
-    let left : (after_line form w).asks + length more ≤ most_asks =
-    (let h : w.asks + suc (length more) ≤ most_asks = running.few in omega (arith, h, asks-after form w)) in
+    let left : (after_line form w).spent.asks + length more ≤ most_asks =
+    (let h : w.spent.asks + suc (length more) ≤ most_asks = running.few in omega (arith, h, asks-after form w)) in
     let rest = by-result result c honest1 up0 down0 up1 down1 taken0 taken taken1 all_text all_world (number + 1) more e1 w form running.so_far later refl left running.wrote text worlds all.1 all.2 in
     (all.0, rest.0, rest.1)
   where
     by-result : (result : Result (Unit {0}) Stop) (c : Counts) (honest1 : Type 0) (up0 down0 up1 down1 : Pipe) (taken0 taken taken1 : Option (List ℕ))
         (all_text : List ℕ) (all_world : World State) (number1 : ℕ) (more : List (List ℕ)) (e1 : Ends) (w : World State) (form : LineForm) (so_far : List ℕ) (later : List LineForm)
         → later ≡ good_lines number1 more
-        → (after_line form w).asks + length more ≤ most_asks
+        → (after_line form w).spent.asks + length more ≤ most_asks
         → Appends taken0 taken so_far
         → all_text ≡ so_far ++ (line_text form w ++ lines_text later (after_line form w))
         → all_world ≡ after_lines later (after_line form w)

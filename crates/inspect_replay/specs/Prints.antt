@@ -21,7 +21,7 @@ use Rattle.inspect_replay.specs.Answers.{RunTook, Prints}
 -- a line is carried out, and prints what it prints
 abbrev pub CarriesOut : {T : Type 0} → Scene → Scene → LineForm → Result T Stop → Type 0
 CarriesOut old new line result =
-    (up0 down0 : Pipe) (w : World State) → w.asks < most_asks → InRun old.now.honest up0 down0 old.now.up old.now.down w old.now.ends
+    (up0 down0 : Pipe) (w : World State) → w.spent.asks < most_asks → InRun old.now.honest up0 down0 old.now.up old.now.down w old.now.ends
     → NotRefused result
     × OnOk result (InRun new.now.honest up0 down0 new.now.up new.now.down (after_line line w) new.now.ends)
     × Prints result old.taken new.taken (line_text line w)
@@ -29,7 +29,7 @@ CarriesOut old new line result =
 -- the lines after the load are carried out, up to the first that is refused
 abbrev pub RunsLines : {T : Type 0} → Scene → Scene → List (List ℕ) → Result T Stop → Type 0
 RunsLines old new lines result =
-    (up0 down0 : Pipe) (w : World State) → w.asks + length lines ≤ most_asks → InRun old.now.honest up0 down0 old.now.up old.now.down w old.now.ends
+    (up0 down0 : Pipe) (w : World State) → w.spent.asks + length lines ≤ most_asks → InRun old.now.honest up0 down0 old.now.up old.now.down w old.now.ends
     → OnOk result (InRun new.now.honest up0 down0 new.now.up new.now.down (after_lines (good_lines 2 lines) w) new.now.ends)
     × RunTook result old.taken new.taken (lines_text (good_lines 2 lines) w)
 

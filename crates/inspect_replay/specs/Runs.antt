@@ -44,7 +44,7 @@ Steps old new result f =
 -- the same of a call that sends an ask, while there is room for one
 abbrev pub Asks : {T : Type 0} → Moment → Moment → Result T Stop → (World State → World State) → Type 0
 Asks old new result f =
-    (up0 down0 : Pipe) (w : World State) → w.asks < most_asks → InRun old.honest up0 down0 old.up old.down w old.ends
+    (up0 down0 : Pipe) (w : World State) → w.spent.asks < most_asks → InRun old.honest up0 down0 old.up old.down w old.ends
     → NotRefused result × OnOk result (InRun new.honest up0 down0 new.up new.down (f w) new.ends)
 
 -- the same of a call that answers the frames that came up whole

@@ -10,13 +10,13 @@ use Rattle.node_binding.specs.Sessions.{Session, IsSession, view}
 use Rattle.pipe_frames.specs.Frames.{IsText, Frames, framed, frames_of}
 use Rattle.pipe_frames.proofs.FrameLemmas.{frames_of-framed, frames_of-one}
 use Rattle.cdp_json.specs.Kinds.{is_counted}
-use Rattle.cdp_messages.specs.declared.command.Command.{Command}
+use Rattle.cdp_messages.specs.declared.dom_ask.DomAsk.{DomAsk}
 use Rattle.cdp_messages.specs.declared.command.Why.{Why}
 use Rattle.cdp_messages.specs.declared.command.Why.TheVariants.{DomOff}
 use Rattle.cdp_messages.specs.declared.command.Refused.{Refused}
 use Rattle.cdp_messages.specs.declared.down.ReplyBody.{ReplyBody}
 use Rattle.cdp_messages.specs.declared.down.ReplyBody.TheVariants.{Nothing, Root, NodeId, NodeIds}
-use Rattle.cdp_messages.specs.Asked.{method_name, fits_command}
+use Rattle.cdp_messages.specs.DomAsks.{ask_name, fits_ask}
 use Rattle.cdp_messages.specs.Events.{News, set_children, news_data, fits_news}
 use Rattle.cdp_messages.specs.Laws.{answers}
 use Rattle.cdp_messages.specs.Moves.{Move, show, Moves, IsTellable, Course, ends, goes}
@@ -35,7 +35,8 @@ use Rattle.cdp_json.proofs.Options.{both_parts}
 use Rattle.inspect_world.proofs.Folds.{folded-append}
 use Rattle.dom_agent.proofs.OutcomeLemmas.{stays_session, draws_few}
 use Rattle.dom_agent.proofs.MoveLemmas.{steps_are_moves, replies_fit}
-use Rattle.cdp_messages.proofs.Messages.{refusals_are_read, reply_plain, news_plain, refusal_plain}
+use Rattle.cdp_messages.proofs.Messages.{refusals_are_read, reply_plain, refusal_plain}
+use Rattle.cdp_messages.proofs.NewsLaws.{news_plain}
 use Rattle.cdp_messages.proofs.ZeroFree.{texts_have_no_zero}
 use Rattle.cdp_messages.proofs.TellableLaws.{shown_children_fit}
 use Rattle.front_mirror.proofs.ShowLemmas.{Tellable, tellable_kids, texts-told}
@@ -43,13 +44,13 @@ use Rattle.front_mirror.proofs.MoveLemmas.{take_frame-show_text, take_frame-stay
 
 -- ---- what the laws of the step say of one command
 
-pub record Good (state : State) (c : Command) (o : Outcome Session) : Type 0 where
+pub record Good (state : State) (c : DomAsk) (o : Outcome Session) : Type 0 where
   pub session : IsSession (nodes_in state) (state_after state.client.session o)
   pub few : length (state_after state.client.session o).pushed ≤ length state.client.session.pushed + node_count (nodes_in state)
   pub moved : IsMoved state.side.page state.client.session o
   pub replies : IsReplyTo c o
 
-good-served : (state : State) (c : Command) → IsValid state.side.page → IsSession (nodes_in state) state.client.session → fits_command c ≡ true → CanTell state.side.page state.client.session
+good-served : (state : State) (c : DomAsk) → IsValid state.side.page → IsSession (nodes_in state) state.client.session → fits_ask c ≡ true → CanTell state.side.page state.client.session
     → Good state c (session_outcome state.side.page c state.client.session)
 good-served state c valid session fits can = record {
   session = stays_session state.side.page c state.client.session valid fits session;
@@ -58,11 +59,11 @@ good-served state c valid session fits can = record {
   replies = replies_fit state.side.page c state.client.session valid fits session can;
 }
 
-pub good-refused : (state : State) (c : Command) (why : Why) → IsSession (nodes_in state) state.client.session → Good state c (refused why)
+pub good-refused : (state : State) (c : DomAsk) (why : Why) → IsSession (nodes_in state) state.client.session → Good state c (refused why)
 good-refused state c why session = record { session = session; few = omega arith; moved = tt; replies = tt }
 
 -- what a command comes to, where it may be refused since DOM is off
-pub good-command : (state : State) (c : Command) → IsValid state.side.page → IsSession (nodes_in state) state.client.session → fits_command c ≡ true → CanTell state.side.page state.client.session
+pub good-command : (state : State) (c : DomAsk) → IsValid state.side.page → IsSession (nodes_in state) state.client.session → fits_ask c ≡ true → CanTell state.side.page state.client.session
     → Good state c (cond (needs_on c && not state.client.dom_on) (refused DomOff) (session_outcome state.side.page c state.client.session))
 good-command state c valid session fits can = at (needs_on c && not state.client.dom_on) where
   at : (b : Bool) → Good state c (cond b (refused DomOff) (session_outcome state.side.page c state.client.session))
@@ -175,34 +176,34 @@ with-reply id p body front state w c fits before tree takes tree_is =
     }
 
 -- a reply that tells no document
-with-stay : (id : ℕ) (c : Command) (p : Progress Session) (body : ReplyBody) (front : FrontValue) (state : State)
-    → is_counted id ≡ true → fits_body body ≡ true → answers (method_name c) body ≡ true → tells_document body ≡ false
-    → front.tree ≡ view_of state → method_of id front.asks ≡ Some (method_name c)
+with-stay : (id : ℕ) (c : DomAsk) (p : Progress Session) (body : ReplyBody) (front : FrontValue) (state : State)
+    → is_counted id ≡ true → fits_body body ≡ true → answers (ask_name c) body ≡ true → tells_document body ≡ false
+    → front.tree ≡ view_of state → method_of id front.asks ≡ Some (ask_name c)
     → Course (shows p.shown) (view state.client.session (nodes_in state)) (view p.state (nodes_in state)) → Taken id (served p body) front state
 with-stay id c p body front state counted fits method stays tree waits course =
     let before : Led front p.shown (view p.state (nodes_in state)) = led p.shown (view state.client.session (nodes_in state)) (view p.state (nodes_in state)) front tree course in
     with-reply id p body front state (view p.state (nodes_in state)) counted fits before before.after.tree
-    (take_frame-stay_text before.after id (method_name c) body stays fits counted (ap (method_of id) before.asks ∙ waits) method) before.tree
+    (take_frame-stay_text before.after id (ask_name c) body stays fits counted (ap (method_of id) before.asks ∙ waits) method) before.tree
 
 -- a reply that tells a document
-with-root : (id : ℕ) (c : Command) (p : Progress Session) (b : Branch Seen) (front : FrontValue) (state : State)
-    → is_counted id ≡ true → fits_body (Root (told_branch 0 b)) ≡ true → answers (method_name c) (Root (told_branch 0 b)) ≡ true
-    → method_of id front.asks ≡ Some (method_name c) → p.shown ≡ [] → view p.state (nodes_in state) ≡ alone b → IsTellable (alone b)
+with-root : (id : ℕ) (c : DomAsk) (p : Progress Session) (b : Branch Seen) (front : FrontValue) (state : State)
+    → is_counted id ≡ true → fits_body (Root (told_branch 0 b)) ≡ true → answers (ask_name c) (Root (told_branch 0 b)) ≡ true
+    → method_of id front.asks ≡ Some (ask_name c) → p.shown ≡ [] → view p.state (nodes_in state) ≡ alone b → IsTellable (alone b)
     → Taken id (served p (Root (told_branch 0 b))) front state
 with-root id c p b front state counted fits method waits none_shown view_is tellable =
     let before : Led front p.shown front.tree = subst (λ xs. Led front xs front.tree) (sym none_shown) (record { after = front; is_fold = refl; tree = refl; asks = refl; replies = refl; texts = tt }) in
-    let named : method_name c ≡ codes "DOM.getDocument" = (bytes_eq-Decides (method_name c) (codes "DOM.getDocument")).0 method in
+    let named : ask_name c ≡ codes "DOM.getDocument" = (bytes_eq-Decides (ask_name c) (codes "DOM.getDocument")).0 method in
     let suits : suits_tree true b ≡ true = (both_parts (suits_tree true b) true tellable.forms).0 in
     with-reply id p (Root (told_branch 0 b)) front state front.tree counted fits before (alone b)
     (take_frame-reply before.after id b tellable.view suits (texts-told 0 (alone b) tellable.texts) counted (ap (method_of id) before.asks ∙ waits ∙ ap Some named)) (sym view_is)
 
-with-document : (id : ℕ) (c : Command) (p : Progress Session) (t : _) (front : FrontValue) (state : State)
-    → is_counted id ≡ true → fits_body (Root t) ≡ true → answers (method_name c) (Root t) ≡ true
-    → method_of id front.asks ≡ Some (method_name c) → Leads state.side.page state.client.session p (Root t) → Taken id (served p (Root t)) front state
+with-document : (id : ℕ) (c : DomAsk) (p : Progress Session) (t : _) (front : FrontValue) (state : State)
+    → is_counted id ≡ true → fits_body (Root t) ≡ true → answers (ask_name c) (Root t) ≡ true
+    → method_of id front.asks ≡ Some (ask_name c) → Leads state.side.page state.client.session p (Root t) → Taken id (served p (Root t)) front state
 with-document id c p t front state counted fits method waits leads =
     let b : Branch Seen = shown_by p.state state.side.page in
     subst (λ u. Taken id (served p (Root u)) front state) (sym leads.1)
-    (with-root id c p b front state counted (subst (λ u. fits_body (Root u) ≡ true) leads.1 fits) (subst (λ u. answers (method_name c) (Root u) ≡ true) leads.1 method)
+    (with-root id c p b front state counted (subst (λ u. fits_body (Root u) ≡ true) leads.1 fits) (subst (λ u. answers (ask_name c) (Root u) ≡ true) leads.1 method)
     waits leads.0 leads.2 (subst IsTellable leads.2 leads.3))
 
 -- an error reply
@@ -225,8 +226,8 @@ with-refusal id method why front state counted tree waits =
       id_is = refl;
     }
 
-pub taken : (id : ℕ) (c : Command) (o : Outcome Session) (front : FrontValue) (state : State) → Good state c o → is_counted id ≡ true → front.tree ≡ view_of state
-    → method_of id front.asks ≡ Some (method_name c) → Taken id o front state
+pub taken : (id : ℕ) (c : DomAsk) (o : Outcome Session) (front : FrontValue) (state : State) → Good state c o → is_counted id ≡ true → front.tree ≡ view_of state
+    → method_of id front.asks ≡ Some (ask_name c) → Taken id o front state
 taken id c (served p Nothing) front state good counted tree waits =
     with-stay id c p Nothing front state counted good.replies.0 good.replies.1 refl tree waits good.moved
 taken id c (served p (Root t)) front state good counted tree waits =
@@ -235,4 +236,4 @@ taken id c (served p (NodeId given)) front state good counted tree waits =
     with-stay id c p (NodeId given) front state counted good.replies.0 good.replies.1 refl tree waits good.moved
 taken id c (served p (NodeIds given)) front state good counted tree waits =
     with-stay id c p (NodeIds given) front state counted good.replies.0 good.replies.1 refl tree waits good.moved
-taken id c (refused why) front state good counted tree waits = with-refusal id (method_name c) why front state counted tree waits
+taken id c (refused why) front state good counted tree waits = with-refusal id (ask_name c) why front state counted tree waits

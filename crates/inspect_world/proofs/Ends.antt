@@ -17,10 +17,10 @@ use Rattle.front_mirror.specs.Front as front
 use Rattle.front_mirror.specs.Front.{FrontValue, FrontState, first_state, first_value, take_frame, Folded, after_message, after_ask, after_take}
 use Rattle.replay_script.specs.Forms.{AskForm}
 use Rattle.inspect_world.specs.Stream.{Stream, sent, put, passed, held, arriving, awaited}
-use Rattle.inspect_world.specs.World.{World, steps, asked, answered, given_up, delivered_down}
+use Rattle.inspect_world.specs.World.{World, one_ask, steps, asked, answered, given_up, delivered_down}
 use Rattle.inspect_world.specs.Fold.{folded, joined, then}
 use Rattle.back_end.specs.States.{State, nodes_in, loaded_state, step}
-use Rattle.inspect_world.specs.Fits.{join, IsAsk, ask_in, ask_with, with_ask, most_asks, IsFit, FitsWith}
+use Rattle.inspect_world.specs.Fits.{join, IsNext, IsTurn, replay, ask_in, ask_with, with_ask, most_asks, IsFit, FitsWith}
 use Rattle.inspect_world.specs.Scripts.{sends, all_told, loaded_world}
 use Rattle.back_end.specs.Texts.{HaveTexts}
 use Rattle.inspect_world.specs.ScriptsFit.{CanSend}
@@ -30,7 +30,7 @@ use Rattle.inspect_world.specs.Carried.{Carries}
 use Rattle.inspect_world.proofs.Frames.{sent-passed, awaited-passed}
 use Rattle.inspect_world.proofs.Worlds.{whole-after, fits-asked, fits-given_up, fits-answered_one}
 use Rattle.inspect_world.proofs.FitLemmas.{world_laws}
-use Rattle.inspect_world.proofs.Messages.{IsText-sent, ask_in-sent, IsAsk-sent}
+use Rattle.inspect_world.proofs.Messages.{IsText-sent, ask_in-sent, IsNext-sent}
 use Rattle.inspect_world.proofs.Replies.{replies-of}
 use Rattle.inspect_world.proofs.Scripts.{fits-loaded}
 use Rattle.inspect_world.proofs.Folds.{Halves, folded-append, folded-halves, folded-rest, joined-append}
@@ -73,7 +73,7 @@ left-passed n there there' piece s is front after =
 -- what the front end makes of the bytes that come down in an honest run
 pub record Takes (front1 : FrontState) (w : World State) (n : ℕ) : Type 0 where
   pub value : FrontValue
-  pub front_is : front1 ≡ good_front value (held (passed n w.down)) (w.asks + 1)
+  pub front_is : front1 ≡ good_front value (held (passed n w.down)) (w.spent.asks + 1)
   pub is_fold : folded take_frame (joined join (first_value []) (frames_of (sent w.up)).whole) (frames_of (passed n w.down).given).whole ≡ Ok value
 
 takes : (up0 down0 up down : Pipe) (w : World State) (frames : List (List ℕ)) (e : Ends) (n : ℕ) (piece : List ℕ)
@@ -94,9 +94,9 @@ takes up0 down0 up down w frames e n piece in_world front_part =
       value = halves.middle;
       front_is =
           ap (λ state. after_take state piece) in_world.front_is
-          ∙ ap (λ bytes. after_take (good_front in_world.value (held w.down) (w.asks + 1)) bytes) front_part
-          ∙ ap (λ (end : Folded). record { value = end.value; rest = held_after (held w.down) (take n w.down.flying); fault = end.fault; next = w.asks + 1; dead = false }) taken
-          ∙ ap (λ rest. good_front halves.middle rest (w.asks + 1)) (sym (rest-given n w.down));
+          ∙ ap (λ bytes. after_take (good_front in_world.value (held w.down) (w.spent.asks + 1)) bytes) front_part
+          ∙ ap (λ (end : Folded). record { value = end.value; rest = held_after (held w.down) (take n w.down.flying); fault = end.fault; next = w.spent.asks + 1; dead = false }) taken
+          ∙ ap (λ rest. good_front halves.middle rest (w.spent.asks + 1)) (sym (rest-given n w.down));
       is_fold =
           ap (folded take_frame start) (whole-given n w.down)
           ∙ folded-append take_frame start given (arriving n w.down)
@@ -145,16 +145,16 @@ never-refuses up0 down0 up down w frames e n piece in_world front_part =
 
 -- an ask is sent
 pub world-asked : (up0 down0 up down up1 : Pipe) (w : World State) (e : Ends) (text method : List ℕ) (there : ℕ)
-    → InWorld up0 down0 up down w (awaited w.up) e → IsText text → IsAsk (w.asks + 1) text
-    → ask_in text ≡ Some (ask_with method (w.asks + 1))
+    → InWorld up0 down0 up down w (awaited w.up) e → IsText text → IsNext w.spent text (one_ask w.spent)
+    → ask_in text ≡ Some (ask_with method (w.spent.asks + 1))
     → up1.sent ≡ up.sent ++ framed text → up1.given ≡ up.given → there ≡ e.up_there + length (framed text)
     → InWorld up0 down0 up1 down (asked text w) (awaited (asked text w).up)
     (record e { front = after_ask e.front method; up_there = there })
 world-asked up0 down0 up down up1 w e text method there in_world letters is_ask is sent_is given_is left =
     let start = joined join (first_value []) (frames_of (sent w.up)).whole in
-    let joins : join in_world.value text ≡ with_ask in_world.value (Some (ask_with method (w.asks + 1))) = ap (with_ask in_world.value) is in
+    let joins : join in_world.value text ≡ with_ask in_world.value (Some (ask_with method (w.spent.asks + 1))) = ap (with_ask in_world.value) is in
     let fits : FitsWith (asked text w) (awaited (asked text w).up) =
-    fits-asked step take_frame join IsAsk IsFit world_laws (first_value []) text w letters is_ask in_world.fits in
+    fits-asked replay IsNext IsTurn IsFit world_laws (first_value []) text w letters is_ask in_world.fits in
     record {
       up_is = carries-put up0 up up1 (framed text) w.up in_world.up_is sent_is given_is;
       down_is = in_world.down_is;
@@ -165,7 +165,7 @@ world-asked up0 down0 up down up1 w e text method there in_world letters is_ask 
       value = join in_world.value text;
       front_is =
           ap (λ front. after_ask front method) in_world.front_is
-          ∙ ap (λ value. good_front value (held w.down) (w.asks + 1 + 1)) (sym joins);
+          ∙ ap (λ value. good_front value (held w.down) (w.spent.asks + 1 + 1)) (sym joins);
       is_fold =
           ap (λ frames. folded take_frame (joined join (first_value []) frames) (frames_of w.down.given).whole)
           (ap (λ bytes. (frames_of bytes).whole) (sym (append_assoc w.up.given w.up.flying (framed text)))
@@ -182,15 +182,15 @@ world-asked up0 down0 up down up1 w e text method there in_world letters is_ask 
 
 -- the ask of a line is sent
 pub world-sent : (up0 down0 up down up1 : Pipe) (w : World State) (e : Ends) (a : AskForm) (text : List ℕ) (there : ℕ)
-    → InWorld up0 down0 up down w (awaited w.up) e → CanSend a → w.asks < most_asks
-    → text ≡ command_text (w.asks + 1) a.method a.params a.session
+    → InWorld up0 down0 up down w (awaited w.up) e → CanSend a → w.spent.asks < most_asks
+    → text ≡ command_text (w.spent.asks + 1) a.method a.params a.session
     → up1.sent ≡ up.sent ++ framed text → up1.given ≡ up.given → there ≡ e.up_there + length (framed text)
     → InWorld up0 down0 up1 down (sends a w) (awaited (sends a w).up)
     (record e { front = after_ask e.front a.method; up_there = there })
 world-sent up0 down0 up down up1 w e a text there in_world can few text_is sent_is given_is left =
-    let small : w.asks + 1 < 2 ^ 53 = omega (arith, few) in
-    world-asked up0 down0 up down up1 w e (command_text (w.asks + 1) a.method a.params a.session) a.method there in_world
-    (IsText-sent (w.asks + 1) a can small) (IsAsk-sent (w.asks + 1) a can (omega (arith, few)) small) (ask_in-sent (w.asks + 1) a can small)
+    let small : w.spent.asks + 1 < 2 ^ 53 = omega (arith, few) in
+    world-asked up0 down0 up down up1 w e (command_text (w.spent.asks + 1) a.method a.params a.session) a.method there in_world
+    (IsText-sent (w.spent.asks + 1) a can small) (IsNext-sent w.spent a can (omega (arith, few)) small) (ask_in-sent (w.spent.asks + 1) a can small)
     (sent_is ∙ ap (λ bytes. up.sent ++ framed bytes) text_is) given_is (left ∙ ap (λ bytes. e.up_there + length (framed bytes)) text_is)
 
 -- bytes come up
@@ -217,7 +217,7 @@ world-given_up up0 down0 up down up1 w e n there piece rest in_world front_part 
   up_left = left-passed n e.up_there there piece w.up in_world.up_left front_part left;
   down_left = in_world.down_left;
   told_is = in_world.told_is;
-  fits = fits-given_up step take_frame join IsAsk IsFit world_laws (first_value []) n w in_world.fits;
+  fits = fits-given_up replay IsNext IsTurn IsFit world_laws (first_value []) n w in_world.fits;
 }
 
 -- a frame that came up whole is answered
@@ -248,7 +248,7 @@ world-answered up0 down0 up down down1 w frame frames e page is_on bound out the
           left ∙ ap (λ n. n + length out) in_world.down_left ∙ sym (length-append w.down.flying out)
           ∙ ap (λ bytes. length (w.down.flying ++ bytes)) all;
       told_is = in_world.told_is;
-      fits = fits-answered_one step take_frame join IsAsk IsFit world_laws (first_value []) frame frames w in_world.fits;
+      fits = fits-answered_one replay IsNext IsTurn IsFit world_laws (first_value []) frame frames w in_world.fits;
     }
 
 -- ---- the replies

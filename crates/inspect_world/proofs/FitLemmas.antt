@@ -9,9 +9,11 @@ use Rattle.node_binding.proofs.StartLemmas.{count-alone}
 use Rattle.pipe_frames.specs.Frames.{Frames, frames_of}
 use Rattle.cdp_messages.specs.declared.command.Asked.{Asked}
 use Rattle.cdp_messages.specs.declared.command.Command.{Command}
-use Rattle.cdp_messages.specs.declared.command.Command.TheVariants.{PushByPath}
+use Rattle.cdp_messages.specs.declared.dom_ask.DomAsk.{DomAsk}
+use Rattle.cdp_messages.specs.declared.dom_ask.DomAsk.TheVariants.{PushByPath}
+use Rattle.cdp_messages.specs.DomAsks.{as_command, dom_ask_in, ask_name, fits_ask}
 use Rattle.cdp_messages.specs.declared.command.Why.{Why}
-use Rattle.cdp_messages.specs.declared.command.Why.TheVariants.{DomOff}
+use Rattle.cdp_messages.specs.declared.command.Why.TheVariants.{NoMethod}
 use Rattle.cdp_messages.specs.declared.command.Refused.{Refused}
 use Rattle.cdp_messages.specs.Asked.{asked, method_name, fits_command}
 use Rattle.dom_agent.specs.Requests.{Outcome, refused, state_after}
@@ -19,9 +21,11 @@ use Rattle.dom_agent.specs.Laws.{session_outcome, CanTell}
 use Rattle.front_mirror.specs.declared.replies.Ask.{Ask}
 use Rattle.front_mirror.specs.declared.faults.FrontKind.{FrontKind}
 use Rattle.front_mirror.specs.Front.{FrontValue, take_frame, method_of, without}
-use Rattle.inspect_world.specs.Fold.{folded, then, Laws, Answers}
-use Rattle.back_end.specs.States.{State, nodes_in, needs_on, on_outcome, on_asked, step, Stepped}
-use Rattle.inspect_world.specs.Fits.{join, ask_in, ask_with, with_ask, IsAsk, IsFit}
+use Rattle.inspect_world.specs.World.{Spent}
+use Rattle.inspect_world.specs.Fold.{folded, then, Laws, Leads}
+use Rattle.back_end.specs.States.{Stepped, State, IsState, nodes_in, after_outcome, on_outcome, outcome_of, on_ask, on_asked, step}
+use Rattle.inspect_world.specs.Fits.{join, ask_in, ask_with, with_ask, IsNext, IsTurn, most_drawn, IsFit, replay}
+use Rattle.cdp_messages.proofs.DomAskLaws.{dom_asks_are_commands}
 use Rattle.back_end.proofs.StateLemmas.{session-after, IsState-after}
 use Rattle.front_mirror.proofs.FoldLemmas.{take_frame-more}
 use Rattle.inspect_world.proofs.Messages.{AskedAs, commanded, refused_as, asked-ask, ask-id}
@@ -46,27 +50,33 @@ folded-join ask before after (frame ∷ frames) e =
       | Err kind ↦ λ is rest. let no : ◌≡◌ {A = Result FrontValue FrontKind} (Err kind) (Ok after) = rest in cc
     ]) refl e
 
+-- the ids that are left are enough for one answer more
+asked_drawn : (pushed frames nodes asks turns : ℕ) → pushed + frames * nodes ≤ (asks + turns) * nodes → pushed + (frames + 1) * nodes ≤ (asks + 1 + turns) * nodes
+asked_drawn pushed frames nodes asks turns h =
+    let left : (frames + 1) * nodes ≡ frames * nodes + nodes = grind arith in
+    let right : (asks + 1 + turns) * nodes ≡ (asks + turns) * nodes + nodes = grind arith in
+    omega (arith, h, left, right)
+
 -- an ask that is sent is the last of those that wait
-fit-asked : (n : ℕ) (ask : List ℕ) (front : FrontValue) (state : State) (frames : List (List ℕ))
-    → IsAsk (n + 1) ask → IsFit n front state frames → IsFit (n + 1) (join front ask) state (frames ++ ask ∷ [])
-fit-asked n ask front state frames is_ask fit =
-    let joins : join front ask ≡ with_ask front (Some (ask_with is_ask.method (n + 1))) = ap (with_ask front) is_ask.is in
-    let same : length (join front ask).replies ≡ length front.replies = ap (λ (v : FrontValue). length v.replies) joins in
-    record {
+fit-asked : (n m : Spent) (ask : List ℕ) (front : FrontValue) (state : State) (frames : List (List ℕ))
+    → IsNext n ask m → IsFit n front state frames → IsFit m (join front ask) state (frames ++ ask ∷ [])
+fit-asked n m ask front state frames is_next fit =
+    let joins : join front ask ≡ with_ask front (Some (ask_with is_next.method (n.asks + 1))) = ap (with_ask front) is_next.is in
+    subst (λ k. IsFit k (join front ask) state (frames ++ ask ∷ [])) (sym is_next.next) (record {
       tree = ap (λ (v : FrontValue). v.tree) joins ∙ fit.tree;
       asks =
           map-append ask_in frames (ask ∷ [])
           ∙ ap (λ asks. asks ++ ask_in ask ∷ []) fit.asks
-          ∙ ap (λ last. map Some front.asks ++ last ∷ []) is_ask.is
-          ∙ sym (map-append Some front.asks (ask_with is_ask.method (n + 1) ∷ []))
+          ∙ ap (λ last. map Some front.asks ++ last ∷ []) is_next.is
+          ∙ sym (map-append Some front.asks (ask_with is_next.method (n.asks + 1) ∷ []))
           ∙ ap (λ (v : FrontValue). map Some v.asks) (sym joins);
-      side_is = fit.side_is;
-      replied =
-          let more : length (frames ++ ask ∷ []) ≡ length frames + 1 = length-append frames (ask ∷ []) in
-          omega (arith, same, more, fit.replied);
-      few = is_ask.few;
-      pushed = subst (λ k. length state.client.session.pushed ≤ k * max_nodes) (sym same) fit.pushed;
-    }
+      is_state = fit.is_state;
+      few = is_next.few;
+      few_turns = fit.few_turns;
+      drawn =
+          subst (λ k. length state.client.session.pushed + k * max_nodes ≤ (n.asks + 1 + n.turns) * max_nodes) (sym (length-append frames (ask ∷ [])))
+          (asked_drawn (length state.client.session.pushed) (length frames) max_nodes n.asks n.turns fit.drawn);
+    })
 
 -- ---- one frame is answered
 
@@ -92,90 +102,103 @@ gone : (ask : Ask) (rest : List Ask) → without ask.id (ask ∷ rest) ≡ rest
 gone ask rest = rw (eq-eqb ask.id ask.id refl) refl
 
 -- a run is too short to use all ids
-room_left : (replied others n pushed nodes : ℕ) → replied + suc others ≡ n → n ≤ 2 ^ 26 → pushed ≤ replied * max_nodes → nodes ≤ 100000 → pushed + nodes < 2 ^ 53
-room_left replied others n pushed nodes all few h count = omega arith
+room_left : (pushed others asks turns nodes : ℕ) → asks ≤ 2 ^ 26 → turns ≤ 2 ^ 26 → pushed + suc others * 100000 ≤ (asks + turns) * 100000 → nodes ≤ 100000
+    → pushed + nodes < 2 ^ 53
+room_left pushed others asks turns nodes few few_turns h count = omega arith
 
-can-tell : (n : ℕ) (frame : List ℕ) (front : FrontValue) (state : State) (frames : List (List ℕ)) → IsFit n front state (frame ∷ frames) → CanTell state.side.page state.client.session
+can-tell : (n : Spent) (frame : List ℕ) (front : FrontValue) (state : State) (frames : List (List ℕ)) → IsFit n front state (frame ∷ frames) → CanTell state.side.page state.client.session
 can-tell n frame front state frames fit = record {
-  serials = let h : state.side.page.next ≤ 2 ^ 52 = fit.side_is.serials in omega (arith, h);
-  ids =
-      let all : length front.replies + suc (length frames) ≡ n = fit.replied in
-      let few : n ≤ 2 ^ 26 = fit.few in
-      room_left (length front.replies) (length frames) n (length state.client.session.pushed) (node_count (nodes_in state)) all few fit.pushed (count-alone state.side.page fit.side_is.page);
-  texts = fit.side_is.texts;
+  serials = let h : state.side.page.next ≤ 2 ^ 52 = fit.is_state.serials in omega (arith, h);
+  ids = room_left (length state.client.session.pushed) (length frames) n.asks n.turns (node_count (nodes_in state)) fit.few fit.few_turns fit.drawn
+      (count-alone state.side.page fit.is_state.page);
+  texts = fit.is_state.texts;
 }
 
-pushed_more : (pushed known replied all : ℕ) → all ≤ pushed + known → pushed ≤ replied * max_nodes → known ≤ 100000 → all ≤ (replied + 1) * max_nodes
-pushed_more pushed known replied all is before few = omega arith
+-- an answer draws no more ids than were kept for it
+answered_drawn : (pushed known others all most : ℕ) → all ≤ pushed + known → known ≤ 100000 → pushed + suc others * 100000 ≤ most → all + others * 100000 ≤ most
+answered_drawn pushed known others all most is few before = omega arith
 
 -- what a front makes of the frames of an ask's command
-answers-taken : (n : ℕ) (frame : List ℕ) (front : FrontValue) (state : State) (frames : List (List ℕ)) (first : First frame frames front.asks)
-    (command : Command) (o : Outcome Session) → IsFit n front state (frame ∷ frames) → step state frame ≡ on_outcome first.ask.id o state → Good state command o
-    → Taken first.ask.id o front state → Answers step take_frame (IsFit n) frame front state frames
+answers-taken : (n : Spent) (frame : List ℕ) (front : FrontValue) (state : State) (frames : List (List ℕ)) (first : First frame frames front.asks)
+    (command : DomAsk) (o : Outcome Session) → IsFit n front state (frame ∷ frames) → step state frame ≡ on_outcome first.ask.id o state → Good state command o
+    → Taken first.ask.id o front state → Leads take_frame (IsFit n) front (step state frame) frames
 answers-taken n frame front state frames first command o fit is good t =
     let out : frames_of (step state frame).sent ≡ record { whole = t.texts; rest = [] } = ap (λ (d : Stepped State). frames_of d.sent) is ∙ t.frames_are in
-    let one : length t.after.replies ≡ length front.replies + 1 = ap length t.replies ∙ length-append front.replies (t.reply ∷ []) in
-    let all : length front.replies + suc (length frames) ≡ n = fit.replied in
     let more : length (state_after state.client.session o).pushed ≤ length state.client.session.pushed + node_count (nodes_in state) = good.few in
-    let pushed : length (state_after state.client.session o).pushed ≤ (length front.replies + 1) * max_nodes =
-    pushed_more (length state.client.session.pushed) (node_count (nodes_in state)) (length front.replies) _ more fit.pushed (count-alone state.side.page fit.side_is.page) in
+    let drawn : length (state_after state.client.session o).pushed + length frames * max_nodes ≤ most_drawn n =
+    answered_drawn (length state.client.session.pushed) (node_count (nodes_in state)) (length frames) _ (most_drawn n) more (count-alone state.side.page fit.is_state.page) fit.drawn in
     record {
       after = t.after;
       is_fold = ap (λ (fs : Frames). folded take_frame front fs.whole) out ∙ t.is_fold;
       fit = subst (λ (d : Stepped State). IsFit n t.after d.state frames) (sym is) (record {
         tree = t.tree;
         asks = first.others ∙ ap (map Some) (sym (t.asks ∙ ap (without first.ask.id) first.asks_are ∙ gone first.ask first.rest));
-        side_is = IsState-after state o fit.side_is good.session;
-        replied = omega (arith, one, all);
+        is_state = IsState-after state o fit.is_state good.session;
         few = fit.few;
-        pushed =
-            subst (λ (w : Session). length w.pushed ≤ length t.after.replies * max_nodes) (sym (session-after state o))
-            (subst (λ k. length (state_after state.client.session o).pushed ≤ k * max_nodes) (sym one) pushed);
+        few_turns = fit.few_turns;
+        drawn = subst (λ (w : Session). length w.pushed + length frames * max_nodes ≤ most_drawn n) (sym (session-after state o)) drawn;
       });
       whole = ap (λ (fs : Frames). fs.rest) out;
     }
 
--- a command is carried out, or refused
-answers-command : (n : ℕ) (frame : List ℕ) (front : FrontValue) (state : State) (frames : List (List ℕ)) (command : Command)
+-- what the agent is asked is carried out, or refused
+answers-ask : (n : Spent) (frame : List ℕ) (front : FrontValue) (state : State) (frames : List (List ℕ)) (ask : DomAsk)
     → IsFit n front state (frame ∷ frames) → (first : First frame frames front.asks)
-    → asked frame false ≡ Ok (record { id = first.ask.id; command = command }) → first.ask.method ≡ method_name command → fits_command command ≡ true
-    → Answers step take_frame (IsFit n) frame front state frames
-answers-command n frame front state frames command fit first is method_is fits =
+    → step state frame ≡ on_ask first.ask.id (Some ask) state → first.ask.method ≡ ask_name ask → fits_ask ask ≡ true
+    → Leads take_frame (IsFit n) front (step state frame) frames
+answers-ask n frame front state frames ask fit first is method_is fits =
     let id = first.ask.id in
-    let o : Outcome Session = cond (needs_on command && not state.client.dom_on) (refused DomOff) (session_outcome state.side.page command state.client.session) in
-    let good : Good state command o = good-command state command fit.side_is.page fit.side_is.session fits (can-tell n frame front state frames fit) in
-    let waits : method_of id front.asks ≡ Some (method_name command) = ap (method_of id) first.asks_are ∙ found first.ask first.rest ∙ ap Some method_is in
-    answers-taken n frame front state frames first command o fit (ap (λ result. on_asked result state) is) good
-    (taken id command o front state good (ask-id frame first.ask first.is) fit.tree waits)
+    let o : Outcome Session = outcome_of (Some ask) state in
+    let good : Good state ask o = good-command state ask fit.is_state.page fit.is_state.session fits (can-tell n frame front state frames fit) in
+    let waits : method_of id front.asks ≡ Some (ask_name ask) = ap (method_of id) first.asks_are ∙ found first.ask first.rest ∙ ap Some method_is in
+    answers-taken n frame front state frames first ask o fit is good
+    (taken id ask o front state good (ask-id frame first.ask first.is) fit.tree waits)
 
 -- a refusal changes nothing
-answers-refused : (n : ℕ) (frame : List ℕ) (front : FrontValue) (state : State) (frames : List (List ℕ)) (why : Why)
+answers-refused : (n : Spent) (frame : List ℕ) (front : FrontValue) (state : State) (frames : List (List ℕ)) (why : Why)
     → IsFit n front state (frame ∷ frames) → (first : First frame frames front.asks)
-    → asked frame false ≡ Err (record { id = Some first.ask.id; why = why })
-    → Answers step take_frame (IsFit n) frame front state frames
+    → step state frame ≡ on_outcome first.ask.id (refused why) state
+    → Leads take_frame (IsFit n) front (step state frame) frames
 answers-refused n frame front state frames why fit first is =
     let id = first.ask.id in
     let waits : method_of id front.asks ≡ Some first.ask.method = ap (method_of id) first.asks_are ∙ found first.ask first.rest in
-    let any : Command = PushByPath [] in
-    answers-taken n frame front state frames first any (refused why) fit (ap (λ result. on_asked result state) is)
-    (good-refused state any why fit.side_is.session)
+    let any : DomAsk = PushByPath [] in
+    answers-taken n frame front state frames first any (refused why) fit is
+    (good-refused state any why fit.is_state.session)
     (with-refusal id first.ask.method why front state (ask-id frame first.ask first.is) fit.tree waits)
 
-by-asked : (n : ℕ) (frame : List ℕ) (front : FrontValue) (state : State) (frames : List (List ℕ))
+-- a command is one that the agent serves, or its method is not known
+answers-command : (n : Spent) (frame : List ℕ) (front : FrontValue) (state : State) (frames : List (List ℕ)) (command : Command)
+    → IsFit n front state (frame ∷ frames) → (first : First frame frames front.asks)
+    → asked frame false ≡ Ok (record { id = first.ask.id; command = command }) → first.ask.method ≡ method_name command → fits_command command ≡ true
+    → Leads take_frame (IsFit n) front (step state frame) frames
+answers-command n frame front state frames command fit first is method_is fits = at (dom_ask_in command) refl
+  where
+    at : (o : Option DomAsk) → dom_ask_in command ≡ o → Leads take_frame (IsFit n) front (step state frame) frames
+    at None none =
+        answers-refused n frame front state frames NoMethod fit first
+        (ap (λ result. on_asked result state) is ∙ ap (λ o. on_ask first.ask.id o state) none)
+    at (Some ask) some =
+        let same : command ≡ as_command ask = dom_asks_are_commands command ask some in
+        answers-ask n frame front state frames ask fit first
+        (ap (λ result. on_asked result state) is ∙ ap (λ o. on_ask first.ask.id o state) some)
+        (method_is ∙ ap method_name same) (ap fits_command (sym same) ∙ fits)
+
+by-asked : (n : Spent) (frame : List ℕ) (front : FrontValue) (state : State) (frames : List (List ℕ))
     → IsFit n front state (frame ∷ frames) → (first : First frame frames front.asks)
     → (result : Result Asked Refused) → AskedAs first.ask result → asked frame false ≡ result
-    → Answers step take_frame (IsFit n) frame front state frames
+    → Leads take_frame (IsFit n) front (step state frame) frames
 by-asked n frame front state frames fit first _ (commanded command method_is fits) is =
     answers-command n frame front state frames command fit first is method_is fits
 by-asked n frame front state frames fit first _ (refused_as why) is =
-    answers-refused n frame front state frames why fit first is
+    answers-refused n frame front state frames why fit first (ap (λ result. on_asked result state) is)
 
 -- what a step sends takes the front along
-fit-answered : (n : ℕ) (frame : List ℕ) (front : FrontValue) (state : State) (frames : List (List ℕ))
-    → IsFit n front state (frame ∷ frames) → Answers step take_frame (IsFit n) frame front state frames
+fit-answered : (n : Spent) (frame : List ℕ) (front : FrontValue) (state : State) (frames : List (List ℕ))
+    → IsFit n front state (frame ∷ frames) → Leads take_frame (IsFit n) front (step state frame) frames
 fit-answered n frame front state frames fit =
     let first : First frame frames front.asks = first-ask frame frames front.asks fit.asks in
     by-asked n frame front state frames fit first (asked frame false) (asked-ask frame first.ask first.is) refl
 
-pub world_laws : Laws step take_frame join IsAsk IsFit
-world_laws = record { later = folded-join; asks = fit-asked; answers = fit-answered }
+pub world_laws : Laws replay IsNext IsTurn IsFit
+world_laws = record { later = folded-join; asks = fit-asked; answers = fit-answered; turns = λ n x front state frames is_turn fit. absurd x }

@@ -1,5 +1,5 @@
 -- The ends follow every link, whatever bytes it gives.
-use Rattle.std.proofs.Common.{◌≡◌, refl, Bool, true, false, not, ◌&&◌, cond, ℕ, ◌+◌, ◌^◌, ◌<◌, ◌≤◌, List, [], ◌∷◌, ◌++◌, length, map, drop, Some, None, sym, ◌∙◌, ap, subst, append_assoc, append-nil, length-append, Result, Ok, Err, arith}
+use Rattle.std.proofs.Common.{Option, ◌≡◌, refl, Bool, true, false, not, ◌&&◌, cond, ℕ, ◌+◌, ◌^◌, ◌<◌, ◌≤◌, List, [], ◌∷◌, ◌++◌, length, map, drop, Some, None, sym, ◌∙◌, ap, subst, append_assoc, append-nil, length-append, Result, Ok, Err, arith}
 use Rattle.std.specs.Option.{option_to_list}
 use Rattle.std.proofs.Math.Seq.{drop-append_seam}
 use Rattle.std.proofs.lemmas.List.{map-append}
@@ -18,8 +18,11 @@ use Rattle.pipe_frames.specs.Frames.{IsText, Frames, framed, frames_of, frames_f
 use Rattle.pipe_frames.proofs.FrameLemmas.{frames_of-append, frames_of-one}
 use Rattle.cdp_messages.specs.declared.command.Asked.{Asked}
 use Rattle.cdp_messages.specs.declared.command.Refused.{Refused}
-use Rattle.cdp_messages.specs.declared.command.Why.TheVariants.{DomOff}
-use Rattle.cdp_messages.specs.Asked.{asked, command_text, fits_command, method_name}
+use Rattle.cdp_messages.specs.declared.command.Why.TheVariants.{NoMethod}
+use Rattle.cdp_messages.specs.declared.dom_ask.DomAsk.{DomAsk}
+use Rattle.cdp_messages.specs.DomAsks.{as_command, dom_ask_in, ask_name, fits_ask}
+use Rattle.cdp_messages.proofs.DomAskLaws.{dom_asks_are_commands}
+use Rattle.cdp_messages.specs.Asked.{asked, command_text, fits_command}
 use Rattle.cdp_messages.specs.Replies.{message_data, refusal_message, refused_text}
 use Rattle.dom_agent.specs.Requests.{Outcome, refused}
 use Rattle.dom_agent.specs.Laws.{session_outcome, CanTell}
@@ -30,7 +33,7 @@ use Rattle.front_mirror.specs.Front.{FrontValue, FrontState, Folded, first_value
 use Rattle.front_mirror.specs.Laws as front_laws
 use Rattle.replay_script.specs.Forms.{AskForm}
 use Rattle.inspect_world.specs.World.{steps}
-use Rattle.back_end.specs.States.{State, nodes_in, view_of, loaded_state, needs_on, on_asked, on_outcome, step, Stepped, IsState}
+use Rattle.back_end.specs.States.{State, nodes_in, view_of, loaded_state, outcome_of, on_ask, on_asked, on_outcome, step, Stepped, IsState}
 use Rattle.inspect_world.specs.Fits.{ask_in, ask_with}
 use Rattle.inspect_world.specs.Held.{Ends, good_front}
 use Rattle.inspect_world.specs.Links.{asks_among, fold_of, GoesOn, Follows}
@@ -69,40 +72,54 @@ can-tell state is room = record {
 found : (id : ℕ) (method : List ℕ) → method_of id (ask_with method id ∷ []) ≡ Some method
 found id method = rw (eq-eqb id id refl) refl
 
-sends-command : (state : State) (frame : List ℕ) (a : Asked) → IsState state → length state.client.session.pushed < 2 ^ 52
-    → is_counted a.id ≡ true → fits_command a.command ≡ true → asked frame false ≡ Ok a → Sends state frame
-sends-command state frame a is room counted fits asks =
-    let o : Outcome Session = cond (needs_on a.command && not state.client.dom_on) (refused DomOff) (session_outcome state.side.page a.command state.client.session) in
-    let good : Good state a.command o = good-command state a.command is.page is.session fits (can-tell state is room) in
-    let start : FrontValue = record { tree = view_of state; asks = ask_with (method_name a.command) a.id ∷ []; replies = []; taken = 0 } in
-    let t : Taken a.id o start state = taken a.id a.command o start state good counted refl (found a.id (method_name a.command)) in
-    let is_step : step state frame ≡ on_outcome a.id o state = ap (λ result. on_asked result state) asks in
+-- what the agent is asked
+sends-ask : (state : State) (frame : List ℕ) (id : ℕ) (ask : DomAsk) → IsState state → length state.client.session.pushed < 2 ^ 52
+    → is_counted id ≡ true → fits_ask ask ≡ true → step state frame ≡ on_ask id (Some ask) state → Some id ≡ reply_id frame → Sends state frame
+sends-ask state frame id ask is room counted fits is_step id_is =
+    let o : Outcome Session = outcome_of (Some ask) state in
+    let good : Good state ask o = good-command state ask is.page is.session fits (can-tell state is room) in
+    let start : FrontValue = record { tree = view_of state; asks = ask_with (ask_name ask) id ∷ []; replies = []; taken = 0 } in
+    let t : Taken id o start state = taken id ask o start state good counted refl (found id (ask_name ask)) in
     let kept : replies_among t.texts ≡ told_of t.reply ∷ [] = sym (replies-folded t.texts start t.after t.is_fold) ∙ ap (map told_of) t.replies in
     record {
       texts = t.texts;
       frames_are = ap (λ (d : Stepped State). frames_of d.sent) is_step ∙ t.frames_are;
-      ids_are = ap (map (λ (x : Told). x.id)) kept ∙ ap (λ id. id ∷ []) (t.id_is ∙ sym (ap id_asked asks));
+      ids_are = ap (map (λ (x : Told). x.id)) kept ∙ ap (λ id. id ∷ []) (t.id_is ∙ id_is);
       is_state = subst (λ (d : Stepped State). IsState d.state) (sym is_step) (IsState-after state o is good.session);
     }
 
-sends-refusal : (state : State) (frame : List ℕ) (r : Refused) → IsState state → holds_of_some is_counted r.id ≡ true → asked frame false ≡ Err r → Sends state frame
-sends-refusal state frame r is counted asks =
+sends-refusal : (state : State) (frame : List ℕ) (r : Refused) → IsState state → holds_of_some is_counted r.id ≡ true
+    → step state frame ≡ record { state = state; sent = framed (refused_text r) } → r.id ≡ reply_id frame → Sends state frame
+sends-refusal state frame r is counted is_step id_is =
     let text = refused_text r in
-    let is_step : step state frame ≡ record { state = state; sent = framed text } = ap (λ result. on_asked result state) asks in
     record {
       texts = text ∷ [];
       frames_are =
           ap (λ (d : Stepped State). frames_of d.sent) is_step
           ∙ frames_of-one text (texts_have_no_zero (message_data (refusal_message r)) (refusal_plain r counted));
-      ids_are = ap (λ m. map (λ (x : Told). x.id) (told_by text m ++ [])) (refusals_are_read r counted) ∙ ap (λ id. id ∷ []) (sym (ap id_asked asks));
+      ids_are = ap (λ m. map (λ (x : Told). x.id) (told_by text m ++ [])) (refusals_are_read r counted) ∙ ap (λ id. id ∷ []) id_is;
       is_state = subst (λ (d : Stepped State). IsState d.state) (sym is_step) is;
     }
+
+-- a command is one that the agent serves, or its method is not known
+sends-command : (state : State) (frame : List ℕ) (a : Asked) → IsState state → length state.client.session.pushed < 2 ^ 52
+    → is_counted a.id ≡ true → fits_command a.command ≡ true → asked frame false ≡ Ok a → Sends state frame
+sends-command state frame a is room counted fits asks = at (dom_ask_in a.command) refl
+  where
+    at : (o : Option DomAsk) → dom_ask_in a.command ≡ o → Sends state frame
+    at None none =
+        sends-refusal state frame (record { id = Some a.id; why = NoMethod }) is counted
+        (ap (λ result. on_asked result state) asks ∙ ap (λ o. on_ask a.id o state) none) (sym (ap id_asked asks))
+    at (Some ask) some =
+        let same : a.command ≡ as_command ask = dom_asks_are_commands a.command ask some in
+        sends-ask state frame a.id ask is room counted (ap fits_command (sym same) ∙ fits)
+        (ap (λ result. on_asked result state) asks ∙ ap (λ o. on_ask a.id o state) some) (sym (ap id_asked asks))
 
 pub step-sends : (state : State) (frame : List ℕ) → IsState state → length state.client.session.pushed < 2 ^ 52 → Sends state frame
 step-sends state frame is room = at (asked frame false) (frame-fits frame) refl where
   at : (r : Result Asked Refused) → AskedFits r → asked frame false ≡ r → Sends state frame
   at (Ok a) fits asks = sends-command state frame a is room fits.0 fits.1 asks
-  at (Err r) fits asks = sends-refusal state frame r is fits asks
+  at (Err r) fits asks = sends-refusal state frame r is fits (ap (λ result. on_asked result state) asks) (sym (ap id_asked asks))
 
 -- one step more
 steps-last-state : {S : Type 0} (step : S → List ℕ → Stepped S) (state : S) (frames : List (List ℕ)) (frame : List ℕ)

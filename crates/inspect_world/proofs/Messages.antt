@@ -1,5 +1,5 @@
 -- What a run needs of single messages: that an ask is the ask that it is meant to be, and what the back end makes of one.
-use Rattle.std.proofs.Common.{◌≡◌, ℕ, ◌^◌, ◌<◌, ◌≤◌, true, false, List, codes, Option, Some, None, option_and_then, refl, sym, ◌∙◌, ap, subst, Result, Ok, Err, lt-ltb}
+use Rattle.std.proofs.Common.{◌≡◌, ◌+◌, ℕ, ◌^◌, ◌<◌, ◌≤◌, true, false, List, codes, Option, Some, None, option_and_then, refl, sym, ◌∙◌, ap, subst, Result, Ok, Err, lt-ltb}
 use Rattle.serde_json.specs.Data.{Data, Members}
 use Rattle.serde_json.specs.Find.{get_member, as_str, as_object}
 use Rattle.cdp_json.specs.Kinds.{is_counted, holds_of_some, as_whole}
@@ -11,15 +11,17 @@ use Rattle.cdp_messages.specs.declared.command.Asked.{Asked}
 use Rattle.cdp_messages.specs.declared.command.Command.{Command}
 use Rattle.cdp_messages.specs.declared.command.Why.{Why}
 use Rattle.cdp_messages.specs.declared.command.Refused.{Refused}
-use Rattle.cdp_messages.specs.Asked.{json_of, then_ok, command_of, method_in, command_in, asked_by, with_id, asked_in, asked_value, asked, command_value, command_text, method_name, fits_command}
+use Rattle.cdp_messages.specs.Asked.{json_of, command_of, method_in, command_in, asked_by, with_id, asked_in, asked_value, asked, command_value, command_text, method_name, fits_command}
+use Rattle.cdp_json.specs.Lookups.{then_ok}
 use Rattle.front_mirror.specs.declared.replies.Ask.{Ask}
 use Rattle.replay_script.specs.Forms.{AskForm}
-use Rattle.inspect_world.specs.Fits.{ask_of, ask_in, ask_with, most_asks, IsAsk}
+use Rattle.inspect_world.specs.World.{Spent, one_ask}
+use Rattle.inspect_world.specs.Fits.{ask_of, ask_in, ask_with, most_asks, IsNext}
 use Rattle.inspect_world.specs.ScriptsFit.{CanSend}
 use Rattle.cdp_json.proofs.Options.{and_then_some}
-use Rattle.back_end.proofs.AskedLemmas.{Known, known-of, whole-is}
+use Rattle.back_end.proofs.AskedLemmas.{whole-is}
 use Rattle.cdp_messages.proofs.Messages.{json_of-compact_text}
-use Rattle.cdp_messages.proofs.Commands.{ask_plain}
+use Rattle.cdp_messages.proofs.Commands.{ask_plain, commands_are_named}
 use Rattle.cdp_messages.proofs.ZeroFree.{texts_have_no_zero}
 
 -- ---- an ask that is sent
@@ -45,8 +47,9 @@ ask_in-sent id a can small =
     ap (λ o. option_and_then ask_of (option_and_then as_object o)) (json_of-compact_text d (sent_plain id a can small) (can.shallow id) (can.texts id c))
     ∙ value_ask_in id a.method a.params a.session c
 
-pub IsAsk-sent : (id : ℕ) (a : AskForm) → CanSend a → id ≤ most_asks → id < 2 ^ 53 → IsAsk id (command_text id a.method a.params a.session)
-IsAsk-sent id a can few small = record { method = a.method; is = ask_in-sent id a can small; few = few }
+pub IsNext-sent : (n : Spent) (a : AskForm) → CanSend a → n.asks + 1 ≤ most_asks → n.asks + 1 < 2 ^ 53
+    → IsNext n (command_text (n.asks + 1) a.method a.params a.session) (one_ask n)
+IsNext-sent n a can few small = record { method = a.method; is = ask_in-sent (n.asks + 1) a can small; next = refl; few = few }
 
 -- ---- what the back end reads in an ask
 
@@ -56,9 +59,9 @@ pub data AskedAs (ask : Ask) : Result Asked Refused → Type 0 where
       → AskedAs ask (Ok (record { id = ask.id; command = command }))
   refused_as : (why : Why) → AskedAs ask (Err (record { id = Some ask.id; why = why }))
 
-by_command : (id : ℕ) (method : List ℕ) (r : Result Command Why) → ((c : Command) → r ≡ Ok c → Known method c)
+by_command : (id : ℕ) (method : List ℕ) (r : Result Command Why) → ((c : Command) → r ≡ Ok c → (method ≡ method_name c) × (fits_command c ≡ true))
     → AskedAs (ask_with method id) (asked_by id r)
-by_command id method (Ok c) is = let k : Known method c = is c refl in commanded c k.method_is k.fits
+by_command id method (Ok c) is = let k = is c refl in commanded c k.0 k.1
 by_command id method (Err why) is = refused_as why
 
 -- the id and the method of a frame that is an ask
@@ -74,18 +77,18 @@ there : {T : Type 0} (reads : Data → Option T) (o : Option Data) (x : T) → o
 there reads None x e = absurd cc
 there reads (Some d) x e = ap field_if e
 
-frame_ask : (frame : Members) (ask : Ask) → ask_of frame ≡ Some ask → AskedAs ask (asked_in (Some frame))
+frame_ask : (frame : Members) (ask : Ask) → ask_of frame ≡ Some ask → AskedAs ask (asked_in false (Some frame))
 frame_ask frame ask e =
     let p = id_method (option_and_then as_whole (get_member (codes "id") frame)) (option_and_then as_str (get_member (codes "method") frame)) ask e in
-    let rest = λ (method : List ℕ). command_of method (get_member (codes "params") frame) (get_member (codes "sessionId") frame) in
+    let rest = λ (method : List ℕ). command_of false method (get_member (codes "params") frame) (get_member (codes "sessionId") frame) in
     let id_is : field_of as_whole (codes "id") frame ≡ Is ask.id = there as_whole (get_member (codes "id") frame) ask.id p.0 in
     let method_is : field_of as_str (codes "method") frame ≡ Is ask.method = there as_str (get_member (codes "method") frame) ask.method p.1 in
-    let is : asked_in (Some frame) ≡ asked_by ask.id (rest ask.method) =
-    ap (λ f. with_id f (command_in frame)) id_is ∙ ap (λ f. asked_by ask.id (then_ok (method_in f) rest)) method_is in
+    let is : asked_in false (Some frame) ≡ asked_by ask.id (rest ask.method) =
+    ap (λ f. with_id f (command_in false frame)) id_is ∙ ap (λ f. asked_by ask.id (then_ok (method_in f) rest)) method_is in
     subst (AskedAs ask) (sym is)
-    (by_command ask.id ask.method (rest ask.method) (known-of ask.method (get_member (codes "params") frame) (get_member (codes "sessionId") frame)))
+    (by_command ask.id ask.method (rest ask.method) (commands_are_named false ask.method (get_member (codes "params") frame) (get_member (codes "sessionId") frame)))
 
-object_ask : (o : Option Members) (ask : Ask) → option_and_then ask_of o ≡ Some ask → AskedAs ask (asked_in o)
+object_ask : (o : Option Members) (ask : Ask) → option_and_then ask_of o ≡ Some ask → AskedAs ask (asked_in false o)
 object_ask None ask e = absurd cc
 object_ask (Some frame) ask e = frame_ask frame ask e
 

@@ -7,7 +7,7 @@ use Rattle.node_tree.specs.Keys.{Spot, spot}
 use Rattle.node_tree.specs.Seen.{Seen, seen_id}
 use Rattle.cdp_messages.specs.declared.down.ReplyBody.{ReplyBody}
 use Rattle.cdp_messages.specs.declared.down.ReplyBody.TheVariants.{Nothing, Root, NodeId, NodeIds}
-use Rattle.cdp_messages.specs.Events.{News, set_children, document_updated}
+use Rattle.cdp_messages.specs.Events.{News, set_children, document_updated, attribute_modified, attribute_removed, text_modified, count_updated, inserted, removed, paused}
 use Rattle.cdp_messages.specs.Replies.{Message, reply, fault, event, down_of, result_of}
 use Rattle.cdp_messages.specs.Told as told
 use Rattle.front_mirror.specs.declared.replies.Ask.{Ask}
@@ -73,6 +73,13 @@ keeps-children v parent nodes (Some s) w e = keeps-tree v _ (children_fault v.tr
 keeps-news : (v : FrontValue) (n : News) (w : FrontValue) → with_news v n ≡ Ok w → Keeps v [] w
 keeps-news v (set_children parent nodes) w e = keeps-children v parent nodes (spot seen_id parent 0 v.tree) w e
 keeps-news v document_updated w e = keeps-none v _ w refl e
+keeps-news v (attribute_modified id name value) w e = cc
+keeps-news v (attribute_removed id name) w e = cc
+keeps-news v (text_modified id value) w e = cc
+keeps-news v (count_updated id count) w e = cc
+keeps-news v (inserted parent previous b) w e = cc
+keeps-news v (removed parent id) w e = cc
+keeps-news v (paused why) w e = cc
 
 keeps-message : (v : FrontValue) (frame : List ℕ) (o : Option Message) (w : FrontValue) → with_message v frame o ≡ Ok w → Keeps v (told_by frame o) w
 keeps-message v frame None w e = refuses NotMessage w e

@@ -16,13 +16,13 @@ use Rattle.pipe_frames.specs.Frames.{frames_of, frames_from}
 use Rattle.front_mirror.specs.declared.replies.Ask.{Ask}
 use Rattle.inspect_world.specs.Stream.{Stream, sent, passed, held, awaited}
 use Rattle.inspect_world.specs.Fold.{folded, joined}
-use Rattle.inspect_world.specs.World.{World, delivered_up, settled}
+use Rattle.inspect_world.specs.World.{World, nothing_spent, delivered_up, settled}
 use Rattle.back_end.specs.States.{State, nodes_in, loaded_state, step, IsState}
-use Rattle.inspect_world.specs.Fits.{join, ask_in, IsAsk, IsFit, Fits}
+use Rattle.inspect_world.specs.Fits.{join, ask_in, IsNext, IsTurn, IsFit, replay, Fits}
 use Rattle.inspect_world.specs.Scripts.{sends, after_line, after_lines, loaded_world}
 use Rattle.back_end.specs.Texts.{HaveTexts}
 use Rattle.inspect_world.specs.ScriptsFit.{CanSend, IsLater, AreLater, LinesFit, DeliveriesFit, SettledShows}
-use Rattle.inspect_world.proofs.Messages.{IsText-sent, IsAsk-sent}
+use Rattle.inspect_world.proofs.Messages.{IsText-sent, IsNext-sent}
 use Rattle.inspect_world.proofs.Replies.{replies-of}
 use Rattle.inspect_world.proofs.Worlds.{fits-first, fits-asked, fits-delivered_up, fits-delivered_down, fits-settled}
 use Rattle.inspect_world.proofs.FitLemmas.{world_laws}
@@ -41,45 +41,45 @@ IsState-first nodes can texts = record {
   session = IsSession-begun (nodes_in (loaded_state nodes));
 }
 
-fit-first : (nodes : Nodes Label) → CanLoad nodes → HaveTexts nodes → IsFit 0 (first_value []) (loaded_state nodes) []
+fit-first : (nodes : Nodes Label) → CanLoad nodes → HaveTexts nodes → IsFit nothing_spent (first_value []) (loaded_state nodes) []
 fit-first nodes can texts = record {
   tree = refl;
   asks = refl;
-  side_is = IsState-first nodes can texts;
-  replied = refl;
+  is_state = IsState-first nodes can texts;
   few = omega arith;
-  pushed = omega arith;
+  few_turns = omega arith;
+  drawn = omega arith;
 }
 
 pub fits-loaded : (nodes : Nodes Label) → CanLoad nodes → HaveTexts nodes → Fits (loaded_world nodes)
 fits-loaded nodes can texts =
-    fits-first step take_frame join IsAsk IsFit world_laws (first_value []) (loaded_state nodes) (fit-first nodes can texts)
+    fits-first replay IsNext IsTurn IsFit world_laws (first_value []) (loaded_state nodes) (fit-first nodes can texts)
 
 -- ---- a line
 
-pub fits-sent : (a : AskForm) (w : World State) → CanSend a → w.asks + 1 ≤ 2 ^ 26 → Fits w → Fits (sends a w)
+pub fits-sent : (a : AskForm) (w : World State) → CanSend a → w.spent.asks + 1 ≤ 2 ^ 26 → Fits w → Fits (sends a w)
 fits-sent a w can few fits =
-    let small : w.asks + 1 < 2 ^ 53 = omega (arith, few) in
-    fits-asked step take_frame join IsAsk IsFit world_laws (first_value []) (command_text (w.asks + 1) a.method a.params a.session) w
-    (IsText-sent (w.asks + 1) a can small) (IsAsk-sent (w.asks + 1) a can few small) fits
+    let small : w.spent.asks + 1 < 2 ^ 53 = omega (arith, few) in
+    fits-asked replay IsNext IsTurn IsFit world_laws (first_value []) (command_text (w.spent.asks + 1) a.method a.params a.session) w
+    (IsText-sent (w.spent.asks + 1) a can small) (IsNext-sent w.spent a can few small) fits
 
 -- how many replies were told says nothing of the streams
-pub fits-told : (w : World State) (n : ℕ) → Fits w → Fits (record { state = w.state; up = w.up; down = w.down; asks = w.asks; told = n })
+pub fits-told : (w : World State) (n : ℕ) → Fits w → Fits (record { state = w.state; up = w.up; down = w.down; spent = w.spent; told = n })
 fits-told w n fits = record { front = fits.front; is_fold = fits.is_fold; fit = fits.fit; up_whole = fits.up_whole; down_whole = fits.down_whole }
 
 settled-fits : (w : World State) → Fits w → Fits (settled step w)
-settled-fits w fits = fits-settled step take_frame join IsAsk IsFit world_laws (first_value []) w fits
+settled-fits w fits = fits-settled replay IsNext IsTurn IsFit world_laws (first_value []) w fits
 
-pub fits-line : (line : LineForm) (w : World State) → IsLater line → w.asks + 1 ≤ 2 ^ 26 → Fits w → Fits (after_line line w)
+pub fits-line : (line : LineForm) (w : World State) → IsLater line → w.spent.asks + 1 ≤ 2 ^ 26 → Fits w → Fits (after_line line w)
 fits-line (load nodes) w later few fits = fits
 fits-line (ask a) w later few fits = fits-sent a w later few fits
-fits-line (up n) w later few fits = fits-delivered_up step take_frame join IsAsk IsFit world_laws (first_value []) n w fits
-fits-line (down n) w later few fits = fits-delivered_down step take_frame join IsAsk IsFit world_laws (first_value []) n w fits
+fits-line (up n) w later few fits = fits-delivered_up replay IsNext IsTurn IsFit world_laws (first_value []) n w fits
+fits-line (down n) w later few fits = fits-delivered_down replay IsNext IsTurn IsFit world_laws (first_value []) n w fits
 fits-line settle w later few fits = settled-fits w fits
 fits-line show_front w later few fits = settled-fits w fits
 fits-line show_replies w later few fits = fits-told (settled step w) _ (settled-fits w fits)
 
-asks-line : (line : LineForm) (w : World State) → (after_line line w).asks ≤ w.asks + 1
+asks-line : (line : LineForm) (w : World State) → (after_line line w).spent.asks ≤ w.spent.asks + 1
 asks-line (load nodes) w = omega arith
 asks-line (ask a) w = omega arith
 asks-line (up n) w = omega arith
@@ -88,11 +88,11 @@ asks-line settle w = omega arith
 asks-line show_front w = omega arith
 asks-line show_replies w = omega arith
 
-fits-lines : (n : ℕ) (lines : List LineForm) (w : World State) → AreLater lines → w.asks + length lines ≤ 2 ^ 26 → Fits w → Fits (after_lines (take n lines) w)
+fits-lines : (n : ℕ) (lines : List LineForm) (w : World State) → AreLater lines → w.spent.asks + length lines ≤ 2 ^ 26 → Fits w → Fits (after_lines (take n lines) w)
 fits-lines zero lines w later few fits = fits
 fits-lines (suc n) [] w later few fits = fits
 fits-lines (suc n) (line ∷ lines) w later few fits =
-    let more : (after_line line w).asks ≤ w.asks + 1 = asks-line line w in
+    let more : (after_line line w).spent.asks ≤ w.spent.asks + 1 = asks-line line w in
     fits-lines n lines (after_line line w) later.1 (omega (arith, few, more)) (fits-line line w later.0 (omega (arith, few)) fits)
 
 pub lines-fit : LinesFit
@@ -102,8 +102,8 @@ lines-fit nodes lines can texts later few n = fits-lines n lines (loaded_world n
 
 pub deliveries-fit : DeliveriesFit
 deliveries-fit w n fits = (
-  fits-delivered_up step take_frame join IsAsk IsFit world_laws (first_value []) n w fits,
-  fits-delivered_down step take_frame join IsAsk IsFit world_laws (first_value []) n w fits,
+  fits-delivered_up replay IsNext IsTurn IsFit world_laws (first_value []) n w fits,
+  fits-delivered_down replay IsNext IsTurn IsFit world_laws (first_value []) n w fits,
 )
 
 -- nothing is on its way after all was given
@@ -125,7 +125,7 @@ no_asks (first ∷ asks) e = let no : ◌≡◌ {A = List (Option Ask)} (Some fi
 pub settled-shows : SettledShows
 settled-shows w fits =
     let w' = settled step w in
-    let all : Fits w' = fits-settled step take_frame join IsAsk IsFit world_laws (first_value []) w fits in
+    let all : Fits w' = fits-settled replay IsNext IsTurn IsFit world_laws (first_value []) w fits in
     let up_none : w'.up.flying ≡ [] = given-all w.up in
     let down_none : w'.down.flying ≡ [] = given-all (delivered_up step (length w.up.flying) w).down in
     let up_held : held w'.up ≡ [] = ap (λ bytes. (frames_of bytes).rest) (sym (sent-all w'.up up_none)) ∙ all.up_whole in

@@ -1,5 +1,5 @@
 -- An ask that a line gives can be sent: its parameters are JSON that is written and read again as it is.
-use Rattle.std.proofs.Common.{◌≡◌, ℕ, suc, ◌≤◌, List, true, bytes_eq, codes, Option, Some, None, refl, sym, ◌∙◌, ap, subst, Result, Ok, Err, arith}
+use Rattle.std.proofs.Common.{false, ◌≡◌, ℕ, suc, ◌≤◌, List, true, bytes_eq, codes, Option, Some, None, refl, sym, ◌∙◌, ap, subst, Result, Ok, Err, arith}
 use Rattle.json.proofs.Printed.Utf8.{IsUtf8-are_ascii}
 use Rattle.serde_json.specs.Data.{Data, null, boolean, number, string, array, object, Members, no_members, member, depth}
 use Rattle.serde_json.specs.Read.{max_depth}
@@ -10,8 +10,9 @@ use Rattle.cdp_json.proofs.KindLaws.{text_lawful, anything_lawful}
 use Rattle.cdp_json.proofs.ReadBack.{IsUtf8-compact_text}
 use Rattle.cdp_json.proofs.RowLaws.{ends_lawful, and_need_lawful, and_may_lawful, object_lawful}
 use Rattle.cdp_messages.specs.declared.command.Why.{Why}
-use Rattle.cdp_messages.specs.Asked.{then_ok, params_of, unless_session, command_for, command_of, command_value}
-use Rattle.replay_script.specs.Faults.{is_good, is_built_ask}
+use Rattle.cdp_messages.specs.Asked.{params_of, unless_session, command_for, command_of, command_value}
+use Rattle.cdp_json.specs.Lookups.{then_ok}
+use Rattle.replay_script.specs.Faults.{is_served, is_built_ask}
 use Rattle.replay_script.specs.Forms.{AskForm, AskParts, ask_kind, ask_from, ask_in, ask_of, only_member, only}
 use Rattle.inspect_world.specs.ScriptsFit.{CanSend}
 use Rattle.cdp_messages.proofs.Commands.{ask_plain}
@@ -71,10 +72,10 @@ can_send-parts m params a is built plain texts deep =
     })
 
 -- a command with a session is none that the back end knows
-no_session : (m : List ℕ) (params session : Option Data) → is_good (command_of m params session) ≡ true → session ≡ None
+no_session : (m : List ℕ) (params session : Option Data) → is_served (command_of false m params session) ≡ true → session ≡ None
 no_session m params None e = refl
 no_session m params (Some s) e = at (params_of params) e where
-  at : (r : Result Members Why) → is_good (then_ok r (λ ps. unless_session (Some s) (command_for m ps))) ≡ true → Some s ≡ None
+  at : (r : Result Members Why) → is_served (then_ok r (λ ps. unless_session (Some s) (command_for false m ps))) ≡ true → Some s ≡ None
   at (Ok ps) h = absurd cc
   at (Err why) h = absurd cc
 

@@ -1,11 +1,11 @@
 -- Each part of a run keeps that the whole streams, folded, fit the state.
-use Rattle.std.proofs.Common.{◌≡◌, ℕ, ◌+◌, List, [], ◌∷◌, ◌++◌, length, refl, sym, ◌∙◌, ap, subst, append_assoc, append-nil, Result}
+use Rattle.std.proofs.Common.{◌≡◌, ℕ, List, [], ◌∷◌, ◌++◌, length, refl, sym, ◌∙◌, ap, subst, append_assoc, append-nil}
 use Rattle.pipe_frames.specs.Frames.{IsText, framed, frames_of, frames_from, held_after}
 use Rattle.pipe_frames.proofs.FrameLemmas.{frames_of-append, frames_of-one, frames_from-append}
 use Rattle.inspect_world.specs.Stream.{Stream, sent, put, passed, held, arriving, awaited}
 use Rattle.back_end.specs.States.{Stepped}
-use Rattle.inspect_world.specs.World.{World, first_world, steps, asked, answered, given_up, delivered_up, delivered_down, settled}
-use Rattle.inspect_world.specs.Fold.{folded, joined, then, Laws, Answers, FitsWith, Fits}
+use Rattle.inspect_world.specs.World.{World, Spent, nothing_spent, one_ask, one_turn, first_world, steps, asked, turned, answered, given_up, delivered_up, delivered_down, settled}
+use Rattle.inspect_world.specs.Fold.{folded, joined, then, Machine, Laws, Leads, FitsWith, Fits}
 use Rattle.inspect_world.proofs.Frames.{rest-sent, sent-passed, awaited-passed}
 use Rattle.inspect_world.proofs.Folds.{folded-append, joined-append}
 
@@ -35,18 +35,18 @@ answered-cons step frame frames w =
     let same : w.down.flying ++ (first ++ later) ≡ (w.down.flying ++ (first ++ [])) ++ later =
     sym (append_assoc w.down.flying first later)
     ∙ ap (λ bytes. (w.down.flying ++ bytes) ++ later) (sym (append-nil first)) in
-    ap (λ bytes. record { state = state; up = w.up; down = record { given = w.down.given; flying = bytes }; asks = w.asks; told = w.told }) same
+    ap (λ bytes. record { state = state; up = w.up; down = record { given = w.down.given; flying = bytes }; spent = w.spent; told = w.told }) same
 
-module _ {S F E : Type 0} (step : S → List ℕ → Stepped S) (take : F → List ℕ → Result F E) (join : F → List ℕ → F)
-    (IsAsk : ℕ → List ℕ → Type 0) (Fit : ℕ → F → S → List (List ℕ) → Type 0) (laws : Laws step take join IsAsk Fit) where
+module _ {S F E X : Type 0} (machine : Machine S F E X) (IsNext : Spent → List ℕ → Spent → Type 0)
+    (IsTurn : Spent → X → Type 0) (Fit : Spent → F → S → List (List ℕ) → Type 0) (laws : Laws machine IsNext IsTurn Fit) where
   -- before anything was sent
-  pub fits-first : (start : F) (state : S) → Fit 0 start state [] → Fits take join Fit start (first_world state)
+  pub fits-first : (start : F) (state : S) → Fit nothing_spent start state [] → Fits machine.take machine.join Fit start (first_world state)
   unfolding frames_of
   fits-first start state fit = record { front = start; is_fold = refl; fit = fit; up_whole = refl; down_whole = refl }
 
   -- an ask is sent
-  pub fits-asked : (start : F) (ask : List ℕ) (w : World S) → IsText ask → IsAsk (w.asks + 1) ask
-      → Fits take join Fit start w → Fits take join Fit start (asked ask w)
+  pub fits-asked : (start : F) (ask : List ℕ) (w : World S) → IsText ask → IsNext w.spent ask (one_ask w.spent)
+      → Fits machine.take machine.join Fit start w → Fits machine.take machine.join Fit start (asked ask w)
   fits-asked start ask w letters is_ask fits =
       let more : (frames_of (sent (asked ask w).up)).whole ≡ (frames_of (sent w.up)).whole ++ ask ∷ [] =
       ap (λ bytes. (frames_of bytes).whole) (sym (append_assoc w.up.given w.up.flying (framed ask)))
@@ -58,14 +58,14 @@ module _ {S F E : Type 0} (step : S → List ℕ → Stepped S) (take : F → Li
       ∙ ap (λ rest. awaited w.up ++ frames_from rest (framed ask)) none
       ∙ ap (λ fs. awaited w.up ++ fs.whole) (frames_of-one ask letters) in
       record {
-        front = join fits.front ask;
+        front = machine.join fits.front ask;
         is_fold =
-            ap (λ asks. folded take (joined join start asks) (frames_of (sent w.down)).whole) more
-            ∙ ap (λ front. folded take front (frames_of (sent w.down)).whole)
-            (joined-append join start (frames_of (sent w.up)).whole (ask ∷ []))
-            ∙ laws.later ask (joined join start (frames_of (sent w.up)).whole) fits.front (frames_of (sent w.down)).whole fits.is_fold;
-        fit = subst (λ frames. Fit (w.asks + 1) (join fits.front ask) w.state frames) (sym last)
-            (laws.asks w.asks ask fits.front w.state (awaited w.up) is_ask fits.fit);
+            ap (λ asks. folded machine.take (joined machine.join start asks) (frames_of (sent w.down)).whole) more
+            ∙ ap (λ front. folded machine.take front (frames_of (sent w.down)).whole)
+            (joined-append machine.join start (frames_of (sent w.up)).whole (ask ∷ []))
+            ∙ laws.later ask (joined machine.join start (frames_of (sent w.up)).whole) fits.front (frames_of (sent w.down)).whole fits.is_fold;
+        fit = subst (λ frames. Fit (one_ask w.spent) (machine.join fits.front ask) w.state frames) (sym last)
+            (laws.asks w.spent (one_ask w.spent) ask fits.front w.state (awaited w.up) is_ask fits.fit);
         up_whole =
             ap (λ bytes. (frames_of bytes).rest) (sym (append_assoc w.up.given w.up.flying (framed ask)))
             ∙ rest-after (sent w.up) (framed ask) fits.up_whole
@@ -74,68 +74,83 @@ module _ {S F E : Type 0} (step : S → List ℕ → Stepped S) (take : F → Li
       }
 
   -- bytes are given up: the frames that become whole are the first that wait
-  pub fits-given_up : (start : F) (n : ℕ) (w : World S) → Fits take join Fit start w
-      → FitsWith take join Fit start (given_up n w) (arriving n w.up ++ awaited (passed n w.up))
+  pub fits-given_up : (start : F) (n : ℕ) (w : World S) → Fits machine.take machine.join Fit start w
+      → FitsWith machine.take machine.join Fit start (given_up n w) (arriving n w.up ++ awaited (passed n w.up))
   fits-given_up start n w fits = record {
     front = fits.front;
     is_fold =
-        ap (λ bytes. folded take (joined join start (frames_of bytes).whole) (frames_of (sent w.down)).whole) (sent-passed n w.up)
+        ap (λ bytes. folded machine.take (joined machine.join start (frames_of bytes).whole) (frames_of (sent w.down)).whole) (sent-passed n w.up)
         ∙ fits.is_fold;
-    fit = subst (λ frames. Fit w.asks fits.front w.state frames) (awaited-passed n w.up) fits.fit;
+    fit = subst (λ frames. Fit w.spent fits.front w.state frames) (awaited-passed n w.up) fits.fit;
     up_whole = ap (λ bytes. (frames_of bytes).rest) (sent-passed n w.up) ∙ fits.up_whole;
     down_whole = fits.down_whole;
   }
 
-  -- one frame is answered
-  pub fits-answered_one : (start : F) (frame : List ℕ) (frames : List (List ℕ)) (w : World S)
-      → FitsWith take join Fit start w (frame ∷ frames)
-      → FitsWith take join Fit start (answered step (frame ∷ []) w) frames
-  fits-answered_one start frame frames w fits =
-      let first : Answers step take (Fit w.asks) frame fits.front w.state frames = laws.answers w.asks frame fits.front w.state frames fits.fit in
-      let out = (step w.state frame).sent in
-      let same : (steps step w.state (frame ∷ [])).sent ≡ out = append-nil out in
-      let front = joined join start (frames_of (sent w.up)).whole in
-      let more : (frames_of (sent (put out w.down))).whole ≡ (frames_of (sent w.down)).whole ++ (frames_of out).whole =
+  -- what a step sends is put down after all else
+  fits-put : (start : F) (frames : List (List ℕ)) (w : World S) (fits : FitsWith machine.take machine.join Fit start w frames)
+      (stepped : Stepped S) (n : Spent) (more : List (List ℕ)) → Leads machine.take (Fit n) fits.front stepped more
+      → FitsWith machine.take machine.join Fit start
+      (record { state = stepped.state; up = w.up; down = put stepped.sent w.down; spent = n; told = w.told }) more
+  fits-put start frames w fits stepped n more leads =
+      let front = joined machine.join start (frames_of (sent w.up)).whole in
+      let out = stepped.sent in
+      let all : (frames_of (sent (put out w.down))).whole ≡ (frames_of (sent w.down)).whole ++ (frames_of out).whole =
       ap (λ bytes. (frames_of bytes).whole) (sym (append_assoc w.down.given w.down.flying out))
       ∙ whole-after (sent w.down) out fits.down_whole in
       record {
-        front = first.after;
+        front = leads.after;
         is_fold =
-            ap (λ bytes. folded take front (frames_of (sent (put bytes w.down))).whole) same
-            ∙ ap (folded take front) more
-            ∙ folded-append take front (frames_of (sent w.down)).whole (frames_of out).whole
-            ∙ ap (λ result. then result (λ next. folded take next (frames_of out).whole)) fits.is_fold
-            ∙ first.is_fold;
-        fit = first.fit;
+            ap (folded machine.take front) all
+            ∙ folded-append machine.take front (frames_of (sent w.down)).whole (frames_of out).whole
+            ∙ ap (λ result. then result (λ next. folded machine.take next (frames_of out).whole)) fits.is_fold
+            ∙ leads.is_fold;
+        fit = leads.fit;
         up_whole = fits.up_whole;
         down_whole =
-            ap (λ bytes. (frames_of (sent (put bytes w.down))).rest) same
-            ∙ ap (λ bytes. (frames_of bytes).rest) (sym (append_assoc w.down.given w.down.flying out))
+            ap (λ bytes. (frames_of bytes).rest) (sym (append_assoc w.down.given w.down.flying out))
             ∙ rest-after (sent w.down) out fits.down_whole
-            ∙ first.whole;
+            ∙ leads.whole;
       }
+
+  -- the script makes a step by itself
+  pub fits-turned : (start : F) (x : X) (w : World S) → IsTurn w.spent x → Fits machine.take machine.join Fit start w
+      → Fits machine.take machine.join Fit start (turned machine.act x w)
+  fits-turned start x w is_turn fits =
+      fits-put start (awaited w.up) w fits (machine.act x w.state) (one_turn w.spent) (awaited w.up)
+      (laws.turns w.spent x fits.front w.state (awaited w.up) is_turn fits.fit)
+
+  -- one frame is answered
+  pub fits-answered_one : (start : F) (frame : List ℕ) (frames : List (List ℕ)) (w : World S)
+      → FitsWith machine.take machine.join Fit start w (frame ∷ frames)
+      → FitsWith machine.take machine.join Fit start (answered machine.step (frame ∷ []) w) frames
+  fits-answered_one start frame frames w fits =
+      subst (λ bytes. FitsWith machine.take machine.join Fit start
+      (record { state = (machine.step w.state frame).state; up = w.up; down = put bytes w.down; spent = w.spent; told = w.told }) frames)
+      (sym (append-nil (machine.step w.state frame).sent))
+      (fits-put start (frame ∷ frames) w fits (machine.step w.state frame) w.spent frames
+      (laws.answers w.spent frame fits.front w.state frames fits.fit))
 
   -- all of some frames are answered
   pub fits-answered : (start : F) (frames more : List (List ℕ)) (w : World S)
-      → FitsWith take join Fit start w (frames ++ more)
-      → FitsWith take join Fit start (answered step frames w) more
+      → FitsWith machine.take machine.join Fit start w (frames ++ more)
+      → FitsWith machine.take machine.join Fit start (answered machine.step frames w) more
   fits-answered start [] more w fits =
-      subst (λ down. FitsWith take join Fit start (record { state = w.state; up = w.up; down = down; asks = w.asks; told = w.told }) more) (sym (put-nil w.down)) fits
+      subst (λ down. FitsWith machine.take machine.join Fit start (record { state = w.state; up = w.up; down = down; spent = w.spent; told = w.told }) more) (sym (put-nil w.down)) fits
   fits-answered start (frame ∷ frames) more w fits =
-      subst (λ v. FitsWith take join Fit start v more) (sym (answered-cons step frame frames w))
-      (fits-answered start frames more (answered step (frame ∷ []) w) (fits-answered_one start frame (frames ++ more) w fits))
+      subst (λ v. FitsWith machine.take machine.join Fit start v more) (sym (answered-cons machine.step frame frames w))
+      (fits-answered start frames more (answered machine.step (frame ∷ []) w) (fits-answered_one start frame (frames ++ more) w fits))
 
   pub fits-delivered_up : (start : F) (n : ℕ) (w : World S)
-      → Fits take join Fit start w → Fits take join Fit start (delivered_up step n w)
+      → Fits machine.take machine.join Fit start w → Fits machine.take machine.join Fit start (delivered_up machine.step n w)
   fits-delivered_up start n w fits =
       fits-answered start (arriving n w.up) (awaited (passed n w.up)) (given_up n w) (fits-given_up start n w fits)
 
   pub fits-delivered_down : (start : F) (n : ℕ) (w : World S)
-      → Fits take join Fit start w → Fits take join Fit start (delivered_down n w)
+      → Fits machine.take machine.join Fit start w → Fits machine.take machine.join Fit start (delivered_down n w)
   fits-delivered_down start n w fits = record {
     front = fits.front;
     is_fold =
-        ap (λ bytes. folded take (joined join start (frames_of (sent w.up)).whole) (frames_of bytes).whole) (sent-passed n w.down)
+        ap (λ bytes. folded machine.take (joined machine.join start (frames_of (sent w.up)).whole) (frames_of bytes).whole) (sent-passed n w.down)
         ∙ fits.is_fold;
     fit = fits.fit;
     up_whole = fits.up_whole;
@@ -143,7 +158,7 @@ module _ {S F E : Type 0} (step : S → List ℕ → Stepped S) (take : F → Li
   }
 
   pub fits-settled : (start : F) (w : World S)
-      → Fits take join Fit start w → Fits take join Fit start (settled step w)
+      → Fits machine.take machine.join Fit start w → Fits machine.take machine.join Fit start (settled machine.step w)
   fits-settled start w fits =
-      let after = delivered_up step (length w.up.flying) w in
+      let after = delivered_up machine.step (length w.up.flying) w in
       fits-delivered_down start (length after.down.flying) after (fits-delivered_up start (length w.up.flying) w fits)

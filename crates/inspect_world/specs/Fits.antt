@@ -1,14 +1,16 @@
 -- A front end that shows the state of the page, and waits for the answers that are to come.
-use Rattle.std.specs.Prelude.{◌≡◌, ◌≤◌, ℕ, ◌+◌, ◌*◌, ◌^◌, List, [], ◌∷◌, ◌++◌, length, map, Option, Some, None, option_and_then, codes}
+use Rattle.std.specs.Prelude.{⊤, ◌≡◌, ◌≤◌, ℕ, ◌+◌, ◌*◌, ◌^◌, List, [], ◌∷◌, ◌++◌, length, map, Option, Some, None, option_and_then, codes}
 use Rattle.serde_json.specs.Data.{Members}
 use Rattle.serde_json.specs.Find.{get_member, as_str, as_object}
 use Rattle.cdp_json.specs.Kinds.{as_whole}
 use Rattle.page_tree.specs.Forms.{max_nodes}
 use Rattle.cdp_messages.specs.Asked.{json_of}
 use Rattle.front_mirror.specs.declared.replies.Ask.{Ask}
+use Rattle.front_mirror.specs.declared.faults.FrontKind.{FrontKind}
 use Rattle.front_mirror.specs.Front.{FrontValue, first_value, take_frame}
-use Rattle.inspect_world.specs.World.{World}
-use Rattle.back_end.specs.States.{State, IsState, view_of}
+use Rattle.inspect_world.specs.World.{World, Spent, one_ask}
+use Rattle.back_end.specs.States.{State, IsState, view_of, step}
+use Rattle.inspect_world.specs.Fold.{Machine}
 use Rattle.inspect_world.specs.Fold as fold
 
 -- ---- the asks that stand in frames
@@ -42,20 +44,34 @@ join v frame = with_ask v (ask_in frame)
 abbrev pub most_asks : ℕ
 most_asks = 2 ^ 26
 
--- the text may be the n-th ask
-pub record IsAsk (n : ℕ) (text : List ℕ) : Type 0 where
+-- After n the text may be sent as the next ask, and m is then spent.
+pub record IsNext (n : Spent) (text : List ℕ) (m : Spent) : Type 0 where
   pub method : List ℕ
-  pub is : ask_in text ≡ Some (ask_with method n)
-  pub few : n ≤ most_asks
+  pub is : ask_in text ≡ Some (ask_with method (n.asks + 1))
+  pub next : m ≡ one_ask n
+  pub few : n.asks + 1 ≤ most_asks
 
--- After n asks the front shows exactly what the state's client sees, and waits for the answers to these frames alone.
-pub record IsFit (n : ℕ) (v : FrontValue) (state : State) (frames : List (List ℕ)) : Type 0 where
+-- the script makes no step by itself so far
+abbrev pub IsTurn : Spent → ⊥ → Type 0
+IsTurn n x = ⊤
+
+-- how many ids may have been drawn: an ask and a step of the script make at most all nodes of a page known
+abbrev pub most_drawn : Spent → ℕ
+most_drawn n = (n.asks + n.turns) * max_nodes
+
+-- After n was spent the front shows exactly what the state's client sees, and waits for the answers to these frames alone.
+-- Enough ids are left for these answers.
+pub record IsFit (n : Spent) (v : FrontValue) (state : State) (frames : List (List ℕ)) : Type 0 where
   pub tree : v.tree ≡ view_of state
   pub asks : map ask_in frames ≡ map Some v.asks
-  pub side_is : IsState state
-  pub replied : length v.replies + length frames ≡ n
-  pub few : n ≤ most_asks
-  pub pushed : length state.client.session.pushed ≤ length v.replies * max_nodes
+  pub is_state : IsState state
+  pub few : n.asks ≤ most_asks
+  pub few_turns : n.turns ≤ most_asks
+  pub drawn : length state.client.session.pushed + length frames * max_nodes ≤ most_drawn n
+
+-- how the run of a replay goes on: its script makes no step by itself so far
+abbrev pub replay : Machine State FrontValue FrontKind ⊥
+replay = record { step = step; act = λ x state. absurd x; take = take_frame; join = join }
 
 -- the two whole streams of a run, folded, fit its state
 abbrev pub FitsWith : World State → List (List ℕ) → Type 0

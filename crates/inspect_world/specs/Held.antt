@@ -38,7 +38,7 @@ pub record InWorld (up0 down0 up down : Pipe) (w : World State) (frames : List (
   pub stands : Stands (nodes_in w.state) w.state.client.session e.bound
   pub back_is : e.back_rest ≡ held w.up
   pub value : FrontValue
-  pub front_is : e.front ≡ good_front value (held w.down) (w.asks + 1)
+  pub front_is : e.front ≡ good_front value (held w.down) (w.spent.asks + 1)
   pub is_fold : folded take_frame (joined join (first_value []) (frames_of (sent w.up)).whole) (frames_of w.down.given).whole ≡ Ok value
   pub up_left : e.up_there ≡ length w.up.flying
   pub down_left : e.down_there ≡ length w.down.flying

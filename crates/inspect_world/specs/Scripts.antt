@@ -15,11 +15,11 @@ use Rattle.back_end.specs.States.{State, loaded_state, view_of, step}
 
 -- the k-th ask is sent with the id k
 abbrev pub sends : AskForm → World State → World State
-sends a w = asked (command_text (w.asks + 1) a.method a.params a.session) w
+sends a w = asked (command_text (w.spent.asks + 1) a.method a.params a.session) w
 
 -- the replies that came are told
 abbrev pub all_told : World State → World State
-all_told w = record { state = w.state; up = w.up; down = w.down; asks = w.asks; told = length (replies_in w.down.given) }
+all_told w = record { state = w.state; up = w.up; down = w.down; spent = w.spent; told = length (replies_in w.down.given) }
 
 -- the run after a line; only the first line loads a page so far
 abbrev pub after_line : LineForm → World State → World State

@@ -5,17 +5,40 @@ use Rattle.pipe_frames.specs.Frames.{framed}
 use Rattle.back_end.specs.States.{Stepped}
 use Rattle.inspect_world.specs.Stream.{Stream, no_stream, put, passed, arriving}
 
--- the page's state, the two streams, how many asks the front end has sent, and how many of the replies were told
+-- What a run has made of its ids: how many asks and how many fetches the front end has sent, and how many steps the script
+-- itself has made.
+pub record Spent : Type 0 where
+  pub asks : ℕ
+  pub fetches : ℕ
+  pub turns : ℕ
+
+-- nothing yet
+abbrev pub nothing_spent : Spent
+nothing_spent = record { asks = 0; fetches = 0; turns = 0 }
+
+-- one ask more, one fetch more, one step of the script more
+abbrev pub one_ask : Spent → Spent
+one_ask n = record { asks = n.asks + 1; fetches = n.fetches; turns = n.turns }
+
+-- one fetch more
+abbrev pub one_fetch : Spent → Spent
+one_fetch n = record { asks = n.asks; fetches = n.fetches + 1; turns = n.turns }
+
+-- one step of the script more
+abbrev pub one_turn : Spent → Spent
+one_turn n = record { asks = n.asks; fetches = n.fetches; turns = n.turns + 1 }
+
+-- the state, the two streams, what was spent, and how many of the replies were told
 pub record World (S : Type 0) : Type 0 where
   pub state : S
   pub up : Stream
   pub down : Stream
-  pub asks : ℕ
+  pub spent : Spent
   pub told : ℕ
 
 -- before anything was sent
 abbrev pub first_world : {S : Type 0} → S → World S
-first_world state = record { state = state; up = no_stream; down = no_stream; asks = 0; told = 0 }
+first_world state = record { state = state; up = no_stream; down = no_stream; spent = nothing_spent; told = 0 }
 
 -- the steps on frames, one after the other
 abbrev pub steps : {S : Type 0} → (S → List ℕ → Stepped S) → S → List (List ℕ) → Stepped S
@@ -25,19 +48,29 @@ steps step state (frame ∷ frames) =
     let later = steps step first.state frames in
     record { state = later.state; sent = first.sent ++ later.sent }
 
+-- the front end sends a frame, which is counted by `more`
+abbrev pub sent_up : {S : Type 0} → List ℕ → (Spent → Spent) → World S → World S
+sent_up text more w = record { state = w.state; up = put (framed text) w.up; down = w.down; spent = more w.spent; told = w.told }
+
 -- the front end sends an ask
 abbrev pub asked : {S : Type 0} → List ℕ → World S → World S
-asked text w = record { state = w.state; up = put (framed text) w.up; down = w.down; asks = w.asks + 1; told = w.told }
+asked text w = sent_up text one_ask w
+
+-- the script itself makes a step of the state: what it sends goes down, whatever is on its way up
+abbrev pub turned : {S X : Type 0} → (X → S → Stepped S) → X → World S → World S
+turned act x w =
+    let done = act x w.state in
+    record { state = done.state; up = w.up; down = put done.sent w.down; spent = one_turn w.spent; told = w.told }
 
 -- the state answers frames that have come up whole
 abbrev pub answered : {S : Type 0} → (S → List ℕ → Stepped S) → List (List ℕ) → World S → World S
 answered step frames w =
     let done = steps step w.state frames in
-    record { state = done.state; up = w.up; down = put done.sent w.down; asks = w.asks; told = w.told }
+    record { state = done.state; up = w.up; down = put done.sent w.down; spent = w.spent; told = w.told }
 
 -- n bytes are given up, or as many as are there; the frames that become whole are still to be answered
 abbrev pub given_up : {S : Type 0} → ℕ → World S → World S
-given_up n w = record { state = w.state; up = passed n w.up; down = w.down; asks = w.asks; told = w.told }
+given_up n w = record { state = w.state; up = passed n w.up; down = w.down; spent = w.spent; told = w.told }
 
 -- n bytes are delivered up, or as many as are there: each frame that becomes whole is one step
 abbrev pub delivered_up : {S : Type 0} → (S → List ℕ → Stepped S) → ℕ → World S → World S
@@ -45,7 +78,7 @@ delivered_up step n w = answered step (arriving n w.up) (given_up n w)
 
 -- n bytes are delivered down, or as many as are there
 abbrev pub delivered_down : {S : Type 0} → ℕ → World S → World S
-delivered_down n w = record { state = w.state; up = w.up; down = passed n w.down; asks = w.asks; told = w.told }
+delivered_down n w = record { state = w.state; up = w.up; down = passed n w.down; spent = w.spent; told = w.told }
 
 -- all of the up pipe is delivered, then all of the down pipe
 abbrev pub settled : {S : Type 0} → (S → List ℕ → Stepped S) → World S → World S

@@ -15,12 +15,12 @@ use Rattle.node_binding.proofs.OpeningLemmas.{goes_on, AreDistinct, Agrees, self
 
 -- ---- where nothing changes
 
-same_part : (a b : Bool) (xs ys : List ℕ) → a ≡ b → xs ≡ [] → cond a xs (cond b ys []) ≡ []
+pub same_part : (a b : Bool) (xs ys : List ℕ) → a ≡ b → xs ≡ [] → cond a xs (cond b ys []) ≡ []
 same_part true b xs ys e h = h
 same_part false true xs ys e h = cc
 same_part false false xs ys e h = refl
 
-anew-same : (o p : ℕ → Bool) (n : Nodes Row) → ((s : ℕ) → 0 < tally row_serial s n → o s ≡ p s) → shown_anew o p n ≡ []
+pub anew-same : (o p : ℕ → Bool) (n : Nodes Row) → ((s : ℕ) → 0 < tally row_serial s n → o s ≡ p s) → shown_anew o p n ≡ []
 anew-same o p none same = refl
 anew-same o p (node r c t) same =
     ap (λ xs. xs ++ shown_anew o p t) (same_part (opens o r) (opens p r) _ (known p c) (ap (λ b. cond (holds r.label.kind) b false) (same r.serial (omega (arith, self_times r.serial)))) (anew-same o p c (λ s h. same s (omega arith))))

@@ -30,7 +30,7 @@ pub opened-next : (os : List ℕ) (b : Bound) → (all_opened os b).next ≡ b.n
 opened-next [] b = refl
 opened-next (s ∷ ss) b = opened-next ss (with_opened s b)
 
-is_in-cons : (x s : ℕ) (xs : List ℕ) → is_in s (x ∷ xs) ≡ ((x == s) || is_in s xs)
+pub is_in-cons : (x s : ℕ) (xs : List ℕ) → is_in s (x ∷ xs) ≡ ((x == s) || is_in s xs)
 is_in-cons x s xs =
     elim (x == s) as (λ b. not (cond {A = ℕ} b 1 0 + times s xs == 0) ≡ (b || not (times s xs == 0))) [
       | true ↦ grind (arith, nat_tests)

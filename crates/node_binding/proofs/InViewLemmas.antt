@@ -117,14 +117,14 @@ module _ (o p : ℕ → Bool) (grows : (s : ℕ) → o s ≡ true → p s ≡ tr
 -- ---- where two tests agree
 
 module _ (o p : ℕ → Bool) where
-  is_unopened-same : (n : Nodes Row) → ((s : ℕ) → 0 < tally row_serial s n → o s ≡ p s) → is_unopened o n ≡ is_unopened p n
+  pub is_unopened-same : (n : Nodes Row) → ((s : ℕ) → 0 < tally row_serial s n → o s ≡ p s) → is_unopened o n ≡ is_unopened p n
   is_unopened-same none h = refl
   is_unopened-same (node r c t) h =
       ap (λ b. not b && is_unopened o c && is_unopened o t) (h r.serial (omega (arith, self_times r.serial)))
       ∙ ap (λ b. not (p r.serial) && b && is_unopened o t) (is_unopened-same c (λ s k. h s (omega arith)))
       ∙ ap (λ b. not (p r.serial) && is_unopened p c && b) (is_unopened-same t (λ s k. h s (omega arith)))
 
-  is_closed-same : (n : Nodes Row) → ((s : ℕ) → 0 < tally row_serial s n → o s ≡ p s) → is_closed o n ≡ is_closed p n
+  pub is_closed-same : (n : Nodes Row) → ((s : ℕ) → 0 < tally row_serial s n → o s ≡ p s) → is_closed o n ≡ is_closed p n
   is_closed-same none h = refl
   is_closed-same (node r c t) h =
       ap (λ b. cond b (is_closed o c) (is_unopened o c) && is_closed o t) (h r.serial (omega (arith, self_times r.serial)))
@@ -172,7 +172,7 @@ module _ (o : ℕ → Bool) (d : Option ℕ) (x : Branch Row) where
     opened_now =
         or_right (o x.row.serial) _ (ap (λ m. not (m == 0)) (at_root d x.row x.children none distinct_x ∙ ap (λ b. cond {A = ℕ} b 1 0) on))
 
-    agrees_below : is_unopened o x.children ≡ true → Agrees p (less d) x.children
+    pub agrees_below : is_unopened o x.children ≡ true → Agrees p (less d) x.children
     agrees_below shut s h =
         ap (λ b. b || is_in s (reached d (alone x))) (unopened-at o x.children shut s h)
         ∙ ap (λ m. not (m == 0)) (in_children d x.row x.children none distinct_x s h ∙ ap (λ b. cond {A = ℕ} b (times s (reached (less d) x.children)) 0) on)

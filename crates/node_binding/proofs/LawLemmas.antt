@@ -1,13 +1,13 @@
 -- The clauses of the law in which one node is opened, comes or goes.
-use Rattle.std.proofs.Common.{◌≡◌, ℕ, ◌+◌, ◌≤◌, Bool, true, false, ◌||◌, List, [], ◌∷◌, Option, refl, subst, arith}
+use Rattle.std.proofs.Common.{◌≡◌, ℕ, ◌≤◌, Bool, true, false, ◌||◌, List, Option, refl, subst, arith}
 use Rattle.node_tree.specs.Nodes.{Nodes, Branch, alone}
 use Rattle.node_tree.specs.Keys.{tally}
 use Rattle.page_tree.specs.Pages.{Row, row_serial}
-use Rattle.node_binding.specs.Counts.{times, is_in}
+use Rattle.node_binding.specs.Counts.{is_in}
 use Rattle.node_binding.specs.Cuts.{known, shown_anew}
 use Rattle.node_binding.specs.Openings.{less, is_spent, reached, levelled, opened_also}
-use Rattle.node_binding.specs.Sessions.{IsSession, CanOpen, session_of, grown, attached}
-use Rattle.node_binding.specs.Bindings.{Bound, Stands, with_bound, all_bound, all_opened, opened_down}
+use Rattle.node_binding.specs.Sessions.{IsSession, CanOpen, session_of, grown}
+use Rattle.node_binding.specs.Bindings.{Bound, Stands, all_bound, all_opened, opened_down}
 use Rattle.node_binding.proofs.Places.{is_in-times}
 use Rattle.node_binding.proofs.Known.{known-tally}
 use Rattle.node_binding.proofs.GrowLemmas.{times-anew, Stands-more}
@@ -30,7 +30,3 @@ Stands-open_down d n x o pushed since b distinct left can session stands =
     (λ s. times-anew o p (λ s e. or-true (o s) (is_in s (reached d (alone x))) e) s n)
     (λ s. omega (arith, known-tally p s n, distinct s)) (λ s. refl) b session stands in
     subst (λ (ks : List ℕ). Stands n (grown o p n (session_of o pushed since)) (all_bound ks (all_opened (reached d (alone x)) b))) anew grew
-
-pub Stands-bind_child : (n m : Nodes Row) (s : ℕ) (o : ℕ → Bool) (pushed : List ℕ) (since : ℕ) (b : Bound) → ((x : ℕ) → tally row_serial x m ≤ 1) → ((x : ℕ) → times x (known o m) ≡ times x (known o n) + times x (s ∷ [])) → IsSession n (session_of o pushed since) → Stands n (session_of o pushed since) b → Stands m (attached s (session_of o pushed since)) (with_bound s b)
-Stands-bind_child n m s o pushed since b distinct more session stands =
-    Stands-more n m o o pushed since [] (s ∷ []) more (λ x. omega (arith, known-tally o x m, distinct x)) (λ x. or-false (o x)) b session stands

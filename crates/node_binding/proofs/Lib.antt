@@ -16,3 +16,7 @@ pub mod OpenDownLemmas
 pub mod LawLemmas
 pub mod InViewLemmas
 pub mod OpenedLemmas
+pub mod ChangedLemmas
+pub mod AttachLemmas
+pub mod DetachLemmas
+pub mod ChangesLemmas

@@ -43,11 +43,11 @@ length-anew o p grows (node r c t) =
 
 -- ---- the session
 
-stand_more : (q a len : ℕ) → (q ≡ 0 → 0 < a) → 0 < cond {A = ℕ} (q == 0) a (len + q)
+pub stand_more : (q a len : ℕ) → (q ≡ 0 → 0 < a) → 0 < cond {A = ℕ} (q == 0) a (len + q)
 stand_more zero a len h = h refl
 stand_more (suc k) a len h = rw (suc-is_zero k) (omega arith)
 
-not_there : (m n q : ℕ) → 0 < m + n → (0 < n → 0 < q) → q ≡ 0 → 0 < m
+pub not_there : (m n q : ℕ) → 0 < m + n → (0 < n → 0 < q) → q ≡ 0 → 0 < m
 not_there (suc m) n q h f e = omega arith
 not_there zero n q h f e = let g : 0 < q = f (omega arith) in absurd (omega arith)
 

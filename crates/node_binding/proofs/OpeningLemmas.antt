@@ -88,17 +88,17 @@ held true x = refl
 held false x = refl
 
 module _ (o : ℕ → Bool) (d : Option ℕ) (r : Row) (c t : Nodes Row) (distinct : AreDistinct (node r c t)) (agrees : Agrees o d (node r c t)) where
-  root_is : o r.serial ≡ goes_on d r
+  pub root_is : o r.serial ≡ goes_on d r
   root_is =
       agrees r.serial (omega (arith, self_times r.serial)) ∙ ap (λ n. not (n == 0)) (at_root d r c t distinct) ∙ test_of_count (goes_on d r)
 
-  opens_is : opens o r ≡ goes_on d r
+  pub opens_is : opens o r ≡ goes_on d r
   opens_is = ap (λ b. cond (holds r.label.kind) b false) root_is ∙ held (holds r.label.kind) (not (is_spent d))
 
-  agrees_rest : Agrees o d t
+  pub agrees_rest : Agrees o d t
   agrees_rest s h = agrees s (omega arith) ∙ ap (λ n. not (n == 0)) (in_rest d r c t distinct s h)
 
-  agrees_children : goes_on d r ≡ true → Agrees o (less d) c
+  pub agrees_children : goes_on d r ≡ true → Agrees o (less d) c
   agrees_children e s h =
       agrees s (omega arith) ∙ ap (λ n. not (n == 0)) (in_children d r c t distinct s h ∙ ap (λ b. cond {A = ℕ} b (times s (reached (less d) c)) 0) e)
 
@@ -129,7 +129,7 @@ known-above d n distinct = known-levelled (above d n) d n distinct (λ s _. refl
 
 -- ---- the containers above d are an opened set
 
-all_unopened : (o : ℕ → Bool) (n : Nodes Row) → ((s : ℕ) → 0 < tally row_serial s n → o s ≡ false) → is_unopened o n ≡ true
+pub all_unopened : (o : ℕ → Bool) (n : Nodes Row) → ((s : ℕ) → 0 < tally row_serial s n → o s ≡ false) → is_unopened o n ≡ true
 all_unopened o none h = refl
 all_unopened o (node r c t) h =
     rw (h r.serial (omega (arith, self_times r.serial)), all_unopened o c (λ s k. h s (omega arith)), all_unopened o t (λ s k. h s (omega arith))) refl

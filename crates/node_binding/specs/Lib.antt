@@ -4,3 +4,4 @@ pub mod Openings
 pub mod Ids
 pub mod Sessions
 pub mod Bindings
+pub mod Changes

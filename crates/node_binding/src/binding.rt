@@ -123,7 +123,8 @@ impl Binding {
         Ok(())
     }
 
-    /// A node that was attached below an opened one becomes known. Gives its id.
+    /// A node that was attached below an opened one, and is not known yet, becomes known; it is not opened. Comes after the
+    /// attach. Gives the node's id.
     pub fn bind_child(&mut self, _page: &Page, serial: u64) -> Result<u64, AllocError>
         requires { self.old.next < 2 ^ 60 }
         ensures id { IfOk result (λ id. id ≡ self.old.next) }
@@ -134,7 +135,8 @@ impl Binding {
         Ok(id)
     }
 
-    /// The node and all below it are not opened and have no ids any more. Comes before the detach; takes no memory.
+    /// The node and all below it are not opened and have no ids any more. Comes before the detach, while the page still has
+    /// them; takes no memory.
     pub fn forget_subtree(&mut self, page: &Page, serial: u64)
         requires { IsSome (find_in serial page.now.tree) }
         ensures { self.new ≡ all_forgotten (alone (node_at serial page.now.tree)) self.old }

@@ -165,7 +165,7 @@ formed_choice true o p n h k e = h e
 formed_choice false o p n h k e = k e
 
 mutual
-  form_formed : (d : Data) (top : Bool) (b : Branch Label) → form_of top d ≡ Some b → are_formed top (alone b) ≡ true
+  pub form_formed : (d : Data) (top : Bool) (b : Branch Label) → form_of top d ≡ Some b → are_formed top (alone b) ≡ true
   form_formed null top b e = absurd (cc)
   form_formed (boolean x) top b e = absurd (cc)
   form_formed (number x) top b e = absurd (cc)

@@ -11,6 +11,12 @@ pub mod EditLemmas
 pub mod PairLemmas
 pub mod ChildLemmas
 pub mod WholeLemmas
+pub mod BackLemmas
+pub mod InsertLemmas
+pub mod MoveLemmas
+pub mod AncestorLemmas
+pub mod EditRows
+pub mod RelationLemmas
 pub mod TurnLemmas
 pub mod ArenaEdits
 pub mod SearchedLemmas

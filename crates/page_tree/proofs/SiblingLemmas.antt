@@ -4,12 +4,13 @@ use Rattle.std.proofs.lemmas.Bool.{ne_eqb}
 use Rattle.std.proofs.lemmas.List.{take_more, drop_more, drop_all, reverse-append, get_or_default}
 use Rattle.std.specs.List.{find}
 use Rattle.std.specs.Option.{option_map}
-use Rattle.node_tree.specs.Nodes.{Nodes, none, node, Branch, nodes_of, alone}
+use Rattle.node_tree.specs.Nodes.{Nodes, none, node, Branch, nodes_of, alone, width, node_count}
+use Rattle.node_tree.proofs.NodeLemmas.{width_le-node_count}
 use Rattle.node_tree.specs.Keys.{first_of}
 use Rattle.page_tree.specs.Pages.{Row, find_in, parent_at, times_in}
-use Rattle.page_tree.specs.Zippers.{Generation, Zipper, generation_of, serial_of, in_row, all_in, has_serial, find_zipper, zipper_at, zipper_of, root_of, head, parent_of, previous_of, next_of, first_child_of}
+use Rattle.page_tree.specs.Zippers.{Generation, Zipper, generation_of, serial_of, earlier, earlier_in, later, in_row, all_in, has_serial, find_zipper, zipper_at, zipper_of, root_of, head, parent_of, previous_of, next_of, first_child_of}
 use Rattle.page_tree.specs.Siblings.{StandsIn, IsCursor, Finds}
-use Rattle.page_tree.proofs.ZipperLemmas.{find-append, AreApart, IsOf, find-of, of-find, of-parent, of-previous, of-next, of-first_child, branch-found, parent-found, serial_above, some_times}
+use Rattle.page_tree.proofs.ZipperLemmas.{find-append, AreApart, siblings_of, Fits, IsOf, find-of, of-find, of-parent, of-previous, of-next, of-first_child, branch-found, parent-found, serial_above, some_times}
 
 -- one sibling more has been passed
 reverse-more : (xs : List (Branch Row)) (i : ℕ) (b : Branch Row) → i < length xs → b ≡ get_or xs i b → reverse (take (i + 1) xs) ≡ b ∷ reverse (take i xs)
@@ -231,3 +232,27 @@ live-found x tree roots is live h =
 
 pub some_same : {a b : Zipper} → Some a ≡ Some b → a ≡ b
 some_same e = cc
+
+-- ---- how many siblings there are
+
+length-earlier_in : (above : List Generation) (before : List (Branch Row)) (here : Nodes Row) → length (earlier_in above before here) ≡ length before
+length-earlier_in above [] here = refl
+length-earlier_in above (b ∷ before) here = ap suc (length-earlier_in above before (node b.row b.children here))
+
+length-in_row : (above : List Generation) (before : List (Branch Row)) (n : Nodes Row) → length (in_row above before n) ≡ width n
+length-in_row above before none = refl
+length-in_row above before (node r c t) = ap suc (length-in_row above (record { row = r; children = c } ∷ before) t)
+
+node_count-siblings : (before : List (Branch Row)) (here : Nodes Row) → length before + node_count here ≤ node_count (siblings_of before here)
+node_count-siblings [] here = omega arith
+node_count-siblings (b ∷ before) here = omega (arith, node_count-siblings before (node b.row b.children here))
+
+-- no node of a tree has more below it than the tree
+node_count-fits : (tree : Branch Row) (above : List Generation) (row : Nodes Row) → Fits tree above row → node_count row ≤ suc (node_count tree.children)
+node_count-fits tree [] row fits = omega (arith, ap (λ (n : Nodes Row). node_count n) fits)
+node_count-fits tree (g ∷ above) row fits =
+    omega (arith, ap (λ (n : Nodes Row). node_count n) fits.0, node_count-fits tree above _ fits.1, node_count-siblings g.before (node g.branch.row g.branch.children g.after))
+
+pub few-siblings : (tree : Branch Row) (z : Zipper) → IsOf tree z → length (earlier z) + length (later z) ≤ node_count tree.children
+few-siblings tree z fits =
+    omega (arith, length-earlier_in z.above z.before (node z.branch.row z.branch.children z.after), length-in_row z.above (z.branch ∷ z.before) z.after, width_le-node_count z.after, node_count-fits tree z.above _ fits, node_count-siblings z.before (node z.branch.row z.branch.children z.after))

@@ -71,10 +71,10 @@ sound-formed above (node r c t) e f g =
     holds_still false b e = absurd (cc)
 
 -- what is formed, with the top as the document has it
-record Formed (above : Kind) (n : Nodes Label) : Type 0 where
-  formed : are_formed (is_document above) n ≡ true
-  named : are_named n ≡ true
-  holder : (holds above || is_bare n) ≡ true
+pub record Formed (above : Kind) (n : Nodes Label) : Type 0 where
+  pub formed : are_formed (is_document above) n ≡ true
+  pub named : are_named n ≡ true
+  pub holder : (holds above || is_bare n) ≡ true
 
 stand_whole : (top d h p : Bool) → (not d && (h && (top || not p))) ≡ true → ((not d && (top || not p)) ≡ true) × (h ≡ true)
 stand_whole top true h p e = absurd (cc)
@@ -89,7 +89,7 @@ bare_none : (h : Bool) → (h || true) ≡ true
 bare_none true = refl
 bare_none false = refl
 
-formed-sound : (above : Kind) (n : Nodes Row) → Sound (Some above) n → Formed above (map_rows row_label n)
+pub formed-sound : (above : Kind) (n : Nodes Row) → Sound (Some above) n → Formed above (map_rows row_label n)
 formed-sound above none s = record { formed = refl; named = refl; holder = bare_none (holds above) }
 formed-sound above (node r c t) (fits, below, beside) =
     let u = formed-sound r.label.kind c below in

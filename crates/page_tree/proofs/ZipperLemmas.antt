@@ -6,14 +6,11 @@ use Rattle.std.specs.Option.{option_map}
 use Rattle.node_tree.specs.Nodes.{Nodes, none, node, Branch, alone}
 use Rattle.node_tree.specs.Keys as keys
 use Rattle.node_tree.specs.Keys.{first_of, tally}
+use Rattle.page_tree.specs.Members.{IsIn, at_head, in_tail}
 use Rattle.page_tree.specs.Pages.{Row, row_serial, times_in}
 use Rattle.page_tree.specs.Zippers.{Generation, Zipper, generation_of, zipper_of, serial_of, ancestors, earlier, in_row, later, head, parent_of, previous_of, next_of, first_child_of, all_in, zippers, has_serial, find_zipper}
 
 -- ---- members of lists
-
-pub data IsIn {A : Type 0} (x : A) : List A → Type 0 where
-  at_head : (xs : List A) → IsIn x (x ∷ xs)
-  in_tail : (y : A) (xs : List A) → IsIn x xs → IsIn x (y ∷ xs)
 
 module _ {A : Type 0} where
   pub IsIn-append_left : {x : A} {xs : List A} (ys : List A) → IsIn x xs → IsIn x (xs ++ ys)
@@ -121,7 +118,7 @@ Fits tree (g ∷ above) row = (row ≡ g.branch.children) × Fits tree above (si
 abbrev pub IsOf : Branch Row → Zipper → Type 0
 IsOf tree z = Fits tree z.above (siblings_of z.before (node z.branch.row z.branch.children z.after))
 
-from_first : (above : List Generation) (before : List (Branch Row)) (here : Nodes Row) (w : Zipper) → IsIn w (all_in above before here) → IsIn w (all_in above [] (siblings_of before here))
+pub from_first : (above : List Generation) (before : List (Branch Row)) (here : Nodes Row) (w : Zipper) → IsIn w (all_in above before here) → IsIn w (all_in above [] (siblings_of before here))
 from_first above [] here w i = i
 from_first above (b ∷ before) here w i = from_first above before (node b.row b.children here) w (in_tail _ _ (IsIn-append_right _ i))
 

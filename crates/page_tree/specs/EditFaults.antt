@@ -55,6 +55,7 @@ has_attribute serial name tree = is_some (value_of name (label_at serial tree).a
 
 -- ---- faults by number: each with the test that says that it applies
 
+-- the faults of an attach of a tree of that form
 abbrev pub attach_faults : ℕ → ℕ → Branch Label → Branch Row → List (EditFault × Bool)
 attach_faults parent before form tree =
     (NoNode, not (is_live parent tree && is_live_or_0 before tree))
@@ -65,6 +66,7 @@ attach_faults parent before form tree =
     ∷ (NotContainer, not (may_hold (kind_at parent tree) form.row.kind))
     ∷ []
 
+-- the faults of an edit
 abbrev pub edit_faults : TreeEdit → Branch Row → List (EditFault × Bool)
 edit_faults (SetAttr serial name value) tree =
     (NoNode, not (is_live serial tree))
@@ -93,7 +95,8 @@ move_faults serial parent before tree =
     ∷ (NotContainer, not (may_hold (kind_at parent tree) (kind_at serial tree)))
     ∷ []
 
--- A copy may go below the node itself.
+-- The faults of a copy are those of an attach of the node's form, whose names have their forms already. A copy may go below the
+-- node itself.
 abbrev pub copy_faults : ℕ → ℕ → ℕ → Branch Row → List (EditFault × Bool)
 copy_faults serial parent before tree =
     (NoNode, not (is_live serial tree && is_live parent tree && is_live_or_0 before tree))
@@ -104,16 +107,19 @@ copy_faults serial parent before tree =
     ∷ (NotContainer, not (may_hold (kind_at parent tree) (kind_at serial tree)))
     ∷ []
 
--- the first fault of an edit, of an insert, of a move and of a copy
+-- the first fault of an edit
 abbrev pub first_fault : TreeEdit → Branch Row → Option EditFault
 first_fault e tree = first_true (edit_faults e tree)
 
+-- the first fault of an insert of that form
 abbrev pub insert_fault : ℕ → ℕ → Branch Label → Branch Row → Option EditFault
 insert_fault parent before form tree = first_true (attach_faults parent before form tree)
 
+-- the first fault of a move
 abbrev pub move_fault : ℕ → ℕ → ℕ → Branch Row → Option EditFault
 move_fault serial parent before tree = first_true (move_faults serial parent before tree)
 
+-- the first fault of a copy
 abbrev pub copy_fault : ℕ → ℕ → ℕ → Branch Row → Option EditFault
 copy_fault serial parent before tree = first_true (copy_faults serial parent before tree)
 

@@ -11,6 +11,10 @@ use Rattle.page_tree.specs.declared.edits.TreeEdit.{TreeEdit}
 abbrev pub AfterLaw : Type 0
 AfterLaw = (page : State) (e : TreeEdit) → IsValid page → CanApply page.next e page.tree → IsValid (after e page)
 
+-- And its next serial is what it was: what is attached has its serials already.
+abbrev pub NextLaw : Type 0
+NextLaw = (page : State) (e : TreeEdit) → CanApply page.next e page.tree → (after e page).next ≡ page.next
+
 -- `back` leads back over the edit e of that tree: a page of the tree after e and of that next serial takes it, it leads to the very
 -- tree of before, serials and all, and its own way back is e.
 pub record LeadsBack (back e : TreeEdit) (tree : Branch Row) (next : ℕ) : Type 0 where
@@ -20,7 +24,9 @@ pub record LeadsBack (back e : TreeEdit) (tree : Branch Row) (next : ℕ) : Type
 
 -- The edit that leads back does so on every page with the tree after the edit, whatever its next serial is, if that is no lower.
 abbrev pub BackLaw : Type 0
-BackLaw = (page : State) (e : TreeEdit) (next : ℕ) → IsValid page → CanApply page.next e page.tree → page.next ≤ next → LeadsBack (back_tree e page.tree) e page.tree next
+BackLaw =
+    (page : State) (e : TreeEdit) (next : ℕ) → IsValid page → CanApply page.next e page.tree → page.next ≤ next
+    → LeadsBack (back_tree e page.tree) e page.tree next
 
 -- Edits on a page that takes them one after another, with the page that they lead to.
 pub record Leads (edits : List TreeEdit) (page end : State) : Type 0 where
@@ -30,14 +36,20 @@ pub record Leads (edits : List TreeEdit) (page end : State) : Type 0 where
 -- Where an insert has no fault, its edits are taken as soon as its serials are drawn, and they lead to the same page as they would
 -- without that.
 abbrev pub InsertLaw : Type 0
-InsertLaw = (page : State) (parent before : ℕ) (form : Branch Label) → IsValid page → CanInsert form → insert_fault parent before form page.tree ≡ None
+InsertLaw =
+    (page : State) (parent before : ℕ) (form : Branch Label) → IsValid page → CanInsert form
+    → insert_fault parent before form page.tree ≡ None
     → Leads (insert_edits parent before form page) (drawn form page) (after_all (insert_edits parent before form page) page)
 
 -- The same of a copy.
 abbrev pub CopyLaw : Type 0
-CopyLaw = (page : State) (serial parent before : ℕ) → IsValid page → copy_fault serial parent before page.tree ≡ None
-    → Leads (copy_edits serial parent before page) (drawn (form_at serial page.tree) page) (after_all (copy_edits serial parent before page) page)
+CopyLaw =
+    (page : State) (serial parent before : ℕ) → IsValid page → copy_fault serial parent before page.tree ≡ None
+    → let edits = copy_edits serial parent before page in
+    Leads edits (drawn (form_at serial page.tree) page) (after_all edits page)
 
 -- Where a move has no fault, both its edits are taken.
 abbrev pub MoveLaw : Type 0
-MoveLaw = (page : State) (serial parent before : ℕ) → IsValid page → move_fault serial parent before page.tree ≡ None → CanApplyAll (move_edits serial parent before page.tree) page
+MoveLaw =
+    (page : State) (serial parent before : ℕ) → IsValid page → move_fault serial parent before page.tree ≡ None
+    → CanApplyAll (move_edits serial parent before page.tree) page

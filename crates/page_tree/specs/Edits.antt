@@ -16,16 +16,19 @@ abbrev pub pairs_without : List ℕ → List Pair → List Pair
 pairs_without name [] = []
 pairs_without name (p ∷ ps) = cond (bytes_eq p.0 name) ps (p ∷ pairs_without name ps)
 
--- the label with the attribute of that name set, in its place among the others; without it; with another value
+-- the label with the attribute of that name set: one that is there keeps its place, and a new one stands in the order of names
 abbrev pub with_attribute : List ℕ → List ℕ → Label → Label
 with_attribute name value l = record l { attributes = placed (name, value) l.attributes }
 
+-- the label without the attribute of that name
 abbrev pub without_attribute : List ℕ → Label → Label
 without_attribute name l = record l { attributes = pairs_without name l.attributes }
 
+-- the label with another value
 abbrev pub with_value : List ℕ → Label → Label
 with_value value l = record l { value = value }
 
+-- the node with its label changed
 abbrev pub relabelled : (Label → Label) → Branch Row → Branch Row
 relabelled f b = record { row = record { serial = b.row.serial; label = f b.row.label }; children = b.children }
 
@@ -34,14 +37,16 @@ abbrev pub put_before : ℕ → Branch Row → Nodes Row → Nodes Row
 put_before before w none = alone w
 put_before before w (node r c t) = cond (r.serial == before) (node w.row w.children (node r c t)) (node r c (put_before before w t))
 
--- and without the first tree of that serial
+-- trees side by side without the first one of that serial
 abbrev pub taken_out : ℕ → Nodes Row → Nodes Row
 taken_out serial none = none
 taken_out serial (node r c t) = cond (r.serial == serial) t (node r c (taken_out serial t))
 
+-- the node with one more child, before the child of that serial, or last where there is none
 abbrev pub with_child : ℕ → Branch Row → Branch Row → Branch Row
 with_child before w b = record { row = b.row; children = put_before before w b.children }
 
+-- the node without the child of that serial
 abbrev pub without_child : ℕ → Branch Row → Branch Row
 without_child serial b = record { row = b.row; children = taken_out serial b.children }
 
@@ -55,6 +60,7 @@ put_in serial w tree = cond (tree.row.serial == serial) w (record { row = tree.r
 abbrev pub changed_at : ℕ → (Branch Row → Branch Row) → Branch Row → Branch Row
 changed_at serial change tree = put_in serial (change (node_at serial tree)) tree
 
+-- The tree after an edit: one node is changed. That is the named one; for an attach and a detach it is the parent.
 abbrev pub after_tree : TreeEdit → Branch Row → Branch Row
 after_tree (SetAttr serial name value) tree = changed_at serial (relabelled (with_attribute name value)) tree
 after_tree (DropAttr serial name) tree = changed_at serial (relabelled (without_attribute name)) tree
@@ -77,6 +83,7 @@ next_after (SetText serial value) next = next
 next_after (Attach parent before w) next = max next (suc (greatest_serial (alone w)))
 next_after (Detach serial) next = next
 
+-- the page after an edit
 abbrev pub after : TreeEdit → State → State
 after e page = record { tree = after_tree e page.tree; next = next_after e page.next }
 
@@ -132,11 +139,11 @@ drawn form page = record page { next = page.next + branch_count form }
 abbrev pub form_at : ℕ → Branch Row → Branch Label
 form_at serial tree = map_branch row_label (node_at serial tree)
 
--- An insert is one attach of new nodes, whose serials follow document order from the next one; a copy is the same with the
--- form of a node of the page.
+-- an insert is one attach of new nodes, whose serials follow document order from the next one
 abbrev pub insert_edits : ℕ → ℕ → Branch Label → State → List TreeEdit
 insert_edits parent before form page = Attach parent before (numbered_branch page.next form) ∷ []
 
+-- a copy is the same with the form of a node of the page
 abbrev pub copy_edits : ℕ → ℕ → ℕ → State → List TreeEdit
 copy_edits serial parent before page = insert_edits parent before (form_at serial page.tree) page
 

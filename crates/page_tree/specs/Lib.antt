@@ -1,5 +1,6 @@
 pub mod Forms
 pub mod Pages
+pub mod Members
 pub mod Zippers
 pub mod Siblings
 pub mod Loads
@@ -9,4 +10,5 @@ pub mod Arenas
 pub mod Edits
 pub mod EditFaults
 pub mod EditLaws
+pub mod Ancestors
 pub mod Searches

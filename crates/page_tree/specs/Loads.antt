@@ -125,6 +125,10 @@ abbrev mutual
 abbrev pub nodes_in : Data → Option (Nodes Label)
 nodes_in d = option_and_then (forms_of true) (as_array d)
 
+-- the one node that a value spells; it may stand at the top
+abbrev pub node_in : Data → Option (Branch Label)
+node_in d = form_of true d
+
 -- the values that the property `c` of an object lists; it may be absent
 abbrev pub children_in : Data → Option Items
 children_in d = option_and_then (λ _. option_map_or as_array (get (codes "c") d) (Some no_items)) (as_object d)
@@ -155,3 +159,9 @@ abbrev pub Reads : Result (Vec NodeForm Global) LoadErr → Option (Nodes Label)
 Reads (Ok forms) nodes = (nodes ≡ Some (nodes_of forms.items)) × (first_load_fault nodes ≡ None)
 Reads (Err (Fault f)) nodes = first_load_fault nodes ≡ Some f
 Reads (Err Memory) nodes = Unit {0}
+
+-- What a read of one node answers: the node that the value spells, and BadForm where it spells none. Want of memory is free.
+abbrev pub ReadsNode : Result NodeForm LoadErr → Option (Branch Label) → Type 0
+ReadsNode (Ok form) spelt = spelt ≡ Some form
+ReadsNode (Err (Fault f)) spelt = (f ≡ BadForm) × (spelt ≡ None)
+ReadsNode (Err Memory) spelt = Unit {0}

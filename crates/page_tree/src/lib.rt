@@ -19,20 +19,23 @@ mod loads;
 mod node_refs;
 mod numbering;
 mod pages;
+mod relations;
 mod search;
 mod slots;
 mod trees;
 
 pub use cursors::{Children, Node};
 pub use edit_faults::{EditErr, EditFault};
-pub use edit_laws::after_law;
+pub use edit_laws::{after_law, back_law, copy_law, insert_law, move_law};
 pub use edits::TreeEdit;
 pub use faults::{LoadErr, LoadFault};
 pub use forms::NodeForm;
 pub use loads::read_nodes;
 pub use node_refs::NodeRef;
+pub use loads::{read_node, read_nodes};
 pub use node_tree::{Attributes, Kind, Text};
 pub use pages::Page;
+pub use relations::relation_law;
 pub use trees::Tree;
 
 #[cfg(test)]

@@ -2,7 +2,8 @@ ghost use Rattle.std.specs.Prelude.{◌≡◌, option_map, IfOk};
 ghost use Rattle.serde_json.specs.View.{view, items_view};
 ghost use Rattle.node_tree.specs.Nodes.{nodes_of};
 ghost use Rattle.page_tree.specs.Forms.{CanLoad};
-ghost use Rattle.page_tree.specs.Loads.{children_in, form_of, forms_of, nodes_in, Reads};
+ghost use Rattle.page_tree.specs.Loads.{children_in, form_of, forms_of, node_in, nodes_in, Reads, ReadsNode};
+ghost use Rattle.page_tree.specs.EditFaults.{CanInsert};
 
 use crate::faults::{LoadErr, LoadFault};
 use crate::forms::NodeForm;
@@ -78,4 +79,16 @@ pub fn read_nodes(alloc: Global, v: &Value) -> Result<Vec<NodeForm>, LoadErr>
         return Err(LoadErr::Fault(fault));
     }
     Ok(forms)
+}
+
+/// The node that a value spells, with all below it; a doctype stands as the whole alone. Names, levels and the number of nodes are not
+/// judged here: `BadForm` is the only fault.
+pub fn read_node(alloc: Global, v: &Value) -> Result<NodeForm, LoadErr>
+    ensures reads { ReadsNode result (node_in (view v.now)) }
+    ensures fit { IfOk result (λ form. CanInsert form) }
+{
+    match read_one(alloc, true, v)? {
+        Some(form) => Ok(form),
+        None => Err(LoadErr::Fault(LoadFault::BadForm)),
+    }
 }

@@ -3,8 +3,9 @@
 ghost use Rattle.std.specs.Prelude.{◌≡◌, ◌<◌, find, List, [], length, option_map, Some, None, IsSome, slice_get, slice_index_or};
 ghost use Rattle.node_tree.specs.Nodes.{nodes_of};
 ghost use Rattle.node_tree.specs.Labels.{value_of};
+ghost use Rattle.page_tree.specs.Forms.{max_nodes};
 ghost use Rattle.page_tree.specs.Pages.{find_in};
-ghost use Rattle.page_tree.specs.Zippers.{Generation, zipper_at, has_serial, all_in, parent_of, previous_of, next_of, first_child_of};
+ghost use Rattle.page_tree.specs.Zippers.{Generation, zipper_at, has_serial, all_in, earlier, later, parent_of, previous_of, next_of, first_child_of};
 ghost use Rattle.page_tree.specs.Siblings.{Finds};
 
 use crate::pages::Page;
@@ -131,6 +132,15 @@ impl<'a> NodeRef<'a> {
     {
         let node = self.node;
         node.attributes.at(i)
+    }
+
+    /// A node has few siblings: this call only says so to a proof.
+    pub fn are_few(&self)
+        ensures earlier { length (earlier self.now) < max_nodes }
+        ensures later { length (later self.now) < max_nodes }
+    {
+        let page = self.page;
+        page.valid();
     }
 
     pub fn parent(&self) -> Option<NodeRef<'a>>

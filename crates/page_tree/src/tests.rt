@@ -45,6 +45,22 @@ fn answer(alloc: Global, json: &str) -> Result<String, Fail> {
     Ok(out)
 }
 
+/// The one node that is read, or the fault.
+fn node_answer(alloc: Global, json: &str) -> Result<String, Fail> {
+    let v = Value::from_str(alloc, json)?;
+    let mut out = String::new(alloc);
+    match read_node(alloc, &v) {
+        Ok(form) => {
+            let mut forms = Vec::new(alloc);
+            forms.push(form)?;
+            write_forms(&mut out, &forms)?
+        }
+        Err(LoadErr::Fault(_)) => out.push_str("fault")?,
+        Err(LoadErr::Memory) => out.push_str("Memory")?,
+    }
+    Ok(out)
+}
+
 fn repeated(
     alloc: Global,
     count: usize,
@@ -112,6 +128,21 @@ fn loads_are_read(rt: HostRuntime) -> Result<(), Fail> {
         let got = answer(alloc, json.as_str())?;
         let all = repeated(alloc, levels, "e a(", want, ")")?;
         assert_eq!(rt; got.as_str(), all.as_str());
+    }
+    Ok(())
+}
+
+#[test]
+fn one_node_is_read_and_a_doctype_alone(rt: HostRuntime) -> Result<(), Fail> {
+    let alloc = rt.alloc();
+    let cases = [
+        (r#"{"e":"P","c":[{"t":"T"},{"e":"b"}]}"#, "e P(t T()e b())"),
+        (r#"{"d":"html"}"#, "d html()"),
+        (r#"{"e":"p","c":[{"d":"html"}]}"#, "fault"),
+        (r#"[{"t":"T"}]"#, "fault"),
+    ];
+    for (json, want) in cases {
+        assert_eq!(rt; node_answer(alloc, json)?.as_str(), want, "{json}");
     }
     Ok(())
 }

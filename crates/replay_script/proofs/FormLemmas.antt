@@ -2,6 +2,7 @@
 use Rattle.std.proofs.Common.{◌≡◌, ℕ, ◌==◌, List, [], ◌∷◌, Bool, true, false, not, ◌||◌, if◌then◌else◌, Option, Some, None, is_none, is_some, option_map, option_and_then, Result, Ok, Err, IfOk, bytes_eq, IsUtf8, codes, cond, refl, ap, subst, sym, ◌∙◌}
 use Rattle.std.specs.Str.{is_utf8}
 use Rattle.std.specs.Option.{option_map_or}
+use Rattle.std.proofs.lemmas.Slice.Eq.{bytes_eq-Decides}
 use Rattle.std.proofs.lemmas.Str.{IsUtf8-from_is_utf8, is_utf8-from_IsUtf8}
 use Rattle.std.proofs.lemmas.Bool.{cond-true, or_parts, not_from_false}
 use Rattle.serde_json.specs.Data.{Data, object, Members, no_members, member}
@@ -22,7 +23,7 @@ use Rattle.replay_script.specs.declared.faults.LineFault.TheVariants.{NotJson, B
 use Rattle.replay_script.specs.declared.forms.Line.{Line}
 use Rattle.replay_script.specs.declared.forms.Line.TheVariants.{Ask as AskLine}
 use Rattle.replay_script.specs.Forms.{AskForm, LineForm, load, ask, up, down, settle, data_of, only_member, only, page_of, page_nodes, AskParts, ask_kind, ask_from, ask_in, ask_of, number_of, settle_in, word_of, show_from, first_form, form_of, line_form}
-use Rattle.replay_script.specs.Faults.{json_fault, first_line_fault, later_line_fault, is_built, fault_of_data, line_fault}
+use Rattle.replay_script.specs.Faults.{json_fault, first_line_fault, later_line_fault, is_built_ask, is_built, fault_of_data, line_fault}
 use Rattle.replay_script.specs.Seen.{seen_ask, seen, AreWhole}
 
 -- ---- a line's JSON
@@ -117,6 +118,42 @@ line_whole _ a whole is = absurd cc
 pub are_whole : (r : Result Line LineErr) (d : Data) (a : AskForm) → has_float d ≡ false → ask_of d ≡ Some a → IfOk r (λ line. seen line ≡ ask a) → IfOk r AreWhole
 are_whole (Ok line) d a whole is form = line_whole line a (ask_whole d a whole is) form
 are_whole (Err e) d a whole is form = form
+
+-- ---- a line that is an ask
+
+no_page_member : (ms : Members) (x : Data) → only_member (codes "ask") ms ≡ Some x → only_member (codes "load") ms ≡ None
+no_page_member no_members x h = absurd cc
+no_page_member (member key d (member k e ms)) x h = absurd cc
+no_page_member (member key d no_members) x h = at (bytes_eq (codes "ask") key) refl h where
+  at : (b : Bool) → bytes_eq (codes "ask") key ≡ b → (if b then Some d else None) ≡ Some x → (if bytes_eq (codes "load") key then Some d else None) ≡ None
+  at true is g = subst (λ k. (if bytes_eq (codes "load") k then Some d else None) ≡ None) ((bytes_eq-Decides (codes "ask") key).0 is) refl
+  at false is g = absurd cc
+
+no_page : (d x : Data) → only (codes "ask") d ≡ Some x → page_of d ≡ None
+no_page (object ms) x h = no_page_member ms x h
+no_page _ x h = absurd cc
+
+ask_form : (d : Data) (a : AskForm) → ask_of d ≡ Some a → form_of d ≡ Some (ask a)
+ask_form d a is =
+    let found = and_then_some ask_in (only (codes "ask") d) a is in
+    let page : page_of d ≡ None = no_page d found.0 found.1 in
+    let later : Option LineForm = first_form
+    (option_map up (number_of (codes "up") d) ∷ option_map down (number_of (codes "down") d) ∷ option_map (λ _. settle) (settle_in d) ∷ option_and_then show_from (word_of d) ∷ []) in
+    λ i. first_of (option_map load (option_and_then page_nodes (page i))) (first_of (option_map ask (is i)) later)
+
+not_built : (b : Bool) → (if b then None else Some NotBuilt) ≡ first_true ((NotBuilt, not b) ∷ [])
+not_built true = refl
+not_built false = refl
+
+-- the fault of a line that is an ask is that of the ask
+pub ask_fault : (d : Data) (a : AskForm) → has_float d ≡ false → ask_of d ≡ Some a → (if is_built_ask a then None else Some NotBuilt) ≡ later_line_fault d
+ask_fault d a whole is =
+    let form = ask_form d a is in
+    not_built (is_built_ask a) ∙ (λ i. first_true ((NotBuilt, sym whole i || not (option_map_or is_built (sym form i) false)) ∷ []))
+
+pub ask_seen : (r : Result Line LineErr) (d : Data) (a : AskForm) → ask_of d ≡ Some a → IfOk r (λ line. seen line ≡ ask a) → IfOk r (λ line. form_of d ≡ Some (seen line))
+ask_seen (Ok line) d a is form = ask_form d a is ∙ ap (λ (f : LineForm). Some f) (sym form)
+ask_seen (Err e) d a is form = form
 
 -- ---- a line that is not refused has a form
 

@@ -8,7 +8,9 @@ use Rattle.node_tree.specs.Keys.{first_of}
 use Rattle.page_tree.specs.Loads.{first_true, first_load_fault}
 use Rattle.page_tree.specs.declared.faults.LoadFault.{LoadFault}
 use Rattle.replay_script.specs.Forms.{AskForm, LineForm, load, ask, up, down, settle, show_front, show_replies, data_of, page_of, page_nodes, form_of}
+use Rattle.cdp_messages.specs.declared.command.Command.{Command}
 use Rattle.cdp_messages.specs.Asked.{command_of}
+use Rattle.cdp_messages.specs.DomAsks.{dom_ask_in}
 use Rattle.replay_script.specs.declared.faults.LineFault.{LineFault}
 use Rattle.replay_script.specs.declared.faults.LineFault.TheVariants.{NotJson, NotLoad, BadForm, BadLoad, NotBuilt}
 
@@ -28,14 +30,14 @@ first_line_fault d = first_of (first_true ((NotLoad, is_none (page_of d)) ∷ (B
 
 -- ---- the lines after it
 
--- it is Ok
-abbrev pub is_good : {A E : Type 0} → Result A E → Bool
-is_good (Ok x) = true
-is_good (Err e) = false
+-- it is a command that the agent serves
+abbrev pub is_served : {E : Type 0} → Result Command E → Bool
+is_served (Ok c) = is_some (dom_ask_in c)
+is_served (Err e) = false
 
--- a command that the back end knows, with parameters that fit it
+-- a command that the back end serves, with parameters that fit it
 abbrev pub is_built_ask : AskForm → Bool
-is_built_ask a = is_good (command_of a.method a.params a.session)
+is_built_ask a = is_served (command_of false a.method a.params a.session)
 
 -- a later page is not built yet
 abbrev pub is_built : LineForm → Bool

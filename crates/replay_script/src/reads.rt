@@ -9,7 +9,7 @@ ghost use Rattle.replay_script.specs.Seen.{seen, parts_form, IsLoadable, AreWhol
 use crate::faults::{LineErr, LineFault};
 use crate::forms::{AskParts, Line, ask_of, is_settle, number_of, only, word_of};
 use cdp_json::all_whole;
-use cdp_messages::{CommandErr, read_ask};
+use cdp_messages::{CommandErr, DomAsk, read_ask};
 use page_tree::{LoadErr, LoadFault, read_nodes};
 use serde_json::Value;
 use std::alloc::Global;
@@ -62,14 +62,17 @@ fn read_first_line(alloc: Global, value: &Value) -> Result<Line, LineErr>
     read_page(alloc, page)
 }
 
-// The ask, where its command is one that the back end knows.
+// The ask, where its command is one that the back end serves.
 fn read_known_ask(alloc: Global, parts: &AskParts<'_>) -> Result<Line, LineErr>
     ensures fault { Refuses result (if is_built_ask (parts_form parts.now) then None else Some LineFault.NotBuilt) }
     ensures form { IfOk result (λ line. seen line ≡ ask (parts_form parts.now)) }
     ensures loadable { IfOk result IsLoadable }
 {
     match read_ask(alloc, parts.method, parts.params, parts.session) {
-        Ok(_) => Ok(Line::Ask(parts.to_ask(alloc)?)),
+        Ok(command) => match DomAsk::of_command(command) {
+            Some(_) => Ok(Line::Ask(parts.to_ask(alloc)?)),
+            None => Err(LineErr::Fault(LineFault::NotBuilt)),
+        },
         Err(CommandErr::Refused(_)) => Err(LineErr::Fault(LineFault::NotBuilt)),
         Err(CommandErr::Memory) => Err(LineErr::Memory),
     }

@@ -94,6 +94,7 @@ fn compound_at(alloc: Global, words: &mut Words, joint: Joint) -> Result<(Compou
     let first = first_at(alloc, words)?;
     let is_element = push_item(&mut tests, first)?;
     let element = tests_from(alloc, words, &mut tests, is_element)?;
+    tests.shrink_to_fit();
     Ok((Compound { joint, tests }, element))
 }
 
@@ -156,6 +157,7 @@ fn joined_of(alloc: Global, words: &mut Words) -> Result<(Vec<Compound>, bool), 
     let (first, is_element) = compound_at(alloc, words, Joint::Descendant)?;
     push_compound(&mut compounds, first)?;
     let element = compounds_from(alloc, words, &mut compounds, is_element)?;
+    compounds.shrink_to_fit();
     Ok((compounds, element))
 }
 
@@ -175,6 +177,14 @@ fn selector_of(alloc: Global, words: &mut Words) -> Result<Selector, SelErr>
     })
 }
 
+/// The list, which takes no more memory than its selectors need.
+fn fitted(mut list: Vec<Selector>) -> SelectorList
+    ensures { list_seen result ≡ map selector_seen list.items }
+{
+    list.shrink_to_fit();
+    SelectorList { list }
+}
+
 /// The selector list that the words spell, which may be a part of a longer text's. Its ranges are places of that text.
 pub fn read_list(alloc: Global, words: &mut Words) -> Result<SelectorList, SelErr>
     ensures exact { Gives list_seen result (list_of words.old) }
@@ -185,7 +195,7 @@ pub fn read_list(alloc: Global, words: &mut Words) -> Result<SelectorList, SelEr
         let selector = selector_of(alloc, &mut own)?;
         push_selector(&mut list, selector)?;
         let Some(_comma) = words.next() else {
-            return Ok(SelectorList { list });
+            return Ok(fitted(list));
         };
     }
 }

@@ -1,11 +1,13 @@
 -- A book's entries as its map has them.
-use Rattle.std.proofs.Common.{◌≡◌, ℕ, zero, suc, ◌≤◌, Bool, true, false, cond, nat_eq, List, [], ◌∷◌, ◌++◌, length, Option, Some, None, Bor, refl, sym, ap, subst, ◌∙◌, arith}
+use Rattle.std.proofs.Common.{All, ◌≡◌, ℕ, zero, suc, ◌≤◌, Bool, true, false, cond, nat_eq, List, [], ◌∷◌, ◌++◌, length, Option, Some, None, Bor, refl, sym, ap, subst, ◌∙◌, arith}
 use Rattle.std.specs.Prelude.{slice_get, option_map, option_copied, IfSome, IsSome}
 use Rattle.std.proofs.lemmas.Bool.{eqb-true}
+use Rattle.std.specs.Str.{IsUtf8}
+use Rattle.std.proofs.lemmas.List.Elements.{All-nil, All-cons}
 use Rattle.std.specs.Map.{lookup, keys_of, remove_entry}
 use Rattle.indexmap.specs.IndexMap.{insert_entry}
 use Rattle.sheet_reader.specs.declared.book.SheetEntry.{SheetEntry}
-use Rattle.sheet_reader.specs.Books.{IsEntry, entry_of, ids_of, changed, removed, entries_in, AreEntries}
+use Rattle.sheet_reader.specs.Books.{IsEntry, IsStored, entry_of, ids_of, changed, removed, entries_in, AreEntries}
 
 abbrev pub Entries : Type 0
 Entries = List (ℕ × SheetEntry)
@@ -24,9 +26,9 @@ entries_none [] i e = omega arith
 entries_none (q ∷ es) zero e = absurd (cc)
 entries_none (q ∷ es) (suc i) e = omega (arith, entries_none es i e)
 
-pub entries_at : (es : Entries) (i : ℕ) (p : ℕ × SheetEntry) → AreEntries es → slice_get es i ≡ Some p → IsEntry p.1
+pub entries_at : (es : Entries) (i : ℕ) (p : ℕ × SheetEntry) → AreEntries es → slice_get es i ≡ Some p → IsStored p.1
 entries_at [] i p all e = absurd (cc)
-entries_at (q ∷ es) zero p all e = let same : q ≡ p = cc in subst (λ (x : ℕ × SheetEntry). IsEntry x.1) same all.1
+entries_at (q ∷ es) zero p all e = let same : q ≡ p = cc in subst (λ (x : ℕ × SheetEntry). IsStored x.1) same all.1
 entries_at (q ∷ es) (suc i) p all e = entries_at es i p all.2 e
 
 pub found : (id : ℕ) (es : Entries) → AreEntries es → lookup (nat_eq id) es ≡ entry_of id (entries_in es)
@@ -35,12 +37,12 @@ found id (q ∷ es) all =
     ap (λ (k : ℕ). cond (nat_eq id k) (Some q.1) (lookup (nat_eq id) es)) all.0
     ∙ ap (λ (o : Option SheetEntry). cond (nat_eq id q.1.id) (Some q.1) o) (found id es all.2)
 
-pub is_entry : (id : ℕ) (es : Entries) (e : SheetEntry) → AreEntries es → entry_of id (entries_in es) ≡ Some e → IsEntry e
+pub is_entry : (id : ℕ) (es : Entries) (e : SheetEntry) → AreEntries es → entry_of id (entries_in es) ≡ Some e → IsStored e
 is_entry id [] e all h = absurd (cc)
 is_entry id (q ∷ es) e all h = by (nat_eq id q.1.id) h (λ k. is_entry id es e all.2 k)
   where
-    by : (b : Bool) → cond b (Some q.1) (entry_of id (entries_in es)) ≡ Some e → (entry_of id (entries_in es) ≡ Some e → IsEntry e) → IsEntry e
-    by true k rest = let same : q.1 ≡ e = cc in subst IsEntry same all.1
+    by : (b : Bool) → cond b (Some q.1) (entry_of id (entries_in es)) ≡ Some e → (entry_of id (entries_in es) ≡ Some e → IsStored e) → IsStored e
+    by true k rest = let same : q.1 ≡ e = cc in subst IsStored same all.1
     by false k rest = rest k
 
 pub keys_are : (es : Entries) → AreEntries es → keys_of es ≡ ids_of (entries_in es)
@@ -65,7 +67,7 @@ removed_are id (q ∷ es) all = by (nat_eq id q.0) (removed_are id es all.2)
     by true rest = all.2
     by false rest = (all.0, all.1, rest)
 
-pub inserted_are : (v : SheetEntry) (es : Entries) → IsEntry v → AreEntries es → AreEntries (insert_entry nat_eq es v.id v)
+pub inserted_are : (v : SheetEntry) (es : Entries) → IsStored v → AreEntries es → AreEntries (insert_entry nat_eq es v.id v)
 inserted_are v [] own all = (refl, own, tt)
 inserted_are v (q ∷ es) own all = by (nat_eq v.id q.0) refl (inserted_are v es own all.2)
   where
@@ -97,8 +99,16 @@ inserted_changed v (q ∷ es) all there =
 
 pub read_copied : (id : ℕ) (es : Entries) (r : Option (Bor SheetEntry)) → AreEntries es → option_copied r ≡ entry_of id (entries_in es) → IfSome r (λ e. IsEntry e.now)
 read_copied id es None all e = tt
-read_copied id es (Some x) all e = is_entry id es x.now all (sym e)
+read_copied id es (Some x) all e = let own = is_entry id es x.now all (sym e) in own.entry
 
 pub missing : (o : Option SheetEntry) → o ≡ None → IsSome o → ⊥
 missing None e there = absurd (cc)
 missing (Some x) e there = absurd (cc)
+
+-- an entry whose text is one that was read
+pub stored : (e : SheetEntry) (text : List ℕ) → IsEntry e → text ≡ e.text → IsUtf8 text → IsStored e
+stored e text own is utf8 = record { entry = own; utf8 = subst IsUtf8 is utf8 }
+
+pub all_stored : (es : Entries) → AreEntries es → All IsStored (entries_in es)
+all_stored [] all = All-nil IsStored
+all_stored (p ∷ ps) all = All-cons IsStored p.1 (entries_in ps) all.1 (all_stored ps all.2)

@@ -7,7 +7,7 @@ use Rattle.css_tokens.specs.declared.token.TokenKind.TheVariants as tokens
 use Rattle.css_tokens.specs.Pieces.{pieces}
 use Rattle.sheet_reader.specs.declared.lone.LoneRule.TheVariants.{Other}
 use Rattle.sheet_reader.specs.Parts.{PartForm, passed, qualified_at, is_passed, part_by, part_at, part_pieces, parts, parts_after}
-use Rattle.sheet_reader.specs.Lone.{is_blank_kind, is_blank, skip_blank, is_blank_part, solid_parts, lone_by, lone_of, lone_rule}
+use Rattle.sheet_reader.specs.Lone.{is_blank_kind, is_blank_piece, skip_blank, is_blank_part, solid_parts, lone_by, lone_of, lone_rule}
 use Rattle.sheet_reader.proofs.PartLemmas.{parts_step}
 
 -- a blank piece is a part, which is passed over
@@ -16,23 +16,23 @@ blank_part tokens.Comment t ts e = refl
 blank_part tokens.WhiteSpace t ts e = refl
 blank_part _ t ts e = absurd (cc)
 
-by_passed_solid : (b : Bool) (t : Token) (ts : List Token) → is_blank t ≡ false → is_blank_part (cond b (passed t) (qualified_at (t ∷ ts))) ≡ false
+by_passed_solid : (b : Bool) (t : Token) (ts : List Token) → is_blank_piece t ≡ false → is_blank_part (cond b (passed t) (qualified_at (t ∷ ts))) ≡ false
 by_passed_solid true t ts e = e
 by_passed_solid false t ts e = refl
 
-solid_by : (kind : TokenKind) (t : Token) (ts : List Token) → is_blank t ≡ false → is_blank_part (part_by t ts kind) ≡ false
+solid_by : (kind : TokenKind) (t : Token) (ts : List Token) → is_blank_piece t ≡ false → is_blank_part (part_by t ts kind) ≡ false
 solid_by tokens.AtKeyword t ts e = refl
 solid_by kind t ts e = by_passed_solid (is_passed kind) t ts e
 
 -- any other piece begins a part that is not
-solid_part : (t : Token) (ts : List Token) → is_blank t ≡ false → is_blank_part (part_at t ts) ≡ false
+solid_part : (t : Token) (ts : List Token) → is_blank_piece t ≡ false → is_blank_part (part_at t ts) ≡ false
 unfolding part_at
 solid_part t ts e = solid_by t.kind t ts e
 
 abbrev Kept : Bool → PartForm → List PartForm → List PartForm
 Kept b p ps = cond (not b) (p ∷ ps) ps
 
-blank_first : (t : Token) (ts : List Token) → is_blank t ≡ true → solid_parts (parts (t ∷ ts)) ≡ solid_parts (parts ts)
+blank_first : (t : Token) (ts : List Token) → is_blank_piece t ≡ true → solid_parts (parts (t ∷ ts)) ≡ solid_parts (parts ts)
 unfolding part_at
 blank_first t ts e =
     let is : part_at t ts ≡ passed t = blank_part t.kind t ts e in
@@ -40,7 +40,7 @@ blank_first t ts e =
     ∙ ap (λ (p : PartForm). solid_parts (p ∷ parts (drop (length (part_pieces p)) (t ∷ ts)))) is
     ∙ ap (λ (b : Bool). Kept b (passed t) (solid_parts (parts ts))) e
 
-solid_first : (t : Token) (ts : List Token) → is_blank t ≡ false → solid_parts (parts (t ∷ ts)) ≡ part_at t ts ∷ solid_parts (parts (drop (length (part_pieces (part_at t ts))) (t ∷ ts)))
+solid_first : (t : Token) (ts : List Token) → is_blank_piece t ≡ false → solid_parts (parts (t ∷ ts)) ≡ part_at t ts ∷ solid_parts (parts (drop (length (part_pieces (part_at t ts))) (t ∷ ts)))
 solid_first t ts e =
     ap solid_parts (parts_step t ts)
     ∙ ap (λ (b : Bool). Kept b (part_at t ts) (solid_parts (parts (drop (length (part_pieces (part_at t ts))) (t ∷ ts))))) (solid_part t ts e)
@@ -48,17 +48,17 @@ solid_first t ts e =
 -- what stands first where blank pieces are skipped
 record Skipped (ts left : List Token) : Type 0 where
   same : solid_parts (parts ts) ≡ solid_parts (parts left)
-  solid : (t : Token) (more : List Token) → left ≡ t ∷ more → is_blank t ≡ false
+  solid : (t : Token) (more : List Token) → left ≡ t ∷ more → is_blank_piece t ≡ false
 
 skipped : (ts : List Token) → Skipped ts (skip_blank ts)
 skipped [] = record { same = refl; solid = λ t more e. absurd (cc) }
-skipped (t ∷ ts) = by (is_blank t) refl (skipped ts)
+skipped (t ∷ ts) = by (is_blank_piece t) refl (skipped ts)
   where
-    by : (b : Bool) → is_blank t ≡ b → Skipped ts (skip_blank ts) → Skipped (t ∷ ts) (drop (cond b (1 + prefix_len is_blank ts) 0) (t ∷ ts))
+    by : (b : Bool) → is_blank_piece t ≡ b → Skipped ts (skip_blank ts) → Skipped (t ∷ ts) (drop (cond b (1 + prefix_len is_blank_piece ts) 0) (t ∷ ts))
     by true e more =
-        let one : suc (prefix_len is_blank ts) ≡ 1 + prefix_len is_blank ts = omega arith in
+        let one : suc (prefix_len is_blank_piece ts) ≡ 1 + prefix_len is_blank_piece ts = omega arith in
         subst (λ (n : ℕ). Skipped (t ∷ ts) (drop n (t ∷ ts))) one (record { same = blank_first t ts e ∙ more.same; solid = more.solid })
-    by false e more = record { same = refl; solid = λ u us is. let first : t ≡ u = cc in ap is_blank (sym first) ∙ e }
+    by false e more = record { same = refl; solid = λ u us is. let first : t ≡ u = cc in ap is_blank_piece (sym first) ∙ e }
 
 pub lone_none : (text : List ℕ) (ts left : List Token) → ts ≡ pieces text → left ≡ skip_blank ts → length left < 1 → Other ≡ lone_rule text
 unfolding parts_after

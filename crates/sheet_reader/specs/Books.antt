@@ -1,6 +1,7 @@
 -- A book of sheets: its entries in order.
 use Rattle.std.specs.Prelude.{◌≡◌, ℕ, ◌^◌, ◌<◌, ◌≤◌, ◌==◌, List, [], ◌∷◌, length, map, Option, Some, None, nat_eq, position, if◌then◌else◌}
 use Rattle.std.specs.List.{IsDistinct}
+use Rattle.std.specs.Str.{IsUtf8}
 use Rattle.sheet_reader.specs.declared.book.SheetEntry.{SheetEntry}
 use Rattle.sheet_reader.specs.Sheets.{sheet_of}
 
@@ -10,6 +11,11 @@ pub record IsEntry (e : SheetEntry) : Type 0 where
   pub some : 0 < e.id
   pub id : e.id < 2 ^ 53
   pub short : length e.text ≤ 2 ^ 24
+
+-- as a book has it: its text is UTF-8 too
+pub record IsStored (e : SheetEntry) : Type 0 where
+  pub entry : IsEntry e
+  pub utf8 : IsUtf8 e.text
 
 abbrev pub ids_of : List SheetEntry → List ℕ
 ids_of es = map (λ e. e.id) es
@@ -44,4 +50,4 @@ entries_in (p ∷ ps) = p.1 ∷ entries_in ps
 
 abbrev pub AreEntries : List (ℕ × SheetEntry) → Type 0
 AreEntries [] = Unit {0}
-AreEntries (p ∷ ps) = (p.0 ≡ p.1.id) × IsEntry p.1 × AreEntries ps
+AreEntries (p ∷ ps) = (p.0 ≡ p.1.id) × IsStored p.1 × AreEntries ps

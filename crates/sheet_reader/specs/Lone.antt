@@ -16,15 +16,15 @@ is_blank_kind Comment = true
 is_blank_kind WhiteSpace = true
 is_blank_kind _ = false
 
-abbrev pub is_blank : Token → Bool
-is_blank t = is_blank_kind t.kind
+abbrev pub is_blank_piece : Token → Bool
+is_blank_piece t = is_blank_kind t.kind
 
 -- the pieces from the first one on that is neither
 abbrev pub skip_blank : List Token → List Token
-skip_blank ts = drop (prefix_len is_blank ts) ts
+skip_blank ts = drop (prefix_len is_blank_piece ts) ts
 
 abbrev pub is_blank_part : PartForm → Bool
-is_blank_part (passed t) = is_blank t
+is_blank_part (passed t) = is_blank_piece t
 is_blank_part (at_rule keyword prelude ending) = false
 is_blank_part (qualified prelude ending) = false
 

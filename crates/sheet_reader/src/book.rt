@@ -1,8 +1,8 @@
 //! A book of style sheets: texts with their readings, in order.
 
-ghost use Rattle.std.specs.Prelude.{◌≡◌, ◌<◌, ◌++◌, ◌∷◌, [], length, None, Some, IsSome, IfSome, slice_get, option_copied, nat_eq, OnOk, OnErr, IfOk};
+ghost use Rattle.std.specs.Prelude.{◌≡◌, All, ◌<◌, ◌++◌, ◌∷◌, [], length, None, Some, IsSome, IfSome, slice_get, option_copied, nat_eq, OnOk, OnErr, IfOk};
 ghost use Rattle.indexmap.specs.IndexMap.{get, shift_remove_entry};
-ghost use Rattle.sheet_reader.specs.Books.{IsEntry, AreApart, entry_of, place_in, changed, removed};
+ghost use Rattle.sheet_reader.specs.Books.{IsEntry, IsStored, AreApart, entry_of, place_in, changed, removed};
 
 use crate::rules::read_sheet;
 use crate::sheet::Sheet;
@@ -92,6 +92,7 @@ impl SheetBook {
     pub fn place_of(&self, id: u64) -> Option<usize>
         ensures place { result ≡ place_in id self.now }
         ensures apart { AreApart self.now }
+        ensures each { All IsStored self.now }
     {
         self.entries.get_index_of(&id)
     }
@@ -118,6 +119,8 @@ impl SheetBook {
         ensures last { OnOk result (self.new ≡ self.old ++ entry ∷ []) }
         ensures unchanged { OnErr result (self.new ≡ self.old) }
     {
+        // Read for the proof alone: a text is UTF-8.
+        let _text = entry.text.as_str();
         match self.entries.insert(entry.id, entry) {
             Ok(_) => Ok(()),
             Err(_) => Err(AllocError),
@@ -131,6 +134,8 @@ impl SheetBook {
         ensures old { entry_of entry.id self.old ≡ Some result }
         ensures changed { self.new ≡ changed entry self.old }
     {
+        // Read for the proof alone: a text is UTF-8.
+        let _text = entry.text.as_str();
         match self.entries.insert(entry.id, entry) {
             Ok(Some(old)) => old,
             Ok(None) => unreachable!(),

@@ -253,6 +253,7 @@ pub(crate) fn read_body(
         push_some(&mut properties, property)?;
         left = behind(left, item_len(item));
     }
+    properties.shrink_to_fit();
     Ok(properties)
 }
 

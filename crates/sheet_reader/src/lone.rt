@@ -5,7 +5,7 @@ ghost use Rattle.std.specs.List.{prefix_len};
 ghost use Rattle.css_tokens.specs.Marks.{IsPieceOf};
 ghost use Rattle.sheet_reader.specs.Seen.{part_seen, ending_seen};
 ghost use Rattle.sheet_reader.specs.Parts.{part_pieces};
-ghost use Rattle.sheet_reader.specs.Lone.{is_blank_kind, is_blank, skip_blank, is_closed_ending, is_closed_rule, lone_by, lone_rule};
+ghost use Rattle.sheet_reader.specs.Lone.{is_blank_kind, is_blank_piece, skip_blank, is_closed_ending, is_closed_rule, lone_by, lone_rule};
 
 use crate::parts::{Ending, Part, behind, part_at, part_len};
 use crate::rules::rule_of;
@@ -31,7 +31,7 @@ fn is_blank_kind(kind: TokenKind) -> bool
 
 /// How many pieces at the front are white space or comments.
 fn blank_len(pieces: &[Token]) -> usize
-    ensures value { result ≡ prefix_len is_blank pieces.now }
+    ensures value { result ≡ prefix_len is_blank_piece pieces.now }
     ensures fits { result ≤ length pieces.now }
 {
     pieces

@@ -1,6 +1,23 @@
 //! Edits of the texts of style sheets, each with the splices that lead back.
+//!
+//! A client names a part of a text by lines and columns from 0: a line ends at a line feed alone, and a column counts UTF-16
+//! units. Splices name it by bytes. An edit is made whole or not at all.
 #![tactic(auto)]
 
+mod drafts;
+mod edits;
+mod faults;
+mod laws;
+mod lines;
+mod sheets;
 mod splice;
 
-pub use splice::Splice;
+pub use edits::{StyleEdit, add_rule, set_selector, set_styles, set_text};
+pub use faults::{SheetErr, SheetFault};
+pub use laws::{edits_law, splice_law};
+pub use lines::LineRange;
+pub use sheets::{add_sheet, drop_sheet};
+pub use splice::{Splice, put_back};
+
+#[cfg(test)]
+mod tests;

@@ -1,9 +1,9 @@
 -- Groups on a stack.
-use Rattle.std.proofs.Common.{◌≡◌, ℕ, zero, suc, ◌+◌, List, [], ◌∷◌, ◌++◌, length, get_or, refl, sym, ap, ◌∙◌, Vec, arith}
+use Rattle.std.proofs.Common.{◌≡◌, ℕ, zero, suc, ◌+◌, List, [], ◌∷◌, ◌++◌, length, get_or, refl, sym, ap, Vec, arith}
 use Rattle.std.specs.Prelude.{slice_set, Result, Ok, Err, OnErr}
 use Rattle.std.specs.declared.alloc.Global.{Global}
 use Rattle.std.proofs.lemmas.List.{length_push}
-use Rattle.undo_marks.specs.Marks.{entry_count, onto_newest}
+use Rattle.undo_marks.specs.Marks.{entry_count}
 use Rattle.undo_marks.specs.Groups.{groups_in}
 
 -- what is put last is the newest

@@ -1,9 +1,9 @@
 -- Edits that are kept for a history are kept for it after each change.
-use Rattle.std.proofs.Common.{◌≡◌, ℕ, ◌+◌, ◌==◌, Bool, true, false, not, ◌&&◌, ◌||◌, cond, List, [], ◌∷◌, ◌++◌, length, map, reverse, Option, Some, None, refl, sym, ap, ◌∙◌, subst, append_assoc, arith}
+use Rattle.std.proofs.Common.{◌≡◌, ◌+◌, ◌==◌, Bool, true, false, not, ◌&&◌, ◌||◌, cond, List, [], ◌∷◌, length, map, reverse, Some, None, refl, sym, ap, ◌∙◌, subst, append_assoc, arith}
 use Rattle.std.proofs.lemmas.List.{length-map, length-reverse, map-append, reverse-reverse}
-use Rattle.undo_marks.specs.Marks.{Marks, entry_count, onto_newest, no_marks, handed_out, noted, noted_singly, edited, marked, crossed_over, undone, redone, past_popped, future_popped, past_pushed, future_pushed}
-use Rattle.undo_marks.specs.Changes.{Change, saved_after, saved_before, end_of, page_undone, page_redone, after_all, pages_on, changes_on, back_all, AllTaken, IsChange, LeadsOn, LeadHere, LeadFrom, IsHistory, backs_of, again_of, kept_of, KeptFor, AreBacks, IsUndo, IsRedo, IsNoUndo, IsNoRedo, KeepsOn}
-use Rattle.undo_marks.proofs.RunLemmas.{RunsTo, undo_group, redo_group, leads_append, leads_end}
+use Rattle.undo_marks.specs.Marks.{Marks, entry_count, onto_newest, handed_out, noted, noted_singly, edited, marked, crossed_over}
+use Rattle.undo_marks.specs.Changes.{Change, end_of, after_all, change_on, changes_on, back_all, AllTaken, LeadsOn, LeadHere, LeadFrom, IsHistory, backs_of, again_of, kept_of, KeptFor, AreBacks, IsUndo, IsRedo, IsNoUndo, IsNoRedo, StaysKept, KeepsOn}
+use Rattle.undo_marks.proofs.RunLemmas.{undo_group, redo_group, leads_append, leads_end}
 
 -- ---- notes
 
@@ -56,21 +56,21 @@ module _ {P E : Type 0} (after : E → P → P) (back : E → P → E) (Takes : 
     pub filled : past ≡ [] → ⊥
 
   noted_leads : (going : Bool) (past : List (List (Change P E))) (page : P) (e : E) → LeadHere after Takes past page → Takes e page
-      → (let c : Change P E = record { before = page; edit = e; after = after e page } in LeadsOnTo (cond going (onto_newest (c ∷ []) past) ((c ∷ []) ∷ past)) (after e page))
+      → (let c : Change P E = change_on after e page in LeadsOnTo (cond going (onto_newest (c ∷ []) past) ((c ∷ []) ∷ past)) (after e page))
   noted_leads false past page e h t = record { leads = ((refl, record { taken = t; made = refl }, refl), h); filled = λ n. cc }
   noted_leads true [] page e h t = record { leads = ((refl, record { taken = t; made = refl }, refl), tt); filled = λ n. cc }
   noted_leads true ([] ∷ gs) page e h t = absurd h
   noted_leads true ((y ∷ ys) ∷ gs) page e h t = record {
-    leads = (leads_append after Takes (y ∷ ys) (record { before = page; edit = e; after = after e page } ∷ []) y.before page (after e page) h.0 (refl, record { taken = t; made = refl }, refl), h.1);
+    leads = (leads_append after Takes (y ∷ ys) (change_on after e page ∷ []) y.before page (after e page) h.0 (refl, record { taken = t; made = refl }, refl), h.1);
     filled = λ n. cc;
   }
 
   kept_noted : (kept : Marks E) (m : Marks (Change P E)) (page : P) (e : E) → KeptFor after back Takes kept m page → Takes e page
-      → KeptFor after back Takes (noted (back e page) kept) (noted (record { before = page; edit = e; after = after e page }) m) (after e page)
+      → KeptFor after back Takes (noted (back e page) kept) (noted (change_on after e page) m) (after e page)
   kept_noted kept m page e k t =
       let l = noted_leads m.going m.past page e k.history.past t in
       record {
-        edits = ap (noted (back e page)) k.edits ∙ noted-kept_of m (record { before = page; edit = e; after = after e page });
+        edits = ap (noted (back e page)) k.edits ∙ noted-kept_of m (change_on after e page);
         history = record { past = l.leads; future = tt; going = λ _. l.filled };
       }
 
@@ -153,33 +153,41 @@ module _ {P E : Type 0} (after : E → P → P) (back : E → P → E) (Takes : 
 
   -- ---- all changes
 
-  pub keeps_on : AreBacks after back Takes → KeepsOn after back Takes
-  keeps_on laws = record {
-    at_start = λ page. record { edits = refl; history = record { past = tt; future = tt; going = λ t n. cc } };
-    flags = λ kept m page k. (ap (λ x. x.going) k.edits, ap (λ x. x.crossed) k.edits);
-    after_note = kept_noted;
-    after_notes = λ kept m page es k t.
-        subst (λ x. KeptFor after back Takes (noted_singly (back_all after back es page) kept) x (after_all after es page)) (noted_singly-edited (changes_on after es page) m) (kept_singly es kept m page k t);
-    after_mark = λ kept m page k. record {
+  stays_kept : AreBacks after back Takes → (kept : Marks E) (m : Marks (Change P E)) (page : P) → KeptFor after back Takes kept m page
+      → StaysKept after back Takes kept m page
+  stays_kept laws kept m page k = record {
+    flags = (ap (λ x. x.going) k.edits, ap (λ x. x.crossed) k.edits);
+    after_note = λ e t. kept_noted kept m page e k t;
+    after_notes = λ es t.
+        let all = changes_on after es page in
+        let backs = noted_singly (back_all after back es page) kept in
+        subst (λ x. KeptFor after back Takes backs x (after_all after es page)) (noted_singly-edited all m) (kept_singly es kept m page k t);
+    after_mark = record {
       edits = ap marked k.edits;
       history = record { past = k.history.past; future = k.history.future; going = λ t n. cc };
     };
-    after_cross = λ kept m page other k. record {
+    after_cross = λ other. record {
       edits = ap crossed_over k.edits ∙ crossed_over-kept_of m;
       history = record { past = tt; future = tt; going = λ t n. cc };
     };
-    after_undo = λ kept m page es k out.
+    after_undo = λ es out.
         subst (λ x. IsUndo after back Takes es x m page) (sym k.edits)
         (undo_step laws m.past m.future m.going m.crossed page es k.history (ap (λ x. handed_out x.past) (sym k.edits) ∙ out));
-    after_redo = λ kept m page es k out.
+    after_redo = λ es out.
         subst (λ x. IsRedo after back Takes es x m page) (sym k.edits)
         (redo_step m.past m.future m.going m.crossed page es k.history (ap (λ x. handed_out x.future) (sym k.edits) ∙ out));
-    at_no_past = λ kept m page k out.
+    at_no_past = λ out.
         subst (λ x. IsNoUndo after back Takes x m page) (sym k.edits)
         (no_undo_step m.past m.future m.going m.crossed page (ap (λ x. handed_out x.past) (sym k.edits) ∙ out));
-    at_no_future = λ kept m page k out.
+    at_no_future = λ out.
         subst (λ x. IsNoRedo after back Takes x m page) (sym k.edits)
         (no_redo_step m.past m.future m.going m.crossed page (ap (λ x. handed_out x.future) (sym k.edits) ∙ out));
+  }
+
+  pub keeps_on : AreBacks after back Takes → KeepsOn after back Takes
+  keeps_on laws = record {
+    at_start = λ page. record { edits = refl; history = record { past = tt; future = tt; going = λ t n. cc } };
+    after_changes = stays_kept laws;
   }
 
 -- ---- where more edits are taken

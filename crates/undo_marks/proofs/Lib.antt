@@ -1,3 +1,4 @@
 pub mod GroupLemmas
 pub mod RunLemmas
 pub mod HistoryLemmas
+pub mod SavedLemmas

@@ -1,6 +1,6 @@
 -- Histories by saved pages, over any pages and edits: P is a page, E an edit, `after` gives the page after an edit, `back`
 -- the edit that takes it back, and `Takes` says that a page takes an edit without a fault.
-use Rattle.std.specs.Prelude.{◌≡◌, Bool, true, List, [], ◌∷◌, map, reverse, Option, Some, None}
+use Rattle.std.specs.Prelude.{◌≡◌, true, List, [], ◌∷◌, map, reverse, Some, None}
 use Rattle.undo_marks.specs.Marks.{Marks, no_marks, handed_out, noted, noted_singly, edited, marked, crossed_over, undone, redone, past_popped, future_popped, past_pushed, future_pushed}
 
 -- an entry of a history: the page before an edit, the edit, and the page after it
@@ -57,10 +57,13 @@ module _ {P E : Type 0} (after : E → P → P) where
   pages_on [] page = []
   pages_on (e ∷ es) page = after e page ∷ pages_on es (after e page)
 
-  -- the entries that they make
+  -- the entry that an edit makes, and those that edits make one after the other
+  abbrev pub change_on : E → P → Change P E
+  change_on e page = record { before = page; edit = e; after = after e page }
+
   abbrev pub changes_on : List E → P → List (Change P E)
   changes_on [] page = []
-  changes_on (e ∷ es) page = record { before = page; edit = e; after = after e page } ∷ changes_on es (after e page)
+  changes_on (e ∷ es) page = change_on e page ∷ changes_on es (after e page)
 
 module _ {P E : Type 0} (after : E → P → P) (back : E → P → E) where
   -- the inverses that they give, in order
@@ -155,17 +158,22 @@ module _ {P E : Type 0} (after : E → P → P) (back : E → P → E) (Takes : 
     pub stays : redone m ≡ m
     pub kept_stays : future_popped kept ≡ kept
 
-  -- Where edits are kept for a history, they are after each change of it.
+  -- Where edits are kept for a history whose page this is, they are after each change of it.
+  pub record StaysKept (kept : Marks E) (m : Marks (Change P E)) (page : P) : Type 0 where
+    pub flags : (kept.going ≡ m.going) × (kept.crossed ≡ m.crossed)
+    pub after_note : (e : E) → Takes e page → KeptFor (noted (back e page) kept) (noted (change_on after e page) m) (after e page)
+    -- edits that are noted singly are one edit with these entries
+    pub after_notes : (es : List E) → AllTaken after Takes es page
+        → KeptFor (noted_singly (back_all after back es page) kept) (edited (changes_on after es page) m) (after_all after es page)
+    pub after_mark : KeptFor (marked kept) (marked m) page
+    -- whatever the page is after a change that is not the client's
+    pub after_cross : (other : P) → KeptFor (crossed_over kept) (crossed_over m) other
+    pub after_undo : (es : List E) → handed_out kept.past ≡ Some es → IsUndo es kept m page
+    pub after_redo : (es : List E) → handed_out kept.future ≡ Some es → IsRedo es kept m page
+    pub at_no_past : handed_out kept.past ≡ None → IsNoUndo kept m page
+    pub at_no_future : handed_out kept.future ≡ None → IsNoRedo kept m page
+
+  -- At the start, and after a load, nothing is kept for a history without entries, and what is kept stays so.
   pub record KeepsOn : Type 0 where
     pub at_start : (page : P) → KeptFor no_marks no_marks page
-    pub flags : (kept : Marks E) (m : Marks (Change P E)) (page : P) → KeptFor kept m page → (kept.going ≡ m.going) × (kept.crossed ≡ m.crossed)
-    pub after_note : (kept : Marks E) (m : Marks (Change P E)) (page : P) (e : E) → KeptFor kept m page → Takes e page
-        → KeptFor (noted (back e page) kept) (noted (record { before = page; edit = e; after = after e page }) m) (after e page)
-    pub after_notes : (kept : Marks E) (m : Marks (Change P E)) (page : P) (es : List E) → KeptFor kept m page → AllTaken after Takes es page
-        → KeptFor (noted_singly (back_all after back es page) kept) (edited (changes_on after es page) m) (after_all after es page)
-    pub after_mark : (kept : Marks E) (m : Marks (Change P E)) (page : P) → KeptFor kept m page → KeptFor (marked kept) (marked m) page
-    pub after_cross : (kept : Marks E) (m : Marks (Change P E)) (page other : P) → KeptFor kept m page → KeptFor (crossed_over kept) (crossed_over m) other
-    pub after_undo : (kept : Marks E) (m : Marks (Change P E)) (page : P) (es : List E) → KeptFor kept m page → handed_out kept.past ≡ Some es → IsUndo es kept m page
-    pub after_redo : (kept : Marks E) (m : Marks (Change P E)) (page : P) (es : List E) → KeptFor kept m page → handed_out kept.future ≡ Some es → IsRedo es kept m page
-    pub at_no_past : (kept : Marks E) (m : Marks (Change P E)) (page : P) → KeptFor kept m page → handed_out kept.past ≡ None → IsNoUndo kept m page
-    pub at_no_future : (kept : Marks E) (m : Marks (Change P E)) (page : P) → KeptFor kept m page → handed_out kept.future ≡ None → IsNoRedo kept m page
+    pub after_changes : (kept : Marks E) (m : Marks (Change P E)) (page : P) → KeptFor kept m page → StaysKept kept m page

@@ -15,7 +15,8 @@ pub record Marks (A : Type 0) : Type 0 where
 module _ {A : Type 0} where
   abbrev pub coded_marks : Coded A → Coded (Marks A)
   coded_marks code =
-      code_by ((List (List A) × List (List A)) × (Bool × Bool)) (coded× (coded× (coded_list (coded_list code)) (coded_list (coded_list code))) (coded× coded_bool coded_bool))
+      let groups = coded_list (coded_list code) in
+      code_by ((List (List A) × List (List A)) × (Bool × Bool)) (coded× (coded× groups groups) (coded× coded_bool coded_bool))
       (λ m. ((m.past, m.future), (m.going, m.crossed)))
       (λ p. record { past = p.0.0; future = p.0.1; going = p.1.0; crossed = p.1.1 })
       (λ _. refl)
@@ -56,7 +57,12 @@ module _ {A : Type 0} where
   -- back is given up
   abbrev pub edited : List A → Marks A → Marks A
   edited [] m = m
-  edited (x ∷ xs) m = record { past = cond m.going (onto_newest (x ∷ xs) m.past) ((x ∷ xs) ∷ m.past); future = []; going = true; crossed = false }
+  edited (x ∷ xs) m = record {
+    past = cond m.going (onto_newest (x ∷ xs) m.past) ((x ∷ xs) ∷ m.past);
+    future = [];
+    going = true;
+    crossed = false;
+  }
 
   -- the same with one entry
   abbrev pub noted : A → Marks A → Marks A

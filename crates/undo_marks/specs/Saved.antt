@@ -2,6 +2,10 @@
 use Rattle.std.specs.Prelude.{ℕ, List}
 use Rattle.node_tree.specs.Nodes.{Branch}
 use Rattle.page_tree.specs.Pages.{Row}
+use Rattle.page_tree.specs.declared.edits.TreeEdit.{TreeEdit}
+use Rattle.style_edits.specs.declared.splice.Splice.{Splice}
+use Rattle.undo_marks.specs.declared.inverse_lists.Inverse.{Inverse}
+use Rattle.undo_marks.specs.declared.inverse_lists.Inverse.TheVariants.{Tree, Sheet}
 
 -- a sheet's number and text
 pub record SavedSheet : Type 0 where
@@ -12,3 +16,20 @@ pub record SavedSheet : Type 0 where
 pub record Saved : Type 0 where
   pub tree : Branch Row
   pub sheets : List SavedSheet
+
+-- ---- edits of the two parts, given what an edit of each part is: an edit of the tree leaves the sheets, and a splice the tree
+
+module _ (tree : TreeEdit → Branch Row → Branch Row) (sheets : Splice → List SavedSheet → List SavedSheet) where
+  abbrev pub after_either : Inverse → Saved → Saved
+  after_either (Tree e) page = record { tree = tree e page.tree; sheets = page.sheets }
+  after_either (Sheet s) page = record { tree = page.tree; sheets = sheets s page.sheets }
+
+module _ (tree : TreeEdit → Branch Row → TreeEdit) (sheets : Splice → List SavedSheet → Splice) where
+  abbrev pub back_either : Inverse → Saved → Inverse
+  back_either (Tree e) page = Tree (tree e page.tree)
+  back_either (Sheet s) page = Sheet (sheets s page.sheets)
+
+module _ (tree : TreeEdit → Branch Row → Type 0) (sheets : Splice → List SavedSheet → Type 0) where
+  abbrev pub TakesEither : Inverse → Saved → Type 0
+  TakesEither (Tree e) page = tree e page.tree
+  TakesEither (Sheet s) page = sheets s page.sheets

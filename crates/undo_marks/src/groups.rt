@@ -5,10 +5,10 @@ use crate::inverse_lists::Inverse;
 use std::alloc::{AllocError, Global};
 use std::marker::Model;
 
-/// The most edits that groups hold, one more than that is want of memory.
+/// The most edits that groups hold; one more than that is want of memory.
 const MOST: u64 = 0x7fff_ffff_ffff_ffff;
 
-/// The count with so many more.
+/// The count with so many more; where that is above the most, it is want of memory.
 fn grown(count: u64, more: usize) -> Result<u64, AllocError>
     requires count { count < 2 ^ 63 }
     requires more { more < 2 ^ 63 }
@@ -48,6 +48,7 @@ impl Model for Groups {
 }
 
 impl Groups {
+    /// No groups; takes no memory.
     pub fn new(alloc: Global) -> Groups
         ensures { result ≡ [] }
     {
@@ -111,6 +112,7 @@ impl Groups {
         Some(group)
     }
 
+    /// Takes all groups off.
     pub fn clear(&mut self)
         ensures { self.new ≡ [] }
     {

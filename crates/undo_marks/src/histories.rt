@@ -30,6 +30,7 @@ impl Model for History {
 impl History {
     ghost use Rattle.undo_marks.specs.Pops.{IsPopped};
 
+    /// A history without edits. Takes no memory.
     pub fn new(alloc: Global) -> History
         ensures { result ≡ no_marks }
     {
@@ -41,7 +42,8 @@ impl History {
         }
     }
 
-    /// Notes a client's edit by its inverse. A command of several edits notes each, in order.
+    /// Notes a client's edit by its inverse. A command of several edits notes each, in order. What was taken back can then
+    /// no longer be done again.
     pub fn note(&mut self, inverse: Inverse) -> Result<(), AllocError>
         ensures ok { OnOk result (self.new ≡ noted inverse self.old) }
         ensures err { OnErr result (self.new ≡ self.old) }
@@ -64,6 +66,7 @@ impl History {
         self.going = false;
     }
 
+    /// What is answered where there is no group.
     fn nothing(&self) -> Popped
         ensures { IsPopped result None self.now.crossed }
     {
@@ -118,7 +121,7 @@ impl History {
         Ok(())
     }
 
-    /// A change that is not the client's: nothing can be taken back or done again from here.
+    /// Forgets all edits at a change that is not the client's, and keeps that some were forgotten. Takes no memory.
     pub fn cross(&mut self)
         ensures { self.new ≡ crossed_over self.old }
     {
@@ -130,7 +133,7 @@ impl History {
         self.going = false;
     }
 
-    /// A load.
+    /// Forgets all edits, and that any were forgotten before, as at a load. Takes no memory.
     pub fn clear(&mut self)
         ensures { self.new ≡ no_marks }
     {
@@ -140,7 +143,7 @@ impl History {
         self.crossed = false;
     }
 
-    /// How many edits both lists have.
+    /// How many edits can be taken back or done again, in all groups.
     pub fn kept(&self) -> u64
         ensures { result ≡ entry_count self.now.past + entry_count self.now.future }
     {

@@ -1,5 +1,5 @@
 use Rattle.std.proofs.Common.{rules, sym}
-use Rattle.cdp_messages.proofs.Json.{json_is, json_is_not}
+use Rattle.cdp_messages.proofs.FrameBytes.{json_is, json_is_not}
 use Rattle.cdp_messages.proofs.read.json_of.Goals as goal
 
 pub returns-in-Ok : goal.returns-in-Ok

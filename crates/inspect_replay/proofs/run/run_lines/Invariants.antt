@@ -19,7 +19,7 @@ invariant-loop-text g l =
     × (g.L.Link.honest l.initial.link → g.L.Link.honest l.link)
     × (g.K.Sink.faults l.initial.out ≤ g.K.Sink.faults l.out)
     × (g.L.Link.faults l.initial.link ≤ g.L.Link.faults l.link)
-    × ((up0 down0 : Pipe) (w : World State) → w.asks + length l.initial.lines ≤ most_asks
+    × ((up0 down0 : Pipe) (w : World State) → w.spent.asks + length l.initial.lines ≤ most_asks
     → InRun (g.L.Link.honest l.initial.link) up0 down0 (g.L.Link.up l.initial.link) (g.L.Link.down l.initial.link) w l.initial.ends
     → Running (g.L.Link.honest l.link) up0 down0 (g.L.Link.up l.link) (g.L.Link.down l.link) (g.K.Sink.taken l.initial.out) (g.K.Sink.taken l.out)
     (lines_text (good_lines 2 l.initial.lines) w) (after_lines (good_lines 2 l.initial.lines) w) l.number l.lines l.ends)

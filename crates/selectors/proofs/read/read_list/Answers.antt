@@ -1,6 +1,6 @@
-use Rattle.std.proofs.Common.{map, sym}
+use Rattle.std.proofs.Common.{◌≡◌, List, Some, map, subst, sym}
 use Rattle.std.proofs.lemmas.Result.{err_from_is_err_and}
-use Rattle.selectors.specs.Forms.{selector_seen}
+use Rattle.selectors.specs.Forms.{SelectorForm, selector_seen}
 use Rattle.selectors.specs.Reading.{selector_of, list_of}
 use Rattle.selectors.proofs.PartForms.{fails_too}
 use Rattle.selectors.proofs.ListForms.{list_fails, list_done, list_more, list_shorter}
@@ -28,7 +28,8 @@ selectors-preserved c = record {
 
 pub returns-in_default : goal.returns-in_default
 returns-in_default c = record {
-  exact = list_done c.selectors.words c.until_comma-own.result c.until_comma-own.new.self (selector_seen c.in_ok-selector.selector)
+  exact = subst (λ (all : List SelectorForm). list_of c.args.words.now ≡ Some all) (sym c.fitted.ensures)
+      (list_done c.selectors.words c.until_comma-own.result c.until_comma-own.new.self (selector_seen c.in_ok-selector.selector)
       (map selector_seen c.selectors.list.items) (map selector_seen c.push_selector.new.list.items) (list_of c.args.words.now)
-      c.until_comma-own.ensures.own c.until_comma-own.ensures.rest c.in_ok-selector.ensures (sym c.in_default.ensures.first) c.in_ok-push_selector.ensures c.selectors.invariant.so_far;
+      c.until_comma-own.ensures.own c.until_comma-own.ensures.rest c.in_ok-selector.ensures (sym c.in_default.ensures.first) c.in_ok-push_selector.ensures c.selectors.invariant.so_far);
 }

@@ -1,4 +1,4 @@
-use Rattle.std.proofs.Common.{subst, sym, All, arith}
+use Rattle.std.proofs.Common.{subst, sym, ◌∙◌, All, arith}
 use Rattle.std.proofs.lemmas.List.Elements.{All-drop}
 use Rattle.css_tokens.specs.Marks.{IsPieceOf}
 use Rattle.sheet_reader.specs.Seen.{item_seen}
@@ -24,4 +24,4 @@ items-preserved c = record {
 }
 
 pub returns : goal.returns
-returns c = items_done c.args.text.now c.items.left.now c.items.properties.items _ c.in_default.len_below c.items.invariant.so_far
+returns c = c.shrink_to_fit.ensures.items ∙ items_done c.args.text.now c.items.left.now c.items.properties.items _ c.in_default.len_below c.items.invariant.so_far

@@ -5,5 +5,5 @@ use Rattle.undo_marks.proofs.laws.history_law.Goals as goal
 pub returns : goal.returns
 returns c = record {
   keeps_on = λ after back takes laws. keeps_on after back (Passes takes) laws;
-  grows = λ after back takes more wider. kept_grow after back (Passes takes) (Passes more) wider;
+  grows_on = λ after back takes more wider. record { kept_on = kept_grow after back (Passes takes) (Passes more) wider };
 }

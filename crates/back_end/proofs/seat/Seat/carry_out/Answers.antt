@@ -5,10 +5,10 @@ use Rattle.back_end.proofs.seat.Seat.carry_out.Goals as goal
 
 pub returns-clause-stands : goal.returns-clause-stands
 returns-clause-stands c = λ state stands.
-    served-stands (record { seat = c.args.self.now; side = c.args.side.now }) (record { seat = _; side = _ }) state c.args.asked.now.id c.args.asked.now.command
-    c.requires.command c.if-is_refused.ensures stands refl refl c.page.result.now c.page.ensures c.in_ok-ask.ensures.known
+    served-stands (record { seat = c.args.self.now; side = c.args.side.now }) (record { seat = _; side = _ }) state c.args.id c.args.ask.now
+    c.requires.ask c.if-is_refused.ensures stands refl refl c.page.result.now c.page.ensures c.in_ok-ask.ensures.known
 
 pub returns-clause-sent : goal.returns-clause-sent
 returns-clause-sent c = λ state stands.
-    served-sent (record { seat = c.args.self.now; side = c.args.side.now }) state c.args.asked.now.id c.args.asked.now.command c.args.out.now.items c.ask.new.out.items
-    c.requires.command c.if-is_refused.ensures stands c.page.result.now c.page.ensures c.in_ok-ask.ensures.sent
+    served-sent (record { seat = c.args.self.now; side = c.args.side.now }) state c.args.id c.args.ask.now c.args.out.now.items c.ask.new.out.items
+    c.requires.ask c.if-is_refused.ensures stands c.page.result.now c.page.ensures c.in_ok-ask.ensures.sent

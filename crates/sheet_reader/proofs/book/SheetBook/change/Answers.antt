@@ -2,11 +2,11 @@ use Rattle.std.proofs.Common.{List, ap, sym, subst, ◌∙◌}
 use Rattle.std.specs.Prelude.{IsSome}
 use Rattle.sheet_reader.specs.declared.book.SheetEntry.{SheetEntry}
 use Rattle.sheet_reader.specs.Books.{entry_of, entries_in, changed, AreEntries}
-use Rattle.sheet_reader.proofs.BookLemmas.{Entries, found, missing, inserted_are, inserted_changed}
+use Rattle.sheet_reader.proofs.BookLemmas.{stored, Entries, found, missing, inserted_are, inserted_changed}
 use Rattle.sheet_reader.proofs.book.SheetBook.change.Goals as goal
 
 pub invariant_of-self : goal.invariant_of-self
-invariant_of-self c = subst AreEntries (sym c.in-Ok-Some.ensures.entries) (inserted_are c.args.entry c.self.inside.entries.entries c.requires.entry c.self.invariant)
+invariant_of-self c = subst AreEntries (sym c.in-Ok-Some.ensures.entries) (inserted_are c.args.entry c.self.inside.entries.entries (stored c.args.entry c.as_str-text.result.now c.requires.entry c.as_str-text.ensures c.as_str-text.utf8) c.self.invariant)
 
 pub returns-clause-old : goal.returns-clause-old
 returns-clause-old c =

@@ -1,6 +1,5 @@
-use Rattle.std.proofs.Common.{◌≡◌, ◌∷◌, ◌++◌, ◌-◌, [], ap, sym, ◌∙◌, arith, vec_len, refl}
+use Rattle.std.proofs.Common.{◌∷◌, ◌-◌, [], ap, sym, ◌∙◌, arith, vec_len, refl}
 use Rattle.undo_marks.specs.Marks.{entry_count, onto_newest}
-use Rattle.undo_marks.specs.Groups.{groups_in}
 use Rattle.undo_marks.proofs.GroupLemmas.{last_set, entry_count-joined, on_err}
 use Rattle.undo_marks.proofs.groups.Groups.join.Goals as goal
 

@@ -1,0 +1,4 @@
+pub mod Precedence
+pub mod Matched
+pub mod Winning
+pub mod Tops

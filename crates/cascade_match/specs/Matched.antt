@@ -1,0 +1,68 @@
+-- The style rules of a book of sheets that match a node, in the order in which they count.
+use Rattle.std.specs.Prelude.{ℕ, ◌+◌, cond, List, [], ◌∷◌, ◌++◌, map, filter, fold, Option, Some, None, option_to_list}
+use Rattle.std.specs.BTreeMap.{insert_entry}
+use Rattle.page_tree.specs.Zippers.{Zipper}
+use Rattle.selectors.specs.declared.weight.Spec.{Spec}
+use Rattle.selectors.specs.Forms.{SelectorForm}
+use Rattle.selectors.specs.Weight.{specificity_of}
+use Rattle.select_match.specs.Matches.{selector_matches}
+use Rattle.sheet_reader.specs.declared.book.Origin.{Origin}
+use Rattle.sheet_reader.specs.declared.book.SheetEntry.{SheetEntry}
+use Rattle.sheet_reader.specs.Forms.{RuleForm}
+use Rattle.cascade_match.specs.declared.keys.Key.{Key}
+use Rattle.cascade_match.specs.declared.hits.Hit.{Hit}
+use Rattle.cascade_match.specs.Precedence.{key_of, key_cmp, greater}
+
+abbrev pub places_from : ℕ → List SelectorForm → Zipper → List ℕ
+places_from i [] z = []
+places_from i (s ∷ ss) z = cond (selector_matches s z) (i ∷ places_from (i + 1) ss z) (places_from (i + 1) ss z)
+
+-- the places of the selectors that match
+abbrev pub places_matching : List SelectorForm → Zipper → List ℕ
+places_matching ss z = places_from 0 ss z
+
+abbrev pub no_weight : Spec
+no_weight = record { a = 0; b = 0; c = 0 }
+
+-- the greatest specificity among the selectors that match
+abbrev pub greatest : List SelectorForm → Zipper → Spec
+greatest ss z = fold (λ best s. greater best (specificity_of s)) no_weight (filter (λ s. selector_matches s z) ss)
+
+-- a sheet in its book: its place there, its id and its origin
+pub record Source : Type 0 where
+  pub place : ℕ
+  pub id : ℕ
+  pub origin : Origin
+
+abbrev pub source_of : ℕ → SheetEntry → Source
+source_of place e = record { place = place; id = e.id; origin = e.origin }
+
+abbrev pub entry_by : Source → ℕ → Spec → List ℕ → Option (Key × Hit)
+entry_by from rule weight [] = None
+entry_by from rule weight (p ∷ ps) = Some (key_of from.origin weight from.place rule, record { sheet = from.id; rule = rule; matching = p ∷ ps })
+
+-- the rule at a place of a sheet with its key, if some selector of it matches
+abbrev pub entry_of : Source → ℕ → RuleForm → Zipper → Option (Key × Hit)
+entry_of from rule r z = entry_by from rule (greatest r.selectors z) (places_matching r.selectors z)
+
+-- those of the rules from a place of a sheet on
+abbrev pub entries_of_rules : Source → ℕ → List RuleForm → Zipper → List (Key × Hit)
+entries_of_rules from i [] z = []
+entries_of_rules from i (r ∷ rs) z = option_to_list (entry_of from i r z) ++ entries_of_rules from (i + 1) rs z
+
+-- those of the sheets from a place of a book on
+abbrev pub entries_of_sheets : ℕ → List SheetEntry → Zipper → List (Key × Hit)
+entries_of_sheets place [] z = []
+entries_of_sheets place (e ∷ es) z = entries_of_rules (source_of place e) 0 e.reading.rules z ++ entries_of_sheets (place + 1) es z
+
+-- the entries, each put in its place among those before it
+abbrev pub put_all : List (Key × Hit) → List (Key × Hit) → List (Key × Hit)
+put_all sorted [] = sorted
+put_all sorted (e ∷ es) = put_all (insert_entry key_cmp sorted e.0 e.1) es
+
+-- all pairs of a sheet and a rule of which some selector matches, in ascending order of their keys
+abbrev pub matched_entries : List SheetEntry → Zipper → List (Key × Hit)
+matched_entries book z = put_all [] (entries_of_sheets 0 book z)
+
+abbrev pub matched_of : List SheetEntry → Zipper → List Hit
+matched_of book z = map (λ e. e.1) (matched_entries book z)

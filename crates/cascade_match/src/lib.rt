@@ -1,0 +1,17 @@
+//! The cascade (CSS Cascade 4, section 6, in a profile): which style rules match an element, in the order in which they count,
+//! and which declaration of a name wins.
+#![tactic(auto)]
+
+mod blocks;
+mod hits;
+mod keys;
+mod matching;
+mod winning;
+
+pub use blocks::{Block, Decl, Declarations};
+pub use hits::Hit;
+pub use matching::matched;
+pub use winning::winners;
+
+#[cfg(test)]
+mod tests;

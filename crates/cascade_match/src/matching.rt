@@ -1,0 +1,146 @@
+//! The style rules that match an element, in the order in which they count.
+
+ghost use Rattle.std.specs.Prelude.{◌≡◌, ◌<◌, ◌++◌, ◌∷◌, [], cond, map, fold, filter, length, IfOk, OnOk, IsSome, Some, slice_get, option_to_list};
+ghost use Rattle.page_tree.specs.Pages.{find_in};
+ghost use Rattle.page_tree.specs.Zippers.{zipper_at};
+ghost use Rattle.selectors.specs.Lists.{list_seen};
+ghost use Rattle.select_match.specs.Matches.{selector_matches};
+ghost use Rattle.sheet_reader.specs.Forms.{rule_seen};
+ghost use Rattle.cascade_match.specs.Precedence.{key_cmp, greater};
+ghost use Rattle.cascade_match.specs.Matched.{places_matching, greatest, source_of, entry_of, entries_of_rules, put_all, matched_of};
+
+use crate::hits::Hit;
+use crate::keys::{Key, greater, key_of};
+use page_tree::{NodeRef, Page};
+use select_match::matches_node;
+use selectors::{SelectorList, Spec, specificity};
+use sheet_reader::{Places, SheetBook, SheetEntry, StyleRule};
+use std::alloc::{AllocError, Global};
+use std::collections::BTreeMap;
+
+/// All style rules of the book of which some selector matches the node with that serial, in ascending order of origin, of
+/// the greatest specificity among their matching selectors, of the sheet's place, and of the rule's place in the sheet. In
+/// time n log n in the number of these rules, once each rule was tried.
+pub fn matched(
+    alloc: Global,
+    page: &Page,
+    book: &SheetBook,
+    serial: u64,
+) -> Result<Vec<Hit>, AllocError>
+    requires { IsSome (find_in serial page.now.tree) }
+    ensures { IfOk result (λ v. v.items ≡ matched_of book.now (zipper_at serial page.now.tree)) }
+{
+    let node = page.node_ref(serial);
+    let mut found = BTreeMap::new(alloc);
+    for i in 0..book.len() {
+        add_rules(alloc, book.at(i), i, &node, &mut found)?;
+    }
+    hits_of(alloc, found)
+}
+
+fn hits_of(alloc: Global, found: BTreeMap<Key, Hit>) -> Result<Vec<Hit>, AllocError>
+    ensures { IfOk result (λ v. v.items ≡ map (λ e. e.1) found.entries) }
+{
+    let mut hits = Vec::new(alloc);
+    for entry in found {
+        hits.push(entry.1)?;
+    }
+    Ok(hits)
+}
+
+fn add_rules(
+    alloc: Global,
+    entry: &SheetEntry,
+    place: usize,
+    node: &NodeRef<'_>,
+    found: &mut BTreeMap<Key, Hit>,
+) -> Result<(), AllocError>
+    ensures { OnOk result (found.new.entries
+        ≡ put_all found.old.entries (entries_of_rules (source_of place entry.now) 0 entry.now.reading.rules node.now)) }
+{
+    let rules = entry.reading.rules.as_slice();
+    for i in 0..rules.len() {
+        add_rule(alloc, entry, place, i, &rules[i], node, found)?;
+    }
+    Ok(())
+}
+
+fn add_rule(
+    alloc: Global,
+    entry: &SheetEntry,
+    place: usize,
+    i: usize,
+    rule: &StyleRule,
+    node: &NodeRef<'_>,
+    found: &mut BTreeMap<Key, Hit>,
+) -> Result<(), AllocError>
+    ensures { OnOk result (found.new.entries
+        ≡ put_all found.old.entries (option_to_list (entry_of (source_of place entry.now) i (rule_seen rule.now) node.now))) }
+{
+    let matching = matching_places(alloc, &rule.selectors, node)?;
+    if matching.is_empty() {
+        return Ok(());
+    }
+    let key = key_of(
+        entry.origin,
+        greatest_weight(&rule.selectors, node),
+        place,
+        i,
+    );
+    let hit = Hit {
+        sheet: entry.id,
+        rule: i,
+        matching: Places::new(matching),
+    };
+    add_hit(key, hit, found)
+}
+
+fn add_hit(key: Key, hit: Hit, found: &mut BTreeMap<Key, Hit>) -> Result<(), AllocError>
+    ensures { OnOk result (found.new.entries ≡ put_all found.old.entries ((key, hit) ∷ [])) }
+{
+    match found.insert(key, hit) {
+        Ok(_) => Ok(()),
+        Err(_) => Err(AllocError),
+    }
+}
+
+fn matching_places(
+    alloc: Global,
+    l: &SelectorList,
+    node: &NodeRef<'_>,
+) -> Result<Vec<usize>, AllocError>
+    ensures { IfOk result (λ v. v.items ≡ places_matching (list_seen l.now) node.now) }
+{
+    let mut places = Vec::new(alloc);
+    for i in 0..l.len() {
+        push_if(matches_node(l.at(i), node), i, &mut places)?;
+    }
+    Ok(places)
+}
+
+fn push_if(test: bool, place: usize, places: &mut Vec<usize>) -> Result<(), AllocError>
+    ensures { OnOk result (places.new.items ≡ places.old.items ++ cond test (place ∷ []) []) }
+{
+    if test {
+        places.push(place)?;
+    }
+    Ok(())
+}
+
+fn greater_if(test: bool, best: Spec, other: Spec) -> Spec
+    ensures { result ≡ cond test (greater best other) best }
+{
+    if test { greater(best, other) } else { best }
+}
+
+/// The greatest specificity among the selectors that match.
+fn greatest_weight(l: &SelectorList, node: &NodeRef<'_>) -> Spec
+    ensures { result ≡ greatest (list_seen l.now) node.now }
+{
+    let mut best = Spec { a: 0, b: 0, c: 0 };
+    for i in 0..l.len() {
+        let s = l.at(i);
+        best = greater_if(matches_node(s, node), best, specificity(s));
+    }
+    best
+}

@@ -1,0 +1,244 @@
+-- The parameters of each command, in the order in which they are looked up. What is read and what is written stands here alone.
+use Rattle.std.specs.Prelude.{ℕ, ℤ, List, [], ◌∷◌, codes, Bool, ◌&&◌, ◌||◌, is_some, Option, Some, None, Result, Ok, Err, ⊤}
+use Rattle.serde_json.specs.Data.{Data, number, object, Members}
+use Rattle.serde_json.specs.Find.{of_integer}
+use Rattle.cdp_json.specs.Kinds.{Kind, whole, text, flag, through, choice, list_of, as_depth, is_depth}
+use Rattle.cdp_json.specs.Fields.{field_of}
+use Rattle.cdp_json.specs.Lookups.{then_ok, optional, Lookups, no_lookups, look_for, may_look_for, object_with}
+use Rattle.cdp_messages.specs.declared.command.Command.{Command}
+use Rattle.cdp_messages.specs.declared.command.Command.TheVariants.{DomEnable, DomDisable, GetDocument, RequestChildNodes, PushByPath, PushBySerials, QuerySelector, QuerySelectorAll, GetAttributes, DescribeNode, SetAttributeValue, RemoveAttribute, SetNodeValue, RemoveNode, MoveTo, CopyTo, MarkUndoableState, Undo, Redo, CssEnable, CssDisable, GetMatchedStyles, GetStyleSheetText, CollectClassNames, SetStyleTexts, SetRuleSelector, SetStyleSheetText, AddRule, SetBreakpoint, RemoveBreakpoint, ReplayLoad, ReplayAct}
+use Rattle.cdp_messages.specs.declared.command.Param.{Param}
+use Rattle.cdp_messages.specs.declared.command.Param.TheVariants as param
+use Rattle.cdp_messages.specs.declared.command.Why.{Why}
+use Rattle.cdp_messages.specs.declared.command.Why.TheVariants.{BadParam}
+use Rattle.cdp_messages.specs.declared.command.WatchWord.{WatchWord}
+use Rattle.cdp_messages.specs.declared.edits.TextEdit.{TextEdit}
+use Rattle.cdp_messages.specs.declared.method.Method.{Method}
+use Rattle.cdp_messages.specs.declared.method.Method.TheVariants as method
+use Rattle.cdp_messages.specs.declared.ranges.SourceRange.{SourceRange}
+use Rattle.cdp_messages.specs.Events.{is_object, watch}
+use Rattle.cdp_messages.specs.Refusals.{param_name}
+
+-- ---- kinds of parameters
+
+-- -1, or a whole number from 1 to 2^53-1
+abbrev pub depth_number : Kind ℤ
+depth_number = record { spell = λ z. number (of_integer z); reads = as_depth; fits = is_depth; loose = None }
+
+-- a range in a sheet's text; where it is read, further fields count for nothing
+abbrev pub place_fields : Lookups ⊤ (ℕ × (ℕ × (ℕ × (ℕ × ⊤))))
+place_fields = look_for (codes "startLine") tt whole (look_for (codes "startColumn") tt whole (look_for (codes "endLine") tt whole (look_for (codes "endColumn") tt whole no_lookups)))
+
+-- a range as its fields
+abbrev pub place_parts : SourceRange → ℕ × (ℕ × (ℕ × (ℕ × ⊤)))
+place_parts r = (r.start_line, (r.start_column, (r.end_line, (r.end_column, tt))))
+
+-- the range of these fields
+abbrev pub place_from : ℕ × (ℕ × (ℕ × (ℕ × ⊤))) → Option SourceRange
+place_from x = Some (record { start_line = x.0; start_column = x.1.0; end_line = x.1.1.0; end_column = x.1.1.1.0 })
+
+-- a range as JSON
+abbrev pub place : Kind SourceRange
+place = through (object_with place_fields) place_parts place_from
+
+-- one edit of a sheet; further fields count for nothing
+abbrev pub edit_fields : Lookups ⊤ (List ℕ × (SourceRange × (List ℕ × ⊤)))
+edit_fields = look_for (param_name param.StyleSheetId) tt text (look_for (param_name param.Range) tt place (look_for (param_name param.Text) tt text no_lookups))
+
+-- an edit as its fields
+abbrev pub edit_parts : TextEdit → List ℕ × (SourceRange × (List ℕ × ⊤))
+edit_parts e = (e.sheet, (e.range, (e.text, tt)))
+
+-- the edit of these fields
+abbrev pub edit_from : List ℕ × (SourceRange × (List ℕ × ⊤)) → Option TextEdit
+edit_from x = Some (record { sheet = x.0; range = x.1.0; text = x.1.1.0 })
+
+-- an edit as JSON
+abbrev pub text_edit : Kind TextEdit
+text_edit = through (object_with edit_fields) edit_parts edit_from
+
+-- ---- the parameters, in the order shown
+
+-- a parameter that has to be there, before the others
+abbrev pub needed : {A B : Type 0} → Param → Kind A → Lookups Why B → Lookups Why (A × B)
+needed p k later = look_for (param_name p) (BadParam p) k later
+
+-- a parameter that may be absent, before the others
+abbrev pub allowed : {A B : Type 0} → Param → Kind A → Lookups Why B → Lookups Why (Option A × B)
+allowed p k later = may_look_for (param_name p) (BadParam p) k later
+
+-- one of both is there
+abbrev pub one_there : {A B : Type 0} → Param → Option A → Option B → Result ⊤ Why
+one_there p None None = Err (BadParam p)
+one_there p None (Some b) = Ok tt
+one_there p (Some a) b = Ok tt
+
+-- the second of two, and then what follows, where one of both is there
+abbrev pub with_second : {A B C : Type 0} → Param → Param → Kind B → Lookups Why C → Members → Option A → Result (Option A × (Option B × C)) Why
+with_second p q l later ms a =
+    then_ok (optional (BadParam q) (field_of l.reads (param_name q) ms)) (λ b. then_ok (one_there p a b) (λ _. then_ok (later.gets ms) (λ c. Ok (a, (b, c)))))
+
+-- one of two parameters, or both, before the others; where neither is there, the first is refused
+abbrev pub one_of : {A B C : Type 0} → Param → Kind A → Param → Kind B → Lookups Why C → Lookups Why (Option A × (Option B × C))
+one_of p k q l later = record {
+  names = (allowed p k (allowed q l later)).names;
+  gets = λ ms. then_ok (optional (BadParam p) (field_of k.reads (param_name p) ms)) (with_second p q l later ms);
+  puts = (allowed p k (allowed q l later)).puts;
+  fits = λ x. (is_some x.0 || is_some x.1.0) && (allowed p k (allowed q l later)).fits x;
+}
+
+-- of `DOM.getDocument`: how many levels, and a flag without effect
+abbrev pub depth_fields : Lookups Why (Option ℤ × (Option Bool × ⊤))
+depth_fields = allowed param.Depth depth_number (allowed param.Pierce flag no_lookups)
+
+-- of `DOM.requestChildNodes`
+abbrev pub children_fields : Lookups Why (ℕ × (Option ℤ × (Option Bool × ⊤)))
+children_fields = needed param.NodeId whole depth_fields
+
+-- of `DOM.pushNodeByPathToFrontend`
+abbrev pub path_field : Lookups Why (List ℕ × ⊤)
+path_field = needed param.Path text no_lookups
+
+-- of `DOM.pushNodesByBackendIdsToFrontend`
+abbrev pub serials_field : Lookups Why (List ℕ × ⊤)
+serials_field = needed param.BackendNodeIds (list_of whole) no_lookups
+
+-- a node alone: of `DOM.getAttributes`, `DOM.removeNode` and `CSS.getMatchedStylesForNode`
+abbrev pub node_field : Lookups Why (ℕ × ⊤)
+node_field = needed param.NodeId whole no_lookups
+
+-- of `DOM.querySelector` and `DOM.querySelectorAll`
+abbrev pub query_fields : Lookups Why (ℕ × (List ℕ × ⊤))
+query_fields = needed param.NodeId whole (needed param.Selector text no_lookups)
+
+-- of `DOM.describeNode`: the node by its id, or by its serial
+abbrev pub describe_fields : Lookups Why (Option ℕ × (Option ℕ × (Option ℤ × (Option Bool × ⊤))))
+describe_fields = one_of param.NodeId whole param.BackendNodeId whole depth_fields
+
+-- of `DOM.setAttributeValue`
+abbrev pub attribute_fields : Lookups Why (ℕ × (List ℕ × (List ℕ × ⊤)))
+attribute_fields = needed param.NodeId whole (needed param.Name text (needed param.Value text no_lookups))
+
+-- of `DOM.removeAttribute`
+abbrev pub name_fields : Lookups Why (ℕ × (List ℕ × ⊤))
+name_fields = needed param.NodeId whole (needed param.Name text no_lookups)
+
+-- of `DOM.setNodeValue`
+abbrev pub value_fields : Lookups Why (ℕ × (List ℕ × ⊤))
+value_fields = needed param.NodeId whole (needed param.Value text no_lookups)
+
+-- of `DOM.moveTo` and `DOM.copyTo`
+abbrev pub move_fields : Lookups Why (ℕ × (ℕ × (Option ℕ × ⊤)))
+move_fields = needed param.NodeId whole (needed param.TargetNodeId whole (allowed param.InsertBeforeNodeId whole no_lookups))
+
+-- a sheet alone: of `CSS.getStyleSheetText` and `CSS.collectClassNames`
+abbrev pub sheet_field : Lookups Why (List ℕ × ⊤)
+sheet_field = needed param.StyleSheetId text no_lookups
+
+-- of `CSS.setStyleTexts`
+abbrev pub edits_field : Lookups Why (List TextEdit × ⊤)
+edits_field = needed param.Edits (list_of text_edit) no_lookups
+
+-- of `CSS.setRuleSelector`
+abbrev pub selector_fields : Lookups Why (List ℕ × (SourceRange × (List ℕ × ⊤)))
+selector_fields = needed param.StyleSheetId text (needed param.Range place (needed param.Selector text no_lookups))
+
+-- of `CSS.setStyleSheetText`
+abbrev pub sheet_text_fields : Lookups Why (List ℕ × (List ℕ × ⊤))
+sheet_text_fields = needed param.StyleSheetId text (needed param.Text text no_lookups)
+
+-- of `CSS.addRule`
+abbrev pub rule_fields : Lookups Why (List ℕ × (List ℕ × (SourceRange × ⊤)))
+rule_fields = needed param.StyleSheetId text (needed param.RuleText text (needed param.Location place no_lookups))
+
+-- of `DOMDebugger.setDOMBreakpoint` and `DOMDebugger.removeDOMBreakpoint`
+abbrev pub watch_fields : Lookups Why (ℕ × (WatchWord × ⊤))
+watch_fields = needed param.NodeId whole (needed param.Type watch no_lookups)
+
+-- ---- read
+
+-- the command that is made of the parameters
+abbrev pub reading : {T : Type 0} → Lookups Why T → (T → Command) → Members → Result Command Why
+reading fields makes ms = then_ok (fields.gets ms) (λ x. Ok (makes x))
+
+-- the command of a method with these parameters, or the first refusal; what our own two methods are given is not looked into
+abbrev pub command_by : Method → Members → Result Command Why
+command_by method.DomEnable ms = Ok DomEnable
+command_by method.DomDisable ms = Ok DomDisable
+command_by method.GetDocument ms = reading depth_fields (λ x. GetDocument x.0 x.1.0) ms
+command_by method.RequestChildNodes ms = reading children_fields (λ x. RequestChildNodes x.0 x.1.0 x.1.1.0) ms
+command_by method.PushByPath ms = reading path_field (λ x. PushByPath x.0) ms
+command_by method.PushBySerials ms = reading serials_field (λ x. PushBySerials x.0) ms
+command_by method.QuerySelector ms = reading query_fields (λ x. QuerySelector x.0 x.1.0) ms
+command_by method.QuerySelectorAll ms = reading query_fields (λ x. QuerySelectorAll x.0 x.1.0) ms
+command_by method.GetAttributes ms = reading node_field (λ x. GetAttributes x.0) ms
+command_by method.DescribeNode ms = reading describe_fields (λ x. DescribeNode x.0 x.1.0 x.1.1.0 x.1.1.1.0) ms
+command_by method.SetAttributeValue ms = reading attribute_fields (λ x. SetAttributeValue x.0 x.1.0 x.1.1.0) ms
+command_by method.RemoveAttribute ms = reading name_fields (λ x. RemoveAttribute x.0 x.1.0) ms
+command_by method.SetNodeValue ms = reading value_fields (λ x. SetNodeValue x.0 x.1.0) ms
+command_by method.RemoveNode ms = reading node_field (λ x. RemoveNode x.0) ms
+command_by method.MoveTo ms = reading move_fields (λ x. MoveTo x.0 x.1.0 x.1.1.0) ms
+command_by method.CopyTo ms = reading move_fields (λ x. CopyTo x.0 x.1.0 x.1.1.0) ms
+command_by method.MarkUndoableState ms = Ok MarkUndoableState
+command_by method.Undo ms = Ok Undo
+command_by method.Redo ms = Ok Redo
+command_by method.CssEnable ms = Ok CssEnable
+command_by method.CssDisable ms = Ok CssDisable
+command_by method.GetMatchedStyles ms = reading node_field (λ x. GetMatchedStyles x.0) ms
+command_by method.GetStyleSheetText ms = reading sheet_field (λ x. GetStyleSheetText x.0) ms
+command_by method.CollectClassNames ms = reading sheet_field (λ x. CollectClassNames x.0) ms
+command_by method.SetStyleTexts ms = reading edits_field (λ x. SetStyleTexts x.0) ms
+command_by method.SetRuleSelector ms = reading selector_fields (λ x. SetRuleSelector x.0 x.1.0 x.1.1.0) ms
+command_by method.SetStyleSheetText ms = reading sheet_text_fields (λ x. SetStyleSheetText x.0 x.1.0) ms
+command_by method.AddRule ms = reading rule_fields (λ x. AddRule x.0 x.1.0 x.1.1.0) ms
+command_by method.SetBreakpoint ms = reading watch_fields (λ x. SetBreakpoint x.0 x.1.0) ms
+command_by method.RemoveBreakpoint ms = reading watch_fields (λ x. RemoveBreakpoint x.0 x.1.0) ms
+command_by method.ReplayLoad ms = Ok (ReplayLoad (object ms))
+command_by method.ReplayAct ms = Ok (ReplayAct (object ms))
+
+-- ---- written
+
+-- a command as it is written: its method, its parameters, and whether each is in its range
+pub record Form : Type 0 where
+  pub method : Method
+  pub parameters : Data
+  pub fits : Bool
+
+-- a command of that method with these parameters, as it is written
+abbrev pub form : {T : Type 0} → Method → Lookups Why T → T → Form
+form m fields x = record { method = m; parameters = object (fields.puts x); fits = fields.fits x }
+
+-- each command, as it is written
+abbrev pub form_of : Command → Form
+form_of DomEnable = form method.DomEnable no_lookups tt
+form_of DomDisable = form method.DomDisable no_lookups tt
+form_of (GetDocument depth pierce) = form method.GetDocument depth_fields (depth, (pierce, tt))
+form_of (RequestChildNodes node depth pierce) = form method.RequestChildNodes children_fields (node, (depth, (pierce, tt)))
+form_of (PushByPath path) = form method.PushByPath path_field (path, tt)
+form_of (PushBySerials serials) = form method.PushBySerials serials_field (serials, tt)
+form_of (QuerySelector node selector) = form method.QuerySelector query_fields (node, (selector, tt))
+form_of (QuerySelectorAll node selector) = form method.QuerySelectorAll query_fields (node, (selector, tt))
+form_of (GetAttributes node) = form method.GetAttributes node_field (node, tt)
+form_of (DescribeNode id serial depth pierce) = form method.DescribeNode describe_fields (id, (serial, (depth, (pierce, tt))))
+form_of (SetAttributeValue node name value) = form method.SetAttributeValue attribute_fields (node, (name, (value, tt)))
+form_of (RemoveAttribute node name) = form method.RemoveAttribute name_fields (node, (name, tt))
+form_of (SetNodeValue node value) = form method.SetNodeValue value_fields (node, (value, tt))
+form_of (RemoveNode node) = form method.RemoveNode node_field (node, tt)
+form_of (MoveTo node target before) = form method.MoveTo move_fields (node, (target, (before, tt)))
+form_of (CopyTo node target before) = form method.CopyTo move_fields (node, (target, (before, tt)))
+form_of MarkUndoableState = form method.MarkUndoableState no_lookups tt
+form_of Undo = form method.Undo no_lookups tt
+form_of Redo = form method.Redo no_lookups tt
+form_of CssEnable = form method.CssEnable no_lookups tt
+form_of CssDisable = form method.CssDisable no_lookups tt
+form_of (GetMatchedStyles node) = form method.GetMatchedStyles node_field (node, tt)
+form_of (GetStyleSheetText sheet) = form method.GetStyleSheetText sheet_field (sheet, tt)
+form_of (CollectClassNames sheet) = form method.CollectClassNames sheet_field (sheet, tt)
+form_of (SetStyleTexts edits) = form method.SetStyleTexts edits_field (edits, tt)
+form_of (SetRuleSelector sheet range selector) = form method.SetRuleSelector selector_fields (sheet, (range, (selector, tt)))
+form_of (SetStyleSheetText sheet text) = form method.SetStyleSheetText sheet_text_fields (sheet, (text, tt))
+form_of (AddRule sheet rule_text location) = form method.AddRule rule_fields (sheet, (rule_text, (location, tt)))
+form_of (SetBreakpoint node kind) = form method.SetBreakpoint watch_fields (node, (kind, tt))
+form_of (RemoveBreakpoint node kind) = form method.RemoveBreakpoint watch_fields (node, (kind, tt))
+form_of (ReplayLoad params) = record { method = method.ReplayLoad; parameters = params; fits = is_object params }
+form_of (ReplayAct params) = record { method = method.ReplayAct; parameters = params; fits = is_object params }

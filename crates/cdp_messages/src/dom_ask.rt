@@ -1,0 +1,81 @@
+// What the DOM agent serves.
+ghost use Rattle.std.specs.Prelude.{◌≡◌};
+ghost use Rattle.cdp_messages.specs.DomAsks.{dom_ask_in};
+
+use crate::command::Command;
+use crate::numbers::Numbers;
+use node_tree::Text;
+
+/// A command that the DOM agent serves, with its parameters, as they stand in the command.
+#[derive(Drop, Debug)]
+pub enum DomAsk {
+    /// `DOM.getDocument`
+    GetDocument {
+        depth: Option<i64>,
+        pierce: Option<bool>,
+    },
+    /// `DOM.requestChildNodes`
+    RequestChildNodes {
+        node: u64,
+        depth: Option<i64>,
+        pierce: Option<bool>,
+    },
+    /// `DOM.pushNodeByPathToFrontend`
+    PushByPath {
+        path: Text,
+    },
+    /// `DOM.pushNodesByBackendIdsToFrontend`
+    PushBySerials {
+        serials: Numbers,
+    },
+}
+
+impl DomAsk {
+    /// What the agent is asked by a command, if it serves it.
+    pub fn of_command(command: Command) -> Option<DomAsk>
+        ensures { result ≡ dom_ask_in command }
+    {
+        match command {
+            Command::GetDocument { depth, pierce } => Some(DomAsk::GetDocument { depth, pierce }),
+            Command::RequestChildNodes {
+                node,
+                depth,
+                pierce,
+            } => Some(DomAsk::RequestChildNodes {
+                node,
+                depth,
+                pierce,
+            }),
+            Command::PushByPath { path } => Some(DomAsk::PushByPath { path }),
+            Command::PushBySerials { serials } => Some(DomAsk::PushBySerials { serials }),
+            Command::DomEnable
+            | Command::DomDisable
+            | Command::QuerySelector { .. }
+            | Command::QuerySelectorAll { .. }
+            | Command::GetAttributes { .. }
+            | Command::DescribeNode { .. }
+            | Command::SetAttributeValue { .. }
+            | Command::RemoveAttribute { .. }
+            | Command::SetNodeValue { .. }
+            | Command::RemoveNode { .. }
+            | Command::MoveTo { .. }
+            | Command::CopyTo { .. }
+            | Command::MarkUndoableState
+            | Command::Undo
+            | Command::Redo
+            | Command::CssEnable
+            | Command::CssDisable
+            | Command::GetMatchedStyles { .. }
+            | Command::GetStyleSheetText { .. }
+            | Command::CollectClassNames { .. }
+            | Command::SetStyleTexts { .. }
+            | Command::SetRuleSelector { .. }
+            | Command::SetStyleSheetText { .. }
+            | Command::AddRule { .. }
+            | Command::SetBreakpoint { .. }
+            | Command::RemoveBreakpoint { .. }
+            | Command::ReplayLoad { .. }
+            | Command::ReplayAct { .. } => None,
+        }
+    }
+}

@@ -1,0 +1,227 @@
+// Writing what the back end tells unasked.
+ghost use Rattle.std.specs.Prelude.{◌≡◌, ◌++◌, IfOk, OnOk, OnErr, IsUtf8};
+ghost use Rattle.serde_json.specs.View.{view};
+ghost use Rattle.node_tree.specs.Nodes.{nodes_of};
+ghost use Rattle.cdp_messages.specs.Answers.{ended};
+ghost use Rattle.cdp_messages.specs.Events.{news_of, watch as watched, event_name, envelope, modified_kind, dropped_kind, data_kind, count_kind, inserted_kind, removed_kind, nodes_kind, children_kind, pause_kind, paused_kind, news_data};
+ghost use Rattle.cdp_messages.specs.Replies.{event_text};
+
+use crate::command::WatchWord;
+use crate::down::{Event, PauseData};
+use crate::event_names::EventName;
+use crate::node_write::{node_value, node_values};
+use crate::tree::NodeTree;
+use crate::write::append;
+use cdp_json::object;
+use node_tree::Text;
+use serde_json::{Map, Value};
+use std::alloc::{AllocError, Global};
+
+fn modified_value(alloc: Global, node: u64, name: &Text, value: &Text) -> Result<Value, AllocError>
+    ensures { IfOk result (λ v. view v ≡ modified_kind.spell (name.now, (node, (value.now, tt)))) }
+{
+    let name = Value::try_from_str(alloc, name.as_str())?;
+    let value = Value::try_from_str(alloc, value.as_str())?;
+    let fields = vec![in alloc;
+        ("name", Some(name)),
+        ("nodeId", Some(Value::from(node))),
+        ("value", Some(value)),
+    ]?;
+    object(alloc, fields)
+}
+
+fn dropped_value(alloc: Global, node: u64, name: &Text) -> Result<Value, AllocError>
+    ensures { IfOk result (λ v. view v ≡ dropped_kind.spell (name.now, (node, tt))) }
+{
+    let name = Value::try_from_str(alloc, name.as_str())?;
+    let fields = vec![in alloc; ("name", Some(name)), ("nodeId", Some(Value::from(node)))]?;
+    object(alloc, fields)
+}
+
+fn data_value(alloc: Global, node: u64, text: &Text) -> Result<Value, AllocError>
+    ensures { IfOk result (λ v. view v ≡ data_kind.spell (text.now, (node, tt))) }
+{
+    let text = Value::try_from_str(alloc, text.as_str())?;
+    let fields = vec![in alloc;
+        ("characterData", Some(text)),
+        ("nodeId", Some(Value::from(node))),
+    ]?;
+    object(alloc, fields)
+}
+
+fn count_value(alloc: Global, node: u64, count: u64) -> Result<Value, AllocError>
+    ensures { IfOk result (λ v. view v ≡ count_kind.spell (count, (node, tt))) }
+{
+    let fields = vec![in alloc;
+        ("childNodeCount", Some(Value::from(count))),
+        ("nodeId", Some(Value::from(node))),
+    ]?;
+    object(alloc, fields)
+}
+
+fn inserted_value(
+    alloc: Global,
+    parent: u64,
+    previous: u64,
+    node: &NodeTree,
+) -> Result<Value, AllocError>
+    ensures { IfOk result (λ v. view v ≡ inserted_kind.spell (node.now, (parent, (previous, tt)))) }
+{
+    let node = node_value(alloc, node)?;
+    let fields = vec![in alloc;
+        ("node", Some(node)),
+        ("parentNodeId", Some(Value::from(parent))),
+        ("previousNodeId", Some(Value::from(previous))),
+    ]?;
+    object(alloc, fields)
+}
+
+fn removed_value(alloc: Global, parent: u64, node: u64) -> Result<Value, AllocError>
+    ensures { IfOk result (λ v. view v ≡ removed_kind.spell (node, (parent, tt))) }
+{
+    let fields = vec![in alloc;
+        ("nodeId", Some(Value::from(node))),
+        ("parentNodeId", Some(Value::from(parent))),
+    ]?;
+    object(alloc, fields)
+}
+
+fn nodes_value(alloc: Global, nodes: &Vec<NodeTree>) -> Result<Value, AllocError>
+    ensures { IfOk result (λ v. view v ≡ nodes_kind.spell (nodes_of nodes.now.items)) }
+{
+    let list = node_values(alloc, nodes)?;
+    Ok(Value::Array(list))
+}
+
+fn children_value(alloc: Global, parent: u64, nodes: &Vec<NodeTree>) -> Result<Value, AllocError>
+    ensures { IfOk result (λ v. view v ≡ children_kind.spell (nodes_of nodes.now.items, (parent, tt))) }
+{
+    let nodes = nodes_value(alloc, nodes)?;
+    let fields = vec![in alloc;
+        ("nodes", Some(nodes)),
+        ("parentId", Some(Value::from(parent))),
+    ]?;
+    object(alloc, fields)
+}
+
+fn watch_value(alloc: Global, watch: WatchWord) -> Result<Value, AllocError>
+    ensures { IfOk result (λ v. view v ≡ watched.spell watch) }
+{
+    Value::try_from_str(alloc, watch.as_str())
+}
+
+fn pause_value(alloc: Global, pause: PauseData) -> Result<Value, AllocError>
+    ensures { IfOk result (λ v. view v ≡ pause_kind.spell pause) }
+{
+    match pause {
+        PauseData::Subtree {
+            node,
+            target,
+            insertion,
+        } => {
+            let watch = watch_value(alloc, WatchWord::Subtree)?;
+            let fields = vec![in alloc;
+                ("insertion", Some(Value::Bool(insertion))),
+                ("nodeId", Some(Value::from(node))),
+                ("targetNodeId", Some(Value::from(target))),
+                ("type", Some(watch)),
+            ]?;
+            object(alloc, fields)
+        }
+        PauseData::Attribute { node } => {
+            let watch = watch_value(alloc, WatchWord::Attribute)?;
+            let fields = vec![in alloc;
+                ("nodeId", Some(Value::from(node))),
+                ("type", Some(watch)),
+            ]?;
+            object(alloc, fields)
+        }
+        PauseData::Removed { node } => {
+            let watch = watch_value(alloc, WatchWord::Removed)?;
+            let fields = vec![in alloc;
+                ("nodeId", Some(Value::from(node))),
+                ("type", Some(watch)),
+            ]?;
+            object(alloc, fields)
+        }
+    }
+}
+
+fn paused_value(alloc: Global, pause: PauseData) -> Result<Value, AllocError>
+    ensures { IfOk result (λ v. view v ≡ paused_kind.spell (tt, (pause, (tt, tt)))) }
+{
+    let data = pause_value(alloc, pause)?;
+    let reason = Value::try_from_str(alloc, "DOM")?;
+    let fields = vec![in alloc;
+        ("callFrames", Some(Value::Array(Vec::new(alloc)))),
+        ("data", Some(data)),
+        ("reason", Some(reason)),
+    ]?;
+    object(alloc, fields)
+}
+
+// An event of that method with these parameters.
+fn envelope_value(alloc: Global, name: EventName, params: Value) -> Result<Value, AllocError>
+    ensures { IfOk result (λ v. view v ≡ envelope.spell (event_name name, (view params, tt))) }
+{
+    let method = Value::try_from_str(alloc, name.as_str())?;
+    let fields = vec![in alloc; ("method", Some(method)), ("params", Some(params))]?;
+    object(alloc, fields)
+}
+
+fn event_value(alloc: Global, event: &Event) -> Result<Value, AllocError>
+    ensures { IfOk result (λ v. view v ≡ news_data (news_of event.now)) }
+{
+    match event {
+        Event::AttributeModified { node, name, value } => {
+            let params = modified_value(alloc, *node, name, value)?;
+            envelope_value(alloc, EventName::AttributeModified, params)
+        }
+        Event::AttributeRemoved { node, name } => {
+            let params = dropped_value(alloc, *node, name)?;
+            envelope_value(alloc, EventName::AttributeRemoved, params)
+        }
+        Event::CharacterDataModified { node, text } => {
+            let params = data_value(alloc, *node, text)?;
+            envelope_value(alloc, EventName::CharacterDataModified, params)
+        }
+        Event::ChildNodeCountUpdated { node, count } => {
+            let params = count_value(alloc, *node, *count)?;
+            envelope_value(alloc, EventName::ChildNodeCountUpdated, params)
+        }
+        Event::ChildNodeInserted {
+            parent,
+            previous,
+            node,
+        } => {
+            let params = inserted_value(alloc, *parent, *previous, node)?;
+            envelope_value(alloc, EventName::ChildNodeInserted, params)
+        }
+        Event::ChildNodeRemoved { parent, node } => {
+            let params = removed_value(alloc, *parent, *node)?;
+            envelope_value(alloc, EventName::ChildNodeRemoved, params)
+        }
+        Event::SetChildNodes { parent, nodes } => {
+            let params = children_value(alloc, *parent, nodes)?;
+            envelope_value(alloc, EventName::SetChildNodes, params)
+        }
+        Event::DocumentUpdated => {
+            let params = Value::Object(Map::new(alloc));
+            envelope_value(alloc, EventName::DocumentUpdated, params)
+        }
+        Event::Paused(pause) => {
+            let params = paused_value(alloc, *pause)?;
+            envelope_value(alloc, EventName::Paused, params)
+        }
+    }
+}
+
+/// Appends an event as one frame, with its zero byte.
+pub fn write_event(alloc: Global, event: &Event, out: &mut Vec<u8>) -> Result<(), AllocError>
+    ensures ok { OnOk result (out.new.items ≡ out.old.items ++ ended (event_text (news_of event.now))) }
+    ensures utf8 { OnOk result (IsUtf8 (event_text (news_of event.now))) }
+    ensures err { OnErr result (out.new.items ≡ out.old.items) }
+{
+    let value = event_value(alloc, event)?;
+    append(alloc, &value, out)
+}

@@ -1,0 +1,6 @@
+mod Ascending
+pub mod Objects
+pub mod Options
+mod ReadLists
+pub mod SheetIds
+pub mod SoundKinds

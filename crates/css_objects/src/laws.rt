@@ -1,0 +1,32 @@
+// The laws of the objects, which make no call.
+ghost use Rattle.std.specs.Prelude.{⊤, IsUtf8};
+ghost use Rattle.std.specs.List.{AllByRecursion};
+ghost use Rattle.css_objects.specs.Ranges.{range_kind};
+ghost use Rattle.css_objects.specs.Sheets.{sheet_kind, header_kind};
+ghost use Rattle.css_objects.specs.Selectors.{selector_kind, selectors_kind};
+ghost use Rattle.css_objects.specs.Styles.{property_kind, inline_kind, rule_style_kind};
+ghost use Rattle.css_objects.specs.Rules.{rule_kind, match_kind, inherited_kind, matched_kind};
+ghost use Rattle.css_objects.specs.Results.{sheet_text_result, class_names_result, styles_result, selectors_result, rule_result};
+ghost use Rattle.css_objects.specs.Laws.{IsSound, SelectorHasUtf8, SelectorsHaveUtf8, PropertyHasUtf8, StyleHasUtf8, RuleHasUtf8, MatchHasUtf8, InheritedHasUtf8, MatchedHaveUtf8};
+
+/// Of each object and each result: it is spelled and read the same, no value spells two, its JSON is UTF-8 where its texts
+/// are, and it nests so many levels deep at most.
+pub fn css_objects_law()
+    ensures sheet { IsSound sheet_kind (λ _. ⊤) 0 }
+    ensures range { IsSound range_kind (λ _. ⊤) 1 }
+    ensures header { IsSound header_kind (λ _. ⊤) 1 }
+    ensures selector { IsSound selector_kind SelectorHasUtf8 2 }
+    ensures selectors { IsSound selectors_kind SelectorsHaveUtf8 4 }
+    ensures property { IsSound property_kind PropertyHasUtf8 2 }
+    ensures inline { IsSound inline_kind StyleHasUtf8 4 }
+    ensures rule_style { IsSound rule_style_kind StyleHasUtf8 4 }
+    ensures rule { IsSound rule_kind RuleHasUtf8 5 }
+    ensures rule_match { IsSound match_kind MatchHasUtf8 6 }
+    ensures inherited { IsSound inherited_kind InheritedHasUtf8 8 }
+    ensures matched { IsSound matched_kind MatchedHaveUtf8 10 }
+    ensures sheet_text { IsSound sheet_text_result IsUtf8 1 }
+    ensures class_names { IsSound class_names_result (AllByRecursion IsUtf8) 2 }
+    ensures styles { IsSound styles_result (AllByRecursion StyleHasUtf8) 6 }
+    ensures new_selectors { IsSound selectors_result SelectorsHaveUtf8 5 }
+    ensures new_rule { IsSound rule_result RuleHasUtf8 6 }
+{}

@@ -1,0 +1,36 @@
+//! The objects of the protocol's CSS domain, as typed values and as JSON: ranges, selectors, styles, rules and headers of
+//! sheets, and the results that are made of them.
+#![tactic(auto)]
+
+mod laws;
+mod listed;
+mod ranges;
+mod results;
+mod rules;
+mod selectors;
+mod sheets;
+mod styles;
+#[cfg(test)]
+mod tests;
+
+pub use laws::css_objects_law;
+pub use listed::Listed;
+pub use ranges::{SourceRange, range_of, range_value};
+pub use results::{
+    class_names_of, class_names_value, new_rule_of, new_rule_value, new_selectors_of,
+    new_selectors_value, sheet_text_of, sheet_text_value, styles_of, styles_value,
+};
+pub use rules::{
+    Inherited, Matched, Rule, RuleMatch, inherited_of, inherited_value, match_of, match_value,
+    matched_of, matched_value, rule_of, rule_value,
+};
+pub use selectors::{
+    RuleSelectors, SelectorValue, Weight, selector_of, selector_value, selectors_of,
+    selectors_value,
+};
+pub use sheets::{
+    Header, SheetOrigin, header_of, header_value, sheet_in, sheet_of, sheet_text, sheet_value,
+};
+pub use styles::{
+    Style, StyleProperty, inline_style_of, property_of, property_value, rule_style_of, style_value,
+};

@@ -1,0 +1,377 @@
+// Rules, rules that match an element, and all that gives an element its style.
+ghost use Rattle.std.specs.Prelude.{◌≡◌, codes, option_map, IfOk};
+ghost use Rattle.serde_json.specs.View.{view, items_view};
+ghost use Rattle.cdp_json.specs.Left.{left};
+ghost use Rattle.cdp_json.specs.Kinds.{list_of, read_items};
+ghost use Rattle.cdp_json.specs.Rows.{beside, need, may};
+ghost use Rattle.css_objects.specs.Selectors.{selectors_kind};
+ghost use Rattle.css_objects.specs.Styles.{inline_kind, rule_style_kind};
+ghost use Rattle.css_objects.specs.Rules.{rule_kind, ascend, places_kind, match_kind, inherited_kind, matched_kind};
+
+use crate::listed::Listed;
+use crate::selectors::{RuleSelectors, selectors_of, selectors_value};
+use crate::sheets::{SheetOrigin, origin_field, origin_value, sheet_field, sheet_value};
+use crate::styles::{Style, inline_style_of, rule_style_of, style_value};
+use cdp_json::{Cursor, object, whole_list, wholes_of};
+use serde_json::Value;
+use std::alloc::{AllocError, Global};
+
+/// A style rule of a sheet (`CSS.CSSRule`).
+#[derive(Drop, Debug)]
+pub struct Rule {
+    pub origin: SheetOrigin,
+    pub selectors: RuleSelectors,
+    pub style: Style,
+    /// The sheet's number.
+    pub sheet: u64,
+}
+
+/// A rule that matches an element (`CSS.RuleMatch`).
+#[derive(Drop, Debug)]
+pub struct RuleMatch {
+    /// The places, from 0, of the selectors that match; they ascend.
+    pub matching: Listed<u64>,
+    pub rule: Rule,
+}
+
+/// What an ancestor of an element has (`CSS.InheritedStyleEntry`).
+#[derive(Drop, Debug)]
+pub struct Inherited {
+    /// Its `style` attribute, where it has one.
+    pub inline: Option<Style>,
+    pub rules: Listed<RuleMatch>,
+}
+
+/// What gives an element its style: the result of `CSS.getMatchedStylesForNode`.
+#[derive(Drop, Debug)]
+pub struct Matched {
+    /// The element's `style` attribute, where it has one.
+    pub inline: Option<Style>,
+    pub rules: Listed<RuleMatch>,
+    /// For each ancestor that is an element, from the parent upwards.
+    pub inherited: Listed<Inherited>,
+}
+
+fn selectors_field(
+    alloc: Global,
+    fields: &mut Cursor<'_>,
+) -> Result<Option<RuleSelectors>, AllocError>
+    ensures { IfOk result (λ o. option_map (beside (left fields.new)) o
+        ≡ need selectors_kind.reads (codes "selectorList") (left fields.old)) }
+{
+    let Some(value) = fields.need("selectorList") else {
+        return Ok(None);
+    };
+    selectors_of(alloc, value)
+}
+
+fn style_field(alloc: Global, fields: &mut Cursor<'_>) -> Result<Option<Style>, AllocError>
+    ensures { IfOk result (λ o. option_map (beside (left fields.new)) o
+        ≡ need rule_style_kind.reads (codes "style") (left fields.old)) }
+{
+    let Some(value) = fields.need("style") else {
+        return Ok(None);
+    };
+    rule_style_of(alloc, value)
+}
+
+/// `None` where the value is no rule.
+pub fn rule_of(alloc: Global, value: &Value) -> Result<Option<Rule>, AllocError>
+    ensures { IfOk result (λ o. o ≡ rule_kind.reads (view value.now)) }
+{
+    let Some(members) = value.as_object() else {
+        return Ok(None);
+    };
+    let mut fields = Cursor::new(members);
+    let Some(origin) = origin_field(&mut fields) else {
+        return Ok(None);
+    };
+    let Some(selectors) = selectors_field(alloc, &mut fields)? else {
+        return Ok(None);
+    };
+    let Some(style) = style_field(alloc, &mut fields)? else {
+        return Ok(None);
+    };
+    let Some(sheet) = sheet_field(&mut fields) else {
+        return Ok(None);
+    };
+    if !fields.is_done() {
+        return Ok(None);
+    }
+    Ok(Some(Rule {
+        origin,
+        selectors,
+        style,
+        sheet,
+    }))
+}
+
+/// The rule as JSON.
+pub fn rule_value(alloc: Global, rule: &Rule) -> Result<Value, AllocError>
+    ensures { IfOk result (λ v. view v ≡ rule_kind.spell rule.now) }
+{
+    let origin = origin_value(alloc, rule.origin)?;
+    let selectors = selectors_value(alloc, &rule.selectors)?;
+    let style = style_value(alloc, &rule.style)?;
+    let sheet = sheet_value(alloc, rule.sheet)?;
+    let fields = vec![in alloc;
+        ("origin", Some(origin)),
+        ("selectorList", Some(selectors)),
+        ("style", Some(style)),
+        ("styleSheetId", Some(sheet)),
+    ]?;
+    object(alloc, fields)
+}
+
+fn ascend(numbers: &[u64]) -> bool
+    ensures { result ≡ ascend numbers.now }
+{
+    let mut last = None;
+    for number in numbers {
+        if let Some(earlier) = last {
+            if earlier >= *number {
+                return false;
+            }
+        }
+        last = Some(*number);
+    }
+    true
+}
+
+fn places_field(alloc: Global, fields: &mut Cursor<'_>) -> Result<Option<Listed<u64>>, AllocError>
+    ensures { IfOk result (λ o. option_map (beside (left fields.new)) o
+        ≡ need places_kind.reads (codes "matchingSelectors") (left fields.old)) }
+{
+    let Some(items) = fields.need_list("matchingSelectors") else {
+        return Ok(None);
+    };
+    let Some(places) = wholes_of(alloc, items)? else {
+        return Ok(None);
+    };
+    if ascend(places.as_slice()) {
+        Ok(Some(Listed::new(places)))
+    } else {
+        Ok(None)
+    }
+}
+
+fn rule_field(alloc: Global, fields: &mut Cursor<'_>) -> Result<Option<Rule>, AllocError>
+    ensures { IfOk result (λ o. option_map (beside (left fields.new)) o
+        ≡ need rule_kind.reads (codes "rule") (left fields.old)) }
+{
+    let Some(value) = fields.need("rule") else {
+        return Ok(None);
+    };
+    rule_of(alloc, value)
+}
+
+/// `None` where the value is no match.
+pub fn match_of(alloc: Global, value: &Value) -> Result<Option<RuleMatch>, AllocError>
+    ensures { IfOk result (λ o. o ≡ match_kind.reads (view value.now)) }
+{
+    let Some(members) = value.as_object() else {
+        return Ok(None);
+    };
+    let mut fields = Cursor::new(members);
+    let Some(matching) = places_field(alloc, &mut fields)? else {
+        return Ok(None);
+    };
+    let Some(rule) = rule_field(alloc, &mut fields)? else {
+        return Ok(None);
+    };
+    if !fields.is_done() {
+        return Ok(None);
+    }
+    Ok(Some(RuleMatch { matching, rule }))
+}
+
+/// The match as JSON.
+pub fn match_value(alloc: Global, found: &RuleMatch) -> Result<Value, AllocError>
+    ensures { IfOk result (λ v. view v ≡ match_kind.spell found.now) }
+{
+    let matching = whole_list(alloc, found.matching.as_slice())?;
+    let rule = rule_value(alloc, &found.rule)?;
+    let fields = vec![in alloc; ("matchingSelectors", Some(matching)), ("rule", Some(rule))]?;
+    object(alloc, fields)
+}
+
+fn match_items(alloc: Global, items: &[Value]) -> Result<Option<Vec<RuleMatch>>, AllocError>
+    ensures { IfOk result (λ o. option_map (λ v. v.items) o
+        ≡ read_items match_kind.reads (items_view items.now)) }
+{
+    let mut matches = Vec::new(alloc);
+    for item in items {
+        let Some(found) = match_of(alloc, item)? else {
+            return Ok(None);
+        };
+        matches.push(found)?;
+    }
+    Ok(Some(matches))
+}
+
+fn match_list(alloc: Global, matches: &[RuleMatch]) -> Result<Value, AllocError>
+    ensures { IfOk result (λ v. view v ≡ (list_of match_kind).spell matches.now) }
+{
+    let mut items = Vec::new(alloc);
+    for found in matches {
+        items.push(match_value(alloc, found)?)?;
+    }
+    Ok(Value::Array(items))
+}
+
+fn matches_field(
+    alloc: Global,
+    fields: &mut Cursor<'_>,
+) -> Result<Option<Listed<RuleMatch>>, AllocError>
+    ensures { IfOk result (λ o. option_map (beside (left fields.new)) o
+        ≡ need (list_of match_kind).reads (codes "matchedCSSRules") (left fields.old)) }
+{
+    let Some(items) = fields.need_list("matchedCSSRules") else {
+        return Ok(None);
+    };
+    match match_items(alloc, items)? {
+        Some(matches) => Ok(Some(Listed::new(matches))),
+        None => Ok(None),
+    }
+}
+
+// An outer `None` says that the field is there and no style of a `style` attribute.
+fn inline_if_any(
+    alloc: Global,
+    fields: &mut Cursor<'_>,
+) -> Result<Option<Option<Style>>, AllocError>
+    ensures { IfOk result (λ o. option_map (beside (left fields.new)) o
+        ≡ may inline_kind.reads (codes "inlineStyle") (left fields.old)) }
+{
+    match fields.may("inlineStyle") {
+        Some(value) => match inline_style_of(alloc, value)? {
+            Some(style) => Ok(Some(Some(style))),
+            None => Ok(None),
+        },
+        None => Ok(Some(None)),
+    }
+}
+
+fn inline_if_any_value(alloc: Global, style: &Option<Style>) -> Result<Option<Value>, AllocError>
+    ensures { IfOk result (λ o. option_map view o ≡ option_map inline_kind.spell style.now) }
+{
+    match style {
+        Some(style) => match style_value(alloc, style) {
+            Ok(value) => Ok(Some(value)),
+            Err(error) => Err(error),
+        },
+        None => Ok(None),
+    }
+}
+
+/// `None` where the value is no entry of inherited styles.
+pub fn inherited_of(alloc: Global, value: &Value) -> Result<Option<Inherited>, AllocError>
+    ensures { IfOk result (λ o. o ≡ inherited_kind.reads (view value.now)) }
+{
+    let Some(members) = value.as_object() else {
+        return Ok(None);
+    };
+    let mut fields = Cursor::new(members);
+    let Some(inline) = inline_if_any(alloc, &mut fields)? else {
+        return Ok(None);
+    };
+    let Some(rules) = matches_field(alloc, &mut fields)? else {
+        return Ok(None);
+    };
+    if !fields.is_done() {
+        return Ok(None);
+    }
+    Ok(Some(Inherited { inline, rules }))
+}
+
+/// The entry as JSON.
+pub fn inherited_value(alloc: Global, entry: &Inherited) -> Result<Value, AllocError>
+    ensures { IfOk result (λ v. view v ≡ inherited_kind.spell entry.now) }
+{
+    let inline = inline_if_any_value(alloc, &entry.inline)?;
+    let rules = match_list(alloc, entry.rules.as_slice())?;
+    let fields = vec![in alloc; ("inlineStyle", inline), ("matchedCSSRules", Some(rules))]?;
+    object(alloc, fields)
+}
+
+fn inherited_items(alloc: Global, items: &[Value]) -> Result<Option<Vec<Inherited>>, AllocError>
+    ensures { IfOk result (λ o. option_map (λ v. v.items) o
+        ≡ read_items inherited_kind.reads (items_view items.now)) }
+{
+    let mut entries = Vec::new(alloc);
+    for item in items {
+        let Some(entry) = inherited_of(alloc, item)? else {
+            return Ok(None);
+        };
+        entries.push(entry)?;
+    }
+    Ok(Some(entries))
+}
+
+fn inherited_list(alloc: Global, entries: &[Inherited]) -> Result<Value, AllocError>
+    ensures { IfOk result (λ v. view v ≡ (list_of inherited_kind).spell entries.now) }
+{
+    let mut items = Vec::new(alloc);
+    for entry in entries {
+        items.push(inherited_value(alloc, entry)?)?;
+    }
+    Ok(Value::Array(items))
+}
+
+fn inherited_field(
+    alloc: Global,
+    fields: &mut Cursor<'_>,
+) -> Result<Option<Listed<Inherited>>, AllocError>
+    ensures { IfOk result (λ o. option_map (beside (left fields.new)) o
+        ≡ need (list_of inherited_kind).reads (codes "inherited") (left fields.old)) }
+{
+    let Some(items) = fields.need_list("inherited") else {
+        return Ok(None);
+    };
+    match inherited_items(alloc, items)? {
+        Some(entries) => Ok(Some(Listed::new(entries))),
+        None => Ok(None),
+    }
+}
+
+/// `None` where the value is no result of `CSS.getMatchedStylesForNode`.
+pub fn matched_of(alloc: Global, value: &Value) -> Result<Option<Matched>, AllocError>
+    ensures { IfOk result (λ o. o ≡ matched_kind.reads (view value.now)) }
+{
+    let Some(members) = value.as_object() else {
+        return Ok(None);
+    };
+    let mut fields = Cursor::new(members);
+    let Some(inherited) = inherited_field(alloc, &mut fields)? else {
+        return Ok(None);
+    };
+    let Some(inline) = inline_if_any(alloc, &mut fields)? else {
+        return Ok(None);
+    };
+    let Some(rules) = matches_field(alloc, &mut fields)? else {
+        return Ok(None);
+    };
+    if !fields.is_done() {
+        return Ok(None);
+    }
+    Ok(Some(Matched {
+        inline,
+        rules,
+        inherited,
+    }))
+}
+
+/// The matched styles as JSON.
+pub fn matched_value(alloc: Global, matched: &Matched) -> Result<Value, AllocError>
+    ensures { IfOk result (λ v. view v ≡ matched_kind.spell matched.now) }
+{
+    let inherited = inherited_list(alloc, matched.inherited.as_slice())?;
+    let inline = inline_if_any_value(alloc, &matched.inline)?;
+    let rules = match_list(alloc, matched.rules.as_slice())?;
+    let fields = vec![in alloc;
+        ("inherited", Some(inherited)),
+        ("inlineStyle", inline),
+        ("matchedCSSRules", Some(rules)),
+    ]?;
+    object(alloc, fields)
+}

@@ -1,0 +1,39 @@
+-- What a command opens, over the tree of the page: distances, counted in levels downwards, and ancestors.
+use Rattle.std.specs.Prelude.{◌≡◌, ℕ, suc, ◌<◌, true, ◌⊎◌, ◌↔◌, Option, Some, None}
+use Rattle.node_tree.specs.Nodes.{Nodes, node, Branch, alone}
+use Rattle.node_tree.specs.Keys.{has}
+use Rattle.node_tree.specs.Labels.{holds}
+use Rattle.page_tree.specs.Pages.{Row, row_serial}
+use Rattle.node_binding.specs.Sessions.{Session, is_open}
+
+-- y is a node among these trees, so many levels below the roots
+pub data StandsAt (y : Branch Row) : ℕ → Nodes Row → Type 0 where
+  root : (t : Nodes Row) → StandsAt y 0 (node y.row y.children t)
+  below : (k : ℕ) (r : Row) (c t : Nodes Row) → StandsAt y k c → StandsAt y (suc k) (node r c t)
+  beside : (k : ℕ) (r : Row) (c t : Nodes Row) → StandsAt y k t → StandsAt y k (node r c t)
+
+-- the distance is below d; each is where d stands for all levels
+abbrev pub IsWithin : ℕ → Option ℕ → Type 0
+IsWithin k None = Unit {0}
+IsWithin k (Some d) = k < d
+
+-- s is a container at or below x, at a distance below d
+pub record IsReached (d : Option ℕ) (x : Branch Row) (s : ℕ) : Type 0 where
+  pub container : Branch Row
+  pub distance : ℕ
+  pub stands : StandsAt container distance (alone x)
+  pub near : IsWithin distance d
+  pub can_hold : holds container.row.label.kind ≡ true
+  pub serial : container.row.serial ≡ s
+
+-- t is a proper ancestor of the node of serial s
+pub record IsAncestor (document : Branch Row) (s t : ℕ) : Type 0 where
+  pub ancestor : Branch Row
+  pub level : ℕ
+  pub stands : StandsAt ancestor level (alone document)
+  pub above : has row_serial s ancestor.children ≡ true
+  pub serial : ancestor.row.serial ≡ t
+
+-- the opened set is the old one and all of those
+abbrev pub OpensAlso : Session → Session → (ℕ → Type 0) → Type 0
+OpensAlso w z more = (s : ℕ) → (is_open z.opened s ≡ true) ↔ ((is_open w.opened s ≡ true) ⊎ more s)

@@ -1,0 +1,49 @@
+-- What the events of a request show.
+use Rattle.std.specs.Prelude.{◌≡◌, ℕ, ℤ, ◌-◌, Bool, true, false, not, ◌&&◌, cond, List, [], Option, Some, None}
+use Rattle.std.specs.List.{All}
+use Rattle.node_tree.specs.Nodes.{Nodes, none, node, Branch, alone, width}
+use Rattle.node_tree.specs.Labels.{holds}
+use Rattle.node_tree.specs.Seen.{Seen, leaf, counted, opened}
+use Rattle.page_tree.specs.Pages.{Row, State, IsValid}
+use Rattle.node_binding.specs.Openings.{less, is_spent}
+use Rattle.node_binding.specs.Sessions.{Session, IsSession, is_open, serial_at}
+use Rattle.cdp_messages.specs.declared.dom_ask.DomAsk.TheVariants.{RequestChildNodes}
+use Rattle.dom_agent.specs.Keepers.{session_keeper}
+use Rattle.dom_agent.specs.Requests.{Outcome, served, refused, Showing, known_node}
+use Rattle.dom_agent.specs.Distances.{StandsAt, IsWithin}
+use Rattle.dom_agent.specs.Laws.{session_outcome}
+use Rattle.dom_agent.specs.Sets.{levels_asked}
+
+-- the levels that are left at a distance
+abbrev pub levels_left : ℕ → Option ℕ → Option ℕ
+levels_left k None = None
+levels_left k (Some d) = Some (d - k)
+
+-- trees shown to so many levels, with these ids: where levels are left a container has its children, and else their number
+abbrev pub shown_to : (ℕ → ℕ) → Option ℕ → Nodes Row → Nodes Seen
+shown_to ids levels none = none
+shown_to ids levels (node r c t) =
+    let goes_on = holds r.label.kind && not (is_spent levels) in
+    node (record { id = ids r.serial; serial = r.serial; label = r.label; hold = cond (holds r.label.kind) (cond goes_on opened (counted (width c))) leaf }) (cond goes_on (shown_to ids (less levels) c) none) (shown_to ids levels t)
+
+-- The event tells the children of a container at or below x, at a distance k below d, that was not opened: to d - k levels.
+pub record TellsLevels (d : Option ℕ) (x : Branch Row) (w : Session) (e : Showing) : Type 0 where
+  pub container : Branch Row
+  pub distance : ℕ
+  pub stands : StandsAt container distance (alone x)
+  pub near : IsWithin distance d
+  pub can_hold : holds container.row.label.kind ≡ true
+  pub shut : is_open w.opened container.row.serial ≡ false
+  pub ids : ℕ → ℕ
+  pub parent : e.parent ≡ ids container.row.serial
+  pub shows : e.children ≡ shown_to ids (less (levels_left distance d)) container.children
+
+-- what an outcome tells before the reply
+abbrev pub told_by : Outcome Session → List Showing
+told_by (served p body) = p.shown
+told_by (refused why) = []
+
+abbrev pub RequestTells : Type 0
+RequestTells = (page : State) (id : ℕ) (depth : Option ℤ) (pierce : Option Bool) (w : Session) (x : Branch Row) → IsValid page → IsSession (alone page.tree) w
+    → known_node (session_keeper (alone page.tree)) page.tree w (serial_at w (alone page.tree) id) ≡ Some x
+    → All (TellsLevels (levels_asked depth) x w) (told_by (session_outcome page (RequestChildNodes id depth pierce) w))

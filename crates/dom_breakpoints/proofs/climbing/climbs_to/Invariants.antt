@@ -1,0 +1,14 @@
+use Rattle.std.proofs.Common.{◌≡◌, ◌==◌, ◌∷◌, length, IsSome}
+use Rattle.std.specs.List.{list_any}
+use Rattle.page_tree.specs.Pages.{find_in}
+use Rattle.page_tree.specs.Ancestors.{ancestors_at}
+use Rattle.dom_breakpoints.proofs.climbing.climbs_to.Given as goal
+
+abbrev pub invariant-loop-at : goal.invariant-loop-at
+invariant-loop-at l = record {
+  live : IsSome (find_in l.at l.page.tree);
+  same : list_any (λ k. k == l.root) (l.at ∷ ancestors_at l.at l.page.tree) ≡ list_any (λ k. k == l.root) (l.fn.serial ∷ ancestors_at l.fn.serial l.page.tree);
+}
+
+abbrev pub decreases-loop-at : goal.decreases-loop-at
+decreases-loop-at l = length (ancestors_at l.at l.page.tree)

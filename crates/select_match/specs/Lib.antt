@@ -1,0 +1,4 @@
+pub mod Texts
+pub mod Elements
+pub mod Matches
+pub mod Outcomes

@@ -1,0 +1,97 @@
+//! Simple selectors and compounds (Selectors 3, section 6).
+
+ghost use Rattle.std.specs.Prelude.{◌≡◌, ◌&&◌, map, codes};
+ghost use Rattle.std.specs.List.{list_all};
+ghost use Rattle.node_tree.specs.Labels.{value_of};
+ghost use Rattle.selectors.specs.Forms.{id, class, test_seen, simple_seen, compound_seen};
+ghost use Rattle.select_match.specs.Texts.{same_name, has_word, has_value, compares, has_attribute};
+ghost use Rattle.select_match.specs.Elements.{attributes_of};
+ghost use Rattle.select_match.specs.Matches.{test_holds, simple_holds, compound_holds};
+
+use crate::elements::{index, is_element, is_filled, is_nth, is_only, is_root};
+use crate::texts::{compares, has_word, same_name};
+use page_tree::NodeRef;
+use selectors::{AttrOp, Compound, NthKind, Simple, Test};
+
+fn has_id(value: &str, node: &NodeRef<'_>) -> bool
+    ensures { result ≡ test_holds (id value.now) node.now }
+{
+    match node.attr("id") {
+        Some(own) => own == value,
+        None => false,
+    }
+}
+
+fn has_class(word: &str, node: &NodeRef<'_>) -> bool
+    ensures { result ≡ test_holds (class word.now) node.now }
+{
+    match node.attr("class") {
+        Some(own) => has_word(word, own),
+        None => false,
+    }
+}
+
+/// An attribute has the name, in any ASCII case, and its value is as the operator and the operand ask.
+fn attribute_holds(own: (&str, &str), name: &str, op: AttrOp, operand: &str) -> bool
+    ensures { result ≡ (same_name own.entry.0.now name.now && compares op operand.now own.entry.1.now) }
+{
+    same_name(own.0, name) && compares(op, operand, own.1)
+}
+
+fn has_attribute(name: &str, op: AttrOp, operand: &str, node: &NodeRef<'_>) -> bool
+    ensures { result ≡ has_attribute name.now (compares op operand.now) (attributes_of node.now) }
+{
+    for i in 0..node.attr_len() {
+        if attribute_holds(node.attr_at(i), name, op, operand) {
+            return true;
+        }
+    }
+    false
+}
+
+fn test_holds(test: &Test, node: &NodeRef<'_>) -> bool
+    ensures { result ≡ test_holds (test_seen test.now) node.now }
+{
+    match test {
+        Test::Any => true,
+        Test::Tag(name) => same_name(node.name(), name.as_str()),
+        Test::Id(value) => has_id(value.as_str(), node),
+        Test::Class(word) => has_class(word.as_str(), node),
+        Test::Attr { name, op, operand } => {
+            has_attribute(name.as_str(), *op, operand.as_str(), node)
+        }
+        Test::Root => is_root(node),
+        Test::Empty => !is_filled(node),
+        Test::Nth { kind, step, offset } => is_nth(*step, *offset, index(*kind, node)),
+        Test::OnlyChild => is_only(NthKind::Child, NthKind::LastChild, node),
+        Test::OnlyOfType => is_only(NthKind::OfType, NthKind::LastOfType, node),
+        Test::Never => false,
+    }
+}
+
+fn simple_holds(simple: &Simple, node: &NodeRef<'_>) -> bool
+    ensures { result ≡ simple_holds (simple_seen simple.now) node.now }
+{
+    match simple {
+        Simple::Is(test) => test_holds(test, node),
+        Simple::Not(test) => !test_holds(test, node),
+    }
+}
+
+fn all_hold(tests: &[Simple], node: &NodeRef<'_>) -> bool
+    ensures { result ≡ list_all (λ s. simple_holds s node.now) (map simple_seen tests.now) }
+{
+    for simple in tests {
+        if !simple_holds(simple, node) {
+            return false;
+        }
+    }
+    true
+}
+
+/// The node is an element that is as each part of the compound asks.
+pub fn compound_holds(compound: &Compound, node: &NodeRef<'_>) -> bool
+    ensures { result ≡ compound_holds (compound_seen compound.now) node.now }
+{
+    is_element(node) && all_hold(compound.tests.as_slice(), node)
+}

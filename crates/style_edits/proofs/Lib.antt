@@ -1,0 +1,6 @@
+pub mod BookForms
+pub mod LineForms
+pub mod DraftForms
+pub mod EditForms
+pub mod SpliceForms
+pub mod FoundForms

@@ -1,0 +1,53 @@
+-- A sheet as an edit leaves it, before it is in the book.
+use Rattle.std.specs.Prelude.{◌≡◌, ℕ, [], ◌∷◌, ◌++◌, List, IsSome, Result, Ok, Err, Bool, ◌&&◌, ◌==◌}
+use Rattle.std.specs.Str.{IsCharBoundary}
+use Rattle.css_tokens.specs.declared.token.Range.{Range}
+use Rattle.sheet_reader.specs.declared.book.SheetEntry.{SheetEntry}
+use Rattle.sheet_reader.specs.Books.{IsEntry, entry_of, changed}
+use Rattle.sheet_reader.specs.Positions.{position, position_of}
+use Rattle.style_edits.specs.declared.drafts.Draft.{Draft}
+use Rattle.style_edits.specs.declared.faults.SheetErr.{SheetErr}
+use Rattle.style_edits.specs.declared.faults.SheetErr.TheVariants.{Fault, Memory}
+use Rattle.style_edits.specs.declared.lines.LineRange.{LineRange}
+use Rattle.style_edits.specs.declared.splice.Splice.{Splice}
+use Rattle.style_edits.specs.Splices.{spliced_entry, back_in}
+use Rattle.style_edits.specs.Edits.{Found, EditsOutcome}
+
+-- the bytes at the ends have these lines and columns, and the text can be cut there
+pub record IsAt (text : List ℕ) (lines : LineRange) (r : Range) : Type 0 where
+  pub front : IsCharBoundary text r.start
+  pub back : IsCharBoundary text r.end
+  pub start : position_of text r.start ≡ position lines.start_line lines.start_column
+  pub end : position_of text r.end ≡ position lines.end_line lines.end_column
+
+abbrev pub is_same_range : Range → Range → Bool
+is_same_range a b = a.start == b.start && a.end == b.end
+
+-- the sheet after the splice that was found, and the splice that leads back
+pub record IsDraft (e : SheetEntry) (found : Found) (d : Draft) : Type 0 where
+  pub splice : Splice
+  pub is : found ≡ Ok splice
+  pub sheet : splice.sheet ≡ e.id
+  pub entry : d.entry ≡ spliced_entry splice e
+  pub back : d.back ≡ back_in splice e
+
+-- such a sheet, or the fault that was found, unless memory ran out
+abbrev pub Drafts : SheetEntry → Found → Result Draft SheetErr → Type 0
+Drafts e found (Ok d) = IsDraft e found d
+Drafts e found (Err (Fault f)) = found ≡ Err f
+Drafts e found (Err Memory) = Unit {0}
+
+-- an entry that can take the place of one in the book
+pub record IsOld (book : List SheetEntry) (e : SheetEntry) : Type 0 where
+  pub entry : IsEntry e
+  pub there : IsSome (entry_of e.id book)
+
+-- entries back in their places, the last one first
+abbrev pub olds_restored : List SheetEntry → List SheetEntry → List SheetEntry
+olds_restored [] book = book
+olds_restored (old ∷ olds) book = changed old (olds_restored olds book)
+
+-- what edits come to behind others, whose splices back these are
+abbrev pub with_backs : List Splice → EditsOutcome → EditsOutcome
+with_backs backs (Ok rest) = Ok (rest.0, backs ++ rest.1)
+with_backs backs (Err f) = Err f

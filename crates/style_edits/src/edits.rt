@@ -1,0 +1,267 @@
+//! A client's edits of sheets.
+
+ghost use Rattle.std.specs.Prelude.{◌≡◌, All, ◌++◌, ◌∷◌, [], List, Ok, Err, Some, IfOk, OnOk, OnErr, MatchResult, IsSome};
+ghost use Rattle.sheet_reader.specs.Books.{IsEntry, entry_of, changed};
+ghost use Rattle.style_edits.specs.Edits.{style_in, selector_in, text_in, rule_in, client_sheet, style_splice, selector_splice, text_splice, rule_splice, edited, styles_edited, IfFault, whole_range};
+ghost use Rattle.style_edits.specs.Drafts.{Drafts, IsOld, olds_restored, with_backs};
+
+use crate::drafts::{Draft, apply, placed};
+use crate::faults::{SheetErr, SheetFault};
+use crate::lines::{LineRange, body_at, place_at, prelude_at};
+use crate::splice::Splice;
+use css_tokens::Range;
+use node_tree::Text;
+use selectors::{SelErr, read_selectors};
+use sheet_reader::{LoneRule, Origin, SheetBook, SheetEntry, lone_rule, sealed};
+use std::alloc::{AllocError, Global};
+
+/// A new text for the body of the style rule that has its body at these lines and columns.
+#[derive(Drop)]
+pub struct StyleEdit {
+    pub sheet: u64,
+    pub range: LineRange,
+    pub text: Text,
+}
+
+/// The sheet that a client may edit.
+fn client_sheet(book: &SheetBook, id: u64) -> Result<&SheetEntry, SheetFault>
+    ensures found { MatchResult result (λ e. client_sheet id book.now ≡ Ok e.now) (λ f. client_sheet id book.now ≡ Err f) }
+    ensures entry { IfOk result (λ e. IsEntry e.now) }
+    ensures there { IfOk result (λ e. entry_of e.now.id book.now ≡ Some e.now) }
+{
+    let Some(entry) = book.get(id) else {
+        return Err(SheetFault::NoSheet);
+    };
+    match entry.origin {
+        Origin::UserAgent => Err(SheetFault::NotMutable),
+        Origin::Regular => Ok(entry),
+    }
+}
+
+fn style_in(alloc: Global, entry: &SheetEntry, edit: &StyleEdit) -> Result<Draft, SheetErr>
+    requires { IsEntry entry.now }
+    ensures found { Drafts entry.now (style_in edit.now entry.now) result }
+    ensures whole { IfOk result (λ d. IsEntry d.entry) }
+{
+    let text = edit.text.as_str();
+    let Some(part) = body_at(entry, edit.range) else {
+        return Err(SheetErr::Fault(SheetFault::BadRange));
+    };
+    if !sealed(alloc, text)? {
+        return Err(SheetErr::Fault(SheetFault::BadText));
+    }
+    placed(alloc, entry, part, text)
+}
+
+fn selector_in(
+    alloc: Global,
+    entry: &SheetEntry,
+    lines: LineRange,
+    text: &str,
+) -> Result<Draft, SheetErr>
+    requires { IsEntry entry.now }
+    ensures found { Drafts entry.now (selector_in lines text.now entry.now) result }
+    ensures whole { IfOk result (λ d. IsEntry d.entry) }
+{
+    let Some(part) = prelude_at(entry, lines) else {
+        return Err(SheetErr::Fault(SheetFault::BadRange));
+    };
+    if !sealed(alloc, text)? {
+        return Err(SheetErr::Fault(SheetFault::BadText));
+    }
+    match read_selectors(alloc, text) {
+        Ok(_list) => placed(alloc, entry, part, text),
+        Err(SelErr::Invalid) => Err(SheetErr::Fault(SheetFault::BadSelector)),
+        Err(SelErr::Memory) => Err(SheetErr::Memory),
+    }
+}
+
+fn whole(text: &str) -> Range
+    ensures { result ≡ whole_range text.now }
+{
+    Range {
+        start: 0,
+        end: text.len(),
+    }
+}
+
+fn text_in(alloc: Global, entry: &SheetEntry, text: &str) -> Result<Draft, SheetErr>
+    requires { IsEntry entry.now }
+    ensures found { Drafts entry.now (text_in text.now entry.now) result }
+    ensures whole { IfOk result (λ d. IsEntry d.entry) }
+{
+    placed(alloc, entry, whole(entry.text.as_str()), text)
+}
+
+fn rule_in(
+    alloc: Global,
+    entry: &SheetEntry,
+    lines: LineRange,
+    text: &str,
+) -> Result<Draft, SheetErr>
+    requires { IsEntry entry.now }
+    ensures found { Drafts entry.now (rule_in lines text.now entry.now) result }
+    ensures whole { IfOk result (λ d. IsEntry d.entry) }
+{
+    if !sealed(alloc, text)? {
+        return Err(SheetErr::Fault(SheetFault::BadText));
+    }
+    match lone_rule(alloc, text)? {
+        LoneRule::Other => Err(SheetErr::Fault(SheetFault::BadText)),
+        LoneRule::Dropped => Err(SheetErr::Fault(SheetFault::BadSelector)),
+        LoneRule::Style => match place_at(entry, lines) {
+            Some(part) => placed(alloc, entry, part, text),
+            None => Err(SheetErr::Fault(SheetFault::BadPlace)),
+        },
+    }
+}
+
+/// Makes the body of a style rule, which has these lines and columns, another text.
+fn set_style(
+    book: &mut SheetBook,
+    edit: &StyleEdit,
+    olds: &mut Vec<SheetEntry>,
+) -> Result<Splice, SheetErr>
+    requires olds { All (IsOld book.old) olds.old.items }
+    ensures done { IfOk result (λ back. edited book.old (style_splice edit.now book.old) ≡ Ok (book.new, back)) }
+    ensures fault { IfFault result (λ f. style_splice edit.now book.old ≡ Err f) }
+    ensures olds { All (IsOld book.new) olds.new.items }
+    ensures same { olds_restored olds.new.items book.new ≡ olds_restored olds.old.items book.old }
+{
+    let entry = match client_sheet(book, edit.sheet) {
+        Ok(entry) => entry,
+        Err(fault) => return Err(SheetErr::Fault(fault)),
+    };
+    let draft = match style_in(book.allocator(), entry, edit) {
+        Ok(draft) => draft,
+        Err(stop) => return Err(stop),
+    };
+    match olds.push(book.change(draft.entry)) {
+        Ok(()) => Ok(draft.back),
+        Err(failed) => {
+            book.change(failed.value);
+            Err(SheetErr::Memory)
+        }
+    }
+}
+
+/// Makes the prelude of a style rule, which runs from its first selector to its last one and has these lines and columns,
+/// another text. Answers the splice that leads back.
+pub fn set_selector(
+    book: &mut SheetBook,
+    sheet: u64,
+    range: &LineRange,
+    text: &str,
+) -> Result<Splice, SheetErr>
+    ensures done { IfOk result (λ back. edited book.old (selector_splice sheet range.now text.now book.old) ≡ Ok (book.new, back)) }
+    ensures fault { IfFault result (λ f. selector_splice sheet range.now text.now book.old ≡ Err f) }
+    ensures unchanged { OnErr result (book.new ≡ book.old) }
+{
+    let entry = match client_sheet(book, sheet) {
+        Ok(entry) => entry,
+        Err(fault) => return Err(SheetErr::Fault(fault)),
+    };
+    let draft = match selector_in(book.allocator(), entry, *range, text) {
+        Ok(draft) => draft,
+        Err(stop) => return Err(stop),
+    };
+    Ok(apply(book, draft))
+}
+
+/// Makes the whole text of a sheet another one. Answers the splice that leads back.
+pub fn set_text(book: &mut SheetBook, sheet: u64, text: &str) -> Result<Splice, SheetErr>
+    ensures done { IfOk result (λ back. edited book.old (text_splice sheet text.now book.old) ≡ Ok (book.new, back)) }
+    ensures fault { IfFault result (λ f. text_splice sheet text.now book.old ≡ Err f) }
+    ensures unchanged { OnErr result (book.new ≡ book.old) }
+{
+    let entry = match client_sheet(book, sheet) {
+        Ok(entry) => entry,
+        Err(fault) => return Err(SheetErr::Fault(fault)),
+    };
+    let draft = match text_in(book.allocator(), entry, text) {
+        Ok(draft) => draft,
+        Err(stop) => return Err(stop),
+    };
+    Ok(apply(book, draft))
+}
+
+/// Puts a rule at a place between the parts of a sheet. Answers the splice that leads back.
+pub fn add_rule(
+    book: &mut SheetBook,
+    sheet: u64,
+    text: &str,
+    location: &LineRange,
+) -> Result<Splice, SheetErr>
+    ensures done { IfOk result (λ back. edited book.old (rule_splice sheet location.now text.now book.old) ≡ Ok (book.new, back)) }
+    ensures fault { IfFault result (λ f. rule_splice sheet location.now text.now book.old ≡ Err f) }
+    ensures unchanged { OnErr result (book.new ≡ book.old) }
+{
+    let entry = match client_sheet(book, sheet) {
+        Ok(entry) => entry,
+        Err(fault) => return Err(SheetErr::Fault(fault)),
+    };
+    let draft = match rule_in(book.allocator(), entry, *location, text) {
+        Ok(draft) => draft,
+        Err(stop) => return Err(stop),
+    };
+    Ok(apply(book, draft))
+}
+
+/// Puts the old sheets back, the last one first. Takes no memory.
+fn restore(book: &mut SheetBook, mut olds: Vec<SheetEntry>)
+    requires { All (IsOld book.old) olds.items }
+    ensures { book.new ≡ olds_restored olds.items book.old }
+{
+    while let Some(old) = olds.pop() {
+        book.change(old);
+    }
+}
+
+/// Makes the edits, and keeps the splices that lead back and the old sheets.
+fn set_each(
+    book: &mut SheetBook,
+    edits: &[StyleEdit],
+    backs: &mut Vec<Splice>,
+    olds: &mut Vec<SheetEntry>,
+) -> Result<(), SheetErr>
+    requires olds { All (IsOld book.old) olds.old.items }
+    ensures done { OnOk result (with_backs backs.old.items (styles_edited edits.now book.old) ≡ Ok (book.new, backs.new.items)) }
+    ensures fault { IfFault result (λ f. styles_edited edits.now book.old ≡ Err f) }
+    ensures olds { All (IsOld book.new) olds.new.items }
+    ensures same { olds_restored olds.new.items book.new ≡ olds_restored olds.old.items book.old }
+{
+    for edit in edits {
+        let back = match set_style(book, edit, olds) {
+            Ok(back) => back,
+            Err(stop) => return Err(stop),
+        };
+        push_back(backs, back)?;
+    }
+    Ok(())
+}
+
+fn push_back(backs: &mut Vec<Splice>, back: Splice) -> Result<(), AllocError>
+    ensures { OnOk result (backs.new.items ≡ backs.old.items ++ back ∷ []) }
+{
+    backs.push(back)?;
+    Ok(())
+}
+
+/// Makes the body of each edit's style rule another text: all of them, each found in the text that the earlier ones left, or
+/// none. Answers the splices that lead back, in the order of the edits.
+pub fn set_styles(book: &mut SheetBook, edits: &[StyleEdit]) -> Result<Vec<Splice>, SheetErr>
+    ensures done { IfOk result (λ backs. styles_edited edits.now book.old ≡ Ok (book.new, backs.items)) }
+    ensures fault { IfFault result (λ f. styles_edited edits.now book.old ≡ Err f) }
+    ensures unchanged { OnErr result (book.new ≡ book.old) }
+{
+    let alloc = book.allocator();
+    let mut backs = Vec::new(alloc);
+    let mut olds = Vec::new(alloc);
+    match set_each(book, edits, &mut backs, &mut olds) {
+        Ok(()) => Ok(backs),
+        Err(stop) => {
+            restore(book, olds);
+            Err(stop)
+        }
+    }
+}

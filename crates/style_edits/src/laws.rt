@@ -1,0 +1,30 @@
+//! Laws of the definitions: edits, and the splices that lead back.
+
+ghost use Rattle.std.specs.Prelude.{◌≡◌, ℕ, List, All, Ok, reverse};
+ghost use Rattle.std.specs.Str.{IsUtf8};
+ghost use Rattle.sheet_reader.specs.declared.book.SheetEntry.{SheetEntry};
+ghost use Rattle.sheet_reader.specs.Books.{IsStored};
+ghost use Rattle.style_edits.specs.declared.edits.StyleEdit.{StyleEdit};
+ghost use Rattle.style_edits.specs.declared.lines.LineRange.{LineRange};
+ghost use Rattle.style_edits.specs.declared.splice.Splice.{Splice};
+ghost use Rattle.style_edits.specs.Splices.{TakesSplice, FitsSplice, after_splice, back_splice, after_splices};
+ghost use Rattle.style_edits.specs.Edits.{HasText, style_splice, selector_splice, text_splice, rule_splice, styles_edited};
+
+/// A splice that can be made in a book can be taken back: the splice that leads back can be made in the book that it leaves,
+/// leads to the book before it, and is itself taken back by the splice again.
+pub fn splice_law()
+    ensures fits { (s : Splice) (book : List SheetEntry) → TakesSplice s book → FitsSplice s book }
+    ensures takes_back { (s : Splice) (book : List SheetEntry) → TakesSplice s book → TakesSplice (back_splice s book) (after_splice s book) }
+    ensures leads_back { (s : Splice) (book : List SheetEntry) → TakesSplice s book → after_splice (back_splice s book) (after_splice s book) ≡ book }
+    ensures back_back { (s : Splice) (book : List SheetEntry) → TakesSplice s book → back_splice (back_splice s book) (after_splice s book) ≡ s }
+{}
+
+/// The splice of an edit that has no fault can be made in the book. And where edits are made one after the other, the splices
+/// that they answer lead back to the book before them, the last one first.
+pub fn edits_law()
+    ensures style { (x : StyleEdit) (book : List SheetEntry) (s : Splice) → All IsStored book → IsUtf8 x.text → style_splice x book ≡ Ok s → TakesSplice s book }
+    ensures selector { (id : ℕ) (lines : LineRange) (text : List ℕ) (book : List SheetEntry) (s : Splice) → All IsStored book → IsUtf8 text → selector_splice id lines text book ≡ Ok s → TakesSplice s book }
+    ensures text { (id : ℕ) (text : List ℕ) (book : List SheetEntry) (s : Splice) → All IsStored book → IsUtf8 text → text_splice id text book ≡ Ok s → TakesSplice s book }
+    ensures rule { (id : ℕ) (lines : LineRange) (text : List ℕ) (book : List SheetEntry) (s : Splice) → All IsStored book → IsUtf8 text → rule_splice id lines text book ≡ Ok s → TakesSplice s book }
+    ensures lead_back { (xs : List StyleEdit) (book new : List SheetEntry) (backs : List Splice) → All IsStored book → All HasText xs → styles_edited xs book ≡ Ok (new, backs) → after_splices (reverse backs) new ≡ book }
+{}

@@ -1,0 +1,114 @@
+//! Ranges of lines and columns, and what of a sheet stands there.
+
+ghost use Rattle.std.specs.Prelude.{◌≡◌, ◌&&◌, ◌==◌, false, map, IfSome, IfNone};
+ghost use Rattle.std.specs.List.{find};
+ghost use Rattle.std.specs.Str.{IsCharBoundary};
+ghost use Rattle.css_tokens.specs.declared.token.Range.{Range};
+ghost use Rattle.selectors.specs.Ranges.{IsRangeOf};
+ghost use Rattle.sheet_reader.specs.Forms.{range, rule_seen};
+ghost use Rattle.sheet_reader.specs.Books.{IsEntry};
+ghost use Rattle.style_edits.specs.Drafts.{IsAt, is_same_range};
+ghost use Rattle.style_edits.specs.Edits.{is_at, body_at, prelude_at, place_at};
+
+use css_tokens::Range;
+use sheet_reader::{SheetEntry, StyleRule, byte_at};
+
+/// A part of a text: from one line and column up to another, all from 0. A column counts UTF-16 units.
+#[derive(Clone, Copy, PartialEq, Eq, Debug)]
+pub struct LineRange {
+    pub start_line: u64,
+    pub start_column: u64,
+    pub end_line: u64,
+    pub end_column: u64,
+}
+
+/// The bytes with these lines and columns; none where a line has no such column, or the text no such line.
+fn bytes_at(text: &str, lines: LineRange) -> Option<Range>
+    ensures there { IfSome result (IsAt text.now lines) }
+    ensures none { IfNone result ((r : Range) → IsCharBoundary text.now r.start → IsCharBoundary text.now r.end → is_at text.now lines r ≡ false) }
+{
+    let start = byte_at(text, lines.start_line, lines.start_column)?;
+    let end = byte_at(text, lines.end_line, lines.end_column)?;
+    Some(Range { start, end })
+}
+
+fn is_same(a: Range, b: Range) -> bool
+    ensures { result ≡ is_same_range a b }
+{
+    a.start == b.start && a.end == b.end
+}
+
+/// The range, if a rule has its body there.
+fn body_among(rules: &[StyleRule], wanted: Range) -> Option<Range>
+    ensures { result ≡ find (is_same_range wanted) (map (λ r. r.body) rules.now) }
+{
+    rules
+        .iter()
+        .map(|rule| rule.body)
+        .find(|body| is_same(wanted, *body))
+}
+
+/// The range, if a rule has its prelude there.
+fn prelude_among(rules: &[StyleRule], wanted: Range) -> Option<Range>
+    ensures { result ≡ find (is_same_range wanted) (map (λ r. r.prelude) rules.now) }
+{
+    rules
+        .iter()
+        .map(|rule| rule.prelude)
+        .find(|prelude| is_same(wanted, *prelude))
+}
+
+fn empty_at(place: usize) -> Range
+    ensures { result ≡ range place place }
+{
+    Range {
+        start: place,
+        end: place,
+    }
+}
+
+/// The range, if it is empty and at one of the places.
+fn place_among(places: &[usize], wanted: Range) -> Option<Range>
+    ensures { result ≡ find (is_same_range wanted) (map (λ p. range p p) places.now) }
+{
+    places
+        .iter()
+        .map(|place| empty_at(*place))
+        .find(|here| is_same(wanted, *here))
+}
+
+/// The body of a style rule with these lines and columns.
+pub(crate) fn body_at(entry: &SheetEntry, lines: LineRange) -> Option<Range>
+    requires { IsEntry entry.now }
+    ensures value { result ≡ body_at entry.now.text lines }
+    ensures range { IfSome result (IsRangeOf entry.now.text) }
+{
+    let Some(wanted) = bytes_at(entry.text.as_str(), lines) else {
+        return None;
+    };
+    body_among(entry.reading.rules.as_slice(), wanted)
+}
+
+/// The prelude of a style rule with these lines and columns.
+pub(crate) fn prelude_at(entry: &SheetEntry, lines: LineRange) -> Option<Range>
+    requires { IsEntry entry.now }
+    ensures value { result ≡ prelude_at entry.now.text lines }
+    ensures range { IfSome result (IsRangeOf entry.now.text) }
+{
+    let Some(wanted) = bytes_at(entry.text.as_str(), lines) else {
+        return None;
+    };
+    prelude_among(entry.reading.rules.as_slice(), wanted)
+}
+
+/// A place where a rule may be added, as an empty range with these lines and columns.
+pub(crate) fn place_at(entry: &SheetEntry, lines: LineRange) -> Option<Range>
+    requires { IsEntry entry.now }
+    ensures value { result ≡ place_at entry.now.text lines }
+    ensures range { IfSome result (IsRangeOf entry.now.text) }
+{
+    let Some(wanted) = bytes_at(entry.text.as_str(), lines) else {
+        return None;
+    };
+    place_among(entry.reading.places.as_slice(), wanted)
+}
