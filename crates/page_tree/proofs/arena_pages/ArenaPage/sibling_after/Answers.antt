@@ -1,5 +1,5 @@
 -- The slot of the parent knows the siblings.
-use Rattle.std.proofs.Common.{◌≡◌, Option, Some, None, IsSome, subst, sym, ap, ◌∙◌}
+use Rattle.std.proofs.Common.{Option, None, IsSome, subst, sym, ap, ◌∙◌}
 use Rattle.std.specs.Option.{option_copied}
 use Rattle.page_tree.specs.declared.slots.Slot.{Slot}
 use Rattle.page_tree.proofs.ArenaEdits.{detach_slot, detach_parent, detach_key, sibling_is}
