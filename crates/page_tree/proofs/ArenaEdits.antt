@@ -1,31 +1,30 @@
 -- A page in an arena after an edit.
-use Rattle.std.proofs.Common.{◌≡◌, ◌⊎◌, ℕ, suc, ◌+◌, ◌<◌, ◌≤◌, max, Bool, true, false, List, [], ◌∷◌, Option, Some, None, IsSome, is_some, Result, Ok, Err, IfOk, OnOk, OnErr, refl, sym, ap, subst, ◌∙◌, inl, inr, arith}
+use Rattle.std.proofs.Common.{◌≡◌, ℕ, suc, ◌<◌, max, true, false, List, [], ◌∷◌, Option, Some, None, IsSome, is_some, Result, Ok, Err, IfOk, OnOk, OnErr, refl, sym, ap, subst, ◌∙◌, inl, inr, arith}
 use Rattle.std.specs.Option.{option_and_then}
 use Rattle.std.proofs.lemmas.Bool.{not-false, cases_lt}
-use Rattle.node_tree.specs.Nodes.{Nodes, none, node, Branch, alone, height}
-use Rattle.node_tree.specs.Labels.{Label, is_document, is_element, is_ascending, value_of}
+use Rattle.node_tree.specs.Nodes.{Nodes, none, node, Branch, alone}
+use Rattle.node_tree.specs.Labels.{Label, is_element, is_ascending, value_of}
 use Rattle.node_tree.specs.Keys.{tally}
-use Rattle.node_tree.specs.Arena.{times, Keeps, IsArena, kept_trees}
+use Rattle.node_tree.specs.Arena.{times, IsArena}
 use Rattle.node_tree.proofs.KeyLemmas.{tally_row, tally_below, height_above-at}
 use Rattle.node_tree.proofs.ChangeLemmas.{at-old, child_of}
 use Rattle.node_tree.proofs.NodeLemmas.{height-map_rows}
 use Rattle.node_tree.proofs.ArenaLemmas.{keeps-same, kept_trees-keeps}
-use Rattle.page_tree.specs.Forms.{max_level}
 use Rattle.page_tree.specs.Pages.{Row, row_serial, row_label, State, IsValid, find_in, node_at, parent_at}
 use Rattle.page_tree.specs.Loads.{placed}
-use Rattle.page_tree.specs.Edits.{with_attribute, without_attribute, pairs_without, with_value, relabelled, with_child, without_child, taken_out, changed_at, greatest_serial, after, after_tree, children_at, label_at}
+use Rattle.page_tree.specs.Edits.{with_attribute, without_attribute, pairs_without, with_value, relabelled, with_child, without_child, changed_at, greatest_serial, after, children_at, label_at, sibling_after}
 use Rattle.page_tree.specs.EditFaults.{is_live, CanAttach, CanApply, edit_faults}
 use Rattle.page_tree.specs.declared.edits.TreeEdit.{TreeEdit}
 use Rattle.page_tree.specs.declared.edits.TreeEdit.TheVariants.{SetAttr, DropAttr, SetText, Attach, Detach}
-use Rattle.page_tree.specs.Arenas.{page_slots, slot_row, slots_in, keys_in, Filed, Fresh, SameSlots, Turned, slot_of, stored_trees, first_tree, Grafted, Cut, tree_of, IsPage, Looks}
+use Rattle.page_tree.specs.Arenas.{page_slots, slot_row, slots_in, keys_in, Filed, Fresh, SameSlots, Turned, slot_of, stored_trees, next_in, Grafted, Cut, tree_of, IsPage, Looks}
 use Rattle.page_tree.specs.declared.slots.Slot.{Slot}
 use Rattle.page_tree.specs.declared.arenas.Arena.{Arena}
-use Rattle.page_tree.proofs.PlaceLemmas.{Located, located, node_at_is, once, tree_is, rebuilt, looks, TopMost, Under, placed_up}
-use Rattle.page_tree.proofs.TurnLemmas.{Seat, seat, page_relabelled, page_grafted, page_cut}
-use Rattle.page_tree.proofs.ChildLemmas.{Inserted, inserted-taken}
+use Rattle.page_tree.proofs.PlaceLemmas.{located, tree_is, rebuilt, looks, Under, placed_up}
+use Rattle.page_tree.proofs.TurnLemmas.{Seat, seat, next_keeps, page_relabelled, page_grafted, page_cut}
+use Rattle.page_tree.proofs.ChildLemmas.{inserted-taken}
 use Rattle.page_tree.proofs.FormedLemmas.{left}
 use Rattle.page_tree.proofs.WholeLemmas.{whole-valid}
-use Rattle.page_tree.proofs.EditLemmas.{fits-live, ascending-element, clear, changed, serial-live, found-live, parted, valid-after}
+use Rattle.page_tree.proofs.EditLemmas.{fits-live, ascending-element, clear, changed, serial-live, parted, valid-after}
 
 -- the page as it was, where no slot changed
 pub same_page : (a b : Arena) (root next : ℕ) → IsPage a root next → SameSlots a b → Filed b → (tree_of b root ≡ tree_of a root) × IsPage b root next
@@ -306,6 +305,18 @@ module _ (a b : Arena) (root next : ℕ) (page : IsPage a root next) (p : State)
             ∙ ap (λ (r : State). after (Detach serial) r) view;
         page = done.1;
       }
+
+  -- the sibling right after a node
+  pub sibling_is : (serial key : ℕ) (slot over : Slot) → CanApply p.next (Detach serial) p.tree → slot_of a serial ≡ Some slot → slot.parent ≡ Some key → slots_in a key ≡ Some over → next_in a serial over.children ≡ sibling_after serial (parent_at serial p.tree) p.tree
+  sibling_is serial key slot over can e up over_at =
+      let q = parting serial can in
+      let same : slot ≡ q.slot = let both : Some slot ≡ Some q.slot = sym e ∙ q.at in cc in
+      let same_key : key ≡ q.under.key = let both : Some key ≡ Some q.under.key = sym up ∙ ap (λ (s : Slot). s.parent) same ∙ q.under.up in cc in
+      let same_over : over ≡ q.under.over = let both : Some over ≡ Some q.under.over = sym over_at ∙ ap (λ (k : ℕ). slots_in a k) same_key ∙ q.under.over_at in cc in
+      ap (λ (s : Slot). next_in a serial s.children) same_over
+      ∙ next_keeps a serial (Some q.over_seat.key) (node_at q.under.over.serial (tree_of a root)).children q.under.over.children q.over_seat.below
+      ∙ ap (λ (x : ℕ). sibling_after serial x (tree_of a root)) (sym q.under.parent_is)
+      ∙ ap (λ (r : State). sibling_after serial (parent_at serial r.tree) r.tree) view
 
 -- ---- results
 

@@ -1,15 +1,16 @@
 -- Slots taken out one by one, lists of serials, and trees copied out.
 use Rattle.std.proofs.Common.{◌≡◌, ℕ, zero, suc, ◌+◌, ◌-◌, ◌<◌, ◌≤◌, Bool, true, false, cond, List, [], ◌∷◌, ◌++◌, length, get_or, slice_get, drop, Option, Some, None, IsSome, Result, Ok, Err, OnOk, OnErr, refl, sym, ap, subst, ◌∙◌, arith}
+use Rattle.std.specs.Option.{option_map_or}
 use Rattle.std.specs.Ordering.{nat_cmp}
 use Rattle.std.specs.BTreeMap as map
-use Rattle.std.proofs.lemmas.List.{drop_more}
+use Rattle.std.proofs.lemmas.List.{drop_more, drop_all}
 use Rattle.node_tree.specs.Nodes.{Nodes, none, node, Branch, alone, nodes_of, beside, node_count}
 use Rattle.node_tree.specs.Keys.{tally}
 use Rattle.node_tree.specs.Arena.{Shrinks, IsFiled, slot_tree, slot_trees, kept_trees}
 use Rattle.node_tree.proofs.NodeLemmas.{nodes_of-append, beside_assoc, beside-none}
 use Rattle.node_tree.proofs.ArenaLemmas.{files-turn, files-same}
 use Rattle.page_tree.specs.Pages.{Row, row_serial}
-use Rattle.page_tree.specs.Arenas.{page_slots, slot_row, slots_in, keys_in, Filed, Turned, SameSlots, listed, is_numbered, place_in}
+use Rattle.page_tree.specs.Arenas.{page_slots, slot_row, slots_in, keys_in, Filed, Turned, SameSlots, listed, is_numbered, place_in, first_in, next_in}
 use Rattle.page_tree.specs.declared.arenas.Arena.{Arena}
 use Rattle.page_tree.specs.declared.slots.Slot.{Slot}
 
@@ -147,3 +148,21 @@ filed_same a b same keys_are files =
 pub some_slot : (o : Option Slot) → IsSome o → (slot : Slot) × (o ≡ Some slot)
 some_slot None some = absurd (cc)
 some_slot (Some slot) some = (slot, refl)
+
+-- ---- the next of the siblings
+
+module _ (a : Arena) where
+  pub first_end : (ks : List ℕ) (i : ℕ) → length ks ≤ i → 0 ≡ first_in a (drop i ks)
+  first_end ks i past = sym (ap (λ (js : List ℕ). first_in a js) (drop_all i ks past))
+
+  pub first_at : (ks : List ℕ) (i k : ℕ) → slice_get ks i ≡ Some k → first_in a (drop i ks) ≡ option_map_or (λ (s : Slot). s.serial) (slots_in a k) 0
+  first_at ks i k at = ap (λ (js : List ℕ). first_in a js) (drop-get ks i k at)
+
+  next_step : (b : Bool) (p next : ℕ) (k : ℕ) (ks : List ℕ) → first_in a (drop (suc p) ks) ≡ next → first_in a (drop (suc (cond {A = ℕ} b 0 (suc p))) (k ∷ ks)) ≡ cond b (first_in a ks) next
+  next_step true p next k ks e = refl
+  next_step false p next k ks e = e
+
+  -- what stands behind the place
+  pub next_behind : (serial : ℕ) (ks : List ℕ) → first_in a (drop (suc (place_in a serial ks)) ks) ≡ next_in a serial ks
+  next_behind serial [] = refl
+  next_behind serial (k ∷ ks) = next_step (is_numbered a serial k) (place_in a serial ks) (next_in a serial ks) k ks (next_behind serial ks)

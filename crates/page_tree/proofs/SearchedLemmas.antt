@@ -1,5 +1,5 @@
 -- What is found in a search for a name.
-use Rattle.std.proofs.Common.{◌≡◌, ℕ, zero, suc, ◌+◌, ◌<◌, ◌≤◌, Bool, true, false, cond, List, [], ◌∷◌, length, drop, slice_get, slice_set, Option, Some, None, Result, Ok, Err, Ordering, Less, Equal, Greater, nat_cmp, refl, sym, ap, subst, ◌∙◌, arith}
+use Rattle.std.proofs.Common.{◌≡◌, ℕ, zero, suc, ◌+◌, ◌<◌, ◌≤◌, true, List, [], ◌∷◌, length, drop, slice_get, slice_set, Some, None, Result, Ok, Err, Ordering, Less, Equal, Greater, nat_cmp, refl, sym, ap, subst, ◌∙◌, arith}
 use Rattle.std.specs.List.{insert, remove}
 use Rattle.std.specs.Ordering.{match_ordering, is_lt}
 use Rattle.std.specs.Cmp.Lexicographic.{slice_cmp}
@@ -7,7 +7,7 @@ use Rattle.node_tree.specs.Labels.{Pair, is_ascending, is_below, value_of}
 use Rattle.page_tree.specs.Loads.{placed}
 use Rattle.page_tree.specs.Edits.{pairs_without}
 use Rattle.page_tree.specs.Searches.{shifted, further, search_name}
-use Rattle.page_tree.proofs.FormedLemmas.{left, right}
+use Rattle.page_tree.proofs.FormedLemmas.{right}
 use Rattle.page_tree.proofs.PairLemmas.{same_name, value-below}
 use Rattle.page_tree.proofs.ArenaSteps.{drop-get}
 

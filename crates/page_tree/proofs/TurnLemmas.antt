@@ -10,9 +10,9 @@ use Rattle.node_tree.proofs.KeyLemmas.{tally-at}
 use Rattle.node_tree.proofs.ChangeLemmas.{tally_in-at}
 use Rattle.node_tree.proofs.ArenaLemmas.{keeps-same, keeps-at, row_there, row_alone}
 use Rattle.page_tree.specs.Pages.{Row, row_serial, IsValid, node_at}
-use Rattle.page_tree.specs.Edits.{relabelled, put_before, taken_out, with_child, without_child, changed_at}
+use Rattle.page_tree.specs.Edits.{first_serial, next_sibling, relabelled, put_before, taken_out, with_child, without_child, changed_at}
 use Rattle.page_tree.specs.EditFaults.{is_live}
-use Rattle.page_tree.specs.Arenas.{page_slots, slot_row, slots_in, keys_in, Filed, Fresh, slot_of, is_numbered, place_in, with_child_key, without_child_key, Grafted, Cut, tree_of, IsPage}
+use Rattle.page_tree.specs.Arenas.{page_slots, slot_row, slots_in, keys_in, Filed, Fresh, slot_of, is_numbered, place_in, first_in, next_in, with_child_key, without_child_key, Grafted, Cut, tree_of, IsPage}
 use Rattle.page_tree.specs.declared.slots.Slot.{Slot}
 use Rattle.page_tree.specs.declared.arenas.Arena.{Arena}
 use Rattle.page_tree.proofs.PlaceLemmas.{located, node_at_is, once, tree_is, rebuilt}
@@ -23,6 +23,23 @@ use Rattle.page_tree.proofs.ChildLemmas.{Inserted, tally-inserted, inserted-befo
 
 numbered_is : (a : Arena) (serial k : ℕ) (slot : Slot) (r : Row) → slots_in a k ≡ Some slot → slot_row slot ≡ r → is_numbered a serial k ≡ (r.serial == serial)
 numbered_is a serial k slot r at is = ap (λ (o : Option Slot). option_map_or (λ (s : Slot). s.serial == serial) o false) at ∙ ap (λ (q : Row). q.serial == serial) is
+
+first_keeps : (a : Arena) (above : Option ℕ) (n : Nodes Row) (ks : List ℕ) → Keeps page_slots (slots_in a) n above ks → first_in a ks ≡ first_serial n
+first_keeps a above none [] kept = refl
+first_keeps a above none (k ∷ ks) kept = absurd kept
+first_keeps a above (node r c t) [] kept = absurd kept
+first_keeps a above (node r c t) (k ∷ ks) (slot, at, up, is, below, after) = ap (λ (o : Option Slot). option_map_or (λ (s : Slot). s.serial) o 0) at ∙ ap (λ (q : Row). q.serial) is
+
+cond_same : (u v : Bool) (x y z w : ℕ) → u ≡ v → x ≡ y → z ≡ w → cond u x z ≡ cond v y w
+cond_same u v x y z w e f g = cc
+
+-- the next of the siblings, by keys and by trees
+pub next_keeps : (a : Arena) (serial : ℕ) (above : Option ℕ) (n : Nodes Row) (ks : List ℕ) → Keeps page_slots (slots_in a) n above ks → next_in a serial ks ≡ next_sibling serial n
+next_keeps a serial above none [] kept = refl
+next_keeps a serial above none (k ∷ ks) kept = absurd kept
+next_keeps a serial above (node r c t) [] kept = absurd kept
+next_keeps a serial above (node r c t) (k ∷ ks) (slot, at, up, is, below, after) =
+    cond_same (is_numbered a serial k) (r.serial == serial) (first_in a ks) (first_serial t) (next_in a serial ks) (next_sibling serial t) (numbered_is a serial k slot r at is) (first_keeps a above t ks after) (next_keeps a serial above t ks after)
 
 module _ (b : Arena) (above : Option ℕ) where
   insert_step : (v u : Bool) (w : Branch Row) (r : Row) (c t after : Nodes Row) (k child p : ℕ) (ks : List ℕ) → u ≡ v → KeepsOne page_slots (slots_in b) w above child → Keeps page_slots (slots_in b) (node r c t) above (k ∷ ks)

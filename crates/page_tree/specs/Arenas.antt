@@ -130,3 +130,15 @@ pub record Cut (a b : Arena) (key serial : ℕ) (tree : Branch Row) : Type 0 whe
   pub turned : Turned a mid key (without_child_key a serial)
   pub shrunk : Shrunk mid b serials
   pub listing : (x : ℕ) → listed x serials ≡ times page_slots x (alone tree)
+
+-- ---- the next of the siblings
+
+-- the serial of the first key's slot; 0 where there is none
+abbrev pub first_in : Arena → List ℕ → ℕ
+first_in a [] = 0
+first_in a (k ∷ ks) = option_map_or (λ slot. slot.serial) (slots_in a k) 0
+
+-- the serial of the slot right after the one of that serial; 0 where there is none
+abbrev pub next_in : Arena → ℕ → List ℕ → ℕ
+next_in a serial [] = 0
+next_in a serial (k ∷ ks) = cond (is_numbered a serial k) (first_in a ks) (next_in a serial ks)

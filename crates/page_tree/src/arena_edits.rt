@@ -1,7 +1,7 @@
 ghost use Rattle.std.specs.Prelude.{◌≡◌, IfOk, OnOk, OnErr};
 ghost use Rattle.node_tree.specs.Labels.{value_of};
-ghost use Rattle.page_tree.specs.Pages.{node_at};
-ghost use Rattle.page_tree.specs.Edits.{after, label_at};
+ghost use Rattle.page_tree.specs.Pages.{node_at, parent_at};
+ghost use Rattle.page_tree.specs.Edits.{after, label_at, back_tree, restored, sibling_after};
 ghost use Rattle.page_tree.specs.EditFaults.{CanApply};
 
 use crate::arena_pages::ArenaPage;
@@ -87,5 +87,80 @@ impl ArenaPage {
         };
         let Some(key) = above else { unreachable!() };
         self.arena.detach(alloc, key, serial)
+    }
+
+    /// The serial of the sibling right after a node, and 0 where there is none.
+    fn sibling_after(&self, serial: u64) -> u64
+        requires { CanApply self.now.next (TreeEdit.Detach serial) self.now.tree }
+        ensures { result ≡ sibling_after serial (parent_at serial self.now.tree) self.now.tree }
+    {
+        let above = match self.arena.find(serial) {
+            Some(slot) => slot.parent,
+            None => unreachable!(),
+        };
+        let Some(key) = above else { unreachable!() };
+        match self.arena.slots.get(key) {
+            Some(over) => self.arena.next_sibling(&over.children, serial),
+            None => unreachable!(),
+        }
+    }
+
+    /// Carries an edit out that has no fault, and gives the edit that leads back.
+    pub(crate) fn change(&mut self, alloc: Global, edit: TreeEdit) -> Result<TreeEdit, AllocError>
+        requires { CanApply self.old.next edit self.old.tree }
+        ensures ok { OnOk result (self.new ≡ after edit self.old) }
+        ensures back { IfOk result (λ back. back ≡ back_tree edit self.old.tree) }
+        ensures err { OnErr result (self.new ≡ self.old) }
+    {
+        match edit {
+            TreeEdit::SetAttr { node, name, value } => {
+                let kept = name.try_clone()?;
+                let was = self.set_attr(node, name, value)?;
+                Ok(restored(node, kept, was))
+            }
+            TreeEdit::DropAttr { node, name } => {
+                let was = self.drop_attr(node, name.as_str());
+                Ok(restored(node, name, was))
+            }
+            TreeEdit::SetText { node, value } => {
+                let value = self.set_text(node, value);
+                Ok(TreeEdit::SetText { node, value })
+            }
+            TreeEdit::Attach {
+                parent,
+                before,
+                tree,
+            } => {
+                let node = serial_of(&tree);
+                self.attach(alloc, parent, before, tree)?;
+                Ok(TreeEdit::Detach { node })
+            }
+            TreeEdit::Detach { node } => {
+                let parent = self.parent(node);
+                let before = self.sibling_after(node);
+                let tree = self.detach(alloc, node)?;
+                Ok(TreeEdit::Attach {
+                    parent,
+                    before,
+                    tree,
+                })
+            }
+        }
+    }
+}
+
+fn serial_of(tree: &Tree) -> u64
+    ensures { result ≡ tree.now.row.serial }
+{
+    tree.serial
+}
+
+/// What sets the attribute to what it was.
+fn restored(node: u64, name: Text, was: Option<Text>) -> TreeEdit
+    ensures { result ≡ restored node name was }
+{
+    match was {
+        Some(value) => TreeEdit::SetAttr { node, name, value },
+        None => TreeEdit::DropAttr { node, name },
     }
 }

@@ -1,10 +1,10 @@
-ghost use Rattle.std.specs.Prelude.{◌≡◌, ◌≤◌, [], ◌∷◌, true, length, Option, Some, None, IfOk, OnOk, OnErr, IfSome, IsSome};
+ghost use Rattle.std.specs.Prelude.{◌≡◌, ◌≤◌, [], ◌∷◌, true, length, drop, Option, Some, None, IfOk, OnOk, OnErr, IfSome, IsSome};
 ghost use Rattle.std.specs.List.{insert, remove};
 ghost use Rattle.node_tree.specs.Nodes.{alone};
 ghost use Rattle.node_tree.specs.Labels.{is_ascending, value_of};
 ghost use Rattle.page_tree.specs.Loads.{placed};
 ghost use Rattle.page_tree.specs.Edits.{pairs_without};
-ghost use Rattle.page_tree.specs.Arenas.{slots_in, Filed, Fresh, Grown, Turned, SameSlots, slot_of, slot_row, stored_trees, is_numbered, place_in, without_child_key, Grafted, Cut};
+ghost use Rattle.page_tree.specs.Arenas.{slots_in, Filed, Fresh, Grown, Turned, SameSlots, slot_of, slot_row, stored_trees, is_numbered, place_in, first_in, next_in, without_child_key, Grafted, Cut};
 ghost use Rattle.page_tree.specs.declared.slots.Slot.{Slot};
 
 use crate::arenas::{Arena, list_serials};
@@ -35,6 +35,30 @@ impl Arena {
             }
         }
         keys.len()
+    }
+
+    /// The serial of the slot under the key at place `i`, and 0 where there is none.
+    fn serial_at(&self, keys: &Keys, i: usize) -> u64
+        ensures { result ≡ first_in self.now (drop i keys.now) }
+    {
+        if i >= keys.len() {
+            return 0;
+        }
+        match self.slots.get(keys.at(i)) {
+            Some(slot) => slot.serial,
+            None => 0,
+        }
+    }
+
+    /// The serial of the slot right after the one of that serial, and 0 where there is none.
+    pub fn next_sibling(&self, keys: &Keys, serial: u64) -> u64
+        ensures { result ≡ next_in self.now serial keys.now }
+    {
+        let i = self.place(keys, serial);
+        if i >= keys.len() {
+            return 0;
+        }
+        self.serial_at(keys, i + 1)
     }
 
     /// Puts another value into a slot, and gives the old one.

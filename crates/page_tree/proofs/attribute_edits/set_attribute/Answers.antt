@@ -1,5 +1,5 @@
 -- The attribute is there and gets another value, or comes into its place.
-use Rattle.std.proofs.Common.{◌≡◌, Some, sym, ap, ◌∙◌}
+use Rattle.std.proofs.Common.{Some, sym, ap, ◌∙◌}
 use Rattle.page_tree.specs.Searches.{search_name}
 use Rattle.page_tree.proofs.SearchedLemmas.{searched_ok, searched_err, get-within}
 use Rattle.page_tree.proofs.attribute_edits.set_attribute.Goals as goal

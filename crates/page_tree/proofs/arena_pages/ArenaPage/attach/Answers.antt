@@ -1,9 +1,9 @@
 -- A tree comes in, or all stays as it was.
-use Rattle.std.proofs.Common.{◌≡◌, refl, sym, ap, ◌∙◌}
+use Rattle.std.proofs.Common.{sym, ap, ◌∙◌}
 use Rattle.node_tree.specs.Nodes.{Branch}
 use Rattle.page_tree.specs.Pages.{Row}
 use Rattle.page_tree.proofs.ArenaSteps.{either_way}
-use Rattle.page_tree.proofs.ArenaEdits.{attach_key, attach_fresh, attach_slot, tree_attached, same_page, on_ok, on_err}
+use Rattle.page_tree.proofs.ArenaEdits.{attach_key, attach_fresh, tree_attached, same_page, on_ok, on_err}
 use Rattle.page_tree.proofs.arena_pages.ArenaPage.attach.Goals as goal
 
 pub unreachable-requires : goal.unreachable-requires

@@ -1,5 +1,5 @@
 -- A tree goes out, or all stays as it was.
-use Rattle.std.proofs.Common.{◌≡◌, refl, sym, ap, subst, ◌∙◌}
+use Rattle.std.proofs.Common.{sym, ap, subst, ◌∙◌}
 use Rattle.std.specs.Option.{option_copied}
 use Rattle.page_tree.specs.Pages.{State, node_at}
 use Rattle.page_tree.specs.Arenas.{IsPage}

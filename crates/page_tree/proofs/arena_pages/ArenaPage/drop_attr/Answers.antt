@@ -1,5 +1,5 @@
 -- The slot of the element loses the attribute.
-use Rattle.std.proofs.Common.{◌≡◌, refl, sym, ap, ◌∙◌}
+use Rattle.std.proofs.Common.{refl, sym, ap, ◌∙◌}
 use Rattle.node_tree.specs.Labels.{Label, value_of}
 use Rattle.page_tree.proofs.ArenaSteps.{filed_turned}
 use Rattle.page_tree.proofs.ArenaEdits.{drop_there, drop_ascends, drop_has, attr_dropped, label_here}

@@ -1,5 +1,5 @@
 -- The slot of the element gets the attribute, or all stays as it was.
-use Rattle.std.proofs.Common.{◌≡◌, refl, sym, ap, ◌∙◌}
+use Rattle.std.proofs.Common.{refl, sym, ap, ◌∙◌}
 use Rattle.node_tree.specs.Nodes.{Branch}
 use Rattle.node_tree.specs.Labels.{Label, value_of}
 use Rattle.page_tree.specs.Pages.{Row}

@@ -1,7 +1,6 @@
 -- The slot of the node gets another value.
 use Rattle.std.proofs.Common.{◌≡◌, Some, refl, sym, ap, ◌∙◌}
 use Rattle.node_tree.specs.Labels.{Label}
-use Rattle.page_tree.specs.declared.slots.Slot.{Slot}
 use Rattle.page_tree.proofs.ArenaSteps.{filed_turned}
 use Rattle.page_tree.proofs.ArenaEdits.{text_there, text_set, label_here}
 use Rattle.page_tree.proofs.arena_pages.ArenaPage.set_text.Goals as goal
