@@ -66,7 +66,7 @@ fn nested(alloc: Global, level: usize) -> Result<Vec<u8>, AllocError> {
 }
 
 #[test]
-fn replays(rt: HostRuntime) -> Result<(), Fail> {
+fn a_script_is_replayed_and_each_fault_is_told(rt: HostRuntime) -> Result<(), Fail> {
     let alloc = rt.alloc();
     let mut out = Vec::new(alloc);
     replay(alloc, SCRIPT, [0, 0, 0], &mut out)?;
@@ -95,7 +95,7 @@ fn lie(alloc: Global, place: u64, to: u8, out: &mut Vec<u8>) -> Result<(), Alloc
 }
 
 #[test]
-fn tells_of_other_words_and_of_lies(rt: HostRuntime) -> Result<(), Fail> {
+fn other_words_are_usage_and_a_lie_is_refused_at_its_place(rt: HostRuntime) -> Result<(), Fail> {
     let alloc = rt.alloc();
     let mut out = Vec::new(alloc);
     other_words(alloc, &["replay", "x"], &mut out)?;
@@ -110,7 +110,7 @@ fn tells_of_other_words_and_of_lies(rt: HostRuntime) -> Result<(), Fail> {
 }
 
 #[test]
-fn replays_lazily(rt: HostRuntime) -> Result<(), Fail> {
+fn nodes_are_shown_as_they_are_asked_for(rt: HostRuntime) -> Result<(), Fail> {
     let alloc = rt.alloc();
     let mut out = Vec::new(alloc);
     replay(
@@ -138,18 +138,20 @@ fn replays_lazily(rt: HostRuntime) -> Result<(), Fail> {
 }
 
 #[test]
-fn replays_two_documents(rt: HostRuntime) -> Result<(), Fail> {
+fn old_ids_are_unknown_after_a_second_document(rt: HostRuntime) -> Result<(), Fail> {
     let alloc = rt.alloc();
     let mut out = Vec::new(alloc);
     replay(
         alloc,
-        b"{\"load\":{\"document\":[{\"e\":\"html\",\"c\":[{\"e\":\"head\"},{\"e\":\"body\"}]}]}}\n{\"ask\":{\"method\":\"DOM.getDocument\"}}\n{\"ask\":{\"method\":\"DOM.getDocument\"}}\n{\"ask\":{\"method\":\"DOM.requestChildNodes\",\"params\":{\"nodeId\":2}}}\n{\"ask\":{\"method\":\"DOM.requestChildNodes\",\"params\":{\"nodeId\":4}}}\n{\"show\":\"front\"}\n",
+        b"{\"load\":{\"document\":[{\"e\":\"html\",\"c\":[{\"e\":\"head\"},{\"e\":\"body\"}]}]}}\n{\"ask\":{\"method\":\"DOM.getDocument\"}}\n{\"ask\":{\"method\":\"DOM.getDocument\"}}\n{\"ask\":{\"method\":\"DOM.requestChildNodes\",\"params\":{\"nodeId\":2}}}\n{\"ask\":{\"method\":\"DOM.requestChildNodes\",\"params\":{\"nodeId\":4}}}\n{\"show\":\"front\"}\n{\"show\":\"replies\"}\n",
         [0, 0, 0],
         &mut out,
     )?;
-    let want =
-        b"0 \n# front\n3 #document\n  4 <html>\n    5 <head>\n    6 <body>\n# end\n3 #document\n  4 <html>\n    5 <head>\n    6 <body>\n";
-    assert_eq!(rt; out.as_slice(), want.as_slice());
+    let front = b"0 \n# front\n3 #document\n  4 <html>\n    5 <head>\n    6 <body>\n# replies\n1 {";
+    assert!(rt; out.as_slice().starts_with(front));
+    let last =
+        b"\n3 {\"error\":{\"code\":-32000,\"message\":\"unknown node\"},\"id\":3}\n4 {\"id\":4,\"result\":{}}\n# end\n3 #document\n  4 <html>\n    5 <head>\n    6 <body>\n";
+    assert!(rt; out.as_slice().ends_with(last));
 
     let mut deep = nested(alloc, 60)?;
     deep.extend_from_slice(
