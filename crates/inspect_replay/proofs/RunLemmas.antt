@@ -31,7 +31,7 @@ use Rattle.inspect_world.specs.Scripts.{sends, all_told, after_line, after_lines
 use Rattle.back_end.specs.Texts.{HaveTexts}
 use Rattle.inspect_world.specs.ScriptsFit.{ShowsAll}
 use Rattle.inspect_world.specs.Held.{Ends as HeldEnds, InWorld}
-use Rattle.inspect_world.specs.Told.{told_of, told_lines, replies_in}
+use Rattle.inspect_world.specs.ShownReplies.{told_of, told_lines, replies_in}
 use Rattle.inspect_replay.specs.declared.ends.Ends.{Ends}
 use Rattle.inspect_replay.specs.declared.stop.Stop.{Stop}
 use Rattle.inspect_replay.specs.declared.stop.Stop.TheVariants.{Line, TooLong, ReadFault, WriteFault, LinkFault, FrontRefused, Memory}

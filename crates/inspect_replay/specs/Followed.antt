@@ -8,7 +8,7 @@ use Rattle.front_mirror.specs.Front.{FrontValue}
 use Rattle.front_mirror.specs.Outline.{outline_text, seen_line}
 use Rattle.back_end.specs.States.{State}
 use Rattle.inspect_world.specs.Links.{Follows, fold_of}
-use Rattle.inspect_world.specs.Told.{Told, replies_in, reply_id}
+use Rattle.inspect_world.specs.ShownReplies.{ShownReply, replies_in, reply_id}
 use Rattle.inspect_replay.specs.declared.ends.Ends.{Ends}
 use Rattle.inspect_replay.specs.declared.status.Status.{Status}
 use Rattle.inspect_replay.specs.declared.stop.Stop.{Stop}
@@ -44,7 +44,7 @@ pub record EndsShown (before after : Option (List ℕ)) (fold : Result FrontValu
 
 -- The replies that were sent down answer the whole frames that were given up, in their order, each with its frame's id.
 abbrev pub AnswersInOrder : (up0 down0 up down : Pipe) → Type 0
-AnswersInOrder up0 down0 up down = map (λ (t : Told). t.id) (replies_in (sent_since down0 down)) ≡ map reply_id (frames_of (given_since up0 up)).whole
+AnswersInOrder up0 down0 up down = map (λ (t : ShownReply). t.id) (replies_in (sent_since down0 down)) ≡ map reply_id (frames_of (given_since up0 up)).whole
 
 -- Of each pipe no more bytes were given than were sent: a delivery asks for no more than are there.
 abbrev pub GivesNoMore : (up0 down0 up down : Pipe) → Type 0

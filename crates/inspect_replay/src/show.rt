@@ -2,7 +2,7 @@ ghost use Rattle.std.specs.Prelude.{◌≡◌, ◌++◌, ◌∷◌, map, codes, 
 ghost use Rattle.std.specs.Io.KnownBytes.{Appends};
 ghost use Rattle.pipe_frames.specs.Whole.{WrotePart};
 ghost use Rattle.front_mirror.specs.Outline.{outline_text, seen_line};
-ghost use Rattle.inspect_world.specs.Told.{told_of, told_line, told_lines};
+ghost use Rattle.inspect_world.specs.ShownReplies.{told_of, told_line, told_lines};
 ghost use Rattle.inspect_replay.specs.Stops.{HasStopCause, NotRefused};
 
 use crate::stop::Stop;

@@ -24,7 +24,7 @@ use Rattle.inspect_world.specs.Fits.{join, IsNext, IsTurn, replay, ask_in, ask_w
 use Rattle.inspect_world.specs.Scripts.{sends, all_told, loaded_world}
 use Rattle.back_end.specs.Texts.{HaveTexts}
 use Rattle.inspect_world.specs.ScriptsFit.{CanSend}
-use Rattle.inspect_world.specs.Told.{told_of, replies_in}
+use Rattle.inspect_world.specs.ShownReplies.{told_of, replies_in}
 use Rattle.inspect_world.specs.Held.{Ends, good_front, InWorld}
 use Rattle.inspect_world.specs.Carried.{Carries}
 use Rattle.inspect_world.proofs.Frames.{sent-passed, awaited-passed}

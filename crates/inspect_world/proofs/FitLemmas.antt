@@ -1,12 +1,12 @@
 -- The front end and the state of the page keep fitting: what a run needs of the messages.
-use Rattle.std.proofs.Common.{◌≡◌, ◌&&◌, not, cond, ℕ, suc, ◌+◌, ◌*◌, ◌^◌, ◌<◌, ◌≤◌, List, [], ◌∷◌, ◌++◌, length, map, Option, Some, None, true, false, refl, sym, ◌∙◌, ap, subst, length-append, Result, Ok, Err, arith}
-use Rattle.std.proofs.lemmas.List.{map-append}
+use Rattle.std.proofs.Common.{◌≡◌, ℕ, suc, ◌+◌, ◌*◌, ◌^◌, ◌<◌, ◌≤◌, List, [], ◌∷◌, ◌++◌, length, Option, Some, None, true, false, refl, sym, ◌∙◌, ap, subst, length-append, Result, Ok, Err, arith, append-nil}
+use Rattle.std.specs.Option.{option_to_list}
 use Rattle.std.proofs.lemmas.Bool.{eq-eqb}
 use Rattle.node_tree.specs.Nodes.{node_count}
 use Rattle.page_tree.specs.Forms.{max_nodes}
 use Rattle.node_binding.specs.Sessions.{Session}
 use Rattle.node_binding.proofs.StartLemmas.{count-alone}
-use Rattle.pipe_frames.specs.Frames.{Frames, frames_of}
+use Rattle.pipe_frames.specs.Frames.{Frames, framed, frames_of}
 use Rattle.cdp_messages.specs.declared.command.Asked.{Asked}
 use Rattle.cdp_messages.specs.declared.command.Command.{Command}
 use Rattle.cdp_messages.specs.declared.dom_ask.DomAsk.{DomAsk}
@@ -15,19 +15,24 @@ use Rattle.cdp_messages.specs.DomAsks.{as_command, dom_ask_in, ask_name, fits_as
 use Rattle.cdp_messages.specs.declared.command.Why.{Why}
 use Rattle.cdp_messages.specs.declared.command.Why.TheVariants.{NoMethod}
 use Rattle.cdp_messages.specs.declared.command.Refused.{Refused}
-use Rattle.cdp_messages.specs.Asked.{asked, method_name, fits_command}
+use Rattle.cdp_messages.specs.Replies.{message_data, refusal_message, refused_text}
+use Rattle.cdp_messages.specs.Asked.{asked, refusal, method_name, fits_command}
 use Rattle.dom_agent.specs.Requests.{Outcome, refused, state_after}
-use Rattle.dom_agent.specs.Laws.{session_outcome, CanTell}
+use Rattle.dom_agent.specs.Laws.{CanTell}
 use Rattle.front_mirror.specs.declared.replies.Ask.{Ask}
 use Rattle.front_mirror.specs.declared.faults.FrontKind.{FrontKind}
-use Rattle.front_mirror.specs.Front.{FrontValue, take_frame, method_of, without}
+use Rattle.front_mirror.specs.Front.{FrontValue, take_frame, with_message, refused as refused_front, method_of, without}
 use Rattle.inspect_world.specs.World.{Spent}
 use Rattle.inspect_world.specs.Fold.{folded, then, Laws, Leads}
-use Rattle.back_end.specs.States.{Stepped, State, IsState, nodes_in, after_outcome, on_outcome, outcome_of, on_ask, on_asked, step}
-use Rattle.inspect_world.specs.Fits.{join, ask_in, ask_with, with_ask, IsNext, IsTurn, most_drawn, IsFit, replay}
+use Rattle.back_end.specs.States.{Stepped, State, nodes_in, on_outcome, outcome_of, on_ask, on_asked, step}
+use Rattle.inspect_world.specs.Fits.{join, ask_in, ask_with, with_ask, IsBare, Sendable, is_ask, is_bare, asks_among, IsNext, next_ask, next_raw, IsTurn, most_drawn, IsFit, replay}
 use Rattle.cdp_messages.proofs.DomAskLaws.{dom_asks_are_commands}
 use Rattle.back_end.proofs.StateLemmas.{session-after, IsState-after}
 use Rattle.front_mirror.proofs.FoldLemmas.{take_frame-more}
+use Rattle.inspect_world.proofs.AskLemmas.{asks_among-append, sendable-last}
+use Rattle.cdp_messages.proofs.Messages.{refusals_are_read, refusal_plain}
+use Rattle.cdp_messages.proofs.ZeroFree.{texts_have_no_zero}
+use Rattle.pipe_frames.proofs.FrameLemmas.{frames_of-one}
 use Rattle.inspect_world.proofs.Messages.{AskedAs, commanded, refused_as, asked-ask, ask-id}
 use Rattle.inspect_world.proofs.Answered.{Good, good-command, good-refused, Taken, taken, with-refusal}
 
@@ -51,48 +56,69 @@ folded-join ask before after (frame ∷ frames) e =
     ]) refl e
 
 -- the ids that are left are enough for one answer more
-asked_drawn : (pushed frames nodes asks turns : ℕ) → pushed + frames * nodes ≤ (asks + turns) * nodes → pushed + (frames + 1) * nodes ≤ (asks + 1 + turns) * nodes
-asked_drawn pushed frames nodes asks turns h =
+asked_drawn : (pushed frames nodes asks raws turns : ℕ) → pushed + frames * nodes ≤ (asks + raws + turns) * nodes → pushed + (frames + 1) * nodes ≤ (asks + 1 + raws + turns) * nodes
+asked_drawn pushed frames nodes asks raws turns h =
     let left : (frames + 1) * nodes ≡ frames * nodes + nodes = grind arith in
-    let right : (asks + 1 + turns) * nodes ≡ (asks + turns) * nodes + nodes = grind arith in
+    let right : (asks + 1 + raws + turns) * nodes ≡ (asks + raws + turns) * nodes + nodes = grind arith in
     omega (arith, h, left, right)
 
--- an ask that is sent is the last of those that wait
-fit-asked : (n m : Spent) (ask : List ℕ) (front : FrontValue) (state : State) (frames : List (List ℕ))
-    → IsNext n ask m → IsFit n front state frames → IsFit m (join front ask) state (frames ++ ask ∷ [])
-fit-asked n m ask front state frames is_next fit =
-    let joins : join front ask ≡ with_ask front (Some (ask_with is_next.method (n.asks + 1))) = ap (with_ask front) is_next.is in
-    subst (λ k. IsFit k (join front ask) state (frames ++ ask ∷ [])) (sym is_next.next) (record {
+raw_drawn : (pushed frames nodes asks raws turns : ℕ) → pushed + frames * nodes ≤ (asks + raws + turns) * nodes → pushed + (frames + 1) * nodes ≤ (asks + (raws + 1) + turns) * nodes
+raw_drawn pushed frames nodes asks raws turns h =
+    let left : (frames + 1) * nodes ≡ frames * nodes + nodes = grind arith in
+    let right : (asks + (raws + 1) + turns) * nodes ≡ (asks + raws + turns) * nodes + nodes = grind arith in
+    omega (arith, h, left, right)
+
+-- a frame that is sent is the last of those that wait
+fit-asked : (n m : Spent) (text : List ℕ) (front : FrontValue) (state : State) (frames : List (List ℕ))
+    → IsNext n text m → IsFit n front state frames → IsFit m (join front text) state (frames ++ text ∷ [])
+fit-asked n _ text front state frames (next_ask method is few) fit =
+    let joins : join front text ≡ with_ask front (Some (ask_with method (n.asks + 1))) = ap (with_ask front) is in
+    record {
       tree = ap (λ (v : FrontValue). v.tree) joins ∙ fit.tree;
       asks =
-          map-append ask_in frames (ask ∷ [])
-          ∙ ap (λ asks. asks ++ ask_in ask ∷ []) fit.asks
-          ∙ ap (λ last. map Some front.asks ++ last ∷ []) is_next.is
-          ∙ sym (map-append Some front.asks (ask_with is_next.method (n.asks + 1) ∷ []))
-          ∙ ap (λ (v : FrontValue). map Some v.asks) (sym joins);
+          asks_among-append frames (text ∷ [])
+          ∙ ap (λ asks. asks ++ (option_to_list (ask_in text) ++ [])) fit.asks
+          ∙ ap (λ o. front.asks ++ (option_to_list o ++ [])) is
+          ∙ ap (λ (v : FrontValue). v.asks) (sym joins);
+      sendable = sendable-last frames text fit.sendable (is_ask (ask_with method (n.asks + 1)) is);
       is_state = fit.is_state;
-      few = is_next.few;
+      few = few;
+      few_raws = fit.few_raws;
       few_turns = fit.few_turns;
       drawn =
-          subst (λ k. length state.client.session.pushed + k * max_nodes ≤ (n.asks + 1 + n.turns) * max_nodes) (sym (length-append frames (ask ∷ [])))
-          (asked_drawn (length state.client.session.pushed) (length frames) max_nodes n.asks n.turns fit.drawn);
-    })
+          subst (λ k. length state.client.session.pushed + k * max_nodes ≤ (n.asks + 1 + n.raws + n.turns) * max_nodes) (sym (length-append frames (text ∷ [])))
+          (asked_drawn (length state.client.session.pushed) (length frames) max_nodes n.asks n.raws n.turns fit.drawn);
+    }
+fit-asked n _ text front state frames (next_raw bare few) fit =
+    let joins : join front text ≡ front = ap (with_ask front) bare.no_ask in
+    record {
+      tree = ap (λ (v : FrontValue). v.tree) joins ∙ fit.tree;
+      asks =
+          asks_among-append frames (text ∷ [])
+          ∙ ap (λ asks. asks ++ (option_to_list (ask_in text) ++ [])) fit.asks
+          ∙ ap (λ o. front.asks ++ (option_to_list o ++ [])) bare.no_ask
+          ∙ append-nil front.asks
+          ∙ ap (λ (v : FrontValue). v.asks) (sym joins);
+      sendable = sendable-last frames text fit.sendable (is_bare bare);
+      is_state = fit.is_state;
+      few = fit.few;
+      few_raws = few;
+      few_turns = fit.few_turns;
+      drawn =
+          subst (λ k. length state.client.session.pushed + k * max_nodes ≤ (n.asks + (n.raws + 1) + n.turns) * max_nodes) (sym (length-append frames (text ∷ [])))
+          (raw_drawn (length state.client.session.pushed) (length frames) max_nodes n.asks n.raws n.turns fit.drawn);
+    }
 
 -- ---- one frame is answered
 
 -- a frame that is an ask: the first of those that wait
 record First (frame : List ℕ) (frames : List (List ℕ)) (asks : List Ask) : Type 0 where
   pub ask : Ask
-  pub rest : List Ask
-  pub asks_are : asks ≡ ask ∷ rest
   pub is : ask_in frame ≡ Some ask
-  pub others : map ask_in frames ≡ map Some rest
+  pub asks_are : asks ≡ ask ∷ asks_among frames
 
-first-ask : (frame : List ℕ) (frames : List (List ℕ)) (asks : List Ask) → map ask_in (frame ∷ frames) ≡ map Some asks → First frame frames asks
-first-ask frame frames [] e = let no : ◌≡◌ {A = List (Option Ask)} (ask_in frame ∷ map ask_in frames) [] = e in cc
-first-ask frame frames (ask ∷ rest) e =
-    let same : ◌≡◌ {A = List (Option Ask)} (ask_in frame ∷ map ask_in frames) (Some ask ∷ map Some rest) = e in
-    record { ask = ask; rest = rest; asks_are = refl; is = cc; others = cc }
+first-ask : (frame : List ℕ) (frames : List (List ℕ)) (asks : List Ask) (ask : Ask) → asks_among (frame ∷ frames) ≡ asks → ask_in frame ≡ Some ask → First frame frames asks
+first-ask frame frames asks ask e is = record { ask = ask; is = is; asks_are = sym e ∙ ap (λ o. option_to_list o ++ asks_among frames) is }
 
 -- the ask that is first of those that wait is found, and waits no longer
 found : (ask : Ask) (rest : List Ask) → method_of ask.id (ask ∷ rest) ≡ Some ask.method
@@ -102,14 +128,14 @@ gone : (ask : Ask) (rest : List Ask) → without ask.id (ask ∷ rest) ≡ rest
 gone ask rest = rw (eq-eqb ask.id ask.id refl) refl
 
 -- a run is too short to use all ids
-room_left : (pushed others asks turns nodes : ℕ) → asks ≤ 2 ^ 26 → turns ≤ 2 ^ 26 → pushed + suc others * 100000 ≤ (asks + turns) * 100000 → nodes ≤ 100000
+room_left : (pushed others asks raws turns nodes : ℕ) → asks ≤ 2 ^ 26 → raws ≤ 2 ^ 26 → turns ≤ 2 ^ 26 → pushed + suc others * 100000 ≤ (asks + raws + turns) * 100000 → nodes ≤ 100000
     → pushed + nodes < 2 ^ 53
-room_left pushed others asks turns nodes few few_turns h count = omega arith
+room_left pushed others asks raws turns nodes few few_raws few_turns h count = omega arith
 
 can-tell : (n : Spent) (frame : List ℕ) (front : FrontValue) (state : State) (frames : List (List ℕ)) → IsFit n front state (frame ∷ frames) → CanTell state.side.page state.client.session
 can-tell n frame front state frames fit = record {
   serials = let h : state.side.page.next ≤ 2 ^ 52 = fit.is_state.serials in omega (arith, h);
-  ids = room_left (length state.client.session.pushed) (length frames) n.asks n.turns (node_count (nodes_in state)) fit.few fit.few_turns fit.drawn
+  ids = room_left (length state.client.session.pushed) (length frames) n.asks n.raws n.turns (node_count (nodes_in state)) fit.few fit.few_raws fit.few_turns fit.drawn
       (count-alone state.side.page fit.is_state.page);
   texts = fit.is_state.texts;
 }
@@ -132,9 +158,11 @@ answers-taken n frame front state frames first command o fit is good t =
       is_fold = ap (λ (fs : Frames). folded take_frame front fs.whole) out ∙ t.is_fold;
       fit = subst (λ (d : Stepped State). IsFit n t.after d.state frames) (sym is) (record {
         tree = t.tree;
-        asks = first.others ∙ ap (map Some) (sym (t.asks ∙ ap (without first.ask.id) first.asks_are ∙ gone first.ask first.rest));
+        asks = sym (t.asks ∙ ap (without first.ask.id) first.asks_are ∙ gone first.ask (asks_among frames));
+        sendable = fit.sendable.1;
         is_state = IsState-after state o fit.is_state good.session;
         few = fit.few;
+        few_raws = fit.few_raws;
         few_turns = fit.few_turns;
         drawn = subst (λ (w : Session). length w.pushed + length frames * max_nodes ≤ most_drawn n) (sym (session-after state o)) drawn;
       });
@@ -150,7 +178,7 @@ answers-ask n frame front state frames ask fit first is method_is fits =
     let id = first.ask.id in
     let o : Outcome Session = outcome_of (Some ask) state in
     let good : Good state ask o = good-command state ask fit.is_state.page fit.is_state.session fits (can-tell n frame front state frames fit) in
-    let waits : method_of id front.asks ≡ Some (ask_name ask) = ap (method_of id) first.asks_are ∙ found first.ask first.rest ∙ ap Some method_is in
+    let waits : method_of id front.asks ≡ Some (ask_name ask) = ap (method_of id) first.asks_are ∙ found first.ask (asks_among frames) ∙ ap Some method_is in
     answers-taken n frame front state frames first ask o fit is good
     (taken id ask o front state good (ask-id frame first.ask first.is) fit.tree waits)
 
@@ -161,7 +189,7 @@ answers-refused : (n : Spent) (frame : List ℕ) (front : FrontValue) (state : S
     → Leads take_frame (IsFit n) front (step state frame) frames
 answers-refused n frame front state frames why fit first is =
     let id = first.ask.id in
-    let waits : method_of id front.asks ≡ Some first.ask.method = ap (method_of id) first.asks_are ∙ found first.ask first.rest in
+    let waits : method_of id front.asks ≡ Some first.ask.method = ap (method_of id) first.asks_are ∙ found first.ask (asks_among frames) in
     let any : DomAsk = PushByPath [] in
     answers-taken n frame front state frames first any (refused why) fit is
     (good-refused state any why fit.is_state.session)
@@ -193,12 +221,46 @@ by-asked n frame front state frames fit first _ (commanded command method_is fit
 by-asked n frame front state frames fit first _ (refused_as why) is =
     answers-refused n frame front state frames why fit first (ap (λ result. on_asked result state) is)
 
+-- a bare frame gets an error reply without an id, which the front end keeps
+bare_drawn : (pushed others most : ℕ) → pushed + suc others * 100000 ≤ most → pushed + others * 100000 ≤ most
+bare_drawn pushed others most h = omega (arith, h)
+
+answers-bare : (n : Spent) (frame : List ℕ) (front : FrontValue) (state : State) (frames : List (List ℕ))
+    → IsFit n front state (frame ∷ frames) → IsBare frame → Leads take_frame (IsFit n) front (step state frame) frames
+answers-bare n frame front state frames fit bare =
+    let r : Refused = refusal None bare.why in
+    let text = refused_text r in
+    let is : step state frame ≡ record { state = state; sent = framed text } = ap (λ result. on_asked result state) bare.refused in
+    let out : frames_of (step state frame).sent ≡ record { whole = text ∷ []; rest = [] } =
+    ap (λ (d : Stepped State). frames_of d.sent) is ∙ frames_of-one text (texts_have_no_zero (message_data (refusal_message r)) (refusal_plain r refl)) in
+    record {
+      after = refused_front front text;
+      is_fold =
+          ap (λ (fs : Frames). folded take_frame front fs.whole) out
+          ∙ ap (λ m. then (with_message front text m) (λ next. folded take_frame next [])) (refusals_are_read r refl);
+      fit = subst (λ (d : Stepped State). IsFit n (refused_front front text) d.state frames) (sym is) (record {
+        tree = fit.tree;
+        asks = sym (ap (λ o. option_to_list o ++ asks_among frames) bare.no_ask) ∙ fit.asks;
+        sendable = fit.sendable.1;
+        is_state = fit.is_state;
+        few = fit.few;
+        few_raws = fit.few_raws;
+        few_turns = fit.few_turns;
+        drawn = bare_drawn (length state.client.session.pushed) (length frames) (most_drawn n) fit.drawn;
+      });
+      whole = ap (λ (fs : Frames). fs.rest) out;
+    }
+
 -- what a step sends takes the front along
 fit-answered : (n : Spent) (frame : List ℕ) (front : FrontValue) (state : State) (frames : List (List ℕ))
     → IsFit n front state (frame ∷ frames) → Leads take_frame (IsFit n) front (step state frame) frames
-fit-answered n frame front state frames fit =
-    let first : First frame frames front.asks = first-ask frame frames front.asks fit.asks in
-    by-asked n frame front state frames fit first (asked frame false) (asked-ask frame first.ask first.is) refl
+fit-answered n frame front state frames fit = at fit.sendable.0
+  where
+    at : Sendable frame → Leads take_frame (IsFit n) front (step state frame) frames
+    at (is_ask ask is) =
+        let first : First frame frames front.asks = first-ask frame frames front.asks ask fit.asks is in
+        by-asked n frame front state frames fit first (asked frame false) (asked-ask frame first.ask first.is) refl
+    at (is_bare bare) = answers-bare n frame front state frames fit bare
 
 pub world_laws : Laws replay IsNext IsTurn IsFit
 world_laws = record { later = folded-join; asks = fit-asked; answers = fit-answered; turns = λ n x front state frames is_turn fit. absurd x }

@@ -1,6 +1,7 @@
 pub mod Frames
 pub mod Folds
 pub mod Worlds
+pub mod AskLemmas
 pub mod Pipes
 pub mod Replies
 pub mod Messages

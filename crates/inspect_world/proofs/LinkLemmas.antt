@@ -1,5 +1,5 @@
 -- The ends follow every link, whatever bytes it gives.
-use Rattle.std.proofs.Common.{Option, ◌≡◌, refl, Bool, true, false, not, ◌&&◌, cond, ℕ, ◌+◌, ◌^◌, ◌<◌, ◌≤◌, List, [], ◌∷◌, ◌++◌, length, map, drop, Some, None, sym, ◌∙◌, ap, subst, append_assoc, append-nil, length-append, Result, Ok, Err, arith}
+use Rattle.std.proofs.Common.{Option, ◌≡◌, refl, Bool, true, false, ℕ, ◌+◌, ◌^◌, ◌<◌, ◌≤◌, List, [], ◌∷◌, ◌++◌, length, map, drop, Some, None, sym, ◌∙◌, ap, subst, append_assoc, append-nil, length-append, Result, Ok, Err, arith}
 use Rattle.std.specs.Option.{option_to_list}
 use Rattle.std.proofs.Math.Seq.{drop-append_seam}
 use Rattle.std.proofs.lemmas.List.{map-append}
@@ -24,8 +24,8 @@ use Rattle.cdp_messages.specs.DomAsks.{as_command, dom_ask_in, ask_name, fits_as
 use Rattle.cdp_messages.proofs.DomAskLaws.{dom_asks_are_commands}
 use Rattle.cdp_messages.specs.Asked.{asked, command_text, fits_command}
 use Rattle.cdp_messages.specs.Replies.{message_data, refusal_message, refused_text}
-use Rattle.dom_agent.specs.Requests.{Outcome, refused}
-use Rattle.dom_agent.specs.Laws.{session_outcome, CanTell}
+use Rattle.dom_agent.specs.Requests.{Outcome}
+use Rattle.dom_agent.specs.Laws.{CanTell}
 use Rattle.front_mirror.specs.declared.replies.Ask.{Ask}
 use Rattle.front_mirror.specs.declared.faults.FrontFault.{FrontFault}
 use Rattle.front_mirror.specs.Front as front
@@ -33,13 +33,13 @@ use Rattle.front_mirror.specs.Front.{FrontValue, FrontState, Folded, first_value
 use Rattle.front_mirror.specs.Laws as front_laws
 use Rattle.replay_script.specs.Forms.{AskForm}
 use Rattle.inspect_world.specs.World.{steps}
-use Rattle.back_end.specs.States.{State, nodes_in, view_of, loaded_state, outcome_of, on_ask, on_asked, on_outcome, step, Stepped, IsState}
-use Rattle.inspect_world.specs.Fits.{ask_in, ask_with}
+use Rattle.back_end.specs.States.{State, nodes_in, view_of, loaded_state, outcome_of, on_ask, on_asked, step, Stepped, IsState}
+use Rattle.inspect_world.specs.Fits.{ask_in, ask_with, asks_among}
 use Rattle.inspect_world.specs.Held.{Ends, good_front}
-use Rattle.inspect_world.specs.Links.{asks_among, fold_of, GoesOn, Follows}
+use Rattle.inspect_world.specs.Links.{fold_of, GoesOn, Follows}
 use Rattle.back_end.specs.Texts.{HaveTexts}
 use Rattle.inspect_world.specs.ScriptsFit.{CanSend}
-use Rattle.inspect_world.specs.Told.{Told, told_of, told_by, replies_among, replies_in, id_asked, reply_id}
+use Rattle.inspect_world.specs.ShownReplies.{ShownReply, told_of, told_by, replies_among, replies_in, id_asked, reply_id}
 use Rattle.inspect_world.proofs.Answered.{Good, good-command, Taken, taken}
 use Rattle.back_end.proofs.StateLemmas.{IsState-after}
 use Rattle.cdp_messages.proofs.Messages.{refusals_are_read, refusal_plain}
@@ -49,6 +49,7 @@ use Rattle.back_end.proofs.AskedLemmas.{frame-fits, AskedFits}
 use Rattle.inspect_world.proofs.Messages.{IsText-sent, ask_in-sent}
 use Rattle.inspect_world.proofs.Replies.{replies-folded, replies_among-append}
 use Rattle.inspect_world.proofs.Scripts.{IsState-first}
+use Rattle.inspect_world.proofs.AskLemmas.{asks_among-append}
 use Rattle.inspect_world.proofs.Worlds.{whole-after, rest-after}
 
 -- ---- what a step sends
@@ -57,7 +58,7 @@ use Rattle.inspect_world.proofs.Worlds.{whole-after, rest-after}
 pub record Sends (state : State) (frame : List ℕ) : Type 0 where
   pub texts : List (List ℕ)
   pub frames_are : frames_of (step state frame).sent ≡ record { whole = texts; rest = [] }
-  pub ids_are : map (λ (t : Told). t.id) (replies_among texts) ≡ reply_id frame ∷ []
+  pub ids_are : map (λ (t : ShownReply). t.id) (replies_among texts) ≡ reply_id frame ∷ []
   pub is_state : IsState (step state frame).state
 
 -- a state that has room for another command
@@ -84,7 +85,7 @@ sends-ask state frame id ask is room counted fits is_step id_is =
     record {
       texts = t.texts;
       frames_are = ap (λ (d : Stepped State). frames_of d.sent) is_step ∙ t.frames_are;
-      ids_are = ap (map (λ (x : Told). x.id)) kept ∙ ap (λ id. id ∷ []) (t.id_is ∙ id_is);
+      ids_are = ap (map (λ (x : ShownReply). x.id)) kept ∙ ap (λ id. id ∷ []) (t.id_is ∙ id_is);
       is_state = subst (λ (d : Stepped State). IsState d.state) (sym is_step) (IsState-after state o is good.session);
     }
 
@@ -97,7 +98,7 @@ sends-refusal state frame r is counted is_step id_is =
       frames_are =
           ap (λ (d : Stepped State). frames_of d.sent) is_step
           ∙ frames_of-one text (texts_have_no_zero (message_data (refusal_message r)) (refusal_plain r counted));
-      ids_are = ap (λ m. map (λ (x : Told). x.id) (told_by text m ++ [])) (refusals_are_read r counted) ∙ ap (λ id. id ∷ []) id_is;
+      ids_are = ap (λ m. map (λ (x : ShownReply). x.id) (told_by text m ++ [])) (refusals_are_read r counted) ∙ ap (λ id. id ∷ []) id_is;
       is_state = subst (λ (d : Stepped State). IsState d.state) (sym is_step) is;
     }
 
@@ -161,12 +162,6 @@ pub given_since-is : (start now : Pipe) (sent given : List ℕ) → GoesOn start
 given_since-is start now sent given goes = ap (drop (length start.given)) goes.given_is ∙ drop-append_seam start.given given
 
 -- ---- asks
-
-asks_among-append : (first second : List (List ℕ)) → asks_among (first ++ second) ≡ asks_among first ++ asks_among second
-asks_among-append [] second = refl
-asks_among-append (frame ∷ first) second =
-    ap (λ asks. option_to_list (ask_in frame) ++ asks) (asks_among-append first second)
-    ∙ sym (append_assoc (option_to_list (ask_in frame)) (asks_among first) (asks_among second))
 
 -- asks more change nothing of what is folded meanwhile
 pub record Folds (waiting : List Ask) (down : List ℕ) : Type 0 where
@@ -350,10 +345,10 @@ module _ (state0 : State) (up0 down0 : Pipe) where
             ∙ ap (λ bytes. bytes ++ (step old frame).sent) f.sent_is
             ∙ sym (steps-last-sent step state0 f.answered frame);
         replies_are =
-            ap (λ fs. map (λ (t : Told). t.id) (replies_among fs)) more
-            ∙ ap (map (λ (t : Told). t.id)) (replies_among-append (frames_of f.sent_down).whole s.texts)
-            ∙ map-append (λ (t : Told). t.id) (replies_in f.sent_down) (replies_among s.texts)
-            ∙ ap (λ ids. ids ++ map (λ (t : Told). t.id) (replies_among s.texts)) f.replies_are
+            ap (λ fs. map (λ (t : ShownReply). t.id) (replies_among fs)) more
+            ∙ ap (map (λ (t : ShownReply). t.id)) (replies_among-append (frames_of f.sent_down).whole s.texts)
+            ∙ map-append (λ (t : ShownReply). t.id) (replies_in f.sent_down) (replies_among s.texts)
+            ∙ ap (λ ids. ids ++ map (λ (t : ShownReply). t.id) (replies_among s.texts)) f.replies_are
             ∙ ap (λ ids. map reply_id f.answered ++ ids) s.ids_are
             ∙ sym (map-append reply_id f.answered (frame ∷ []));
         down_whole = rest-after f.sent_down out f.down_whole ∙ ap (λ (fs : Frames). fs.rest) out_frames;
@@ -459,9 +454,9 @@ module _ (state0 : State) (up0 down0 : Pipe) where
 
   -- the replies that were sent down answer the frames that were given up, in their order
   pub follows-replies : (up down : Pipe) (e : Ends) → Follows state0 up0 down0 up down [] e
-      → map (λ (t : Told). t.id) (replies_in (sent_since down0 down)) ≡ map reply_id (frames_of (given_since up0 up)).whole
+      → map (λ (t : ShownReply). t.id) (replies_in (sent_since down0 down)) ≡ map reply_id (frames_of (given_since up0 up)).whole
   follows-replies up down e f =
-      ap (λ bytes. map (λ (t : Told). t.id) (replies_in bytes)) (sent_since-is down0 down f.sent_down f.given_down f.down_is)
+      ap (λ bytes. map (λ (t : ShownReply). t.id) (replies_in bytes)) (sent_since-is down0 down f.sent_down f.given_down f.down_is)
       ∙ f.replies_are
       ∙ ap (map reply_id) (sym (append-nil f.answered) ∙ sym f.frames_are)
       ∙ ap (λ bytes. map reply_id (frames_of bytes).whole) (sym (given_since-is up0 up f.sent_up f.given_up f.up_is))

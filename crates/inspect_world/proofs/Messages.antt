@@ -16,7 +16,7 @@ use Rattle.cdp_json.specs.Lookups.{then_ok}
 use Rattle.front_mirror.specs.declared.replies.Ask.{Ask}
 use Rattle.replay_script.specs.Forms.{AskForm}
 use Rattle.inspect_world.specs.World.{Spent, one_ask}
-use Rattle.inspect_world.specs.Fits.{ask_of, ask_in, ask_with, most_asks, IsNext}
+use Rattle.inspect_world.specs.Fits.{ask_of, ask_in, ask_with, most_asks, IsNext, next_ask}
 use Rattle.inspect_world.specs.ScriptsFit.{CanSend}
 use Rattle.cdp_json.proofs.Options.{and_then_some}
 use Rattle.back_end.proofs.AskedLemmas.{whole-is}
@@ -49,7 +49,7 @@ ask_in-sent id a can small =
 
 pub IsNext-sent : (n : Spent) (a : AskForm) → CanSend a → n.asks + 1 ≤ most_asks → n.asks + 1 < 2 ^ 53
     → IsNext n (command_text (n.asks + 1) a.method a.params a.session) (one_ask n)
-IsNext-sent n a can few small = record { method = a.method; is = ask_in-sent (n.asks + 1) a can small; next = refl; few = few }
+IsNext-sent n a can few small = next_ask a.method (ask_in-sent (n.asks + 1) a can small) few
 
 -- ---- what the back end reads in an ask
 

@@ -16,10 +16,10 @@ use Rattle.front_mirror.specs.declared.faults.FrontKind.TheVariants.{NotMessage,
 use Rattle.front_mirror.specs.Front.{FrontValue, first_value, take_frame, method_of, replied, refused, with_root, root_fault, with_body, with_reply, with_fault, with_tree, with_children, children_fault, with_news, with_message}
 use Rattle.inspect_world.specs.Fold.{folded, joined, then}
 use Rattle.inspect_world.specs.Fits.{join, with_ask, ask_in}
-use Rattle.inspect_world.specs.Told.{Told, told_of, told_by, replies_among}
+use Rattle.inspect_world.specs.ShownReplies.{ShownReply, told_of, told_by, replies_among}
 
 -- the front has kept these replies more
-abbrev Keeps : FrontValue → List Told → FrontValue → Type 0
+abbrev Keeps : FrontValue → List ShownReply → FrontValue → Type 0
 Keeps v ts w = map told_of w.replies ≡ map told_of v.replies ++ ts
 
 refuses : {P : Type 0} (kind : FrontKind) (w : FrontValue) → ◌≡◌ {A = Result FrontValue FrontKind} (Err kind) (Ok w) → P

@@ -1,5 +1,5 @@
 -- The streams of a script fit the state of the page, line by line.
-use Rattle.std.proofs.Common.{◌≡◌, ℕ, zero, suc, ◌+◌, ◌^◌, ◌<◌, ◌≤◌, List, [], ◌∷◌, ◌++◌, length, take, map, append-nil, Option, Some, Ok, refl, sym, ◌∙◌, ap, arith}
+use Rattle.std.proofs.Common.{◌≡◌, ℕ, zero, suc, ◌+◌, ◌^◌, ◌<◌, ◌≤◌, List, [], ◌∷◌, ◌++◌, length, take, append-nil, Ok, refl, sym, ◌∙◌, ap, arith}
 use Rattle.std.proofs.lemmas.List.{drop_all}
 use Rattle.std.proofs.lemmas.Str.{IsUtf8-nil}
 use Rattle.node_tree.specs.Nodes.{Nodes, none, node, node_count}
@@ -13,18 +13,17 @@ use Rattle.dom_agent.specs.Laws.{RowsHaveUtf8}
 use Rattle.front_mirror.specs.Front.{first_value, take_frame}
 use Rattle.replay_script.specs.Forms.{AskForm, LineForm, load, ask, up, down, settle, show_front, show_replies}
 use Rattle.pipe_frames.specs.Frames.{frames_of, frames_from}
-use Rattle.front_mirror.specs.declared.replies.Ask.{Ask}
 use Rattle.inspect_world.specs.Stream.{Stream, sent, passed, held, awaited}
 use Rattle.inspect_world.specs.Fold.{folded, joined}
-use Rattle.inspect_world.specs.World.{World, nothing_spent, delivered_up, settled}
+use Rattle.inspect_world.specs.World.{World, nothing_spent, one_raw, delivered_up, settled}
 use Rattle.back_end.specs.States.{State, nodes_in, loaded_state, step, IsState}
-use Rattle.inspect_world.specs.Fits.{join, ask_in, IsNext, IsTurn, IsFit, replay, Fits}
+use Rattle.inspect_world.specs.Fits.{join, asks_among, IsNext, next_raw, IsTurn, IsFit, replay, Fits}
 use Rattle.inspect_world.specs.Scripts.{sends, after_line, after_lines, loaded_world}
 use Rattle.back_end.specs.Texts.{HaveTexts}
-use Rattle.inspect_world.specs.ScriptsFit.{CanSend, IsLater, AreLater, LinesFit, DeliveriesFit, SettledShows}
+use Rattle.inspect_world.specs.ScriptsFit.{CanSend, IsLater, AreLater, LinesFit, BareFramesFit, DeliveriesFit, SettledShows}
 use Rattle.inspect_world.proofs.Messages.{IsText-sent, IsNext-sent}
 use Rattle.inspect_world.proofs.Replies.{replies-of}
-use Rattle.inspect_world.proofs.Worlds.{fits-first, fits-asked, fits-delivered_up, fits-delivered_down, fits-settled}
+use Rattle.inspect_world.proofs.Worlds.{fits-first, fits-sent_up, fits-asked, fits-delivered_up, fits-delivered_down, fits-settled}
 use Rattle.inspect_world.proofs.FitLemmas.{world_laws}
 
 -- ---- the start
@@ -45,8 +44,10 @@ fit-first : (nodes : Nodes Label) → CanLoad nodes → HaveTexts nodes → IsFi
 fit-first nodes can texts = record {
   tree = refl;
   asks = refl;
+  sendable = tt;
   is_state = IsState-first nodes can texts;
   few = omega arith;
+  few_raws = omega arith;
   few_turns = omega arith;
   drawn = omega arith;
 }
@@ -98,6 +99,12 @@ fits-lines (suc n) (line ∷ lines) w later few fits =
 pub lines-fit : LinesFit
 lines-fit nodes lines can texts later few n = fits-lines n lines (loaded_world nodes) later (omega (arith, few)) (fits-loaded nodes can texts)
 
+-- ---- frames that name no ask
+
+pub bare-frames-fit : BareFramesFit
+bare-frames-fit w text letters bare few fits =
+    fits-sent_up replay IsNext IsTurn IsFit world_laws (first_value []) text one_raw w letters (next_raw bare few) fits
+
 -- ---- deliveries
 
 pub deliveries-fit : DeliveriesFit
@@ -118,10 +125,6 @@ awaited-none : (s : Stream) → s.flying ≡ [] → held s ≡ [] → awaited s 
 unfolding frames_of
 awaited-none s still empty = ap (λ bytes. frames_from (held s) bytes) still ∙ ap (λ rest. frames_from rest []) empty
 
-no_asks : (asks : List Ask) → map Some asks ≡ [] → asks ≡ []
-no_asks [] e = refl
-no_asks (first ∷ asks) e = let no : ◌≡◌ {A = List (Option Ask)} (Some first ∷ map Some asks) [] = e in absurd cc
-
 pub settled-shows : SettledShows
 settled-shows w fits =
     let w' = settled step w in
@@ -139,6 +142,6 @@ settled-shows w fits =
       is_fold = given_fold;
       shows = all.fit.tree;
       told = replies-of (frames_of w'.up.given).whole (frames_of w'.down.given).whole all.front given_fold;
-      waits = no_asks all.front.asks (sym all.fit.asks ∙ ap (map ask_in) awaits);
+      waits = sym all.fit.asks ∙ ap asks_among awaits;
       whole = ap (λ bytes. (frames_of bytes).rest) (sym (sent-all w'.down down_none)) ∙ all.down_whole;
     }

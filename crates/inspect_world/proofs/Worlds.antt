@@ -4,7 +4,7 @@ use Rattle.pipe_frames.specs.Frames.{IsText, framed, frames_of, frames_from, hel
 use Rattle.pipe_frames.proofs.FrameLemmas.{frames_of-append, frames_of-one, frames_from-append}
 use Rattle.inspect_world.specs.Stream.{Stream, sent, put, passed, held, arriving, awaited}
 use Rattle.back_end.specs.States.{Stepped}
-use Rattle.inspect_world.specs.World.{World, Spent, nothing_spent, one_ask, one_turn, first_world, steps, asked, turned, answered, given_up, delivered_up, delivered_down, settled}
+use Rattle.inspect_world.specs.World.{World, Spent, nothing_spent, one_ask, one_turn, first_world, steps, sent_up, asked, turned, answered, given_up, delivered_up, delivered_down, settled}
 use Rattle.inspect_world.specs.Fold.{folded, joined, then, Machine, Laws, Leads, FitsWith, Fits}
 use Rattle.inspect_world.proofs.Frames.{rest-sent, sent-passed, awaited-passed}
 use Rattle.inspect_world.proofs.Folds.{folded-append, joined-append}
@@ -44,34 +44,39 @@ module _ {S F E X : Type 0} (machine : Machine S F E X) (IsNext : Spent → List
   unfolding frames_of
   fits-first start state fit = record { front = start; is_fold = refl; fit = fit; up_whole = refl; down_whole = refl }
 
-  -- an ask is sent
-  pub fits-asked : (start : F) (ask : List ℕ) (w : World S) → IsText ask → IsNext w.spent ask (one_ask w.spent)
-      → Fits machine.take machine.join Fit start w → Fits machine.take machine.join Fit start (asked ask w)
-  fits-asked start ask w letters is_ask fits =
-      let more : (frames_of (sent (asked ask w).up)).whole ≡ (frames_of (sent w.up)).whole ++ ask ∷ [] =
+  -- a frame is sent
+  pub fits-sent_up : (start : F) (ask : List ℕ) (more : Spent → Spent) (w : World S) → IsText ask → IsNext w.spent ask (more w.spent)
+      → Fits machine.take machine.join Fit start w → Fits machine.take machine.join Fit start (sent_up ask more w)
+  fits-sent_up start ask more w letters is_next fits =
+      let all : (frames_of (sent (sent_up ask more w).up)).whole ≡ (frames_of (sent w.up)).whole ++ ask ∷ [] =
       ap (λ bytes. (frames_of bytes).whole) (sym (append_assoc w.up.given w.up.flying (framed ask)))
       ∙ whole-after (sent w.up) (framed ask) fits.up_whole
       ∙ ap (λ fs. (frames_of (sent w.up)).whole ++ fs.whole) (frames_of-one ask letters) in
       let none : held_after (held w.up) w.up.flying ≡ [] = sym (rest-sent w.up) ∙ fits.up_whole in
-      let last : awaited (asked ask w).up ≡ awaited w.up ++ ask ∷ [] =
+      let last : awaited (sent_up ask more w).up ≡ awaited w.up ++ ask ∷ [] =
       frames_from-append (held w.up) w.up.flying (framed ask)
       ∙ ap (λ rest. awaited w.up ++ frames_from rest (framed ask)) none
       ∙ ap (λ fs. awaited w.up ++ fs.whole) (frames_of-one ask letters) in
       record {
         front = machine.join fits.front ask;
         is_fold =
-            ap (λ asks. folded machine.take (joined machine.join start asks) (frames_of (sent w.down)).whole) more
+            ap (λ asks. folded machine.take (joined machine.join start asks) (frames_of (sent w.down)).whole) all
             ∙ ap (λ front. folded machine.take front (frames_of (sent w.down)).whole)
             (joined-append machine.join start (frames_of (sent w.up)).whole (ask ∷ []))
             ∙ laws.later ask (joined machine.join start (frames_of (sent w.up)).whole) fits.front (frames_of (sent w.down)).whole fits.is_fold;
-        fit = subst (λ frames. Fit (one_ask w.spent) (machine.join fits.front ask) w.state frames) (sym last)
-            (laws.asks w.spent (one_ask w.spent) ask fits.front w.state (awaited w.up) is_ask fits.fit);
+        fit = subst (λ frames. Fit (more w.spent) (machine.join fits.front ask) w.state frames) (sym last)
+            (laws.asks w.spent (more w.spent) ask fits.front w.state (awaited w.up) is_next fits.fit);
         up_whole =
             ap (λ bytes. (frames_of bytes).rest) (sym (append_assoc w.up.given w.up.flying (framed ask)))
             ∙ rest-after (sent w.up) (framed ask) fits.up_whole
             ∙ ap (λ fs. fs.rest) (frames_of-one ask letters);
         down_whole = fits.down_whole;
       }
+
+  -- an ask is sent
+  pub fits-asked : (start : F) (ask : List ℕ) (w : World S) → IsText ask → IsNext w.spent ask (one_ask w.spent)
+      → Fits machine.take machine.join Fit start w → Fits machine.take machine.join Fit start (asked ask w)
+  fits-asked start ask w letters is_ask fits = fits-sent_up start ask one_ask w letters is_ask fits
 
   -- bytes are given up: the frames that become whole are the first that wait
   pub fits-given_up : (start : F) (n : ℕ) (w : World S) → Fits machine.take machine.join Fit start w

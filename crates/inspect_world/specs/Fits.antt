@@ -1,14 +1,16 @@
 -- A front end that shows the state of the page, and waits for the answers that are to come.
-use Rattle.std.specs.Prelude.{⊤, ◌≡◌, ◌≤◌, ℕ, ◌+◌, ◌*◌, ◌^◌, List, [], ◌∷◌, ◌++◌, length, map, Option, Some, None, option_and_then, codes}
+use Rattle.std.specs.Prelude.{⊤, ◌≡◌, ◌≤◌, ℕ, ◌+◌, ◌*◌, ◌^◌, List, [], ◌∷◌, ◌++◌, length, Option, Some, None, option_and_then, codes, false, Err}
 use Rattle.serde_json.specs.Data.{Members}
 use Rattle.serde_json.specs.Find.{get_member, as_str, as_object}
 use Rattle.cdp_json.specs.Kinds.{as_whole}
 use Rattle.page_tree.specs.Forms.{max_nodes}
-use Rattle.cdp_messages.specs.Asked.{json_of}
+use Rattle.cdp_messages.specs.declared.command.Why.{Why}
+use Rattle.cdp_messages.specs.Asked.{json_of, refusal, asked}
+use Rattle.std.specs.Option.{option_to_list}
 use Rattle.front_mirror.specs.declared.replies.Ask.{Ask}
 use Rattle.front_mirror.specs.declared.faults.FrontKind.{FrontKind}
 use Rattle.front_mirror.specs.Front.{FrontValue, first_value, take_frame}
-use Rattle.inspect_world.specs.World.{World, Spent, one_ask}
+use Rattle.inspect_world.specs.World.{World, Spent, one_ask, one_raw}
 use Rattle.back_end.specs.States.{State, IsState, view_of, step}
 use Rattle.inspect_world.specs.Fold.{Machine}
 use Rattle.inspect_world.specs.Fold as fold
@@ -44,28 +46,49 @@ join v frame = with_ask v (ask_in frame)
 abbrev pub most_asks : ℕ
 most_asks = 2 ^ 26
 
--- After n the text may be sent as the next ask, and m is then spent.
-pub record IsNext (n : Spent) (text : List ℕ) (m : Spent) : Type 0 where
-  pub method : List ℕ
-  pub is : ask_in text ≡ Some (ask_with method (n.asks + 1))
-  pub next : m ≡ one_ask n
-  pub few : n.asks + 1 ≤ most_asks
+-- a frame that names no ask, and to which the back end answers with an error reply without an id
+pub record IsBare (frame : List ℕ) : Type 0 where
+  pub no_ask : ask_in frame ≡ None
+  pub why : Why
+  pub refused : asked frame false ≡ Err (refusal None why)
+
+-- a frame that a front end may send: an ask, or a bare one
+pub data Sendable (frame : List ℕ) : Type 0 where
+  is_ask : (ask : Ask) → ask_in frame ≡ Some ask → Sendable frame
+  is_bare : IsBare frame → Sendable frame
+
+-- frames each of which may be sent
+abbrev pub AreSendable : List (List ℕ) → Type 0
+AreSendable [] = ⊤
+AreSendable (frame ∷ frames) = Sendable frame × AreSendable frames
+
+-- the asks that stand in frames
+abbrev pub asks_among : List (List ℕ) → List Ask
+asks_among [] = []
+asks_among (frame ∷ frames) = option_to_list (ask_in frame) ++ asks_among frames
+
+-- After n the text may be sent, as the next ask or as a bare frame, and m is then spent.
+pub data IsNext (n : Spent) (text : List ℕ) : Spent → Type 0 where
+  next_ask : (method : List ℕ) → ask_in text ≡ Some (ask_with method (n.asks + 1)) → n.asks + 1 ≤ most_asks → IsNext n text (one_ask n)
+  next_raw : IsBare text → n.raws + 1 ≤ most_asks → IsNext n text (one_raw n)
 
 -- the script makes no step by itself so far
 abbrev pub IsTurn : Spent → ⊥ → Type 0
 IsTurn n x = ⊤
 
--- how many ids may have been drawn: an ask and a step of the script make at most all nodes of a page known
+-- how many ids may have been drawn: a frame and a step of the script make at most all nodes of a page known
 abbrev pub most_drawn : Spent → ℕ
-most_drawn n = (n.asks + n.turns) * max_nodes
+most_drawn n = (n.asks + n.raws + n.turns) * max_nodes
 
--- After n was spent the front shows exactly what the state's client sees, and waits for the answers to these frames alone.
+-- After n was spent the front shows exactly what the state's client sees, and waits for the asks among these frames alone.
 -- Enough ids are left for these answers.
 pub record IsFit (n : Spent) (v : FrontValue) (state : State) (frames : List (List ℕ)) : Type 0 where
   pub tree : v.tree ≡ view_of state
-  pub asks : map ask_in frames ≡ map Some v.asks
+  pub asks : asks_among frames ≡ v.asks
+  pub sendable : AreSendable frames
   pub is_state : IsState state
   pub few : n.asks ≤ most_asks
+  pub few_raws : n.raws ≤ most_asks
   pub few_turns : n.turns ≤ most_asks
   pub drawn : length state.client.session.pushed + length frames * max_nodes ≤ most_drawn n
 

@@ -4,7 +4,7 @@ pub mod Fold
 pub mod Carried
 pub mod Fits
 pub mod Held
-pub mod Told
+pub mod ShownReplies
 pub mod Scripts
 pub mod ScriptsFit
 pub mod Links

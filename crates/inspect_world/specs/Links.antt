@@ -1,22 +1,15 @@
 -- What holds over every link, whatever bytes it gives.
-use Rattle.std.specs.Prelude.{◌≡◌, ℕ, ◌+◌, List, [], ◌∷◌, ◌++◌, length, map, Result, Ok}
-use Rattle.std.specs.Option.{option_to_list}
+use Rattle.std.specs.Prelude.{◌≡◌, ℕ, ◌+◌, List, [], ◌++◌, length, map, Result, Ok}
 use Rattle.node_binding.specs.Bindings.{Stands}
 use Rattle.pipe_frames.specs.Pipe.{Pipe}
 use Rattle.pipe_frames.specs.Frames.{frames_of}
-use Rattle.front_mirror.specs.declared.replies.Ask.{Ask}
 use Rattle.front_mirror.specs.declared.faults.FrontFault.{FrontFault}
 use Rattle.front_mirror.specs.Front.{FrontValue, fold}
 use Rattle.inspect_world.specs.World.{steps}
 use Rattle.back_end.specs.States.{State, nodes_in, step, IsState}
-use Rattle.inspect_world.specs.Fits.{ask_in}
+use Rattle.inspect_world.specs.Fits.{asks_among}
 use Rattle.inspect_world.specs.Held.{Ends, good_front}
-use Rattle.inspect_world.specs.Told.{Told, replies_in, reply_id}
-
--- the asks that stand in frames
-abbrev pub asks_among : List (List ℕ) → List Ask
-asks_among [] = []
-asks_among (frame ∷ frames) = option_to_list (ask_in frame) ++ asks_among frames
+use Rattle.inspect_world.specs.ShownReplies.{ShownReply, replies_in, reply_id}
 
 -- The front end that sent these bytes up, and was given those bytes down: what it shows, or the first message that it refuses.
 -- A run stops at the first fault, so the asks that were sent by then are all that could wait.
@@ -48,7 +41,7 @@ pub record Follows (state0 : State) (up0 down0 up down : Pipe) (waiting : List (
   pub state : State
   pub side_is : (steps step state0 answered).state ≡ state
   pub sent_is : sent_down ≡ (steps step state0 answered).sent
-  pub replies_are : map (λ (t : Told). t.id) (replies_in sent_down) ≡ map reply_id answered
+  pub replies_are : map (λ (t : ShownReply). t.id) (replies_in sent_down) ≡ map reply_id answered
   pub down_whole : (frames_of sent_down).rest ≡ []
   pub page_is : e.page ≡ state.side.page
   pub on_is : e.is_on ≡ state.client.dom_on

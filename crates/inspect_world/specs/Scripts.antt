@@ -8,7 +8,7 @@ use Rattle.replay_script.specs.declared.faults.LineFault.{LineFault}
 use Rattle.replay_script.specs.Forms.{AskForm, LineForm, load, ask, up, down, settle, show_front, show_replies}
 use Rattle.replay_script.specs.Script.{script_fault, script_forms}
 use Rattle.inspect_world.specs.World.{World, first_world, asked, delivered_up, delivered_down, settled}
-use Rattle.inspect_world.specs.Told.{Told, replies_in, told_lines}
+use Rattle.inspect_world.specs.ShownReplies.{ShownReply, replies_in, told_lines}
 use Rattle.back_end.specs.States.{State, loaded_state, view_of, step}
 
 -- ---- what a line does
@@ -47,7 +47,7 @@ abbrev pub outline_of : World State → List ℕ
 outline_of w = outline_text seen_line (view_of w.state)
 
 -- the replies that came after so many others
-abbrev pub replies_after : ℕ → World State → List Told
+abbrev pub replies_after : ℕ → World State → List ShownReply
 replies_after n w = drop n (replies_in w.down.given)
 
 -- what a line prints

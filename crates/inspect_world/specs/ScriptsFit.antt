@@ -1,6 +1,6 @@
 -- While a script is carried out, the whole streams between the ends stay such that the front end's fold meets no fault, and
 -- shows exactly what the client sees of the page.
-use Rattle.std.specs.Prelude.{◌≡◌, ℕ, ◌≤◌, List, [], ◌∷◌, length, take, map, true, None, Ok, ⊤, IsUtf8}
+use Rattle.std.specs.Prelude.{◌≡◌, ℕ, ◌≤◌, List, [], ◌∷◌, length, take, map, true, None, Ok, ⊤, IsUtf8, ◌+◌}
 use Rattle.node_tree.specs.Nodes.{Nodes}
 use Rattle.node_tree.specs.Labels.{Label}
 use Rattle.page_tree.specs.Forms.{CanLoad}
@@ -11,15 +11,15 @@ use Rattle.cdp_messages.specs.Laws.{Shallow}
 use Rattle.replay_script.specs.Faults.{is_built_ask}
 use Rattle.replay_script.specs.Forms.{AskForm, LineForm, load, ask, up, down, settle, show_front, show_replies}
 use Rattle.replay_script.specs.Script.{script_forms}
-use Rattle.pipe_frames.specs.Frames.{frames_of}
+use Rattle.pipe_frames.specs.Frames.{IsText, frames_of}
 use Rattle.front_mirror.specs.Front.{FrontValue, first_value, take_frame}
 use Rattle.inspect_world.specs.Stream.{held}
-use Rattle.inspect_world.specs.World.{World, delivered_up, delivered_down, settled}
+use Rattle.inspect_world.specs.World.{World, raw, delivered_up, delivered_down, settled}
 use Rattle.inspect_world.specs.Fold.{folded, joined}
 use Rattle.back_end.specs.Texts.{HaveTexts}
 use Rattle.back_end.specs.States.{State, view_of, step}
-use Rattle.inspect_world.specs.Fits.{join, most_asks, Fits}
-use Rattle.inspect_world.specs.Told.{told_of, replies_in}
+use Rattle.inspect_world.specs.Fits.{join, most_asks, IsBare, Fits}
+use Rattle.inspect_world.specs.ShownReplies.{told_of, replies_in}
 use Rattle.inspect_world.specs.Scripts.{loaded_world, after_lines}
 
 -- The ask's parameters are JSON that is written and read again as it is: plain, UTF-8, and not too deep; and the back end
@@ -59,6 +59,10 @@ LinesFit = (nodes : Nodes Label) (lines : List LineForm) → CanLoad nodes → H
 abbrev pub InputsFit : Type 0
 InputsFit = (input : List ℕ) (nodes : Nodes Label) (lines : List LineForm) → script_forms input ≡ load nodes ∷ lines → length input ≤ most_asks
     → FitThroughout nodes lines
+
+-- a frame that names no ask is sent, whatever is on its way
+abbrev pub BareFramesFit : Type 0
+BareFramesFit = (w : World State) (text : List ℕ) → IsText text → IsBare text → w.spent.raws + 1 ≤ most_asks → Fits w → Fits (raw text w)
 
 -- bytes come in any pieces
 abbrev pub DeliveriesFit : Type 0

@@ -5,28 +5,33 @@ use Rattle.pipe_frames.specs.Frames.{framed}
 use Rattle.back_end.specs.States.{Stepped}
 use Rattle.inspect_world.specs.Stream.{Stream, no_stream, put, passed, arriving}
 
--- What a run has made of its ids: how many asks and how many fetches the front end has sent, and how many steps the script
--- itself has made.
+-- What a run has spent: how many asks, how many fetches and how many other frames the front end has sent, and how many steps
+-- the script itself has made.
 pub record Spent : Type 0 where
   pub asks : ℕ
   pub fetches : ℕ
+  pub raws : ℕ
   pub turns : ℕ
 
 -- nothing yet
 abbrev pub nothing_spent : Spent
-nothing_spent = record { asks = 0; fetches = 0; turns = 0 }
+nothing_spent = record { asks = 0; fetches = 0; raws = 0; turns = 0 }
 
--- one ask more, one fetch more, one step of the script more
+-- one ask more
 abbrev pub one_ask : Spent → Spent
-one_ask n = record { asks = n.asks + 1; fetches = n.fetches; turns = n.turns }
+one_ask n = record { asks = n.asks + 1; fetches = n.fetches; raws = n.raws; turns = n.turns }
 
 -- one fetch more
 abbrev pub one_fetch : Spent → Spent
-one_fetch n = record { asks = n.asks; fetches = n.fetches + 1; turns = n.turns }
+one_fetch n = record { asks = n.asks; fetches = n.fetches + 1; raws = n.raws; turns = n.turns }
+
+-- one other frame more
+abbrev pub one_raw : Spent → Spent
+one_raw n = record { asks = n.asks; fetches = n.fetches; raws = n.raws + 1; turns = n.turns }
 
 -- one step of the script more
 abbrev pub one_turn : Spent → Spent
-one_turn n = record { asks = n.asks; fetches = n.fetches; turns = n.turns + 1 }
+one_turn n = record { asks = n.asks; fetches = n.fetches; raws = n.raws; turns = n.turns + 1 }
 
 -- the state, the two streams, what was spent, and how many of the replies were told
 pub record World (S : Type 0) : Type 0 where
@@ -55,6 +60,10 @@ sent_up text more w = record { state = w.state; up = put (framed text) w.up; dow
 -- the front end sends an ask
 abbrev pub asked : {S : Type 0} → List ℕ → World S → World S
 asked text w = sent_up text one_ask w
+
+-- the front end sends a frame that is no ask
+abbrev pub raw : {S : Type 0} → List ℕ → World S → World S
+raw text w = sent_up text one_raw w
 
 -- the script itself makes a step of the state: what it sends goes down, whatever is on its way up
 abbrev pub turned : {S X : Type 0} → (X → S → Stepped S) → X → World S → World S

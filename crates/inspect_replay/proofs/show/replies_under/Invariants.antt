@@ -1,6 +1,6 @@
 -- The replies so far are written, and those that are left come after them.
 use Rattle.std.proofs.Common.{◌≡◌, ◌++◌, ◌∷◌, map, drop, codes}
-use Rattle.inspect_world.specs.Told.{told_of, told_lines}
+use Rattle.inspect_world.specs.ShownReplies.{told_of, told_lines}
 use Rattle.inspect_replay.proofs.show.replies_under.Given as goal
 
 abbrev pub invariant-loop-reply : goal.invariant-loop-reply

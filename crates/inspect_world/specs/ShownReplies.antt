@@ -9,28 +9,28 @@ use Rattle.cdp_messages.specs.Replies.{Message, reply, fault, event, down_of}
 use Rattle.front_mirror.specs.declared.replies.Kept.{Kept}
 
 -- a reply: the id of the ask that it answers, none where the back end read none; and the frame as it came
-pub record Told : Type 0 where
+pub record ShownReply : Type 0 where
   pub id : Option ℕ
   pub text : List ℕ
 
 -- the reply that a frame is, by its message
-abbrev pub told_by : List ℕ → Option Message → List Told
+abbrev pub told_by : List ℕ → Option Message → List ShownReply
 told_by frame None = []
 told_by frame (Some (reply id result)) = record { id = Some id; text = frame } ∷ []
 told_by frame (Some (fault id code said)) = record { id = id; text = frame } ∷ []
 told_by frame (Some (event n)) = []
 
 -- the replies among frames, in their order
-abbrev pub replies_among : List (List ℕ) → List Told
+abbrev pub replies_among : List (List ℕ) → List ShownReply
 replies_among [] = []
 replies_among (frame ∷ frames) = told_by frame (down_of frame) ++ replies_among frames
 
 -- a reply that a front end has kept
-abbrev pub told_of : Kept → Told
+abbrev pub told_of : Kept → ShownReply
 told_of k = record { id = k.id; text = k.text }
 
 -- the replies among the whole frames of these bytes
-abbrev pub replies_in : List ℕ → List Told
+abbrev pub replies_in : List ℕ → List ShownReply
 replies_in bytes = replies_among (frames_of bytes).whole
 
 -- `k TEXT`, or `- TEXT` without an id
@@ -39,11 +39,11 @@ id_text None = codes "-"
 id_text (Some id) = decimal id
 
 -- the line that a show prints for a reply
-abbrev pub told_line : Told → List ℕ
+abbrev pub told_line : ShownReply → List ℕ
 told_line t = id_text t.id ++ codes " " ++ t.text ++ 10 ∷ []
 
 -- the lines of some replies
-abbrev pub told_lines : List Told → List ℕ
+abbrev pub told_lines : List ShownReply → List ℕ
 told_lines ts = flat_map told_line ts
 
 -- ---- the ids that replies have to have
