@@ -156,7 +156,7 @@ fn pages_answer_by_serial(rt: HostRuntime) -> Result<(), Fail> {
     let page = Page::load(alloc, 7, read_nodes(alloc, &v)?)?;
     assert_eq!(rt; page.document(), 7);
     assert_eq!(rt; page.next_serial(), 13);
-    assert_eq!(rt; page.root().children.len(), 3);
+    assert_eq!(rt; page.root().len(), 3);
     assert!(rt; page.live(9) && page.live(10) && page.live(11) && !page.live(13) && !page.live(0));
     assert_eq!(rt; page.kind(9), Kind::Element);
     assert_eq!(rt; page.name(9), "p");
