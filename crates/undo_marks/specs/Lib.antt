@@ -1,7 +1,9 @@
 pub mod Marks
 pub mod Changes
 pub mod Saved
+pub mod SavedEdits
 pub mod Codes
 pub mod Groups
 pub mod Pops
 pub mod Laws
+pub mod PageLaws

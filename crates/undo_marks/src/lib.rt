@@ -8,7 +8,7 @@ mod laws;
 
 pub use histories::History;
 pub use inverse_lists::{Inverse, Inverses, Popped};
-pub use laws::history_law;
+pub use laws::{history_law, saved_pages_law};
 
 #[cfg(test)]
 mod tests;
