@@ -1,2 +1,3 @@
 pub mod MatchLemmas
 pub mod TopLemmas
+pub mod OrderLemmas

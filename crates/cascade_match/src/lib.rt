@@ -5,11 +5,13 @@
 mod blocks;
 mod hits;
 mod keys;
+mod laws;
 mod matching;
 mod winning;
 
 pub use blocks::{Block, Decl, Declarations};
 pub use hits::Hit;
+pub use laws::order_law;
 pub use matching::matched;
 pub use winning::winners;
 
