@@ -1,3 +1,4 @@
 pub mod MatchLemmas
 pub mod TopLemmas
 pub mod OrderLemmas
+pub mod StandingLemmas

@@ -2,3 +2,4 @@ pub mod Precedence
 pub mod Matched
 pub mod Winning
 pub mod Tops
+pub mod Standing

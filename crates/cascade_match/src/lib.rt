@@ -11,8 +11,8 @@ mod winning;
 
 pub use blocks::{Block, Decl, Declarations};
 pub use hits::Hit;
-pub use laws::order_law;
-pub use matching::matched;
+pub use laws::{order_law, places_law, standing_law};
+pub use matching::{matched, matched_on};
 pub use winning::winners;
 
 #[cfg(test)]

@@ -11,8 +11,8 @@ ghost use Rattle.cascade_match.specs.Matched.{places_matching, greatest, source_
 
 use crate::hits::Hit;
 use crate::keys::{Key, greater, key_of};
-use page_tree::{NodeRef, Page};
-use select_match::matches_node;
+use page_tree::Page;
+use select_match::{Subject, matches_subject};
 use selectors::{SelectorList, Spec, specificity};
 use sheet_reader::{Places, SheetBook, SheetEntry, StyleRule};
 use std::alloc::{AllocError, Global};
@@ -30,10 +30,22 @@ pub fn matched(
     requires { IsSome (find_in serial page.now.tree) }
     ensures { IfOk result (λ v. v.items ≡ matched_of book.now (zipper_at serial page.now.tree)) }
 {
-    let node = page.node_ref(serial);
+    let mut subject = Subject::new(alloc, page.node_ref(serial))?;
+    matched_on(alloc, book, &mut subject)
+}
+
+/// What `matched` answers, for an element that the caller has at hand.
+pub fn matched_on(
+    alloc: Global,
+    book: &SheetBook,
+    subject: &mut Subject<'_>,
+) -> Result<Vec<Hit>, AllocError>
+    ensures value { IfOk result (λ v. v.items ≡ matched_of book.now subject.old) }
+    ensures same { subject.new ≡ subject.old }
+{
     let mut found = BTreeMap::new(alloc);
     for i in 0..book.len() {
-        add_rules(alloc, book.at(i), i, &node, &mut found)?;
+        add_rules(alloc, book.at(i), i, subject, &mut found)?;
     }
     hits_of(alloc, found)
 }
@@ -52,15 +64,16 @@ fn add_rules(
     alloc: Global,
     entry: &SheetEntry,
     place: usize,
-    node: &NodeRef<'_>,
+    subject: &mut Subject<'_>,
     found: &mut BTreeMap<Key, Hit>,
 ) -> Result<(), AllocError>
-    ensures { OnOk result (found.new.entries
-        ≡ put_all found.old.entries (entries_of_rules (source_of place entry.now) 0 entry.now.reading.rules node.now)) }
+    ensures entries { OnOk result (found.new.entries
+        ≡ put_all found.old.entries (entries_of_rules (source_of place entry.now) 0 entry.now.reading.rules subject.old)) }
+    ensures same { subject.new ≡ subject.old }
 {
     let rules = entry.reading.rules.as_slice();
     for i in 0..rules.len() {
-        add_rule(alloc, entry, place, i, &rules[i], node, found)?;
+        add_rule(alloc, entry, place, i, &rules[i], subject, found)?;
     }
     Ok(())
 }
@@ -71,19 +84,20 @@ fn add_rule(
     place: usize,
     i: usize,
     rule: &StyleRule,
-    node: &NodeRef<'_>,
+    subject: &mut Subject<'_>,
     found: &mut BTreeMap<Key, Hit>,
 ) -> Result<(), AllocError>
-    ensures { OnOk result (found.new.entries
-        ≡ put_all found.old.entries (option_to_list (entry_of (source_of place entry.now) i (rule_seen rule.now) node.now))) }
+    ensures entries { OnOk result (found.new.entries
+        ≡ put_all found.old.entries (option_to_list (entry_of (source_of place entry.now) i (rule_seen rule.now) subject.old))) }
+    ensures same { subject.new ≡ subject.old }
 {
-    let matching = matching_places(alloc, &rule.selectors, node)?;
+    let matching = matching_places(alloc, &rule.selectors, subject)?;
     if matching.is_empty() {
         return Ok(());
     }
     let key = key_of(
         entry.origin,
-        greatest_weight(&rule.selectors, node),
+        greatest_weight(&rule.selectors, subject),
         place,
         i,
     );
@@ -107,13 +121,14 @@ fn add_hit(key: Key, hit: Hit, found: &mut BTreeMap<Key, Hit>) -> Result<(), All
 fn matching_places(
     alloc: Global,
     l: &SelectorList,
-    node: &NodeRef<'_>,
+    subject: &mut Subject<'_>,
 ) -> Result<Vec<usize>, AllocError>
-    ensures { IfOk result (λ v. v.items ≡ places_matching (list_seen l.now) node.now) }
+    ensures value { IfOk result (λ v. v.items ≡ places_matching (list_seen l.now) subject.old) }
+    ensures same { subject.new ≡ subject.old }
 {
     let mut places = Vec::new(alloc);
     for i in 0..l.len() {
-        push_if(matches_node(l.at(i), node), i, &mut places)?;
+        push_if(matches_subject(l.at(i), subject), i, &mut places)?;
     }
     Ok(places)
 }
@@ -134,13 +149,14 @@ fn greater_if(test: bool, best: Spec, other: Spec) -> Spec
 }
 
 /// The greatest specificity among the selectors that match.
-fn greatest_weight(l: &SelectorList, node: &NodeRef<'_>) -> Spec
-    ensures { result ≡ greatest (list_seen l.now) node.now }
+fn greatest_weight(l: &SelectorList, subject: &mut Subject<'_>) -> Spec
+    ensures value { result ≡ greatest (list_seen l.now) subject.old }
+    ensures same { subject.new ≡ subject.old }
 {
     let mut best = Spec { a: 0, b: 0, c: 0 };
     for i in 0..l.len() {
         let s = l.at(i);
-        best = greater_if(matches_node(s, node), best, specificity(s));
+        best = greater_if(matches_subject(s, subject), best, specificity(s));
     }
     best
 }

@@ -2,3 +2,4 @@ pub mod WalkLemmas
 pub mod TextLemmas
 pub mod SearchLemmas
 pub mod LawLemmas
+pub mod SubjectLemmas

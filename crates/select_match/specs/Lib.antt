@@ -2,3 +2,4 @@ pub mod Texts
 pub mod Elements
 pub mod Matches
 pub mod Outcomes
+pub mod Subjects

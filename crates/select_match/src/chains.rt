@@ -55,7 +55,7 @@ fn look_from(compounds: &[Compound], node: &NodeRef<'_>) -> Outcome
 
 /// What is left of the node is as the compounds ask.
 #[cycle(look)]
-fn look_left(left: &[Compound], joint: Joint, node: &NodeRef<'_>) -> Outcome
+pub fn look_left(left: &[Compound], joint: Joint, node: &NodeRef<'_>) -> Outcome
     ensures { Tells result (left_holds (reverse (map compound_seen left.now)) joint) node.now }
 {
     if left.is_empty() {

@@ -49,7 +49,7 @@ fn has_attribute(name: &str, op: AttrOp, operand: &str, node: &NodeRef<'_>) -> b
     false
 }
 
-fn test_holds(test: &Test, node: &NodeRef<'_>) -> bool
+pub fn test_holds(test: &Test, node: &NodeRef<'_>) -> bool
     ensures { result ≡ test_holds (test_seen test.now) node.now }
 {
     match test {

@@ -126,3 +126,37 @@ fn long_chains_end(rt: HostRuntime) -> Result<(), Fail> {
     }
     Ok(())
 }
+
+/// Whether the first selector matches the node with that serial, as a subject with its places.
+fn tried(alloc: Global, page: &Page, text: &str, serial: u64) -> Result<bool, Fail> {
+    let list = match read_selectors(alloc, text) {
+        Ok(list) => list,
+        Err(SelErr::Invalid) | Err(SelErr::Memory) => return Ok(false),
+    };
+    if !page.live(serial) || list.len() == 0 {
+        return Ok(false);
+    }
+    let node = page.node_ref(serial);
+    let places = element_places(&node);
+    let mut subject = Subject::placed(alloc, node, places)?;
+    Ok(matches_subject(list.at(0), &mut subject))
+}
+
+#[test]
+fn a_subject_is_as_its_node(rt: HostRuntime) -> Result<(), Fail> {
+    let alloc = rt.alloc();
+    let json =
+        r#"[{"e":"ul","c":[{"t":"x"},{"e":"li","a":["class","a b","id","i"]},{"e":"p"},{"e":"li"}]}]"#;
+    let Some(page) = page_of(alloc, json)? else {
+        return Ok(());
+    };
+    for (text, want) in [
+        ("ul > #i.b:nth-last-of-type(2)", true),
+        (".a.c", false),
+        ("#i:only-child", false),
+        ("#i::before", false),
+    ] {
+        assert_eq!(rt; tried(alloc, &page, text, 4)?, want, "{text}");
+    }
+    Ok(())
+}

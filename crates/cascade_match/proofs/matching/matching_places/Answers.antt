@@ -1,11 +1,20 @@
 -- The selector at a place.
-use Rattle.std.proofs.Common.{◌∙◌}
+use Rattle.std.proofs.Common.{ap, ◌∙◌}
+use Rattle.page_tree.specs.Zippers.{Zipper}
 use Rattle.selectors.specs.Forms.{selector_seen}
 use Rattle.selectors.specs.Lists.{list_seen}
+use Rattle.select_match.specs.Matches.{selector_matches}
 use Rattle.cascade_match.proofs.MatchLemmas.{places-step}
 use Rattle.cascade_match.proofs.matching.matching_places.Goals as goal
 
 pub loop-i-preserved : goal.loop-i-preserved
 loop-i-preserved c =
-    places-step (list_seen c.args.l.now) c.args.node.now c.loop-i.i (selector_seen c.at.result.now) c.at.ensures c.loop-i.places.items c.push_if.new.places.items c.matches_node.result (c.in_ok-push_if.ensures {u = tt}) c.matches_node.ensures
-    ∙ c.loop-i.invariant
+    let s = selector_seen c.at.result.now in
+    let same = c.loop-i.invariant.same in
+    let test = c.matches_subject.ensures.value ∙ ap (λ (z : Zipper). selector_matches s z) same in
+    record {
+      rest =
+          places-step (list_seen c.args.l.now) c.args.subject.now c.loop-i.i s c.at.ensures c.loop-i.places.items c.push_if.new.places.items c.matches_subject.result (c.in_ok-push_if.ensures {u = tt}) test
+          ∙ c.loop-i.invariant.rest;
+      same = c.matches_subject.ensures.same ∙ same;
+    }
