@@ -1,5 +1,5 @@
 -- What a frame asks has its parameters in their ranges, and a refusal an id in its range.
-use Rattle.std.proofs.Common.{◌≡◌, ℕ, Bool, true, false, List, Option, Some, None, refl, sym, ◌∙◌, ap, subst, Result, Ok, Err}
+use Rattle.std.proofs.Common.{◌≡◌, ℕ, Bool, true, false, List, Option, Some, None, refl, sym, ◌∙◌, ap, Result, Ok, Err}
 use Rattle.std.specs.Prelude.{IfSome}
 use Rattle.serde_json.specs.Data.{Data, Num, unsigned, negative, float, Members}
 use Rattle.serde_json.specs.Find.{as_number, as_object}
@@ -15,7 +15,7 @@ use Rattle.cdp_messages.specs.declared.command.Asked.{Asked}
 use Rattle.cdp_messages.specs.declared.command.Refused.{Refused}
 use Rattle.cdp_messages.specs.declared.command.Why.{Why}
 use Rattle.cdp_messages.specs.declared.dom_ask.DomAsk.{DomAsk}
-use Rattle.cdp_messages.specs.DomAsks.{as_command, dom_ask_in, fits_ask}
+use Rattle.cdp_messages.specs.DomAsks.{dom_ask_in, fits_ask}
 use Rattle.cdp_messages.specs.Asked.{json_of, fits_command, command_in, refusal, asked_by, with_id, asked_in, asked_value, asked}
 use Rattle.cdp_messages.proofs.Commands.{asks_fit}
 use Rattle.cdp_messages.proofs.DomAskLaws.{dom_asks_are_commands}

@@ -1,4 +1,7 @@
-pub mod LoadTexts
 pub mod AskedLemmas
-pub mod StateLemmas
+pub mod TextLemmas
+pub mod StepLemmas
+pub mod AnswerLemmas
+pub mod FrameLemmas
 pub mod SeatLemmas
+pub mod ScriptLemmas

@@ -1,84 +1,151 @@
--- The answer of a seat to a frame is the step of the state.
-use Rattle.std.proofs.Common.{◌≡◌, ℕ, List, ◌++◌, refl, sym, ◌∙◌, ap, subst, Some, Result, Ok, Err, Bool, true, false, not, ◌&&◌, cond}
+-- The answer of a seat to a command is the step of the state.
+use Rattle.std.proofs.Common.{◌≡◌, ℕ, List, ◌++◌, Bool, true, false, not, ◌&&◌, ◌||◌, cond, Some, Result, Ok, Err, refl, sym, ◌∙◌, ap, subst}
 use Rattle.std.specs.Result.{OnOk}
 use Rattle.page_tree.specs.Pages.{State as PageValue}
-use Rattle.node_binding.specs.Bindings.{Bound, Stands}
-use Rattle.node_binding.specs.Sessions.{Session}
+use Rattle.node_binding.specs.Bindings.{Stands, cleared}
+use Rattle.node_binding.specs.Sessions.{Session, reset}
+use Rattle.node_binding.proofs.StandsLemmas.{Stands-reset}
 use Rattle.cdp_messages.specs.DomAsks.{fits_ask}
+use Rattle.cdp_messages.specs.Moves.{frames_of_moves}
 use Rattle.cdp_messages.specs.declared.dom_ask.DomAsk.{DomAsk}
 use Rattle.cdp_messages.specs.declared.dom_ask.DomAsk.TheVariants.{GetDocument, RequestChildNodes, PushByPath, PushBySerials}
 use Rattle.cdp_messages.specs.declared.command.Why.TheVariants.{DomOff}
 use Rattle.dom_agent.specs.Laws.{session_outcome, binding_outcome}
-use Rattle.dom_agent.specs.Requests.{Outcome, served, refused, state_after, answer}
-use Rattle.back_end.specs.States.{Side, State, nodes_in, needs_on, after_outcome, on_outcome, on_ask, Stepped}
-use Rattle.back_end.specs.Seats.{StandsFor, Seated}
-use Rattle.back_end.proofs.StateLemmas.{side-after, IsState-after}
+use Rattle.dom_agent.specs.Requests.{Outcome, shows_root, served, refused, state_after, answer}
 use Rattle.dom_agent.proofs.OutcomeLemmas.{stays_session}
-use Rattle.dom_agent.proofs.KeeperLemmas.{stays_bound, same_answer}
+use Rattle.dom_agent.proofs.KeeperLemmas.{stays_bound, same_moves}
+use Rattle.back_end.specs.States.{Client, State, nodes_in}
+use Rattle.back_end.specs.Servers.{Server, enables, disables, agent}
+use Rattle.back_end.specs.Steps.{Step, refusing, ask_needs_on, needs_on, turns_on, client_served, server_step, command_step}
+use Rattle.back_end.specs.declared.desk.Desk.{Desk}
+use Rattle.back_end.specs.declared.side.PageSide.{PageSide}
+use Rattle.back_end.specs.Seats.{DeskStandsFor}
+use Rattle.back_end.proofs.FrameLemmas.{enabled-is, disabled-is, served-is}
 
+-- what holds where a call answers Ok
 pub on_ok : {T E : Type 0} (result : Result T E) (P Q : Type 0) → OnOk result P → (P → Q) → OnOk result Q
 on_ok (Ok value) P Q p f = f p
 on_ok (Err fault) P Q p f = tt
 
--- ---- a command
+-- ---- a command that needs DOM on, or does not
 
 -- one that is refused, since DOM is off
-off-is : (id : ℕ) (c : DomAsk) (state : State) → (needs_on c && not state.client.dom_on) ≡ true
-    → on_ask id (Some c) state ≡ record { state = state; sent = answer {S = Session} id (refused DomOff) }
-off-is id c state off = ap (λ t. on_outcome id (cond t (refused DomOff) (session_outcome state.side.page c state.client.session)) state) off
+pub off-is : (id : ℕ) (server : Server) (state : State) → (needs_on server && not state.client.dom_on) ≡ true → command_step id server state ≡ refusing (Some id) DomOff state
+off-is id server state off = ap (λ t. cond t (refusing (Some id) DomOff state) (server_step id server state)) off
 
 -- one that is carried out
-on-is : (id : ℕ) (c : DomAsk) (state : State) → (needs_on c && not state.client.dom_on) ≡ false
-    → on_ask id (Some c) state ≡ on_outcome id (session_outcome state.side.page c state.client.session) state
-on-is id c state on = ap (λ t. on_outcome id (cond t (refused DomOff) (session_outcome state.side.page c state.client.session)) state) on
+pub on-is : (id : ℕ) (server : Server) (state : State) → (needs_on server && not state.client.dom_on) ≡ false → command_step id server state ≡ server_step id server state
+on-is id server state on = ap (λ t. cond t (refusing (Some id) DomOff state) (server_step id server state)) on
 
 -- whether it is refused, as the state has it
-same-on : (c : DomAsk) (b on t : Bool) → b ≡ on → (needs_on c && not b) ≡ t → (needs_on c && not on) ≡ t
-same-on c b on t is h = sym (ap (λ x. needs_on c && not x) is) ∙ h
+same-on : (c : DomAsk) (b on t : Bool) → b ≡ on → t ≡ (ask_needs_on c && not b) → (ask_needs_on c && not on) ≡ t
+same-on c b on t is h = sym (ap (λ x. ask_needs_on c && not x) is) ∙ sym h
 
--- DOM is on after a command that is carried out
-stays-on : (state : State) (o : Outcome Session) → state.client.dom_on ≡ true → true ≡ (after_outcome state o).client.dom_on
-stays-on state (served p body) on = refl
-stays-on state (refused why) on = sym on
+-- ---- what the agent is asked
 
-known-on : (on : Bool) → (true && not on) ≡ false → on ≡ true
-known-on true h = refl
-known-on false h = absurd cc
+or-false : (b : Bool) → (b || false) ≡ b
+or-false true = refl
+or-false false = refl
 
-is-on-after : (state : State) (c : DomAsk) → (needs_on c && not state.client.dom_on) ≡ false → true ≡ (after_outcome state (session_outcome state.side.page c state.client.session)).client.dom_on
-is-on-after state (GetDocument depth pierce) on = refl
-is-on-after state (RequestChildNodes id depth pierce) on = stays-on state (session_outcome state.side.page (RequestChildNodes id depth pierce) state.client.session) (known-on state.client.dom_on on)
-is-on-after state (PushByPath path) on = stays-on state (session_outcome state.side.page (PushByPath path) state.client.session) (known-on state.client.dom_on on)
-is-on-after state (PushBySerials serials) on = stays-on state (session_outcome state.side.page (PushBySerials serials) state.client.session) (known-on state.client.dom_on on)
+-- of an ask that turns nothing on, DOM is as it was
+served-on : (c : DomAsk) (o : Outcome Session) (client : Client) → turns_on c ≡ false → (client_served c o client).dom_on ≡ client.dom_on
+served-on c (shows_root w b) client off = ap (λ t. client.dom_on || t) off ∙ or-false client.dom_on
+served-on c (served p body) client off = ap (λ t. client.dom_on || t) off ∙ or-false client.dom_on
+served-on c (refused why) client off = refl
 
-pub served-stands : (b b1 : Seated) (state : State) (id : ℕ) (c : DomAsk)
-    → fits_ask c ≡ true → false ≡ (needs_on c && not b.seat.is_on) → StandsFor b.seat b.side state
-    → b1.side.page ≡ b.side.page → b1.seat.is_on ≡ true → (page : PageValue) → page ≡ b.side.page → b1.seat.agent ≡ state_after b.seat.agent (binding_outcome page c b.seat.agent)
-    → StandsFor b1.seat b1.side (on_ask id (Some c) state).state
-served-stands b b1 state id c fits is_off stands page_is on_is page same_page agent_is =
-    let on : (needs_on c && not state.client.dom_on) ≡ false = same-on c b.seat.is_on state.client.dom_on false stands.on_is (sym is_off) in
-    let o : Outcome Session = session_outcome state.side.page c state.client.session in
-    let bound : Stands (nodes_in state) (state_after state.client.session o) (state_after b.seat.agent (binding_outcome state.side.page c b.seat.agent)) =
-    stays_bound state.side.page c state.client.session b.seat.agent stands.is_state.page fits stands.is_state.session stands.stands in
-    let agent : state_after b.seat.agent (binding_outcome state.side.page c b.seat.agent) ≡ b1.seat.agent =
-    sym (agent_is ∙ ap (λ page. state_after b.seat.agent (binding_outcome page c b.seat.agent)) (same_page ∙ stands.page_is)) in
-    subst (λ (d : Stepped State). StandsFor b1.seat b1.side d.state) (sym (on-is id c state on)) (record {
-      is_state = IsState-after state o stands.is_state (stays_session state.side.page c state.client.session stands.is_state.page fits stands.is_state.session);
-      page_is = page_is ∙ stands.page_is ∙ ap (λ (side : Side). side.page) (sym (side-after state o));
-      on_is = on_is ∙ is-on-after state c on;
-      stands = stood state o b1.seat.agent (subst (λ a. Stands (nodes_in state) (state_after state.client.session o) a) agent bound);
+on-after : (c : DomAsk) (page : PageValue) (client : Client) (on : Bool) → on ≡ client.dom_on
+    → (on || turns_on c) ≡ (client_served c (session_outcome page c client.session) client).dom_on
+on-after (GetDocument depth pierce) page client on is = ap (λ b. b || true) is
+on-after (RequestChildNodes id depth pierce) page client on is =
+    or-false on ∙ is ∙ sym (served-on (RequestChildNodes id depth pierce) (session_outcome page (RequestChildNodes id depth pierce) client.session) client refl)
+on-after (PushByPath path) page client on is = or-false on ∙ is ∙ sym (served-on (PushByPath path) (session_outcome page (PushByPath path) client.session) client refl)
+on-after (PushBySerials serials) page client on is =
+    or-false on ∙ is ∙ sym (served-on (PushBySerials serials) (session_outcome page (PushBySerials serials) client.session) client refl)
+
+served-session : (c : DomAsk) (o : Outcome Session) (client : Client) → state_after client.session o ≡ (client_served c o client).session
+served-session c (shows_root w b) client = refl
+served-session c (served p body) client = refl
+served-session c (refused why) client = refl
+
+pub asked-stands : (d d1 : Desk) (s s1 : PageSide) (state : State) (id : ℕ) (c : DomAsk) (page : PageValue)
+    → fits_ask c ≡ true → false ≡ (ask_needs_on c && not d.is_on) → DeskStandsFor d s state
+    → s1.page ≡ s.page → page ≡ s.page → d1.is_on ≡ (d.is_on || turns_on c) → d1.agent ≡ state_after d.agent (binding_outcome page c d.agent)
+    → DeskStandsFor d1 s1 (command_step id (agent c) state).state
+asked-stands d d1 s s1 state id c page fits is_off stands same_side same_page on_is agent_is =
+    let w = state.client.session in
+    let on : (ask_needs_on c && not state.client.dom_on) ≡ false = same-on c d.is_on state.client.dom_on false stands.on_is is_off in
+    let o : Outcome Session = session_outcome state.side.page c w in
+    let bound : Stands (nodes_in state) (state_after w o) (state_after d.agent (binding_outcome state.side.page c d.agent)) =
+    stays_bound state.side.page c w d.agent stands.is_state.page fits stands.is_state.session stands.stands in
+    let agent_now : state_after d.agent (binding_outcome state.side.page c d.agent) ≡ d1.agent =
+    sym (agent_is ∙ ap (λ page. state_after d.agent (binding_outcome page c d.agent)) (same_page ∙ stands.page_is)) in
+    subst (λ (done : Step). DeskStandsFor d1 s1 done.state) (sym (on-is id (agent c) state on)) (record {
+      is_state = served-is c o state stands.is_state on (stays_session state.side.page c w stands.is_state.page fits stands.is_state.session);
+      page_is = same_side ∙ stands.page_is;
+      on_is = on_is ∙ on-after c state.side.page state.client d.is_on stands.on_is;
+      stands = subst (λ z. Stands (nodes_in state) z d1.agent) (served-session c o state.client) (subst (λ a. Stands (nodes_in state) (state_after w o) a) agent_now bound);
     })
-  where
-    stood : (state : State) (o : Outcome Session) (a : Bound) → Stands (nodes_in state) (state_after state.client.session o) a
-        → Stands (nodes_in (after_outcome state o)) (after_outcome state o).client.session a
-    stood state (served p body) a h = h
-    stood state (refused why) a h = h
 
-pub served-sent : (b : Seated) (state : State) (id : ℕ) (c : DomAsk) (old new : List ℕ)
-    → fits_ask c ≡ true → false ≡ (needs_on c && not b.seat.is_on) → StandsFor b.seat b.side state
-    → (page : PageValue) → page ≡ b.side.page → new ≡ old ++ answer id (binding_outcome page c b.seat.agent) → new ≡ old ++ (on_ask id (Some c) state).sent
-served-sent b state id c old new fits is_off stands page same_page sent =
-    let on : (needs_on c && not state.client.dom_on) ≡ false = same-on c b.seat.is_on state.client.dom_on false stands.on_is (sym is_off) in
-    sent ∙ ap (λ page. old ++ answer id (binding_outcome page c b.seat.agent)) (same_page ∙ stands.page_is)
-    ∙ ap (λ bytes. old ++ bytes) (same_answer state.side.page c state.client.session b.seat.agent id stands.is_state.page fits stands.is_state.session stands.stands)
-    ∙ ap (λ (d : Stepped State). old ++ d.sent) (sym (on-is id c state on))
+pub asked-sent : (d : Desk) (s : PageSide) (state : State) (id : ℕ) (c : DomAsk) (page : PageValue) (old new : List ℕ)
+    → fits_ask c ≡ true → false ≡ (ask_needs_on c && not d.is_on) → DeskStandsFor d s state → page ≡ s.page
+    → new ≡ old ++ answer id (binding_outcome page c d.agent) → new ≡ old ++ frames_of_moves (command_step id (agent c) state).moves
+asked-sent d s state id c page old new fits is_off stands same_page sent =
+    let on : (ask_needs_on c && not state.client.dom_on) ≡ false = same-on c d.is_on state.client.dom_on false stands.on_is is_off in
+    sent ∙ ap (λ page. old ++ answer id (binding_outcome page c d.agent)) (same_page ∙ stands.page_is)
+    ∙ ap (λ ms. old ++ frames_of_moves ms) (same_moves state.side.page c state.client.session d.agent id stands.is_state.page fits stands.is_state.session stands.stands)
+    ∙ ap (λ (done : Step). old ++ frames_of_moves done.moves) (sym (on-is id (agent c) state on))
+
+-- an ask that is refused
+pub refused-stands : (d : Desk) (s : PageSide) (state : State) (id : ℕ) (c : DomAsk) → true ≡ (ask_needs_on c && not d.is_on) → DeskStandsFor d s state
+    → DeskStandsFor d s (command_step id (agent c) state).state
+refused-stands d s state id c is_off stands =
+    let off : (ask_needs_on c && not state.client.dom_on) ≡ true = same-on c d.is_on state.client.dom_on true stands.on_is is_off in
+    subst (λ (done : Step). DeskStandsFor d s done.state) (sym (off-is id (agent c) state off)) stands
+
+pub refused-sent : (d : Desk) (s : PageSide) (state : State) (id : ℕ) (c : DomAsk) (old new : List ℕ) → true ≡ (ask_needs_on c && not d.is_on) → DeskStandsFor d s state
+    → new ≡ old ++ frames_of_moves (refusing (Some id) DomOff state).moves → new ≡ old ++ frames_of_moves (command_step id (agent c) state).moves
+refused-sent d s state id c old new is_off stands sent =
+    let off : (ask_needs_on c && not state.client.dom_on) ≡ true = same-on c d.is_on state.client.dom_on true stands.on_is is_off in
+    sent ∙ ap (λ (done : Step). old ++ frames_of_moves done.moves) (sym (off-is id (agent c) state off))
+
+-- ---- the seat's own commands
+
+pub enabled-stands : (d d1 : Desk) (s s1 : PageSide) (state : State) (id : ℕ) → DeskStandsFor d s state → s1.page ≡ s.page → d1.is_on ≡ true → d1.agent ≡ d.agent
+    → DeskStandsFor d1 s1 (server_step id enables state).state
+enabled-stands d d1 s s1 state id stands same on agent_is = record {
+  is_state = enabled-is state stands.is_state;
+  page_is = same ∙ stands.page_is;
+  on_is = on;
+  stands = subst (λ a. Stands (nodes_in state) state.client.session a) (sym agent_is) stands.stands;
+}
+
+-- `DOM.disable`, where DOM is on
+disable-on : (b on : Bool) → b ≡ on → b ≡ true → (true && not on) ≡ false
+disable-on b on is h = ap (λ x. not x) (sym is ∙ h)
+
+disable-off : (b on : Bool) → b ≡ on → b ≡ false → (true && not on) ≡ true
+disable-off b on is h = ap (λ x. not x) (sym is ∙ h)
+
+pub disabled-stands : (d d1 : Desk) (s s1 : PageSide) (state : State) (id : ℕ) → DeskStandsFor d s state → d.is_on ≡ true → s1.page ≡ s.page → d1.is_on ≡ false
+    → d1.agent ≡ cleared d.agent → DeskStandsFor d1 s1 (command_step id disables state).state
+disabled-stands d d1 s s1 state id stands was same off agent_is =
+    subst (λ (done : Step). DeskStandsFor d1 s1 done.state) (sym (on-is id disables state (disable-on d.is_on state.client.dom_on stands.on_is was))) (record {
+      is_state = disabled-is state stands.is_state;
+      page_is = same ∙ stands.page_is;
+      on_is = off;
+      stands = subst (λ a. Stands (nodes_in state) (reset state.client.session) a) (sym agent_is) (Stands-reset (nodes_in state) (nodes_in state) state.client.session d.agent stands.stands);
+    })
+
+pub disabled-sent : (d : Desk) (s : PageSide) (state : State) (id : ℕ) (old new : List ℕ) → DeskStandsFor d s state → d.is_on ≡ true
+    → new ≡ old ++ frames_of_moves (server_step id disables state).moves → new ≡ old ++ frames_of_moves (command_step id disables state).moves
+disabled-sent d s state id old new stands was sent =
+    sent ∙ ap (λ (done : Step). old ++ frames_of_moves done.moves) (sym (on-is id disables state (disable-on d.is_on state.client.dom_on stands.on_is was)))
+
+pub off-stands : (d : Desk) (s : PageSide) (state : State) (id : ℕ) → DeskStandsFor d s state → d.is_on ≡ false → DeskStandsFor d s (command_step id disables state).state
+off-stands d s state id stands was =
+    subst (λ (done : Step). DeskStandsFor d s done.state) (sym (off-is id disables state (disable-off d.is_on state.client.dom_on stands.on_is was))) stands
+
+pub off-sent : (d : Desk) (s : PageSide) (state : State) (id : ℕ) (old new : List ℕ) → DeskStandsFor d s state → d.is_on ≡ false
+    → new ≡ old ++ frames_of_moves (refusing (Some id) DomOff state).moves → new ≡ old ++ frames_of_moves (command_step id disables state).moves
+off-sent d s state id old new stands was sent =
+    sent ∙ ap (λ (done : Step). old ++ frames_of_moves done.moves) (sym (off-is id disables state (disable-off d.is_on state.client.dom_on stands.on_is was)))

@@ -1,3 +1,7 @@
 pub mod Texts
 pub mod States
+pub mod Plans
+pub mod Servers
+pub mod Steps
+pub mod Laws
 pub mod Seats

@@ -1,55 +1,56 @@
-ghost use Rattle.std.specs.Prelude.{◌≡◌, ◌<◌, ◌^◌, ◌++◌, ◌↔◌, ◌&&◌, not, false, true, Some, IfSome, IsTrue, OnOk};
-ghost use Rattle.node_binding.specs.Sessions.{Session};
-ghost use Rattle.dom_agent.specs.Requests.{refused, answer};
+ghost use Rattle.std.specs.Prelude.{◌≡◌, ◌++◌, ◌↔◌, IsTrue, true, false, IfOk, OnOk, OnErr, IsErr};
 ghost use Rattle.node_binding.specs.Bindings.{empty_from};
-ghost use Rattle.cdp_messages.specs.DomAsks.{fits_ask};
-ghost use Rattle.back_end.specs.States.{State, needs_on, on_ask, step};
-ghost use Rattle.back_end.specs.Seats.{StandsFor};
+ghost use Rattle.page_tree.specs.Forms.{CanLoad};
+ghost use Rattle.page_forms.specs.Acts.{IsInsertable};
+ghost use Rattle.page_forms.specs.Pages.{loaded_nodes};
+ghost use Rattle.cdp_messages.specs.Moves.{frames_of_moves};
+ghost use Rattle.back_end.specs.States.{State};
+ghost use Rattle.back_end.specs.Plans.{act_fault};
+ghost use Rattle.back_end.specs.Steps.{act_step, frame_step, load_step};
+ghost use Rattle.back_end.specs.Texts.{HaveTexts, ActHasTexts};
+ghost use Rattle.back_end.specs.Seats.{StandsFor, HasRoomLeft};
 
+use crate::desk::Desk;
 use crate::side::PageSide;
-use cdp_messages::{DomAsk, ReadErr, Refused, Why, read_command, write_refused};
-use dom_agent::DomAgent;
+use page_forms::{Act, PageForm};
+use page_tree::EditFault;
 use std::alloc::{AllocError, Global};
 
-/// A client's seat at the page's side: whether the domain DOM is on, and what the client knows of the page.
+/// The least number that is no id and no serial with room behind it for another step.
+const LIMIT: u64 = 1 << 50;
+
+/// A client's seat at the page's side. After want of memory it is dead: each later call that can answer want of memory does.
 #[derive(Drop)]
 pub struct Seat {
-    alloc: Global,
-    is_on: bool,
-    agent: DomAgent,
-}
-
-/// Whether an ask is refused while DOM is off.
-fn needs_on(ask: &DomAsk) -> bool
-    ensures { result ≡ needs_on ask.now }
-{
-    match ask {
-        DomAsk::GetDocument { .. } => false,
-        DomAsk::RequestChildNodes { .. }
-        | DomAsk::PushByPath { .. }
-        | DomAsk::PushBySerials { .. } => true,
-    }
+    pub(crate) desk: Desk,
+    pub(crate) is_dead: bool,
 }
 
 impl Seat {
     /// The seat of a client that has asked for nothing yet.
     pub fn new(alloc: Global) -> Seat
-        ensures off { result.is_on ≡ false }
-        ensures agent { result.agent ≡ empty_from 1 }
+        ensures off { result.desk.is_on ≡ false }
+        ensures agent { result.desk.agent ≡ empty_from 1 }
+        ensures alive { result.is_dead ≡ false }
     {
         Seat {
-            alloc,
-            is_on: false,
-            agent: DomAgent::new(alloc),
+            desk: Desk::new(alloc),
+            is_dead: false,
         }
     }
 
-    /// Whether ids are left for another command. They are over every link that gives no more bytes than it was sent: a
-    /// command has more than 16 bytes and draws fewer than 2^17 ids, and a script has at most 2^26 bytes.
-    pub fn has_room(&self) -> bool
-        ensures { IsTrue result ↔ (self.now.agent.next < 2 ^ 52) }
+    /// Whether the next id and the next serial are below 2^50, so that a step can draw what it needs.
+    pub fn has_room(&self, side: &PageSide) -> bool
+        ensures { IsTrue result ↔ HasRoomLeft self.now.desk side.now }
     {
-        self.agent.next_id() < 1 << 52
+        self.desk.agent.next_id() < LIMIT && side.page.next_serial() < LIMIT
+    }
+
+    /// Whether an earlier call answered want of memory.
+    pub fn is_dead(&self) -> bool
+        ensures { result ≡ self.now.is_dead }
+    {
+        self.is_dead
     }
 
     /// Answers one frame: the messages of its step are appended to `out`. A frame that is refused gets one error reply, and
@@ -60,76 +61,77 @@ impl Seat {
         frame: &[u8],
         out: &mut Vec<u8>,
     ) -> Result<(), AllocError>
-        requires room { self.old.agent.next < 2 ^ 52 }
-        ensures page { side.new.page ≡ side.old.page }
+        requires room { HasRoomLeft self.old.desk side.old }
         ensures stands { (state : State) → StandsFor self.old side.old state
-            → OnOk result (StandsFor self.new side.new (step state frame.now).state) }
+            → OnOk result (StandsFor self.new side.new (frame_step frame.now state).state) }
         ensures sent { (state : State) → StandsFor self.old side.old state
-            → OnOk result (out.new.items ≡ out.old.items ++ (step state frame.now).sent) }
+            → OnOk result (out.new.items ≡ out.old.items ++ frames_of_moves (frame_step frame.now state).moves) }
+        ensures alive { OnOk result (self.new.is_dead ≡ false) }
+        ensures memory { OnErr result (self.new.is_dead ≡ true) }
+        ensures dead { self.old.is_dead ≡ true → IsErr result }
     {
-        match read_command(self.alloc, frame, false) {
-            Ok(asked) => self.answer(side, asked.id, DomAsk::of_command(asked.command), out),
-            Err(ReadErr::Refused(refused)) => write_refused(self.alloc, &refused, out),
-            Err(ReadErr::Memory) => Err(AllocError),
+        if self.is_dead {
+            return Err(AllocError);
         }
+        self.is_dead = true;
+        self.desk.answer_frame(side, frame, out)?;
+        self.is_dead = false;
+        Ok(())
     }
 
-    /// Answers what the agent is asked; a command that it does not serve has an unknown method.
-    fn answer(
+    /// A script changes the page: the events of its edits are appended to `out`. It gives the fault of a change that is refused,
+    /// which changes nothing and tells nothing.
+    pub fn script(
         &mut self,
         side: &mut PageSide,
-        id: u64,
-        ask: Option<DomAsk>,
+        act: Act,
         out: &mut Vec<u8>,
-    ) -> Result<(), AllocError>
-        requires ask { IfSome ask (λ a. fits_ask a ≡ true) }
-        requires room { self.old.agent.next < 2 ^ 52 }
-        ensures page { side.new.page ≡ side.old.page }
+    ) -> Result<Option<EditFault>, AllocError>
+        requires form { IsInsertable act }
+        requires texts { ActHasTexts act }
+        requires room { HasRoomLeft self.old.desk side.old }
+        ensures fault { IfOk result (λ fault. fault ≡ act_fault act side.old.page) }
         ensures stands { (state : State) → StandsFor self.old side.old state
-            → OnOk result (StandsFor self.new side.new (on_ask id ask state).state) }
+            → OnOk result (StandsFor self.new side.new (act_step act state).state) }
         ensures sent { (state : State) → StandsFor self.old side.old state
-            → OnOk result (out.new.items ≡ out.old.items ++ (on_ask id ask state).sent) }
+            → OnOk result (out.new.items ≡ out.old.items ++ frames_of_moves (act_step act state).moves) }
+        ensures alive { OnOk result (self.new.is_dead ≡ false) }
+        ensures memory { OnErr result (self.new.is_dead ≡ true) }
+        ensures dead { self.old.is_dead ≡ true → IsErr result }
     {
-        match ask {
-            Some(ask) => self.carry_out(side, id, &ask, out),
-            None => self.refuse(id, Why::NoMethod, out),
+        if self.is_dead {
+            return Err(AllocError);
         }
+        self.is_dead = true;
+        let fault = self.desk.script(side, act, out)?;
+        self.is_dead = false;
+        Ok(fault)
     }
 
-    fn refuse(&self, id: u64, why: Why, out: &mut Vec<u8>) -> Result<(), AllocError>
-        ensures { OnOk result (out.new.items ≡ out.old.items ++ answer {S = Session} id (refused why)) }
-    {
-        let refused = Refused { id: Some(id), why };
-        write_refused(self.alloc, &refused, out)
-    }
-
-    /// Whether the ask is refused since DOM is off.
-    fn is_refused(&self, ask: &DomAsk) -> bool
-        ensures { result ≡ (needs_on ask.now && not self.now.is_on) }
-    {
-        needs_on(ask) && !self.is_on
-    }
-
-    fn carry_out(
+    /// A script loads another page: a client whose DOM is on is told, by what is appended to `out`.
+    pub fn load(
         &mut self,
         side: &mut PageSide,
-        id: u64,
-        ask: &DomAsk,
+        form: PageForm,
         out: &mut Vec<u8>,
     ) -> Result<(), AllocError>
-        requires ask { fits_ask ask.now ≡ true }
-        requires room { self.old.agent.next < 2 ^ 52 }
-        ensures page { side.new.page ≡ side.old.page }
+        requires can { CanLoad (loaded_nodes form) }
+        requires texts { HaveTexts (loaded_nodes form) }
+        requires room { HasRoomLeft self.old.desk side.old }
         ensures stands { (state : State) → StandsFor self.old side.old state
-            → OnOk result (StandsFor self.new side.new (on_ask id (Some ask.now) state).state) }
+            → OnOk result (StandsFor self.new side.new (load_step (loaded_nodes form) state).state) }
         ensures sent { (state : State) → StandsFor self.old side.old state
-            → OnOk result (out.new.items ≡ out.old.items ++ (on_ask id (Some ask.now) state).sent) }
+            → OnOk result (out.new.items ≡ out.old.items ++ frames_of_moves (load_step (loaded_nodes form) state).moves) }
+        ensures alive { OnOk result (self.new.is_dead ≡ false) }
+        ensures memory { OnErr result (self.new.is_dead ≡ true) }
+        ensures dead { self.old.is_dead ≡ true → IsErr result }
     {
-        if self.is_refused(ask) {
-            return self.refuse(id, Why::DomOff, out);
+        if self.is_dead {
+            return Err(AllocError);
         }
-        self.agent.ask(side.page(), id, ask, out)?;
-        self.is_on = true;
+        self.is_dead = true;
+        self.desk.load(side, form, out)?;
+        self.is_dead = false;
         Ok(())
     }
 }

@@ -5,7 +5,7 @@ use page_tree::Page;
 /// The page's side: what the page is, whoever inspects it.
 #[derive(Drop)]
 pub struct PageSide {
-    page: Page,
+    pub(crate) page: Page,
 }
 
 impl PageSide {

@@ -8,11 +8,11 @@ use Rattle.serde_json.specs.Find.{of_integer, as_i64, as_str, as_number, get_mem
 use Rattle.serde_json.proofs.Views.{get_member-put_other}
 use Rattle.cdp_json.specs.Plain.{is_plain}
 use Rattle.cdp_json.specs.Fields.{field_from, field_if}
-use Rattle.cdp_json.specs.Kinds.{Kind, named, as_whole, is_counted, holds_of_some, if_holds, is_depth, as_depth, whole, text, flag}
+use Rattle.cdp_json.specs.Kinds.{Kind, as_whole, is_counted, holds_of_some, if_holds, is_depth, as_depth, whole, text, flag}
 use Rattle.cdp_json.specs.Lawful.{LawfulKind}
 use Rattle.cdp_json.specs.Lookups.{then_ok, optional, Lookups, no_lookups}
 use Rattle.cdp_json.specs.Faithful.{FaithfulKind, FaithfulLookups}
-use Rattle.cdp_json.proofs.KindLaws.{named_is, whole_lawful, text_lawful, flag_lawful, anything_lawful, choice_lawful, list_faithful, through_faithful, faithful}
+use Rattle.cdp_json.proofs.KindLaws.{named_is, whole_lawful, text_lawful, flag_lawful, anything_lawful, list_faithful, through_faithful, faithful}
 use Rattle.cdp_json.proofs.LookupLaws.{then_ok_some, same_ok, other_name, no_lookups_faithful, look_for_faithful, may_look_for_faithful, object_with_faithful}
 use Rattle.cdp_json.proofs.RowLaws.{ends_lawful, and_need_lawful, and_may_lawful, object_lawful}
 use Rattle.cdp_messages.specs.declared.command.Command.{Command}
@@ -23,18 +23,16 @@ use Rattle.cdp_messages.specs.declared.command.Param.{Param}
 use Rattle.cdp_messages.specs.declared.command.Param.TheVariants as param
 use Rattle.cdp_messages.specs.declared.command.Why.{Why}
 use Rattle.cdp_messages.specs.declared.command.Why.TheVariants.{NotJson, NoId, NoSession, NoMethod, BadParam}
-use Rattle.cdp_messages.specs.declared.command.WatchWord.{WatchWord}
-use Rattle.cdp_messages.specs.declared.command.WatchWord.TheVariants.{Subtree, Attribute, Removed}
 use Rattle.cdp_messages.specs.declared.edits.TextEdit.{TextEdit}
 use Rattle.cdp_messages.specs.declared.method.Method.{Method}
 use Rattle.cdp_messages.specs.declared.method.Method.TheVariants as method
-use Rattle.cdp_messages.specs.declared.ranges.SourceRange.{SourceRange}
+use Rattle.css_objects.specs.declared.ranges.SourceRange.{SourceRange}
 use Rattle.cdp_messages.specs.Methods.{name_of, all_methods, method_named, is_own, if_known, known_method}
 use Rattle.cdp_messages.specs.Parameters.{depth_number, place_fields, place_parts, place_from, place, edit_fields, edit_parts, edit_from, text_edit, allowed, one_there, one_of, depth_fields, children_fields, path_field, serials_field, node_field, query_fields, describe_fields, attribute_fields, name_fields, value_fields, move_fields, sheet_field, edits_field, selector_fields, sheet_text_fields, rule_fields, watch_fields, reading, command_by, Form, form, form_of}
 use Rattle.cdp_messages.specs.Asked.{refusal, of_method, command_for, params_of, unless_session, command_of, method_in, command_in, with_id, asked_in, asked_value, asked_by, json_of, method_of, method_name, parameters, fits_command, command_value, request}
 use Rattle.cdp_messages.specs.Laws.{AsksAreAsked, CommandsAreAsked, ParametersAreRead, ParametersArePlain, CommandsAreNamed, AsksFit}
 use Rattle.cdp_messages.specs.Answers.{Asks}
-use Rattle.cdp_messages.specs.Events.{is_object, watch_name, all_watches, watch}
+use Rattle.cdp_messages.specs.Events.{is_object, watch}
 use Rattle.cdp_messages.specs.Refusals.{param_name}
 use Rattle.cdp_messages.specs.declared.command.ReadErr.{ReadErr}
 use Rattle.cdp_messages.proofs.Options.{both, both_parts, and_then_some}

@@ -6,6 +6,7 @@ use Rattle.serde_json.specs.View.{items_of}
 use Rattle.serde_json.specs.Written.{has_float, items_have_float, members_have_float}
 use Rattle.cdp_json.specs.Kinds.{whole, any_items}
 use Rattle.cdp_json.specs.Rows.{maybe_member}
+use Rattle.css_objects.proofs.Objects.{class_names_sound, sheet_text_sound, styles_sound, new_selectors_sound, new_rule_sound, matched_sound}
 use Rattle.node_tree.specs.Labels.{Pair, is_element, holds}
 use Rattle.node_tree.specs.Nodes.{Nodes, none, node, Branch}
 use Rattle.node_tree.specs.Seen.{is_opened}
@@ -14,8 +15,8 @@ use Rattle.cdp_messages.specs.NodeObject.{flat, attribute_list, node_type, node_
 use Rattle.cdp_messages.specs.NodeData.{tree_items, tree_data}
 use Rattle.cdp_messages.specs.Asked.{command_value, is_whole_where_there}
 use Rattle.cdp_messages.specs.declared.down.ReplyBody.{ReplyBody}
-use Rattle.cdp_messages.specs.declared.down.ReplyBody.TheVariants.{Nothing, Root, NodeId, NodeIds}
-use Rattle.cdp_messages.specs.Events.{News, attribute_modified, attribute_removed, text_modified, count_updated, inserted, removed, set_children, document_updated, paused, news_data}
+use Rattle.cdp_messages.specs.declared.down.ReplyBody.TheVariants.{Nothing, Root, Node, NodeId, NodeIds, Attributes, ClassNames, SheetText, Styles, Selectors, Rule, Matched}
+use Rattle.cdp_messages.specs.Events.{News, attribute_modified, attribute_removed, text_modified, count_updated, inserted, removed, set_children, document_updated, sheet_added, sheet_changed, sheet_removed, paused, news_data}
 use Rattle.cdp_messages.specs.declared.down.PauseData.TheVariants as pause
 use Rattle.cdp_messages.specs.Replies.{reply, message_data, body_data}
 
@@ -87,8 +88,16 @@ numbers_free (n ∷ ns) = numbers_free ns
 pub has_float-reply : (id : ℕ) (body : ReplyBody) → has_float (message_data (reply id (body_data body))) ≡ false
 has_float-reply id Nothing = refl
 has_float-reply id (Root tree) = either (either (tree_free tree) refl) refl
+has_float-reply id (Node tree) = either (either (tree_free tree) refl) refl
 has_float-reply id (NodeId n) = refl
 has_float-reply id (NodeIds ns) = either (either (numbers_free ns) refl) refl
+has_float-reply id (Attributes pairs) = either (either (texts_free (flat pairs)) refl) refl
+has_float-reply id (ClassNames names) = either (class_names_sound.no_float names) refl
+has_float-reply id (SheetText text) = either (sheet_text_sound.no_float text) refl
+has_float-reply id (Styles styles) = either (styles_sound.no_float styles) refl
+has_float-reply id (Selectors selectors) = either (new_selectors_sound.no_float selectors) refl
+has_float-reply id (Rule rule) = either (new_rule_sound.no_float rule) refl
+has_float-reply id (Matched matched) = either (matched_sound.no_float matched) refl
 
 pub has_float-news : (n : News) → has_float (news_data n) ≡ false
 has_float-news (attribute_modified id m value) = refl
@@ -99,6 +108,9 @@ has_float-news (inserted parent previous b) = either (either (tree_free b) refl)
 has_float-news (removed parent id) = refl
 has_float-news (set_children parent nodes) = either (either (trees_free nodes) refl) refl
 has_float-news document_updated = refl
+has_float-news (sheet_added header) = refl
+has_float-news (sheet_changed sheet) = refl
+has_float-news (sheet_removed sheet) = refl
 has_float-news (paused (pause.Subtree id target insertion)) = refl
 has_float-news (paused (pause.Attribute id)) = refl
 has_float-news (paused (pause.Removed id)) = refl

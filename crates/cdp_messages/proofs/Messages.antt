@@ -1,37 +1,48 @@
 -- The laws of the messages.
-use Rattle.std.proofs.Common.{◌≡◌, ℕ, ◌≤◌, List, Bool, true, false, cond, Option, Some, None, option_map, option_and_then, refl, sym, ap, ◌∙◌, subst, arith}
-use Rattle.std.specs.Prelude.{codes, IsUtf8, ℤ, ◌⊎◌, bytes_eq, nat_lt, ⊤}
+use Rattle.std.proofs.Common.{◌≡◌, ℕ, ◌≤◌, List, [], Bool, true, false, Option, Some, None, option_map, option_and_then, refl, sym, ap, ◌∙◌, subst, arith}
+use Rattle.std.specs.Prelude.{codes, IsUtf8, ℤ, ◌⊎◌, ⊤}
 use Rattle.std.proofs.lemmas.Slice.Eq.{bytes_eq-Decides}
 use Rattle.std.proofs.Common.{inl, inr}
 use Rattle.json.proofs.Printed.Utf8.{IsUtf8-are_ascii}
-use Rattle.serde_json.specs.Data.{Data, depth}
+use Rattle.serde_json.specs.Data.{Data, null, boolean, number, string, array, object, Members, no_members, member, depth}
 use Rattle.serde_json.specs.Read.{max_depth}
 use Rattle.serde_json.specs.Written.{compact_text}
 use Rattle.cdp_json.specs.Plain.{is_plain, HasUtf8}
-use Rattle.cdp_json.specs.Kinds.{is_counted, is_signed, holds_of_some}
+use Rattle.cdp_json.specs.Kinds.{Kind, passes, named, is_counted, is_signed, holds_of_some}
+use Rattle.css_objects.specs.Laws.{IsSound}
 use Rattle.cdp_json.specs.Lawful.{LawfulKind}
 use Rattle.cdp_json.specs.Rows.{unit_if}
-use Rattle.cdp_json.proofs.KindLaws.{whole_lawful, signed_lawful, text_lawful, anything_lawful, refined_lawful, only_text_lawful, list_lawful}
+use Rattle.cdp_json.proofs.KindLaws.{same_name, whole_lawful, signed_lawful, text_lawful, anything_lawful, refined_lawful, list_lawful}
 use Rattle.cdp_json.proofs.RowLaws.{ends_lawful, and_need_lawful, and_may_lawful, object_lawful}
 use Rattle.cdp_json.proofs.ReadBack.{read-compact_text, IsUtf8-compact_text}
+use Rattle.css_objects.proofs.Objects.{class_names_sound, sheet_text_sound, styles_sound, new_selectors_sound, new_rule_sound, matched_sound}
+use Rattle.css_objects.specs.Results.{sheet_text_result, class_names_result, styles_result, selectors_result, rule_result}
+use Rattle.css_objects.specs.Rules.{matched_kind}
 use Rattle.cdp_messages.specs.declared.command.Param.{Param}
 use Rattle.cdp_messages.specs.declared.command.Param.TheVariants as param
 use Rattle.cdp_messages.specs.declared.command.Why.{Why}
 use Rattle.cdp_messages.specs.declared.command.Why.TheVariants.{NotJson, NoId, BadRequest, NoSession, NoMethod, BadParam, DomOff, CssOff, UnknownNode, NotPushed, NoPath, BadQuery, Crossed, NoNode, NotElement, NotText, IsDocument, NotChild, Inside, TooDeep, TooMany, BadName, NoAttr, NotContainer, NoSheet, NotMutable, BadRange, BadText, BadSelector, BadPlace, TooBig}
 use Rattle.cdp_messages.specs.declared.command.Refused.{Refused}
 use Rattle.cdp_messages.specs.declared.down.ReplyBody.{ReplyBody}
-use Rattle.cdp_messages.specs.declared.down.ReplyBody.TheVariants.{Nothing, Root, NodeId, NodeIds}
+use Rattle.cdp_messages.specs.declared.down.ReplyBody.TheVariants.{Nothing, Root, Node, NodeId, NodeIds, Attributes, ClassNames, SheetText, Styles, Selectors, Rule, Matched}
+use Rattle.cdp_messages.specs.declared.method.Method.{Method}
+use Rattle.cdp_messages.specs.declared.result_forms.ResultForm.{ResultForm}
+use Rattle.cdp_messages.specs.declared.result_forms.ResultForm.TheVariants as form
 use Rattle.cdp_messages.specs.Refusals.{code_of, text_of}
-use Rattle.node_tree.specs.Nodes.{Branch}
-use Rattle.cdp_messages.specs.Told.{Told}
-use Rattle.cdp_messages.specs.NodeData.{fits_tree}
+use Rattle.node_tree.specs.Labels.{Pair}
+use Rattle.cdp_messages.specs.declared.node_rules.Manner.TheVariants.{Pushed, Described}
+use Rattle.cdp_messages.specs.NodeData.{fits_tree, fits_described_tree}
 use Rattle.cdp_messages.specs.Asked.{json_of, request}
-use Rattle.cdp_messages.specs.Events.{is_object, News, news_data, fits_news, news_in}
-use Rattle.cdp_messages.specs.Replies.{Message, reply, fault, event, reply_kind, error_kind, fault_kind, reply_from, fault_from, or_else, message_data, fits_message, message_in, root_kind, root_from, id_kind, ids_kind, nothing_from, id_from, ids_from, body_data, fits_body, result_of, refusal_message}
-use Rattle.cdp_messages.specs.Laws.{RepliesAreRead, EventsAreRead, RefusalsAreRead, answers, ResultsAreRead, MessagesAreSpelled, Spells, ResultsAreSpelled, OneMessage, OneResult}
+use Rattle.cdp_messages.specs.Events.{is_object, news_in}
+use Rattle.cdp_messages.specs.Replies.{Message, reply, fault, event, reply_kind, error_kind, fault_kind, reply_from, fault_from, or_else, message_data, fits_message, message_in, body_data, fits_body, form_of_body, result_by, result_of_method, result_of, refusal_message}
+use Rattle.cdp_messages.specs.Methods.{method_named}
+use Rattle.cdp_messages.specs.Results.{nothing_kind, root_kind, node_kind, id_kind, ids_kind, are_attributes, attributes_kind, result_form, first_field, all_forms, is_form}
+use Rattle.cdp_messages.specs.NodeObject.{flat}
+use Rattle.cdp_messages.specs.Laws.{RepliesAreRead, EventsAreRead, RefusalsAreRead, MessagesAreRead, FaultsAreRead, ObjectsAreEmpty, has_result, answers, ResultsAreRead, MessagesAreSpelled, Spells, ResultsAreSpelled, OneMessage, OneResult}
 use Rattle.cdp_messages.proofs.Options.{both, both_parts, map_some}
 use Rattle.cdp_messages.proofs.FrameBytes.{json_is}
-use Rattle.cdp_messages.proofs.NodeTrees.{document_lawful, tree_plain}
+use Rattle.cdp_messages.proofs.NodeObjects.{attributes_lawful, flat_fits}
+use Rattle.cdp_messages.proofs.NodeTrees.{document_lawful, described_lawful, tree_plain}
 use Rattle.cdp_messages.proofs.NewsLaws.{news_again, news_take, news_plain}
 
 -- ---- the descriptions are lawful
@@ -53,6 +64,12 @@ request_lawful = object_lawful (and_need_lawful _ whole_lawful (and_need_lawful 
 
 pub id_lawful : LawfulKind id_kind
 id_lawful = object_lawful (and_need_lawful _ whole_lawful ends_lawful refl)
+
+node_lawful : LawfulKind node_kind
+node_lawful = object_lawful (and_need_lawful _ described_lawful ends_lawful refl)
+
+attribute_result_lawful : LawfulKind attributes_kind
+attribute_result_lawful = object_lawful (and_need_lawful _ (refined_lawful are_attributes attributes_lawful) ends_lawful refl)
 
 pub ids_lawful : LawfulKind ids_kind
 ids_lawful = object_lawful (and_need_lawful _ (list_lawful whole_lawful) ends_lawful refl)
@@ -98,97 +115,162 @@ one_message m n fm fn e = let same : Some m ≡ Some n = sym (message_again m fm
 
 -- ---- results
 
-named_read : (name method : List ℕ) (body : ReplyBody) → bytes_eq method name ≡ true → result_of name (body_data body) ≡ Some body → result_of method (body_data body) ≡ Some body
-named_read name method body e r = subst (λ m. result_of m (body_data body) ≡ Some body) (sym ((bytes_eq-Decides method name).0 e)) r
+-- the fields of one member fit where its value does
+attributes_there : (pairs : List Pair) → are_attributes pairs ≡ true → attributes_kind.fits (pairs, tt) ≡ true
+attributes_there pairs f = both (both (flat_fits (flat pairs)) f) refl
 
-root_read : (tree : Branch Told) → fits_tree true tree ≡ true → result_of (codes "DOM.getDocument") (body_data (Root tree)) ≡ Some (Root tree)
-root_read tree f = ap (option_map root_from) (root_lawful.again (tree, tt) (both f refl))
+form_again : (f : ResultForm) → named first_field all_forms (first_field f) ≡ Some f
+form_again form.Nothing = refl
+form_again form.Root = refl
+form_again form.Node = refl
+form_again form.NodeId = refl
+form_again form.NodeIds = refl
+form_again form.Attributes = refl
+form_again form.ClassNames = refl
+form_again form.SheetText = refl
+form_again form.Styles = refl
+form_again form.Selectors = refl
+form_again form.Rule = refl
+form_again form.Matched = refl
 
-id_read : (id : ℕ) → fits_body (NodeId id) ≡ true → result_of (codes "DOM.pushNodeByPathToFrontend") (body_data (NodeId id)) ≡ Some (NodeId id)
-id_read id f = ap (option_map id_from) (id_lawful.again (id, tt) f)
+same_form : (f g : ResultForm) → first_field f ≡ first_field g → f ≡ g
+same_form f g e = let same : ◌≡◌ {A = Option ResultForm} (Some f) (Some g) = sym (form_again f) ∙ ap (named first_field all_forms) e ∙ form_again g in cc
 
-ids_read : (ids : List ℕ) → fits_body (NodeIds ids) ≡ true → result_of (codes "DOM.pushNodesByBackendIdsToFrontend") (body_data (NodeIds ids)) ≡ Some (NodeIds ids)
-ids_read ids f = ap (option_map ids_from) (ids_lawful.again (ids, tt) f)
+form_itself : (f : ResultForm) → is_form f f ≡ true
+form_itself f = same_name (first_field f)
+
+-- each result is read by its form
+by_again : (body : ReplyBody) → fits_body body ≡ true → result_by (form_of_body body) (body_data body) ≡ Some body
+by_again Nothing f = refl
+by_again (Root tree) f = ap (option_map (λ x. Root x.0)) (root_lawful.again (tree, tt) (both f refl))
+by_again (Node tree) f = ap (option_map (λ x. Node x.0)) (node_lawful.again (tree, tt) (both f refl))
+by_again (NodeId id) f = ap (option_map (λ x. NodeId x.0)) (id_lawful.again (id, tt) f)
+by_again (NodeIds ids) f = ap (option_map (λ x. NodeIds x.0)) (ids_lawful.again (ids, tt) f)
+by_again (Attributes pairs) f = ap (option_map (λ x. Attributes x.0)) (attribute_result_lawful.again (pairs, tt) (attributes_there pairs f))
+by_again (ClassNames names) f = ap (option_map (λ x. ClassNames x)) (class_names_sound.lawful.again names f)
+by_again (SheetText text) f = ap (option_map (λ x. SheetText x)) (sheet_text_sound.lawful.again text f)
+by_again (Styles styles) f = ap (option_map (λ x. Styles x)) (styles_sound.lawful.again styles f)
+by_again (Selectors selectors) f = ap (option_map (λ x. Selectors x)) (new_selectors_sound.lawful.again selectors f)
+by_again (Rule rule) f = ap (option_map (λ x. Rule x)) (new_rule_sound.lawful.again rule f)
+by_again (Matched matched) f = ap (option_map (λ x. Matched x)) (matched_sound.lawful.again matched f)
+
+-- a method with such a result
+has_form : (o : Option Method) (body : ReplyBody) → has_result o body ≡ true → (m : Method) × (o ≡ Some m) × (result_form m ≡ form_of_body body)
+has_form None body e = absurd cc
+has_form (Some m) body e = (m, refl, same_form (result_form m) (form_of_body body) ((bytes_eq-Decides _ _).0 e))
+
+-- what is read of a method with such a result is what its form reads
+read_by_form : (method : List ℕ) (body : ReplyBody) (d : Data) → answers method body ≡ true → result_of method d ≡ result_by (form_of_body body) d
+read_by_form method body d a =
+    let p = has_form (method_named method) body a in
+    ap (λ o. result_of_method o d) p.1 ∙ ap (λ f. result_by f d) p.2
 
 pub results_are_read : ResultsAreRead
-results_are_read method Nothing a f = named_read (codes "DOM.requestChildNodes") method Nothing a refl
-results_are_read method (Root tree) a f = named_read (codes "DOM.getDocument") method (Root tree) a (root_read tree f)
-results_are_read method (NodeId id) a f = named_read (codes "DOM.pushNodeByPathToFrontend") method (NodeId id) a (id_read id f)
-results_are_read method (NodeIds ids) a f = named_read (codes "DOM.pushNodesByBackendIdsToFrontend") method (NodeIds ids) a (ids_read ids f)
+results_are_read method body a f = read_by_form method body (body_data body) a ∙ by_again body f
 
-one_arm : {A : Type 0} (b : Bool) (o p : Option A) (x : A) → cond b o p ≡ Some x → ((b ≡ true) × (o ≡ Some x)) ⊎ (p ≡ Some x)
-one_arm true o p x e = inl (refl, e)
-one_arm false o p x e = inr e
+pub objects_are_empty : ObjectsAreEmpty
+objects_are_empty method ms a = read_by_form method Nothing (object ms) a
 
-abbrev IsResult : List ℕ → Data → ReplyBody → Type 0
-IsResult method d body = Spells body d × (fits_body body ≡ true) × (answers method body ≡ true)
-
-root_spelled : (method : List ℕ) (d : Data) (body : ReplyBody) → bytes_eq method (codes "DOM.getDocument") ≡ true → option_map root_from (root_kind.reads d) ≡ Some body → IsResult method d body
-root_spelled method d body a e =
-    let p = map_some root_from (root_kind.reads d) body e in
-    let t = root_lawful.takes d p.0 p.1 in
-    subst (IsResult method d) p.2 (sym t.0, (both_parts (fits_tree true p.0.0) true t.1).0, a)
+-- what a form reads is a result of that form
+record IsRead (f : ResultForm) (d : Data) (body : ReplyBody) : Type 0 where
+  spells : Spells body d
+  fits : fits_body body ≡ true
+  form : form_of_body body ≡ f
 
 unit_is : (b : Bool) (x : ⊤) → unit_if b ≡ Some x → b ≡ true
 unit_is true x e = refl
 unit_is false x e = absurd cc
 
-nothing_spelled : (method : List ℕ) (d : Data) (body : ReplyBody) → bytes_eq method (codes "DOM.requestChildNodes") ≡ true → option_map nothing_from (unit_if (is_object d)) ≡ Some body → IsResult method d body
-nothing_spelled method d body a e =
-    let p = map_some nothing_from (unit_if (is_object d)) body e in
-    subst (IsResult method d) p.2 (unit_is (is_object d) p.0 p.1, refl, a)
-
-id_spelled : (method : List ℕ) (d : Data) (body : ReplyBody) → bytes_eq method (codes "DOM.pushNodeByPathToFrontend") ≡ true → option_map id_from (id_kind.reads d) ≡ Some body → IsResult method d body
-id_spelled method d body a e =
-    let p = map_some id_from (id_kind.reads d) body e in
+by_takes : (f : ResultForm) (d : Data) (body : ReplyBody) → result_by f d ≡ Some body → IsRead f d body
+by_takes form.Nothing d body e =
+    let p = map_some (λ _. Nothing) (nothing_kind.reads d) body e in
+    subst (IsRead form.Nothing d) p.2 (record { spells = unit_is (is_object d) p.0 p.1; fits = refl; form = refl })
+by_takes form.Root d body e =
+    let p = map_some (λ x. Root x.0) (root_kind.reads d) body e in
+    let t = root_lawful.takes d p.0 p.1 in
+    subst (IsRead form.Root d) p.2 (record { spells = sym t.0; fits = (both_parts (fits_tree true p.0.0) true t.1).0; form = refl })
+by_takes form.Node d body e =
+    let p = map_some (λ x. Node x.0) (node_kind.reads d) body e in
+    let t = node_lawful.takes d p.0 p.1 in
+    subst (IsRead form.Node d) p.2 (record { spells = sym t.0; fits = (both_parts (fits_described_tree p.0.0) true t.1).0; form = refl })
+by_takes form.NodeId d body e =
+    let p = map_some (λ x. NodeId x.0) (id_kind.reads d) body e in
     let t = id_lawful.takes d p.0 p.1 in
-    subst (IsResult method d) p.2 (sym t.0, t.1, a)
-
-ids_spelled : (method : List ℕ) (d : Data) (body : ReplyBody) → bytes_eq method (codes "DOM.pushNodesByBackendIdsToFrontend") ≡ true → option_map ids_from (ids_kind.reads d) ≡ Some body → IsResult method d body
-ids_spelled method d body a e =
-    let p = map_some ids_from (ids_kind.reads d) body e in
+    subst (IsRead form.NodeId d) p.2 (record { spells = sym t.0; fits = t.1; form = refl })
+by_takes form.NodeIds d body e =
+    let p = map_some (λ x. NodeIds x.0) (ids_kind.reads d) body e in
     let t = ids_lawful.takes d p.0 p.1 in
-    subst (IsResult method d) p.2 (sym t.0, t.1, a)
+    subst (IsRead form.NodeIds d) p.2 (record { spells = sym t.0; fits = t.1; form = refl })
+by_takes form.Attributes d body e =
+    let p = map_some (λ x. Attributes x.0) (attributes_kind.reads d) body e in
+    let t = attribute_result_lawful.takes d p.0 p.1 in
+    subst (IsRead form.Attributes d) p.2 (record { spells = sym t.0; fits = (both_parts _ (are_attributes p.0.0) (both_parts _ true t.1).0).1; form = refl })
+by_takes form.ClassNames d body e =
+    let p = map_some (λ x. ClassNames x) (class_names_result.reads d) body e in
+    let t = class_names_sound.lawful.takes d p.0 p.1 in
+    subst (IsRead form.ClassNames d) p.2 (record { spells = sym t.0; fits = t.1; form = refl })
+by_takes form.SheetText d body e =
+    let p = map_some (λ x. SheetText x) (sheet_text_result.reads d) body e in
+    let t = sheet_text_sound.lawful.takes d p.0 p.1 in
+    subst (IsRead form.SheetText d) p.2 (record { spells = sym t.0; fits = t.1; form = refl })
+by_takes form.Styles d body e =
+    let p = map_some (λ x. Styles x) (styles_result.reads d) body e in
+    let t = styles_sound.lawful.takes d p.0 p.1 in
+    subst (IsRead form.Styles d) p.2 (record { spells = sym t.0; fits = t.1; form = refl })
+by_takes form.Selectors d body e =
+    let p = map_some (λ x. Selectors x) (selectors_result.reads d) body e in
+    let t = new_selectors_sound.lawful.takes d p.0 p.1 in
+    subst (IsRead form.Selectors d) p.2 (record { spells = sym t.0; fits = t.1; form = refl })
+by_takes form.Rule d body e =
+    let p = map_some (λ x. Rule x) (rule_result.reads d) body e in
+    let t = new_rule_sound.lawful.takes d p.0 p.1 in
+    subst (IsRead form.Rule d) p.2 (record { spells = sym t.0; fits = t.1; form = refl })
+by_takes form.Matched d body e =
+    let p = map_some (λ x. Matched x) (matched_kind.reads d) body e in
+    let t = matched_sound.lawful.takes d p.0 p.1 in
+    subst (IsRead form.Matched d) p.2 (record { spells = sym t.0; fits = t.1; form = refl })
+
+method_takes : (o : Option Method) (d : Data) (body : ReplyBody) → result_of_method o d ≡ Some body → Spells body d × (fits_body body ≡ true) × (has_result o body ≡ true)
+method_takes None d body e = absurd cc
+method_takes (Some m) d body e =
+    let t = by_takes (result_form m) d body e in
+    (t.spells, t.fits, subst (λ f. is_form (result_form m) f ≡ true) (sym t.form) (form_itself (result_form m)))
 
 pub results_are_spelled : ResultsAreSpelled
-results_are_spelled method d body e = elim (one_arm (bytes_eq method (codes "DOM.getDocument")) _ _ body e) as (λ _. IsResult method d body) [
-  | inl r1 ↦ root_spelled method d body r1.0 r1.1
-  | inr e1 ↦ elim (one_arm (bytes_eq method (codes "DOM.requestChildNodes")) _ _ body e1) as (λ _. IsResult method d body) [
-    | inl r2 ↦ nothing_spelled method d body r2.0 r2.1
-    | inr e2 ↦ elim (one_arm (bytes_eq method (codes "DOM.pushNodeByPathToFrontend")) _ _ body e2) as (λ _. IsResult method d body) [
-      | inl r3 ↦ id_spelled method d body r3.0 r3.1
-      | inr e3 ↦ elim (one_arm (bytes_eq method (codes "DOM.pushNodesByBackendIdsToFrontend")) _ _ body e3) as (λ _. IsResult method d body) [
-        | inl r4 ↦ ids_spelled method d body r4.0 r4.1
-        | inr e4 ↦ absurd cc
-      ]
-    ]
-  ]
-]
+results_are_spelled method d body e = method_takes (method_named method) d body e
 
--- what a method has as its result is known by its value
-same_result : (method : List ℕ) (a b : ReplyBody) → result_of method (body_data a) ≡ Some a → result_of method (body_data b) ≡ Some b → body_data a ≡ body_data b → a ≡ b
-same_result method a b ra rb e = let same : Some a ≡ Some b = sym ra ∙ ap (result_of method) e ∙ rb in cc
+-- the name of an object's first member
+abbrev first_name : Members → List ℕ
+first_name no_members = []
+first_name (member k d ms) = k
 
-other_result : (method : List ℕ) (a b : ReplyBody) → result_of method (body_data a) ≡ Some a → result_of method (body_data b) ≡ None → body_data a ≡ body_data b → a ≡ b
-other_result method a b ra rb e = let clash : Some a ≡ None = sym ra ∙ ap (result_of method) e ∙ rb in absurd cc
+abbrev first_name_in : Data → List ℕ
+first_name_in null = []
+first_name_in (boolean b) = []
+first_name_in (number n) = []
+first_name_in (string s) = []
+first_name_in (array ds) = []
+first_name_in (object ms) = first_name ms
+
+told_by_name : (body : ReplyBody) → first_name_in (body_data body) ≡ first_field (form_of_body body)
+told_by_name Nothing = refl
+told_by_name (Root tree) = refl
+told_by_name (Node tree) = refl
+told_by_name (NodeId id) = refl
+told_by_name (NodeIds ids) = refl
+told_by_name (Attributes pairs) = refl
+told_by_name (ClassNames names) = refl
+told_by_name (SheetText text) = refl
+told_by_name (Styles styles) = refl
+told_by_name (Selectors selectors) = refl
+told_by_name (Rule rule) = refl
+told_by_name (Matched matched) = refl
 
 pub one_result : OneResult
-one_result Nothing Nothing fa fb e = refl
-one_result (Root a) (Root b) fa fb e = same_result (codes "DOM.getDocument") (Root a) (Root b) (root_read a fa) (root_read b fb) e
-one_result (NodeId a) (NodeId b) fa fb e = same_result (codes "DOM.pushNodeByPathToFrontend") (NodeId a) (NodeId b) (id_read a fa) (id_read b fb) e
-one_result (NodeIds a) (NodeIds b) fa fb e = same_result (codes "DOM.pushNodesByBackendIdsToFrontend") (NodeIds a) (NodeIds b) (ids_read a fa) (ids_read b fb) e
-one_result (Root a) Nothing fa fb e = other_result (codes "DOM.getDocument") (Root a) Nothing (root_read a fa) refl e
-one_result (Root a) (NodeId b) fa fb e = other_result (codes "DOM.getDocument") (Root a) (NodeId b) (root_read a fa) refl e
-one_result (Root a) (NodeIds b) fa fb e = other_result (codes "DOM.getDocument") (Root a) (NodeIds b) (root_read a fa) refl e
-one_result (NodeId a) Nothing fa fb e = other_result (codes "DOM.pushNodeByPathToFrontend") (NodeId a) Nothing (id_read a fa) refl e
-one_result (NodeId a) (Root b) fa fb e = other_result (codes "DOM.pushNodeByPathToFrontend") (NodeId a) (Root b) (id_read a fa) refl e
-one_result (NodeId a) (NodeIds b) fa fb e = other_result (codes "DOM.pushNodeByPathToFrontend") (NodeId a) (NodeIds b) (id_read a fa) refl e
-one_result (NodeIds a) Nothing fa fb e = other_result (codes "DOM.pushNodesByBackendIdsToFrontend") (NodeIds a) Nothing (ids_read a fa) refl e
-one_result (NodeIds a) (Root b) fa fb e = other_result (codes "DOM.pushNodesByBackendIdsToFrontend") (NodeIds a) (Root b) (ids_read a fa) refl e
-one_result (NodeIds a) (NodeId b) fa fb e = other_result (codes "DOM.pushNodesByBackendIdsToFrontend") (NodeIds a) (NodeId b) (ids_read a fa) refl e
-one_result Nothing (Root b) fa fb e = sym (other_result (codes "DOM.getDocument") (Root b) Nothing (root_read b fb) refl (sym e))
-one_result Nothing (NodeId b) fa fb e = sym (other_result (codes "DOM.pushNodeByPathToFrontend") (NodeId b) Nothing (id_read b fb) refl (sym e))
-one_result Nothing (NodeIds b) fa fb e = sym (other_result (codes "DOM.pushNodesByBackendIdsToFrontend") (NodeIds b) Nothing (ids_read b fb) refl (sym e))
+one_result a b fa fb e =
+    let form : form_of_body a ≡ form_of_body b = same_form (form_of_body a) (form_of_body b) (sym (told_by_name a) ∙ ap first_name_in e ∙ told_by_name b) in
+    let same : ◌≡◌ {A = Option ReplyBody} (Some a) (Some b) = sym (by_again a fa) ∙ (λ i. result_by (form i) (e i)) ∙ by_again b fb in
+    cc
 
 -- ---- texts
 
@@ -196,17 +278,36 @@ one_result Nothing (NodeIds b) fa fb e = sym (other_result (codes "DOM.pushNodes
 pub json_of-compact_text : (d : Data) → is_plain d ≡ true → depth d ≤ max_depth → IsUtf8 (compact_text d) → json_of (compact_text d) ≡ Some d
 json_of-compact_text d p s u = json_is (compact_text d) d u (read-compact_text d p s)
 
+sound_plain : {T : Type 0} {k : Kind T} {P : T → Type 0} {n : ℕ} → IsSound k P n → (x : T) → k.fits x ≡ true → is_plain (k.spell x) ≡ true
+sound_plain {T} {k} s x f = s.lawful.plain x f (ap (λ o. passes o x) s.tight)
+
 pub body_plain : (body : ReplyBody) → fits_body body ≡ true → is_plain (body_data body) ≡ true
 body_plain Nothing f = refl
-body_plain (Root tree) f = both (tree_plain true tree f) refl
+body_plain (Root tree) f = both (tree_plain Pushed true tree f) refl
+body_plain (Node tree) f = both (tree_plain Described true tree f) refl
 body_plain (NodeId id) f = id_lawful.plain (id, tt) f refl
 body_plain (NodeIds ids) f = ids_lawful.plain (ids, tt) f refl
+body_plain (Attributes pairs) f = attribute_result_lawful.plain (pairs, tt) (attributes_there pairs f) refl
+body_plain (ClassNames names) f = sound_plain class_names_sound names f
+body_plain (SheetText text) f = sound_plain sheet_text_sound text f
+body_plain (Styles styles) f = sound_plain styles_sound styles f
+body_plain (Selectors selectors) f = sound_plain new_selectors_sound selectors f
+body_plain (Rule rule) f = sound_plain new_rule_sound rule f
+body_plain (Matched matched) f = sound_plain matched_sound matched f
 
 body_object : (body : ReplyBody) → is_object (body_data body) ≡ true
 body_object Nothing = refl
 body_object (Root tree) = refl
+body_object (Node tree) = refl
 body_object (NodeId id) = refl
 body_object (NodeIds ids) = refl
+body_object (Attributes pairs) = refl
+body_object (ClassNames names) = refl
+body_object (SheetText text) = refl
+body_object (Styles styles) = refl
+body_object (Selectors selectors) = refl
+body_object (Rule rule) = refl
+body_object (Matched matched) = refl
 
 reply_fits : (id : ℕ) (body : ReplyBody) → is_counted id ≡ true → fits_message (reply id (body_data body)) ≡ true
 reply_fits id body c = both c (both (body_object body) refl)
@@ -214,12 +315,14 @@ reply_fits id body c = both c (both (body_object body) refl)
 pub reply_plain : (id : ℕ) (body : ReplyBody) → is_counted id ≡ true → fits_body body ≡ true → is_plain (message_data (reply id (body_data body))) ≡ true
 reply_plain id body c f = reply_lawful.plain (id, (body_data body, tt)) (reply_fits id body c) (body_plain body f)
 
+pub messages_are_read : MessagesAreRead
+messages_are_read m f p s u = ap (option_and_then message_in) (json_of-compact_text (message_data m) p s u) ∙ message_again m f
+
 pub replies_are_read : RepliesAreRead
-replies_are_read id body c f s u =
-    ap (option_and_then message_in) (json_of-compact_text (message_data (reply id (body_data body))) (reply_plain id body c f) s u) ∙ message_again (reply id (body_data body)) (reply_fits id body c)
+replies_are_read id body c f s u = messages_are_read (reply id (body_data body)) (reply_fits id body c) (reply_plain id body c f) s u
 
 pub events_are_read : EventsAreRead
-events_are_read n f s u = ap (option_and_then message_in) (json_of-compact_text (news_data n) (news_plain n f) s u) ∙ message_again (event n) f
+events_are_read n f s u = messages_are_read (event n) f (news_plain n f) s u
 
 -- ---- refusals
 
@@ -322,12 +425,15 @@ fault_shallow : (id : Option ℕ) (code : ℤ) (said : List ℕ) → depth (mess
 fault_shallow None code said = omega arith
 fault_shallow (Some id) code said = omega arith
 
+pub faults_are_read : FaultsAreRead
+faults_are_read id code said c k u =
+    let d = message_data (fault id code said) in
+    let f = both (both k refl) (both c refl) in
+    let p : is_plain d ≡ true = fault_lawful.plain ((code, (said, tt)), (id, tt)) f refl in
+    messages_are_read (fault id code said) f p (fault_shallow id code said) (IsUtf8-compact_text d p (fault_utf8 id code said u))
+
 pub refusal_plain : (r : Refused) → holds_of_some is_counted r.id ≡ true → is_plain (message_data (refusal_message r)) ≡ true
 refusal_plain r c = fault_lawful.plain ((code_of r.why, (text_of r.why, tt)), (r.id, tt)) (refusal_fits r c) refl
 
 pub refusals_are_read : RefusalsAreRead
-refusals_are_read r c =
-    let d = message_data (refusal_message r) in
-    let p = refusal_plain r c in
-    ap (option_and_then message_in) (json_of-compact_text d p (fault_shallow r.id (code_of r.why) (text_of r.why)) (IsUtf8-compact_text d p (fault_utf8 r.id (code_of r.why) (text_of r.why) (why_utf8 r.why))))
-    ∙ message_again (refusal_message r) (refusal_fits r c)
+refusals_are_read r c = faults_are_read r.id (code_of r.why) (text_of r.why) c (code_fits r.why) (why_utf8 r.why)

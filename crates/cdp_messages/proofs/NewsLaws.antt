@@ -1,24 +1,22 @@
 -- Events are read as they are written.
-use Rattle.std.proofs.Common.{◌≡◌, ℕ, List, Bool, true, false, ◌&&◌, Option, Some, None, option_map, option_and_then, refl, sym, ap, ◌∙◌, subst}
+use Rattle.std.proofs.Common.{◌≡◌, ℕ, Bool, true, Option, Some, None, option_map, option_and_then, refl, sym, ap, ◌∙◌, subst}
 use Rattle.std.specs.Prelude.{nat_lt, ⊤}
 use Rattle.serde_json.specs.Data.{Data, Items, no_items, item}
 use Rattle.node_tree.specs.Names.{is_attribute_name}
-use Rattle.node_tree.specs.Nodes.{Branch}
 use Rattle.cdp_json.specs.Plain.{is_plain}
-use Rattle.cdp_json.specs.Kinds.{Kind, passes, named, any_items, whole, text}
+use Rattle.cdp_json.specs.Kinds.{Kind, named}
 use Rattle.cdp_json.specs.Rows.{unit_if}
 use Rattle.cdp_json.specs.Lawful.{LawfulKind}
 use Rattle.cdp_json.proofs.KindLaws.{named_is, whole_lawful, text_lawful, flag_lawful, anything_lawful, any_items_lawful, refined_lawful, through_lawful, choice_lawful, only_text_lawful}
 use Rattle.cdp_json.proofs.RowLaws.{ends_lawful, and_need_lawful, and_may_lawful, object_lawful}
+use Rattle.css_objects.proofs.Objects.{sheet_sound, header_sound}
 use Rattle.cdp_messages.specs.declared.command.WatchWord.{WatchWord}
 use Rattle.cdp_messages.specs.declared.command.WatchWord.TheVariants.{Subtree, Attribute, Removed}
 use Rattle.cdp_messages.specs.declared.down.PauseData.{PauseData}
 use Rattle.cdp_messages.specs.declared.down.PauseData.TheVariants as pause
 use Rattle.cdp_messages.specs.declared.event_names.EventName.{EventName}
 use Rattle.cdp_messages.specs.declared.event_names.EventName.TheVariants as name
-use Rattle.cdp_messages.specs.Told.{Told}
-use Rattle.cdp_messages.specs.NodeData.{tree_of, fits_tree}
-use Rattle.cdp_messages.specs.Events.{News, attribute_modified, attribute_removed, text_modified, count_updated, inserted, removed, set_children, document_updated, paused, event_name, all_events, event_named, tree_kind, is_unopened, bare_kind, node_id, attribute_name, modified_kind, dropped_kind, data_kind, count_kind, inserted_kind, removed_kind, children_kind, empty_kind, watch_name, all_watches, watch, PauseFields, pause_fields, pause_by, pause_from, pause_kind, is_no_items, empty_list, paused_kind, NewsForm, news_form_of, news_form, envelope, news_data, fits_news, news_by, news_of_name, news_from, news_inside, news_in}
+use Rattle.cdp_messages.specs.Events.{News, attribute_modified, attribute_removed, text_modified, count_updated, inserted, removed, set_children, document_updated, sheet_added, sheet_changed, sheet_removed, paused, event_name, all_events, event_named, is_unopened, node_id, attribute_name, modified_kind, dropped_kind, data_kind, count_kind, inserted_kind, removed_kind, children_kind, added_kind, sheet_id_kind, empty_kind, watch_name, all_watches, watch, pause_fields, pause_by, pause_from, pause_kind, is_no_items, empty_list, paused_kind, NewsForm, news_form_of, news_form, envelope, news_data, fits_news, news_by, news_of_name, news_inside, news_in}
 use Rattle.cdp_messages.proofs.Options.{and_then_some, map_some}
 use Rattle.cdp_messages.proofs.NodeTrees.{nodes_lawful, tree_lawful}
 
@@ -56,6 +54,12 @@ children_lawful = object_lawful (and_need_lawful _ nodes_lawful (and_need_lawful
 
 empty_lawful : LawfulKind empty_kind
 empty_lawful = object_lawful ends_lawful
+
+added_lawful : LawfulKind added_kind
+added_lawful = object_lawful (and_need_lawful _ header_sound.lawful ends_lawful refl)
+
+sheet_id_lawful : LawfulKind sheet_id_kind
+sheet_id_lawful = object_lawful (and_need_lawful _ sheet_sound.lawful ends_lawful refl)
 
 pub first_watch : (w : WatchWord) → named watch_name all_watches (watch_name w) ≡ Some w
 first_watch Subtree = refl
@@ -107,6 +111,9 @@ named_again name.ChildNodeInserted = refl
 named_again name.ChildNodeRemoved = refl
 named_again name.SetChildNodes = refl
 named_again name.DocumentUpdated = refl
+named_again name.StyleSheetAdded = refl
+named_again name.StyleSheetChanged = refl
+named_again name.StyleSheetRemoved = refl
 named_again name.Paused = refl
 
 by_again : (n : News) → fits_news n ≡ true → news_by (news_form n).name (news_form n).params ≡ Some n
@@ -118,6 +125,9 @@ by_again (inserted parent previous node) f = ap (option_map (λ x. inserted x.1.
 by_again (removed parent node) f = ap (option_map (λ x. removed x.1.0 x.0)) (removed_lawful.again (node, (parent, tt)) f)
 by_again (set_children parent nodes) f = ap (option_map (λ x. set_children x.1.0 x.0)) (children_lawful.again (nodes, (parent, tt)) f)
 by_again document_updated f = refl
+by_again (sheet_added header) f = ap (option_map (λ x. sheet_added x.0)) (added_lawful.again (header, tt) f)
+by_again (sheet_changed sheet) f = ap (option_map (λ x. sheet_changed x.0)) (sheet_id_lawful.again (sheet, tt) f)
+by_again (sheet_removed sheet) f = ap (option_map (λ x. sheet_removed x.0)) (sheet_id_lawful.again (sheet, tt) f)
 by_again (paused why) f = ap (option_map (λ x. paused x.1.0)) (paused_lawful.again (tt, (why, (tt, tt))) f)
 
 pub news_params_plain : (n : News) → fits_news n ≡ true → is_plain (news_form n).params ≡ true
@@ -129,6 +139,9 @@ news_params_plain (inserted parent previous node) f = inserted_lawful.plain (nod
 news_params_plain (removed parent node) f = removed_lawful.plain (node, (parent, tt)) f refl
 news_params_plain (set_children parent nodes) f = children_lawful.plain (nodes, (parent, tt)) f refl
 news_params_plain document_updated f = refl
+news_params_plain (sheet_added header) f = added_lawful.plain (header, tt) f refl
+news_params_plain (sheet_changed sheet) f = sheet_id_lawful.plain (sheet, tt) f refl
+news_params_plain (sheet_removed sheet) f = sheet_id_lawful.plain (sheet, tt) f refl
 news_params_plain (paused why) f = paused_lawful.plain (tt, (why, (tt, tt))) f refl
 
 -- an event is of that name with these parameters, and fits
@@ -153,6 +166,9 @@ by_takes name.ChildNodeInserted d x e = taken inserted_lawful name.ChildNodeInse
 by_takes name.ChildNodeRemoved d x e = taken removed_lawful name.ChildNodeRemoved (λ y. removed y.1.0 y.0) (λ y. refl) d x e
 by_takes name.SetChildNodes d x e = taken children_lawful name.SetChildNodes (λ y. set_children y.1.0 y.0) (λ y. refl) d x e
 by_takes name.DocumentUpdated d x e = taken empty_lawful name.DocumentUpdated (λ y. document_updated) (λ y. refl) d x e
+by_takes name.StyleSheetAdded d x e = taken added_lawful name.StyleSheetAdded (λ y. sheet_added y.0) (λ y. refl) d x e
+by_takes name.StyleSheetChanged d x e = taken sheet_id_lawful name.StyleSheetChanged (λ y. sheet_changed y.0) (λ y. refl) d x e
+by_takes name.StyleSheetRemoved d x e = taken sheet_id_lawful name.StyleSheetRemoved (λ y. sheet_removed y.0) (λ y. refl) d x e
 by_takes name.Paused d x e = taken paused_lawful name.Paused (λ y. paused y.1.0) (λ y. refl) d x e
 
 -- ---- the whole event

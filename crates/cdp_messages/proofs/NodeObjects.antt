@@ -1,5 +1,5 @@
 -- A told row and its object say the same.
-use Rattle.std.proofs.Common.{◌≡◌, ℕ, ◌==◌, List, [], ◌∷◌, Bool, true, false, cond, nat_lt, Option, Some, None, bytes_eq, refl, sym, ap, ◌∙◌, arith, ◌≤◌, ltb-false, eqb-true}
+use Rattle.std.proofs.Common.{◌≡◌, ℕ, ◌==◌, List, [], ◌∷◌, Bool, true, false, not, ◌||◌, cond, nat_lt, Option, Some, None, bytes_eq, refl, sym, ap, ◌∙◌, arith, ◌≤◌, ltb-false, eqb-true}
 use Rattle.std.specs.Prelude.{is_some, unwrap_or}
 use Rattle.std.specs.List.{list_all}
 use Rattle.std.proofs.lemmas.Slice.Eq.{bytes_eq-Decides}
@@ -14,8 +14,10 @@ use Rattle.node_tree.specs.declared.Kind.{Kind}
 use Rattle.node_tree.specs.declared.Kind.TheVariants.{Document, Element, Text, Comment, Doctype}
 use Rattle.node_tree.specs.Labels.{Pair, Label, is_document, is_element, holds, has_name, has_value, is_empty, is_ascending, is_formed_label, is_named_label}
 use Rattle.node_tree.specs.Seen.{Hold, leaf, counted, opened, is_opened}
+use Rattle.cdp_messages.specs.declared.node_rules.Manner.{Manner}
+use Rattle.cdp_messages.specs.declared.node_rules.Manner.TheVariants.{Pushed, Described}
 use Rattle.cdp_messages.specs.Told.{Told, hold_of}
-use Rattle.cdp_messages.specs.NodeObject.{NodeObject, flat, paired, attribute_list, type_number, numbered, kind_of_type, node_type, Fields, fields_of, of_fields, node_fields, node_name, local_name, only_if, object_for, name_in, label_in, told_in, children_in, same, fits_hold, fits_place, is_counted_row, fits_row, agrees, tells, node_object}
+use Rattle.cdp_messages.specs.NodeObject.{NodeObject, flat, paired, attribute_list, type_number, numbered, kind_of_type, node_type, Fields, fields_of, of_fields, node_fields, node_name, local_name, only_if, object_for, name_in, label_in, told_in, children_in, same, fits_hold, fits_place, fits_told, is_counted_row, row_fits, agrees, tells, node_object}
 
 -- ---- the fields are lawful
 
@@ -30,7 +32,7 @@ flat_of_paired (name ∷ value ∷ rest) ps e =
     let p = map_some (λ qs. (name, value) ∷ qs) (paired rest) ps e in
     ap flat (sym p.2) ∙ ap (λ r. name ∷ value ∷ r) (flat_of_paired rest p.0 p.1)
 
-attributes_lawful : LawfulKind attribute_list
+pub attributes_lawful : LawfulKind attribute_list
 attributes_lawful = through_lawful flat paired flat_of_paired paired-flat (list_lawful text_lawful)
 
 numbered_at : {T : Type 0} (number : T → ℕ) (y : T) (xs : List T) (n : ℕ) (x : T) (b : Bool) → (number y == n) ≡ b
@@ -68,8 +70,8 @@ fields_lawful = through_lawful fields_of (λ f. Some (of_fields f)) of_fields_on
     (and_need_lawful _ text_lawful
     (and_may_lawful _ whole_lawful ends_lawful refl) refl) refl) refl) refl) refl) refl) refl) refl) refl))
 
-pub object_lawful_at : (top : Bool) → LawfulKind (node_object top)
-object_lawful_at top = refined_lawful (tells top) fields_lawful
+pub object_lawful_at : (m : Manner) (top : Bool) → LawfulKind (node_object m top)
+object_lawful_at m top = refined_lawful (tells m top) fields_lawful
 
 -- ---- an object that tells a node is that of the row that it tells
 
@@ -97,9 +99,9 @@ object_is : (o : NodeObject) (attributes : Option (List Pair)) (count : Option �
     → record o { attributes = attributes; count = count; children = children; local_name = local; name = name; parent = parent } ≡ o
 object_is o attributes count children local name parent a c k l n p = λ i. record o { attributes = a i; count = c i; children = k i; local_name = l i; name = n i; parent = p i }
 
-pub object_for-told_in : (top : Bool) (o : NodeObject) → tells top o ≡ true → object_for (told_in o) (children_in o) ≡ o
-object_for-told_in top o t =
-    let a = (both_parts (agrees o) (fits_place top (items_len (children_in o)) (told_in o)) t).0 in
+pub object_for-told_in : (m : Manner) (top : Bool) (o : NodeObject) → tells m top o ≡ true → object_for (told_in o) (children_in o) ≡ o
+object_for-told_in m top o t =
+    let a = (both_parts (agrees o) (fits_told m top (items_len (children_in o)) (told_in o)) t).0 in
     let p5 = both_parts _ (holds_of_some (nat_lt 0) o.parent) a in
     let p4 = both_parts _ (bytes_eq o.name (node_name (label_in o))) p5.0 in
     let p3 = both_parts _ (bytes_eq o.local_name (local_name (label_in o))) p4.0 in
@@ -169,15 +171,31 @@ placed top width r f =
     let p1 = both_parts (nat_lt 0 r.seen.id) (nat_lt 0 r.seen.serial) p2.0 in
     record { id = p1.0; serial = p1.1; formed = p2.1; named = p3.1; at_top = p4.1; parent = p5.1; hold = p6.1 }
 
+-- the parts that are the same in both manners
+pub record Standing (width : ℕ) (r : Told) : Type 0 where
+  pub formed : is_formed_label r.seen.label ≡ true
+  pub named : is_named_label r.seen.label ≡ true
+  pub hold : fits_hold r.seen.hold (holds r.seen.label.kind) r.count width ≡ true
+
+pub standing : (m : Manner) (top : Bool) (width : ℕ) (r : Told) → fits_told m top width r ≡ true → Standing width r
+standing Pushed top width r f = let p = placed top width r f in record { formed = p.formed; named = p.named; hold = p.hold }
+standing Described top width r f =
+    let p6 = both_parts _ (fits_hold r.seen.hold (holds r.seen.label.kind) r.count width) f in
+    let p5 = both_parts _ (r.parent == 0) p6.0 in
+    let p4 = both_parts _ (top || not (is_document r.seen.label.kind)) p5.0 in
+    let p3 = both_parts _ (is_named_label r.seen.label) p4.0 in
+    let p2 = both_parts _ (is_formed_label r.seen.label) p3.0 in
+    record { formed = p2.1; named = p3.1; hold = p6.1 }
+
 -- the row is told again
 told_is : (r : Told) (parent count : ℕ) (name : List ℕ) (attributes : List Pair) (hold : Hold) → parent ≡ r.parent → count ≡ r.count → name ≡ r.seen.label.name → attributes ≡ r.seen.label.attributes → hold ≡ r.seen.hold
     → record r { parent = parent; count = count; seen = record r.seen { label = record r.seen.label { name = name; attributes = attributes }; hold = hold } } ≡ r
 told_is r parent count name attributes hold p c n a h =
     λ i. record r { parent = p i; count = c i; seen = record r.seen { label = record r.seen.label { name = n i; attributes = a i }; hold = h i } }
 
-pub told_in-object_for : (top : Bool) (width : ℕ) (r : Told) (ds : Items) → fits_place top width r ≡ true → told_in (object_for r ds) ≡ r
-told_in-object_for top width r ds f =
-    let p = placed top width r f in
+pub told_in-object_for : (m : Manner) (top : Bool) (width : ℕ) (r : Told) (ds : Items) → fits_told m top width r ≡ true → told_in (object_for r ds) ≡ r
+told_in-object_for m top width r ds f =
+    let p = standing m top width r f in
     let l = r.seen.label in
     let q2 = both_parts _ (cond (has_value l.kind) true (is_empty l.value)) p.formed in
     let q1 = both_parts (cond (is_element l.kind) (is_ascending l.attributes) (is_empty l.attributes)) (cond (has_name l.kind) true (is_empty l.name)) q2.0 in
@@ -210,16 +228,19 @@ same_hold leaf container count width ds w f = f
 same_hold (counted n) container count width ds w f = f
 same_hold opened container count width ds w f = rw w f
 
-same_place : (top : Bool) (width : ℕ) (r : Told) (ds : Items) → items_len ds ≡ width → fits_place top width r ≡ true
-    → fits_place top (items_len (children_in (object_for r ds))) r ≡ true
-same_place top width r ds w f =
+same_place : (m : Manner) (top : Bool) (width : ℕ) (r : Told) (ds : Items) → items_len ds ≡ width → fits_told m top width r ≡ true
+    → fits_told m top (items_len (children_in (object_for r ds))) r ≡ true
+same_place Pushed top width r ds w f =
+    let p6 = both_parts _ (fits_hold r.seen.hold (holds r.seen.label.kind) r.count width) f in
+    both p6.0 (same_hold r.seen.hold (holds r.seen.label.kind) r.count width ds w p6.1)
+same_place Described top width r ds w f =
     let p6 = both_parts _ (fits_hold r.seen.hold (holds r.seen.label.kind) r.count width) f in
     both p6.0 (same_hold r.seen.hold (holds r.seen.label.kind) r.count width ds w p6.1)
 
-pub tells-object_for : (top : Bool) (width : ℕ) (r : Told) (ds : Items) → items_len ds ≡ width → fits_place top width r ≡ true → tells top (object_for r ds) ≡ true
-tells-object_for top width r ds w f =
-    let e = told_in-object_for top width r ds f in
-    both (agrees-object_for r ds e) (ap (fits_place top (items_len (children_in (object_for r ds)))) e ∙ same_place top width r ds w f)
+pub tells-object_for : (m : Manner) (top : Bool) (width : ℕ) (r : Told) (ds : Items) → items_len ds ≡ width → fits_told m top width r ≡ true → tells m top (object_for r ds) ≡ true
+tells-object_for m top width r ds w f =
+    let e = told_in-object_for m top width r ds f in
+    both (agrees-object_for r ds e) (ap (fits_told m top (items_len (children_in (object_for r ds)))) e ∙ same_place m top width r ds w f)
 
 -- its fields fit
 
@@ -227,7 +248,7 @@ counted_only : (b : Bool) (n : ℕ) → is_counted n ≡ true → holds_of_some 
 counted_only true n c = c
 counted_only false n c = refl
 
-flat_fits : (ps : List (List ℕ)) → list_all text.fits ps ≡ true
+pub flat_fits : (ps : List (List ℕ)) → list_all text.fits ps ≡ true
 flat_fits [] = refl
 flat_fits (s ∷ ss) = flat_fits ss
 
@@ -268,7 +289,7 @@ fields_fit r ds f =
     (both refl (both c.id (both refl (both (type_fits k) (both refl (both (counted_only (nat_lt 0 r.parent) r.parent c.parent) refl)))))))))
 
 -- a row that fits has an object that is read
-pub object_fits : (top : Bool) (width : ℕ) (r : Told) (ds : Items) → items_len ds ≡ width → fits_row top width r ≡ true → (node_object top).fits (object_for r ds) ≡ true
-object_fits top width r ds w f =
-    let p = both_parts (is_counted_row r) (fits_place top width r) f in
-    both (fields_fit r ds p.0) (tells-object_for top width r ds w p.1)
+pub object_fits : (m : Manner) (top : Bool) (width : ℕ) (r : Told) (ds : Items) → items_len ds ≡ width → row_fits m top width r ≡ true → (node_object m top).fits (object_for r ds) ≡ true
+object_fits m top width r ds w f =
+    let p = both_parts (is_counted_row r) (fits_told m top width r) f in
+    both (fields_fit r ds p.0) (tells-object_for m top width r ds w p.1)

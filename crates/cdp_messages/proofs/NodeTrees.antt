@@ -10,23 +10,25 @@ use Rattle.cdp_json.specs.Rows.{members_of}
 use Rattle.node_tree.specs.Nodes.{Nodes, none, node, Branch, width}
 use Rattle.node_tree.specs.Seen.{is_opened}
 use Rattle.node_tree.specs.Labels.{holds}
+use Rattle.cdp_messages.specs.declared.node_rules.Manner.{Manner}
+use Rattle.cdp_messages.specs.declared.node_rules.Manner.TheVariants.{Pushed, Described}
 use Rattle.cdp_messages.specs.Told.{Told, hold_of}
-use Rattle.cdp_messages.specs.NodeObject.{NodeObject, Fields, attribute_list, node_type, agrees, node_row, fields_of, node_fields, node_data, object_for, told_in, children_in, only_if, fits_row, fits_place, is_counted_row, tells, node_object}
-use Rattle.cdp_messages.specs.NodeData.{tree_items, tree_data, is_none, fits_below, fits_nodes, fits_tree, over, before, tree_of, children_of, trees_in, trees_of}
+use Rattle.cdp_messages.specs.NodeObject.{NodeObject, Fields, attribute_list, node_type, agrees, node_row, fields_of, node_fields, node_data, object_for, told_in, children_in, only_if, row_fits, fits_told, is_counted_row, tells, node_object}
+use Rattle.cdp_messages.specs.NodeData.{tree_items, tree_data, is_none, fits_below, nodes_fit, fits_nodes, tree_fits, fits_tree, over, before, tree_of, children_of, trees_in, trees_of}
 use Rattle.cdp_messages.specs.Events.{nodes_kind, tree_kind}
-use Rattle.cdp_messages.specs.Replies.{document_kind}
+use Rattle.cdp_messages.specs.Results.{document_kind, described_kind}
 use Rattle.cdp_messages.proofs.Options.{both, both_parts}
 use Rattle.cdp_messages.proofs.NodeObjects.{fields_lawful, object_lawful_at, object_for-told_in, told_in-object_for, object_fits}
 
 -- ---- the children of an object
 
-abbrev pub trees_of_some : Option Items → Option (Nodes Told)
-trees_of_some None = Some none
-trees_of_some (Some ds) = trees_of ds
+abbrev pub trees_of_some : Manner → Option Items → Option (Nodes Told)
+trees_of_some m None = Some none
+trees_of_some m (Some ds) = trees_of m ds
 
-pub children_of-members : (f : Fields) → children_of (members_of (node_row.writes f)) ≡ trees_of_some f.1.1.1.0
-children_of-members (a, (s, (c, (k, (l, (i, (n, (t, (v, (p, u)))))))))) = at a c k p where
-  at : (a' : _) (c' : Option ℕ) (k' : Option Items) (p' : Option ℕ) → children_of (members_of (node_row.writes (a', (s, (c', (k', (l, (i, (n, (t, (v, (p', u)))))))))))) ≡ trees_of_some k'
+pub children_of-members : (m : Manner) (f : Fields) → children_of m (members_of (node_row.writes f)) ≡ trees_of_some m f.1.1.1.0
+children_of-members m (a, (s, (c, (k, (l, (i, (n, (t, (v, (p, u)))))))))) = at a c k p where
+  at : (a' : _) (c' : Option ℕ) (k' : Option Items) (p' : Option ℕ) → children_of m (members_of (node_row.writes (a', (s, (c', (k', (l, (i, (n, (t, (v, (p', u)))))))))))) ≡ trees_of_some m k'
   at None None None None = refl
   at None None None (Some p') = refl
   at None None (Some ds) p' = refl
@@ -47,52 +49,59 @@ items_len-tree_items none = refl
 items_len-tree_items (node r c t) = ap suc (items_len-tree_items t)
 
 -- the children that a row shows
-shown_again : (opened : Bool) (c : Nodes Told) → cond opened true (is_none c) ≡ true → trees_of (tree_items c) ≡ Some c → trees_of_some (only_if opened (tree_items c)) ≡ Some c
-shown_again true c b e = e
-shown_again false none b e = refl
-shown_again false (node r c t) b e = absurd cc
+shown_again : (m : Manner) (opened : Bool) (c : Nodes Told) → cond opened true (is_none c) ≡ true → trees_of m (tree_items c) ≡ Some c → trees_of_some m (only_if opened (tree_items c)) ≡ Some c
+shown_again m true c b e = e
+shown_again m false none b e = refl
+shown_again m false (node r c t) b e = absurd cc
 
-branch_again : (top : Bool) (r : Told) (c : Nodes Told) → fits_row top (width c) r ≡ true → fits_below r c ≡ true → trees_of (tree_items c) ≡ Some c
-    → tree_of top (node_data r (tree_items c)) ≡ Some (record { row = r; children = c })
-branch_again top r c f b e =
-    let fits = object_fits top (width c) r (tree_items c) (items_len-tree_items c) f in
-    let place = (both_parts (is_counted_row r) (fits_place top (width c) r) f).1 in
-    ap₂ over ((object_lawful_at top).again (object_for r (tree_items c)) fits) (children_of-members (fields_of (object_for r (tree_items c))) ∙ shown_again (is_opened r.seen.hold) c b e)
-    ∙ ap (λ t. Some (record { row = t; children = c })) (told_in-object_for top (width c) r (tree_items c) place)
+branch_again : (m : Manner) (top : Bool) (r : Told) (c : Nodes Told) → row_fits m top (width c) r ≡ true → fits_below r c ≡ true → trees_of m (tree_items c) ≡ Some c
+    → tree_of m top (node_data r (tree_items c)) ≡ Some (record { row = r; children = c })
+branch_again m top r c f b e =
+    let fits = object_fits m top (width c) r (tree_items c) (items_len-tree_items c) f in
+    let place = (both_parts (is_counted_row r) (fits_told m top (width c) r) f).1 in
+    ap₂ over ((object_lawful_at m top).again (object_for r (tree_items c)) fits) (children_of-members m (fields_of (object_for r (tree_items c))) ∙ shown_again m (is_opened r.seen.hold) c b e)
+    ∙ ap (λ t. Some (record { row = t; children = c })) (told_in-object_for m top (width c) r (tree_items c) place)
 
 -- the parts of the test of trees side by side
-pub record Fitting (r : Told) (c t : Nodes Told) : Type 0 where
-  pub row : fits_row false (width c) r ≡ true
+pub record FittingIn (m : Manner) (r : Told) (c t : Nodes Told) : Type 0 where
+  pub row : row_fits m false (width c) r ≡ true
   pub below : fits_below r c ≡ true
-  pub children : fits_nodes c ≡ true
-  pub later : fits_nodes t ≡ true
+  pub children : nodes_fit m c ≡ true
+  pub later : nodes_fit m t ≡ true
 
-pub fitting_parts : (r : Told) (c t : Nodes Told) → fits_nodes (node r c t) ≡ true → Fitting r c t
-fitting_parts r c t f =
-    let p3 = both_parts _ (fits_nodes t) f in
-    let p2 = both_parts _ (fits_nodes c) p3.0 in
-    let p1 = both_parts (fits_row false (width c) r) (fits_below r c) p2.0 in
+pub fitting_in : (m : Manner) (r : Told) (c t : Nodes Told) → nodes_fit m (node r c t) ≡ true → FittingIn m r c t
+fitting_in m r c t f =
+    let p3 = both_parts _ (nodes_fit m t) f in
+    let p2 = both_parts _ (nodes_fit m c) p3.0 in
+    let p1 = both_parts (row_fits m false (width c) r) (fits_below r c) p2.0 in
     record { row = p1.0; below = p1.1; children = p2.1; later = p3.1 }
 
-pub record FittingTree (top : Bool) (b : Branch Told) : Type 0 where
-  pub row : fits_row top (width b.children) b.row ≡ true
+pub record FittingTreeIn (m : Manner) (top : Bool) (b : Branch Told) : Type 0 where
+  pub row : row_fits m top (width b.children) b.row ≡ true
   pub below : fits_below b.row b.children ≡ true
-  pub children : fits_nodes b.children ≡ true
+  pub children : nodes_fit m b.children ≡ true
 
-pub tree_parts : (top : Bool) (b : Branch Told) → fits_tree top b ≡ true → FittingTree top b
-tree_parts top b f =
-    let p2 = both_parts _ (fits_nodes b.children) f in
-    let p1 = both_parts (fits_row top (width b.children) b.row) (fits_below b.row b.children) p2.0 in
+pub tree_in : (m : Manner) (top : Bool) (b : Branch Told) → tree_fits m top b ≡ true → FittingTreeIn m top b
+tree_in m top b f =
+    let p2 = both_parts _ (nodes_fit m b.children) f in
+    let p1 = both_parts (row_fits m top (width b.children) b.row) (fits_below b.row b.children) p2.0 in
     record { row = p1.0; below = p1.1; children = p2.1 }
 
-pub trees_again : (n : Nodes Told) → fits_nodes n ≡ true → trees_of (tree_items n) ≡ Some n
-trees_again none f = refl
-trees_again (node r c t) f =
-    let p = fitting_parts r c t f in
-    ap₂ before (branch_again false r c p.row p.below (trees_again c p.children)) (trees_again t p.later)
+-- the same for nodes of a session
+pub fitting_parts : (r : Told) (c t : Nodes Told) → fits_nodes (node r c t) ≡ true → FittingIn Pushed r c t
+fitting_parts r c t f = fitting_in Pushed r c t f
 
-pub tree_again : (top : Bool) (b : Branch Told) → fits_tree top b ≡ true → tree_of top (tree_data b) ≡ Some b
-tree_again top b f = let p = tree_parts top b f in branch_again top b.row b.children p.row p.below (trees_again b.children p.children)
+pub tree_parts : (top : Bool) (b : Branch Told) → fits_tree top b ≡ true → FittingTreeIn Pushed top b
+tree_parts top b f = tree_in Pushed top b f
+
+pub trees_again : (m : Manner) (n : Nodes Told) → nodes_fit m n ≡ true → trees_of m (tree_items n) ≡ Some n
+trees_again m none f = refl
+trees_again m (node r c t) f =
+    let p = fitting_in m r c t f in
+    ap₂ before (branch_again m false r c p.row p.below (trees_again m c p.children)) (trees_again m t p.later)
+
+pub tree_again : (m : Manner) (top : Bool) (b : Branch Told) → tree_fits m top b ≡ true → tree_of m top (tree_data b) ≡ Some b
+tree_again m top b f = let p = tree_in m top b f in branch_again m top b.row b.children p.row p.below (trees_again m b.children p.children)
 
 -- ---- nothing else is read
 
@@ -175,61 +184,61 @@ below_told x n e = at x.children refl where
 pub object_inside : (ms ns : Members) → object ms ≡ object ns → ms ≡ ns
 object_inside ms ns e = cc
 
-object_take : (top : Bool) (ms : Members) (b : Branch Told) → ((n : Nodes Told) → children_of ms ≡ Some n → (tree_items n ≡ child_items ms) × (fits_nodes n ≡ true))
-    → over ((node_object top).reads (object ms)) (children_of ms) ≡ Some b → (tree_data b ≡ object ms) × (fits_tree top b ≡ true)
-object_take top ms b rec e =
+object_take : (m : Manner) (top : Bool) (ms : Members) (b : Branch Told) → ((n : Nodes Told) → children_of m ms ≡ Some n → (tree_items n ≡ child_items ms) × (nodes_fit m n ≡ true))
+    → over ((node_object m top).reads (object ms)) (children_of m ms) ≡ Some b → (tree_data b ≡ object ms) × (tree_fits m top b ≡ true)
+object_take m top ms b rec e =
     let p = over_some _ _ b e in
     let x = p.0 in
     let n = p.1 in
-    let t = (object_lawful_at top).takes (object ms) x p.2 in
-    let f = both_parts (node_fields.fits x) (tells top x) t.1 in
+    let t = (object_lawful_at m top).takes (object ms) x p.2 in
+    let f = both_parts (node_fields.fits x) (tells m top x) t.1 in
     let r = rec n p.3 in
     let kids : tree_items n ≡ children_in x = r.0 ∙ ap child_items (sym (object_inside (members_of (node_row.writes (fields_of x))) ms t.0)) ∙ child_items-members (fields_of x) in
-    let place = (both_parts (agrees x) (fits_place top (items_len (children_in x)) (told_in x)) f.1).1 in
+    let place = (both_parts (agrees x) (fits_told m top (items_len (children_in x)) (told_in x)) f.1).1 in
     let wide : items_len (children_in x) ≡ width n = ap items_len (sym kids) ∙ items_len-tree_items n in
-    subst (λ (z : Branch Told). (tree_data z ≡ object ms) × (fits_tree top z ≡ true)) p.4 (
-      ap (node_data (told_in x)) kids ∙ ap node_fields.spell (object_for-told_in top x f.1) ∙ t.0,
-      both (both (both (counted_told x f.0) (subst (λ w. fits_place top w (told_in x) ≡ true) wide place)) (below_told x n kids)) r.1,
+    subst (λ (z : Branch Told). (tree_data z ≡ object ms) × (tree_fits m top z ≡ true)) p.4 (
+      ap (node_data (told_in x)) kids ∙ ap node_fields.spell (object_for-told_in m top x f.1) ∙ t.0,
+      both (both (both (counted_told x f.0) (subst (λ w. fits_told m top w (told_in x) ≡ true) wide place)) (below_told x n kids)) r.1,
     )
 
-none_taken : (n : Nodes Told) → none ≡ n → (tree_items n ≡ no_items) × (fits_nodes n ≡ true)
-none_taken n e = subst (λ (m : Nodes Told). (tree_items m ≡ no_items) × (fits_nodes m ≡ true)) e (refl, refl)
+none_taken : (m : Manner) (n : Nodes Told) → none ≡ n → (tree_items n ≡ no_items) × (nodes_fit m n ≡ true)
+none_taken m n e = subst (λ (x : Nodes Told). (tree_items x ≡ no_items) × (nodes_fit m x ≡ true)) e (refl, refl)
 
-member_take : (b : Bool) (here later : Option (Nodes Told)) (ds es : Items) (n : Nodes Told)
-    → (here ≡ Some n → (tree_items n ≡ ds) × (fits_nodes n ≡ true)) → (later ≡ Some n → (tree_items n ≡ es) × (fits_nodes n ≡ true))
-    → cond b here later ≡ Some n → (tree_items n ≡ cond b ds es) × (fits_nodes n ≡ true)
-member_take true here later ds es n first rest e = first e
-member_take false here later ds es n first rest e = rest e
+member_take : (m : Manner) (b : Bool) (here later : Option (Nodes Told)) (ds es : Items) (n : Nodes Told)
+    → (here ≡ Some n → (tree_items n ≡ ds) × (nodes_fit m n ≡ true)) → (later ≡ Some n → (tree_items n ≡ es) × (nodes_fit m n ≡ true))
+    → cond b here later ≡ Some n → (tree_items n ≡ cond b ds es) × (nodes_fit m n ≡ true)
+member_take m true here later ds es n first rest e = first e
+member_take m false here later ds es n first rest e = rest e
 
 mutual
-  pub tree_take : (top : Bool) (d : Data) (b : Branch Told) → tree_of top d ≡ Some b → (tree_data b ≡ d) × (fits_tree top b ≡ true)
-  tree_take top null b e = absurd cc
-  tree_take top (boolean x) b e = absurd cc
-  tree_take top (number x) b e = absurd cc
-  tree_take top (string x) b e = absurd cc
-  tree_take top (array x) b e = absurd cc
-  tree_take top (object ms) b e = object_take top ms b (children_take ms) e
+  pub tree_take : (m : Manner) (top : Bool) (d : Data) (b : Branch Told) → tree_of m top d ≡ Some b → (tree_data b ≡ d) × (tree_fits m top b ≡ true)
+  tree_take m top null b e = absurd cc
+  tree_take m top (boolean x) b e = absurd cc
+  tree_take m top (number x) b e = absurd cc
+  tree_take m top (string x) b e = absurd cc
+  tree_take m top (array x) b e = absurd cc
+  tree_take m top (object ms) b e = object_take m top ms b (children_take m ms) e
 
-  children_take : (ms : Members) (n : Nodes Told) → children_of ms ≡ Some n → (tree_items n ≡ child_items ms) × (fits_nodes n ≡ true)
-  children_take no_members n e = none_taken n cc
-  children_take (member k d ms) n e = member_take (bytes_eq (codes "children") k) (trees_in d) (children_of ms) (items_in d) (child_items ms) n (array_take d n) (children_take ms n) e
+  children_take : (m : Manner) (ms : Members) (n : Nodes Told) → children_of m ms ≡ Some n → (tree_items n ≡ child_items ms) × (nodes_fit m n ≡ true)
+  children_take m no_members n e = none_taken m n cc
+  children_take m (member k d ms) n e = member_take m (bytes_eq (codes "children") k) (trees_in m d) (children_of m ms) (items_in d) (child_items ms) n (array_take m d n) (children_take m ms n) e
 
-  array_take : (d : Data) (n : Nodes Told) → trees_in d ≡ Some n → (tree_items n ≡ items_in d) × (fits_nodes n ≡ true)
-  array_take null n e = absurd cc
-  array_take (boolean x) n e = absurd cc
-  array_take (number x) n e = absurd cc
-  array_take (string x) n e = absurd cc
-  array_take (array ds) n e = trees_take ds n e
-  array_take (object ms) n e = absurd cc
+  array_take : (m : Manner) (d : Data) (n : Nodes Told) → trees_in m d ≡ Some n → (tree_items n ≡ items_in d) × (nodes_fit m n ≡ true)
+  array_take m null n e = absurd cc
+  array_take m (boolean x) n e = absurd cc
+  array_take m (number x) n e = absurd cc
+  array_take m (string x) n e = absurd cc
+  array_take m (array ds) n e = trees_take m ds n e
+  array_take m (object ms) n e = absurd cc
 
-  trees_take : (ds : Items) (n : Nodes Told) → trees_of ds ≡ Some n → (tree_items n ≡ ds) × (fits_nodes n ≡ true)
-  trees_take no_items n e = none_taken n cc
-  trees_take (item d ds) n e =
-      let p = before_some (tree_of false d) (trees_of ds) n e in
-      let first = tree_take false d p.0 p.2 in
-      let rest = trees_take ds p.1 p.3 in
-      let f = tree_parts false p.0 first.1 in
-      subst (λ (m : Nodes Told). (tree_items m ≡ item d ds) × (fits_nodes m ≡ true)) p.4 (ap₂ item first.0 rest.0, both first.1 rest.1)
+  trees_take : (m : Manner) (ds : Items) (n : Nodes Told) → trees_of m ds ≡ Some n → (tree_items n ≡ ds) × (nodes_fit m n ≡ true)
+  trees_take m no_items n e = none_taken m n cc
+  trees_take m (item d ds) n e =
+      let p = before_some (tree_of m false d) (trees_of m ds) n e in
+      let first = tree_take m false d p.0 p.2 in
+      let rest = trees_take m ds p.1 p.3 in
+      let f = tree_in m false p.0 first.1 in
+      subst (λ (x : Nodes Told). (tree_items x ≡ item d ds) × (nodes_fit m x ≡ true)) p.4 (ap₂ item first.0 rest.0, both first.1 rest.1)
 
 -- ---- a tree is plain JSON
 
@@ -237,36 +246,40 @@ children_plain : (opened : Bool) (ds : Items) → items_are_plain ds ≡ true �
 children_plain true ds e = e
 children_plain false ds e = refl
 
-node_plain : (top : Bool) (r : Told) (c : Nodes Told) → fits_row top (width c) r ≡ true → items_are_plain (tree_items c) ≡ true → is_plain (node_data r (tree_items c)) ≡ true
-node_plain top r c f e =
-    let fits = object_fits top (width c) r (tree_items c) (items_len-tree_items c) f in
+node_plain : (m : Manner) (top : Bool) (r : Told) (c : Nodes Told) → row_fits m top (width c) r ≡ true → items_are_plain (tree_items c) ≡ true → is_plain (node_data r (tree_items c)) ≡ true
+node_plain m top r c f e =
+    let fits = object_fits m top (width c) r (tree_items c) (items_len-tree_items c) f in
     fields_lawful.plain (object_for r (tree_items c)) (both_parts (node_fields.fits (object_for r (tree_items c))) _ fits).0 (children_plain (is_opened r.seen.hold) (tree_items c) e)
 
-pub trees_plain : (n : Nodes Told) → fits_nodes n ≡ true → items_are_plain (tree_items n) ≡ true
-trees_plain none f = refl
-trees_plain (node r c t) f =
-    let p = fitting_parts r c t f in
-    both (node_plain false r c p.row (trees_plain c p.children)) (trees_plain t p.later)
+pub trees_plain : (m : Manner) (n : Nodes Told) → nodes_fit m n ≡ true → items_are_plain (tree_items n) ≡ true
+trees_plain m none f = refl
+trees_plain m (node r c t) f =
+    let p = fitting_in m r c t f in
+    both (node_plain m false r c p.row (trees_plain m c p.children)) (trees_plain m t p.later)
 
-pub tree_plain : (top : Bool) (b : Branch Told) → fits_tree top b ≡ true → is_plain (tree_data b) ≡ true
-tree_plain top b f = let p = tree_parts top b f in node_plain top b.row b.children p.row (trees_plain b.children p.children)
+pub tree_plain : (m : Manner) (top : Bool) (b : Branch Told) → tree_fits m top b ≡ true → is_plain (tree_data b) ≡ true
+tree_plain m top b f = let p = tree_in m top b f in node_plain m top b.row b.children p.row (trees_plain m b.children p.children)
 
-nodes_take : (d : Data) (n : Nodes Told) → trees_in d ≡ Some n → (array (tree_items n) ≡ d) × (fits_nodes n ≡ true)
+nodes_take : (d : Data) (n : Nodes Told) → trees_in Pushed d ≡ Some n → (array (tree_items n) ≡ d) × (fits_nodes n ≡ true)
 nodes_take null n e = absurd cc
 nodes_take (boolean x) n e = absurd cc
 nodes_take (number x) n e = absurd cc
 nodes_take (string x) n e = absurd cc
-nodes_take (array ds) n e = let t = trees_take ds n e in (ap array t.0, t.1)
+nodes_take (array ds) n e = let t = trees_take Pushed ds n e in (ap array t.0, t.1)
 nodes_take (object ms) n e = absurd cc
 
 -- nodes that are no document
 pub nodes_lawful : LawfulKind nodes_kind
-nodes_lawful = record { takes = nodes_take; again = trees_again; plain = λ n f l. trees_plain n f }
+nodes_lawful = record { takes = nodes_take; again = trees_again Pushed; plain = λ n f l. trees_plain Pushed n f }
 
 -- one of these
 pub tree_lawful : LawfulKind tree_kind
-tree_lawful = record { takes = tree_take false; again = tree_again false; plain = λ b f l. tree_plain false b f }
+tree_lawful = record { takes = tree_take Pushed false; again = tree_again Pushed false; plain = λ b f l. tree_plain Pushed false b f }
 
 -- a document with all that is shown of it
 pub document_lawful : LawfulKind document_kind
-document_lawful = record { takes = tree_take true; again = tree_again true; plain = λ b f l. tree_plain true b f }
+document_lawful = record { takes = tree_take Pushed true; again = tree_again Pushed true; plain = λ b f l. tree_plain Pushed true b f }
+
+-- a node that is described alone
+pub described_lawful : LawfulKind described_kind
+described_lawful = record { takes = tree_take Described true; again = tree_again Described true; plain = λ b f l. tree_plain Described true b f }

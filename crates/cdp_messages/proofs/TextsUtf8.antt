@@ -12,6 +12,8 @@ use Rattle.cdp_json.specs.Plain.{HasUtf8, ItemsHaveUtf8, MembersHaveUtf8}
 use Rattle.cdp_json.specs.Kinds.{whole, any_items}
 use Rattle.cdp_json.specs.Rows.{maybe_member}
 use Rattle.cdp_json.proofs.ReadBack.{IsUtf8-compact_text}
+use Rattle.css_objects.specs.Sheets.{is_sheet, header_kind}
+use Rattle.css_objects.proofs.Objects.{sheet_sound, header_sound, class_names_sound, sheet_text_sound, styles_sound, new_selectors_sound, new_rule_sound, matched_sound}
 use Rattle.node_tree.specs.declared.Kind.{Kind}
 use Rattle.node_tree.specs.declared.Kind.TheVariants.{Document, Element, Text, Comment, Doctype}
 use Rattle.node_tree.specs.Labels.{Pair, is_element, holds, has_name, is_named_label}
@@ -19,11 +21,13 @@ use Rattle.node_tree.specs.Names.{is_letter, is_name_byte, is_element_name}
 use Rattle.node_tree.specs.Nodes.{Nodes, none, node, Branch, alone, width}
 use Rattle.node_tree.specs.Seen.{is_opened}
 use Rattle.cdp_messages.specs.declared.down.ReplyBody.{ReplyBody}
-use Rattle.cdp_messages.specs.declared.down.ReplyBody.TheVariants.{Nothing, Root, NodeId, NodeIds}
+use Rattle.cdp_messages.specs.declared.down.ReplyBody.TheVariants.{Nothing, Root, Node, NodeId, NodeIds, Attributes, ClassNames, SheetText, Styles, Selectors, Rule, Matched}
+use Rattle.cdp_messages.specs.declared.node_rules.Manner.{Manner}
+use Rattle.cdp_messages.specs.declared.node_rules.Manner.TheVariants.{Pushed, Described}
 use Rattle.cdp_messages.specs.Told.{Told}
-use Rattle.cdp_messages.specs.NodeObject.{flat, attribute_list, node_type, name_shown, local_name_of, node_name, local_name, only_if, node_data, is_counted_row, fits_place, fits_row}
-use Rattle.cdp_messages.specs.NodeData.{tree_items, tree_data, fits_nodes, fits_tree}
-use Rattle.cdp_messages.specs.Events.{News, attribute_modified, attribute_removed, text_modified, count_updated, inserted, removed, set_children, document_updated, paused, event_name, is_unopened, pause_kind, news_form, news_data, fits_news}
+use Rattle.cdp_messages.specs.NodeObject.{flat, attribute_list, node_type, name_shown, local_name_of, node_name, local_name, only_if, node_data, is_counted_row, fits_told, row_fits}
+use Rattle.cdp_messages.specs.NodeData.{tree_items, tree_data, nodes_fit, fits_nodes, tree_fits, fits_tree}
+use Rattle.cdp_messages.specs.Events.{News, attribute_modified, attribute_removed, text_modified, count_updated, inserted, removed, set_children, document_updated, sheet_added, sheet_changed, sheet_removed, paused, event_name, is_unopened, pause_kind, news_form, news_data, fits_news}
 use Rattle.cdp_messages.specs.declared.down.PauseData.{PauseData}
 use Rattle.cdp_messages.specs.declared.down.PauseData.TheVariants as pause
 use Rattle.cdp_messages.specs.declared.event_names.EventName.{EventName}
@@ -31,8 +35,8 @@ use Rattle.cdp_messages.specs.declared.event_names.EventName.TheVariants as name
 use Rattle.cdp_messages.specs.Replies.{reply, message_data, body_data, fits_body}
 use Rattle.cdp_messages.specs.Laws.{PairsHaveUtf8, LabelHasUtf8, NodesHaveUtf8, BodyHasUtf8, NewsHaveUtf8, RepliesAreUtf8, EventsAreUtf8}
 use Rattle.cdp_messages.proofs.Options.{both, both_parts}
-use Rattle.cdp_messages.proofs.NodeObjects.{placed}
-use Rattle.cdp_messages.proofs.NodeTrees.{fitting_parts, tree_parts}
+use Rattle.cdp_messages.proofs.NodeObjects.{standing}
+use Rattle.cdp_messages.proofs.NodeTrees.{fitting_in, tree_in}
 use Rattle.cdp_messages.proofs.Messages.{reply_plain}
 use Rattle.cdp_messages.proofs.NewsLaws.{news_plain}
 
@@ -163,19 +167,19 @@ node_utf8 r ds f u below =
     )
 
 -- the names of a row that fits have their forms
-named_row : (top : Bool) (w : ℕ) (r : Told) → fits_row top w r ≡ true → is_named_label r.seen.label ≡ true
-named_row top w r f = (placed top w r (both_parts (is_counted_row r) (fits_place top w r) f).1).named
+named_row : (m : Manner) (top : Bool) (w : ℕ) (r : Told) → row_fits m top w r ≡ true → is_named_label r.seen.label ≡ true
+named_row m top w r f = (standing m top w r (both_parts (is_counted_row r) (fits_told m top w r) f).1).named
 
-trees_utf8 : (n : Nodes Told) → fits_nodes n ≡ true → NodesHaveUtf8 n → ItemsHaveUtf8 (tree_items n)
-trees_utf8 none f u = tt
-trees_utf8 (node r c t) f u =
-    let p = fitting_parts r c t f in
-    (node_utf8 r (tree_items c) (named_row false (width c) r p.row) u.0 (trees_utf8 c p.children u.1), trees_utf8 t p.later u.2)
+trees_utf8 : (m : Manner) (n : Nodes Told) → nodes_fit m n ≡ true → NodesHaveUtf8 n → ItemsHaveUtf8 (tree_items n)
+trees_utf8 m none f u = tt
+trees_utf8 m (node r c t) f u =
+    let p = fitting_in m r c t f in
+    (node_utf8 r (tree_items c) (named_row m false (width c) r p.row) u.0 (trees_utf8 m c p.children u.1), trees_utf8 m t p.later u.2)
 
-tree_utf8 : (top : Bool) (b : Branch Told) → fits_tree top b ≡ true → NodesHaveUtf8 (alone b) → HasUtf8 (tree_data b)
-tree_utf8 top b f u =
-    let p = tree_parts top b f in
-    node_utf8 b.row (tree_items b.children) (named_row top (width b.children) b.row p.row) u.0 (trees_utf8 b.children p.children u.1)
+tree_utf8 : (m : Manner) (top : Bool) (b : Branch Told) → tree_fits m top b ≡ true → NodesHaveUtf8 (alone b) → HasUtf8 (tree_data b)
+tree_utf8 m top b f u =
+    let p = tree_in m top b f in
+    node_utf8 b.row (tree_items b.children) (named_row m top (width b.children) b.row p.row) u.0 (trees_utf8 m b.children p.children u.1)
 
 numbers_utf8 : (ns : List ℕ) → ItemsHaveUtf8 (items_of (map whole.spell ns))
 numbers_utf8 [] = tt
@@ -183,9 +187,17 @@ numbers_utf8 (n ∷ ns) = (tt, numbers_utf8 ns)
 
 body_utf8 : (body : ReplyBody) → fits_body body ≡ true → BodyHasUtf8 body → HasUtf8 (body_data body)
 body_utf8 Nothing f u = tt
-body_utf8 (Root b) f u = (IsUtf8-are_ascii (codes "root") refl, tree_utf8 true b f u, tt)
+body_utf8 (Root b) f u = (IsUtf8-are_ascii (codes "root") refl, tree_utf8 Pushed true b f u, tt)
+body_utf8 (Node b) f u = (IsUtf8-are_ascii (codes "node") refl, tree_utf8 Described true b f u, tt)
 body_utf8 (NodeId n) f u = (IsUtf8-are_ascii (codes "nodeId") refl, tt, tt)
 body_utf8 (NodeIds ns) f u = (IsUtf8-are_ascii (codes "nodeIds") refl, numbers_utf8 ns, tt)
+body_utf8 (Attributes pairs) f u = (IsUtf8-are_ascii (codes "attributes") refl, pairs_utf8 pairs u, tt)
+body_utf8 (ClassNames names) f u = class_names_sound.utf8 names f u
+body_utf8 (SheetText text) f u = sheet_text_sound.utf8 text f u
+body_utf8 (Styles styles) f u = styles_sound.utf8 styles f u
+body_utf8 (Selectors selectors) f u = new_selectors_sound.utf8 selectors f u
+body_utf8 (Rule rule) f u = new_rule_sound.utf8 rule f u
+body_utf8 (Matched matched) f u = matched_sound.utf8 matched f u
 
 pub replies_are_utf8 : RepliesAreUtf8
 replies_are_utf8 id body c f u =
@@ -208,12 +220,15 @@ params_utf8 (text_modified id value) f u = (IsUtf8-are_ascii (codes "characterDa
 params_utf8 (count_updated id count) f u = (IsUtf8-are_ascii (codes "childNodeCount") refl, tt, (IsUtf8-are_ascii (codes "nodeId") refl, tt, tt))
 params_utf8 (inserted parent previous b) f u = (
   IsUtf8-are_ascii (codes "node") refl,
-  tree_utf8 false b (both_parts (fits_tree false b) (is_unopened b) (both_parts (fits_tree false b && is_unopened b) _ f).0).0 u,
+  tree_utf8 Pushed false b (both_parts (fits_tree false b) (is_unopened b) (both_parts (fits_tree false b && is_unopened b) _ f).0).0 u,
   (IsUtf8-are_ascii (codes "parentNodeId") refl, tt, (IsUtf8-are_ascii (codes "previousNodeId") refl, tt, tt)),
 )
 params_utf8 (removed parent id) f u = (IsUtf8-are_ascii (codes "nodeId") refl, tt, (IsUtf8-are_ascii (codes "parentNodeId") refl, tt, tt))
-params_utf8 (set_children parent nodes) f u = (IsUtf8-are_ascii (codes "nodes") refl, trees_utf8 nodes (both_parts (fits_nodes nodes) _ f).0 u, (IsUtf8-are_ascii (codes "parentId") refl, tt, tt))
+params_utf8 (set_children parent nodes) f u = (IsUtf8-are_ascii (codes "nodes") refl, trees_utf8 Pushed nodes (both_parts (fits_nodes nodes) _ f).0 u, (IsUtf8-are_ascii (codes "parentId") refl, tt, tt))
 params_utf8 document_updated f u = tt
+params_utf8 (sheet_added header) f u = (IsUtf8-are_ascii (codes "header") refl, header_sound.utf8 header (both_parts (header_kind.fits header) true f).0 tt, tt)
+params_utf8 (sheet_changed sheet) f u = (IsUtf8-are_ascii (codes "styleSheetId") refl, sheet_sound.utf8 sheet (both_parts (is_sheet sheet) true f).0 tt, tt)
+params_utf8 (sheet_removed sheet) f u = (IsUtf8-are_ascii (codes "styleSheetId") refl, sheet_sound.utf8 sheet (both_parts (is_sheet sheet) true f).0 tt, tt)
 params_utf8 (paused why) f u = (IsUtf8-are_ascii (codes "callFrames") refl, tt, (IsUtf8-are_ascii (codes "data") refl, pause_utf8 why, (IsUtf8-are_ascii (codes "reason") refl, IsUtf8-are_ascii (codes "DOM") refl, tt)))
 
 event_name_utf8 : (n : EventName) → IsUtf8 (event_name n)
@@ -225,6 +240,9 @@ event_name_utf8 name.ChildNodeInserted = IsUtf8-are_ascii (event_name name.Child
 event_name_utf8 name.ChildNodeRemoved = IsUtf8-are_ascii (event_name name.ChildNodeRemoved) refl
 event_name_utf8 name.SetChildNodes = IsUtf8-are_ascii (event_name name.SetChildNodes) refl
 event_name_utf8 name.DocumentUpdated = IsUtf8-are_ascii (event_name name.DocumentUpdated) refl
+event_name_utf8 name.StyleSheetAdded = IsUtf8-are_ascii (event_name name.StyleSheetAdded) refl
+event_name_utf8 name.StyleSheetChanged = IsUtf8-are_ascii (event_name name.StyleSheetChanged) refl
+event_name_utf8 name.StyleSheetRemoved = IsUtf8-are_ascii (event_name name.StyleSheetRemoved) refl
 event_name_utf8 name.Paused = IsUtf8-are_ascii (event_name name.Paused) refl
 
 news_utf8 : (n : News) → fits_news n ≡ true → NewsHaveUtf8 n → HasUtf8 (news_data n)

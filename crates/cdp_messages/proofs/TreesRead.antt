@@ -11,6 +11,7 @@ use Rattle.cdp_json.specs.Rows.{maybe_member, members_of}
 use Rattle.node_tree.specs.Labels.{holds}
 use Rattle.node_tree.specs.Nodes.{Nodes, none, node, Branch, nodes_of, beside}
 use Rattle.node_tree.proofs.NodeLemmas.{nodes_of-append, beside_assoc}
+use Rattle.cdp_messages.specs.declared.node_rules.Manner.{Manner}
 use Rattle.cdp_messages.specs.Told.{Told, hold_of, shown_children, told_tree}
 use Rattle.cdp_messages.specs.declared.down.DownErr.{DownErr}
 use Rattle.cdp_messages.specs.declared.down.DownErr.TheVariants.{NotMessage, Memory}
@@ -21,37 +22,37 @@ use Rattle.cdp_messages.proofs.NodeObjects.{fields_lawful}
 use Rattle.cdp_messages.proofs.NodeTrees.{trees_of_some, children_of-members, object_inside}
 
 -- a node by its fields and its children
-pub tree_of-read : (top : Bool) (d : Data) (o : NodeObject) → node_fields.reads d ≡ Some o → tree_of top d ≡ over (if_holds (tells top) o) (trees_of_some o.children)
-tree_of-read top null o e = absurd cc
-tree_of-read top (boolean b) o e = absurd cc
-tree_of-read top (number n) o e = absurd cc
-tree_of-read top (string s) o e = absurd cc
-tree_of-read top (array ds) o e = absurd cc
-tree_of-read top (object ms) o e =
+pub tree_of-read : (m : Manner) (top : Bool) (d : Data) (o : NodeObject) → node_fields.reads d ≡ Some o → tree_of m top d ≡ over (if_holds (tells m top) o) (trees_of_some m o.children)
+tree_of-read m top null o e = absurd cc
+tree_of-read m top (boolean b) o e = absurd cc
+tree_of-read m top (number n) o e = absurd cc
+tree_of-read m top (string s) o e = absurd cc
+tree_of-read m top (array ds) o e = absurd cc
+tree_of-read m top (object ms) o e =
     let t = fields_lawful.takes (object ms) o e in
-    ap₂ over (ap (option_and_then (if_holds (tells top))) e) (ap children_of (sym (object_inside (members_of (node_row.writes (fields_of o))) ms t.0)) ∙ children_of-members (fields_of o))
+    ap₂ over (ap (option_and_then (if_holds (tells m top))) e) (ap (children_of m) (sym (object_inside (members_of (node_row.writes (fields_of o))) ms t.0)) ∙ children_of-members m (fields_of o))
 
-pub tree_of-unread : (top : Bool) (d : Data) → node_fields.reads d ≡ None → tree_of top d ≡ None
-tree_of-unread top null e = refl
-tree_of-unread top (boolean b) e = refl
-tree_of-unread top (number n) e = refl
-tree_of-unread top (string s) e = refl
-tree_of-unread top (array ds) e = refl
-tree_of-unread top (object ms) e = ap (λ o. over (option_and_then (if_holds (tells top)) o) (children_of ms)) e
+pub tree_of-unread : (m : Manner) (top : Bool) (d : Data) → node_fields.reads d ≡ None → tree_of m top d ≡ None
+tree_of-unread m top null e = refl
+tree_of-unread m top (boolean b) e = refl
+tree_of-unread m top (number n) e = refl
+tree_of-unread m top (string s) e = refl
+tree_of-unread m top (array ds) e = refl
+tree_of-unread m top (object ms) e = ap (λ o. over (option_and_then (if_holds (tells m top)) o) (children_of m ms)) e
 
 -- fields that tell no node
-pub tree_of-untold : (top : Bool) (d : Data) (o : NodeObject) → node_fields.reads d ≡ Some o → tells top o ≡ false → tree_of top d ≡ None
-tree_of-untold top d o e f = tree_of-read top d o e ∙ ap (λ b. over (cond b (Some o) None) (trees_of_some o.children)) f
+pub tree_of-untold : (m : Manner) (top : Bool) (d : Data) (o : NodeObject) → node_fields.reads d ≡ Some o → tells m top o ≡ false → tree_of m top d ≡ None
+tree_of-untold m top d o e f = tree_of-read m top d o e ∙ ap (λ b. over (cond b (Some o) None) (trees_of_some m o.children)) f
 
 -- fields that tell a node whose children are no nodes
-pub tree_of-childless : (top : Bool) (d : Data) (o : NodeObject) (ds : Items) → node_fields.reads d ≡ Some o → tells top o ≡ true → o.children ≡ Some ds → trees_of ds ≡ None → tree_of top d ≡ None
-tree_of-childless top d o ds e f c n =
-    tree_of-read top d o e ∙ ap (λ b. over (cond b (Some o) None) (trees_of_some o.children)) f ∙ ap (λ k. over (Some o) (trees_of_some k)) c ∙ ap (over (Some o)) n
+pub tree_of-childless : (m : Manner) (top : Bool) (d : Data) (o : NodeObject) (ds : Items) → node_fields.reads d ≡ Some o → tells m top o ≡ true → o.children ≡ Some ds → trees_of m ds ≡ None → tree_of m top d ≡ None
+tree_of-childless m top d o ds e f c n =
+    tree_of-read m top d o e ∙ ap (λ b. over (cond b (Some o) None) (trees_of_some m o.children)) f ∙ ap (λ k. over (Some o) (trees_of_some m k)) c ∙ ap (over (Some o)) n
 
 -- fields that tell a node
-pub tree_of-told : (top : Bool) (d : Data) (o : NodeObject) (n : Nodes Told) → node_fields.reads d ≡ Some o → tells top o ≡ true → trees_of_some o.children ≡ Some n
-    → tree_of top d ≡ Some (record { row = told_in o; children = n })
-tree_of-told top d o n e f c = tree_of-read top d o e ∙ ap (λ b. over (cond b (Some o) None) (trees_of_some o.children)) f ∙ ap (over (Some o)) c
+pub tree_of-told : (m : Manner) (top : Bool) (d : Data) (o : NodeObject) (n : Nodes Told) → node_fields.reads d ≡ Some o → tells m top o ≡ true → trees_of_some m o.children ≡ Some n
+    → tree_of m top d ≡ Some (record { row = told_in o; children = n })
+tree_of-told m top d o n e f c = tree_of-read m top d o e ∙ ap (λ b. over (cond b (Some o) None) (trees_of_some m o.children)) f ∙ ap (over (Some o)) c
 
 -- ---- trees side by side
 
@@ -64,21 +65,21 @@ one_more ts b None = refl
 one_more ts b (Some n) = ap Some (ap (λ m. beside m n) (nodes_of-append ts (b ∷ [])) ∙ beside_assoc (nodes_of ts) (nodes_of (b ∷ [])) n)
 
 -- a turn of the reader's loop
-pub trees_turn : (ts more : List (Branch Told)) (b : Branch Told) (vs : List Value) (i : ℕ) (v : Value) → i < length vs → v ≡ get_or vs i v → more ≡ ts ++ b ∷ [] → tree_of false (view v) ≡ Some b
-    → read_beside (nodes_of ts) (trees_of (items_view (drop i vs))) ≡ trees_of (items_view vs) → read_beside (nodes_of more) (trees_of (items_view (drop (i + 1) vs))) ≡ trees_of (items_view vs)
-trees_turn ts more b vs i v below at m e so =
+pub trees_turn : (w : Manner) (ts more : List (Branch Told)) (b : Branch Told) (vs : List Value) (i : ℕ) (v : Value) → i < length vs → v ≡ get_or vs i v → more ≡ ts ++ b ∷ [] → tree_of w false (view v) ≡ Some b
+    → read_beside (nodes_of ts) (trees_of w (items_view (drop i vs))) ≡ trees_of w (items_view vs) → read_beside (nodes_of more) (trees_of w (items_view (drop (i + 1) vs))) ≡ trees_of w (items_view vs)
+trees_turn w ts more b vs i v below at m e so =
     let later = drop (i + 1) vs in
     let r : drop i vs ≡ v ∷ later = drop-cons vs i v below ∙ ap₂ (λ x l. x ∷ l) (sym at) (ap (λ n. drop n vs) (sym (add-one i))) in
-    ap (λ l. read_beside (nodes_of l) (trees_of (items_view later))) m ∙ one_more ts b (trees_of (items_view later))
-    ∙ ap (λ o. read_beside (nodes_of ts) (before o (trees_of (items_view later)))) (sym e) ∙ ap (λ l. read_beside (nodes_of ts) (trees_of (items_view l))) (sym r) ∙ so
+    ap (λ l. read_beside (nodes_of l) (trees_of w (items_view later))) m ∙ one_more ts b (trees_of w (items_view later))
+    ∙ ap (λ o. read_beside (nodes_of ts) (before o (trees_of w (items_view later)))) (sym e) ∙ ap (λ l. read_beside (nodes_of ts) (trees_of w (items_view l))) (sym r) ∙ so
 
 beside-nothing : (n : Nodes Told) → beside n none ≡ n
 beside-nothing none = refl
 beside-nothing (node r c t) = ap (node r c) (beside-nothing t)
 
-pub trees_end : (ts : List (Branch Told)) (vs : List Value) (i : ℕ) → length vs ≤ i → read_beside (nodes_of ts) (trees_of (items_view (drop i vs))) ≡ trees_of (items_view vs)
-    → trees_of (items_view vs) ≡ Some (nodes_of ts)
-trees_end ts vs i all so = sym so ∙ ap (λ l. read_beside (nodes_of ts) (trees_of (items_view l))) (drop_all i vs all) ∙ ap Some (beside-nothing (nodes_of ts))
+pub trees_end : (m : Manner) (ts : List (Branch Told)) (vs : List Value) (i : ℕ) → length vs ≤ i → read_beside (nodes_of ts) (trees_of m (items_view (drop i vs))) ≡ trees_of m (items_view vs)
+    → trees_of m (items_view vs) ≡ Some (nodes_of ts)
+trees_end m ts vs i all so = sym so ∙ ap (λ l. read_beside (nodes_of ts) (trees_of m (items_view l))) (drop_all i vs all) ∙ ap Some (beside-nothing (nodes_of ts))
 
 -- the node that is made of its fields and its children
 pub finished_is : (o : NodeObject) (children : Option (Vec (Branch Told) Global)) → is_some children ≡ is_some o.children
@@ -86,15 +87,15 @@ pub finished_is : (o : NodeObject) (children : Option (Vec (Branch Told) Global)
 finished_is o children e =
     ap (λ b. record { row = record { parent = unwrap_or o.parent 0; count = unwrap_or o.count 0; seen = record { id = o.id; serial = o.serial; label = label_in o; hold = hold_of b (holds o.kind) (unwrap_or o.count 0) } }; children = shown_children children }) e
 
-pub read_shown : (top : Bool) (d : Data) (o : NodeObject) (ds : Items) (ts : Vec (Branch Told) Global) (t : Branch Told) → node_fields.reads d ≡ Some o → tells top o ≡ true → o.children ≡ Some ds → trees_of ds ≡ Some (nodes_of ts.items)
-    → t ≡ told_tree (unwrap_or o.parent 0) (unwrap_or o.count 0) o.id o.serial (label_in o) (Some ts) → tree_of top d ≡ Some t
-read_shown top d o ds ts t e f c n is =
-    tree_of-told top d o (nodes_of ts.items) e f (ap trees_of_some c ∙ n) ∙ ap Some (sym (finished_is o (Some ts) (sym (ap is_some c))) ∙ sym is)
+pub read_shown : (m : Manner) (top : Bool) (d : Data) (o : NodeObject) (ds : Items) (ts : Vec (Branch Told) Global) (t : Branch Told) → node_fields.reads d ≡ Some o → tells m top o ≡ true → o.children ≡ Some ds → trees_of m ds ≡ Some (nodes_of ts.items)
+    → t ≡ told_tree (unwrap_or o.parent 0) (unwrap_or o.count 0) o.id o.serial (label_in o) (Some ts) → tree_of m top d ≡ Some t
+read_shown m top d o ds ts t e f c n is =
+    tree_of-told m top d o (nodes_of ts.items) e f (ap (trees_of_some m) c ∙ n) ∙ ap Some (sym (finished_is o (Some ts) (sym (ap is_some c))) ∙ sym is)
 
-pub read_hidden : (top : Bool) (d : Data) (o : NodeObject) (t : Branch Told) → node_fields.reads d ≡ Some o → tells top o ≡ true → o.children ≡ None
-    → t ≡ told_tree (unwrap_or o.parent 0) (unwrap_or o.count 0) o.id o.serial (label_in o) None → tree_of top d ≡ Some t
-read_hidden top d o t e f c is =
-    tree_of-told top d o none e f (ap trees_of_some c) ∙ ap Some (sym (finished_is o None (sym (ap is_some c))) ∙ sym is)
+pub read_hidden : (m : Manner) (top : Bool) (d : Data) (o : NodeObject) (t : Branch Told) → node_fields.reads d ≡ Some o → tells m top o ≡ true → o.children ≡ None
+    → t ≡ told_tree (unwrap_or o.parent 0) (unwrap_or o.count 0) o.id o.serial (label_in o) None → tree_of m top d ≡ Some t
+read_hidden m top d o t e f c is =
+    tree_of-told m top d o none e f (ap (trees_of_some m) c) ∙ ap Some (sym (finished_is o None (sym (ap is_some c))) ∙ sym is)
 
 -- an error of the children is the node's
 pub Gives-error : {A B X Y : Type 0} (f : X → A) (g : Y → B) (e : DownErr) (a : Option A) (b : Option B) → (a ≡ None → b ≡ None) → Gives f (Err e) a → Gives g (Err e) b

@@ -12,11 +12,14 @@ use Rattle.node_tree.specs.Seen.{is_opened}
 use Rattle.cdp_messages.specs.declared.command.WatchWord.{WatchWord}
 use Rattle.cdp_messages.specs.declared.command.WatchWord.TheVariants.{Subtree, Attribute, Removed}
 use Rattle.cdp_messages.specs.declared.down.Event.{Event}
-use Rattle.cdp_messages.specs.declared.down.Event.TheVariants.{AttributeModified, AttributeRemoved, CharacterDataModified, ChildNodeCountUpdated, ChildNodeInserted, ChildNodeRemoved, SetChildNodes, DocumentUpdated, Paused}
+use Rattle.css_objects.specs.declared.sheets.Header.{Header}
+use Rattle.css_objects.specs.Sheets.{sheet_kind, header_kind}
+use Rattle.cdp_messages.specs.declared.down.Event.TheVariants.{AttributeModified, AttributeRemoved, CharacterDataModified, ChildNodeCountUpdated, ChildNodeInserted, ChildNodeRemoved, SetChildNodes, DocumentUpdated, StyleSheetAdded, StyleSheetChanged, StyleSheetRemoved, Paused}
 use Rattle.cdp_messages.specs.declared.down.PauseData.{PauseData}
 use Rattle.cdp_messages.specs.declared.down.PauseData.TheVariants as pause
 use Rattle.cdp_messages.specs.declared.event_names.EventName.{EventName}
 use Rattle.cdp_messages.specs.declared.event_names.EventName.TheVariants as name
+use Rattle.cdp_messages.specs.declared.node_rules.Manner.TheVariants.{Pushed}
 use Rattle.cdp_messages.specs.Told.{Told}
 use Rattle.cdp_messages.specs.NodeData.{tree_data, tree_of, tree_items, trees_in, fits_tree, fits_nodes}
 
@@ -38,6 +41,12 @@ pub data News : Type 0 where
   set_children : ℕ → Nodes Told → News
   -- nothing is known any more
   document_updated : News
+  -- a sheet comes
+  sheet_added : Header → News
+  -- the sheet of that number has another text
+  sheet_changed : ℕ → News
+  -- the sheet of that number is gone
+  sheet_removed : ℕ → News
   -- script met a breakpoint
   paused : PauseData → News
 
@@ -51,6 +60,9 @@ news_of (ChildNodeInserted parent previous node) = inserted parent previous node
 news_of (ChildNodeRemoved parent node) = removed parent node
 news_of (SetChildNodes parent nodes) = set_children parent (nodes_of nodes.items)
 news_of DocumentUpdated = document_updated
+news_of (StyleSheetAdded header) = sheet_added header
+news_of (StyleSheetChanged sheet) = sheet_changed sheet
+news_of (StyleSheetRemoved sheet) = sheet_removed sheet
 news_of (Paused why) = paused why
 
 -- the value is a JSON object
@@ -74,13 +86,17 @@ event_name name.ChildNodeInserted = codes "DOM.childNodeInserted"
 event_name name.ChildNodeRemoved = codes "DOM.childNodeRemoved"
 event_name name.SetChildNodes = codes "DOM.setChildNodes"
 event_name name.DocumentUpdated = codes "DOM.documentUpdated"
+event_name name.StyleSheetAdded = codes "CSS.styleSheetAdded"
+event_name name.StyleSheetChanged = codes "CSS.styleSheetChanged"
+event_name name.StyleSheetRemoved = codes "CSS.styleSheetRemoved"
 event_name name.Paused = codes "Debugger.paused"
 
 -- each event once
 abbrev pub all_events : List EventName
 all_events =
     name.AttributeModified ∷ name.AttributeRemoved ∷ name.CharacterDataModified ∷ name.ChildNodeCountUpdated ∷ name.ChildNodeInserted
-    ∷ name.ChildNodeRemoved ∷ name.SetChildNodes ∷ name.DocumentUpdated ∷ name.Paused ∷ []
+    ∷ name.ChildNodeRemoved ∷ name.SetChildNodes ∷ name.DocumentUpdated
+    ∷ name.StyleSheetAdded ∷ name.StyleSheetChanged ∷ name.StyleSheetRemoved ∷ name.Paused ∷ []
 
 -- the event whose method has the name
 abbrev pub event_named : List ℕ → Option EventName
@@ -90,11 +106,11 @@ event_named = named event_name all_events
 
 -- nodes that are no document, each with all that is shown of it
 abbrev pub nodes_kind : Kind (Nodes Told)
-nodes_kind = record { spell = λ n. array (tree_items n); reads = trees_in; fits = fits_nodes; loose = None }
+nodes_kind = record { spell = λ n. array (tree_items n); reads = trees_in Pushed; fits = fits_nodes; loose = None }
 
 -- one such node
 abbrev pub tree_kind : Kind (Branch Told)
-tree_kind = record { spell = tree_data; reads = tree_of false; fits = fits_tree false; loose = None }
+tree_kind = record { spell = tree_data; reads = tree_of Pushed false; fits = fits_tree false; loose = None }
 
 -- no children are shown
 abbrev pub is_unopened : Branch Told → Bool
@@ -143,6 +159,14 @@ children_kind = object_of (and_need (codes "nodes") nodes_kind (and_need (codes 
 -- the empty object
 abbrev pub empty_kind : Kind ⊤
 empty_kind = object_of ends
+
+-- of `CSS.styleSheetAdded`
+abbrev pub added_kind : Kind (Header × ⊤)
+added_kind = object_of (and_need (codes "header") header_kind ends)
+
+-- of `CSS.styleSheetChanged` and of `CSS.styleSheetRemoved`
+abbrev pub sheet_id_kind : Kind (ℕ × ⊤)
+sheet_id_kind = object_of (and_need (codes "styleSheetId") sheet_kind ends)
 
 -- what is watched of a node, by its word
 abbrev pub watch_name : WatchWord → List ℕ
@@ -225,6 +249,9 @@ news_form (inserted parent previous node) = news_form_of name.ChildNodeInserted 
 news_form (removed parent node) = news_form_of name.ChildNodeRemoved removed_kind (node, (parent, tt))
 news_form (set_children parent nodes) = news_form_of name.SetChildNodes children_kind (nodes, (parent, tt))
 news_form document_updated = news_form_of name.DocumentUpdated empty_kind tt
+news_form (sheet_added header) = news_form_of name.StyleSheetAdded added_kind (header, tt)
+news_form (sheet_changed sheet) = news_form_of name.StyleSheetChanged sheet_id_kind (sheet, tt)
+news_form (sheet_removed sheet) = news_form_of name.StyleSheetRemoved sheet_id_kind (sheet, tt)
 news_form (paused why) = news_form_of name.Paused paused_kind (tt, (why, (tt, tt)))
 
 -- any object of a method and its parameters
@@ -235,7 +262,7 @@ envelope = object_of (and_need (codes "method") text (and_need (codes "params") 
 abbrev pub news_data : News → Data
 news_data n = envelope.spell (event_name (news_form n).name, ((news_form n).params, tt))
 
--- an event that is spelled: its ids are from 1 to 2^53-1, its names have their forms, and its nodes fit a message
+-- an event that is spelled: its ids and sheets are from 1 to 2^53-1, its names have their forms, and its nodes fit a message
 abbrev pub fits_news : News → Bool
 fits_news n = (news_form n).fits
 
@@ -251,6 +278,9 @@ news_by name.ChildNodeInserted d = option_map (λ x. inserted x.1.0 x.1.1.0 x.0)
 news_by name.ChildNodeRemoved d = option_map (λ x. removed x.1.0 x.0) (removed_kind.reads d)
 news_by name.SetChildNodes d = option_map (λ x. set_children x.1.0 x.0) (children_kind.reads d)
 news_by name.DocumentUpdated d = option_map (λ x. document_updated) (empty_kind.reads d)
+news_by name.StyleSheetAdded d = option_map (λ x. sheet_added x.0) (added_kind.reads d)
+news_by name.StyleSheetChanged d = option_map (λ x. sheet_changed x.0) (sheet_id_kind.reads d)
+news_by name.StyleSheetRemoved d = option_map (λ x. sheet_removed x.0) (sheet_id_kind.reads d)
 news_by name.Paused d = option_map (λ x. paused x.1.0) (paused_kind.reads d)
 
 -- the event of that name with these parameters, if the name is one

@@ -1,10 +1,12 @@
 -- The laws of the messages: what is written is read as what was written, and nothing else is read.
-use Rattle.std.specs.Prelude.{◌≡◌, ◌≢◌, All, ℕ, ◌≤◌, ◌<◌, List, [], ◌∷◌, ⊤, codes, Bool, true, false, not, ◌&&◌, Option, Some, None, Ok, IsUtf8, bytes_eq}
-use Rattle.serde_json.specs.Data.{Data, depth}
+use Rattle.std.specs.Prelude.{◌≡◌, ◌≢◌, All, ℕ, ℤ, ◌≤◌, ◌<◌, List, [], ◌∷◌, ⊤, Bool, true, false, not, ◌&&◌, Option, Some, None, Ok, IsUtf8}
+use Rattle.std.specs.List.{AllByRecursion}
+use Rattle.serde_json.specs.Data.{Data, object, Members, depth}
 use Rattle.serde_json.specs.Read.{max_depth}
 use Rattle.serde_json.specs.Written.{compact_text}
 use Rattle.cdp_json.specs.Plain.{is_plain}
-use Rattle.cdp_json.specs.Kinds.{is_counted, holds_of_some}
+use Rattle.cdp_json.specs.Kinds.{is_counted, is_signed, holds_of_some}
+use Rattle.css_objects.specs.Laws.{SelectorsHaveUtf8, StyleHasUtf8, RuleHasUtf8, MatchedHaveUtf8}
 use Rattle.node_tree.specs.Labels.{Pair, Label}
 use Rattle.node_tree.specs.Nodes.{Nodes, none, node, Branch, alone, height}
 use Rattle.node_tree.specs.Seen.{Seen}
@@ -18,10 +20,13 @@ use Rattle.cdp_messages.specs.Methods.{is_own}
 use Rattle.cdp_messages.specs.declared.dom_ask.DomAsk.{DomAsk}
 use Rattle.cdp_messages.specs.DomAsks.{as_command, dom_ask_in}
 use Rattle.cdp_messages.specs.declared.down.ReplyBody.{ReplyBody}
-use Rattle.cdp_messages.specs.declared.down.ReplyBody.TheVariants.{Nothing, Root, NodeId, NodeIds}
+use Rattle.cdp_messages.specs.declared.down.ReplyBody.TheVariants.{Nothing, Root, Node, NodeId, NodeIds, Attributes, ClassNames, SheetText, Styles, Selectors, Rule, Matched}
 use Rattle.cdp_messages.specs.Asked.{asked, asked_by, command_of, method_of, method_name, parameters, fits_command, command_value, command_text}
-use Rattle.cdp_messages.specs.Events.{News, attribute_modified, attribute_removed, text_modified, count_updated, inserted, removed, set_children, document_updated, paused, is_object, news_data, fits_news}
-use Rattle.cdp_messages.specs.Replies.{Message, reply, event, event_text, message_data, fits_message, message_in, down_of, body_data, fits_body, result_of, reply_text, refusal_message, refused_text}
+use Rattle.cdp_messages.specs.Events.{News, attribute_modified, attribute_removed, text_modified, count_updated, inserted, removed, set_children, document_updated, sheet_added, sheet_changed, sheet_removed, paused, is_object, news_data, fits_news}
+use Rattle.cdp_messages.specs.Methods.{method_named}
+use Rattle.cdp_messages.specs.declared.method.Method.{Method}
+use Rattle.cdp_messages.specs.Results.{result_form, is_form}
+use Rattle.cdp_messages.specs.Replies.{Message, reply, fault, event, event_text, message_data, fits_message, message_in, down_of, body_data, fits_body, form_of_body, result_of, reply_text, refusal_message, refused_text}
 
 -- JSON nests as deep as it is read
 abbrev pub Shallow : Data → Type 0
@@ -84,12 +89,20 @@ abbrev pub NodesHaveUtf8 : Nodes Told → Type 0
 NodesHaveUtf8 none = ⊤
 NodesHaveUtf8 (node r c t) = LabelHasUtf8 r.seen.label × NodesHaveUtf8 c × NodesHaveUtf8 t
 
--- the nodes that a result tells have UTF-8 texts
+-- what a result tells has UTF-8 texts
 abbrev pub BodyHasUtf8 : ReplyBody → Type 0
 BodyHasUtf8 Nothing = ⊤
 BodyHasUtf8 (Root b) = NodesHaveUtf8 (alone b)
+BodyHasUtf8 (Node b) = NodesHaveUtf8 (alone b)
 BodyHasUtf8 (NodeId id) = ⊤
 BodyHasUtf8 (NodeIds ids) = ⊤
+BodyHasUtf8 (Attributes pairs) = PairsHaveUtf8 pairs
+BodyHasUtf8 (ClassNames names) = AllByRecursion IsUtf8 names
+BodyHasUtf8 (SheetText text) = IsUtf8 text
+BodyHasUtf8 (Styles styles) = AllByRecursion StyleHasUtf8 styles
+BodyHasUtf8 (Selectors selectors) = SelectorsHaveUtf8 selectors
+BodyHasUtf8 (Rule rule) = RuleHasUtf8 rule
+BodyHasUtf8 (Matched matched) = MatchedHaveUtf8 matched
 
 -- those that an event tells
 abbrev pub NewsHaveUtf8 : News → Type 0
@@ -101,9 +114,12 @@ NewsHaveUtf8 (inserted parent previous b) = NodesHaveUtf8 (alone b)
 NewsHaveUtf8 (removed parent id) = ⊤
 NewsHaveUtf8 (set_children parent nodes) = NodesHaveUtf8 nodes
 NewsHaveUtf8 document_updated = ⊤
+NewsHaveUtf8 (sheet_added header) = ⊤
+NewsHaveUtf8 (sheet_changed sheet) = ⊤
+NewsHaveUtf8 (sheet_removed sheet) = ⊤
 NewsHaveUtf8 (paused why) = ⊤
 
--- the text of a reply is UTF-8 where its nodes' texts are
+-- the text of a reply is UTF-8 where the texts in it are
 abbrev pub RepliesAreUtf8 : Type 0
 RepliesAreUtf8 = (id : ℕ) (body : ReplyBody) → is_counted id ≡ true → fits_body body ≡ true → BodyHasUtf8 body → IsUtf8 (reply_text id body)
 
@@ -125,10 +141,18 @@ ShownChildrenFit = (parent : ℕ) (n : Nodes Seen) → is_counted parent ≡ tru
 abbrev pub body_height : ReplyBody → ℕ
 body_height Nothing = 0
 body_height (Root b) = height (alone b)
+body_height (Node b) = height (alone b)
 body_height (NodeId id) = 0
 body_height (NodeIds ids) = 0
+body_height (Attributes pairs) = 0
+body_height (ClassNames names) = 0
+body_height (SheetText text) = 0
+body_height (Styles styles) = 0
+body_height (Selectors selectors) = 0
+body_height (Rule rule) = 0
+body_height (Matched matched) = 0
 
--- the reply with a document of 61 levels nests at most 124 deep
+-- a reply with nodes of 61 levels nests at most 124 deep
 abbrev pub RepliesAreShallow : Type 0
 RepliesAreShallow = (id : ℕ) (body : ReplyBody) → body_height body ≤ 61 → Shallow (message_data (reply id (body_data body)))
 
@@ -142,6 +166,9 @@ news_height (inserted parent previous b) = height (alone b)
 news_height (removed parent id) = 0
 news_height (set_children parent nodes) = height nodes
 news_height document_updated = 0
+news_height (sheet_added header) = 0
+news_height (sheet_changed sheet) = 0
+news_height (sheet_removed sheet) = 0
 news_height (paused why) = 0
 
 -- and so does an event with nodes of 60 levels
@@ -156,12 +183,28 @@ EventsAreRead = (n : News) → fits_news n ≡ true → Shallow (news_data n) �
 abbrev pub RefusalsAreRead : Type 0
 RefusalsAreRead = (r : Refused) → holds_of_some is_counted r.id ≡ true → down_of (refused_text r) ≡ Some (refusal_message r)
 
--- the method has such a result
+-- the text of a message is read as that message: of one with any result that is an object, and of one with any code and any text
+abbrev pub MessagesAreRead : Type 0
+MessagesAreRead = (m : Message) → fits_message m ≡ true → is_plain (message_data m) ≡ true → Shallow (message_data m) → IsUtf8 (compact_text (message_data m))
+    → down_of (compact_text (message_data m)) ≡ Some m
+
+-- an error of any code and any text is read as that error
+abbrev pub FaultsAreRead : Type 0
+FaultsAreRead = (id : Option ℕ) (code : ℤ) (text : List ℕ) → holds_of_some is_counted id ≡ true → is_signed code ≡ true → IsUtf8 text
+    → down_of (compact_text (message_data (fault id code text))) ≡ Some (fault id code text)
+
+-- the result of a method, if it is one, has the form of this one
+abbrev pub has_result : Option Method → ReplyBody → Bool
+has_result None body = false
+has_result (Some m) body = is_form (result_form m) (form_of_body body)
+
+-- the method of that name has such a result
 abbrev pub answers : List ℕ → ReplyBody → Bool
-answers method Nothing = bytes_eq method (codes "DOM.requestChildNodes")
-answers method (Root b) = bytes_eq method (codes "DOM.getDocument")
-answers method (NodeId id) = bytes_eq method (codes "DOM.pushNodeByPathToFrontend")
-answers method (NodeIds ids) = bytes_eq method (codes "DOM.pushNodesByBackendIdsToFrontend")
+answers method body = has_result (method_named method) body
+
+-- any object is the empty result of a method that has it
+abbrev pub ObjectsAreEmpty : Type 0
+ObjectsAreEmpty = (method : List ℕ) (ms : Members) → answers method Nothing ≡ true → result_of method (object ms) ≡ Some Nothing
 
 -- a result is read as that result
 abbrev pub ResultsAreRead : Type 0
@@ -175,8 +218,16 @@ MessagesAreSpelled = (d : Data) (m : Message) → message_in d ≡ Some m → (m
 abbrev pub Spells : ReplyBody → Data → Type 0
 Spells Nothing d = is_object d ≡ true
 Spells (Root b) d = d ≡ body_data (Root b)
+Spells (Node b) d = d ≡ body_data (Node b)
 Spells (NodeId id) d = d ≡ body_data (NodeId id)
 Spells (NodeIds ids) d = d ≡ body_data (NodeIds ids)
+Spells (Attributes pairs) d = d ≡ body_data (Attributes pairs)
+Spells (ClassNames names) d = d ≡ body_data (ClassNames names)
+Spells (SheetText text) d = d ≡ body_data (SheetText text)
+Spells (Styles styles) d = d ≡ body_data (Styles styles)
+Spells (Selectors selectors) d = d ≡ body_data (Selectors selectors)
+Spells (Rule rule) d = d ≡ body_data (Rule rule)
+Spells (Matched matched) d = d ≡ body_data (Matched matched)
 
 -- a result that is read is spelled so, and is one of that method
 abbrev pub ResultsAreSpelled : Type 0

@@ -8,9 +8,12 @@ pub mod Events
 pub mod Parameters
 pub mod Asked
 pub mod DomAsks
+pub mod Results
 pub mod Replies
+pub mod Effects
 pub mod Answers
 pub mod Raw
+pub mod LabelChanges
 pub mod Tellable
 pub mod Laws
 pub mod Views

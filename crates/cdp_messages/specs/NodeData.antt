@@ -3,8 +3,10 @@ use Rattle.std.specs.Prelude.{codes, Bool, true, false, ◌&&◌, cond, Option, 
 use Rattle.serde_json.specs.Data.{Data, null, boolean, number, string, array, object, Items, no_items, item, Members, no_members, member}
 use Rattle.node_tree.specs.Nodes.{Nodes, none, node, Branch, width}
 use Rattle.node_tree.specs.Seen.{is_opened}
+use Rattle.cdp_messages.specs.declared.node_rules.Manner.{Manner}
+use Rattle.cdp_messages.specs.declared.node_rules.Manner.TheVariants.{Pushed, Described}
 use Rattle.cdp_messages.specs.Told.{Told}
-use Rattle.cdp_messages.specs.NodeObject.{NodeObject, node_data, told_in, fits_row, node_object}
+use Rattle.cdp_messages.specs.NodeObject.{NodeObject, node_data, told_in, row_fits, node_object}
 
 -- ---- written
 
@@ -28,14 +30,26 @@ is_none (node r c t) = false
 abbrev pub fits_below : Told → Nodes Told → Bool
 fits_below r c = cond (is_opened r.seen.hold) true (is_none c)
 
--- nodes that are no document, each in its place
-abbrev pub fits_nodes : Nodes Told → Bool
-fits_nodes none = true
-fits_nodes (node r c t) = fits_row false (width c) r && fits_below r c && fits_nodes c && fits_nodes t
+-- nodes below the top, told in this manner, each in its place
+abbrev pub nodes_fit : Manner → Nodes Told → Bool
+nodes_fit manner none = true
+nodes_fit manner (node r c t) = row_fits manner false (width c) r && fits_below r c && nodes_fit manner c && nodes_fit manner t
 
--- a tree whose top is the document, or is not (`top`)
+-- nodes of a session, none of which is its document
+abbrev pub fits_nodes : Nodes Told → Bool
+fits_nodes n = nodes_fit Pushed n
+
+-- a tree that is told in this manner, from the top down or from below it (`top`)
+abbrev pub tree_fits : Manner → Bool → Branch Told → Bool
+tree_fits manner top b = row_fits manner top (width b.children) b.row && fits_below b.row b.children && nodes_fit manner b.children
+
+-- a tree of a session, whose root is the document, or is not (`top`)
 abbrev pub fits_tree : Bool → Branch Told → Bool
-fits_tree top b = fits_row top (width b.children) b.row && fits_below b.row b.children && fits_nodes b.children
+fits_tree top b = tree_fits Pushed top b
+
+-- a tree that is described alone
+abbrev pub fits_described_tree : Branch Told → Bool
+fits_described_tree b = tree_fits Described true b
 
 -- ---- read
 
@@ -50,29 +64,29 @@ before None t = None
 before (Some b) t = option_map (node b.row b.children) t
 
 abbrev mutual
-  -- a node whose top is the document, or is not
-  pub tree_of : Bool → Data → Option (Branch Told)
-  tree_of top null = None
-  tree_of top (boolean b) = None
-  tree_of top (number n) = None
-  tree_of top (string s) = None
-  tree_of top (array ds) = None
-  tree_of top (object ms) = over ((node_object top).reads (object ms)) (children_of ms)
+  -- a node that is told in this manner, at the top or below it
+  pub tree_of : Manner → Bool → Data → Option (Branch Told)
+  tree_of manner top null = None
+  tree_of manner top (boolean b) = None
+  tree_of manner top (number n) = None
+  tree_of manner top (string s) = None
+  tree_of manner top (array ds) = None
+  tree_of manner top (object ms) = over ((node_object manner top).reads (object ms)) (children_of manner ms)
 
   -- the trees of the array named `children`; none where there is no such member
-  pub children_of : Members → Option (Nodes Told)
-  children_of no_members = Some none
-  children_of (member k d ms) = cond (bytes_eq (codes "children") k) (trees_in d) (children_of ms)
+  pub children_of : Manner → Members → Option (Nodes Told)
+  children_of manner no_members = Some none
+  children_of manner (member k d ms) = cond (bytes_eq (codes "children") k) (trees_in manner d) (children_of manner ms)
 
-  pub trees_in : Data → Option (Nodes Told)
-  trees_in null = None
-  trees_in (boolean b) = None
-  trees_in (number n) = None
-  trees_in (string s) = None
-  trees_in (array ds) = trees_of ds
-  trees_in (object ms) = None
+  pub trees_in : Manner → Data → Option (Nodes Told)
+  trees_in manner null = None
+  trees_in manner (boolean b) = None
+  trees_in manner (number n) = None
+  trees_in manner (string s) = None
+  trees_in manner (array ds) = trees_of manner ds
+  trees_in manner (object ms) = None
 
-  -- nodes that are no document
-  pub trees_of : Items → Option (Nodes Told)
-  trees_of no_items = Some none
-  trees_of (item d ds) = before (tree_of false d) (trees_of ds)
+  -- nodes below the top
+  pub trees_of : Manner → Items → Option (Nodes Told)
+  trees_of manner no_items = Some none
+  trees_of manner (item d ds) = before (tree_of manner false d) (trees_of manner ds)

@@ -1,5 +1,5 @@
 -- One node as a JSON object: its fields, and what has to hold across them. Its children are left as the items of an array.
-use Rattle.std.specs.Prelude.{ℕ, ◌==◌, List, [], ◌∷◌, Bool, true, false, not, ◌&&◌, cond, nat_lt, codes, Option, Some, None, option_map, is_some, unwrap_or, bytes_eq, ⊤}
+use Rattle.std.specs.Prelude.{ℕ, ◌==◌, List, [], ◌∷◌, Bool, true, false, not, ◌&&◌, ◌||◌, cond, nat_lt, codes, Option, Some, None, option_map, is_some, unwrap_or, bytes_eq, ⊤}
 use Rattle.std.specs.Str.{str_to_ascii_uppercase}
 use Rattle.serde_json.specs.Data.{Data, object, Items, no_items, no_members, member}
 use Rattle.serde_json.specs.Events.{items_len}
@@ -9,6 +9,8 @@ use Rattle.node_tree.specs.declared.Kind.{Kind}
 use Rattle.node_tree.specs.declared.Kind.TheVariants.{Document, Element, Text, Comment, Doctype}
 use Rattle.node_tree.specs.Labels.{Pair, Label, is_document, is_element, holds, is_formed_label, is_named_label}
 use Rattle.node_tree.specs.Seen.{Hold, leaf, counted, opened, is_opened}
+use Rattle.cdp_messages.specs.declared.node_rules.Manner.{Manner}
+use Rattle.cdp_messages.specs.declared.node_rules.Manner.TheVariants.{Pushed, Described}
 use Rattle.cdp_messages.specs.Told.{Told, hold_of}
 
 -- ---- the fields
@@ -204,13 +206,29 @@ fits_place top width r =
     && same (is_document r.seen.label.kind) top && same (r.parent == 0) top
     && fits_hold r.seen.hold (holds r.seen.label.kind) r.count width
 
+-- The same of nodes that are described alone: they have neither an id nor a parent, and the top may be a document or not.
+abbrev pub fits_described : Bool → ℕ → Told → Bool
+fits_described top width r =
+    (r.seen.id == 0) && nat_lt 0 r.seen.serial && is_formed_label r.seen.label && is_named_label r.seen.label
+    && (top || not (is_document r.seen.label.kind)) && (r.parent == 0)
+    && fits_hold r.seen.hold (holds r.seen.label.kind) r.count width
+
+-- the same of nodes that are told in this manner
+abbrev pub fits_told : Manner → Bool → ℕ → Told → Bool
+fits_told Pushed top width r = fits_place top width r
+fits_told Described top width r = fits_described top width r
+
 -- each number is below 2^53
 abbrev pub is_counted_row : Told → Bool
 is_counted_row r = is_counted r.seen.id && is_counted r.seen.serial && is_counted r.count && is_counted r.parent
 
--- a row that has an object, with that many children shown
+-- a row that has an object in this manner, with that many children shown
+abbrev pub row_fits : Manner → Bool → ℕ → Told → Bool
+row_fits manner top width r = is_counted_row r && fits_told manner top width r
+
+-- the same of a row of a session
 abbrev pub fits_row : Bool → ℕ → Told → Bool
-fits_row top width r = is_counted_row r && fits_place top width r
+fits_row top width r = row_fits Pushed top width r
 
 -- the fields say the same as the row that they tell
 abbrev pub agrees : NodeObject → Bool
@@ -219,10 +237,10 @@ agrees o =
     && bytes_eq o.local_name (local_name (label_in o)) && bytes_eq o.name (node_name (label_in o))
     && holds_of_some (nat_lt 0) o.parent
 
--- an object that tells a node
-abbrev pub tells : Bool → NodeObject → Bool
-tells top o = agrees o && fits_place top (items_len (children_in o)) (told_in o)
+-- an object that tells a node in this manner
+abbrev pub tells : Manner → Bool → NodeObject → Bool
+tells manner top o = agrees o && fits_told manner top (items_len (children_in o)) (told_in o)
 
--- the object of a node that is a document, or is none (`top`)
-abbrev pub node_object : Bool → Description NodeObject
-node_object top = refined node_fields (tells top)
+-- the object of a node, at the top or not
+abbrev pub node_object : Manner → Bool → Description NodeObject
+node_object manner top = refined node_fields (tells manner top)

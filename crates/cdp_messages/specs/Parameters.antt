@@ -1,8 +1,8 @@
 -- The parameters of each command, in the order in which they are looked up. What is read and what is written stands here alone.
-use Rattle.std.specs.Prelude.{ℕ, ℤ, List, [], ◌∷◌, codes, Bool, ◌&&◌, ◌||◌, is_some, Option, Some, None, Result, Ok, Err, ⊤}
+use Rattle.std.specs.Prelude.{ℕ, ℤ, List, codes, Bool, ◌&&◌, ◌||◌, is_some, Option, Some, None, Result, Ok, Err, ⊤}
 use Rattle.serde_json.specs.Data.{Data, number, object, Members}
 use Rattle.serde_json.specs.Find.{of_integer}
-use Rattle.cdp_json.specs.Kinds.{Kind, whole, text, flag, through, choice, list_of, as_depth, is_depth}
+use Rattle.cdp_json.specs.Kinds.{Kind, whole, text, flag, through, list_of, as_depth, is_depth}
 use Rattle.cdp_json.specs.Fields.{field_of}
 use Rattle.cdp_json.specs.Lookups.{then_ok, optional, Lookups, no_lookups, look_for, may_look_for, object_with}
 use Rattle.cdp_messages.specs.declared.command.Command.{Command}
@@ -15,7 +15,7 @@ use Rattle.cdp_messages.specs.declared.command.WatchWord.{WatchWord}
 use Rattle.cdp_messages.specs.declared.edits.TextEdit.{TextEdit}
 use Rattle.cdp_messages.specs.declared.method.Method.{Method}
 use Rattle.cdp_messages.specs.declared.method.Method.TheVariants as method
-use Rattle.cdp_messages.specs.declared.ranges.SourceRange.{SourceRange}
+use Rattle.css_objects.specs.declared.ranges.SourceRange.{SourceRange}
 use Rattle.cdp_messages.specs.Events.{is_object, watch}
 use Rattle.cdp_messages.specs.Refusals.{param_name}
 

@@ -1,22 +1,27 @@
 -- Messages on their way down: replies, error replies and events.
-use Rattle.std.specs.Prelude.{ℕ, ℤ, List, [], ◌∷◌, codes, Bool, true, cond, Option, Some, None, option_map, option_and_then, bytes_eq, ⊤}
+use Rattle.std.specs.Prelude.{ℕ, ℤ, List, codes, Bool, true, Option, Some, None, option_map, option_and_then, ⊤}
 use Rattle.std.specs.Borrow.{Bor}
-use Rattle.serde_json.specs.Data.{Data, object, no_members}
+use Rattle.serde_json.specs.Data.{Data}
 use Rattle.serde_json.specs.View.{view}
 use Rattle.serde_json.specs.Written.{compact_text}
-use Rattle.cdp_json.specs.Kinds.{Kind, whole, signed, text, anything, refined, list_of}
-use Rattle.cdp_json.specs.Rows.{Row, ends, and_need, and_may, object_of, unit_if}
-use Rattle.node_tree.specs.Nodes.{Branch}
+use Rattle.cdp_json.specs.Kinds.{Kind, whole, signed, text, anything, refined}
+use Rattle.cdp_json.specs.Rows.{Row, ends, and_need, and_may, object_of}
+use Rattle.css_objects.specs.Results.{sheet_text_result, class_names_result, styles_result, selectors_result, rule_result}
+use Rattle.css_objects.specs.Rules.{matched_kind}
 use Rattle.cdp_messages.specs.declared.command.Refused.{Refused}
 use Rattle.cdp_messages.specs.declared.down.Down.{Down}
 use Rattle.cdp_messages.specs.declared.down.Down.TheVariants.{Reply, Fault, Event}
 use Rattle.cdp_messages.specs.declared.down.ReplyBody.{ReplyBody}
-use Rattle.cdp_messages.specs.declared.down.ReplyBody.TheVariants.{Nothing, Root, NodeId, NodeIds}
-use Rattle.cdp_messages.specs.Told.{Told}
-use Rattle.cdp_messages.specs.NodeData.{tree_data, tree_of, fits_tree}
+use Rattle.cdp_messages.specs.declared.down.ReplyBody.TheVariants.{Nothing, Root, Node, NodeId, NodeIds, Attributes, ClassNames, SheetText, Styles, Selectors, Rule, Matched}
+use Rattle.cdp_messages.specs.declared.method.Method.{Method}
+use Rattle.cdp_messages.specs.declared.result_forms.ResultForm.{ResultForm}
+use Rattle.cdp_messages.specs.declared.result_forms.ResultForm.TheVariants as form
+use Rattle.cdp_messages.specs.NodeData.{fits_tree, fits_described_tree}
+use Rattle.cdp_messages.specs.Methods.{method_named}
 use Rattle.cdp_messages.specs.Refusals.{code_of, text_of}
 use Rattle.cdp_messages.specs.Asked.{json_of}
 use Rattle.cdp_messages.specs.Events.{is_object, News, news_of, news_data, fits_news, news_in}
+use Rattle.cdp_messages.specs.Results.{nothing_kind, root_kind, node_kind, id_kind, ids_kind, are_attributes, attributes_kind, result_form}
 
 -- ---- messages
 
@@ -95,73 +100,74 @@ down_of bytes = option_and_then message_in (json_of bytes)
 
 -- ---- results
 
--- a document with all that is shown of it
-abbrev pub document_kind : Kind (Branch Told)
-document_kind = record { spell = tree_data; reads = tree_of true; fits = fits_tree true; loose = None }
-
--- of `DOM.getDocument`: the document
-abbrev pub root_kind : Kind (Branch Told × ⊤)
-root_kind = object_of (and_need (codes "root") document_kind ends)
-
--- the empty result, which is read from any object
-abbrev pub nothing_kind : Kind ⊤
-nothing_kind = record { spell = λ _. object no_members; reads = λ d. unit_if (is_object d); fits = λ _. true; loose = None }
-
--- of `DOM.pushNodeByPathToFrontend`: the id of a node, or 0
-abbrev pub id_kind : Kind (ℕ × ⊤)
-id_kind = object_of (and_need (codes "nodeId") whole ends)
-
--- of `DOM.pushNodesByBackendIdsToFrontend`: ids, 0 for each node that is not there
-abbrev pub ids_kind : Kind (List ℕ × ⊤)
-ids_kind = object_of (and_need (codes "nodeIds") (list_of whole) ends)
-
 -- the value that spells a result
 abbrev pub body_data : ReplyBody → Data
 body_data Nothing = nothing_kind.spell tt
 body_data (Root tree) = root_kind.spell (tree, tt)
+body_data (Node tree) = node_kind.spell (tree, tt)
 body_data (NodeId id) = id_kind.spell (id, tt)
 body_data (NodeIds ids) = ids_kind.spell (ids, tt)
+body_data (Attributes pairs) = attributes_kind.spell (pairs, tt)
+body_data (ClassNames names) = class_names_result.spell names
+body_data (SheetText said) = sheet_text_result.spell said
+body_data (Styles styles) = styles_result.spell styles
+body_data (Selectors selectors) = selectors_result.spell selectors
+body_data (Rule rule) = rule_result.spell rule
+body_data (Matched matched) = matched_kind.spell matched
 
 -- a result that is spelled
 abbrev pub fits_body : ReplyBody → Bool
 fits_body Nothing = true
 fits_body (Root tree) = fits_tree true tree
+fits_body (Node tree) = fits_described_tree tree
 fits_body (NodeId id) = id_kind.fits (id, tt)
 fits_body (NodeIds ids) = ids_kind.fits (ids, tt)
+fits_body (Attributes pairs) = are_attributes pairs
+fits_body (ClassNames names) = class_names_result.fits names
+fits_body (SheetText said) = sheet_text_result.fits said
+fits_body (Styles styles) = styles_result.fits styles
+fits_body (Selectors selectors) = selectors_result.fits selectors
+fits_body (Rule rule) = rule_result.fits rule
+fits_body (Matched matched) = matched_kind.fits matched
 
--- the result of these fields
-abbrev pub root_from : Branch Told × ⊤ → ReplyBody
-root_from p = Root p.0
+-- the form of a result
+abbrev pub form_of_body : ReplyBody → ResultForm
+form_of_body Nothing = form.Nothing
+form_of_body (Root tree) = form.Root
+form_of_body (Node tree) = form.Node
+form_of_body (NodeId id) = form.NodeId
+form_of_body (NodeIds ids) = form.NodeIds
+form_of_body (Attributes pairs) = form.Attributes
+form_of_body (ClassNames names) = form.ClassNames
+form_of_body (SheetText said) = form.SheetText
+form_of_body (Styles styles) = form.Styles
+form_of_body (Selectors selectors) = form.Selectors
+form_of_body (Rule rule) = form.Rule
+form_of_body (Matched matched) = form.Matched
 
--- the empty result, whatever was read
-abbrev pub nothing_from : ⊤ → ReplyBody
-nothing_from _ = Nothing
+-- the result of that form that a value spells
+abbrev pub result_by : ResultForm → Data → Option ReplyBody
+result_by form.Nothing d = option_map (λ _. Nothing) (nothing_kind.reads d)
+result_by form.Root d = option_map (λ x. Root x.0) (root_kind.reads d)
+result_by form.Node d = option_map (λ x. Node x.0) (node_kind.reads d)
+result_by form.NodeId d = option_map (λ x. NodeId x.0) (id_kind.reads d)
+result_by form.NodeIds d = option_map (λ x. NodeIds x.0) (ids_kind.reads d)
+result_by form.Attributes d = option_map (λ x. Attributes x.0) (attributes_kind.reads d)
+result_by form.ClassNames d = option_map (λ x. ClassNames x) (class_names_result.reads d)
+result_by form.SheetText d = option_map (λ x. SheetText x) (sheet_text_result.reads d)
+result_by form.Styles d = option_map (λ x. Styles x) (styles_result.reads d)
+result_by form.Selectors d = option_map (λ x. Selectors x) (selectors_result.reads d)
+result_by form.Rule d = option_map (λ x. Rule x) (rule_result.reads d)
+result_by form.Matched d = option_map (λ x. Matched x) (matched_kind.reads d)
 
--- the result of these fields
-abbrev pub id_from : ℕ × ⊤ → ReplyBody
-id_from p = NodeId p.0
+-- the result of that method that a value spells, if there is such a method
+abbrev pub result_of_method : Option Method → Data → Option ReplyBody
+result_of_method None d = None
+result_of_method (Some m) d = result_by (result_form m) d
 
--- the result of these fields
-abbrev pub ids_from : List ℕ × ⊤ → ReplyBody
-ids_from p = NodeIds p.0
-
--- the methods, with what reads their results
-abbrev pub results : List (List ℕ × (Data → Option ReplyBody))
-results =
-    (codes "DOM.getDocument", λ d. option_map root_from (root_kind.reads d))
-    ∷ (codes "DOM.requestChildNodes", λ d. option_map nothing_from (nothing_kind.reads d))
-    ∷ (codes "DOM.pushNodeByPathToFrontend", λ d. option_map id_from (id_kind.reads d))
-    ∷ (codes "DOM.pushNodesByBackendIdsToFrontend", λ d. option_map ids_from (ids_kind.reads d))
-    ∷ []
-
--- the first of these methods that has the name reads the result
-abbrev pub result_among : List (List ℕ × (Data → Option ReplyBody)) → List ℕ → Data → Option ReplyBody
-result_among [] method d = None
-result_among (r ∷ rs) method d = cond (bytes_eq method r.0) (r.1 d) (result_among rs method d)
-
--- the result of that method that a value spells; none of a method that is not known
+-- the result of the method of that name that a value spells; none of a name that no method has
 abbrev pub result_of : List ℕ → Data → Option ReplyBody
-result_of = result_among results
+result_of method d = result_of_method (method_named method) d
 
 -- ---- texts, without their zero bytes
 

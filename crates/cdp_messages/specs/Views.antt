@@ -1,6 +1,9 @@
--- Views: trees of shown nodes, as a client may know them.
+-- Views: what a client may know of a page, a tree of shown nodes and the sheets that it was told of.
 use Rattle.std.specs.Prelude.{◌≡◌, ◌≤◌, ℕ, Bool, true, false, not, ◌&&◌, ◌||◌, nat_eq, List, [], ◌∷◌, ◌++◌}
 use Rattle.std.specs.List.{list_any}
+use Rattle.std.specs.Str.{IsUtf8}
+use Rattle.css_objects.specs.declared.sheets.SheetOrigin.{SheetOrigin}
+use Rattle.css_objects.specs.Sheets.{is_sheet}
 use Rattle.node_tree.specs.Nodes.{Nodes, none, node, height}
 use Rattle.node_tree.specs.Labels.{is_document, is_formed_label, is_named_label}
 use Rattle.node_tree.specs.Keys.{tally}
@@ -60,3 +63,27 @@ is_in x xs = list_any (nat_eq x) xs
 abbrev pub is_distinct : List ℕ → Bool
 is_distinct [] = true
 is_distinct (x ∷ xs) = not (is_in x xs) && is_distinct xs
+
+-- ---- sheets
+
+-- a sheet that a client was told of: its number, where it comes from, and its text as the page has it
+pub record ShownSheet : Type 0 where
+  pub number : ℕ
+  pub origin : SheetOrigin
+  pub text : List ℕ
+
+-- the sheet's number
+abbrev pub sheet_number : ShownSheet → ℕ
+sheet_number s = s.number
+
+-- each text is UTF-8, and each number is one of a sheet's
+abbrev pub AreSheets : List ShownSheet → Type 0
+AreSheets [] = Unit {0}
+AreSheets (s ∷ ss) = (is_sheet s.number ≡ true) × IsUtf8 s.text × AreSheets ss
+
+-- ---- views
+
+-- the tree of the known nodes, none where nothing is known; and the sheets, in the page's order
+pub record View : Type 0 where
+  pub tree : Nodes Seen
+  pub sheets : List ShownSheet

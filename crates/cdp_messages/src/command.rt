@@ -5,7 +5,7 @@ ghost use Rattle.cdp_messages.specs.declared.command.CommandErr.TheVariants as c
 use crate::edits::TextEdits;
 use crate::kept::Json;
 use crate::numbers::Numbers;
-use crate::ranges::SourceRange;
+use css_objects::SourceRange;
 use node_tree::Text;
 use std::alloc::{AllocError, AllocFailed};
 

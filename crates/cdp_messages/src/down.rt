@@ -4,7 +4,8 @@ ghost use Rattle.cdp_messages.specs.declared.down.DownErr.TheVariants.{Memory};
 
 use crate::numbers::Numbers;
 use crate::tree::NodeTree;
-use node_tree::Text;
+use css_objects::{Header, Listed, Matched, Rule, RuleSelectors, Style};
+use node_tree::{Attributes, Text};
 use serde_json::Value;
 use std::alloc::{AllocError, AllocFailed};
 
@@ -69,6 +70,18 @@ pub enum Event {
     },
     /// `DOM.documentUpdated`: nothing is known any more.
     DocumentUpdated,
+    /// `CSS.styleSheetAdded`
+    StyleSheetAdded {
+        header: Header,
+    },
+    /// `CSS.styleSheetChanged`: the sheet of that number has another text.
+    StyleSheetChanged {
+        sheet: u64,
+    },
+    /// `CSS.styleSheetRemoved`: the sheet of that number is gone.
+    StyleSheetRemoved {
+        sheet: u64,
+    },
     /// `Debugger.paused`
     Paused(PauseData),
 }
@@ -99,10 +112,26 @@ pub enum ReplyBody {
     Nothing,
     /// Of `DOM.getDocument`: the document.
     Root(NodeTree),
-    /// The id of a node.
+    /// Of `DOM.describeNode`: a node whose id and parent are 0, and so are those of all nodes below it.
+    Node(NodeTree),
+    /// The id of a node, 0 for none.
     NodeId(u64),
     /// The ids of nodes, 0 for each that is not there.
     NodeIds(Numbers),
+    /// Of `DOM.getAttributes`: the names are distinct and ascend by bytes.
+    Attributes(Attributes),
+    /// Of `CSS.collectClassNames`
+    ClassNames(Listed<Text>),
+    /// Of `CSS.getStyleSheetText`
+    SheetText(Text),
+    /// Of `CSS.setStyleTexts`: for each edit, the style that it made.
+    Styles(Listed<Style>),
+    /// Of `CSS.setRuleSelector`
+    Selectors(RuleSelectors),
+    /// Of `CSS.addRule`
+    Rule(Rule),
+    /// Of `CSS.getMatchedStylesForNode`
+    Matched(Matched),
 }
 
 #[derive(Clone, Copy, PartialEq, Eq, Debug)]

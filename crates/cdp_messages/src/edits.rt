@@ -1,7 +1,7 @@
 // Edits of style sheets, as a command gives them.
 ghost use Rattle.std.specs.Prelude.{◌≡◌};
 
-use crate::ranges::SourceRange;
+use css_objects::SourceRange;
 use node_tree::Text;
 use std::marker::Model;
 

@@ -13,6 +13,9 @@ pub(crate) enum EventName {
     ChildNodeRemoved,
     SetChildNodes,
     DocumentUpdated,
+    StyleSheetAdded,
+    StyleSheetChanged,
+    StyleSheetRemoved,
     Paused,
 }
 
@@ -29,6 +32,9 @@ impl EventName {
             EventName::ChildNodeRemoved => "DOM.childNodeRemoved",
             EventName::SetChildNodes => "DOM.setChildNodes",
             EventName::DocumentUpdated => "DOM.documentUpdated",
+            EventName::StyleSheetAdded => "CSS.styleSheetAdded",
+            EventName::StyleSheetChanged => "CSS.styleSheetChanged",
+            EventName::StyleSheetRemoved => "CSS.styleSheetRemoved",
             EventName::Paused => "Debugger.paused",
         }
     }
@@ -46,6 +52,9 @@ impl EventName {
             "DOM.childNodeRemoved" => Some(EventName::ChildNodeRemoved),
             "DOM.setChildNodes" => Some(EventName::SetChildNodes),
             "DOM.documentUpdated" => Some(EventName::DocumentUpdated),
+            "CSS.styleSheetAdded" => Some(EventName::StyleSheetAdded),
+            "CSS.styleSheetChanged" => Some(EventName::StyleSheetChanged),
+            "CSS.styleSheetRemoved" => Some(EventName::StyleSheetRemoved),
             "Debugger.paused" => Some(EventName::Paused),
             _ => None,
         }

@@ -5,16 +5,19 @@ ghost use Rattle.serde_json.specs.View.{view, items_view};
 ghost use Rattle.cdp_json.specs.Kinds.{only_text};
 ghost use Rattle.cdp_json.specs.Left.{left};
 ghost use Rattle.cdp_json.specs.Rows.{beside, need, may};
+ghost use Rattle.css_objects.specs.Sheets.{header_kind, sheet_kind};
 ghost use Rattle.cdp_messages.specs.Answers.{Gives};
 ghost use Rattle.cdp_messages.specs.declared.event_names.EventName.TheVariants as event_name;
-ghost use Rattle.cdp_messages.specs.Events.{news_of, node_id, attribute_name, bare_kind, watch, pause_by, pause_kind, is_no_items, empty_list, envelope, envelope_seen, children_fields, children_seen, inserted_fields, inserted_seen, news_by, news_from, news_in};
+ghost use Rattle.cdp_messages.specs.Events.{news_of, node_id, attribute_name, bare_kind, watch, pause_by, pause_kind, is_no_items, empty_list, sheet_id_kind, envelope, envelope_seen, children_fields, children_seen, inserted_fields, inserted_seen, news_by, news_from, news_in};
 
 use crate::command::WatchWord;
 use crate::down::{DownErr, Event, PauseData};
 use crate::event_names::EventName;
 use crate::node_read::{tree_of, trees_of};
+use crate::node_rules::Manner;
 use crate::tree::NodeTree;
 use cdp_json::{Cursor, flag_of};
+use css_objects::{Header, header_of, sheet_of};
 use node_tree::{Text, is_attribute_name};
 use serde_json::Value;
 use std::alloc::Global;
@@ -147,7 +150,7 @@ fn children_of(alloc: Global, params: &Value) -> Result<Event, DownErr>
     let Some((values, parent)) = children_fields(params) else {
         return Err(DownErr::NotMessage);
     };
-    match trees_of(alloc, values) {
+    match trees_of(alloc, values, Manner::Pushed) {
         Ok(nodes) => Ok(Event::SetChildNodes { parent, nodes }),
         Err(error) => Err(error),
     }
@@ -171,7 +174,7 @@ fn inserted_fields(params: &Value) -> Option<(&Value, (u64, u64))>
 fn bare_of(alloc: Global, value: &Value) -> Result<NodeTree, DownErr>
     ensures { Gives (λ tree. tree) result (bare_kind.reads (view value.now)) }
 {
-    match tree_of(alloc, value, false) {
+    match tree_of(alloc, value, Manner::Pushed, false) {
         Ok(tree) => if tree.children.is_some() {
             Err(DownErr::NotMessage)
         } else {
@@ -206,6 +209,64 @@ fn updated_of(params: &Value) -> Result<Event, DownErr>
         return Err(DownErr::NotMessage);
     }
     Ok(Event::DocumentUpdated)
+}
+
+fn header_field(fields: &mut Cursor<'_>) -> Option<Header>
+    ensures { option_map (beside (left fields.new)) result
+        ≡ need header_kind.reads (codes "header") (left fields.old) }
+{
+    let value = fields.need("header")?;
+    header_of(value)
+}
+
+fn sheet_field(fields: &mut Cursor<'_>) -> Option<u64>
+    ensures { option_map (beside (left fields.new)) result
+        ≡ need sheet_kind.reads (codes "styleSheetId") (left fields.old) }
+{
+    let value = fields.need("styleSheetId")?;
+    sheet_of(value)
+}
+
+fn added_of(params: &Value) -> Result<Event, DownErr>
+    ensures { Gives news_of result (news_by event_name.StyleSheetAdded (view params.now)) }
+{
+    let object = params.as_object().ok_or(DownErr::NotMessage)?;
+    let mut fields = Cursor::new(object);
+    let header = header_field(&mut fields).ok_or(DownErr::NotMessage)?;
+    if !fields.is_done() {
+        return Err(DownErr::NotMessage);
+    }
+    Ok(Event::StyleSheetAdded { header })
+}
+
+// The one parameter of the events that name a sheet.
+fn named_sheet(params: &Value) -> Option<u64>
+    ensures { option_map (λ sheet. (sheet, tt)) result ≡ sheet_id_kind.reads (view params.now) }
+{
+    let mut fields = Cursor::new(params.as_object()?);
+    let sheet = sheet_field(&mut fields)?;
+    if !fields.is_done() {
+        return None;
+    }
+    Some(sheet)
+}
+
+fn changed_of(params: &Value) -> Result<Event, DownErr>
+    ensures { Gives news_of result (news_by event_name.StyleSheetChanged (view params.now)) }
+{
+    match named_sheet(params) {
+        Some(sheet) => Ok(Event::StyleSheetChanged { sheet }),
+        None => Err(DownErr::NotMessage),
+    }
+}
+
+fn sheet_removed_of(params: &Value) -> Result<Event, DownErr>
+    ensures { Gives news_of result (news_by event_name.StyleSheetRemoved (view params.now)) }
+{
+    match named_sheet(params) {
+        Some(sheet) => Ok(Event::StyleSheetRemoved { sheet }),
+        None => Err(DownErr::NotMessage),
+    }
 }
 
 // An outer `None` says that the field is there and of another kind, here and below.
@@ -343,6 +404,9 @@ fn event_by(alloc: Global, name: EventName, params: &Value) -> Result<Event, Dow
         EventName::ChildNodeRemoved => removed_of(params),
         EventName::SetChildNodes => children_of(alloc, params),
         EventName::DocumentUpdated => updated_of(params),
+        EventName::StyleSheetAdded => added_of(params),
+        EventName::StyleSheetChanged => changed_of(params),
+        EventName::StyleSheetRemoved => sheet_removed_of(params),
         EventName::Paused => paused_of(params),
     }
 }

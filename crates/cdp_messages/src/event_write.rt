@@ -3,7 +3,7 @@ ghost use Rattle.std.specs.Prelude.{◌≡◌, ◌++◌, IfOk, OnOk, OnErr, IsUt
 ghost use Rattle.serde_json.specs.View.{view};
 ghost use Rattle.node_tree.specs.Nodes.{nodes_of};
 ghost use Rattle.cdp_messages.specs.Answers.{ended};
-ghost use Rattle.cdp_messages.specs.Events.{news_of, watch as watched, event_name, envelope, modified_kind, dropped_kind, data_kind, count_kind, inserted_kind, removed_kind, nodes_kind, children_kind, pause_kind, paused_kind, news_data};
+ghost use Rattle.cdp_messages.specs.Events.{news_of, watch as watched, event_name, envelope, modified_kind, dropped_kind, data_kind, count_kind, inserted_kind, removed_kind, nodes_kind, children_kind, added_kind, sheet_id_kind, pause_kind, paused_kind, news_data};
 ghost use Rattle.cdp_messages.specs.Replies.{event_text};
 
 use crate::command::WatchWord;
@@ -13,6 +13,7 @@ use crate::node_write::{node_value, node_values};
 use crate::tree::NodeTree;
 use crate::write::append;
 use cdp_json::object;
+use css_objects::{Header, header_value, sheet_value};
 use node_tree::Text;
 use serde_json::{Map, Value};
 use std::alloc::{AllocError, Global};
@@ -101,6 +102,22 @@ fn children_value(alloc: Global, parent: u64, nodes: &Vec<NodeTree>) -> Result<V
         ("nodes", Some(nodes)),
         ("parentId", Some(Value::from(parent))),
     ]?;
+    object(alloc, fields)
+}
+
+fn added_value(alloc: Global, header: Header) -> Result<Value, AllocError>
+    ensures { IfOk result (λ v. view v ≡ added_kind.spell (header, tt)) }
+{
+    let header = header_value(alloc, header)?;
+    let fields = vec![in alloc; ("header", Some(header))]?;
+    object(alloc, fields)
+}
+
+fn sheet_id_value(alloc: Global, sheet: u64) -> Result<Value, AllocError>
+    ensures { IfOk result (λ v. view v ≡ sheet_id_kind.spell (sheet, tt)) }
+{
+    let sheet = sheet_value(alloc, sheet)?;
+    let fields = vec![in alloc; ("styleSheetId", Some(sheet))]?;
     object(alloc, fields)
 }
 
@@ -208,6 +225,18 @@ fn event_value(alloc: Global, event: &Event) -> Result<Value, AllocError>
         Event::DocumentUpdated => {
             let params = Value::Object(Map::new(alloc));
             envelope_value(alloc, EventName::DocumentUpdated, params)
+        }
+        Event::StyleSheetAdded { header } => {
+            let params = added_value(alloc, *header)?;
+            envelope_value(alloc, EventName::StyleSheetAdded, params)
+        }
+        Event::StyleSheetChanged { sheet } => {
+            let params = sheet_id_value(alloc, *sheet)?;
+            envelope_value(alloc, EventName::StyleSheetChanged, params)
+        }
+        Event::StyleSheetRemoved { sheet } => {
+            let params = sheet_id_value(alloc, *sheet)?;
+            envelope_value(alloc, EventName::StyleSheetRemoved, params)
         }
         Event::Paused(pause) => {
             let params = paused_value(alloc, *pause)?;

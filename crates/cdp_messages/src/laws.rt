@@ -1,5 +1,5 @@
 // The laws of the messages, which make no call.
-ghost use Rattle.cdp_messages.specs.Laws.{AsksAreAsked, AsksFit, CommandsAreAsked, ParametersAreRead, ParametersArePlain, CommandsAreNamed, DomAsksAreCommands, RepliesAreRead, RepliesAreShallow, EventsAreRead, EventsAreShallow, EventsAreUtf8, ShownChildrenFit, RefusalsAreRead, ResultsAreRead, MessagesAreSpelled, ResultsAreSpelled, OneMessage, OneResult, TextsHaveNoZero, RepliesAreUtf8, ShownTreesFit};
+ghost use Rattle.cdp_messages.specs.Laws.{AsksAreAsked, AsksFit, CommandsAreAsked, ParametersAreRead, ParametersArePlain, CommandsAreNamed, DomAsksAreCommands, RepliesAreRead, RepliesAreShallow, EventsAreRead, EventsAreShallow, EventsAreUtf8, ShownChildrenFit, RefusalsAreRead, ResultsAreRead, MessagesAreRead, FaultsAreRead, ObjectsAreEmpty, MessagesAreSpelled, ResultsAreSpelled, OneMessage, OneResult, TextsHaveNoZero, RepliesAreUtf8, ShownTreesFit};
 
 /// What a writer appends is read as what it was given, nothing else is read, and no value spells two messages.
 pub fn spell_law()
@@ -16,7 +16,10 @@ pub fn spell_law()
     ensures events_shallow { EventsAreShallow }
     ensures events_utf8 { EventsAreUtf8 }
     ensures refusals { RefusalsAreRead }
+    ensures messages { MessagesAreRead }
+    ensures faults { FaultsAreRead }
     ensures results { ResultsAreRead }
+    ensures empty_results { ObjectsAreEmpty }
     ensures messages_spelled { MessagesAreSpelled }
     ensures results_spelled { ResultsAreSpelled }
     ensures one_message { OneMessage }

@@ -6,6 +6,7 @@ mod command;
 mod dom_ask;
 mod down;
 mod edits;
+mod effects;
 mod event_names;
 mod event_read;
 mod event_write;
@@ -17,26 +18,33 @@ mod node_rules;
 mod node_write;
 mod numbers;
 mod parameters;
-mod ranges;
 mod read;
 mod read_by;
 mod receive;
+mod result_forms;
+mod result_read;
+mod result_write;
 mod tree;
 mod write;
 
 pub use command::{Asked, Command, CommandErr, Param, ReadErr, Refused, WatchWord, Why};
+pub use css_objects::{
+    Header, Inherited, Listed, Matched, Rule, RuleMatch, RuleSelectors, SelectorValue, SheetOrigin,
+    SourceRange, Style, StyleProperty, Weight,
+};
 pub use dom_ask::DomAsk;
 pub use down::{Down, DownErr, Event, PauseData, ReplyBody};
 pub use edits::{TextEdit, TextEdits};
+pub use effects::Effect;
 pub use event_write::write_event;
 pub use kept::Json;
 pub use laws::spell_law;
 pub use method::Method;
 pub use node_tree::{Attributes, Kind, Kind as NodeType, Text};
 pub use numbers::Numbers;
-pub use ranges::SourceRange;
 pub use read::{read_ask, read_command};
-pub use receive::{read_down, read_result};
+pub use receive::read_down;
+pub use result_read::read_result;
 pub use tree::NodeTree;
 pub use write::{write_command, write_refused, write_reply};
 

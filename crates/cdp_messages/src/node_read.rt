@@ -11,7 +11,7 @@ ghost use Rattle.cdp_messages.specs.NodeData.{tree_of, trees_of};
 ghost use Rattle.cdp_messages.specs.NodeObject.{attribute_list, kind_of_type, node_type, node_name, node_fields};
 
 use crate::down::DownErr;
-use crate::node_rules::{fits_hold, is_document, is_formed_label, is_named_label};
+use crate::node_rules::{Manner, fits_hold, is_document, is_formed_label, is_named_label};
 use crate::node_write::{is_container, is_element, local_name, node_name};
 use crate::tree::NodeTree;
 use cdp_json::{Cursor, text_of};
@@ -35,7 +35,7 @@ pub(crate) struct RawNode<'a> {
 }
 
 // Names and values in turn.
-fn attributes_of(alloc: Global, values: &[Value]) -> Result<Attributes, DownErr>
+pub(crate) fn attributes_of(alloc: Global, values: &[Value]) -> Result<Attributes, DownErr>
     ensures { Gives (λ pairs. pairs) result (attribute_list.reads (array (items_view values.now))) }
 {
     let mut pairs = Attributes::new(alloc);
@@ -142,7 +142,7 @@ impl<'a> RawNode<'a> {
     ghost use Rattle.serde_json.specs.Data.{no_items};
     ghost use Rattle.node_tree.specs.Labels.{is_element, holds};
     ghost use Rattle.cdp_messages.specs.Told.{told_tree};
-    ghost use Rattle.cdp_messages.specs.NodeObject.{name_in, label_in, told_in, children_in, agrees, fits_place, tells};
+    ghost use Rattle.cdp_messages.specs.NodeObject.{name_in, label_in, told_in, children_in, agrees, fits_place, fits_described, fits_told, tells};
     ghost use Rattle.cdp_messages.specs.Raw.{object_in};
 
     // The name of the node that is told.
@@ -205,10 +205,36 @@ impl<'a> RawNode<'a> {
             && fits_hold(self.children, is_container(self.kind), count)
     }
 
-    fn tells(&self, alloc: Global, top: bool) -> Result<bool, AllocError>
-        ensures { IfOk result (λ b. b ≡ tells top (object_in self.now)) }
+    // Whether a node that is described alone may stand here.
+    fn fits_described(&self, top: bool) -> bool
+        ensures { result ≡ fits_described top (items_len (children_in (object_in self.now)))
+            (told_in (object_in self.now)) }
     {
-        Ok(self.agrees(alloc)? && self.fits_place(top))
+        let count = self.count.unwrap_or(0);
+        let parent = self.parent.unwrap_or(0);
+        self.id == 0
+            && self.serial > 0
+            && is_formed_label(self.kind, self.label_name(), self.value, self.pairs())
+            && is_named_label(self.kind, self.label_name(), self.pairs())
+            && (top || !is_document(self.kind))
+            && parent == 0
+            && fits_hold(self.children, is_container(self.kind), count)
+    }
+
+    fn fits_told(&self, manner: Manner, top: bool) -> bool
+        ensures { result ≡ fits_told manner top (items_len (children_in (object_in self.now)))
+            (told_in (object_in self.now)) }
+    {
+        match manner {
+            Manner::Pushed => self.fits_place(top),
+            Manner::Described => self.fits_described(top),
+        }
+    }
+
+    fn tells(&self, alloc: Global, manner: Manner, top: bool) -> Result<bool, AllocError>
+        ensures { IfOk result (λ b. b ≡ tells manner top (object_in self.now)) }
+    {
+        Ok(self.agrees(alloc)? && self.fits_told(manner, top))
     }
 
     // The node with these children.
@@ -237,21 +263,26 @@ impl<'a> RawNode<'a> {
     }
 }
 
-// Reads a node with all that is shown below it; `top` says whether it is the document.
+// Reads a node with all that is shown below it; `top` says whether it stands at the top of what is told.
 #[cycle(tree_of)]
-pub(crate) fn tree_of(alloc: Global, value: &Value, top: bool) -> Result<NodeTree, DownErr>
-    ensures { Gives (λ tree. tree) result (tree_of top (view value.now)) }
+pub(crate) fn tree_of(
+    alloc: Global,
+    value: &Value,
+    manner: Manner,
+    top: bool,
+) -> Result<NodeTree, DownErr>
+    ensures { Gives (λ tree. tree) result (tree_of manner top (view value.now)) }
 {
     let raw = match RawNode::read(alloc, value) {
         Ok(raw) => raw,
         Err(error) => return Err(error),
     };
-    let told = raw.tells(alloc, top)?;
+    let told = raw.tells(alloc, manner, top)?;
     if !told {
         return Err(DownErr::NotMessage);
     }
     match raw.children {
-        Some(values) => match trees_of(alloc, values) {
+        Some(values) => match trees_of(alloc, values, manner) {
             Ok(trees) => {
                 let tree = raw.finished(alloc, Some(trees))?;
                 Ok(tree)
@@ -266,12 +297,17 @@ pub(crate) fn tree_of(alloc: Global, value: &Value, top: bool) -> Result<NodeTre
 }
 
 #[cycle(tree_of)]
-pub(crate) fn trees_of(alloc: Global, values: &[Value]) -> Result<Vec<NodeTree>, DownErr>
-    ensures { Gives (λ trees. nodes_of trees.items) result (trees_of (items_view values.now)) }
+pub(crate) fn trees_of(
+    alloc: Global,
+    values: &[Value],
+    manner: Manner,
+) -> Result<Vec<NodeTree>, DownErr>
+    ensures { Gives (λ trees. nodes_of trees.items) result
+        (trees_of manner (items_view values.now)) }
 {
     let mut trees = Vec::with_capacity(alloc, values.len())?;
     for value in values {
-        let tree = tree_of(alloc, value, false)?;
+        let tree = tree_of(alloc, value, manner, false)?;
         trees.push(tree)?;
     }
     Ok(trees)

@@ -14,6 +14,15 @@ use node_tree::{Kind, Text, is_attribute_name, is_element_name};
 use serde_json::Value;
 use std::cmp::Ordering;
 
+// How the nodes of a message are told.
+#[derive(Clone, Copy, PartialEq, Eq, Debug)]
+pub(crate) enum Manner {
+    // As nodes of a session, with ids and parents.
+    Pushed,
+    // By themselves.
+    Described,
+}
+
 pub(crate) fn is_document(kind: Kind) -> bool
     ensures { result ≡ is_document kind }
 {
@@ -57,7 +66,7 @@ fn is_before(first: &str, second: &str) -> bool
 }
 
 // The names are distinct and ascend by bytes.
-fn is_ascending(pairs: &[(Text, Text)]) -> bool
+pub(crate) fn is_ascending(pairs: &[(Text, Text)]) -> bool
     ensures { result ≡ is_ascending pairs.now }
 {
     let mut last = None;
@@ -73,7 +82,7 @@ fn is_ascending(pairs: &[(Text, Text)]) -> bool
     true
 }
 
-fn are_attribute_names(pairs: &[(Text, Text)]) -> bool
+pub(crate) fn are_attribute_names(pairs: &[(Text, Text)]) -> bool
     ensures { result ≡ list_all (λ p. is_attribute_name p.0) pairs.now }
 {
     for pair in pairs {

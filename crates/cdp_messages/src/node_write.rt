@@ -15,7 +15,7 @@ use serde_json::Value;
 use std::alloc::{AllocError, Global};
 
 // Names and values in turn.
-fn attributes_value(alloc: Global, attributes: &Attributes) -> Result<Value, AllocError>
+pub(crate) fn attributes_value(alloc: Global, attributes: &Attributes) -> Result<Value, AllocError>
     ensures { IfOk result (λ v. view v ≡ attribute_list.spell attributes.now) }
 {
     let mut list = Vec::new(alloc);

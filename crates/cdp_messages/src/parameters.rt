@@ -14,11 +14,11 @@ ghost use Rattle.cdp_messages.specs.Answers.{Commands};
 use crate::command::{CommandErr, Param, WatchWord, Why};
 use crate::edits::{TextEdit, TextEdits};
 use crate::numbers::Numbers;
-use crate::ranges::SourceRange;
 use crate::write::param_name;
 use cdp_json::{
     Field, depth_field, flag_field, int_field, list_field, object_field, text_field, wholes_of,
 };
+use css_objects::SourceRange;
 use node_tree::Text;
 use serde_json::{Map, Value};
 use std::alloc::{AllocError, Global};

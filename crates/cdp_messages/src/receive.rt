@@ -1,20 +1,17 @@
-// Reading messages on their way down, and the results of replies.
+// Reading messages on their way down.
 ghost use Rattle.std.specs.Prelude.{◌≡◌, codes, option_map};
 ghost use Rattle.serde_json.specs.Find.{get};
 ghost use Rattle.serde_json.specs.View.{view};
 ghost use Rattle.cdp_json.specs.Left.{left};
-ghost use Rattle.cdp_json.specs.Kinds.{list_of, whole};
 ghost use Rattle.cdp_json.specs.Rows.{beside, need};
 ghost use Rattle.cdp_messages.specs.Answers.{Gives};
 ghost use Rattle.cdp_messages.specs.Events.{news_in};
-ghost use Rattle.cdp_messages.specs.Replies.{message_of, event, reply_kind, error_kind, error_seen, fault_kind, fault_from, or_else, message_in, down_of, root_kind, root_from, nothing_kind, nothing_from, id_kind, id_from, ids_kind, ids_from, result_of};
+ghost use Rattle.cdp_messages.specs.Replies.{message_of, event, reply_kind, error_kind, error_seen, fault_kind, fault_from, or_else, message_in, down_of};
 
-use crate::down::{Down, DownErr, ReplyBody};
+use crate::down::{Down, DownErr};
 use crate::event_read::event_of;
-use crate::node_read::tree_of;
-use crate::numbers::Numbers;
 use crate::read::json_of;
-use cdp_json::{Cursor, wholes_of};
+use cdp_json::Cursor;
 use node_tree::Text;
 use serde_json::Value;
 use std::alloc::Global;
@@ -120,81 +117,5 @@ pub fn read_down(alloc: Global, bytes: &[u8]) -> Result<Down, DownErr>
     match found {
         Some(value) => message_in(alloc, value),
         None => Err(DownErr::NotMessage),
-    }
-}
-
-fn root_of(alloc: Global, value: &Value) -> Result<ReplyBody, DownErr>
-    ensures { Gives (λ body. body) result (option_map root_from (root_kind.reads (view value.now))) }
-{
-    let object = value.as_object().ok_or(DownErr::NotMessage)?;
-    let mut fields = Cursor::new(object);
-    let root = fields.need("root").ok_or(DownErr::NotMessage)?;
-    if !fields.is_done() {
-        return Err(DownErr::NotMessage);
-    }
-    match tree_of(alloc, root, true) {
-        Ok(tree) => Ok(ReplyBody::Root(tree)),
-        Err(error) => Err(error),
-    }
-}
-
-// Any object is the empty result.
-fn nothing_of(value: &Value) -> Result<ReplyBody, DownErr>
-    ensures { Gives (λ body. body) result (option_map nothing_from (nothing_kind.reads (view value.now))) }
-{
-    if value.is_object() {
-        Ok(ReplyBody::Nothing)
-    } else {
-        Err(DownErr::NotMessage)
-    }
-}
-
-fn id_of(value: &Value) -> Result<ReplyBody, DownErr>
-    ensures { Gives (λ body. body) result (option_map id_from (id_kind.reads (view value.now))) }
-{
-    let object = value.as_object().ok_or(DownErr::NotMessage)?;
-    let mut fields = Cursor::new(object);
-    let id = fields.need_whole("nodeId").ok_or(DownErr::NotMessage)?;
-    if !fields.is_done() {
-        return Err(DownErr::NotMessage);
-    }
-    Ok(ReplyBody::NodeId(id))
-}
-
-fn wholes_field(alloc: Global, fields: &mut Cursor<'_>, name: &str) -> Result<Numbers, DownErr>
-    ensures { Gives (beside (left fields.new)) result
-        (need (list_of whole).reads name.now (left fields.old)) }
-{
-    match fields.need_list(name) {
-        Some(values) => match wholes_of(alloc, values)? {
-            Some(list) => Ok(Numbers::new(list)),
-            None => Err(DownErr::NotMessage),
-        },
-        None => Err(DownErr::NotMessage),
-    }
-}
-
-fn ids_of(alloc: Global, value: &Value) -> Result<ReplyBody, DownErr>
-    ensures { Gives (λ body. body) result (option_map ids_from (ids_kind.reads (view value.now))) }
-{
-    let object = value.as_object().ok_or(DownErr::NotMessage)?;
-    let mut fields = Cursor::new(object);
-    let ids = wholes_field(alloc, &mut fields, "nodeIds")?;
-    if !fields.is_done() {
-        return Err(DownErr::NotMessage);
-    }
-    Ok(ReplyBody::NodeIds(ids))
-}
-
-/// Reads the result of a reply to a command of that method. No result is one of a method that is not known.
-pub fn read_result(alloc: Global, method: &str, value: &Value) -> Result<ReplyBody, DownErr>
-    ensures { Gives (λ body. body) result (result_of method.now (view value.now)) }
-{
-    match method {
-        "DOM.getDocument" => root_of(alloc, value),
-        "DOM.requestChildNodes" => nothing_of(value),
-        "DOM.pushNodeByPathToFrontend" => id_of(value),
-        "DOM.pushNodesByBackendIdsToFrontend" => ids_of(alloc, value),
-        _ => Err(DownErr::NotMessage),
     }
 }

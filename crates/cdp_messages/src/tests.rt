@@ -1,5 +1,5 @@
 use crate::{
-    Attributes, DomAsk, Down, DownErr, Event, Kind, NodeTree, ReadErr, ReplyBody, Text,
+    Attributes, DomAsk, Down, DownErr, Effect, Event, Kind, NodeTree, ReadErr, ReplyBody, Text,
     read_command, read_down, read_result, write_command, write_event, write_refused, write_reply,
 };
 use serde_json::Value;
@@ -68,12 +68,12 @@ fn refusal(alloc: Global, frame: &str) -> Result<Vec<u8>, AllocError> {
     Ok(out)
 }
 
-// Reads a reply and its result, or an event, and writes it again.
-fn again(alloc: Global, bytes: &[u8]) -> Result<Vec<u8>, DownErr> {
+// Reads a reply to that method with its result, or an event, and writes it again.
+fn again(alloc: Global, method: &str, bytes: &[u8]) -> Result<Vec<u8>, DownErr> {
     let mut out = Vec::new(alloc);
     match read_down(alloc, bytes)? {
         Down::Reply { id, result } => {
-            let body = read_result(alloc, "DOM.getDocument", &result)?;
+            let body = read_result(alloc, method, &result)?;
             write_reply(alloc, id, &body, &mut out)?;
         }
         Down::Fault { id, code, text } => out.extend_from_slice(text.as_str().as_bytes())?,
@@ -102,14 +102,15 @@ fn a_reply_is_written_and_read_again(rt: HostRuntime) -> Result<(), Fail> {
     write_reply(rt.alloc(), 1, &small_page(rt.alloc())?, &mut out)?;
     assert_eq!(rt; out.pop(), Some(0));
     assert_eq!(rt; out.as_slice(), SMALL_REPLY);
-    let mut copy = again(rt.alloc(), SMALL_REPLY)?;
+    let mut copy = again(rt.alloc(), "DOM.getDocument", SMALL_REPLY)?;
     assert_eq!(rt; copy.pop(), Some(0));
     assert_eq!(rt; copy.as_slice(), SMALL_REPLY);
     let fault = again(
         rt.alloc(),
-        b"{\"error\":{\"code\":-32601,\"message\":\"unknown method\"},\"id\":3}",
+        "",
+        b"{\"error\":{\"code\":7,\"message\":\"any text\"},\"id\":3}",
     )?;
-    assert_eq!(rt; fault.as_slice(), b"unknown method".as_slice());
+    assert_eq!(rt; fault.as_slice(), b"any text".as_slice());
     Ok(())
 }
 
@@ -119,7 +120,7 @@ fn an_event_is_written_and_read_again(rt: HostRuntime) -> Result<(), Fail> {
     write_event(rt.alloc(), &title_shown(rt.alloc())?, &mut out)?;
     assert_eq!(rt; out.pop(), Some(0));
     assert_eq!(rt; out.as_slice(), TITLE_SHOWN);
-    let mut copy = again(rt.alloc(), TITLE_SHOWN)?;
+    let mut copy = again(rt.alloc(), "", TITLE_SHOWN)?;
     assert_eq!(rt; copy.pop(), Some(0));
     assert_eq!(rt; copy.as_slice(), TITLE_SHOWN);
     Ok(())
@@ -132,9 +133,11 @@ fn each_event_is_read_and_written_again(rt: HostRuntime) -> Result<(), Fail> {
         r#"{"method":"DOM.attributeModified","params":{"name":"lang","nodeId":2,"value":"en"}}"#,
         r#"{"method":"DOM.childNodeCountUpdated","params":{"childNodeCount":3,"nodeId":2}}"#,
         r#"{"method":"DOM.childNodeInserted","params":{"node":{"backendNodeId":7,"localName":"","nodeId":3,"nodeName":"html","nodeType":10,"nodeValue":"","parentId":1},"parentNodeId":1,"previousNodeId":0}}"#,
+        r#"{"method":"CSS.styleSheetAdded","params":{"header":{"length":3,"origin":"regular","styleSheetId":"s1"}}}"#,
+        r#"{"method":"CSS.styleSheetRemoved","params":{"styleSheetId":"s1"}}"#,
         r#"{"method":"Debugger.paused","params":{"callFrames":[],"data":{"insertion":true,"nodeId":4,"targetNodeId":4,"type":"subtree-modified"},"reason":"DOM"}}"#,
     ] {
-        let mut copy = again(rt.alloc(), text.as_bytes())?;
+        let mut copy = again(rt.alloc(), "", text.as_bytes())?;
         assert_eq!(rt; copy.pop(), Some(0));
         assert_eq!(rt; copy.as_slice(), text.as_bytes());
     }
@@ -153,6 +156,42 @@ fn results_are_read_by_method(rt: HostRuntime) -> Result<(), Fail> {
         "{\"nodeIds\":[6,0,5]}",
     )?;
     assert_eq!(rt; ids.as_str(), "NodeIds(Numbers { list: [6, 0, 5] })");
+    Ok(())
+}
+
+#[test]
+fn each_result_is_read_and_written_again(rt: HostRuntime) -> Result<(), Fail> {
+    for (method, text) in [
+        (
+            "DOM.getAttributes",
+            r#"{"id":2,"result":{"attributes":["class","a b","id",""]}}"#,
+        ),
+        (
+            "DOM.describeNode",
+            r##"{"id":3,"result":{"node":{"attributes":[],"backendNodeId":3,"childNodeCount":1,"children":[{"backendNodeId":4,"localName":"","nodeId":0,"nodeName":"#text","nodeType":3,"nodeValue":"T"}],"localName":"p","nodeId":0,"nodeName":"P","nodeType":1,"nodeValue":""}}}"##,
+        ),
+        (
+            "CSS.getStyleSheetText",
+            r#"{"id":4,"result":{"text":"p{}"}}"#,
+        ),
+    ] {
+        let mut copy = again(rt.alloc(), method, text.as_bytes())?;
+        assert_eq!(rt; copy.pop(), Some(0));
+        assert_eq!(rt; copy.as_slice(), text.as_bytes());
+    }
+    Ok(())
+}
+
+// What a reply without a result changes.
+fn effect(alloc: Global, method: &str) -> Result<String, AllocError> {
+    let effect = Effect::of_reply(method, ReplyBody::Nothing);
+    format!(in alloc; "{effect:?}")
+}
+
+#[test]
+fn a_switch_off_has_an_effect(rt: HostRuntime) -> Result<(), Fail> {
+    assert_eq!(rt; effect(rt.alloc(), "CSS.disable")?.as_str(), "SheetsOff");
+    assert_eq!(rt; effect(rt.alloc(), "DOM.undo")?.as_str(), "NothingElse");
     Ok(())
 }
 

@@ -4,14 +4,14 @@ ghost use Rattle.serde_json.specs.View.{view};
 ghost use Rattle.serde_json.specs.Written.{compact_text, has_float};
 ghost use Rattle.cdp_messages.specs.Refusals.{param_name, code_of, said_first, said_of_param, text_of};
 ghost use Rattle.cdp_messages.specs.Asked.{command_value, command_text, is_whole_where_there};
-ghost use Rattle.cdp_messages.specs.Replies.{error_kind, reply, fault, message_data, body_data, reply_text, refused_text};
+ghost use Rattle.cdp_messages.specs.Replies.{error_kind, reply, fault, message_data, reply_text, refused_text};
 ghost use Rattle.cdp_messages.specs.Answers.{ended};
 
 use crate::command::{Param, Refused, Why};
 use crate::down::ReplyBody;
-use crate::node_write::node_value;
-use cdp_json::{object, whole_list};
-use serde_json::{Map, Value};
+use crate::result_write::body_value;
+use cdp_json::object;
+use serde_json::Value;
 use std::alloc::{AllocError, Global};
 
 // Appends the text of a value and a zero byte.
@@ -256,28 +256,6 @@ pub fn write_refused(alloc: Global, refused: &Refused, out: &mut Vec<u8>) -> Res
     let text = text_of(alloc, refused.why)?;
     let value = fault_value(alloc, refused.id, code_of(refused.why), text)?;
     append(alloc, &value, out)
-}
-
-fn body_value(alloc: Global, body: &ReplyBody) -> Result<Value, AllocError>
-    ensures { IfOk result (λ v. view v ≡ body_data body.now) }
-{
-    match body {
-        ReplyBody::Nothing => Ok(Value::Object(Map::new(alloc))),
-        ReplyBody::Root(tree) => {
-            let root = node_value(alloc, tree)?;
-            let fields = vec![in alloc; ("root", Some(root))]?;
-            object(alloc, fields)
-        }
-        ReplyBody::NodeId(id) => {
-            let fields = vec![in alloc; ("nodeId", Some(Value::from(*id)))]?;
-            object(alloc, fields)
-        }
-        ReplyBody::NodeIds(ids) => {
-            let list = whole_list(alloc, ids.as_slice())?;
-            let fields = vec![in alloc; ("nodeIds", Some(list))]?;
-            object(alloc, fields)
-        }
-    }
 }
 
 fn reply_value(alloc: Global, id: u64, body: Value) -> Result<Value, AllocError>

@@ -32,7 +32,7 @@ sheet_lawful : LawfulKind sheet_kind
 sheet_lawful = record { takes = sheet_take; again = λ n f. sym (the_sheet n f); plain = λ n f l. refl }
 
 pub sheet_sound : IsSound sheet_kind (λ _. ⊤) 0
-sheet_sound = sound sheet_lawful refl (λ n f u. sheet_text-utf8 n f) (λ n. omega arith)
+sheet_sound = sound sheet_lawful refl (λ n f u. sheet_text-utf8 n f) (λ n. omega arith) (λ n. refl)
 
 origin_again : (o : SheetOrigin) → origin_named (origin_name o) ≡ Some o
 origin_again UserAgent = refl
@@ -43,7 +43,7 @@ origin_utf8 UserAgent = IsUtf8-are_ascii (codes "user-agent") refl
 origin_utf8 Regular = IsUtf8-are_ascii (codes "regular") refl
 
 pub origin_sound : IsSound origin_kind (λ _. ⊤) 0
-origin_sound = sound (choice_lawful origin_name (UserAgent ∷ Regular ∷ []) origin_again) refl (λ o f u. origin_utf8 o) (λ o. omega arith)
+origin_sound = sound (choice_lawful origin_name (UserAgent ∷ Regular ∷ []) origin_again) refl (λ o f u. origin_utf8 o) (λ o. omega arith) (λ o. refl)
 
 empty_take : (d : Data) (x : ⊤) → empty_list.reads d ≡ Some x → (empty_list.spell x ≡ d) × (empty_list.fits x ≡ true)
 empty_take null x e = absurd cc
@@ -55,7 +55,7 @@ empty_take (array (item d ds)) x e = absurd cc
 empty_take (object ms) x e = absurd cc
 
 pub empty_sound : IsSound empty_list (λ _. ⊤) 1
-empty_sound = sound (record { takes = empty_take; again = λ x f. refl; plain = λ x f l. refl }) refl (λ x f u. tt) (λ x. omega arith)
+empty_sound = sound (record { takes = empty_take; again = λ x f. refl; plain = λ x f l. refl }) refl (λ x f u. tt) (λ x. omega arith) (λ x. refl)
 
 -- ---- objects
 

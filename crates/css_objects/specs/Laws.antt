@@ -1,8 +1,9 @@
 -- The laws of the objects: each is spelled and read the same, no value spells two, its text is UTF-8 where its texts are,
--- and how deep it nests.
-use Rattle.std.specs.Prelude.{◌≡◌, ℕ, ◌≤◌, true, None, IfSome, IsUtf8}
+-- its numbers are whole, and how deep it nests.
+use Rattle.std.specs.Prelude.{◌≡◌, ℕ, ◌≤◌, true, false, None, IfSome, IsUtf8}
 use Rattle.std.specs.List.{AllByRecursion}
 use Rattle.serde_json.specs.Data.{depth}
+use Rattle.serde_json.specs.Written.{has_float}
 use Rattle.cdp_json.specs.Plain.{HasUtf8}
 use Rattle.cdp_json.specs.Kinds.{Kind}
 use Rattle.cdp_json.specs.Lawful.{LawfulKind}
@@ -27,6 +28,8 @@ pub record IsSound {T : Type 0} (k : Kind T) (HasTexts : T → Type 0) (levels :
   pub utf8 : (x : T) → k.fits x ≡ true → HasTexts x → HasUtf8 (k.spell x)
   -- what is spelled nests no deeper than this
   pub shallow : (x : T) → depth (k.spell x) ≤ levels
+  -- each number in what is spelled is whole
+  pub no_float : (x : T) → has_float (k.spell x) ≡ false
 
 -- ---- the texts of each object are UTF-8
 

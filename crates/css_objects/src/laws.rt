@@ -10,7 +10,7 @@ ghost use Rattle.css_objects.specs.Results.{sheet_text_result, class_names_resul
 ghost use Rattle.css_objects.specs.Laws.{IsSound, SelectorHasUtf8, SelectorsHaveUtf8, PropertyHasUtf8, StyleHasUtf8, RuleHasUtf8, MatchHasUtf8, InheritedHasUtf8, MatchedHaveUtf8};
 
 /// Of each object and each result: it is spelled and read the same, no value spells two, its JSON is UTF-8 where its texts
-/// are, and it nests so many levels deep at most.
+/// are, its numbers are whole, and it nests so many levels deep at most.
 pub fn css_objects_law()
     ensures sheet { IsSound sheet_kind (λ _. ⊤) 0 }
     ensures range { IsSound range_kind (λ _. ⊤) 1 }

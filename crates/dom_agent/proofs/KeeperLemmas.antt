@@ -22,14 +22,12 @@ use Rattle.node_binding.proofs.OpenedLemmas.{IsSession-opened, open_afterwards}
 use Rattle.cdp_messages.specs.declared.dom_ask.DomAsk.{DomAsk}
 use Rattle.cdp_messages.specs.declared.dom_ask.DomAsk.TheVariants.{GetDocument, RequestChildNodes, PushByPath, PushBySerials}
 use Rattle.cdp_messages.specs.declared.command.Why.TheVariants.{NotPushed}
-use Rattle.cdp_messages.specs.declared.down.ReplyBody.TheVariants.{Root, NodeId, NodeIds}
-use Rattle.cdp_messages.specs.Answers.{ended}
-use Rattle.cdp_messages.specs.Replies.{reply_text, refused_text}
-use Rattle.cdp_messages.specs.Told.{told_branch}
+use Rattle.cdp_messages.specs.declared.down.ReplyBody.TheVariants.{NodeId, NodeIds}
+use Rattle.cdp_messages.specs.Moves.{root, replied, failed}
 use Rattle.dom_agent.specs.Keepers.{Keeper, session_keeper, binding_keeper}
 use Rattle.dom_agent.specs.Paths.{node_at_path}
-use Rattle.dom_agent.specs.Requests.{Opening, Showing, Progress, Pushes, Outcome, served, refused, requested, pushing, all_opened, pushed as push_of, all_pushed, known_node, of_children, of_path, with_ids, state_after, frames_told, answer}
-use Rattle.dom_agent.specs.Laws.{session_outcome, binding_outcome, StaysBound, SameAnswer}
+use Rattle.dom_agent.specs.Requests.{Opening, Showing, Progress, Pushes, Outcome, shows_root, served, refused, requested, pushing, all_opened, pushed as push_of, all_pushed, known_node, of_children, of_path, with_ids, state_after, opening_moves, moves_of}
+use Rattle.dom_agent.specs.Laws.{session_outcome, binding_outcome, StaysBound, SameMoves}
 use Rattle.dom_agent.proofs.OpeningsLemmas.{AreOpenings, AreContainers, opened_all, requested-are, pushing-are}
 use Rattle.dom_agent.proofs.StepLemmas.{Goes, goes-pushed}
 use Rattle.dom_agent.proofs.OutcomeLemmas.{containers-page, known-found}
@@ -152,8 +150,13 @@ module _ (document : Branch Row) (distinct : AreDistinct (alone document)) (cont
 -- ---- commands
 
 abbrev pub AlikeOutcomes : Nodes Row → Outcome Session → Outcome Bound → Type 0
+AlikeOutcomes n (shows_root z b) (shows_root y d) = Stands n z y × (d ≡ b)
+AlikeOutcomes n (shows_root z b) (served q other) = ⊥
+AlikeOutcomes n (shows_root z b) (refused other) = ⊥
+AlikeOutcomes n (served p body) (shows_root y d) = ⊥
 AlikeOutcomes n (served p body) (served q other) = Stands n p.state q.state × (q.shown ≡ p.shown) × (other ≡ body)
 AlikeOutcomes n (served p body) (refused other) = ⊥
+AlikeOutcomes n (refused why) (shows_root y d) = ⊥
 AlikeOutcomes n (refused why) (served q other) = ⊥
 AlikeOutcomes n (refused why) (refused other) = other ≡ why
 
@@ -241,11 +244,8 @@ module _ (page : State) (valid : IsValid page) where
       let d : Option ℕ = levels_of (unwrap_or depth (pos 1)) in
       let after : Session = document_opened d m w in
       let now : Stands m after (started d m b) = Stands-document_opened d m w b (distinct-alone page valid) stands.next_is in
-      let same = cut-stands m (above d m) after.pushed after.since (started d m b) now in (
-        now,
-        refl,
-        ap (λ (v : Nodes Seen). Root (told_branch 0 (root_of (record { row = record { id = 0; serial = 0; label = page.tree.row.label; hold = leaf }; children = none }) v))) same,
-      )
+      let same = cut-stands m (above d m) after.pushed after.since (started d m b) now in
+      (now, ap (root_of (record { row = record { id = 0; serial = 0; label = page.tree.row.label; hold = leaf }; children = none })) same)
 
   pub outcomes_alike : (c : DomAsk) (w : Session) (b : Bound) → IsSession m w → Stands m w b → AlikeOutcomes m (session_outcome page c w) (binding_outcome page c b)
   outcomes_alike (GetDocument depth pierce) w b session stands = document_alike depth pierce w b stands
@@ -256,21 +256,31 @@ module _ (page : State) (valid : IsValid page) where
 -- ---- laws
 
 alike_states : (n : Nodes Row) (w : Session) (b : Bound) (x : Outcome Session) (y : Outcome Bound) → Stands n w b → AlikeOutcomes n x y → Stands n (state_after w x) (state_after b y)
+alike_states n w b (shows_root z t) (shows_root y d) stands h = h.0
+alike_states n w b (shows_root z t) (served q other) stands h = absurd h
+alike_states n w b (shows_root z t) (refused other) stands h = absurd h
+alike_states n w b (served p body) (shows_root y d) stands h = absurd h
 alike_states n w b (served p body) (served q other) stands h = h.0
 alike_states n w b (served p body) (refused other) stands h = absurd h
+alike_states n w b (refused why) (shows_root y d) stands h = absurd h
 alike_states n w b (refused why) (served q other) stands h = absurd h
 alike_states n w b (refused why) (refused other) stands h = stands
 
-alike_answers : (n : Nodes Row) (id : ℕ) (x : Outcome Session) (y : Outcome Bound) → AlikeOutcomes n x y → answer id y ≡ answer id x
-alike_answers n id (served p body) (served q other) h = λ i. frames_told (h.1 i) ++ ended (reply_text id (h.2 i))
-alike_answers n id (served p body) (refused other) h = absurd h
-alike_answers n id (refused why) (served q other) h = absurd h
-alike_answers n id (refused why) (refused other) h = λ i. ended (refused_text (record { id = Some id; why = h i }))
+alike_moves : (n : Nodes Row) (id : ℕ) (x : Outcome Session) (y : Outcome Bound) → AlikeOutcomes n x y → moves_of id y ≡ moves_of id x
+alike_moves n id (shows_root z t) (shows_root y d) h = λ i. root id (h.1 i) ∷ []
+alike_moves n id (shows_root z t) (served q other) h = absurd h
+alike_moves n id (shows_root z t) (refused other) h = absurd h
+alike_moves n id (served p body) (shows_root y d) h = absurd h
+alike_moves n id (served p body) (served q other) h = λ i. opening_moves (h.1 i) ++ replied id (h.2 i) ∷ []
+alike_moves n id (served p body) (refused other) h = absurd h
+alike_moves n id (refused why) (shows_root y d) h = absurd h
+alike_moves n id (refused why) (served q other) h = absurd h
+alike_moves n id (refused why) (refused other) h = λ i. failed (record { id = Some id; why = h i }) ∷ []
 
 pub stays_bound : StaysBound
 stays_bound page c w b valid fits session stands =
     alike_states (alone page.tree) w b (session_outcome page c w) (binding_outcome page c b) stands (outcomes_alike page valid c w b session stands)
 
-pub same_answer : SameAnswer
-same_answer page c w b id valid fits session stands =
-    alike_answers (alone page.tree) id (session_outcome page c w) (binding_outcome page c b) (outcomes_alike page valid c w b session stands)
+pub same_moves : SameMoves
+same_moves page c w b id valid fits session stands =
+    alike_moves (alone page.tree) id (session_outcome page c w) (binding_outcome page c b) (outcomes_alike page valid c w b session stands)

@@ -6,6 +6,7 @@ pub mod KeeperLemmas
 pub mod TellableLemmas
 pub mod MoveLemmas
 pub mod ToldLemmas
+pub mod FrameLemmas
 pub mod OpeningLemmas
 pub mod ServingLemmas
 pub mod RoomLemmas
@@ -17,3 +18,10 @@ pub mod SetLemmas
 pub mod SetsLemmas
 pub mod NewlyLemmas
 pub mod ShowsLemmas
+pub mod ShownLemmas
+pub mod ShownChanges
+pub mod EditsShown
+pub mod EditLemmas
+pub mod EditMoves
+pub mod EditKeepers
+pub mod EditCode

@@ -24,7 +24,7 @@ use Rattle.cdp_messages.specs.Laws.{answers}
 use Rattle.cdp_messages.specs.Replies.{fits_body}
 use Rattle.dom_agent.specs.Keepers.{Keeper, session_keeper}
 use Rattle.dom_agent.specs.Paths.{node_at_path}
-use Rattle.dom_agent.specs.Requests.{Outcome, served, refused, Progress, requested, known_node, of_children, of_path, with_ids, all_pushed, pushed as push_of, state_after}
+use Rattle.dom_agent.specs.Requests.{Outcome, shows_root, served, refused, Progress, requested, known_node, of_children, of_path, with_ids, all_pushed, pushed as push_of, state_after}
 use Rattle.dom_agent.specs.Laws.{session_outcome, StaysSession, DrawsFew}
 use Rattle.dom_agent.proofs.OpeningsLemmas.{AreContainers, requested-are}
 use Rattle.dom_agent.proofs.StepLemmas.{Goes, goes-few, goes-openings, goes-pushed, goes-all_pushed, is_small, ids-below}
@@ -57,8 +57,9 @@ containers-page page valid = (λ s there. root_holds page valid, containers-form
 
 -- ---- commands
 
--- what is served goes from the session as it was, and the reply is one of the command's
+-- what is served goes from the session as it was, and the reply is one of the command's, and no document
 abbrev pub OutcomeGoes : Nodes Row → DomAsk → Session → Outcome Session → Type 0
+OutcomeGoes n c w (shows_root z b) = ⊥
 OutcomeGoes n c w (served p body) = Goes n w p.state p.shown × (length p.state.pushed < 2 ^ 53 → fits_body body ≡ true) × (answers (ask_name c) body ≡ true)
 OutcomeGoes n c w (refused why) = Unit {0}
 
@@ -134,10 +135,12 @@ module _ (page : State) (valid : IsValid page) where
 -- ---- laws
 
 goes_session : (n : Nodes Row) (c : DomAsk) (w : Session) (out : Outcome Session) → IsSession n w → OutcomeGoes n c w out → IsSession n (state_after w out)
+goes_session n c w (shows_root z b) session g = absurd g
 goes_session n c w (served p body) session g = g.0.session
 goes_session n c w (refused why) session g = session
 
 goes_few : (n : Nodes Row) (c : DomAsk) (w : Session) (out : Outcome Session) → OutcomeGoes n c w out → length (state_after w out).pushed ≤ length w.pushed + node_count n
+goes_few n c w (shows_root z b) g = absurd g
 goes_few n c w (served p body) g = goes-few n w p.state p.shown g.0
 goes_few n c w (refused why) g = omega arith
 

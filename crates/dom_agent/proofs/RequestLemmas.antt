@@ -1,25 +1,22 @@
 -- The children of a known node are asked for.
-use Rattle.std.proofs.Common.{◌≡◌, ℕ, ◌+◌, ◌<◌, ◌≤◌, ◌^◌, List, ◌++◌, All, sum_by, Option, Some, None, unwrap_or, ℤ, pos, append_assoc, sym, ap, ◌∙◌, subst, arith}
+use Rattle.std.proofs.Common.{◌≡◌, ℕ, ◌+◌, ◌<◌, ◌≤◌, ◌^◌, List, [], ◌∷◌, ◌++◌, All, sum_by, Option, Some, None, unwrap_or, ℤ, pos, sym, ap, ◌∙◌, subst, arith}
 use Rattle.node_tree.specs.Nodes.{Branch, alone, node_count}
 use Rattle.page_tree.specs.Pages.{Row, State, IsValid}
 use Rattle.node_binding.specs.Openings.{levels_of}
 use Rattle.node_binding.specs.Bindings.{Bound, opened_in}
 use Rattle.node_binding.proofs.StartLemmas.{count-alone}
 use Rattle.node_binding.proofs.OpenDownLemmas.{count-found}
-use Rattle.cdp_messages.specs.Answers.{ended}
-use Rattle.cdp_messages.specs.Replies.{reply_text}
 use Rattle.cdp_messages.specs.declared.down.ReplyBody.TheVariants.{Nothing}
+use Rattle.cdp_messages.specs.Moves.{replied, frames_of_moves}
 use Rattle.dom_agent.specs.Keepers.{binding_keeper}
-use Rattle.dom_agent.specs.Requests.{Opening, requested, all_opened, known_node, of_children, state_after, answer, frames_told}
+use Rattle.dom_agent.specs.Requests.{Opening, requested, all_opened, known_node, of_children, state_after, answer, opening_moves, frames_told}
 use Rattle.dom_agent.specs.Openings.{IsOfContainer}
+use Rattle.dom_agent.proofs.FrameLemmas.{served_sent}
 use Rattle.dom_agent.proofs.RoomLemmas.{below, requested_containers, requested_count}
 
 known_count : (tree : Branch Row) (b : Bound) (s : Option ℕ) (x : Branch Row) → known_node (binding_keeper (alone tree)) tree b s ≡ Some x → node_count x.children ≤ node_count (alone tree)
 known_count tree b None x e = cc
 known_count tree b (Some s) x e = count-found s (alone tree) x e
-
-pub served_frames : (out out1 out2 frames last : List ℕ) → out1 ≡ out ++ frames → out2 ≡ out1 ++ last → out2 ≡ out ++ (frames ++ last)
-served_frames out out1 out2 frames last first reply = reply ∙ ap (λ l. l ++ last) first ∙ append_assoc out frames last
 
 module _ (page : State) (valid : IsValid page) (b : Bound) (depth : Option ℤ) (s : Option ℕ) (x : Branch Row) (levels : Option ℕ) (os : List Opening) (found : Some x ≡ known_node (binding_keeper (alone page.tree)) page.tree b s) (levels_are : levels ≡ levels_of (unwrap_or depth (pos 1))) (listed : os ≡ requested (opened_in b) levels (alone x)) where
   pub request_containers : All IsOfContainer os
@@ -35,8 +32,8 @@ module _ (page : State) (valid : IsValid page) (b : Bound) (depth : Option ℤ) 
       ∙ ap (λ l. (all_opened (binding_keeper (alone page.tree)) page.tree l b).state) (listed ∙ ap (λ d. requested (opened_in b) d (alone x)) levels_are)
       ∙ ap (λ y. state_after b (of_children (binding_keeper (alone page.tree)) page.tree depth y b)) found
 
-  pub request_sent : (id : ℕ) (out out1 out2 : List ℕ) → out1 ≡ out ++ frames_told (all_opened (binding_keeper (alone page.tree)) page.tree os b).shown → out2 ≡ out1 ++ ended (reply_text id Nothing) → out2 ≡ out ++ answer id (of_children (binding_keeper (alone page.tree)) page.tree depth (known_node (binding_keeper (alone page.tree)) page.tree b s) b)
+  pub request_sent : (id : ℕ) (out out1 out2 : List ℕ) → out1 ≡ out ++ frames_told (all_opened (binding_keeper (alone page.tree)) page.tree os b).shown → out2 ≡ out1 ++ frames_of_moves (replied id Nothing ∷ []) → out2 ≡ out ++ answer id (of_children (binding_keeper (alone page.tree)) page.tree depth (known_node (binding_keeper (alone page.tree)) page.tree b s) b)
   request_sent id out out1 out2 sent reply =
-      served_frames out out1 out2 _ _ sent reply
-      ∙ ap (λ l. out ++ (frames_told (all_opened (binding_keeper (alone page.tree)) page.tree l b).shown ++ ended (reply_text id Nothing))) (listed ∙ ap (λ d. requested (opened_in b) d (alone x)) levels_are)
+      served_sent (all_opened (binding_keeper (alone page.tree)) page.tree os b).shown id Nothing out out1 out2 sent reply
+      ∙ ap (λ l. out ++ frames_of_moves (opening_moves (all_opened (binding_keeper (alone page.tree)) page.tree l b).shown ++ replied id Nothing ∷ [])) (listed ∙ ap (λ d. requested (opened_in b) d (alone x)) levels_are)
       ∙ ap (λ y. out ++ answer id (of_children (binding_keeper (alone page.tree)) page.tree depth y b)) found

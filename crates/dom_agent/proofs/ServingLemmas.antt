@@ -7,11 +7,9 @@ use Rattle.page_tree.specs.Pages.{Row}
 use Rattle.node_binding.specs.Bindings.{Bound, opened_down}
 use Rattle.node_binding.proofs.OpenDownLemmas.{opened_down-next}
 use Rattle.cdp_messages.specs.Answers.{ended}
-use Rattle.cdp_messages.specs.Events.{set_children}
-use Rattle.cdp_messages.specs.Replies.{event_text}
-use Rattle.cdp_messages.specs.Told.{told_nodes}
+use Rattle.cdp_messages.specs.Moves.{move_text}
 use Rattle.dom_agent.specs.Keepers.{binding_keeper}
-use Rattle.dom_agent.specs.Requests.{Opening, Showing, told_of, all_opened, frames_told}
+use Rattle.dom_agent.specs.Requests.{Opening, Showing, told_of, all_opened, opening_move, frames_told}
 use Rattle.dom_agent.specs.declared.openings.Opening as held
 use Rattle.dom_agent.specs.Openings.{opening_of, IsOfContainer}
 
@@ -30,7 +28,7 @@ opens_start os b out containers room = record { state = λ n d. refl; frames = �
 
 -- the frame of the first, and then those of the others
 pub frames-cons : (x : Showing) (xs : List Showing) → frames_told (x ∷ xs) ≡ frames_told (x ∷ []) ++ frames_told xs
-frames-cons x xs = ap (λ l. l ++ frames_told xs) (sym (append-nil (ended (event_text (set_children x.parent (told_nodes x.parent x.children))))))
+frames-cons x xs = ap (λ l. l ++ frames_told xs) (sym (append-nil (ended (move_text (opening_move x)))))
 
 -- one opening more
 opened_next : (x : Opening) (xs : List Opening) (b b1 : Bound) (out out1 : List ℕ) (all : List Opening) (begin : Bound) (sent : List ℕ) → b1 ≡ opened_down x.levels x.node b → ((n : Nodes Row) (d : Branch Row) → out1 ≡ out ++ frames_told (told_of (binding_keeper n) d x.node b1 ∷ [])) → Opens (x ∷ xs) b out all begin sent → Opens xs b1 out1 all begin sent

@@ -3,9 +3,9 @@ use Rattle.std.proofs.Common.{◌≡◌, ℕ, ◌+◌, ◌<◌, ◌≤◌, ◌^�
 use Rattle.std.specs.List.{list_all}
 use Rattle.std.proofs.lemmas.Bool.{and_from}
 use Rattle.std.proofs.lemmas.List.{map-append}
-use Rattle.node_tree.specs.Nodes.{Nodes, Branch, alone, width, node_count}
+use Rattle.node_tree.specs.Nodes.{Nodes, none, Branch, alone, width, node_count}
 use Rattle.node_tree.specs.Keys.{has}
-use Rattle.node_tree.specs.Seen.{Seen, opened as children_shown}
+use Rattle.node_tree.specs.Seen.{counted}
 use Rattle.page_tree.specs.Pages.{Row, row_serial}
 use Rattle.node_binding.specs.Cuts.{shown_anew, cut}
 use Rattle.node_binding.specs.Openings.{is_spent, opened_also}
@@ -15,15 +15,19 @@ use Rattle.node_binding.proofs.Known.{length-known}
 use Rattle.node_binding.proofs.OpeningLemmas.{AreDistinct}
 use Rattle.node_binding.proofs.InViewLemmas.{roots_in_view, opened-grows}
 use Rattle.node_binding.proofs.OpenedLemmas.{IsSession-opened, length-opened, bare_row, view-opened}
-use Rattle.cdp_messages.specs.Moves.{Move, show, shows as shows_children, IsTellable, Course, ends, goes}
+use Rattle.cdp_messages.specs.Views.{ShownSheet, View}
+use Rattle.cdp_messages.specs.Moves.{Move, CanBeTold, Course, ends, goes}
 use Rattle.dom_agent.specs.Keepers.{session_keeper}
-use Rattle.dom_agent.specs.Requests.{Opening, Showing, Progress, Pushes, pushing, all_opened, pushed as push_of, all_pushed}
-use Rattle.dom_agent.specs.Laws.{shows}
+use Rattle.dom_agent.specs.Requests.{Opening, Showing, Progress, Pushes, pushing, all_opened, pushed as push_of, all_pushed, opening_move, opening_moves}
 use Rattle.dom_agent.proofs.OpeningsLemmas.{AreOpenings, AreContainers, pushing-are}
 
+-- what a client sees, beside these sheets
+abbrev pub seen_by : Nodes Row → List ShownSheet → Session → View
+seen_by n sheets w = record { tree = view w n; sheets = sheets }
+
 -- messages can tell what any session shows that has pushed no more than that
-abbrev pub CanSay : Nodes Row → ℕ → Type 0
-CanSay n most = (v : Session) → IsSession n v → length v.pushed ≤ most → IsTellable (view v n)
+abbrev pub CanSay : Nodes Row → ℕ → List ShownSheet → Type 0
+CanSay n most sheets = (v : Session) → IsSession n v → length v.pushed ≤ most → CanBeTold (seen_by n sheets v)
 
 -- From w to z, with these openings told: z is a session, nothing is shut, each id is one of a node that became known, and
 -- the moves lead from the one view to the other.
@@ -32,9 +36,9 @@ pub record Goes (n : Nodes Row) (w z : Session) (xs : List Showing) : Type 0 whe
   pub grows : (s : ℕ) → is_open w.opened s ≡ true → is_open z.opened s ≡ true
   pub counts : length z.pushed + length (known_by w.opened n) ≡ length w.pushed + length (known_by z.opened n)
   pub longer : length w.pushed ≤ length z.pushed
-  pub course : (most : ℕ) → CanSay n most → length z.pushed ≤ most → Course (shows xs) (view w n) (view z n)
+  pub course : (most : ℕ) (sheets : List ShownSheet) → CanSay n most sheets → length z.pushed ≤ most → Course (opening_moves xs) (seen_by n sheets w) (seen_by n sheets z)
 
-course-join : {ms ks : List Move} {u v w : Nodes Seen} → Course ms u v → Course ks v w → Course (ms ++ ks) u w
+pub course-join : {ms ks : List Move} {u v w : View} → Course ms u v → Course ks v w → Course (ms ++ ks) u w
 course-join (ends v t) d = d
 course-join {ks = ks} {w = x} (goes m ms u v w t moved c) d = goes m (ms ++ ks) u v x t moved (course-join c d)
 
@@ -49,7 +53,7 @@ module _ (n : Nodes Row) where
     grows = λ s e. e;
     counts = refl;
     longer = omega arith;
-    course = λ most say few. ends (view w n) (say w session few);
+    course = λ most sheets say few. ends (seen_by n sheets w) (say w session few);
   }
 
   pub goes-on : (w v z : Session) (xs ys : List Showing) → Goes n w v xs → Goes n v z ys → Goes n w z (xs ++ ys)
@@ -58,8 +62,8 @@ module _ (n : Nodes Row) where
     grows = λ s e. h.grows s (g.grows s e);
     counts = omega (arith, g.counts, h.counts);
     longer = omega (arith, g.longer, h.longer);
-    course = λ most say few. subst (λ (ms : List Move). Course ms (view w n) (view z n)) (sym (map-append (λ (x : Showing). show x.parent x.children) xs ys))
-        (course-join (g.course most say (omega (arith, h.longer, few))) (h.course most say few));
+    course = λ most sheets say few. subst (λ (ms : List Move). Course ms (seen_by n sheets w) (seen_by n sheets z)) (sym (map-append opening_move xs ys))
+        (course-join (g.course most sheets say (omega (arith, h.longer, few))) (h.course most sheets say few));
   }
 
   -- no more ids are drawn than there are nodes
@@ -69,6 +73,9 @@ module _ (n : Nodes Row) where
   module _ (distinct : AreDistinct n) where
     abbrev told : (z : Session) → Branch Row → Showing
     told z x = record { parent = ids_in z x.row.serial; children = cut (is_open z.opened) (ids_in z) x.children }
+
+    abbrev told_move : (z : Session) → Branch Row → Move
+    told_move z x = opening_move (told z x)
 
     -- one opening
     pub goes-one : (y : Opening) (o : ℕ → Bool) (pushed : List ℕ) (since : ℕ) → is_spent y.levels ≡ false → CanOpen n o y.node → IsSession n (session_of o pushed since)
@@ -86,9 +93,9 @@ module _ (n : Nodes Row) where
           grows = opened-grows o d x;
           counts = length-opened d n x o pushed since distinct left can session;
           longer = more;
-          course = λ most say few. goes (show (ids_in z x.row.serial) (cut (opened_also d x o) (ids_in z) x.children)) [] (view w n) (view z n) (view z n) (say w session (omega (arith, more, few)))
-              (shows_children (width x.children) at.0 (bare_row o d x (ids_in z) children_shown) (cut (opened_also d x o) (ids_in z) x.children) (view w n) (view z n) at.1)
-              (ends (view z n) (say z after few));
+          course = λ most sheets say few. goes (told_move z x) [] (seen_by n sheets w) (seen_by n sheets z) (seen_by n sheets z) (say w session (omega (arith, more, few)))
+              (record { old = record { row = bare_row o d x (ids_in z) (counted (width x.children)); children = none }; depth = at.0; is = refl; suits = refl; named = refl; at = at.1 }, refl)
+              (ends (seen_by n sheets z) (say z after few));
         }
 
     module _ (document : Branch Row) where

@@ -1,12 +1,11 @@
 -- What a session shows of a page can be told by messages.
-use Rattle.std.proofs.Common.{◌≡◌, ℕ, suc, ◌+◌, ◌<◌, ◌≤◌, ◌^◌, ◌==◌, Bool, true, false, not, ◌&&◌, ◌||◌, cond, nat_lt, List, [], ◌∷◌, ◌++◌, length, drop, Option, Some, None, refl, sym, ap, arith, lt-ltb, eq-eqb}
+use Rattle.std.proofs.Common.{◌≡◌, ℕ, suc, ◌+◌, ◌<◌, ◌≤◌, ◌^◌, Bool, true, false, not, ◌&&◌, ◌||◌, cond, List, [], ◌∷◌, ◌++◌, length, drop, Option, Some, None, refl, ap, arith, lt-ltb}
 use Rattle.std.specs.List.{list_all}
 use Rattle.std.proofs.lemmas.Bool.{and_parts, and_from}
-use Rattle.std.proofs.lemmas.Bool.Decides.{nat_tests}
 use Rattle.node_tree.specs.declared.Kind.{Kind}
 use Rattle.node_tree.specs.declared.Kind.TheVariants.{Document, Element, Text, Comment, Doctype}
 use Rattle.node_tree.specs.Names.{is_element_name, is_attribute_name}
-use Rattle.node_tree.specs.Nodes.{Nodes, none, node, Branch, alone, width, height, node_count, map_rows}
+use Rattle.node_tree.specs.Nodes.{Nodes, none, node, alone, width, height, node_count, map_rows}
 use Rattle.node_tree.specs.Keys.{tally}
 use Rattle.node_tree.specs.Labels.{Pair, is_document, is_element, holds, has_name, is_empty as is_nothing, is_ascending, is_formed_label, is_named_label}
 use Rattle.node_tree.specs.Seen.{Hold, Seen, leaf, counted, opened, is_opened}
@@ -20,14 +19,14 @@ use Rattle.node_binding.proofs.Places.{times-is_in, first}
 use Rattle.node_binding.proofs.StartLemmas.{count-alone, distinct-alone}
 use Rattle.node_binding.proofs.OpeningLemmas.{self_times}
 use Rattle.node_binding.proofs.SessionLemmas.{times-known, known_below, view-ids, view-serials, view-above, height-view}
-use Rattle.cdp_messages.specs.NodeData.{is_none, fits_nodes, fits_tree}
-use Rattle.cdp_messages.specs.NodeObject.{same, fits_hold, fits_row}
-use Rattle.cdp_messages.specs.Told.{count_in, told_nodes, told_branch}
-use Rattle.cdp_messages.specs.Tellable.{suits_hold, suits_row, suits_below, suits_nodes, suits_tree}
-use Rattle.cdp_messages.specs.Views.{IsView, is_empty, is_bare}
+use Rattle.cdp_messages.specs.NodeData.{is_none}
+use Rattle.cdp_messages.specs.NodeObject.{same}
+use Rattle.cdp_messages.specs.Told.{count_in}
+use Rattle.cdp_messages.specs.Tellable.{suits_hold, suits_row, suits_nodes}
+use Rattle.cdp_messages.specs.Views.{ShownSheet, IsView, is_empty, is_bare}
 use Rattle.cdp_messages.specs.Moves.{SeenHaveUtf8, suits_view, IsTellable}
-use Rattle.dom_agent.specs.Laws.{RowsHaveUtf8, CanTell}
-use Rattle.dom_agent.proofs.StepLemmas.{CanSay, is_small, ids-below}
+use Rattle.dom_agent.specs.Laws.{RowsHaveUtf8, CanTell, CanTellSheets}
+use Rattle.dom_agent.proofs.StepLemmas.{CanSay, ids-below}
 
 -- ---- one row
 
@@ -287,79 +286,9 @@ module _ (page : State) (valid : IsValid page) (next : page.next ≤ 2 ^ 53) whe
         texts = cut_utf8 o (ids_in w) (λ s. omega (arith, ids-below n w s session, few)) n texts;
       }
 
-pub can_say : (page : State) (w : Session) → IsValid page → CanTell page w → CanSay (alone page.tree) (length w.pushed + node_count (alone page.tree))
-can_say page w valid can = λ v session few. tellable page valid can.serials v.opened v.pushed v.since can.texts session (omega (arith, few, can.ids))
-
--- ---- a tree that suits a message fits one as it is told
-
-width-told : (p : ℕ) (n : Nodes Seen) → width (told_nodes p n) ≡ width n
-width-told p none = refl
-width-told p (node r c t) = ap suc (width-told p t)
-
-hold_fits : (h : Hold) (container : Bool) (id : ℕ) (c : Nodes Seen) → suits_hold h container ≡ true → fits_hold h container (count_in h c) (width (told_nodes id c)) ≡ true
-hold_fits leaf container id c e = and_from _ _ e refl
-hold_fits (counted k) container id c e = and_from _ _ e (eq-eqb k k refl)
-hold_fits opened container id c e = and_from _ _ e (eq-eqb (width c) (width (told_nodes id c)) (sym (width-told id c)))
-
-below_fits : (b : Bool) (id : ℕ) (c : Nodes Seen) → cond b true (is_none c) ≡ true → cond b true (is_none (told_nodes id c)) ≡ true
-below_fits true id c e = refl
-below_fits false id none e = refl
-below_fits false id (node r c t) e = e
-
--- the parts of a row that suits a message
-record Suited (top : Bool) (r : Seen) (count : ℕ) : Type 0 where
-  id_small : is_small r.id ≡ true
-  serial_small : is_small r.serial ≡ true
-  count_is_small : is_small count ≡ true
-  id : nat_lt 0 r.id ≡ true
-  serial : nat_lt 0 r.serial ≡ true
-  formed : is_formed_label r.label ≡ true
-  named : is_named_label r.label ≡ true
-  document : same (is_document r.label.kind) top ≡ true
-  hold : suits_hold r.hold (holds r.label.kind) ≡ true
-
-suited : (top : Bool) (r : Seen) (count : ℕ) → suits_row top r count ≡ true → Suited top r count
-suited top r count e =
-    let p8 = and_parts _ (suits_hold r.hold (holds r.label.kind)) e in
-    let p7 = and_parts _ (same (is_document r.label.kind) top) p8.0 in
-    let p6 = and_parts _ (is_named_label r.label) p7.0 in
-    let p5 = and_parts _ (is_formed_label r.label) p6.0 in
-    let p4 = and_parts _ (nat_lt 0 r.serial) p5.0 in
-    let p3 = and_parts _ (nat_lt 0 r.id) p4.0 in
-    let p2 = and_parts _ (is_small count) p3.0 in
-    let p1 = and_parts (is_small r.id) (is_small r.serial) p2.0 in
-    record { id_small = p1.0; serial_small = p1.1; count_is_small = p2.1; id = p3.1; serial = p4.1; formed = p5.1; named = p6.1; document = p7.1; hold = p8.1 }
-
-told_row_fits : (top : Bool) (p : ℕ) (r : Seen) (c : Nodes Seen) → is_small p ≡ true → same (p == 0) top ≡ true → suits_row top r (count_in r.hold c) ≡ true
-    → fits_row top (width (told_nodes r.id c)) (record { parent = p; count = count_in r.hold c; seen = r }) ≡ true
-told_row_fits top p r c small place e =
-    let s = suited top r (count_in r.hold c) e in
-    and_from _ _
-    (and_from _ _ (and_from _ _ (and_from _ _ s.id_small s.serial_small) s.count_is_small) small)
-    (and_from _ _ (and_from _ _ (and_from _ _ (and_from _ _ (and_from _ _ (and_from _ _ s.id s.serial) s.formed) s.named) s.document) place)
-    (hold_fits r.hold (holds r.label.kind) r.id c s.hold))
-
-a_parent : (p : ℕ) → nat_lt 0 p ≡ true → same (p == 0) false ≡ true
-a_parent p e = let some : 0 < p = grind (arith, nat_tests) in let f : (p == 0) ≡ false = grind (arith, nat_tests) in rw f refl
-
-told_fit : (p : ℕ) (n : Nodes Seen) → is_small p ≡ true → nat_lt 0 p ≡ true → suits_nodes n ≡ true → fits_nodes (told_nodes p n) ≡ true
-told_fit p none small some e = refl
-told_fit p (node r c t) small some e =
-    let p3 = and_parts _ (suits_nodes t) e in
-    let p2 = and_parts _ (suits_nodes c) p3.0 in
-    let p1 = and_parts _ (suits_below r c) p2.0 in
-    let s = suited false r (count_in r.hold c) p1.0 in
-    and_from _ _
-    (and_from _ _
-    (and_from _ _ (told_row_fits false p r c small (a_parent p some) p1.0) (below_fits (is_opened r.hold) r.id c p1.1))
-    (told_fit r.id c s.id_small s.id p2.1))
-    (told_fit p t small some p3.1)
-
-pub shown_fits : (b : Branch Seen) → suits_tree true b ≡ true → fits_tree true (told_branch 0 b) ≡ true
-shown_fits b e =
-    let p2 = and_parts _ (suits_nodes b.children) e in
-    let p1 = and_parts _ (suits_below b.row b.children) p2.0 in
-    let s = suited true b.row (count_in b.row.hold b.children) p1.0 in
-    and_from _ _
-    (and_from _ _ (told_row_fits true 0 b.row b.children refl refl p1.0) (below_fits (is_opened b.row.hold) b.row.id b.children p1.1))
-    (told_fit b.row.id b.children s.id_small s.id p2.1)
+pub can_say : (page : State) (w : Session) (sheets : List ShownSheet) → IsValid page → CanTell page w → CanTellSheets sheets → CanSay (alone page.tree) (length w.pushed + node_count (alone page.tree)) sheets
+can_say page w sheets valid can can_sheets = λ v session few. record {
+  tree = tellable page valid can.serials v.opened v.pushed v.since can.texts session (omega (arith, few, can.ids));
+  sheets = can_sheets.are;
+  apart = can_sheets.apart;
+}

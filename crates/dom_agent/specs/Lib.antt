@@ -6,3 +6,5 @@ pub mod Laws
 pub mod Distances
 pub mod Sets
 pub mod Shows
+pub mod Edits
+pub mod EditLaws

@@ -12,11 +12,8 @@ use Rattle.cdp_messages.specs.declared.dom_ask.DomAsk.TheVariants.{GetDocument, 
 use Rattle.cdp_messages.specs.declared.command.Why.{Why}
 use Rattle.cdp_messages.specs.declared.command.Why.TheVariants.{UnknownNode, NotPushed, NoPath}
 use Rattle.cdp_messages.specs.declared.down.ReplyBody.{ReplyBody}
-use Rattle.cdp_messages.specs.declared.down.ReplyBody.TheVariants.{Nothing, Root, NodeId, NodeIds}
-use Rattle.cdp_messages.specs.Answers.{ended}
-use Rattle.cdp_messages.specs.Events.{set_children}
-use Rattle.cdp_messages.specs.Replies.{reply_text, refused_text, event_text}
-use Rattle.cdp_messages.specs.Told.{told_nodes, told_branch}
+use Rattle.cdp_messages.specs.declared.down.ReplyBody.TheVariants.{Nothing, NodeId, NodeIds}
+use Rattle.cdp_messages.specs.Moves.{Move, change, root, replied, failed, shows, frames_of_moves}
 use Rattle.dom_agent.specs.Keepers.{Keeper}
 use Rattle.dom_agent.specs.Paths.{node_at_path}
 
@@ -67,8 +64,9 @@ pub record Pushes (S : Type 0) : Type 0 where
   pub progress : Progress S
   pub ids : List ℕ
 
--- A command is served, or refused and changes nothing.
+-- A command shows the document, or it is served otherwise, or it is refused and changes nothing.
 pub data Outcome (S : Type 0) : Type 0 where
+  shows_root : S → Branch Seen → Outcome S
   served : Progress S → ReplyBody → Outcome S
   refused : Why → Outcome S
 
@@ -102,12 +100,9 @@ module _ {S : Type 0} (k : Keeper S) (document : Branch Row) where
       (let first = pushed s w in and_id (k.id_of first.state s) first (all_pushed ss first.state))
       (and_id 0 (record { state = w; shown = [] }) (all_pushed ss w))
 
-  abbrev pub started : Option ℤ → S → Progress S
-  started depth w = record { state = k.started (levels_of (unwrap_or depth (pos 1))) w; shown = [] }
-
-  -- the document, as it is told in the reply to `DOM.getDocument`
-  abbrev pub with_document : Progress S → Outcome S
-  with_document p = served p (Root (told_branch 0 (shown (k.is_open p.state) (k.id_of p.state) document)))
+  -- the document, as it is shown in the reply to `DOM.getDocument`
+  abbrev pub with_document : S → Outcome S
+  with_document w = shows_root w (shown (k.is_open w) (k.id_of w) document)
 
   -- the children of the node x are asked for
   abbrev pub of_children : Option ℤ → Option (Branch Row) → S → Outcome S
@@ -134,7 +129,7 @@ module _ {S : Type 0} (k : Keeper S) (document : Branch Row) where
   once_begun w outcome = cond (k.is_open w document.row.serial) outcome (refused NotPushed)
 
   abbrev pub outcome : DomAsk → S → Outcome S
-  outcome (GetDocument depth pierce) w = with_document (started depth w)
+  outcome (GetDocument depth pierce) w = with_document (k.started (levels_of (unwrap_or depth (pos 1))) w)
   outcome (RequestChildNodes id depth pierce) w = of_children depth (known_node w (k.serial_of w id)) w
   outcome (PushByPath path) w = once_begun w (of_path (node_at_path path document) w)
   outcome (PushBySerials serials) w = once_begun w (with_ids (all_pushed serials w))
@@ -142,15 +137,28 @@ module _ {S : Type 0} (k : Keeper S) (document : Branch Row) where
 -- ---- what is kept, and what is sent
 
 abbrev pub state_after : {S : Type 0} → S → Outcome S → S
+state_after w (shows_root z b) = z
 state_after w (served p body) = p.state
 state_after w (refused why) = w
 
+-- the move that tells an opening
+abbrev pub opening_move : Showing → Move
+opening_move x = change x.parent (shows x.children)
+
+-- the moves that tell openings
+abbrev pub opening_moves : List Showing → List Move
+opening_moves xs = map opening_move xs
+
+-- the moves that answer the command with that id, the reply last
+abbrev pub moves_of : {S : Type 0} → ℕ → Outcome S → List Move
+moves_of id (shows_root w b) = root id b ∷ []
+moves_of id (served p body) = opening_moves p.shown ++ replied id body ∷ []
+moves_of id (refused why) = failed (record { id = Some id; why = why }) ∷ []
+
 -- the frames of what is told
 abbrev pub frames_told : List Showing → List ℕ
-frames_told [] = []
-frames_told (x ∷ xs) = ended (event_text (set_children x.parent (told_nodes x.parent x.children))) ++ frames_told xs
+frames_told xs = frames_of_moves (opening_moves xs)
 
--- the frames that a command is answered with, the reply last
+-- the frames that the command with that id is answered with
 abbrev pub answer : {S : Type 0} → ℕ → Outcome S → List ℕ
-answer id (served p body) = frames_told p.shown ++ ended (reply_text id body)
-answer id (refused why) = ended (refused_text (record { id = Some id; why = why }))
+answer id o = frames_of_moves (moves_of id o)

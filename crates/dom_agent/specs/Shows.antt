@@ -9,7 +9,7 @@ use Rattle.node_binding.specs.Openings.{less, is_spent}
 use Rattle.node_binding.specs.Sessions.{Session, IsSession, is_open, serial_at}
 use Rattle.cdp_messages.specs.declared.dom_ask.DomAsk.TheVariants.{RequestChildNodes}
 use Rattle.dom_agent.specs.Keepers.{session_keeper}
-use Rattle.dom_agent.specs.Requests.{Outcome, served, refused, Showing, known_node}
+use Rattle.dom_agent.specs.Requests.{Outcome, shows_root, served, refused, Showing, known_node}
 use Rattle.dom_agent.specs.Distances.{StandsAt, IsWithin}
 use Rattle.dom_agent.specs.Laws.{session_outcome}
 use Rattle.dom_agent.specs.Sets.{levels_asked}
@@ -40,6 +40,7 @@ pub record TellsLevels (d : Option ℕ) (x : Branch Row) (w : Session) (e : Show
 
 -- what an outcome tells before the reply
 abbrev pub told_by : Outcome Session → List Showing
+told_by (shows_root w b) = []
 told_by (served p body) = p.shown
 told_by (refused why) = []
 

@@ -1,17 +1,21 @@
-ghost use Rattle.std.specs.Prelude.{◌≡◌, ◌++◌, ◌<◌, ◌^◌, pos, true, Some, None, unwrap_or, IsSome, OnOk, IfOk};
+ghost use Rattle.std.specs.Prelude.{◌≡◌, [], ◌∷◌, ◌++◌, ◌<◌, ◌^◌, pos, true, Some, None, unwrap_or, IsSome, OnOk, IfOk};
 ghost use Rattle.std.specs.FinMap as map;
 ghost use Rattle.node_tree.specs.Nodes.{alone};
 ghost use Rattle.page_tree.specs.Pages.{find_in};
+ghost use Rattle.page_tree.specs.Edits.{after, back_tree};
+ghost use Rattle.page_tree.specs.EditFaults.{first_fault, IsReady, Refuses};
 ghost use Rattle.node_binding.specs.Openings.{IsDepth, levels_of};
 ghost use Rattle.node_binding.specs.Bindings.{empty_from, cleared, opened_in, id_in};
 ghost use Rattle.cdp_messages.specs.DomAsks.{fits_ask};
 ghost use Rattle.cdp_messages.specs.declared.dom_ask.DomAsk.TheVariants.{GetDocument, RequestChildNodes, PushByPath, PushBySerials};
-ghost use Rattle.cdp_messages.specs.Answers.{ended};
-ghost use Rattle.cdp_messages.specs.Replies.{refused_text};
+ghost use Rattle.cdp_messages.specs.Moves.{replied, failed, frames_of_moves};
 ghost use Rattle.dom_agent.specs.Keepers.{binding_keeper};
 ghost use Rattle.dom_agent.specs.Requests.{state_after, answer, pushed, frames_told, known_node};
 ghost use Rattle.dom_agent.specs.Laws.{binding_outcome};
+ghost use Rattle.dom_agent.specs.Edits.{OnFault};
+ghost use Rattle.dom_agent.specs.EditLaws.{binding_edited};
 
+use crate::edits::{apply_and_tell, attach, attribute_dropped, attribute_set, detach, text_set};
 use crate::openings::request_node;
 use crate::paths::node_at_path;
 use crate::pushes::{open_above, push_all};
@@ -19,7 +23,7 @@ use crate::serving::open_all;
 use crate::told::told_tree;
 use cdp_messages::{DomAsk, Numbers, Refused, ReplyBody, Why, write_refused, write_reply};
 use node_binding::{Binding, find_in, levels_of};
-use page_tree::{Node, Page};
+use page_tree::{EditErr, Node, Page, TreeEdit};
 use std::alloc::{AllocError, Global};
 use std::marker::Model;
 
@@ -137,7 +141,7 @@ impl DomAgent {
         let mut openings = Vec::new(self.alloc);
         request_node(&self.binding, &found, levels, &mut openings)?;
         open_all(self.alloc, &mut self.binding, &openings, out)?;
-        write_reply(self.alloc, id, &ReplyBody::Nothing, out)?;
+        reply(self.alloc, id, &ReplyBody::Nothing, out)?;
         Ok(())
     }
 
@@ -163,7 +167,7 @@ impl DomAgent {
         let serial = found.serial();
         open_above(self.alloc, &mut self.binding, page, serial, out)?;
         let node = self.binding.id_of(serial).unwrap_or(0);
-        write_reply(self.alloc, id, &ReplyBody::NodeId(node), out)?;
+        reply(self.alloc, id, &ReplyBody::NodeId(node), out)?;
         Ok(())
     }
 
@@ -185,7 +189,7 @@ impl DomAgent {
         }
         let ids = push_all(self.alloc, &mut self.binding, page, serials, out)?;
         let body = ReplyBody::NodeIds(Numbers::new(ids));
-        write_reply(self.alloc, id, &body, out)?;
+        reply(self.alloc, id, &body, out)?;
         Ok(())
     }
 
@@ -204,6 +208,59 @@ impl DomAgent {
     {
         open_above(self.alloc, &mut self.binding, page, serial, out)?;
         Ok(self.binding.id_of(serial).unwrap_or(0))
+    }
+
+    /// Makes the edit of the page, and appends the events that tell it to the client; answers the edit that leads back. A fault
+    /// changes nothing.
+    pub fn edit(
+        &mut self,
+        page: &mut Page,
+        edit: TreeEdit,
+        out: &mut Vec<u8>,
+    ) -> Result<TreeEdit, EditErr>
+        requires ready { IsReady page.old.next edit page.old.tree }
+        requires room { self.old.next < 2 ^ 52 }
+        ensures fault { Refuses result (first_fault edit page.old.tree) }
+        ensures page { OnOk result (page.new ≡ after edit page.old) }
+        ensures back { IfOk result (λ back. back ≡ back_tree edit page.old.tree) }
+        ensures agent { OnOk result (self.new ≡ (binding_edited edit page.old self.old).state) }
+        ensures sent { OnOk result
+            (out.new.items ≡ out.old.items ++ frames_of_moves (binding_edited edit page.old self.old).moves) }
+        ensures page_kept { OnFault result (page.new ≡ page.old) }
+        ensures agent_kept { OnFault result (self.new ≡ self.old) }
+        ensures unsent { OnFault result (out.new.items ≡ out.old.items) }
+    {
+        match edit {
+            TreeEdit::SetAttr { node, name, value } => {
+                let event = attribute_set(self.alloc, &self.binding, node, &name, &value);
+                let edit = TreeEdit::SetAttr { node, name, value };
+                apply_and_tell(self.alloc, page, edit, event, out)
+            }
+            TreeEdit::DropAttr { node, name } => {
+                let event = attribute_dropped(self.alloc, &self.binding, node, &name);
+                let edit = TreeEdit::DropAttr { node, name };
+                apply_and_tell(self.alloc, page, edit, event, out)
+            }
+            TreeEdit::SetText { node, value } => {
+                let event = text_set(self.alloc, &self.binding, node, &value);
+                let edit = TreeEdit::SetText { node, value };
+                apply_and_tell(self.alloc, page, edit, event, out)
+            }
+            TreeEdit::Attach {
+                parent,
+                before,
+                tree,
+            } => attach(
+                self.alloc,
+                &mut self.binding,
+                page,
+                parent,
+                before,
+                tree,
+                out,
+            ),
+            TreeEdit::Detach { node } => detach(self.alloc, &mut self.binding, page, node, out),
+        }
     }
 
     /// The known node that has the id.
@@ -236,9 +293,18 @@ fn levels_asked(depth: Option<i64>) -> Option<u64>
     levels_of(depth.unwrap_or(1))
 }
 
+/// Appends the reply, whose result tells no document.
+fn reply(alloc: Global, id: u64, body: &ReplyBody, out: &mut Vec<u8>) -> Result<(), AllocError>
+    ensures { OnOk result
+        (out.new.items ≡ out.old.items ++ frames_of_moves (replied id body.now ∷ [])) }
+{
+    write_reply(alloc, id, body, out)?;
+    Ok(())
+}
+
 fn refuse(alloc: Global, id: u64, why: Why, out: &mut Vec<u8>) -> Result<(), AllocError>
     ensures { OnOk result
-        (out.new.items ≡ out.old.items ++ ended (refused_text (record { id = Some id; why = why }))) }
+        (out.new.items ≡ out.old.items ++ frames_of_moves (failed (record { id = Some id; why = why }) ∷ [])) }
 {
     write_refused(alloc, &Refused { id: Some(id), why }, out)?;
     Ok(())

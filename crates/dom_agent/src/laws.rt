@@ -1,6 +1,7 @@
 ghost use Rattle.dom_agent.specs.Shows.{RequestTells};
 ghost use Rattle.dom_agent.specs.Sets.{DocumentOpens, RequestOpens, RequestPushes, PathOpens, SerialsOpen};
-ghost use Rattle.dom_agent.specs.Laws.{StaysSession, StaysBound, SameAnswer, DrawsFew, StepsAreMoves, RepliesFit};
+ghost use Rattle.dom_agent.specs.EditLaws.{EditKeepsSession, EditKeepsBound, SameEditMoves, EditsAreMoves, EditDrawsOne};
+ghost use Rattle.dom_agent.specs.Laws.{StaysSession, StaysBound, SameMoves, DrawsFew, StepsAreMoves, RepliesAnswer};
 
 /// What serves a session by its binding is the step of the session.
 pub fn serve_law()
@@ -8,11 +9,11 @@ pub fn serve_law()
     ensures session { StaysSession }
     // the binding stands for the session after the step
     ensures stands { StaysBound }
-    // and the frames are those of the step
-    ensures answer { SameAnswer }
+    // and what is told are the moves of the step
+    ensures same { SameMoves }
     // no command draws more ids than the page has nodes
     ensures few { DrawsFew }
-    // what is told leads by moves from the one view to the other, and messages can tell each view in between
+    // these lead from the one view to the other, and messages can tell each view in between
     ensures moves { StepsAreMoves }
     // what is opened after `DOM.getDocument`, after a request, and after pushes by a path and by serials
     ensures document_opens { DocumentOpens }
@@ -22,6 +23,20 @@ pub fn serve_law()
     ensures request_tells { RequestTells }
     ensures path_opens { PathOpens }
     ensures serials_open { SerialsOpen }
-    // the reply is one of the command's, and its numbers are below 2^53
-    ensures replies { RepliesFit }
+    // the reply is one of the command's method
+    ensures replies { RepliesAnswer }
+{}
+
+/// An edit that a page takes, for a session and the binding that stands for it.
+pub fn edit_law()
+    // the session is one with the page after
+    ensures session { EditKeepsSession }
+    // the binding stands for it
+    ensures stands { EditKeepsBound }
+    // both tell the same moves
+    ensures same { SameEditMoves }
+    // these lead from the view of the page before to that of the page after
+    ensures moves { EditsAreMoves }
+    // at most one id is drawn
+    ensures few { EditDrawsOne }
 {}

@@ -2,6 +2,7 @@
 #![tactic(auto)]
 
 mod agent;
+mod edits;
 mod laws;
 mod openings;
 mod paths;
@@ -10,7 +11,7 @@ mod serving;
 mod told;
 
 pub use agent::DomAgent;
-pub use laws::serve_law;
+pub use laws::{edit_law, serve_law};
 
 #[cfg(test)]
 mod tests;

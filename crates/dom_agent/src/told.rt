@@ -22,7 +22,7 @@ fn count_of(node: &Node) -> u64
 }
 
 /// One node of the page with the children that are shown of it, if they are.
-fn told_node(
+pub(crate) fn told_node(
     alloc: Global,
     node: &Node,
     id: u64,

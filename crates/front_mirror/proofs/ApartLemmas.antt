@@ -1,131 +1,95 @@
--- Numbers that come once in two lists together.
-use Rattle.std.proofs.Common.{◌≡◌, ℕ, ◌+◌, ◌≤◌, nat_eq, Bool, true, false, not, ◌&&◌, ◌||◌, List, [], ◌∷◌, ◌++◌, refl, sym, ap, ◌∙◌, arith}
-use Rattle.std.specs.List.{list_any}
-use Rattle.node_tree.specs.Nodes.{Nodes, Branch, nodes_of}
-use Rattle.node_tree.specs.Keys.{tally}
+-- Numbers that come once in a tree and among nodes that come.
+use Rattle.std.proofs.Common.{◌≡◌, ℕ, zero, suc, ◌+◌, ◌<◌, ◌≤◌, true, false, ◌&&◌, ◌||◌, refl, ap, subst, inl, inr, arith}
+use Rattle.node_tree.specs.Nodes.{Nodes, none, node}
+use Rattle.node_tree.specs.Keys.{tally, has}
 use Rattle.node_tree.specs.Seen.{Seen, seen_id, seen_serial}
+use Rattle.node_tree.proofs.KeyLemmas.{has-there, has-absent, tally_row, tally_below, tally_cases}
 use Rattle.cdp_messages.specs.Told.{Told, seen_nodes}
-use Rattle.cdp_messages.specs.Views.{IsView, keys, is_in, is_distinct}
-use Rattle.front_mirror.specs.Shown.{told_id, told_serial, shown}
-use Rattle.front_mirror.specs.Front.{is_unique, is_apart, is_fresh}
+use Rattle.cdp_messages.specs.Views.{IsView, keys, is_distinct}
+use Rattle.front_mirror.specs.Shown.{told_id, told_serial}
+use Rattle.front_mirror.specs.Front.{is_unique, is_fresh, clashes, any_node}
 use Rattle.front_mirror.proofs.ToldLemmas.{keys-seen}
-use Rattle.front_mirror.proofs.ViewLemmas.{tally-keys, times, times-append, distinct_times, times_distinct}
-use Rattle.front_mirror.proofs.BoolLemmas.{and_left, and_right}
-
-or_joined : (a b c : Bool) → (a || (b || c)) ≡ ((a || b) || c)
-or_joined true b c = refl
-or_joined false b c = refl
-
-is_in-append : (x : ℕ) (xs ys : List ℕ) → is_in x (xs ++ ys) ≡ (is_in x xs || is_in x ys)
-is_in-append x [] ys = refl
-is_in-append x (y ∷ xs) ys = ap (λ (b : Bool). nat_eq x y || b) (is_in-append x xs ys) ∙ or_joined (nat_eq x y) (is_in x xs) (is_in x ys)
-
-eq_turned : (x y : ℕ) → nat_eq x y ≡ nat_eq y x
-eq_turned x y = grind arith
-
-four_or : (a b c d : Bool) → ((a || b) || (c || d)) ≡ ((a || c) || (b || d))
-four_or true b c d = refl
-four_or false b true d = grind arith
-four_or false b false d = refl
-
-any_more : (x : ℕ) (xs ys : List ℕ) → list_any (λ y. is_in y (x ∷ xs)) ys ≡ (is_in x ys || list_any (λ y. is_in y xs) ys)
-any_more x xs [] = refl
-any_more x xs (y ∷ ys) =
-    ap (λ (b : Bool). (nat_eq y x || is_in y xs) || b) (any_more x xs ys)
-    ∙ ap (λ (b : Bool). (b || is_in y xs) || (is_in x ys || list_any (λ y. is_in y xs) ys)) (eq_turned y x)
-    ∙ four_or (nat_eq x y) (is_in y xs) (is_in x ys) (list_any (λ y. is_in y xs) ys)
-
-none_any : (ys : List ℕ) → list_any (λ y. is_in y []) ys ≡ false
-none_any [] = refl
-none_any (y ∷ ys) = none_any ys
-
-and_true : (a : Bool) → (a && true) ≡ a
-and_true true = refl
-and_true false = refl
-
-tests_moved : (a b c d e : Bool) → (not (a || b) && (c && (d && not e))) ≡ ((not a && c) && (d && not (b || e)))
-tests_moved true b c d e = refl
-tests_moved false true true true e = refl
-tests_moved false true true false e = refl
-tests_moved false true false d e = refl
-tests_moved false false c d e = refl
-
--- no number comes twice in two lists together where none does in either, and none is in both
-pub is_distinct-append : (xs ys : List ℕ) → is_distinct (xs ++ ys) ≡ (is_distinct xs && (is_distinct ys && is_apart ys xs))
-is_distinct-append [] ys =
-    sym (ap (λ (b : Bool). is_distinct ys && not b) (none_any ys) ∙ and_true (is_distinct ys))
-is_distinct-append (x ∷ xs) ys =
-    ap (λ (b : Bool). not b && is_distinct (xs ++ ys)) (is_in-append x xs ys)
-    ∙ ap (λ (b : Bool). not (is_in x xs || is_in x ys) && b) (is_distinct-append xs ys)
-    ∙ tests_moved (is_in x xs) (is_in x ys) (is_distinct xs) (is_distinct ys) (list_any (λ y. is_in y xs) ys)
-    ∙ ap (λ (b : Bool). (not (is_in x xs) && is_distinct xs) && (is_distinct ys && not b)) (sym (any_more x xs ys))
-
--- ---- the keys of nodes that come, beside those of the tree
-
-tests_turned : (a b c d : Bool) → ((a && b) && (c && d)) ≡ ((a && c) && (b && d))
-tests_turned true true c d = grind arith
-tests_turned true false true d = refl
-tests_turned true false false d = refl
-tests_turned false b c d = refl
-
-distinct_keys : (key : Seen → ℕ) (v : Nodes Seen) → ((x : ℕ) → tally key x v ≤ 1) → is_distinct (keys key v) ≡ true
-distinct_keys key v once = times_distinct (keys key v) (λ x. let e = tally-keys key x v in let h = once x in omega arith)
-
-beside_known : (xs ys : List ℕ) → is_distinct xs ≡ true → is_distinct (xs ++ ys) ≡ (is_distinct ys && is_apart ys xs)
-beside_known xs ys e = is_distinct-append xs ys ∙ ap (λ (b : Bool). b && (is_distinct ys && is_apart ys xs)) e
-
--- the test of nodes that come: their ids and serials, beside those of the tree
-pub new_keys : (v : Nodes Seen) (n : Nodes Told) → IsView v
-    → (is_distinct (keys seen_id v ++ keys told_id n) && is_distinct (keys seen_serial v ++ keys told_serial n)) ≡ (is_unique n && is_fresh v n)
-new_keys v n view =
-    ap (λ (b : Bool). b && is_distinct (keys seen_serial v ++ keys told_serial n))
-    (beside_known (keys seen_id v) (keys told_id n) (distinct_keys seen_id v view.ids))
-    ∙ ap (λ (b : Bool). (is_distinct (keys told_id n) && is_apart (keys told_id n) (keys seen_id v)) && b)
-    (beside_known (keys seen_serial v) (keys told_serial n) (distinct_keys seen_serial v view.serials))
-    ∙ tests_turned (is_distinct (keys told_id n)) (is_apart (keys told_id n) (keys seen_id v)) (is_distinct (keys told_serial n))
-    (is_apart (keys told_serial n) (keys seen_serial v))
-
--- the same of a tree as code keeps it
-pub new_nodes : (bs : List (Branch Told)) (v : Nodes Seen) (n : Nodes Told) (r : Bool) → shown bs ≡ v → IsView v
-    → r ≡ (is_distinct (keys told_id (nodes_of bs) ++ keys told_id n) && is_distinct (keys told_serial (nodes_of bs) ++ keys told_serial n))
-    → r ≡ (is_unique n && is_fresh v n)
-new_nodes bs v n r is view e =
-    e
-    ∙ ap (λ (ids : List ℕ). is_distinct (ids ++ keys told_id n) && is_distinct (keys told_serial (nodes_of bs) ++ keys told_serial n))
-    (sym (keys-seen seen_id (nodes_of bs)) ∙ ap (keys seen_id) is)
-    ∙ ap (λ (serials : List ℕ). is_distinct (keys seen_id v ++ keys told_id n) && is_distinct (serials ++ keys told_serial n))
-    (sym (keys-seen seen_serial (nodes_of bs)) ∙ ap (keys seen_serial) is)
-    ∙ new_keys v n view
-
--- ---- by numbers
-
-tally_both : (key : Seen → ℕ) (v : Nodes Seen) (n : Nodes Told) (x : ℕ) → tally key x v + tally key x (seen_nodes n) ≡ times x (keys key v ++ keys (λ r. key r.seen) n)
-tally_both key v n x =
-    let a = tally-keys key x v in
-    let b = tally-keys key x (seen_nodes n) in
-    let c : times x (keys key (seen_nodes n)) ≡ times x (keys (λ r. key r.seen) n) = ap (times x) (keys-seen key n) in
-    let d = times-append x (keys key v) (keys (λ r. key r.seen) n) in
-    omega arith
+use Rattle.front_mirror.proofs.ViewLemmas.{times, tally-keys, times_distinct, tally_distinct}
+use Rattle.front_mirror.proofs.DistinctLemmas.{neither}
+use Rattle.front_mirror.proofs.BoolLemmas.{and_left, and_right, denied}
 
 -- each id and each serial stands at most once in the tree and the nodes together
 pub record Once (v : Nodes Seen) (n : Nodes Told) : Type 0 where
   pub ids : (x : ℕ) → tally seen_id x v + tally seen_id x (seen_nodes n) ≤ 1
   pub serials : (x : ℕ) → tally seen_serial x v + tally seen_serial x (seen_nodes n) ≤ 1
 
-pub once_new : (v : Nodes Seen) (n : Nodes Told) → IsView v → (is_unique n && is_fresh v n) ≡ true → Once v n
-once_new v n view e =
-    let both = new_keys v n view ∙ e in
-    let ids = and_left (is_distinct (keys seen_id v ++ keys told_id n)) _ both in
-    let serials = and_right (is_distinct (keys seen_id v ++ keys told_id n)) _ both in
-    record {
-      ids = λ x. let h = distinct_times x (keys seen_id v ++ keys told_id n) ids in let k = tally_both seen_id v n x in omega arith;
-      serials = λ x. let h = distinct_times x (keys seen_serial v ++ keys told_serial n) serials in let k = tally_both seen_serial v n x in omega arith;
-    }
+module _ (v : Nodes Seen) where
+  absent_at : (key : Seen → ℕ) (x n : ℕ) → tally key x v ≡ n → has key x v ≡ false → n ≡ 0
+  absent_at key x zero is e = refl
+  absent_at key x (suc n) is e = let h : has key x v ≡ true = has-there key x v (omega arith) in absurd cc
 
-pub new_once : (v : Nodes Seen) (n : Nodes Told) → IsView v → Once v n → (is_unique n && is_fresh v n) ≡ true
-new_once v n view once =
-    let ids : is_distinct (keys seen_id v ++ keys told_id n) ≡ true
-    = times_distinct (keys seen_id v ++ keys told_id n) (λ x. let h = once.ids x in let k = tally_both seen_id v n x in omega arith) in
-    let serials : is_distinct (keys seen_serial v ++ keys told_serial n) ≡ true
-    = times_distinct (keys seen_serial v ++ keys told_serial n) (λ x. let h = once.serials x in let k = tally_both seen_serial v n x in omega arith) in
-    sym (new_keys v n view) ∙ rw (ids, serials) refl
+  absent_tally : (key : Seen → ℕ) (x : ℕ) → has key x v ≡ false → tally key x v ≡ 0
+  absent_tally key x e = absent_at key x (tally key x v) refl e
+
+  either_part : (P : Type 0) (a b : ℕ) → 0 < a + b → (0 < a → P) → (0 < b → P) → P
+  either_part P zero b some f g = g (omega arith)
+  either_part P (suc a) b some f g = f (omega arith)
+
+  -- where no node that comes clashes with the tree, what is among them is not in the tree
+  apart : (key : Seen → ℕ) → ((r : Told) → clashes v r ≡ false → has key (key r.seen) v ≡ false) → (n : Nodes Told) → any_node (clashes v) n ≡ false
+      → (x : ℕ) → 0 < tally key x (seen_nodes n) → tally key x v ≡ 0
+  apart key free none e x some = absurd (omega arith)
+  apart key free (node r c t) e x some =
+      let p = neither (clashes v r || any_node (clashes v) c) (any_node (clashes v) t) e in
+      let q = neither (clashes v r) (any_node (clashes v) c) p.0 in
+      elim (tally_cases key x r.seen (seen_nodes c) (seen_nodes t)) [
+        | inl same ↦ subst (λ (y : ℕ). tally key y v ≡ 0) same.0 (absent_tally key (key r.seen) (free r q.0))
+        | inr other ↦
+            either_part (tally key x v ≡ 0) (tally key x (seen_nodes c)) (tally key x (seen_nodes t)) (omega arith) (apart key free c q.1 x) (apart key free t p.1 x)
+      ]
+
+  once_of : (a b : ℕ) → a ≤ 1 → b ≤ 1 → (0 < b → a ≡ 0) → a + b ≤ 1
+  once_of a zero h k f = omega arith
+  once_of a (suc b) h k f = let e = f (omega arith) in omega arith
+
+  pub once_new : (n : Nodes Told) → IsView v → (is_unique n && is_fresh v n) ≡ true → Once v n
+  once_new n view e =
+      let unique = and_left (is_unique n) (is_fresh v n) e in
+      let free : any_node (clashes v) n ≡ false = denied (any_node (clashes v) n) (and_right (is_unique n) (is_fresh v n) e) in
+      record {
+        ids = λ x.
+            once_of (tally seen_id x v) (tally seen_id x (seen_nodes n)) (view.ids x)
+            (tally_distinct seen_id n (and_left (is_distinct (keys told_id n)) (is_distinct (keys told_serial n)) unique) x)
+            (apart seen_id (λ r h. (neither (has seen_id r.seen.id v) (has seen_serial r.seen.serial v) h).0) n free x);
+        serials = λ x.
+            once_of (tally seen_serial x v) (tally seen_serial x (seen_nodes n)) (view.serials x)
+            (tally_distinct seen_serial n (and_right (is_distinct (keys told_id n)) (is_distinct (keys told_serial n)) unique) x)
+            (apart seen_serial (λ r h. (neither (has seen_id r.seen.id v) (has seen_serial r.seen.serial v) h).1) n free x);
+      }
+
+  -- ---- and the other way
+
+  unique_once : (key : Seen → ℕ) (n : Nodes Told) → ((x : ℕ) → tally key x v + tally key x (seen_nodes n) ≤ 1) → is_distinct (keys (λ r. key r.seen) n) ≡ true
+  unique_once key n once =
+      times_distinct (keys (λ r. key r.seen) n)
+      (λ x.
+      let a = tally-keys key x (seen_nodes n) in
+      let b : times x (keys key (seen_nodes n)) ≡ times x (keys (λ r. key r.seen) n) = ap (times x) (keys-seen key n) in
+      let h = once x in
+      omega arith)
+
+  free_once : (n : Nodes Told) → Once v n → any_node (clashes v) n ≡ false
+  free_once none once = refl
+  free_once (node r c t) once =
+      let id : has seen_id r.seen.id v ≡ false
+      = has-absent seen_id r.seen.id v (let h = once.ids r.seen.id in let k = tally_row seen_id r.seen.id r.seen (seen_nodes c) (seen_nodes t) refl in omega arith) in
+      let serial : has seen_serial r.seen.serial v ≡ false
+      = has-absent seen_serial r.seen.serial v
+      (let h = once.serials r.seen.serial in let k = tally_row seen_serial r.seen.serial r.seen (seen_nodes c) (seen_nodes t) refl in omega arith) in
+      let below : Once v c = record {
+        ids = λ x. let h = once.ids x in let k = tally_below seen_id x r.seen (seen_nodes c) (seen_nodes t) in omega arith;
+        serials = λ x. let h = once.serials x in let k = tally_below seen_serial x r.seen (seen_nodes c) (seen_nodes t) in omega arith;
+      } in
+      let beside : Once v t = record {
+        ids = λ x. let h = once.ids x in let k = tally_below seen_id x r.seen (seen_nodes c) (seen_nodes t) in omega arith;
+        serials = λ x. let h = once.serials x in let k = tally_below seen_serial x r.seen (seen_nodes c) (seen_nodes t) in omega arith;
+      } in
+      rw (id, serial, free_once c below, free_once t beside) refl
+
+  pub new_once : (n : Nodes Told) → Once v n → (is_unique n && is_fresh v n) ≡ true
+  new_once n once = rw (unique_once seen_id n once.ids, unique_once seen_serial n once.serials, free_once n once) refl

@@ -1,5 +1,5 @@
 -- Tests joined by `and` and by `or`.
-use Rattle.std.proofs.Common.{◌≡◌, Bool, true, false, ◌&&◌, ◌||◌, refl}
+use Rattle.std.proofs.Common.{◌≡◌, Bool, true, false, not, ◌&&◌, refl}
 
 pub and_left : (a b : Bool) → (a && b) ≡ true → a ≡ true
 and_left true b e = refl
@@ -12,6 +12,6 @@ and_right false b e = cc
 pub both : {a b : Bool} → a ≡ true → b ≡ true → (a && b) ≡ true
 both p q = rw p q
 
-pub or_left : (a b : Bool) → (a || b) ≡ true → b ≡ false → a ≡ true
-or_left true b e f = refl
-or_left false b e f = cc
+pub denied : (a : Bool) → not a ≡ true → a ≡ false
+denied true e = cc
+denied false e = refl

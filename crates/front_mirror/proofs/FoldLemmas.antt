@@ -7,14 +7,22 @@ use Rattle.node_tree.specs.Seen.{Seen, seen_id}
 use Rattle.pipe_frames.specs.Frames.{Frames, frames_of, frames_from, held_after}
 use Rattle.pipe_frames.proofs.FrameLemmas.{frames_of-append}
 use Rattle.cdp_messages.specs.declared.down.ReplyBody.{ReplyBody}
-use Rattle.cdp_messages.specs.declared.down.ReplyBody.TheVariants.{Nothing, Root, NodeId, NodeIds}
-use Rattle.cdp_messages.specs.Told.{Told, seen_nodes}
-use Rattle.cdp_messages.specs.Events.{News, attribute_modified, attribute_removed, text_modified, count_updated, inserted, removed, set_children, document_updated, paused}
+use Rattle.cdp_messages.specs.declared.effects.Effect.{Effect}
+use Rattle.cdp_messages.specs.declared.effects.Effect.TheVariants as effect
+use Rattle.cdp_messages.specs.Effects.{effect_of}
+use Rattle.cdp_messages.specs.Told.{Told, seen_nodes, seen_branch}
+use Rattle.cdp_messages.specs.Events.{News, attribute_modified, attribute_removed, text_modified, count_updated, inserted, removed, set_children, document_updated, paused, sheet_added, sheet_changed, sheet_removed}
 use Rattle.cdp_messages.specs.Replies.{Message, reply, fault, event, down_of, result_of}
+use Rattle.std.specs.List.{list_all}
+use Rattle.cdp_messages.specs.declared.down.PauseData.{PauseData}
+use Rattle.cdp_messages.specs.Moves.{changed, shows, inserts, removes, counts, sets, drops, says, paused_nodes}
 use Rattle.front_mirror.specs.declared.replies.Ask.{Ask}
+use Rattle.front_mirror.specs.declared.faults.FrontKind.TheVariants.{UnknownNode, IdTaken, UnknownSheet}
 use Rattle.front_mirror.specs.declared.faults.FrontKind.{FrontKind}
 use Rattle.front_mirror.specs.declared.faults.FrontFault.{FrontFault}
-use Rattle.front_mirror.specs.Front.{FrontValue, first_value, method_of, without, root_fault, replied, refused, told, opened_with, children_fault, with_root, with_body, with_reply, with_fault, with_tree, with_children, with_news, with_message, take_frame, Folded, after_message, folded, outcome, fold_frames, fold, FrontState, first_state, after_bytes, unless_refused, after_take, after_ask}
+use Rattle.front_mirror.specs.Front.{FrontValue, first_value, method_of, without, root_fault, replied, refused, told, halted, told_sheets, is_shown, ToldChange, told_change, change_fault, with_root, with_effect, with_body, with_reply, with_fault, with_tree, at_spot, with_change, with_news, with_message, take_frame, Folded, after_message, folded, outcome, fold_frames, fold, FrontState, first_state, after_bytes, unless_refused, after_take, after_ask}
+use Rattle.front_mirror.specs.declared.sheets.KnownSheet.{KnownSheet}
+use Rattle.front_mirror.specs.Sheets.{new_sheet, has_sheet, marked_old, without_sheet}
 use Rattle.front_mirror.specs.Laws.{joined, IsFold}
 
 -- ---- one fold after another
@@ -97,13 +105,28 @@ with_root-more : (v w : FrontValue) (ask : Ask) (id : ℕ) (frame : List ℕ) (r
 with_root-more v w ask id frame root m None waits e = replied-more v w ask id frame true (seen_nodes (alone root)) m waits e
 with_root-more v w ask id frame root m (Some kind) waits e = cc
 
+abbrev sheetless : FrontValue → FrontValue
+sheetless v = record v { sheets = [] }
+
+bare-more : (v w : FrontValue) (ask : Ask) (id : ℕ) (frame : List ℕ) (tree : Nodes Seen) (m : List ℕ) → method_of id v.asks ≡ Some m
+    → taken_well (sheetless (replied v id frame true tree)) ≡ Ok w → taken_well (sheetless (replied (joined v ask) id frame true tree)) ≡ Ok (joined w ask)
+bare-more v w ask id frame tree m waits e =
+    let same : sheetless (replied v id frame true tree) ≡ w = cc in
+    ap (λ (asks : List Ask). taken_well (record (sheetless (replied v id frame true tree)) { asks = asks })) (without-more id v.asks ask m waits)
+    ∙ ap (λ (u : FrontValue). taken_well (joined u ask)) same
+
+with_effect-more : (v w : FrontValue) (ask : Ask) (id : ℕ) (frame : List ℕ) (m : List ℕ) (x : Effect) → method_of id v.asks ≡ Some m
+    → with_effect v id frame x ≡ Ok w → with_effect (joined v ask) id frame x ≡ Ok (joined w ask)
+with_effect-more v w ask id frame m (effect.Document tree) waits e = with_root-more v w ask id frame tree m (root_fault tree) waits e
+with_effect-more v w ask id frame m (effect.SheetText text) waits e = replied-more v w ask id frame true v.tree m waits e
+with_effect-more v w ask id frame m effect.AllOff waits e = bare-more v w ask id frame none m waits e
+with_effect-more v w ask id frame m effect.SheetsOff waits e = bare-more v w ask id frame v.tree m waits e
+with_effect-more v w ask id frame m effect.NothingElse waits e = replied-more v w ask id frame true v.tree m waits e
+
 with_body-more : (v w : FrontValue) (ask : Ask) (id : ℕ) (frame : List ℕ) (m : List ℕ) (body : Option ReplyBody) → method_of id v.asks ≡ Some m
-    → with_body v id frame body ≡ Ok w → with_body (joined v ask) id frame body ≡ Ok (joined w ask)
+    → with_body v id frame m body ≡ Ok w → with_body (joined v ask) id frame m body ≡ Ok (joined w ask)
 with_body-more v w ask id frame m None waits e = cc
-with_body-more v w ask id frame m (Some Nothing) waits e = replied-more v w ask id frame true v.tree m waits e
-with_body-more v w ask id frame m (Some (Root root)) waits e = with_root-more v w ask id frame root m (root_fault root) waits e
-with_body-more v w ask id frame m (Some (NodeId number)) waits e = replied-more v w ask id frame true v.tree m waits e
-with_body-more v w ask id frame m (Some (NodeIds numbers)) waits e = replied-more v w ask id frame true v.tree m waits e
+with_body-more v w ask id frame m (Some body) waits e = with_effect-more v w ask id frame m (effect_of m body) waits e
 
 with_reply-more : (v w : FrontValue) (ask : Ask) (id : ℕ) (frame : List ℕ) (result : Data) (o : Option (List ℕ)) → method_of id v.asks ≡ o
     → with_reply v id frame result o ≡ Ok w → with_reply (joined v ask) id frame result (method_of id (v.asks ++ ask ∷ [])) ≡ Ok (joined w ask)
@@ -126,22 +149,41 @@ with_tree-more : (v w : FrontValue) (ask : Ask) (tree : Nodes Seen) (wrong : Opt
 with_tree-more v w ask tree None e = told-more v w ask tree e
 with_tree-more v w ask tree (Some kind) e = cc
 
-with_children-more : (v w : FrontValue) (ask : Ask) (parent : ℕ) (nodes : Nodes Told) (o : Option (Spot Seen))
-    → with_children v parent nodes o ≡ Ok w → with_children (joined v ask) parent nodes o ≡ Ok (joined w ask)
-with_children-more v w ask parent nodes None e = cc
-with_children-more v w ask parent nodes (Some s) e =
-    with_tree-more v w ask (put seen_id parent (opened_with nodes s.branch) v.tree) (children_fault v.tree parent nodes s) e
+at_spot-more : (v w : FrontValue) (ask : Ask) (t : ToldChange) (o : Option (Spot Seen)) → at_spot v t o ≡ Ok w → at_spot (joined v ask) t o ≡ Ok (joined w ask)
+at_spot-more v w ask t None e = cc
+at_spot-more v w ask t (Some s) e = with_tree-more v w ask (put seen_id t.node (changed t.change s.branch) v.tree) (change_fault v.tree t s) e
+
+with_change-more : (v w : FrontValue) (ask : Ask) (t : ToldChange) → with_change v t ≡ Ok w → with_change (joined v ask) t ≡ Ok (joined w ask)
+with_change-more v w ask t e = at_spot-more v w ask t (spot seen_id t.node 0 v.tree) e
+
+pause-more : (v w : FrontValue) (ask : Ask) (why : PauseData) (b : Bool) → cond b (taken_well (halted v why)) (Err UnknownNode) ≡ Ok w
+    → cond b (taken_well (halted (joined v ask) why)) (Err UnknownNode) ≡ Ok (joined w ask)
+pause-more v w ask why true e = let same : halted v why ≡ w = cc in ap (λ (u : FrontValue). taken_well (joined u ask)) same
+pause-more v w ask why false e = cc
+
+sheets-more : (v w : FrontValue) (ask : Ask) (b : Bool) (kind : FrontKind) (sheets : List KnownSheet) → cond b (taken_well (told_sheets v sheets)) (Err kind) ≡ Ok w
+    → cond b (taken_well (told_sheets (joined v ask) sheets)) (Err kind) ≡ Ok (joined w ask)
+sheets-more v w ask true kind sheets e = let same : told_sheets v sheets ≡ w = cc in ap (λ (u : FrontValue). taken_well (joined u ask)) same
+sheets-more v w ask false kind sheets e = cc
+
+added-more : (v w : FrontValue) (ask : Ask) (b : Bool) (kind : FrontKind) (sheets : List KnownSheet) → cond b (Err kind) (taken_well (told_sheets v sheets)) ≡ Ok w
+    → cond b (Err kind) (taken_well (told_sheets (joined v ask) sheets)) ≡ Ok (joined w ask)
+added-more v w ask true kind sheets e = cc
+added-more v w ask false kind sheets e = let same : told_sheets v sheets ≡ w = cc in ap (λ (u : FrontValue). taken_well (joined u ask)) same
 
 with_news-more : (v w : FrontValue) (ask : Ask) (n : News) → with_news v n ≡ Ok w → with_news (joined v ask) n ≡ Ok (joined w ask)
-with_news-more v w ask (set_children parent nodes) e = with_children-more v w ask parent nodes (spot seen_id parent 0 v.tree) e
+with_news-more v w ask (set_children parent nodes) e = with_change-more v w ask (told_change parent (shows (seen_nodes nodes)) nodes) e
 with_news-more v w ask document_updated e = told-more v w ask none e
-with_news-more v w ask (attribute_modified id name value) e = cc
-with_news-more v w ask (attribute_removed id name) e = cc
-with_news-more v w ask (text_modified id value) e = cc
-with_news-more v w ask (count_updated id count) e = cc
-with_news-more v w ask (inserted parent previous b) e = cc
-with_news-more v w ask (removed parent id) e = cc
-with_news-more v w ask (paused why) e = cc
+with_news-more v w ask (attribute_modified id name value) e = with_change-more v w ask (told_change id (sets name value) none) e
+with_news-more v w ask (attribute_removed id name) e = with_change-more v w ask (told_change id (drops name) none) e
+with_news-more v w ask (text_modified id value) e = with_change-more v w ask (told_change id (says value) none) e
+with_news-more v w ask (count_updated id count) e = with_change-more v w ask (told_change id (counts count) none) e
+with_news-more v w ask (inserted parent previous b) e = with_change-more v w ask (told_change parent (inserts previous (seen_branch b)) (alone b)) e
+with_news-more v w ask (removed parent id) e = with_change-more v w ask (told_change parent (removes id) none) e
+with_news-more v w ask (paused why) e = pause-more v w ask why (list_all (is_shown v.tree) (paused_nodes why)) e
+with_news-more v w ask (sheet_added header) e = added-more v w ask (has_sheet header.sheet v.sheets) IdTaken (v.sheets ++ new_sheet header ∷ []) e
+with_news-more v w ask (sheet_changed number) e = sheets-more v w ask (has_sheet number v.sheets) UnknownSheet (marked_old number v.sheets) e
+with_news-more v w ask (sheet_removed number) e = sheets-more v w ask (has_sheet number v.sheets) UnknownSheet (without_sheet number v.sheets) e
 
 with_message-more : (v w : FrontValue) (ask : Ask) (frame : List ℕ) (message : Option Message)
     → with_message v frame message ≡ Ok w → with_message (joined v ask) frame message ≡ Ok (joined w ask)

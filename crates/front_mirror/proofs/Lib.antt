@@ -5,9 +5,14 @@ pub mod DistinctLemmas
 pub mod ViewLemmas
 pub mod SpotLemmas
 pub mod ApartLemmas
-pub mod ChildrenLemmas
+pub mod PairLemmas
+pub mod SearchedLemmas
+pub mod InsertedLemmas
+pub mod EditLemmas
+pub mod PlaceLemmas
 pub mod PutLemmas
-pub mod ShowLemmas
 pub mod MessageLemmas
 pub mod FoldLemmas
+pub mod FollowLemmas
+pub mod SheetLemmas
 pub mod MoveLemmas

@@ -1,29 +1,55 @@
 -- What is known of a frame that is read, or that is not.
-use Rattle.std.proofs.Common.{◌≡◌, ℕ, List, Bool, true, false, cond, ◌&&◌, Option, Some, None, option_and_then, Result, Ok, Err, IsOk, Vec, refl, sym, ap, ◌∙◌}
+use Rattle.std.proofs.Common.{◌≡◌, ℕ, List, Bool, true, false, cond, codes, bytes_eq, ◌&&◌, Option, Some, None, option_and_then, Result, Ok, Err, IsOk, Vec, refl, sym, ap, ◌∙◌}
 use Rattle.std.specs.Str.{IsUtf8, is_utf8}
 use Rattle.std.proofs.lemmas.Str.{IsUtf8-from_is_utf8}
 use Rattle.serde_json.specs.Read.{read}
 use Rattle.serde_json.specs.Data.{Data}
-use Rattle.node_tree.specs.Nodes.{Nodes, Branch, nodes_of}
+use Rattle.node_tree.specs.Nodes.{Branch, nodes_of, alone}
+use Rattle.node_tree.specs.Names.{is_attribute_name}
 use Rattle.std.specs.declared.alloc.Global.{Global}
 use Rattle.cdp_messages.specs.declared.down.Down.{Down}
 use Rattle.cdp_messages.specs.declared.down.Down.TheVariants as down
 use Rattle.cdp_messages.specs.declared.down.Event.{Event}
-use Rattle.cdp_messages.specs.declared.down.Event.TheVariants.{SetChildNodes}
+use Rattle.cdp_messages.specs.declared.down.Event.TheVariants.{AttributeModified, AttributeRemoved, ChildNodeInserted, SetChildNodes}
 use Rattle.cdp_messages.specs.declared.down.ReplyBody.{ReplyBody}
+use Rattle.cdp_messages.specs.declared.down.ReplyBody.TheVariants as body
+use Rattle.cdp_messages.specs.declared.effects.Effect.{Effect}
+use Rattle.cdp_messages.specs.declared.effects.Effect.TheVariants as effect
+use Rattle.cdp_messages.specs.Effects.{effect_of}
 use Rattle.cdp_messages.specs.Told.{Told}
-use Rattle.cdp_messages.specs.NodeData.{fits_nodes}
+use Rattle.cdp_messages.specs.NodeData.{fits_tree, fits_nodes}
 use Rattle.cdp_messages.specs.Asked.{json_of}
-use Rattle.cdp_messages.specs.Events.{news_of, set_children, node_id, fits_news}
+use Rattle.cdp_messages.specs.Events.{attribute_modified, attribute_removed, inserted, set_children, news_of, is_unopened, fits_news}
 use Rattle.cdp_messages.specs.Replies.{Message, event, message_of, message_in, down_of, result_of, fits_body, fits_message}
 use Rattle.cdp_messages.proofs.Messages.{messages_are_spelled, results_are_spelled}
 use Rattle.front_mirror.specs.declared.faults.FrontKind.TheVariants.{NotMessage}
+use Rattle.front_mirror.specs.declared.edits.NodeEdit.TheVariants as edit
+use Rattle.front_mirror.specs.Edits.{fits_edit, fits_effect}
 use Rattle.front_mirror.specs.Front.{FrontValue, with_message, take_frame}
-use Rattle.front_mirror.proofs.BoolLemmas.{and_left, and_right}
+use Rattle.front_mirror.proofs.BoolLemmas.{and_left, both}
 
--- a result that is read has the forms of one
-pub result_fits : (method : List ℕ) (d : Data) (body : ReplyBody) → result_of method d ≡ Some body → fits_body body ≡ true
-result_fits method d body e = (results_are_spelled method d body e).1
+-- a result that is read has the forms of one, and so has what it changes
+body_effect : (method : List ℕ) (b : ReplyBody) → fits_body b ≡ true → fits_effect (effect_of method b) ≡ true
+body_effect method body.Nothing e = of_method (bytes_eq method (codes "DOM.disable")) (bytes_eq method (codes "CSS.disable"))
+  where
+    of_method : (a b : Bool) → fits_effect (cond a effect.AllOff (cond b effect.SheetsOff effect.NothingElse)) ≡ true
+    of_method true b = refl
+    of_method false true = refl
+    of_method false false = refl
+body_effect method (body.Root tree) e = e
+body_effect method (body.Node tree) e = refl
+body_effect method (body.NodeId id) e = refl
+body_effect method (body.NodeIds ids) e = refl
+body_effect method (body.Attributes pairs) e = refl
+body_effect method (body.ClassNames names) e = refl
+body_effect method (body.SheetText text) e = refl
+body_effect method (body.Styles styles) e = refl
+body_effect method (body.Selectors selectors) e = refl
+body_effect method (body.Rule rule) e = refl
+body_effect method (body.Matched matched) e = refl
+
+pub effect_fits : (method : List ℕ) (d : Data) (b : ReplyBody) (x : Effect) → result_of method d ≡ Some b → x ≡ effect_of method b → fits_effect x ≡ true
+effect_fits method d b x e is = ap fits_effect is ∙ body_effect method b (results_are_spelled method d b e).1
 
 message_fits : (o : Option Data) (m : Message) → option_and_then message_in o ≡ Some m → fits_message m ≡ true
 message_fits None m e = cc
@@ -33,13 +59,29 @@ message_fits (Some d) m e = (messages_are_spelled d m e).1
 pub news_fit : (bytes : List ℕ) (d : Down) (e : Event) → down_of bytes ≡ Some (message_of d) → d ≡ down.Event e → fits_news (news_of e) ≡ true
 news_fit bytes d e read is = message_fits (json_of bytes) (event (news_of e)) (read ∙ ap (λ (m : Down). Some (message_of m)) is)
 
--- the children that it shows have the forms of nodes
-fits_below_parent : (parent : ℕ) (nodes : Nodes Told) → fits_news (set_children parent nodes) ≡ true → fits_nodes nodes ≡ true
-fits_below_parent parent nodes e = and_left (fits_nodes nodes) _ e
+-- the nodes that come with it have the forms of a message, and its name of an attribute has its form
+node_alone : (b : Branch Told) → fits_tree false b ≡ true → fits_nodes (alone b) ≡ true
+node_alone b e = both e refl
 
-pub children_fit : (e : Event) (parent : ℕ) (nodes : Vec (Branch Told) Global) → fits_news (news_of e) ≡ true → e ≡ SetChildNodes parent nodes
-    → fits_nodes (nodes_of nodes.items) ≡ true
-children_fit e parent nodes fits is = fits_below_parent parent (nodes_of nodes.items) (ap (λ (e : Event). fits_news (news_of e)) (sym is) ∙ fits)
+pub show_fits : (e : Event) (parent : ℕ) (nodes : Vec (Branch Told) Global) → fits_news (news_of e) ≡ true → e ≡ SetChildNodes parent nodes → fits_edit (edit.Show nodes) ≡ true
+show_fits e parent nodes fits is =
+    let f : fits_news (set_children parent (nodes_of nodes.items)) ≡ true = ap (λ (e : Event). fits_news (news_of e)) (sym is) ∙ fits in
+    both (and_left (fits_nodes (nodes_of nodes.items)) _ f) refl
+
+pub insert_fits : (e : Event) (parent previous : ℕ) (b : Branch Told) → fits_news (news_of e) ≡ true → e ≡ ChildNodeInserted parent previous b → fits_edit (edit.Insert previous b) ≡ true
+insert_fits e parent previous b fits is =
+    let f : fits_news (inserted parent previous b) ≡ true = ap (λ (e : Event). fits_news (news_of e)) (sym is) ∙ fits in
+    both (node_alone b (and_left (fits_tree false b) (is_unopened b) (and_left (fits_tree false b && is_unopened b) _ f))) refl
+
+pub set_fits : (e : Event) (id : ℕ) (name value : List ℕ) → fits_news (news_of e) ≡ true → e ≡ AttributeModified id name value → fits_edit (edit.SetAttribute name value) ≡ true
+set_fits e id name value fits is =
+    let f : fits_news (attribute_modified id name value) ≡ true = ap (λ (e : Event). fits_news (news_of e)) (sym is) ∙ fits in
+    and_left (is_attribute_name name) _ f
+
+pub drop_fits : (e : Event) (id : ℕ) (name : List ℕ) → fits_news (news_of e) ≡ true → e ≡ AttributeRemoved id name → fits_edit (edit.DropAttribute name) ≡ true
+drop_fits e id name fits is =
+    let f : fits_news (attribute_removed id name) ≡ true = ap (λ (e : Event). fits_news (news_of e)) (sym is) ∙ fits in
+    and_left (is_attribute_name name) _ f
 
 unread : (bytes : List ℕ) → (IsUtf8 bytes → ⊥) → (b : Bool) → is_utf8 bytes ≡ b → cond b (read bytes) None ≡ None
 unread bytes wrong true is = absurd (wrong (IsUtf8-from_is_utf8 bytes is))

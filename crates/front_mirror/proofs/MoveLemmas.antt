@@ -1,115 +1,322 @@
--- What each message makes of a front: from one view to the next.
-use Rattle.std.proofs.Common.{◌≡◌, ◌≤◌, ℕ, ℤ, true, false, codes, List, Some, None, Result, Ok, refl, ap, ◌∙◌, arith}
-use Rattle.serde_json.specs.Data.{Data}
+-- What each move makes of a front: from one view to the next, and over a course.
+use Rattle.std.proofs.Common.{◌≡◌, ◌≤◌, ℕ, Bool, true, false, cond, codes, List, [], ◌∷◌, ◌++◌, map, Option, Some, None, Result, Ok, Err, refl, sym, ap, ◌∙◌, subst, append_assoc, append-nil, arith}
+use Rattle.std.specs.List.{flat_map, list_all}
+use Rattle.std.specs.Option.{option_to_list}
+use Rattle.std.proofs.lemmas.Bool.{eq-eqb}
+use Rattle.cdp_json.specs.Kinds.{is_counted, holds_of_some}
 use Rattle.node_tree.specs.Nodes.{Nodes, none, Branch, alone}
 use Rattle.node_tree.specs.Seen.{Seen}
-use Rattle.cdp_json.specs.Kinds.{is_counted}
+use Rattle.cdp_messages.specs.declared.command.Refused.{Refused}
 use Rattle.cdp_messages.specs.declared.down.ReplyBody.{ReplyBody}
-use Rattle.cdp_messages.specs.declared.down.ReplyBody.TheVariants.{Nothing, Root, NodeId, NodeIds}
-use Rattle.cdp_messages.specs.Told.{told_nodes, told_branch, seen-told}
-use Rattle.cdp_messages.specs.Events.{set_children, document_updated}
-use Rattle.cdp_messages.specs.Replies.{reply, fault, event, down_of, result_of, body_data, fits_body, reply_text, event_text}
-use Rattle.cdp_messages.specs.Moves.{Moves, show, IsTellable}
-use Rattle.cdp_messages.specs.Laws.{NodesHaveUtf8, BodyHasUtf8, body_height, answers}
+use Rattle.cdp_messages.specs.declared.down.ReplyBody.TheVariants.{Nothing, Root}
+use Rattle.cdp_messages.specs.declared.down.PauseData.{PauseData}
+use Rattle.cdp_messages.specs.declared.down.PauseData.TheVariants as pause
+use Rattle.cdp_messages.specs.declared.effects.Effect.{Effect}
+use Rattle.cdp_messages.specs.declared.effects.Effect.TheVariants as effect
+use Rattle.cdp_messages.specs.Effects.{effect_of}
+use Rattle.cdp_messages.specs.Told.{told_branch, seen-told}
+use Rattle.cdp_messages.specs.Events.{News, document_updated, paused, fits_news}
+use Rattle.cdp_messages.specs.Refusals.{code_of, text_of}
+use Rattle.cdp_messages.specs.Replies.{fault, event, down_of, body_data, fits_body, reply_text, event_text, refused_text}
 use Rattle.cdp_messages.specs.Tellable.{suits_tree}
-use Rattle.cdp_messages.specs.Views.{IsView}
+use Rattle.cdp_messages.specs.Laws.{BodyHasUtf8, body_height, answers}
+use Rattle.cdp_messages.specs.Moves as move
+use Rattle.cdp_messages.specs.Moves.{Move, change_news, move_text, answered_by, paused_nodes, AreShown, suits_view, IsTellable, CanBeTold, ChangesNode, IsPlainReply, Moves, Course, ends, goes}
+use Rattle.cdp_messages.specs.Views.{View}
 use Rattle.cdp_messages.proofs.Depths.{replies_are_shallow, events_are_shallow}
-use Rattle.cdp_messages.proofs.Messages.{replies_are_read, results_are_read, events_are_read}
-use Rattle.cdp_messages.proofs.TellableLaws.{shown_trees_fit, shown_children_fit}
+use Rattle.cdp_messages.proofs.Messages.{replies_are_read, results_are_read, events_are_read, refusals_are_read}
+use Rattle.cdp_messages.proofs.TellableLaws.{shown_trees_fit}
 use Rattle.cdp_messages.proofs.TextsUtf8.{replies_are_utf8, events_are_utf8}
+use Rattle.front_mirror.specs.declared.replies.Ask.{Ask}
 use Rattle.front_mirror.specs.declared.faults.FrontKind.{FrontKind}
-use Rattle.front_mirror.specs.Front.{FrontValue, method_of, replied, refused, told, with_root, with_body, with_reply, with_fault, with_message, take_frame}
-use Rattle.front_mirror.specs.Laws.{tells_document}
+use Rattle.front_mirror.specs.declared.faults.FrontKind.TheVariants.{UnknownNode}
+use Rattle.front_mirror.specs.Front.{FrontValue, without, replied, refused, told, halted, is_shown, with_root, with_effect, with_body, with_reply, with_fault, with_message, take_frame, after_message, folded, outcome}
+use Rattle.front_mirror.specs.Laws.{Has, Asks, is_quiet, IsAnswered, Waits, IsAwaited, without_all, asks_after, kept_after, pauses_after, IsTaken, MoveGives, AreAwaited, asks_after_all, AreTaken, CourseGives, IsAnswer, InTurn, rests, tells, meets, TurnsAreAwaited}
 use Rattle.front_mirror.proofs.ViewLemmas.{height-told, root_fault-told}
-use Rattle.front_mirror.proofs.ShowLemmas.{shown_news, tellable_kids}
+use Rattle.front_mirror.proofs.FollowLemmas.{CanTellNews, changed_news, told_change_news, texts-told, shown_id}
+use Rattle.front_mirror.proofs.BoolLemmas.{and_left, both}
 
 abbrev taken_well : FrontValue → Result FrontValue FrontKind
 taken_well v = Ok v
 
--- the reply to `DOM.getDocument` that tells a view gives that view
-pub take_frame-root : (v : FrontValue) (id : ℕ) (frame : List ℕ) (result : Data) (method : List ℕ) (b : Branch Seen) → IsView (alone b)
-    → down_of frame ≡ Some (reply id result) → method_of id v.asks ≡ Some method → result_of method result ≡ Some (Root (told_branch 0 b))
-    → take_frame v frame ≡ Ok (replied v id frame true (alone b))
-take_frame-root v id frame result method b view read waits body =
-    ap (with_message v frame) read
-    ∙ ap (with_reply v id frame result) waits
-    ∙ ap (with_body v id frame) body
-    ∙ ap (with_root v id frame (told_branch 0 b)) (root_fault-told b view)
-    ∙ ap (λ (tree : Nodes Seen). taken_well (replied v id frame true tree)) (seen-told 0 (alone b))
+-- what a message can tell is read as that event
+news_read : (n : News) → CanTellNews n → down_of (event_text n) ≡ Some (event n)
+news_read n can = events_are_read n can.fits (events_are_shallow n can.levels) (events_are_utf8 n can.fits can.texts)
 
-pub take_frame-fault : (v : FrontValue) (id : ℕ) (frame : List ℕ) (code : ℤ) (text : List ℕ) (method : List ℕ)
-    → down_of frame ≡ Some (fault (Some id) code text) → method_of id v.asks ≡ Some method → take_frame v frame ≡ Ok (replied v id frame false v.tree)
-take_frame-fault v id frame code text method read waits = ap (with_message v frame) read ∙ ap (with_fault v id frame) waits
+-- ---- events
 
-pub take_frame-refusal : (v : FrontValue) (frame : List ℕ) (code : ℤ) (text : List ℕ)
-    → down_of frame ≡ Some (fault None code text) → take_frame v frame ≡ Ok (refused v frame)
-take_frame-refusal v frame code text read = ap (with_message v frame) read
+same_nothing : {A : Type 0} (xs : List A) → xs ≡ xs ++ []
+same_nothing xs = sym (append-nil xs)
 
--- a result that tells no document leaves the view as it is
-body_stays : (v : FrontValue) (id : ℕ) (frame : List ℕ) (body : ReplyBody) → tells_document body ≡ false
-    → with_body v id frame (Some body) ≡ Ok (replied v id frame true v.tree)
-body_stays v id frame Nothing e = refl
-body_stays v id frame (Root b) e = absurd cc
-body_stays v id frame (NodeId number) e = refl
-body_stays v id frame (NodeIds numbers) e = refl
+gives_change : (id : ℕ) (c : move.Change) (u w : View) (v : FrontValue) → CanBeTold u → CanBeTold w → ChangesNode id c u.tree w.tree → Has v u → IsTaken (move.change id c) v w
+gives_change id c u w v before after moves has =
+    let here : ChangesNode id c v.tree w.tree = subst (λ (n : Nodes Seen). ChangesNode id c n w.tree) (sym has.tree) moves in
+    let told_before : IsTellable v.tree = subst IsTellable (sym has.tree) before.tree in
+    let can = told_change_news v.tree w.tree id c told_before after.tree here in
+    record {
+      after = told v w.tree;
+      is_taken = ap (with_message v (move_text (move.change id c))) (news_read (change_news id c) can) ∙ changed_news v w.tree id c told_before.view after.tree.view here;
+      has = record { tree = refl };
+      asks = refl;
+      replies = same_nothing v.replies;
+      pauses = same_nothing v.pauses;
+      taken = refl;
+    }
 
-pub take_frame-stay : (v : FrontValue) (id : ℕ) (frame : List ℕ) (result : Data) (method : List ℕ) (body : ReplyBody) → tells_document body ≡ false
-    → down_of frame ≡ Some (reply id result) → method_of id v.asks ≡ Some method → result_of method result ≡ Some body
-    → take_frame v frame ≡ Ok (replied v id frame true v.tree)
-take_frame-stay v id frame result method body no_document read waits is =
-    ap (with_message v frame) read
-    ∙ ap (with_reply v id frame result) waits
-    ∙ ap (with_body v id frame) is
-    ∙ body_stays v id frame body no_document
+updated : CanTellNews document_updated
+updated = record { fits = refl; texts = tt; levels = omega arith }
 
--- children that come for a node give the view that has them
-pub take_frame-show : (v : FrontValue) (frame : List ℕ) (id : ℕ) (kids w : Nodes Seen) → IsView v.tree → IsView w → Moves (show id kids) v.tree w
-    → down_of frame ≡ Some (event (set_children id (told_nodes id kids)))
-    → take_frame v frame ≡ Ok (told v w)
-take_frame-show v frame id kids w view after move read = ap (with_message v frame) read ∙ shown_news v id kids w view after move
+gives_clear : (w : View) (v : FrontValue) → none ≡ w.tree → IsTaken move.clear v w
+gives_clear w v is = record {
+  after = told v none;
+  is_taken = ap (with_message v (move_text move.clear)) (news_read document_updated updated);
+  has = record { tree = is };
+  asks = refl;
+  replies = same_nothing v.replies;
+  pauses = same_nothing v.pauses;
+  taken = refl;
+}
 
-pub take_frame-clear : (v : FrontValue) (frame : List ℕ) → down_of frame ≡ Some (event document_updated) → take_frame v frame ≡ Ok (told v none)
-take_frame-clear v frame read = ap (with_message v frame) read
+pause_fits : (why : PauseData) (u : Nodes Seen) → AreShown (paused_nodes why) u → suits_view u ≡ true → fits_news (paused why) ≡ true
+pause_fits (pause.Subtree watched target true) u are s =
+    let a = shown_id watched u are.0 s in
+    let b = shown_id target u are.1.0 s in
+    both (both (both a.counted a.positive) (both (both b.counted b.positive) refl)) refl
+pause_fits (pause.Subtree watched target false) u are s =
+    let a = shown_id watched u are.0 s in
+    let b = shown_id target u are.1.0 s in
+    both (both (both a.counted a.positive) (both (both b.counted b.positive) refl)) refl
+pause_fits (pause.Attribute watched) u are s = let a = shown_id watched u are.0 s in both (both (both a.counted a.positive) refl) refl
+pause_fits (pause.Removed watched) u are s = let a = shown_id watched u are.0 s in both (both (both a.counted a.positive) refl) refl
 
--- ---- messages as they are written
+all_shown : (ids : List ℕ) (u : Nodes Seen) → AreShown ids u → list_all (is_shown u) ids ≡ true
+all_shown [] u are = refl
+all_shown (id ∷ ids) u are = both are.0 (all_shown ids u are.1)
 
-pub take_frame-reply : (v : FrontValue) (id : ℕ) (b : Branch Seen) → IsView (alone b) → suits_tree true b ≡ true → NodesHaveUtf8 (alone (told_branch 0 b))
-    → is_counted id ≡ true → method_of id v.asks ≡ Some (codes "DOM.getDocument")
-    → take_frame v (reply_text id (Root (told_branch 0 b))) ≡ Ok (replied v id (reply_text id (Root (told_branch 0 b))) true (alone b))
-take_frame-reply v id b view suits utf8 counted waits =
+gives_pause : (why : PauseData) (u : View) (v : FrontValue) → CanBeTold u → AreShown (paused_nodes why) u.tree → Has v u → IsTaken (move.met why) v u
+gives_pause why u v before are has =
+    let shown : AreShown (paused_nodes why) v.tree = subst (AreShown (paused_nodes why)) (sym has.tree) are in
+    let can : CanTellNews (paused why) = record { fits = pause_fits why u.tree are before.tree.forms; texts = tt; levels = omega arith } in
+    record {
+      after = halted v why;
+      is_taken =
+          ap (with_message v (move_text (move.met why))) (news_read (paused why) can)
+          ∙ ap (λ (b : Bool). cond b (taken_well (halted v why)) (Err UnknownNode)) (all_shown (paused_nodes why) v.tree shown);
+      has = record { tree = has.tree };
+      asks = refl;
+      replies = same_nothing v.replies;
+      pauses = refl;
+      taken = refl;
+    }
+
+-- ---- replies
+
+-- a reply that is written is read as one of its method
+reply_taken : (v : FrontValue) (id : ℕ) (body : ReplyBody) (method : List ℕ) → is_counted id ≡ true → fits_body body ≡ true → BodyHasUtf8 body → body_height body ≤ 61
+    → Asks id method v.asks → answers method body ≡ true → take_frame v (reply_text id body) ≡ with_effect v id (reply_text id body) (effect_of method body)
+reply_taken v id body method counted fits texts levels waits is =
+    ap (with_message v (reply_text id body)) (replies_are_read id body counted fits (replies_are_shallow id body levels) (replies_are_utf8 id body counted fits texts))
+    ∙ ap (with_reply v id (reply_text id body) (body_data body)) waits
+    ∙ ap (with_body v id (reply_text id body) method) (results_are_read method body is fits)
+
+gives_root : (id : ℕ) (b : Branch Seen) (w : View) (v : FrontValue) → CanBeTold w → alone b ≡ w.tree → is_counted id ≡ true → Asks id (codes "DOM.getDocument") v.asks → IsTaken (move.root id b) v w
+gives_root id b w v after is counted waits =
+    let can : IsTellable (alone b) = subst IsTellable (sym is) after.tree in
     let body = Root (told_branch 0 b) in
-    let fits = shown_trees_fit b suits in
-    let levels : body_height body ≤ 61 = rw (height-told 0 (alone b)) view.levels in
-    let read = replies_are_read id body counted fits (replies_are_shallow id body levels) (replies_are_utf8 id body counted fits utf8) in
-    take_frame-root v id (reply_text id body) (body_data body) (codes "DOM.getDocument") b view read waits
-    (results_are_read (codes "DOM.getDocument") body refl fits)
+    let fits = shown_trees_fit b (and_left (suits_tree true b) true can.forms) in
+    let levels : body_height body ≤ 61 = rw (height-told 0 (alone b)) can.view.levels in
+    record {
+      after = replied v id (reply_text id body) true (alone b);
+      is_taken =
+          reply_taken v id body (codes "DOM.getDocument") counted fits (texts-told 0 (alone b) can.texts) levels waits refl
+          ∙ ap (with_root v id (reply_text id body) (told_branch 0 b)) (root_fault-told b can.view)
+          ∙ ap (λ (tree : Nodes Seen). taken_well (replied v id (reply_text id body) true tree)) (seen-told 0 (alone b));
+      has = record { tree = is };
+      asks = refl;
+      replies = refl;
+      pauses = same_nothing v.pauses;
+      taken = refl;
+    }
 
--- a result that tells no document has no texts and no levels
-bare_utf8 : (body : ReplyBody) → tells_document body ≡ false → BodyHasUtf8 body
-bare_utf8 Nothing e = tt
-bare_utf8 (Root b) e = absurd cc
-bare_utf8 (NodeId id) e = tt
-bare_utf8 (NodeIds ids) e = tt
+quiet_stays : (v : FrontValue) (id : ℕ) (frame : List ℕ) (x : Effect) → is_quiet x ≡ true → with_effect v id frame x ≡ Ok (replied v id frame true v.tree)
+quiet_stays v id frame (effect.Document tree) e = absurd cc
+quiet_stays v id frame (effect.SheetText text) e = refl
+quiet_stays v id frame effect.AllOff e = absurd cc
+quiet_stays v id frame effect.SheetsOff e = absurd cc
+quiet_stays v id frame effect.NothingElse e = refl
 
-bare_levels : (body : ReplyBody) → tells_document body ≡ false → body_height body ≤ 61
-bare_levels Nothing e = omega arith
-bare_levels (Root b) e = absurd cc
-bare_levels (NodeId id) e = omega arith
-bare_levels (NodeIds ids) e = omega arith
+gives_reply : (id : ℕ) (body : ReplyBody) (w : View) (v : FrontValue) → IsPlainReply id body → IsAnswered id body v.asks → v.tree ≡ w.tree → IsTaken (move.replied id body) v w
+gives_reply id body w v plain is has = record {
+  after = replied v id (reply_text id body) true v.tree;
+  is_taken =
+      reply_taken v id body is.method plain.id_fits plain.fits plain.texts plain.levels is.waits is.answers
+      ∙ quiet_stays v id (reply_text id body) (effect_of is.method body) is.quiet;
+  has = record { tree = has };
+  asks = refl;
+  replies = refl;
+  pauses = same_nothing v.pauses;
+  taken = refl;
+}
 
-pub take_frame-stay_text : (v : FrontValue) (id : ℕ) (method : List ℕ) (body : ReplyBody) → tells_document body ≡ false → fits_body body ≡ true → is_counted id ≡ true
-    → method_of id v.asks ≡ Some method → answers method body ≡ true
-    → take_frame v (reply_text id body) ≡ Ok (replied v id (reply_text id body) true v.tree)
-take_frame-stay_text v id method body no_document fits counted waits is =
-    let text = replies_are_utf8 id body counted fits (bare_utf8 body no_document) in
-    let read = replies_are_read id body counted fits (replies_are_shallow id body (bare_levels body no_document)) text in
-    take_frame-stay v id (reply_text id body) (body_data body) method body no_document read waits (results_are_read method body is fits)
+nothing_levels : body_height Nothing ≤ 61
+nothing_levels = omega arith
 
-pub take_frame-show_text : (v : FrontValue) (id : ℕ) (kids w : Nodes Seen) → IsTellable v.tree → IsTellable w → Moves (show id kids) v.tree w
-    → take_frame v (event_text (set_children id (told_nodes id kids))) ≡ Ok (told v w)
-take_frame-show_text v id kids w before after move =
-    let t = tellable_kids v.tree w id kids before after move in
-    let news = set_children id (told_nodes id kids) in
-    let fits = shown_children_fit id kids t.counted t.positive t.forms in
-    let read = events_are_read news fits (events_are_shallow news t.levels) (events_are_utf8 news fits t.texts) in
-    take_frame-show v (event_text news) id kids w before.view after.view move read
+gives_end : (id : ℕ) (w : View) (v : FrontValue) → none ≡ w.tree → is_counted id ≡ true → Asks id (codes "DOM.disable") v.asks → IsTaken (move.all_off id) v w
+gives_end id w v is counted waits = record {
+  after = record (replied v id (reply_text id Nothing) true none) { sheets = [] };
+  is_taken = reply_taken v id Nothing (codes "DOM.disable") counted refl tt nothing_levels waits refl;
+  has = record { tree = is };
+  asks = refl;
+  replies = refl;
+  pauses = same_nothing v.pauses;
+  taken = refl;
+}
+
+gives_sheets_end : (id : ℕ) (w : View) (v : FrontValue) → v.tree ≡ w.tree → is_counted id ≡ true → Asks id (codes "CSS.disable") v.asks → IsTaken (move.sheets_off id) v w
+gives_sheets_end id w v is counted waits = record {
+  after = record (replied v id (reply_text id Nothing) true v.tree) { sheets = [] };
+  is_taken = reply_taken v id Nothing (codes "CSS.disable") counted refl tt nothing_levels waits refl;
+  has = record { tree = is };
+  asks = refl;
+  replies = refl;
+  pauses = same_nothing v.pauses;
+  taken = refl;
+}
+
+-- a refusal, with an id or without one
+gives_refusal : (r : Refused) (w : View) (v : FrontValue) (o : Option ℕ) → r.id ≡ o → v.tree ≡ w.tree → holds_of_some is_counted r.id ≡ true → Waits o v.asks → IsTaken (move.failed r) v w
+gives_refusal r w v None no_id is fits waits = record {
+  after = refused v (refused_text r);
+  is_taken =
+      ap (with_message v (refused_text r)) (refusals_are_read r fits)
+      ∙ ap (λ (o : Option ℕ). with_message v (refused_text r) (Some (fault o (code_of r.why) (text_of r.why)))) no_id;
+  has = record { tree = is };
+  asks = sym (ap (λ (o : Option ℕ). without_all (option_to_list o) v.asks) no_id);
+  replies = sym (ap (λ (o : Option ℕ). v.replies ++ record { id = o; text = refused_text r; good = false } ∷ []) no_id);
+  pauses = same_nothing v.pauses;
+  taken = refl;
+}
+gives_refusal r w v (Some id) has_id is fits waits = record {
+  after = replied v id (refused_text r) false v.tree;
+  is_taken =
+      ap (with_message v (refused_text r)) (refusals_are_read r fits)
+      ∙ ap (λ (o : Option ℕ). with_message v (refused_text r) (Some (fault o (code_of r.why) (text_of r.why)))) has_id
+      ∙ ap (with_fault v id (refused_text r)) waits.1;
+  has = record { tree = is };
+  asks = sym (ap (λ (o : Option ℕ). without_all (option_to_list o) v.asks) has_id);
+  replies = sym (ap (λ (o : Option ℕ). v.replies ++ record { id = o; text = refused_text r; good = false } ∷ []) has_id);
+  pauses = same_nothing v.pauses;
+  taken = refl;
+}
+
+tree_of_view : (u w : View) → w ≡ u → u.tree ≡ w.tree
+tree_of_view u w e = ap (λ (x : View). x.tree) (sym e)
+
+-- each move leads a front from the one view to the other
+pub move_gives : MoveGives
+move_gives (move.change id c) u w v before after moves has waits = gives_change id c u w v before after moves.0 has
+move_gives move.clear u w v before after moves has waits = gives_clear w v (ap (λ (x : View). x.tree) (sym moves))
+move_gives (move.met why) u w v before after moves has waits = subst (IsTaken (move.met why) v) (sym moves.0) (gives_pause why u v before moves.1 has)
+move_gives (move.root id b) u w v before after moves has waits = gives_root id b w v after (ap (λ (x : View). x.tree) (sym moves.0)) moves.1 waits
+move_gives (move.replied id body) u w v before after moves has waits = gives_reply id body w v moves.1 waits (has.tree ∙ tree_of_view u w moves.0)
+move_gives (move.all_off id) u w v before after moves has waits = gives_end id w v (ap (λ (x : View). x.tree) (sym moves.0)) moves.1 waits
+move_gives (move.sheets_off id) u w v before after moves has waits =
+    gives_sheets_end id w v (has.tree ∙ ap (λ (x : View). x.tree) (sym moves.0)) moves.1 waits
+move_gives (move.failed r) u w v before after moves has waits = gives_refusal r w v r.id refl (has.tree ∙ tree_of_view u w moves.0) moves.1 waits
+
+-- ---- a course
+
+course_begins : {ms : List Move} {u w : View} → Course ms u w → CanBeTold u
+course_begins (ends v can) = can
+course_begins (goes m ms u v w can moves course) = can
+
+more_taken : (m : Move) (ms : List Move) (u w : View) (v : FrontValue) → (one : IsTaken m v u) → AreTaken ms one.after w → AreTaken (m ∷ ms) v w
+more_taken m ms u w v one rest = record {
+  after = rest.after;
+  are_taken =
+      ap (λ (r : Result FrontValue FrontKind). outcome (after_message v (λ x. folded x (map move_text ms)) r).value (after_message v (λ x. folded x (map move_text ms)) r).fault) one.is_taken
+      ∙ rest.are_taken;
+  has = rest.has;
+  asks = rest.asks ∙ ap (asks_after_all ms) one.asks;
+  replies = rest.replies ∙ ap (λ (ks : List _). ks ++ flat_map kept_after ms) one.replies ∙ append_assoc v.replies (kept_after m) (flat_map kept_after ms);
+  pauses = rest.pauses ∙ ap (λ (ps : List _). ps ++ flat_map pauses_after ms) one.pauses ∙ append_assoc v.pauses (pauses_after m) (flat_map pauses_after ms);
+  taken = let a = one.taken in let b = rest.taken in omega arith;
+}
+
+course_from : (ms : List Move) (u w : View) → Course ms u w → (v : FrontValue) → Has v u → AreAwaited ms v.asks → AreTaken ms v w
+course_from [] u _ (ends _ can) v has waits = record {
+  after = v;
+  are_taken = refl;
+  has = has;
+  asks = refl;
+  replies = same_nothing v.replies;
+  pauses = same_nothing v.pauses;
+  taken = omega arith;
+}
+course_from (m ∷ ms) u w (goes _ _ _ x _ can moves course) v has waits =
+    let one = move_gives m u x v can (course_begins course) moves has waits.0 in
+    more_taken m ms x w v one (course_from ms x w course one.after one.has (subst (AreAwaited ms) (sym one.asks) waits.1))
+
+pub course_gives : CourseGives
+course_gives ms u w v course has waits = course_from ms u w course v has waits
+
+-- ---- moves that answer the first asks
+
+waits_none : (o : Option ℕ) (asks : List Ask) → option_to_list o ≡ [] → Waits o asks
+waits_none None asks e = tt
+waits_none (Some id) asks e = absurd cc
+
+awaited_none : (m : Move) (asks : List Ask) → answered_by m ≡ [] → IsAwaited m asks
+awaited_none (move.change id c) asks e = tt
+awaited_none move.clear asks e = tt
+awaited_none (move.met why) asks e = tt
+awaited_none (move.root id b) asks e = absurd cc
+awaited_none (move.replied id body) asks e = absurd cc
+awaited_none (move.all_off id) asks e = absurd cc
+awaited_none (move.sheets_off id) asks e = absurd cc
+awaited_none (move.failed r) asks e = waits_none r.id asks e
+
+first_asks : (id : ℕ) (ask : Ask) (asks : List Ask) → ask.id ≡ id → Asks id ask.method (ask ∷ asks)
+first_asks id ask asks e = rw (eq-eqb ask.id id e) refl
+
+first_gone : (id : ℕ) (ask : Ask) (asks : List Ask) → ask.id ≡ id → without id (ask ∷ asks) ≡ asks
+first_gone id ask asks e = rw (eq-eqb ask.id id e) refl
+
+first_waits : (o : Option ℕ) (ask : Ask) (asks : List Ask) → o ≡ Some ask.id → Waits o (ask ∷ asks)
+first_waits None ask asks e = absurd cc
+first_waits (Some id) ask asks e = (ask.method, first_asks id ask asks cc)
+
+failed_gone : (o : Option ℕ) (ask : Ask) (asks : List Ask) → o ≡ Some ask.id → without_all (option_to_list o) (ask ∷ asks) ≡ asks
+failed_gone None ask asks e = absurd cc
+failed_gone (Some id) ask asks e = first_gone id ask asks cc
+
+abbrev Answered : Move → Ask → List Ask → Type 0
+Answered m ask asks = IsAwaited m (ask ∷ asks) × (asks_after m (ask ∷ asks) ≡ asks)
+
+first_answered : (m : Move) (ask : Ask) (asks : List Ask) → IsAnswer m ask → Answered m ask asks
+first_answered (move.change id c) ask asks is = absurd is
+first_answered move.clear ask asks is = absurd is
+first_answered (move.met why) ask asks is = absurd is
+first_answered (move.root id b) ask asks is = (first_asks id ask asks is.0 ∙ ap (λ (m : List ℕ). Some m) is.1, first_gone id ask asks is.0)
+first_answered (move.replied id body) ask asks is =
+    (record { method = ask.method; waits = first_asks id ask asks is.0; answers = is.1; quiet = is.2 }, first_gone id ask asks is.0)
+first_answered (move.all_off id) ask asks is = (first_asks id ask asks is.0 ∙ ap (λ (m : List ℕ). Some m) is.1, first_gone id ask asks is.0)
+first_answered (move.sheets_off id) ask asks is = (first_asks id ask asks is.0 ∙ ap (λ (m : List ℕ). Some m) is.1, first_gone id ask asks is.0)
+first_answered (move.failed r) ask asks is = (first_waits r.id ask asks is, failed_gone r.id ask asks is)
+
+abbrev Ready : List Move → List Ask → List Ask → Type 0
+Ready ms asks rest = AreAwaited ms asks × (asks_after_all ms asks ≡ rest)
+
+turn_more : (m : Move) (ms : List Move) (asks left rest : List Ask) → IsAwaited m asks → asks_after m asks ≡ left → Ready ms left rest → Ready (m ∷ ms) asks rest
+turn_more m ms asks left rest waits is ready =
+    ((waits, subst (AreAwaited ms) (sym is) ready.0), ap (asks_after_all ms) is ∙ ready.1)
+
+turns : {ms : List Move} {asks rest : List Ask} → InTurn ms asks rest → Ready ms asks rest
+turns (rests asks) = (tt, refl)
+turns (tells m ms asks rest e t) = turn_more m ms asks asks rest (awaited_none m asks e) (ap (λ (ids : List ℕ). without_all ids asks) e) (turns t)
+turns (meets m ms ask asks rest is t) =
+    let a = first_answered m ask asks is in
+    turn_more m ms (ask ∷ asks) asks rest a.0 a.1 (turns t)
+
+pub turns_are_awaited : TurnsAreAwaited
+turns_are_awaited ms asks rest t = turns t

@@ -1,8 +1,8 @@
--- The children of one node put in their place, in the trees that a mirror keeps.
-use Rattle.std.proofs.Common.{◌≡◌, ◌≢◌, ℕ, zero, suc, ◌+◌, ◌<◌, ◌≤◌, ◌==◌, ◌||◌, nat_lt, Bool, true, false, not, cond, List, [], ◌∷◌, ◌++◌, length, get_or, set, take, drop, Vec, Option, Some, None, is_some, IsSome, unwrap_or, refl, sym, ap, ◌∙◌, rules, arith}
+-- One node changed in the trees that a mirror keeps.
+use Rattle.std.proofs.Common.{◌≡◌, ◌≢◌, ℕ, zero, suc, ◌+◌, ◌<◌, ◌≤◌, ◌==◌, ◌||◌, nat_lt, Bool, true, false, not, cond, List, [], ◌∷◌, ◌++◌, length, get_or, set, take, drop, Vec, Option, Some, None, is_some, IsSome, option_map, unwrap_or, Result, Ok, Err, OnOk, refl, sym, ap, ◌∙◌, rules, arith}
 use Rattle.std.specs.List.{position, prefix_len}
 use Rattle.std.specs.Borrow.{Bor}
-use Rattle.std.specs.Option.{option_copied}
+use Rattle.std.specs.Option.{option_copied, option_map_or}
 use Rattle.std.specs.declared.alloc.Global.{Global}
 use Rattle.std.proofs.lemmas.Bool.{ne_eqb}
 use Rattle.std.proofs.lemmas.List.{drop_all}
@@ -13,10 +13,11 @@ use Rattle.node_tree.specs.Labels.{Label}
 use Rattle.node_tree.specs.Keys.{first_of, has, find, put}
 use Rattle.node_tree.specs.Seen.{Seen, opened, seen_id}
 use Rattle.node_tree.proofs.KeyLemmas.{has-find}
+use Rattle.front_mirror.proofs.ToldLemmas.{find-seen}
 use Rattle.cdp_messages.specs.Told.{Told, told_tree, seen_nodes, seen_branch}
 use Rattle.front_mirror.specs.Shown.{shown, told_id, known_at, no_node}
-use Rattle.front_mirror.specs.Front.{opened_with}
-use Rattle.front_mirror.specs.Children.{with_shown}
+use Rattle.cdp_messages.specs.Moves.{Change, changed}
+use Rattle.front_mirror.specs.Edits.{can_change, is_ready, with_changed}
 
 -- the tree has a node of that id
 abbrev pub holds : ℕ → Branch Told → Bool
@@ -104,39 +105,26 @@ module _ (x : ℕ) where
   put_below false true n r c p e k = refl
   put_below false false n r c p e k = cc
 
-  -- a node that is held and is not the tree is below it
-  below_there : (v : Bool) (o : Option (Branch Told)) → v ≡ false → ((v || is_some o) || false) ≡ true → IsSome o
-  below_there v (Some y) e h = search rules
-  below_there true None e h = absurd cc
-  below_there false None e h = absurd cc
-
-  pub held_below : (v b : Branch Told) (c : Nodes Told) → v ≡ b → v.row.seen.id ≢ x → holds x b ≡ true → c ≡ v.children → IsSome (find told_id x c)
-  held_below v b c same apart held is =
-      let here : holds x v ≡ true = ap (holds x) same ∙ held in
-      rw is
-      (below_there (v.row.seen.id == x) (find told_id x v.children) (ne_eqb v.row.seen.id x apart)
-      (ap (λ (h : Bool). ((v.row.seen.id == x) || h) || false) (sym (has-find told_id x v.children)) ∙ here))
-
   -- the tree has the children where the node has them
-  shown_in : (nodes : Nodes Told) (b : Branch Told) (row : Seen) (c : Nodes Seen) → row ≡ b.row.seen → b.row.seen.id ≢ x → holds x b ≡ true
-      → c ≡ with_shown x nodes (seen_nodes b.children) → node row c none ≡ with_shown x nodes (seen_nodes (alone b))
-  shown_in nodes b row c same apart held below =
+  shown_in : (change : Change) (b : Branch Told) (row : Seen) (c : Nodes Seen) → row ≡ b.row.seen → b.row.seen.id ≢ x → holds x b ≡ true
+      → c ≡ with_changed x change (seen_nodes b.children) → node row c none ≡ with_changed x change (seen_nodes (alone b))
+  shown_in change b row c same apart held below =
       let other : (b.row.seen.id == x) ≡ false = ne_eqb b.row.seen.id x apart in
       let k = known_at x (seen_nodes b.children) in
       let known : known_at x (seen_nodes (alone b)) ≡ k
       = ap (λ (o : Option (Branch Seen)). unwrap_or o no_node) (found_below (b.row.seen.id == x) (seen_branch b) (find seen_id x (seen_nodes b.children)) other) in
       ap (λ (r : Seen). node r c none) same
       ∙ ap (λ (c : Nodes Seen). node b.row.seen c none) below
-      ∙ sym (put_below (b.row.seen.id == x) (has seen_id x (seen_nodes b.children)) _ b.row.seen (seen_nodes b.children) (put seen_id x (opened_with nodes k) (seen_nodes b.children)) other (holds_seen b true held))
-      ∙ ap (λ (w : Branch Seen). put seen_id x (opened_with nodes w) (seen_nodes (alone b))) (sym known)
+      ∙ sym (put_below (b.row.seen.id == x) (has seen_id x (seen_nodes b.children)) _ b.row.seen (seen_nodes b.children) (put seen_id x (changed change k) (seen_nodes b.children)) other (holds_seen b true held))
+      ∙ ap (λ (w : Branch Seen). put seen_id x (changed change w) (seen_nodes (alone b))) (sym known)
 
   -- the same of a tree by its fields
-  pub shown_fields : (nodes : Nodes Told) (parent count id serial : ℕ) (label : Label) (o : Option (Vec (Branch Told) Global)) (kids : Vec (Branch Told) Global)
+  pub shown_fields : (change : Change) (parent count id serial : ℕ) (label : Label) (o : Option (Vec (Branch Told) Global)) (kids : Vec (Branch Told) Global)
       (b : Branch Told) (now after : List (Branch Told)) → told_tree parent count id serial label o ≡ b → o ≡ Some kids → id ≢ x → holds x b ≡ true
-      → now ≡ kids.items → length now ≡ kids.len → length after ≡ length now → shown after ≡ with_shown x nodes (shown now)
+      → now ≡ kids.items → length now ≡ kids.len → length after ≡ length now → shown after ≡ with_changed x change (shown now)
       → node (record { id = id; serial = serial; label = label; hold = opened }) (shown (take kids.len (after ++ drop (length after) kids.items))) none
-      ≡ with_shown x nodes (seen_nodes (alone b))
-  shown_fields nodes parent count id serial label o kids b now after same is apart held items len kept below =
+      ≡ with_changed x change (seen_nodes (alone b))
+  shown_fields change parent count id serial label o kids b now after same is apart held items len kept below =
       let tree : told_tree parent count id serial label (Some kids) ≡ b = ap (told_tree parent count id serial label) (sym is) ∙ same in
       let row : ◌≡◌ {A = Seen} (record { id = id; serial = serial; label = label; hold = opened }) b.row.seen = ap (λ (t : Branch Told). t.row.seen) tree in
       let named : b.row.seen.id ≢ x = λ e. apart (ap (λ (r : Seen). r.id) row ∙ e) in
@@ -144,21 +132,18 @@ module _ (x : ℕ) where
       let before : shown now ≡ seen_nodes b.children = ap shown items ∙ ap seen_nodes children in
       let all : take kids.len (after ++ drop (length after) kids.items) ≡ after
       = ap (λ (ys : List (Branch Told)). take kids.len (after ++ drop (length after) ys)) (sym items) ∙ refilled after now kids.len kept len in
-      shown_in nodes b _ _ row named held (ap shown all ∙ below ∙ ap (with_shown x nodes) before)
+      shown_in change b _ _ row named held (ap shown all ∙ below ∙ ap (with_changed x change) before)
 
   -- one of the trees has the children
-  pub shown_at : (nodes : Nodes Told) (bs : List (Branch Told)) (i : ℕ) (b new : Branch Told) → Some i ≡ position (holds x) bs → b ≡ get_or bs i b
-      → seen_nodes (alone new) ≡ with_shown x nodes (seen_nodes (alone (get_or bs i b))) → shown (set bs i new) ≡ with_shown x nodes (shown bs)
-  shown_at nodes bs i b new at_i is shows =
+  pub shown_at : (change : Change) (bs : List (Branch Told)) (i : ℕ) (b new : Branch Told) → Some i ≡ position (holds x) bs → b ≡ get_or bs i b
+      → seen_nodes (alone new) ≡ with_changed x change (seen_nodes (alone (get_or bs i b))) → shown (set bs i new) ≡ with_changed x change (shown bs)
+  shown_at change bs i b new at_i is shows =
       let p = position-Some (holds x) bs i b (sym at_i) in
       let here : holds x b ≡ true = ap (holds x) is ∙ p.1 in
-      let one : with_shown x nodes (shown (b ∷ [])) ≡ shown (new ∷ []) = ap (λ (t : Branch Told). with_shown x nodes (seen_nodes (alone t))) is ∙ sym shows in
+      let one : with_changed x change (shown (b ∷ [])) ≡ shown (new ∷ []) = ap (λ (t : Branch Told). with_changed x change (seen_nodes (alone t))) is ∙ sym shows in
       let known : known_at x (shown bs) ≡ known_at x (shown (b ∷ [])) = ap (λ (o : Option (Branch Seen)). unwrap_or o no_node) (find_at bs i b p.0 is here p.2) in
-      sym (ap (λ (w : Branch Seen). put seen_id x (opened_with nodes w) (shown bs)) known
-      ∙ put_at (opened_with nodes (known_at x (shown (b ∷ [])))) bs i b new p.0 is here p.2 one)
-
-  pub held_at : (bs : List (Branch Told)) (i : ℕ) (b : Branch Told) → Some i ≡ position (holds x) bs → holds x (get_or bs i b) ≡ true
-  held_at bs i b at_i = (position-Some (holds x) bs i b (sym at_i)).1
+      sym (ap (λ (w : Branch Seen). put seen_id x (changed change w) (shown bs)) known
+      ∙ put_at (changed change (known_at x (shown (b ∷ [])))) bs i b new p.0 is here p.2 one)
 
   -- ---- where no tree holds it, it is not there
 
@@ -189,6 +174,47 @@ module _ (x : ℕ) where
   pub held_somewhere : (bs : List (Branch Told)) → IsSome (find told_id x (nodes_of bs)) → None ≡ position (holds x) bs → ⊥
   held_somewhere bs there e =
       lost (find told_id x (nodes_of bs)) there (gone bs (not_less (prefix_len (λ b. not (holds x b)) bs) (length bs) _ refl e))
+
+-- ---- a node that is ready to be changed
+
+told_there : (o : Option (Branch Told)) → is_some (option_map seen_branch o) ≡ true → IsSome o
+told_there None e = cc
+told_there (Some b) e = search rules
+
+module _ (x : ℕ) (change : Change) where
+  ready_some : (o : Option (Branch Seen)) → option_map_or (can_change change) o false ≡ true → is_some o ≡ true
+  ready_some None e = cc
+  ready_some (Some b) e = refl
+
+  pub ready_held : (b : Branch Told) → is_ready x change (seen_nodes (alone b)) ≡ true → holds x b ≡ true
+  ready_held b e =
+      has-seen x (alone b) ∙ has-find seen_id x (seen_nodes (alone b)) ∙ ready_some (find seen_id x (seen_nodes (alone b))) e
+
+  pub ready_somewhere : (bs : List (Branch Told)) → is_ready x change (shown bs) ≡ true → None ≡ position (holds x) bs → ⊥
+  ready_somewhere bs e lost =
+      held_somewhere x bs (told_there (find told_id x (nodes_of bs)) (ap is_some (sym (find-seen seen_id x (nodes_of bs))) ∙ ready_some (find seen_id x (shown bs)) e)) lost
+
+  pub ready_at : (bs : List (Branch Told)) (i : ℕ) (b : Branch Told) → Some i ≡ position (holds x) bs → b ≡ get_or bs i b → is_ready x change (shown bs) ≡ true
+      → is_ready x change (seen_nodes (alone (get_or bs i b))) ≡ true
+  ready_at bs i b at_i is e =
+      let p = position-Some (holds x) bs i b (sym at_i) in
+      let here : holds x b ≡ true = ap (holds x) is ∙ p.1 in
+      ap (λ (t : Branch Told). is_ready x change (seen_nodes (alone t))) (sym is)
+      ∙ ap (λ (o : Option (Branch Seen)). option_map_or (can_change change) o false) (sym (find_at x bs i b p.0 is here p.2))
+      ∙ e
+
+  pub ready_below : (v b : Branch Told) (c : Nodes Told) → v ≡ b → v.row.seen.id ≢ x → is_ready x change (seen_nodes (alone b)) ≡ true → c ≡ v.children
+      → is_ready x change (seen_nodes c) ≡ true
+  ready_below v b c same apart e is =
+      let here : is_ready x change (seen_nodes (alone v)) ≡ true = ap (λ (t : Branch Told). is_ready x change (seen_nodes (alone t))) same ∙ e in
+      ap (λ (n : Nodes Told). is_ready x change (seen_nodes n)) is
+      ∙ ap (λ (o : Option (Branch Seen)). option_map_or (can_change change) o false)
+      (sym (found_below x (v.row.seen.id == x) (seen_branch v) (find seen_id x (seen_nodes v.children)) (ne_eqb v.row.seen.id x apart)))
+      ∙ here
+
+pub on_ok : {A E : Type 0} (r : Result A E) (P Q : Type 0) → (P → Q) → OnOk r P → OnOk r Q
+on_ok (Ok x) P Q f p = f p
+on_ok (Err e) P Q f p = p
 
 -- code looks at the node itself first, and then below it
 copied_there : (o : Option (Bor (Branch Told))) → is_some o ≡ is_some (option_copied o)

@@ -1,10 +1,13 @@
 -- Trees that messages tell, and what is shown of them.
 use Rattle.std.proofs.Common.{◌≡◌, ℕ, zero, suc, ◌+◌, ◌<◌, ◌==◌, cond, true, false, Bool, List, [], ◌∷◌, ◌++◌, length, get_or, drop, Option, Some, None, option_map, is_some, IsSome, IsTrue, refl, ap, sym, ◌∙◌, append_assoc, add-one, arith}
 use Rattle.node_tree.specs.Nodes.{Nodes, none, node, Branch, nodes_of, tree_at, width, node_count, height}
-use Rattle.node_tree.specs.Keys.{first_of, find, parent_of, tally}
+use Rattle.std.specs.Borrow.{Bor}
+use Rattle.std.specs.Option.{option_copied}
+use Rattle.node_tree.specs.Keys.{first_of, has, find, parent_of, tally}
+use Rattle.node_tree.proofs.KeyLemmas.{has-find}
 use Rattle.std.proofs.lemmas.Bool.{ne_eqb}
 use Rattle.node_tree.proofs.NodeLemmas.{width-nodes_of, tree_at-nodes_of}
-use Rattle.node_tree.specs.Seen.{Seen, Hold, leaf, counted, opened, is_opened}
+use Rattle.node_tree.specs.Seen.{Seen, Hold, leaf, counted, opened, is_opened, seen_serial}
 use Rattle.cdp_messages.specs.Told.{Told, seen_nodes, seen_branch, count_in}
 use Rattle.front_mirror.specs.Shown.{shown}
 use Rattle.cdp_messages.specs.Views.{keys}
@@ -109,6 +112,15 @@ module _ (key : Seen → ℕ) (x : ℕ) (bs items : List (Branch Told)) (value :
       ∙ ap (λ (trees : List (Branch Told)). parent_of (λ r. key r.seen) x above (nodes_of trees)) is
       ∙ sym (parent_of-seen key x above (nodes_of items))
       ∙ ap (parent_of key x above) seen
+
+there_of : {B C : Type 0} (f : B → C) (o : Option (Bor B)) → is_some o ≡ is_some (option_map f (option_copied o))
+there_of f None = refl
+there_of f (Some y) = refl
+
+-- a serial is there where a node is found by it
+pub found_there : (x : ℕ) (v : Nodes Seen) (o : Option (Bor (Branch Told))) {r : Bool} → find seen_serial x v ≡ option_map seen_branch (option_copied o) → r ≡ is_some o
+    → r ≡ has seen_serial x v
+found_there x v o found is = is ∙ there_of seen_branch o ∙ ap is_some (sym found) ∙ sym (has-find seen_serial x v)
 
 -- a node that is found has a parent
 missing_none : {A B : Type 0} (a : Option A) (p : Option B) → is_some a ≡ is_some p → IsSome a → p ≡ None → ⊥

@@ -4,8 +4,14 @@ use Rattle.std.specs.Coded.{Coded, code_by, coded×, coded_list, coded_option, c
 use Rattle.node_tree.specs.Nodes.{Nodes, coded_nodes}
 use Rattle.node_tree.specs.Seen.{Seen, coded_seen}
 use Rattle.front_mirror.specs.contracts.faults.FrontKind as kind
+use Rattle.css_objects.specs.declared.sheets.SheetOrigin.{SheetOrigin}
+use Rattle.css_objects.specs.contracts.sheets.SheetOrigin as origin
+use Rattle.front_mirror.specs.declared.sheets.KnownSheet.{KnownSheet}
 use Rattle.front_mirror.specs.declared.replies.Ask.{Ask}
 use Rattle.front_mirror.specs.declared.replies.Kept.{Kept}
+use Rattle.front_mirror.specs.declared.pauses.SeenPause.{SeenPause}
+use Rattle.cdp_messages.specs.declared.command.WatchWord.{WatchWord}
+use Rattle.cdp_messages.specs.contracts.command.WatchWord as watch
 use Rattle.front_mirror.specs.declared.faults.FrontKind.{FrontKind}
 use Rattle.front_mirror.specs.declared.faults.FrontFault.{FrontFault}
 use Rattle.front_mirror.specs.Front.{FrontValue, FrontState}
@@ -20,6 +26,22 @@ coded_kept =
     code_by (Option ℕ × (List ℕ × Bool)) (coded× (coded_option coded_ℕ) (coded× (coded_list coded_ℕ) coded_bool)) (λ k. (k.id, (k.text, k.good)))
     (λ p. record { id = p.0; text = p.1.0; good = p.1.1 }) (λ _. refl)
 
+-- a sheet by its parts
+abbrev pub coded_sheet : Coded KnownSheet
+coded_sheet =
+    code_by ((ℕ × SheetOrigin) × (Option (List ℕ) × Bool)) (coded× (coded× coded_ℕ origin.the_row.coded) (coded× (coded_option (coded_list coded_ℕ)) coded_bool))
+    (λ s. ((s.number, s.origin), (s.text, s.stale)))
+    (λ p. record { number = p.0.0; origin = p.0.1; text = p.1.0; stale = p.1.1 })
+    (λ _. refl)
+
+-- a pause by its parts
+abbrev pub coded_pause : Coded SeenPause
+coded_pause =
+    code_by ((WatchWord × ℕ) × (Option ℕ × Bool)) (coded× (coded× watch.the_row.coded coded_ℕ) (coded× (coded_option coded_ℕ) coded_bool))
+    (λ p. ((p.kind, p.node), (p.target, p.insertion)))
+    (λ p. record { kind = p.0.0; node = p.0.1; target = p.1.0; insertion = p.1.1 })
+    (λ _. refl)
+
 -- a fault by its place and kind
 abbrev pub coded_fault : Coded FrontFault
 coded_fault = code_by (ℕ × FrontKind) (coded× coded_ℕ kind.the_row.coded) (λ f. (f.place, f.kind)) (λ p. record { place = p.0; kind = p.1 }) (λ _. refl)
@@ -27,9 +49,10 @@ coded_fault = code_by (ℕ × FrontKind) (coded× coded_ℕ kind.the_row.coded) 
 -- what a front shows, by its parts
 abbrev pub coded_value : Coded FrontValue
 coded_value =
-    code_by ((Nodes Seen × List Ask) × (List Kept × ℕ)) (coded× (coded× (coded_nodes coded_seen) (coded_list coded_ask)) (coded× (coded_list coded_kept) coded_ℕ))
-    (λ v. ((v.tree, v.asks), (v.replies, v.taken)))
-    (λ p. record { tree = p.0.0; asks = p.0.1; replies = p.1.0; taken = p.1.1 })
+    code_by ((Nodes Seen × (List KnownSheet × List Ask)) × (List Kept × (List SeenPause × ℕ)))
+    (coded× (coded× (coded_nodes coded_seen) (coded× (coded_list coded_sheet) (coded_list coded_ask))) (coded× (coded_list coded_kept) (coded× (coded_list coded_pause) coded_ℕ)))
+    (λ v. ((v.tree, (v.sheets, v.asks)), (v.replies, (v.pauses, v.taken))))
+    (λ p. record { tree = p.0.0; sheets = p.0.1.0; asks = p.0.1.1; replies = p.1.0; pauses = p.1.1.0; taken = p.1.1.1 })
     (λ _. refl)
 
 -- a front by its parts

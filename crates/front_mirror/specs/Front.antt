@@ -1,35 +1,48 @@
 -- The front end as a value, and the fold of the frames that come down.
-use Rattle.std.specs.Prelude.{ℕ, suc, ◌+◌, ◌==◌, Bool, true, false, not, ◌&&◌, cond, nat_le, List, [], ◌∷◌, ◌++◌, Option, Some, None, Result, Ok, Err}
+use Rattle.std.specs.Prelude.{ℕ, ◌+◌, ◌-◌, ◌==◌, Bool, true, false, not, ◌&&◌, ◌||◌, cond, nat_le, List, [], ◌∷◌, ◌++◌, Option, Some, None, Result, Ok, Err}
 use Rattle.serde_json.specs.Data.{Data}
 use Rattle.node_tree.specs.Nodes.{Nodes, none, node, Branch, alone, height}
-use Rattle.node_tree.specs.Keys.{Spot, spot, put}
-use Rattle.node_tree.specs.Seen.{Seen, opened, is_counted, seen_id, seen_serial}
-use Rattle.std.specs.List.{list_any}
+use Rattle.node_tree.specs.Keys.{Spot, has, spot, put}
+use Rattle.node_tree.specs.Labels.{is_element, has_value}
+use Rattle.node_tree.specs.Seen.{Seen, is_counted, is_opened, seen_id, seen_serial}
+use Rattle.std.specs.List.{list_all}
 use Rattle.pipe_frames.specs.Frames.{frames_from, held_after}
 use Rattle.cdp_messages.specs.declared.down.ReplyBody.{ReplyBody}
-use Rattle.cdp_messages.specs.declared.down.ReplyBody.TheVariants.{Nothing, Root, NodeId, NodeIds}
-use Rattle.cdp_messages.specs.Told.{Told, seen_nodes}
+use Rattle.cdp_messages.specs.declared.effects.Effect.{Effect}
+use Rattle.cdp_messages.specs.declared.effects.Effect.TheVariants as effect
+use Rattle.cdp_messages.specs.Effects.{effect_of}
+use Rattle.cdp_messages.specs.declared.command.WatchWord.TheVariants.{Subtree, Attribute, Removed}
+use Rattle.cdp_messages.specs.declared.down.PauseData.{PauseData}
+use Rattle.cdp_messages.specs.declared.down.PauseData.TheVariants as pause
+use Rattle.cdp_messages.specs.Told.{Told, seen_nodes, seen_branch}
 use Rattle.cdp_messages.specs.Replies.{Message, reply, fault, event, down_of, result_of}
-use Rattle.cdp_messages.specs.Events.{News, attribute_modified, attribute_removed, text_modified, count_updated, inserted, removed, set_children, document_updated, paused}
+use Rattle.cdp_messages.specs.Events.{News, attribute_modified, attribute_removed, text_modified, count_updated, inserted, removed, set_children, document_updated, paused, sheet_added, sheet_changed, sheet_removed}
 use Rattle.front_mirror.specs.declared.replies.Ask.{Ask}
 use Rattle.front_mirror.specs.declared.replies.Kept.{Kept}
+use Rattle.front_mirror.specs.declared.pauses.SeenPause.{SeenPause}
 use Rattle.front_mirror.specs.declared.faults.FrontKind.{FrontKind}
-use Rattle.front_mirror.specs.declared.faults.FrontKind.TheVariants.{NotMessage, UnknownNode, NotChild, IdTaken, TooDeep}
+use Rattle.front_mirror.specs.declared.faults.FrontKind.TheVariants.{NotMessage, UnknownNode, NotChild, IdTaken, UnknownSheet, TooDeep}
 use Rattle.front_mirror.specs.declared.faults.FrontFault.{FrontFault}
-use Rattle.cdp_messages.specs.Views.{most_levels, keys, is_in, is_distinct}
+use Rattle.cdp_messages.specs.Moves.{Change, shows, inserts, removes, counts, sets, drops, says, changed, suits_change, paused_nodes}
+use Rattle.cdp_messages.specs.Views.{most_levels, keys, is_distinct}
+use Rattle.css_objects.specs.declared.sheets.Header.{Header}
+use Rattle.front_mirror.specs.declared.sheets.KnownSheet.{KnownSheet}
+use Rattle.front_mirror.specs.Sheets.{new_sheet, has_sheet, marked_old, without_sheet}
 use Rattle.front_mirror.specs.Shown.{told_id, told_serial}
 
--- The tree of the mirror, none where it is empty; the asks that wait for a reply, in the order in which they were sent; the
--- replies that came, in their order; and how many messages were taken.
+-- The tree of the mirror, none where it is empty; the sheets, in the order in which they came; the asks that wait for a reply, in the order in which they were sent; the
+-- replies and the pauses that came, in their order; and how many messages were taken.
 pub record FrontValue : Type 0 where
   pub tree : Nodes Seen
+  pub sheets : List KnownSheet
   pub asks : List Ask
   pub replies : List Kept
+  pub pauses : List SeenPause
   pub taken : ℕ
 
 -- a front that has taken nothing, and waits for the replies to these asks
 abbrev pub first_value : List Ask → FrontValue
-first_value asks = record { tree = none; asks = asks; replies = []; taken = 0 }
+first_value asks = record { tree = none; sheets = []; asks = asks; replies = []; pauses = []; taken = 0 }
 
 -- ---- asks
 
@@ -67,28 +80,68 @@ root_fault b = first_true
     ∷ (TooDeep, not (nat_le (height (alone b)) most_levels))
     ∷ [])
 
--- ---- children that come for a node
+-- ---- a change of one node
 
--- none of these numbers is one of those
-abbrev pub is_apart : List ℕ → List ℕ → Bool
-is_apart xs ys = not (list_any (λ x. is_in x ys) xs)
+-- A change as an event tells it: the id of the node, what becomes of it, and the nodes that come with it.
+pub record ToldChange : Type 0 where
+  pub node : ℕ
+  pub change : Change
+  pub nodes : Nodes Told
+
+-- the change of the node of that id, with the nodes that come
+abbrev pub told_change : ℕ → Change → Nodes Told → ToldChange
+told_change id c nodes = record { node = id; change = c; nodes = nodes }
+
+-- The node is of a kind and in a state that the change fits: it is not opened and can have children, it is opened, it is an
+-- element, it has a value.
+abbrev pub takes_change : Change → Seen → Bool
+takes_change (shows kids) r = is_counted r.hold
+takes_change (inserts previous w) r = is_opened r.hold
+takes_change (removes id) r = is_opened r.hold
+takes_change (counts n) r = is_counted r.hold
+takes_change (sets name value) r = is_element r.label.kind
+takes_change (drops name) r = is_element r.label.kind
+takes_change (says value) r = has_value r.label.kind
+
+-- a node of that id is in the tree
+abbrev pub is_shown : Nodes Seen → ℕ → Bool
+is_shown tree id = has seen_id id tree
+
+-- the child that the change names is somewhere in the tree; 0 names none
+abbrev pub knows_named : Nodes Seen → Change → Bool
+knows_named tree (shows kids) = true
+knows_named tree (inserts previous w) = previous == 0 || is_shown tree previous
+knows_named tree (removes id) = is_shown tree id
+knows_named tree (counts n) = true
+knows_named tree (sets name value) = true
+knows_named tree (drops name) = true
+knows_named tree (says value) = true
+
+-- some of the nodes passes the test
+abbrev pub any_node : {R : Type 0} → (R → Bool) → Nodes R → Bool
+any_node test none = false
+any_node test (node r c t) = test r || any_node test c || any_node test t
+
+-- the tree has the node's id or its serial
+abbrev pub clashes : Nodes Seen → Told → Bool
+clashes tree r = is_shown tree r.seen.id || has seen_serial r.seen.serial tree
 
 -- no id and no serial of the nodes is in the tree
 abbrev pub is_fresh : Nodes Seen → Nodes Told → Bool
-is_fresh tree nodes = is_apart (keys told_id nodes) (keys seen_id tree) && is_apart (keys told_serial nodes) (keys seen_serial tree)
+is_fresh tree nodes = not (any_node (clashes tree) nodes)
 
--- what is wrong with nodes that come as the children of the node at this spot, the first by number
-abbrev pub children_fault : Nodes Seen → ℕ → Nodes Told → Spot Seen → Option FrontKind
-children_fault tree parent nodes s = first_true
-    ((UnknownNode, not (is_counted s.branch.row.hold))
-    ∷ (NotChild, not (is_kin parent nodes))
-    ∷ (IdTaken, not (is_unique nodes && is_fresh tree nodes))
-    ∷ (TooDeep, not (nat_le (suc (s.level + height nodes)) most_levels))
+-- no node stands above the level limit, where these stand below a node of that level
+abbrev pub stands_low : ℕ → Nodes Told → Bool
+stands_low level nodes = nat_le (height nodes) (most_levels - 1 - level)
+
+-- what is wrong with a change of the node at this spot, the first by number
+abbrev pub change_fault : Nodes Seen → ToldChange → Spot Seen → Option FrontKind
+change_fault tree t s = first_true
+    ((UnknownNode, not (takes_change t.change s.branch.row && knows_named tree t.change))
+    ∷ (NotChild, not (suits_change t.change s.branch && is_kin t.node t.nodes))
+    ∷ (IdTaken, not (is_unique t.nodes && is_fresh tree t.nodes))
+    ∷ (TooDeep, not (stands_low s.level t.nodes))
     ∷ [])
-
--- a node whose children are shown
-abbrev pub opened_with : Nodes Told → Branch Seen → Branch Seen
-opened_with nodes b = record { row = record b.row { hold = opened }; children = seen_nodes nodes }
 
 -- ---- one message
 
@@ -99,7 +152,7 @@ kept id frame good = record { id = id; text = frame; good = good }
 -- the front after a reply to the ask of that id
 abbrev pub replied : FrontValue → ℕ → List ℕ → Bool → Nodes Seen → FrontValue
 replied v id frame good tree =
-    record { tree = tree; asks = without id v.asks; replies = v.replies ++ kept (Some id) frame good ∷ []; taken = v.taken + 1 }
+    record v { tree = tree; asks = without id v.asks; replies = v.replies ++ kept (Some id) frame good ∷ []; taken = v.taken + 1 }
 
 -- the front after an error reply that names no ask
 abbrev pub refused : FrontValue → List ℕ → FrontValue
@@ -114,18 +167,23 @@ abbrev pub with_root : FrontValue → ℕ → List ℕ → Branch Told → Optio
 with_root v id frame root None = Ok (replied v id frame true (seen_nodes (alone root)))
 with_root v id frame root (Some kind) = Err kind
 
+-- after an Ok reply with this effect
+abbrev pub with_effect : FrontValue → ℕ → List ℕ → Effect → Result FrontValue FrontKind
+with_effect v id frame (effect.Document tree) = with_root v id frame tree (root_fault tree)
+with_effect v id frame (effect.SheetText text) = Ok (replied v id frame true v.tree)
+with_effect v id frame effect.AllOff = Ok (record (replied v id frame true none) { sheets = [] })
+with_effect v id frame effect.SheetsOff = Ok (record (replied v id frame true v.tree) { sheets = [] })
+with_effect v id frame effect.NothingElse = Ok (replied v id frame true v.tree)
+
 -- after an Ok reply with this result; none is of the method that was asked
-abbrev pub with_body : FrontValue → ℕ → List ℕ → Option ReplyBody → Result FrontValue FrontKind
-with_body v id frame None = Err NotMessage
-with_body v id frame (Some Nothing) = Ok (replied v id frame true v.tree)
-with_body v id frame (Some (Root root)) = with_root v id frame root (root_fault root)
-with_body v id frame (Some (NodeId found)) = Ok (replied v id frame true v.tree)
-with_body v id frame (Some (NodeIds found)) = Ok (replied v id frame true v.tree)
+abbrev pub with_body : FrontValue → ℕ → List ℕ → List ℕ → Option ReplyBody → Result FrontValue FrontKind
+with_body v id frame method None = Err NotMessage
+with_body v id frame method (Some body) = with_effect v id frame (effect_of method body)
 
 -- a reply to an ask of that method, if one waits
 abbrev pub with_reply : FrontValue → ℕ → List ℕ → Data → Option (List ℕ) → Result FrontValue FrontKind
 with_reply v id frame result None = Err NotMessage
-with_reply v id frame result (Some method) = with_body v id frame (result_of method result)
+with_reply v id frame result (Some method) = with_body v id frame method (result_of method result)
 
 -- an error reply to an ask of that method, if one waits
 abbrev pub with_fault : FrontValue → ℕ → List ℕ → Option (List ℕ) → Result FrontValue FrontKind
@@ -137,22 +195,55 @@ abbrev pub with_tree : FrontValue → Nodes Seen → Option FrontKind → Result
 with_tree v tree None = Ok (told v tree)
 with_tree v tree (Some kind) = Err kind
 
--- nodes come as the children of a node, if it is known
-abbrev pub with_children : FrontValue → ℕ → Nodes Told → Option (Spot Seen) → Result FrontValue FrontKind
-with_children v parent nodes None = Err UnknownNode
-with_children v parent nodes (Some s) = with_tree v (put seen_id parent (opened_with nodes s.branch) v.tree) (children_fault v.tree parent nodes s)
+-- the node of that id changes, if it is known and nothing is wrong
+abbrev pub at_spot : FrontValue → ToldChange → Option (Spot Seen) → Result FrontValue FrontKind
+at_spot v t None = Err UnknownNode
+at_spot v t (Some s) = with_tree v (put seen_id t.node (changed t.change s.branch) v.tree) (change_fault v.tree t s)
 
--- after an event; one that is not folded yet is none
+-- after an event that changes one node
+abbrev pub with_change : FrontValue → ToldChange → Result FrontValue FrontKind
+with_change v t = at_spot v t (spot seen_id t.node 0 v.tree)
+
+-- a pause as it is kept
+abbrev pub seen_pause : PauseData → SeenPause
+seen_pause (pause.Subtree watched target insertion) = record { kind = Subtree; node = watched; target = Some target; insertion = insertion }
+seen_pause (pause.Attribute watched) = record { kind = Attribute; node = watched; target = None; insertion = false }
+seen_pause (pause.Removed watched) = record { kind = Removed; node = watched; target = None; insertion = false }
+
+-- the front after a pause
+abbrev pub halted : FrontValue → PauseData → FrontValue
+halted v why = record v { pauses = v.pauses ++ seen_pause why ∷ []; taken = v.taken + 1 }
+
+-- after a pause, which names known nodes
+abbrev pub with_pause : FrontValue → PauseData → Result FrontValue FrontKind
+with_pause v why = cond (list_all (is_shown v.tree) (paused_nodes why)) (Ok (halted v why)) (Err UnknownNode)
+
+-- the front after an event that leads to these sheets
+abbrev pub told_sheets : FrontValue → List KnownSheet → FrontValue
+told_sheets v sheets = record v { sheets = sheets; taken = v.taken + 1 }
+
+-- after a new sheet, which stands last; its number is not known before
+abbrev pub with_added : FrontValue → Header → Result FrontValue FrontKind
+with_added v h = cond (has_sheet h.sheet v.sheets) (Err IdTaken) (Ok (told_sheets v (v.sheets ++ new_sheet h ∷ [])))
+
+-- after an event that leads from the sheets to these, if one has the number
+abbrev pub with_sheet : FrontValue → ℕ → List KnownSheet → Result FrontValue FrontKind
+with_sheet v n sheets = cond (has_sheet n v.sheets) (Ok (told_sheets v sheets)) (Err UnknownSheet)
+
+-- after an event
 abbrev pub with_news : FrontValue → News → Result FrontValue FrontKind
-with_news v (set_children parent nodes) = with_children v parent nodes (spot seen_id parent 0 v.tree)
+with_news v (set_children parent nodes) = with_change v (told_change parent (shows (seen_nodes nodes)) nodes)
+with_news v (inserted parent previous b) = with_change v (told_change parent (inserts previous (seen_branch b)) (alone b))
+with_news v (removed parent id) = with_change v (told_change parent (removes id) none)
+with_news v (count_updated id count) = with_change v (told_change id (counts count) none)
+with_news v (attribute_modified id name value) = with_change v (told_change id (sets name value) none)
+with_news v (attribute_removed id name) = with_change v (told_change id (drops name) none)
+with_news v (text_modified id value) = with_change v (told_change id (says value) none)
 with_news v document_updated = Ok (told v none)
-with_news v (attribute_modified id name value) = Err NotMessage
-with_news v (attribute_removed id name) = Err NotMessage
-with_news v (text_modified id value) = Err NotMessage
-with_news v (count_updated id count) = Err NotMessage
-with_news v (inserted parent previous b) = Err NotMessage
-with_news v (removed parent id) = Err NotMessage
-with_news v (paused why) = Err NotMessage
+with_news v (paused why) = with_pause v why
+with_news v (sheet_added header) = with_added v header
+with_news v (sheet_changed number) = with_sheet v number (marked_old number v.sheets)
+with_news v (sheet_removed number) = with_sheet v number (without_sheet number v.sheets)
 
 -- after a message; none is what the frame spells
 abbrev pub with_message : FrontValue → List ℕ → Option Message → Result FrontValue FrontKind

@@ -1,21 +1,18 @@
 -- What the fold keeps.
-use Rattle.std.specs.Prelude.{◌≡◌, ℕ, ℤ, Bool, List, [], ◌∷◌, ◌++◌, codes, true, false, Some, None, Ok}
-use Rattle.serde_json.specs.Data.{Data}
-use Rattle.node_tree.specs.Nodes.{Nodes, none, Branch, alone}
-use Rattle.node_tree.specs.Seen.{Seen}
+use Rattle.std.specs.Prelude.{◌≡◌, ℕ, ◌+◌, Bool, List, [], ◌∷◌, ◌++◌, map, length, codes, true, false, Option, Some, None, Ok, ⊤}
+use Rattle.std.specs.List.{flat_map}
 use Rattle.pipe_frames.specs.Frames.{frames_from, held_after}
 use Rattle.cdp_messages.specs.declared.down.ReplyBody.{ReplyBody}
-use Rattle.cdp_messages.specs.declared.down.ReplyBody.TheVariants.{Nothing, Root, NodeId, NodeIds}
-use Rattle.cdp_messages.specs.Events.{set_children, document_updated}
-use Rattle.cdp_messages.specs.Moves.{show, Moves, IsTellable}
-use Rattle.cdp_messages.specs.Told.{told_nodes, told_branch}
-use Rattle.cdp_json.specs.Kinds.{is_counted}
-use Rattle.cdp_messages.specs.Laws.{NodesHaveUtf8, answers}
-use Rattle.cdp_messages.specs.Tellable.{suits_tree}
-use Rattle.cdp_messages.specs.Replies.{reply, fault, event, fits_body, down_of, result_of, reply_text, event_text}
+use Rattle.cdp_messages.specs.declared.effects.Effect.{Effect}
+use Rattle.cdp_messages.specs.declared.effects.Effect.TheVariants as effect
+use Rattle.cdp_messages.specs.Effects.{effect_of}
+use Rattle.cdp_messages.specs.Moves.{Move, change, clear, met, root, replied, all_off, sheets_off, failed, move_text, CanBeTold, Moves, Course, answered_by}
+use Rattle.cdp_messages.specs.Laws.{answers}
+use Rattle.cdp_messages.specs.Views.{View}
 use Rattle.front_mirror.specs.declared.replies.Ask.{Ask}
-use Rattle.cdp_messages.specs.Views.{IsView}
-use Rattle.front_mirror.specs.Front.{FrontValue, method_of, replied, refused, told, take_frame, outcome, fold_frames, fold, FrontState, first_state, after_take, after_ask}
+use Rattle.front_mirror.specs.declared.replies.Kept.{Kept}
+use Rattle.front_mirror.specs.declared.pauses.SeenPause.{SeenPause}
+use Rattle.front_mirror.specs.Front.{FrontValue, method_of, without, kept, seen_pause, take_frame, outcome, fold_frames, fold, FrontState, first_state, after_take, after_ask}
 
 -- the front with one ask more that waits
 abbrev pub joined : FrontValue → Ask → FrontValue
@@ -63,74 +60,136 @@ AsksFold =
     (waiting : List Ask) (down method : List ℕ) (s : FrontState) → IsFold waiting down s
     → IsFold (waiting ++ record { id = s.next; method = method } ∷ []) down (after_ask s method)
 
--- ---- single messages
-
--- a reply that tells a view as a document gives a front that has the view, and its ask waits no longer
-abbrev pub RootGives : Type 0
-RootGives =
-    (v : FrontValue) (id : ℕ) (frame : List ℕ) (result : Data) (method : List ℕ) (b : Branch Seen) → IsView (alone b)
-    → down_of frame ≡ Some (reply id result) → method_of id v.asks ≡ Some method → result_of method result ≡ Some (Root (told_branch 0 b))
-    → take_frame v frame ≡ Ok (replied v id frame true (alone b))
-
--- an error reply to an ask that waits leaves the view as it is, and the ask waits no longer
-abbrev pub FaultStays : Type 0
-FaultStays =
-    (v : FrontValue) (id : ℕ) (frame : List ℕ) (code : ℤ) (text : List ℕ) (method : List ℕ)
-    → down_of frame ≡ Some (fault (Some id) code text) → method_of id v.asks ≡ Some method
-    → take_frame v frame ≡ Ok (replied v id frame false v.tree)
-
--- an error reply that names no ask leaves the view and the asks as they are
-abbrev pub RefusalStays : Type 0
-RefusalStays =
-    (v : FrontValue) (frame : List ℕ) (code : ℤ) (text : List ℕ)
-    → down_of frame ≡ Some (fault None code text) → take_frame v frame ≡ Ok (refused v frame)
-
--- The reply to `DOM.getDocument` that tells a view, as it is written, gives a front that has the view. The view suits a
--- message, and its texts are UTF-8.
-abbrev pub ReplyGives : Type 0
-ReplyGives =
-    (v : FrontValue) (id : ℕ) (b : Branch Seen) → IsView (alone b) → suits_tree true b ≡ true → NodesHaveUtf8 (alone (told_branch 0 b))
-    → is_counted id ≡ true → method_of id v.asks ≡ Some (codes "DOM.getDocument")
-    → take_frame v (reply_text id (Root (told_branch 0 b))) ≡ Ok (replied v id (reply_text id (Root (told_branch 0 b))) true (alone b))
-
 -- ---- the moves of a view
 
--- children that come for a node lead to the view that has them
-abbrev pub ShowGives : Type 0
-ShowGives =
-    (v : FrontValue) (frame : List ℕ) (id : ℕ) (kids w : Nodes Seen) → IsView v.tree → IsView w → Moves (show id kids) v.tree w
-    → down_of frame ≡ Some (event (set_children id (told_nodes id kids)))
-    → take_frame v frame ≡ Ok (told v w)
+-- the front shows what the view has
+pub record Has (v : FrontValue) (w : View) : Type 0 where
+  pub tree : v.tree ≡ w.tree
 
--- an update of the document empties the view
-abbrev pub ClearGives : Type 0
-ClearGives = (v : FrontValue) (frame : List ℕ) → down_of frame ≡ Some (event document_updated) → take_frame v frame ≡ Ok (told v none)
+-- the first ask of that id is one of that method
+abbrev pub Asks : ℕ → List ℕ → List Ask → Type 0
+Asks id method asks = method_of id asks ≡ Some method
 
--- a reply that tells no document leaves the view as it is, and its ask waits no longer
-abbrev pub tells_document : ReplyBody → Bool
-tells_document Nothing = false
-tells_document (Root b) = true
-tells_document (NodeId id) = false
-tells_document (NodeIds ids) = false
+-- the view stays as it is
+abbrev pub is_quiet : Effect → Bool
+is_quiet (effect.Document tree) = false
+is_quiet (effect.SheetText text) = true
+is_quiet effect.AllOff = false
+is_quiet effect.SheetsOff = false
+is_quiet effect.NothingElse = true
 
--- a reply that tells no tree leaves the view
-abbrev pub StayGives : Type 0
-StayGives =
-    (v : FrontValue) (id : ℕ) (frame : List ℕ) (result : Data) (method : List ℕ) (body : ReplyBody) → tells_document body ≡ false
-    → down_of frame ≡ Some (reply id result) → method_of id v.asks ≡ Some method → result_of method result ≡ Some body
-    → take_frame v frame ≡ Ok (replied v id frame true v.tree)
+-- an ask of that id waits, the result is one of its method, and the view stays as it is
+pub record IsAnswered (id : ℕ) (body : ReplyBody) (asks : List Ask) : Type 0 where
+  pub method : List ℕ
+  pub waits : Asks id method asks
+  pub answers : answers method body ≡ true
+  pub quiet : is_quiet (effect_of method body) ≡ true
 
--- the same of messages as they are written
+-- an ask of that id waits, where there is an id
+abbrev pub Waits : Option ℕ → List Ask → Type 0
+Waits None asks = ⊤
+Waits (Some id) asks = (method : List ℕ) × Asks id method asks
 
--- children that are shown are taken in
-abbrev pub ShownIsTaken : Type 0
-ShownIsTaken =
-    (v : FrontValue) (id : ℕ) (kids w : Nodes Seen) → IsTellable v.tree → IsTellable w → Moves (show id kids) v.tree w
-    → take_frame v (event_text (set_children id (told_nodes id kids))) ≡ Ok (told v w)
+-- what a move answers waits for it; events wait for nothing
+abbrev pub IsAwaited : Move → List Ask → Type 0
+IsAwaited (change id c) asks = ⊤
+IsAwaited clear asks = ⊤
+IsAwaited (met why) asks = ⊤
+IsAwaited (root id b) asks = Asks id (codes "DOM.getDocument") asks
+IsAwaited (replied id body) asks = IsAnswered id body asks
+IsAwaited (all_off id) asks = Asks id (codes "DOM.disable") asks
+IsAwaited (sheets_off id) asks = Asks id (codes "CSS.disable") asks
+IsAwaited (failed r) asks = Waits r.id asks
 
--- an error reply leaves the view
-abbrev pub ReplyStays : Type 0
-ReplyStays =
-    (v : FrontValue) (id : ℕ) (method : List ℕ) (body : ReplyBody) → tells_document body ≡ false → fits_body body ≡ true → is_counted id ≡ true
-    → method_of id v.asks ≡ Some method → answers method body ≡ true
-    → take_frame v (reply_text id body) ≡ Ok (replied v id (reply_text id body) true v.tree)
+-- the asks without the first of each of these ids
+abbrev pub without_all : List ℕ → List Ask → List Ask
+without_all [] asks = asks
+without_all (id ∷ ids) asks = without_all ids (without id asks)
+
+-- the asks that wait after a move
+abbrev pub asks_after : Move → List Ask → List Ask
+asks_after m asks = without_all (answered_by m) asks
+
+-- the reply that a front keeps of a move, if it is one
+abbrev pub kept_after : Move → List Kept
+kept_after (change id c) = []
+kept_after clear = []
+kept_after (met why) = []
+kept_after (root id b) = kept (Some id) (move_text (root id b)) true ∷ []
+kept_after (replied id body) = kept (Some id) (move_text (replied id body)) true ∷ []
+kept_after (all_off id) = kept (Some id) (move_text (all_off id)) true ∷ []
+kept_after (sheets_off id) = kept (Some id) (move_text (sheets_off id)) true ∷ []
+kept_after (failed r) = kept r.id (move_text (failed r)) false ∷ []
+
+-- the pause that a front keeps of a move, if it is one
+abbrev pub pauses_after : Move → List SeenPause
+pauses_after (change id c) = []
+pauses_after clear = []
+pauses_after (met why) = seen_pause why ∷ []
+pauses_after (root id b) = []
+pauses_after (replied id body) = []
+pauses_after (all_off id) = []
+pauses_after (sheets_off id) = []
+pauses_after (failed r) = []
+
+-- The message of the move is taken: the front has the view then, what the move answers waits no longer, and a reply or a
+-- pause is kept.
+pub record IsTaken (m : Move) (v : FrontValue) (w : View) : Type 0 where
+  pub after : FrontValue
+  pub is_taken : take_frame v (move_text m) ≡ Ok after
+  pub has : Has after w
+  pub asks : after.asks ≡ asks_after m v.asks
+  pub replies : after.replies ≡ v.replies ++ kept_after m
+  pub pauses : after.pauses ≡ v.pauses ++ pauses_after m
+  pub taken : after.taken ≡ v.taken + 1
+
+-- a front that has the view before a move has the view after it, once it took the message
+abbrev pub MoveGives : Type 0
+MoveGives = (m : Move) (u w : View) (v : FrontValue) → CanBeTold u → CanBeTold w → Moves m u w → Has v u → IsAwaited m v.asks → IsTaken m v w
+
+-- ---- many moves
+
+-- each move is awaited when its turn comes
+abbrev pub AreAwaited : List Move → List Ask → Type 0
+AreAwaited [] asks = ⊤
+AreAwaited (m ∷ ms) asks = IsAwaited m asks × AreAwaited ms (asks_after m asks)
+
+-- the asks that wait after the moves
+abbrev pub asks_after_all : List Move → List Ask → List Ask
+asks_after_all [] asks = asks
+asks_after_all (m ∷ ms) asks = asks_after_all ms (asks_after m asks)
+
+-- the messages of the moves are taken one after another
+pub record AreTaken (ms : List Move) (v : FrontValue) (w : View) : Type 0 where
+  pub after : FrontValue
+  pub are_taken : fold_frames v (map move_text ms) ≡ Ok after
+  pub has : Has after w
+  pub asks : after.asks ≡ asks_after_all ms v.asks
+  pub replies : after.replies ≡ v.replies ++ flat_map kept_after ms
+  pub pauses : after.pauses ≡ v.pauses ++ flat_map pauses_after ms
+  pub taken : after.taken ≡ v.taken + length ms
+
+-- the same of a course of moves
+abbrev pub CourseGives : Type 0
+CourseGives = (ms : List Move) (u w : View) (v : FrontValue) → Course ms u w → Has v u → AreAwaited ms v.asks → AreTaken ms v w
+
+-- the move answers the ask
+abbrev pub IsAnswer : Move → Ask → Type 0
+IsAnswer (change id c) ask = ⊥
+IsAnswer clear ask = ⊥
+IsAnswer (met why) ask = ⊥
+IsAnswer (root id b) ask = (ask.id ≡ id) × (ask.method ≡ codes "DOM.getDocument")
+IsAnswer (replied id body) ask = (ask.id ≡ id) × (answers ask.method body ≡ true) × (is_quiet (effect_of ask.method body) ≡ true)
+IsAnswer (all_off id) ask = (ask.id ≡ id) × (ask.method ≡ codes "DOM.disable")
+IsAnswer (sheets_off id) ask = (ask.id ≡ id) × (ask.method ≡ codes "CSS.disable")
+IsAnswer (failed r) ask = r.id ≡ Some ask.id
+
+-- The moves answer the first of these asks one by one, in the order of the asks; the rest waits after them.
+pub data InTurn : List Move → List Ask → List Ask → Type 0 where
+  rests : (asks : List Ask) → InTurn [] asks asks
+  tells : (m : Move) (ms : List Move) (asks rest : List Ask) → answered_by m ≡ [] → InTurn ms asks rest → InTurn (m ∷ ms) asks rest
+  meets : (m : Move) (ms : List Move) (ask : Ask) (asks rest : List Ask) → IsAnswer m ask → InTurn ms asks rest → InTurn (m ∷ ms) (ask ∷ asks) rest
+
+-- moves that answer the first asks one by one are awaited, and the rest waits after them
+abbrev pub TurnsAreAwaited : Type 0
+TurnsAreAwaited = (ms : List Move) (asks rest : List Ask) → InTurn ms asks rest → AreAwaited ms asks × (asks_after_all ms asks ≡ rest)

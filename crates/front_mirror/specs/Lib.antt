@@ -1,7 +1,9 @@
 pub mod Outline
 pub mod Shown
+pub mod Sheets
 pub mod Front
-pub mod Children
+pub mod Edits
 pub mod Codes
 pub mod Known
 pub mod Laws
+pub mod Searches

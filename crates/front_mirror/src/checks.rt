@@ -1,9 +1,9 @@
 // What is asked of nodes that come.
-ghost use Rattle.std.specs.Prelude.{◌≡◌, ◌++◌, ◌&&◌, nat_le, IfOk, OnOk};
+ghost use Rattle.std.specs.Prelude.{◌≡◌, ◌++◌, nat_le, IfOk, OnOk};
 ghost use Rattle.node_tree.specs.Nodes.{nodes_of, height};
 ghost use Rattle.cdp_messages.specs.Views.{keys, is_distinct};
 ghost use Rattle.front_mirror.specs.Shown.{told_id, told_serial};
-ghost use Rattle.front_mirror.specs.Front.{is_kin};
+ghost use Rattle.front_mirror.specs.Front.{is_kin, is_unique};
 
 use crate::told::children_of;
 use cdp_messages::NodeTree;
@@ -73,18 +73,12 @@ pub(crate) fn are_distinct(alloc: Global, numbers: &[u64]) -> Result<bool, Alloc
     Ok(true)
 }
 
-/// No id and no serial comes twice, in these nodes and those that are known.
-pub(crate) fn are_new(
-    alloc: Global,
-    known: &[NodeTree],
-    nodes: &[NodeTree],
-) -> Result<bool, AllocError>
-    ensures { IfOk result (λ new. new ≡ (is_distinct (keys told_id (nodes_of known.now) ++ keys told_id (nodes_of nodes.now))
-        && is_distinct (keys told_serial (nodes_of known.now) ++ keys told_serial (nodes_of nodes.now)))) }
+/// No id and no serial comes twice.
+pub(crate) fn are_new(alloc: Global, nodes: &[NodeTree]) -> Result<bool, AllocError>
+    ensures { IfOk result (λ new. new ≡ is_unique (nodes_of nodes.now)) }
 {
     let mut ids = Vec::new(alloc);
     let mut serials = Vec::new(alloc);
-    push_keys(known, &mut ids, &mut serials)?;
     push_keys(nodes, &mut ids, &mut serials)?;
     if !are_distinct(alloc, &ids)? {
         return Ok(false);

@@ -8,6 +8,7 @@ use crate::faults::{FrontErr, FrontFault};
 use crate::folding::fold_whole;
 use crate::known::Known;
 use crate::mirror::Mirror;
+use crate::pauses::SeenPause;
 use crate::replies::{Ask, Kept};
 use cdp_messages::write_command;
 use node_tree::Text;
@@ -143,5 +144,12 @@ impl Front {
         ensures { result.now ≡ self.now.value.replies }
     {
         self.known.replies.as_slice()
+    }
+
+    /// The pauses that came, in their order.
+    pub fn pauses(&self) -> &[SeenPause]
+        ensures { result.now ≡ self.now.value.pauses }
+    {
+        self.known.pauses.as_slice()
     }
 }

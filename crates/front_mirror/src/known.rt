@@ -1,21 +1,26 @@
 ghost use Rattle.std.specs.Prelude.{◌≡◌, ◌+◌, [], ◌∷◌, ◌++◌, option_map, Some, None, Ok, true, IfOk, OnOk};
 ghost use Rattle.serde_json.specs.View.{view};
-ghost use Rattle.node_tree.specs.Nodes.{none, nodes_of};
-ghost use Rattle.node_tree.specs.Keys.{spot};
-ghost use Rattle.node_tree.specs.Seen.{seen_id};
-ghost use Rattle.cdp_messages.specs.NodeData.{fits_tree, fits_nodes};
+ghost use Rattle.std.specs.List.{list_all};
+ghost use Rattle.node_tree.specs.Nodes.{none};
+ghost use Rattle.cdp_messages.specs.NodeData.{fits_tree};
+ghost use Rattle.cdp_messages.specs.Moves.{paused_nodes};
 ghost use Rattle.cdp_messages.specs.Events.{news_of, fits_news};
-ghost use Rattle.cdp_messages.specs.Replies.{fits_body};
 ghost use Rattle.front_mirror.specs.Known.{value_of, Takes};
-ghost use Rattle.front_mirror.specs.Front.{FrontValue, first_value, kept, method_of, replied, refused, told, with_root, with_body, with_reply, with_fault, with_children, with_news, take_frame, root_fault};
+ghost use Rattle.front_mirror.specs.Front.{FrontValue, first_value, kept, method_of, replied, refused, told, with_root, with_effect, with_reply, with_fault, with_change, with_pause, with_added, with_sheet, told_sheets, with_news, take_frame, is_shown, halted, root_fault};
+ghost use Rattle.front_mirror.specs.Sheets.{new_sheet, marked_old, without_sheet};
+ghost use Rattle.front_mirror.specs.Edits.{edit_told, fits_edit, fits_effect};
 
 use crate::asks::{drop_ask, method_of};
-use crate::children::children_fault;
+use crate::edits::{NodeEdit, edit_fault};
 use crate::faults::FrontKind;
 use crate::mirror::Mirror;
+use crate::pauses::{SeenPause, seen_pause};
 use crate::replies::{Ask, Kept};
 use crate::roots::root_fault;
-use cdp_messages::{Down, DownErr, Event, NodeTree, ReplyBody, read_down, read_result};
+use crate::sheets::{KnownSheet, drop_sheet, has_sheet, mark_old, new_sheet};
+use cdp_messages::{
+    Down, DownErr, Effect, Event, Header, NodeTree, PauseData, read_down, read_result,
+};
 use node_tree::Text;
 use serde_json::Value;
 use std::alloc::{AllocError, Global};
@@ -42,8 +47,10 @@ impl From<AllocError> for FrameErr {
 pub(crate) struct Known {
     alloc: Global,
     pub(crate) mirror: Mirror,
+    pub(crate) sheets: Vec<KnownSheet>,
     pub(crate) asks: Vec<Ask>,
     pub(crate) replies: Vec<Kept>,
+    pub(crate) pauses: Vec<SeenPause>,
     pub(crate) taken: u64,
 }
 
@@ -54,8 +61,10 @@ impl Known {
         Known {
             alloc,
             mirror: Mirror::new(alloc),
+            sheets: Vec::new(alloc),
             asks: Vec::new(alloc),
             replies: Vec::new(alloc),
+            pauses: Vec::new(alloc),
             taken: 0,
         }
     }
@@ -91,24 +100,95 @@ impl Known {
             return Err(FrameErr::Refused(FrontKind::NotMessage));
         };
         match read_result(self.alloc, method, value) {
-            Ok(body) => self.take_body(id, body, frame),
+            Ok(body) => {
+                let effect = Effect::of_reply(method, body);
+                self.take_effect(id, effect, frame)
+            }
             Err(DownErr::NotMessage) => Err(FrameErr::Refused(FrontKind::NotMessage)),
             Err(DownErr::Memory) => Err(FrameErr::Memory),
         }
     }
 
-    fn take_body(&mut self, id: u64, body: ReplyBody, frame: Text) -> Result<(), FrameErr>
-        requires { fits_body body ≡ true }
+    fn take_effect(&mut self, id: u64, effect: Effect, frame: Text) -> Result<(), FrameErr>
+        requires { fits_effect effect ≡ true }
         ensures { Takes (value_of self.old) (value_of self.new) result
-            (with_body (value_of self.old) id frame (Some body)) }
+            (with_effect (value_of self.old) id frame effect) }
     {
-        match body {
-            ReplyBody::Root(root) => self.take_root(id, root, frame),
-            ReplyBody::Nothing | ReplyBody::NodeId(_) | ReplyBody::NodeIds(_) => {
+        match effect {
+            Effect::Document(root) => self.take_root(id, root, frame),
+            Effect::AllOff => self.take_end(id, frame),
+            Effect::SheetsOff => self.take_sheets_end(id, frame),
+            Effect::SheetText(_) | Effect::NothingElse => {
                 self.keep_reply(id, frame, true)?;
                 Ok(())
             }
         }
+    }
+
+    /// Neither nodes nor sheets are told any more.
+    fn take_end(&mut self, id: u64, frame: Text) -> Result<(), FrameErr>
+        ensures { Takes (value_of self.old) (value_of self.new) result
+            (Ok (record (replied (value_of self.old) id frame true none) { sheets = [] })) }
+    {
+        self.keep_reply(id, frame, true)?;
+        self.mirror = Mirror::new(self.alloc);
+        self.sheets = Vec::new(self.alloc);
+        Ok(())
+    }
+
+    /// No sheets are told any more.
+    fn take_sheets_end(&mut self, id: u64, frame: Text) -> Result<(), FrameErr>
+        ensures { Takes (value_of self.old) (value_of self.new) result
+            (Ok (record (replied (value_of self.old) id frame true (value_of self.old).tree) { sheets = [] })) }
+    {
+        self.keep_reply(id, frame, true)?;
+        self.sheets = Vec::new(self.alloc);
+        Ok(())
+    }
+
+    fn take_sheet(&mut self, header: Header) -> Result<(), FrameErr>
+        ensures { Takes (value_of self.old) (value_of self.new) result (with_added (value_of self.old) header) }
+    {
+        if has_sheet(&self.sheets, header.sheet) {
+            return Err(FrameErr::Refused(FrontKind::IdTaken));
+        }
+        self.keep_sheet(header)?;
+        Ok(())
+    }
+
+    /// Keeps a new sheet, and counts the message.
+    fn keep_sheet(&mut self, header: Header) -> Result<(), AllocError>
+        ensures { OnOk result (value_of self.new ≡ told_sheets (value_of self.old)
+            ((value_of self.old).sheets ++ new_sheet header ∷ [])) }
+    {
+        let taken = self.taken.checked_add(1).ok_or(AllocError)?;
+        self.sheets.push(new_sheet(header))?;
+        self.taken = taken;
+        Ok(())
+    }
+
+    fn take_rewrite(&mut self, number: u64) -> Result<(), FrameErr>
+        ensures { Takes (value_of self.old) (value_of self.new) result
+            (with_sheet (value_of self.old) number (marked_old number (value_of self.old).sheets)) }
+    {
+        if !has_sheet(&self.sheets, number) {
+            return Err(FrameErr::Refused(FrontKind::UnknownSheet));
+        }
+        self.taken = self.taken.checked_add(1).ok_or(AllocError)?;
+        mark_old(&mut self.sheets, number);
+        Ok(())
+    }
+
+    fn take_removal(&mut self, number: u64) -> Result<(), FrameErr>
+        ensures { Takes (value_of self.old) (value_of self.new) result
+            (with_sheet (value_of self.old) number (without_sheet number (value_of self.old).sheets)) }
+    {
+        if !has_sheet(&self.sheets, number) {
+            return Err(FrameErr::Refused(FrontKind::UnknownSheet));
+        }
+        self.taken = self.taken.checked_add(1).ok_or(AllocError)?;
+        drop_sheet(&mut self.sheets, number);
+        Ok(())
     }
 
     fn take_root(&mut self, id: u64, root: NodeTree, frame: Text) -> Result<(), FrameErr>
@@ -148,30 +228,78 @@ impl Known {
         ensures { Takes (value_of self.old) (value_of self.new) result (with_news (value_of self.old) (news_of event)) }
     {
         match event {
-            Event::SetChildNodes { parent, nodes } => self.take_children(parent, nodes),
+            Event::SetChildNodes { parent, nodes } => self.take_edit(parent, NodeEdit::Show(nodes)),
+            Event::ChildNodeInserted {
+                parent,
+                previous,
+                node,
+            } => self.take_edit(parent, NodeEdit::Insert { previous, node }),
+            Event::ChildNodeRemoved { parent, node } => {
+                self.take_edit(parent, NodeEdit::Remove(node))
+            }
+            Event::ChildNodeCountUpdated { node, count } => {
+                self.take_edit(node, NodeEdit::Count(count))
+            }
+            Event::AttributeModified { node, name, value } => {
+                self.take_edit(node, NodeEdit::SetAttribute { name, value })
+            }
+            Event::AttributeRemoved { node, name } => {
+                self.take_edit(node, NodeEdit::DropAttribute(name))
+            }
+            Event::CharacterDataModified { node, text } => {
+                self.take_edit(node, NodeEdit::SetValue(text))
+            }
             Event::DocumentUpdated => self.take_update(),
-            Event::AttributeModified { .. }
-            | Event::AttributeRemoved { .. }
-            | Event::CharacterDataModified { .. }
-            | Event::ChildNodeCountUpdated { .. }
-            | Event::ChildNodeInserted { .. }
-            | Event::ChildNodeRemoved { .. }
-            | Event::Paused(_) => Err(FrameErr::Refused(FrontKind::NotMessage)),
+            Event::Paused(why) => self.take_pause(why),
+            Event::StyleSheetAdded { header } => self.take_sheet(header),
+            Event::StyleSheetChanged { sheet } => self.take_rewrite(sheet),
+            Event::StyleSheetRemoved { sheet } => self.take_removal(sheet),
         }
     }
 
-    fn take_children(&mut self, parent: u64, nodes: Vec<NodeTree>) -> Result<(), FrameErr>
-        requires { fits_nodes (nodes_of nodes.items) ≡ true }
+    fn take_edit(&mut self, id: u64, edit: NodeEdit) -> Result<(), FrameErr>
+        requires { fits_edit edit ≡ true }
         ensures { Takes (value_of self.old) (value_of self.new) result
-            (with_children (value_of self.old) parent (nodes_of nodes.items) (spot seen_id parent 0 (value_of self.old).tree)) }
+            (with_change (value_of self.old) (edit_told id edit)) }
     {
-        if let Some(kind) = children_fault(self.alloc, &self.mirror, parent, &nodes)? {
+        if let Some(kind) = edit_fault(self.alloc, &self.mirror, id, &edit)? {
             return Err(FrameErr::Refused(kind));
         }
         let taken = self.taken.checked_add(1).ok_or(AllocError)?;
-        self.mirror.show(parent, nodes);
+        self.mirror.change(self.alloc, id, edit)?;
         self.taken = taken;
         Ok(())
+    }
+
+    fn take_pause(&mut self, why: PauseData) -> Result<(), FrameErr>
+        ensures { Takes (value_of self.old) (value_of self.new) result (with_pause (value_of self.old) why) }
+    {
+        if !self.knows_paused(why) {
+            return Err(FrameErr::Refused(FrontKind::UnknownNode));
+        }
+        self.keep_pause(why)?;
+        Ok(())
+    }
+
+    /// Keeps a pause, and counts the message.
+    fn keep_pause(&mut self, why: PauseData) -> Result<(), AllocError>
+        ensures { OnOk result (value_of self.new ≡ halted (value_of self.old) why) }
+    {
+        let taken = self.taken.checked_add(1).ok_or(AllocError)?;
+        self.pauses.push(seen_pause(why))?;
+        self.taken = taken;
+        Ok(())
+    }
+
+    /// Whether the nodes that a pause names are shown.
+    fn knows_paused(&self, why: PauseData) -> bool
+        ensures { result ≡ list_all (is_shown (value_of self.now).tree) (paused_nodes why) }
+    {
+        match why {
+            PauseData::Subtree { node, target, .. } => self.mirror.has_id(node)
+                && self.mirror.has_id(target),
+            PauseData::Attribute { node } | PauseData::Removed { node } => self.mirror.has_id(node),
+        }
     }
 
     fn take_update(&mut self) -> Result<(), FrameErr>

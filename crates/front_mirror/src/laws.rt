@@ -1,4 +1,4 @@
-ghost use Rattle.front_mirror.specs.Laws.{GoesOn, AskJoins, Begins, TakesFold, StaysFold, AsksFold, RootGives, ReplyGives, FaultStays, RefusalStays, ShowGives, ClearGives, StayGives, ShownIsTaken, ReplyStays};
+ghost use Rattle.front_mirror.specs.Laws.{GoesOn, AskJoins, Begins, TakesFold, StaysFold, AsksFold, MoveGives, CourseGives, TurnsAreAwaited};
 
 /// The law of the fold: it goes on from the fold of a shorter stream, and an ask that is sent only joins those that wait.
 /// So a front is at all times the fold of the asks that it sent and the bytes that it took, in whatever pieces, or has the
@@ -12,15 +12,10 @@ pub fn front_law()
     ensures asks { AsksFold }
 {}
 
-/// The law of single messages: each takes a front that has one view to a front that has the next.
+/// The law of the moves of a view: a front that has a view has the next one, once it took the move's message, and has the
+/// last one of a course, once it took them all. Moves that answer the first asks one by one are awaited.
 pub fn move_law()
-    ensures root { RootGives }
-    ensures reply { ReplyGives }
-    ensures fault { FaultStays }
-    ensures refusal { RefusalStays }
-    ensures show { ShowGives }
-    ensures clear { ClearGives }
-    ensures stay { StayGives }
-    ensures shown { ShownIsTaken }
-    ensures reply_stays { ReplyStays }
+    ensures moves { MoveGives }
+    ensures course { CourseGives }
+    ensures turns { TurnsAreAwaited }
 {}

@@ -3,8 +3,10 @@
 #![tactic(auto)]
 
 mod asks;
+mod attribute_changes;
+mod changes;
 mod checks;
-mod children;
+mod edits;
 mod faults;
 mod folding;
 mod front;
@@ -13,8 +15,10 @@ mod laws;
 mod lines;
 mod mirror;
 mod outline;
+mod pauses;
 mod replies;
 mod roots;
+mod sheets;
 mod told;
 
 pub use faults::{FrontErr, FrontFault, FrontKind};
@@ -23,6 +27,7 @@ pub use laws::{front_law, move_law};
 pub use lines::write_node_line;
 pub use mirror::Mirror;
 pub use outline::write_outline;
+pub use pauses::SeenPause;
 pub use replies::{Ask, Kept};
 
 #[cfg(test)]

@@ -1,13 +1,14 @@
 ghost use Rattle.std.specs.Prelude.{◌≡◌, ◌≢◌, ◌↔◌, ◌<◌, ◌++◌, length, IsTrue, IsSome, is_some, Some, option_map, option_copied, slice_get, None, true, IfOk, IfSome, OnOk};
 ghost use Rattle.node_tree.specs.Nodes.{none, alone, width, tree_at, nodes_of};
-ghost use Rattle.node_tree.specs.Keys.{find, parent_of, spot};
+ghost use Rattle.node_tree.specs.Keys.{has, find, parent_of, spot};
 ghost use Rattle.node_tree.specs.Seen.{is_opened, seen_id, seen_serial};
 ghost use Rattle.cdp_messages.specs.Told.{count_in, seen_nodes, seen_branch};
-ghost use Rattle.cdp_messages.specs.NodeData.{fits_tree, fits_nodes};
+ghost use Rattle.cdp_messages.specs.NodeData.{fits_tree};
 ghost use Rattle.front_mirror.specs.Shown.{shown, shown_spot, known_at, root_id};
 ghost use Rattle.front_mirror.specs.Outline.{outline_text, seen_line};
 
-use crate::children::show_among;
+use crate::changes::change_among;
+use crate::edits::NodeEdit;
 use crate::told::{
     child_id, children_of, count_of, find_by_id, find_by_serial, is_opened, parent_among,
     spot_by_id,
@@ -15,6 +16,7 @@ use crate::told::{
 use cdp_messages::{Kind, NodeTree};
 use std::alloc::{AllocError, Global};
 use std::marker::Model;
+use std::mem;
 
 /// The page as the messages that came show it: its known nodes, each with an id of the session and its serial in the
 /// page, or nothing. The readers take no memory. A node is known by its id.
@@ -41,7 +43,7 @@ impl Model for Mirror {
 impl Mirror {
     ghost use Rattle.cdp_messages.specs.Views.{IsMirror, most_levels};
     ghost use Rattle.front_mirror.specs.Front.{root_fault};
-    ghost use Rattle.front_mirror.specs.Children.{spot_fault, with_shown};
+    ghost use Rattle.front_mirror.specs.Edits.{fits_edit, edit_change, edit_told, spot_fault, with_changed};
 
     pub(crate) fn new(alloc: Global) -> Mirror
         ensures { result ≡ none }
@@ -62,13 +64,21 @@ impl Mirror {
         Ok(Mirror { roots })
     }
 
-    /// Shows the nodes as the children of a known node, where nothing is wrong with them.
-    pub(crate) fn show(&mut self, parent: u64, nodes: Vec<NodeTree>)
-        requires fits { fits_nodes (nodes_of nodes.items) ≡ true }
-        requires clear { spot_fault self.old parent (nodes_of nodes.items) (spot seen_id parent 0 self.old) ≡ None }
-        ensures { self.new ≡ with_shown parent (nodes_of nodes.items) self.old }
+    /// Changes a known node, where nothing is wrong with the edit. After want of memory the mirror is empty.
+    pub(crate) fn change(
+        &mut self,
+        alloc: Global,
+        id: u64,
+        edit: NodeEdit,
+    ) -> Result<(), AllocError>
+        requires fits { fits_edit edit ≡ true }
+        requires clear { spot_fault self.old (edit_told id edit) (spot seen_id id 0 self.old) ≡ None }
+        ensures { OnOk result (self.new ≡ with_changed id (edit_change edit) self.old) }
     {
-        show_among(&mut self.roots, parent, nodes);
+        let mut roots = mem::replace(&mut self.roots, Vec::new(alloc));
+        change_among(&mut roots, id, edit)?;
+        self.roots = roots;
+        Ok(())
     }
 
     /// What each mirror is: ids and serials are distinct, no node stands at a level above 60, names have their forms, and
@@ -121,6 +131,20 @@ impl Mirror {
             unreachable!()
         };
         node
+    }
+
+    /// Whether a node of that id is shown.
+    pub(crate) fn has_id(&self, id: u64) -> bool
+        ensures { result ≡ has seen_id id self.now }
+    {
+        self.known(id)
+    }
+
+    /// Whether a node of that serial is shown.
+    pub(crate) fn has_serial(&self, serial: u64) -> bool
+        ensures { result ≡ has seen_serial serial self.now }
+    {
+        self.find_serial(serial).is_some()
     }
 
     /// The known node of that id, and its level.

@@ -17,7 +17,7 @@ pub(crate) fn root_fault(alloc: Global, root: &NodeTree) -> Result<Option<FrontK
         return Ok(Some(FrontKind::NotChild));
     }
     let all = slice::from_ref(root);
-    if !are_new(alloc, &[], all)? {
+    if !are_new(alloc, all)? {
         return Ok(Some(FrontKind::IdTaken));
     }
     if !are_within(all, MOST_LEVELS) {

@@ -122,6 +122,94 @@ fn deep(alloc: Global) -> Result<Vec<u8>, AllocError> {
     Ok(event)
 }
 
+const SET: &[u8] =
+    b"{\"method\":\"DOM.attributeModified\",\"params\":{\"name\":\"id\",\"nodeId\":3,\"value\":\"x\"}}\0";
+
+// No attribute has the name.
+const UNSET: &[u8] =
+    b"{\"method\":\"DOM.attributeRemoved\",\"params\":{\"name\":\"title\",\"nodeId\":3}}\0";
+
+const SAID: &[u8] =
+    b"{\"method\":\"DOM.characterDataModified\",\"params\":{\"characterData\":\"yo\",\"nodeId\":4}}\0";
+
+const COUNTED: &[u8] =
+    b"{\"method\":\"DOM.childNodeCountUpdated\",\"params\":{\"childNodeCount\":5,\"nodeId\":3}}\0";
+
+// A text behind the element.
+const PUT_IN: &[u8] =
+    b"{\"method\":\"DOM.childNodeInserted\",\"params\":{\"node\":{\"backendNodeId\":5,\"localName\":\"\",\"nodeId\":5,\"nodeName\":\"#text\",\"nodeType\":3,\"nodeValue\":\"a\",\"parentId\":2},\"parentNodeId\":2,\"previousNodeId\":3}}\0";
+
+// Below a node whose children are not shown.
+const PUT_UNSHOWN: &[u8] =
+    b"{\"method\":\"DOM.childNodeInserted\",\"params\":{\"node\":{\"backendNodeId\":5,\"localName\":\"\",\"nodeId\":5,\"nodeName\":\"#text\",\"nodeType\":3,\"nodeValue\":\"a\",\"parentId\":3},\"parentNodeId\":3,\"previousNodeId\":0}}\0";
+
+// Behind a node that is known, and no child of the parent.
+const PUT_ELSEWHERE: &[u8] =
+    b"{\"method\":\"DOM.childNodeInserted\",\"params\":{\"node\":{\"backendNodeId\":5,\"localName\":\"\",\"nodeId\":5,\"nodeName\":\"#text\",\"nodeType\":3,\"nodeValue\":\"a\",\"parentId\":2},\"parentNodeId\":2,\"previousNodeId\":1}}\0";
+
+const TAKEN_OUT: &[u8] =
+    b"{\"method\":\"DOM.childNodeRemoved\",\"params\":{\"nodeId\":4,\"parentNodeId\":2}}\0";
+
+const PAUSED: &[u8] =
+    b"{\"method\":\"Debugger.paused\",\"params\":{\"callFrames\":[],\"data\":{\"insertion\":true,\"nodeId\":2,\"targetNodeId\":3,\"type\":\"subtree-modified\"},\"reason\":\"DOM\"}}\0";
+
+const PAUSED_UNKNOWN: &[u8] =
+    b"{\"method\":\"Debugger.paused\",\"params\":{\"callFrames\":[],\"data\":{\"nodeId\":9,\"type\":\"node-removed\"},\"reason\":\"DOM\"}}\0";
+
+// No sheet has the number.
+const REWRITTEN: &[u8] =
+    b"{\"method\":\"CSS.styleSheetChanged\",\"params\":{\"styleSheetId\":\"s1\"}}\0";
+
+/// A front that shows the document, the element and its two children.
+fn showing(alloc: Global, out: &mut Vec<u8>) -> Result<Front, AllocError> {
+    let mut front = asking(alloc)?;
+    take(&mut front, HEAD, out)?;
+    take(&mut front, TAIL, out)?;
+    take(&mut front, SHOW_HEAD, out)?;
+    take(&mut front, SHOW_TAIL, out)?;
+    Ok(front)
+}
+
+/// Appends what becomes of an event that such a front takes.
+fn refuse(alloc: Global, event: &[u8], out: &mut Vec<u8>) -> Result<(), AllocError> {
+    let mut front = showing(alloc, out)?;
+    take(&mut front, event, out)
+}
+
+#[test]
+fn folds_changes(rt: HostRuntime) -> Result<(), Fail> {
+    let alloc = rt.alloc();
+    let mut out = Vec::new(alloc);
+    let mut front = showing(alloc, &mut out)?;
+    take(&mut front, SET, &mut out)?;
+    take(&mut front, UNSET, &mut out)?;
+    take(&mut front, SAID, &mut out)?;
+    take(&mut front, COUNTED, &mut out)?;
+    take(&mut front, PUT_IN, &mut out)?;
+    take(&mut front, TAKEN_OUT, &mut out)?;
+    take(&mut front, PAUSED, &mut out)?;
+    write_outline(alloc, front.mirror(), &mut out)?;
+    let want = b"1 #document\n  2 <html>\n    3 <p id=\"x\"> +5\n    5 \"a\"\n";
+    assert_eq!(rt; out.as_slice(), want.as_slice());
+    assert_eq!(rt; front.pauses().len(), 1);
+    Ok(())
+}
+
+#[test]
+fn refuses_changes(rt: HostRuntime) -> Result<(), Fail> {
+    let alloc = rt.alloc();
+    let mut out = Vec::new(alloc);
+    refuse(alloc, PUT_UNSHOWN, &mut out)?;
+    refuse(alloc, PUT_ELSEWHERE, &mut out)?;
+    refuse(alloc, PAUSED_UNKNOWN, &mut out)?;
+    refuse(alloc, REWRITTEN, &mut out)?;
+    assert_eq!(rt;
+        out.as_slice(),
+        b"UnknownNode\nNotChild\nUnknownNode\nUnknownSheet\n".as_slice()
+    );
+    Ok(())
+}
+
 #[test]
 fn folds(rt: HostRuntime) -> Result<(), Fail> {
     let alloc = rt.alloc();

@@ -1,8 +1,8 @@
 -- What the calls on the link and on the ends make of a run.
-use Rattle.std.proofs.Common.{◌≡◌, ℕ, ◌+◌, ◌-◌, ◌<◌, min, List, [], ◌∷◌, ◌++◌, length, take, Option, Some, None, refl, sym, ◌∙◌, ap, subst, Result}
+use Rattle.std.proofs.Common.{◌≡◌, ℕ, ◌+◌, ◌-◌, ◌<◌, ◌^◌, min, List, [], ◌∷◌, ◌++◌, length, take, true, not, Option, Some, None, refl, sym, ◌∙◌, ap, subst, Result, arith}
 use Rattle.std.proofs.lemmas.List.{take_min}
 use Rattle.pipe_frames.specs.Pipe.{Pipe, waiting}
-use Rattle.pipe_frames.specs.Frames.{Frames, framed, frames_of, frames_from, held_after, continued}
+use Rattle.pipe_frames.specs.Frames.{IsText, Frames, framed, frames_of, frames_from, held_after, continued}
 use Rattle.front_mirror.specs.Front.{FrontState, after_take, after_ask}
 use Rattle.front_mirror.specs.declared.faults.FrontFault.{FrontFault}
 use Rattle.std.specs.Borrow.{Bor}
@@ -10,49 +10,91 @@ use Rattle.std.specs.Option.{option_copied, option_map}
 use Rattle.std.specs.Result.{OnOk}
 use Rattle.serde_json.specs.declared.value.Value.{Value}
 use Rattle.serde_json.specs.View.{view}
+use Rattle.serde_json.specs.Data.{Data}
+use Rattle.cdp_json.specs.Kinds.{holds_of_some}
+use Rattle.cdp_json.specs.Plain.{is_plain}
+use Rattle.cdp_json.proofs.ReadBack.{has_float-is_plain}
+use Rattle.std.specs.Prelude.{IsTrue}
 use Rattle.replay_script.specs.declared.forms.Ask.{Ask}
 use Rattle.replay_script.specs.Seen.{seen_ask}
 use Rattle.replay_script.specs.Forms.{AskForm}
-use Rattle.cdp_messages.specs.Asked.{command_text}
-use Rattle.inspect_world.specs.Fits.{most_asks}
+use Rattle.cdp_messages.specs.Asked.{command_text, is_whole_where_there}
+use Rattle.inspect_world.specs.Fits.{IsBare, IsNextTurn, HasLeft}
 use Rattle.inspect_world.specs.Scripts.{sends}
 use Rattle.inspect_world.specs.ScriptsFit.{CanSend}
 use Rattle.inspect_world.specs.Stream.{Stream, passed, arriving, awaited}
-use Rattle.inspect_world.specs.World.{World, answered, given_up, delivered_up, delivered_down, settled}
-use Rattle.back_end.specs.States.{State, step}
+use Rattle.inspect_world.specs.World.{World, raw, turned, answered, given_up, delivered_up, delivered_down, settled}
+use Rattle.cdp_messages.specs.Moves.{frames_of_moves}
+use Rattle.back_end.specs.declared.seat.Seat.{Seat}
+use Rattle.back_end.specs.declared.side.PageSide.{PageSide}
+use Rattle.back_end.specs.States.{State}
+use Rattle.back_end.specs.Steps.{Turn, frame_step, turn_step, step, turn}
+use Rattle.back_end.specs.Laws.{HasRoom, IsTurn}
 use Rattle.inspect_world.specs.Held.{Ends, InWorld}
 use Rattle.inspect_replay.specs.declared.ends.Ends.{Ends as ProgramEnds}
 use Rattle.inspect_replay.specs.declared.stop.Stop.{Stop}
-use Rattle.back_end.specs.Seats.{StandsFor, Seated}
+use Rattle.back_end.specs.Seats.{StandsFor, HasRoomLeft}
 use Rattle.inspect_replay.specs.Runs.{InRunWith, InRun, AnswersOne, AnswersAll, Steps, ends_of}
 use Rattle.inspect_replay.specs.Moments.{moment}
 use Rattle.inspect_replay.specs.Stops.{NotRefused}
 use Rattle.back_end.proofs.SeatLemmas.{on_ok}
 use Rattle.inspect_world.proofs.Worlds.{answered-cons}
 use Rattle.inspect_world.proofs.Pipes.{waiting-is}
-use Rattle.inspect_world.proofs.Ends.{world-sent, world-answered, world-given_up, world-delivered_down, never-refuses}
+use Rattle.inspect_world.proofs.Ends.{world-sent, world-raw, world-turned, world-answered, world-given_up, world-delivered_down, never-refuses}
 
--- ---- one frame is answered
+-- ---- a step is made
 
-pub answered_in : (up0 down0 up down up1 down1 : Pipe) (w : World State) (frame : List ℕ) (frames : List (List ℕ)) (b b1 : Seated) (e : Ends)
+-- what a seat with room says of the state that it stands for
+pub room-left : (seat : Seat) (side : PageSide) (state : State) → StandsFor seat side state → HasRoomLeft seat.desk side → HasRoom state
+room-left seat side state stands left =
+    let next : seat.desk.agent.next ≡ length state.client.session.pushed + 1 = stands.stands.next_is in
+    let few : seat.desk.agent.next < 2 ^ 50 = left.ids in
+    record { ids = omega (arith, next, few); serials = subst (λ page. page.next < 2 ^ 50) stands.page_is left.serials }
+
+-- a frame is answered
+pub answered_in : (up0 down0 up down up1 down1 : Pipe) (w : World State) (frame : List ℕ) (frames : List (List ℕ)) (seat seat1 : Seat) (side side1 : PageSide) (e : Ends)
     (old out bytes : List ℕ) (there : ℕ)
-    → InWorld up0 down0 up down w (frame ∷ frames) (record e { page = b.side.page; is_on = b.seat.is_on; bound = b.seat.agent })
-    → ((state : State) → StandsFor b.seat b.side state → StandsFor b1.seat b1.side (step state frame).state) → ((state : State) → StandsFor b.seat b.side state → out ≡ old ++ (step state frame).sent)
+    → InWorld up0 down0 up down w (frame ∷ frames) (record e { seat = seat; side = side })
+    → ((state : State) → StandsFor seat side state → StandsFor seat1 side1 (frame_step frame state).state)
+    → ((state : State) → StandsFor seat side state → out ≡ old ++ frames_of_moves (frame_step frame state).moves)
     → old ≡ [] → bytes ≡ out
     → up1 ≡ up → (down1.sent ≡ down.sent ++ bytes) × (down1.given ≡ down.given) → there ≡ e.down_there + length out
-    → InWorld up0 down0 up1 down1 (answered step (frame ∷ []) w) frames
-    (record e { page = b1.side.page; is_on = b1.seat.is_on; bound = b1.seat.agent; down_there = there })
-answered_in up0 down0 up down up1 down1 w frame frames b b1 e old out bytes there in_world stood said empty same_out same_up sent left =
-    let before : StandsFor b.seat b.side w.state = record { is_state = in_world.fits.fit.is_state; page_is = in_world.page_is; on_is = in_world.on_is; stands = in_world.stands } in
-    let after : StandsFor b1.seat b1.side (step w.state frame).state = stood w.state before in
-    let all : InWorld up0 down0 up down1 (answered step (frame ∷ []) w) frames (record e { page = b1.side.page; is_on = b1.seat.is_on; bound = b1.seat.agent; down_there = there }) =
-    world-answered up0 down0 up down down1 w frame frames (record e { page = b.side.page; is_on = b.seat.is_on; bound = b.seat.agent }) b1.side.page b1.seat.is_on b1.seat.agent out there in_world
-    after.page_is after.on_is after.stands
-    (said w.state before ∙ ap (λ start. start ++ (step w.state frame).sent) empty)
+    → InWorld up0 down0 up1 down1 (answered step (frame ∷ []) w) frames (record e { seat = seat1; side = side1; down_there = there })
+answered_in up0 down0 up down up1 down1 w frame frames seat seat1 side side1 e old out bytes there in_world stood said empty same_out same_up sent left =
+    let all : InWorld up0 down0 up down1 (answered step (frame ∷ []) w) frames (record e { seat = seat1; side = side1; down_there = there }) =
+    world-answered up0 down0 up down down1 w frame frames (record e { seat = seat; side = side }) seat1 side1 out there in_world
+    (stood w.state in_world.stands)
+    (said w.state in_world.stands ∙ ap (λ start. start ++ (step w.state frame).sent) empty)
     (sent.0 ∙ ap (λ piece. down.sent ++ piece) same_out) sent.1 left in
-    subst (λ pipe. InWorld up0 down0 pipe down1 (answered step (frame ∷ []) w) frames (record e { page = b1.side.page; is_on = b1.seat.is_on; bound = b1.seat.agent; down_there = there })) (sym same_up) all
+    subst (λ pipe. InWorld up0 down0 pipe down1 (answered step (frame ∷ []) w) frames (record e { seat = seat1; side = side1; down_there = there })) (sym same_up) all
+
+-- the script makes a step by itself
+pub turned_in : (up0 down0 up down up1 down1 : Pipe) (w : World State) (x : Turn) (whole : List (List ℕ)) (seat seat1 : Seat) (side side1 : PageSide) (e : Ends)
+    (old out bytes : List ℕ) (there : ℕ)
+    → InWorld up0 down0 up down w (whole ++ awaited w.up) (record e { seat = seat; side = side }) → whole ≡ [] → IsTurn x → HasLeft w.spent 1
+    → ((state : State) → StandsFor seat side state → StandsFor seat1 side1 (turn_step x state).state)
+    → ((state : State) → StandsFor seat side state → out ≡ old ++ frames_of_moves (turn_step x state).moves)
+    → old ≡ [] → bytes ≡ out
+    → up1 ≡ up → (down1.sent ≡ down.sent ++ bytes) × (down1.given ≡ down.given) → there ≡ e.down_there + length out
+    → InWorld up0 down0 up1 down1 (turned turn x w) (whole ++ awaited (turned turn x w).up) (record e { seat = seat1; side = side1; down_there = there })
+turned_in up0 down0 up down up1 down1 w x whole seat seat1 side side1 e old out bytes there in_world none is_turn room stood said empty same_out same_up sent left =
+    let start : InWorld up0 down0 up down w (awaited w.up) (record e { seat = seat; side = side }) =
+    subst (λ frames. InWorld up0 down0 up down w (frames ++ awaited w.up) (record e { seat = seat; side = side })) none in_world in
+    let all : InWorld up0 down0 up down1 (turned turn x w) (awaited w.up) (record e { seat = seat1; side = side1; down_there = there }) =
+    world-turned up0 down0 up down down1 w (record e { seat = seat; side = side }) x seat1 side1 out there start
+    (record { is_turn = is_turn; few = room.turns })
+    (stood w.state in_world.stands)
+    (said w.state in_world.stands ∙ ap (λ start. start ++ (turn x w.state).sent) empty)
+    (sent.0 ∙ ap (λ piece. down.sent ++ piece) same_out) sent.1 left in
+    subst (λ pipe. InWorld up0 down0 pipe down1 (turned turn x w) (whole ++ awaited w.up) (record e { seat = seat1; side = side1; down_there = there })) (sym same_up)
+    (subst (λ frames. InWorld up0 down0 up down1 (turned turn x w) (frames ++ awaited w.up) (record e { seat = seat1; side = side1; down_there = there })) (sym none) all)
 
 -- ---- an ask is sent
+
+-- what is plain holds no number that is not whole
+pub whole-plain : (o : Option Data) → holds_of_some is_plain o ≡ true → IsTrue (is_whole_where_there o)
+whole-plain None plain = refl
+whole-plain (Some d) plain = ap not (has_float-is_plain d plain)
 
 -- what an optional value behind a reference is seen as
 pub refs-seen : (r : Option (Bor Value)) (o : Option Value) → option_copied r ≡ o → option_map (λ (p : Bor Value). view p.now) r ≡ option_map view o
@@ -71,7 +113,7 @@ frame-seen next ask frame method params session m p s is =
     ∙ ap (λ s'. framed (command_text next ask.method (option_map view ask.params) s')) (refs-seen session ask.session s)
 
 pub asked_in : (up0 down0 up down up1 down1 : Pipe) (w : World State) (e : Ends) (a : AskForm) (whole : List (List ℕ)) (frame bytes : List ℕ) (there : ℕ) (front1 : FrontState)
-    → CanSend a → w.spent.asks < most_asks → InWorld up0 down0 up down w (whole ++ awaited w.up) e → whole ≡ []
+    → CanSend a → HasLeft w.spent 1 → InWorld up0 down0 up down w (whole ++ awaited w.up) e → whole ≡ []
     → frame ≡ framed (command_text e.front.next a.method a.params a.session) → front1 ≡ after_ask e.front a.method
     → bytes ≡ frame → (up1.sent ≡ up.sent ++ bytes) × (up1.given ≡ up.given) → down1 ≡ down → there ≡ e.up_there + length frame
     → InWorld up0 down0 up1 down1 (sends a w) (whole ++ awaited (sends a w).up) (record e { front = front1; up_there = there })
@@ -87,6 +129,20 @@ asked_in up0 down0 up down up1 down1 w e a whole frame bytes there front1 can fe
     subst (λ pipe. InWorld up0 down0 up1 pipe (sends a w) (whole ++ awaited (sends a w).up) (record e { front = front1; up_there = there })) (sym same_down)
     (subst (λ frames. InWorld up0 down0 up1 down (sends a w) (frames ++ awaited (sends a w).up) (record e { front = front1; up_there = there })) (sym none)
     (subst (λ f. InWorld up0 down0 up1 down (sends a w) (awaited (sends a w).up) (record e { front = f; up_there = there })) (sym front_is) all))
+
+-- a frame is sent that names no ask
+pub raw_in : (up0 down0 up down up1 down1 : Pipe) (w : World State) (e : Ends) (text : List ℕ) (whole : List (List ℕ)) (frame bytes : List ℕ) (there : ℕ)
+    → IsText text → IsBare text → HasLeft w.spent 1 → InWorld up0 down0 up down w (whole ++ awaited w.up) e → whole ≡ []
+    → frame ≡ framed text → bytes ≡ frame → (up1.sent ≡ up.sent ++ bytes) × (up1.given ≡ up.given) → down1 ≡ down → there ≡ e.up_there + length frame
+    → InWorld up0 down0 up1 down1 (raw text w) (whole ++ awaited (raw text w).up) (record e { up_there = there })
+raw_in up0 down0 up down up1 down1 w e text whole frame bytes there letters bare room in_world none frame_is same_bytes sent same_down left =
+    let start : InWorld up0 down0 up down w (awaited w.up) e = subst (λ frames. InWorld up0 down0 up down w (frames ++ awaited w.up) e) none in_world in
+    let all : InWorld up0 down0 up1 down (raw text w) (awaited (raw text w).up) (record e { up_there = there }) =
+    world-raw up0 down0 up down up1 w e text there start letters bare room
+    (sent.0 ∙ ap (λ piece. up.sent ++ piece) (same_bytes ∙ frame_is)) sent.1
+    (left ∙ ap (λ piece. e.up_there + length piece) frame_is) in
+    subst (λ pipe. InWorld up0 down0 up1 pipe (raw text w) (whole ++ awaited (raw text w).up) (record e { up_there = there })) (sym same_down)
+    (subst (λ frames. InWorld up0 down0 up1 down (raw text w) (frames ++ awaited (raw text w).up) (record e { up_there = there })) (sym none) all)
 
 -- ---- bytes come
 

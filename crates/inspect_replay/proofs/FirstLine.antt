@@ -1,15 +1,17 @@
 -- The first line of a script loads a page.
-use Rattle.std.proofs.Common.{◌≡◌, ℕ, List, [], ◌∷◌, Option, Some, None, is_none, option_map, option_and_then, refl, sym, ◌∙◌, ap}
+use Rattle.std.proofs.Common.{◌≡◌, ℕ, List, Bool, true, false, not, ◌&&◌, Option, Some, None, option_and_then, refl, sym, ◌∙◌, ap}
 use Rattle.serde_json.specs.Data.{Data}
 use Rattle.node_tree.specs.Nodes.{Nodes}
 use Rattle.node_tree.specs.Labels.{Label}
-use Rattle.node_tree.specs.Keys.{first_of}
-use Rattle.page_tree.specs.Loads.{first_true, first_load_fault}
-use Rattle.page_tree.specs.declared.faults.LoadFault.{LoadFault}
-use Rattle.replay_script.specs.Forms.{LineForm, load, data_of, page_of, page_nodes, form_of, line_form}
-use Rattle.replay_script.specs.Faults.{load_fault, fault_of_data, line_fault}
-use Rattle.replay_script.specs.declared.faults.LineFault.{LineFault}
-use Rattle.replay_script.specs.declared.faults.LineFault.TheVariants.{NotJson, BadLoad}
+use Rattle.page_forms.specs.Pages.{page_nodes}
+use Rattle.cdp_messages.specs.Asked.{json_of}
+use Rattle.replay_script.specs.declared.line_kinds.LineKind.{LineKind}
+use Rattle.replay_script.specs.declared.line_kinds.LineKind.TheVariants as kind
+use Rattle.replay_script.specs.Kinds.{is_load}
+use Rattle.replay_script.specs.Forms.{LineForm, load, form_by, form_of, line_form}
+use Rattle.replay_script.specs.Faults.{line_fault}
+use Rattle.replay_script.proofs.FaultLemmas.{json_good, line_good}
+use Rattle.cdp_json.proofs.Options.{map_some}
 use Rattle.inspect_replay.specs.Prints.{load_of}
 
 -- a line that loads some nodes
@@ -17,23 +19,25 @@ pub record Loads (form : LineForm) : Type 0 where
   pub nodes : Nodes Label
   pub is : form ≡ load nodes
 
-fault_free : (o : Option LineFault) (f : Option LoadFault) → first_of o (option_map BadLoad f) ≡ None → f ≡ None
-fault_free None None e = refl
-fault_free None (Some f) e = absurd cc
-fault_free (Some x) f e = absurd cc
-
-loads : (o : Option (Nodes Label)) (later : Option LineForm) (form : LineForm) → first_load_fault o ≡ None → first_of (option_map load o) later ≡ Some form → Loads form
-loads None later form clear is = absurd cc
-loads (Some n) later form clear is = let same : load n ≡ form = cc is in record { nodes = n; is = sym same }
-
-data-loads : (o : Option Data) (form : LineForm) → first_of (first_true ((NotJson, is_none o) ∷ [])) (option_and_then (fault_of_data 1) o) ≡ None
-    → option_and_then form_of o ≡ Some form → Loads form
-data-loads None form e is = absurd cc
-data-loads (Some d) form e is = loads (option_and_then page_nodes (page_of d)) _ form (fault_free _ (load_fault d) e) is
+loads-by : (k : LineKind) (v : Data) (form : LineForm) → (true && not (is_load k)) ≡ false → form_by k v ≡ Some form → Loads form
+loads-by kind.Load v form first is = let p = map_some load (page_nodes v) form is in record { nodes = p.0; is = sym p.2 }
+loads-by kind.Act v form first is = absurd cc
+loads-by kind.Ask v form first is = absurd cc
+loads-by kind.Raw v form first is = absurd cc
+loads-by kind.Up v form first is = absurd cc
+loads-by kind.Down v form first is = absurd cc
+loads-by kind.Settle v form first is = absurd cc
+loads-by kind.Show v form first is = absurd cc
+loads-by kind.Close v form first is = absurd cc
+loads-by kind.Styles v form first is = absurd cc
 
 -- the first line, where it is not refused
 pub first-loads : (line : List ℕ) (form : LineForm) → line_fault 1 line ≡ None → line_form line ≡ Some form → Loads form
-first-loads line form good is = data-loads (data_of line) form good is
+first-loads line form good is =
+    let json = json_good 1 (json_of line) good in
+    let said = line_good 1 json.0 json.2 in
+    let of_value : form_of json.0 ≡ Some form = sym (ap (option_and_then form_of) json.1) ∙ is in
+    loads-by said.kind said.value form said.first (sym (ap (option_and_then (λ (s : LineKind × Data). form_by s.0 s.1)) said.is) ∙ of_value)
 
 pub loads-not : (line : List ℕ) (form : LineForm) → line_fault 1 line ≡ None → line_form line ≡ Some form → load_of form ≡ None → ⊥
 loads-not line form good is none =

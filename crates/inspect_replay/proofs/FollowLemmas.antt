@@ -4,7 +4,7 @@ use Rattle.std.proofs.lemmas.List.{drop_all}
 use Rattle.std.specs.Result.{OnOk, IsOk}
 use Rattle.std.specs.Io.KnownBytes.{Appends}
 use Rattle.pipe_frames.specs.Pipe.{Pipe, given_since}
-use Rattle.pipe_frames.specs.Frames.{Frames, framed, frames_of, held_after, continued}
+use Rattle.pipe_frames.specs.Frames.{IsText, Frames, framed, frames_of, held_after, continued}
 use Rattle.pipe_frames.proofs.WholeLemmas.{Appends-nil, Appends-append}
 use Rattle.node_tree.specs.Nodes.{Nodes}
 use Rattle.node_tree.specs.Labels.{Label}
@@ -12,18 +12,24 @@ use Rattle.node_tree.specs.Seen.{Seen}
 use Rattle.page_tree.specs.Forms.{CanLoad}
 use Rattle.page_tree.specs.Pages.{loaded}
 use Rattle.node_binding.specs.Bindings.{empty_from}
+use Rattle.cdp_messages.specs.Moves.{frames_of_moves}
 use Rattle.cdp_messages.specs.Asked.{command_text}
 use Rattle.front_mirror.specs.Front.{FrontValue, FrontState, first_state, after_take, after_ask}
 use Rattle.front_mirror.specs.Outline.{outline_text, seen_line}
 use Rattle.front_mirror.specs.declared.faults.FrontFault.{FrontFault}
 use Rattle.replay_script.specs.Forms.{AskForm}
 use Rattle.replay_script.specs.declared.faults.LineFault.{LineFault}
-use Rattle.back_end.specs.States.{State, loaded_state, step}
-use Rattle.back_end.specs.Texts.{HaveTexts}
+use Rattle.back_end.specs.declared.seat.Seat.{Seat}
+use Rattle.back_end.specs.declared.side.PageSide.{PageSide}
+use Rattle.back_end.specs.States.{State, loaded_state}
+use Rattle.back_end.specs.Steps.{Turn, frame_step, turn_step, step, turn}
+use Rattle.back_end.specs.Laws.{IsTurn}
+use Rattle.page_forms.specs.Texts.{HaveTexts}
 use Rattle.inspect_world.specs.ScriptsFit.{CanSend}
 use Rattle.inspect_world.specs.Held.{Ends as HeldEnds}
 use Rattle.inspect_world.specs.Links.{Follows, fold_of}
-use Rattle.inspect_world.proofs.LinkLemmas.{follows-told, follows-less, follows-start, follows-sends, follows-given_up, follows-answered, follows-delivered_down, follows-refused, follows-fold, follows-replies}
+use Rattle.inspect_world.specs.Fits.{ask_in}
+use Rattle.inspect_world.proofs.LinkLemmas.{follows-told, follows-less, follows-start, follows-sends, follows-raw, follows-given_up, follows-answered, follows-turned, follows-delivered_down, follows-refused, follows-fold, follows-replies}
 use Rattle.inspect_replay.specs.declared.ends.Ends.{Ends}
 use Rattle.inspect_replay.specs.declared.stop.Stop.{Stop}
 use Rattle.inspect_replay.specs.declared.stop.Stop.TheVariants.{Line, TooLong, ReadFault, WriteFault, LinkFault, FrontRefused, Memory}
@@ -31,13 +37,14 @@ use Rattle.inspect_replay.specs.declared.status.Status.{Status}
 use Rattle.inspect_replay.specs.declared.status.Status.TheVariants as status
 use Rattle.inspect_replay.specs.Says.{Phase, untouched, reading, underway, ended, anywhen, PartRose, Says, says, status_of}
 use Rattle.inspect_replay.specs.Answers.{InReadOnly, source_counts, IsInputStop}
-use Rattle.back_end.specs.Seats.{StandsFor, Seated}
+use Rattle.back_end.specs.Seats.{StandsFor, HasRoomLeft}
 use Rattle.inspect_replay.specs.Followed.{GivesNoMore, FoldsAt, fold_since, StatusFolds, StopFolds, EndsShown, AnswersInOrder, FollowsWith, FollowsRun, FollowsAnswer, PrintedSome}
 use Rattle.inspect_replay.specs.Prints.{IsRead, ReadsAt}
 use Rattle.inspect_replay.specs.Runs.{ends_of}
 use Rattle.inspect_replay.specs.Moments.{moment}
 use Rattle.inspect_replay.specs.Stops.{NotRefused}
-use Rattle.inspect_replay.proofs.RunLemmas.{no_frames, first_ends, ends-first}
+use Rattle.inspect_replay.proofs.EndLemmas.{room-left}
+use Rattle.inspect_replay.proofs.RunLemmas.{no_frames, first_ends, ends-first, stands-first}
 
 -- ---- stops
 
@@ -70,7 +77,7 @@ same-stop stop state0 up0 down0 up down up1 down1 waiting e f never same_up same
 -- ---- what a call keeps
 
 -- it has come through, or not
-pub kept-run : (result : Result (Unit {0}) Stop) (state0 : State) (up0 down0 up down : Pipe) (e : Ends) → NotRefused result → FollowsRun state0 up0 down0 up down e
+pub kept-run : {T : Type 0} (result : Result T Stop) (state0 : State) (up0 down0 up down : Pipe) (e : Ends) → NotRefused result → FollowsRun state0 up0 down0 up down e
     → OnOk result (FollowsRun state0 up0 down0 up down e) × StopFolds result (fold_since up0 down0 up down)
 kept-run (Ok value) state0 up0 down0 up down e never run = (run, run-good state0 up0 down0 up down e run)
 kept-run (Err stop) state0 up0 down0 up down e never run = (tt, stop-folds stop (fold_since up0 down0 up down) never (run-good state0 up0 down0 up down e run))
@@ -90,6 +97,17 @@ asked-follows state0 up0 down0 up down up1 down1 e a waiting frame bytes there f
     subst (λ pipe. Follows state0 up0 down0 up1 pipe waiting (record e { front = front1; up_there = there })) (sym same_down)
     (subst (λ s. Follows state0 up0 down0 up1 down waiting (record e { front = s; up_there = there })) (sym front_is) all)
 
+-- a frame is sent that names no ask
+pub raw-follows : (state0 : State) (up0 down0 up down up1 down1 : Pipe) (e : HeldEnds) (text : List ℕ) (waiting : List (List ℕ)) (frame bytes : List ℕ) (there : ℕ)
+    → IsText text → ask_in text ≡ None → Follows state0 up0 down0 up down waiting e → there ≡ e.up_there + length frame
+    → frame ≡ framed text → bytes ≡ frame → (up1.sent ≡ up.sent ++ bytes) × (up1.given ≡ up.given) → down1 ≡ down
+    → Follows state0 up0 down0 up1 down1 waiting (record e { up_there = there })
+raw-follows state0 up0 down0 up down up1 down1 e text waiting frame bytes there letters none f left frame_is same_bytes sent same_down =
+    let all : Follows state0 up0 down0 up1 down waiting (record e { up_there = there }) =
+    follows-raw state0 up0 down0 up down up1 waiting e text there f (left ∙ ap (λ bytes. e.up_there + length bytes) frame_is) letters none
+    (sent.0 ∙ ap (λ piece. up.sent ++ piece) (same_bytes ∙ frame_is)) sent.1 in
+    subst (λ pipe. Follows state0 up0 down0 up1 pipe waiting (record e { up_there = there })) (sym same_down) all
+
 -- bytes came up, and were cut into frames
 pub given-follows : (state0 : State) (up0 down0 up down up1 down1 : Pipe) (e : HeldEnds) (s s1 : Frames) (piece bytes : List ℕ) (there : ℕ)
     → Follows state0 up0 down0 up down s.whole (record e { back_rest = s.rest }) → there + length bytes ≡ e.up_there → (up1.sent ≡ up.sent) × (up1.given ≡ up.given ++ bytes) → down1 ≡ down
@@ -103,22 +121,38 @@ given-follows state0 up0 down0 up down up1 down1 e s s1 piece bytes there f left
     (subst (λ (x : Frames). Follows state0 up0 down0 up1 down x.whole (record e { back_rest = x.rest; up_there = there })) now all)
 
 -- a frame was answered
-pub answered-follows : (state0 : State) (up0 down0 up down up1 down1 : Pipe) (frame : List ℕ) (frames : List (List ℕ)) (b b1 : Seated) (e : HeldEnds)
+pub answered-follows : (state0 : State) (up0 down0 up down up1 down1 : Pipe) (frame : List ℕ) (frames : List (List ℕ)) (seat seat1 : Seat) (side side1 : PageSide) (e : HeldEnds)
     (old out bytes : List ℕ) (there : ℕ)
-    → Follows state0 up0 down0 up down (frame ∷ frames) (record e { page = b.side.page; is_on = b.seat.is_on; bound = b.seat.agent }) → there ≡ e.down_there + length out
-    → b.seat.agent.next < 2 ^ 52
-    → ((state : State) → StandsFor b.seat b.side state → StandsFor b1.seat b1.side (step state frame).state) → ((state : State) → StandsFor b.seat b.side state → out ≡ old ++ (step state frame).sent)
+    → Follows state0 up0 down0 up down (frame ∷ frames) (record e { seat = seat; side = side }) → there ≡ e.down_there + length out
+    → HasRoomLeft seat.desk side
+    → ((state : State) → StandsFor seat side state → StandsFor seat1 side1 (frame_step frame state).state)
+    → ((state : State) → StandsFor seat side state → out ≡ old ++ frames_of_moves (frame_step frame state).moves)
     → old ≡ [] → bytes ≡ out → up1 ≡ up → (down1.sent ≡ down.sent ++ bytes) × (down1.given ≡ down.given)
-    → Follows state0 up0 down0 up1 down1 frames (record e { page = b1.side.page; is_on = b1.seat.is_on; bound = b1.seat.agent; down_there = there })
-answered-follows state0 up0 down0 up down up1 down1 frame frames b b1 e old out bytes there f left room stood said empty same_out same_up sent =
-    let before : StandsFor b.seat b.side f.state = record { is_state = f.is_state; page_is = f.page_is; on_is = f.on_is; stands = f.stands } in
-    let after : StandsFor b1.seat b1.side (step f.state frame).state = stood f.state before in
-    let all : Follows state0 up0 down0 up down1 frames (record e { page = b1.side.page; is_on = b1.seat.is_on; bound = b1.seat.agent; down_there = there }) =
-    follows-answered state0 up0 down0 up down down1 frame frames (record e { page = b.side.page; is_on = b.seat.is_on; bound = b.seat.agent }) b1.side.page b1.seat.is_on b1.seat.agent out there f left room
-    after.page_is after.on_is after.stands
-    (said f.state before ∙ ap (λ start. start ++ (step f.state frame).sent) empty)
+    → Follows state0 up0 down0 up1 down1 frames (record e { seat = seat1; side = side1; down_there = there })
+answered-follows state0 up0 down0 up down up1 down1 frame frames seat seat1 side side1 e old out bytes there f left room stood said empty same_out same_up sent =
+    let all : Follows state0 up0 down0 up down1 frames (record e { seat = seat1; side = side1; down_there = there }) =
+    follows-answered state0 up0 down0 up down down1 frame frames (record e { seat = seat; side = side }) seat1 side1 out there f left
+    (room-left seat side f.state f.stands room) (stood f.state f.stands)
+    (said f.state f.stands ∙ ap (λ start. start ++ (step f.state frame).sent) empty)
     (sent.0 ∙ ap (λ piece. down.sent ++ piece) same_out) sent.1 in
-    subst (λ pipe. Follows state0 up0 down0 pipe down1 frames (record e { page = b1.side.page; is_on = b1.seat.is_on; bound = b1.seat.agent; down_there = there })) (sym same_up) all
+    subst (λ pipe. Follows state0 up0 down0 pipe down1 frames (record e { seat = seat1; side = side1; down_there = there })) (sym same_up) all
+
+-- the script made a step by itself
+pub turned-follows : (state0 : State) (up0 down0 up down up1 down1 : Pipe) (x : Turn) (waiting : List (List ℕ)) (seat seat1 : Seat) (side side1 : PageSide) (e : HeldEnds)
+    (old out bytes : List ℕ) (there : ℕ)
+    → Follows state0 up0 down0 up down waiting (record e { seat = seat; side = side }) → there ≡ e.down_there + length out
+    → HasRoomLeft seat.desk side → IsTurn x
+    → ((state : State) → StandsFor seat side state → StandsFor seat1 side1 (turn_step x state).state)
+    → ((state : State) → StandsFor seat side state → out ≡ old ++ frames_of_moves (turn_step x state).moves)
+    → old ≡ [] → bytes ≡ out → up1 ≡ up → (down1.sent ≡ down.sent ++ bytes) × (down1.given ≡ down.given)
+    → Follows state0 up0 down0 up1 down1 waiting (record e { seat = seat1; side = side1; down_there = there })
+turned-follows state0 up0 down0 up down up1 down1 x waiting seat seat1 side side1 e old out bytes there f left room is_turn stood said empty same_out same_up sent =
+    let all : Follows state0 up0 down0 up down1 waiting (record e { seat = seat1; side = side1; down_there = there }) =
+    follows-turned state0 up0 down0 up down down1 x waiting (record e { seat = seat; side = side }) seat1 side1 out there f left
+    (room-left seat side f.state f.stands room) is_turn (stood f.state f.stands)
+    (said f.state f.stands ∙ ap (λ start. start ++ (turn x f.state).sent) empty)
+    (sent.0 ∙ ap (λ piece. down.sent ++ piece) same_out) sent.1 in
+    subst (λ pipe. Follows state0 up0 down0 pipe down1 waiting (record e { seat = seat1; side = side1; down_there = there })) (sym same_up) all
 
 -- bytes came down, and the front end refused none of the messages
 pub delivered-follows : (state0 : State) (up0 down0 up down up1 down1 : Pipe) (waiting : List (List ℕ)) (e : HeldEnds) (piece bytes : List ℕ) (there : ℕ) (front1 : FrontState)
@@ -244,15 +278,16 @@ start-good up down =
     (subst (λ bytes. IsOk (fold_of [] bytes)) (sym (none down.given)) folds)
 
 pub run-first : (up down : Pipe) (nodes : Nodes Label) (e : Ends) → CanLoad nodes → HaveTexts nodes
-    → e.side.page ≡ loaded 1 nodes → e.seat.is_on ≡ false → e.seat.agent ≡ empty_from 1 → e.splitter ≡ no_frames → e.front ≡ first_state
+    → e.side.page ≡ loaded 1 nodes → e.seat.desk.is_on ≡ false → e.seat.desk.agent ≡ empty_from 1 → e.splitter ≡ no_frames → e.front ≡ first_state
     → e.up_there ≡ 0 → e.down_there ≡ 0 → e.told ≡ 0
     → FollowsRun (loaded_state nodes) up down up down e
 run-first up down nodes e can texts page_is off agent_is splitter_is front_is up_none down_none told_none =
-    let same : ends_of e ≡ first_ends nodes = ends-first nodes e page_is off agent_is splitter_is front_is up_none down_none told_none in
+    let same : ends_of e ≡ first_ends e.seat e.side = ends-first e splitter_is front_is up_none down_none told_none in
     let none : e.splitter.whole ≡ [] = ap (λ (f : Frames). f.whole) splitter_is in
     record {
       so_far = subst (λ h. Follows (loaded_state nodes) up down up down e.splitter.whole h) (sym same)
-          (subst (λ frames. Follows (loaded_state nodes) up down up down frames (first_ends nodes)) (sym none) (follows-start up down nodes can texts));
+          (subst (λ frames. Follows (loaded_state nodes) up down up down frames (first_ends e.seat e.side)) (sym none)
+          (follows-start up down (loaded_state nodes) e.seat e.side (stands-first nodes e.seat e.side can texts page_is off agent_is)));
       none_whole = none;
     }
 

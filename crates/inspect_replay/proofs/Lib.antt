@@ -3,3 +3,4 @@ pub mod FirstLine
 pub mod RunLemmas
 pub mod FollowLemmas
 pub mod AnswerLemmas
+pub mod PageLemmas

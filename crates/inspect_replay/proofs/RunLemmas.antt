@@ -8,7 +8,7 @@ use Rattle.pipe_frames.specs.Frames.{Frames, frames_of}
 use Rattle.pipe_frames.specs.Whole.{WrotePart}
 use Rattle.pipe_frames.proofs.WholeLemmas.{Appends-nil, Appends-append, WrotePart-all, WrotePart-longer, WrotePart-after}
 use Rattle.replay_script.specs.Forms as forms_of
-use Rattle.replay_script.specs.Forms.{AskForm, LineForm, load, ask, show_front, show_replies, line_form}
+use Rattle.replay_script.specs.Forms.{AskForm, LineForm, load, ask, show_front, show_page, show_replies, line_form}
 use Rattle.replay_script.specs.Faults.{line_fault}
 use Rattle.replay_script.specs.Lines.{lines_of}
 use Rattle.replay_script.specs.Script.{first_bad, good_lines, fault_of_lines, script_fault, script_forms}
@@ -23,27 +23,41 @@ use Rattle.front_mirror.specs.declared.replies.Kept.{Kept}
 use Rattle.front_mirror.specs.Front.{FrontValue, FrontState, first_state, first_value, take_frame}
 use Rattle.front_mirror.specs.Outline.{outline_text, seen_line}
 use Rattle.inspect_world.specs.Stream.{awaited, sent}
-use Rattle.inspect_world.specs.World.{World, settled}
+use Rattle.inspect_world.specs.World.{World, raw, turned, settled}
 use Rattle.inspect_world.specs.Fold.{folded, joined}
-use Rattle.back_end.specs.States.{State, step, view_of}
-use Rattle.inspect_world.specs.Fits.{most_asks, FitsWith, Fits, join}
-use Rattle.inspect_world.specs.Scripts.{sends, all_told, after_line, after_lines, line_text, lines_text, replies_after, closing_text, closing_unless, rest_text, text_of, report, loaded_world}
-use Rattle.back_end.specs.Texts.{HaveTexts}
+use Rattle.node_tree.specs.Nodes.{alone}
+use Rattle.page_tree.specs.Pages.{Row, State as PageValue}
+use Rattle.page_tree.specs.declared.edit_faults.EditFault.{EditFault}
+use Rattle.page_forms.specs.declared.acts.Act.{Act}
+use Rattle.node_binding.specs.Bindings.{Stands}
+use Rattle.node_binding.specs.Sessions.{begun}
+use Rattle.node_binding.proofs.StandsLemmas.{Stands-begun}
+use Rattle.front_mirror.specs.Laws.{Has}
+use Rattle.back_end.specs.declared.seat.Seat.{Seat}
+use Rattle.back_end.specs.declared.side.PageSide.{PageSide}
+use Rattle.back_end.specs.States.{State, loaded_state, nodes_in, view_of}
+use Rattle.back_end.specs.Steps.{acts, step, turn}
+use Rattle.back_end.specs.Plans.{act_fault}
+use Rattle.back_end.specs.Seats.{StandsFor}
+use Rattle.inspect_world.specs.Fits.{most_asks, HasLeft, FitsWith, Fits, join}
+use Rattle.inspect_world.specs.ActTexts.{refused_line, act_text}
+use Rattle.inspect_world.specs.Scripts.{page_line, sends, all_told, after_line, after_lines, line_text, lines_text, replies_after, closing_text, closing_unless, rest_text, text_of, report, loaded_world}
+use Rattle.page_forms.specs.Texts.{HaveTexts}
 use Rattle.inspect_world.specs.ScriptsFit.{ShowsAll}
 use Rattle.inspect_world.specs.Held.{Ends as HeldEnds, InWorld}
 use Rattle.inspect_world.specs.ShownReplies.{told_of, told_lines, replies_in}
 use Rattle.inspect_replay.specs.declared.ends.Ends.{Ends}
 use Rattle.inspect_replay.specs.declared.stop.Stop.{Stop}
 use Rattle.inspect_replay.specs.declared.stop.Stop.TheVariants.{Line, TooLong, ReadFault, WriteFault, LinkFault, FrontRefused, Memory}
-use Rattle.inspect_replay.specs.Runs.{InRun, Asks, Steps, ends_of}
+use Rattle.inspect_replay.specs.Runs.{InRun, Spends, Steps, ends_of}
 use Rattle.inspect_replay.specs.Says.{Phase, untouched, reading, underway, ended, anywhen, Counts, PartRose, Says, says, status_of}
 use Rattle.inspect_replay.specs.Moments.{moment, scene}
 use Rattle.inspect_replay.specs.Stops.{AmidRun, two_counts, HasStopCause, NotRefused}
 use Rattle.front_mirror.specs.declared.faults.FrontFault.{FrontFault}
 use Rattle.inspect_replay.specs.Answers.{Absent, AtEnd, InRunOnly, TookAt, RunTells, RunTook, Prints}
-use Rattle.inspect_replay.specs.Prints.{CarriesOut, Closes, IsRead}
+use Rattle.inspect_replay.specs.Prints.{CarriesOut, NumberedLine, line_of, Closes, IsRead}
 use Rattle.replay_script.proofs.ScriptLemmas.{first_bad-good, good_lines-good, good_lines-bad}
-use Rattle.inspect_world.proofs.Scripts.{settled-shows, given-all}
+use Rattle.inspect_world.proofs.Scripts.{settled-shows, given-all, IsState-first, left-first, left-after, left-one}
 use Rattle.inspect_world.proofs.Inputs.{input-script, Script, length-lines_of}
 use Rattle.inspect_world.proofs.Ends.{world-first, world-replies, world-told}
 
@@ -91,32 +105,40 @@ part-tells stop sink0 sink1 link0 link1 bad cause =
 
 -- ---- one line
 
--- an ask prints nothing
-pub ask-carries : (result : Result (Unit {0}) Stop) (honest honest1 : Type 0) (up down up1 down1 : Pipe) (taken : Option (List ℕ)) (e e1 : Ends) (a : AskForm) (form : LineForm)
-    → form ≡ ask a → Asks (moment honest up down e) (moment honest1 up1 down1 e1) result (λ w. sends a w)
-    → CarriesOut (scene (moment honest up down e) taken) (scene (moment honest1 up1 down1 e1) taken) form result
-ask-carries result honest honest1 up down up1 down1 taken e e1 a form is asks =
-    subst (λ f. CarriesOut (scene (moment honest up down e) taken) (scene (moment honest1 up1 down1 e1) taken) f result) (sym is)
-    (λ up0 down0 w few run. let both = asks up0 down0 w few run in (both.0, both.1, prints-nothing result taken))
-
--- nor does a line that delivers bytes
-pub move-carries : (result : Result (Unit {0}) Stop) (honest honest1 : Type 0) (up down up1 down1 : Pipe) (taken : Option (List ℕ)) (e e1 : Ends)
-    (f : World State → World State) (move form : LineForm)
-    → ((w : World State) → f w ≡ after_line move w) → ((w : World State) → [] ≡ line_text move w) → form ≡ move → Steps (moment honest up down e) (moment honest1 up1 down1 e1) result f
-    → CarriesOut (scene (moment honest up down e) taken) (scene (moment honest1 up1 down1 e1) taken) form result
-move-carries result honest honest1 up down up1 down1 taken e e1 f move form goes silent is steps =
-    subst (λ line. CarriesOut (scene (moment honest up down e) taken) (scene (moment honest1 up1 down1 e1) taken) line result) (sym is)
-    (λ up0 down0 w few run. let both = steps up0 down0 w run in (
+-- a line that sends a frame or makes a step prints nothing by itself
+pub spend-carries : (result : Result (Unit {0}) Stop) (honest honest1 : Type 0) (up down up1 down1 : Pipe) (taken : Option (List ℕ)) (e e1 : Ends)
+    (f : World State → World State) (number : ℕ) (move form : LineForm)
+    → ((w : World State) → f w ≡ after_line move w) → ((w : World State) → [] ≡ line_text number move w) → form ≡ move → Spends (moment honest up down e) (moment honest1 up1 down1 e1) result f
+    → CarriesOut (scene (moment honest up down e) taken) (scene (moment honest1 up1 down1 e1) taken) (line_of number form) result
+spend-carries result honest honest1 up down up1 down1 taken e e1 f number move form goes silent is spends =
+    subst (λ line. CarriesOut (scene (moment honest up down e) taken) (scene (moment honest1 up1 down1 e1) taken) (line_of number line) result) (sym is)
+    (λ up0 down0 w few run. let both = spends up0 down0 w few run in (
       both.0,
       subst (λ v. OnOk result (InRun honest1 up0 down0 up1 down1 v e1)) (goes w) both.1,
       subst (λ text. Prints result taken taken text) (silent w) (prints-nothing result taken),
     ))
 
+-- nor does a line that delivers bytes
+pub move-carries : (result : Result (Unit {0}) Stop) (honest honest1 : Type 0) (up down up1 down1 : Pipe) (taken : Option (List ℕ)) (e e1 : Ends)
+    (f : World State → World State) (number : ℕ) (move form : LineForm)
+    → ((w : World State) → f w ≡ after_line move w) → ((w : World State) → [] ≡ line_text number move w) → form ≡ move → Steps (moment honest up down e) (moment honest1 up1 down1 e1) result f
+    → CarriesOut (scene (moment honest up down e) taken) (scene (moment honest1 up1 down1 e1) taken) (line_of number form) result
+move-carries result honest honest1 up down up1 down1 taken e e1 f number move form goes silent is steps =
+    spend-carries result honest honest1 up down up1 down1 taken e e1 f number move form goes silent is (λ up0 down0 w few run. steps up0 down0 w run)
+
+-- a text that is sent is the line's
+pub raw-spends : (result : Result (Unit {0}) Stop) (honest honest1 : Type 0) (up down up1 down1 : Pipe) (e e1 : Ends) (text text1 : List ℕ) → text1 ≡ text
+    → Spends (moment honest up down e) (moment honest1 up1 down1 e1) result (λ w. raw text1 w)
+    → Spends (moment honest up down e) (moment honest1 up1 down1 e1) result (λ w. raw text w)
+raw-spends result honest honest1 up down up1 down1 e e1 text text1 is spends =
+    subst (λ t. Spends (moment honest up down e) (moment honest1 up1 down1 e1) result (λ w. raw t w)) is spends
+
 -- the same of equal lines
-pub same-carries : (result : Result (Unit {0}) Stop) (honest honest1 : Type 0) (up down up1 down1 : Pipe) (taken taken1 : Option (List ℕ)) (e e1 : Ends) (line form : LineForm)
-    → form ≡ line → CarriesOut (scene (moment honest up down e) taken) (scene (moment honest1 up1 down1 e1) taken1) line result → CarriesOut (scene (moment honest up down e) taken) (scene (moment honest1 up1 down1 e1) taken1) form result
-same-carries result honest honest1 up down up1 down1 taken taken1 e e1 line form is carries =
-    subst (λ f. CarriesOut (scene (moment honest up down e) taken) (scene (moment honest1 up1 down1 e1) taken1) f result) (sym is) carries
+pub same-carries : (result : Result (Unit {0}) Stop) (honest honest1 : Type 0) (up down up1 down1 : Pipe) (taken taken1 : Option (List ℕ)) (e e1 : Ends) (number : ℕ) (line form : LineForm)
+    → form ≡ line → CarriesOut (scene (moment honest up down e) taken) (scene (moment honest1 up1 down1 e1) taken1) (line_of number line) result
+    → CarriesOut (scene (moment honest up down e) taken) (scene (moment honest1 up1 down1 e1) taken1) (line_of number form) result
+same-carries result honest honest1 up down up1 down1 taken taken1 e e1 number line form is carries =
+    subst (λ f. CarriesOut (scene (moment honest up down e) taken) (scene (moment honest1 up1 down1 e1) taken1) (line_of number f) result) (sym is) carries
 
 -- after a settle the front end shows what the client sees of the page
 ok-same : {F E : Type 0} (r : Result F E) (a b : F) → r ≡ Ok a → r ≡ Ok b → a ≡ b
@@ -124,7 +146,7 @@ ok-same r a b x y = let both : Ok a ≡ Ok b = sym x ∙ y in cc
 
 pub shown-settled : (honest honest1 : Type 0) (up0 down0 up down up1 down1 : Pipe) (w : World State) (e e1 : Ends)
     → InRun honest up0 down0 up down w e → InRun honest1 up0 down0 up1 down1 (settled step w) e1
-    → e1.front.value.tree ≡ view_of (settled step w).state
+    → e1.front.value.tree ≡ (view_of (settled step w).state).tree
 shown-settled honest honest1 up0 down0 up down up1 down1 w e e1 before after =
     let fits : Fits w = subst (λ frames. FitsWith w (frames ++ awaited w.up)) before.none_whole before.so_far.in_world.fits in
     let shows : ShowsAll (settled step w) = settled-shows w fits in
@@ -133,7 +155,7 @@ shown-settled honest honest1 up0 down0 up down up1 down1 w e e1 before after =
     let fold_is : folded take_frame (joined join (first_value []) (frames_of (settled step w).up.given).whole) (frames_of (settled step w).down.given).whole ≡ Ok after.so_far.in_world.value =
     ap (λ bytes. folded take_frame (joined join (first_value []) (frames_of bytes).whole) (frames_of (settled step w).down.given).whole) (sym sent_is) ∙ after.so_far.in_world.is_fold in
     let is : after.so_far.in_world.value ≡ shows.front = ok-same (folded take_frame (joined join (first_value []) (frames_of (settled step w).up.given).whole) (frames_of (settled step w).down.given).whole) after.so_far.in_world.value shows.front fold_is shows.is_fold in
-    ap (λ (f : FrontState). f.value.tree) after.so_far.in_world.front_is ∙ ap (λ (v : FrontValue). v.tree) is ∙ shows.shows
+    ap (λ (f : FrontState). f.value.tree) after.so_far.in_world.front_is ∙ ap (λ (v : FrontValue). v.tree) is ∙ shows.shows.tree
 
 -- a printed outline is that of the page
 pub prints-same : {T : Type 0} (result : Result T Stop) (before after : Option (List ℕ)) (text text1 : List ℕ) → text ≡ text1
@@ -150,28 +172,67 @@ after-ok : {T P : Type 0} (result : Result T Stop) → P → OnOk result P
 after-ok (Ok value) p = p
 after-ok (Err stop) p = tt
 
+-- a change of the page: what the page says is refused is what the script's own state says
+page-is : (honest : Type 0) (up0 down0 up down : Pipe) (w : World State) (e : Ends) → InRun honest up0 down0 up down w e → e.side.page ≡ w.state.side.page
+page-is honest up0 down0 up down w e run = run.so_far.in_world.stands.page_is
+
+pub act-carries : (result : Result (Unit {0}) Stop) (fault : Option EditFault) (honest honest1 : Type 0) (up down up1 down1 : Pipe) (taken taken1 : Option (List ℕ)) (e e1 : Ends)
+    (number : ℕ) (a : Act)
+    → Spends {T = Option EditFault} (moment honest up down e) (moment honest1 up1 down1 e1) (Ok fault) (λ w. turned turn (acts a) w)
+    → fault ≡ act_fault a e.side.page → NotRefused result
+    → OnOk result (Appends taken taken1 (act_text number fault)) → OnErr result (WrotePart taken taken1 (act_text number fault))
+    → CarriesOut (scene (moment honest up down e) taken) (scene (moment honest1 up1 down1 e1) taken1) (line_of number (forms_of.act a)) result
+act-carries result fault honest honest1 up down up1 down1 taken taken1 e e1 number a spends is never ok err = λ up0 down0 w few run.
+    let both = spends up0 down0 w few run in
+    let says_same : fault ≡ act_fault a w.state.side.page = is ∙ ap (act_fault a) (page-is honest up0 down0 up down w e run) in (
+      never,
+      after-ok result both.1,
+      prints-same result taken taken1 (act_text number fault) (act_text number (act_fault a w.state.side.page)) (ap (act_text number) says_same) ok err,
+    )
+
+-- or it was not made
+pub act-stops : (stop : Stop) (honest honest1 : Type 0) (up down up1 down1 : Pipe) (taken : Option (List ℕ)) (e e1 : Ends) (line : NumberedLine) (f : World State → World State)
+    → Spends {T = Option EditFault} (moment honest up down e) (moment honest1 up1 down1 e1) (Err stop) f
+    → CarriesOut {T = Unit {0}} (scene (moment honest up down e) taken) (scene (moment honest1 up1 down1 e1) taken) line (Err stop)
+act-stops stop honest honest1 up down up1 down1 taken e e1 line f spends = λ up0 down0 w few run.
+    ((spends up0 down0 w few run).0, tt, record { part = []; rest = line_text line.number line.form w; whole = refl; wrote = Appends-nil taken })
+
+-- the page itself is printed
+pub page-carries : (result : Result (Unit {0}) Stop) (honest : Type 0) (up down : Pipe) (taken taken1 : Option (List ℕ)) (e : Ends) (number : ℕ) (page : PageValue)
+    → page ≡ e.side.page → NotRefused result
+    → OnOk result (Appends taken taken1 (codes "# page" ++ 10 ∷ outline_text page_line (alone page.tree)))
+    → OnErr result (WrotePart taken taken1 (codes "# page" ++ 10 ∷ outline_text page_line (alone page.tree)))
+    → CarriesOut (scene (moment honest up down e) taken) (scene (moment honest up down e) taken1) (line_of number show_page) result
+page-carries result honest up down taken taken1 e number page is never ok err = λ up0 down0 w few run.
+    let same : page ≡ w.state.side.page = is ∙ page-is honest up0 down0 up down w e run in (
+      never,
+      after-ok result run,
+      prints-same result taken taken1 (codes "# page" ++ 10 ∷ outline_text page_line (alone page.tree)) (codes "# page" ++ 10 ∷ outline_text page_line (nodes_in w.state))
+          (ap (λ (p : PageValue). codes "# page" ++ 10 ∷ outline_text page_line (alone p.tree)) same) ok err,
+    )
+
 -- a show that was printed
 pub show-carries : (result : Result (Unit {0}) Stop) (honest honest1 : Type 0) (up down up1 down1 : Pipe) (taken taken1 : Option (List ℕ)) (e e1 : Ends)
-    (tree : Nodes Seen)
+    (number : ℕ) (tree : Nodes Seen)
     → SettlesTo honest honest1 up down up1 down1 e e1 → tree ≡ e1.front.value.tree → NotRefused result
     → OnOk result (Appends taken taken1 (codes "# front" ++ 10 ∷ outline_text seen_line tree))
     → OnErr result (WrotePart taken taken1 (codes "# front" ++ 10 ∷ outline_text seen_line tree))
-    → CarriesOut (scene (moment honest up down e) taken) (scene (moment honest1 up1 down1 e1) taken1) show_front result
-show-carries result honest honest1 up down up1 down1 taken taken1 e e1 tree settles same never ok err = λ up0 down0 w few run.
+    → CarriesOut (scene (moment honest up down e) taken) (scene (moment honest1 up1 down1 e1) taken1) (line_of number show_front) result
+show-carries result honest honest1 up down up1 down1 taken taken1 e e1 number tree settles same never ok err = λ up0 down0 w few run.
     let after : InRun honest1 up0 down0 up1 down1 (settled step w) e1 = settles up0 down0 w run in
-    let shows : tree ≡ view_of (settled step w).state = same ∙ shown-settled honest honest1 up0 down0 up down up1 down1 w e e1 run after in (
+    let shows : tree ≡ (view_of (settled step w).state).tree = same ∙ shown-settled honest honest1 up0 down0 up down up1 down1 w e e1 run after in (
       never,
       after-ok result after,
-      prints-same result taken taken1 (codes "# front" ++ 10 ∷ outline_text seen_line tree) (codes "# front" ++ 10 ∷ outline_text seen_line (view_of (settled step w).state))
+      prints-same result taken taken1 (codes "# front" ++ 10 ∷ outline_text seen_line tree) (codes "# front" ++ 10 ∷ outline_text seen_line (view_of (settled step w).state).tree)
           (ap (λ t. codes "# front" ++ 10 ∷ outline_text seen_line t) shows) ok err,
     )
 
 -- a show that did not settle
-pub show-stops : (stop : Stop) (honest honest1 : Type 0) (up down up1 down1 : Pipe) (taken : Option (List ℕ)) (e e1 : Ends) (form : LineForm)
+pub show-stops : (stop : Stop) (honest honest1 : Type 0) (up down up1 down1 : Pipe) (taken : Option (List ℕ)) (e e1 : Ends) (line : NumberedLine)
     → ((up0 down0 : Pipe) (w : World State) → InRun honest up0 down0 up down w e → NotRefused {T = Unit {0}} (Err stop))
-    → CarriesOut {T = Unit {0}} (scene (moment honest up down e) taken) (scene (moment honest1 up1 down1 e1) taken) form (Err stop)
-show-stops stop honest honest1 up down up1 down1 taken e e1 form never = λ up0 down0 w few run.
-    (never up0 down0 w run, tt, record { part = []; rest = line_text form w; whole = refl; wrote = Appends-nil taken })
+    → CarriesOut {T = Unit {0}} (scene (moment honest up down e) taken) (scene (moment honest1 up1 down1 e1) taken) line (Err stop)
+show-stops stop honest honest1 up down up1 down1 taken e e1 line never = λ up0 down0 w few run.
+    (never up0 down0 w run, tt, record { part = []; rest = line_text line.number line.form w; whole = refl; wrote = Appends-nil taken })
 
 -- ---- the replies
 
@@ -202,17 +263,17 @@ told-settled honest1 up0 down0 up1 down1 w e1 kept after u =
 abbrev pub replies_text : List Kept → List ℕ
 replies_text kept = codes "# replies" ++ 10 ∷ told_lines (map told_of kept)
 
-replies-same : (honest1 : Type 0) (up0 down0 up1 down1 : Pipe) (w : World State) (e1 : Ends) (kept : List Kept)
-    → InRun honest1 up0 down0 up1 down1 (settled step w) e1 → Untold e1 kept → replies_text kept ≡ line_text show_replies w
-replies-same honest1 up0 down0 up1 down1 w e1 kept after u =
+replies-same : (number : ℕ) (honest1 : Type 0) (up0 down0 up1 down1 : Pipe) (w : World State) (e1 : Ends) (kept : List Kept)
+    → InRun honest1 up0 down0 up1 down1 (settled step w) e1 → Untold e1 kept → replies_text kept ≡ line_text number show_replies w
+replies-same number honest1 up0 down0 up1 down1 w e1 kept after u =
     ap (λ ts. codes "# replies" ++ 10 ∷ told_lines ts) (told-settled honest1 up0 down0 up1 down1 w e1 kept after u)
 
 -- they were printed, and count as told
-pub replies-carried : (honest honest1 : Type 0) (up down up1 down1 : Pipe) (taken taken1 : Option (List ℕ)) (e e1 e2 : Ends) (kept : List Kept)
+pub replies-carried : (number : ℕ) (honest honest1 : Type 0) (up down up1 down1 : Pipe) (taken taken1 : Option (List ℕ)) (e e1 e2 : Ends) (kept : List Kept)
     → SettlesTo honest honest1 up down up1 down1 e e1 → Untold e1 kept
     → Appends taken taken1 (replies_text kept) → e2 ≡ record e1 { told = length e1.front.value.replies }
-    → CarriesOut {T = Unit {0}} (scene (moment honest up down e) taken) (scene (moment honest1 up1 down1 e2) taken1) show_replies (Ok tt)
-replies-carried honest honest1 up down up1 down1 taken taken1 e e1 e2 kept settles u printed told = λ up0 down0 w few run.
+    → CarriesOut {T = Unit {0}} (scene (moment honest up down e) taken) (scene (moment honest1 up1 down1 e2) taken1) (line_of number show_replies) (Ok tt)
+replies-carried number honest honest1 up down up1 down1 taken taken1 e e1 e2 kept settles u printed told = λ up0 down0 w few run.
     let after : InRun honest1 up0 down0 up1 down1 (settled step w) e1 = settles up0 down0 w run in
     let count : ℕ = length e1.front.value.replies in (
       tt,
@@ -223,17 +284,17 @@ replies-carried honest honest1 up down up1 down1 taken taken1 e e1 e2 kept settl
         };
         none_whole = after.none_whole;
       }),
-      subst (λ t. Appends taken taken1 t) (replies-same honest1 up0 down0 up1 down1 w e1 kept after u) printed,
+      subst (λ t. Appends taken taken1 t) (replies-same number honest1 up0 down0 up1 down1 w e1 kept after u) printed,
     )
 
 -- or they were not
-pub replies-stop : (stop : Stop) (honest honest1 : Type 0) (up down up1 down1 : Pipe) (taken taken1 : Option (List ℕ)) (e e1 e2 : Ends) (kept : List Kept)
+pub replies-stop : (number : ℕ) (stop : Stop) (honest honest1 : Type 0) (up down up1 down1 : Pipe) (taken taken1 : Option (List ℕ)) (e e1 e2 : Ends) (kept : List Kept)
     → SettlesTo honest honest1 up down up1 down1 e e1 → Untold e1 kept
     → NotRefused {T = Unit {0}} (Err stop) → WrotePart taken taken1 (replies_text kept)
-    → CarriesOut {T = Unit {0}} (scene (moment honest up down e) taken) (scene (moment honest1 up1 down1 e2) taken1) show_replies (Err stop)
-replies-stop stop honest honest1 up down up1 down1 taken taken1 e e1 e2 kept settles u never wrote = λ up0 down0 w few run.
+    → CarriesOut {T = Unit {0}} (scene (moment honest up down e) taken) (scene (moment honest1 up1 down1 e2) taken1) (line_of number show_replies) (Err stop)
+replies-stop number stop honest honest1 up down up1 down1 taken taken1 e e1 e2 kept settles u never wrote = λ up0 down0 w few run.
     let after : InRun honest1 up0 down0 up1 down1 (settled step w) e1 = settles up0 down0 w run in
-    (never, tt, subst (λ t. WrotePart taken taken1 t) (replies-same honest1 up0 down0 up1 down1 w e1 kept after u) wrote)
+    (never, tt, subst (λ t. WrotePart taken taken1 t) (replies-same number honest1 up0 down0 up1 down1 w e1 kept after u) wrote)
 
 -- the closing part that was printed
 pub closes-well : (result : Result (Unit {0}) Stop) (honest honest1 : Type 0) (up down up1 down1 : Pipe) (taken taken1 : Option (List ℕ)) (e e1 : Ends)
@@ -244,9 +305,9 @@ pub closes-well : (result : Result (Unit {0}) Stop) (honest honest1 : Type 0) (u
     → Closes (scene (moment honest up down e) taken) taken1 result
 closes-well result honest honest1 up down up1 down1 taken taken1 e e1 tree settles same never ok err = λ up0 down0 w run.
     let after : InRun honest1 up0 down0 up1 down1 (settled step w) e1 = settles up0 down0 w run in
-    let shows : tree ≡ view_of (settled step w).state = same ∙ shown-settled honest honest1 up0 down0 up down up1 down1 w e e1 run after in (
+    let shows : tree ≡ (view_of (settled step w).state).tree = same ∙ shown-settled honest honest1 up0 down0 up down up1 down1 w e e1 run after in (
       never,
-      prints-same result taken taken1 (codes "# end" ++ 10 ∷ outline_text seen_line tree) (codes "# end" ++ 10 ∷ outline_text seen_line (view_of (settled step w).state))
+      prints-same result taken taken1 (codes "# end" ++ 10 ∷ outline_text seen_line tree) (codes "# end" ++ 10 ∷ outline_text seen_line (view_of (settled step w).state).tree)
           (ap (λ t. codes "# end" ++ 10 ∷ outline_text seen_line t) shows) ok err,
     )
 
@@ -263,10 +324,10 @@ pub record Running (honest : Type 0) (up0 down0 up down : Pipe) (taken0 taken : 
     (number : ℕ) (lines : List (List ℕ)) (e : Ends) : Type 0 where
   pub world : World State
   pub in_run : InRun honest up0 down0 up down world e
-  pub few : world.spent.asks + length lines ≤ most_asks
+  pub few : HasLeft world.spent (length lines)
   pub so_far : List ℕ
   pub wrote : Appends taken0 taken so_far
-  pub text : all_text ≡ so_far ++ lines_text (good_lines number lines) world
+  pub text : all_text ≡ so_far ++ lines_text number (good_lines number lines) world
   pub worlds : all_world ≡ after_lines (good_lines number lines) world
 
 -- an error came after a front part of the text was written
@@ -282,21 +343,11 @@ pub with_lines : (honest : Type 0) (up0 down0 up down : Pipe) (taken0 taken : Op
 with_lines honest up0 down0 up down taken0 taken all_text all_world number lines lines1 e same running =
     subst (λ ls. Running honest up0 down0 up down taken0 taken all_text all_world number ls e) same running
 
--- how many asks a line sends
-asks-after : (line : LineForm) (w : World State) → (after_line line w).spent.asks ≤ w.spent.asks + 1
-asks-after (load nodes) w = omega arith
-asks-after (ask a) w = omega arith
-asks-after (forms_of.up n) w = omega arith
-asks-after (forms_of.down n) w = omega arith
-asks-after forms_of.settle w = omega arith
-asks-after show_front w = omega arith
-asks-after show_replies w = omega arith
-
 -- one line is carried out
 pub run_turn : (result : Result (Unit {0}) Stop) (c : Counts) (honest honest1 : Type 0) (up0 down0 up down up1 down1 : Pipe) (taken0 taken taken1 : Option (List ℕ))
     (all_text : List ℕ) (all_world : World State) (number : ℕ) (line : List ℕ) (more : List (List ℕ)) (form : LineForm) (e e1 : Ends)
     → Running honest up0 down0 up down taken0 taken all_text all_world number (line ∷ more) e
-    → line_fault number line ≡ None → line_form line ≡ Some form → CarriesOut (scene (moment honest up down e) taken) (scene (moment honest1 up1 down1 e1) taken1) form result
+    → line_fault number line ≡ None → line_form line ≡ Some form → CarriesOut (scene (moment honest up down e) taken) (scene (moment honest1 up1 down1 e1) taken1) (line_of number form) result
     → NotRefused result
     × OnOk result (Running honest1 up0 down0 up1 down1 taken0 taken1 all_text all_world (number + 1) more e1)
     × FailsPart result taken0 taken1 all_text
@@ -305,51 +356,50 @@ run_turn result c honest honest1 up0 down0 up down up1 down1 taken0 taken taken1
     let forms : good_lines number (line ∷ more) ≡ form ∷ good_lines (number + 1) more =
     good_lines-good number line more form good is in
     let later = good_lines (number + 1) more in
-    let enough : w.spent.asks < most_asks = (let h : w.spent.asks + suc (length more) ≤ most_asks = running.few in omega (arith, h)) in
+    let enough : HasLeft w.spent 1 = left-one (length more) w running.few in
     let all = carries up0 down0 w enough running.in_run in
-    let text : all_text ≡ running.so_far ++ (line_text form w ++ lines_text later (after_line form w)) =
-    running.text ∙ ap (λ fs. running.so_far ++ lines_text fs w) forms in
+    let text : all_text ≡ running.so_far ++ (line_text number form w ++ lines_text (number + 1) later (after_line form w)) =
+    running.text ∙ ap (λ fs. running.so_far ++ lines_text number fs w) forms in
     let worlds : all_world ≡ after_lines later (after_line form w) = running.worlds ∙ ap (λ fs. after_lines fs w) forms in
-    let left : (after_line form w).spent.asks + length more ≤ most_asks =
-    (let h : w.spent.asks + suc (length more) ≤ most_asks = running.few in omega (arith, h, asks-after form w)) in
-    let rest = by-result result c honest1 up0 down0 up1 down1 taken0 taken taken1 all_text all_world (number + 1) more e1 w form running.so_far later refl left running.wrote text worlds all.1 all.2 in
+    let left : HasLeft (after_line form w).spent (length more) = left-after form (length more) w running.few in
+    let rest = by-result result c honest1 up0 down0 up1 down1 taken0 taken taken1 all_text all_world number more e1 w form running.so_far later refl left running.wrote text worlds all.1 all.2 in
     (all.0, rest.0, rest.1)
   where
     by-result : (result : Result (Unit {0}) Stop) (c : Counts) (honest1 : Type 0) (up0 down0 up1 down1 : Pipe) (taken0 taken taken1 : Option (List ℕ))
-        (all_text : List ℕ) (all_world : World State) (number1 : ℕ) (more : List (List ℕ)) (e1 : Ends) (w : World State) (form : LineForm) (so_far : List ℕ) (later : List LineForm)
-        → later ≡ good_lines number1 more
-        → (after_line form w).spent.asks + length more ≤ most_asks
+        (all_text : List ℕ) (all_world : World State) (number : ℕ) (more : List (List ℕ)) (e1 : Ends) (w : World State) (form : LineForm) (so_far : List ℕ) (later : List LineForm)
+        → later ≡ good_lines (number + 1) more
+        → HasLeft (after_line form w).spent (length more)
         → Appends taken0 taken so_far
-        → all_text ≡ so_far ++ (line_text form w ++ lines_text later (after_line form w))
+        → all_text ≡ so_far ++ (line_text number form w ++ lines_text (number + 1) later (after_line form w))
         → all_world ≡ after_lines later (after_line form w)
-        → OnOk result (InRun honest1 up0 down0 up1 down1 (after_line form w) e1) → Prints result taken taken1 (line_text form w)
-        → OnOk result (Running honest1 up0 down0 up1 down1 taken0 taken1 all_text all_world number1 more e1)
+        → OnOk result (InRun honest1 up0 down0 up1 down1 (after_line form w) e1) → Prints result taken taken1 (line_text number form w)
+        → OnOk result (Running honest1 up0 down0 up1 down1 taken0 taken1 all_text all_world (number + 1) more e1)
         × FailsPart result taken0 taken1 all_text
-    by-result (Ok value) c honest1 up0 down0 up1 down1 taken0 taken taken1 all_text all_world number1 more e1 w form so_far later same left wrote text worlds run printed = (
+    by-result (Ok value) c honest1 up0 down0 up1 down1 taken0 taken taken1 all_text all_world number more e1 w form so_far later same left wrote text worlds run printed = (
       record {
         world = after_line form w;
         in_run = run;
         few = left;
-        so_far = so_far ++ line_text form w;
-        wrote = Appends-append taken0 taken taken1 so_far (line_text form w) wrote printed;
-        text = text ∙ sym (append_assoc so_far (line_text form w) (lines_text later (after_line form w)))
-            ∙ ap (λ fs. (so_far ++ line_text form w) ++ lines_text fs (after_line form w)) same;
+        so_far = so_far ++ line_text number form w;
+        wrote = Appends-append taken0 taken taken1 so_far (line_text number form w) wrote printed;
+        text = text ∙ sym (append_assoc so_far (line_text number form w) (lines_text (number + 1) later (after_line form w)))
+            ∙ ap (λ fs. (so_far ++ line_text number form w) ++ lines_text (number + 1) fs (after_line form w)) same;
         worlds = worlds ∙ ap (λ fs. after_lines fs (after_line form w)) same;
       },
       tt,
     )
-    by-result (Err stop) c honest1 up0 down0 up1 down1 taken0 taken taken1 all_text all_world number1 more e1 w form so_far later same left wrote text worlds run printed = (
+    by-result (Err stop) c honest1 up0 down0 up1 down1 taken0 taken taken1 all_text all_world number more e1 w form so_far later same left wrote text worlds run printed = (
       tt,
       subst (λ t. WrotePart taken0 taken1 t)
-          (append_assoc so_far (line_text form w) (lines_text later (after_line form w)) ∙ sym text)
-          (WrotePart-longer taken0 taken1 (so_far ++ line_text form w) (lines_text later (after_line form w))
-          (WrotePart-after taken0 taken taken1 so_far (line_text form w) wrote printed)),
+          (append_assoc so_far (line_text number form w) (lines_text (number + 1) later (after_line form w)) ∙ sym text)
+          (WrotePart-longer taken0 taken1 (so_far ++ line_text number form w) (lines_text (number + 1) later (after_line form w))
+          (WrotePart-after taken0 taken taken1 so_far (line_text number form w) wrote printed)),
     )
 
 -- ---- how the lines end
 
-nothing-left : (so_far : List ℕ) (w : World State) (forms : List LineForm) → forms ≡ [] → so_far ++ lines_text forms w ≡ so_far
-nothing-left so_far w forms e = ap (λ fs. so_far ++ lines_text fs w) e ∙ append-nil so_far
+nothing-left : (so_far : List ℕ) (number : ℕ) (w : World State) (forms : List LineForm) → forms ≡ [] → so_far ++ lines_text number forms w ≡ so_far
+nothing-left so_far number w forms e = ap (λ fs. so_far ++ lines_text number fs w) e ∙ append-nil so_far
 
 -- a line is not read
 pub read-stops : (stop : Stop) (honest : Type 0) (up0 down0 up down : Pipe) (taken0 taken : Option (List ℕ)) (all_text : List ℕ) (all_world : World State)
@@ -359,7 +409,7 @@ pub read-stops : (stop : Stop) (honest : Type 0) (up0 down0 up down : Pipe) (tak
     → RunTook {T = Unit {0}} (Err stop) taken0 taken all_text
 read-stops (Line n fault) honest up0 down0 up down taken0 taken all_text all_world number line more e running read =
     subst (λ t. Appends taken0 taken t)
-    (sym (running.text ∙ nothing-left running.so_far running.world (good_lines number (line ∷ more)) (good_lines-bad number line more fault read.1)))
+    (sym (running.text ∙ nothing-left running.so_far number running.world (good_lines number (line ∷ more)) (good_lines-bad number line more fault read.1)))
     running.wrote
 read-stops TooLong honest up0 down0 up down taken0 taken all_text all_world number line more e running read = absurd read
 read-stops ReadFault honest up0 down0 up down taken0 taken all_text all_world number line more e running read = absurd read
@@ -368,7 +418,7 @@ read-stops LinkFault honest up0 down0 up down taken0 taken all_text all_world nu
 read-stops (FrontRefused place kind) honest up0 down0 up down taken0 taken all_text all_world number line more e running read = absurd read
 read-stops Memory honest up0 down0 up down taken0 taken all_text all_world number line more e running read =
     subst (λ t. WrotePart taken0 taken t) (sym running.text)
-    (WrotePart-all taken0 taken running.so_far (lines_text (good_lines number (line ∷ more)) running.world) running.wrote)
+    (WrotePart-all taken0 taken running.so_far (lines_text number (good_lines number (line ∷ more)) running.world) running.wrote)
 
 -- no line is left
 pub lines-done : (honest : Type 0) (up0 down0 up down : Pipe) (taken0 taken : Option (List ℕ)) (all_text : List ℕ) (all_world : World State)
@@ -378,34 +428,34 @@ pub lines-done : (honest : Type 0) (up0 down0 up down : Pipe) (taken0 taken : Op
 lines-done honest up0 down0 up down taken0 taken all_text all_world number lines e running none =
     let forms : good_lines number lines ≡ [] = ap (good_lines number) none in (
       subst (λ v. InRun honest up0 down0 up down v e) (sym (running.worlds ∙ ap (λ fs. after_lines fs running.world) forms)) running.in_run,
-      subst (λ t. Appends taken0 taken t) (sym (running.text ∙ nothing-left running.so_far running.world (good_lines number lines) forms)) running.wrote,
+      subst (λ t. Appends taken0 taken t) (sym (running.text ∙ nothing-left running.so_far number running.world (good_lines number lines) forms)) running.wrote,
     )
 
 -- the part after the lines
 pub closed-took : (result : Result (Unit {0}) Stop) (sink0 sink1 link0 link1 : ℕ) (taken0 taken taken1 : Option (List ℕ)) (bad : Option (ℕ × LineFault)) (forms : List LineForm) (w : World State)
     → bad ≡ None → HasStopCause sink0 sink1 link0 link1 result → NotRefused result
-    → Appends taken0 taken (lines_text forms w) → Prints result taken taken1 (closing_text (after_lines forms w))
+    → Appends taken0 taken (lines_text 2 forms w) → Prints result taken taken1 (closing_text (after_lines forms w))
     → RunTook result taken0 taken1 (rest_text bad forms w)
 closed-took (Ok value) sink0 sink1 link0 link1 taken0 taken taken1 bad forms w none cause well wrote printed =
     subst (λ b. Appends taken0 taken1 (rest_text b forms w)) (sym none)
-    (Appends-append taken0 taken taken1 (lines_text forms w) (closing_text (after_lines forms w)) wrote printed)
+    (Appends-append taken0 taken taken1 (lines_text 2 forms w) (closing_text (after_lines forms w)) wrote printed)
 closed-took (Err stop) sink0 sink1 link0 link1 taken0 taken taken1 bad forms w none cause well wrote printed =
     part-took stop sink0 sink1 link0 link1 taken0 taken1 (rest_text bad forms w) cause well
     (subst (λ b. WrotePart taken0 taken1 (rest_text b forms w)) (sym none)
-    (WrotePart-after taken0 taken taken1 (lines_text forms w) (closing_text (after_lines forms w)) wrote printed))
+    (WrotePart-after taken0 taken taken1 (lines_text 2 forms w) (closing_text (after_lines forms w)) wrote printed))
 
 -- the lines stopped
 pub stopped-took : (stop : Stop) (taken0 taken : Option (List ℕ)) (bad : Option (ℕ × LineFault)) (forms : List LineForm) (w : World State)
-    → RunTells {T = Unit {0}} (Err stop) bad → RunTook {T = Unit {0}} (Err stop) taken0 taken (lines_text forms w)
+    → RunTells {T = Unit {0}} (Err stop) bad → RunTook {T = Unit {0}} (Err stop) taken0 taken (lines_text 2 forms w)
     → RunTook {T = Unit {0}} (Err stop) taken0 taken (rest_text bad forms w)
 stopped-took (Line n fault) taken0 taken bad forms w tells took =
-    subst (λ b. Appends taken0 taken (rest_text b forms w)) (sym tells) (subst (λ t. Appends taken0 taken t) (sym (append-nil (lines_text forms w))) took)
+    subst (λ b. Appends taken0 taken (rest_text b forms w)) (sym tells) (subst (λ t. Appends taken0 taken t) (sym (append-nil (lines_text 2 forms w))) took)
 stopped-took TooLong taken0 taken bad forms w tells took = absurd took
 stopped-took ReadFault taken0 taken bad forms w tells took = absurd took
-stopped-took WriteFault taken0 taken bad forms w tells took = WrotePart-longer taken0 taken (lines_text forms w) (closing_unless bad (after_lines forms w)) took
-stopped-took LinkFault taken0 taken bad forms w tells took = WrotePart-longer taken0 taken (lines_text forms w) (closing_unless bad (after_lines forms w)) took
+stopped-took WriteFault taken0 taken bad forms w tells took = WrotePart-longer taken0 taken (lines_text 2 forms w) (closing_unless bad (after_lines forms w)) took
+stopped-took LinkFault taken0 taken bad forms w tells took = WrotePart-longer taken0 taken (lines_text 2 forms w) (closing_unless bad (after_lines forms w)) took
 stopped-took (FrontRefused place kind) taken0 taken bad forms w tells took = absurd took
-stopped-took Memory taken0 taken bad forms w tells took = WrotePart-longer taken0 taken (lines_text forms w) (closing_unless bad (after_lines forms w)) took
+stopped-took Memory taken0 taken bad forms w tells took = WrotePart-longer taken0 taken (lines_text 2 forms w) (closing_unless bad (after_lines forms w)) took
 
 -- ---- the whole script
 
@@ -440,16 +490,14 @@ few-lines input first more limit lines few =
 -- ---- the start
 
 -- the ends of a page that was just loaded
-abbrev pub first_ends : Nodes Label → HeldEnds
-first_ends nodes = record { page = loaded 1 nodes; is_on = false; bound = empty_from 1; back_rest = []; front = first_state; up_there = 0; down_there = 0; told = 0 }
+abbrev pub first_ends : Seat → PageSide → HeldEnds
+first_ends seat side = record { seat = seat; side = side; back_rest = []; front = first_state; up_there = 0; down_there = 0; told = 0 }
 
-pub ends-first : (nodes : Nodes Label) (e : Ends)
-    → e.side.page ≡ loaded 1 nodes → e.seat.is_on ≡ false → e.seat.agent ≡ empty_from 1 → e.splitter ≡ no_frames → e.front ≡ first_state
-    → e.up_there ≡ 0 → e.down_there ≡ 0 → e.told ≡ 0 → ends_of e ≡ first_ends nodes
-ends-first nodes e page_is off agent_is splitter_is front_is up_none down_none told_none = λ i. record {
-  page = page_is i;
-  is_on = off i;
-  bound = agent_is i;
+pub ends-first : (e : Ends) → e.splitter ≡ no_frames → e.front ≡ first_state
+    → e.up_there ≡ 0 → e.down_there ≡ 0 → e.told ≡ 0 → ends_of e ≡ first_ends e.seat e.side
+ends-first e splitter_is front_is up_none down_none told_none = λ i. record {
+  seat = e.seat;
+  side = e.side;
   back_rest = (splitter_is i).rest;
   front = front_is i;
   up_there = up_none i;
@@ -457,16 +505,26 @@ ends-first nodes e page_is off agent_is splitter_is front_is up_none down_none t
   told = told_none i;
 }
 
+-- a new seat stands for it
+pub stands-first : (nodes : Nodes Label) (seat : Seat) (side : PageSide) → CanLoad nodes → HaveTexts nodes
+    → side.page ≡ loaded 1 nodes → seat.desk.is_on ≡ false → seat.desk.agent ≡ empty_from 1 → StandsFor seat side (loaded_state nodes)
+stands-first nodes seat side can texts page_is off agent_is = record {
+  is_state = IsState-first nodes can texts;
+  page_is = page_is;
+  on_is = off;
+  stands = subst (λ b. Stands (nodes_in (loaded_state nodes)) begun b) (sym agent_is) (Stands-begun (nodes_in (loaded_state nodes)));
+}
+
 nothing-awaited : (nodes : Nodes Label) → awaited (loaded_world nodes).up ≡ []
 unfolding frames_of
 nothing-awaited nodes = refl
 
 pub begins : (honest : Type 0) (up down : Pipe) (nodes : Nodes Label) (e : Ends) → honest → CanLoad nodes → HaveTexts nodes → IsLevel up → IsLevel down
-    → e.side.page ≡ loaded 1 nodes → e.seat.is_on ≡ false → e.seat.agent ≡ empty_from 1 → e.splitter ≡ no_frames → e.front ≡ first_state
+    → e.side.page ≡ loaded 1 nodes → e.seat.desk.is_on ≡ false → e.seat.desk.agent ≡ empty_from 1 → e.splitter ≡ no_frames → e.front ≡ first_state
     → e.up_there ≡ 0 → e.down_there ≡ 0 → e.told ≡ 0
     → InRun honest up down up down (loaded_world nodes) e
 begins honest up down nodes e is_honest can texts up_level down_level page_is off agent_is splitter_is front_is up_none down_none told_none =
-    let same : first_ends nodes ≡ ends_of e = sym (ends-first nodes e page_is off agent_is splitter_is front_is up_none down_none told_none) in
+    let same : first_ends e.seat e.side ≡ ends_of e = sym (ends-first e splitter_is front_is up_none down_none told_none) in
     let none : e.splitter.whole ≡ [] = ap (λ (f : Frames). f.whole) splitter_is in
     let frames : [] ≡ e.splitter.whole ++ awaited (loaded_world nodes).up =
     sym (ap (λ whole. whole ++ awaited (loaded_world nodes).up) none ∙ nothing-awaited nodes) in
@@ -474,7 +532,8 @@ begins honest up down nodes e is_honest can texts up_level down_level page_is of
       so_far = record {
         is_honest = is_honest;
         in_world = subst (λ h. InWorld up down up down (loaded_world nodes) (e.splitter.whole ++ awaited (loaded_world nodes).up) h) same
-            (subst (λ fs. InWorld up down up down (loaded_world nodes) fs (first_ends nodes)) frames (world-first up down nodes can texts up_level down_level));
+            (subst (λ fs. InWorld up down up down (loaded_world nodes) fs (first_ends e.seat e.side)) frames
+            (world-first up down nodes e.seat e.side can texts up_level down_level (stands-first nodes e.seat e.side can texts page_is off agent_is)));
       };
       none_whole = none;
     }

@@ -1,10 +1,11 @@
 -- A run in hand: the link is honest, and the link and the ends have come to where the run of the script is.
-use Rattle.std.specs.Prelude.{◌≡◌, ◌<◌, ℕ, List, [], ◌∷◌, ◌++◌, Result, OnOk}
+use Rattle.std.specs.Prelude.{◌≡◌, ℕ, List, [], ◌∷◌, ◌++◌, Result, OnOk}
 use Rattle.pipe_frames.specs.Pipe.{Pipe}
 use Rattle.inspect_world.specs.Stream.{arriving, awaited}
 use Rattle.inspect_world.specs.World.{World, given_up, answered}
-use Rattle.back_end.specs.States.{State, step}
-use Rattle.inspect_world.specs.Fits.{most_asks}
+use Rattle.back_end.specs.States.{State}
+use Rattle.back_end.specs.Steps.{step}
+use Rattle.inspect_world.specs.Fits.{HasLeft}
 use Rattle.inspect_world.specs.Held.{Ends as HeldEnds, InWorld}
 use Rattle.inspect_replay.specs.declared.ends.Ends.{Ends}
 use Rattle.inspect_replay.specs.declared.stop.Stop.{Stop}
@@ -14,9 +15,8 @@ use Rattle.inspect_replay.specs.Stops.{NotRefused}
 -- what the ends of the program hold
 abbrev pub ends_of : Ends → HeldEnds
 ends_of e = record {
-  page = e.side.page;
-  is_on = e.seat.is_on;
-  bound = e.seat.agent;
+  seat = e.seat;
+  side = e.side;
   back_rest = e.splitter.rest;
   front = e.front;
   up_there = e.up_there;
@@ -41,10 +41,10 @@ Steps old new result f =
     (up0 down0 : Pipe) (w : World State) → InRun old.honest up0 down0 old.up old.down w old.ends
     → NotRefused result × OnOk result (InRun new.honest up0 down0 new.up new.down (f w) new.ends)
 
--- the same of a call that sends an ask, while there is room for one
-abbrev pub Asks : {T : Type 0} → Moment → Moment → Result T Stop → (World State → World State) → Type 0
-Asks old new result f =
-    (up0 down0 : Pipe) (w : World State) → w.spent.asks < most_asks → InRun old.honest up0 down0 old.up old.down w old.ends
+-- the same of a call that sends a frame or makes a step of the script, while there is room for one
+abbrev pub Spends : {T : Type 0} → Moment → Moment → Result T Stop → (World State → World State) → Type 0
+Spends old new result f =
+    (up0 down0 : Pipe) (w : World State) → HasLeft w.spent 1 → InRun old.honest up0 down0 old.up old.down w old.ends
     → NotRefused result × OnOk result (InRun new.honest up0 down0 new.up new.down (f w) new.ends)
 
 -- the same of a call that answers the frames that came up whole

@@ -6,16 +6,22 @@ ghost use Rattle.front_mirror.specs.Front.{first_state};
 ghost use Rattle.replay_script.specs.Seen.{seen_ask};
 ghost use Rattle.inspect_replay.specs.Stops.{HasStopCause};
 ghost use Rattle.inspect_world.specs.World.{delivered_up, delivered_down, settled};
-ghost use Rattle.back_end.specs.States.{step};
+ghost use Rattle.pipe_frames.specs.Frames.{IsText, framed};
+ghost use Rattle.page_forms.specs.Pages.{loaded_nodes};
+ghost use Rattle.back_end.specs.Steps.{acts, loads, step, turn};
+ghost use Rattle.back_end.specs.Plans.{act_fault};
+ghost use Rattle.back_end.specs.Laws.{IsTurn};
+ghost use Rattle.inspect_world.specs.World.{raw, turned};
+ghost use Rattle.inspect_world.specs.Fits.{IsBare};
 ghost use Rattle.inspect_world.specs.Scripts.{sends};
 ghost use Rattle.inspect_world.specs.ScriptsFit.{CanSend};
-ghost use Rattle.inspect_replay.specs.Runs.{Steps, Asks, TakesUp, AnswersAll, AnswersOne};
+ghost use Rattle.inspect_replay.specs.Runs.{Steps, Spends, TakesUp, AnswersAll, AnswersOne};
 ghost use Rattle.inspect_replay.specs.Moments.{moment};
 ghost use Rattle.inspect_replay.specs.Followed.{KeepsFollowing, KeepsFollowingWith, FollowsAnswers, FollowsAnswer};
 
 use crate::pipes::{receive_down, receive_up, send_down, send_up};
 use crate::stop::Stop;
-use back_end::{PageSide, Seat};
+use back_end::{Act, EditFault, PageForm, PageSide, Seat};
 use front_mirror::{Front, FrontErr, Kept, Mirror};
 use page_tree::Page;
 use pipe_frames::{Link, Splitter};
@@ -35,11 +41,20 @@ pub(crate) struct Ends {
     pub(crate) told: usize,
 }
 
+// A text as it is sent.
+fn framed(alloc: Global, text: &str) -> Result<Vec<u8>, AllocError>
+    ensures { IfOk result (λ frame. frame.items ≡ framed text.now) }
+{
+    let mut frame = Vec::from_slice(alloc, text.as_bytes())?;
+    frame.push(0)?;
+    Ok(frame)
+}
+
 impl Ends {
     pub(crate) fn new(alloc: Global, page: Page) -> Result<Ends, AllocError>
         ensures page { IfOk result (λ ends. ends.side.page ≡ page) }
-        ensures off { IfOk result (λ ends. ends.seat.is_on ≡ false) }
-        ensures agent { IfOk result (λ ends. ends.seat.agent ≡ empty_from 1) }
+        ensures off { IfOk result (λ ends. ends.seat.desk.is_on ≡ false) }
+        ensures agent { IfOk result (λ ends. ends.seat.desk.agent ≡ empty_from 1) }
         ensures splitter { IfOk result (λ ends. ends.splitter ≡ record { whole = []; rest = [] }) }
         ensures front { IfOk result (λ ends. ends.front ≡ first_state) }
         ensures up { IfOk result (λ ends. ends.up_there ≡ 0) }
@@ -65,6 +80,13 @@ impl Ends {
         self.front.mirror()
     }
 
+    /// The page.
+    pub(crate) fn page(&self) -> &Page
+        ensures { result.now ≡ self.now.side.page }
+    {
+        self.side.page()
+    }
+
     /// The replies that came, in their order.
     pub(crate) fn replies(&self) -> &[Kept]
         ensures { result.now ≡ self.now.front.value.replies }
@@ -88,7 +110,7 @@ impl Ends {
         ensures cause { HasStopCause 0 0 (L.faults link.old) (L.faults link.new) result }
         ensures follows { KeepsFollowing (moment (L.honest link.old) (L.up link.old) (L.down link.old) self.old)
             (moment (L.honest link.new) (L.up link.new) (L.down link.new) self.new) result }
-        ensures steps { Asks (moment (L.honest link.old) (L.up link.old) (L.down link.old) self.old)
+        ensures steps { Spends (moment (L.honest link.old) (L.up link.old) (L.down link.old) self.old)
             (moment (L.honest link.new) (L.up link.new) (L.down link.new) self.new) result (λ w. sends (seen_ask ask.now) w) }
     {
         if !self.front.has_room() {
@@ -105,6 +127,89 @@ impl Ends {
         match send_up(link, &frame) {
             Ok(()) => {
                 self.up_there = there;
+                Ok(())
+            }
+            Err(stop) => Err(stop),
+        }
+    }
+
+    /// The front end sends a text that names no ask.
+    pub(crate) fn send_raw<L: Link>(&mut self, link: &mut L, text: &str) -> Result<(), Stop>
+        requires text { IsText text.now }
+        requires bare { IsBare text.now }
+        ensures honest { L.honest link.old → L.honest link.new }
+        ensures cause { HasStopCause 0 0 (L.faults link.old) (L.faults link.new) result }
+        ensures follows { KeepsFollowing (moment (L.honest link.old) (L.up link.old) (L.down link.old) self.old)
+            (moment (L.honest link.new) (L.up link.new) (L.down link.new) self.new) result }
+        ensures steps { Spends (moment (L.honest link.old) (L.up link.old) (L.down link.old) self.old)
+            (moment (L.honest link.new) (L.up link.new) (L.down link.new) self.new) result (λ w. raw text.now w) }
+    {
+        let frame = framed(self.alloc, text)?;
+        let Some(there) = self.up_there.checked_add(frame.len() as u64) else {
+            return Err(Stop::Memory);
+        };
+        match send_up(link, &frame) {
+            Ok(()) => {
+                self.up_there = there;
+                Ok(())
+            }
+            Err(stop) => Err(stop),
+        }
+    }
+
+    /// The script changes the page. Gives the fault of a change that is refused.
+    pub(crate) fn change_page<L: Link>(
+        &mut self,
+        link: &mut L,
+        act: Act,
+    ) -> Result<Option<EditFault>, Stop>
+        requires { IsTurn (acts act) }
+        ensures fault { IfOk result (λ fault. fault ≡ act_fault act self.old.side.page) }
+        ensures honest { L.honest link.old → L.honest link.new }
+        ensures cause { HasStopCause 0 0 (L.faults link.old) (L.faults link.new) result }
+        ensures follows { KeepsFollowing (moment (L.honest link.old) (L.up link.old) (L.down link.old) self.old)
+            (moment (L.honest link.new) (L.up link.new) (L.down link.new) self.new) result }
+        ensures steps { Spends (moment (L.honest link.old) (L.up link.old) (L.down link.old) self.old)
+            (moment (L.honest link.new) (L.up link.new) (L.down link.new) self.new) result (λ w. turned turn (acts act) w) }
+    {
+        if !self.seat.has_room(&self.side) {
+            return Err(Stop::Memory);
+        }
+        let mut out = Vec::new(self.alloc);
+        let fault = self.seat.script(&mut self.side, act, &mut out)?;
+        let Some(there) = self.down_there.checked_add(out.len() as u64) else {
+            return Err(Stop::Memory);
+        };
+        match send_down(link, &out) {
+            Ok(()) => {
+                self.down_there = there;
+                Ok(fault)
+            }
+            Err(stop) => Err(stop),
+        }
+    }
+
+    /// The script loads another page.
+    pub(crate) fn load_page<L: Link>(&mut self, link: &mut L, form: PageForm) -> Result<(), Stop>
+        requires { IsTurn (loads (loaded_nodes form)) }
+        ensures honest { L.honest link.old → L.honest link.new }
+        ensures cause { HasStopCause 0 0 (L.faults link.old) (L.faults link.new) result }
+        ensures follows { KeepsFollowing (moment (L.honest link.old) (L.up link.old) (L.down link.old) self.old)
+            (moment (L.honest link.new) (L.up link.new) (L.down link.new) self.new) result }
+        ensures steps { Spends (moment (L.honest link.old) (L.up link.old) (L.down link.old) self.old)
+            (moment (L.honest link.new) (L.up link.new) (L.down link.new) self.new) result (λ w. turned turn (loads (loaded_nodes form)) w) }
+    {
+        if !self.seat.has_room(&self.side) {
+            return Err(Stop::Memory);
+        }
+        let mut out = Vec::new(self.alloc);
+        self.seat.load(&mut self.side, form, &mut out)?;
+        let Some(there) = self.down_there.checked_add(out.len() as u64) else {
+            return Err(Stop::Memory);
+        };
+        match send_down(link, &out) {
+            Ok(()) => {
+                self.down_there = there;
                 Ok(())
             }
             Err(stop) => Err(stop),
@@ -172,7 +277,7 @@ impl Ends {
         ensures steps { AnswersOne (moment (L.honest link.old) (L.up link.old) (L.down link.old) self.old)
             (moment (L.honest link.new) (L.up link.new) (L.down link.new) self.new) frame.now result }
     {
-        if !self.seat.has_room() {
+        if !self.seat.has_room(&self.side) {
             return Err(Stop::Memory);
         }
         let mut out = Vec::new(self.alloc);

@@ -2,6 +2,7 @@
 #![tactic(auto)]
 
 mod ends;
+mod page_lines;
 mod pipes;
 mod program;
 mod run;

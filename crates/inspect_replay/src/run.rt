@@ -1,26 +1,34 @@
-ghost use Rattle.std.specs.Prelude.{◌≡◌, ◌≤◌, ◌^◌, ◌∷◌, [], length, option_map, Some, None, IfOk, OnOk, IfSome, IsNone};
+ghost use Rattle.std.specs.Prelude.{ℕ, ◌≡◌, ◌≤◌, ◌^◌, ◌∷◌, [], length, option_map, Some, None, IfOk, OnOk, IfSome, IsNone};
 ghost use Rattle.pipe_frames.specs.Pipe.{IsLevel};
-ghost use Rattle.node_tree.specs.Nodes.{nodes_of};
 ghost use Rattle.page_tree.specs.Forms.{CanLoad};
 ghost use Rattle.replay_script.specs.Faults.{line_fault};
-ghost use Rattle.replay_script.specs.Forms.{load, line_form, show_front, show_replies};
+ghost use Rattle.replay_script.specs.Forms.{act, load, line_form, show_front, show_replies};
+ghost use Rattle.page_forms.specs.Pages.{loaded_nodes};
+ghost use Rattle.pipe_frames.specs.Frames.{IsText};
+ghost use Rattle.back_end.specs.Steps.{acts};
+ghost use Rattle.back_end.specs.Laws.{IsTurn};
+ghost use Rattle.inspect_world.specs.Fits.{IsBare};
 ghost use Rattle.replay_script.specs.Script.{first_bad, good_lines, script_fault};
-ghost use Rattle.replay_script.specs.Seen.{seen, AreWhole};
-ghost use Rattle.back_end.specs.Texts.{HaveTexts};
-ghost use Rattle.inspect_world.specs.ScriptsFit.{IsLater};
-ghost use Rattle.inspect_world.specs.Scripts.{report, rest_text, loaded_world};
+ghost use Rattle.replay_script.specs.Seen.{seen, seen_ask};
+ghost use Rattle.page_forms.specs.Texts.{HaveTexts};
+ghost use Rattle.inspect_world.specs.ScriptsFit.{CanSend, IsLater};
+ghost use Rattle.inspect_world.specs.World as world;
+ghost use Rattle.inspect_world.specs.Scripts.{report, rest_text, loaded_world, sends};
+ghost use Rattle.inspect_replay.specs.Runs.{Spends};
 ghost use Rattle.inspect_replay.specs.Stops.{HasStopCause, HasRunCause};
 ghost use Rattle.inspect_replay.specs.Answers.{RunTells, RunTook};
 ghost use Rattle.inspect_replay.specs.Moments.{moment, scene};
 ghost use Rattle.inspect_replay.specs.Followed.{KeepsFollowing, PrintedSome, ClosesShown, StopFolds, fold_since, EndsShown, AnswersInOrder, GivesNoMore};
-ghost use Rattle.inspect_replay.specs.Prints.{CarriesOut, RunsLines, Closes, IsRead, load_of};
+ghost use Rattle.inspect_replay.specs.Prints.{CarriesOut, RunsLines, Closes, IsRead, line_of, load_of};
 
 use crate::ends::Ends;
-use crate::show::{print_outline, print_replies};
+use crate::show::{print_fault, print_outline, print_page, print_replies};
 use crate::stop::Stop;
-use page_tree::{NodeForm, Page};
+use back_end::{Act, PageForm};
+use node_tree::Text;
+use page_tree::Page;
 use pipe_frames::{Link, Sink};
-use replay_script::{Line, LineErr, LineFault, Lines, read_line};
+use replay_script::{Ask, Line, LineErr, LineFault, Lines, read_line};
 use std::alloc::Global;
 
 /// Settles, and prints what the front end shows.
@@ -35,8 +43,8 @@ fn show_front<K: Sink, L: Link>(
     ensures follows { KeepsFollowing (moment (L.honest link.old) (L.up link.old) (L.down link.old) ends.old)
         (moment (L.honest link.new) (L.up link.new) (L.down link.new) ends.new) result }
     ensures some { OnOk result (PrintedSome (K.taken out.old) (K.taken out.new)) }
-    ensures runs { CarriesOut (scene (moment (L.honest link.old) (L.up link.old) (L.down link.old) ends.old) (K.taken out.old))
-        (scene (moment (L.honest link.new) (L.up link.new) (L.down link.new) ends.new) (K.taken out.new)) show_front result }
+    ensures runs { (number : ℕ) → CarriesOut (scene (moment (L.honest link.old) (L.up link.old) (L.down link.old) ends.old) (K.taken out.old))
+        (scene (moment (L.honest link.new) (L.up link.new) (L.down link.new) ends.new) (K.taken out.new)) (line_of number show_front) result }
 {
     match ends.settle(link) {
         Ok(()) => print_outline(alloc, "# front", ends.mirror(), out),
@@ -56,8 +64,8 @@ fn show_replies<K: Sink, L: Link>(
     ensures follows { KeepsFollowing (moment (L.honest link.old) (L.up link.old) (L.down link.old) ends.old)
         (moment (L.honest link.new) (L.up link.new) (L.down link.new) ends.new) result }
     ensures some { OnOk result (PrintedSome (K.taken out.old) (K.taken out.new)) }
-    ensures runs { CarriesOut (scene (moment (L.honest link.old) (L.up link.old) (L.down link.old) ends.old) (K.taken out.old))
-        (scene (moment (L.honest link.new) (L.up link.new) (L.down link.new) ends.new) (K.taken out.new)) show_replies result }
+    ensures runs { (number : ℕ) → CarriesOut (scene (moment (L.honest link.old) (L.up link.old) (L.down link.old) ends.old) (K.taken out.old))
+        (scene (moment (L.honest link.new) (L.up link.new) (L.down link.new) ends.new) (K.taken out.new)) (line_of number show_replies) result }
 {
     match ends.settle(link) {
         Ok(()) => {}
@@ -74,31 +82,85 @@ fn show_replies<K: Sink, L: Link>(
     }
 }
 
-/// Carries out one line after the load, and writes what it prints.
-fn carry_out<K: Sink, L: Link>(
+/// Changes the page, or prints why the change is refused.
+fn carry_act<K: Sink, L: Link>(
     alloc: Global,
-    line: &Line,
+    number: u64,
+    change: Act,
     ends: &mut Ends,
     out: &mut K,
     link: &mut L,
 ) -> Result<(), Stop>
-    requires later { IsLater (seen line.now) }
-    requires whole { AreWhole line.now }
+    requires { IsTurn (acts change) }
     ensures honest { L.honest link.old → L.honest link.new }
     ensures cause { HasStopCause (K.faults out.old) (K.faults out.new) (L.faults link.old) (L.faults link.new) result }
     ensures follows { KeepsFollowing (moment (L.honest link.old) (L.up link.old) (L.down link.old) ends.old)
         (moment (L.honest link.new) (L.up link.new) (L.down link.new) ends.new) result }
     ensures some { OnOk result (PrintedSome (K.taken out.old) (K.taken out.new)) }
     ensures runs { CarriesOut (scene (moment (L.honest link.old) (L.up link.old) (L.down link.old) ends.old) (K.taken out.old))
-        (scene (moment (L.honest link.new) (L.up link.new) (L.down link.new) ends.new) (K.taken out.new)) (seen line.now) result }
+        (scene (moment (L.honest link.new) (L.up link.new) (L.down link.new) ends.new) (K.taken out.new)) (line_of number (act change)) result }
+{
+    match ends.change_page(link, change) {
+        Ok(fault) => print_fault(alloc, number, fault, out),
+        Err(stop) => Err(stop),
+    }
+}
+
+/// Sends an ask.
+fn carry_ask<L: Link>(ends: &mut Ends, link: &mut L, sent: Ask) -> Result<(), Stop>
+    requires { CanSend (seen_ask sent) }
+    ensures honest { L.honest link.old → L.honest link.new }
+    ensures cause { HasStopCause 0 0 (L.faults link.old) (L.faults link.new) result }
+    ensures follows { KeepsFollowing (moment (L.honest link.old) (L.up link.old) (L.down link.old) ends.old)
+        (moment (L.honest link.new) (L.up link.new) (L.down link.new) ends.new) result }
+    ensures steps { Spends (moment (L.honest link.old) (L.up link.old) (L.down link.old) ends.old)
+        (moment (L.honest link.new) (L.up link.new) (L.down link.new) ends.new) result (λ w. sends (seen_ask sent) w) }
+{
+    ends.ask(link, &sent)
+}
+
+/// Sends a text as it is.
+fn carry_raw<L: Link>(ends: &mut Ends, link: &mut L, text: Text) -> Result<(), Stop>
+    requires text { IsText text }
+    requires bare { IsBare text }
+    ensures honest { L.honest link.old → L.honest link.new }
+    ensures cause { HasStopCause 0 0 (L.faults link.old) (L.faults link.new) result }
+    ensures follows { KeepsFollowing (moment (L.honest link.old) (L.up link.old) (L.down link.old) ends.old)
+        (moment (L.honest link.new) (L.up link.new) (L.down link.new) ends.new) result }
+    ensures steps { Spends (moment (L.honest link.old) (L.up link.old) (L.down link.old) ends.old)
+        (moment (L.honest link.new) (L.up link.new) (L.down link.new) ends.new) result (λ w. world.raw text w) }
+{
+    ends.send_raw(link, text.as_str())
+}
+
+/// Carries out the line of that number after the first, and writes what it prints.
+fn carry_out<K: Sink, L: Link>(
+    alloc: Global,
+    number: u64,
+    line: Line,
+    ends: &mut Ends,
+    out: &mut K,
+    link: &mut L,
+) -> Result<(), Stop>
+    requires { IsLater (seen line) }
+    ensures honest { L.honest link.old → L.honest link.new }
+    ensures cause { HasStopCause (K.faults out.old) (K.faults out.new) (L.faults link.old) (L.faults link.new) result }
+    ensures follows { KeepsFollowing (moment (L.honest link.old) (L.up link.old) (L.down link.old) ends.old)
+        (moment (L.honest link.new) (L.up link.new) (L.down link.new) ends.new) result }
+    ensures some { OnOk result (PrintedSome (K.taken out.old) (K.taken out.new)) }
+    ensures runs { CarriesOut (scene (moment (L.honest link.old) (L.up link.old) (L.down link.old) ends.old) (K.taken out.old))
+        (scene (moment (L.honest link.new) (L.up link.new) (L.down link.new) ends.new) (K.taken out.new)) (line_of number (seen line)) result }
 {
     match line {
-        Line::Load(_) => unreachable!(),
-        Line::Ask(ask) => ends.ask(link, ask),
-        Line::Up(n) => ends.deliver_up(link, *n),
-        Line::Down(n) => ends.deliver_down(link, *n),
+        Line::Load(page) => ends.load_page(link, page),
+        Line::Act(act) => carry_act(alloc, number, act, ends, out, link),
+        Line::Ask(ask) => carry_ask(ends, link, ask),
+        Line::Raw(text) => carry_raw(ends, link, text),
+        Line::Up(n) => ends.deliver_up(link, n),
+        Line::Down(n) => ends.deliver_down(link, n),
         Line::Settle => ends.settle(link),
         Line::ShowFront => show_front(alloc, ends, out, link),
+        Line::ShowPage => print_page(alloc, ends.page(), out),
         Line::ShowReplies => show_replies(alloc, ends, out, link),
     }
 }
@@ -127,8 +189,7 @@ fn run_lines<K: Sink, L: Link>(
             Ok(line) => line,
             Err(stop) => return Err(stop),
         };
-        let carried = carry_out(alloc, &line, ends, out, link);
-        release(line);
+        let carried = carry_out(alloc, number, line, ends, out, link);
         match carried {
             Ok(()) => {}
             Err(stop) => return Err(stop),
@@ -145,13 +206,9 @@ fn next_line<'a>(lines: &mut Lines<'a>) -> Option<&'a [u8]>
     lines.next()
 }
 
-// Lets a line go that was carried out.
-fn release(_line: Line) {}
-
 fn read(alloc: Global, number: u64, text: &[u8]) -> Result<Line, Stop>
     ensures good { IfOk result (λ _. line_fault number text.now ≡ None) }
     ensures form { IfOk result (λ line. line_form text.now ≡ Some (seen line)) }
-    ensures whole { IfOk result AreWhole }
     ensures bad { IsRead result number (line_fault number text.now) }
 {
     match read_line(alloc, number, text) {
@@ -161,30 +218,33 @@ fn read(alloc: Global, number: u64, text: &[u8]) -> Result<Line, Stop>
     }
 }
 
-/// The nodes of a line that loads a page.
-fn load_of(line: Line) -> Option<Vec<NodeForm>>
-    ensures { option_map (λ nodes. nodes_of nodes.items) result ≡ load_of (seen line) }
+/// The page of a line that loads one.
+fn load_of(line: Line) -> Option<PageForm>
+    ensures { option_map loaded_nodes result ≡ load_of (seen line) }
 {
     match line {
-        Line::Load(nodes) => Some(nodes),
-        Line::Ask(_)
+        Line::Load(page) => Some(page),
+        Line::Act(_)
+        | Line::Ask(_)
+        | Line::Raw(_)
         | Line::Up(_)
         | Line::Down(_)
         | Line::Settle
         | Line::ShowFront
+        | Line::ShowPage
         | Line::ShowReplies => None,
     }
 }
 
 /// Reads the first line of a script, which loads a page.
-fn read_load(alloc: Global, text: &[u8]) -> Result<Vec<NodeForm>, Stop>
+fn read_load(alloc: Global, text: &[u8]) -> Result<PageForm, Stop>
     ensures good { IfOk result (λ _. line_fault 1 text.now ≡ None) }
-    ensures form { IfOk result (λ nodes. line_form text.now ≡ Some (load (nodes_of nodes.items))) }
+    ensures form { IfOk result (λ page. line_form text.now ≡ Some (load (loaded_nodes page))) }
     ensures bad { IsRead result 1 (line_fault 1 text.now) }
 {
     match read(alloc, 1, text) {
         Ok(line) => match load_of(line) {
-            Some(nodes) => Ok(nodes),
+            Some(page) => Ok(page),
             None => unreachable!(),
         },
         Err(stop) => Err(stop),
@@ -210,16 +270,16 @@ fn close<K: Sink, L: Link>(
     }
 }
 
-/// Carries out a script whose first line loads these nodes.
+/// Carries out a script whose first line loads this page.
 fn run_loaded<K: Sink, L: Link>(
     alloc: Global,
-    nodes: Vec<NodeForm>,
+    form: PageForm,
     lines: Lines,
     out: &mut K,
     link: &mut L,
 ) -> Result<(), Stop>
-    requires can { CanLoad (nodes_of nodes.items) }
-    requires texts { HaveTexts (nodes_of nodes.items) }
+    requires can { CanLoad (loaded_nodes form) }
+    requires texts { HaveTexts (loaded_nodes form) }
     requires few { length lines ≤ 2 ^ 26 }
     ensures tells { RunTells result (first_bad 2 lines.entry) }
     ensures honest { L.honest link.old → L.honest link.new }
@@ -230,9 +290,9 @@ fn run_loaded<K: Sink, L: Link>(
     ensures less { OnOk result (GivesNoMore (L.up link.old) (L.down link.old) (L.up link.new) (L.down link.new)) }
     ensures took { L.honest link.old → IsLevel (L.up link.old) → IsLevel (L.down link.old)
         → RunTook result (K.taken out.old) (K.taken out.new)
-        (rest_text (first_bad 2 lines.entry) (good_lines 2 lines.entry) (loaded_world (nodes_of nodes.items))) }
+        (rest_text (first_bad 2 lines.entry) (good_lines 2 lines.entry) (loaded_world (loaded_nodes form))) }
 {
-    let page = Page::load(alloc, 1, nodes)?;
+    let page = Page::load(alloc, 1, form.nodes)?;
     let mut ends = Ends::new(alloc, page)?;
     match run_lines(alloc, lines, &mut ends, out, link) {
         Ok(()) => close(alloc, &mut ends, out, link),
@@ -266,7 +326,7 @@ pub(crate) fn run_script<K: Sink, L: Link>(
         });
     };
     match read_load(alloc, first) {
-        Ok(nodes) => run_loaded(alloc, nodes, lines, out, link),
+        Ok(form) => run_loaded(alloc, form, lines, out, link),
         Err(stop) => Err(stop),
     }
 }

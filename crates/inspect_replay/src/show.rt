@@ -2,11 +2,17 @@ ghost use Rattle.std.specs.Prelude.{◌≡◌, ◌++◌, ◌∷◌, map, codes, 
 ghost use Rattle.std.specs.Io.KnownBytes.{Appends};
 ghost use Rattle.pipe_frames.specs.Whole.{WrotePart};
 ghost use Rattle.front_mirror.specs.Outline.{outline_text, seen_line};
+ghost use Rattle.node_tree.specs.Nodes.{alone};
+ghost use Rattle.inspect_world.specs.ActTexts.{edit_fault_name, refused_line, act_text};
+ghost use Rattle.inspect_world.specs.Scripts.{page_line};
 ghost use Rattle.inspect_world.specs.ShownReplies.{told_of, told_line, told_lines};
 ghost use Rattle.inspect_replay.specs.Stops.{HasStopCause, NotRefused};
 
+use crate::page_lines::page_text;
 use crate::stop::Stop;
+use back_end::EditFault;
 use front_mirror::{Kept, Mirror, write_outline};
+use page_tree::Page;
 use pipe_frames::{OutErr, Sink, write_all};
 use std::alloc::{AllocError, Global};
 
@@ -83,5 +89,89 @@ pub(crate) fn print_replies<K: Sink>(
         Ok(()) => Ok(()),
         Err(OutErr::Failed) => Err(Stop::WriteFault),
         Err(OutErr::Memory) => Err(Stop::Memory),
+    }
+}
+
+/// Writes the outline of the page itself.
+pub(crate) fn print_page<K: Sink>(alloc: Global, page: &Page, out: &mut K) -> Result<(), Stop>
+    ensures ok { OnOk result (Appends (K.taken out.old) (K.taken out.new)
+        (codes "# page" ++ 10 ∷ outline_text page_line (alone page.now.tree))) }
+    ensures err { OnErr result (WrotePart (K.taken out.old) (K.taken out.new)
+        (codes "# page" ++ 10 ∷ outline_text page_line (alone page.now.tree))) }
+    ensures never { NotRefused result }
+    ensures cause { HasStopCause (K.faults out.old) (K.faults out.new) 0 0 result }
+{
+    let text = page_text(alloc, page)?;
+    match write_all(out, &text) {
+        Ok(()) => Ok(()),
+        Err(OutErr::Failed) => Err(Stop::WriteFault),
+        Err(OutErr::Memory) => Err(Stop::Memory),
+    }
+}
+
+/// Writes why the act of the line of that number is refused, where it is.
+pub(crate) fn print_fault<K: Sink>(
+    alloc: Global,
+    number: u64,
+    fault: Option<EditFault>,
+    out: &mut K,
+) -> Result<(), Stop>
+    ensures ok { OnOk result (Appends (K.taken out.old) (K.taken out.new) (act_text number fault)) }
+    ensures err { OnErr result (WrotePart (K.taken out.old) (K.taken out.new) (act_text number fault)) }
+    ensures never { NotRefused result }
+    ensures cause { HasStopCause (K.faults out.old) (K.faults out.new) 0 0 result }
+{
+    match fault {
+        Some(fault) => print_refusal(alloc, number, fault, out),
+        None => Ok(()),
+    }
+}
+
+fn print_refusal<K: Sink>(
+    alloc: Global,
+    number: u64,
+    fault: EditFault,
+    out: &mut K,
+) -> Result<(), Stop>
+    ensures ok { OnOk result (Appends (K.taken out.old) (K.taken out.new) (refused_line number fault)) }
+    ensures err { OnErr result (WrotePart (K.taken out.old) (K.taken out.new) (refused_line number fault)) }
+    ensures never { NotRefused result }
+    ensures cause { HasStopCause (K.faults out.old) (K.faults out.new) 0 0 result }
+{
+    let text = refusal_text(alloc, number, fault)?;
+    match write_all(out, &text) {
+        Ok(()) => Ok(()),
+        Err(OutErr::Failed) => Err(Stop::WriteFault),
+        Err(OutErr::Memory) => Err(Stop::Memory),
+    }
+}
+
+fn refusal_text(alloc: Global, number: u64, fault: EditFault) -> Result<Vec<u8>, AllocError>
+    ensures { IfOk result (λ text. text.items ≡ refused_line number fault) }
+{
+    let mut text = Vec::from_slice(alloc, b"line ")?;
+    text.extend_from_slice(number.to_string(alloc)?.as_bytes())?;
+    text.extend_from_slice(b": act refused: ")?;
+    text.extend_from_slice(fault_word(fault).as_bytes())?;
+    text.push(b'\n')?;
+    Ok(text)
+}
+
+/// The name of a fault, as a refused act prints it.
+fn fault_word(fault: EditFault) -> &'static str
+    ensures { result.now ≡ edit_fault_name fault }
+{
+    match fault {
+        EditFault::NoNode => "NoNode",
+        EditFault::NotElement => "NotElement",
+        EditFault::NotText => "NotText",
+        EditFault::IsDocument => "IsDocument",
+        EditFault::NotChild => "NotChild",
+        EditFault::Inside => "Inside",
+        EditFault::TooDeep => "TooDeep",
+        EditFault::TooMany => "TooMany",
+        EditFault::BadName => "BadName",
+        EditFault::NoAttr => "NoAttr",
+        EditFault::NotContainer => "NotContainer",
     }
 }

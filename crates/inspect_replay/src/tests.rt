@@ -167,3 +167,35 @@ fn old_ids_are_unknown_after_a_second_document(rt: HostRuntime) -> Result<(), Fa
     assert!(rt; out.as_slice().ends_with(b" 61 <p>\n"));
     Ok(())
 }
+
+#[test]
+fn the_page_changes_under_the_client(rt: HostRuntime) -> Result<(), Fail> {
+    let alloc = rt.alloc();
+    let mut out = Vec::new(alloc);
+    replay(
+        alloc,
+        b"{\"load\":{\"document\":[{\"e\":\"p\"}]}}\n{\"ask\":{\"method\":\"DOM.getDocument\"}}\n{\"up\":20}\n{\"act\":{\"do\":\"setAttr\",\"node\":2,\"name\":\"a\",\"value\":\"1\"}}\n{\"show\":\"replies\"}\n{\"act\":{\"do\":\"move\",\"node\":2,\"parent\":2,\"before\":0}}\n{\"act\":{\"do\":\"insert\",\"parent\":2,\"before\":0,\"node\":{\"t\":\"x\"}}}\n{\"show\":\"front\"}\n{\"ask\":{\"method\":\"DOM.requestChildNodes\",\"params\":{\"nodeId\":2}}}\n{\"settle\":true}\n{\"act\":{\"do\":\"insert\",\"parent\":2,\"before\":3,\"node\":{\"e\":\"b\",\"c\":[{\"t\":\"y\"}]}}}\n{\"act\":{\"do\":\"insert\",\"parent\":4,\"before\":5,\"node\":{\"e\":\"i\"}}}\n{\"act\":{\"do\":\"insert\",\"parent\":6,\"before\":0,\"node\":{\"k\":\"unknown parent\"}}}\n{\"show\":\"front\"}\n{\"show\":\"page\"}\n",
+        [0, 0, 0],
+        &mut out,
+    )?;
+    let want =
+        b"0 \n# replies\n1 {\"id\":1,\"result\":{\"root\":{\"backendNodeId\":1,\"childNodeCount\":1,\"children\":[{\"attributes\":[\"a\",\"1\"],\"backendNodeId\":2,\"childNodeCount\":0,\"localName\":\"p\",\"nodeId\":2,\"nodeName\":\"P\",\"nodeType\":1,\"nodeValue\":\"\",\"parentId\":1}],\"localName\":\"\",\"nodeId\":1,\"nodeName\":\"#document\",\"nodeType\":9,\"nodeValue\":\"\"}}}\nline 6: act refused: Inside\n# front\n1 #document\n  2 <p a=\"1\"> +1\n# front\n1 #document\n  2 <p a=\"1\">\n    4 <b> +2\n    3 \"x\"\n# page\n1 #document\n  2 <p a=\"1\">\n    4 <b>\n      6 <i>\n        7 <!--\"unknown parent\"-->\n      5 \"y\"\n    3 \"x\"\n# end\n1 #document\n  2 <p a=\"1\">\n    4 <b> +2\n    3 \"x\"\n";
+    assert_eq!(rt; out.as_slice(), want.as_slice());
+    Ok(())
+}
+
+#[test]
+fn frames_are_refused_and_ids_die(rt: HostRuntime) -> Result<(), Fail> {
+    let alloc = rt.alloc();
+    let mut out = Vec::new(alloc);
+    replay(
+        alloc,
+        b"{\"load\":{\"document\":[{\"e\":\"p\"}]}}\n{\"ask\":{\"method\":\"DOM.getDocument\"}}\n{\"settle\":true}\n{\"ask\":{\"method\":\"DOM.requestChildNodes\",\"params\":{\"nodeId\":2}}}\n{\"up\":36}\n{\"act\":{\"do\":\"remove\",\"node\":2}}\n{\"raw\":\"[\"}\n{\"ask\":{\"method\":\"DOM.nope\"}}\n{\"show\":\"replies\"}\n{\"ask\":{\"method\":\"DOM.requestChildNodes\",\"params\":{\"nodeId\":1}}}\n{\"up\":36}\n{\"load\":{\"document\":[{\"e\":\"q\"}]}}\n{\"show\":\"replies\"}\n{\"show\":\"front\"}\n{\"ask\":{\"method\":\"DOM.getDocument\"}}\n",
+        [0, 0, 0],
+        &mut out,
+    )?;
+    let want =
+        b"0 \n# replies\n1 {\"id\":1,\"result\":{\"root\":{\"backendNodeId\":1,\"childNodeCount\":1,\"children\":[{\"attributes\":[],\"backendNodeId\":2,\"childNodeCount\":0,\"localName\":\"p\",\"nodeId\":2,\"nodeName\":\"P\",\"nodeType\":1,\"nodeValue\":\"\",\"parentId\":1}],\"localName\":\"\",\"nodeId\":1,\"nodeName\":\"#document\",\"nodeType\":9,\"nodeValue\":\"\"}}}\n2 {\"error\":{\"code\":-32000,\"message\":\"unknown node\"},\"id\":2}\n- {\"error\":{\"code\":-32700,\"message\":\"not JSON\"}}\n3 {\"error\":{\"code\":-32601,\"message\":\"unknown method\"},\"id\":3}\n# replies\n4 {\"error\":{\"code\":-32000,\"message\":\"unknown node\"},\"id\":4}\n# front\nno document\n# end\n3 #document\n  4 <q>\n";
+    assert_eq!(rt; out.as_slice(), want.as_slice());
+    Ok(())
+}

@@ -1,13 +1,9 @@
 -- The ends follow the run as bytes are sent and given.
-use Rattle.std.proofs.Common.{◌≡◌, refl, Bool, false, ℕ, ◌+◌, ◌-◌, ◌^◌, ◌<◌, List, [], ◌∷◌, ◌++◌, length, map, take, drop, Some, None, sym, ◌∙◌, ap, subst, append_assoc, append-nil, Result, Ok, Err, arith, length-append}
+use Rattle.std.proofs.Common.{◌≡◌, refl, false, ℕ, ◌+◌, ◌-◌, ◌^◌, ◌<◌, ◌≤◌, List, [], ◌∷◌, ◌++◌, length, map, take, drop, Some, None, sym, ◌∙◌, ap, subst, append_assoc, append-nil, Result, Ok, Err, arith, length-append}
 use Rattle.std.proofs.lemmas.List.{take-append-drop, length-map}
-use Rattle.node_binding.specs.Bindings.{Bound, Stands}
-use Rattle.node_binding.specs.Bindings.{empty_from}
-use Rattle.node_binding.proofs.StandsLemmas.{Stands-begun}
 use Rattle.node_tree.specs.Nodes.{Nodes}
 use Rattle.node_tree.specs.Labels.{Label}
 use Rattle.page_tree.specs.Forms.{CanLoad}
-use Rattle.page_tree.specs.Pages.{State as PageValue, loaded}
 use Rattle.pipe_frames.specs.Pipe.{Pipe}
 use Rattle.pipe_frames.specs.Frames.{IsText, framed, frames_of, held_after}
 use Rattle.pipe_frames.proofs.FrameLemmas.{frames_of-append, frames_of-one}
@@ -17,18 +13,22 @@ use Rattle.front_mirror.specs.Front as front
 use Rattle.front_mirror.specs.Front.{FrontValue, FrontState, first_state, first_value, take_frame, Folded, after_message, after_ask, after_take}
 use Rattle.replay_script.specs.Forms.{AskForm}
 use Rattle.inspect_world.specs.Stream.{Stream, sent, put, passed, held, arriving, awaited}
-use Rattle.inspect_world.specs.World.{World, one_ask, steps, asked, answered, given_up, delivered_down}
+use Rattle.inspect_world.specs.World.{World, Spent, one_ask, one_raw, steps, sent_up, raw, turned, answered, given_up, delivered_down}
 use Rattle.inspect_world.specs.Fold.{folded, joined, then}
-use Rattle.back_end.specs.States.{State, nodes_in, loaded_state, step}
-use Rattle.inspect_world.specs.Fits.{join, IsNext, IsTurn, replay, ask_in, ask_with, with_ask, most_asks, IsFit, FitsWith}
+use Rattle.back_end.specs.declared.seat.Seat.{Seat}
+use Rattle.back_end.specs.declared.side.PageSide.{PageSide}
+use Rattle.back_end.specs.States.{State, loaded_state}
+use Rattle.back_end.specs.Steps.{Turn, step, turn}
+use Rattle.back_end.specs.Seats.{StandsFor}
+use Rattle.inspect_world.specs.Fits.{join, IsNext, next_raw, IsBare, IsNextTurn, replay, ask_in, ask_with, with_ask, HasLeft, IsFit}
 use Rattle.inspect_world.specs.Scripts.{sends, all_told, loaded_world}
-use Rattle.back_end.specs.Texts.{HaveTexts}
+use Rattle.page_forms.specs.Texts.{HaveTexts}
 use Rattle.inspect_world.specs.ScriptsFit.{CanSend}
 use Rattle.inspect_world.specs.ShownReplies.{told_of, replies_in}
 use Rattle.inspect_world.specs.Held.{Ends, good_front, InWorld}
 use Rattle.inspect_world.specs.Carried.{Carries}
 use Rattle.inspect_world.proofs.Frames.{sent-passed, awaited-passed}
-use Rattle.inspect_world.proofs.Worlds.{whole-after, fits-asked, fits-given_up, fits-answered_one}
+use Rattle.inspect_world.proofs.Worlds.{whole-after, fits-sent_up, fits-turned, fits-given_up, fits-answered_one}
 use Rattle.inspect_world.proofs.FitLemmas.{world_laws}
 use Rattle.inspect_world.proofs.Messages.{IsText-sent, ask_in-sent, IsNext-sent}
 use Rattle.inspect_world.proofs.Replies.{replies-of}
@@ -114,8 +114,6 @@ world-delivered_down up0 down0 up down down1 w frames e n there piece in_world f
     record {
       up_is = in_world.up_is;
       down_is = carries-get down0 down down1 piece n w.down in_world.down_is sent_is given_is front_part;
-      page_is = in_world.page_is;
-      on_is = in_world.on_is;
       stands = in_world.stands;
       back_is = in_world.back_is;
       value = took.value;
@@ -143,29 +141,21 @@ never-refuses up0 down0 up down w frames e n piece in_world front_part =
 
 -- ---- bytes go up
 
--- an ask is sent
-pub world-asked : (up0 down0 up down up1 : Pipe) (w : World State) (e : Ends) (text method : List ℕ) (there : ℕ)
-    → InWorld up0 down0 up down w (awaited w.up) e → IsText text → IsNext w.spent text (one_ask w.spent)
-    → ask_in text ≡ Some (ask_with method (w.spent.asks + 1))
+-- a frame is sent
+pub world-sent_up : (up0 down0 up down up1 : Pipe) (w : World State) (e : Ends) (text : List ℕ) (more : Spent → Spent) (front1 : FrontState) (there : ℕ)
+    → (in_world : InWorld up0 down0 up down w (awaited w.up) e) → IsText text → IsNext w.spent text (more w.spent)
+    → front1 ≡ good_front (join in_world.value text) (held w.down) ((more w.spent).asks + 1)
     → up1.sent ≡ up.sent ++ framed text → up1.given ≡ up.given → there ≡ e.up_there + length (framed text)
-    → InWorld up0 down0 up1 down (asked text w) (awaited (asked text w).up)
-    (record e { front = after_ask e.front method; up_there = there })
-world-asked up0 down0 up down up1 w e text method there in_world letters is_ask is sent_is given_is left =
+    → InWorld up0 down0 up1 down (sent_up text more w) (awaited (sent_up text more w).up) (record e { front = front1; up_there = there })
+world-sent_up up0 down0 up down up1 w e text more front1 there in_world letters is_next front_is sent_is given_is left =
     let start = joined join (first_value []) (frames_of (sent w.up)).whole in
-    let joins : join in_world.value text ≡ with_ask in_world.value (Some (ask_with method (w.spent.asks + 1))) = ap (with_ask in_world.value) is in
-    let fits : FitsWith (asked text w) (awaited (asked text w).up) =
-    fits-asked replay IsNext IsTurn IsFit world_laws (first_value []) text w letters is_ask in_world.fits in
     record {
       up_is = carries-put up0 up up1 (framed text) w.up in_world.up_is sent_is given_is;
       down_is = in_world.down_is;
-      page_is = in_world.page_is;
-      on_is = in_world.on_is;
       stands = in_world.stands;
       back_is = in_world.back_is;
       value = join in_world.value text;
-      front_is =
-          ap (λ front. after_ask front method) in_world.front_is
-          ∙ ap (λ value. good_front value (held w.down) (w.spent.asks + 1 + 1)) (sym joins);
+      front_is = front_is;
       is_fold =
           ap (λ frames. folded take_frame (joined join (first_value []) frames) (frames_of w.down.given).whole)
           (ap (λ bytes. (frames_of bytes).whole) (sym (append_assoc w.up.given w.up.flying (framed text)))
@@ -177,21 +167,37 @@ world-asked up0 down0 up down up1 w e text method there in_world letters is_ask 
       up_left = left ∙ ap (λ n. n + length (framed text)) in_world.up_left ∙ sym (length-append w.up.flying (framed text));
       down_left = in_world.down_left;
       told_is = in_world.told_is;
-      fits = fits;
+      fits = fits-sent_up replay IsNext IsNextTurn IsFit world_laws (first_value []) text more w letters is_next in_world.fits;
     }
 
 -- the ask of a line is sent
 pub world-sent : (up0 down0 up down up1 : Pipe) (w : World State) (e : Ends) (a : AskForm) (text : List ℕ) (there : ℕ)
-    → InWorld up0 down0 up down w (awaited w.up) e → CanSend a → w.spent.asks < most_asks
+    → InWorld up0 down0 up down w (awaited w.up) e → CanSend a → HasLeft w.spent 1
     → text ≡ command_text (w.spent.asks + 1) a.method a.params a.session
     → up1.sent ≡ up.sent ++ framed text → up1.given ≡ up.given → there ≡ e.up_there + length (framed text)
     → InWorld up0 down0 up1 down (sends a w) (awaited (sends a w).up)
     (record e { front = after_ask e.front a.method; up_there = there })
-world-sent up0 down0 up down up1 w e a text there in_world can few text_is sent_is given_is left =
+world-sent up0 down0 up down up1 w e a text there in_world can room text_is sent_is given_is left =
+    let few : w.spent.asks + 1 ≤ 2 ^ 26 = room.asks in
     let small : w.spent.asks + 1 < 2 ^ 53 = omega (arith, few) in
-    world-asked up0 down0 up down up1 w e (command_text (w.spent.asks + 1) a.method a.params a.session) a.method there in_world
-    (IsText-sent (w.spent.asks + 1) a can small) (IsNext-sent w.spent a can (omega (arith, few)) small) (ask_in-sent (w.spent.asks + 1) a can small)
+    let sends_text = command_text (w.spent.asks + 1) a.method a.params a.session in
+    let is : ask_in sends_text ≡ Some (ask_with a.method (w.spent.asks + 1)) = ask_in-sent (w.spent.asks + 1) a can small in
+    let joins : join in_world.value sends_text ≡ with_ask in_world.value (Some (ask_with a.method (w.spent.asks + 1))) = ap (with_ask in_world.value) is in
+    world-sent_up up0 down0 up down up1 w e sends_text one_ask (after_ask e.front a.method) there in_world
+    (IsText-sent (w.spent.asks + 1) a can small) (IsNext-sent w.spent a can few small)
+    (ap (λ front. after_ask front a.method) in_world.front_is
+    ∙ ap (λ value. good_front value (held w.down) (w.spent.asks + 1 + 1)) (sym joins))
     (sent_is ∙ ap (λ bytes. up.sent ++ framed bytes) text_is) given_is (left ∙ ap (λ bytes. e.up_there + length (framed bytes)) text_is)
+
+-- a frame is sent that names no ask
+pub world-raw : (up0 down0 up down up1 : Pipe) (w : World State) (e : Ends) (text : List ℕ) (there : ℕ)
+    → InWorld up0 down0 up down w (awaited w.up) e → IsText text → IsBare text → HasLeft w.spent 1
+    → up1.sent ≡ up.sent ++ framed text → up1.given ≡ up.given → there ≡ e.up_there + length (framed text)
+    → InWorld up0 down0 up1 down (raw text w) (awaited (raw text w).up) (record e { up_there = there })
+world-raw up0 down0 up down up1 w e text there in_world letters bare room sent_is given_is left =
+    let joins : join in_world.value text ≡ in_world.value = ap (with_ask in_world.value) bare.no_ask in
+    world-sent_up up0 down0 up down up1 w e text one_raw e.front there in_world letters (next_raw bare room.raws)
+    (in_world.front_is ∙ ap (λ value. good_front value (held w.down) (w.spent.asks + 1)) (sym joins)) sent_is given_is left
 
 -- bytes come up
 pub world-given_up : (up0 down0 up down up1 : Pipe) (w : World State) (e : Ends) (n there : ℕ) (piece rest : List ℕ)
@@ -203,8 +209,6 @@ pub world-given_up : (up0 down0 up down up1 : Pipe) (w : World State) (e : Ends)
 world-given_up up0 down0 up down up1 w e n there piece rest in_world front_part sent_is given_is left rest_is = record {
   up_is = carries-get up0 up up1 piece n w.up in_world.up_is sent_is given_is front_part;
   down_is = in_world.down_is;
-  page_is = in_world.page_is;
-  on_is = in_world.on_is;
   stands = in_world.stands;
   back_is =
       rest_is ∙ ap (λ held. held_after held piece) in_world.back_is
@@ -217,39 +221,63 @@ world-given_up up0 down0 up down up1 w e n there piece rest in_world front_part 
   up_left = left-passed n e.up_there there piece w.up in_world.up_left front_part left;
   down_left = in_world.down_left;
   told_is = in_world.told_is;
-  fits = fits-given_up replay IsNext IsTurn IsFit world_laws (first_value []) n w in_world.fits;
+  fits = fits-given_up replay IsNext IsNextTurn IsFit world_laws (first_value []) n w in_world.fits;
 }
+
+-- what a step sends is put down
+down-put : (down0 down down1 : Pipe) (w : World State) (out bytes : List ℕ) → Carries down0 down w.down → out ≡ bytes
+    → down1.sent ≡ down.sent ++ out → down1.given ≡ down.given → Carries down0 down1 (put bytes w.down)
+down-put down0 down down1 w out bytes carries is sent_is given_is =
+    subst (λ piece. Carries down0 down1 (put piece w.down)) is (carries-put down0 down down1 out w.down carries sent_is given_is)
+
+left-put : (w : World State) (there left : ℕ) (out bytes : List ℕ) → left ≡ length w.down.flying → out ≡ bytes → there ≡ left + length out
+    → there ≡ length (w.down.flying ++ bytes)
+left-put w there left out bytes before is after =
+    after ∙ ap (λ n. n + length out) before ∙ sym (length-append w.down.flying out) ∙ ap (λ piece. length (w.down.flying ++ piece)) is
 
 -- a frame that came up whole is answered
 pub world-answered : (up0 down0 up down down1 : Pipe) (w : World State) (frame : List ℕ) (frames : List (List ℕ)) (e : Ends)
-    → (page : PageValue) (is_on : Bool) (bound : Bound) (out : List ℕ) (there : ℕ)
+    → (seat : Seat) (side : PageSide) (out : List ℕ) (there : ℕ)
     → InWorld up0 down0 up down w (frame ∷ frames) e
-    → page ≡ (step w.state frame).state.side.page → is_on ≡ (step w.state frame).state.client.dom_on → Stands (nodes_in (step w.state frame).state) (step w.state frame).state.client.session bound
-    → out ≡ (step w.state frame).sent
+    → StandsFor seat side (step w.state frame).state → out ≡ (step w.state frame).sent
     → down1.sent ≡ down.sent ++ out → down1.given ≡ down.given → there ≡ e.down_there + length out
-    → InWorld up0 down0 up down1 (answered step (frame ∷ []) w) frames
-    (record e { page = page; is_on = is_on; bound = bound; down_there = there })
-world-answered up0 down0 up down down1 w frame frames e page is_on bound out there in_world page_is on_is stands out_is sent_is given_is left =
+    → InWorld up0 down0 up down1 (answered step (frame ∷ []) w) frames (record e { seat = seat; side = side; down_there = there })
+world-answered up0 down0 up down down1 w frame frames e seat side out there in_world stands out_is sent_is given_is left =
     let all : out ≡ (steps step w.state (frame ∷ [])).sent = out_is ∙ sym (append-nil (step w.state frame).sent) in
     record {
       up_is = in_world.up_is;
-      down_is =
-          subst (λ bytes. Carries down0 down1 (put bytes w.down)) all
-          (carries-put down0 down down1 out w.down in_world.down_is sent_is given_is);
-      page_is = page_is;
-      on_is = on_is;
+      down_is = down-put down0 down down1 w out (steps step w.state (frame ∷ [])).sent in_world.down_is all sent_is given_is;
       stands = stands;
       back_is = in_world.back_is;
       value = in_world.value;
       front_is = in_world.front_is;
       is_fold = in_world.is_fold;
       up_left = in_world.up_left;
-      down_left =
-          left ∙ ap (λ n. n + length out) in_world.down_left ∙ sym (length-append w.down.flying out)
-          ∙ ap (λ bytes. length (w.down.flying ++ bytes)) all;
+      down_left = left-put w there e.down_there out (steps step w.state (frame ∷ [])).sent in_world.down_left all left;
       told_is = in_world.told_is;
-      fits = fits-answered_one replay IsNext IsTurn IsFit world_laws (first_value []) frame frames w in_world.fits;
+      fits = fits-answered_one replay IsNext IsNextTurn IsFit world_laws (first_value []) frame frames w in_world.fits;
     }
+
+-- the script makes a step by itself
+pub world-turned : (up0 down0 up down down1 : Pipe) (w : World State) (e : Ends) (x : Turn)
+    → (seat : Seat) (side : PageSide) (out : List ℕ) (there : ℕ)
+    → InWorld up0 down0 up down w (awaited w.up) e → IsNextTurn w.spent x
+    → StandsFor seat side (turn x w.state).state → out ≡ (turn x w.state).sent
+    → down1.sent ≡ down.sent ++ out → down1.given ≡ down.given → there ≡ e.down_there + length out
+    → InWorld up0 down0 up down1 (turned turn x w) (awaited w.up) (record e { seat = seat; side = side; down_there = there })
+world-turned up0 down0 up down down1 w e x seat side out there in_world next stands out_is sent_is given_is left = record {
+  up_is = in_world.up_is;
+  down_is = down-put down0 down down1 w out (turn x w.state).sent in_world.down_is out_is sent_is given_is;
+  stands = stands;
+  back_is = in_world.back_is;
+  value = in_world.value;
+  front_is = in_world.front_is;
+  is_fold = in_world.is_fold;
+  up_left = in_world.up_left;
+  down_left = left-put w there e.down_there out (turn x w.state).sent in_world.down_left out_is left;
+  told_is = in_world.told_is;
+  fits = fits-turned replay IsNext IsNextTurn IsFit world_laws (first_value []) x w next in_world.fits;
+}
 
 -- ---- the replies
 
@@ -267,8 +295,6 @@ pub world-told : (up0 down0 up down : Pipe) (w : World State) (frames : List (Li
 world-told up0 down0 up down w frames e n in_world all = record {
   up_is = in_world.up_is;
   down_is = in_world.down_is;
-  page_is = in_world.page_is;
-  on_is = in_world.on_is;
   stands = in_world.stands;
   back_is = in_world.back_is;
   value = in_world.value;
@@ -289,16 +315,15 @@ world-told up0 down0 up down w frames e n in_world all = record {
 -- ---- the start
 
 -- a page was loaded, and nothing was sent since the pipes had nothing left to give
-pub world-first : (up0 down0 : Pipe) (nodes : Nodes Label) → CanLoad nodes → HaveTexts nodes → up0.given ≡ up0.sent → down0.given ≡ down0.sent
+pub world-first : (up0 down0 : Pipe) (nodes : Nodes Label) (seat : Seat) (side : PageSide) → CanLoad nodes → HaveTexts nodes
+    → up0.given ≡ up0.sent → down0.given ≡ down0.sent → StandsFor seat side (loaded_state nodes)
     → InWorld up0 down0 up0 down0 (loaded_world nodes) []
-    (record { page = loaded 1 nodes; is_on = false; bound = empty_from 1; back_rest = []; front = first_state; up_there = 0; down_there = 0; told = 0 })
+    (record { seat = seat; side = side; back_rest = []; front = first_state; up_there = 0; down_there = 0; told = 0 })
 unfolding frames_of
-world-first up0 down0 nodes can texts up_level down_level = record {
+world-first up0 down0 nodes seat side can texts up_level down_level stands = record {
   up_is = carries-start up0 up_level;
   down_is = carries-start down0 down_level;
-  page_is = refl;
-  on_is = refl;
-  stands = Stands-begun (nodes_in (loaded_state nodes));
+  stands = stands;
   back_is = refl;
   value = first_value [];
   front_is = refl;

@@ -1,95 +1,132 @@
 -- What the lines of an input are that is carried out: a load that a page may hold, and then lines that may come after it.
-use Rattle.std.proofs.Common.{◌≡◌, ℕ, suc, ◌+◌, ◌≤◌, ◌==◌, cond, List, [], ◌∷◌, length, Bool, true, false, not, ◌||◌, bytes_eq, codes, Option, Some, None, is_none, option_map, option_and_then, if◌then◌else◌, refl, sym, ◌∙◌, ap, subst, arith}
-use Rattle.std.specs.Prelude.{⊤}
-use Rattle.std.specs.Option.{option_map_or}
-use Rattle.std.proofs.lemmas.Bool.Decides.{nat_tests}
-use Rattle.serde_json.specs.Data.{Data, Members, no_members, member, depth}
-use Rattle.serde_json.specs.Find.{as_object}
+use Rattle.std.proofs.Common.{◌≡◌, ℕ, suc, ◌+◌, ◌≤◌, cond, List, [], ◌∷◌, length, Bool, true, false, bytes_eq, codes, Option, Some, None, option_map, option_and_then, if◌then◌else◌, refl, sym, ◌∙◌, ap, subst, arith}
+use Rattle.serde_json.specs.Data.{Data, null, boolean, number, string, array, object, Members, no_members, member, depth}
+use Rattle.serde_json.specs.Find.{as_str}
 use Rattle.serde_json.specs.Read.{read, max_depth}
 use Rattle.serde_json.specs.Written.{has_float}
 use Rattle.serde_json.proofs.Nesting.{depth-read}
-use Rattle.cdp_json.specs.Plain.{is_plain, HasUtf8, MembersHaveUtf8}
-use Rattle.cdp_json.specs.Rows.{first_at, after_first, is_done}
+use Rattle.cdp_json.specs.Kinds.{as_whole, as_true, named}
+use Rattle.cdp_json.specs.Plain.{is_plain, HasUtf8}
 use Rattle.std.specs.Str.{is_utf8}
 use Rattle.std.proofs.lemmas.Str.{IsUtf8-from_is_utf8}
 use Rattle.node_tree.specs.Keys.{first_of}
 use Rattle.node_tree.specs.Nodes.{Nodes}
 use Rattle.node_tree.specs.Labels.{Label}
 use Rattle.page_tree.specs.Forms.{CanLoad}
-use Rattle.page_tree.specs.Loads.{nodes_in, first_true, first_load_fault, limit_faults}
-use Rattle.page_tree.specs.declared.faults.LoadFault.{LoadFault}
+use Rattle.page_tree.specs.Loads.{nodes_in}
 use Rattle.page_tree.proofs.FormedLemmas.{can_load}
-use Rattle.replay_script.specs.declared.faults.LineFault.{LineFault}
-use Rattle.replay_script.specs.declared.faults.LineFault.TheVariants.{NotJson, BadLoad, NotBuilt}
+use Rattle.page_forms.specs.Acts.{act_in}
+use Rattle.page_forms.specs.Pages.{document_in, page_nodes}
+use Rattle.page_forms.proofs.ActLemmas.{act-insertable, acts_have_texts, pages_have_texts}
+use Rattle.cdp_messages.specs.Asked.{json_of}
+use Rattle.replay_script.specs.declared.line_kinds.LineKind.{LineKind}
+use Rattle.replay_script.specs.declared.line_kinds.LineKind.TheVariants as kind
 use Rattle.std.specs.List.{onto_first}
 use Rattle.replay_script.specs.Lines.{is_line_feed, lines_of}
-use Rattle.replay_script.specs.Forms.{AskForm, LineForm, load, ask, up, down, settle, show_front, show_replies, data_of, only_member, only, page_of, page_nodes, ask_of, number_of, settle_in, word_of, show_from, first_form, form_of, line_form}
-use Rattle.replay_script.specs.Faults.{first_line_fault, later_line_fault, is_built, fault_of_data, line_fault}
+use Rattle.replay_script.specs.Kinds.{line_kind_name, all_line_kinds, sole_member, sole, styles_in, kind_said}
+use Rattle.replay_script.specs.Forms as forms
+use Rattle.replay_script.specs.Forms.{LineForm, load, ask, up, down, settle, show_front, show_page, show_replies, ask_in, show_from, form_by, form_of, line_form}
+use Rattle.std.specs.Option.{option_map_or}
+use Rattle.replay_script.specs.Faults.{is_no_frame, fault_of_data, line_fault}
 use Rattle.replay_script.specs.Script.{script_forms, good_lines}
-use Rattle.back_end.specs.Texts.{HaveTexts}
+use Rattle.page_forms.specs.Texts.{HaveTexts}
 use Rattle.inspect_world.specs.ScriptsFit.{IsLater, AreLater, InputsFit}
-use Rattle.replay_script.proofs.FormLemmas.{line_form-good}
+use Rattle.replay_script.proofs.FaultLemmas.{line_form-good, line_good, is_clear, IsClear, json_good, page_clear}
 use Rattle.replay_script.proofs.ScriptLemmas.{good_lines-good, good_lines-bad}
 use Rattle.cdp_json.proofs.ReadPlain.{read_plain}
 use Rattle.inspect_world.proofs.SendForms.{can_send}
-use Rattle.cdp_json.proofs.Options.{and_then_some}
-use Rattle.cdp_json.proofs.ReadTexts.{IfSome, then_keeps, read_utf8}
-use Rattle.back_end.proofs.LoadTexts.{when, object_utf8, nodes_utf8}
+use Rattle.inspect_world.proofs.BareFrames.{raw_is_frame}
+use Rattle.cdp_json.proofs.Options.{both_parts, and_then_some, map_some}
+use Rattle.cdp_json.proofs.ReadTexts.{IfSome, read_utf8}
 use Rattle.inspect_world.proofs.Scripts.{lines-fit}
 
--- ---- a line after the load
+-- ---- the value of a line
 
-not_refused : (fault : LineFault) (b : Bool) → first_true ((fault, not b) ∷ []) ≡ None → b ≡ true
-not_refused fault true e = refl
-not_refused fault false e = absurd cc
+-- the value of an object's one property is plain and UTF-8 as the object is, and nests less deep
+record Within (q d : Data) : Type 0 where
+  pub plain : is_plain d ≡ true → is_plain q ≡ true
+  pub texts : HasUtf8 d → HasUtf8 q
+  pub deep : suc (depth q) ≤ depth d
 
--- a line that is not refused holds no float, and has a form that is built
-record Built (d : Data) (form : LineForm) : Type 0 where
-  pub whole : has_float d ≡ false
-  pub built : is_built form ≡ true
+within-sole_member : (ms : Members) (p : List ℕ × Data) → sole_member ms ≡ Some p → Within p.1 (object ms)
+within-sole_member no_members p e = absurd cc
+within-sole_member (member k d no_members) p e =
+    let same : (k, d) ≡ p = cc e in
+    subst (λ (q : List ℕ × Data). Within q.1 (object (member k d no_members))) same
+    (record { plain = λ h. (both_parts (is_plain d) true h).0; texts = λ u. u.1; deep = omega arith })
+within-sole_member (member k d (member l e ms)) p h = absurd cc
 
-built_form : (float : Bool) (d : Data) (o : Option LineForm) (form : LineForm) → has_float d ≡ float
-    → first_true ((NotBuilt, float || not (option_map_or is_built o false)) ∷ []) ≡ None → o ≡ Some form → Built d form
-built_form true d o form whole e is = absurd cc
-built_form false d None form whole e is = absurd cc
-built_form false d (Some f) form whole e is =
-    let same : f ≡ form = cc is in
-    record { whole = whole; built = ap is_built (sym same) ∙ not_refused NotBuilt (is_built f) e }
+within-sole : (d : Data) (p : List ℕ × Data) → sole d ≡ Some p → Within p.1 d
+within-sole null p e = absurd cc
+within-sole (boolean b) p e = absurd cc
+within-sole (number n) p e = absurd cc
+within-sole (string s) p e = absurd cc
+within-sole (array ds) p e = absurd cc
+within-sole (object ms) p e = within-sole_member ms p e
 
--- a form that is an ask comes from the line's ask
-show_no_ask : (b c : Bool) (a : AskForm) → (if b then Some show_front else if c then Some show_replies else None) ≡ Some (ask a) → ⊥
-show_no_ask true c a e = let no : ◌≡◌ {A = Option LineForm} (Some show_front) (Some (ask a)) = e in cc
-show_no_ask false true a e = let no : ◌≡◌ {A = Option LineForm} (Some show_replies) (Some (ask a)) = e in cc
-show_no_ask false false a e = let no : ◌≡◌ {A = Option LineForm} None (Some (ask a)) = e in cc
+nothing : (form : LineForm) → ◌≡◌ {A = Option LineForm} None (Some form) → ⊥
+nothing form e = cc
 
-word_no_ask : (o : Option (List ℕ)) (a : AskForm) → first_form (option_and_then show_from o ∷ []) ≡ Some (ask a) → ⊥
-word_no_ask None a e = let no : ◌≡◌ {A = Option LineForm} None (Some (ask a)) = e in cc
-word_no_ask (Some word) a e =
-    show_no_ask (bytes_eq word (codes "front")) (bytes_eq word (codes "replies")) a (alone_form (show_from word) (ask a) e) where
-      alone_form : (o : Option LineForm) (form : LineForm) → first_form (o ∷ []) ≡ Some form → o ≡ Some form
-      alone_form None form h = h
-      alone_form (Some f) form h = h
+-- what a line says that is carried out stands under its one property
+within-said : (styles : Option Data) (o : Option (List ℕ × Data)) (d : Data) (k : LineKind) (v : Data) (form : LineForm) → sole d ≡ o
+    → first_of (option_map (λ asked. (kind.Styles, asked)) styles) (option_and_then kind_said o) ≡ Some (k, v) → form_by k v ≡ Some form → Within v d
+within-said (Some asked) o d k v form is e f =
+    let same : (kind.Styles, asked) ≡ (k, v) = cc e in
+    let no : ◌≡◌ {A = Option LineForm} None (Some form) = subst (λ (t : LineKind × Data). form_by t.0 t.1 ≡ Some form) (sym same) f in absurd (nothing form no)
+within-said None o d k v form is e f =
+    let p = and_then_some kind_said o (k, v) e in
+    let q = map_some (λ (name : LineKind). (name, p.0.1)) (named line_kind_name all_line_kinds p.0.0) (k, v) p.2 in
+    subst (λ (x : Data). Within x d) (ap (λ (t : LineKind × Data). t.1) q.2) (within-sole d p.0 (is ∙ p.1))
 
-settle_no_ask : (o : Option ⊤) (w : Option (List ℕ)) (a : AskForm) → first_form (option_map (λ _. settle) o ∷ option_and_then show_from w ∷ []) ≡ Some (ask a) → ⊥
-settle_no_ask None w a e = word_no_ask w a e
-settle_no_ask (Some x) w a e = let no : ◌≡◌ {A = Option LineForm} (Some settle) (Some (ask a)) = e in cc
+-- ---- a line that is not refused
 
-number_no_ask : (u d : Option ℕ) (o : Option ⊤) (w : Option (List ℕ)) (a : AskForm)
-    → first_form (option_map up u ∷ option_map down d ∷ option_map (λ _. settle) o ∷ option_and_then show_from w ∷ []) ≡ Some (ask a) → ⊥
-number_no_ask None None o w a e = settle_no_ask o w a e
-number_no_ask None (Some n) o w a e = let no : ◌≡◌ {A = Option LineForm} (Some (down n)) (Some (ask a)) = e in cc
-number_no_ask (Some n) d o w a e = let no : ◌≡◌ {A = Option LineForm} (Some (up n)) (Some (ask a)) = e in cc
+-- a value that is read: plain, UTF-8, and not too deep
+record IsPlainRead (v : Data) : Type 0 where
+  plain : is_plain v ≡ true
+  texts : HasUtf8 v
+  levels : depth v ≤ max_depth
 
-ask_among : (l : Option (Nodes Label)) (q : Option AskForm) (u d : Option ℕ) (o : Option ⊤) (w : Option (List ℕ)) (a : AskForm)
-    → first_form (option_map load l ∷ option_map ask q ∷ option_map up u ∷ option_map down d ∷ option_map (λ _. settle) o ∷ option_and_then show_from w ∷ []) ≡ Some (ask a)
-    → q ≡ Some a
-ask_among (Some n) q u d o w a e = let no : ◌≡◌ {A = Option LineForm} (Some (load n)) (Some (ask a)) = e in absurd cc
-ask_among None None u d o w a e = absurd (number_no_ask u d o w a e)
-ask_among None (Some b) u d o w a e = let same : ◌≡◌ {A = Option LineForm} (Some (ask b)) (Some (ask a)) = e in let is : b ≡ a = cc same in ap (λ x. Some x) is
+later_load : (v : Data) (form : LineForm) → IsClear kind.Load v → IsPlainRead v → option_map load (page_nodes v) ≡ Some form → IsLater form
+later_load v form clear read is =
+    let page = page_clear v clear.page in
+    let same : load page.0 ≡ form = cc (sym (ap (option_map load) page.1) ∙ is) in
+    let document = and_then_some nodes_in (document_in v) page.0 page.1 in
+    subst IsLater same (can_load document.0 page.0 document.2 page.2, pages_have_texts v page.0 read.texts page.1)
 
-form_ask : (d : Data) (a : AskForm) → form_of d ≡ Some (ask a) → ask_of d ≡ Some a
-form_ask d a e =
-    ask_among (option_and_then page_nodes (page_of d)) (ask_of d) (number_of (codes "up") d) (number_of (codes "down") d) (settle_in d) (word_of d) a e
+later_act : (v : Data) (form : LineForm) → IsPlainRead v → option_map forms.act (act_in v) ≡ Some form → IsLater form
+later_act v form read is =
+    let p = map_some forms.act (act_in v) form is in
+    subst IsLater p.2 (act-insertable v p.0 p.1, acts_have_texts v p.0 read.texts p.1)
+
+later_ask : (v : Data) (form : LineForm) → IsPlainRead v → option_map ask (ask_in v) ≡ Some form → IsLater form
+later_ask v form read is =
+    let p = map_some ask (ask_in v) form is in
+    subst IsLater p.2 (can_send v p.0 p.1 read.plain read.texts read.levels)
+
+later_raw : (v : Data) (form : LineForm) → IsClear kind.Raw v → option_map forms.raw (as_str v) ≡ Some form → IsLater form
+later_raw v form clear is =
+    let p = map_some forms.raw (as_str v) form is in
+    subst IsLater p.2 (raw_is_frame p.0 (sym (ap (λ o. option_map_or is_no_frame o false) p.1) ∙ clear.frame))
+
+later_show : (b c d : Bool) (form : LineForm) → (if b then Some show_front else if c then Some show_page else if d then Some show_replies else None) ≡ Some form → IsLater form
+later_show true c d form is = let same : show_front ≡ form = cc is in subst IsLater same tt
+later_show false true d form is = let same : show_page ≡ form = cc is in subst IsLater same tt
+later_show false false true form is = let same : show_replies ≡ form = cc is in subst IsLater same tt
+later_show false false false form is = absurd cc
+
+later_by : (k : LineKind) (v : Data) (form : LineForm) → IsClear k v → IsPlainRead v → form_by k v ≡ Some form → IsLater form
+later_by kind.Load v form clear read is = later_load v form clear read is
+later_by kind.Act v form clear read is = later_act v form read is
+later_by kind.Ask v form clear read is = later_ask v form read is
+later_by kind.Raw v form clear read is = later_raw v form clear is
+later_by kind.Up v form clear read is = let p = map_some up (as_whole v) form is in subst IsLater p.2 tt
+later_by kind.Down v form clear read is = let p = map_some down (as_whole v) form is in subst IsLater p.2 tt
+later_by kind.Settle v form clear read is = let p = map_some (λ _. settle) (as_true v) form is in subst IsLater p.2 tt
+later_by kind.Show v form clear read is =
+    let p = and_then_some show_from (as_str v) form is in
+    later_show (bytes_eq p.0 (codes "front")) (bytes_eq p.0 (codes "page")) (bytes_eq p.0 (codes "replies")) form p.2
+later_by kind.Close v form clear read is = absurd cc
+later_by kind.Styles v form clear read is = absurd cc
 
 -- a line that is read: plain but for floats, UTF-8, and not too deep
 pub record IsRead (d : Data) : Type 0 where
@@ -97,88 +134,28 @@ pub record IsRead (d : Data) : Type 0 where
   pub texts : HasUtf8 d
   pub levels : depth d ≤ max_depth
 
-later_form : (d : Data) (form : LineForm) → IsRead d → Built d form → form_of d ≡ Some form → IsLater form
-later_form d (load nodes) read built is = let no : false ≡ true = built.built in absurd cc
-later_form d (ask a) read built is = can_send d a (form_ask d a is) built.built (read.plain built.whole) read.texts read.levels
-later_form d (up n) read built is = tt
-later_form d (down n) read built is = tt
-later_form d settle read built is = tt
-later_form d show_front read built is = tt
-later_form d show_replies read built is = tt
-
-pub later_data : (number : ℕ) (o : Option Data) (form : LineForm) → 2 ≤ number → IfSome IsRead o
-    → first_of (first_true ((NotJson, is_none o) ∷ [])) (option_and_then (fault_of_data number) o) ≡ None → option_and_then form_of o ≡ Some form → IsLater form
-later_data number None form late read e is = absurd cc
-later_data number (Some d) form late read e is =
-    let other : (number == 1) ≡ false = grind (arith, nat_tests) in
-    later_form d form read (built_form (has_float d) d (form_of d) form refl (sym (ap (λ t. cond t (first_line_fault d) (later_line_fault d)) other) ∙ e) is) is
-
--- ---- the first line
-
--- a load without a fault
-nodes_can : (page : Option Data) (nodes : Nodes Label) → option_and_then page_nodes page ≡ Some nodes → first_true (limit_faults nodes) ≡ None → CanLoad nodes
-nodes_can page nodes is clear =
-    let p = and_then_some page_nodes page nodes is in
-    let d = and_then_some nodes_in (only (codes "document") p.0) nodes p.2 in
-    can_load d.0 nodes d.2 clear
-
-fault_free : (o : Option LineFault) (f : Option LoadFault) → first_of o (option_map BadLoad f) ≡ None → f ≡ None
-fault_free None None e = refl
-fault_free None (Some f) e = absurd cc
-fault_free (Some x) f e = absurd cc
-
-first_load : (o : Option (Nodes Label)) (later : Option LineForm) (nodes : Nodes Label) → first_load_fault o ≡ None → first_of (option_map load o) later ≡ Some (load nodes)
-    → (o ≡ Some nodes) × (first_true (limit_faults nodes) ≡ None)
-first_load None later nodes clear is = absurd cc
-first_load (Some n) later nodes clear is =
-    let same : n ≡ nodes = cc is in
-    (ap Some same, subst (λ (m : Nodes Label). first_true (limit_faults m) ≡ None) same clear)
-
--- the one property of an object
-first_at-utf8 : (k : List ℕ) (ms : Members) → MembersHaveUtf8 ms → IfSome HasUtf8 (first_at k ms)
-first_at-utf8 k no_members u = tt
-first_at-utf8 k (member l d ms) u = when HasUtf8 (bytes_eq k l) (Some d) u.1
-
-only-utf8 : (k : List ℕ) (d : Data) → HasUtf8 d → IfSome HasUtf8 (only k d)
-only-utf8 k d u =
-    then_keeps MembersHaveUtf8 HasUtf8 (only_member k)
-    (λ ms um. when HasUtf8 (is_done (after_first ms)) (first_at k ms) (first_at-utf8 k ms um)) (as_object d) (object_utf8 d u)
-
--- the texts of a load
-load-texts : (d : Data) → HasUtf8 d → IfSome HaveTexts (option_and_then page_nodes (page_of d))
-load-texts d u =
-    then_keeps HasUtf8 HaveTexts page_nodes
-    (λ page up. then_keeps HasUtf8 HaveTexts nodes_in nodes_utf8 (only (codes "document") page) (only-utf8 (codes "document") page up))
-    (page_of d) (only-utf8 (codes "load") d u)
-
--- what is read of a line
-pub line-read : (line : List ℕ) → IfSome IsRead (data_of line)
+line-read : (line : List ℕ) → IfSome IsRead (json_of line)
 line-read line = at (is_utf8 line) (read line) refl refl where
   at : (b : Bool) (o : Option Data) → is_utf8 line ≡ b → read line ≡ o → IfSome IsRead (cond b o None)
   at false o is e = tt
   at true None is e = tt
   at true (Some d) is e = record { plain = read_plain line d e; texts = read_utf8 line d (IsUtf8-from_is_utf8 line is) e; levels = depth-read line d e }
 
--- a load that is carried out
-pub record Load (nodes : Nodes Label) : Type 0 where
-  pub can : CanLoad nodes
-  pub texts : HaveTexts nodes
+later_data : (nth : ℕ) (d : Data) (form : LineForm) → IsRead d → fault_of_data nth d ≡ None → form_of d ≡ Some form → IsLater form
+later_data nth d form read e is =
+    let good = line_good nth d e in
+    let by : form_by good.kind good.value ≡ Some form = sym (ap (option_and_then (λ (s : LineKind × Data). form_by s.0 s.1)) good.is) ∙ is in
+    let within : Within good.value d = within-said (styles_in d) (sole d) d good.kind good.value form refl good.is by in
+    let levels : depth d ≤ max_depth = read.levels in
+    let deep : suc (depth good.value) ≤ depth d = within.deep in
+    later_by good.kind good.value form (is_clear good.kind good.value good.clear)
+    (record { plain = within.plain (read.plain good.whole); texts = within.texts read.texts; levels = omega (arith, levels, deep) }) by
 
-pub first_data : (o : Option Data) (nodes : Nodes Label) → IfSome IsRead o
-    → first_of (first_true ((NotJson, is_none o) ∷ [])) (option_and_then (fault_of_data 1) o) ≡ None → option_and_then form_of o ≡ Some (load nodes) → Load nodes
-first_data None nodes u e is = absurd cc
-first_data (Some d) nodes u e is =
-    let clear : first_load_fault (option_and_then page_nodes (page_of d)) ≡ None = fault_free _ (first_load_fault (option_and_then page_nodes (page_of d))) e in
-    let p = first_load (option_and_then page_nodes (page_of d)) (first_form
-    (option_map ask (ask_of d) ∷ option_map up (number_of (codes "up") d) ∷ option_map down (number_of (codes "down") d) ∷ option_map (λ _. settle) (settle_in d) ∷ option_and_then show_from (word_of d) ∷ [])) nodes clear is in
-    record { can = nodes_can (page_of d) nodes p.0 p.1; texts = subst (IfSome HaveTexts) p.0 (load-texts d u.texts) }
-
--- a first line that is a load, and a later line, as they are read
-pub first_line : (line : List ℕ) (nodes : Nodes Label) → line_fault 1 line ≡ None → line_form line ≡ Some (load nodes) → Load nodes
-first_line line nodes e is = first_data (data_of line) nodes (line-read line) e is
-
-pub later_line : (number : ℕ) (line : List ℕ) (form : LineForm) → 2 ≤ number → line_fault number line ≡ None → line_form line ≡ Some form → IsLater form
-later_line number line form late e is = later_data number (data_of line) form late (line-read line) e is
+-- a line that is not refused may be carried out
+pub later_line : (nth : ℕ) (line : List ℕ) (form : LineForm) → line_fault nth line ≡ None → line_form line ≡ Some form → IsLater form
+later_line nth line form e is =
+    let json = json_good nth (json_of line) e in
+    later_data nth json.0 form (subst (IfSome IsRead) json.1 (line-read line)) json.2 (sym (ap (option_and_then form_of) json.1) ∙ is)
 
 -- ---- all lines
 
@@ -190,18 +167,18 @@ pub record Later (forms : List LineForm) (most : ℕ) : Type 0 where
 later_cons : (form : LineForm) (forms : List LineForm) (most : ℕ) → IsLater form → Later forms most → Later (form ∷ forms) (suc most)
 later_cons form forms most is rest = record { later = (is, rest.later); few = let h : length forms ≤ most = rest.few in omega arith }
 
-later_lines : (number : ℕ) (lines : List (List ℕ)) → 2 ≤ number → Later (good_lines number lines) (length lines)
-later_lines number [] late = record { later = tt; few = omega arith }
-later_lines number (line ∷ more) late =
-    (elim (line_fault number line) as (λ f. line_fault number line ≡ f → Later (good_lines number (line ∷ more)) (suc (length more))) [
+later_lines : (nth : ℕ) (lines : List (List ℕ)) → Later (good_lines nth lines) (length lines)
+later_lines nth [] = record { later = tt; few = omega arith }
+later_lines nth (line ∷ more) =
+    (elim (line_fault nth line) as (λ f. line_fault nth line ≡ f → Later (good_lines nth (line ∷ more)) (suc (length more))) [
       | None ↦ λ e.
-          let form = line_form-good number line e in
-          subst (λ forms. Later forms (suc (length more))) (sym (good_lines-good number line more form.0 e form.1))
-          (later_cons form.0 (good_lines (number + 1) more) (length more)
-          (later_line number line form.0 late e form.1)
-          (later_lines (number + 1) more (omega (arith, late))))
+          let form = line_form-good nth line e in
+          subst (λ forms. Later forms (suc (length more))) (sym (good_lines-good nth line more form.0 e form.1))
+          (later_cons form.0 (good_lines (nth + 1) more) (length more)
+          (later_line nth line form.0 e form.1)
+          (later_lines (nth + 1) more))
       | Some fault ↦ λ e.
-          subst (λ forms. Later forms (suc (length more))) (sym (good_lines-bad number line more fault e)) (record { later = tt; few = omega arith })
+          subst (λ forms. Later forms (suc (length more))) (sym (good_lines-bad nth line more fault e)) (record { later = tt; few = omega arith })
     ]) refl
 
 -- a script whose first line is a load
@@ -220,12 +197,12 @@ script_of (line ∷ more) nodes forms is =
           let all : ◌≡◌ {A = List LineForm} (form.0 ∷ later) (load nodes ∷ forms) = sym (good_lines-good 1 line more form.0 e form.1) ∙ is in
           let head : form.0 ≡ load nodes = cc all in
           let tail : later ≡ forms = cc all in
-          let rest : Later later (length more) = later_lines 2 more (omega arith) in
+          let rest : Later later (length more) = later_lines 2 more in
           let same : Later forms (length more) = subst (λ fs. Later fs (length more)) tail rest in
-          let first = first_line line nodes e (form.1 ∙ ap Some head) in
+          let first : IsLater (load nodes) = later_line 1 line (load nodes) e (form.1 ∙ ap Some head) in
           record {
-            can = first.can;
-            texts = first.texts;
+            can = first.0;
+            texts = first.1;
             rest = record { later = same.later; few = let h : length forms ≤ length more = same.few in omega arith };
           }
       | Some fault ↦ λ e.

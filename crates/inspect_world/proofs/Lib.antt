@@ -5,10 +5,12 @@ pub mod AskLemmas
 pub mod Pipes
 pub mod Replies
 pub mod Messages
-pub mod Answered
+pub mod MoveTexts
+pub mod StepsTaken
 pub mod FitLemmas
 pub mod Scripts
 pub mod Ends
 pub mod LinkLemmas
+pub mod BareFrames
 pub mod SendForms
 pub mod Inputs

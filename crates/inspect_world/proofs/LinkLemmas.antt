@@ -1,139 +1,116 @@
 -- The ends follow every link, whatever bytes it gives.
-use Rattle.std.proofs.Common.{Option, ◌≡◌, refl, Bool, true, false, ℕ, ◌+◌, ◌^◌, ◌<◌, ◌≤◌, List, [], ◌∷◌, ◌++◌, length, map, drop, Some, None, sym, ◌∙◌, ap, subst, append_assoc, append-nil, length-append, Result, Ok, Err, arith}
+use Rattle.std.proofs.Common.{Option, ◌≡◌, refl, false, ℕ, ◌+◌, ◌^◌, ◌<◌, ◌≤◌, List, [], ◌∷◌, ◌++◌, length, map, drop, Some, None, sym, ◌∙◌, ap, subst, append_assoc, append-nil, length-append, Result, Ok, Err, arith}
+use Rattle.std.specs.List.{flat_map}
 use Rattle.std.specs.Option.{option_to_list}
 use Rattle.std.proofs.Math.Seq.{drop-append_seam}
 use Rattle.std.proofs.lemmas.List.{map-append}
-use Rattle.std.proofs.lemmas.Bool.{eq-eqb}
-use Rattle.cdp_json.specs.Kinds.{is_counted, holds_of_some}
-use Rattle.node_tree.specs.Nodes.{Nodes, node_count}
-use Rattle.node_tree.specs.Labels.{Label}
-use Rattle.page_tree.specs.Forms.{CanLoad}
-use Rattle.page_tree.specs.Pages.{State as PageValue, loaded}
-use Rattle.node_binding.specs.Sessions.{Session}
-use Rattle.node_binding.specs.Bindings.{Bound, Stands, empty_from}
-use Rattle.node_binding.proofs.StandsLemmas.{Stands-begun}
-use Rattle.node_binding.proofs.StartLemmas.{count-alone}
 use Rattle.pipe_frames.specs.Pipe.{Pipe, sent_since, given_since}
 use Rattle.pipe_frames.specs.Frames.{IsText, Frames, framed, frames_of, frames_from, held_after}
 use Rattle.pipe_frames.proofs.FrameLemmas.{frames_of-append, frames_of-one}
 use Rattle.cdp_messages.specs.declared.command.Asked.{Asked}
 use Rattle.cdp_messages.specs.declared.command.Refused.{Refused}
-use Rattle.cdp_messages.specs.declared.command.Why.TheVariants.{NoMethod}
-use Rattle.cdp_messages.specs.declared.dom_ask.DomAsk.{DomAsk}
-use Rattle.cdp_messages.specs.DomAsks.{as_command, dom_ask_in, ask_name, fits_ask}
-use Rattle.cdp_messages.proofs.DomAskLaws.{dom_asks_are_commands}
-use Rattle.cdp_messages.specs.Asked.{asked, command_text, fits_command}
-use Rattle.cdp_messages.specs.Replies.{message_data, refusal_message, refused_text}
-use Rattle.dom_agent.specs.Requests.{Outcome}
-use Rattle.dom_agent.specs.Laws.{CanTell}
+use Rattle.cdp_messages.specs.Asked.{asked, command_text, method_name}
+use Rattle.cdp_messages.specs.Moves.{failed}
 use Rattle.front_mirror.specs.declared.replies.Ask.{Ask}
 use Rattle.front_mirror.specs.declared.faults.FrontFault.{FrontFault}
 use Rattle.front_mirror.specs.Front as front
-use Rattle.front_mirror.specs.Front.{FrontValue, FrontState, Folded, first_value, first_state, take_frame, method_of, fold, fold_frames, outcome, after_ask, after_take}
+use Rattle.front_mirror.specs.Front.{FrontValue, FrontState, Folded, first_value, first_state, take_frame, fold, fold_frames, outcome, after_ask, after_take}
 use Rattle.front_mirror.specs.Laws as front_laws
+use Rattle.front_mirror.specs.Laws.{InTurn, rests, meets}
 use Rattle.replay_script.specs.Forms.{AskForm}
-use Rattle.inspect_world.specs.World.{steps}
-use Rattle.back_end.specs.States.{State, nodes_in, view_of, loaded_state, outcome_of, on_ask, on_asked, step, Stepped, IsState}
+use Rattle.back_end.specs.declared.seat.Seat.{Seat}
+use Rattle.back_end.specs.declared.side.PageSide.{PageSide}
+use Rattle.back_end.specs.States.{State, IsState, view_of}
+use Rattle.back_end.specs.Steps.{Step, Turn, Stepped, frame_step, turn_step, as_bytes, step, turn}
+use Rattle.back_end.specs.Laws.{HasRoom, StepsWell, IsAnswered, IsTurn, reply_ids}
+use Rattle.back_end.specs.Seats.{StandsFor}
 use Rattle.inspect_world.specs.Fits.{ask_in, ask_with, asks_among}
 use Rattle.inspect_world.specs.Held.{Ends, good_front}
-use Rattle.inspect_world.specs.Links.{fold_of, GoesOn, Follows}
-use Rattle.back_end.specs.Texts.{HaveTexts}
+use Rattle.inspect_world.specs.Links.{fold_of, Happening, came, made, step_of, happened, frames_among, GoesOn, Follows}
 use Rattle.inspect_world.specs.ScriptsFit.{CanSend}
-use Rattle.inspect_world.specs.ShownReplies.{ShownReply, told_of, told_by, replies_among, replies_in, id_asked, reply_id}
-use Rattle.inspect_world.proofs.Answered.{Good, good-command, Taken, taken}
-use Rattle.back_end.proofs.StateLemmas.{IsState-after}
-use Rattle.cdp_messages.proofs.Messages.{refusals_are_read, refusal_plain}
-use Rattle.cdp_messages.proofs.ZeroFree.{texts_have_no_zero}
+use Rattle.inspect_world.specs.ShownReplies.{ShownReply, told_of, replies_among, replies_in, id_asked, reply_id}
 use Rattle.front_mirror.proofs.FoldLemmas.{fold-append, fold-more}
-use Rattle.back_end.proofs.AskedLemmas.{frame-fits, AskedFits}
+use Rattle.back_end.proofs.FrameLemmas.{frame-steps-well}
+use Rattle.back_end.proofs.StepLemmas.{turn-steps-well}
+use Rattle.back_end.proofs.AnswerLemmas.{turn-answers}
 use Rattle.inspect_world.proofs.Messages.{IsText-sent, ask_in-sent}
 use Rattle.inspect_world.proofs.Replies.{replies-folded, replies_among-append}
-use Rattle.inspect_world.proofs.Scripts.{IsState-first}
+use Rattle.inspect_world.proofs.StepsTaken.{course-quiet, Taken, taken, tells-all, meets-one, by-refusal, ids-kept}
 use Rattle.inspect_world.proofs.AskLemmas.{asks_among-append}
 use Rattle.inspect_world.proofs.Worlds.{whole-after, rest-after}
 
 -- ---- what a step sends
 
--- The frames of a step are whole, and hold one reply, which has the frame's id; the state after it is one.
-pub record Sends (state : State) (frame : List ℕ) : Type 0 where
+-- The frames of a step are whole, and hold the replies to the frames that came: each one reply, with the frame's id.
+pub record Sends (state : State) (h : Happening) : Type 0 where
   pub texts : List (List ℕ)
-  pub frames_are : frames_of (step state frame).sent ≡ record { whole = texts; rest = [] }
-  pub ids_are : map (λ (t : ShownReply). t.id) (replies_among texts) ≡ reply_id frame ∷ []
-  pub is_state : IsState (step state frame).state
+  pub frames_are : frames_of (step_of h state).sent ≡ record { whole = texts; rest = [] }
+  pub ids_are : map (λ (t : ShownReply). t.id) (replies_among texts) ≡ map reply_id (frames_among (h ∷ []))
 
--- a state that has room for another command
-can-tell : (state : State) → IsState state → length state.client.session.pushed < 2 ^ 52 → CanTell state.side.page state.client.session
-can-tell state is room = record {
-  serials = let h : state.side.page.next ≤ 2 ^ 52 = is.serials in omega (arith, h);
-  ids = let few : node_count (nodes_in state) ≤ 100000 = count-alone state.side.page is.page in omega (arith, room, few);
-  texts = is.texts;
-}
+-- a front end that shows what the client sees, and waits for these
+abbrev waiting_front : State → List Ask → FrontValue
+waiting_front state asks = record (first_value asks) { tree = (view_of state).tree }
 
--- the one ask is found
-found : (id : ℕ) (method : List ℕ) → method_of id (ask_with method id ∷ []) ≡ Some method
-found id method = rw (eq-eqb id id refl) refl
-
--- what the agent is asked
-sends-ask : (state : State) (frame : List ℕ) (id : ℕ) (ask : DomAsk) → IsState state → length state.client.session.pushed < 2 ^ 52
-    → is_counted id ≡ true → fits_ask ask ≡ true → step state frame ≡ on_ask id (Some ask) state → Some id ≡ reply_id frame → Sends state frame
-sends-ask state frame id ask is room counted fits is_step id_is =
-    let o : Outcome Session = outcome_of (Some ask) state in
-    let good : Good state ask o = good-command state ask is.page is.session fits (can-tell state is room) in
-    let start : FrontValue = record { tree = view_of state; asks = ask_with (ask_name ask) id ∷ []; replies = []; taken = 0 } in
-    let t : Taken id o start state = taken id ask o start state good counted refl (found id (ask_name ask)) in
-    let kept : replies_among t.texts ≡ told_of t.reply ∷ [] = sym (replies-folded t.texts start t.after t.is_fold) ∙ ap (map told_of) t.replies in
+-- what the moves of a step send
+sends-moves : (state : State) (h : Happening) (done : Step) (asks rest : List Ask) → StepsWell state done → step_of h state ≡ as_bytes done
+    → InTurn done.moves asks rest → flat_map reply_ids done.moves ≡ map reply_id (frames_among (h ∷ [])) → Sends state h
+sends-moves state h done asks rest well is_step in_turn ids =
+    let t : Taken done (waiting_front state asks) rest = taken state done (waiting_front state asks) rest well.course (record { tree = refl }) in_turn in
+    let among : map told_of t.after.replies ≡ replies_among t.texts = replies-folded t.texts (waiting_front state asks) t.after t.is_fold in
     record {
       texts = t.texts;
       frames_are = ap (λ (d : Stepped State). frames_of d.sent) is_step ∙ t.frames_are;
-      ids_are = ap (map (λ (x : ShownReply). x.id)) kept ∙ ap (λ id. id ∷ []) (t.id_is ∙ id_is);
-      is_state = subst (λ (d : Stepped State). IsState d.state) (sym is_step) (IsState-after state o is good.session);
+      ids_are =
+          ap (map (λ (x : ShownReply). x.id)) (sym among ∙ ap (map told_of) t.replies)
+          ∙ ids-kept done.moves ∙ ids;
     }
 
-sends-refusal : (state : State) (frame : List ℕ) (r : Refused) → IsState state → holds_of_some is_counted r.id ≡ true
-    → step state frame ≡ record { state = state; sent = framed (refused_text r) } → r.id ≡ reply_id frame → Sends state frame
-sends-refusal state frame r is counted is_step id_is =
-    let text = refused_text r in
-    record {
-      texts = text ∷ [];
-      frames_are =
-          ap (λ (d : Stepped State). frames_of d.sent) is_step
-          ∙ frames_of-one text (texts_have_no_zero (message_data (refusal_message r)) (refusal_plain r counted));
-      ids_are = ap (λ m. map (λ (x : ShownReply). x.id) (told_by text m ++ [])) (refusals_are_read r counted) ∙ ap (λ id. id ∷ []) id_is;
-      is_state = subst (λ (d : Stepped State). IsState d.state) (sym is_step) is;
-    }
+-- a frame that came
+sends-frame : (state : State) (frame : List ℕ) (done : Step) → frame_step frame state ≡ done → StepsWell state done → (r : Result Asked Refused) → asked frame false ≡ r
+    → IsAnswered r done.moves → Sends state (came frame)
+sends-frame state frame done is well (Ok a) asks answered =
+    sends-moves state (came frame) done (ask_with (method_name a.command) a.id ∷ []) [] well (ap as_bytes is)
+    (meets-one done.moves (method_name a.command) a.id [] answered.0 answered.1 (course-quiet done.moves (view_of state) (view_of done.state) well.course))
+    (answered.0 ∙ ap (λ o. id_asked o ∷ []) (sym asks))
+sends-frame state frame done is well (Err r) asks answered = at r.id refl where
+  ids : flat_map reply_ids done.moves ≡ reply_id frame ∷ []
+  ids = ap (flat_map reply_ids) answered ∙ ap (λ o. id_asked o ∷ []) (sym asks)
 
--- a command is one that the agent serves, or its method is not known
-sends-command : (state : State) (frame : List ℕ) (a : Asked) → IsState state → length state.client.session.pushed < 2 ^ 52
-    → is_counted a.id ≡ true → fits_command a.command ≡ true → asked frame false ≡ Ok a → Sends state frame
-sends-command state frame a is room counted fits asks = at (dom_ask_in a.command) refl
-  where
-    at : (o : Option DomAsk) → dom_ask_in a.command ≡ o → Sends state frame
-    at None none =
-        sends-refusal state frame (record { id = Some a.id; why = NoMethod }) is counted
-        (ap (λ result. on_asked result state) asks ∙ ap (λ o. on_ask a.id o state) none) (sym (ap id_asked asks))
-    at (Some ask) some =
-        let same : a.command ≡ as_command ask = dom_asks_are_commands a.command ask some in
-        sends-ask state frame a.id ask is room counted (ap fits_command (sym same) ∙ fits)
-        (ap (λ result. on_asked result state) asks ∙ ap (λ o. on_ask a.id o state) some) (sym (ap id_asked asks))
+  at : (o : Option ℕ) → r.id ≡ o → Sends state (came frame)
+  at None none = sends-moves state (came frame) done [] [] well (ap as_bytes is) (by-refusal [] done.moves r none answered) ids
+  at (Some id) some =
+      sends-moves state (came frame) done (ask_with [] id ∷ []) [] well (ap as_bytes is)
+      (subst (λ ms. InTurn ms (ask_with [] id ∷ []) []) (sym answered) (meets (failed r) [] (ask_with [] id) [] [] some (rests []))) ids
 
-pub step-sends : (state : State) (frame : List ℕ) → IsState state → length state.client.session.pushed < 2 ^ 52 → Sends state frame
-step-sends state frame is room = at (asked frame false) (frame-fits frame) refl where
-  at : (r : Result Asked Refused) → AskedFits r → asked frame false ≡ r → Sends state frame
-  at (Ok a) fits asks = sends-command state frame a is room fits.0 fits.1 asks
-  at (Err r) fits asks = sends-refusal state frame r is fits (ap (λ result. on_asked result state) asks) (sym (ap id_asked asks))
+pub frame-sends : (state : State) (frame : List ℕ) → IsState state → HasRoom state → Sends state (came frame)
+frame-sends state frame is room =
+    let well = frame-steps-well state frame is room in
+    sends-frame state frame (frame_step frame state) refl well.0 (asked frame false) refl well.1
 
--- one step more
-steps-last-state : {S : Type 0} (step : S → List ℕ → Stepped S) (state : S) (frames : List (List ℕ)) (frame : List ℕ)
-    → (steps step state (frames ++ frame ∷ [])).state ≡ (step (steps step state frames).state frame).state
-steps-last-state step state [] frame = refl
-steps-last-state step state (first ∷ frames) frame = steps-last-state step (step state first).state frames frame
+-- a step that the script made
+pub turn-sends : (state : State) (x : Turn) → IsState state → HasRoom state → IsTurn x → Sends state (made x)
+turn-sends state x is room is_turn =
+    let none = turn-answers x state in
+    sends-moves state (made x) (turn_step x state) [] [] (turn-steps-well state x is room is_turn) refl (tells-all (turn_step x state).moves [] none) none
 
-steps-last-sent : {S : Type 0} (step : S → List ℕ → Stepped S) (state : S) (frames : List (List ℕ)) (frame : List ℕ)
-    → (steps step state (frames ++ frame ∷ [])).sent ≡ (steps step state frames).sent ++ (step (steps step state frames).state frame).sent
-steps-last-sent step state [] frame = append-nil (step state frame).sent
-steps-last-sent step state (first ∷ frames) frame =
-    ap (λ bytes. (step state first).sent ++ bytes) (steps-last-sent step (step state first).state frames frame)
-    ∙ sym (append_assoc (step state first).sent (steps step (step state first).state frames).sent (step (steps step (step state first).state frames).state frame).sent)
+-- ---- one happening more
+
+happened-state : (state : State) (hs : List Happening) (h : Happening) → (happened state (hs ++ h ∷ [])).state ≡ (step_of h (happened state hs).state).state
+happened-state state [] h = refl
+happened-state state (first ∷ hs) h = happened-state (step_of first state).state hs h
+
+happened-sent : (state : State) (hs : List Happening) (h : Happening)
+    → (happened state (hs ++ h ∷ [])).sent ≡ (happened state hs).sent ++ (step_of h (happened state hs).state).sent
+happened-sent state [] h = append-nil (step_of h state).sent
+happened-sent state (first ∷ hs) h =
+    let next = (step_of first state).state in
+    ap (λ bytes. (step_of first state).sent ++ bytes) (happened-sent next hs h)
+    ∙ sym (append_assoc (step_of first state).sent (happened next hs).sent (step_of h (happened next hs).state).sent)
+
+frames-last : (hs : List Happening) (h : Happening) → frames_among (hs ++ h ∷ []) ≡ frames_among hs ++ frames_among (h ∷ [])
+frames-last [] h = refl
+frames-last (came frame ∷ hs) h = ap (λ frames. frame ∷ frames) (frames-last hs h)
+frames-last (made x ∷ hs) h = frames-last hs h
 
 -- ---- pipes that go on
 
@@ -185,11 +162,11 @@ folds-sent sent_up more given_down v whole e =
 -- ---- the start
 
 -- a page was loaded, and both ends are new
-pub follows-start : (up0 down0 : Pipe) (nodes : Nodes Label) → CanLoad nodes → HaveTexts nodes
-    → Follows (loaded_state nodes) up0 down0 up0 down0 []
-    (record { page = loaded 1 nodes; is_on = false; bound = empty_from 1; back_rest = []; front = first_state; up_there = 0; down_there = 0; told = 0 })
+pub follows-start : (up0 down0 : Pipe) (state0 : State) (seat : Seat) (side : PageSide) → StandsFor seat side state0
+    → Follows state0 up0 down0 up0 down0 []
+    (record { seat = seat; side = side; back_rest = []; front = first_state; up_there = 0; down_there = 0; told = 0 })
 unfolding frames_of
-follows-start up0 down0 nodes can texts = record {
+follows-start up0 down0 state0 seat side stands = record {
   sent_up = [];
   given_up = [];
   sent_down = [];
@@ -200,18 +177,15 @@ follows-start up0 down0 nodes can texts = record {
   value = first_value [];
   front_is = refl;
   is_fold = refl;
-  answered = [];
+  events = [];
   frames_are = refl;
   back_is = refl;
-  state = loaded_state nodes;
+  state = state0;
   side_is = refl;
   sent_is = refl;
   replies_are = refl;
   down_whole = refl;
-  page_is = refl;
-  on_is = refl;
-  stands = Stands-begun (nodes_in (loaded_state nodes));
-  is_state = IsState-first nodes can texts;
+  stands = stands;
   up_left = refl;
   down_left = refl;
 }
@@ -219,18 +193,19 @@ follows-start up0 down0 nodes can texts = record {
 module _ (state0 : State) (up0 down0 : Pipe) where
   -- ---- bytes go up
 
-  -- an ask is sent
-  pub follows-asked : (up down up1 : Pipe) (waiting : List (List ℕ)) (e : Ends) (text method : List ℕ) (there : ℕ)
-      → Follows state0 up0 down0 up down waiting e → there ≡ e.up_there + length (framed text) → IsText text → ask_in text ≡ Some (ask_with method e.front.next)
+  -- a frame is sent, and the front end waits for the ask that it is, if it is one
+  follows-sent : (up down up1 : Pipe) (waiting : List (List ℕ)) (e : Ends) (text : List ℕ) (value1 : FrontValue) (front1 : FrontState) (there : ℕ)
+      → (f : Follows state0 up0 down0 up down waiting e) → there ≡ e.up_there + length (framed text) → IsText text
+      → front1 ≡ good_front value1 (frames_of f.given_down).rest front1.next
+      → fold (asks_among (frames_of f.sent_up).whole ++ option_to_list (ask_in text)) f.given_down ≡ Ok value1
       → up1.sent ≡ up.sent ++ framed text → up1.given ≡ up.given
-      → Follows state0 up0 down0 up1 down waiting (record e { front = after_ask e.front method; up_there = there })
-  follows-asked up down up1 waiting e text method there f left letters is sent_is given_is =
-      let ask = ask_with method e.front.next in
+      → Follows state0 up0 down0 up1 down waiting (record e { front = front1; up_there = there })
+  follows-sent up down up1 waiting e text value1 front1 there f left letters front_is folds sent_is given_is =
       let frames : (frames_of (f.sent_up ++ framed text)).whole ≡ (frames_of f.sent_up).whole ++ text ∷ [] =
       whole-after f.sent_up (framed text) f.up_whole ∙ ap (λ (fs : Frames). (frames_of f.sent_up).whole ++ fs.whole) (frames_of-one text letters) in
-      let asks : asks_among (frames_of (f.sent_up ++ framed text)).whole ≡ asks_among (frames_of f.sent_up).whole ++ ask ∷ [] =
+      let asks : asks_among (frames_of (f.sent_up ++ framed text)).whole ≡ asks_among (frames_of f.sent_up).whole ++ option_to_list (ask_in text) =
       ap asks_among frames ∙ asks_among-append (frames_of f.sent_up).whole (text ∷ [])
-      ∙ ap (λ o. asks_among (frames_of f.sent_up).whole ++ (option_to_list o ++ [])) is in
+      ∙ ap (λ more. asks_among (frames_of f.sent_up).whole ++ more) (append-nil (option_to_list (ask_in text))) in
       record {
         sent_up = f.sent_up ++ framed text;
         given_up = f.given_up;
@@ -239,10 +214,10 @@ module _ (state0 : State) (up0 down0 : Pipe) where
         up_is = goes-put up0 up up1 f.sent_up f.given_up (framed text) f.up_is sent_is given_is;
         down_is = f.down_is;
         up_whole = rest-after f.sent_up (framed text) f.up_whole ∙ ap (λ (fs : Frames). fs.rest) (frames_of-one text letters);
-        value = front_laws.joined f.value ask;
-        front_is = ap (λ s. after_ask s method) f.front_is;
-        is_fold = ap (λ waits. fold waits f.given_down) asks ∙ fold-more (asks_among (frames_of f.sent_up).whole) ask f.given_down f.value f.is_fold;
-        answered = f.answered;
+        value = value1;
+        front_is = front_is;
+        is_fold = ap (λ waits. fold waits f.given_down) asks ∙ folds;
+        events = f.events;
         frames_are = f.frames_are;
         back_is = f.back_is;
         state = f.state;
@@ -250,16 +225,37 @@ module _ (state0 : State) (up0 down0 : Pipe) where
         sent_is = f.sent_is;
         replies_are = f.replies_are;
         down_whole = f.down_whole;
-        page_is = f.page_is;
-        on_is = f.on_is;
         stands = f.stands;
-        is_state = f.is_state;
         up_left =
             let more : length (f.sent_up ++ framed text) ≡ length f.sent_up + length (framed text) = length-append f.sent_up (framed text) in
             let before : e.up_there + length f.given_up ≡ length f.sent_up = f.up_left in
             omega (arith, more, before, left);
         down_left = f.down_left;
       }
+
+  -- an ask is sent
+  pub follows-asked : (up down up1 : Pipe) (waiting : List (List ℕ)) (e : Ends) (text method : List ℕ) (there : ℕ)
+      → Follows state0 up0 down0 up down waiting e → there ≡ e.up_there + length (framed text) → IsText text → ask_in text ≡ Some (ask_with method e.front.next)
+      → up1.sent ≡ up.sent ++ framed text → up1.given ≡ up.given
+      → Follows state0 up0 down0 up1 down waiting (record e { front = after_ask e.front method; up_there = there })
+  follows-asked up down up1 waiting e text method there f left letters is sent_is given_is =
+      let ask = ask_with method e.front.next in
+      follows-sent up down up1 waiting e text (front_laws.joined f.value ask) (after_ask e.front method) there f left letters
+      (ap (λ s. after_ask s method) f.front_is)
+      (ap (λ o. fold (asks_among (frames_of f.sent_up).whole ++ option_to_list o) f.given_down) is
+      ∙ fold-more (asks_among (frames_of f.sent_up).whole) ask f.given_down f.value f.is_fold)
+      sent_is given_is
+
+  -- a frame is sent that names no ask
+  pub follows-raw : (up down up1 : Pipe) (waiting : List (List ℕ)) (e : Ends) (text : List ℕ) (there : ℕ)
+      → Follows state0 up0 down0 up down waiting e → there ≡ e.up_there + length (framed text) → IsText text → ask_in text ≡ None
+      → up1.sent ≡ up.sent ++ framed text → up1.given ≡ up.given
+      → Follows state0 up0 down0 up1 down waiting (record e { up_there = there })
+  follows-raw up down up1 waiting e text there f left letters none sent_is given_is =
+      follows-sent up down up1 waiting e text f.value e.front there f left letters f.front_is
+      (ap (λ o. fold (asks_among (frames_of f.sent_up).whole ++ option_to_list o) f.given_down) none
+      ∙ ap (λ asks. fold asks f.given_down) (append-nil (asks_among (frames_of f.sent_up).whole)) ∙ f.is_fold)
+      sent_is given_is
 
   -- the ask of a line
   pub follows-sends : (up down up1 : Pipe) (waiting : List (List ℕ)) (e : Ends) (a : AskForm) (text : List ℕ) (there : ℕ)
@@ -285,22 +281,19 @@ module _ (state0 : State) (up0 down0 : Pipe) where
     value = f.value;
     front_is = f.front_is;
     is_fold = f.is_fold;
-    answered = f.answered;
+    events = f.events;
     frames_are =
         ap (λ (fs : Frames). fs.whole) (frames_of-append f.given_up piece)
         ∙ ap (λ frames. frames ++ frames_from (frames_of f.given_up).rest piece) f.frames_are
-        ∙ ap (λ held. (f.answered ++ waiting) ++ frames_from held piece) (sym f.back_is)
-        ∙ append_assoc f.answered waiting (frames_from e.back_rest piece);
+        ∙ ap (λ held. (frames_among f.events ++ waiting) ++ frames_from held piece) (sym f.back_is)
+        ∙ append_assoc (frames_among f.events) waiting (frames_from e.back_rest piece);
     back_is = rest_is ∙ ap (λ held. held_after held piece) f.back_is ∙ sym (ap (λ (fs : Frames). fs.rest) (frames_of-append f.given_up piece));
     state = f.state;
     side_is = f.side_is;
     sent_is = f.sent_is;
     replies_are = f.replies_are;
     down_whole = f.down_whole;
-    page_is = f.page_is;
-    on_is = f.on_is;
     stands = f.stands;
-    is_state = f.is_state;
     up_left =
         let more : length (f.given_up ++ piece) ≡ length f.given_up + length piece = length-append f.given_up piece in
         let before : e.up_there + length f.given_up ≡ length f.sent_up = f.up_left in
@@ -308,19 +301,16 @@ module _ (state0 : State) (up0 down0 : Pipe) where
     down_left = f.down_left;
   }
 
-  -- ---- a frame is answered
+  -- ---- a step is made
 
-  -- its step is carried out, and what it sends is put down
-  pub follows-answered : (up down down1 : Pipe) (frame : List ℕ) (frames : List (List ℕ)) (e : Ends) (page : PageValue) (is_on : Bool) (bound : Bound) (out : List ℕ) (there : ℕ)
-      → (f : Follows state0 up0 down0 up down (frame ∷ frames) e) → there ≡ e.down_there + length out → e.bound.next < 2 ^ 52
-      → page ≡ (step f.state frame).state.side.page → is_on ≡ (step f.state frame).state.client.dom_on
-      → Stands (nodes_in (step f.state frame).state) (step f.state frame).state.client.session bound
-      → out ≡ (step f.state frame).sent → down1.sent ≡ down.sent ++ out → down1.given ≡ down.given
-      → Follows state0 up0 down0 up down1 frames (record e { page = page; is_on = is_on; bound = bound; down_there = there })
-  follows-answered up down down1 frame frames e page is_on bound out there f left room page_is on_is stands out_is sent_is given_is =
-      let next : e.bound.next ≡ length f.state.client.session.pushed + 1 = f.stands.next_is in
-      let s : Sends f.state frame = step-sends f.state frame f.is_state (omega (arith, room, next)) in
-      let old : State = (steps step state0 f.answered).state in
+  -- a step is carried out, and what it sends is put down
+  follows-step : (up down down1 : Pipe) (h : Happening) (waits waiting : List (List ℕ)) (e : Ends) (seat : Seat) (side : PageSide) (out : List ℕ) (there : ℕ)
+      → (f : Follows state0 up0 down0 up down waits e) → waits ≡ frames_among (h ∷ []) ++ waiting → there ≡ e.down_there + length out
+      → Sends f.state h → StandsFor seat side (step_of h f.state).state
+      → out ≡ (step_of h f.state).sent → down1.sent ≡ down.sent ++ out → down1.given ≡ down.given
+      → Follows state0 up0 down0 up down1 waiting (record e { seat = seat; side = side; down_there = there })
+  follows-step up down down1 h waits waiting e seat side out there f waits_are left s stands out_is sent_is given_is =
+      let old : State = (happened state0 f.events).state in
       let out_frames : frames_of out ≡ record { whole = s.texts; rest = [] } = ap frames_of out_is ∙ s.frames_are in
       let more : (frames_of (f.sent_down ++ out)).whole ≡ (frames_of f.sent_down).whole ++ s.texts =
       whole-after f.sent_down out f.down_whole ∙ ap (λ (fs : Frames). (frames_of f.sent_down).whole ++ fs.whole) out_frames in
@@ -335,33 +325,54 @@ module _ (state0 : State) (up0 down0 : Pipe) where
         value = f.value;
         front_is = f.front_is;
         is_fold = f.is_fold;
-        answered = f.answered ++ frame ∷ [];
-        frames_are = f.frames_are ∙ sym (append_assoc f.answered (frame ∷ []) frames);
+        events = f.events ++ h ∷ [];
+        frames_are =
+            f.frames_are ∙ ap (λ frames. frames_among f.events ++ frames) waits_are
+            ∙ sym (append_assoc (frames_among f.events) (frames_among (h ∷ [])) waiting)
+            ∙ ap (λ frames. frames ++ waiting) (sym (frames-last f.events h));
         back_is = f.back_is;
-        state = (step f.state frame).state;
-        side_is = steps-last-state step state0 f.answered frame ∙ ap (λ state. (step state frame).state) f.side_is;
+        state = (step_of h f.state).state;
+        side_is = happened-state state0 f.events h ∙ ap (λ state. (step_of h state).state) f.side_is;
         sent_is =
-            ap (λ bytes. f.sent_down ++ bytes) (out_is ∙ ap (λ state. (step state frame).sent) (sym f.side_is))
-            ∙ ap (λ bytes. bytes ++ (step old frame).sent) f.sent_is
-            ∙ sym (steps-last-sent step state0 f.answered frame);
+            ap (λ bytes. f.sent_down ++ bytes) (out_is ∙ ap (λ state. (step_of h state).sent) (sym f.side_is))
+            ∙ ap (λ bytes. bytes ++ (step_of h old).sent) f.sent_is
+            ∙ sym (happened-sent state0 f.events h);
         replies_are =
             ap (λ fs. map (λ (t : ShownReply). t.id) (replies_among fs)) more
             ∙ ap (map (λ (t : ShownReply). t.id)) (replies_among-append (frames_of f.sent_down).whole s.texts)
             ∙ map-append (λ (t : ShownReply). t.id) (replies_in f.sent_down) (replies_among s.texts)
             ∙ ap (λ ids. ids ++ map (λ (t : ShownReply). t.id) (replies_among s.texts)) f.replies_are
-            ∙ ap (λ ids. map reply_id f.answered ++ ids) s.ids_are
-            ∙ sym (map-append reply_id f.answered (frame ∷ []));
+            ∙ ap (λ ids. map reply_id (frames_among f.events) ++ ids) s.ids_are
+            ∙ sym (map-append reply_id (frames_among f.events) (frames_among (h ∷ [])))
+            ∙ ap (map reply_id) (sym (frames-last f.events h));
         down_whole = rest-after f.sent_down out f.down_whole ∙ ap (λ (fs : Frames). fs.rest) out_frames;
-        page_is = page_is;
-        on_is = on_is;
         stands = stands;
-        is_state = s.is_state;
         up_left = f.up_left;
         down_left =
             let longer : length (f.sent_down ++ out) ≡ length f.sent_down + length out = length-append f.sent_down out in
             let before : e.down_there + length f.given_down ≡ length f.sent_down = f.down_left in
             omega (arith, longer, before, left);
       }
+
+  -- a frame is answered
+  pub follows-answered : (up down down1 : Pipe) (frame : List ℕ) (frames : List (List ℕ)) (e : Ends) (seat : Seat) (side : PageSide) (out : List ℕ) (there : ℕ)
+      → (f : Follows state0 up0 down0 up down (frame ∷ frames) e) → there ≡ e.down_there + length out → HasRoom f.state
+      → StandsFor seat side (step f.state frame).state
+      → out ≡ (step f.state frame).sent → down1.sent ≡ down.sent ++ out → down1.given ≡ down.given
+      → Follows state0 up0 down0 up down1 frames (record e { seat = seat; side = side; down_there = there })
+  follows-answered up down down1 frame frames e seat side out there f left room stands out_is sent_is given_is =
+      follows-step up down down1 (came frame) (frame ∷ frames) frames e seat side out there f refl left
+      (frame-sends f.state frame f.stands.is_state room) stands out_is sent_is given_is
+
+  -- the script makes a step by itself
+  pub follows-turned : (up down down1 : Pipe) (x : Turn) (waiting : List (List ℕ)) (e : Ends) (seat : Seat) (side : PageSide) (out : List ℕ) (there : ℕ)
+      → (f : Follows state0 up0 down0 up down waiting e) → there ≡ e.down_there + length out → HasRoom f.state → IsTurn x
+      → StandsFor seat side (turn x f.state).state
+      → out ≡ (turn x f.state).sent → down1.sent ≡ down.sent ++ out → down1.given ≡ down.given
+      → Follows state0 up0 down0 up down1 waiting (record e { seat = seat; side = side; down_there = there })
+  follows-turned up down down1 x waiting e seat side out there f left room is_turn stands out_is sent_is given_is =
+      follows-step up down down1 (made x) waiting waiting e seat side out there f refl left
+      (turn-sends f.state x f.stands.is_state room is_turn) stands out_is sent_is given_is
 
   -- ---- bytes go down
 
@@ -401,7 +412,7 @@ module _ (state0 : State) (up0 down0 : Pipe) where
             ∙ ap (λ n. good_front end.value (held_after (frames_of f.given_down).rest piece) n) (sym next)
             ∙ ap (λ rest. good_front end.value rest (after_take e.front piece).next) (sym (ap (λ (fs : Frames). fs.rest) (frames_of-append f.given_down piece)));
         is_fold = fold-down up down waiting e piece f ∙ ap (outcome end.value) none;
-        answered = f.answered;
+        events = f.events;
         frames_are = f.frames_are;
         back_is = f.back_is;
         state = f.state;
@@ -409,10 +420,7 @@ module _ (state0 : State) (up0 down0 : Pipe) where
         sent_is = f.sent_is;
         replies_are = f.replies_are;
         down_whole = f.down_whole;
-        page_is = f.page_is;
-        on_is = f.on_is;
         stands = f.stands;
-        is_state = f.is_state;
         up_left = f.up_left;
         down_left =
             let more : length (f.given_down ++ piece) ≡ length f.given_down + length piece = length-append f.given_down piece in
@@ -458,7 +466,7 @@ module _ (state0 : State) (up0 down0 : Pipe) where
   follows-replies up down e f =
       ap (λ bytes. map (λ (t : ShownReply). t.id) (replies_in bytes)) (sent_since-is down0 down f.sent_down f.given_down f.down_is)
       ∙ f.replies_are
-      ∙ ap (map reply_id) (sym (append-nil f.answered) ∙ sym f.frames_are)
+      ∙ ap (map reply_id) (sym (append-nil (frames_among f.events)) ∙ sym f.frames_are)
       ∙ ap (λ bytes. map reply_id (frames_of bytes).whole) (sym (given_since-is up0 up f.sent_up f.given_up f.up_is))
 
   -- no more bytes were given than were sent
@@ -488,7 +496,7 @@ module _ (state0 : State) (up0 down0 : Pipe) where
     value = f.value;
     front_is = f.front_is;
     is_fold = f.is_fold;
-    answered = f.answered;
+    events = f.events;
     frames_are = f.frames_are;
     back_is = f.back_is;
     state = f.state;
@@ -496,10 +504,7 @@ module _ (state0 : State) (up0 down0 : Pipe) where
     sent_is = f.sent_is;
     replies_are = f.replies_are;
     down_whole = f.down_whole;
-    page_is = f.page_is;
-    on_is = f.on_is;
     stands = f.stands;
-    is_state = f.is_state;
     up_left = f.up_left;
     down_left = f.down_left;
   }

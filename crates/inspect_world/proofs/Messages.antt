@@ -2,7 +2,7 @@
 use Rattle.std.proofs.Common.{◌≡◌, ◌+◌, ℕ, ◌^◌, ◌<◌, ◌≤◌, true, false, List, codes, Option, Some, None, option_and_then, refl, sym, ◌∙◌, ap, subst, Result, Ok, Err, lt-ltb}
 use Rattle.serde_json.specs.Data.{Data, Members}
 use Rattle.serde_json.specs.Find.{get_member, as_str, as_object}
-use Rattle.cdp_json.specs.Kinds.{is_counted, holds_of_some, as_whole}
+use Rattle.cdp_json.specs.Kinds.{is_counted, as_whole}
 use Rattle.cdp_json.specs.Plain.{is_plain}
 use Rattle.cdp_json.specs.declared.fields.Field.TheVariants.{Is}
 use Rattle.cdp_json.specs.Fields.{field_if, field_from, field_of}
@@ -27,7 +27,7 @@ use Rattle.cdp_messages.proofs.ZeroFree.{texts_have_no_zero}
 -- ---- an ask that is sent
 
 sent_plain : (id : ℕ) (a : AskForm) → CanSend a → id < 2 ^ 53 → is_plain (command_value id a.method a.params a.session) ≡ true
-sent_plain id a can small = ask_plain id a.method a.params a.session (lt-ltb id (2 ^ 53) small) can.params (ap (holds_of_some is_plain) can.session)
+sent_plain id a can small = ask_plain id a.method a.params a.session (lt-ltb id (2 ^ 53) small) can.params can.session
 
 pub IsText-sent : (id : ℕ) (a : AskForm) → CanSend a → id < 2 ^ 53 → IsText (command_text id a.method a.params a.session)
 IsText-sent id a can small = texts_have_no_zero (command_value id a.method a.params a.session) (sent_plain id a can small)
@@ -55,13 +55,12 @@ IsNext-sent n a can few small = next_ask a.method (ask_in-sent (n.asks + 1) a ca
 
 -- What the back end reads in an ask: a command of its method, or a refusal with its id.
 pub data AskedAs (ask : Ask) : Result Asked Refused → Type 0 where
-  commanded : (command : Command) → ask.method ≡ method_name command → fits_command command ≡ true
-      → AskedAs ask (Ok (record { id = ask.id; command = command }))
+  commanded : (command : Command) → ask.method ≡ method_name command → AskedAs ask (Ok (record { id = ask.id; command = command }))
   refused_as : (why : Why) → AskedAs ask (Err (record { id = Some ask.id; why = why }))
 
 by_command : (id : ℕ) (method : List ℕ) (r : Result Command Why) → ((c : Command) → r ≡ Ok c → (method ≡ method_name c) × (fits_command c ≡ true))
     → AskedAs (ask_with method id) (asked_by id r)
-by_command id method (Ok c) is = let k = is c refl in commanded c k.0 k.1
+by_command id method (Ok c) is = commanded c (is c refl).0
 by_command id method (Err why) is = refused_as why
 
 -- the id and the method of a frame that is an ask

@@ -1,19 +1,27 @@
 -- The replies that a front end keeps are those among the frames that it took.
-use Rattle.std.proofs.Common.{◌≡◌, Bool, false, ℕ, List, [], ◌∷◌, ◌++◌, map, Option, Some, None, refl, sym, ◌∙◌, ap, append-nil, append_assoc, Result, Ok, Err}
+use Rattle.std.specs.List.{list_all}
+use Rattle.cdp_messages.specs.declared.down.PauseData.{PauseData}
+use Rattle.cdp_messages.specs.Moves.{shows, inserts, removes, counts, sets, drops, says, paused_nodes}
+use Rattle.cdp_messages.specs.Told.{seen_nodes, seen_branch}
+use Rattle.std.proofs.Common.{◌≡◌, Bool, true, false, cond, ℕ, List, [], ◌∷◌, ◌++◌, map, Option, Some, None, refl, sym, ◌∙◌, ap, append-nil, append_assoc, Result, Ok, Err}
 use Rattle.std.proofs.lemmas.List.{map-append}
 use Rattle.serde_json.specs.Data.{Data}
-use Rattle.node_tree.specs.Nodes.{Nodes, Branch}
+use Rattle.node_tree.specs.Nodes.{Nodes, none, Branch, alone}
 use Rattle.node_tree.specs.Keys.{Spot, spot}
 use Rattle.node_tree.specs.Seen.{Seen, seen_id}
 use Rattle.cdp_messages.specs.declared.down.ReplyBody.{ReplyBody}
-use Rattle.cdp_messages.specs.declared.down.ReplyBody.TheVariants.{Nothing, Root, NodeId, NodeIds}
-use Rattle.cdp_messages.specs.Events.{News, set_children, document_updated, attribute_modified, attribute_removed, text_modified, count_updated, inserted, removed, paused}
+use Rattle.cdp_messages.specs.Effects.{effect_of}
+use Rattle.cdp_messages.specs.declared.effects.Effect.{Effect}
+use Rattle.cdp_messages.specs.declared.effects.Effect.TheVariants as effect
+use Rattle.cdp_messages.specs.Events.{News, set_children, document_updated, attribute_modified, attribute_removed, text_modified, count_updated, inserted, removed, paused, sheet_added, sheet_changed, sheet_removed}
 use Rattle.cdp_messages.specs.Replies.{Message, reply, fault, event, down_of, result_of}
 use Rattle.cdp_messages.specs.Told as told
 use Rattle.front_mirror.specs.declared.replies.Ask.{Ask}
 use Rattle.front_mirror.specs.declared.faults.FrontKind.{FrontKind}
-use Rattle.front_mirror.specs.declared.faults.FrontKind.TheVariants.{NotMessage, UnknownNode}
-use Rattle.front_mirror.specs.Front.{FrontValue, first_value, take_frame, method_of, replied, refused, with_root, root_fault, with_body, with_reply, with_fault, with_tree, with_children, children_fault, with_news, with_message}
+use Rattle.front_mirror.specs.declared.faults.FrontKind.TheVariants.{NotMessage, UnknownNode, IdTaken, UnknownSheet}
+use Rattle.front_mirror.specs.declared.sheets.KnownSheet.{KnownSheet}
+use Rattle.front_mirror.specs.Sheets.{new_sheet, has_sheet, marked_old, without_sheet}
+use Rattle.front_mirror.specs.Front.{FrontValue, first_value, take_frame, method_of, replied, refused, with_root, root_fault, with_effect, with_body, with_reply, with_fault, with_tree, ToldChange, told_change, at_spot, change_fault, with_change, halted, is_shown, told_sheets, with_news, with_message}
 use Rattle.inspect_world.specs.Fold.{folded, joined, then}
 use Rattle.inspect_world.specs.Fits.{join, with_ask, ask_in}
 use Rattle.inspect_world.specs.ShownReplies.{ShownReply, told_of, told_by, replies_among}
@@ -32,6 +40,12 @@ keeps-replied v id frame good tree w e =
     let same : replied v id frame good tree ≡ w = cc e in
     ap (λ (x : FrontValue). map told_of x.replies) (sym same) ∙ map-append told_of v.replies (record { id = Some id; text = frame; good = good } ∷ [])
 
+keeps-like : (v : FrontValue) (id : ℕ) (frame : List ℕ) (good : Bool) (x w : FrontValue) → x.replies ≡ v.replies ++ record { id = Some id; text = frame; good = good } ∷ []
+    → ◌≡◌ {A = Result FrontValue FrontKind} (Ok x) (Ok w) → Keeps v (record { id = Some id; text = frame } ∷ []) w
+keeps-like v id frame good x w same e =
+    let is : x ≡ w = cc e in
+    ap (λ (y : FrontValue). map told_of y.replies) (sym is) ∙ ap (map told_of) same ∙ map-append told_of v.replies (record { id = Some id; text = frame; good = good } ∷ [])
+
 -- nothing is kept
 keeps-none : (v x w : FrontValue) → x.replies ≡ v.replies → ◌≡◌ {A = Result FrontValue FrontKind} (Ok x) (Ok w) → Keeps v [] w
 keeps-none v x w same e =
@@ -43,18 +57,23 @@ keeps-root : (v : FrontValue) (id : ℕ) (frame : List ℕ) (root : Branch told.
 keeps-root v id frame root None w e = keeps-replied v id frame _ _ w e
 keeps-root v id frame root (Some kind) w e = refuses kind w e
 
-keeps-body : (v : FrontValue) (id : ℕ) (frame : List ℕ) (o : Option ReplyBody) (w : FrontValue)
-    → with_body v id frame o ≡ Ok w → Keeps v (record { id = Some id; text = frame } ∷ []) w
-keeps-body v id frame None w e = refuses NotMessage w e
-keeps-body v id frame (Some Nothing) w e = keeps-replied v id frame _ _ w e
-keeps-body v id frame (Some (Root root)) w e = keeps-root v id frame root (root_fault root) w e
-keeps-body v id frame (Some (NodeId given)) w e = keeps-replied v id frame _ _ w e
-keeps-body v id frame (Some (NodeIds given)) w e = keeps-replied v id frame _ _ w e
+keeps-effect : (v : FrontValue) (id : ℕ) (frame : List ℕ) (x : Effect) (w : FrontValue)
+    → with_effect v id frame x ≡ Ok w → Keeps v (record { id = Some id; text = frame } ∷ []) w
+keeps-effect v id frame (effect.Document tree) w e = keeps-root v id frame tree (root_fault tree) w e
+keeps-effect v id frame (effect.SheetText text) w e = keeps-replied v id frame _ _ w e
+keeps-effect v id frame effect.AllOff w e = keeps-like v id frame true _ w refl e
+keeps-effect v id frame effect.SheetsOff w e = keeps-like v id frame true _ w refl e
+keeps-effect v id frame effect.NothingElse w e = keeps-replied v id frame _ _ w e
+
+keeps-body : (v : FrontValue) (id : ℕ) (frame method : List ℕ) (o : Option ReplyBody) (w : FrontValue)
+    → with_body v id frame method o ≡ Ok w → Keeps v (record { id = Some id; text = frame } ∷ []) w
+keeps-body v id frame method None w e = refuses NotMessage w e
+keeps-body v id frame method (Some body) w e = keeps-effect v id frame (effect_of method body) w e
 
 keeps-reply : (v : FrontValue) (id : ℕ) (frame : List ℕ) (result : Data) (o : Option (List ℕ)) (w : FrontValue)
     → with_reply v id frame result o ≡ Ok w → Keeps v (record { id = Some id; text = frame } ∷ []) w
 keeps-reply v id frame result None w e = refuses NotMessage w e
-keeps-reply v id frame result (Some method) w e = keeps-body v id frame (result_of method result) w e
+keeps-reply v id frame result (Some method) w e = keeps-body v id frame method (result_of method result) w e
 
 keeps-fault : (v : FrontValue) (id : ℕ) (frame : List ℕ) (o : Option (List ℕ)) (w : FrontValue)
     → with_fault v id frame o ≡ Ok w → Keeps v (record { id = Some id; text = frame } ∷ []) w
@@ -65,21 +84,41 @@ keeps-tree : (v : FrontValue) (tree : Nodes Seen) (o : Option FrontKind) (w : Fr
 keeps-tree v tree None w e = keeps-none v _ w refl e
 keeps-tree v tree (Some kind) w e = refuses kind w e
 
-keeps-children : (v : FrontValue) (parent : ℕ) (nodes : Nodes told.Told) (o : Option (Spot Seen)) (w : FrontValue)
-    → with_children v parent nodes o ≡ Ok w → Keeps v [] w
-keeps-children v parent nodes None w e = refuses UnknownNode w e
-keeps-children v parent nodes (Some s) w e = keeps-tree v _ (children_fault v.tree parent nodes s) w e
+keeps-spot : (v : FrontValue) (t : ToldChange) (o : Option (Spot Seen)) (w : FrontValue) → at_spot v t o ≡ Ok w → Keeps v [] w
+keeps-spot v t None w e = refuses UnknownNode w e
+keeps-spot v t (Some s) w e = keeps-tree v _ (change_fault v.tree t s) w e
+
+keeps-change : (v : FrontValue) (t : ToldChange) (w : FrontValue) → with_change v t ≡ Ok w → Keeps v [] w
+keeps-change v t w e = keeps-spot v t (spot seen_id t.node 0 v.tree) w e
+
+keeps-pause : (v : FrontValue) (why : PauseData) (shown : Bool) (w : FrontValue)
+    → ◌≡◌ {A = Result FrontValue FrontKind} (cond shown (Ok (halted v why)) (Err UnknownNode)) (Ok w) → Keeps v [] w
+keeps-pause v why true w e = keeps-none v _ w refl e
+keeps-pause v why false w e = refuses UnknownNode w e
+
+keeps-sheet : (v : FrontValue) (known : Bool) (sheets : List KnownSheet) (w : FrontValue)
+    → ◌≡◌ {A = Result FrontValue FrontKind} (cond known (Ok (told_sheets v sheets)) (Err UnknownSheet)) (Ok w) → Keeps v [] w
+keeps-sheet v true sheets w e = keeps-none v _ w refl e
+keeps-sheet v false sheets w e = refuses UnknownSheet w e
+
+keeps-added : (v : FrontValue) (known : Bool) (sheets : List KnownSheet) (w : FrontValue)
+    → ◌≡◌ {A = Result FrontValue FrontKind} (cond known (Err IdTaken) (Ok (told_sheets v sheets))) (Ok w) → Keeps v [] w
+keeps-added v true sheets w e = refuses IdTaken w e
+keeps-added v false sheets w e = keeps-none v _ w refl e
 
 keeps-news : (v : FrontValue) (n : News) (w : FrontValue) → with_news v n ≡ Ok w → Keeps v [] w
-keeps-news v (set_children parent nodes) w e = keeps-children v parent nodes (spot seen_id parent 0 v.tree) w e
+keeps-news v (set_children parent nodes) w e = keeps-change v (told_change parent (shows (seen_nodes nodes)) nodes) w e
 keeps-news v document_updated w e = keeps-none v _ w refl e
-keeps-news v (attribute_modified id name value) w e = cc
-keeps-news v (attribute_removed id name) w e = cc
-keeps-news v (text_modified id value) w e = cc
-keeps-news v (count_updated id count) w e = cc
-keeps-news v (inserted parent previous b) w e = cc
-keeps-news v (removed parent id) w e = cc
-keeps-news v (paused why) w e = cc
+keeps-news v (attribute_modified id name value) w e = keeps-change v (told_change id (sets name value) none) w e
+keeps-news v (attribute_removed id name) w e = keeps-change v (told_change id (drops name) none) w e
+keeps-news v (text_modified id value) w e = keeps-change v (told_change id (says value) none) w e
+keeps-news v (count_updated id count) w e = keeps-change v (told_change id (counts count) none) w e
+keeps-news v (inserted parent previous b) w e = keeps-change v (told_change parent (inserts previous (seen_branch b)) (alone b)) w e
+keeps-news v (removed parent id) w e = keeps-change v (told_change parent (removes id) none) w e
+keeps-news v (sheet_added header) w e = keeps-added v (has_sheet header.sheet v.sheets) (v.sheets ++ new_sheet header ∷ []) w e
+keeps-news v (sheet_changed number) w e = keeps-sheet v (has_sheet number v.sheets) (marked_old number v.sheets) w e
+keeps-news v (sheet_removed number) w e = keeps-sheet v (has_sheet number v.sheets) (without_sheet number v.sheets) w e
+keeps-news v (paused why) w e = keeps-pause v why (list_all (is_shown v.tree) (paused_nodes why)) w e
 
 keeps-message : (v : FrontValue) (frame : List ℕ) (o : Option Message) (w : FrontValue) → with_message v frame o ≡ Ok w → Keeps v (told_by frame o) w
 keeps-message v frame None w e = refuses NotMessage w e

@@ -11,19 +11,21 @@ use Rattle.node_binding.proofs.SessionLemmas.{IsSession-begun}
 use Rattle.cdp_messages.specs.Asked.{command_text}
 use Rattle.dom_agent.specs.Laws.{RowsHaveUtf8}
 use Rattle.front_mirror.specs.Front.{first_value, take_frame}
-use Rattle.replay_script.specs.Forms.{AskForm, LineForm, load, ask, up, down, settle, show_front, show_replies}
-use Rattle.pipe_frames.specs.Frames.{frames_of, frames_from}
+use Rattle.replay_script.specs.Forms as forms
+use Rattle.replay_script.specs.Forms.{AskForm, LineForm, load, ask, up, down, settle, show_front, show_page, show_replies}
+use Rattle.pipe_frames.specs.Frames.{IsText, frames_of, frames_from}
 use Rattle.inspect_world.specs.Stream.{Stream, sent, passed, held, awaited}
 use Rattle.inspect_world.specs.Fold.{folded, joined}
-use Rattle.inspect_world.specs.World.{World, nothing_spent, one_raw, delivered_up, settled}
-use Rattle.back_end.specs.States.{State, nodes_in, loaded_state, step, IsState}
-use Rattle.inspect_world.specs.Fits.{join, asks_among, IsNext, next_raw, IsTurn, IsFit, replay, Fits}
+use Rattle.inspect_world.specs.World.{World, nothing_spent, one_raw, raw, turned, delivered_up, settled}
+use Rattle.back_end.specs.States.{State, nodes_in, loaded_state, IsState}
+use Rattle.back_end.specs.Steps.{Turn, acts, loads, step, turn}
+use Rattle.inspect_world.specs.Fits.{join, asks_among, IsNext, next_raw, IsBare, IsNextTurn, HasLeft, most_asks, IsFit, replay, Fits}
 use Rattle.inspect_world.specs.Scripts.{sends, after_line, after_lines, loaded_world}
-use Rattle.back_end.specs.Texts.{HaveTexts}
-use Rattle.inspect_world.specs.ScriptsFit.{CanSend, IsLater, AreLater, LinesFit, BareFramesFit, DeliveriesFit, SettledShows}
+use Rattle.page_forms.specs.Texts.{HaveTexts}
+use Rattle.inspect_world.specs.ScriptsFit.{CanSend, IsLater, AreLater, LinesFit, BareFramesFit, TurnsFit, DeliveriesFit, SettledShows}
 use Rattle.inspect_world.proofs.Messages.{IsText-sent, IsNext-sent}
 use Rattle.inspect_world.proofs.Replies.{replies-of}
-use Rattle.inspect_world.proofs.Worlds.{fits-first, fits-sent_up, fits-asked, fits-delivered_up, fits-delivered_down, fits-settled}
+use Rattle.inspect_world.proofs.Worlds.{fits-first, fits-sent_up, fits-asked, fits-turned, fits-delivered_up, fits-delivered_down, fits-settled}
 use Rattle.inspect_world.proofs.FitLemmas.{world_laws}
 
 -- ---- the start
@@ -35,14 +37,15 @@ texts-numbered first (node l c t) texts = (texts.0, texts-numbered (first + 1) c
 pub IsState-first : (nodes : Nodes Label) → CanLoad nodes → HaveTexts nodes → IsState (loaded_state nodes)
 IsState-first nodes can texts = record {
   page = loaded_valid 1 nodes (omega arith) can;
-  serials = let room : suc (node_count nodes) ≤ 100000 = can.room in omega (arith, room);
   texts = ((IsUtf8-nil, IsUtf8-nil, tt), texts-numbered 2 nodes texts, tt);
   session = IsSession-begun (nodes_in (loaded_state nodes));
+  off = λ off. refl;
+  no_more = record { sheets = refl; css_off = refl; watched = refl; marks = refl };
 }
 
 fit-first : (nodes : Nodes Label) → CanLoad nodes → HaveTexts nodes → IsFit nothing_spent (first_value []) (loaded_state nodes) []
 fit-first nodes can texts = record {
-  tree = refl;
+  has = record { tree = refl };
   asks = refl;
   sendable = tt;
   is_state = IsState-first nodes can texts;
@@ -50,18 +53,19 @@ fit-first nodes can texts = record {
   few_raws = omega arith;
   few_turns = omega arith;
   drawn = omega arith;
+  serials = let room : suc (node_count nodes) ≤ 100000 = can.room in omega (arith, room);
 }
 
 pub fits-loaded : (nodes : Nodes Label) → CanLoad nodes → HaveTexts nodes → Fits (loaded_world nodes)
 fits-loaded nodes can texts =
-    fits-first replay IsNext IsTurn IsFit world_laws (first_value []) (loaded_state nodes) (fit-first nodes can texts)
+    fits-first replay IsNext IsNextTurn IsFit world_laws (first_value []) (loaded_state nodes) (fit-first nodes can texts)
 
 -- ---- a line
 
 pub fits-sent : (a : AskForm) (w : World State) → CanSend a → w.spent.asks + 1 ≤ 2 ^ 26 → Fits w → Fits (sends a w)
 fits-sent a w can few fits =
     let small : w.spent.asks + 1 < 2 ^ 53 = omega (arith, few) in
-    fits-asked replay IsNext IsTurn IsFit world_laws (first_value []) (command_text (w.spent.asks + 1) a.method a.params a.session) w
+    fits-asked replay IsNext IsNextTurn IsFit world_laws (first_value []) (command_text (w.spent.asks + 1) a.method a.params a.session) w
     (IsText-sent (w.spent.asks + 1) a can small) (IsNext-sent w.spent a can few small) fits
 
 -- how many replies were told says nothing of the streams
@@ -69,48 +73,89 @@ pub fits-told : (w : World State) (n : ℕ) → Fits w → Fits (record { state 
 fits-told w n fits = record { front = fits.front; is_fold = fits.is_fold; fit = fits.fit; up_whole = fits.up_whole; down_whole = fits.down_whole }
 
 settled-fits : (w : World State) → Fits w → Fits (settled step w)
-settled-fits w fits = fits-settled replay IsNext IsTurn IsFit world_laws (first_value []) w fits
+settled-fits w fits = fits-settled replay IsNext IsNextTurn IsFit world_laws (first_value []) w fits
 
-pub fits-line : (line : LineForm) (w : World State) → IsLater line → w.spent.asks + 1 ≤ 2 ^ 26 → Fits w → Fits (after_line line w)
-fits-line (load nodes) w later few fits = fits
-fits-line (ask a) w later few fits = fits-sent a w later few fits
-fits-line (up n) w later few fits = fits-delivered_up replay IsNext IsTurn IsFit world_laws (first_value []) n w fits
-fits-line (down n) w later few fits = fits-delivered_down replay IsNext IsTurn IsFit world_laws (first_value []) n w fits
-fits-line settle w later few fits = settled-fits w fits
-fits-line show_front w later few fits = settled-fits w fits
-fits-line show_replies w later few fits = fits-told (settled step w) _ (settled-fits w fits)
+turned-fits : (x : Turn) (w : World State) → IsNextTurn w.spent x → Fits w → Fits (turned turn x w)
+turned-fits x w next fits = fits-turned replay IsNext IsNextTurn IsFit world_laws (first_value []) x w next fits
 
-asks-line : (line : LineForm) (w : World State) → (after_line line w).spent.asks ≤ w.spent.asks + 1
-asks-line (load nodes) w = omega arith
-asks-line (ask a) w = omega arith
-asks-line (up n) w = omega arith
-asks-line (down n) w = omega arith
-asks-line settle w = omega arith
-asks-line show_front w = omega arith
-asks-line show_replies w = omega arith
+raw-fits : (text : List ℕ) (w : World State) → IsText text → IsBare text → w.spent.raws + 1 ≤ most_asks → Fits w → Fits (raw text w)
+raw-fits text w letters bare few fits = fits-sent_up replay IsNext IsNextTurn IsFit world_laws (first_value []) text one_raw w letters (next_raw bare few) fits
 
-fits-lines : (n : ℕ) (lines : List LineForm) (w : World State) → AreLater lines → w.spent.asks + length lines ≤ 2 ^ 26 → Fits w → Fits (after_lines (take n lines) w)
-fits-lines zero lines w later few fits = fits
-fits-lines (suc n) [] w later few fits = fits
-fits-lines (suc n) (line ∷ lines) w later few fits =
-    let more : (after_line line w).spent.asks ≤ w.spent.asks + 1 = asks-line line w in
-    fits-lines n lines (after_line line w) later.1 (omega (arith, few, more)) (fits-line line w later.0 (omega (arith, few)) fits)
+pub fits-line : (line : LineForm) (w : World State) → IsLater line → HasLeft w.spent 1 → Fits w → Fits (after_line line w)
+fits-line (load nodes) w later left fits = turned-fits (loads nodes) w (record { is_turn = later; few = left.turns }) fits
+fits-line (forms.act a) w later left fits = turned-fits (acts a) w (record { is_turn = later; few = left.turns }) fits
+fits-line (ask a) w later left fits = fits-sent a w later left.asks fits
+fits-line (forms.raw text) w later left fits = raw-fits text w later.0 later.1 left.raws fits
+fits-line (up n) w later left fits = fits-delivered_up replay IsNext IsNextTurn IsFit world_laws (first_value []) n w fits
+fits-line (down n) w later left fits = fits-delivered_down replay IsNext IsNextTurn IsFit world_laws (first_value []) n w fits
+fits-line settle w later left fits = settled-fits w fits
+fits-line show_front w later left fits = settled-fits w fits
+fits-line show_page w later left fits = fits
+fits-line show_replies w later left fits = fits-told (settled step w) _ (settled-fits w fits)
+
+-- a line spends one of each at most
+spent-more : (asks raws turns asks1 raws1 turns1 k : ℕ) → asks1 ≤ asks + 1 → raws1 ≤ raws + 1 → turns1 ≤ turns + 1
+    → HasLeft (record { asks = asks; fetches = 0; raws = raws; turns = turns }) (suc k) → HasLeft (record { asks = asks1; fetches = 0; raws = raws1; turns = turns1 }) k
+spent-more asks raws turns asks1 raws1 turns1 k a r t left =
+    let ha : asks + suc k ≤ most_asks = left.asks in
+    let hr : raws + suc k ≤ most_asks = left.raws in
+    let ht : turns + suc k ≤ most_asks = left.turns in
+    record { asks = omega (arith, a, ha); raws = omega (arith, r, hr); turns = omega (arith, t, ht) }
+
+-- the same of the counts of two runs
+spent-on : (k : ℕ) (w v : World State) → v.spent.asks ≤ w.spent.asks + 1 → v.spent.raws ≤ w.spent.raws + 1 → v.spent.turns ≤ w.spent.turns + 1
+    → HasLeft w.spent (suc k) → HasLeft v.spent k
+spent-on k w v a r t left =
+    let h = spent-more w.spent.asks w.spent.raws w.spent.turns v.spent.asks v.spent.raws v.spent.turns k a r t (record { asks = left.asks; raws = left.raws; turns = left.turns }) in
+    record { asks = h.asks; raws = h.raws; turns = h.turns }
+
+pub left-after : (line : LineForm) (k : ℕ) (w : World State) → HasLeft w.spent (suc k) → HasLeft (after_line line w).spent k
+left-after (load nodes) k w left = spent-on k w (after_line (load nodes) w) (omega arith) (omega arith) (omega arith) left
+left-after (forms.act a) k w left = spent-on k w (after_line (forms.act a) w) (omega arith) (omega arith) (omega arith) left
+left-after (ask a) k w left = spent-on k w (after_line (ask a) w) (omega arith) (omega arith) (omega arith) left
+left-after (forms.raw text) k w left = spent-on k w (after_line (forms.raw text) w) (omega arith) (omega arith) (omega arith) left
+left-after (up n) k w left = spent-on k w (after_line (up n) w) (omega arith) (omega arith) (omega arith) left
+left-after (down n) k w left = spent-on k w (after_line (down n) w) (omega arith) (omega arith) (omega arith) left
+left-after settle k w left = spent-on k w (after_line settle w) (omega arith) (omega arith) (omega arith) left
+left-after show_front k w left = spent-on k w (after_line show_front w) (omega arith) (omega arith) (omega arith) left
+left-after show_page k w left = spent-on k w (after_line show_page w) (omega arith) (omega arith) (omega arith) left
+left-after show_replies k w left = spent-on k w (after_line show_replies w) (omega arith) (omega arith) (omega arith) left
+
+-- one line of some
+pub left-one : (k : ℕ) (w : World State) → HasLeft w.spent (suc k) → HasLeft w.spent 1
+left-one k w left =
+    let ha : w.spent.asks + suc k ≤ most_asks = left.asks in
+    let hr : w.spent.raws + suc k ≤ most_asks = left.raws in
+    let ht : w.spent.turns + suc k ≤ most_asks = left.turns in
+    record { asks = omega (arith, ha); raws = omega (arith, hr); turns = omega (arith, ht) }
+
+fits-lines : (n : ℕ) (lines : List LineForm) (w : World State) → AreLater lines → HasLeft w.spent (length lines) → Fits w → Fits (after_lines (take n lines) w)
+fits-lines zero lines w later left fits = fits
+fits-lines (suc n) [] w later left fits = fits
+fits-lines (suc n) (line ∷ lines) w later left fits =
+    fits-lines n lines (after_line line w) later.1 (left-after line (length lines) w left) (fits-line line w later.0 (left-one (length lines) w left) fits)
+
+-- nothing was spent at the start
+pub left-first : (nodes : Nodes Label) (k : ℕ) → k ≤ most_asks → HasLeft (loaded_world nodes).spent k
+left-first nodes k few = record { asks = omega (arith, few); raws = omega (arith, few); turns = omega (arith, few) }
 
 pub lines-fit : LinesFit
-lines-fit nodes lines can texts later few n = fits-lines n lines (loaded_world nodes) later (omega (arith, few)) (fits-loaded nodes can texts)
+lines-fit nodes lines can texts later few n = fits-lines n lines (loaded_world nodes) later (left-first nodes (length lines) few) (fits-loaded nodes can texts)
 
 -- ---- frames that name no ask
 
 pub bare-frames-fit : BareFramesFit
-bare-frames-fit w text letters bare few fits =
-    fits-sent_up replay IsNext IsTurn IsFit world_laws (first_value []) text one_raw w letters (next_raw bare few) fits
+bare-frames-fit w text letters bare few fits = raw-fits text w letters bare few fits
+
+pub turns-fit : TurnsFit
+turns-fit w x next fits = turned-fits x w next fits
 
 -- ---- deliveries
 
 pub deliveries-fit : DeliveriesFit
 deliveries-fit w n fits = (
-  fits-delivered_up replay IsNext IsTurn IsFit world_laws (first_value []) n w fits,
-  fits-delivered_down replay IsNext IsTurn IsFit world_laws (first_value []) n w fits,
+  fits-delivered_up replay IsNext IsNextTurn IsFit world_laws (first_value []) n w fits,
+  fits-delivered_down replay IsNext IsNextTurn IsFit world_laws (first_value []) n w fits,
 )
 
 -- nothing is on its way after all was given
@@ -128,7 +173,7 @@ awaited-none s still empty = ap (λ bytes. frames_from (held s) bytes) still ∙
 pub settled-shows : SettledShows
 settled-shows w fits =
     let w' = settled step w in
-    let all : Fits w' = fits-settled replay IsNext IsTurn IsFit world_laws (first_value []) w fits in
+    let all : Fits w' = fits-settled replay IsNext IsNextTurn IsFit world_laws (first_value []) w fits in
     let up_none : w'.up.flying ≡ [] = given-all w.up in
     let down_none : w'.down.flying ≡ [] = given-all (delivered_up step (length w.up.flying) w).down in
     let up_held : held w'.up ≡ [] = ap (λ bytes. (frames_of bytes).rest) (sym (sent-all w'.up up_none)) ∙ all.up_whole in
@@ -140,7 +185,7 @@ settled-shows w fits =
     record {
       front = all.front;
       is_fold = given_fold;
-      shows = all.fit.tree;
+      shows = all.fit.has;
       told = replies-of (frames_of w'.up.given).whole (frames_of w'.down.given).whole all.front given_fold;
       waits = sym all.fit.asks ∙ ap asks_among awaits;
       whole = ap (λ bytes. (frames_of bytes).rest) (sym (sent-all w'.down down_none)) ∙ all.down_whole;

@@ -3,7 +3,7 @@ use Rattle.std.proofs.Common.{◌≡◌, ℕ, List, [], ◌∷◌, ◌++◌, len
 use Rattle.pipe_frames.specs.Frames.{IsText, framed, frames_of, frames_from, held_after}
 use Rattle.pipe_frames.proofs.FrameLemmas.{frames_of-append, frames_of-one, frames_from-append}
 use Rattle.inspect_world.specs.Stream.{Stream, sent, put, passed, held, arriving, awaited}
-use Rattle.back_end.specs.States.{Stepped}
+use Rattle.back_end.specs.Steps.{Stepped}
 use Rattle.inspect_world.specs.World.{World, Spent, nothing_spent, one_ask, one_turn, first_world, steps, sent_up, asked, turned, answered, given_up, delivered_up, delivered_down, settled}
 use Rattle.inspect_world.specs.Fold.{folded, joined, then, Machine, Laws, Leads, FitsWith, Fits}
 use Rattle.inspect_world.proofs.Frames.{rest-sent, sent-passed, awaited-passed}

@@ -10,8 +10,11 @@ use Rattle.std.specs.Option.{option_to_list}
 use Rattle.front_mirror.specs.declared.replies.Ask.{Ask}
 use Rattle.front_mirror.specs.declared.faults.FrontKind.{FrontKind}
 use Rattle.front_mirror.specs.Front.{FrontValue, first_value, take_frame}
+use Rattle.front_mirror.specs.Laws.{Has}
 use Rattle.inspect_world.specs.World.{World, Spent, one_ask, one_raw}
-use Rattle.back_end.specs.States.{State, IsState, view_of, step}
+use Rattle.back_end.specs.States.{State, IsState, view_of}
+use Rattle.back_end.specs.Steps.{Turn, step, turn}
+use Rattle.back_end.specs.Laws.{IsTurn}
 use Rattle.inspect_world.specs.Fold.{Machine}
 use Rattle.inspect_world.specs.Fold as fold
 
@@ -40,9 +43,9 @@ with_ask v (Some ask) = record v { asks = v.asks ++ ask ∷ [] }
 abbrev pub join : FrontValue → List ℕ → FrontValue
 join v frame = with_ask v (ask_in frame)
 
--- ---- fits
+-- ---- what may be sent and done
 
--- how many asks a script can send at most: one for each byte of its input
+-- how many asks, other frames and steps by itself a script can come to at most: one for each byte of its input
 abbrev pub most_asks : ℕ
 most_asks = 2 ^ 26
 
@@ -72,18 +75,31 @@ pub data IsNext (n : Spent) (text : List ℕ) : Spent → Type 0 where
   next_ask : (method : List ℕ) → ask_in text ≡ Some (ask_with method (n.asks + 1)) → n.asks + 1 ≤ most_asks → IsNext n text (one_ask n)
   next_raw : IsBare text → n.raws + 1 ≤ most_asks → IsNext n text (one_raw n)
 
--- the script makes no step by itself so far
-abbrev pub IsTurn : Spent → ⊥ → Type 0
-IsTurn n x = ⊤
+-- after n the script may make this step by itself
+pub record IsNextTurn (n : Spent) (x : Turn) : Type 0 where
+  pub is_turn : IsTurn x
+  pub few : n.turns + 1 ≤ most_asks
+
+-- so many lines more may be carried out, each of which sends a frame or makes a step of the script at most
+pub record HasLeft (n : Spent) (lines : ℕ) : Type 0 where
+  pub asks : n.asks + lines ≤ most_asks
+  pub raws : n.raws + lines ≤ most_asks
+  pub turns : n.turns + lines ≤ most_asks
+
+-- ---- fits
 
 -- how many ids may have been drawn: a frame and a step of the script make at most all nodes of a page known
 abbrev pub most_drawn : Spent → ℕ
 most_drawn n = (n.asks + n.raws + n.turns) * max_nodes
 
+-- how far the serials may have come: the load, a frame and a step of the script draw those of one page at most
+abbrev pub most_serials : Spent → ℕ
+most_serials n = (n.asks + n.raws + n.turns + 1) * (max_nodes + 1)
+
 -- After n was spent the front shows exactly what the state's client sees, and waits for the asks among these frames alone.
--- Enough ids are left for these answers.
+-- Enough ids and serials are left for these answers.
 pub record IsFit (n : Spent) (v : FrontValue) (state : State) (frames : List (List ℕ)) : Type 0 where
-  pub tree : v.tree ≡ view_of state
+  pub has : Has v (view_of state)
   pub asks : asks_among frames ≡ v.asks
   pub sendable : AreSendable frames
   pub is_state : IsState state
@@ -91,10 +107,11 @@ pub record IsFit (n : Spent) (v : FrontValue) (state : State) (frames : List (Li
   pub few_raws : n.raws ≤ most_asks
   pub few_turns : n.turns ≤ most_asks
   pub drawn : length state.client.session.pushed + length frames * max_nodes ≤ most_drawn n
+  pub serials : state.side.page.next + length frames * (max_nodes + 1) ≤ most_serials n
 
--- how the run of a replay goes on: its script makes no step by itself so far
-abbrev pub replay : Machine State FrontValue FrontKind ⊥
-replay = record { step = step; act = λ x state. absurd x; take = take_frame; join = join }
+-- how the run of a replay goes on
+abbrev pub replay : Machine State FrontValue FrontKind Turn
+replay = record { step = step; act = turn; take = take_frame; join = join }
 
 -- the two whole streams of a run, folded, fit its state
 abbrev pub FitsWith : World State → List (List ℕ) → Type 0

@@ -2,7 +2,7 @@
 use Rattle.std.specs.Prelude.{◌≡◌, ℕ, List, [], ◌∷◌, ◌++◌, Result, Ok, Err}
 use Rattle.pipe_frames.specs.Frames.{frames_of}
 use Rattle.inspect_world.specs.Stream.{sent, awaited}
-use Rattle.back_end.specs.States.{Stepped}
+use Rattle.back_end.specs.Steps.{Stepped}
 use Rattle.inspect_world.specs.World.{World, Spent, one_turn}
 
 -- what a result that is no error goes on to

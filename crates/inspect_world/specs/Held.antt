@@ -1,7 +1,5 @@
 -- What the two ends hold while a script is carried out over a link, and that they follow the run.
-use Rattle.std.specs.Prelude.{◌≡◌, ℕ, ◌+◌, Bool, false, List, [], length, None, Ok}
-use Rattle.page_tree.specs.Pages.{State as PageValue}
-use Rattle.node_binding.specs.Bindings.{Bound, Stands}
+use Rattle.std.specs.Prelude.{◌≡◌, ℕ, ◌+◌, false, List, [], length, None, Ok}
 use Rattle.pipe_frames.specs.Pipe.{Pipe}
 use Rattle.pipe_frames.specs.Frames.{frames_of}
 use Rattle.front_mirror.specs.Front.{FrontValue, FrontState, first_value, take_frame}
@@ -9,15 +7,17 @@ use Rattle.inspect_world.specs.Stream.{sent, held}
 use Rattle.inspect_world.specs.World.{World}
 use Rattle.inspect_world.specs.Fold.{folded, joined}
 use Rattle.inspect_world.specs.Carried.{Carries}
-use Rattle.back_end.specs.States.{State, nodes_in}
+use Rattle.back_end.specs.declared.seat.Seat.{Seat}
+use Rattle.back_end.specs.declared.side.PageSide.{PageSide}
+use Rattle.back_end.specs.States.{State}
+use Rattle.back_end.specs.Seats.{StandsFor}
 use Rattle.inspect_world.specs.Fits.{join, FitsWith}
 
--- The back end's page, whether DOM is on, and its binding; what it has of a frame that is not whole; the front end; how many
--- bytes of each pipe were sent and not given; and how many of the replies were told.
+-- The client's seat and the page's side; what the back end has of a frame that is not whole; the front end; how many bytes of
+-- each pipe were sent and not given; and how many of the replies were told.
 pub record Ends : Type 0 where
-  pub page : PageValue
-  pub is_on : Bool
-  pub bound : Bound
+  pub seat : Seat
+  pub side : PageSide
   pub back_rest : List ℕ
   pub front : FrontState
   pub up_there : ℕ
@@ -33,9 +33,7 @@ good_front value rest next = record { value = value; rest = rest; fault = None; 
 pub record InWorld (up0 down0 up down : Pipe) (w : World State) (frames : List (List ℕ)) (e : Ends) : Type 0 where
   pub up_is : Carries up0 up w.up
   pub down_is : Carries down0 down w.down
-  pub page_is : e.page ≡ w.state.side.page
-  pub on_is : e.is_on ≡ w.state.client.dom_on
-  pub stands : Stands (nodes_in w.state) w.state.client.session e.bound
+  pub stands : StandsFor e.seat e.side w.state
   pub back_is : e.back_rest ≡ held w.up
   pub value : FrontValue
   pub front_is : e.front ≡ good_front value (held w.down) (w.spent.asks + 1)

@@ -5,6 +5,7 @@ pub mod Carried
 pub mod Fits
 pub mod Held
 pub mod ShownReplies
+pub mod ActTexts
 pub mod Scripts
 pub mod ScriptsFit
 pub mod Links

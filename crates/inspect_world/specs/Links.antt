@@ -1,12 +1,12 @@
 -- What holds over every link, whatever bytes it gives.
-use Rattle.std.specs.Prelude.{◌≡◌, ℕ, ◌+◌, List, [], ◌++◌, length, map, Result, Ok}
-use Rattle.node_binding.specs.Bindings.{Stands}
+use Rattle.std.specs.Prelude.{◌≡◌, ℕ, ◌+◌, List, [], ◌∷◌, ◌++◌, length, map, Result, Ok}
 use Rattle.pipe_frames.specs.Pipe.{Pipe}
 use Rattle.pipe_frames.specs.Frames.{frames_of}
 use Rattle.front_mirror.specs.declared.faults.FrontFault.{FrontFault}
 use Rattle.front_mirror.specs.Front.{FrontValue, fold}
-use Rattle.inspect_world.specs.World.{steps}
-use Rattle.back_end.specs.States.{State, nodes_in, step, IsState}
+use Rattle.back_end.specs.States.{State}
+use Rattle.back_end.specs.Steps.{Turn, Stepped, step, turn}
+use Rattle.back_end.specs.Seats.{StandsFor}
 use Rattle.inspect_world.specs.Fits.{asks_among}
 use Rattle.inspect_world.specs.Held.{Ends, good_front}
 use Rattle.inspect_world.specs.ShownReplies.{ShownReply, replies_in, reply_id}
@@ -16,14 +16,42 @@ use Rattle.inspect_world.specs.ShownReplies.{ShownReply, replies_in, reply_id}
 abbrev pub fold_of : (sent_up given_down : List ℕ) → Result FrontValue FrontFault
 fold_of sent_up given_down = fold (asks_among (frames_of sent_up).whole) given_down
 
+-- ---- what comes to the back end
+
+-- a frame that came up, or a step that the script made
+pub data Happening : Type 0 where
+  came : List ℕ → Happening
+  made : Turn → Happening
+
+-- its step
+abbrev pub step_of : Happening → State → Stepped State
+step_of (came frame) state = step state frame
+step_of (made x) state = turn x state
+
+-- the steps, one after the other
+abbrev pub happened : State → List Happening → Stepped State
+happened state [] = record { state = state; sent = [] }
+happened state (h ∷ hs) =
+    let first = step_of h state in
+    let later = happened first.state hs in
+    record { state = later.state; sent = first.sent ++ later.sent }
+
+-- the frames that came up
+abbrev pub frames_among : List Happening → List (List ℕ)
+frames_among [] = []
+frames_among (came frame ∷ hs) = frame ∷ frames_among hs
+frames_among (made x ∷ hs) = frames_among hs
+
+-- ---- the ends over a link
+
 -- how a pipe goes on from an earlier moment
 pub record GoesOn (start now : Pipe) (sent given : List ℕ) : Type 0 where
   pub sent_is : now.sent ≡ start.sent ++ sent
   pub given_is : now.given ≡ start.given ++ given
 
 -- Since the pipes were as `up0` and `down0`, and the page's state was `state0`: the front end is the fold of what it sent and was
--- given; the back end has carried out the frames that were given up, but for those that `waiting` holds whole, and has sent
--- just what these steps send. What the ends count as sent and not given is just that.
+-- given; the back end has carried out the frames that were given up, but for those that `waiting` holds whole, and between them
+-- the script's own steps, and has sent just what these steps send. What the ends count as sent and not given is just that.
 pub record Follows (state0 : State) (up0 down0 up down : Pipe) (waiting : List (List ℕ)) (e : Ends) : Type 0 where
   pub sent_up : List ℕ
   pub given_up : List ℕ
@@ -35,17 +63,14 @@ pub record Follows (state0 : State) (up0 down0 up down : Pipe) (waiting : List (
   pub value : FrontValue
   pub front_is : e.front ≡ good_front value (frames_of given_down).rest e.front.next
   pub is_fold : fold_of sent_up given_down ≡ Ok value
-  pub answered : List (List ℕ)
-  pub frames_are : (frames_of given_up).whole ≡ answered ++ waiting
+  pub events : List Happening
+  pub frames_are : (frames_of given_up).whole ≡ frames_among events ++ waiting
   pub back_is : e.back_rest ≡ (frames_of given_up).rest
   pub state : State
-  pub side_is : (steps step state0 answered).state ≡ state
-  pub sent_is : sent_down ≡ (steps step state0 answered).sent
-  pub replies_are : map (λ (t : ShownReply). t.id) (replies_in sent_down) ≡ map reply_id answered
+  pub side_is : (happened state0 events).state ≡ state
+  pub sent_is : sent_down ≡ (happened state0 events).sent
+  pub replies_are : map (λ (t : ShownReply). t.id) (replies_in sent_down) ≡ map reply_id (frames_among events)
   pub down_whole : (frames_of sent_down).rest ≡ []
-  pub page_is : e.page ≡ state.side.page
-  pub on_is : e.is_on ≡ state.client.dom_on
-  pub stands : Stands (nodes_in state) state.client.session e.bound
-  pub is_state : IsState state
+  pub stands : StandsFor e.seat e.side state
   pub up_left : e.up_there + length given_up ≡ length sent_up
   pub down_left : e.down_there + length given_down ≡ length sent_down

@@ -2,14 +2,19 @@
 use Rattle.std.specs.Prelude.{ℕ, ◌+◌, List, [], ◌∷◌, ◌++◌, length, drop, codes, Option, Some, None}
 use Rattle.node_tree.specs.Nodes.{Nodes}
 use Rattle.node_tree.specs.Labels.{Label}
+use Rattle.page_tree.specs.Pages.{Row}
 use Rattle.cdp_messages.specs.Asked.{command_text}
-use Rattle.front_mirror.specs.Outline.{outline_text, seen_line}
+use Rattle.front_mirror.specs.Outline.{outline_text, seen_line, node_line}
 use Rattle.replay_script.specs.declared.faults.LineFault.{LineFault}
-use Rattle.replay_script.specs.Forms.{AskForm, LineForm, load, ask, up, down, settle, show_front, show_replies}
+use Rattle.replay_script.specs.Forms as forms
+use Rattle.replay_script.specs.Forms.{AskForm, LineForm, load, ask, up, down, settle, show_front, show_page, show_replies}
 use Rattle.replay_script.specs.Script.{script_fault, script_forms}
-use Rattle.inspect_world.specs.World.{World, first_world, asked, delivered_up, delivered_down, settled}
+use Rattle.inspect_world.specs.World.{World, first_world, asked, raw, turned, delivered_up, delivered_down, settled}
 use Rattle.inspect_world.specs.ShownReplies.{ShownReply, replies_in, told_lines}
-use Rattle.back_end.specs.States.{State, loaded_state, view_of, step}
+use Rattle.inspect_world.specs.ActTexts.{act_text}
+use Rattle.back_end.specs.States.{State, loaded_state, nodes_in, view_of}
+use Rattle.back_end.specs.Steps.{acts, loads, step, turn}
+use Rattle.back_end.specs.Plans.{act_fault}
 
 -- ---- what a line does
 
@@ -21,14 +26,17 @@ sends a w = asked (command_text (w.spent.asks + 1) a.method a.params a.session) 
 abbrev pub all_told : World State → World State
 all_told w = record { state = w.state; up = w.up; down = w.down; spent = w.spent; told = length (replies_in w.down.given) }
 
--- the run after a line; only the first line loads a page so far
+-- the run after a line; an act that is refused leaves the state as it is
 abbrev pub after_line : LineForm → World State → World State
-after_line (load nodes) w = w
+after_line (load nodes) w = turned turn (loads nodes) w
+after_line (forms.act a) w = turned turn (acts a) w
 after_line (ask a) w = sends a w
+after_line (forms.raw text) w = raw text w
 after_line (up n) w = delivered_up step n w
 after_line (down n) w = delivered_down n w
 after_line settle w = settled step w
 after_line show_front w = settled step w
+after_line show_page w = w
 after_line show_replies w = all_told (settled step w)
 
 -- the run after some lines
@@ -44,26 +52,37 @@ loaded_world nodes = first_world (loaded_state nodes)
 
 -- what the client sees of the page, as an outline
 abbrev pub outline_of : World State → List ℕ
-outline_of w = outline_text seen_line (view_of w.state)
+outline_of w = outline_text seen_line (view_of w.state).tree
+
+-- the line of a node of the page, by its serial
+abbrev pub page_line : Row → List ℕ
+page_line r = node_line r.serial r.label 0
+
+-- the page itself, as an outline
+abbrev pub page_outline : State → List ℕ
+page_outline state = outline_text page_line (nodes_in state)
 
 -- the replies that came after so many others
 abbrev pub replies_after : ℕ → World State → List ShownReply
 replies_after n w = drop n (replies_in w.down.given)
 
--- what a line prints
-abbrev pub line_text : LineForm → World State → List ℕ
-line_text (load nodes) w = []
-line_text (ask a) w = []
-line_text (up n) w = []
-line_text (down n) w = []
-line_text settle w = []
-line_text show_front w = codes "# front" ++ 10 ∷ outline_of (settled step w)
-line_text show_replies w = codes "# replies" ++ 10 ∷ told_lines (replies_after w.told (settled step w))
+-- what the line of that number prints
+abbrev pub line_text : ℕ → LineForm → World State → List ℕ
+line_text number (load nodes) w = []
+line_text number (forms.act a) w = act_text number (act_fault a w.state.side.page)
+line_text number (ask a) w = []
+line_text number (forms.raw text) w = []
+line_text number (up n) w = []
+line_text number (down n) w = []
+line_text number settle w = []
+line_text number show_front w = codes "# front" ++ 10 ∷ outline_of (settled step w)
+line_text number show_page w = codes "# page" ++ 10 ∷ page_outline w.state
+line_text number show_replies w = codes "# replies" ++ 10 ∷ told_lines (replies_after w.told (settled step w))
 
--- what some lines print
-abbrev pub lines_text : List LineForm → World State → List ℕ
-lines_text [] w = []
-lines_text (line ∷ lines) w = line_text line w ++ lines_text lines (after_line line w)
+-- what some lines print, the first of which has that number
+abbrev pub lines_text : ℕ → List LineForm → World State → List ℕ
+lines_text number [] w = []
+lines_text number (line ∷ lines) w = line_text number line w ++ lines_text (number + 1) lines (after_line line w)
 
 -- after the last line
 abbrev pub closing_text : World State → List ℕ
@@ -78,17 +97,20 @@ closing_unless (Some bad) w = []
 
 -- what lines after the load print, and what follows them
 abbrev pub rest_text : Option (ℕ × LineFault) → List LineForm → World State → List ℕ
-rest_text bad lines w = lines_text lines w ++ closing_unless bad (after_lines lines w)
+rest_text bad lines w = lines_text 2 lines w ++ closing_unless bad (after_lines lines w)
 
 -- what the lines of a script print, by the first that is refused
 abbrev pub text_of : Option (ℕ × LineFault) → List LineForm → List ℕ
 text_of bad [] = []
 text_of bad (load nodes ∷ lines) = rest_text bad lines (loaded_world nodes)
+text_of bad (forms.act a ∷ lines) = []
 text_of bad (ask a ∷ lines) = []
+text_of bad (forms.raw text ∷ lines) = []
 text_of bad (up n ∷ lines) = []
 text_of bad (down n ∷ lines) = []
 text_of bad (settle ∷ lines) = []
 text_of bad (show_front ∷ lines) = []
+text_of bad (show_page ∷ lines) = []
 text_of bad (show_replies ∷ lines) = []
 
 -- What a replay of the input writes: what each line before the first that is refused prints, and after the last line, where

@@ -1,6 +1,6 @@
 -- While a script is carried out, the whole streams between the ends stay such that the front end's fold meets no fault, and
 -- shows exactly what the client sees of the page.
-use Rattle.std.specs.Prelude.{◌≡◌, ℕ, ◌≤◌, List, [], ◌∷◌, length, take, map, true, None, Ok, ⊤, IsUtf8, ◌+◌}
+use Rattle.std.specs.Prelude.{◌≡◌, ℕ, ◌≤◌, List, [], ◌∷◌, length, take, map, true, Ok, ⊤, IsUtf8, ◌+◌}
 use Rattle.node_tree.specs.Nodes.{Nodes}
 use Rattle.node_tree.specs.Labels.{Label}
 use Rattle.page_tree.specs.Forms.{CanLoad}
@@ -8,37 +8,41 @@ use Rattle.cdp_json.specs.Kinds.{is_counted, holds_of_some}
 use Rattle.cdp_json.specs.Plain.{is_plain}
 use Rattle.cdp_messages.specs.Asked.{command_value, command_text}
 use Rattle.cdp_messages.specs.Laws.{Shallow}
-use Rattle.replay_script.specs.Faults.{is_built_ask}
-use Rattle.replay_script.specs.Forms.{AskForm, LineForm, load, ask, up, down, settle, show_front, show_replies}
+use Rattle.replay_script.specs.Forms as forms
+use Rattle.replay_script.specs.Forms.{AskForm, LineForm, load, ask, up, down, settle, show_front, show_page, show_replies}
 use Rattle.replay_script.specs.Script.{script_forms}
 use Rattle.pipe_frames.specs.Frames.{IsText, frames_of}
 use Rattle.front_mirror.specs.Front.{FrontValue, first_value, take_frame}
+use Rattle.front_mirror.specs.Laws.{Has}
 use Rattle.inspect_world.specs.Stream.{held}
-use Rattle.inspect_world.specs.World.{World, raw, delivered_up, delivered_down, settled}
+use Rattle.inspect_world.specs.World.{World, raw, turned, delivered_up, delivered_down, settled}
 use Rattle.inspect_world.specs.Fold.{folded, joined}
-use Rattle.back_end.specs.Texts.{HaveTexts}
-use Rattle.back_end.specs.States.{State, view_of, step}
-use Rattle.inspect_world.specs.Fits.{join, most_asks, IsBare, Fits}
+use Rattle.page_forms.specs.Texts.{HaveTexts}
+use Rattle.back_end.specs.States.{State, view_of}
+use Rattle.back_end.specs.Steps.{Turn, acts, loads, step, turn}
+use Rattle.back_end.specs.Laws.{IsTurn}
+use Rattle.inspect_world.specs.Fits.{join, most_asks, IsBare, IsNextTurn, Fits}
 use Rattle.inspect_world.specs.ShownReplies.{told_of, replies_in}
 use Rattle.inspect_world.specs.Scripts.{loaded_world, after_lines}
 
--- The ask's parameters are JSON that is written and read again as it is: plain, UTF-8, and not too deep; and the back end
--- knows the command.
+-- The ask's parameters and session are JSON that is written and read again as it is: plain, UTF-8, and not too deep.
 pub record CanSend (a : AskForm) : Type 0 where
-  pub built : is_built_ask a ≡ true
   pub params : holds_of_some is_plain a.params ≡ true
-  pub session : a.session ≡ None
+  pub session : holds_of_some is_plain a.session ≡ true
   pub shallow : (id : ℕ) → Shallow (command_value id a.method a.params a.session)
   pub texts : (id : ℕ) → is_counted id ≡ true → IsUtf8 (command_text id a.method a.params a.session)
 
 -- a line that may come after the load
 abbrev pub IsLater : LineForm → Type 0
-IsLater (load nodes) = ⊥
+IsLater (load nodes) = IsTurn (loads nodes)
+IsLater (forms.act a) = IsTurn (acts a)
 IsLater (ask a) = CanSend a
+IsLater (forms.raw text) = IsText text × IsBare text
 IsLater (up n) = ⊤
 IsLater (down n) = ⊤
 IsLater settle = ⊤
 IsLater show_front = ⊤
+IsLater show_page = ⊤
 IsLater show_replies = ⊤
 
 -- lines that may come after the load
@@ -64,6 +68,10 @@ InputsFit = (input : List ℕ) (nodes : Nodes Label) (lines : List LineForm) →
 abbrev pub BareFramesFit : Type 0
 BareFramesFit = (w : World State) (text : List ℕ) → IsText text → IsBare text → w.spent.raws + 1 ≤ most_asks → Fits w → Fits (raw text w)
 
+-- the script makes a step by itself, whatever is on its way
+abbrev pub TurnsFit : Type 0
+TurnsFit = (w : World State) (x : Turn) → IsNextTurn w.spent x → Fits w → Fits (turned turn x w)
+
 -- bytes come in any pieces
 abbrev pub DeliveriesFit : Type 0
 DeliveriesFit = (w : World State) (n : ℕ) → Fits w → Fits (delivered_up step n w) × Fits (delivered_down n w)
@@ -74,7 +82,7 @@ DeliveriesFit = (w : World State) (n : ℕ) → Fits w → Fits (delivered_up st
 pub record ShowsAll (w : World State) : Type 0 where
   pub front : FrontValue
   pub is_fold : folded take_frame (joined join (first_value []) (frames_of w.up.given).whole) (frames_of w.down.given).whole ≡ Ok front
-  pub shows : front.tree ≡ view_of w.state
+  pub shows : Has front (view_of w.state)
   pub told : map told_of front.replies ≡ replies_in w.down.given
   pub waits : front.asks ≡ []
   pub whole : held w.down ≡ []

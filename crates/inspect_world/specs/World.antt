@@ -2,7 +2,7 @@
 -- A step of the state on one frame gives the state after it, and the bytes that it sends down.
 use Rattle.std.specs.Prelude.{ℕ, ◌+◌, List, [], ◌∷◌, ◌++◌, length}
 use Rattle.pipe_frames.specs.Frames.{framed}
-use Rattle.back_end.specs.States.{Stepped}
+use Rattle.back_end.specs.Steps.{Stepped}
 use Rattle.inspect_world.specs.Stream.{Stream, no_stream, put, passed, arriving}
 
 -- What a run has spent: how many asks, how many fetches and how many other frames the front end has sent, and how many steps

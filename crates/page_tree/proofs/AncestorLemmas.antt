@@ -152,7 +152,7 @@ some_at (Some l) h = refl
 some_at None h = absurd (cc)
 
 -- what is not found stands nowhere
-tally_absent : (x : ℕ) (n : Nodes Row) → is_some (find row_serial x n) ≡ false → tally row_serial x n ≡ 0
+pub tally_absent : (x : ℕ) (n : Nodes Row) → is_some (find row_serial x n) ≡ false → tally row_serial x n ≡ 0
 tally_absent x n gone =
     elim (tally row_serial x n) as (λ m. tally row_serial x n ≡ m → tally row_serial x n ≡ 0) [
       | zero ↦ λ e. e

@@ -21,6 +21,7 @@ use Rattle.page_tree.specs.declared.slots.Slot.{Slot}
 use Rattle.page_tree.specs.declared.arenas.Arena.{Arena}
 use Rattle.page_tree.proofs.PlaceLemmas.{located, tree_is, rebuilt, looks, Under, placed_up}
 use Rattle.page_tree.proofs.TurnLemmas.{Seat, seat, next_keeps, page_relabelled, page_grafted, page_cut}
+use Rattle.page_tree.proofs.HangLemmas.{branch_same}
 use Rattle.page_tree.proofs.ChildLemmas.{inserted-taken}
 use Rattle.page_tree.proofs.FormedLemmas.{left}
 use Rattle.page_tree.proofs.WholeLemmas.{whole-valid}
@@ -36,9 +37,6 @@ same_page a b root next page same files =
       reached = λ k s e. page.arena.reached k s (sym (same k) ∙ e);
     } in
     (tree_is b root next (tree_of a root) arena page.valid, rebuilt b root next (tree_of a root) arena page.valid)
-
-branch_same : (r s : Row) (c d : Nodes Row) → r ≡ s → c ≡ d → ◌≡◌ {A = Branch Row} (record { row = r; children = c }) (record { row = s; children = d })
-branch_same r s c d p q = cc
 
 -- the page after an edit
 pub record IsAfter (b : Arena) (root next : ℕ) (e : TreeEdit) (p : State) : Type 0 where

@@ -20,3 +20,8 @@ pub mod RelationLemmas
 pub mod TurnLemmas
 pub mod ArenaEdits
 pub mod SearchedLemmas
+pub mod HangLemmas
+pub mod WalkLemmas
+pub mod CountLemmas
+pub mod FaultLemmas
+pub mod SeatLemmas

@@ -21,7 +21,7 @@ use Rattle.page_tree.proofs.ChildLemmas.{Inserted, tally-inserted, inserted-befo
 
 -- ---- keys of children
 
-numbered_is : (a : Arena) (serial k : ℕ) (slot : Slot) (r : Row) → slots_in a k ≡ Some slot → slot_row slot ≡ r → is_numbered a serial k ≡ (r.serial == serial)
+pub numbered_is : (a : Arena) (serial k : ℕ) (slot : Slot) (r : Row) → slots_in a k ≡ Some slot → slot_row slot ≡ r → is_numbered a serial k ≡ (r.serial == serial)
 numbered_is a serial k slot r at is = ap (λ (o : Option Slot). option_map_or (λ (s : Slot). s.serial == serial) o false) at ∙ ap (λ (q : Row). q.serial == serial) is
 
 first_keeps : (a : Arena) (above : Option ℕ) (n : Nodes Row) (ks : List ℕ) → Keeps page_slots (slots_in a) n above ks → first_in a ks ≡ first_serial n

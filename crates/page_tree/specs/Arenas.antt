@@ -1,14 +1,15 @@
 -- The slots of a page, and what they keep.
-use Rattle.std.specs.Prelude.{◌≡◌, ℕ, zero, suc, ◌+◌, ◌==◌, Bool, false, cond, List, [], ◌∷◌, length, Option, Some, None, option_and_then}
+use Rattle.std.specs.Prelude.{◌≡◌, ℕ, zero, suc, ◌+◌, ◌≤◌, ◌==◌, Bool, false, cond, List, [], ◌∷◌, length, slice_get, Option, Some, None, option_and_then, IfSome}
 use Rattle.std.specs.Option.{option_map_or}
 use Rattle.std.specs.List.{insert, remove}
 use Rattle.std.specs.Ordering.{nat_cmp}
 use Rattle.std.specs.BTreeMap as map
 use Rattle.slab.specs.Slab as slab
-use Rattle.node_tree.specs.Nodes.{Nodes, none, node, Branch, alone, width}
+use Rattle.node_tree.specs.Nodes.{Nodes, none, node, Branch, alone, width, height}
 use Rattle.node_tree.specs.Arena.{SlotForm, times, Keeps, kept_trees, IsFiled, IsArena, IsFresh, Grows, Shrinks, Comes, Turns}
 use Rattle.page_tree.specs.Forms.{max_level}
 use Rattle.page_tree.specs.Pages.{Row, row_serial, document_label, IsValid}
+use Rattle.page_tree.specs.Zippers.{zipper_at}
 use Rattle.page_tree.specs.declared.slots.Slot.{Slot}
 use Rattle.page_tree.specs.declared.arenas.Arena.{Arena}
 
@@ -87,6 +88,20 @@ first_tree (node r c t) = record { row = r; children = c }
 unfoldable pub tree_of : Arena → ℕ → Branch Row
 tree_of a root = first_tree (stored_trees a (suc max_level) (root ∷ []))
 
+-- the trees in the slots under these keys
+unfoldable pub trees_in : Arena → List ℕ → Nodes Row
+trees_in a ks = stored_trees a (suc max_level) ks
+
+-- the tree of a slot
+abbrev pub branch_in : Arena → Slot → Branch Row
+branch_in a slot = record { row = slot_row slot; children = trees_in a slot.children }
+
+-- the slots under these keys keep trees that hang below one parent, on no more levels than a page has
+pub record Hangs (a : Arena) (ks : List ℕ) : Type 0 where
+  pub above : Option ℕ
+  pub stands : Stored a (trees_in a ks) above ks
+  pub low : height (trees_in a ks) ≤ suc max_level
+
 -- the slots keep a valid page's tree, and nothing else
 pub record IsPage (a : Arena) (root next : ℕ) : Type 0 where
   pub arena : IsArena page_slots (slots_in a) (keys_in a) root (tree_of a root)
@@ -96,6 +111,21 @@ pub record IsPage (a : Arena) (root next : ℕ) : Type 0 where
 abbrev pub Looks : Option Slot → Option (Branch Row) → Type 0
 Looks None f = f ≡ None
 Looks (Some slot) f = (b : Branch Row) × (f ≡ Some b) × (slot_row slot ≡ b.row) × (length slot.children ≡ width b.children)
+
+-- the keys of a slot and its siblings, in their order; the root's slot has none
+abbrev pub sibling_keys : Arena → Slot → List ℕ
+sibling_keys a slot = option_map_or (λ over. over.children) (option_and_then (slots_in a) slot.parent) []
+
+-- the slot at that place among a slot and its siblings
+abbrev pub sibling_slot : Arena → Slot → ℕ → Option Slot
+sibling_slot a slot i = option_and_then (slots_in a) (slice_get (sibling_keys a slot) i)
+
+-- a slot of a page, with its place among its siblings, where that is known
+pub record IsSeated (a : Arena) (root : ℕ) (slot : Slot) (place : Option ℕ) : Type 0 where
+  pub next : ℕ
+  pub page : IsPage a root next
+  pub at : slot_of a slot.serial ≡ Some slot
+  pub place_is : IfSome place (λ i. i ≡ length (zipper_at slot.serial (tree_of a root)).before)
 
 -- ---- a tree put among the children of a slot, and taken out
 

@@ -1,9 +1,9 @@
-ghost use Rattle.std.specs.Prelude.{◌≡◌, ◌≢◌, ◌+◌, ◌≤◌, ℕ, [], ◌∷◌, Option, Some, None, IfOk, OnOk, OnErr, vec_len};
-ghost use Rattle.std.specs.Option.{option_copied};
+ghost use Rattle.std.specs.Prelude.{◌≡◌, ◌+◌, ◌≤◌, ℕ, [], ◌∷◌, Some, None, IfOk, OnOk, OnErr, vec_len, slice_get, option_and_then};
+ghost use Rattle.std.specs.Option.{option_copied, option_map_or};
 ghost use Rattle.node_tree.specs.Nodes.{alone, nodes_of, node_count};
 ghost use Rattle.node_tree.specs.Keys.{tally};
 ghost use Rattle.page_tree.specs.Pages.{row_serial};
-ghost use Rattle.page_tree.specs.Arenas.{slots_in, keys_in, Filed, Stored, stored_trees, Fresh, Grown, Shrunk, Came, Turned, SameSlots, listed, slot_row, slot_of, climbed};
+ghost use Rattle.page_tree.specs.Arenas.{slots_in, keys_in, Filed, Stored, stored_trees, Fresh, Grown, Shrunk, Came, Turned, SameSlots, listed, slot_row, slot_of, climbed, place_in, sibling_keys, sibling_slot};
 
 use crate::slots::{Keys, Slot};
 use crate::trees::Tree;
@@ -45,6 +45,52 @@ impl Arena {
         ensures { result ≡ keys_in self.now serial }
     {
         self.keys.get(&serial).copied()
+    }
+
+    /// The slot of the first child.
+    pub fn first_child(&self, slot: &Slot) -> Option<&Slot>
+        ensures { option_copied result ≡ option_and_then (slots_in self.now) (slice_get slot.now.children 0) }
+    {
+        if slot.children.len() == 0 {
+            return None;
+        }
+        self.slots.get(slot.children.at(0))
+    }
+
+    /// The keys of a slot and its siblings, in their order; the root's slot has none.
+    fn siblings(&self, slot: &Slot) -> Option<&Keys>
+        ensures { option_map_or (λ keys. keys.now) result [] ≡ sibling_keys self.now slot.now }
+    {
+        let Some(key) = slot.parent else {
+            return None;
+        };
+        match self.slots.get(key) {
+            Some(over) => Some(&over.children),
+            None => None,
+        }
+    }
+
+    /// The slot at that place among a slot and its siblings.
+    pub fn sibling(&self, slot: &Slot, i: usize) -> Option<&Slot>
+        ensures { option_copied result ≡ sibling_slot self.now slot.now i }
+    {
+        let Some(keys) = self.siblings(slot) else {
+            return None;
+        };
+        if i >= keys.len() {
+            return None;
+        }
+        self.slots.get(keys.at(i))
+    }
+
+    /// The place of a slot among it and its siblings.
+    pub fn seat(&self, slot: &Slot) -> usize
+        ensures { result ≡ place_in self.now slot.now.serial (sibling_keys self.now slot.now) }
+    {
+        match self.siblings(slot) {
+            Some(keys) => self.place(keys, slot.serial),
+            None => 0,
+        }
     }
 
     /// How many slots there are from the one under that key up, at most so many.

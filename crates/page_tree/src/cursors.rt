@@ -3,43 +3,52 @@ ghost use Rattle.node_tree.specs.Nodes.{width, tree_at};
 ghost use Rattle.node_tree.specs.Labels.{value_of};
 ghost use Rattle.page_tree.specs.Pages.{find_in, node_at};
 
+use crate::arenas::Arena;
 use crate::pages::Page;
-use crate::trees::Tree;
+use crate::slots::{Keys, Slot};
 use node_tree::{Attributes, Kind};
 use std::marker::Model;
 
 /// A node of a page, for a walk of the page. It sees what is below it, and not what is above.
 #[derive(Drop)]
 pub struct Node<'a> {
-    tree: &'a Tree,
+    arena: &'a Arena,
+    slot: &'a Slot,
 }
 
 impl<'a> Model for Node<'a> {
     ghost use Rattle.node_tree.specs.Nodes.{Branch, coded_branch};
     ghost use Rattle.page_tree.specs.Pages.{Row, coded_row};
+    ghost use Rattle.page_tree.specs.Arenas.{branch_in, Hangs};
 
     ghost Value = { Branch Row };
 
     ghost coded = { coded_branch coded_row };
 
-    ghost view = { λ n. n.tree.now };
+    ghost view = { λ n. branch_in n.arena.now n.slot.now };
+
+    ghost invariant = { λ n. Hangs n.arena.now n.slot.now.children };
 }
 
 /// The children of a node, in their order.
 #[derive(Drop)]
 pub struct Children<'a> {
-    trees: &'a Vec<Tree>,
+    arena: &'a Arena,
+    keys: &'a Keys,
 }
 
 impl<'a> Model for Children<'a> {
-    ghost use Rattle.node_tree.specs.Nodes.{Nodes, nodes_of, coded_nodes};
+    ghost use Rattle.node_tree.specs.Nodes.{Nodes, coded_nodes};
     ghost use Rattle.page_tree.specs.Pages.{Row, coded_row};
+    ghost use Rattle.page_tree.specs.Arenas.{trees_in, Hangs};
 
     ghost Value = { Nodes Row };
 
     ghost coded = { coded_nodes coded_row };
 
-    ghost view = { λ c. nodes_of c.trees.now.items };
+    ghost view = { λ c. trees_in c.arena.now c.keys.now };
+
+    ghost invariant = { λ c. Hangs c.arena.now c.keys.now };
 }
 
 impl Page {
@@ -47,7 +56,13 @@ impl Page {
     pub fn root(&self) -> Node<'_>
         ensures { result ≡ self.now.tree }
     {
-        Node { tree: self.tree() }
+        match self.arena.slots.get(self.root) {
+            Some(slot) => Node {
+                arena: &self.arena,
+                slot,
+            },
+            None => unreachable!(),
+        }
     }
 
     /// The node with that serial.
@@ -55,64 +70,71 @@ impl Page {
         requires { IsSome (find_in serial self.now.tree) }
         ensures { result ≡ node_at serial self.now.tree }
     {
-        Node {
-            tree: self.at(serial),
+        match self.arena.find(serial) {
+            Some(slot) => Node {
+                arena: &self.arena,
+                slot,
+            },
+            None => unreachable!(),
         }
     }
 }
 
 impl<'a> Node<'a> {
+    /// The node's serial.
     pub fn serial(&self) -> u64
         ensures { result ≡ self.now.row.serial }
     {
-        let tree = self.tree;
-        tree.serial
+        let slot = self.slot;
+        slot.serial
     }
 
+    /// The node's kind.
     pub fn kind(&self) -> Kind
         ensures { result ≡ self.now.row.label.kind }
     {
-        let tree = self.tree;
-        tree.kind
+        let slot = self.slot;
+        slot.kind
     }
 
     /// An element's or a doctype's name, and else the empty text.
     pub fn name(&self) -> &'a str
         ensures { result.now ≡ self.now.row.label.name }
     {
-        let tree = self.tree;
-        tree.name.as_str()
+        let slot = self.slot;
+        slot.name.as_str()
     }
 
     /// A text's or a comment's value, and else the empty text.
     pub fn value(&self) -> &'a str
         ensures { result.now ≡ self.now.row.label.value }
     {
-        let tree = self.tree;
-        tree.value.as_str()
+        let slot = self.slot;
+        slot.value.as_str()
     }
 
     /// All attributes, in ascending order of their names' bytes.
     pub fn attributes(&self) -> &'a Attributes
         ensures { result.now ≡ self.now.row.label.attributes }
     {
-        let tree = self.tree;
-        &tree.attributes
+        let slot = self.slot;
+        &slot.attributes
     }
 
     /// The value of the attribute of that name.
     pub fn attr(&self, name: &str) -> Option<&'a str>
         ensures { option_map (λ v. v.now) result ≡ value_of name.now self.now.row.label.attributes }
     {
-        let tree = self.tree;
-        tree.attributes.get(name)
+        let slot = self.slot;
+        slot.attributes.get(name)
     }
 
+    /// How many attributes the node has.
     pub fn attr_len(&self) -> usize
         ensures { result ≡ length self.now.row.label.attributes }
     {
-        let tree = self.tree;
-        tree.attributes.len()
+        let slot = self.slot;
+        slot.attributes.len()
     }
 
     /// The name and the value of the attribute at place `i`, counted from 0 in ascending order of the names' bytes.
@@ -120,16 +142,16 @@ impl<'a> Node<'a> {
         requires { i < length self.now.row.label.attributes }
         ensures { slice_get self.now.row.label.attributes i ≡ Some (result.0.now, result.1.now) }
     {
-        let tree = self.tree;
-        tree.attributes.at(i)
+        let slot = self.slot;
+        slot.attributes.at(i)
     }
 
     /// The number of its children.
     pub fn len(&self) -> usize
         ensures { result ≡ width self.now.children }
     {
-        let tree = self.tree;
-        tree.children.len()
+        let slot = self.slot;
+        slot.children.len()
     }
 
     /// The child at place `i`, counted from 0.
@@ -140,12 +162,14 @@ impl<'a> Node<'a> {
         self.children().at(i)
     }
 
+    /// Its children.
     pub fn children(&self) -> Children<'a>
         ensures { result ≡ self.now.children }
     {
-        let tree = self.tree;
+        let slot = self.slot;
         Children {
-            trees: &tree.children,
+            arena: self.arena,
+            keys: &slot.children,
         }
     }
 
@@ -153,15 +177,20 @@ impl<'a> Node<'a> {
     pub fn again(&self) -> Node<'a>
         ensures { result ≡ self.now }
     {
-        Node { tree: self.tree }
+        Node {
+            arena: self.arena,
+            slot: self.slot,
+        }
     }
 }
 
 impl<'a> Children<'a> {
+    /// How many they are.
     pub fn len(&self) -> usize
         ensures { result ≡ width self.now }
     {
-        self.trees.len()
+        let keys = self.keys;
+        keys.len()
     }
 
     /// The child at place `i`, counted from 0.
@@ -169,7 +198,11 @@ impl<'a> Children<'a> {
         requires { i < width self.now }
         ensures { tree_at i self.now ≡ Some result }
     {
-        let trees = self.trees;
-        Node { tree: &trees[i] }
+        let arena = self.arena;
+        let keys = self.keys;
+        match arena.slots.get(keys.at(i)) {
+            Some(slot) => Node { arena, slot },
+            None => unreachable!(),
+        }
     }
 }

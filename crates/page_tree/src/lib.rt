@@ -1,8 +1,6 @@
 //! The page: a tree of nodes, each with a serial for the whole run, read from a load and asked by serial.
 #![tactic(auto)]
 
-mod arena_edits;
-mod arena_pages;
 mod arenas;
 mod attribute_edits;
 mod attributes;
@@ -18,11 +16,14 @@ mod limits;
 mod loads;
 mod node_refs;
 mod numbering;
+mod page_edits;
+mod page_faults;
 mod pages;
 mod relations;
-mod search;
 mod slots;
+mod tree_limits;
 mod trees;
+mod walks;
 
 pub use cursors::{Children, Node};
 pub use edit_faults::{EditErr, EditFault};

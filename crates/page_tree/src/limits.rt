@@ -12,13 +12,13 @@ use crate::forms::NodeForm;
 use node_tree::{Kind, Text, is_attribute_name, is_element_name};
 
 /// The highest level of a node; the document has level 0.
-const MAX_LEVEL: usize = 60;
+const MAX_LEVEL: u64 = 60;
 
 /// The most nodes of a page, with the document.
 const MAX_NODES: usize = 100_000;
 
 /// The forms have no more than so many levels.
-fn are_within(forms: &[NodeForm], levels: usize) -> bool
+pub fn are_within(forms: &[NodeForm], levels: u64) -> bool
     ensures { result ≡ nat_le (height (nodes_of forms.now)) levels }
 {
     for form in forms {
@@ -33,7 +33,7 @@ fn are_within(forms: &[NodeForm], levels: usize) -> bool
 }
 
 /// How much of the room for nodes is left beside the forms; none where they are more.
-fn room_beside(forms: &[NodeForm], room: usize) -> Option<usize>
+pub fn room_beside(forms: &[NodeForm], room: usize) -> Option<usize>
     ensures { result ≡ room_after (node_count (nodes_of forms.now)) room }
 {
     let mut left = room;
@@ -49,16 +49,18 @@ fn room_beside(forms: &[NodeForm], room: usize) -> Option<usize>
     Some(left)
 }
 
-fn has_good_name(form: &NodeForm) -> bool
-    ensures { result ≡ cond (has_name form.now.row.kind) (is_element_name form.now.row.name) true }
+/// An element's or a doctype's name has its form.
+pub fn has_good_name(kind: Kind, name: &str) -> bool
+    ensures { result ≡ cond (has_name kind) (is_element_name name.now) true }
 {
-    match form.kind {
-        Kind::Element | Kind::Doctype => is_element_name(form.name.as_str()),
+    match kind {
+        Kind::Element | Kind::Doctype => is_element_name(name),
         Kind::Document | Kind::Text | Kind::Comment => true,
     }
 }
 
-fn have_good_names(pairs: &[(Text, Text)]) -> bool
+/// The names of attributes have their forms.
+pub fn have_good_names(pairs: &[(Text, Text)]) -> bool
     ensures { result ≡ list_all (λ p. is_attribute_name p.0) pairs.now }
 {
     pairs.iter().all(|pair| is_attribute_name(pair.0.as_str()))
@@ -67,10 +69,11 @@ fn have_good_names(pairs: &[(Text, Text)]) -> bool
 fn is_named(form: &NodeForm) -> bool
     ensures { result ≡ is_named_label form.now.row }
 {
-    has_good_name(form) && have_good_names(form.attributes.as_slice())
+    has_good_name(form.kind, form.name.as_str()) && have_good_names(form.attributes.as_slice())
 }
 
-fn are_named(forms: &[NodeForm]) -> bool
+/// All names have their forms.
+pub fn are_named(forms: &[NodeForm]) -> bool
     ensures { result ≡ are_named (nodes_of forms.now) }
 {
     for form in forms {

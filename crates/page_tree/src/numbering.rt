@@ -1,6 +1,7 @@
 ghost use Rattle.std.specs.Prelude.{◌≡◌, ◌+◌, ◌<◌, ◌^◌, IfOk};
-ghost use Rattle.node_tree.specs.Nodes.{nodes_of, node_count};
+ghost use Rattle.node_tree.specs.Nodes.{nodes_of, node_count, branch_count};
 ghost use Rattle.page_tree.specs.Pages.{numbered};
+ghost use Rattle.page_tree.specs.Edits.{numbered_branch};
 
 use crate::forms::NodeForm;
 use crate::trees::Tree;
@@ -32,4 +33,21 @@ pub fn number_all(
         next = after;
     }
     Ok((trees, next))
+}
+
+/// The tree of a form, with serials in document order from `first` on, and the serial after the last.
+pub fn number_one(alloc: Global, first: u64, form: NodeForm) -> Result<(Tree, u64), AllocError>
+    requires { first + branch_count form < 2 ^ 64 }
+    ensures { IfOk result (λ r. (r.0 ≡ numbered_branch first form) × (r.1 ≡ first + branch_count form)) }
+{
+    let (children, next) = number_all(alloc, first + 1, form.children)?;
+    let tree = Tree {
+        serial: first,
+        kind: form.kind,
+        name: form.name,
+        value: form.value,
+        attributes: form.attributes,
+        children,
+    };
+    Ok((tree, next))
 }

@@ -1,13 +1,15 @@
-ghost use Rattle.std.specs.Prelude.{◌≡◌, ◌+◌, ◌<◌, ◌≤◌, ◌^◌, length, is_some, option_map, Some, IsSome, IfOk, slice_get};
+ghost use Rattle.std.specs.Prelude.{◌≡◌, ◌<◌, ◌≤◌, ◌^◌, length, is_some, option_map, Some, IsSome, IfOk, slice_get};
 ghost use Rattle.std.specs.Option.{option_copied};
 ghost use Rattle.node_tree.specs.Nodes.{nodes_of, width, tree_at};
 ghost use Rattle.node_tree.specs.Labels.{value_of};
 ghost use Rattle.page_tree.specs.Forms.{CanLoad};
-ghost use Rattle.page_tree.specs.Pages.{loaded, find_in, node_at, parent_at, level_at, row_serial};
+ghost use Rattle.page_tree.specs.Pages.{loaded, find_in, node_at, parent_at, level_at};
+ghost use Rattle.page_tree.specs.Arenas.{slot_row, Looks};
 
+use crate::arenas::Arena;
 use crate::forms::NodeForm;
 use crate::numbering::number_all;
-use crate::search::{find_among, level_among, parent_among};
+use crate::slots::Slot;
 use crate::trees::Tree;
 use node_tree::{Attributes, Kind, Text};
 use std::alloc::{AllocError, Global};
@@ -16,20 +18,23 @@ use std::marker::Model;
 /// A page: the document with all below it, and the serial that the next new node gets.
 #[derive(Drop)]
 pub struct Page {
-    tree: Tree,
-    next: u64,
+    pub(crate) arena: Arena,
+    pub(crate) root: usize,
+    pub(crate) next: u64,
+    pub(crate) alloc: Global,
 }
 
 impl Model for Page {
-    ghost use Rattle.page_tree.specs.Pages.{State, coded_state, IsValid};
+    ghost use Rattle.page_tree.specs.Pages.{State, coded_state};
+    ghost use Rattle.page_tree.specs.Arenas.{tree_of, IsPage};
 
     ghost Value = { State };
 
     ghost coded = { coded_state };
 
-    ghost view = { λ p. record { tree = p.tree; next = p.next } };
+    ghost view = { λ p. record { tree = tree_of p.arena p.root; next = p.next } };
 
-    ghost invariant = { λ p. IsValid (record { tree = p.tree; next = p.next }) };
+    ghost invariant = { λ p. IsPage p.arena p.root p.next };
 }
 
 impl Page {
@@ -51,28 +56,31 @@ impl Page {
             attributes: Attributes::new(alloc),
             children,
         };
-        Ok(Page { tree, next })
+        let mut arena = Arena::new(alloc);
+        let root = arena.plant(alloc, tree, None)?;
+        Ok(Page {
+            arena,
+            root,
+            next,
+            alloc,
+        })
     }
 
     /// Every page is valid: this call only says so to a proof.
     pub fn valid(&self)
         ensures { IsValid self.now }
     {
-        let _ = &self.tree;
-    }
-
-    /// The document with all below it.
-    pub(crate) fn tree(&self) -> &Tree
-        ensures { result.now ≡ self.now.tree }
-    {
-        &self.tree
+        let _ = &self.arena;
     }
 
     /// The document's serial.
     pub fn document(&self) -> u64
         ensures { result ≡ self.now.tree.row.serial }
     {
-        self.tree.serial
+        match self.arena.slots.get(self.root) {
+            Some(slot) => slot.serial,
+            None => unreachable!(),
+        }
     }
 
     /// The serial that the next new node gets.
@@ -82,28 +90,31 @@ impl Page {
         self.next
     }
 
-    fn find(&self, serial: u64) -> Option<&Tree>
-        ensures { option_copied result ≡ find_in serial self.now.tree }
+    fn find(&self, serial: u64) -> Option<&Slot>
+        ensures { Looks (option_copied result) (find_in serial self.now.tree) }
     {
-        if self.tree.serial == serial {
-            return Some(&self.tree);
-        }
-        find_among(&self.tree.children, serial)
+        self.arena.find(serial)
     }
 
-    pub(crate) fn at(&self, serial: u64) -> &Tree
+    fn at(&self, serial: u64) -> &Slot
         requires { IsSome (find_in serial self.now.tree) }
-        ensures { result.now ≡ node_at serial self.now.tree }
+        ensures row { slot_row result.now ≡ (node_at serial self.now.tree).row }
+        ensures children { length result.now.children ≡ width (node_at serial self.now.tree).children }
     {
-        self.find(serial).unwrap()
+        match self.arena.find(serial) {
+            Some(slot) => slot,
+            None => unreachable!(),
+        }
     }
 
+    /// A node has that serial.
     pub fn live(&self, serial: u64) -> bool
         ensures { result ≡ is_some (find_in serial self.now.tree) }
     {
         self.find(serial).is_some()
     }
 
+    /// The kind of the node.
     pub fn kind(&self, serial: u64) -> Kind
         requires { IsSome (find_in serial self.now.tree) }
         ensures { result ≡ (node_at serial self.now.tree).row.label.kind }
@@ -136,6 +147,7 @@ impl Page {
         self.at(serial).attributes.get(name)
     }
 
+    /// How many attributes the node has.
     pub fn attr_len(&self, serial: u64) -> usize
         requires { IsSome (find_in serial self.now.tree) }
         ensures { result ≡ length (node_at serial self.now.tree).row.label.attributes }
@@ -158,10 +170,16 @@ impl Page {
         requires { IsSome (find_in serial self.now.tree) }
         ensures { result ≡ parent_at serial self.now.tree }
     {
-        if self.tree.serial == serial {
+        let Some(slot) = self.arena.find(serial) else {
+            unreachable!()
+        };
+        let Some(key) = slot.parent else {
             return 0;
+        };
+        match self.arena.slots.get(key) {
+            Some(over) => over.serial,
+            None => unreachable!(),
         }
-        parent_among(&self.tree.children, serial, self.tree.serial).unwrap_or(0)
     }
 
     /// How many nodes are above the node: 0 for the document.
@@ -169,12 +187,13 @@ impl Page {
         requires { IsSome (find_in serial self.now.tree) }
         ensures { result ≡ level_at serial self.now.tree }
     {
-        if self.tree.serial == serial {
-            return 0;
+        match self.arena.find(serial) {
+            Some(slot) => self.arena.climb(slot.parent, 60),
+            None => unreachable!(),
         }
-        level_among(&self.tree.children, serial, 1).unwrap_or(0)
     }
 
+    /// How many children the node has.
     pub fn children_len(&self, serial: u64) -> usize
         requires { IsSome (find_in serial self.now.tree) }
         ensures { result ≡ width (node_at serial self.now.tree).children }
@@ -189,7 +208,12 @@ impl Page {
         ensures { option_map (λ b. b.row.serial) (tree_at i (node_at serial self.now.tree).children)
             ≡ Some result }
     {
-        let child = &self.at(serial).children[i];
-        child.serial
+        let Some(slot) = self.arena.find(serial) else {
+            unreachable!()
+        };
+        match self.arena.slots.get(slot.children.at(i)) {
+            Some(child) => child.serial,
+            None => unreachable!(),
+        }
     }
 }

@@ -29,12 +29,14 @@ impl Keys {
         }
     }
 
+    /// How many keys there are.
     pub fn len(&self) -> usize
         ensures { result ≡ length self.now }
     {
         self.keys.len()
     }
 
+    /// The key at place `i`, counted from 0.
     pub fn at(&self, i: usize) -> usize
         requires { i < length self.now }
         ensures { slice_get self.now i ≡ Some result }

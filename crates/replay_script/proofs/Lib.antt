@@ -1,3 +1,4 @@
 pub mod LineLemmas
-pub mod FormLemmas
+pub mod FaultLemmas
+pub mod SoundLemmas
 pub mod ScriptLemmas

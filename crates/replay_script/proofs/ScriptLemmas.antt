@@ -5,7 +5,7 @@ use Rattle.replay_script.specs.Lines.{lines_of}
 use Rattle.replay_script.specs.Forms.{LineForm, line_form}
 use Rattle.replay_script.specs.Faults.{line_fault}
 use Rattle.replay_script.specs.Script.{numbered_or, first_bad, unless_bad, good_lines, fault_of_lines, StopsBefore, ScriptLaw}
-use Rattle.replay_script.proofs.FormLemmas.{line_form-good}
+use Rattle.replay_script.proofs.FaultLemmas.{line_form-good}
 use Rattle.replay_script.specs.declared.faults.LineFault.{LineFault}
 
 -- ---- a step over one line

@@ -1,68 +1,135 @@
 -- Why a line is refused: the first that applies, in the order of the lists here.
-use Rattle.std.specs.Prelude.{ℕ, ◌==◌, List, [], ◌∷◌, Bool, true, false, ◌||◌, not, Result, Ok, Err, if◌then◌else◌, Option, is_none, is_some, option_map, option_and_then, codes}
+use Rattle.std.specs.Prelude.{ℕ, ◌==◌, List, [], ◌∷◌, Bool, false, ◌&&◌, ◌||◌, not, Option, Some, None, is_none, is_some, option_map, option_and_then, bytes_eq, codes, if◌then◌else◌}
 use Rattle.std.specs.Option.{option_map_or}
+use Rattle.std.specs.List.{list_any}
 use Rattle.serde_json.specs.Data.{Data}
-use Rattle.serde_json.specs.Find.{get}
+use Rattle.serde_json.specs.Find.{get, as_number, as_str}
 use Rattle.serde_json.specs.Written.{has_float}
+use Rattle.cdp_json.specs.Kinds.{as_whole}
 use Rattle.node_tree.specs.Keys.{first_of}
-use Rattle.page_tree.specs.Loads.{first_true, first_load_fault}
+use Rattle.page_tree.specs.Loads.{first_true}
 use Rattle.page_tree.specs.declared.faults.LoadFault.{LoadFault}
-use Rattle.replay_script.specs.Forms.{AskForm, LineForm, load, ask, up, down, settle, show_front, show_replies, data_of, page_of, page_nodes, form_of}
-use Rattle.cdp_messages.specs.declared.command.Command.{Command}
-use Rattle.cdp_messages.specs.Asked.{command_of}
-use Rattle.cdp_messages.specs.DomAsks.{dom_ask_in}
+use Rattle.page_forms.specs.Pages.{page_fault}
+use Rattle.page_forms.specs.SheetActs.{is_sheet_act}
+use Rattle.cdp_messages.specs.Asked.{json_of}
+use Rattle.replay_script.specs.declared.line_kinds.LineKind.{LineKind}
+use Rattle.replay_script.specs.declared.line_kinds.LineKind.TheVariants as kind
+use Rattle.replay_script.specs.Kinds.{is_load, said}
+use Rattle.replay_script.specs.Forms.{form_by}
 use Rattle.replay_script.specs.declared.faults.LineFault.{LineFault}
-use Rattle.replay_script.specs.declared.faults.LineFault.TheVariants.{NotJson, NotLoad, BadForm, BadLoad, NotBuilt}
+use Rattle.replay_script.specs.declared.faults.LineFault.TheVariants.{NotJson, NotLoad, BadForm, BadLoad, BadRaw, NotBuilt}
 
--- ---- line 1
+-- ---- the forms that are not carried out yet
 
 -- PAGE has the property `sheets`
 abbrev pub has_sheets : Data → Bool
-has_sheets d = is_some (option_and_then (get (codes "sheets")) (page_of d))
+has_sheets page = is_some (get (codes "sheets") page)
 
--- the first fault of the page that a line loads
-abbrev pub load_fault : Data → Option LoadFault
-load_fault d = first_load_fault (option_and_then page_nodes (page_of d))
+-- what a show may tell besides
+abbrev pub is_later_word : List ℕ → Bool
+is_later_word word = bytes_eq word (codes "sheets") || (bytes_eq word (codes "pauses") || bytes_eq word (codes "panels"))
 
--- the first fault of the first line of a script
-abbrev pub first_line_fault : Data → Option LineFault
-first_line_fault d = first_of (first_true ((NotLoad, is_none (page_of d)) ∷ (BadForm, has_float d) ∷ (NotBuilt, has_sheets d) ∷ [])) (option_map BadLoad (load_fault d))
+-- the value of a line of that kind is in a form that is not carried out yet
+abbrev pub is_later : LineKind → Data → Bool
+is_later kind.Load page = has_sheets page
+is_later kind.Act v = is_sheet_act v
+is_later kind.Ask v = false
+is_later kind.Raw v = false
+is_later kind.Up v = false
+is_later kind.Down v = false
+is_later kind.Settle v = false
+is_later kind.Show v = option_map_or is_later_word (as_str v) false
+is_later kind.Close v = is_some (as_whole v)
+is_later kind.Styles v = is_some (as_whole v)
 
--- ---- the lines after it
+-- it has a form at all; each page has one, and its own faults come later
+abbrev pub has_form : LineKind → Data → Bool
+has_form kind v = is_load kind || (is_some (form_by kind v) || is_later kind v)
 
--- it is a command that the agent serves
-abbrev pub is_served : {E : Type 0} → Result Command E → Bool
-is_served (Ok c) = is_some (dom_ask_in c)
-is_served (Err e) = false
+-- ---- frames that a line may not send
 
--- a command that the back end serves, with parameters that fit it
-abbrev pub is_built_ask : AskForm → Bool
-is_built_ask a = is_served (command_of false a.method a.params a.session)
+-- a zero byte
+abbrev pub is_zero : ℕ → Bool
+is_zero byte = byte == 0
 
--- a later page is not built yet
-abbrev pub is_built : LineForm → Bool
-is_built (load nodes) = false
-is_built (ask a) = is_built_ask a
-is_built (up n) = true
-is_built (down n) = true
-is_built settle = true
-is_built show_front = true
-is_built show_replies = true
+-- a number that is spelled without point and exponent
+abbrev pub is_whole_number : Data → Bool
+is_whole_number d = is_some (as_number d) && not (has_float d)
 
--- a line with a number that is not whole has none of the forms that are built
-abbrev pub later_line_fault : Data → Option LineFault
-later_line_fault d = first_true ((NotBuilt, has_float d || not (option_map_or is_built (form_of d) false)) ∷ [])
+-- an object whose `id` is a whole number
+abbrev pub has_whole_id : Data → Bool
+has_whole_id d = option_map_or is_whole_number (get (codes "id") d) false
+
+-- a text that holds U+0000, or reads as such an object
+abbrev pub is_no_frame : List ℕ → Bool
+is_no_frame text = list_any is_zero text || option_map_or has_whole_id (json_of text) false
+
+-- ---- by the kind of a line
+
+-- the page of a load
+abbrev pub page_by : LineKind → Data → Option Data
+page_by kind v = if is_load kind then Some v else None
+
+-- the text of a raw line
+abbrev pub raw_by : LineKind → Data → Option (List ℕ)
+raw_by kind.Load v = None
+raw_by kind.Act v = None
+raw_by kind.Ask v = None
+raw_by kind.Raw v = as_str v
+raw_by kind.Up v = None
+raw_by kind.Down v = None
+raw_by kind.Settle v = None
+raw_by kind.Show v = None
+raw_by kind.Close v = None
+raw_by kind.Styles v = None
+
+-- the first fault of what a line says, where all its numbers are whole
+abbrev pub fault_by : LineKind → Data → Option LineFault
+fault_by kind v =
+    first_of (first_true
+    ((BadForm, not (has_form kind v))
+    ∷ (NotBuilt, is_later kind v)
+    ∷ []))
+    (first_of (option_map BadLoad (option_and_then page_fault (page_by kind v)))
+    (first_true ((BadRaw, option_map_or is_no_frame (raw_by kind v) false) ∷ [])))
 
 -- ---- any line
 
+-- the page of a line that loads one
+abbrev pub page_of : Data → Option Data
+page_of d = option_and_then (λ s. page_by s.0 s.1) (said d)
+
+-- its first fault
+abbrev pub load_fault : Data → Option LoadFault
+load_fault d = option_and_then page_fault (page_of d)
+
+-- the line has one of the forms
+abbrev pub is_formed : Data → Bool
+is_formed d = option_map_or (λ s. has_form s.0 s.1) (said d) false
+
+-- it has a form that is not carried out yet
+abbrev pub is_unbuilt : Data → Bool
+is_unbuilt d = option_map_or (λ s. is_later s.0 s.1) (said d) false
+
+-- it sends a text that may not be sent
+abbrev pub sends_no_frame : Data → Bool
+sends_no_frame d = option_map_or is_no_frame (option_and_then (λ s. raw_by s.0 s.1) (said d)) false
+
 -- the first fault of the line of that number, by its JSON
 abbrev pub fault_of_data : ℕ → Data → Option LineFault
-fault_of_data number d = if number == 1 then first_line_fault d else later_line_fault d
+fault_of_data number d =
+    first_of (first_true
+    ((NotLoad, number == 1 && is_none (page_of d))
+    ∷ (BadForm, has_float d || not (is_formed d))
+    ∷ (NotBuilt, is_unbuilt d)
+    ∷ []))
+    (first_of (option_map BadLoad (load_fault d))
+    (first_true ((BadRaw, sends_no_frame d) ∷ [])))
 
 -- bytes that are no JSON
 abbrev pub json_fault : List ℕ → Option LineFault
-json_fault line = first_true ((NotJson, is_none (data_of line)) ∷ [])
+json_fault line = first_true ((NotJson, is_none (json_of line)) ∷ [])
 
 -- the first fault of the line of that number
 abbrev pub line_fault : ℕ → List ℕ → Option LineFault
-line_fault number line = first_of (json_fault line) (option_and_then (fault_of_data number) (data_of line))
+line_fault number line = first_of (json_fault line) (option_and_then (fault_of_data number) (json_of line))

@@ -5,7 +5,7 @@ use page_tree::LoadFault;
 use std::alloc::AllocError;
 use thiserror::Error;
 
-/// Why a line is refused, in the order in which the first one that applies is answered.
+/// Why a line is refused. The first that applies is answered, in the order NotJson, NotLoad, BadForm, NotBuilt, BadLoad, BadRaw.
 #[derive(Clone, Copy, PartialEq, Eq, Debug, Error)]
 pub enum LineFault {
     /// `serde_json` does not read the line; bytes that are not UTF-8 are no JSON.
@@ -14,13 +14,16 @@ pub enum LineFault {
     /// The first line is no object whose one property is `load`.
     #[error("NotLoad")]
     NotLoad,
-    /// The first line holds a number that is not whole.
+    /// The line holds a number that is not whole, or it has none of the forms.
     #[error("BadForm")]
     BadForm,
-    /// The page of the first line is refused; a page of another form is `BadForm` here too.
+    /// The page of a load is refused; a page of another form is `BadForm` here too.
     #[error("BadLoad {0:?}")]
     BadLoad(LoadFault),
-    /// The page has sheets, or a later line has none of the forms that are carried out so far.
+    /// A raw text holds U+0000, or reads as an object whose `id` is a whole number.
+    #[error("BadRaw")]
+    BadRaw,
+    /// The line has a form that is not carried out yet.
     #[error("NotBuilt")]
     NotBuilt,
 }
@@ -64,6 +67,7 @@ pub fn fault_name(fault: LineFault) -> &'static str
         LineFault::NotLoad => "NotLoad",
         LineFault::BadForm => "BadForm",
         LineFault::BadLoad(fault) => load_fault_name(fault),
+        LineFault::BadRaw => "BadRaw",
         LineFault::NotBuilt => "NotBuilt",
     }
 }

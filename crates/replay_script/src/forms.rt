@@ -1,21 +1,25 @@
 // What a line says.
-ghost use Rattle.std.specs.Prelude.{◌≡◌, is_some, option_map, IfOk};
+ghost use Rattle.std.specs.Prelude.{◌≡◌, option_map, IfOk};
 ghost use Rattle.serde_json.specs.View.{view};
-ghost use Rattle.replay_script.specs.Forms.{only, ask_in, ask_of, number_of, settle_in, word_of};
+ghost use Rattle.replay_script.specs.Forms.{ask_in};
 ghost use Rattle.replay_script.specs.Seen.{parts_form, seen_ask};
 
-use cdp_json::{Cursor, flag_of, whole_of};
+use cdp_json::Cursor;
 use node_tree::Text;
-use page_tree::NodeForm;
+use page_forms::{Act, PageForm};
 use serde_json::Value;
 use std::alloc::{AllocError, Global};
 
 /// A line that is carried out.
 #[derive(Drop)]
 pub enum Line {
-    /// A new page with these nodes below its document.
-    Load(Vec<NodeForm>),
+    /// A new page in place of the old one.
+    Load(PageForm),
+    /// A change that the script makes of the page.
+    Act(Act),
     Ask(Ask),
+    /// A frame that the front end sends as it is; it names no ask.
+    Raw(Text),
     /// So many bytes are delivered up, or as many as are on their way.
     Up(u64),
     /// So many bytes are delivered down, or as many as are on their way.
@@ -23,10 +27,11 @@ pub enum Line {
     /// All that was sent is delivered.
     Settle,
     ShowFront,
+    ShowPage,
     ShowReplies,
 }
 
-/// A command that the front end is to send.
+/// A command that the front end is to send, of any method and with any parameters.
 #[derive(Drop)]
 pub struct Ask {
     pub method: Text,
@@ -42,16 +47,7 @@ pub(crate) struct AskParts<'a> {
     pub session: Option<&'a Value>,
 }
 
-// The value of an object's one property, if that has this name.
-pub(crate) fn only<'a>(value: &'a Value, name: &str) -> Option<&'a Value>
-    ensures { option_map (λ v. view v.now) result ≡ only name.now (view value.now) }
-{
-    let mut fields = Cursor::new(value.as_object()?);
-    let found = fields.need(name)?;
-    if fields.is_done() { Some(found) } else { None }
-}
-
-fn ask_in(value: &Value) -> Option<AskParts<'_>>
+pub(crate) fn ask_in(value: &Value) -> Option<AskParts<'_>>
     ensures { option_map parts_form result ≡ ask_in (view value.now) }
 {
     let mut fields = Cursor::new(value.as_object()?);
@@ -67,34 +63,6 @@ fn ask_in(value: &Value) -> Option<AskParts<'_>>
     } else {
         None
     }
-}
-
-pub(crate) fn ask_of(value: &Value) -> Option<AskParts<'_>>
-    ensures { option_map parts_form result ≡ ask_of (view value.now) }
-{
-    ask_in(only(value, "ask")?)
-}
-
-// The whole number from 0 to 2^53-1 that stands under this name alone.
-pub(crate) fn number_of(value: &Value, name: &str) -> Option<u64>
-    ensures { result ≡ number_of name.now (view value.now) }
-{
-    whole_of(only(value, name)?)
-}
-
-pub(crate) fn is_settle(value: &Value) -> bool
-    ensures { result ≡ is_some (settle_in (view value.now)) }
-{
-    match only(value, "settle") {
-        Some(all) => flag_of(all) == Some(true),
-        None => false,
-    }
-}
-
-pub(crate) fn word_of(value: &Value) -> Option<&str>
-    ensures { option_map (λ s. s.now) result ≡ word_of (view value.now) }
-{
-    only(value, "show")?.as_str()
 }
 
 fn copied(value: Option<&Value>) -> Result<Option<Value>, AllocError>

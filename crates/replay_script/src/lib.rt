@@ -3,7 +3,9 @@
 
 mod faults;
 mod forms;
+mod line_kinds;
 mod lines;
+mod raw_texts;
 mod reads;
 mod script;
 #[cfg(test)]
@@ -13,4 +15,4 @@ pub use faults::{LineErr, LineFault, fault_name};
 pub use forms::{Ask, Line};
 pub use lines::{Lines, has_long_line, lines_law};
 pub use reads::read_line;
-pub use script::script_law;
+pub use script::{forms_law, script_law};

@@ -1,128 +1,207 @@
 // Reading a line: its form, or the first fault that applies.
-ghost use Rattle.std.specs.Prelude.{◌≡◌, Some, None, IfOk, option_map, if◌then◌else◌};
+ghost use Rattle.std.specs.Prelude.{◌≡◌, ◌==◌, ◌&&◌, not, Some, IfOk};
 ghost use Rattle.serde_json.specs.View.{view};
-ghost use Rattle.page_tree.specs.Loads.{first_load_fault};
-ghost use Rattle.replay_script.specs.Forms.{load, ask, data_of, page_nodes, form_of, line_form};
-ghost use Rattle.replay_script.specs.Faults.{json_fault, first_line_fault, is_built_ask, later_line_fault, line_fault};
-ghost use Rattle.replay_script.specs.Seen.{seen, parts_form, IsLoadable, AreWhole, Refuses};
+ghost use Rattle.replay_script.specs.declared.line_kinds.LineKind.TheVariants as kind;
+ghost use Rattle.replay_script.specs.Faults.{is_later_word, fault_by, fault_of_data, line_fault};
+ghost use Rattle.replay_script.specs.Forms.{form_by, form_of, line_form};
+ghost use Rattle.replay_script.specs.Kinds.{is_load};
+ghost use Rattle.replay_script.specs.Seen.{seen, Refuses};
+ghost use Rattle.replay_script.specs.Sound.{IsSound, FitsPage, AreWhole};
 
 use crate::faults::{LineErr, LineFault};
-use crate::forms::{AskParts, Line, ask_of, is_settle, number_of, only, word_of};
-use cdp_json::all_whole;
-use cdp_messages::{CommandErr, DomAsk, read_ask};
-use page_tree::{LoadErr, LoadFault, read_nodes};
+use crate::forms::{Line, ask_in};
+use crate::line_kinds::{LineKind, said};
+use crate::raw_texts::{is_no_frame, json_of};
+use cdp_json::{all_whole, flag_of, whole_of};
+use node_tree::Text;
+use page_forms::{ActErr, is_sheet_act, read_act, read_page};
+use page_tree::LoadErr;
 use serde_json::Value;
 use std::alloc::Global;
 
-fn read_json(alloc: Global, line: &[u8]) -> Result<Value, LineErr>
-    ensures fault { Refuses result (json_fault line.now) }
-    ensures value { IfOk result (λ v. data_of line.now ≡ Some (view v)) }
+fn read_load(alloc: Global, page: &Value) -> Result<Line, LineErr>
+    ensures fault { Refuses result (fault_by kind.Load (view page.now)) }
+    ensures form { IfOk result (λ line. form_by kind.Load (view page.now) ≡ Some (seen line)) }
 {
-    match Value::from_slice(alloc, line) {
-        Ok(value) => Ok(value),
-        Err(error) => if error.is_memory() {
-            Err(LineErr::Memory)
-        } else {
-            Err(LineErr::Fault(LineFault::NotJson))
-        },
+    if page.get("sheets").is_some() {
+        return Err(LineErr::Fault(LineFault::NotBuilt));
     }
-}
-
-fn read_page(alloc: Global, page: &Value) -> Result<Line, LineErr>
-    ensures fault { Refuses result (option_map LineFault.BadLoad (first_load_fault (page_nodes (view page.now)))) }
-    ensures form { IfOk result (λ line. option_map load (page_nodes (view page.now)) ≡ Some (seen line)) }
-    ensures loadable { IfOk result IsLoadable }
-    ensures whole { IfOk result AreWhole }
-{
-    let Some(list) = only(page, "document") else {
-        return Err(LineErr::Fault(LineFault::BadLoad(LoadFault::BadForm)));
-    };
-    match read_nodes(alloc, list) {
-        Ok(forms) => Ok(Line::Load(forms)),
+    match read_page(alloc, page) {
+        Ok(form) => Ok(Line::Load(form)),
         Err(LoadErr::Fault(fault)) => Err(LineErr::Fault(LineFault::BadLoad(fault))),
         Err(LoadErr::Memory) => Err(LineErr::Memory),
     }
 }
 
-fn read_first_line(alloc: Global, value: &Value) -> Result<Line, LineErr>
-    ensures fault { Refuses result (first_line_fault (view value.now)) }
-    ensures form { IfOk result (λ line. form_of (view value.now) ≡ Some (seen line)) }
-    ensures loadable { IfOk result IsLoadable }
-    ensures whole { IfOk result AreWhole }
+fn read_change(alloc: Global, value: &Value) -> Result<Line, LineErr>
+    ensures fault { Refuses result (fault_by kind.Act (view value.now)) }
+    ensures form { IfOk result (λ line. form_by kind.Act (view value.now) ≡ Some (seen line)) }
 {
-    let Some(page) = only(value, "load") else {
-        return Err(LineErr::Fault(LineFault::NotLoad));
-    };
-    if !all_whole(value) {
-        return Err(LineErr::Fault(LineFault::BadForm));
-    }
-    if page.get("sheets").is_some() {
+    if is_sheet_act(value) {
         return Err(LineErr::Fault(LineFault::NotBuilt));
     }
-    read_page(alloc, page)
-}
-
-// The ask, where its command is one that the back end serves.
-fn read_known_ask(alloc: Global, parts: &AskParts<'_>) -> Result<Line, LineErr>
-    ensures fault { Refuses result (if is_built_ask (parts_form parts.now) then None else Some LineFault.NotBuilt) }
-    ensures form { IfOk result (λ line. seen line ≡ ask (parts_form parts.now)) }
-    ensures loadable { IfOk result IsLoadable }
-{
-    match read_ask(alloc, parts.method, parts.params, parts.session) {
-        Ok(command) => match DomAsk::of_command(command) {
-            Some(_) => Ok(Line::Ask(parts.to_ask(alloc)?)),
-            None => Err(LineErr::Fault(LineFault::NotBuilt)),
-        },
-        Err(CommandErr::Refused(_)) => Err(LineErr::Fault(LineFault::NotBuilt)),
-        Err(CommandErr::Memory) => Err(LineErr::Memory),
+    match read_act(alloc, value) {
+        Ok(act) => Ok(Line::Act(act)),
+        Err(ActErr::BadForm) => Err(LineErr::Fault(LineFault::BadForm)),
+        Err(ActErr::Memory) => Err(LineErr::Memory),
     }
 }
 
-fn read_later_line(alloc: Global, line: &Value) -> Result<Line, LineErr>
-    ensures fault { Refuses result (later_line_fault (view line.now)) }
-    ensures form { IfOk result (λ read. form_of (view line.now) ≡ Some (seen read)) }
-    ensures loadable { IfOk result IsLoadable }
-    ensures whole { IfOk result AreWhole }
+fn read_ask(alloc: Global, value: &Value) -> Result<Line, LineErr>
+    ensures fault { Refuses result (fault_by kind.Ask (view value.now)) }
+    ensures form { IfOk result (λ line. form_by kind.Ask (view value.now) ≡ Some (seen line)) }
 {
-    let refused = LineErr::Fault(LineFault::NotBuilt);
-    if !all_whole(line) {
-        return Err(refused);
+    match ask_in(value) {
+        Some(parts) => Ok(Line::Ask(parts.to_ask(alloc)?)),
+        None => Err(LineErr::Fault(LineFault::BadForm)),
     }
-    if let Some(parts) = ask_of(line) {
-        return read_known_ask(alloc, &parts);
+}
+
+fn read_raw(alloc: Global, value: &Value) -> Result<Line, LineErr>
+    ensures fault { Refuses result (fault_by kind.Raw (view value.now)) }
+    ensures form { IfOk result (λ line. form_by kind.Raw (view value.now) ≡ Some (seen line)) }
+{
+    let Some(text) = value.as_str() else {
+        return Err(LineErr::Fault(LineFault::BadForm));
+    };
+    if is_no_frame(alloc, text.as_bytes())? {
+        return Err(LineErr::Fault(LineFault::BadRaw));
     }
-    if let Some(count) = number_of(line, "up") {
-        return Ok(Line::Up(count));
+    Ok(Line::Raw(Text::copied(alloc, text)?))
+}
+
+fn read_up(value: &Value) -> Result<Line, LineErr>
+    ensures fault { Refuses result (fault_by kind.Up (view value.now)) }
+    ensures form { IfOk result (λ line. form_by kind.Up (view value.now) ≡ Some (seen line)) }
+{
+    match whole_of(value) {
+        Some(count) => Ok(Line::Up(count)),
+        None => Err(LineErr::Fault(LineFault::BadForm)),
     }
-    if let Some(count) = number_of(line, "down") {
-        return Ok(Line::Down(count));
+}
+
+fn read_down(value: &Value) -> Result<Line, LineErr>
+    ensures fault { Refuses result (fault_by kind.Down (view value.now)) }
+    ensures form { IfOk result (λ line. form_by kind.Down (view value.now) ≡ Some (seen line)) }
+{
+    match whole_of(value) {
+        Some(count) => Ok(Line::Down(count)),
+        None => Err(LineErr::Fault(LineFault::BadForm)),
     }
-    if is_settle(line) {
-        return Ok(Line::Settle);
+}
+
+fn read_settle(value: &Value) -> Result<Line, LineErr>
+    ensures fault { Refuses result (fault_by kind.Settle (view value.now)) }
+    ensures form { IfOk result (λ line. form_by kind.Settle (view value.now) ≡ Some (seen line)) }
+{
+    match flag_of(value) {
+        Some(true) => Ok(Line::Settle),
+        Some(false) | None => Err(LineErr::Fault(LineFault::BadForm)),
     }
-    let Some(word) = word_of(line) else {
-        return Err(refused);
+}
+
+fn is_later_word(word: &str) -> bool
+    ensures { result ≡ is_later_word word.now }
+{
+    word == "sheets" || word == "pauses" || word == "panels"
+}
+
+fn read_show(value: &Value) -> Result<Line, LineErr>
+    ensures fault { Refuses result (fault_by kind.Show (view value.now)) }
+    ensures form { IfOk result (λ line. form_by kind.Show (view value.now) ≡ Some (seen line)) }
+{
+    let Some(word) = value.as_str() else {
+        return Err(LineErr::Fault(LineFault::BadForm));
     };
     if word == "front" {
         return Ok(Line::ShowFront);
     }
+    if word == "page" {
+        return Ok(Line::ShowPage);
+    }
     if word == "replies" {
         return Ok(Line::ShowReplies);
     }
-    Err(refused)
+    if is_later_word(word) {
+        return Err(LineErr::Fault(LineFault::NotBuilt));
+    }
+    Err(LineErr::Fault(LineFault::BadForm))
 }
 
-/// Reads the line with this number, counted from 1.
+// The fault of a line whose value is a number, and that is not carried out yet.
+fn later_fault(value: &Value) -> LineFault
+    ensures close { fault_by kind.Close (view value.now) ≡ Some result }
+    ensures styles { fault_by kind.Styles (view value.now) ≡ Some result }
+{
+    match whole_of(value) {
+        Some(_) => LineFault::NotBuilt,
+        None => LineFault::BadForm,
+    }
+}
+
+fn read_by(alloc: Global, kind: LineKind, value: &Value) -> Result<Line, LineErr>
+    ensures fault { Refuses result (fault_by kind (view value.now)) }
+    ensures form { IfOk result (λ line. form_by kind (view value.now) ≡ Some (seen line)) }
+{
+    match kind {
+        LineKind::Load => read_load(alloc, value),
+        LineKind::Act => read_change(alloc, value),
+        LineKind::Ask => read_ask(alloc, value),
+        LineKind::Raw => read_raw(alloc, value),
+        LineKind::Up => read_up(value),
+        LineKind::Down => read_down(value),
+        LineKind::Settle => read_settle(value),
+        LineKind::Show => read_show(value),
+        LineKind::Close | LineKind::Styles => Err(LineErr::Fault(later_fault(value))),
+    }
+}
+
+// The first line is to load a page.
+fn lacks_load(number: u64, kind: LineKind) -> bool
+    ensures { result ≡ (number == 1 && not (is_load kind)) }
+{
+    number == 1 && !kind.is_load()
+}
+
+fn read_value(alloc: Global, number: u64, line: &Value) -> Result<Line, LineErr>
+    ensures fault { Refuses result (fault_of_data number (view line.now)) }
+    ensures form { IfOk result (λ read. form_of (view line.now) ≡ Some (seen read)) }
+{
+    let Some((kind, value)) = said(line) else {
+        let first = number == 1;
+        return Err(LineErr::Fault(if first {
+            LineFault::NotLoad
+        } else {
+            LineFault::BadForm
+        }));
+    };
+    if lacks_load(number, kind) {
+        return Err(LineErr::Fault(LineFault::NotLoad));
+    }
+    if !all_whole(line) {
+        return Err(LineErr::Fault(LineFault::BadForm));
+    }
+    read_by(alloc, kind, value)
+}
+
+fn read_form(alloc: Global, number: u64, line: &[u8]) -> Result<Line, LineErr>
+    ensures fault { Refuses result (line_fault number line.now) }
+    ensures form { IfOk result (λ read. line_form line.now ≡ Some (seen read)) }
+{
+    match json_of(alloc, line)? {
+        Some(value) => read_value(alloc, number, &value),
+        None => Err(LineErr::Fault(LineFault::NotJson)),
+    }
+}
+
+/// Reads the line with this number, counted from 1. A form that is read may be carried out: a page takes its nodes, and what it
+/// sends is a frame.
 pub fn read_line(alloc: Global, number: u64, line: &[u8]) -> Result<Line, LineErr>
     ensures fault { Refuses result (line_fault number line.now) }
     ensures form { IfOk result (λ read. line_form line.now ≡ Some (seen read)) }
-    ensures loadable { IfOk result IsLoadable }
+    ensures sound { IfOk result (λ read. IsSound (seen read)) }
+    ensures fits { IfOk result FitsPage }
     ensures whole { IfOk result AreWhole }
 {
-    let value = read_json(alloc, line)?;
-    if number == 1 {
-        read_first_line(alloc, &value)
-    } else {
-        read_later_line(alloc, &value)
-    }
+    read_form(alloc, number, line)
 }

@@ -20,11 +20,10 @@ fn answer(alloc: Global, script: &[u8]) -> Result<String, Fail> {
 }
 
 #[test]
-fn scripts(rt: HostRuntime) -> Result<(), Fail> {
+fn first_lines(rt: HostRuntime) -> Result<(), Fail> {
     for (script, want) in [
         ("", "0 lines"),
         ("\n", "line 1: NotJson NotJson"),
-        ("{\"load\":\n", "line 1: NotJson NotJson"),
         ("[]", "line 1: NotLoad NotLoad"),
         ("{\"show\":\"front\"}", "line 1: NotLoad NotLoad"),
         (
@@ -38,55 +37,8 @@ fn scripts(rt: HostRuntime) -> Result<(), Fail> {
         ),
         ("{\"load\":[]}", "line 1: BadLoad BadForm BadLoad BadForm"),
         (
-            "{\"load\":{\"document\":[],\"x\":1}}",
-            "line 1: BadLoad BadForm BadLoad BadForm",
-        ),
-        (
             "{\"load\":{\"document\":[{\"e\":\"div\",\"a\":[\"X\",\"1\"]}]}}",
             "line 1: BadLoad BadName BadLoad BadName",
-        ),
-    ] {
-        let got = answer(rt.alloc(), script.as_bytes())?;
-        assert_eq!(rt; got.as_str(), want);
-    }
-    Ok(())
-}
-
-#[test]
-fn later_lines(rt: HostRuntime) -> Result<(), Fail> {
-    let refused = "line 2: NotBuilt NotBuilt";
-    for (line, want) in [
-        (r#"{"ask":{"method":"DOM.getDocument"}}"#, "2 lines"),
-        (
-            r#"{"ask":{"method":"DOM.getDocument","params":{"depth":0}}}"#,
-            refused,
-        ),
-        (
-            r#"{"ask":{"method":"DOM.getDocument","params":{"x":1.5}}}"#,
-            refused,
-        ),
-        (r#"{"ask":{"method":"DOM.nope"}}"#, refused),
-        (r#"{"up":9007199254740991}"#, "2 lines"),
-        (r#"{"down":9007199254740992}"#, refused),
-        (r#"{"settle":true}"#, "2 lines"),
-        (r#"{"settle":false}"#, refused),
-        (r#"{"show":"replies"}"#, "2 lines"),
-        (r#"{"show":"page"}"#, refused),
-        (r#"{"load":{"document":[]}}"#, refused),
-    ] {
-        let script = format!(in rt.alloc(); "{{\"load\":{{\"document\":[]}}}}\n{line}\n")?;
-        let got = answer(rt.alloc(), script.as_bytes())?;
-        assert_eq!(rt; got.as_str(), want, "of {line}");
-    }
-    Ok(())
-}
-
-#[test]
-fn numbers_of_lines(rt: HostRuntime) -> Result<(), Fail> {
-    for (script, want) in [
-        (
-            "{\"load\":{\"document\":[]}}\n{\"ask\":{\"method\":\"DOM.getDocument\"}}\n{\"ask\":{\"method\":\"DOM.getDocument\"}}\n",
-            "3 lines",
         ),
         (
             "{\"load\": {\"document\": []}}\n{\"show\": \"front\"}\n\n",
@@ -99,5 +51,58 @@ fn numbers_of_lines(rt: HostRuntime) -> Result<(), Fail> {
     let got = answer(rt.alloc(), b"\xff")?;
     assert_eq!(rt; got.as_str(), "line 1: NotJson NotJson");
     assert!(rt; has_long_line(b"ab\nabc", 2) && !has_long_line(b"ab\nabc\n", 3));
+    Ok(())
+}
+
+#[test]
+fn later_lines(rt: HostRuntime) -> Result<(), Fail> {
+    let good = "2 lines";
+    let form = "line 2: BadForm BadForm";
+    let later = "line 2: NotBuilt NotBuilt";
+    let raw = "line 2: BadRaw BadRaw";
+    for (line, want) in [
+        (r#"{"load":{"document":[]}}"#, good),
+        (
+            r#"{"load":{"document":[{"d":"P"}]}}"#,
+            "line 2: BadLoad BadName BadLoad BadName",
+        ),
+        (
+            r#"{"act":{"do":"setAttr","node":2,"name":"A","value":""}}"#,
+            good,
+        ),
+        (r#"{"act":{"do":"remove"}}"#, form),
+        (r#"{"act":{"do":"dropSheet","sheet":"s1"}}"#, later),
+        (r#"{"act":{"do":"dropSheet","sheet":1}}"#, form),
+        (
+            r#"{"ask":{"method":"DOM.nope","params":[],"sessionId":null}}"#,
+            good,
+        ),
+        (
+            r#"{"ask":{"method":"DOM.getDocument","params":{"x":1.5}}}"#,
+            form,
+        ),
+        (r#"{"ask":{"method":"DOM.getDocument","id":1}}"#, form),
+        (r#"{"raw":"[{\"id\":1}]"}"#, good),
+        (r#"{"raw":"{\"id\":18446744073709551616}"}"#, good),
+        (r#"{"raw":"{\"id\":-1}"}"#, raw),
+        (r#"{"raw":"\u0000"}"#, raw),
+        (r#"{"raw":1}"#, form),
+        (r#"{"up":9007199254740991}"#, good),
+        (r#"{"down":9007199254740992}"#, form),
+        (r#"{"settle":true}"#, good),
+        (r#"{"settle":false}"#, form),
+        (r#"{"show":"page"}"#, good),
+        (r#"{"show":"replies"}"#, good),
+        (r#"{"show":"panels"}"#, later),
+        (r#"{"show":"styles"}"#, form),
+        (r#"{"show":"styles","ask":1}"#, later),
+        (r#"{"close":1}"#, later),
+        (r#"{"close":-1}"#, form),
+        ("{}", form),
+    ] {
+        let script = format!(in rt.alloc(); "{{\"load\":{{\"document\":[]}}}}\n{line}\n")?;
+        let got = answer(rt.alloc(), script.as_bytes())?;
+        assert_eq!(rt; got.as_str(), want, "of {line}");
+    }
     Ok(())
 }

@@ -1,7 +1,7 @@
 use Rattle.cdp_messages.proofs.Commands.{asks_are_asked, commands_are_asked, asks_fit, parameters_are_read, parameters_are_plain, commands_are_named}
 use Rattle.cdp_messages.proofs.DomAskLaws.{dom_asks_are_commands}
 use Rattle.cdp_messages.proofs.Depths.{replies_are_shallow, events_are_shallow}
-use Rattle.cdp_messages.proofs.Messages.{replies_are_read, events_are_read, refusals_are_read, results_are_read, messages_are_spelled, results_are_spelled, one_message, one_result}
+use Rattle.cdp_messages.proofs.Messages.{replies_are_read, events_are_read, refusals_are_read, messages_are_read, faults_are_read, objects_are_empty, results_are_read, messages_are_spelled, results_are_spelled, one_message, one_result}
 use Rattle.cdp_messages.proofs.TellableLaws.{shown_trees_fit, shown_children_fit}
 use Rattle.cdp_messages.proofs.TextsUtf8.{replies_are_utf8, events_are_utf8}
 use Rattle.cdp_messages.proofs.ZeroFree.{texts_have_no_zero}
@@ -22,7 +22,10 @@ returns c = record {
   events_shallow = events_are_shallow;
   events_utf8 = events_are_utf8;
   refusals = refusals_are_read;
+  messages = messages_are_read;
+  faults = faults_are_read;
   results = results_are_read;
+  empty_results = objects_are_empty;
   messages_spelled = messages_are_spelled;
   results_spelled = results_are_spelled;
   one_message = one_message;

@@ -1,7 +1,7 @@
 use Rattle.dom_agent.proofs.ShowsLemmas.{request_tells}
 use Rattle.dom_agent.proofs.OutcomeLemmas.{stays_session, draws_few}
-use Rattle.dom_agent.proofs.KeeperLemmas.{stays_bound, same_answer}
-use Rattle.dom_agent.proofs.MoveLemmas.{steps_are_moves, replies_fit}
+use Rattle.dom_agent.proofs.KeeperLemmas.{stays_bound, same_moves}
+use Rattle.dom_agent.proofs.MoveLemmas.{steps_are_moves, replies_answer}
 use Rattle.dom_agent.proofs.SetsLemmas.{document_opens, request_opens, request_pushes, path_opens, serials_open}
 use Rattle.dom_agent.proofs.laws.serve_law.Goals as goal
 
@@ -9,7 +9,7 @@ pub returns : goal.returns
 returns c = record {
   session = stays_session;
   stands = stays_bound;
-  answer = same_answer;
+  same = same_moves;
   few = draws_few;
   moves = steps_are_moves;
   document_opens = document_opens;
@@ -18,5 +18,5 @@ returns c = record {
   request_tells = request_tells;
   path_opens = path_opens;
   serials_open = serials_open;
-  replies = replies_fit;
+  replies = replies_answer;
 }

@@ -1,5 +1,6 @@
 -- Each line is carried out in its turn.
-use Rattle.std.proofs.Common.{◌≡◌, suc, refl, ◌∷◌, ◌∙◌, ap, arith, length, Ok, Err}
+use Rattle.pipe_frames.proofs.WholeLemmas.{Appends-nil}
+use Rattle.std.proofs.Common.{◌≡◌, suc, refl, [], ◌∷◌, ◌∙◌, ap, arith, length, Ok, Err}
 use Rattle.replay_script.specs.Script.{first_bad, good_lines}
 use Rattle.replay_script.specs.Seen.{seen}
 use Rattle.inspect_world.specs.Scripts.{lines_text, after_lines}
@@ -9,16 +10,29 @@ use Rattle.inspect_replay.proofs.RunLemmas.{run_turn, read-stops, lines-done, pa
 use Rattle.inspect_replay.proofs.FollowLemmas.{run-good, kept-run, more-printed, read-folds}
 use Rattle.inspect_replay.proofs.run.run_lines.Goals as goal
 
+pub loop-text-init : goal.loop-text-init
+loop-text-init g c = (
+  refl,
+  omega arith,
+  omega arith,
+  (λ h. h),
+  omega arith,
+  omega arith,
+  λ up0 down0 w few run. record { world = w; in_run = run; few = few; so_far = []; wrote = Appends-nil (g.K.Sink.taken c.args.out.now); text = refl; worlds = refl },
+  λ state0 up0 down0 run. run,
+  record { written = []; printed = Appends-nil (g.K.Sink.taken c.args.out.now) },
+)
+
 pub returns-in-Err-clause-runs : goal.returns-in-Err-clause-runs
 returns-in-Err-clause-runs g c = λ up0 down0 w few run. (
   tt,
   read-stops c.in-Err.stop (g.L.Link.honest c.loop-text.link) up0 down0 (g.L.Link.up c.loop-text.link) (g.L.Link.down c.loop-text.link) (g.K.Sink.taken c.args.out.now) (g.K.Sink.taken c.loop-text.out)
-      (lines_text (good_lines 2 c.args.lines) w) (after_lines (good_lines 2 c.args.lines) w) c.loop-text.number c.in-Some.text.now c.next_line.new.lines c.loop-text.ends
+      (lines_text 2 (good_lines 2 c.args.lines) w) (after_lines (good_lines 2 c.args.lines) w) c.loop-text.number c.in-Some.text.now c.next_line.new.lines c.loop-text.ends
       (with_lines _ up0 down0 _ _ _ _ _ _ c.loop-text.number c.loop-text.lines (c.in-Some.text.now ∷ c.next_line.new.lines) c.loop-text.ends c.in-Some.ensures.some (c.loop-text.invariant.6 up0 down0 w few run)) c.in-Err.ensures.bad,
 )
 
-pub carry_out-carried-requires-clause-later : goal.carry_out-carried-requires-clause-later
-carry_out-carried-requires-clause-later g c = later_line c.loop-text.number c.in-Some.text.now (seen c.in-Ok.line) c.loop-text.invariant.1 c.in-Ok.ensures.good c.in-Ok.ensures.form
+pub carry_out-carried-requires : goal.carry_out-carried-requires
+carry_out-carried-requires g c = later_line c.loop-text.number c.in-Some.text.now (seen c.in-Ok.line) c.in-Ok.ensures.good c.in-Ok.ensures.form
 
 pub returns-in-Err-carried-clause-runs : goal.returns-in-Err-carried-clause-runs
 returns-in-Err-carried-clause-runs g c = λ up0 down0 w few run.
@@ -27,7 +41,7 @@ returns-in-Err-carried-clause-runs g c = λ up0 down0 w few run.
     let all = run_turn (Err c.in-Err-carried.stop) no_counts (g.L.Link.honest c.loop-text.link) (g.L.Link.honest c.carry_out-carried.new.link) up0 down0
     (g.L.Link.up c.loop-text.link) (g.L.Link.down c.loop-text.link) (g.L.Link.up c.carry_out-carried.new.link) (g.L.Link.down c.carry_out-carried.new.link)
     (g.K.Sink.taken c.args.out.now) (g.K.Sink.taken c.loop-text.out) (g.K.Sink.taken c.carry_out-carried.new.out)
-    (lines_text (good_lines 2 c.args.lines) w) (after_lines (good_lines 2 c.args.lines) w) c.loop-text.number
+    (lines_text 2 (good_lines 2 c.args.lines) w) (after_lines (good_lines 2 c.args.lines) w) c.loop-text.number
     c.in-Some.text.now more form c.loop-text.ends c.carry_out-carried.new.ends
     (with_lines _ up0 down0 _ _ _ _ _ _ c.loop-text.number c.loop-text.lines (c.in-Some.text.now ∷ more) c.loop-text.ends c.in-Some.ensures.some (c.loop-text.invariant.6 up0 down0 w few run))
     c.in-Ok.ensures.good c.in-Ok.ensures.form (c.in-Err-carried.ensures {u = tt}).runs in
@@ -50,7 +64,7 @@ loop-text-preserved g c =
           (run_turn (Ok c.in-Ok-carried.field-0) no_counts (g.L.Link.honest c.loop-text.link) (g.L.Link.honest c.carry_out-carried.new.link) up0 down0
           (g.L.Link.up c.loop-text.link) (g.L.Link.down c.loop-text.link) (g.L.Link.up c.carry_out-carried.new.link) (g.L.Link.down c.carry_out-carried.new.link)
           (g.K.Sink.taken c.args.out.now) (g.K.Sink.taken c.loop-text.out) (g.K.Sink.taken c.carry_out-carried.new.out)
-          (lines_text (good_lines 2 c.args.lines) w) (after_lines (good_lines 2 c.args.lines) w) c.loop-text.number
+          (lines_text 2 (good_lines 2 c.args.lines) w) (after_lines (good_lines 2 c.args.lines) w) c.loop-text.number
           c.in-Some.text.now more form c.loop-text.ends c.carry_out-carried.new.ends
           (with_lines _ up0 down0 _ _ _ _ _ _ c.loop-text.number c.loop-text.lines (c.in-Some.text.now ∷ more) c.loop-text.ends c.in-Some.ensures.some (c.loop-text.invariant.6 up0 down0 w few run))
           c.in-Ok.ensures.good c.in-Ok.ensures.form carried.runs).1,
@@ -62,7 +76,7 @@ pub returns-clause-runs : goal.returns-clause-runs
 returns-clause-runs g c = λ up0 down0 w few run.
     lines-done (g.L.Link.honest c.loop-text.link) up0 down0 (g.L.Link.up c.loop-text.link) (g.L.Link.down c.loop-text.link)
     (g.K.Sink.taken c.args.out.now) (g.K.Sink.taken c.loop-text.out)
-    (lines_text (good_lines 2 c.args.lines) w) (after_lines (good_lines 2 c.args.lines) w) c.loop-text.number c.loop-text.lines c.loop-text.ends
+    (lines_text 2 (good_lines 2 c.args.lines) w) (after_lines (good_lines 2 c.args.lines) w) c.loop-text.number c.loop-text.lines c.loop-text.ends
     (c.loop-text.invariant.6 up0 down0 w few run) ((c.in_default.ensures {u = tt}).none refl)
 
 pub returns-in-Err-clause-follows : goal.returns-in-Err-clause-follows
@@ -78,4 +92,4 @@ returns-in-Err-carried-clause-follows g c = λ state0 up0 down0 run.
 
 pub returns-clause-follows : goal.returns-clause-follows
 returns-clause-follows g c = λ state0 up0 down0 run.
-    kept-run (Ok tt) state0 up0 down0 (g.L.Link.up c.loop-text.link) (g.L.Link.down c.loop-text.link) c.loop-text.ends tt (c.loop-text.invariant.7 state0 up0 down0 run)
+    kept-run {T = Unit {0}} (Ok tt) state0 up0 down0 (g.L.Link.up c.loop-text.link) (g.L.Link.down c.loop-text.link) c.loop-text.ends tt (c.loop-text.invariant.7 state0 up0 down0 run)

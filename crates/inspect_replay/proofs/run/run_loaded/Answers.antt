@@ -1,6 +1,7 @@
 -- A script whose first line loads a page is carried out.
-use Rattle.std.proofs.Common.{◌≤◌, ◌+◌, ◌^◌, ◌∙◌, arith, length}
-use Rattle.node_tree.specs.Nodes.{nodes_of}
+use Rattle.std.proofs.Common.{◌∙◌, length}
+use Rattle.page_forms.specs.Pages.{loaded_nodes}
+use Rattle.inspect_world.proofs.Scripts.{left-first}
 use Rattle.replay_script.specs.Script.{first_bad, good_lines}
 use Rattle.inspect_world.specs.Scripts.{loaded_world, after_lines}
 use Rattle.inspect_replay.proofs.RunLemmas.{begins, closed-took, stopped-took}
@@ -10,12 +11,12 @@ use Rattle.inspect_replay.proofs.run.run_loaded.Goals as goal
 
 pub returns-in-Ok-clause-took : goal.returns-in-Ok-clause-took
 returns-in-Ok-clause-took g c = λ honest up_level down_level.
-    let nodes = nodes_of c.args.nodes.items in
+    let nodes = loaded_nodes c.args.form in
     let w = loaded_world nodes in
     let first = c.in_ok-ends.ensures in
     let run = begins (g.L.Link.honest c.args.link.now) (g.L.Link.up c.args.link.now) (g.L.Link.down c.args.link.now) nodes c.in_ok-ends.ends honest c.requires.can c.requires.texts up_level down_level
     (first.page ∙ c.in_ok-page.ensures) first.off first.agent first.splitter first.front first.up first.down first.told in
-    let few : 0 + length c.args.lines ≤ 2 ^ 26 = omega (arith, c.requires.few) in
+    let few = left-first nodes (length c.args.lines) c.requires.few in
     let ran = (c.in-Ok.ensures {u = c.in-Ok.field-0}).runs (g.L.Link.up c.args.link.now) (g.L.Link.down c.args.link.now) w few run in
     let closes = c.close.ensures.runs (g.L.Link.up c.args.link.now) (g.L.Link.down c.args.link.now) (after_lines (good_lines 2 c.args.lines) w) ran.0 in
     closed-took c.close.result _ _ _ _ (g.K.Sink.taken c.args.out.now) (g.K.Sink.taken c.run_lines.new.out) (g.K.Sink.taken c.close.new.out)
@@ -23,12 +24,12 @@ returns-in-Ok-clause-took g c = λ honest up_level down_level.
 
 pub returns-clause-took : goal.returns-clause-took
 returns-clause-took g c = λ honest up_level down_level.
-    let nodes = nodes_of c.args.nodes.items in
+    let nodes = loaded_nodes c.args.form in
     let w = loaded_world nodes in
     let first = c.in_ok-ends.ensures in
     let run = begins (g.L.Link.honest c.args.link.now) (g.L.Link.up c.args.link.now) (g.L.Link.down c.args.link.now) nodes c.in_ok-ends.ends honest c.requires.can c.requires.texts up_level down_level
     (first.page ∙ c.in_ok-page.ensures) first.off first.agent first.splitter first.front first.up first.down first.told in
-    let few : 0 + length c.args.lines ≤ 2 ^ 26 = omega (arith, c.requires.few) in
+    let few = left-first nodes (length c.args.lines) c.requires.few in
     let ran = (c.in-Err.ensures {u = tt}).runs (g.L.Link.up c.args.link.now) (g.L.Link.down c.args.link.now) w few run in
     stopped-took c.in-Err.stop (g.K.Sink.taken c.args.out.now) (g.K.Sink.taken c.run_lines.new.out)
     (first_bad 2 c.args.lines) (good_lines 2 c.args.lines) w (c.in-Err.ensures {u = tt}).tells ran.1
@@ -37,7 +38,7 @@ pub returns-in-Ok-clause-refused : goal.returns-in-Ok-clause-refused
 returns-in-Ok-clause-refused g c =
     let up = g.L.Link.up c.args.link.now in
     let down = g.L.Link.down c.args.link.now in
-    let nodes = nodes_of c.args.nodes.items in
+    let nodes = loaded_nodes c.args.form in
     let first = c.in_ok-ends.ensures in
     let start = run-first up down nodes c.in_ok-ends.ends c.requires.can c.requires.texts
     (first.page ∙ c.in_ok-page.ensures) first.off first.agent first.splitter first.front first.up first.down first.told in
@@ -49,7 +50,7 @@ pub returns-in-Ok-clause-closes : goal.returns-in-Ok-clause-closes
 returns-in-Ok-clause-closes g c =
     let up = g.L.Link.up c.args.link.now in
     let down = g.L.Link.down c.args.link.now in
-    let nodes = nodes_of c.args.nodes.items in
+    let nodes = loaded_nodes c.args.form in
     let first = c.in_ok-ends.ensures in
     let start = run-first up down nodes c.in_ok-ends.ends c.requires.can c.requires.texts
     (first.page ∙ c.in_ok-page.ensures) first.off first.agent first.splitter first.front first.up first.down first.told in
@@ -62,7 +63,7 @@ pub returns-in-Ok-clause-replies : goal.returns-in-Ok-clause-replies
 returns-in-Ok-clause-replies g c =
     let up = g.L.Link.up c.args.link.now in
     let down = g.L.Link.down c.args.link.now in
-    let nodes = nodes_of c.args.nodes.items in
+    let nodes = loaded_nodes c.args.form in
     let first = c.in_ok-ends.ensures in
     let start = run-first up down nodes c.in_ok-ends.ends c.requires.can c.requires.texts
     (first.page ∙ c.in_ok-page.ensures) first.off first.agent first.splitter first.front first.up first.down first.told in
@@ -75,7 +76,7 @@ pub returns-in-Ok-clause-less : goal.returns-in-Ok-clause-less
 returns-in-Ok-clause-less g c =
     let up = g.L.Link.up c.args.link.now in
     let down = g.L.Link.down c.args.link.now in
-    let nodes = nodes_of c.args.nodes.items in
+    let nodes = loaded_nodes c.args.form in
     let first = c.in_ok-ends.ensures in
     let start = run-first up down nodes c.in_ok-ends.ends c.requires.can c.requires.texts
     (first.page ∙ c.in_ok-page.ensures) first.off first.agent first.splitter first.front first.up first.down first.told in
@@ -88,7 +89,7 @@ pub returns-clause-refused : goal.returns-clause-refused
 returns-clause-refused g c =
     let up = g.L.Link.up c.args.link.now in
     let down = g.L.Link.down c.args.link.now in
-    let nodes = nodes_of c.args.nodes.items in
+    let nodes = loaded_nodes c.args.form in
     let first = c.in_ok-ends.ensures in
     let start = run-first up down nodes c.in_ok-ends.ends c.requires.can c.requires.texts
     (first.page ∙ c.in_ok-page.ensures) first.off first.agent first.splitter first.front first.up first.down first.told in

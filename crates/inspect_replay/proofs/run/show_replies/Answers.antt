@@ -1,17 +1,18 @@
 -- The replies that came since they were told last are printed, and count as told.
 use Rattle.std.proofs.Common.{length, Ok, Err}
 use Rattle.replay_script.specs.Forms.{show_replies}
+use Rattle.inspect_replay.specs.Prints.{line_of}
 use Rattle.inspect_replay.proofs.RunLemmas.{Untold, show-stops, replies-carried, replies-stop}
 use Rattle.inspect_replay.proofs.FollowLemmas.{kept-run, told-run, some-printed}
 use Rattle.inspect_replay.proofs.run.show_replies.Goals as goal
 
 pub returns-in-Err-clause-runs : goal.returns-in-Err-clause-runs
-returns-in-Err-clause-runs g c =
-    show-stops c.in-Err.stop (g.L.Link.honest c.args.link.now) (g.L.Link.honest c.settle.new.link) (g.L.Link.up c.args.link.now) (g.L.Link.down c.args.link.now) (g.L.Link.up c.settle.new.link) (g.L.Link.down c.settle.new.link) (g.K.Sink.taken c.args.out.now) c.args.ends.now c.settle.new.self show_replies
+returns-in-Err-clause-runs g c = λ number.
+    show-stops c.in-Err.stop (g.L.Link.honest c.args.link.now) (g.L.Link.honest c.settle.new.link) (g.L.Link.up c.args.link.now) (g.L.Link.down c.args.link.now) (g.L.Link.up c.settle.new.link) (g.L.Link.down c.settle.new.link) (g.K.Sink.taken c.args.out.now) c.args.ends.now c.settle.new.self (line_of number show_replies)
     (λ up0 down0 w run. (c.in-Err.ensures.steps up0 down0 w run).0)
 
 pub returns-in-Ok-print_replies-clause-runs : goal.returns-in-Ok-print_replies-clause-runs
-returns-in-Ok-print_replies-clause-runs g c =
+returns-in-Ok-print_replies-clause-runs g c = λ number.
     let untold : Untold c.settle.new.self c.split_at.result.1.now = record {
       all = c.replies-replies.result.now;
       all_is = c.replies-replies.ensures;
@@ -19,12 +20,12 @@ returns-in-Ok-print_replies-clause-runs g c =
       count_is = c.min-told.ensures;
       kept_is = c.split_at.ensures.back;
     } in
-    replies-carried (g.L.Link.honest c.args.link.now) (g.L.Link.honest c.settle.new.link) (g.L.Link.up c.args.link.now) (g.L.Link.down c.args.link.now) (g.L.Link.up c.settle.new.link) (g.L.Link.down c.settle.new.link)
+    replies-carried number (g.L.Link.honest c.args.link.now) (g.L.Link.honest c.settle.new.link) (g.L.Link.up c.args.link.now) (g.L.Link.down c.args.link.now) (g.L.Link.up c.settle.new.link) (g.L.Link.down c.settle.new.link)
     (g.K.Sink.taken c.args.out.now) (g.K.Sink.taken c.print_replies.new.out) c.args.ends.now c.settle.new.self c.tell_all.new.self c.split_at.result.1.now
     (λ up0 down0 w run. (c.in-Ok.ensures.steps up0 down0 w run).1) untold c.in-Ok-print_replies.ensures.ok c.tell_all.ensures
 
 pub returns-in-Err-print_replies-clause-runs : goal.returns-in-Err-print_replies-clause-runs
-returns-in-Err-print_replies-clause-runs g c =
+returns-in-Err-print_replies-clause-runs g c = λ number.
     let untold : Untold c.settle.new.self c.split_at.result.1.now = record {
       all = c.replies-replies.result.now;
       all_is = c.replies-replies.ensures;
@@ -32,7 +33,7 @@ returns-in-Err-print_replies-clause-runs g c =
       count_is = c.min-told.ensures;
       kept_is = c.split_at.ensures.back;
     } in
-    replies-stop c.in-Err-print_replies.stop (g.L.Link.honest c.args.link.now) (g.L.Link.honest c.settle.new.link) (g.L.Link.up c.args.link.now) (g.L.Link.down c.args.link.now) (g.L.Link.up c.settle.new.link) (g.L.Link.down c.settle.new.link)
+    replies-stop number c.in-Err-print_replies.stop (g.L.Link.honest c.args.link.now) (g.L.Link.honest c.settle.new.link) (g.L.Link.up c.args.link.now) (g.L.Link.down c.args.link.now) (g.L.Link.up c.settle.new.link) (g.L.Link.down c.settle.new.link)
     (g.K.Sink.taken c.args.out.now) (g.K.Sink.taken c.print_replies.new.out) c.args.ends.now c.settle.new.self c.settle.new.self c.split_at.result.1.now
     (λ up0 down0 w run. (c.in-Ok.ensures.steps up0 down0 w run).1) untold c.in-Err-print_replies.ensures.never c.in-Err-print_replies.ensures.err
 
@@ -46,4 +47,4 @@ returns-in-Ok-print_replies-clause-some g c = some-printed (Ok c.in-Ok-print_rep
 
 pub returns-in-Err-print_replies-clause-follows : goal.returns-in-Err-print_replies-clause-follows
 returns-in-Err-print_replies-clause-follows g c = λ state0 up0 down0 run.
-    kept-run (Err c.in-Err-print_replies.stop) state0 up0 down0 _ _ c.settle.new.self c.in-Err-print_replies.ensures.never (c.in-Ok.ensures.follows state0 up0 down0 run).0
+    kept-run {T = Unit {0}} (Err c.in-Err-print_replies.stop) state0 up0 down0 _ _ c.settle.new.self c.in-Err-print_replies.ensures.never (c.in-Ok.ensures.follows state0 up0 down0 run).0

@@ -1,6 +1,13 @@
 use Rattle.inspect_world.proofs.Inputs.{inputs-fit}
-use Rattle.inspect_world.proofs.Scripts.{lines-fit, bare-frames-fit, deliveries-fit, settled-shows}
+use Rattle.inspect_world.proofs.Scripts.{lines-fit, bare-frames-fit, turns-fit, deliveries-fit, settled-shows}
 use Rattle.inspect_world.proofs.laws.fits_law.Goals as goal
 
 pub returns : goal.returns
-returns c = record { lines = lines-fit; inputs = inputs-fit; bare_frames = bare-frames-fit; deliveries = deliveries-fit; settled = settled-shows }
+returns c = record {
+  lines = lines-fit;
+  inputs = inputs-fit;
+  bare_frames = bare-frames-fit;
+  turns = turns-fit;
+  deliveries = deliveries-fit;
+  settled = settled-shows;
+}

@@ -45,5 +45,5 @@ returns-clause-sent c =
     (c.in-Some.ensures ∙ ap (λ m. known_node (binding_keeper (alone page.tree)) page.tree m s) (sym c.self.view_is))
     c.levels_asked-levels.ensures
     (ap (map opening_of) c.deref.ensures.value ∙ c.in_ok-request_node.ensures ∙ ap (λ l. map opening_of l ++ requested (opened_in c.self.inside.binding) c.levels_asked-levels.result (alone c.in-Some.found)) c.new-openings.ensures.items)
-    c.args.id c.args.out.now.items _ _ (c.in_ok-open_all.ensures.sent (alone page.tree) page.tree) c.in_ok-write_reply.ensures.ok
+    c.args.id c.args.out.now.items _ _ (c.in_ok-open_all.ensures.sent (alone page.tree) page.tree) c.in_ok-reply.ensures
     ∙ ap (λ m. c.args.out.now.items ++ answer c.args.id (of_children (binding_keeper (alone page.tree)) page.tree c.args.depth (known_node (binding_keeper (alone page.tree)) page.tree m s) m)) c.self.view_is

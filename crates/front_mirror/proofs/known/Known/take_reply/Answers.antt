@@ -1,6 +1,6 @@
 use Rattle.serde_json.specs.View.{view}
-use Rattle.front_mirror.proofs.MessageLemmas.{result_fits}
+use Rattle.front_mirror.proofs.MessageLemmas.{effect_fits}
 use Rattle.front_mirror.proofs.known.Known.take_reply.Goals as goal
 
-pub take_body-requires : goal.take_body-requires
-take_body-requires c = result_fits c.in-Some.method.now (view c.args.value.now) _ c.in-Ok.ensures
+pub take_effect-requires : goal.take_effect-requires
+take_effect-requires c = effect_fits c.in-Some.method.now (view c.args.value.now) _ _ c.in-Ok.ensures c.of_reply-effect.ensures

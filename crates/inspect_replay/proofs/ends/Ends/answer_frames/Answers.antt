@@ -2,7 +2,7 @@
 use Rattle.std.proofs.Common.{◌∷◌, arith, refl, sym, ap, ◌∙◌, Err, Ok}
 use Rattle.pipe_frames.specs.Frames.{Frames}
 use Rattle.inspect_world.specs.World.{answered}
-use Rattle.back_end.specs.States.{step}
+use Rattle.back_end.specs.Steps.{step}
 use Rattle.inspect_replay.proofs.EndLemmas.{answer_turn}
 use Rattle.inspect_replay.proofs.FollowLemmas.{follow_turn, follow_end}
 use Rattle.inspect_replay.proofs.ends.Ends.answer_frames.Goals as goal

@@ -2,7 +2,8 @@
 use Rattle.std.proofs.Common.{◌≤◌, length}
 use Rattle.pipe_frames.specs.Pipe.{Pipe}
 use Rattle.inspect_world.specs.World.{World, answered}
-use Rattle.back_end.specs.States.{State, step}
+use Rattle.back_end.specs.States.{State}
+use Rattle.back_end.specs.Steps.{step}
 use Rattle.inspect_replay.specs.Followed.{FollowsWith}
 use Rattle.inspect_replay.specs.Runs.{InRunWith}
 use Rattle.inspect_replay.proofs.EndLemmas.{Answering}

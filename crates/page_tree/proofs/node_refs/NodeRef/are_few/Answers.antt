@@ -1,20 +1,12 @@
 -- No more than the nodes of the page.
-use Rattle.std.proofs.Common.{length, ap, arith}
-use Rattle.node_tree.proofs.NodeLemmas.{node_count-map_rows}
-use Rattle.page_tree.specs.Pages.{row_label}
-use Rattle.page_tree.specs.Zippers.{Zipper, earlier, later, zipper_at}
-use Rattle.page_tree.proofs.SiblingLemmas.{few-siblings, of-cursor}
+use Rattle.std.proofs.Common.{length, ◌<◌, subst}
+use Rattle.page_tree.specs.Forms.{max_nodes}
+use Rattle.page_tree.specs.Zippers.{Zipper, earlier, later}
+use Rattle.page_tree.proofs.SeatLemmas.{seat-few}
 use Rattle.page_tree.proofs.node_refs.NodeRef.are_few.Goals as goal
 
-pub returns : goal.returns
-returns c =
-    let tree = c.self.inside.page.now.tree in
-    let b = c.self.inside.node.now in
-    let few = few-siblings tree (zipper_at b.row.serial tree) (of-cursor tree c.self.inside.siblings.now c.self.inside.index b c.self.invariant) in
-    let room = c.valid.ensures.nodes.room in
-    let before = ap (λ (z : Zipper). length (earlier z)) c.self.view_is in
-    let after = ap (λ (z : Zipper). length (later z)) c.self.view_is in
-    record {
-      earlier = omega (arith, few, room, before, after, node_count-map_rows row_label tree.children);
-      later = omega (arith, few, room, before, after, node_count-map_rows row_label tree.children);
-    }
+pub returns-clause-earlier : goal.returns-clause-earlier
+returns-clause-earlier c = subst (λ (z : Zipper). length (earlier z) < max_nodes) c.self.view_is (seat-few c.self.inside.arena.now c.self.inside.root c.self.inside.slot.now c.self.inside.place c.self.invariant).0
+
+pub returns-clause-later : goal.returns-clause-later
+returns-clause-later c = subst (λ (z : Zipper). length (later z) < max_nodes) c.self.view_is (seat-few c.self.inside.arena.now c.self.inside.root c.self.inside.slot.now c.self.inside.place c.self.invariant).1

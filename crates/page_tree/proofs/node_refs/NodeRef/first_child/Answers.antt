@@ -1,18 +1,17 @@
--- The first of the children.
-use Rattle.std.proofs.Common.{List, length, sym, ap, ◌∙◌}
-use Rattle.node_tree.specs.Nodes.{Branch, nodes_of}
-use Rattle.page_tree.specs.Pages.{Row}
+-- The slot of the first key.
+use Rattle.std.proofs.Common.{ap, sym, ◌∙◌}
+use Rattle.std.specs.Option.{option_copied}
 use Rattle.page_tree.specs.Zippers.{Zipper, first_child_of}
-use Rattle.page_tree.proofs.SiblingLemmas.{arrives-first_child, some_there}
+use Rattle.page_tree.proofs.SeatLemmas.{down-none, down-lands}
 use Rattle.page_tree.proofs.node_refs.NodeRef.first_child.Goals as goal
 
 pub invariant_of-result : goal.invariant_of-result
-invariant_of-result c =
-    let children = sym (ap (λ (b : Branch Row). b.children) c.node.view_is) ∙ ap (λ (l : List (Branch Row)). nodes_of l) (sym c.as_slice-siblings.ensures.value) in
-    (arrives-first_child c.self.inside.page.now.tree c.valid.ensures.distinct c.self.inside.siblings.now c.self.inside.index c.self.inside.node.now c.self.invariant c.as_slice-siblings.result.now c.index-siblings-0.result children (some_there (length c.as_slice-siblings.result.now) (c.if-is_empty.ensures {u = tt})) c.index-siblings-0.is).cursor
+invariant_of-result c = (down-lands c.self.inside.arena.now c.self.inside.root c.self.inside.slot.now c.self.inside.place c.self.invariant c.in-Some.slot.now (sym c.first_child.ensures ∙ ap (λ o. option_copied o) c.in-Some.is)).seated
 
-pub returns : goal.returns
-returns c =
-    let children = sym (ap (λ (b : Branch Row). b.children) c.node.view_is) ∙ ap (λ (l : List (Branch Row)). nodes_of l) (sym c.as_slice-siblings.ensures.value) in
-    (arrives-first_child c.self.inside.page.now.tree c.valid.ensures.distinct c.self.inside.siblings.now c.self.inside.index c.self.inside.node.now c.self.invariant c.as_slice-siblings.result.now c.index-siblings-0.result children (some_there (length c.as_slice-siblings.result.now) (c.if-is_empty.ensures {u = tt})) c.index-siblings-0.is).seen
+pub returns-in-Some : goal.returns-in-Some
+returns-in-Some c =
+    (down-lands c.self.inside.arena.now c.self.inside.root c.self.inside.slot.now c.self.inside.place c.self.invariant c.in-Some.slot.now (sym c.first_child.ensures ∙ ap (λ o. option_copied o) c.in-Some.is)).seen
     ∙ ap (λ (z : Zipper). first_child_of z) c.self.view_is
+
+pub returns-in-None : goal.returns-in-None
+returns-in-None c = down-none c.self.inside.arena.now c.self.inside.root c.self.inside.slot.now c.self.inside.place c.self.invariant (sym c.first_child.ensures ∙ ap (λ o. option_copied o) c.in-None.is) ∙ ap (λ (z : Zipper). first_child_of z) c.self.view_is

@@ -1,20 +1,28 @@
--- The child at a place of the list is the tree at that place.
-use Rattle.std.proofs.Common.{◌<◌, ◌∙◌, length, Some, sym, ap, arith}
-use Rattle.node_tree.specs.Nodes.{width, tree_at, Branch}
-use Rattle.page_tree.specs.Pages.{Row}
-use Rattle.std.specs.Option.{option_map}
-use Rattle.node_tree.proofs.NodeLemmas.{width-nodes_of, tree_at-nodes_of}
+-- The slot of the child.
+use Rattle.std.proofs.Common.{◌≡◌, Some, ap, sym, ◌∙◌, arith}
+use Rattle.std.specs.Option.{option_copied}
+use Rattle.page_tree.specs.Pages.{State}
+use Rattle.page_tree.specs.declared.slots.Slot.{Slot}
+use Rattle.page_tree.proofs.PlaceLemmas.{reads-there, reads-node, reads-child}
 use Rattle.page_tree.proofs.pages.Page.child_at.Goals as goal
 
-pub index-child-requires : goal.index-child-requires
-index-child-requires c =
-    let e = ap (λ (b : Branch Row). width b.children) (c.behind-self.view_is ∙ c.at.ensures) in
-    omega (arith, e, c.behind-self.inside.children.ok.0, width-nodes_of c.behind-self.inside.children.items, c.requires.in_range)
+pub unreachable-requires : goal.unreachable-requires
+unreachable-requires c = reads-there c.self.inside.arena c.self.inside.root c.self.inside.next c.self.invariant c.args.self.now.tree (ap (λ (p : State). p.tree) c.self.view_is) c.args.serial c.requires.live (sym c.find.ensures ∙ ap (λ o. option_copied o) c.in_default.is)
+
+pub at-requires : goal.at-requires
+at-requires c =
+    let node = reads-node c.self.inside.arena c.self.inside.root c.self.inside.next c.self.invariant c.args.self.now.tree (ap (λ (p : State). p.tree) c.self.view_is) c.args.serial c.in-Some.slot.now (sym c.find.ensures ∙ ap (λ o. option_copied o) c.in-Some.is) in
+    omega (arith, node.1, c.requires.in_range)
+
+pub unreachable-requires-in-None : goal.unreachable-requires-in-None
+unreachable-requires-in-None c =
+    let (child, at, serial_is) = reads-child c.self.inside.arena c.self.inside.root c.self.inside.next c.self.invariant c.args.self.now.tree (ap (λ (p : State). p.tree) c.self.view_is) c.args.serial c.in-Some.slot.now c.args.i c.at.result (sym c.find.ensures ∙ ap (λ o. option_copied o) c.in-Some.is) c.at.ensures in
+    let clash = sym (ap (λ o. option_copied o) c.in-None.is) ∙ c.get.ensures ∙ at in
+    absurd (cc)
 
 pub returns : goal.returns
 returns c =
-    let w = ap (λ (b : Branch Row). width b.children) (c.behind-self.view_is ∙ c.at.ensures) in
-    let e = ap (λ (b : Branch Row). tree_at c.args.i b.children) (sym c.at.ensures ∙ sym c.behind-self.view_is) in
-    let inside : c.args.i < length c.behind-self.inside.children.items = omega (arith, w, width-nodes_of c.behind-self.inside.children.items, c.requires.in_range) in
-    let d = tree_at-nodes_of c.behind-self.inside.children.items c.args.i c.index-child.result.now inside in
-    ap (option_map (λ (b : Branch Row). b.row.serial)) (e ∙ d) ∙ ap (λ (b : Branch Row). Some b.row.serial) (sym c.index-child.ensures ∙ sym c.child.view_is)
+    let (child, at, serial_is) = reads-child c.self.inside.arena c.self.inside.root c.self.inside.next c.self.invariant c.args.self.now.tree (ap (λ (p : State). p.tree) c.self.view_is) c.args.serial c.in-Some.slot.now c.args.i c.at.result (sym c.find.ensures ∙ ap (λ o. option_copied o) c.in-Some.is) c.at.ensures in
+    let both : Some child ≡ Some c.in-Some-get.child.now = sym at ∙ sym c.get.ensures ∙ ap (λ o. option_copied o) c.in-Some-get.is in
+    let same : child ≡ c.in-Some-get.child.now = cc in
+    serial_is ∙ ap (λ (s : Slot). Some s.serial) same

@@ -1,13 +1,12 @@
--- A page has few levels.
-use Rattle.std.proofs.Common.{List, ap, arith}
-use Rattle.node_tree.proofs.NodeLemmas.{height-map_rows}
-use Rattle.node_tree.specs.Nodes.{nodes_of, height, Branch}
-use Rattle.page_tree.specs.Pages.{Row, row_label}
-use Rattle.page_tree.specs.declared.pages.Page.TheInside.{Inside}
+-- The slots above.
+use Rattle.std.proofs.Common.{ap, sym, ◌∙◌}
+use Rattle.std.specs.Option.{option_copied}
+use Rattle.page_tree.specs.Pages.{State}
+use Rattle.page_tree.proofs.PlaceLemmas.{reads-there, reads-level}
 use Rattle.page_tree.proofs.pages.Page.level.Goals as goal
 
-pub level_among-requires : goal.level_among-requires
-level_among-requires c =
-    let e = ap (λ (l : List (Branch Row)). height (nodes_of l)) c.deref.ensures.value in
-    let v = ap (λ (p : Inside). height p.tree.children) c.self-inside.view_is in
-    omega (arith, e, v, height-map_rows row_label c.self.inside.tree.children)
+pub unreachable-requires : goal.unreachable-requires
+unreachable-requires c = reads-there c.self.inside.arena c.self.inside.root c.self.inside.next c.self.invariant c.args.self.now.tree (ap (λ (p : State). p.tree) c.self.view_is) c.args.serial c.requires (sym c.find.ensures ∙ ap (λ o. option_copied o) c.in-None.is)
+
+pub returns : goal.returns
+returns c = c.climb.ensures.rise ∙ reads-level c.self.inside.arena c.self.inside.root c.self.inside.next c.self.invariant c.args.self.now.tree (ap (λ (p : State). p.tree) c.self.view_is) c.args.serial c.in-Some.slot.now (sym c.find.ensures ∙ ap (λ o. option_copied o) c.in-Some.is)

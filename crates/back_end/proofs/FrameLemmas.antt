@@ -1,0 +1,248 @@
+-- The step on a frame: the state after it is valid, its moves lead on, and it is answered once.
+use Rattle.std.proofs.Common.{◌≡◌, codes, ℕ, ◌+◌, ◌≤◌, Bool, true, false, not, ◌&&◌, ◌||◌, cond, List, [], ◌∷◌, length, Option, Some, None, Result, Ok, Err, refl, sym, ◌∙◌, ap, subst, arith}
+use Rattle.std.specs.List.{flat_map}
+use Rattle.cdp_json.specs.Kinds.{is_counted, holds_of_some}
+use Rattle.node_tree.specs.Nodes.{node_count}
+use Rattle.node_binding.specs.Sessions.{Session, IsSession}
+use Rattle.node_binding.proofs.SessionLemmas.{IsSession-reset}
+use Rattle.node_binding.proofs.StartLemmas.{count-alone}
+use Rattle.cdp_messages.specs.declared.command.Command.{Command}
+use Rattle.cdp_messages.specs.declared.command.Command.TheVariants.{DomEnable, DomDisable, GetDocument, RequestChildNodes, PushByPath, PushBySerials, QuerySelector, QuerySelectorAll, GetAttributes, DescribeNode, SetAttributeValue, RemoveAttribute, SetNodeValue, RemoveNode, MoveTo, CopyTo, MarkUndoableState, Undo, Redo, CssEnable, CssDisable, GetMatchedStyles, GetStyleSheetText, CollectClassNames, SetStyleTexts, SetRuleSelector, SetStyleSheetText, AddRule, SetBreakpoint, RemoveBreakpoint, ReplayLoad, ReplayAct}
+use Rattle.cdp_messages.specs.declared.command.Asked.{Asked}
+use Rattle.cdp_messages.specs.declared.command.Refused.{Refused}
+use Rattle.cdp_messages.specs.declared.command.Why.{Why}
+use Rattle.cdp_messages.specs.declared.command.Why.TheVariants.{DomOff, NoMethod}
+use Rattle.cdp_messages.specs.declared.dom_ask.DomAsk.{DomAsk}
+use Rattle.cdp_messages.specs.declared.dom_ask.DomAsk.TheVariants as ask
+use Rattle.cdp_messages.specs.declared.down.ReplyBody.TheVariants.{Nothing}
+use Rattle.cdp_messages.specs.Asked.{asked, method_name, fits_command}
+use Rattle.cdp_messages.specs.DomAsks.{as_command, dom_ask_in, ask_name, fits_ask}
+use Rattle.cdp_messages.specs.Moves.{replied, all_off, failed, CanBeTold, Course, ends, goes}
+use Rattle.cdp_messages.proofs.DomAskLaws.{dom_asks_are_commands}
+use Rattle.dom_agent.specs.Laws.{session_outcome, CanTell, view_of as seen_by}
+use Rattle.dom_agent.specs.Requests.{Outcome, shows_root, served, refused, state_after, moves_of}
+use Rattle.dom_agent.proofs.OutcomeLemmas.{stays_session, draws_few}
+use Rattle.dom_agent.proofs.MoveLemmas.{steps_are_moves, replies_answer}
+use Rattle.back_end.specs.States.{State, nodes_in, sheets_shown, view_of, HasNoMore, IsState}
+use Rattle.back_end.specs.Steps.{Step, with_client, refusing, client_reset, ask_needs_on, turns_on, client_served, agent_step, server_step, command_step, asked_step, frame_step}
+use Rattle.back_end.specs.Servers.{Server, enables, disables, agent, nobody, by_agent, server_of}
+use Rattle.back_end.specs.Laws.{reply_ids, MayAnswer, HasRoom, StepsWell, MayAnswerAll, IsAnswered}
+use Rattle.back_end.proofs.AskedLemmas.{AskedFits, frame-fits}
+use Rattle.back_end.proofs.AnswerLemmas.{outcome-answers, outcome-may}
+use Rattle.back_end.proofs.StepLemmas.{can-tell, can-sheets, told-view, stays-with, empty-view, few-steps, more}
+
+-- ---- what the agent is asked
+
+-- an ask that is carried out while DOM is off turns it on
+stays-off : (c : DomAsk) (on : Bool) → (ask_needs_on c && not on) ≡ false → (on || turns_on c) ≡ false → on ≡ true
+stays-off (ask.GetDocument depth pierce) true h k = refl
+stays-off (ask.GetDocument depth pierce) false h k = absurd cc
+stays-off (ask.RequestChildNodes id depth pierce) true h k = refl
+stays-off (ask.RequestChildNodes id depth pierce) false h k = absurd cc
+stays-off (ask.PushByPath path) true h k = refl
+stays-off (ask.PushByPath path) false h k = absurd cc
+stays-off (ask.PushBySerials serials) true h k = refl
+stays-off (ask.PushBySerials serials) false h k = absurd cc
+
+on-true : (on turned : Bool) → on ≡ true → (on || turned) ≡ false → {A : Type 0} → A
+on-true true turned h k = absurd cc
+on-true false turned h k = absurd cc
+
+no-more-served : (ask : DomAsk) (o : Outcome Session) (state : State) → HasNoMore state → HasNoMore (with_client (client_served ask o state.client) state)
+no-more-served ask (shows_root w b) state is = record { sheets = is.sheets; css_off = is.css_off; watched = is.watched; marks = is.marks }
+no-more-served ask (served p body) state is = record { sheets = is.sheets; css_off = is.css_off; watched = is.watched; marks = is.marks }
+no-more-served ask (refused why) state is = record { sheets = is.sheets; css_off = is.css_off; watched = is.watched; marks = is.marks }
+
+-- the state after an ask, by what it came to
+pub served-is : (ask : DomAsk) (o : Outcome Session) (state : State) → IsState state → (ask_needs_on ask && not state.client.dom_on) ≡ false
+    → IsSession (nodes_in state) (state_after state.client.session o) → IsState (with_client (client_served ask o state.client) state)
+served-is ask (shows_root w b) state is on session = record {
+  page = is.page;
+  texts = is.texts;
+  session = session;
+  off = λ h. on-true state.client.dom_on (turns_on ask) (stays-off ask state.client.dom_on on h) h;
+  no_more = no-more-served ask (shows_root w b) state is.no_more;
+}
+served-is ask (served p body) state is on session = record {
+  page = is.page;
+  texts = is.texts;
+  session = session;
+  off = λ h. on-true state.client.dom_on (turns_on ask) (stays-off ask state.client.dom_on on h) h;
+  no_more = no-more-served ask (served p body) state is.no_more;
+}
+served-is ask (refused why) state is on session = record {
+  page = is.page;
+  texts = is.texts;
+  session = is.session;
+  off = is.off;
+  no_more = no-more-served ask (refused why) state is.no_more;
+}
+
+served-view : (ask : DomAsk) (o : Outcome Session) (state : State)
+    → seen_by (state_after state.client.session o) state.side.page (sheets_shown state) ≡ view_of (with_client (client_served ask o state.client) state)
+served-view ask (shows_root w b) state = refl
+served-view ask (served p body) state = refl
+served-view ask (refused why) state = refl
+
+served-pushed : (ask : DomAsk) (o : Outcome Session) (state : State)
+    → length (client_served ask o state.client).session.pushed ≡ length (state_after state.client.session o).pushed
+served-pushed ask (shows_root w b) state = refl
+served-pushed ask (served p body) state = refl
+served-pushed ask (refused why) state = refl
+
+agent-well : (id : ℕ) (ask : DomAsk) (state : State) → IsState state → HasRoom state → is_counted id ≡ true → fits_ask ask ≡ true
+    → (ask_needs_on ask && not state.client.dom_on) ≡ false → StepsWell state (agent_step id ask state)
+agent-well id ask state is room small fits on =
+    let page = state.side.page in
+    let w = state.client.session in
+    let o : Outcome Session = session_outcome page ask w in
+    let can : CanTell page w = can-tell state is (omega (arith, room.ids)) (omega (arith, room.serials)) in
+    let few : length (state_after w o).pushed ≤ length w.pushed + node_count (nodes_in state) = draws_few page ask w is.page fits is.session in
+    let count : node_count (nodes_in state) ≤ 100000 = count-alone page is.page in
+    record {
+      is_state = served-is ask o state is on (stays_session page ask w is.page fits is.session);
+      course = subst (λ v. Course (moves_of id o) (view_of state) v) (served-view ask o state) (steps_are_moves page ask w id (sheets_shown state) is.page fits is.session can small (can-sheets state is));
+      ids = omega (arith, few, count, served-pushed ask o state);
+      serials = omega arith;
+    }
+
+-- ---- the seat's own commands
+
+-- a command that changes nothing but whether DOM is on
+pub enabled-is : (state : State) → IsState state → IsState (with_client (record state.client { dom_on = true }) state)
+enabled-is state is = record {
+  page = is.page;
+  texts = is.texts;
+  session = is.session;
+  off = λ h. absurd cc;
+  no_more = record { sheets = is.no_more.sheets; css_off = is.no_more.css_off; watched = is.no_more.watched; marks = is.no_more.marks };
+}
+
+enables-well : (id : ℕ) (state : State) → IsState state → HasRoom state → is_counted id ≡ true → StepsWell state (server_step id enables state)
+enables-well id state is room small =
+    let told : CanBeTold (view_of state) = told-view state is (omega (arith, room.ids)) (omega (arith, room.serials)) in
+    record {
+      is_state = enabled-is state is;
+      course = goes (replied id Nothing) [] (view_of state) (view_of state) (view_of state) told
+          (refl, record { id_fits = small; plain = refl; fits = refl; texts = tt; levels = omega arith }) (ends (view_of state) told);
+      ids = omega arith;
+      serials = omega arith;
+    }
+
+pub disabled-is : (state : State) → IsState state → IsState (with_client (client_reset false state.client) state)
+disabled-is state is = record {
+  page = is.page;
+  texts = is.texts;
+  session = IsSession-reset (nodes_in state) state.client.session;
+  off = λ h. refl;
+  no_more = record { sheets = is.no_more.sheets; css_off = ap (λ css. css && false) is.no_more.css_off; watched = refl; marks = refl };
+}
+
+disables-well : (id : ℕ) (state : State) → IsState state → HasRoom state → is_counted id ≡ true → StepsWell state (server_step id disables state)
+disables-well id state is room small =
+    let after : State = with_client (client_reset false state.client) state in
+    let done : IsState after = disabled-is state is in
+    let told : CanBeTold (view_of state) = told-view state is (omega (arith, room.ids)) (omega (arith, room.serials)) in
+    let told_after : CanBeTold (view_of after) = told-view after done (omega (arith, room.ids)) (omega (arith, room.serials)) in
+    record {
+      is_state = done;
+      course = goes (all_off id) [] (view_of state) (view_of after) (view_of after) told (empty-view after done.no_more refl, small) (ends (view_of after) told_after);
+      ids = omega arith;
+      serials = omega arith;
+    }
+
+-- a refusal changes nothing
+refusing-well : (r : Refused) (state : State) → IsState state → HasRoom state → holds_of_some is_counted r.id ≡ true → StepsWell state (record { state = state; moves = failed r ∷ [] })
+refusing-well r state is room small =
+    few-steps (more (omega arith) (omega arith) (stays-with (failed r) state is (omega (arith, room.ids)) (omega (arith, room.serials)) (refl, small)))
+
+-- ---- a command
+
+-- what a step comes to: it is well, and answers the command of that id and method once
+record Serves (state : State) (done : Step) (id : ℕ) (method : List ℕ) : Type 0 where
+  pub well : StepsWell state done
+  pub once : flat_map reply_ids done.moves ≡ Some id ∷ []
+  pub may : MayAnswerAll method done.moves
+
+serves-refusal : (id : ℕ) (why : Why) (method : List ℕ) (state : State) → IsState state → HasRoom state → is_counted id ≡ true → Serves state (refusing (Some id) why state) id method
+serves-refusal id why method state is room small = record {
+  well = refusing-well (record { id = Some id; why = why }) state is room small;
+  once = refl;
+  may = (tt, tt);
+}
+
+-- a server that a replay has
+data IsServer (c : Command) : Server → Type 0 where
+  is_enables : MayAnswer (method_name c) (replied 0 Nothing) → IsServer c enables
+  is_disables : method_name c ≡ codes "DOM.disable" → IsServer c disables
+  is_agent : (ask : DomAsk) → method_name c ≡ ask_name ask → fits_ask ask ≡ true → IsServer c (agent ask)
+  is_nobody : IsServer c nobody
+
+serves : (id : ℕ) (c : Command) (server : Server) (state : State) → IsServer c server → IsState state → HasRoom state → is_counted id ≡ true
+    → Serves state (command_step id server state) id (method_name c)
+serves id c _ state (is_enables h) is room small = record { well = enables-well id state is room small; once = refl; may = (h, tt) }
+serves id c _ state (is_disables h) is room small = at state.client.dom_on where
+  at : (on : Bool) → Serves state (cond (not on) (refusing (Some id) DomOff state) (server_step id disables state)) id (method_name c)
+  at true = record { well = disables-well id state is room small; once = refl; may = (h, tt) }
+  at false = serves-refusal id DomOff (method_name c) state is room small
+serves id c _ state (is_agent ask h fits) is room small = at (ask_needs_on ask && not state.client.dom_on) refl where
+  at : (b : Bool) → (ask_needs_on ask && not state.client.dom_on) ≡ b → Serves state (cond b (refusing (Some id) DomOff state) (agent_step id ask state)) id (method_name c)
+  at true e = serves-refusal id DomOff (method_name c) state is room small
+  at false e = record {
+    well = agent-well id ask state is room small fits e;
+    once = outcome-answers id (session_outcome state.side.page ask state.client.session);
+    may = subst (λ method. MayAnswerAll method (agent_step id ask state).moves) (sym h)
+        (outcome-may id ask (session_outcome state.side.page ask state.client.session) (replies_answer state.side.page ask state.client.session is.page fits is.session));
+  }
+serves id c _ state is_nobody is room small = serves-refusal id NoMethod (method_name c) state is room small
+
+by-agent : (c : Command) → fits_command c ≡ true → IsServer c (by_agent (dom_ask_in c))
+by-agent c fits = at (dom_ask_in c) refl where
+  at : (o : Option DomAsk) → dom_ask_in c ≡ o → IsServer c (by_agent o)
+  at None e = is_nobody
+  at (Some ask) e =
+      let same : c ≡ as_command ask = dom_asks_are_commands c ask e in
+      is_agent ask (ap method_name same) (ap fits_command (sym same) ∙ fits)
+
+server-is : (c : Command) → fits_command c ≡ true → IsServer c (server_of c)
+server-is DomEnable fits = is_enables (refl, refl)
+server-is DomDisable fits = is_disables refl
+server-is (GetDocument depth pierce) fits = by-agent (GetDocument depth pierce) fits
+server-is (RequestChildNodes node depth pierce) fits = by-agent (RequestChildNodes node depth pierce) fits
+server-is (PushByPath path) fits = by-agent (PushByPath path) fits
+server-is (PushBySerials serials) fits = by-agent (PushBySerials serials) fits
+server-is (QuerySelector node selector) fits = by-agent (QuerySelector node selector) fits
+server-is (QuerySelectorAll node selector) fits = by-agent (QuerySelectorAll node selector) fits
+server-is (GetAttributes node) fits = by-agent (GetAttributes node) fits
+server-is (DescribeNode id serial depth pierce) fits = by-agent (DescribeNode id serial depth pierce) fits
+server-is (SetAttributeValue node name value) fits = by-agent (SetAttributeValue node name value) fits
+server-is (RemoveAttribute node name) fits = by-agent (RemoveAttribute node name) fits
+server-is (SetNodeValue node value) fits = by-agent (SetNodeValue node value) fits
+server-is (RemoveNode node) fits = by-agent (RemoveNode node) fits
+server-is (MoveTo node target before) fits = by-agent (MoveTo node target before) fits
+server-is (CopyTo node target before) fits = by-agent (CopyTo node target before) fits
+server-is MarkUndoableState fits = by-agent MarkUndoableState fits
+server-is Undo fits = by-agent Undo fits
+server-is Redo fits = by-agent Redo fits
+server-is CssEnable fits = by-agent CssEnable fits
+server-is CssDisable fits = by-agent CssDisable fits
+server-is (GetMatchedStyles node) fits = by-agent (GetMatchedStyles node) fits
+server-is (GetStyleSheetText sheet) fits = by-agent (GetStyleSheetText sheet) fits
+server-is (CollectClassNames sheet) fits = by-agent (CollectClassNames sheet) fits
+server-is (SetStyleTexts edits) fits = by-agent (SetStyleTexts edits) fits
+server-is (SetRuleSelector sheet range selector) fits = by-agent (SetRuleSelector sheet range selector) fits
+server-is (SetStyleSheetText sheet text) fits = by-agent (SetStyleSheetText sheet text) fits
+server-is (AddRule sheet rule_text location) fits = by-agent (AddRule sheet rule_text location) fits
+server-is (SetBreakpoint node kind) fits = by-agent (SetBreakpoint node kind) fits
+server-is (RemoveBreakpoint node kind) fits = by-agent (RemoveBreakpoint node kind) fits
+server-is (ReplayLoad params) fits = is_nobody
+server-is (ReplayAct params) fits = is_nobody
+
+-- ---- a frame
+
+pub frame-steps-well : (state : State) (frame : List ℕ) → IsState state → HasRoom state
+    → StepsWell state (frame_step frame state) × IsAnswered (asked frame false) (frame_step frame state).moves
+frame-steps-well state frame is room = at (asked frame false) (frame-fits frame) where
+  at : (r : Result Asked Refused) → AskedFits r → StepsWell state (asked_step r state) × IsAnswered r (asked_step r state).moves
+  at (Ok a) fits = let s = serves a.id a.command (server_of a.command) state (server-is a.command fits.1) is room fits.0 in (s.well, (s.once, s.may))
+  at (Err r) fits = (refusing-well r state is room fits, refl)

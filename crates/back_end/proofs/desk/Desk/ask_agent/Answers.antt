@@ -1,0 +1,19 @@
+-- What the agent is asked is carried out, or refused since DOM is off.
+use Rattle.std.proofs.Common.{refl}
+use Rattle.back_end.proofs.SeatLemmas.{on_ok, asked-stands, asked-sent, refused-sent}
+use Rattle.back_end.proofs.desk.Desk.ask_agent.Goals as goal
+
+pub returns-then-is_refused-clause-sent : goal.returns-then-is_refused-clause-sent
+returns-then-is_refused-clause-sent c = λ state stands.
+    on_ok c.refuse.result _ _ (c.refuse.ensures state)
+    (refused-sent c.args.self.now c.args.side.now state c.args.id c.args.ask.now c.args.out.now.items c.refuse.new.out.items c.if-is_refused.ensures stands)
+
+pub returns-clause-stands : goal.returns-clause-stands
+returns-clause-stands c = λ state stands.
+    asked-stands c.args.self.now (record { alloc = _; is_on = _; agent = _ }) c.args.side.now c.args.side.now state c.args.id c.args.ask.now c.page.result.now
+    c.requires.ask c.if-is_refused.ensures stands refl c.page.ensures c.is_on_after-self.ensures c.in_ok-ask.ensures.known
+
+pub returns-clause-sent : goal.returns-clause-sent
+returns-clause-sent c = λ state stands.
+    asked-sent c.args.self.now c.args.side.now state c.args.id c.args.ask.now c.page.result.now c.args.out.now.items c.ask.new.out.items
+    c.requires.ask c.if-is_refused.ensures stands c.page.ensures c.in_ok-ask.ensures.sent

@@ -1,0 +1,14 @@
+-- `DOM.disable` is carried out, or refused while DOM is off.
+use Rattle.std.proofs.Common.{refl}
+use Rattle.back_end.proofs.SeatLemmas.{on_ok, disabled-stands, off-sent}
+use Rattle.back_end.proofs.desk.Desk.disable.Goals as goal
+
+pub returns-then-not-self-clause-sent : goal.returns-then-not-self-clause-sent
+returns-then-not-self-clause-sent c = λ state stands.
+    on_ok c.refuse.result _ _ (c.refuse.ensures state)
+    (off-sent c.args.self.now c.args.side.now state c.args.id c.args.out.now.items c.refuse.new.out.items stands c.if-not-self.true)
+
+pub returns-clause-stands : goal.returns-clause-stands
+returns-clause-stands c = λ state stands.
+    disabled-stands c.args.self.now (record { alloc = _; is_on = _; agent = _ }) c.args.side.now c.args.side.now state c.args.id stands
+    c.if-not-self.false refl refl c.reset.ensures

@@ -1,0 +1,76 @@
+-- What holds of each step.
+use Rattle.std.specs.Prelude.{◌≡◌, ℕ, ◌+◌, ◌^◌, ◌≤◌, ◌<◌, true, false, List, [], ◌∷◌, length, codes, ⊤, Option, Some, Result, Ok, Err}
+use Rattle.std.specs.List.{flat_map}
+use Rattle.page_tree.specs.Forms.{CanLoad, max_nodes}
+use Rattle.page_forms.specs.Acts.{IsInsertable}
+use Rattle.cdp_messages.specs.declared.command.Asked.{Asked}
+use Rattle.cdp_messages.specs.declared.command.Refused.{Refused}
+use Rattle.cdp_messages.specs.Asked.{asked, method_name}
+use Rattle.cdp_messages.specs.Laws.{answers}
+use Rattle.cdp_messages.specs.declared.effects.Effect.TheVariants.{NothingElse}
+use Rattle.cdp_messages.specs.Effects.{effect_of_method}
+use Rattle.cdp_messages.specs.Moves.{Move, change, clear, met, root, replied, all_off, sheets_off, failed, Course}
+use Rattle.back_end.specs.States.{State, IsState, view_of}
+use Rattle.back_end.specs.Steps.{Step, Turn, acts, loads, frame_step, turn_step}
+use Rattle.back_end.specs.Texts.{HaveTexts, ActHasTexts}
+
+-- ids and serials are left for a step
+pub record HasRoom (state : State) : Type 0 where
+  pub ids : length state.client.session.pushed + 1 < 2 ^ 50
+  pub serials : state.side.page.next < 2 ^ 50
+
+-- The state after a step is valid; the moves lead the view to the view of it; and a step draws few ids and few serials.
+pub record StepsWell (before : State) (done : Step) : Type 0 where
+  pub is_state : IsState done.state
+  pub course : Course done.moves (view_of before) (view_of done.state)
+  pub ids : length done.state.client.session.pushed ≤ length before.client.session.pushed + max_nodes
+  pub serials : done.state.side.page.next ≤ before.side.page.next + (max_nodes + 1)
+
+-- a move that may answer a command of that method; an event answers none
+abbrev pub MayAnswer : List ℕ → Move → Type 0
+MayAnswer method (change id c) = ⊤
+MayAnswer method clear = ⊤
+MayAnswer method (met why) = ⊤
+MayAnswer method (root id b) = method ≡ codes "DOM.getDocument"
+MayAnswer method (replied id body) = (answers method body ≡ true) × (effect_of_method method ≡ NothingElse)
+MayAnswer method (all_off id) = method ≡ codes "DOM.disable"
+MayAnswer method (sheets_off id) = method ≡ codes "CSS.disable"
+MayAnswer method (failed r) = ⊤
+
+-- each of them may
+abbrev pub MayAnswerAll : List ℕ → List Move → Type 0
+MayAnswerAll method [] = ⊤
+MayAnswerAll method (m ∷ ms) = MayAnswer method m × MayAnswerAll method ms
+
+-- the id of a move that is a reply; an error reply may have none
+abbrev pub reply_ids : Move → List (Option ℕ)
+reply_ids (change id c) = []
+reply_ids clear = []
+reply_ids (met why) = []
+reply_ids (root id b) = Some id ∷ []
+reply_ids (replied id body) = Some id ∷ []
+reply_ids (all_off id) = Some id ∷ []
+reply_ids (sheets_off id) = Some id ∷ []
+reply_ids (failed r) = r.id ∷ []
+
+-- A command is answered once, under its id, by what its method answers; what is refused as a frame is answered by that refusal.
+abbrev pub IsAnswered : Result Asked Refused → List Move → Type 0
+IsAnswered (Ok a) moves = (flat_map reply_ids moves ≡ Some a.id ∷ []) × MayAnswerAll (method_name a.command) moves
+IsAnswered (Err r) moves = moves ≡ failed r ∷ []
+
+-- the step on a frame
+abbrev pub FramesStepWell : Type 0
+FramesStepWell =
+    (state : State) (frame : List ℕ) → IsState state → HasRoom state
+    → StepsWell state (frame_step frame state) × IsAnswered (asked frame false) (frame_step frame state).moves
+
+-- what a script may do: the nodes may be loaded, and new nodes have the form that an insert asks for; texts are UTF-8
+abbrev pub IsTurn : Turn → Type 0
+IsTurn (acts act) = IsInsertable act × ActHasTexts act
+IsTurn (loads nodes) = CanLoad nodes × HaveTexts nodes
+
+-- and its steps, which answer nothing
+abbrev pub TurnsStepWell : Type 0
+TurnsStepWell =
+    (state : State) (x : Turn) → IsState state → HasRoom state → IsTurn x
+    → StepsWell state (turn_step x state) × (flat_map reply_ids (turn_step x state).moves ≡ [])

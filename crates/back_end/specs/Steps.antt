@@ -1,0 +1,215 @@
+-- The steps of a state: on each frame that comes up, and those that a script makes itself. A step gives the state after it, and
+-- the moves by which the client's view comes to what it is then.
+use Rattle.std.specs.Prelude.{ℕ, Bool, true, false, not, ◌&&◌, ◌||◌, cond, List, [], ◌∷◌, ◌++◌, Option, Some, None, Result, Ok, Err}
+use Rattle.node_tree.specs.Nodes.{Nodes}
+use Rattle.node_tree.specs.Labels.{Label}
+use Rattle.page_tree.specs.Pages.{State as PageValue, loaded}
+use Rattle.page_tree.specs.Edits.{after}
+use Rattle.page_tree.specs.EditFaults.{first_fault}
+use Rattle.page_tree.specs.declared.edits.TreeEdit.{TreeEdit}
+use Rattle.page_tree.specs.declared.edits.TreeEdit.TheVariants.{SetAttr, DropAttr, SetText, Attach, Detach}
+use Rattle.page_tree.specs.declared.edit_faults.EditFault.{EditFault}
+use Rattle.page_forms.specs.declared.acts.Act.{Act}
+use Rattle.node_binding.specs.Sessions.{Session, reset}
+use Rattle.cdp_messages.specs.declared.command.Why.{Why}
+use Rattle.cdp_messages.specs.declared.command.Why.TheVariants.{NoMethod, DomOff}
+use Rattle.cdp_messages.specs.declared.command.Asked.{Asked}
+use Rattle.cdp_messages.specs.declared.command.Refused.{Refused}
+use Rattle.cdp_messages.specs.declared.dom_ask.DomAsk.{DomAsk}
+use Rattle.cdp_messages.specs.declared.dom_ask.DomAsk.TheVariants.{GetDocument, RequestChildNodes, PushByPath, PushBySerials}
+use Rattle.cdp_messages.specs.declared.down.ReplyBody.TheVariants.{Nothing}
+use Rattle.cdp_messages.specs.Asked.{asked}
+use Rattle.cdp_messages.specs.Moves.{Move, clear, replied, all_off, failed, frames_of_moves}
+use Rattle.dom_agent.specs.Requests.{Outcome, shows_root, served, refused, moves_of}
+use Rattle.dom_agent.specs.Edits.{Edited}
+use Rattle.dom_agent.specs.EditLaws.{session_edited}
+use Rattle.dom_agent.specs.Laws.{session_outcome}
+use Rattle.dom_breakpoints.specs.Watched.{Watched, unwatched, without_subtree}
+use Rattle.undo_marks.specs.Marks.{no_marks, crossed_over}
+use Rattle.back_end.specs.States.{Client, State}
+use Rattle.back_end.specs.Plans.{Plan, act_fault, act_plan}
+use Rattle.back_end.specs.Servers.{Server, enables, disables, agent, nobody, server_of}
+
+-- what a step makes: the state after it, and what it tells the client
+pub record Step : Type 0 where
+  pub state : State
+  pub moves : List Move
+
+-- a step that tells something first
+abbrev pub telling : List Move → Step → Step
+telling before later = record { state = later.state; moves = before ++ later.moves }
+
+-- a step that changes nothing, and tells a refusal
+abbrev pub refusing : Option ℕ → Why → State → Step
+refusing id why state = record { state = state; moves = failed (record { id = id; why = why }) ∷ [] }
+
+-- the state with another client, and with another side
+abbrev pub with_client : Client → State → State
+with_client client state = record { side = state.side; client = client }
+
+-- ---- edits of the page
+
+-- the watches that are left after an edit: those of a tree that goes are dropped
+abbrev pub watched_after : TreeEdit → State → Watched
+watched_after (SetAttr node name value) state = state.client.watched
+watched_after (DropAttr node name) state = state.client.watched
+watched_after (SetText node value) state = state.client.watched
+watched_after (Attach parent before tree) state = state.client.watched
+watched_after (Detach node) state = without_subtree node state.side.page.tree state.client.watched
+
+-- what an edit comes to for the state's session
+abbrev pub edited_by : TreeEdit → State → Edited Session
+edited_by e state = session_edited e state.side.page state.client.session
+
+-- the state with another page
+abbrev pub with_page : PageValue → State → State
+with_page page state = record { side = record { page = page; sheets = state.side.sheets; next_sheet = state.side.next_sheet }; client = state.client }
+
+-- the client after an edit
+abbrev pub client_edited : TreeEdit → State → Client
+client_edited e state = record {
+  dom_on = state.client.dom_on;
+  css_on = state.client.css_on;
+  session = (edited_by e state).state;
+  watched = watched_after e state;
+  marks = state.client.marks;
+}
+
+-- one edit of the page, with its events
+abbrev pub edit_step : TreeEdit → State → Step
+edit_step e state = record {
+  state = with_client (client_edited e state) (with_page (after e state.side.page) state);
+  moves = (edited_by e state).moves;
+}
+
+-- edits, one after the other
+abbrev pub edit_steps : List TreeEdit → State → Step
+edit_steps [] state = record { state = state; moves = [] }
+edit_steps (e ∷ es) state = let first = edit_step e state in telling first.moves (edit_steps es first.state)
+
+-- ---- what a script does
+
+-- a change that is not the client's empties the history
+abbrev pub with_crossed : State → State
+with_crossed state = with_client (record state.client { marks = crossed_over state.client.marks }) state
+
+-- the edits of a plan, from the page with the drawn serials
+abbrev pub plan_step : Plan → State → Step
+plan_step plan state = let done = edit_steps plan.edits (with_page plan.page state) in record { state = with_crossed done.state; moves = done.moves }
+
+-- a plan that is refused changes nothing, and tells nothing
+abbrev pub planned_step : Option EditFault → Plan → State → Step
+planned_step None plan state = plan_step plan state
+planned_step (Some f) plan state = record { state = state; moves = [] }
+
+-- the step of an act
+abbrev pub act_step : Act → State → Step
+act_step act state = planned_step (act_fault act state.side.page) (act_plan act state.side.page) state
+
+-- the step of one edit by a script
+abbrev pub lone_step : TreeEdit → State → Step
+lone_step e state = planned_step (first_fault e state.side.page.tree) (record { page = state.side.page; edits = e ∷ [] }) state
+
+-- the client of a page that goes: nothing is known, the ids are dead, no node is watched and no edit kept
+abbrev pub client_reset : Bool → Client → Client
+client_reset on client = record {
+  dom_on = on;
+  css_on = client.css_on && on;
+  session = reset client.session;
+  watched = unwatched;
+  marks = no_marks;
+}
+
+-- A load puts a new page in the place of the old one. Serials go on; a client whose DOM is on is told.
+abbrev pub load_step : Nodes Label → State → Step
+load_step nodes state = record {
+  state = record {
+    side = record { page = loaded state.side.page.next nodes; sheets = []; next_sheet = state.side.next_sheet };
+    client = client_reset state.client.dom_on state.client;
+  };
+  moves = cond state.client.dom_on (clear ∷ []) [];
+}
+
+-- what a script does by itself
+pub data Turn : Type 0 where
+  acts : Act → Turn
+  loads : Nodes Label → Turn
+
+-- its step
+abbrev pub turn_step : Turn → State → Step
+turn_step (acts act) state = act_step act state
+turn_step (loads nodes) state = load_step nodes state
+
+-- ---- commands
+
+-- an ask that is refused while DOM is off
+abbrev pub ask_needs_on : DomAsk → Bool
+ask_needs_on (GetDocument depth pierce) = false
+ask_needs_on (RequestChildNodes id depth pierce) = true
+ask_needs_on (PushByPath path) = true
+ask_needs_on (PushBySerials serials) = true
+
+-- a command that is refused while DOM is off
+abbrev pub needs_on : Server → Bool
+needs_on enables = false
+needs_on disables = true
+needs_on (agent ask) = ask_needs_on ask
+needs_on nobody = false
+
+-- an ask that turns DOM on
+abbrev pub turns_on : DomAsk → Bool
+turns_on (GetDocument depth pierce) = true
+turns_on (RequestChildNodes id depth pierce) = false
+turns_on (PushByPath path) = false
+turns_on (PushBySerials serials) = false
+
+-- the client after what its agent was asked: one whose ask was refused is as before
+abbrev pub client_served : DomAsk → Outcome Session → Client → Client
+client_served ask (shows_root w b) client = record client { dom_on = client.dom_on || turns_on ask; session = w }
+client_served ask (served p body) client = record client { dom_on = client.dom_on || turns_on ask; session = p.state }
+client_served ask (refused why) client = client
+
+-- the step on what the agent is asked
+abbrev pub agent_step : ℕ → DomAsk → State → Step
+agent_step id ask state =
+    let outcome = session_outcome state.side.page ask state.client.session in
+    record { state = with_client (client_served ask outcome state.client) state; moves = moves_of id outcome }
+
+-- the step on a command, where DOM is on or need not be
+abbrev pub server_step : ℕ → Server → State → Step
+server_step id enables state = record { state = with_client (record state.client { dom_on = true }) state; moves = replied id Nothing ∷ [] }
+server_step id disables state = record { state = with_client (client_reset false state.client) state; moves = all_off id ∷ [] }
+server_step id (agent ask) state = agent_step id ask state
+server_step id nobody state = refusing (Some id) NoMethod state
+
+-- the step on a command: a refusal while DOM is off, where it needs it
+abbrev pub command_step : ℕ → Server → State → Step
+command_step id server state = cond (needs_on server && not state.client.dom_on) (refusing (Some id) DomOff state) (server_step id server state)
+
+-- a refused frame changes nothing, and gets one error reply
+abbrev pub asked_step : Result Asked Refused → State → Step
+asked_step (Ok a) state = command_step a.id (server_of a.command) state
+asked_step (Err r) state = record { state = state; moves = failed r ∷ [] }
+
+-- the step on one frame
+abbrev pub frame_step : List ℕ → State → Step
+frame_step frame state = asked_step (asked frame false) state
+
+-- ---- as bytes
+
+-- what a step makes: the state after it, and the bytes sent down
+pub record Stepped (S : Type 0) : Type 0 where
+  pub state : S
+  pub sent : List ℕ
+
+-- a step as the bytes of its messages
+abbrev pub as_bytes : Step → Stepped State
+as_bytes done = record { state = done.state; sent = frames_of_moves done.moves }
+
+-- the step on one frame, as bytes
+abbrev pub step : State → List ℕ → Stepped State
+step state frame = as_bytes (frame_step frame state)
+
+-- the script's own step, as bytes
+abbrev pub turn : Turn → State → Stepped State
+turn x state = as_bytes (turn_step x state)

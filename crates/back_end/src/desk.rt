@@ -1,0 +1,200 @@
+ghost use Rattle.std.specs.Prelude.{◌≡◌, ◌<◌, ◌^◌, ◌++◌, ◌↔◌, ◌&&◌, ◌||◌, not, false, true, Some, IfSome, IsTrue, OnOk};
+ghost use Rattle.node_binding.specs.Bindings.{empty_from};
+ghost use Rattle.cdp_messages.specs.DomAsks.{fits_ask};
+ghost use Rattle.cdp_messages.specs.Asked.{fits_command};
+ghost use Rattle.cdp_messages.specs.Moves.{frames_of_moves};
+ghost use Rattle.back_end.specs.States.{State};
+ghost use Rattle.back_end.specs.Servers.{by_agent, by_part, server_of};
+ghost use Rattle.back_end.specs.Servers as server;
+ghost use Rattle.back_end.specs.Steps.{ask_needs_on, command_step, frame_step, refusing, server_step};
+ghost use Rattle.back_end.specs.Steps as steps;
+ghost use Rattle.back_end.specs.Seats.{DeskStandsFor, HasRoomLeft};
+
+use crate::parts::SeatPart;
+use crate::side::PageSide;
+use cdp_messages::{
+    Command, DomAsk, ReadErr, Refused, ReplyBody, Why, read_command, write_refused, write_reply,
+};
+use dom_agent::DomAgent;
+use std::alloc::{AllocError, Global};
+
+/// What a seat works with: whether the domain DOM is on, and what the client knows of the page.
+#[derive(Drop)]
+pub(crate) struct Desk {
+    pub(crate) alloc: Global,
+    pub(crate) is_on: bool,
+    pub(crate) agent: DomAgent,
+}
+
+/// Whether an ask is refused while DOM is off.
+fn needs_on(ask: &DomAsk) -> bool
+    ensures { result ≡ ask_needs_on ask.now }
+{
+    match ask {
+        DomAsk::GetDocument { .. } => false,
+        DomAsk::RequestChildNodes { .. }
+        | DomAsk::PushByPath { .. }
+        | DomAsk::PushBySerials { .. } => true,
+    }
+}
+
+/// Whether an ask turns DOM on.
+fn turns_on(ask: &DomAsk) -> bool
+    ensures { result ≡ steps.turns_on ask.now }
+{
+    match ask {
+        DomAsk::GetDocument { .. } => true,
+        DomAsk::RequestChildNodes { .. }
+        | DomAsk::PushByPath { .. }
+        | DomAsk::PushBySerials { .. } => false,
+    }
+}
+
+impl Desk {
+    /// The desk of a client that has asked for nothing yet.
+    pub(crate) fn new(alloc: Global) -> Desk
+        ensures off { result.is_on ≡ false }
+        ensures agent { result.agent ≡ empty_from 1 }
+    {
+        Desk {
+            alloc,
+            is_on: false,
+            agent: DomAgent::new(alloc),
+        }
+    }
+
+    /// Answers one frame.
+    pub(crate) fn answer_frame(
+        &mut self,
+        side: &mut PageSide,
+        frame: &[u8],
+        out: &mut Vec<u8>,
+    ) -> Result<(), AllocError>
+        requires room { HasRoomLeft self.old side.old }
+        ensures stands { (state : State) → DeskStandsFor self.old side.old state
+            → OnOk result (DeskStandsFor self.new side.new (frame_step frame.now state).state) }
+        ensures sent { (state : State) → DeskStandsFor self.old side.old state
+            → OnOk result (out.new.items ≡ out.old.items ++ frames_of_moves (frame_step frame.now state).moves) }
+    {
+        match read_command(self.alloc, frame, false) {
+            Ok(asked) => self.answer(side, asked.id, asked.command, out),
+            Err(ReadErr::Refused(refused)) => write_refused(self.alloc, &refused, out),
+            Err(ReadErr::Memory) => Err(AllocError),
+        }
+    }
+
+    /// Answers a command; one that nothing serves has an unknown method.
+    fn answer(
+        &mut self,
+        side: &mut PageSide,
+        id: u64,
+        command: Command,
+        out: &mut Vec<u8>,
+    ) -> Result<(), AllocError>
+        requires command { fits_command command ≡ true }
+        requires room { HasRoomLeft self.old side.old }
+        ensures stands { (state : State) → DeskStandsFor self.old side.old state
+            → OnOk result (DeskStandsFor self.new side.new (command_step id (server_of command) state).state) }
+        ensures sent { (state : State) → DeskStandsFor self.old side.old state
+            → OnOk result (out.new.items ≡ out.old.items ++ frames_of_moves (command_step id (server_of command) state).moves) }
+    {
+        match SeatPart::of_command(&command) {
+            SeatPart::Enables => self.enable(side, id, out),
+            SeatPart::Disables => self.disable(side, id, out),
+            SeatPart::Others => self.answer_by_agent(side, id, DomAsk::of_command(command), out),
+        }
+    }
+
+    /// Answers what the agent is asked, if it is asked something.
+    fn answer_by_agent(
+        &mut self,
+        side: &mut PageSide,
+        id: u64,
+        ask: Option<DomAsk>,
+        out: &mut Vec<u8>,
+    ) -> Result<(), AllocError>
+        requires ask { IfSome ask (λ a. fits_ask a ≡ true) }
+        requires room { HasRoomLeft self.old side.old }
+        ensures stands { (state : State) → DeskStandsFor self.old side.old state
+            → OnOk result (DeskStandsFor self.new side.new (command_step id (by_agent ask) state).state) }
+        ensures sent { (state : State) → DeskStandsFor self.old side.old state
+            → OnOk result (out.new.items ≡ out.old.items ++ frames_of_moves (command_step id (by_agent ask) state).moves) }
+    {
+        match ask {
+            Some(ask) => self.ask_agent(side, id, &ask, out),
+            None => self.refuse(id, Why::NoMethod, out),
+        }
+    }
+
+    fn refuse(&self, id: u64, why: Why, out: &mut Vec<u8>) -> Result<(), AllocError>
+        ensures { (state : State) → OnOk result (out.new.items ≡ out.old.items ++ frames_of_moves (refusing (Some id) why state).moves) }
+    {
+        let refused = Refused { id: Some(id), why };
+        write_refused(self.alloc, &refused, out)
+    }
+
+    /// `DOM.enable`
+    fn enable(&mut self, side: &mut PageSide, id: u64, out: &mut Vec<u8>) -> Result<(), AllocError>
+        ensures stands { (state : State) → DeskStandsFor self.old side.old state
+            → OnOk result (DeskStandsFor self.new side.new (server_step id server.enables state).state) }
+        ensures sent { (state : State) → OnOk result (out.new.items ≡ out.old.items ++ frames_of_moves (server_step id server.enables state).moves) }
+    {
+        let _ = side;
+        write_reply(self.alloc, id, &ReplyBody::Nothing, out)?;
+        self.is_on = true;
+        Ok(())
+    }
+
+    /// `DOM.disable`, which is refused while DOM is off.
+    fn disable(&mut self, side: &mut PageSide, id: u64, out: &mut Vec<u8>) -> Result<(), AllocError>
+        ensures stands { (state : State) → DeskStandsFor self.old side.old state
+            → OnOk result (DeskStandsFor self.new side.new (command_step id server.disables state).state) }
+        ensures sent { (state : State) → DeskStandsFor self.old side.old state
+            → OnOk result (out.new.items ≡ out.old.items ++ frames_of_moves (command_step id server.disables state).moves) }
+    {
+        let _ = side;
+        if !self.is_on {
+            return self.refuse(id, Why::DomOff, out);
+        }
+        write_reply(self.alloc, id, &ReplyBody::Nothing, out)?;
+        self.is_on = false;
+        self.agent.reset();
+        Ok(())
+    }
+
+    /// Whether the ask is refused since DOM is off.
+    fn is_refused(&self, ask: &DomAsk) -> bool
+        ensures { result ≡ (ask_needs_on ask.now && not self.now.is_on) }
+    {
+        needs_on(ask) && !self.is_on
+    }
+
+    /// Whether DOM is on after an ask that was carried out.
+    fn is_on_after(&self, ask: &DomAsk) -> bool
+        ensures { result ≡ (self.now.is_on || steps.turns_on ask.now) }
+    {
+        self.is_on || turns_on(ask)
+    }
+
+    fn ask_agent(
+        &mut self,
+        side: &mut PageSide,
+        id: u64,
+        ask: &DomAsk,
+        out: &mut Vec<u8>,
+    ) -> Result<(), AllocError>
+        requires ask { fits_ask ask.now ≡ true }
+        requires room { HasRoomLeft self.old side.old }
+        ensures stands { (state : State) → DeskStandsFor self.old side.old state
+            → OnOk result (DeskStandsFor self.new side.new (command_step id (server.agent ask.now) state).state) }
+        ensures sent { (state : State) → DeskStandsFor self.old side.old state
+            → OnOk result (out.new.items ≡ out.old.items ++ frames_of_moves (command_step id (server.agent ask.now) state).moves) }
+    {
+        if self.is_refused(ask) {
+            return self.refuse(id, Why::DomOff, out);
+        }
+        self.agent.ask(side.page(), id, ask, out)?;
+        self.is_on = self.is_on_after(ask);
+        Ok(())
+    }
+}

@@ -1,0 +1,205 @@
+// What a script does to the page under the client's eyes.
+ghost use Rattle.std.specs.Prelude.{◌≡◌, ◌<◌, ◌^◌, ◌+◌, ◌∷◌, ◌++◌, [], cond, OnOk, IfOk};
+ghost use Rattle.page_tree.specs.Forms.{CanLoad};
+ghost use Rattle.page_tree.specs.EditFaults.{CanApply, CanInsert, IsReady, first_fault, insert_fault, move_fault};
+ghost use Rattle.page_tree.specs.Edits.{after, back_tree};
+ghost use Rattle.page_forms.specs.Acts.{IsInsertable};
+ghost use Rattle.page_forms.specs.Pages.{loaded_nodes};
+ghost use Rattle.cdp_messages.specs.Moves.{clear, frames_of_moves};
+ghost use Rattle.back_end.specs.States.{State};
+ghost use Rattle.back_end.specs.Plans.{act_fault};
+ghost use Rattle.back_end.specs.Steps.{act_step, edit_step, load_step, lone_step};
+ghost use Rattle.back_end.specs.Texts.{HaveTexts, FormHasTexts, ActHasTexts, EditHasTexts};
+ghost use Rattle.back_end.specs.Seats.{DeskStandsFor, HasRoomLeft};
+
+use crate::desk::Desk;
+use crate::side::PageSide;
+use cdp_messages::{Event, write_event};
+use page_forms::{Act, PageForm};
+use page_tree::{EditErr, EditFault, NodeForm, Page, TreeEdit};
+use std::alloc::AllocError;
+
+impl Desk {
+    /// Carries out an edit that the page takes, and tells it. Gives the edit that leads back.
+    fn apply(
+        &mut self,
+        side: &mut PageSide,
+        edit: TreeEdit,
+        out: &mut Vec<u8>,
+    ) -> Result<TreeEdit, AllocError>
+        requires can { CanApply side.old.page.next edit side.old.page.tree }
+        requires ids { self.old.agent.next < 2 ^ 51 }
+        requires serials { side.old.page.next < 2 ^ 51 }
+        ensures page { OnOk result (side.new.page ≡ after edit side.old.page) }
+        ensures few { OnOk result (self.new.agent.next < self.old.agent.next + 2) }
+        ensures back { IfOk result (λ back. back ≡ back_tree edit side.old.page.tree) }
+        ensures stands { (state : State) → DeskStandsFor self.old side.old state → EditHasTexts edit
+            → OnOk result (DeskStandsFor self.new side.new (edit_step edit state).state) }
+        ensures sent { (state : State) → DeskStandsFor self.old side.old state
+            → OnOk result (out.new.items ≡ out.old.items ++ frames_of_moves (edit_step edit state).moves) }
+    {
+        match self.agent.edit(&mut side.page, edit, out) {
+            Ok(back) => Ok(back),
+            Err(EditErr::Fault(_)) => unreachable!(),
+            Err(EditErr::Memory) => Err(AllocError),
+        }
+    }
+
+    /// Carries an edit out, unless the page refuses it: then it gives the fault.
+    fn edit(
+        &mut self,
+        side: &mut PageSide,
+        edit: TreeEdit,
+        out: &mut Vec<u8>,
+    ) -> Result<Option<EditFault>, AllocError>
+        requires ready { IsReady side.old.page.next edit side.old.page.tree }
+        requires texts { EditHasTexts edit }
+        requires room { HasRoomLeft self.old side.old }
+        ensures fault { IfOk result (λ fault. fault ≡ first_fault edit side.old.page.tree) }
+        ensures stands { (state : State) → DeskStandsFor self.old side.old state
+            → OnOk result (DeskStandsFor self.new side.new (lone_step edit state).state) }
+        ensures sent { (state : State) → DeskStandsFor self.old side.old state
+            → OnOk result (out.new.items ≡ out.old.items ++ frames_of_moves (lone_step edit state).moves) }
+    {
+        match self.agent.edit(&mut side.page, edit, out) {
+            Ok(_) => Ok(None),
+            Err(EditErr::Fault(fault)) => Ok(Some(fault)),
+            Err(EditErr::Memory) => Err(AllocError),
+        }
+    }
+
+    /// Puts new nodes into the page, unless it refuses them.
+    fn insert(
+        &mut self,
+        side: &mut PageSide,
+        parent: u64,
+        before: u64,
+        form: NodeForm,
+        out: &mut Vec<u8>,
+    ) -> Result<Option<EditFault>, AllocError>
+        requires form { CanInsert form }
+        requires texts { FormHasTexts form }
+        requires room { HasRoomLeft self.old side.old }
+        ensures fault { IfOk result (λ fault. fault ≡ insert_fault parent before form side.old.page.tree) }
+        ensures stands { (state : State) → DeskStandsFor self.old side.old state
+            → OnOk result (DeskStandsFor self.new side.new (act_step (Act.Insert parent before form) state).state) }
+        ensures sent { (state : State) → DeskStandsFor self.old side.old state
+            → OnOk result (out.new.items ≡ out.old.items ++ frames_of_moves (act_step (Act.Insert parent before form) state).moves) }
+    {
+        side.page.valid();
+        if let Some(fault) = side.page.insert_fault(parent, before, &form) {
+            return Ok(Some(fault));
+        }
+        let tree = side.page.grow(form)?;
+        let attach = TreeEdit::Attach {
+            parent,
+            before,
+            tree,
+        };
+        self.apply(side, attach, out)?;
+        Ok(None)
+    }
+
+    /// Moves a node with all below it, unless the page refuses that: it is taken out, and put into its new place.
+    fn move_node(
+        &mut self,
+        side: &mut PageSide,
+        node: u64,
+        parent: u64,
+        before: u64,
+        out: &mut Vec<u8>,
+    ) -> Result<Option<EditFault>, AllocError>
+        requires room { HasRoomLeft self.old side.old }
+        ensures fault { IfOk result (λ fault. fault ≡ move_fault node parent before side.old.page.tree) }
+        ensures stands { (state : State) → DeskStandsFor self.old side.old state
+            → OnOk result (DeskStandsFor self.new side.new (act_step (Act.Move node parent before) state).state) }
+        ensures sent { (state : State) → DeskStandsFor self.old side.old state
+            → OnOk result (out.new.items ≡ out.old.items ++ frames_of_moves (act_step (Act.Move node parent before) state).moves) }
+    {
+        side.page.valid();
+        if let Some(fault) = side.page.move_fault(node, parent, before) {
+            return Ok(Some(fault));
+        }
+        let before = side.page.moved_before(node, parent, before);
+        let back = self.apply(side, TreeEdit::Detach { node }, out)?;
+        let TreeEdit::Attach { tree, .. } = back else {
+            unreachable!()
+        };
+        let attach = TreeEdit::Attach {
+            parent,
+            before,
+            tree,
+        };
+        self.apply(side, attach, out)?;
+        Ok(None)
+    }
+
+    /// A script's change of the page: the fault of one that is refused, which changes nothing.
+    pub(crate) fn script(
+        &mut self,
+        side: &mut PageSide,
+        act: Act,
+        out: &mut Vec<u8>,
+    ) -> Result<Option<EditFault>, AllocError>
+        requires form { IsInsertable act }
+        requires texts { ActHasTexts act }
+        requires room { HasRoomLeft self.old side.old }
+        ensures fault { IfOk result (λ fault. fault ≡ act_fault act side.old.page) }
+        ensures stands { (state : State) → DeskStandsFor self.old side.old state
+            → OnOk result (DeskStandsFor self.new side.new (act_step act state).state) }
+        ensures sent { (state : State) → DeskStandsFor self.old side.old state
+            → OnOk result (out.new.items ≡ out.old.items ++ frames_of_moves (act_step act state).moves) }
+    {
+        match act {
+            Act::SetAttr { node, name, value } => {
+                self.edit(side, TreeEdit::SetAttr { node, name, value }, out)
+            }
+            Act::DropAttr { node, name } => self.edit(side, TreeEdit::DropAttr { node, name }, out),
+            Act::SetText { node, value } => self.edit(side, TreeEdit::SetText { node, value }, out),
+            Act::Insert {
+                parent,
+                before,
+                form,
+            } => self.insert(side, parent, before, form, out),
+            Act::Remove { node } => self.edit(side, TreeEdit::Detach { node }, out),
+            Act::Move {
+                node,
+                parent,
+                before,
+            } => self.move_node(side, node, parent, before, out),
+        }
+    }
+
+    /// A new page in the place of the old one. Serials go on, and nothing is known of it.
+    pub(crate) fn load(
+        &mut self,
+        side: &mut PageSide,
+        form: PageForm,
+        out: &mut Vec<u8>,
+    ) -> Result<(), AllocError>
+        requires can { CanLoad (loaded_nodes form) }
+        requires texts { HaveTexts (loaded_nodes form) }
+        requires room { HasRoomLeft self.old side.old }
+        ensures stands { (state : State) → DeskStandsFor self.old side.old state
+            → OnOk result (DeskStandsFor self.new side.new (load_step (loaded_nodes form) state).state) }
+        ensures sent { (state : State) → DeskStandsFor self.old side.old state
+            → OnOk result (out.new.items ≡ out.old.items ++ frames_of_moves (load_step (loaded_nodes form) state).moves) }
+    {
+        side.page.valid();
+        let page = Page::load(self.alloc, side.page.next_serial(), form.nodes)?;
+        self.tell_load(out)?;
+        side.page = page;
+        self.agent.reset();
+        Ok(())
+    }
+
+    /// Tells a load, while DOM is on.
+    fn tell_load(&self, out: &mut Vec<u8>) -> Result<(), AllocError>
+        ensures { OnOk result (out.new.items ≡ out.old.items ++ frames_of_moves (cond self.now.is_on (clear ∷ []) [])) }
+    {
+        if self.is_on {
+            write_event(self.alloc, &Event::DocumentUpdated, out)?;
+        }
+        Ok(())
+    }
+}

@@ -1,7 +1,0 @@
--- The sheets that are left lead to the same entries.
-use Rattle.std.proofs.Common.{◌≡◌, drop}
-use Rattle.cascade_match.specs.Matched.{entries_of_sheets, put_all, matched_entries}
-use Rattle.cascade_match.proofs.matching.matched.Given as goal
-
-abbrev pub invariant-loop-i : goal.invariant-loop-i
-invariant-loop-i l = put_all l.found.entries (entries_of_sheets l.i (drop l.i l.book) l.node) ≡ matched_entries l.book l.node

@@ -1,0 +1,182 @@
+-- What the code of an edit comes to.
+use Rattle.std.proofs.Common.{◌≡◌, ℕ, suc, ◌+◌, ◌-◌, ◌<◌, ◌≤◌, ◌==◌, Bool, true, false, cond, List, [], ◌∷◌, ◌++◌, Option, Some, None, IsSome, is_some, unwrap_or, Result, Ok, Err, refl, sym, ap, subst, ◌∙◌, arith}
+use Rattle.std.proofs.lemmas.Bool.{eq-eqb}
+use Rattle.std.specs.Result.{OnOk, IfOk, IsOkAnd}
+use Rattle.std.specs.declared.alloc.AllocError.{AllocError}
+use Rattle.std.specs.FinMap as map
+use Rattle.node_tree.specs.Nodes.{Nodes, none, node, Branch, alone, from, tree_at, width}
+use Rattle.node_tree.specs.Labels.{holds}
+use Rattle.node_tree.specs.Seen.{leaf, counted}
+use Rattle.node_tree.proofs.KeyLemmas.{Stands, find-stands, stands-below}
+use Rattle.node_tree.proofs.ChangeLemmas.{at-new}
+use Rattle.page_tree.specs.Pages.{Row, State, IsValid, row_serial, find_in, node_at, parent_at}
+use Rattle.page_tree.specs.Edits.{after, after_tree, with_child, taken_out, children_at}
+use Rattle.page_tree.specs.EditFaults.{CanApply, CanAttach, first_fault}
+use Rattle.page_tree.specs.declared.edits.TreeEdit.{TreeEdit}
+use Rattle.page_tree.specs.declared.edits.TreeEdit.TheVariants.{Attach, Detach}
+use Rattle.page_tree.specs.declared.edit_faults.EditErr.{EditErr}
+use Rattle.cdp_messages.specs.declared.down.Event.{Event}
+use Rattle.page_tree.proofs.ChildLemmas.{Inserted, front, behind, inserted-before, inserted-taken, stands-inserted}
+use Rattle.page_tree.proofs.CursorLemmas.{from-next}
+use Rattle.page_tree.proofs.WholeLemmas.{whole-valid}
+use Rattle.page_tree.proofs.EditLemmas.{serial-live, whole-after, valid-after}
+use Rattle.page_tree.proofs.BackLemmas.{turned-live}
+use Rattle.node_binding.proofs.StartLemmas.{distinct-alone}
+use Rattle.node_binding.specs.Bindings.{Bound, opened_in, id_in, with_bound}
+use Rattle.cdp_messages.specs.Answers.{ended}
+use Rattle.cdp_messages.specs.Events.{News, inserted}
+use Rattle.cdp_messages.specs.Told.{Told, told_branch, hold_of}
+use Rattle.cdp_messages.specs.Moves.{inserts, removes, counts, Move, change, change_news, move_text, frames_of_moves}
+use Rattle.dom_agent.specs.Keepers.{Keeper, binding_keeper}
+use Rattle.dom_agent.specs.Edits.{Edited, id_before, unopened, told_count, insertion, child_came, edited, event_frames}
+use Rattle.dom_agent.specs.EditLaws.{binding_edited}
+use Rattle.dom_agent.proofs.EditsShown as seen
+
+-- ---- results
+
+pub on_ok : {T E P Q : Type 0} (r : Result T E) → OnOk r P → (P → Q) → OnOk r Q
+on_ok (Ok x) p f = f p
+on_ok (Err e) p f = tt
+
+-- an event that was made before the edit, and sent after it
+pub event_sent : {T : Type 0} (r : Result T EditErr) (event : Result (Option Event) AllocError) (out out2 frames wanted : List ℕ) → OnOk r (IsOkAnd event (λ told. out2 ≡ out ++ event_frames told)) → IfOk event (λ told. event_frames told ≡ frames) → frames ≡ wanted → OnOk r (out2 ≡ out ++ wanted)
+event_sent (Ok x) (Ok told) out out2 frames wanted sent is same = sent ∙ ap (λ l. out ++ l) (is ∙ same)
+event_sent (Ok x) (Err e) out out2 frames wanted sent is same = absurd sent
+event_sent (Err e) event out out2 frames wanted sent is same = tt
+
+-- the same edit, by the agent's value
+pub by_agent : (page : State) (b self : Bound) (e edit : TreeEdit) → b ≡ self → edit ≡ e → binding_edited e page b ≡ binding_edited edit page self
+by_agent page b self e edit value_is edit_is = λ k. binding_edited (sym edit_is k) page (value_is k)
+
+-- ---- the sibling before
+
+module _ (ids : ℕ → ℕ) (n : Nodes Row) (k : ℕ) (x : Branch Row) (serial p q : ℕ) (inside : k < width n) (at : tree_at k n ≡ Some x) (was : id_before ids p serial (from k n) ≡ q) where
+  here : cond {A = ℕ} (x.row.serial == serial) p (id_before ids (ids x.row.serial) serial (from (k + 1) n)) ≡ q
+  here = sym (ap (id_before ids p serial) (from-next n k x inside at)) ∙ was
+
+  pub prior_found : x.row.serial ≡ serial → p ≡ q
+  prior_found same = sym (ap (λ b. cond {A = ℕ} b p (id_before ids (ids x.row.serial) serial (from (k + 1) n))) (eq-eqb x.row.serial serial same)) ∙ here
+
+  pub prior_turn : (x.row.serial == serial) ≡ false → id_before ids (ids x.row.serial) serial (from (k + 1) n) ≡ q
+  prior_turn other = sym (ap (λ b. cond {A = ℕ} b p (id_before ids (ids x.row.serial) serial (from (k + 1) n))) other) ∙ here
+
+pub prior_end : (ids : ℕ → ℕ) (left : Nodes Row) (serial p q : ℕ) → left ≡ none → id_before ids p serial left ≡ q → p ≡ q
+prior_end ids left serial p q ended was = sym (ap (id_before ids p serial) ended) ∙ was
+
+-- ---- a node as an event tells it that has come
+
+abbrev told_shut : ℕ → ℕ → Branch Row → Branch Told
+told_shut parent id x = record {
+  row = record {
+    parent = parent;
+    count = cond {A = ℕ} (holds x.row.label.kind) (width x.children) 0;
+    seen = record { id = id; serial = x.row.serial; label = x.row.label; hold = hold_of false (holds x.row.label.kind) (cond {A = ℕ} (holds x.row.label.kind) (width x.children) 0) };
+  };
+  children = none;
+}
+
+told_unopened : (parent id : ℕ) (x : Branch Row) → told_shut parent id x ≡ told_branch parent (unopened id x)
+told_unopened parent id x = by (holds x.row.label.kind)
+  where
+    by : (h : Bool)
+        → ◌≡◌ {A = Branch Told} (record {
+          row = record { parent = parent; count = cond {A = ℕ} h (width x.children) 0; seen = record { id = id; serial = x.row.serial; label = x.row.label; hold = hold_of false h (cond {A = ℕ} h (width x.children) 0) } };
+          children = none;
+        }) (told_branch parent (record { row = record { id = id; serial = x.row.serial; label = x.row.label; hold = cond h (counted (width x.children)) leaf }; children = none }))
+    by true = refl
+    by false = refl
+
+pub inserted_news : (b : Bound) (parent above id previous : ℕ) (x : Branch Row) (kids : Nodes Row) (t : Branch Told) → above ≡ id_in b parent → id ≡ id_in b x.row.serial → previous ≡ id_before (id_in b) 0 x.row.serial kids → t ≡ told_shut above id x
+    → inserted above previous t ≡ change_news (id_in b parent) (inserts (id_before (id_in b) 0 x.row.serial kids) (unopened (id_in b x.row.serial) x))
+inserted_news b parent above id previous x kids t above_is id_is previous_is told =
+    ap (inserted above previous) (told ∙ told_unopened above id x)
+    ∙ (λ k. inserted (above_is k) (previous_is k) (told_branch (above_is k) (unopened (id_is k) x)))
+
+-- ---- a node that goes
+
+-- one tree less
+width-inserted : {w : Branch Row} {n m : Nodes Row} → Inserted w n m → width m ≡ suc (width n)
+width-inserted (front t) = refl
+width-inserted (behind r c t u i) = ap suc (width-inserted i)
+
+module _ (page : State) (valid : IsValid page) (serial : ℕ) (fits : first_fault (Detach serial) page.tree ≡ None) where
+  can : CanApply page.next (Detach serial) page.tree
+  can = record { fits = fits; ready = tt }
+
+  pub removed_live : (parent : ℕ) → parent ≡ parent_at serial page.tree → IsSome (find_in parent page.tree)
+  removed_live parent is = subst (λ (p : ℕ). is_some (find_in p page.tree) ≡ true) (sym is) (seen.part page valid serial can).live
+
+  fewer : width (node_at (parent_at serial page.tree) page.tree).children ≡ suc (width (children_at (parent_at serial page.tree) (after_tree (Detach serial) page.tree)))
+  fewer =
+      let q = node_at (parent_at serial page.tree) page.tree in
+      width-inserted (inserted-taken serial (node_at serial page.tree) q.children (serial-live serial page.tree (seen.live3 page valid serial can)) (seen.part page valid serial can).child)
+      ∙ ap (λ (c : Nodes Row). suc (width c)) (sym (seen.children_left page valid serial can))
+
+  pub removed_some : (parent : ℕ) → parent ≡ parent_at serial page.tree → 1 ≤ width (node_at parent page.tree).children
+  removed_some parent is = omega (arith, ap (λ (p : ℕ). width (node_at p page.tree).children) is, fewer)
+
+  pub removed_counts : (n : Nodes Row) (b : Bound) (parent above len : ℕ) → parent ≡ parent_at serial page.tree → opened_in b parent ≡ false → Some above ≡ map.get b.ids parent → len ≡ width (node_at parent page.tree).children
+      → ◌≡◌ {A = List Move} (change above (counts (len - 1)) ∷ []) (edited (binding_keeper n) (Detach serial) page.tree b).moves
+  removed_counts n b parent above len is shut known len_is =
+      let kids = children_at (parent_at serial page.tree) (after_tree (Detach serial) page.tree) in
+      let left : len - 1 ≡ width kids = omega (arith, len_is, ap (λ (p : ℕ). width (node_at p page.tree).children) is, fewer) in
+      let shut_there : opened_in b (parent_at serial page.tree) ≡ false = ap (opened_in b) (sym is) ∙ shut in
+      let known_there : map.get b.ids (parent_at serial page.tree) ≡ Some above = ap (map.get b.ids) (sym is) ∙ sym known in
+      (λ k. change above (counts (left k)) ∷ [])
+      ∙ sym (ap (λ (o : Option ℕ). cond (is_some o) (change (unwrap_or o 0) (counts (width kids)) ∷ []) []) known_there)
+      ∙ sym (ap (λ v. cond v (change (id_in b (parent_at serial page.tree)) (removes (id_in b (node_at serial page.tree).row.serial)) ∷ []) (cond (is_some (map.get b.ids (parent_at serial page.tree))) (change (id_in b (parent_at serial page.tree)) (counts (width kids)) ∷ []) [])) shut_there)
+
+-- ---- a node that came
+
+module _ (n : Nodes Row) (b : Bound) (parent : ℕ) (x : Branch Row) (kids : Nodes Row) where
+  abbrev of_binding : Keeper Bound
+  of_binding = binding_keeper n
+
+  pub came_shut : opened_in b parent ≡ false → child_came of_binding parent x kids b ≡ record { state = b; moves = told_count of_binding parent kids b }
+  came_shut shut = ap (λ v. cond v (record { state = with_bound x.row.serial b; moves = insertion of_binding parent x kids (with_bound x.row.serial b) ∷ [] }) (record { state = b; moves = told_count of_binding parent kids b })) shut
+
+  pub came_open : opened_in b parent ≡ true → child_came of_binding parent x kids b ≡ record { state = with_bound x.row.serial b; moves = insertion of_binding parent x kids (with_bound x.row.serial b) ∷ [] }
+  came_open is = ap (λ v. cond v (record { state = with_bound x.row.serial b; moves = insertion of_binding parent x kids (with_bound x.row.serial b) ∷ [] }) (record { state = b; moves = told_count of_binding parent kids b })) is
+
+pub inserted_sent : (n : Nodes Row) (b b2 : Bound) (parent serial : ℕ) (x y : Branch Row) (kids kids2 : Nodes Row) (text out out2 : List ℕ) → y ≡ x → kids2 ≡ kids → serial ≡ y.row.serial → b2 ≡ with_bound serial b → opened_in b parent ≡ true
+    → text ≡ move_text (insertion (binding_keeper n) parent y kids2 b2) → out2 ≡ out ++ (ended text ++ []) → out2 ≡ out ++ frames_of_moves (child_came (binding_keeper n) parent x kids b).moves
+inserted_sent n b b2 parent serial x y kids kids2 text out out2 node_is kids_are serial_is bound is told sent =
+    let after_is : b2 ≡ with_bound x.row.serial b = bound ∙ ap (λ (s : ℕ). with_bound s b) serial_is ∙ ap (λ (t : Branch Row). with_bound t.row.serial b) node_is in
+    let moves : ◌≡◌ {A = List Move} (insertion (binding_keeper n) parent y kids2 b2 ∷ []) (child_came (binding_keeper n) parent x kids b).moves =
+    (λ k. insertion (binding_keeper n) parent (node_is k) (kids_are k) (after_is k) ∷ []) ∙ sym (ap (λ (d : Edited Bound). d.moves) (came_open n b parent x kids is)) in
+    sent ∙ ap (λ t. out ++ (ended t ++ [])) told ∙ ap (λ ms. out ++ frames_of_moves ms) moves
+
+module _ (page : State) (valid : IsValid page) (parent before : ℕ) (x : Branch Row) (fits : first_fault (Attach parent before x) page.tree ≡ None) (ready : CanAttach page.next x page.tree)
+    (page2 : State) (after_is : page2 ≡ after (Attach parent before x) page) where
+  can_attach : CanApply page.next (Attach parent before x) page.tree
+  can_attach = record { fits = fits; ready = ready }
+
+  abbrev there : State
+  there = after (Attach parent before x) page
+
+  valid_after : IsValid there
+  valid_after = valid-after page (Attach parent before x) valid can_attach
+
+  found_child : find_in x.row.serial there.tree ≡ Some x
+  found_child =
+      let at = seen.at page valid parent before x can_attach in
+      let p : Branch Row = node_at parent page.tree in
+      let above : Stands (with_child before x p) (alone there.tree) = (at.0, alone there.tree, at-new at.1) in
+      find-stands row_serial x (alone there.tree) (stands-below (with_child before x p) x (alone there.tree) above (stands-inserted (inserted-before before x p.children))) (distinct-alone there valid_after x.row.serial)
+
+  pub came_parent : IsSome (find_in parent page2.tree)
+  came_parent =
+      subst (λ (y : State). is_some (find_in parent y.tree) ≡ true) (sym after_is)
+      (turned-live parent (with_child before x) page.tree (seen.live page valid parent before x can_attach) (whole-after page.next page.tree (whole-valid page valid) (Attach parent before x) can_attach) refl)
+
+  pub came_child : (serial : ℕ) → serial ≡ x.row.serial → IsSome (find_in serial page2.tree)
+  came_child serial is =
+      subst (λ (y : State). is_some (find_in serial y.tree) ≡ true) (sym after_is)
+      (subst (λ (s : ℕ). is_some (find_in s there.tree) ≡ true) (sym is) (ap (λ (o : Option (Branch Row)). is_some o) found_child))
+
+  pub came_same : (n : Nodes Row) (b : Bound) (serial : ℕ) → serial ≡ x.row.serial
+      → child_came (binding_keeper n) parent (node_at serial page2.tree) (children_at parent page2.tree) b ≡ edited (binding_keeper n) (Attach parent before x) page.tree b
+  came_same n b serial is =
+      ap (λ (y : State). child_came (binding_keeper n) parent (node_at serial y.tree) (children_at parent y.tree) b) after_is
+      ∙ ap (λ (s : ℕ). child_came (binding_keeper n) parent (node_at s there.tree) (children_at parent there.tree) b) is
+      ∙ ap (λ (o : Option (Branch Row)). child_came (binding_keeper n) parent (unwrap_or o there.tree) (children_at parent there.tree) b) found_child

@@ -1,0 +1,59 @@
+// Attributes set and dropped, in a list that ascends by the names' bytes.
+ghost use Rattle.std.specs.Prelude.{◌≡◌, true, IfOk, OnOk, OnErr};
+ghost use Rattle.node_tree.specs.Labels.{value_of, is_ascending};
+ghost use Rattle.cdp_messages.specs.LabelChanges.{placed, pairs_without};
+ghost use Rattle.front_mirror.specs.Searches.{search_name};
+
+use node_tree::{Attributes, Text};
+use std::alloc::AllocError;
+use std::cmp::Ordering;
+
+/// The place of the first attribute whose name is not before this one: `Ok` where it has the name.
+fn search_name(attributes: &Attributes, name: &str) -> Result<usize, usize>
+    ensures { result ≡ search_name name.now attributes.now }
+{
+    for i in 0..attributes.len() {
+        let (other, _value) = attributes.at(i);
+        match name.cmp(other) {
+            Ordering::Less => return Err(i),
+            Ordering::Equal => return Ok(i),
+            Ordering::Greater => {}
+        }
+    }
+    Err(attributes.len())
+}
+
+/// Sets the attribute of that name, or adds it in its place, and gives the old value.
+pub(crate) fn set_attribute(
+    attributes: &mut Attributes,
+    name: Text,
+    value: Text,
+) -> Result<Option<Text>, AllocError>
+    requires { is_ascending attributes.old ≡ true }
+    ensures ok { OnOk result (attributes.new ≡ placed (name, value) attributes.old) }
+    ensures was { IfOk result (λ was. was ≡ value_of name attributes.old) }
+    ensures err { OnErr result (attributes.new ≡ attributes.old) }
+{
+    match search_name(attributes, name.as_str()) {
+        Ok(i) => Ok(Some(attributes.set_value(i, value))),
+        Err(i) => {
+            attributes.insert(i, name, value)?;
+            Ok(None)
+        }
+    }
+}
+
+/// Takes the attribute of that name away, and gives its value. Where there is none, nothing changes.
+pub(crate) fn drop_attribute(attributes: &mut Attributes, name: &str) -> Option<Text>
+    requires { is_ascending attributes.old ≡ true }
+    ensures rest { attributes.new ≡ pairs_without name.now attributes.old }
+    ensures was { result ≡ value_of name.now attributes.old }
+{
+    match search_name(attributes, name) {
+        Ok(i) => {
+            let (_name, value) = attributes.remove(i);
+            Some(value)
+        }
+        Err(_) => None,
+    }
+}

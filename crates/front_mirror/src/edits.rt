@@ -1,0 +1,201 @@
+// Changes of one node of the mirror: whether they fit it.
+ghost use Rattle.std.specs.Prelude.{◌≡◌, ◌&&◌, ◌==◌, ◌<◌, position, IfOk};
+ghost use Rattle.node_tree.specs.Labels.{is_element, has_value};
+ghost use Rattle.node_tree.specs.Nodes.{nodes_of};
+ghost use Rattle.node_tree.specs.Keys.{spot};
+ghost use Rattle.node_tree.specs.Seen.{seen_id};
+ghost use Rattle.cdp_messages.specs.Moves.{has_tree, suits_change};
+ghost use Rattle.cdp_messages.specs.Views.{most_levels};
+ghost use Rattle.cdp_messages.specs.Told.{seen_nodes, seen_branch};
+ghost use Rattle.front_mirror.specs.Front.{any_node, clashes, is_unique, is_fresh, stands_low, takes_change, knows_named};
+ghost use Rattle.front_mirror.specs.Edits.{edit_nodes, edit_change, edit_told, spot_fault};
+
+use crate::checks::{MOST_LEVELS, are_kin, are_new, are_within};
+use crate::faults::FrontKind;
+use crate::mirror::Mirror;
+use crate::told::{children_of, is_opened, is_unopened};
+use cdp_messages::{Kind, NodeTree};
+use node_tree::Text;
+use std::alloc::{AllocError, Global};
+use std::slice;
+
+/// What becomes of one node.
+#[derive(Drop)]
+pub(crate) enum NodeEdit {
+    /// Its children are shown from now on.
+    Show(Vec<NodeTree>),
+    /// It has one more child, behind that of the id, or first where that is 0.
+    Insert { previous: u64, node: NodeTree },
+    /// Its child of that id is gone.
+    Remove(u64),
+    /// It has so many children, which are not shown.
+    Count(u64),
+    SetAttribute { name: Text, value: Text },
+    DropAttribute(Text),
+    SetValue(Text),
+}
+
+/// The place of the first of these trees that has the id.
+pub(crate) fn place_of(trees: &[NodeTree], id: u64) -> Option<usize>
+    ensures { result ≡ position (λ tree. tree.row.seen.id == id) trees.now }
+{
+    trees.iter().position(|tree| tree.id == id)
+}
+
+/// Whether a shown child of the node has the id.
+fn has_child(node: &NodeTree, id: u64) -> bool
+    ensures { result ≡ has_tree id (seen_nodes node.now.children) }
+{
+    place_of(children_of(node), id).is_some()
+}
+
+fn is_element(node: &NodeTree) -> bool
+    ensures { result ≡ is_element node.now.row.seen.label.kind }
+{
+    match node.kind {
+        Kind::Element => true,
+        Kind::Document | Kind::Text | Kind::Comment | Kind::Doctype => false,
+    }
+}
+
+fn has_value(node: &NodeTree) -> bool
+    ensures { result ≡ has_value node.now.row.seen.label.kind }
+{
+    match node.kind {
+        Kind::Text | Kind::Comment => true,
+        Kind::Document | Kind::Element | Kind::Doctype => false,
+    }
+}
+
+impl NodeEdit {
+    /// The nodes that come with it.
+    fn nodes(&self) -> &[NodeTree]
+        ensures { nodes_of result.now ≡ edit_nodes self.now }
+    {
+        match self {
+            NodeEdit::Show(nodes) => nodes.as_slice(),
+            NodeEdit::Insert { node, .. } => slice::from_ref(node),
+            NodeEdit::Remove(_)
+            | NodeEdit::Count(_)
+            | NodeEdit::SetAttribute { .. }
+            | NodeEdit::DropAttribute(_)
+            | NodeEdit::SetValue(_) => &[],
+        }
+    }
+
+    /// Whether the node is of a kind and in a state that it fits.
+    fn is_for(&self, node: &NodeTree) -> bool
+        ensures { result ≡ takes_change (edit_change self.now) node.now.row.seen }
+    {
+        match self {
+            NodeEdit::Show(_) | NodeEdit::Count(_) => is_unopened(node),
+            NodeEdit::Insert { .. } | NodeEdit::Remove(_) => is_opened(node),
+            NodeEdit::SetAttribute { .. } | NodeEdit::DropAttribute(_) => is_element(node),
+            NodeEdit::SetValue(_) => has_value(node),
+        }
+    }
+
+    /// Whether the child that it names is known.
+    fn is_named(&self, mirror: &Mirror) -> bool
+        ensures { result ≡ knows_named mirror.now (edit_change self.now) }
+    {
+        match self {
+            NodeEdit::Insert { previous, .. } => *previous == 0 || mirror.has_id(*previous),
+            NodeEdit::Remove(id) => mirror.has_id(*id),
+            NodeEdit::Show(_)
+            | NodeEdit::Count(_)
+            | NodeEdit::SetAttribute { .. }
+            | NodeEdit::DropAttribute(_)
+            | NodeEdit::SetValue(_) => true,
+        }
+    }
+
+    /// Whether it may be told of the node.
+    fn suits(&self, node: &NodeTree) -> bool
+        ensures { result ≡ suits_change (edit_change self.now) (seen_branch node.now) }
+    {
+        match self {
+            NodeEdit::Show(_) | NodeEdit::Count(_) => is_unopened(node),
+            NodeEdit::Insert {
+                previous,
+                node: child,
+            } => {
+                is_opened(node)
+                    && (*previous == 0 || has_child(node, *previous))
+                    && !is_opened(child)
+            }
+            NodeEdit::Remove(id) => is_opened(node) && has_child(node, *id),
+            NodeEdit::SetAttribute { .. } | NodeEdit::DropAttribute(_) => is_element(node),
+            NodeEdit::SetValue(_) => has_value(node),
+        }
+    }
+}
+
+/// Whether the mirror has the node's id or its serial.
+fn clashes(mirror: &Mirror, node: &NodeTree) -> bool
+    ensures { result ≡ clashes mirror.now node.now.row }
+{
+    mirror.has_id(node.id) || mirror.has_serial(node.serial)
+}
+
+/// Whether the mirror has an id or a serial of the nodes.
+#[tactic(auto, using(crate::proofs::ToldLemmas::node_count_below))]
+fn clash(mirror: &Mirror, nodes: &[NodeTree]) -> bool
+    ensures { result ≡ any_node (clashes mirror.now) (nodes_of nodes.now) }
+{
+    for node in nodes {
+        if clashes(mirror, node) {
+            return true;
+        }
+        if clash(mirror, children_of(node)) {
+            return true;
+        }
+    }
+    false
+}
+
+/// No id and no serial of the nodes comes twice among them, or is one of the mirror's.
+fn are_fresh(alloc: Global, mirror: &Mirror, nodes: &[NodeTree]) -> Result<bool, AllocError>
+    ensures { IfOk result (λ fresh. fresh ≡ (is_unique (nodes_of nodes.now) && is_fresh mirror.now (nodes_of nodes.now))) }
+{
+    if !are_new(alloc, nodes)? {
+        return Ok(false);
+    }
+    Ok(!clash(mirror, nodes))
+}
+
+/// None of the nodes stands above the level limit, where they stand below a node of this level.
+fn stand_low(nodes: &[NodeTree], level: usize) -> bool
+    requires { level < most_levels }
+    ensures { result ≡ stands_low level (nodes_of nodes.now) }
+{
+    are_within(nodes, MOST_LEVELS - 1 - level)
+}
+
+/// What is wrong with a change of the node of that id, the first by number.
+pub(crate) fn edit_fault(
+    alloc: Global,
+    mirror: &Mirror,
+    id: u64,
+    edit: &NodeEdit,
+) -> Result<Option<FrontKind>, AllocError>
+    ensures { IfOk result (λ wrong. wrong ≡ spot_fault mirror.now (edit_told id edit.now) (spot seen_id id 0 mirror.now)) }
+{
+    let Some((node, level)) = mirror.spot(id) else {
+        return Ok(Some(FrontKind::UnknownNode));
+    };
+    if !edit.is_for(node) || !edit.is_named(mirror) {
+        return Ok(Some(FrontKind::UnknownNode));
+    }
+    let nodes = edit.nodes();
+    if !edit.suits(node) || !are_kin(nodes, id) {
+        return Ok(Some(FrontKind::NotChild));
+    }
+    if !are_fresh(alloc, mirror, nodes)? {
+        return Ok(Some(FrontKind::IdTaken));
+    }
+    if !stand_low(nodes, level) {
+        return Ok(Some(FrontKind::TooDeep));
+    }
+    Ok(None)
+}

@@ -1,0 +1,53 @@
+-- The message of each move of a course is a text without a zero byte.
+use Rattle.std.proofs.Common.{◌≡◌, true, false, refl, ap, sym, subst}
+use Rattle.cdp_json.specs.Plain.{is_plain}
+use Rattle.node_tree.specs.Nodes.{Nodes, Branch, alone}
+use Rattle.node_tree.specs.Seen.{Seen}
+use Rattle.pipe_frames.specs.Frames.{IsText}
+use Rattle.cdp_messages.specs.declared.down.ReplyBody.TheVariants.{Nothing, Root}
+use Rattle.cdp_messages.specs.declared.down.PauseData.{PauseData}
+use Rattle.cdp_messages.specs.declared.down.PauseData.TheVariants as pause
+use Rattle.cdp_messages.specs.Events.{paused, document_updated, fits_news}
+use Rattle.cdp_messages.specs.Replies.{message_data}
+use Rattle.cdp_messages.specs.Tellable.{suits_tree}
+use Rattle.cdp_messages.specs.Told.{told_branch}
+use Rattle.cdp_messages.specs.Views.{View}
+use Rattle.cdp_messages.specs.Moves as move
+use Rattle.cdp_messages.specs.Moves.{Move, change_news, message_of, move_text, paused_nodes, AreShown, suits_view, IsTellable, CanBeTold, Moves}
+use Rattle.cdp_messages.proofs.Messages.{reply_plain, refusal_plain}
+use Rattle.cdp_messages.proofs.NewsLaws.{news_plain}
+use Rattle.cdp_messages.proofs.TellableLaws.{shown_trees_fit}
+use Rattle.cdp_messages.proofs.ZeroFree.{texts_have_no_zero}
+use Rattle.front_mirror.proofs.BoolLemmas.{and_left, both}
+use Rattle.front_mirror.proofs.FollowLemmas.{told_change_news, shown_id}
+
+pause-fits : (why : PauseData) (u : Nodes Seen) → AreShown (paused_nodes why) u → suits_view u ≡ true → fits_news (paused why) ≡ true
+pause-fits (pause.Subtree watched target true) u are s =
+    let a = shown_id watched u are.0 s in
+    let b = shown_id target u are.1.0 s in
+    both (both (both a.counted a.positive) (both (both b.counted b.positive) refl)) refl
+pause-fits (pause.Subtree watched target false) u are s =
+    let a = shown_id watched u are.0 s in
+    let b = shown_id target u are.1.0 s in
+    both (both (both a.counted a.positive) (both (both b.counted b.positive) refl)) refl
+pause-fits (pause.Attribute watched) u are s = let a = shown_id watched u are.0 s in both (both (both a.counted a.positive) refl) refl
+pause-fits (pause.Removed watched) u are s = let a = shown_id watched u are.0 s in both (both (both a.counted a.positive) refl) refl
+
+root-suits : (b : Branch Seen) (w : View) → CanBeTold w → alone b ≡ w.tree → suits_tree true b ≡ true
+root-suits b w there is =
+    let can : IsTellable (alone b) = subst IsTellable (sym is) there.tree in
+    and_left (suits_tree true b) true can.forms
+
+move-plain : (m : Move) (u w : View) → CanBeTold u → CanBeTold w → Moves m u w → is_plain (message_data (message_of m)) ≡ true
+move-plain (move.change id c) u w here there moves = news_plain (change_news id c) (told_change_news u.tree w.tree id c here.tree there.tree moves.0).fits
+move-plain move.clear u w here there moves = news_plain document_updated refl
+move-plain (move.met why) u w here there moves = news_plain (paused why) (pause-fits why u.tree moves.1 here.tree.forms)
+move-plain (move.root id b) u w here there moves =
+    reply_plain id (Root (told_branch 0 b)) moves.1 (shown_trees_fit b (root-suits b w there (ap (λ (x : View). x.tree) (sym moves.0))))
+move-plain (move.replied id body) u w here there moves = reply_plain id body moves.1.id_fits moves.1.fits
+move-plain (move.all_off id) u w here there moves = reply_plain id Nothing moves.1 refl
+move-plain (move.sheets_off id) u w here there moves = reply_plain id Nothing moves.1 refl
+move-plain (move.failed r) u w here there moves = refusal_plain r moves.1
+
+pub move-is-text : (m : Move) (u w : View) → CanBeTold u → CanBeTold w → Moves m u w → IsText (move_text m)
+move-is-text m u w here there moves = texts_have_no_zero (message_data (message_of m)) (move-plain m u w here there moves)

@@ -1,0 +1,4 @@
+pub mod Acts
+pub mod SheetActs
+pub mod Pages
+pub mod Texts

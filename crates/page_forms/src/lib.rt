@@ -1,0 +1,15 @@
+//! What a page that is loaded and a change that a script makes of it say, read from JSON: exactly their forms, and nothing else.
+#![tactic(auto)]
+
+mod acts;
+mod laws;
+mod pages;
+mod sheet_acts;
+
+pub use acts::{Act, ActErr, read_act};
+pub use laws::texts_law;
+pub use pages::{PageForm, read_page};
+pub use sheet_acts::is_sheet_act;
+
+#[cfg(test)]
+mod tests;
