@@ -152,6 +152,7 @@ fn children_are_told_once(rt: HostRuntime) -> Result<(), Fail> {
 #[test]
 fn a_push_gives_the_id(rt: HostRuntime) -> Result<(), Fail> {
     let page = page(rt.alloc())?;
+    page.valid();
     let mut agent = DomAgent::new(rt.alloc());
     let mut out = Vec::new(rt.alloc());
     let command = DomAsk::GetDocument {
