@@ -38,7 +38,8 @@ fn attribute_holds(own: (&str, &str), name: &str, op: AttrOp, operand: &str) -> 
     same_name(own.0, name) && compares(op, operand, own.1)
 }
 
-fn has_attribute(name: &str, op: AttrOp, operand: &str, node: &NodeRef<'_>) -> bool
+/// Some attribute has the name, in any ASCII case, and a value that is as the operator and the operand ask.
+pub fn has_attribute(name: &str, op: AttrOp, operand: &str, node: &NodeRef<'_>) -> bool
     ensures { result ≡ has_attribute name.now (compares op operand.now) (attributes_of node.now) }
 {
     for i in 0..node.attr_len() {
@@ -49,7 +50,7 @@ fn has_attribute(name: &str, op: AttrOp, operand: &str, node: &NodeRef<'_>) -> b
     false
 }
 
-pub fn test_holds(test: &Test, node: &NodeRef<'_>) -> bool
+fn test_holds(test: &Test, node: &NodeRef<'_>) -> bool
     ensures { result ≡ test_holds (test_seen test.now) node.now }
 {
     match test {

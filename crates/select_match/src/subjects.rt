@@ -1,38 +1,39 @@
 //! An element that many selectors are tried on.
 
-ghost use Rattle.std.specs.Prelude.{◌≡◌, ◌≤◌, ◌&&◌, ◌==◌, map, reverse, IfOk};
+ghost use Rattle.std.specs.Prelude.{◌≡◌, ◌≤◌, ◌&&◌, ◌||◌, ◌==◌, not, map, reverse, IfOk};
 ghost use Rattle.std.specs.Char.{is_ascii_whitespace};
 ghost use Rattle.std.specs.Str.{bytes_eq};
 ghost use Rattle.std.specs.List.{list_any, list_all, slice_split};
 ghost use Rattle.selectors.specs.Forms.{id, class, test_seen, simple_seen, compound_seen, selector_seen};
 ghost use Rattle.select_match.specs.Elements.{index};
 ghost use Rattle.select_match.specs.Matches.{test_holds, simple_holds, compound_holds, left_holds, chain_holds, selector_matches};
-ghost use Rattle.select_match.specs.Subjects.{element_places, class_pieces};
+ghost use Rattle.select_match.specs.Subjects.{element_places, class_pieces, is_quick_test, is_quick};
 
 use crate::chains::look_left;
-use crate::elements::{is_element, is_nth};
+use crate::elements::{index, is_element, is_filled, is_nth, is_root};
 use crate::outcome::Outcome;
-use crate::places::{ElementPlaces, element_place, element_places};
-use crate::simple::test_holds;
+use crate::places::{ElementPlaces, KnownPlaces};
+use crate::simple::has_attribute;
+use crate::texts::same_name;
 use page_tree::NodeRef;
 use selectors::{Compound, Joint, NthKind, Selector, Simple, Test};
 use std::alloc::{AllocError, Global};
 use std::marker::Model;
 
 /// An element that many selectors are tried on, with what they ask of it often, computed once: its id and the pieces of its
-/// class when it is made, and its places among its siblings when a selector first asks for one.
+/// class when it is made, and each of its places among its siblings when a selector first asks for it.
 #[derive(Drop)]
 pub struct Subject<'a> {
     node: NodeRef<'a>,
     id: Option<&'a str>,
     classes: Vec<&'a [u8]>,
-    places: Option<ElementPlaces>,
+    places: KnownPlaces,
 }
 
 impl<'a> Model for Subject<'a> {
-    ghost use Rattle.std.specs.Prelude.{◌≡◌, map, option_map, IfSome};
+    ghost use Rattle.std.specs.Prelude.{◌≡◌, map, option_map};
     ghost use Rattle.page_tree.specs.Zippers.{Zipper, coded_zipper};
-    ghost use Rattle.select_match.specs.Subjects.{element_places, id_of, class_pieces};
+    ghost use Rattle.select_match.specs.Subjects.{KnowsPlaces, id_of, class_pieces};
 
     ghost Value = { Zipper };
 
@@ -41,7 +42,7 @@ impl<'a> Model for Subject<'a> {
     ghost view = { λ s. s.node };
 
     ghost invariant = { λ s. (option_map (λ v. v.now) s.id ≡ id_of s.node) × (map (λ w. w.now) s.classes.items ≡ class_pieces s.node)
-        × IfSome s.places (λ p. p ≡ element_places s.node) };
+        × KnowsPlaces s.places s.node };
 }
 
 impl<'a> Subject<'a> {
@@ -55,7 +56,7 @@ impl<'a> Subject<'a> {
             node,
             id,
             classes,
-            places: None,
+            places: KnownPlaces::new(),
         })
     }
 
@@ -74,7 +75,7 @@ impl<'a> Subject<'a> {
             node,
             id,
             classes,
-            places: Some(places),
+            places: KnownPlaces::of(places),
         })
     }
 
@@ -102,28 +103,21 @@ impl<'a> Subject<'a> {
         is_one_of(self.classes.as_slice(), word.as_bytes())
     }
 
-    fn places(&mut self) -> ElementPlaces
-        ensures value { result ≡ element_places self.old }
-        ensures same { self.new ≡ self.old }
-    {
-        match self.places {
-            Some(places) => places,
-            None => {
-                let places = element_places(&self.node);
-                self.places = Some(places);
-                places
-            }
-        }
-    }
-
+    /// Counts the siblings when it is first asked for this place.
     fn place(&mut self, kind: NthKind) -> u64
         ensures value { result ≡ index kind self.old }
         ensures bound { result ≤ 100000 }
         ensures same { self.new ≡ self.old }
     {
-        let places = self.places();
         self.node().are_few();
-        element_place(kind, places)
+        match self.places.place(kind) {
+            Some(place) => place,
+            None => {
+                let place = index(kind, &self.node);
+                self.places.set_place(kind, place);
+                place
+            }
+        }
     }
 }
 
@@ -164,44 +158,98 @@ fn is_only(first: NthKind, last: NthKind, subject: &mut Subject<'_>) -> bool
     before == 1 && behind == 1
 }
 
+/// What a test of the type, the id or a class says; another one says nothing here.
+fn quick_test_holds(test: &Test, subject: &Subject<'_>) -> bool
+    ensures { result ≡ (not (is_quick_test (test_seen test.now)) || test_holds (test_seen test.now) subject.now) }
+{
+    match test {
+        Test::Tag(name) => same_name(subject.node().name(), name.as_str()),
+        Test::Id(value) => subject.has_id(value.as_str()),
+        Test::Class(word) => subject.has_class(word.as_str()),
+        Test::Any
+        | Test::Attr { .. }
+        | Test::Root
+        | Test::Empty
+        | Test::Nth { .. }
+        | Test::OnlyChild
+        | Test::OnlyOfType
+        | Test::Never => true,
+    }
+}
+
+/// What a test says that is none of these; they say nothing here.
+fn other_test_holds(test: &Test, subject: &mut Subject<'_>) -> bool
+    ensures value { result ≡ (is_quick_test (test_seen test.now) || test_holds (test_seen test.now) subject.old) }
+    ensures same { subject.new ≡ subject.old }
+{
+    match test {
+        Test::Any | Test::Tag(_) | Test::Id(_) | Test::Class(_) => true,
+        Test::Attr { name, op, operand } => {
+            has_attribute(name.as_str(), *op, operand.as_str(), subject.node())
+        }
+        Test::Nth { kind, step, offset } => is_nth(*step, *offset, subject.place(*kind)),
+        Test::OnlyChild => is_only(NthKind::Child, NthKind::LastChild, subject),
+        Test::OnlyOfType => is_only(NthKind::OfType, NthKind::LastOfType, subject),
+        Test::Root => is_root(subject.node()),
+        Test::Empty => !is_filled(subject.node()),
+        Test::Never => false,
+    }
+}
+
 fn test_holds_on(test: &Test, subject: &mut Subject<'_>) -> bool
     ensures value { result ≡ test_holds (test_seen test.now) subject.old }
     ensures same { subject.new ≡ subject.old }
 {
-    match test {
-        Test::Id(value) => subject.has_id(value.as_str()),
-        Test::Class(word) => subject.has_class(word.as_str()),
-        Test::Nth { kind, step, offset } => is_nth(*step, *offset, subject.place(*kind)),
-        Test::OnlyChild => is_only(NthKind::Child, NthKind::LastChild, subject),
-        Test::OnlyOfType => is_only(NthKind::OfType, NthKind::LastOfType, subject),
-        Test::Any | Test::Tag(_) | Test::Attr { .. } | Test::Root | Test::Empty | Test::Never => {
-            test_holds(test, subject.node())
-        }
+    if !quick_test_holds(test, subject) {
+        return false;
+    }
+    other_test_holds(test, subject)
+}
+
+fn quick_holds(simple: &Simple, subject: &Subject<'_>) -> bool
+    ensures { result ≡ (not (is_quick (simple_seen simple.now)) || simple_holds (simple_seen simple.now) subject.now) }
+{
+    match simple {
+        Simple::Is(test) => quick_test_holds(test, subject),
+        Simple::Not(_) => true,
     }
 }
 
-fn simple_holds_on(simple: &Simple, subject: &mut Subject<'_>) -> bool
-    ensures value { result ≡ simple_holds (simple_seen simple.now) subject.old }
+fn other_holds(simple: &Simple, subject: &mut Subject<'_>) -> bool
+    ensures value { result ≡ (is_quick (simple_seen simple.now) || simple_holds (simple_seen simple.now) subject.old) }
     ensures same { subject.new ≡ subject.old }
 {
     match simple {
-        Simple::Is(test) => test_holds_on(test, subject),
+        Simple::Is(test) => other_test_holds(test, subject),
         Simple::Not(test) => !test_holds_on(test, subject),
     }
 }
 
-fn all_hold_on(tests: &[Simple], subject: &mut Subject<'_>) -> bool
-    ensures value { result ≡ list_all (λ s. simple_holds s subject.old) (map simple_seen tests.now) }
-    ensures same { subject.new ≡ subject.old }
+/// The tests of the type, the id and the classes hold: most selectors fail by one of these.
+fn all_quick_hold(tests: &[Simple], subject: &Subject<'_>) -> bool
+    ensures { result ≡ list_all (λ s. not (is_quick s) || simple_holds s subject.now) (map simple_seen tests.now) }
 {
     for simple in tests {
-        if !simple_holds_on(simple, subject) {
+        if !quick_holds(simple, subject) {
             return false;
         }
     }
     true
 }
 
+fn all_others_hold(tests: &[Simple], subject: &mut Subject<'_>) -> bool
+    ensures value { result ≡ list_all (λ s. is_quick s || simple_holds s subject.old) (map simple_seen tests.now) }
+    ensures same { subject.new ≡ subject.old }
+{
+    for simple in tests {
+        if !other_holds(simple, subject) {
+            return false;
+        }
+    }
+    true
+}
+
+/// The tests of the type, the id and the classes come first, so that no sibling is counted for an element that fails them.
 fn compound_holds_on(compound: &Compound, subject: &mut Subject<'_>) -> bool
     ensures value { result ≡ compound_holds (compound_seen compound.now) subject.old }
     ensures same { subject.new ≡ subject.old }
@@ -209,7 +257,10 @@ fn compound_holds_on(compound: &Compound, subject: &mut Subject<'_>) -> bool
     if !is_element(subject.node()) {
         return false;
     }
-    all_hold_on(compound.tests.as_slice(), subject)
+    if !all_quick_hold(compound.tests.as_slice(), subject) {
+        return false;
+    }
+    all_others_hold(compound.tests.as_slice(), subject)
 }
 
 /// What is left of the node is as the compounds ask.

@@ -1,0 +1,10 @@
+-- The tests that are left give the same answer.
+use Rattle.std.proofs.Common.{◌≡◌, ◌||◌, not, drop, map}
+use Rattle.std.specs.List.{list_all}
+use Rattle.selectors.specs.Forms.{simple_seen}
+use Rattle.select_match.specs.Matches.{simple_holds}
+use Rattle.select_match.specs.Subjects.{is_quick}
+use Rattle.select_match.proofs.subjects.all_quick_hold.Given as goal
+
+abbrev pub invariant-loop-simple : goal.invariant-loop-simple
+invariant-loop-simple l = list_all (λ s. not (is_quick s) || simple_holds s l.subject) (map simple_seen (drop l.simple-index l.tests)) ≡ list_all (λ s. not (is_quick s) || simple_holds s l.subject) (map simple_seen l.tests)
