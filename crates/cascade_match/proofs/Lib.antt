@@ -2,3 +2,4 @@ pub mod MatchLemmas
 pub mod TopLemmas
 pub mod OrderLemmas
 pub mod StandingLemmas
+pub mod WinnerLemmas

@@ -3,3 +3,4 @@ pub mod Matched
 pub mod Winning
 pub mod Tops
 pub mod Standing
+pub mod WinnerPlaces

@@ -1,6 +1,6 @@
 //! Laws of the definitions.
 
-ghost use Rattle.std.specs.Prelude.{◌≡◌, ℕ, true, List, map, Some, slice_get};
+ghost use Rattle.std.specs.Prelude.{◌≡◌, ◌↔◌, ℕ, true, List, map, length, Some, slice_get, flat_map};
 ghost use Rattle.std.specs.List.Sorted.{IsStrictlySortedBy};
 ghost use Rattle.page_tree.specs.Zippers.{Zipper};
 ghost use Rattle.sheet_reader.specs.declared.book.SheetEntry.{SheetEntry};
@@ -12,6 +12,9 @@ ghost use Rattle.cascade_match.specs.declared.hits.Hit.{Hit};
 ghost use Rattle.cascade_match.specs.Precedence.{key_cmp};
 ghost use Rattle.cascade_match.specs.Matched.{places_matching, matched_entries};
 ghost use Rattle.cascade_match.specs.Standing.{PlacedRule, Applies, standing};
+ghost use Rattle.cascade_match.specs.declared.blocks.Block.{Block};
+ghost use Rattle.cascade_match.specs.Winning.{wins};
+ghost use Rattle.cascade_match.specs.WinnerPlaces.{PlacedDecl, IsDeclared, IsGreatest, number_of, IsWinner};
 
 /// The matched rules ascend strictly by their keys, so none stands twice.
 pub fn order_law()
@@ -29,4 +32,13 @@ pub fn places_law()
     ensures each { (ss : List SelectorForm) (z : Zipper) (i : ℕ) (s : SelectorForm) → slice_get ss i ≡ Some s → selector_matches s z ≡ true → IsIn i (places_matching ss z) }
     ensures only { (ss : List SelectorForm) (z : Zipper) (i : ℕ) → IsIn i (places_matching ss z)
         → (s : SelectorForm) × (slice_get ss i ≡ Some s) × (selector_matches s z ≡ true) }
+{}
+
+/// A declaration wins exactly where it is the greatest of all declarations of its name in all blocks, by rank, then by block,
+/// then by its place in the block. Each name that is declared has a winner, and no two.
+pub fn winner_law()
+    ensures greatest { (blocks : List Block) (d : PlacedDecl) → IsDeclared blocks d → (slice_get (wins blocks) (number_of blocks d) ≡ Some true) ↔ IsGreatest blocks d }
+    ensures some { (blocks : List Block) (d : PlacedDecl) → IsDeclared blocks d → (w : PlacedDecl) × IsWinner blocks w × (w.name ≡ d.name) }
+    ensures one { (blocks : List Block) (d e : PlacedDecl) → IsWinner blocks d → IsWinner blocks e → d.name ≡ e.name → d ≡ e }
+    ensures all { (blocks : List Block) → length (wins blocks) ≡ length (flat_map (λ b. b.declarations) blocks) }
 {}

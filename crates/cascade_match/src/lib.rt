@@ -11,7 +11,7 @@ mod winning;
 
 pub use blocks::{Block, Decl, Declarations};
 pub use hits::Hit;
-pub use laws::{order_law, places_law, standing_law};
+pub use laws::{order_law, places_law, standing_law, winner_law};
 pub use matching::{matched, matched_on};
 pub use winning::winners;
 
