@@ -3,3 +3,4 @@ pub mod TextLemmas
 pub mod SearchLemmas
 pub mod LawLemmas
 pub mod SubjectLemmas
+pub mod NthLemmas

@@ -1,6 +1,6 @@
 //! Elements of a page and the places that they have among their siblings.
 
-ghost use Rattle.std.specs.Prelude.{◌≡◌, ◌<◌, ◌≤◌, ◌^◌, ◌&&◌, ◌==◌, if◌then◌else◌, pos, length};
+ghost use Rattle.std.specs.Prelude.{◌≡◌, ◌<◌, ◌≤◌, ◌^◌, ◌&&◌, ◌==◌, ℕ, false, if◌then◌else◌, pos, length};
 ghost use Rattle.std.specs.List.{list_any};
 ghost use Rattle.page_tree.specs.Zippers.{head, children_of, parent_of};
 ghost use Rattle.select_match.specs.Elements.{is_element, fills, is_root_by, side, counts, index, is_nth};
@@ -72,26 +72,67 @@ fn one_if(test: bool) -> u64
     if test { 1 } else { 0 }
 }
 
-/// The place of an element among its siblings, counted from 1 (Selectors 3, section 6.6.5).
-pub fn index(kind: NthKind, node: &NodeRef<'_>) -> u64
-    ensures value { result ≡ index kind node.now }
+/// The place of an element among its siblings, or a number beyond the limit if that is beyond it: siblings are counted no further.
+fn index_within(kind: NthKind, node: &NodeRef<'_>, limit: u64) -> u64
+    ensures within { result ≤ limit → result ≡ index kind node.now }
+    ensures beyond { limit < result → limit < index kind node.now }
     ensures bound { result ≤ 100000 }
+    ensures few { index kind node.now ≤ 100000 }
 {
     node.are_few();
     let mut count = 1;
     let mut at = beside(kind, node);
     while let Some(other) = at {
+        if count > limit {
+            return count;
+        }
         count += one_if(counts(kind, node, &other));
         at = beside(kind, &other);
     }
     count
 }
 
+/// The place of an element among its siblings, counted from 1 (Selectors 3, section 6.6.5).
+pub fn index(kind: NthKind, node: &NodeRef<'_>) -> u64
+    ensures value { result ≡ index kind node.now }
+    ensures bound { result ≤ 100000 }
+{
+    index_within(kind, node, 100000)
+}
+
+fn is_first(kind: NthKind, node: &NodeRef<'_>) -> bool
+    ensures { result ≡ (index kind node.now == 1) }
+{
+    index_within(kind, node, 1) == 1
+}
+
 /// The element is the first from both sides.
 pub fn is_only(first: NthKind, last: NthKind, node: &NodeRef<'_>) -> bool
     ensures { result ≡ (index first node.now == 1 && index last node.now == 1) }
 {
-    index(first, node) == 1 && index(last, node) == 1
+    is_first(first, node) && is_first(last, node)
+}
+
+/// No place beyond this one is reached: by steps that are not positive none beyond the offset is.
+fn last_place(step: i64, offset: i64) -> u64
+    ensures { (i : ℕ) → result < i → i ≤ 100000 → is_nth step offset i ≡ false }
+{
+    if step > 0 {
+        return 100000;
+    }
+    if offset < 0 {
+        return 0;
+    }
+    offset.unsigned_abs()
+}
+
+/// The place of an element among its siblings is `step * n + offset` for some whole n from 0 on. Siblings are counted no
+/// further than that can be.
+pub fn nth_holds(kind: NthKind, step: i64, offset: i64, node: &NodeRef<'_>) -> bool
+    ensures { result ≡ is_nth step offset (index kind node.now) }
+{
+    let place = index_within(kind, node, last_place(step, offset));
+    is_nth(step, offset, place)
 }
 
 /// The index is `step * n + offset` for some whole n from 0 on.

@@ -8,7 +8,7 @@ ghost use Rattle.select_match.specs.Texts.{same_name, has_word, has_value, compa
 ghost use Rattle.select_match.specs.Elements.{attributes_of};
 ghost use Rattle.select_match.specs.Matches.{test_holds, simple_holds, compound_holds};
 
-use crate::elements::{index, is_element, is_filled, is_nth, is_only, is_root};
+use crate::elements::{is_element, is_filled, is_only, is_root, nth_holds};
 use crate::texts::{compares, has_word, same_name};
 use page_tree::NodeRef;
 use selectors::{AttrOp, Compound, NthKind, Simple, Test};
@@ -63,7 +63,7 @@ fn test_holds(test: &Test, node: &NodeRef<'_>) -> bool
         }
         Test::Root => is_root(node),
         Test::Empty => !is_filled(node),
-        Test::Nth { kind, step, offset } => is_nth(*step, *offset, index(*kind, node)),
+        Test::Nth { kind, step, offset } => nth_holds(*kind, *step, *offset, node),
         Test::OnlyChild => is_only(NthKind::Child, NthKind::LastChild, node),
         Test::OnlyOfType => is_only(NthKind::OfType, NthKind::LastOfType, node),
         Test::Never => false,

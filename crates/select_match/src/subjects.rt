@@ -5,12 +5,13 @@ ghost use Rattle.std.specs.Char.{is_ascii_whitespace};
 ghost use Rattle.std.specs.Str.{bytes_eq};
 ghost use Rattle.std.specs.List.{list_any, list_all, slice_split};
 ghost use Rattle.selectors.specs.Forms.{id, class, test_seen, simple_seen, compound_seen, selector_seen};
-ghost use Rattle.select_match.specs.Elements.{index};
+ghost use Rattle.selectors.specs.declared.selector.NthKind.TheVariants as sides;
+ghost use Rattle.select_match.specs.Elements.{index, is_nth};
 ghost use Rattle.select_match.specs.Matches.{test_holds, simple_holds, compound_holds, left_holds, chain_holds, selector_matches};
 ghost use Rattle.select_match.specs.Subjects.{element_places, class_pieces, is_quick_test, is_quick};
 
 use crate::chains::look_left;
-use crate::elements::{index, is_element, is_filled, is_nth, is_root};
+use crate::elements::{index, is_element, is_filled, is_nth, is_only, is_root, nth_holds};
 use crate::outcome::Outcome;
 use crate::places::{ElementPlaces, KnownPlaces};
 use crate::simple::has_attribute;
@@ -119,6 +120,26 @@ impl<'a> Subject<'a> {
             }
         }
     }
+
+    /// One of the first places is looked for; for other ones the siblings are counted once.
+    fn nth_holds(&mut self, kind: NthKind, step: i64, offset: i64) -> bool
+        ensures value { result ≡ is_nth step offset (index kind self.old) }
+        ensures same { self.new ≡ self.old }
+    {
+        if step <= 0 && offset <= 16 {
+            return nth_holds(kind, step, offset, &self.node);
+        }
+        is_nth(step, offset, self.place(kind))
+    }
+
+    fn is_only_of_type(&mut self) -> bool
+        ensures value { result ≡ (index sides.OfType self.old == 1 && index sides.LastOfType self.old == 1) }
+        ensures same { self.new ≡ self.old }
+    {
+        let before = self.place(NthKind::OfType);
+        let behind = self.place(NthKind::LastOfType);
+        before == 1 && behind == 1
+    }
 }
 
 /// The pieces of the element's class.
@@ -147,15 +168,6 @@ fn is_one_of(pieces: &[&[u8]], word: &[u8]) -> bool
         }
     }
     false
-}
-
-fn is_only(first: NthKind, last: NthKind, subject: &mut Subject<'_>) -> bool
-    ensures value { result ≡ (index first subject.old == 1 && index last subject.old == 1) }
-    ensures same { subject.new ≡ subject.old }
-{
-    let before = subject.place(first);
-    let behind = subject.place(last);
-    before == 1 && behind == 1
 }
 
 /// What a test of the type, the id or a class says; another one says nothing here.
@@ -187,9 +199,9 @@ fn other_test_holds(test: &Test, subject: &mut Subject<'_>) -> bool
         Test::Attr { name, op, operand } => {
             has_attribute(name.as_str(), *op, operand.as_str(), subject.node())
         }
-        Test::Nth { kind, step, offset } => is_nth(*step, *offset, subject.place(*kind)),
-        Test::OnlyChild => is_only(NthKind::Child, NthKind::LastChild, subject),
-        Test::OnlyOfType => is_only(NthKind::OfType, NthKind::LastOfType, subject),
+        Test::Nth { kind, step, offset } => subject.nth_holds(*kind, *step, *offset),
+        Test::OnlyChild => is_only(NthKind::Child, NthKind::LastChild, subject.node()),
+        Test::OnlyOfType => subject.is_only_of_type(),
         Test::Root => is_root(subject.node()),
         Test::Empty => !is_filled(subject.node()),
         Test::Never => false,

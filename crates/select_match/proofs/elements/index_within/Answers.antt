@@ -4,7 +4,7 @@ use Rattle.std.specs.List.{filter}
 use Rattle.page_tree.specs.Zippers.{Zipper}
 use Rattle.select_match.specs.Elements.{side, counts}
 use Rattle.select_match.proofs.WalkLemmas.{side-from, walk-start, walk-smaller, count-step, index-bound}
-use Rattle.select_match.proofs.elements.index.Goals as goal
+use Rattle.select_match.proofs.elements.index_within.Goals as goal
 
 pub loop-at-init : goal.loop-at-init
 loop-at-init c =
@@ -28,3 +28,12 @@ loop-at-preserved c =
 
 pub returns-clause-bound : goal.returns-clause-bound
 returns-clause-bound c = omega (arith, c.loop-at.invariant, index-bound c.args.kind c.args.node.now c.are_few.ensures.earlier c.are_few.ensures.later)
+
+pub returns-clause-few : goal.returns-clause-few
+returns-clause-few c = index-bound c.args.kind c.args.node.now c.are_few.ensures.earlier c.are_few.ensures.later
+
+pub returns-then-count-limit-clause-bound : goal.returns-then-count-limit-clause-bound
+returns-then-count-limit-clause-bound c = omega (arith, c.loop-at.invariant, index-bound c.args.kind c.args.node.now c.are_few.ensures.earlier c.are_few.ensures.later)
+
+pub returns-then-count-limit-clause-few : goal.returns-then-count-limit-clause-few
+returns-then-count-limit-clause-few c = index-bound c.args.kind c.args.node.now c.are_few.ensures.earlier c.are_few.ensures.later
