@@ -98,6 +98,8 @@ ask-ends-nothing (ask.GetDocument depth pierce) = refl
 ask-ends-nothing (ask.RequestChildNodes id depth pierce) = refl
 ask-ends-nothing (ask.PushByPath path) = refl
 ask-ends-nothing (ask.PushBySerials serials) = refl
+ask-ends-nothing (ask.GetAttributes id) = refl
+ask-ends-nothing (ask.DescribeNode id serial depth pierce) = refl
 
 -- a document answers one ask alone
 root-asked : (asked : DomAsk) (b : Branch Seen) → answers (ask_name asked) (Root (told_branch 0 b)) ≡ true → ask_name asked ≡ codes "DOM.getDocument"
@@ -105,6 +107,8 @@ root-asked (ask.GetDocument depth pierce) b e = refl
 root-asked (ask.RequestChildNodes id depth pierce) b e = absurd cc
 root-asked (ask.PushByPath path) b e = absurd cc
 root-asked (ask.PushBySerials serials) b e = absurd cc
+root-asked (ask.GetAttributes id) b e = absurd cc
+root-asked (ask.DescribeNode id serial depth pierce) b e = absurd cc
 
 pub outcome-may : (id : ℕ) (ask : DomAsk) (o : Outcome Session) → IsReplyTo ask o → MayAnswerAll (ask_name ask) (moves_of id o)
 outcome-may id asked (shows_root w b) is = (root-asked asked b is, tt)

@@ -20,7 +20,9 @@ use Rattle.cdp_messages.specs.DomAsks.{as_command, dom_ask_in, ask_name, fits_as
 use Rattle.cdp_messages.specs.Moves.{replied, all_off, failed, CanBeTold, Course, ends, goes}
 use Rattle.cdp_messages.proofs.DomAskLaws.{dom_asks_are_commands}
 use Rattle.dom_agent.specs.Laws.{session_outcome, CanTell, view_of as seen_by}
-use Rattle.dom_agent.specs.Requests.{Outcome, shows_root, served, refused, state_after, moves_of}
+use Rattle.dom_agent.specs.Keepers.{session_keeper}
+use Rattle.dom_agent.specs.Requests.{Outcome, shows_root, served, refused, named_node, state_after, moves_of}
+use Rattle.dom_agent.proofs.RepliedLemmas.{description-keeps}
 use Rattle.dom_agent.proofs.OutcomeLemmas.{stays_session, draws_few}
 use Rattle.dom_agent.proofs.MoveLemmas.{steps_are_moves, replies_answer}
 use Rattle.back_end.specs.States.{State, nodes_in, sheets_shown, view_of, HasNoMore, IsState}
@@ -33,20 +35,32 @@ use Rattle.back_end.proofs.StepLemmas.{can-tell, can-sheets, told-view, stays-wi
 
 -- ---- what the agent is asked
 
--- an ask that is carried out while DOM is off turns it on
-stays-off : (c : DomAsk) (on : Bool) → (ask_needs_on c && not on) ≡ false → (on || turns_on c) ≡ false → on ≡ true
-stays-off (ask.GetDocument depth pierce) true h k = refl
-stays-off (ask.GetDocument depth pierce) false h k = absurd cc
-stays-off (ask.RequestChildNodes id depth pierce) true h k = refl
-stays-off (ask.RequestChildNodes id depth pierce) false h k = absurd cc
-stays-off (ask.PushByPath path) true h k = refl
-stays-off (ask.PushByPath path) false h k = absurd cc
-stays-off (ask.PushBySerials serials) true h k = refl
-stays-off (ask.PushBySerials serials) false h k = absurd cc
+-- an ask that needs DOM on is refused while it is off
+refuses-off : {A : Type 0} (on : Bool) → (true && not on) ≡ false → (on || false) ≡ false → A
+refuses-off true h k = absurd cc
+refuses-off false h k = absurd cc
 
-on-true : (on turned : Bool) → on ≡ true → (on || turned) ≡ false → {A : Type 0} → A
-on-true true turned h k = absurd cc
-on-true false turned h k = absurd cc
+-- one that turns DOM on leaves it on
+turns-off : {A : Type 0} (on : Bool) → (on || true) ≡ false → A
+turns-off true k = absurd cc
+turns-off false k = absurd cc
+
+still-off : (on : Bool) → (on || false) ≡ false → on ≡ false
+still-off true k = absurd cc
+still-off false k = refl
+
+-- where DOM is off after an ask that was carried out, nothing is known
+pub off-after : (c : DomAsk) (state : State) → IsState state → (ask_needs_on c && not state.client.dom_on) ≡ false → (state.client.dom_on || turns_on c) ≡ false
+    → (state_after state.client.session (session_outcome state.side.page c state.client.session)).opened ≡ None
+off-after (ask.GetDocument depth pierce) state is h k = turns-off state.client.dom_on k
+off-after (ask.RequestChildNodes id depth pierce) state is h k = refuses-off state.client.dom_on h k
+off-after (ask.PushByPath path) state is h k = refuses-off state.client.dom_on h k
+off-after (ask.PushBySerials serials) state is h k = refuses-off state.client.dom_on h k
+off-after (ask.GetAttributes id) state is h k = refuses-off state.client.dom_on h k
+off-after (ask.DescribeNode id serial depth pierce) state is h k =
+    let w : Session = state.client.session in
+    ap (λ (z : Session). z.opened) (description-keeps (session_keeper (nodes_in state)) state.side.page.tree depth (named_node (session_keeper (nodes_in state)) state.side.page.tree w id serial) w)
+    ∙ is.off (still-off state.client.dom_on k)
 
 no-more-served : (ask : DomAsk) (o : Outcome Session) (state : State) → HasNoMore state → HasNoMore (with_client (client_served ask o state.client) state)
 no-more-served ask (shows_root w b) state is = record { sheets = is.sheets; css_off = is.css_off; watched = is.watched; marks = is.marks }
@@ -54,23 +68,23 @@ no-more-served ask (served p body) state is = record { sheets = is.sheets; css_o
 no-more-served ask (refused why) state is = record { sheets = is.sheets; css_off = is.css_off; watched = is.watched; marks = is.marks }
 
 -- the state after an ask, by what it came to
-pub served-is : (ask : DomAsk) (o : Outcome Session) (state : State) → IsState state → (ask_needs_on ask && not state.client.dom_on) ≡ false
+pub served-is : (ask : DomAsk) (o : Outcome Session) (state : State) → IsState state → ((state.client.dom_on || turns_on ask) ≡ false → (state_after state.client.session o).opened ≡ None)
     → IsSession (nodes_in state) (state_after state.client.session o) → IsState (with_client (client_served ask o state.client) state)
-served-is ask (shows_root w b) state is on session = record {
+served-is ask (shows_root w b) state is off session = record {
   page = is.page;
   texts = is.texts;
   session = session;
-  off = λ h. on-true state.client.dom_on (turns_on ask) (stays-off ask state.client.dom_on on h) h;
+  off = off;
   no_more = no-more-served ask (shows_root w b) state is.no_more;
 }
-served-is ask (served p body) state is on session = record {
+served-is ask (served p body) state is off session = record {
   page = is.page;
   texts = is.texts;
   session = session;
-  off = λ h. on-true state.client.dom_on (turns_on ask) (stays-off ask state.client.dom_on on h) h;
+  off = off;
   no_more = no-more-served ask (served p body) state is.no_more;
 }
-served-is ask (refused why) state is on session = record {
+served-is ask (refused why) state is off session = record {
   page = is.page;
   texts = is.texts;
   session = is.session;
@@ -100,7 +114,7 @@ agent-well id ask state is room small fits on =
     let few : length (state_after w o).pushed ≤ length w.pushed + node_count (nodes_in state) = draws_few page ask w is.page fits is.session in
     let count : node_count (nodes_in state) ≤ 100000 = count-alone page is.page in
     record {
-      is_state = served-is ask o state is on (stays_session page ask w is.page fits is.session);
+      is_state = served-is ask o state is (off-after ask state is on) (stays_session page ask w is.page fits is.session);
       course = subst (λ v. Course (moves_of id o) (view_of state) v) (served-view ask o state) (steps_are_moves page ask w id (sheets_shown state) is.page fits is.session can small (can-sheets state is));
       ids = omega (arith, few, count, served-pushed ask o state);
       serials = omega arith;

@@ -8,7 +8,7 @@ use Rattle.node_binding.proofs.StandsLemmas.{Stands-reset}
 use Rattle.cdp_messages.specs.DomAsks.{fits_ask}
 use Rattle.cdp_messages.specs.Moves.{frames_of_moves}
 use Rattle.cdp_messages.specs.declared.dom_ask.DomAsk.{DomAsk}
-use Rattle.cdp_messages.specs.declared.dom_ask.DomAsk.TheVariants.{GetDocument, RequestChildNodes, PushByPath, PushBySerials}
+use Rattle.cdp_messages.specs.declared.dom_ask.DomAsk.TheVariants.{GetDocument, RequestChildNodes, PushByPath, PushBySerials, GetAttributes, DescribeNode}
 use Rattle.cdp_messages.specs.declared.command.Why.TheVariants.{DomOff}
 use Rattle.dom_agent.specs.Laws.{session_outcome, binding_outcome}
 use Rattle.dom_agent.specs.Requests.{Outcome, shows_root, served, refused, state_after, answer}
@@ -20,7 +20,7 @@ use Rattle.back_end.specs.Steps.{Step, refusing, ask_needs_on, needs_on, turns_o
 use Rattle.back_end.specs.declared.desk.Desk.{Desk}
 use Rattle.back_end.specs.declared.side.PageSide.{PageSide}
 use Rattle.back_end.specs.Seats.{DeskStandsFor}
-use Rattle.back_end.proofs.FrameLemmas.{enabled-is, disabled-is, served-is}
+use Rattle.back_end.proofs.FrameLemmas.{enabled-is, disabled-is, off-after, served-is}
 
 -- what holds where a call answers Ok
 pub on_ok : {T E : Type 0} (result : Result T E) (P Q : Type 0) → OnOk result P → (P → Q) → OnOk result Q
@@ -53,14 +53,18 @@ served-on c (shows_root w b) client off = ap (λ t. client.dom_on || t) off ∙ 
 served-on c (served p body) client off = ap (λ t. client.dom_on || t) off ∙ or-false client.dom_on
 served-on c (refused why) client off = refl
 
+still-on : (c : DomAsk) (page : PageValue) (client : Client) (on : Bool) → turns_on c ≡ false → on ≡ client.dom_on
+    → (on || turns_on c) ≡ (client_served c (session_outcome page c client.session) client).dom_on
+still-on c page client on off is = ap (λ t. on || t) off ∙ or-false on ∙ is ∙ sym (served-on c (session_outcome page c client.session) client off)
+
 on-after : (c : DomAsk) (page : PageValue) (client : Client) (on : Bool) → on ≡ client.dom_on
     → (on || turns_on c) ≡ (client_served c (session_outcome page c client.session) client).dom_on
 on-after (GetDocument depth pierce) page client on is = ap (λ b. b || true) is
-on-after (RequestChildNodes id depth pierce) page client on is =
-    or-false on ∙ is ∙ sym (served-on (RequestChildNodes id depth pierce) (session_outcome page (RequestChildNodes id depth pierce) client.session) client refl)
-on-after (PushByPath path) page client on is = or-false on ∙ is ∙ sym (served-on (PushByPath path) (session_outcome page (PushByPath path) client.session) client refl)
-on-after (PushBySerials serials) page client on is =
-    or-false on ∙ is ∙ sym (served-on (PushBySerials serials) (session_outcome page (PushBySerials serials) client.session) client refl)
+on-after (RequestChildNodes id depth pierce) page client on is = still-on (RequestChildNodes id depth pierce) page client on refl is
+on-after (PushByPath path) page client on is = still-on (PushByPath path) page client on refl is
+on-after (PushBySerials serials) page client on is = still-on (PushBySerials serials) page client on refl is
+on-after (GetAttributes id) page client on is = still-on (GetAttributes id) page client on refl is
+on-after (DescribeNode id serial depth pierce) page client on is = still-on (DescribeNode id serial depth pierce) page client on refl is
 
 served-session : (c : DomAsk) (o : Outcome Session) (client : Client) → state_after client.session o ≡ (client_served c o client).session
 served-session c (shows_root w b) client = refl
@@ -80,7 +84,7 @@ asked-stands d d1 s s1 state id c page fits is_off stands same_side same_page on
     let agent_now : state_after d.agent (binding_outcome state.side.page c d.agent) ≡ d1.agent =
     sym (agent_is ∙ ap (λ page. state_after d.agent (binding_outcome page c d.agent)) (same_page ∙ stands.page_is)) in
     subst (λ (done : Step). DeskStandsFor d1 s1 done.state) (sym (on-is id (agent c) state on)) (record {
-      is_state = served-is c o state stands.is_state on (stays_session state.side.page c w stands.is_state.page fits stands.is_state.session);
+      is_state = served-is c o state stands.is_state (off-after c state stands.is_state on) (stays_session state.side.page c w stands.is_state.page fits stands.is_state.session);
       page_is = same_side ∙ stands.page_is;
       on_is = on_is ∙ on-after c state.side.page state.client d.is_on stands.on_is;
       stands = subst (λ z. Stands (nodes_in state) z d1.agent) (served-session c o state.client) (subst (λ a. Stands (nodes_in state) (state_after w o) a) agent_now bound);

@@ -31,10 +31,11 @@ fn needs_on(ask: &DomAsk) -> bool
     ensures { result ≡ ask_needs_on ask.now }
 {
     match ask {
-        DomAsk::GetDocument { .. } => false,
+        DomAsk::GetDocument { .. } | DomAsk::DescribeNode { .. } => false,
         DomAsk::RequestChildNodes { .. }
         | DomAsk::PushByPath { .. }
-        | DomAsk::PushBySerials { .. } => true,
+        | DomAsk::PushBySerials { .. }
+        | DomAsk::GetAttributes { .. } => true,
     }
 }
 
@@ -46,7 +47,9 @@ fn turns_on(ask: &DomAsk) -> bool
         DomAsk::GetDocument { .. } => true,
         DomAsk::RequestChildNodes { .. }
         | DomAsk::PushByPath { .. }
-        | DomAsk::PushBySerials { .. } => false,
+        | DomAsk::PushBySerials { .. }
+        | DomAsk::GetAttributes { .. }
+        | DomAsk::DescribeNode { .. } => false,
     }
 }
 

@@ -12,7 +12,7 @@ use Rattle.cdp_messages.specs.Tellable.{suits_hold, suits_row, suits_below, suit
 use Rattle.cdp_messages.specs.Laws.{ShownTreesFit, ShownChildrenFit}
 use Rattle.cdp_messages.proofs.Options.{both, both_parts}
 
-width-told_nodes : (p : ℕ) (n : Nodes Seen) → width (told_nodes p n) ≡ width n
+pub width-told_nodes : (p : ℕ) (n : Nodes Seen) → width (told_nodes p n) ≡ width n
 width-told_nodes p none = refl
 width-told_nodes p (node r c t) = ap suc (width-told_nodes p t)
 

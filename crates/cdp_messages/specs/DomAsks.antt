@@ -12,6 +12,8 @@ as_command (ask.GetDocument depth pierce) = GetDocument depth pierce
 as_command (ask.RequestChildNodes node depth pierce) = RequestChildNodes node depth pierce
 as_command (ask.PushByPath path) = PushByPath path
 as_command (ask.PushBySerials serials) = PushBySerials serials
+as_command (ask.GetAttributes node) = GetAttributes node
+as_command (ask.DescribeNode id serial depth pierce) = DescribeNode id serial depth pierce
 
 -- what the agent is asked by a command, if it serves it
 abbrev pub dom_ask_in : Command → Option DomAsk
@@ -23,8 +25,8 @@ dom_ask_in (PushByPath path) = Some (ask.PushByPath path)
 dom_ask_in (PushBySerials serials) = Some (ask.PushBySerials serials)
 dom_ask_in (QuerySelector node selector) = None
 dom_ask_in (QuerySelectorAll node selector) = None
-dom_ask_in (GetAttributes node) = None
-dom_ask_in (DescribeNode id serial depth pierce) = None
+dom_ask_in (GetAttributes node) = Some (ask.GetAttributes node)
+dom_ask_in (DescribeNode id serial depth pierce) = Some (ask.DescribeNode id serial depth pierce)
 dom_ask_in (SetAttributeValue node name value) = None
 dom_ask_in (RemoveAttribute node name) = None
 dom_ask_in (SetNodeValue node value) = None

@@ -47,6 +47,10 @@ tree_fits manner top b = row_fits manner top (width b.children) b.row && fits_be
 abbrev pub fits_tree : Bool → Branch Told → Bool
 fits_tree top b = tree_fits Pushed top b
 
+-- nodes below one that is described alone
+abbrev pub fits_described_nodes : Nodes Told → Bool
+fits_described_nodes n = nodes_fit Described n
+
 -- a tree that is described alone
 abbrev pub fits_described_tree : Branch Told → Bool
 fits_described_tree b = tree_fits Described true b

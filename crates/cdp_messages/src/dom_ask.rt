@@ -28,6 +28,17 @@ pub enum DomAsk {
     PushBySerials {
         serials: Numbers,
     },
+    /// `DOM.getAttributes`
+    GetAttributes {
+        node: u64,
+    },
+    /// `DOM.describeNode`: the node is named by its id, or else by its serial.
+    DescribeNode {
+        node: Option<u64>,
+        serial: Option<u64>,
+        depth: Option<i64>,
+        pierce: Option<bool>,
+    },
 }
 
 impl DomAsk {
@@ -48,12 +59,22 @@ impl DomAsk {
             }),
             Command::PushByPath { path } => Some(DomAsk::PushByPath { path }),
             Command::PushBySerials { serials } => Some(DomAsk::PushBySerials { serials }),
+            Command::GetAttributes { node } => Some(DomAsk::GetAttributes { node }),
+            Command::DescribeNode {
+                node,
+                serial,
+                depth,
+                pierce,
+            } => Some(DomAsk::DescribeNode {
+                node,
+                serial,
+                depth,
+                pierce,
+            }),
             Command::DomEnable
             | Command::DomDisable
             | Command::QuerySelector { .. }
             | Command::QuerySelectorAll { .. }
-            | Command::GetAttributes { .. }
-            | Command::DescribeNode { .. }
             | Command::SetAttributeValue { .. }
             | Command::RemoveAttribute { .. }
             | Command::SetNodeValue { .. }

@@ -2,7 +2,7 @@
 use Rattle.std.proofs.Common.{◌≡◌, ℕ, ℤ, pos, ◌<◌, ◌==◌, Bool, true, false, cond, List, [], ◌∷◌, ◌++◌, Option, Some, None, unwrap_or, refl, sym, ap, subst, ◌∙◌, arith}
 use Rattle.node_tree.specs.Nodes.{Nodes, none, node, Branch, alone}
 use Rattle.node_tree.specs.Keys.{has}
-use Rattle.node_tree.specs.Labels.{holds}
+use Rattle.node_tree.specs.Labels.{is_element, holds}
 use Rattle.node_tree.specs.Seen.{Seen, leaf}
 use Rattle.page_tree.specs.Pages.{Row, State, IsValid, row_serial}
 use Rattle.node_binding.specs.Counts.{times, is_in}
@@ -20,13 +20,13 @@ use Rattle.node_binding.proofs.LawLemmas.{Stands-open_down}
 use Rattle.node_binding.proofs.InViewLemmas.{InView, in_view-known, in_view-tally, in_view-grows, can_open-in_view, known-in_view, roots_in_view, opened-grows}
 use Rattle.node_binding.proofs.OpenedLemmas.{IsSession-opened, open_afterwards}
 use Rattle.cdp_messages.specs.declared.dom_ask.DomAsk.{DomAsk}
-use Rattle.cdp_messages.specs.declared.dom_ask.DomAsk.TheVariants.{GetDocument, RequestChildNodes, PushByPath, PushBySerials}
+use Rattle.cdp_messages.specs.declared.dom_ask.DomAsk.TheVariants.{GetDocument, RequestChildNodes, PushByPath, PushBySerials, GetAttributes, DescribeNode}
 use Rattle.cdp_messages.specs.declared.command.Why.TheVariants.{NotPushed}
 use Rattle.cdp_messages.specs.declared.down.ReplyBody.TheVariants.{NodeId, NodeIds}
 use Rattle.cdp_messages.specs.Moves.{root, replied, failed}
 use Rattle.dom_agent.specs.Keepers.{Keeper, session_keeper, binding_keeper}
 use Rattle.dom_agent.specs.Paths.{node_at_path}
-use Rattle.dom_agent.specs.Requests.{Opening, Showing, Progress, Pushes, Outcome, shows_root, served, refused, requested, pushing, all_opened, pushed as push_of, all_pushed, known_node, of_children, of_path, with_ids, state_after, opening_moves, moves_of}
+use Rattle.dom_agent.specs.Requests.{Opening, Showing, Progress, Pushes, Outcome, shows_root, served, refused, requested, pushing, all_opened, pushed as push_of, all_pushed, known_node, named_node, of_children, of_path, of_attributes, of_description, with_ids, state_after, opening_moves, moves_of}
 use Rattle.dom_agent.specs.Laws.{session_outcome, binding_outcome, StaysBound, SameMoves}
 use Rattle.dom_agent.proofs.OpeningsLemmas.{AreOpenings, AreContainers, opened_all, requested-are, pushing-are}
 use Rattle.dom_agent.proofs.StepLemmas.{Goes, goes-pushed}
@@ -238,6 +238,22 @@ module _ (page : State) (valid : IsValid page) where
       (λ begun. (let alike = alike-all_pushed page.tree (distinct-alone page valid) (containers-page page valid) serials (Some o) pushed since b begun session stands in
       (alike.progress.stands, alike.progress.shown, ap NodeIds alike.ids)))
 
+  -- what changes nothing, of a node that both name
+  same_known : (w : Session) (b : Bound) → Stands m w b → (id : ℕ) → known_node binder page.tree b (binder.serial_of b id) ≡ known_node keeper page.tree w (serial_at w m id)
+  same_known w b stands id = ap (known_node binder page.tree b) (stands.serials_are id) ∙ same_node w b (serial_at w m id)
+
+  attributes_alike : (w : Session) (b : Bound) → Stands m w b → (found : Option (Branch Row)) → AlikeOutcomes m (of_attributes keeper page.tree found w) (of_attributes binder page.tree found b)
+  attributes_alike w b stands None = refl
+  attributes_alike w b stands (Some x) = either_both (AlikeOutcomes m) (is_element x.row.label.kind) _ (refused _) _ (refused _) (λ _. (stands, refl, refl)) refl
+
+  description_alike : (depth : Option ℤ) (w : Session) (b : Bound) → Stands m w b → (found : Option (Branch Row)) → AlikeOutcomes m (of_description keeper page.tree depth found w) (of_description binder page.tree depth found b)
+  description_alike depth w b stands None = refl
+  description_alike depth w b stands (Some x) = (stands, refl, refl)
+
+  same_named : (w : Session) (b : Bound) → Stands m w b → (id serial : Option ℕ) → named_node binder page.tree b id serial ≡ named_node keeper page.tree w id serial
+  same_named w b stands None serial = same_node w b serial
+  same_named w b stands (Some id) serial = same_known w b stands id
+
   document_alike : (depth : Option ℤ) (pierce : Option Bool) (w : Session) (b : Bound) → Stands m w b
       → AlikeOutcomes m (session_outcome page (GetDocument depth pierce) w) (binding_outcome page (GetDocument depth pierce) b)
   document_alike depth pierce w b stands =
@@ -252,6 +268,12 @@ module _ (page : State) (valid : IsValid page) where
   outcomes_alike (RequestChildNodes id depth pierce) w b session stands = request_alike id depth pierce w.opened w.pushed w.since b session stands
   outcomes_alike (PushByPath path) w b session stands = by_path_alike path w.opened w.pushed w.since b session stands
   outcomes_alike (PushBySerials serials) w b session stands = by_serials_alike serials w.opened w.pushed w.since b session stands
+  outcomes_alike (GetAttributes id) w b session stands =
+      subst (λ (f : Option (Branch Row)). AlikeOutcomes m (session_outcome page (GetAttributes id) w) (of_attributes binder page.tree f b)) (sym (same_known w b stands id))
+      (attributes_alike w b stands (known_node keeper page.tree w (serial_at w m id)))
+  outcomes_alike (DescribeNode id serial depth pierce) w b session stands =
+      subst (λ (f : Option (Branch Row)). AlikeOutcomes m (session_outcome page (DescribeNode id serial depth pierce) w) (of_description binder page.tree depth f b)) (sym (same_named w b stands id serial))
+      (description_alike depth w b stands (named_node keeper page.tree w id serial))
 
 -- ---- laws
 

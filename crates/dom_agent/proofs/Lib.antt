@@ -4,6 +4,7 @@ pub mod OutcomeLemmas
 pub mod KnownLemmas
 pub mod KeeperLemmas
 pub mod TellableLemmas
+pub mod DescribedLemmas
 pub mod MoveLemmas
 pub mod ToldLemmas
 pub mod FrameLemmas
@@ -11,6 +12,7 @@ pub mod OpeningLemmas
 pub mod ServingLemmas
 pub mod RoomLemmas
 pub mod RequestLemmas
+pub mod RepliedLemmas
 pub mod PushLemmas
 pub mod PathLemmas
 pub mod StartedLemmas

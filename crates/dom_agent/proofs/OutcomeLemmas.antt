@@ -1,9 +1,10 @@
 -- What each command comes to for a session.
 use Rattle.std.proofs.Common.{◌≡◌, ℕ, zero, suc, ℤ, pos, negsuc, ◌+◌, ◌<◌, ◌≤◌, ◌^◌, ◌==◌, Bool, true, false, ◌&&◌, ◌||◌, cond, List, length, length-append, Option, Some, None, unwrap_or, refl, sym, ap, subst, ◌∙◌, arith, lt-ltb}
 use Rattle.std.proofs.lemmas.Bool.{and_parts, and_from}
+use Rattle.std.specs.Prelude.{⊤}
 use Rattle.node_tree.specs.Nodes.{Nodes, none, node, Branch, alone, node_count, map_rows}
 use Rattle.node_tree.specs.Keys.{has, find}
-use Rattle.node_tree.specs.Labels.{holds, is_formed_label}
+use Rattle.node_tree.specs.Labels.{is_element, holds, is_formed_label}
 use Rattle.node_tree.proofs.KeyLemmas.{found_key}
 use Rattle.page_tree.specs.Forms.{is_bare, may_stand, are_formed}
 use Rattle.page_tree.specs.Pages.{Row, State, IsValid, row_serial, row_label}
@@ -17,17 +18,20 @@ use Rattle.node_binding.proofs.SessionLemmas.{IsSession-document_opened}
 use Rattle.node_binding.proofs.PairLemmas.{find-there}
 use Rattle.node_binding.proofs.InViewLemmas.{InView, in_view, in_view-tally}
 use Rattle.cdp_messages.specs.declared.dom_ask.DomAsk.{DomAsk}
-use Rattle.cdp_messages.specs.declared.dom_ask.DomAsk.TheVariants.{GetDocument, RequestChildNodes, PushByPath, PushBySerials}
-use Rattle.cdp_messages.specs.declared.down.ReplyBody.TheVariants.{Nothing}
+use Rattle.cdp_messages.specs.declared.dom_ask.DomAsk.TheVariants.{GetDocument, RequestChildNodes, PushByPath, PushBySerials, GetAttributes, DescribeNode}
+use Rattle.cdp_messages.specs.declared.down.ReplyBody.{ReplyBody}
+use Rattle.cdp_messages.specs.declared.down.ReplyBody.TheVariants.{Nothing, NodeId, NodeIds, Attributes, Node as ReplyNode}
 use Rattle.cdp_messages.specs.DomAsks.{fits_ask, ask_name}
-use Rattle.cdp_messages.specs.Laws.{answers}
+use Rattle.cdp_messages.specs.Laws.{answers, BodyHasUtf8, body_height}
 use Rattle.cdp_messages.specs.Replies.{fits_body}
 use Rattle.dom_agent.specs.Keepers.{Keeper, session_keeper}
 use Rattle.dom_agent.specs.Paths.{node_at_path}
-use Rattle.dom_agent.specs.Requests.{Outcome, shows_root, served, refused, Progress, requested, known_node, of_children, of_path, with_ids, all_pushed, pushed as push_of, state_after}
-use Rattle.dom_agent.specs.Laws.{session_outcome, StaysSession, DrawsFew}
+use Rattle.dom_agent.specs.Requests.{Outcome, shows_root, served, refused, Progress, Pushes, requested, known_node, named_node, of_children, of_path, of_attributes, of_description, only_replied, with_ids, all_pushed, pushed as push_of, state_after}
+use Rattle.dom_agent.specs.Described.{described}
+use Rattle.dom_agent.specs.Laws.{session_outcome, CanTell, StaysSession, DrawsFew}
 use Rattle.dom_agent.proofs.OpeningsLemmas.{AreContainers, requested-are}
-use Rattle.dom_agent.proofs.StepLemmas.{Goes, goes-few, goes-openings, goes-pushed, goes-all_pushed, is_small, ids-below}
+use Rattle.dom_agent.proofs.DescribedLemmas.{described-spells, attributes-spell}
+use Rattle.dom_agent.proofs.StepLemmas.{Goes, CanSpell, goes-none, goes-few, goes-openings, goes-pushed, goes-all_pushed, is_small, ids-below}
 
 -- ---- depths
 
@@ -36,6 +40,26 @@ document-left None pierce h = refl
 document-left (Some (pos zero)) pierce h = let bad : false ≡ true = h in cc
 document-left (Some (pos (suc d))) pierce h = refl
 document-left (Some (negsuc d)) pierce h = refl
+
+-- ---- asks
+
+-- an ask, but not for the document
+abbrev pub IsOther : DomAsk → Type 0
+IsOther (GetDocument depth pierce) = ⊥
+IsOther (RequestChildNodes id depth pierce) = ⊤
+IsOther (PushByPath path) = ⊤
+IsOther (PushBySerials serials) = ⊤
+IsOther (GetAttributes id) = ⊤
+IsOther (DescribeNode id serial depth pierce) = ⊤
+
+-- what holds of the ask for the document, and of all others
+pub either_ask : (P : DomAsk → Type 0) → ((depth : Option ℤ) (pierce : Option Bool) → P (GetDocument depth pierce)) → ((c : DomAsk) → IsOther c → P c) → (c : DomAsk) → P c
+either_ask P document others (GetDocument depth pierce) = document depth pierce
+either_ask P document others (RequestChildNodes id depth pierce) = others (RequestChildNodes id depth pierce) tt
+either_ask P document others (PushByPath path) = others (PushByPath path) tt
+either_ask P document others (PushBySerials serials) = others (PushBySerials serials) tt
+either_ask P document others (GetAttributes id) = others (GetAttributes id) tt
+either_ask P document others (DescribeNode id serial depth pierce) = others (DescribeNode id serial depth pierce) tt
 
 -- ---- pages
 
@@ -58,10 +82,14 @@ containers-page page valid = (λ s there. root_holds page valid, containers-form
 -- ---- commands
 
 -- what is served goes from the session as it was, and the reply is one of the command's, and no document
-abbrev pub OutcomeGoes : Nodes Row → DomAsk → Session → Outcome Session → Type 0
-OutcomeGoes n c w (shows_root z b) = ⊥
-OutcomeGoes n c w (served p body) = Goes n w p.state p.shown × (length p.state.pushed < 2 ^ 53 → fits_body body ≡ true) × (answers (ask_name c) body ≡ true)
-OutcomeGoes n c w (refused why) = Unit {0}
+abbrev pub OutcomeGoes : State → DomAsk → Session → Outcome Session → Type 0
+OutcomeGoes page c w (shows_root z b) = ⊥
+OutcomeGoes page c w (served p body) = Goes (alone page.tree) w p.state p.shown × (CanTell page w → CanSpell body) × (answers (ask_name c) body ≡ true)
+OutcomeGoes page c w (refused why) = Unit {0}
+
+-- a result without nodes and texts
+number_spells : (body : ReplyBody) → fits_body body ≡ true → BodyHasUtf8 body → body_height body ≡ 0 → CanSpell body
+number_spells body fits texts none_told = record { fits = fits; texts = texts; levels = omega (arith, none_told) }
 
 begun_or : (P : Outcome Session → Type 0) (b : Bool) (x y : Outcome Session) → (b ≡ true → P x) → P y → P (cond b x y)
 begun_or P true x y f g = f refl
@@ -82,34 +110,41 @@ module _ (page : State) (valid : IsValid page) where
       in_view o x n (distinct-alone page valid) (ap (λ (k : ℕ). find row_serial k n) is ∙ e) (subst (λ (k : ℕ). 0 < times k (known o n)) (sym is) (there s refl))
 
   children-go : (c : DomAsk) (depth : Option ℤ) (o : ℕ → Bool) (pushed : List ℕ) (since : ℕ) → IsSession n (session_of o pushed since) → answers (ask_name c) Nothing ≡ true → (found : Option (Branch Row)) → ((x : Branch Row) → found ≡ Some x → InView o x n)
-      → OutcomeGoes n c (session_of o pushed since) (of_children keeper page.tree depth found (session_of o pushed since))
+      → OutcomeGoes page c (session_of o pushed since) (of_children keeper page.tree depth found (session_of o pushed since))
   children-go c depth o pushed since session one None there = tt
   children-go c depth o pushed since session one (Some x) there =
       let v : InView o x n = there x refl in (
         goes-openings n (distinct-alone page valid) page.tree (requested o (levels_of (unwrap_or depth (pos 1))) (alone x)) o pushed since session
             (requested-are n (distinct-alone page valid) o (levels_of (unwrap_or depth (pos 1))) (alone x) o (λ s. omega (arith, in_view-tally o x v s, distinct-alone page valid s)) (v, tt) (λ s h. refl)),
-        λ few. refl,
+        λ can. number_spells Nothing refl tt refl,
         one,
       )
 
+  -- the id of a node
+  pushed-spells : (z : Session) (s : ℕ) → IsSession n z → length z.pushed < 2 ^ 53 → CanSpell (NodeId (ids_in z s))
+  pushed-spells z s session few =
+      number_spells (NodeId (ids_in z s)) (and_from (is_small (ids_in z s)) true (lt-ltb (ids_in z s) (2 ^ 53) (omega (arith, ids-below n z s session, few))) refl) tt refl
+
   path-goes : (path : List ℕ) (o : ℕ → Bool) (pushed : List ℕ) (since : ℕ) → IsSession n (session_of o pushed since) → (found : Option (Branch Row))
-      → OutcomeGoes n (PushByPath path) (session_of o pushed since) (of_path keeper page.tree found (session_of o pushed since))
+      → OutcomeGoes page (PushByPath path) (session_of o pushed since) (of_path keeper page.tree found (session_of o pushed since))
   path-goes path o pushed since session None = tt
   path-goes path o pushed since session (Some x) =
       let w : Session = session_of o pushed since in
       let first : Progress Session = push_of keeper page.tree x.row.serial w in
       let g = goes-pushed page.tree (distinct-alone page valid) (containers-page page valid) x.row.serial o pushed since session in
-      (g, λ few. and_from (is_small (ids_in first.state x.row.serial)) true (lt-ltb (ids_in first.state x.row.serial) (2 ^ 53) (omega (arith, ids-below n first.state x.row.serial g.session, few))) refl, refl)
+      (g, λ can. pushed-spells first.state x.row.serial g.session (omega (arith, goes-few n w first.state first.shown g, can.ids)), refl)
 
   serials-go : (serials : List ℕ) (o : ℕ → Bool) (pushed : List ℕ) (since : ℕ) → IsSession n (session_of o pushed since) → o page.tree.row.serial ≡ true
-      → OutcomeGoes n (PushBySerials serials) (session_of o pushed since) (with_ids keeper page.tree (all_pushed keeper page.tree serials (session_of o pushed since)))
+      → OutcomeGoes page (PushBySerials serials) (session_of o pushed since) (with_ids keeper page.tree (all_pushed keeper page.tree serials (session_of o pushed since)))
   serials-go serials o pushed since session begun =
+      let w : Session = session_of o pushed since in
+      let p : Pushes Session = all_pushed keeper page.tree serials w in
       let g = goes-all_pushed page.tree (distinct-alone page valid) (containers-page page valid) serials (Some o) pushed since begun session in
-      (g.goes, λ few. and_from _ true (g.ids few) refl, refl)
+      (g.goes, λ can. number_spells (NodeIds p.ids) (and_from _ true (g.ids (omega (arith, goes-few n w p.progress.state p.progress.shown g.goes, can.ids))) refl) tt refl, refl)
 
   -- each command but `DOM.getDocument`
   abbrev pub Asks : DomAsk → Session → Type 0
-  Asks c w = OutcomeGoes n c w (session_outcome page c w)
+  Asks c w = OutcomeGoes page c w (session_outcome page c w)
 
   pub request-goes : (id : ℕ) (depth : Option ℤ) (pierce : Option Bool) (o : Option (ℕ → Bool)) (pushed : List ℕ) (since : ℕ) → IsSession n (record { opened = o; pushed = pushed; since = since }) → Asks (RequestChildNodes id depth pierce) (record { opened = o; pushed = pushed; since = since })
   request-goes id depth pierce None pushed since session = tt
@@ -122,46 +157,79 @@ module _ (page : State) (valid : IsValid page) where
   path-pushed path None pushed since session = tt
   path-pushed path (Some o) pushed since session =
       let w : Session = session_of o pushed since in
-      begun_or (OutcomeGoes n (PushByPath path) w) (o page.tree.row.serial) (of_path keeper page.tree (node_at_path path page.tree) w) (refused _)
+      begun_or (OutcomeGoes page (PushByPath path) w) (o page.tree.row.serial) (of_path keeper page.tree (node_at_path path page.tree) w) (refused _)
       (λ _. path-goes path o pushed since session (node_at_path path page.tree)) tt
 
   pub serials-pushed : (serials : List ℕ) (o : Option (ℕ → Bool)) (pushed : List ℕ) (since : ℕ) → IsSession n (record { opened = o; pushed = pushed; since = since }) → Asks (PushBySerials serials) (record { opened = o; pushed = pushed; since = since })
   serials-pushed serials None pushed since session = tt
   serials-pushed serials (Some o) pushed since session =
       let w : Session = session_of o pushed since in
-      begun_or (OutcomeGoes n (PushBySerials serials) w) (o page.tree.row.serial) (with_ids keeper page.tree (all_pushed keeper page.tree serials w)) (refused _)
+      begun_or (OutcomeGoes page (PushBySerials serials) w) (o page.tree.row.serial) (with_ids keeper page.tree (all_pushed keeper page.tree serials w)) (refused _)
       (λ begun. serials-go serials o pushed since session begun) tt
+
+  -- ---- what changes nothing
+
+  -- a reply alone
+  reply-goes : (c : DomAsk) (w : Session) (body : ReplyBody) → IsSession n w → (CanTell page w → CanSpell body) → answers (ask_name c) body ≡ true → OutcomeGoes page c w (only_replied keeper page.tree body w)
+  reply-goes c w body session spells one = (goes-none n w session, spells, one)
+
+  -- a node that is found stands in the page
+  named-found : (w : Session) (serial : Option ℕ) (x : Branch Row) → known_node keeper page.tree w serial ≡ Some x → (s : ℕ) × (find row_serial s n ≡ Some x)
+  named-found w None x e = cc
+  named-found w (Some s) x e = (s, e)
+
+  named-there : (w : Session) (id serial : Option ℕ) (x : Branch Row) → named_node keeper page.tree w id serial ≡ Some x → (s : ℕ) × (find row_serial s n ≡ Some x)
+  named-there w None serial x e = named-found w serial x e
+  named-there w (Some id) serial x e = named-found w (serial_at w n id) x e
+
+  attributes-go : (id : ℕ) (w : Session) → IsSession n w → (found : Option (Branch Row)) → ((x : Branch Row) → found ≡ Some x → (s : ℕ) × (find row_serial s n ≡ Some x))
+      → OutcomeGoes page (GetAttributes id) w (of_attributes keeper page.tree found w)
+  attributes-go id w session None there = tt
+  attributes-go id w session (Some x) there =
+      begun_or (OutcomeGoes page (GetAttributes id) w) (is_element x.row.label.kind) (only_replied keeper page.tree (Attributes x.row.label.attributes) w) (refused _)
+      (λ element. (let at = there x refl in reply-goes (GetAttributes id) w (Attributes x.row.label.attributes) session (attributes-spell page w valid at.0 x at.1 element) refl)) tt
+
+  description-goes : (id serial : Option ℕ) (depth : Option ℤ) (pierce : Option Bool) (w : Session) → IsSession n w → (found : Option (Branch Row)) → ((x : Branch Row) → found ≡ Some x → (s : ℕ) × (find row_serial s n ≡ Some x))
+      → OutcomeGoes page (DescribeNode id serial depth pierce) w (of_description keeper page.tree depth found w)
+  description-goes id serial depth pierce w session None there = tt
+  description-goes id serial depth pierce w session (Some x) there =
+      let levels : Option ℕ = levels_of (unwrap_or depth (pos 1)) in
+      let at = there x refl in
+      reply-goes (DescribeNode id serial depth pierce) w (ReplyNode (described levels x)) session (described-spells page w valid at.0 x at.1 levels) refl
+
+  -- each ask but that for the document
+  pub asks-go : (c : DomAsk) → IsOther c → (w : Session) → IsSession n w → Asks c w
+  asks-go (GetDocument depth pierce) other w session = absurd other
+  asks-go (RequestChildNodes id depth pierce) other w session = request-goes id depth pierce w.opened w.pushed w.since session
+  asks-go (PushByPath path) other w session = path-pushed path w.opened w.pushed w.since session
+  asks-go (PushBySerials serials) other w session = serials-pushed serials w.opened w.pushed w.since session
+  asks-go (GetAttributes id) other w session = attributes-go id w session (known_node keeper page.tree w (serial_at w n id)) (named-found w (serial_at w n id))
+  asks-go (DescribeNode id serial depth pierce) other w session =
+      description-goes id serial depth pierce w session (named_node keeper page.tree w id serial) (named-there w id serial)
 
 -- ---- laws
 
-goes_session : (n : Nodes Row) (c : DomAsk) (w : Session) (out : Outcome Session) → IsSession n w → OutcomeGoes n c w out → IsSession n (state_after w out)
-goes_session n c w (shows_root z b) session g = absurd g
-goes_session n c w (served p body) session g = g.0.session
-goes_session n c w (refused why) session g = session
+goes_session : (page : State) (c : DomAsk) (w : Session) (out : Outcome Session) → IsSession (alone page.tree) w → OutcomeGoes page c w out → IsSession (alone page.tree) (state_after w out)
+goes_session page c w (shows_root z b) session g = absurd g
+goes_session page c w (served p body) session g = g.0.session
+goes_session page c w (refused why) session g = session
 
-goes_few : (n : Nodes Row) (c : DomAsk) (w : Session) (out : Outcome Session) → OutcomeGoes n c w out → length (state_after w out).pushed ≤ length w.pushed + node_count n
-goes_few n c w (shows_root z b) g = absurd g
-goes_few n c w (served p body) g = goes-few n w p.state p.shown g.0
-goes_few n c w (refused why) g = omega arith
+goes_few : (page : State) (c : DomAsk) (w : Session) (out : Outcome Session) → OutcomeGoes page c w out → length (state_after w out).pushed ≤ length w.pushed + node_count (alone page.tree)
+goes_few page c w (shows_root z b) g = absurd g
+goes_few page c w (served p body) g = goes-few (alone page.tree) w p.state p.shown g.0
+goes_few page c w (refused why) g = omega arith
 
 pub stays_session : StaysSession
-stays_session page (GetDocument depth pierce) w valid fits session =
-    IsSession-document_opened (levels_of (unwrap_or depth (pos 1))) page.tree.row page.tree.children w (distinct-alone page valid) (root_holds page valid) (document-left depth pierce fits)
-stays_session page (RequestChildNodes id depth pierce) w valid fits session =
-    goes_session (alone page.tree) (RequestChildNodes id depth pierce) w (session_outcome page (RequestChildNodes id depth pierce) w) session (request-goes page valid id depth pierce w.opened w.pushed w.since session)
-stays_session page (PushByPath path) w valid fits session =
-    goes_session (alone page.tree) (PushByPath path) w (session_outcome page (PushByPath path) w) session (path-pushed page valid path w.opened w.pushed w.since session)
-stays_session page (PushBySerials serials) w valid fits session =
-    goes_session (alone page.tree) (PushBySerials serials) w (session_outcome page (PushBySerials serials) w) session (serials-pushed page valid serials w.opened w.pushed w.since session)
+stays_session page ask w valid fits session =
+    either_ask (λ c. fits_ask c ≡ true → IsSession (alone page.tree) (state_after w (session_outcome page c w)))
+    (λ depth pierce h. IsSession-document_opened (levels_of (unwrap_or depth (pos 1))) page.tree.row page.tree.children w (distinct-alone page valid) (root_holds page valid) (document-left depth pierce h))
+    (λ c other h. goes_session page c w (session_outcome page c w) session (asks-go page valid c other w session))
+    ask fits
 
 pub draws_few : DrawsFew
-draws_few page (GetDocument depth pierce) w valid fits session =
-    let d : Option ℕ = levels_of (unwrap_or depth (pos 1)) in
+draws_few page ask w valid fits session =
     let n : Nodes Row = alone page.tree in
-    omega (arith, length-append w.pushed (known (above d n) n), length-known (above d n) n)
-draws_few page (RequestChildNodes id depth pierce) w valid fits session =
-    goes_few (alone page.tree) (RequestChildNodes id depth pierce) w (session_outcome page (RequestChildNodes id depth pierce) w) (request-goes page valid id depth pierce w.opened w.pushed w.since session)
-draws_few page (PushByPath path) w valid fits session =
-    goes_few (alone page.tree) (PushByPath path) w (session_outcome page (PushByPath path) w) (path-pushed page valid path w.opened w.pushed w.since session)
-draws_few page (PushBySerials serials) w valid fits session =
-    goes_few (alone page.tree) (PushBySerials serials) w (session_outcome page (PushBySerials serials) w) (serials-pushed page valid serials w.opened w.pushed w.since session)
+    either_ask (λ c. length (state_after w (session_outcome page c w)).pushed ≤ length w.pushed + node_count n)
+    (λ depth pierce. (let d : Option ℕ = levels_of (unwrap_or depth (pos 1)) in omega (arith, length-append w.pushed (known (above d n) n), length-known (above d n) n)))
+    (λ c other. goes_few page c w (session_outcome page c w) (asks-go page valid c other w session))
+    ask

@@ -19,7 +19,8 @@ use Rattle.dom_agent.specs.Keepers.{session_keeper}
 use Rattle.dom_agent.specs.Requests.{Opening, Showing, requested, known_node, of_children, all_opened}
 use Rattle.dom_agent.specs.Distances.{StandsAt, root, below, beside, IsWithin}
 use Rattle.dom_agent.specs.Sets.{levels_asked}
-use Rattle.dom_agent.specs.Shows.{levels_left, shown_to, TellsLevels, told_by, RequestTells}
+use Rattle.dom_agent.specs.Described.{shown_to}
+use Rattle.dom_agent.specs.Shows.{levels_left, TellsLevels, told_by, RequestTells}
 use Rattle.dom_agent.proofs.OpeningsLemmas.{AreOpenings, requested-are}
 use Rattle.dom_agent.proofs.OutcomeLemmas.{known-found}
 use Rattle.dom_agent.proofs.NewlyLemmas.{closed-in_view}

@@ -15,6 +15,9 @@ use Rattle.node_binding.proofs.Known.{length-known}
 use Rattle.node_binding.proofs.OpeningLemmas.{AreDistinct}
 use Rattle.node_binding.proofs.InViewLemmas.{roots_in_view, opened-grows}
 use Rattle.node_binding.proofs.OpenedLemmas.{IsSession-opened, length-opened, bare_row, view-opened}
+use Rattle.cdp_messages.specs.declared.down.ReplyBody.{ReplyBody}
+use Rattle.cdp_messages.specs.Laws.{BodyHasUtf8, body_height}
+use Rattle.cdp_messages.specs.Replies.{fits_body}
 use Rattle.cdp_messages.specs.Views.{ShownSheet, View}
 use Rattle.cdp_messages.specs.Moves.{Move, CanBeTold, Course, ends, goes}
 use Rattle.dom_agent.specs.Keepers.{session_keeper}
@@ -37,6 +40,12 @@ pub record Goes (n : Nodes Row) (w z : Session) (xs : List Showing) : Type 0 whe
   pub counts : length z.pushed + length (known_by w.opened n) ≡ length w.pushed + length (known_by z.opened n)
   pub longer : length w.pushed ≤ length z.pushed
   pub course : (most : ℕ) (sheets : List ShownSheet) → CanSay n most sheets → length z.pushed ≤ most → Course (opening_moves xs) (seen_by n sheets w) (seen_by n sheets z)
+
+-- A result that a message can spell.
+pub record CanSpell (body : ReplyBody) : Type 0 where
+  pub fits : fits_body body ≡ true
+  pub texts : BodyHasUtf8 body
+  pub levels : body_height body ≤ 61
 
 pub course-join : {ms ks : List Move} {u v w : View} → Course ms u v → Course ks v w → Course (ms ++ ks) u w
 course-join (ends v t) d = d

@@ -63,7 +63,7 @@ width-cut o i (node r c t) = ap suc (width-cut o i t)
 -- ---- all rows
 
 module _ (o : ℕ → Bool) (i : ℕ → ℕ) (small : (s : ℕ) → i s < 2 ^ 53) where
-  record FitRow (r : Row) (c : Nodes Row) : Type 0 where
+  pub record FitRow (r : Row) (c : Nodes Row) : Type 0 where
     pub id : 0 < i r.serial
     pub least : 1 ≤ r.serial
     pub below : r.serial < 2 ^ 53
@@ -92,20 +92,20 @@ module _ (o : ℕ → Bool) (i : ℕ → ℕ) (small : (s : ℕ) → i s < 2 ^ 5
       (hold_suits (holds r.label.kind) (o r.serial) (width c))
 
   -- the rows of some trees of a page
-  record Fitting (top : Bool) (n : Nodes Row) : Type 0 where
+  pub record Fitting (top : Bool) (n : Nodes Row) : Type 0 where
     pub formed : are_formed top (map_rows row_label n) ≡ true
     pub named : are_named (map_rows row_label n) ≡ true
     pub room : node_count n ≤ 100000
     pub serials : (s : ℕ) → 0 < tally row_serial s n → (1 ≤ s) × (s < 2 ^ 53)
     pub ids : (s : ℕ) → 0 < times s (known o n) → 0 < i s
 
-  record Parts (top : Bool) (r : Row) (c t : Nodes Row) : Type 0 where
+  pub record Parts (top : Bool) (r : Row) (c t : Nodes Row) : Type 0 where
     pub label : is_formed_label r.label ≡ true
     pub stands : may_stand top r.label.kind ≡ true
     pub below : are_formed false (map_rows row_label c) ≡ true
     pub later : are_formed top (map_rows row_label t) ≡ true
 
-  formed_parts : (top : Bool) (r : Row) (c t : Nodes Row) → are_formed top (map_rows row_label (node r c t)) ≡ true → Parts top r c t
+  pub formed_parts : (top : Bool) (r : Row) (c t : Nodes Row) → are_formed top (map_rows row_label (node r c t)) ≡ true → Parts top r c t
   formed_parts top r c t e =
       let p4 = and_parts (is_formed_label r.label && may_stand top r.label.kind && (holds r.label.kind || holds_none (map_rows row_label c)) && are_formed false (map_rows row_label c)) (are_formed top (map_rows row_label t)) e in
       let p3 = and_parts (is_formed_label r.label && may_stand top r.label.kind && (holds r.label.kind || holds_none (map_rows row_label c))) (are_formed false (map_rows row_label c)) p4.0 in
@@ -123,18 +123,18 @@ module _ (o : ℕ → Bool) (i : ℕ → ℕ) (small : (s : ℕ) → i s < 2 ^ 5
   ids_later r c t s h = rw (times-known o i s r c t) (omega (arith, h))
 
   -- what stands below the document is no document
-  no_document : (top : Bool) (k : Kind) → may_stand top k ≡ true → same (is_document k) false ≡ true
+  pub no_document : (top : Bool) (k : Kind) → may_stand top k ≡ true → same (is_document k) false ≡ true
   no_document top k e = alone_not (is_document k) (and_parts (not (is_document k)) _ e).0
     where
       alone_not : (b : Bool) → not b ≡ true → same b false ≡ true
       alone_not true e = e
       alone_not false e = refl
 
-  named_parts : (r : Row) (c t : Nodes Row) → are_named (map_rows row_label (node r c t)) ≡ true
+  pub named_parts : (r : Row) (c t : Nodes Row) → are_named (map_rows row_label (node r c t)) ≡ true
       → ((is_named_label r.label && are_named (map_rows row_label c)) ≡ true) × (are_named (map_rows row_label t) ≡ true)
   named_parts r c t e = and_parts (is_named_label r.label && are_named (map_rows row_label c)) (are_named (map_rows row_label t)) e
 
-  fitting_row : (top : Bool) (r : Row) (c t : Nodes Row) → Fitting top (node r c t) → FitRow r c
+  pub fitting_row : (top : Bool) (r : Row) (c t : Nodes Row) → Fitting top (node r c t) → FitRow r c
   fitting_row top r c t f =
       let s = f.serials r.serial (omega (arith, self_times r.serial)) in
       let all : suc (node_count c + node_count t) ≤ 100000 = f.room in
@@ -158,7 +158,7 @@ module _ (o : ℕ → Bool) (i : ℕ → ℕ) (small : (s : ℕ) → i s < 2 ^ 5
         ids = λ s h. f.ids s (ids_below r c t s e h);
       }
 
-  fitting_later : (top : Bool) (r : Row) (c t : Nodes Row) → Fitting top (node r c t) → Fitting top t
+  pub fitting_later : (top : Bool) (r : Row) (c t : Nodes Row) → Fitting top (node r c t) → Fitting top t
   fitting_later top r c t f =
       let all : suc (node_count c + node_count t) ≤ 100000 = f.room in
       record {
@@ -213,14 +213,22 @@ module _ (page : State) (valid : IsValid page) (next : page.next ≤ 2 ^ 53) whe
   abbrev n : Nodes Row
   n = alone page.tree
 
-  serials_there : (s : ℕ) → 0 < tally row_serial s n → (1 ≤ s) × (s < 2 ^ 53)
+  pub serials_there : (s : ℕ) → 0 < tally row_serial s n → (1 ≤ s) × (s < 2 ^ 53)
   serials_there s h =
       let there : 0 < times_in s page.tree = omega (arith, h) in
       let a : 1 ≤ s = valid.least s there in
       let b : s < page.next = valid.below_next s there in
       (a, omega (arith, b, next))
 
-  tall : height n ≤ 61
+  pub document_named_label : is_named_label page.tree.row.label ≡ true
+  document_named_label =
+      let r : Row = page.tree.row in
+      let d = and_parts (is_document r.label.kind) (is_formed_label r.label) valid.root in
+      let label = and_parts (cond (is_element r.label.kind) (is_ascending r.label.attributes) (is_nothing r.label.attributes)) _
+      (and_parts (cond (is_element r.label.kind) (is_ascending r.label.attributes) (is_nothing r.label.attributes) && _) _ d.1).0 in
+      document_named r.label.kind r.label.name r.label.attributes d.0 label.0
+
+  pub tall : height n ≤ 61
   tall =
       let h : height (map_rows row_label page.tree.children) ≤ 60 = valid.nodes.levels in
       let e : height (map_rows row_label page.tree.children) ≡ height page.tree.children = height-map_rows row_label page.tree.children in
@@ -252,14 +260,12 @@ module _ (page : State) (valid : IsValid page) (next : page.next ≤ 2 ^ 53) whe
       let d = and_parts (is_document r.label.kind) (is_formed_label r.label) valid.root in
       let room : node_count n ≤ 100000 = count-alone page valid in
       let s = serials_there r.serial (omega (arith, self_times r.serial)) in
-      let label = and_parts (cond (is_element r.label.kind) (is_ascending r.label.attributes) (is_nothing r.label.attributes)) _
-      (and_parts (cond (is_element r.label.kind) (is_ascending r.label.attributes) (is_nothing r.label.attributes) && _) _ d.1).0 in
       let row : FitRow o i small r c = record {
         id = there r.serial (ids_first o i small r c none);
         least = s.0;
         below = s.1;
         formed = d.1;
-        named = document_named r.label.kind r.label.name r.label.attributes d.0 label.0;
+        named = document_named_label;
         room = omega (arith, room);
       } in
       and_from _ _

@@ -1,5 +1,6 @@
 pub mod Keepers
 pub mod Paths
+pub mod Described
 pub mod Requests
 pub mod Openings
 pub mod Laws

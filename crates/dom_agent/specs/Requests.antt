@@ -2,20 +2,21 @@
 use Rattle.std.specs.Prelude.{ℕ, ℤ, pos, Bool, not, ◌&&◌, cond, List, [], ◌∷◌, ◌++◌, map, filter, Option, Some, None, unwrap_or}
 use Rattle.node_tree.specs.Nodes.{Nodes, none, node, Branch, alone}
 use Rattle.node_tree.specs.Keys.{has, find}
-use Rattle.node_tree.specs.Labels.{holds}
+use Rattle.node_tree.specs.Labels.{holds, is_element}
 use Rattle.node_tree.specs.Seen.{Seen}
 use Rattle.page_tree.specs.Pages.{Row, row_serial}
 use Rattle.node_binding.specs.Cuts.{opens, seen_of, cut}
 use Rattle.node_binding.specs.Openings.{levels_of, less, is_spent}
 use Rattle.cdp_messages.specs.declared.dom_ask.DomAsk.{DomAsk}
-use Rattle.cdp_messages.specs.declared.dom_ask.DomAsk.TheVariants.{GetDocument, RequestChildNodes, PushByPath, PushBySerials}
+use Rattle.cdp_messages.specs.declared.dom_ask.DomAsk.TheVariants.{GetDocument, RequestChildNodes, PushByPath, PushBySerials, GetAttributes, DescribeNode}
 use Rattle.cdp_messages.specs.declared.command.Why.{Why}
-use Rattle.cdp_messages.specs.declared.command.Why.TheVariants.{UnknownNode, NotPushed, NoPath}
+use Rattle.cdp_messages.specs.declared.command.Why.TheVariants.{UnknownNode, NotPushed, NoPath, NotElement}
 use Rattle.cdp_messages.specs.declared.down.ReplyBody.{ReplyBody}
-use Rattle.cdp_messages.specs.declared.down.ReplyBody.TheVariants.{Nothing, NodeId, NodeIds}
+use Rattle.cdp_messages.specs.declared.down.ReplyBody.TheVariants.{Nothing, Node, NodeId, NodeIds, Attributes}
 use Rattle.cdp_messages.specs.Moves.{Move, change, root, replied, failed, shows, frames_of_moves}
 use Rattle.dom_agent.specs.Keepers.{Keeper}
 use Rattle.dom_agent.specs.Paths.{node_at_path}
+use Rattle.dom_agent.specs.Described.{described}
 
 -- a container that is opened, and by how many levels
 pub record Opening : Type 0 where
@@ -128,11 +129,32 @@ module _ {S : Type 0} (k : Keeper S) (document : Branch Row) where
   abbrev pub once_begun : S → Outcome S → Outcome S
   once_begun w outcome = cond (k.is_open w document.row.serial) outcome (refused NotPushed)
 
+  -- a reply alone, which changes nothing
+  abbrev pub only_replied : ReplyBody → S → Outcome S
+  only_replied body w = served (record { state = w; shown = [] }) body
+
+  -- the attributes of the node x are asked for
+  abbrev pub of_attributes : Option (Branch Row) → S → Outcome S
+  of_attributes None w = refused UnknownNode
+  of_attributes (Some x) w = cond (is_element x.row.label.kind) (only_replied (Attributes x.row.label.attributes) w) (refused NotElement)
+
+  -- the node that an id names, or else a serial
+  abbrev pub named_node : S → Option ℕ → Option ℕ → Option (Branch Row)
+  named_node w (Some id) serial = known_node w (k.serial_of w id)
+  named_node w None serial = known_node w serial
+
+  -- the node x is to be described
+  abbrev pub of_description : Option ℤ → Option (Branch Row) → S → Outcome S
+  of_description depth None w = refused UnknownNode
+  of_description depth (Some x) w = only_replied (Node (described (levels_of (unwrap_or depth (pos 1))) x)) w
+
   abbrev pub outcome : DomAsk → S → Outcome S
   outcome (GetDocument depth pierce) w = with_document (k.started (levels_of (unwrap_or depth (pos 1))) w)
   outcome (RequestChildNodes id depth pierce) w = of_children depth (known_node w (k.serial_of w id)) w
   outcome (PushByPath path) w = once_begun w (of_path (node_at_path path document) w)
   outcome (PushBySerials serials) w = once_begun w (with_ids (all_pushed serials w))
+  outcome (GetAttributes id) w = of_attributes (known_node w (k.serial_of w id)) w
+  outcome (DescribeNode id serial depth pierce) w = of_description depth (named_node w id serial) w
 
 -- ---- what is kept, and what is sent
 

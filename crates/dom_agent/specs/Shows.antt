@@ -1,15 +1,15 @@
 -- What the events of a request show.
-use Rattle.std.specs.Prelude.{◌≡◌, ℕ, ℤ, ◌-◌, Bool, true, false, not, ◌&&◌, cond, List, [], Option, Some, None}
+use Rattle.std.specs.Prelude.{◌≡◌, ℕ, ℤ, ◌-◌, Bool, true, false, List, [], Option, Some, None}
 use Rattle.std.specs.List.{All}
-use Rattle.node_tree.specs.Nodes.{Nodes, none, node, Branch, alone, width}
+use Rattle.node_tree.specs.Nodes.{Nodes, Branch, alone}
 use Rattle.node_tree.specs.Labels.{holds}
-use Rattle.node_tree.specs.Seen.{Seen, leaf, counted, opened}
 use Rattle.page_tree.specs.Pages.{Row, State, IsValid}
-use Rattle.node_binding.specs.Openings.{less, is_spent}
+use Rattle.node_binding.specs.Openings.{less}
 use Rattle.node_binding.specs.Sessions.{Session, IsSession, is_open, serial_at}
 use Rattle.cdp_messages.specs.declared.dom_ask.DomAsk.TheVariants.{RequestChildNodes}
 use Rattle.dom_agent.specs.Keepers.{session_keeper}
 use Rattle.dom_agent.specs.Requests.{Outcome, shows_root, served, refused, Showing, known_node}
+use Rattle.dom_agent.specs.Described.{shown_to}
 use Rattle.dom_agent.specs.Distances.{StandsAt, IsWithin}
 use Rattle.dom_agent.specs.Laws.{session_outcome}
 use Rattle.dom_agent.specs.Sets.{levels_asked}
@@ -18,13 +18,6 @@ use Rattle.dom_agent.specs.Sets.{levels_asked}
 abbrev pub levels_left : ℕ → Option ℕ → Option ℕ
 levels_left k None = None
 levels_left k (Some d) = Some (d - k)
-
--- trees shown to so many levels, with these ids: where levels are left a container has its children, and else their number
-abbrev pub shown_to : (ℕ → ℕ) → Option ℕ → Nodes Row → Nodes Seen
-shown_to ids levels none = none
-shown_to ids levels (node r c t) =
-    let goes_on = holds r.label.kind && not (is_spent levels) in
-    node (record { id = ids r.serial; serial = r.serial; label = r.label; hold = cond (holds r.label.kind) (cond goes_on opened (counted (width c))) leaf }) (cond goes_on (shown_to ids (less levels) c) none) (shown_to ids levels t)
 
 -- The event tells the children of a container at or below x, at a distance k below d, that was not opened: to d - k levels.
 pub record TellsLevels (d : Option ℕ) (x : Branch Row) (w : Session) (e : Showing) : Type 0 where

@@ -1,20 +1,22 @@
 ghost use Rattle.std.specs.Prelude.{◌≡◌, [], ◌∷◌, ◌++◌, ◌<◌, ◌^◌, pos, true, Some, None, unwrap_or, IsSome, OnOk, IfOk};
 ghost use Rattle.std.specs.FinMap as map;
 ghost use Rattle.node_tree.specs.Nodes.{alone};
+ghost use Rattle.node_tree.specs.Labels.{is_element};
 ghost use Rattle.page_tree.specs.Pages.{find_in};
 ghost use Rattle.page_tree.specs.Edits.{after, back_tree};
 ghost use Rattle.page_tree.specs.EditFaults.{first_fault, IsReady, Refuses};
 ghost use Rattle.node_binding.specs.Openings.{IsDepth, levels_of};
 ghost use Rattle.node_binding.specs.Bindings.{empty_from, cleared, opened_in, id_in};
 ghost use Rattle.cdp_messages.specs.DomAsks.{fits_ask};
-ghost use Rattle.cdp_messages.specs.declared.dom_ask.DomAsk.TheVariants.{GetDocument, RequestChildNodes, PushByPath, PushBySerials};
+ghost use Rattle.cdp_messages.specs.declared.dom_ask.DomAsk.TheVariants.{GetDocument, RequestChildNodes, PushByPath, PushBySerials, GetAttributes, DescribeNode};
 ghost use Rattle.cdp_messages.specs.Moves.{replied, failed, frames_of_moves};
 ghost use Rattle.dom_agent.specs.Keepers.{binding_keeper};
-ghost use Rattle.dom_agent.specs.Requests.{state_after, answer, pushed, frames_told, known_node};
+ghost use Rattle.dom_agent.specs.Requests.{state_after, answer, pushed, frames_told, known_node, named_node};
 ghost use Rattle.dom_agent.specs.Laws.{binding_outcome};
 ghost use Rattle.dom_agent.specs.Edits.{OnFault};
 ghost use Rattle.dom_agent.specs.EditLaws.{binding_edited};
 
+use crate::described::described_tree;
 use crate::edits::{apply_and_tell, attach, attribute_dropped, attribute_set, detach, text_set};
 use crate::openings::request_node;
 use crate::paths::node_at_path;
@@ -23,7 +25,7 @@ use crate::serving::open_all;
 use crate::told::told_tree;
 use cdp_messages::{DomAsk, Numbers, Refused, ReplyBody, Why, write_refused, write_reply};
 use node_binding::{Binding, find_in, levels_of};
-use page_tree::{EditErr, Node, Page, TreeEdit};
+use page_tree::{EditErr, Kind, Node, Page, TreeEdit};
 use std::alloc::{AllocError, Global};
 use std::marker::Model;
 
@@ -83,6 +85,13 @@ impl DomAgent {
             DomAsk::PushBySerials { serials } => {
                 self.push_by_serials(page, id, serials.as_slice(), out)
             }
+            DomAsk::GetAttributes { node } => self.get_attributes(page, id, *node, out),
+            DomAsk::DescribeNode {
+                node,
+                serial,
+                depth,
+                pierce: _,
+            } => self.describe_node(page, id, *node, *serial, *depth, out),
         }
     }
 
@@ -193,6 +202,59 @@ impl DomAgent {
         Ok(())
     }
 
+    fn get_attributes(
+        &self,
+        page: &Page,
+        id: u64,
+        node: u64,
+        out: &mut Vec<u8>,
+    ) -> Result<(), AllocError>
+        ensures known { self.now ≡ state_after self.now (binding_outcome page.now (GetAttributes node) self.now) }
+        ensures sent { OnOk result
+            (out.new.items ≡ out.old.items ++ answer id (binding_outcome page.now (GetAttributes node) self.now)) }
+    {
+        let Some(found) = self.node_of(page, node) else {
+            return refuse(self.alloc, id, Why::UnknownNode, out);
+        };
+        if !is_element(found.kind()) {
+            return refuse(self.alloc, id, Why::NotElement, out);
+        }
+        let attributes = found.attributes().try_clone(self.alloc)?;
+        reply(self.alloc, id, &ReplyBody::Attributes(attributes), out)
+    }
+
+    /// The node that an id names, or else a serial.
+    fn named_node<'a>(&self, page: &'a Page, id: Option<u64>, serial: Option<u64>) -> Option<Node<'a>>
+        ensures { result
+            ≡ named_node (binding_keeper (alone page.now.tree)) page.now.tree self.now id serial }
+    {
+        match id {
+            Some(id) => self.node_of(page, id),
+            None => find_in(page, serial?),
+        }
+    }
+
+    fn describe_node(
+        &self,
+        page: &Page,
+        id: u64,
+        node: Option<u64>,
+        serial: Option<u64>,
+        depth: Option<i64>,
+        out: &mut Vec<u8>,
+    ) -> Result<(), AllocError>
+        requires depth { IsDepth (unwrap_or depth (pos 1)) }
+        ensures known { self.now ≡ state_after self.now (binding_outcome page.now (DescribeNode node serial depth None) self.now) }
+        ensures sent { OnOk result
+            (out.new.items ≡ out.old.items ++ answer id (binding_outcome page.now (DescribeNode node serial depth None) self.now)) }
+    {
+        let Some(found) = self.named_node(page, node, serial) else {
+            return refuse(self.alloc, id, Why::UnknownNode, out);
+        };
+        let described = described_tree(self.alloc, &found, levels_asked(depth))?;
+        reply(self.alloc, id, &ReplyBody::Node(described), out)
+    }
+
     /// Opens each ancestor of the node that is not opened yet, from the top down, by one level; appends a frame for each.
     /// Gives the id of the node.
     pub fn push(&mut self, page: &Page, serial: u64, out: &mut Vec<u8>) -> Result<u64, AllocError>
@@ -282,6 +344,15 @@ impl DomAgent {
         ensures { self.new ≡ cleared self.old }
     {
         self.binding.reset();
+    }
+}
+
+fn is_element(kind: Kind) -> bool
+    ensures { result ≡ is_element kind }
+{
+    match kind {
+        Kind::Element => true,
+        Kind::Document | Kind::Text | Kind::Comment | Kind::Doctype => false,
     }
 }
 

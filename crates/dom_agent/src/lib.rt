@@ -2,6 +2,7 @@
 #![tactic(auto)]
 
 mod agent;
+mod described;
 mod edits;
 mod laws;
 mod openings;

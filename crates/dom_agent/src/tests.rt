@@ -167,3 +167,21 @@ fn a_push_gives_the_id(rt: HostRuntime) -> Result<(), Fail> {
     assert_eq!(rt; out.iter().filter(|byte| **byte == 0).count(), 1);
     Ok(())
 }
+
+#[test]
+fn a_node_is_described_alone(rt: HostRuntime) -> Result<(), Fail> {
+    let mut agent = DomAgent::new(rt.alloc());
+    expect_answer(
+        &rt,
+        &mut agent,
+        DomAsk::DescribeNode {
+            node: None,
+            serial: Some(7),
+            depth: Some(-1),
+            pierce: None,
+        },
+        1,
+        "{\"id\":7,\"result\":{\"node\":{\"attributes\":[],\"backendNodeId\":7,\"childNodeCount\":1,\"children\":[{\"backendNodeId\":8,\"localName\":\"\",\"nodeId\":0,\"nodeName\":\"#text\",\"nodeType\":3,\"nodeValue\":\"x\"}],",
+        "\"localName\":\"p\",\"nodeId\":0,\"nodeName\":\"P\",\"nodeType\":1,\"nodeValue\":\"\"}}}\0",
+    )
+}
