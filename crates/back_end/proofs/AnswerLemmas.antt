@@ -98,6 +98,8 @@ ask-ends-nothing (ask.GetDocument depth pierce) = refl
 ask-ends-nothing (ask.RequestChildNodes id depth pierce) = refl
 ask-ends-nothing (ask.PushByPath path) = refl
 ask-ends-nothing (ask.PushBySerials serials) = refl
+ask-ends-nothing (ask.QuerySelector id text) = refl
+ask-ends-nothing (ask.QuerySelectorAll id text) = refl
 ask-ends-nothing (ask.GetAttributes id) = refl
 ask-ends-nothing (ask.DescribeNode id serial depth pierce) = refl
 
@@ -107,6 +109,8 @@ root-asked (ask.GetDocument depth pierce) b e = refl
 root-asked (ask.RequestChildNodes id depth pierce) b e = absurd cc
 root-asked (ask.PushByPath path) b e = absurd cc
 root-asked (ask.PushBySerials serials) b e = absurd cc
+root-asked (ask.QuerySelector id text) b e = absurd cc
+root-asked (ask.QuerySelectorAll id text) b e = absurd cc
 root-asked (ask.GetAttributes id) b e = absurd cc
 root-asked (ask.DescribeNode id serial depth pierce) b e = absurd cc
 

@@ -8,7 +8,7 @@ use Rattle.node_binding.proofs.StandsLemmas.{Stands-reset}
 use Rattle.cdp_messages.specs.DomAsks.{fits_ask}
 use Rattle.cdp_messages.specs.Moves.{frames_of_moves}
 use Rattle.cdp_messages.specs.declared.dom_ask.DomAsk.{DomAsk}
-use Rattle.cdp_messages.specs.declared.dom_ask.DomAsk.TheVariants.{GetDocument, RequestChildNodes, PushByPath, PushBySerials, GetAttributes, DescribeNode}
+use Rattle.cdp_messages.specs.declared.dom_ask.DomAsk.TheVariants.{GetDocument, RequestChildNodes, PushByPath, PushBySerials, QuerySelector, QuerySelectorAll, GetAttributes, DescribeNode}
 use Rattle.cdp_messages.specs.declared.command.Why.TheVariants.{DomOff}
 use Rattle.dom_agent.specs.Laws.{session_outcome, binding_outcome}
 use Rattle.dom_agent.specs.Requests.{Outcome, shows_root, served, refused, state_after, answer}
@@ -63,6 +63,8 @@ on-after (GetDocument depth pierce) page client on is = ap (λ b. b || true) is
 on-after (RequestChildNodes id depth pierce) page client on is = still-on (RequestChildNodes id depth pierce) page client on refl is
 on-after (PushByPath path) page client on is = still-on (PushByPath path) page client on refl is
 on-after (PushBySerials serials) page client on is = still-on (PushBySerials serials) page client on refl is
+on-after (QuerySelector id text) page client on is = still-on (QuerySelector id text) page client on refl is
+on-after (QuerySelectorAll id text) page client on is = still-on (QuerySelectorAll id text) page client on refl is
 on-after (GetAttributes id) page client on is = still-on (GetAttributes id) page client on refl is
 on-after (DescribeNode id serial depth pierce) page client on is = still-on (DescribeNode id serial depth pierce) page client on refl is
 

@@ -16,7 +16,7 @@ use Rattle.cdp_messages.specs.declared.command.Why.TheVariants.{NoMethod, DomOff
 use Rattle.cdp_messages.specs.declared.command.Asked.{Asked}
 use Rattle.cdp_messages.specs.declared.command.Refused.{Refused}
 use Rattle.cdp_messages.specs.declared.dom_ask.DomAsk.{DomAsk}
-use Rattle.cdp_messages.specs.declared.dom_ask.DomAsk.TheVariants.{GetDocument, RequestChildNodes, PushByPath, PushBySerials, GetAttributes, DescribeNode}
+use Rattle.cdp_messages.specs.declared.dom_ask.DomAsk.TheVariants.{GetDocument, RequestChildNodes, PushByPath, PushBySerials, QuerySelector, QuerySelectorAll, GetAttributes, DescribeNode}
 use Rattle.cdp_messages.specs.declared.down.ReplyBody.TheVariants.{Nothing}
 use Rattle.cdp_messages.specs.Asked.{asked}
 use Rattle.cdp_messages.specs.Moves.{Move, clear, replied, all_off, failed, frames_of_moves}
@@ -148,6 +148,8 @@ ask_needs_on (GetDocument depth pierce) = false
 ask_needs_on (RequestChildNodes id depth pierce) = true
 ask_needs_on (PushByPath path) = true
 ask_needs_on (PushBySerials serials) = true
+ask_needs_on (QuerySelector id text) = true
+ask_needs_on (QuerySelectorAll id text) = true
 ask_needs_on (GetAttributes id) = true
 ask_needs_on (DescribeNode id serial depth pierce) = false
 
@@ -164,6 +166,8 @@ turns_on (GetDocument depth pierce) = true
 turns_on (RequestChildNodes id depth pierce) = false
 turns_on (PushByPath path) = false
 turns_on (PushBySerials serials) = false
+turns_on (QuerySelector id text) = false
+turns_on (QuerySelectorAll id text) = false
 turns_on (GetAttributes id) = false
 turns_on (DescribeNode id serial depth pierce) = false
 

@@ -35,6 +35,8 @@ fn needs_on(ask: &DomAsk) -> bool
         DomAsk::RequestChildNodes { .. }
         | DomAsk::PushByPath { .. }
         | DomAsk::PushBySerials { .. }
+        | DomAsk::QuerySelector { .. }
+        | DomAsk::QuerySelectorAll { .. }
         | DomAsk::GetAttributes { .. } => true,
     }
 }
@@ -48,6 +50,8 @@ fn turns_on(ask: &DomAsk) -> bool
         DomAsk::RequestChildNodes { .. }
         | DomAsk::PushByPath { .. }
         | DomAsk::PushBySerials { .. }
+        | DomAsk::QuerySelector { .. }
+        | DomAsk::QuerySelectorAll { .. }
         | DomAsk::GetAttributes { .. }
         | DomAsk::DescribeNode { .. } => false,
     }

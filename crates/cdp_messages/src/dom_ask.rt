@@ -28,6 +28,16 @@ pub enum DomAsk {
     PushBySerials {
         serials: Numbers,
     },
+    /// `DOM.querySelector`
+    QuerySelector {
+        node: u64,
+        selector: Text,
+    },
+    /// `DOM.querySelectorAll`
+    QuerySelectorAll {
+        node: u64,
+        selector: Text,
+    },
     /// `DOM.getAttributes`
     GetAttributes {
         node: u64,
@@ -59,6 +69,12 @@ impl DomAsk {
             }),
             Command::PushByPath { path } => Some(DomAsk::PushByPath { path }),
             Command::PushBySerials { serials } => Some(DomAsk::PushBySerials { serials }),
+            Command::QuerySelector { node, selector } => {
+                Some(DomAsk::QuerySelector { node, selector })
+            }
+            Command::QuerySelectorAll { node, selector } => {
+                Some(DomAsk::QuerySelectorAll { node, selector })
+            }
             Command::GetAttributes { node } => Some(DomAsk::GetAttributes { node }),
             Command::DescribeNode {
                 node,
@@ -73,8 +89,6 @@ impl DomAsk {
             }),
             Command::DomEnable
             | Command::DomDisable
-            | Command::QuerySelector { .. }
-            | Command::QuerySelectorAll { .. }
             | Command::SetAttributeValue { .. }
             | Command::RemoveAttribute { .. }
             | Command::SetNodeValue { .. }

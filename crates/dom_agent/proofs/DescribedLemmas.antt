@@ -95,14 +95,14 @@ page-tells page w valid can =
       },
       no-documents true page.tree.children valid.nodes.formed,
       all-tell true page.tree.children
-      (record {
-        formed = valid.nodes.formed;
-        named = valid.nodes.named;
-        room = omega (arith, room);
-        serials = λ k h. serials_there page valid can.serials k (omega (arith, h));
-        ids = λ k h. omega arith;
-      })
-      u.1,
+          (record {
+            formed = valid.nodes.formed;
+            named = valid.nodes.named;
+            room = omega (arith, room);
+            serials = λ k h. serials_there page valid can.serials k (omega (arith, h));
+            ids = λ k h. omega arith;
+          })
+          u.1,
       tt,
     )
 

@@ -1,5 +1,5 @@
 -- By a binding that stands for a session each command comes to the same.
-use Rattle.std.proofs.Common.{◌≡◌, ℕ, ℤ, pos, ◌<◌, ◌==◌, Bool, true, false, cond, List, [], ◌∷◌, ◌++◌, Option, Some, None, unwrap_or, refl, sym, ap, subst, ◌∙◌, arith}
+use Rattle.std.proofs.Common.{◌≡◌, ℕ, ℤ, pos, ◌<◌, ◌==◌, Bool, true, false, cond, List, [], ◌∷◌, ◌++◌, Option, Some, None, unwrap_or, Result, Ok, Err, refl, sym, ap, subst, ◌∙◌, arith}
 use Rattle.node_tree.specs.Nodes.{Nodes, none, node, Branch, alone}
 use Rattle.node_tree.specs.Keys.{has}
 use Rattle.node_tree.specs.Labels.{is_element, holds}
@@ -20,17 +20,22 @@ use Rattle.node_binding.proofs.LawLemmas.{Stands-open_down}
 use Rattle.node_binding.proofs.InViewLemmas.{InView, in_view-known, in_view-tally, in_view-grows, can_open-in_view, known-in_view, roots_in_view, opened-grows}
 use Rattle.node_binding.proofs.OpenedLemmas.{IsSession-opened, open_afterwards}
 use Rattle.cdp_messages.specs.declared.dom_ask.DomAsk.{DomAsk}
-use Rattle.cdp_messages.specs.declared.dom_ask.DomAsk.TheVariants.{GetDocument, RequestChildNodes, PushByPath, PushBySerials, GetAttributes, DescribeNode}
+use Rattle.cdp_messages.specs.declared.dom_ask.DomAsk.TheVariants.{GetDocument, RequestChildNodes, PushByPath, PushBySerials, QuerySelector, QuerySelectorAll, GetAttributes, DescribeNode}
 use Rattle.cdp_messages.specs.declared.command.Why.TheVariants.{NotPushed}
 use Rattle.cdp_messages.specs.declared.down.ReplyBody.TheVariants.{NodeId, NodeIds}
 use Rattle.cdp_messages.specs.Moves.{root, replied, failed}
 use Rattle.dom_agent.specs.Keepers.{Keeper, session_keeper, binding_keeper}
 use Rattle.dom_agent.specs.Paths.{node_at_path}
-use Rattle.dom_agent.specs.Requests.{Opening, Showing, Progress, Pushes, Outcome, shows_root, served, refused, requested, pushing, all_opened, pushed as push_of, all_pushed, known_node, named_node, of_children, of_path, of_attributes, of_description, with_ids, state_after, opening_moves, moves_of}
+use Rattle.dom_agent.specs.Requests.{Opening, Showing, Progress, Pushes, Outcome, shows_root, served, refused, requested, pushing, all_opened, pushed as push_of, all_pushed, known_node, named_node, of_children, of_path, of_attributes, of_description, with_first, first_asked, all_asked, of_query, with_id, with_ids, state_after, opening_moves, moves_of}
 use Rattle.dom_agent.specs.Laws.{session_outcome, binding_outcome, StaysBound, SameMoves}
 use Rattle.dom_agent.proofs.OpeningsLemmas.{AreOpenings, AreContainers, opened_all, requested-are, pushing-are}
 use Rattle.dom_agent.proofs.StepLemmas.{Goes, goes-pushed}
-use Rattle.dom_agent.proofs.OutcomeLemmas.{containers-page, known-found}
+use Rattle.dom_agent.proofs.OutcomeLemmas.{containers-page, known-found, root-opened}
+use Rattle.dom_agent.proofs.QueryLemmas.{known_query, first-there}
+use Rattle.dom_agent.specs.Queries.{Query, query_of, first_matching, all_matching}
+use Rattle.selectors.specs.Forms.{SelectorForm}
+use Rattle.select_match.specs.Matches.{list_matches}
+use Rattle.cdp_messages.specs.declared.command.Why.{Why}
 use Rattle.dom_agent.proofs.KnownLemmas.{opened_after, pushed-known, path-there}
 
 -- the binding stands for the session, and the same is told
@@ -209,13 +214,17 @@ module _ (page : State) (valid : IsValid page) where
       (children_alike depth o pushed since b session stands found
       (known-found page valid o pushed since (serial_at w m id) (λ s e. (find-there (λ s. ids_in w s == id) (known o m) s e).0)))
 
+  push_alike : (s : ℕ) (o : ℕ → Bool) (pushed : List ℕ) (since : ℕ) (b : Bound) → IsSession m (session_of o pushed since) → Stands m (session_of o pushed since) b → has row_serial s m ≡ true
+      → AlikeOutcomes m (with_id keeper page.tree s (push_of keeper page.tree s (session_of o pushed since))) (with_id binder page.tree s (push_of binder page.tree s b))
+  push_alike s o pushed since b session stands there =
+      let alike = alike-pushed page.tree (distinct-alone page valid) (containers-page page valid) s o pushed since b session stands in
+      let id = pushed-id page.tree (distinct-alone page valid) (containers-page page valid) s o pushed since b session stands there in
+      (alike.stands, alike.shown, ap NodeId id)
+
   path_alike : (o : ℕ → Bool) (pushed : List ℕ) (since : ℕ) (b : Bound) → IsSession m (session_of o pushed since) → Stands m (session_of o pushed since) b → (found : Option (Branch Row)) → ((x : Branch Row) → found ≡ Some x → has row_serial x.row.serial m ≡ true)
       → AlikeOutcomes m (of_path keeper page.tree found (session_of o pushed since)) (of_path binder page.tree found b)
   path_alike o pushed since b session stands None there = refl
-  path_alike o pushed since b session stands (Some x) there =
-      let alike = alike-pushed page.tree (distinct-alone page valid) (containers-page page valid) x.row.serial o pushed since b session stands in
-      let id = pushed-id page.tree (distinct-alone page valid) (containers-page page valid) x.row.serial o pushed since b session stands (there x refl) in
-      (alike.stands, alike.shown, ap NodeId id)
+  path_alike o pushed since b session stands (Some x) there = push_alike x.row.serial o pushed since b session stands (there x refl)
 
   by_path_alike : (path : List ℕ) (o : Option (ℕ → Bool)) (pushed : List ℕ) (since : ℕ) (b : Bound) → IsSession m (record { opened = o; pushed = pushed; since = since }) → Stands m (record { opened = o; pushed = pushed; since = since }) b
       → AlikeOutcomes m (session_outcome page (PushByPath path) (record { opened = o; pushed = pushed; since = since })) (binding_outcome page (PushByPath path) b)
@@ -227,6 +236,12 @@ module _ (page : State) (valid : IsValid page) where
       (stands.opened_is page.tree.row.serial)
       (λ _. path_alike o pushed since b session stands (node_at_path path page.tree) (λ x e. path-there path page.tree x e))
 
+  all_alike : (serials : List ℕ) (o : ℕ → Bool) (pushed : List ℕ) (since : ℕ) (b : Bound) → IsSession m (session_of o pushed since) → Stands m (session_of o pushed since) b → o page.tree.row.serial ≡ true
+      → AlikeOutcomes m (with_ids keeper page.tree (all_pushed keeper page.tree serials (session_of o pushed since))) (with_ids binder page.tree (all_pushed binder page.tree serials b))
+  all_alike serials o pushed since b session stands begun =
+      let alike = alike-all_pushed page.tree (distinct-alone page valid) (containers-page page valid) serials (Some o) pushed since b begun session stands in
+      (alike.progress.stands, alike.progress.shown, ap NodeIds alike.ids)
+
   by_serials_alike : (serials : List ℕ) (o : Option (ℕ → Bool)) (pushed : List ℕ) (since : ℕ) (b : Bound) → IsSession m (record { opened = o; pushed = pushed; since = since }) → Stands m (record { opened = o; pushed = pushed; since = since }) b
       → AlikeOutcomes m (session_outcome page (PushBySerials serials) (record { opened = o; pushed = pushed; since = since })) (binding_outcome page (PushBySerials serials) b)
   by_serials_alike serials None pushed since b session stands =
@@ -235,8 +250,7 @@ module _ (page : State) (valid : IsValid page) where
   by_serials_alike serials (Some o) pushed since b session stands =
       alike_begun m (o page.tree.row.serial) (opened_in b page.tree.row.serial) (with_ids keeper page.tree (all_pushed keeper page.tree serials (session_of o pushed since))) (with_ids binder page.tree (all_pushed binder page.tree serials b))
       (stands.opened_is page.tree.row.serial)
-      (λ begun. (let alike = alike-all_pushed page.tree (distinct-alone page valid) (containers-page page valid) serials (Some o) pushed since b begun session stands in
-      (alike.progress.stands, alike.progress.shown, ap NodeIds alike.ids)))
+      (λ begun. all_alike serials o pushed since b session stands begun)
 
   -- what changes nothing, of a node that both name
   same_known : (w : Session) (b : Bound) → Stands m w b → (id : ℕ) → known_node binder page.tree b (binder.serial_of b id) ≡ known_node keeper page.tree w (serial_at w m id)
@@ -254,6 +268,38 @@ module _ (page : State) (valid : IsValid page) where
   same_named w b stands None serial = same_node w b serial
   same_named w b stands (Some id) serial = same_known w b stands id
 
+  -- ---- queries
+
+  first_alike : (found : Option ℕ) (o : ℕ → Bool) (pushed : List ℕ) (since : ℕ) (b : Bound) → IsSession m (session_of o pushed since) → Stands m (session_of o pushed since) b → ((s : ℕ) → found ≡ Some s → has row_serial s m ≡ true)
+      → AlikeOutcomes m (with_first keeper page.tree found (session_of o pushed since)) (with_first binder page.tree found b)
+  first_alike None o pushed since b session stands there = (stands, refl, refl)
+  first_alike (Some s) o pushed since b session stands there = push_alike s o pushed since b session stands (there s refl)
+
+  query_alike : (w : Session) (b : Bound) (asks : ℕ → List SelectorForm → Session → Outcome Session) (others : ℕ → List SelectorForm → Bound → Outcome Bound) (q : Result Query Why)
+      → ((r : Query) → q ≡ Ok r → AlikeOutcomes m (asks r.root r.selectors w) (others r.root r.selectors b))
+      → AlikeOutcomes m (of_query keeper page.tree asks q w) (of_query binder page.tree others q b)
+  query_alike w b asks others (Err why) alike = refl
+  query_alike w b asks others (Ok q) alike = alike q refl
+
+  abbrev query_found : (id : ℕ) (text : List ℕ) → Session → Result Query Why
+  query_found id text w = query_of (known_node keeper page.tree w (serial_at w m id)) text
+
+  first_queried : (id : ℕ) (text : List ℕ) (o : Option (ℕ → Bool)) (pushed : List ℕ) (since : ℕ) (b : Bound) → IsSession m (record { opened = o; pushed = pushed; since = since }) → Stands m (record { opened = o; pushed = pushed; since = since }) b
+      → (let w : Session = record { opened = o; pushed = pushed; since = since } in AlikeOutcomes m (of_query keeper page.tree (first_asked keeper page.tree) (query_found id text w) w) (of_query binder page.tree (first_asked binder page.tree) (query_found id text w) b))
+  first_queried id text None pushed since b session stands = refl
+  first_queried id text (Some o) pushed since b session stands =
+      let w : Session = session_of o pushed since in
+      query_alike w b (first_asked keeper page.tree) (first_asked binder page.tree) (query_found id text w)
+      (λ q is. first_alike (first_matching q.selectors q.root page.tree) o pushed since b session stands (λ s e. first-there (list_matches q.selectors) page.tree (known_query keeper page.tree w (serial_at w m id) text q is) s e))
+
+  all_queried : (id : ℕ) (text : List ℕ) (o : Option (ℕ → Bool)) (pushed : List ℕ) (since : ℕ) (b : Bound) → IsSession m (record { opened = o; pushed = pushed; since = since }) → Stands m (record { opened = o; pushed = pushed; since = since }) b
+      → (let w : Session = record { opened = o; pushed = pushed; since = since } in AlikeOutcomes m (of_query keeper page.tree (all_asked keeper page.tree) (query_found id text w) w) (of_query binder page.tree (all_asked binder page.tree) (query_found id text w) b))
+  all_queried id text None pushed since b session stands = refl
+  all_queried id text (Some o) pushed since b session stands =
+      let w : Session = session_of o pushed since in
+      query_alike w b (all_asked keeper page.tree) (all_asked binder page.tree) (query_found id text w)
+      (λ q is. all_alike (all_matching q.selectors q.root page.tree) o pushed since b session stands (root-opened page valid o pushed since session))
+
   document_alike : (depth : Option ℤ) (pierce : Option Bool) (w : Session) (b : Bound) → Stands m w b
       → AlikeOutcomes m (session_outcome page (GetDocument depth pierce) w) (binding_outcome page (GetDocument depth pierce) b)
   document_alike depth pierce w b stands =
@@ -268,6 +314,12 @@ module _ (page : State) (valid : IsValid page) where
   outcomes_alike (RequestChildNodes id depth pierce) w b session stands = request_alike id depth pierce w.opened w.pushed w.since b session stands
   outcomes_alike (PushByPath path) w b session stands = by_path_alike path w.opened w.pushed w.since b session stands
   outcomes_alike (PushBySerials serials) w b session stands = by_serials_alike serials w.opened w.pushed w.since b session stands
+  outcomes_alike (QuerySelector id text) w b session stands =
+      subst (λ (f : Option (Branch Row)). AlikeOutcomes m (session_outcome page (QuerySelector id text) w) (of_query binder page.tree (first_asked binder page.tree) (query_of f text) b)) (sym (same_known w b stands id))
+      (first_queried id text w.opened w.pushed w.since b session stands)
+  outcomes_alike (QuerySelectorAll id text) w b session stands =
+      subst (λ (f : Option (Branch Row)). AlikeOutcomes m (session_outcome page (QuerySelectorAll id text) w) (of_query binder page.tree (all_asked binder page.tree) (query_of f text) b)) (sym (same_known w b stands id))
+      (all_queried id text w.opened w.pushed w.since b session stands)
   outcomes_alike (GetAttributes id) w b session stands =
       subst (λ (f : Option (Branch Row)). AlikeOutcomes m (session_outcome page (GetAttributes id) w) (of_attributes binder page.tree f b)) (sym (same_known w b stands id))
       (attributes_alike w b stands (known_node keeper page.tree w (serial_at w m id)))

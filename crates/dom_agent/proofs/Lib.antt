@@ -13,6 +13,7 @@ pub mod ServingLemmas
 pub mod RoomLemmas
 pub mod RequestLemmas
 pub mod RepliedLemmas
+pub mod QueryLemmas
 pub mod PushLemmas
 pub mod PathLemmas
 pub mod StartedLemmas

@@ -8,7 +8,7 @@ use Rattle.node_binding.specs.Openings.{levels_of, above}
 use Rattle.node_binding.specs.Sessions.{Session, IsSession, document_opened}
 use Rattle.node_binding.proofs.Known.{length-known}
 use Rattle.cdp_messages.specs.declared.dom_ask.DomAsk.{DomAsk}
-use Rattle.cdp_messages.specs.declared.dom_ask.DomAsk.TheVariants.{GetDocument, RequestChildNodes, PushByPath, PushBySerials, GetAttributes, DescribeNode}
+use Rattle.cdp_messages.specs.declared.dom_ask.DomAsk.TheVariants.{GetDocument, RequestChildNodes, PushByPath, PushBySerials, QuerySelector, QuerySelectorAll, GetAttributes, DescribeNode}
 use Rattle.cdp_messages.specs.declared.down.ReplyBody.{ReplyBody}
 use Rattle.cdp_messages.specs.declared.down.ReplyBody.TheVariants.{Nothing, Root, Node, NodeId, NodeIds, Attributes, ClassNames, SheetText, Styles, Selectors, Rule, Matched}
 use Rattle.cdp_messages.specs.DomAsks.{ask_name, fits_ask}
@@ -69,6 +69,8 @@ no_root (GetDocument depth pierce) other b = absurd other
 no_root (RequestChildNodes id depth pierce) other b = refl
 no_root (PushByPath path) other b = refl
 no_root (PushBySerials serials) other b = refl
+no_root (QuerySelector id text) other b = refl
+no_root (QuerySelectorAll id text) other b = refl
 no_root (GetAttributes id) other b = refl
 no_root (DescribeNode id serial depth pierce) other b = refl
 

@@ -1,5 +1,5 @@
 -- What each command comes to for a session.
-use Rattle.std.proofs.Common.{◌≡◌, ℕ, zero, suc, ℤ, pos, negsuc, ◌+◌, ◌<◌, ◌≤◌, ◌^◌, ◌==◌, Bool, true, false, ◌&&◌, ◌||◌, cond, List, length, length-append, Option, Some, None, unwrap_or, refl, sym, ap, subst, ◌∙◌, arith, lt-ltb}
+use Rattle.std.proofs.Common.{◌≡◌, ℕ, zero, suc, ℤ, pos, negsuc, ◌+◌, ◌<◌, ◌≤◌, ◌^◌, ◌==◌, Bool, true, false, ◌&&◌, ◌||◌, cond, List, length, length-append, Option, Some, None, unwrap_or, Result, Ok, Err, refl, sym, ap, subst, ◌∙◌, arith, lt-ltb}
 use Rattle.std.proofs.lemmas.Bool.{and_parts, and_from}
 use Rattle.std.specs.Prelude.{⊤}
 use Rattle.node_tree.specs.Nodes.{Nodes, none, node, Branch, alone, node_count, map_rows}
@@ -18,7 +18,7 @@ use Rattle.node_binding.proofs.SessionLemmas.{IsSession-document_opened}
 use Rattle.node_binding.proofs.PairLemmas.{find-there}
 use Rattle.node_binding.proofs.InViewLemmas.{InView, in_view, in_view-tally}
 use Rattle.cdp_messages.specs.declared.dom_ask.DomAsk.{DomAsk}
-use Rattle.cdp_messages.specs.declared.dom_ask.DomAsk.TheVariants.{GetDocument, RequestChildNodes, PushByPath, PushBySerials, GetAttributes, DescribeNode}
+use Rattle.cdp_messages.specs.declared.dom_ask.DomAsk.TheVariants.{GetDocument, RequestChildNodes, PushByPath, PushBySerials, QuerySelector, QuerySelectorAll, GetAttributes, DescribeNode}
 use Rattle.cdp_messages.specs.declared.down.ReplyBody.{ReplyBody}
 use Rattle.cdp_messages.specs.declared.down.ReplyBody.TheVariants.{Nothing, NodeId, NodeIds, Attributes, Node as ReplyNode}
 use Rattle.cdp_messages.specs.DomAsks.{fits_ask, ask_name}
@@ -26,8 +26,11 @@ use Rattle.cdp_messages.specs.Laws.{answers, BodyHasUtf8, body_height}
 use Rattle.cdp_messages.specs.Replies.{fits_body}
 use Rattle.dom_agent.specs.Keepers.{Keeper, session_keeper}
 use Rattle.dom_agent.specs.Paths.{node_at_path}
-use Rattle.dom_agent.specs.Requests.{Outcome, shows_root, served, refused, Progress, Pushes, requested, known_node, named_node, of_children, of_path, of_attributes, of_description, only_replied, with_ids, all_pushed, pushed as push_of, state_after}
+use Rattle.dom_agent.specs.Requests.{Outcome, shows_root, served, refused, Progress, Pushes, requested, known_node, named_node, of_children, of_path, of_attributes, of_description, only_replied, with_first, first_asked, all_asked, of_query, with_id, with_ids, all_pushed, pushed as push_of, state_after}
 use Rattle.dom_agent.specs.Described.{described}
+use Rattle.dom_agent.specs.Queries.{Query, query_of, first_matching, all_matching}
+use Rattle.selectors.specs.Forms.{SelectorForm}
+use Rattle.cdp_messages.specs.declared.command.Why.{Why}
 use Rattle.dom_agent.specs.Laws.{session_outcome, CanTell, StaysSession, DrawsFew}
 use Rattle.dom_agent.proofs.OpeningsLemmas.{AreContainers, requested-are}
 use Rattle.dom_agent.proofs.DescribedLemmas.{described-spells, attributes-spell}
@@ -49,6 +52,8 @@ IsOther (GetDocument depth pierce) = ⊥
 IsOther (RequestChildNodes id depth pierce) = ⊤
 IsOther (PushByPath path) = ⊤
 IsOther (PushBySerials serials) = ⊤
+IsOther (QuerySelector id text) = ⊤
+IsOther (QuerySelectorAll id text) = ⊤
 IsOther (GetAttributes id) = ⊤
 IsOther (DescribeNode id serial depth pierce) = ⊤
 
@@ -58,6 +63,8 @@ either_ask P document others (GetDocument depth pierce) = document depth pierce
 either_ask P document others (RequestChildNodes id depth pierce) = others (RequestChildNodes id depth pierce) tt
 either_ask P document others (PushByPath path) = others (PushByPath path) tt
 either_ask P document others (PushBySerials serials) = others (PushBySerials serials) tt
+either_ask P document others (QuerySelector id text) = others (QuerySelector id text) tt
+either_ask P document others (QuerySelectorAll id text) = others (QuerySelectorAll id text) tt
 either_ask P document others (GetAttributes id) = others (GetAttributes id) tt
 either_ask P document others (DescribeNode id serial depth pierce) = others (DescribeNode id serial depth pierce) tt
 
@@ -125,22 +132,27 @@ module _ (page : State) (valid : IsValid page) where
   pushed-spells z s session few =
       number_spells (NodeId (ids_in z s)) (and_from (is_small (ids_in z s)) true (lt-ltb (ids_in z s) (2 ^ 53) (omega (arith, ids-below n z s session, few))) refl) tt refl
 
+  -- a node is pushed, and its id is the reply
+  push-goes : (c : DomAsk) → ((id : ℕ) → answers (ask_name c) (NodeId id) ≡ true) → (s : ℕ) (o : ℕ → Bool) (pushed : List ℕ) (since : ℕ) → IsSession n (session_of o pushed since)
+      → OutcomeGoes page c (session_of o pushed since) (with_id keeper page.tree s (push_of keeper page.tree s (session_of o pushed since)))
+  push-goes c one s o pushed since session =
+      let w : Session = session_of o pushed since in
+      let first : Progress Session = push_of keeper page.tree s w in
+      let g = goes-pushed page.tree (distinct-alone page valid) (containers-page page valid) s o pushed since session in
+      (g, λ can. pushed-spells first.state s g.session (omega (arith, goes-few n w first.state first.shown g, can.ids)), one (ids_in first.state s))
+
   path-goes : (path : List ℕ) (o : ℕ → Bool) (pushed : List ℕ) (since : ℕ) → IsSession n (session_of o pushed since) → (found : Option (Branch Row))
       → OutcomeGoes page (PushByPath path) (session_of o pushed since) (of_path keeper page.tree found (session_of o pushed since))
   path-goes path o pushed since session None = tt
-  path-goes path o pushed since session (Some x) =
-      let w : Session = session_of o pushed since in
-      let first : Progress Session = push_of keeper page.tree x.row.serial w in
-      let g = goes-pushed page.tree (distinct-alone page valid) (containers-page page valid) x.row.serial o pushed since session in
-      (g, λ can. pushed-spells first.state x.row.serial g.session (omega (arith, goes-few n w first.state first.shown g, can.ids)), refl)
+  path-goes path o pushed since session (Some x) = push-goes (PushByPath path) (λ id. refl) x.row.serial o pushed since session
 
-  serials-go : (serials : List ℕ) (o : ℕ → Bool) (pushed : List ℕ) (since : ℕ) → IsSession n (session_of o pushed since) → o page.tree.row.serial ≡ true
-      → OutcomeGoes page (PushBySerials serials) (session_of o pushed since) (with_ids keeper page.tree (all_pushed keeper page.tree serials (session_of o pushed since)))
-  serials-go serials o pushed since session begun =
+  serials-go : (c : DomAsk) → ((ids : List ℕ) → answers (ask_name c) (NodeIds ids) ≡ true) → (serials : List ℕ) (o : ℕ → Bool) (pushed : List ℕ) (since : ℕ) → IsSession n (session_of o pushed since) → o page.tree.row.serial ≡ true
+      → OutcomeGoes page c (session_of o pushed since) (with_ids keeper page.tree (all_pushed keeper page.tree serials (session_of o pushed since)))
+  serials-go c one serials o pushed since session begun =
       let w : Session = session_of o pushed since in
       let p : Pushes Session = all_pushed keeper page.tree serials w in
       let g = goes-all_pushed page.tree (distinct-alone page valid) (containers-page page valid) serials (Some o) pushed since begun session in
-      (g.goes, λ can. number_spells (NodeIds p.ids) (and_from _ true (g.ids (omega (arith, goes-few n w p.progress.state p.progress.shown g.goes, can.ids))) refl) tt refl, refl)
+      (g.goes, λ can. number_spells (NodeIds p.ids) (and_from _ true (g.ids (omega (arith, goes-few n w p.progress.state p.progress.shown g.goes, can.ids))) refl) tt refl, one p.ids)
 
   -- each command but `DOM.getDocument`
   abbrev pub Asks : DomAsk → Session → Type 0
@@ -165,7 +177,7 @@ module _ (page : State) (valid : IsValid page) where
   serials-pushed serials (Some o) pushed since session =
       let w : Session = session_of o pushed since in
       begun_or (OutcomeGoes page (PushBySerials serials) w) (o page.tree.row.serial) (with_ids keeper page.tree (all_pushed keeper page.tree serials w)) (refused _)
-      (λ begun. serials-go serials o pushed since session begun) tt
+      (λ begun. serials-go (PushBySerials serials) (λ ids. refl) serials o pushed since session begun) tt
 
   -- ---- what changes nothing
 
@@ -197,12 +209,43 @@ module _ (page : State) (valid : IsValid page) where
       let at = there x refl in
       reply-goes (DescribeNode id serial depth pierce) w (ReplyNode (described levels x)) session (described-spells page w valid at.0 x at.1 levels) refl
 
+  -- ---- queries
+
+  -- the document is opened where anything is
+  pub root-opened : (o : ℕ → Bool) (pushed : List ℕ) (since : ℕ) → IsSession n (session_of o pushed since) → o page.tree.row.serial ≡ true
+  root-opened o pushed since session = (and_parts (o page.tree.row.serial) true session.opened_set.rooted).0
+
+  first-goes : (c : DomAsk) → ((id : ℕ) → answers (ask_name c) (NodeId id) ≡ true) → (found : Option ℕ) (o : ℕ → Bool) (pushed : List ℕ) (since : ℕ) → IsSession n (session_of o pushed since)
+      → OutcomeGoes page c (session_of o pushed since) (with_first keeper page.tree found (session_of o pushed since))
+  first-goes c one None o pushed since session = reply-goes c (session_of o pushed since) (NodeId 0) session (λ can. number_spells (NodeId 0) refl tt refl) (one 0)
+  first-goes c one (Some s) o pushed since session = push-goes c one s o pushed since session
+
+  query-goes : (c : DomAsk) (w : Session) (asks : ℕ → List SelectorForm → Session → Outcome Session) → ((s : ℕ) (l : List SelectorForm) → OutcomeGoes page c w (asks s l w)) → (q : Result Query Why)
+      → OutcomeGoes page c w (of_query keeper page.tree asks q w)
+  query-goes c w asks go (Err why) = tt
+  query-goes c w asks go (Ok q) = go q.root q.selectors
+
+  first-queried : (id : ℕ) (text : List ℕ) (o : Option (ℕ → Bool)) (pushed : List ℕ) (since : ℕ) → IsSession n (record { opened = o; pushed = pushed; since = since }) → Asks (QuerySelector id text) (record { opened = o; pushed = pushed; since = since })
+  first-queried id text None pushed since session = tt
+  first-queried id text (Some o) pushed since session =
+      let w : Session = session_of o pushed since in
+      query-goes (QuerySelector id text) w (first_asked keeper page.tree) (λ s l. first-goes (QuerySelector id text) (λ k. refl) (first_matching l s page.tree) o pushed since session) (query_of (known_node keeper page.tree w (serial_at w n id)) text)
+
+  all-queried : (id : ℕ) (text : List ℕ) (o : Option (ℕ → Bool)) (pushed : List ℕ) (since : ℕ) → IsSession n (record { opened = o; pushed = pushed; since = since }) → Asks (QuerySelectorAll id text) (record { opened = o; pushed = pushed; since = since })
+  all-queried id text None pushed since session = tt
+  all-queried id text (Some o) pushed since session =
+      let w : Session = session_of o pushed since in
+      query-goes (QuerySelectorAll id text) w (all_asked keeper page.tree)
+      (λ s l. serials-go (QuerySelectorAll id text) (λ ids. refl) (all_matching l s page.tree) o pushed since session (root-opened o pushed since session)) (query_of (known_node keeper page.tree w (serial_at w n id)) text)
+
   -- each ask but that for the document
   pub asks-go : (c : DomAsk) → IsOther c → (w : Session) → IsSession n w → Asks c w
   asks-go (GetDocument depth pierce) other w session = absurd other
   asks-go (RequestChildNodes id depth pierce) other w session = request-goes id depth pierce w.opened w.pushed w.since session
   asks-go (PushByPath path) other w session = path-pushed path w.opened w.pushed w.since session
   asks-go (PushBySerials serials) other w session = serials-pushed serials w.opened w.pushed w.since session
+  asks-go (QuerySelector id text) other w session = first-queried id text w.opened w.pushed w.since session
+  asks-go (QuerySelectorAll id text) other w session = all-queried id text w.opened w.pushed w.since session
   asks-go (GetAttributes id) other w session = attributes-go id w session (known_node keeper page.tree w (serial_at w n id)) (named-found w (serial_at w n id))
   asks-go (DescribeNode id serial depth pierce) other w session =
       description-goes id serial depth pierce w session (named_node keeper page.tree w id serial) (named-there w id serial)

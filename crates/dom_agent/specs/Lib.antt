@@ -1,6 +1,7 @@
 pub mod Keepers
 pub mod Paths
 pub mod Described
+pub mod Queries
 pub mod Requests
 pub mod Openings
 pub mod Laws

@@ -1,5 +1,5 @@
 -- What each command of a client comes to: what becomes opened, what is told of it, and the reply.
-use Rattle.std.specs.Prelude.{ℕ, ℤ, pos, Bool, not, ◌&&◌, cond, List, [], ◌∷◌, ◌++◌, map, filter, Option, Some, None, unwrap_or}
+use Rattle.std.specs.Prelude.{ℕ, ℤ, pos, Bool, not, ◌&&◌, cond, List, [], ◌∷◌, ◌++◌, map, filter, Option, Some, None, unwrap_or, Result, Ok, Err}
 use Rattle.node_tree.specs.Nodes.{Nodes, none, node, Branch, alone}
 use Rattle.node_tree.specs.Keys.{has, find}
 use Rattle.node_tree.specs.Labels.{holds, is_element}
@@ -8,15 +8,17 @@ use Rattle.page_tree.specs.Pages.{Row, row_serial}
 use Rattle.node_binding.specs.Cuts.{opens, seen_of, cut}
 use Rattle.node_binding.specs.Openings.{levels_of, less, is_spent}
 use Rattle.cdp_messages.specs.declared.dom_ask.DomAsk.{DomAsk}
-use Rattle.cdp_messages.specs.declared.dom_ask.DomAsk.TheVariants.{GetDocument, RequestChildNodes, PushByPath, PushBySerials, GetAttributes, DescribeNode}
+use Rattle.cdp_messages.specs.declared.dom_ask.DomAsk.TheVariants.{GetDocument, RequestChildNodes, PushByPath, PushBySerials, QuerySelector, QuerySelectorAll, GetAttributes, DescribeNode}
 use Rattle.cdp_messages.specs.declared.command.Why.{Why}
 use Rattle.cdp_messages.specs.declared.command.Why.TheVariants.{UnknownNode, NotPushed, NoPath, NotElement}
 use Rattle.cdp_messages.specs.declared.down.ReplyBody.{ReplyBody}
 use Rattle.cdp_messages.specs.declared.down.ReplyBody.TheVariants.{Nothing, Node, NodeId, NodeIds, Attributes}
 use Rattle.cdp_messages.specs.Moves.{Move, change, root, replied, failed, shows, frames_of_moves}
+use Rattle.selectors.specs.Forms.{SelectorForm}
 use Rattle.dom_agent.specs.Keepers.{Keeper}
 use Rattle.dom_agent.specs.Paths.{node_at_path}
 use Rattle.dom_agent.specs.Described.{described}
+use Rattle.dom_agent.specs.Queries.{Query, query_of, first_matching, all_matching}
 
 -- a container that is opened, and by how many levels
 pub record Opening : Type 0 where
@@ -133,6 +135,23 @@ module _ {S : Type 0} (k : Keeper S) (document : Branch Row) where
   abbrev pub only_replied : ReplyBody → S → Outcome S
   only_replied body w = served (record { state = w; shown = [] }) body
 
+  -- the first element that matches below the node of that serial, pushed; the id 0 where there is none
+  abbrev pub with_first : Option ℕ → S → Outcome S
+  with_first None w = only_replied (NodeId 0) w
+  with_first (Some s) w = with_id s (pushed s w)
+
+  abbrev pub first_asked : ℕ → List SelectorForm → S → Outcome S
+  first_asked s selectors w = with_first (first_matching selectors s document) w
+
+  -- all that match, pushed in document order
+  abbrev pub all_asked : ℕ → List SelectorForm → S → Outcome S
+  all_asked s selectors w = with_ids (all_pushed (all_matching selectors s document) w)
+
+  -- a query that is not refused asks for some of what matches
+  abbrev pub of_query : (ℕ → List SelectorForm → S → Outcome S) → Result Query Why → S → Outcome S
+  of_query asks (Err why) w = refused why
+  of_query asks (Ok q) w = asks q.root q.selectors w
+
   -- the attributes of the node x are asked for
   abbrev pub of_attributes : Option (Branch Row) → S → Outcome S
   of_attributes None w = refused UnknownNode
@@ -153,6 +172,8 @@ module _ {S : Type 0} (k : Keeper S) (document : Branch Row) where
   outcome (RequestChildNodes id depth pierce) w = of_children depth (known_node w (k.serial_of w id)) w
   outcome (PushByPath path) w = once_begun w (of_path (node_at_path path document) w)
   outcome (PushBySerials serials) w = once_begun w (with_ids (all_pushed serials w))
+  outcome (QuerySelector id text) w = of_query first_asked (query_of (known_node w (k.serial_of w id)) text) w
+  outcome (QuerySelectorAll id text) w = of_query all_asked (query_of (known_node w (k.serial_of w id)) text) w
   outcome (GetAttributes id) w = of_attributes (known_node w (k.serial_of w id)) w
   outcome (DescribeNode id serial depth pierce) w = of_description depth (named_node w id serial) w
 

@@ -8,10 +8,11 @@ ghost use Rattle.page_tree.specs.EditFaults.{first_fault, IsReady, Refuses};
 ghost use Rattle.node_binding.specs.Openings.{IsDepth, levels_of};
 ghost use Rattle.node_binding.specs.Bindings.{empty_from, cleared, opened_in, id_in};
 ghost use Rattle.cdp_messages.specs.DomAsks.{fits_ask};
-ghost use Rattle.cdp_messages.specs.declared.dom_ask.DomAsk.TheVariants.{GetDocument, RequestChildNodes, PushByPath, PushBySerials, GetAttributes, DescribeNode};
+ghost use Rattle.cdp_messages.specs.declared.dom_ask.DomAsk.TheVariants.{GetDocument, RequestChildNodes, PushByPath, PushBySerials, QuerySelector, QuerySelectorAll, GetAttributes, DescribeNode};
 ghost use Rattle.cdp_messages.specs.Moves.{replied, failed, frames_of_moves};
 ghost use Rattle.dom_agent.specs.Keepers.{binding_keeper};
-ghost use Rattle.dom_agent.specs.Requests.{state_after, answer, pushed, frames_told, known_node, named_node};
+ghost use Rattle.selectors.specs.Lists.{list_seen};
+ghost use Rattle.dom_agent.specs.Requests.{state_after, answer, pushed, all_pushed, with_id, with_ids, first_asked, all_asked, frames_told, known_node, named_node};
 ghost use Rattle.dom_agent.specs.Laws.{binding_outcome};
 ghost use Rattle.dom_agent.specs.Edits.{OnFault};
 ghost use Rattle.dom_agent.specs.EditLaws.{binding_edited};
@@ -21,11 +22,13 @@ use crate::edits::{apply_and_tell, attach, attribute_dropped, attribute_set, det
 use crate::openings::request_node;
 use crate::paths::node_at_path;
 use crate::pushes::{open_above, push_all};
+use crate::queries::{Query, QueryErr, read_query};
 use crate::serving::open_all;
 use crate::told::told_tree;
 use cdp_messages::{DomAsk, Numbers, Refused, ReplyBody, Why, write_refused, write_reply};
 use node_binding::{Binding, find_in, levels_of};
 use page_tree::{EditErr, Kind, Node, Page, TreeEdit};
+use select_match::{all_matches, first_match};
 use std::alloc::{AllocError, Global};
 use std::marker::Model;
 
@@ -84,6 +87,12 @@ impl DomAgent {
             DomAsk::PushByPath { path } => self.push_by_path(page, id, path.as_str(), out),
             DomAsk::PushBySerials { serials } => {
                 self.push_by_serials(page, id, serials.as_slice(), out)
+            }
+            DomAsk::QuerySelector { node, selector } => {
+                self.query_selector(page, id, *node, selector.as_str(), out)
+            }
+            DomAsk::QuerySelectorAll { node, selector } => {
+                self.query_selector_all(page, id, *node, selector.as_str(), out)
             }
             DomAsk::GetAttributes { node } => self.get_attributes(page, id, *node, out),
             DomAsk::DescribeNode {
@@ -173,7 +182,23 @@ impl DomAgent {
         let Some(found) = node_at_path(&page.root(), path) else {
             return refuse(self.alloc, id, Why::NoPath, out);
         };
-        let serial = found.serial();
+        self.answer_pushed(page, id, found.serial(), out)
+    }
+
+    /// Pushes a node, and replies with its id.
+    fn answer_pushed(
+        &mut self,
+        page: &Page,
+        id: u64,
+        serial: u64,
+        out: &mut Vec<u8>,
+    ) -> Result<(), AllocError>
+        requires room { self.old.next < 2 ^ 52 }
+        ensures known { OnOk result (self.new
+            ≡ (pushed (binding_keeper (alone page.now.tree)) page.now.tree serial self.old).state) }
+        ensures sent { OnOk result (out.new.items ≡ out.old.items
+            ++ answer id (with_id (binding_keeper (alone page.now.tree)) page.now.tree serial (pushed (binding_keeper (alone page.now.tree)) page.now.tree serial self.old))) }
+    {
         open_above(self.alloc, &mut self.binding, page, serial, out)?;
         let node = self.binding.id_of(serial).unwrap_or(0);
         reply(self.alloc, id, &ReplyBody::NodeId(node), out)?;
@@ -196,10 +221,108 @@ impl DomAgent {
         if !self.binding.is_opened(page.document()) {
             return refuse(self.alloc, id, Why::NotPushed, out);
         }
+        self.answer_all_pushed(page, id, serials, out)
+    }
+
+    /// Pushes nodes in turn, and replies with their ids.
+    fn answer_all_pushed(
+        &mut self,
+        page: &Page,
+        id: u64,
+        serials: &[u64],
+        out: &mut Vec<u8>,
+    ) -> Result<(), AllocError>
+        ensures known { OnOk result (self.new
+            ≡ (all_pushed (binding_keeper (alone page.now.tree)) page.now.tree serials.now self.old).progress.state) }
+        ensures sent { OnOk result (out.new.items ≡ out.old.items
+            ++ answer id (with_ids (binding_keeper (alone page.now.tree)) page.now.tree (all_pushed (binding_keeper (alone page.now.tree)) page.now.tree serials.now self.old))) }
+    {
         let ids = push_all(self.alloc, &mut self.binding, page, serials, out)?;
         let body = ReplyBody::NodeIds(Numbers::new(ids));
         reply(self.alloc, id, &body, out)?;
         Ok(())
+    }
+
+    fn query_selector(
+        &mut self,
+        page: &Page,
+        id: u64,
+        node: u64,
+        selector: &str,
+        out: &mut Vec<u8>,
+    ) -> Result<(), AllocError>
+        requires room { self.old.next < 2 ^ 52 }
+        ensures known { OnOk result
+            (self.new ≡ state_after self.old (binding_outcome page.now (QuerySelector node selector.now) self.old)) }
+        ensures sent { OnOk result
+            (out.new.items ≡ out.old.items ++ answer id (binding_outcome page.now (QuerySelector node selector.now) self.old)) }
+    {
+        let found = self.node_of(page, node);
+        match read_query(self.alloc, found, selector) {
+            Ok(query) => self.answer_first(page, id, &query, out),
+            Err(QueryErr::Refused(why)) => refuse(self.alloc, id, why, out),
+            Err(QueryErr::Memory) => Err(AllocError),
+        }
+    }
+
+    /// Pushes the first element that matches, if there is one.
+    fn answer_first(
+        &mut self,
+        page: &Page,
+        id: u64,
+        query: &Query,
+        out: &mut Vec<u8>,
+    ) -> Result<(), AllocError>
+        requires live { IsSome (find_in query.now.root page.now.tree) }
+        requires room { self.old.next < 2 ^ 52 }
+        ensures known { OnOk result (self.new ≡ state_after self.old
+            (first_asked (binding_keeper (alone page.now.tree)) page.now.tree query.now.root (list_seen query.now.selectors) self.old)) }
+        ensures sent { OnOk result (out.new.items ≡ out.old.items ++ answer id
+            (first_asked (binding_keeper (alone page.now.tree)) page.now.tree query.now.root (list_seen query.now.selectors) self.old)) }
+    {
+        match first_match(&query.selectors, page, query.root) {
+            Some(serial) => self.answer_pushed(page, id, serial, out),
+            None => reply(self.alloc, id, &ReplyBody::NodeId(0), out),
+        }
+    }
+
+    fn query_selector_all(
+        &mut self,
+        page: &Page,
+        id: u64,
+        node: u64,
+        selector: &str,
+        out: &mut Vec<u8>,
+    ) -> Result<(), AllocError>
+        ensures known { OnOk result
+            (self.new ≡ state_after self.old (binding_outcome page.now (QuerySelectorAll node selector.now) self.old)) }
+        ensures sent { OnOk result
+            (out.new.items ≡ out.old.items ++ answer id (binding_outcome page.now (QuerySelectorAll node selector.now) self.old)) }
+    {
+        let found = self.node_of(page, node);
+        match read_query(self.alloc, found, selector) {
+            Ok(query) => self.answer_all(page, id, &query, out),
+            Err(QueryErr::Refused(why)) => refuse(self.alloc, id, why, out),
+            Err(QueryErr::Memory) => Err(AllocError),
+        }
+    }
+
+    /// Pushes all elements that match, in document order.
+    fn answer_all(
+        &mut self,
+        page: &Page,
+        id: u64,
+        query: &Query,
+        out: &mut Vec<u8>,
+    ) -> Result<(), AllocError>
+        requires live { IsSome (find_in query.now.root page.now.tree) }
+        ensures known { OnOk result (self.new ≡ state_after self.old
+            (all_asked (binding_keeper (alone page.now.tree)) page.now.tree query.now.root (list_seen query.now.selectors) self.old)) }
+        ensures sent { OnOk result (out.new.items ≡ out.old.items ++ answer id
+            (all_asked (binding_keeper (alone page.now.tree)) page.now.tree query.now.root (list_seen query.now.selectors) self.old)) }
+    {
+        let serials = all_matches(self.alloc, &query.selectors, page, query.root)?;
+        self.answer_all_pushed(page, id, serials.as_slice(), out)
     }
 
     fn get_attributes(
@@ -224,7 +347,12 @@ impl DomAgent {
     }
 
     /// The node that an id names, or else a serial.
-    fn named_node<'a>(&self, page: &'a Page, id: Option<u64>, serial: Option<u64>) -> Option<Node<'a>>
+    fn named_node<'a>(
+        &self,
+        page: &'a Page,
+        id: Option<u64>,
+        serial: Option<u64>,
+    ) -> Option<Node<'a>>
         ensures { result
             ≡ named_node (binding_keeper (alone page.now.tree)) page.now.tree self.now id serial }
     {

@@ -8,6 +8,7 @@ mod laws;
 mod openings;
 mod paths;
 mod pushes;
+mod queries;
 mod serving;
 mod told;
 

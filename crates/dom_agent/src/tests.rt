@@ -168,6 +168,58 @@ fn a_push_gives_the_id(rt: HostRuntime) -> Result<(), Fail> {
     Ok(())
 }
 
+// The element `ul` of the document, which has texts and four elements `li`.
+fn items(alloc: Global) -> Result<Page, Fail> {
+    let nodes = Value::from_slice(
+        alloc,
+        br#"[{"e":"ul","c":[{"t":"x"},{"e":"li"},{"t":"y"},{"e":"li"},{"e":"li"},{"e":"li"}]}]"#,
+    )?;
+    let forms = read_nodes(alloc, &nodes)?;
+    Ok(Page::load(alloc, 1, forms)?)
+}
+
+#[test]
+fn elements_are_found_and_described(rt: HostRuntime) -> Result<(), Fail> {
+    let alloc = rt.alloc();
+    let page = items(alloc)?;
+    let mut agent = DomAgent::new(alloc);
+    let mut out = Vec::new(alloc);
+    let start = DomAsk::GetDocument {
+        depth: Some(-1),
+        pierce: None,
+    };
+    agent.ask(&page, 7, &start, &mut out)?;
+    for (text, want) in [
+        (
+            "li:nth-child(-n+3)",
+            "{\"id\":7,\"result\":{\"nodeIds\":[4,6,7]}}\0",
+        ),
+        ("li + li", "{\"id\":7,\"result\":{\"nodeIds\":[6,7,8]}}\0"),
+        (
+            r#"li:not([a~=""])"#,
+            "{\"id\":7,\"result\":{\"nodeIds\":[4,6,7,8]}}\0",
+        ),
+        (
+            "li:nope",
+            "{\"error\":{\"code\":-32000,\"message\":\"bad selector\"},\"id\":7}\0",
+        ),
+    ] {
+        out.clear();
+        let selector = Text::copied(alloc, text)?;
+        let query = DomAsk::QuerySelectorAll { node: 1, selector };
+        assert!(rt; agent.next_id() < 100);
+        agent.ask(&page, 7, &query, &mut out)?;
+        assert!(rt; out.as_slice() == want.as_bytes(), "{text}");
+    }
+    out.clear();
+    let selector = Text::copied(alloc, "b")?;
+    let query = DomAsk::QuerySelector { node: 1, selector };
+    assert!(rt; agent.next_id() < 100);
+    agent.ask(&page, 7, &query, &mut out)?;
+    assert!(rt; out.as_slice() == b"{\"id\":7,\"result\":{\"nodeId\":0}}\0");
+    Ok(())
+}
+
 #[test]
 fn a_node_is_described_alone(rt: HostRuntime) -> Result<(), Fail> {
     let mut agent = DomAgent::new(rt.alloc());
