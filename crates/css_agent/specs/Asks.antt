@@ -1,0 +1,74 @@
+-- What each command of the domain CSS that edits nothing comes to: a result, or why it is refused. The page's tree and the
+-- numbers, origins and texts of the book's sheets tell it.
+use Rattle.std.specs.Prelude.{ℕ, List, option_and_then, Option, Some, None, Result, Ok, Err}
+use Rattle.css_objects.specs.Sheets.{sheet_in}
+use Rattle.sheet_reader.specs.declared.book.SheetEntry.{SheetEntry}
+use Rattle.sheet_reader.specs.Books.{entry_of}
+use Rattle.cdp_messages.specs.declared.command.Command.{Command}
+use Rattle.cdp_messages.specs.declared.command.Command.TheVariants.{DomEnable, DomDisable, GetDocument, RequestChildNodes, PushByPath, PushBySerials, QuerySelector, QuerySelectorAll, GetAttributes, DescribeNode, SetAttributeValue, RemoveAttribute, SetNodeValue, RemoveNode, MoveTo, CopyTo, MarkUndoableState, Undo, Redo, CssEnable, CssDisable, GetMatchedStyles, GetStyleSheetText, CollectClassNames, SetStyleTexts, SetRuleSelector, SetStyleSheetText, AddRule, SetBreakpoint, RemoveBreakpoint, ReplayLoad, ReplayAct}
+use Rattle.cdp_messages.specs.declared.command.Why.{Why}
+use Rattle.cdp_messages.specs.declared.command.Why.TheVariants.{NoSheet}
+use Rattle.cdp_messages.specs.declared.down.ReplyBody.{ReplyBody}
+use Rattle.cdp_messages.specs.declared.down.ReplyBody.TheVariants as body
+use Rattle.cdp_messages.specs.Moves.{Move, replied, failed}
+use Rattle.css_agent.specs.declared.asks.CssAsk.{CssAsk}
+use Rattle.css_agent.specs.declared.asks.CssAsk.TheVariants as ask
+use Rattle.css_agent.specs.ClassNames.{class_names}
+
+-- what the agent is asked by a command, if it is one that edits nothing
+abbrev pub css_ask_in : Command → Option CssAsk
+css_ask_in DomEnable = None
+css_ask_in DomDisable = None
+css_ask_in (GetDocument depth pierce) = None
+css_ask_in (RequestChildNodes node depth pierce) = None
+css_ask_in (PushByPath path) = None
+css_ask_in (PushBySerials serials) = None
+css_ask_in (QuerySelector node selector) = None
+css_ask_in (QuerySelectorAll node selector) = None
+css_ask_in (GetAttributes node) = None
+css_ask_in (DescribeNode id serial depth pierce) = None
+css_ask_in (SetAttributeValue node name value) = None
+css_ask_in (RemoveAttribute node name) = None
+css_ask_in (SetNodeValue node value) = None
+css_ask_in (RemoveNode node) = None
+css_ask_in (MoveTo node target before) = None
+css_ask_in (CopyTo node target before) = None
+css_ask_in MarkUndoableState = None
+css_ask_in Undo = None
+css_ask_in Redo = None
+css_ask_in CssEnable = None
+css_ask_in CssDisable = None
+css_ask_in (GetMatchedStyles node) = None
+css_ask_in (GetStyleSheetText sheet) = Some (ask.GetStyleSheetText sheet)
+css_ask_in (CollectClassNames sheet) = Some (ask.CollectClassNames sheet)
+css_ask_in (SetStyleTexts edits) = None
+css_ask_in (SetRuleSelector sheet range selector) = None
+css_ask_in (SetStyleSheetText sheet text) = None
+css_ask_in (AddRule sheet rule_text location) = None
+css_ask_in (SetBreakpoint node kind) = None
+css_ask_in (RemoveBreakpoint node kind) = None
+css_ask_in (ReplayLoad params) = None
+css_ask_in (ReplayAct params) = None
+
+-- the sheet of the book whose id has this text, if it has one
+abbrev pub sheet_named : List ℕ → List SheetEntry → Option SheetEntry
+sheet_named text book = option_and_then (λ id. entry_of id book) (sheet_in text)
+
+-- what a command comes to
+abbrev pub Outcome : Type 0
+Outcome = Result ReplyBody Why
+
+-- what is told of the sheet, if there is one
+abbrev pub if_sheet : (SheetEntry → ReplyBody) → Option SheetEntry → Outcome
+if_sheet told None = Err NoSheet
+if_sheet told (Some e) = Ok (told e)
+
+-- each command
+abbrev pub outcome_of : List SheetEntry → CssAsk → Outcome
+outcome_of book (ask.GetStyleSheetText sheet) = if_sheet (λ e. body.SheetText e.text) (sheet_named sheet book)
+outcome_of book (ask.CollectClassNames sheet) = if_sheet (λ e. body.ClassNames (class_names e.text)) (sheet_named sheet book)
+
+-- the move that answers the command with that id
+abbrev pub answer_move : ℕ → Outcome → Move
+answer_move id (Ok result) = replied id result
+answer_move id (Err why) = failed (record { id = Some id; why = why })

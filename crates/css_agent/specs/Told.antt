@@ -1,0 +1,47 @@
+-- What messages tell of the sheets of a book.
+use Rattle.std.specs.Prelude.{ℕ, List, [], ◌∷◌, map, Bool, cond, not, ◌&&◌}
+use Rattle.std.specs.List.{sum_by, flat_map}
+use Rattle.serde_json.specs.Written.{compact_text}
+use Rattle.css_objects.specs.declared.sheets.SheetOrigin.{SheetOrigin}
+use Rattle.css_objects.specs.declared.sheets.SheetOrigin.TheVariants as told
+use Rattle.css_objects.specs.declared.sheets.Header.{Header}
+use Rattle.sheet_reader.specs.declared.book.Origin.{Origin}
+use Rattle.sheet_reader.specs.declared.book.Origin.TheVariants.{UserAgent, Regular}
+use Rattle.sheet_reader.specs.declared.book.SheetEntry.{SheetEntry}
+use Rattle.sheet_reader.specs.Positions.{units_at}
+use Rattle.cdp_messages.specs.Answers.{ended}
+use Rattle.cdp_messages.specs.Events.{News, sheet_added}
+use Rattle.cdp_messages.specs.Replies.{Message, event, message_data}
+
+-- where a sheet comes from, as messages tell it
+abbrev pub told_origin : Origin → SheetOrigin
+told_origin UserAgent = told.UserAgent
+told_origin Regular = told.Regular
+
+-- the UTF-16 units of a text
+abbrev pub units_in : List ℕ → ℕ
+units_in text = sum_by units_at text
+
+-- what is told of a sheet as it comes: how long its text is, where it comes from, and its number
+abbrev pub header_of : SheetEntry → Header
+header_of e = record { length = units_in e.text; origin = told_origin e.origin; sheet = e.id }
+
+-- the message that tells that a sheet comes
+abbrev pub added_message : SheetEntry → Message
+added_message e = event (sheet_added (header_of e))
+
+-- the messages that a turn of the domain sends, from what it was to what it is: where it comes on, each sheet of the book comes, in order
+abbrev pub turn_messages : Bool → Bool → List SheetEntry → List Message
+turn_messages was is book = cond (is && not was) (map added_message book) []
+
+-- the messages that tell an event: it is told while the domain is on
+abbrev pub event_messages : Bool → News → List Message
+event_messages on news = cond on (event news ∷ []) []
+
+-- the text of a message as one frame, with its zero byte
+abbrev pub frame_of : Message → List ℕ
+frame_of m = ended (compact_text (message_data m))
+
+-- the frames of messages, one after the other
+abbrev pub frames_of : List Message → List ℕ
+frames_of ms = flat_map frame_of ms

@@ -1,0 +1,88 @@
+ghost use Rattle.std.specs.Prelude.{◌≡◌, ◌++◌, [], ◌∷◌, false, OnOk, OnErr};
+ghost use Rattle.cdp_messages.specs.Moves.{frames_of_moves};
+ghost use Rattle.cdp_messages.specs.Events.{news_of};
+ghost use Rattle.css_agent.specs.Told.{turn_messages, event_messages, frames_of};
+ghost use Rattle.css_agent.specs.Asks.{outcome_of, answer_move};
+
+use crate::asks::CssAsk;
+use crate::frames::{answer, tell_sheets_if};
+use crate::outcomes::outcome_of;
+use cdp_messages::{Event, write_event};
+use sheet_reader::SheetBook;
+use std::alloc::{AllocError, Global};
+use std::marker::Model;
+
+/// Serves the commands of the domain CSS. It knows whether the domain is on; contracts see that alone.
+#[derive(Drop)]
+pub struct CssAgent {
+    alloc: Global,
+    on: bool,
+}
+
+impl Model for CssAgent {
+    ghost use Rattle.std.specs.Prelude.{Bool};
+
+    ghost Value = { Bool };
+
+    ghost view = { λ a. a.on };
+}
+
+impl CssAgent {
+    /// The domain is off. Takes no memory.
+    pub fn new(alloc: Global) -> CssAgent
+        ensures { result ≡ false }
+    {
+        CssAgent { alloc, on: false }
+    }
+
+    /// Whether the domain is on.
+    pub fn is_on(&self) -> bool
+        ensures { result ≡ self.now }
+    {
+        self.on
+    }
+
+    /// Turns the domain on or off. Where it was off and comes on, appends a `CSS.styleSheetAdded` for each sheet of the book, in
+    /// order. After an error it is as it was, and some of these may have been appended.
+    pub fn switch(
+        &mut self,
+        on: bool,
+        book: &SheetBook,
+        out: &mut Vec<u8>,
+    ) -> Result<(), AllocError>
+        ensures on { OnOk result (self.new ≡ on) }
+        ensures sent { OnOk result (out.new.items ≡ out.old.items ++ frames_of (turn_messages self.old on book.now)) }
+        ensures unchanged { OnErr result (self.new ≡ self.old) }
+    {
+        let comes = on && !self.on;
+        tell_sheets_if(self.alloc, comes, book, out)?;
+        self.on = on;
+        Ok(())
+    }
+
+    /// Appends the event where the domain is on, and nothing where it is off.
+    pub fn tell(&self, event: &Event, out: &mut Vec<u8>) -> Result<(), AllocError>
+        ensures sent { OnOk result (out.new.items ≡ out.old.items ++ frames_of (event_messages self.now (news_of event.now))) }
+        ensures unsent { OnErr result (out.new.items ≡ out.old.items) }
+    {
+        if !self.on {
+            return Ok(());
+        }
+        write_event(self.alloc, event, out)
+    }
+
+    /// Appends what answers the command: the reply, or the error reply where it is refused.
+    pub fn ask(
+        &self,
+        book: &SheetBook,
+        id: u64,
+        ask: &CssAsk,
+        out: &mut Vec<u8>,
+    ) -> Result<(), AllocError>
+        ensures { OnOk result (out.new.items
+            ≡ out.old.items ++ frames_of_moves (answer_move id (outcome_of book.now ask.now) ∷ [])) }
+    {
+        let outcome = outcome_of(self.alloc, book, ask)?;
+        answer(self.alloc, id, &outcome, out)
+    }
+}

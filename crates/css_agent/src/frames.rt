@@ -1,0 +1,67 @@
+// Messages as they are sent.
+ghost use Rattle.std.specs.Prelude.{◌≡◌, ◌++◌, cond, [], ◌∷◌, map, OnOk};
+ghost use Rattle.cdp_messages.specs.Moves.{frames_of_moves};
+ghost use Rattle.sheet_reader.specs.Books.{IsEntry};
+ghost use Rattle.css_agent.specs.Told.{added_message, frames_of};
+ghost use Rattle.css_agent.specs.Asks.{answer_move};
+
+use crate::headers::header_of;
+use cdp_messages::{Event, Refused, ReplyBody, Why, write_event, write_refused, write_reply};
+use sheet_reader::{SheetBook, SheetEntry};
+use std::alloc::{AllocError, Global};
+
+fn tell_sheet(alloc: Global, entry: &SheetEntry, out: &mut Vec<u8>) -> Result<(), AllocError>
+    requires { IsEntry entry.now }
+    ensures { OnOk result (out.new.items ≡ out.old.items ++ frames_of (added_message entry.now ∷ [])) }
+{
+    let header = header_of(entry);
+    write_event(alloc, &Event::StyleSheetAdded { header }, out)?;
+    Ok(())
+}
+
+fn tell_sheets(alloc: Global, book: &SheetBook, out: &mut Vec<u8>) -> Result<(), AllocError>
+    ensures { OnOk result (out.new.items ≡ out.old.items ++ frames_of (map added_message book.now)) }
+{
+    for i in 0..book.len() {
+        tell_sheet(alloc, book.at(i), out)?;
+    }
+    Ok(())
+}
+
+/// Appends a `CSS.styleSheetAdded` for each sheet of the book, in order, where the domain comes on.
+pub(crate) fn tell_sheets_if(
+    alloc: Global,
+    comes: bool,
+    book: &SheetBook,
+    out: &mut Vec<u8>,
+) -> Result<(), AllocError>
+    ensures { OnOk result (out.new.items ≡ out.old.items ++ frames_of (cond comes (map added_message book.now) [])) }
+{
+    if comes {
+        tell_sheets(alloc, book, out)?;
+    }
+    Ok(())
+}
+
+/// Appends the reply, or the error reply.
+pub(crate) fn answer(
+    alloc: Global,
+    id: u64,
+    outcome: &Result<ReplyBody, Why>,
+    out: &mut Vec<u8>,
+) -> Result<(), AllocError>
+    ensures { OnOk result (out.new.items ≡ out.old.items ++ frames_of_moves (answer_move id outcome.now ∷ [])) }
+{
+    match outcome {
+        Ok(body) => write_reply(alloc, id, body, out)?,
+        Err(why) => write_refused(
+            alloc,
+            &Refused {
+                id: Some(id),
+                why: *why,
+            },
+            out,
+        )?,
+    }
+    Ok(())
+}

@@ -1,0 +1,28 @@
+// What is told of a sheet as it comes.
+ghost use Rattle.std.specs.Prelude.{◌≡◌};
+ghost use Rattle.sheet_reader.specs.Books.{IsEntry};
+ghost use Rattle.css_agent.specs.Told.{told_origin, header_of};
+
+use crate::units::units_in;
+use css_objects::{Header, SheetOrigin};
+use sheet_reader::{Origin, SheetEntry};
+
+pub(crate) fn told_origin(origin: Origin) -> SheetOrigin
+    ensures { result ≡ told_origin origin }
+{
+    match origin {
+        Origin::UserAgent => SheetOrigin::UserAgent,
+        Origin::Regular => SheetOrigin::Regular,
+    }
+}
+
+pub(crate) fn header_of(entry: &SheetEntry) -> Header
+    requires { IsEntry entry.now }
+    ensures { result ≡ header_of entry.now }
+{
+    Header {
+        length: units_in(entry.text.as_str()),
+        origin: told_origin(entry.origin),
+        sheet: entry.id,
+    }
+}
