@@ -9,7 +9,7 @@ use Rattle.cdp_messages.specs.Asked.{asked, method_name}
 use Rattle.cdp_messages.specs.Laws.{answers}
 use Rattle.cdp_messages.specs.declared.effects.Effect.TheVariants.{NothingElse}
 use Rattle.cdp_messages.specs.Effects.{effect_of_method}
-use Rattle.cdp_messages.specs.Moves.{Move, change, clear, met, root, replied, all_off, sheets_off, failed, Course}
+use Rattle.cdp_messages.specs.Moves.{Move, change, clear, met, added, dropped, rewritten, root, texted, replied, all_off, sheets_off, failed, Course}
 use Rattle.back_end.specs.States.{State, IsState, view_of}
 use Rattle.back_end.specs.Steps.{Step, Turn, acts, loads, frame_step, turn_step}
 use Rattle.back_end.specs.Texts.{HaveTexts, ActHasTexts}
@@ -31,7 +31,11 @@ abbrev pub MayAnswer : List ℕ → Move → Type 0
 MayAnswer method (change id c) = ⊤
 MayAnswer method clear = ⊤
 MayAnswer method (met why) = ⊤
+MayAnswer method (added s) = ⊤
+MayAnswer method (dropped n) = ⊤
+MayAnswer method (rewritten n text) = ⊤
 MayAnswer method (root id b) = method ≡ codes "DOM.getDocument"
+MayAnswer method (texted id n text) = method ≡ codes "CSS.getStyleSheetText"
 MayAnswer method (replied id body) = (answers method body ≡ true) × (effect_of_method method ≡ NothingElse)
 MayAnswer method (all_off id) = method ≡ codes "DOM.disable"
 MayAnswer method (sheets_off id) = method ≡ codes "CSS.disable"
@@ -47,7 +51,11 @@ abbrev pub reply_ids : Move → List (Option ℕ)
 reply_ids (change id c) = []
 reply_ids clear = []
 reply_ids (met why) = []
+reply_ids (added s) = []
+reply_ids (dropped n) = []
+reply_ids (rewritten n text) = []
 reply_ids (root id b) = Some id ∷ []
+reply_ids (texted id n text) = Some id ∷ []
 reply_ids (replied id body) = Some id ∷ []
 reply_ids (all_off id) = Some id ∷ []
 reply_ids (sheets_off id) = Some id ∷ []

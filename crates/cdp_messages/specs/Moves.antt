@@ -15,14 +15,14 @@ use Rattle.cdp_messages.specs.declared.down.ReplyBody.{ReplyBody}
 use Rattle.cdp_messages.specs.declared.down.ReplyBody.TheVariants.{Nothing, Root, Node, NodeId, NodeIds, Attributes, ClassNames, SheetText, Styles, Selectors, Rule, Matched}
 use Rattle.cdp_messages.specs.declared.down.PauseData.{PauseData}
 use Rattle.cdp_messages.specs.declared.down.PauseData.TheVariants as pause
-use Rattle.cdp_messages.specs.Events.{News, attribute_modified, attribute_removed, text_modified, count_updated, inserted, removed, set_children, document_updated, paused}
+use Rattle.cdp_messages.specs.Events.{News, attribute_modified, attribute_removed, text_modified, count_updated, inserted, removed, set_children, document_updated, paused, sheet_added, sheet_changed, sheet_removed}
 use Rattle.cdp_messages.specs.Answers.{ended}
 use Rattle.cdp_messages.specs.NodeData.{is_none}
 use Rattle.cdp_messages.specs.Tellable.{suits_tree}
 use Rattle.cdp_messages.specs.Told.{told_nodes, told_branch}
 use Rattle.cdp_messages.specs.Replies.{Message, reply, event, message_data, refusal_message, body_data, fits_body}
 use Rattle.cdp_messages.specs.Laws.{LabelHasUtf8, BodyHasUtf8, body_height}
-use Rattle.cdp_messages.specs.Views.{ShownSheet, sheet_number, AreSheets, View, IsView, is_distinct}
+use Rattle.cdp_messages.specs.Views.{ShownSheet, sheet_number, AreSheets, text_units, sheet_header, shows_sheet, shown_text, sheets_without, sheets_with_text, View, IsView, is_distinct}
 
 -- ---- one shown node changes
 
@@ -106,8 +106,16 @@ pub data Move : Type 0 where
   clear : Move
   -- `Debugger.paused`
   met : PauseData → Move
+  -- `CSS.styleSheetAdded`: this sheet is new, and stands last
+  added : ShownSheet → Move
+  -- `CSS.styleSheetRemoved`: the sheet of that number is gone
+  dropped : ℕ → Move
+  -- `CSS.styleSheetChanged`: the sheet of that number has that text, which the message does not tell
+  rewritten : ℕ → List ℕ → Move
   -- the reply to the `DOM.getDocument` of that id: this document
   root : ℕ → Branch Seen → Move
+  -- the reply to the `CSS.getStyleSheetText` of that id: the sheet of that number has that text
+  texted : ℕ → ℕ → List ℕ → Move
   -- any other reply to the ask of that id, with its result
   replied : ℕ → ReplyBody → Move
   -- the reply to the `DOM.disable` of that id: nothing is known any more, and no sheet is
@@ -122,7 +130,11 @@ abbrev pub message_of : Move → Message
 message_of (change id c) = event (change_news id c)
 message_of clear = event document_updated
 message_of (met why) = event (paused why)
+message_of (added s) = event (sheet_added (sheet_header s))
+message_of (dropped n) = event (sheet_removed n)
+message_of (rewritten n text) = event (sheet_changed n)
 message_of (root id b) = reply id (body_data (Root (told_branch 0 b)))
+message_of (texted id n text) = reply id (body_data (SheetText text))
 message_of (replied id body) = reply id (body_data body)
 message_of (all_off id) = reply id (body_data Nothing)
 message_of (sheets_off id) = reply id (body_data Nothing)
@@ -192,25 +204,25 @@ abbrev pub AreShown : List ℕ → Nodes Seen → Type 0
 AreShown [] v = ⊤
 AreShown (id ∷ ids) v = (has seen_id id v ≡ true) × AreShown ids v
 
--- a result that tells no document
-abbrev pub tells_document : ReplyBody → Bool
-tells_document Nothing = false
-tells_document (Root b) = true
-tells_document (Node b) = false
-tells_document (NodeId id) = false
-tells_document (NodeIds ids) = false
-tells_document (Attributes pairs) = false
-tells_document (ClassNames names) = false
-tells_document (SheetText text) = false
-tells_document (Styles styles) = false
-tells_document (Selectors selectors) = false
-tells_document (Rule rule) = false
-tells_document (Matched matched) = false
+-- a result that tells of a view: a document, or the text of a sheet
+abbrev pub tells_view : ReplyBody → Bool
+tells_view Nothing = false
+tells_view (Root b) = true
+tells_view (Node b) = false
+tells_view (NodeId id) = false
+tells_view (NodeIds ids) = false
+tells_view (Attributes pairs) = false
+tells_view (ClassNames names) = false
+tells_view (SheetText text) = true
+tells_view (Styles styles) = false
+tells_view (Selectors selectors) = false
+tells_view (Rule rule) = false
+tells_view (Matched matched) = false
 
--- a reply that tells no document, and that a message can spell
+-- a reply that tells neither a document nor the text of a sheet, and that a message can spell
 pub record IsPlainReply (id : ℕ) (body : ReplyBody) : Type 0 where
   pub id_fits : is_counted id ≡ true
-  pub plain : tells_document body ≡ false
+  pub plain : tells_view body ≡ false
   pub fits : fits_body body ≡ true
   pub texts : BodyHasUtf8 body
   pub levels : body_height body ≤ 61
@@ -220,7 +232,11 @@ abbrev pub Moves : Move → View → View → Type 0
 Moves (change id c) v w = ChangesNode id c v.tree w.tree × (w.sheets ≡ v.sheets)
 Moves clear v w = w ≡ record { tree = none; sheets = v.sheets }
 Moves (met why) v w = (w ≡ v) × AreShown (paused_nodes why) v.tree
+Moves (added s) v w = (w ≡ record { tree = v.tree; sheets = v.sheets ++ s ∷ [] }) × (is_counted (text_units s.text) ≡ true)
+Moves (dropped n) v w = (w ≡ record { tree = v.tree; sheets = sheets_without n v.sheets }) × (shows_sheet n v.sheets ≡ true)
+Moves (rewritten n text) v w = (w ≡ record { tree = v.tree; sheets = sheets_with_text n text v.sheets }) × (shows_sheet n v.sheets ≡ true)
 Moves (root id b) v w = (w ≡ record { tree = alone b; sheets = v.sheets }) × (is_counted id ≡ true)
+Moves (texted id n text) v w = (w ≡ v) × (shown_text n v.sheets ≡ Some text) × (is_counted id ≡ true)
 Moves (replied id body) v w = (w ≡ v) × IsPlainReply id body
 Moves (all_off id) v w = (w ≡ record { tree = none; sheets = [] }) × (is_counted id ≡ true)
 Moves (sheets_off id) v w = (w ≡ record { tree = v.tree; sheets = [] }) × (is_counted id ≡ true)
@@ -238,7 +254,11 @@ abbrev pub answered_by : Move → List ℕ
 answered_by (change id c) = []
 answered_by clear = []
 answered_by (met why) = []
+answered_by (added s) = []
+answered_by (dropped n) = []
+answered_by (rewritten n text) = []
 answered_by (root id b) = id ∷ []
+answered_by (texted id n text) = id ∷ []
 answered_by (replied id body) = id ∷ []
 answered_by (all_off id) = id ∷ []
 answered_by (sheets_off id) = id ∷ []

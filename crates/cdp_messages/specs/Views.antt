@@ -1,7 +1,8 @@
 -- Views: what a client may know of a page, a tree of shown nodes and the sheets that it was told of.
-use Rattle.std.specs.Prelude.{◌≡◌, ◌≤◌, ℕ, Bool, true, false, not, ◌&&◌, ◌||◌, nat_eq, List, [], ◌∷◌, ◌++◌}
-use Rattle.std.specs.List.{list_any}
+use Rattle.std.specs.Prelude.{◌≡◌, ◌≤◌, ℕ, ◌==◌, Bool, true, false, cond, not, ◌&&◌, ◌||◌, if◌then◌else◌, nat_eq, nat_lt, List, [], ◌∷◌, ◌++◌, Option, Some, None}
+use Rattle.std.specs.List.{list_any, sum_by}
 use Rattle.std.specs.Str.{IsUtf8}
+use Rattle.css_objects.specs.declared.sheets.Header.{Header}
 use Rattle.css_objects.specs.declared.sheets.SheetOrigin.{SheetOrigin}
 use Rattle.css_objects.specs.Sheets.{is_sheet}
 use Rattle.node_tree.specs.Nodes.{Nodes, none, node, height}
@@ -80,6 +81,35 @@ sheet_number s = s.number
 abbrev pub AreSheets : List ShownSheet → Type 0
 AreSheets [] = Unit {0}
 AreSheets (s ∷ ss) = (is_sheet s.number ≡ true) × IsUtf8 s.text × AreSheets ss
+
+-- the UTF-16 units of a text: of each character two where it has four bytes, and else one, told by its first byte; its other
+-- bytes count nothing
+abbrev pub text_units : List ℕ → ℕ
+text_units text = sum_by (λ byte. if nat_lt byte 128 then 1 else (if nat_lt byte 192 then 0 else (if nat_lt byte 240 then 1 else 2))) text
+
+-- what is told of a sheet as it comes
+abbrev pub sheet_header : ShownSheet → Header
+sheet_header s = record { length = text_units s.text; origin = s.origin; sheet = s.number }
+
+-- one of the sheets has the number
+abbrev pub shows_sheet : ℕ → List ShownSheet → Bool
+shows_sheet n [] = false
+shows_sheet n (s ∷ ss) = s.number == n || shows_sheet n ss
+
+-- the text of the first sheet of that number
+abbrev pub shown_text : ℕ → List ShownSheet → Option (List ℕ)
+shown_text n [] = None
+shown_text n (s ∷ ss) = cond (s.number == n) (Some s.text) (shown_text n ss)
+
+-- the sheets without the first of that number
+abbrev pub sheets_without : ℕ → List ShownSheet → List ShownSheet
+sheets_without n [] = []
+sheets_without n (s ∷ ss) = cond (s.number == n) ss (s ∷ sheets_without n ss)
+
+-- the sheets, where the first of that number has another text
+abbrev pub sheets_with_text : ℕ → List ℕ → List ShownSheet → List ShownSheet
+sheets_with_text n text [] = []
+sheets_with_text n text (s ∷ ss) = cond (s.number == n) (record s { text = text } ∷ ss) (s ∷ sheets_with_text n text ss)
 
 -- ---- views
 

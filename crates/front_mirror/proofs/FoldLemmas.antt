@@ -1,5 +1,5 @@
 -- How a fold goes on, and that an ask more only waits.
-use Rattle.std.proofs.Common.{◌≡◌, ℕ, ◌==◌, Bool, true, false, cond, List, [], ◌∷◌, ◌++◌, Option, Some, None, Result, Ok, Err, refl, sym, ap, ◌∙◌}
+use Rattle.std.proofs.Common.{◌≡◌, ℕ, ◌==◌, Bool, true, false, cond, List, [], ◌∷◌, ◌++◌, Option, Some, None, option_map, option_and_then, Result, Ok, Err, refl, sym, ap, ◌∙◌}
 use Rattle.serde_json.specs.Data.{Data}
 use Rattle.node_tree.specs.Nodes.{Nodes, none, Branch, alone}
 use Rattle.node_tree.specs.Keys.{Spot, spot, put}
@@ -17,10 +17,11 @@ use Rattle.std.specs.List.{list_all}
 use Rattle.cdp_messages.specs.declared.down.PauseData.{PauseData}
 use Rattle.cdp_messages.specs.Moves.{changed, shows, inserts, removes, counts, sets, drops, says, paused_nodes}
 use Rattle.front_mirror.specs.declared.replies.Ask.{Ask}
+use Rattle.front_mirror.specs.declared.replies.Kept.{Kept}
 use Rattle.front_mirror.specs.declared.faults.FrontKind.TheVariants.{UnknownNode, IdTaken, UnknownSheet}
 use Rattle.front_mirror.specs.declared.faults.FrontKind.{FrontKind}
 use Rattle.front_mirror.specs.declared.faults.FrontFault.{FrontFault}
-use Rattle.front_mirror.specs.Front.{FrontValue, first_value, method_of, without, root_fault, replied, refused, told, halted, told_sheets, is_shown, ToldChange, told_change, change_fault, with_root, with_effect, with_body, with_reply, with_fault, with_tree, at_spot, with_change, with_news, with_message, take_frame, Folded, after_message, folded, outcome, fold_frames, fold, FrontState, first_state, after_bytes, unless_refused, after_take, after_ask}
+use Rattle.front_mirror.specs.Front.{FrontValue, first_value, plain_ask, fetch_ask, ask_under, method_of, fetched_sheet, kept, unless_fetch, sheets_fetched, without, root_fault, replied, refused, told, halted, told_sheets, is_shown, ToldChange, told_change, change_fault, with_root, with_effect, with_body, with_reply, with_fault, with_tree, at_spot, with_change, with_news, with_message, take_frame, Folded, after_message, folded, outcome, fold_frames, fold, FrontState, first_state, after_bytes, unless_refused, after_take, after_ask, after_fetch}
 use Rattle.front_mirror.specs.declared.sheets.KnownSheet.{KnownSheet}
 use Rattle.front_mirror.specs.Sheets.{new_sheet, has_sheet, marked_old, without_sheet}
 use Rattle.front_mirror.specs.Laws.{joined, IsFold}
@@ -68,24 +69,29 @@ fold-append waiting down more v e =
 
 -- ---- an ask more
 
-method_of-here : (v : Bool) (a m : List ℕ) (o p : Option (List ℕ)) → (o ≡ Some m → p ≡ Some m) → cond v (Some a) o ≡ Some m → cond v (Some a) p ≡ Some m
-method_of-here true a m o p rest e = e
-method_of-here false a m o p rest e = rest e
+-- the first ask of an id is found among more asks, where it waits
+ask_under-here : (v : Bool) (a : Ask) (m : List ℕ) (o p : Option Ask) → (option_map (λ (x : Ask). x.method) o ≡ Some m → p ≡ o)
+    → option_map (λ (x : Ask). x.method) (cond v (Some a) o) ≡ Some m → cond v (Some a) p ≡ cond v (Some a) o
+ask_under-here true a m o p rest e = refl
+ask_under-here false a m o p rest e = rest e
+
+ask_under-more : (id : ℕ) (asks : List Ask) (ask : Ask) (m : List ℕ) → method_of id asks ≡ Some m → ask_under id (asks ++ ask ∷ []) ≡ ask_under id asks
+ask_under-more id [] ask m e = cc
+ask_under-more id (a ∷ asks) ask m e =
+    ask_under-here (a.id == id) a m (ask_under id asks) (ask_under id (asks ++ ask ∷ [])) (ask_under-more id asks ask m) e
 
 method_of-more : (id : ℕ) (asks : List Ask) (ask : Ask) (m : List ℕ) → method_of id asks ≡ Some m → method_of id (asks ++ ask ∷ []) ≡ Some m
-method_of-more id [] ask m e = cc
-method_of-more id (a ∷ asks) ask m e =
-    method_of-here (a.id == id) a.method m (method_of id asks) (method_of id (asks ++ ask ∷ [])) (method_of-more id asks ask m) e
+method_of-more id asks ask m e = ap (option_map (λ (x : Ask). x.method)) (ask_under-more id asks ask m e) ∙ e
 
-without-here : (v : Bool) (a ask : Ask) (m : List ℕ) (o : Option (List ℕ)) (asks less more : List Ask) → (o ≡ Some m → more ≡ less ++ ask ∷ [])
-    → cond v (Some a.method) o ≡ Some m → cond v (asks ++ ask ∷ []) (a ∷ more) ≡ cond v asks (a ∷ less) ++ ask ∷ []
+without-here : (v : Bool) (a ask : Ask) (m : List ℕ) (o : Option Ask) (asks less more : List Ask) → (option_map (λ (x : Ask). x.method) o ≡ Some m → more ≡ less ++ ask ∷ [])
+    → option_map (λ (x : Ask). x.method) (cond v (Some a) o) ≡ Some m → cond v (asks ++ ask ∷ []) (a ∷ more) ≡ cond v asks (a ∷ less) ++ ask ∷ []
 without-here true a ask m o asks less more rest e = refl
 without-here false a ask m o asks less more rest e = ap (λ (later : List Ask). a ∷ later) (rest e)
 
 without-more : (id : ℕ) (asks : List Ask) (ask : Ask) (m : List ℕ) → method_of id asks ≡ Some m → without id (asks ++ ask ∷ []) ≡ without id asks ++ ask ∷ []
 without-more id [] ask m e = cc
 without-more id (a ∷ asks) ask m e =
-    without-here (a.id == id) a ask m (method_of id asks) asks (without id asks) (without id (asks ++ ask ∷ [])) (without-more id asks ask m) e
+    without-here (a.id == id) a ask m (ask_under id asks) asks (without id asks) (without id (asks ++ ask ∷ [])) (without-more id asks ask m) e
 
 abbrev taken_well : FrontValue → Result FrontValue FrontKind
 taken_well v = Ok v
@@ -93,11 +99,21 @@ taken_well v = Ok v
 abbrev folded_well : FrontValue → Result FrontValue FrontFault
 folded_well v = Ok v
 
+-- what is kept of a reply to this ask
+abbrev kept_to : ℕ → Option Ask → List ℕ → Bool → List Kept
+kept_to id o frame good = unless_fetch (option_and_then (λ (x : Ask). x.sheet) o) (kept (Some id) (option_map (λ (x : Ask). x.method) o) frame good)
+
+replied-joined : (v : FrontValue) (ask : Ask) (id : ℕ) (frame : List ℕ) (good : Bool) (tree : Nodes Seen) (m : List ℕ) → method_of id v.asks ≡ Some m
+    → replied (joined v ask) id frame good tree ≡ joined (replied v id frame good tree) ask
+replied-joined v ask id frame good tree m waits =
+    ap (λ (o : Option Ask). record (replied (joined v ask) id frame good tree) { replies = v.replies ++ kept_to id o frame good }) (ask_under-more id v.asks ask m waits)
+    ∙ ap (λ (asks : List Ask). record (replied v id frame good tree) { asks = asks }) (without-more id v.asks ask m waits)
+
 replied-more : (v w : FrontValue) (ask : Ask) (id : ℕ) (frame : List ℕ) (good : Bool) (tree : Nodes Seen) (m : List ℕ) → method_of id v.asks ≡ Some m
     → taken_well (replied v id frame good tree) ≡ Ok w → taken_well (replied (joined v ask) id frame good tree) ≡ Ok (joined w ask)
 replied-more v w ask id frame good tree m waits e =
     let same : replied v id frame good tree ≡ w = cc in
-    ap (λ (asks : List Ask). taken_well (record (replied v id frame good tree) { asks = asks })) (without-more id v.asks ask m waits)
+    ap (λ (u : FrontValue). taken_well u) (replied-joined v ask id frame good tree m waits)
     ∙ ap (λ (u : FrontValue). taken_well (joined u ask)) same
 
 with_root-more : (v w : FrontValue) (ask : Ask) (id : ℕ) (frame : List ℕ) (root : Branch Told) (m : List ℕ) (wrong : Option FrontKind) → method_of id v.asks ≡ Some m
@@ -112,13 +128,26 @@ bare-more : (v w : FrontValue) (ask : Ask) (id : ℕ) (frame : List ℕ) (tree :
     → taken_well (sheetless (replied v id frame true tree)) ≡ Ok w → taken_well (sheetless (replied (joined v ask) id frame true tree)) ≡ Ok (joined w ask)
 bare-more v w ask id frame tree m waits e =
     let same : sheetless (replied v id frame true tree) ≡ w = cc in
-    ap (λ (asks : List Ask). taken_well (record (sheetless (replied v id frame true tree)) { asks = asks })) (without-more id v.asks ask m waits)
+    ap (λ (u : FrontValue). taken_well (sheetless u)) (replied-joined v ask id frame true tree m waits)
+    ∙ ap (λ (u : FrontValue). taken_well (joined u ask)) same
+
+-- the front, where the text of that sheet was fetched, if it was
+abbrev freshened : FrontValue → Option ℕ → List ℕ → FrontValue
+freshened v o text = record v { sheets = sheets_fetched o text v.sheets }
+
+text-more : (v w : FrontValue) (ask : Ask) (id : ℕ) (frame text : List ℕ) (m : List ℕ) → method_of id v.asks ≡ Some m
+    → taken_well (freshened (replied v id frame true v.tree) (fetched_sheet id v.asks) text) ≡ Ok w
+    → taken_well (freshened (replied (joined v ask) id frame true v.tree) (fetched_sheet id (v.asks ++ ask ∷ [])) text) ≡ Ok (joined w ask)
+text-more v w ask id frame text m waits e =
+    let same : freshened (replied v id frame true v.tree) (fetched_sheet id v.asks) text ≡ w = cc in
+    ap (λ (o : Option Ask). taken_well (freshened (replied (joined v ask) id frame true v.tree) (option_and_then (λ (x : Ask). x.sheet) o) text)) (ask_under-more id v.asks ask m waits)
+    ∙ ap (λ (u : FrontValue). taken_well (freshened u (fetched_sheet id v.asks) text)) (replied-joined v ask id frame true v.tree m waits)
     ∙ ap (λ (u : FrontValue). taken_well (joined u ask)) same
 
 with_effect-more : (v w : FrontValue) (ask : Ask) (id : ℕ) (frame : List ℕ) (m : List ℕ) (x : Effect) → method_of id v.asks ≡ Some m
     → with_effect v id frame x ≡ Ok w → with_effect (joined v ask) id frame x ≡ Ok (joined w ask)
 with_effect-more v w ask id frame m (effect.Document tree) waits e = with_root-more v w ask id frame tree m (root_fault tree) waits e
-with_effect-more v w ask id frame m (effect.SheetText text) waits e = replied-more v w ask id frame true v.tree m waits e
+with_effect-more v w ask id frame m (effect.SheetText text) waits e = text-more v w ask id frame text m waits e
 with_effect-more v w ask id frame m effect.AllOff waits e = bare-more v w ask id frame none m waits e
 with_effect-more v w ask id frame m effect.SheetsOff waits e = bare-more v w ask id frame v.tree m waits e
 with_effect-more v w ask id frame m effect.NothingElse waits e = replied-more v w ask id frame true v.tree m waits e
@@ -244,9 +273,17 @@ fold_stays waiting down piece s is well = record {
 }
 
 pub fold_asks : (waiting : List Ask) (down method : List ℕ) (s : FrontState) → IsFold waiting down s
-    → IsFold (waiting ++ record { id = s.next; method = method } ∷ []) down (after_ask s method)
+    → IsFold (waiting ++ plain_ask s.next method ∷ []) down (after_ask s method)
 fold_asks waiting down method s is = record {
-  value = fold-more waiting (record { id = s.next; method = method }) down s.value is.value;
+  value = fold-more waiting (plain_ask s.next method) down s.value is.value;
+  rest = is.rest;
+  well = is.well;
+}
+
+pub fold_fetches : (waiting : List Ask) (down : List ℕ) (sheet : ℕ) (s : FrontState) → IsFold waiting down s
+    → IsFold (waiting ++ fetch_ask s.fetches sheet ∷ []) down (after_fetch s sheet)
+fold_fetches waiting down sheet s is = record {
+  value = fold-more waiting (fetch_ask s.fetches sheet) down s.value is.value;
   rest = is.rest;
   well = is.well;
 }

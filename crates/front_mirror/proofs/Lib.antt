@@ -15,4 +15,5 @@ pub mod MessageLemmas
 pub mod FoldLemmas
 pub mod FollowLemmas
 pub mod SheetLemmas
+pub mod KnownSheets
 pub mod MoveLemmas

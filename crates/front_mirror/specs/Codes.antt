@@ -18,13 +18,17 @@ use Rattle.front_mirror.specs.Front.{FrontValue, FrontState}
 
 -- an ask by its parts
 abbrev pub coded_ask : Coded Ask
-coded_ask = code_by (ℕ × List ℕ) (coded× coded_ℕ (coded_list coded_ℕ)) (λ a. (a.id, a.method)) (λ p. record { id = p.0; method = p.1 }) (λ _. refl)
+coded_ask =
+    code_by (ℕ × (List ℕ × Option ℕ)) (coded× coded_ℕ (coded× (coded_list coded_ℕ) (coded_option coded_ℕ))) (λ a. (a.id, (a.method, a.sheet)))
+    (λ p. record { id = p.0; method = p.1.0; sheet = p.1.1 }) (λ _. refl)
 
 -- a kept reply by its parts
 abbrev pub coded_kept : Coded Kept
 coded_kept =
-    code_by (Option ℕ × (List ℕ × Bool)) (coded× (coded_option coded_ℕ) (coded× (coded_list coded_ℕ) coded_bool)) (λ k. (k.id, (k.text, k.good)))
-    (λ p. record { id = p.0; text = p.1.0; good = p.1.1 }) (λ _. refl)
+    code_by ((Option ℕ × Option (List ℕ)) × (List ℕ × Bool)) (coded× (coded× (coded_option coded_ℕ) (coded_option (coded_list coded_ℕ))) (coded× (coded_list coded_ℕ) coded_bool))
+    (λ k. ((k.id, k.method), (k.text, k.good)))
+    (λ p. record { id = p.0.0; method = p.0.1; text = p.1.0; good = p.1.1 })
+    (λ _. refl)
 
 -- a sheet by its parts
 abbrev pub coded_sheet : Coded KnownSheet
@@ -58,8 +62,8 @@ coded_value =
 -- a front by its parts
 abbrev pub coded_state : Coded FrontState
 coded_state =
-    code_by ((FrontValue × List ℕ) × (Option FrontFault × (ℕ × Bool)))
-    (coded× (coded× coded_value (coded_list coded_ℕ)) (coded× (coded_option coded_fault) (coded× coded_ℕ coded_bool)))
-    (λ s. ((s.value, s.rest), (s.fault, (s.next, s.dead))))
-    (λ p. record { value = p.0.0; rest = p.0.1; fault = p.1.0; next = p.1.1.0; dead = p.1.1.1 })
+    code_by ((FrontValue × List ℕ) × (Option FrontFault × (ℕ × (ℕ × Bool))))
+    (coded× (coded× coded_value (coded_list coded_ℕ)) (coded× (coded_option coded_fault) (coded× coded_ℕ (coded× coded_ℕ coded_bool))))
+    (λ s. ((s.value, s.rest), (s.fault, (s.next, (s.fetches, s.dead)))))
+    (λ p. record { value = p.0.0; rest = p.0.1; fault = p.1.0; next = p.1.1.0; fetches = p.1.1.1.0; dead = p.1.1.1.1 })
     (λ _. refl)

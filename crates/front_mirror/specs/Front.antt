@@ -1,6 +1,8 @@
 -- The front end as a value, and the fold of the frames that come down.
-use Rattle.std.specs.Prelude.{ℕ, ◌+◌, ◌-◌, ◌==◌, Bool, true, false, not, ◌&&◌, ◌||◌, cond, nat_le, List, [], ◌∷◌, ◌++◌, Option, Some, None, Result, Ok, Err}
+use Rattle.std.specs.Prelude.{ℕ, ◌+◌, ◌-◌, ◌^◌, ◌==◌, Bool, true, false, not, ◌&&◌, ◌||◌, cond, nat_le, List, [], ◌∷◌, ◌++◌, codes, Option, Some, None, option_map, option_and_then, Result, Ok, Err}
 use Rattle.serde_json.specs.Data.{Data}
+use Rattle.cdp_json.specs.Rows.{ends, and_need, object_of}
+use Rattle.css_objects.specs.Sheets.{sheet_kind}
 use Rattle.node_tree.specs.Nodes.{Nodes, none, node, Branch, alone, height}
 use Rattle.node_tree.specs.Keys.{Spot, has, spot, put}
 use Rattle.node_tree.specs.Labels.{is_element, has_value}
@@ -27,7 +29,7 @@ use Rattle.cdp_messages.specs.Moves.{Change, shows, inserts, removes, counts, se
 use Rattle.cdp_messages.specs.Views.{most_levels, keys, is_distinct}
 use Rattle.css_objects.specs.declared.sheets.Header.{Header}
 use Rattle.front_mirror.specs.declared.sheets.KnownSheet.{KnownSheet}
-use Rattle.front_mirror.specs.Sheets.{new_sheet, has_sheet, marked_old, without_sheet}
+use Rattle.front_mirror.specs.Sheets.{new_sheet, has_sheet, marked_old, with_fetched, without_sheet}
 use Rattle.front_mirror.specs.Shown.{told_id, told_serial}
 
 -- The tree of the mirror, none where it is empty; the sheets, in the order in which they came; the asks that wait for a reply, in the order in which they were sent; the
@@ -46,10 +48,30 @@ first_value asks = record { tree = none; sheets = []; asks = asks; replies = [];
 
 -- ---- asks
 
--- the method of the first ask with that id
+-- an ask of that id and method, which is no fetch
+abbrev pub plain_ask : ℕ → List ℕ → Ask
+plain_ask id method = record { id = id; method = method; sheet = None }
+
+-- the fetch of the text of that sheet, after so many fetches; ids of fetches are from 2^30 on
+abbrev pub fetch_ask : ℕ → ℕ → Ask
+fetch_ask count sheet = record { id = 2 ^ 30 + count; method = codes "CSS.getStyleSheetText"; sheet = Some sheet }
+
+-- its parameters: the id of the sheet
+abbrev pub fetch_params : ℕ → Data
+fetch_params sheet = (object_of (and_need (codes "styleSheetId") sheet_kind ends)).spell (sheet, tt)
+
+-- the first ask with that id
+abbrev pub ask_under : ℕ → List Ask → Option Ask
+ask_under id [] = None
+ask_under id (ask ∷ asks) = cond (ask.id == id) (Some ask) (ask_under id asks)
+
+-- its method
 abbrev pub method_of : ℕ → List Ask → Option (List ℕ)
-method_of id [] = None
-method_of id (ask ∷ asks) = cond (ask.id == id) (Some ask.method) (method_of id asks)
+method_of id asks = option_map (λ (ask : Ask). ask.method) (ask_under id asks)
+
+-- the sheet that it fetches, if it is a fetch
+abbrev pub fetched_sheet : ℕ → List Ask → Option ℕ
+fetched_sheet id asks = option_and_then (λ (ask : Ask). ask.sheet) (ask_under id asks)
 
 -- the asks without the first one with that id
 abbrev pub without : ℕ → List Ask → List Ask
@@ -145,18 +167,32 @@ change_fault tree t s = first_true
 
 -- ---- one message
 
--- a reply, kept with the frame that it came in
-abbrev pub kept : Option ℕ → List ℕ → Bool → Kept
-kept id frame good = record { id = id; text = frame; good = good }
+-- a reply, kept with the frame that it came in, and the method of the ask that it answers
+abbrev pub kept : Option ℕ → Option (List ℕ) → List ℕ → Bool → Kept
+kept id method frame good = record { id = id; method = method; text = frame; good = good }
+
+-- what is kept of a reply: nothing, where it answers a fetch
+abbrev pub unless_fetch : Option ℕ → Kept → List Kept
+unless_fetch None k = k ∷ []
+unless_fetch (Some sheet) k = []
+
+-- what is kept of a reply to an ask of that id, where these wait
+abbrev pub kept_reply : ℕ → List Ask → List ℕ → Bool → List Kept
+kept_reply id asks frame good = unless_fetch (fetched_sheet id asks) (kept (Some id) (method_of id asks) frame good)
+
+-- the sheets after the text of this one was fetched, if it was
+abbrev pub sheets_fetched : Option ℕ → List ℕ → List KnownSheet → List KnownSheet
+sheets_fetched None text sheets = sheets
+sheets_fetched (Some n) text sheets = with_fetched n text sheets
 
 -- the front after a reply to the ask of that id
 abbrev pub replied : FrontValue → ℕ → List ℕ → Bool → Nodes Seen → FrontValue
 replied v id frame good tree =
-    record v { tree = tree; asks = without id v.asks; replies = v.replies ++ kept (Some id) frame good ∷ []; taken = v.taken + 1 }
+    record v { tree = tree; asks = without id v.asks; replies = v.replies ++ kept_reply id v.asks frame good; taken = v.taken + 1 }
 
 -- the front after an error reply that names no ask
 abbrev pub refused : FrontValue → List ℕ → FrontValue
-refused v frame = record v { replies = v.replies ++ kept None frame false ∷ []; taken = v.taken + 1 }
+refused v frame = record v { replies = v.replies ++ kept None None frame false ∷ []; taken = v.taken + 1 }
 
 -- the front after an event that leads to this tree
 abbrev pub told : FrontValue → Nodes Seen → FrontValue
@@ -170,7 +206,7 @@ with_root v id frame root (Some kind) = Err kind
 -- after an Ok reply with this effect
 abbrev pub with_effect : FrontValue → ℕ → List ℕ → Effect → Result FrontValue FrontKind
 with_effect v id frame (effect.Document tree) = with_root v id frame tree (root_fault tree)
-with_effect v id frame (effect.SheetText text) = Ok (replied v id frame true v.tree)
+with_effect v id frame (effect.SheetText text) = Ok (record (replied v id frame true v.tree) { sheets = sheets_fetched (fetched_sheet id v.asks) text v.sheets })
 with_effect v id frame effect.AllOff = Ok (record (replied v id frame true none) { sheets = [] })
 with_effect v id frame effect.SheetsOff = Ok (record (replied v id frame true v.tree) { sheets = [] })
 with_effect v id frame effect.NothingElse = Ok (replied v id frame true v.tree)
@@ -291,17 +327,18 @@ fold waiting down = fold_frames (first_value waiting) (frames_from [] down)
 -- ---- a front that runs
 
 -- What contracts see of a front: its value, the bytes after the last whole frame, the fault that it met, the id of the next
--- ask, and whether it is dead.
+-- ask, how many fetches were sent, and whether it is dead.
 pub record FrontState : Type 0 where
   pub value : FrontValue
   pub rest : List ℕ
   pub fault : Option FrontFault
   pub next : ℕ
+  pub fetches : ℕ
   pub dead : Bool
 
 -- a front that has sent and taken nothing
 abbrev pub first_state : FrontState
-first_state = record { value = first_value []; rest = []; fault = None; next = 1; dead = false }
+first_state = record { value = first_value []; rest = []; fault = None; next = 1; fetches = 0; dead = false }
 
 -- the state after more bytes, where no fault was met before
 abbrev pub after_bytes : FrontState → List ℕ → FrontState
@@ -322,4 +359,9 @@ after_take s bytes = unless_refused s.fault s (after_bytes s bytes)
 -- the state after an ask: it waits, under the next id
 abbrev pub after_ask : FrontState → List ℕ → FrontState
 after_ask s method =
-    record s { value = record s.value { asks = s.value.asks ++ record { id = s.next; method = method } ∷ [] }; next = s.next + 1 }
+    record s { value = record s.value { asks = s.value.asks ++ plain_ask s.next method ∷ [] }; next = s.next + 1 }
+
+-- the state after a fetch of that sheet: it waits, under the next id of fetches
+abbrev pub after_fetch : FrontState → ℕ → FrontState
+after_fetch s sheet =
+    record s { value = record s.value { asks = s.value.asks ++ fetch_ask s.fetches sheet ∷ [] }; fetches = s.fetches + 1 }

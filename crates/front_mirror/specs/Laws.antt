@@ -6,13 +6,14 @@ use Rattle.cdp_messages.specs.declared.down.ReplyBody.{ReplyBody}
 use Rattle.cdp_messages.specs.declared.effects.Effect.{Effect}
 use Rattle.cdp_messages.specs.declared.effects.Effect.TheVariants as effect
 use Rattle.cdp_messages.specs.Effects.{effect_of}
-use Rattle.cdp_messages.specs.Moves.{Move, change, clear, met, root, replied, all_off, sheets_off, failed, move_text, CanBeTold, Moves, Course, answered_by}
+use Rattle.cdp_messages.specs.Moves.{Move, change, clear, met, added, dropped, rewritten, root, texted, replied, all_off, sheets_off, failed, move_text, CanBeTold, Moves, Course, answered_by}
 use Rattle.cdp_messages.specs.Laws.{answers}
-use Rattle.cdp_messages.specs.Views.{View}
+use Rattle.cdp_messages.specs.Views.{ShownSheet, View}
 use Rattle.front_mirror.specs.declared.replies.Ask.{Ask}
 use Rattle.front_mirror.specs.declared.replies.Kept.{Kept}
 use Rattle.front_mirror.specs.declared.pauses.SeenPause.{SeenPause}
-use Rattle.front_mirror.specs.Front.{FrontValue, method_of, without, kept, seen_pause, take_frame, outcome, fold_frames, fold, FrontState, first_state, after_take, after_ask}
+use Rattle.front_mirror.specs.declared.sheets.KnownSheet.{KnownSheet}
+use Rattle.front_mirror.specs.Front.{FrontValue, plain_ask, fetch_ask, method_of, fetched_sheet, without, kept, kept_reply, seen_pause, take_frame, outcome, fold_frames, fold, FrontState, first_state, after_take, after_ask, after_fetch}
 
 -- the front with one ask more that waits
 abbrev pub joined : FrontValue → Ask → FrontValue
@@ -58,13 +59,33 @@ StaysFold =
 abbrev pub AsksFold : Type 0
 AsksFold =
     (waiting : List Ask) (down method : List ℕ) (s : FrontState) → IsFold waiting down s
-    → IsFold (waiting ++ record { id = s.next; method = method } ∷ []) down (after_ask s method)
+    → IsFold (waiting ++ plain_ask s.next method ∷ []) down (after_ask s method)
+
+-- and so after a fetch
+abbrev pub FetchesFold : Type 0
+FetchesFold =
+    (waiting : List Ask) (down : List ℕ) (sheet : ℕ) (s : FrontState) → IsFold waiting down s
+    → IsFold (waiting ++ fetch_ask s.fetches sheet ∷ []) down (after_fetch s sheet)
 
 -- ---- the moves of a view
+
+-- the front knows the sheet: its number and its origin, and its text where it has one that is not old
+pub record KnowsSheet (k : KnownSheet) (s : ShownSheet) : Type 0 where
+  pub number : k.number ≡ s.number
+  pub origin : k.origin ≡ s.origin
+  pub text : k.stale ≡ false → k.text ≡ Some s.text
+
+-- it knows these sheets, one by one, and no others
+abbrev pub KnowsSheets : List KnownSheet → List ShownSheet → Type 0
+KnowsSheets [] [] = ⊤
+KnowsSheets [] (s ∷ ss) = ⊥
+KnowsSheets (k ∷ ks) [] = ⊥
+KnowsSheets (k ∷ ks) (s ∷ ss) = KnowsSheet k s × KnowsSheets ks ss
 
 -- the front shows what the view has
 pub record Has (v : FrontValue) (w : View) : Type 0 where
   pub tree : v.tree ≡ w.tree
+  pub sheets : KnowsSheets v.sheets w.sheets
 
 -- the first ask of that id is one of that method
 abbrev pub Asks : ℕ → List ℕ → List Ask → Type 0
@@ -73,7 +94,7 @@ Asks id method asks = method_of id asks ≡ Some method
 -- the view stays as it is
 abbrev pub is_quiet : Effect → Bool
 is_quiet (effect.Document tree) = false
-is_quiet (effect.SheetText text) = true
+is_quiet (effect.SheetText text) = false
 is_quiet effect.AllOff = false
 is_quiet effect.SheetsOff = false
 is_quiet effect.NothingElse = true
@@ -85,6 +106,16 @@ pub record IsAnswered (id : ℕ) (body : ReplyBody) (asks : List Ask) : Type 0 w
   pub answers : answers method body ≡ true
   pub quiet : is_quiet (effect_of method body) ≡ true
 
+-- where it is a fetch, it is one of that sheet
+abbrev pub IsOfSheet : ℕ → Option ℕ → Type 0
+IsOfSheet n None = ⊤
+IsOfSheet n (Some sheet) = sheet ≡ n
+
+-- an ask of that id for the text of a sheet waits; where it is a fetch, it is one of that sheet
+pub record IsTextAsked (id n : ℕ) (asks : List Ask) : Type 0 where
+  pub waits : Asks id (codes "CSS.getStyleSheetText") asks
+  pub of_sheet : IsOfSheet n (fetched_sheet id asks)
+
 -- an ask of that id waits, where there is an id
 abbrev pub Waits : Option ℕ → List Ask → Type 0
 Waits None asks = ⊤
@@ -95,7 +126,11 @@ abbrev pub IsAwaited : Move → List Ask → Type 0
 IsAwaited (change id c) asks = ⊤
 IsAwaited clear asks = ⊤
 IsAwaited (met why) asks = ⊤
+IsAwaited (added s) asks = ⊤
+IsAwaited (dropped n) asks = ⊤
+IsAwaited (rewritten n text) asks = ⊤
 IsAwaited (root id b) asks = Asks id (codes "DOM.getDocument") asks
+IsAwaited (texted id n text) asks = IsTextAsked id n asks
 IsAwaited (replied id body) asks = IsAnswered id body asks
 IsAwaited (all_off id) asks = Asks id (codes "DOM.disable") asks
 IsAwaited (sheets_off id) asks = Asks id (codes "CSS.disable") asks
@@ -110,23 +145,36 @@ without_all (id ∷ ids) asks = without_all ids (without id asks)
 abbrev pub asks_after : Move → List Ask → List Ask
 asks_after m asks = without_all (answered_by m) asks
 
--- the reply that a front keeps of a move, if it is one
-abbrev pub kept_after : Move → List Kept
-kept_after (change id c) = []
-kept_after clear = []
-kept_after (met why) = []
-kept_after (root id b) = kept (Some id) (move_text (root id b)) true ∷ []
-kept_after (replied id body) = kept (Some id) (move_text (replied id body)) true ∷ []
-kept_after (all_off id) = kept (Some id) (move_text (all_off id)) true ∷ []
-kept_after (sheets_off id) = kept (Some id) (move_text (sheets_off id)) true ∷ []
-kept_after (failed r) = kept r.id (move_text (failed r)) false ∷ []
+-- what a front keeps of an error reply
+abbrev pub kept_fault : Option ℕ → List Ask → List ℕ → List Kept
+kept_fault None asks frame = kept None None frame false ∷ []
+kept_fault (Some id) asks frame = kept_reply id asks frame false
+
+-- the reply that a front keeps of a move, where these asks wait, if it is one; a reply to a fetch is not kept
+abbrev pub kept_after : Move → List Ask → List Kept
+kept_after (change id c) asks = []
+kept_after clear asks = []
+kept_after (met why) asks = []
+kept_after (added s) asks = []
+kept_after (dropped n) asks = []
+kept_after (rewritten n text) asks = []
+kept_after (root id b) asks = kept_reply id asks (move_text (root id b)) true
+kept_after (texted id n text) asks = kept_reply id asks (move_text (texted id n text)) true
+kept_after (replied id body) asks = kept_reply id asks (move_text (replied id body)) true
+kept_after (all_off id) asks = kept_reply id asks (move_text (all_off id)) true
+kept_after (sheets_off id) asks = kept_reply id asks (move_text (sheets_off id)) true
+kept_after (failed r) asks = kept_fault r.id asks (move_text (failed r))
 
 -- the pause that a front keeps of a move, if it is one
 abbrev pub pauses_after : Move → List SeenPause
 pauses_after (change id c) = []
 pauses_after clear = []
 pauses_after (met why) = seen_pause why ∷ []
+pauses_after (added s) = []
+pauses_after (dropped n) = []
+pauses_after (rewritten n text) = []
 pauses_after (root id b) = []
+pauses_after (texted id n text) = []
 pauses_after (replied id body) = []
 pauses_after (all_off id) = []
 pauses_after (sheets_off id) = []
@@ -139,7 +187,7 @@ pub record IsTaken (m : Move) (v : FrontValue) (w : View) : Type 0 where
   pub is_taken : take_frame v (move_text m) ≡ Ok after
   pub has : Has after w
   pub asks : after.asks ≡ asks_after m v.asks
-  pub replies : after.replies ≡ v.replies ++ kept_after m
+  pub replies : after.replies ≡ v.replies ++ kept_after m v.asks
   pub pauses : after.pauses ≡ v.pauses ++ pauses_after m
   pub taken : after.taken ≡ v.taken + 1
 
@@ -159,13 +207,18 @@ abbrev pub asks_after_all : List Move → List Ask → List Ask
 asks_after_all [] asks = asks
 asks_after_all (m ∷ ms) asks = asks_after_all ms (asks_after m asks)
 
+-- the replies that a front keeps of the moves
+abbrev pub kept_after_all : List Move → List Ask → List Kept
+kept_after_all [] asks = []
+kept_after_all (m ∷ ms) asks = kept_after m asks ++ kept_after_all ms (asks_after m asks)
+
 -- the messages of the moves are taken one after another
 pub record AreTaken (ms : List Move) (v : FrontValue) (w : View) : Type 0 where
   pub after : FrontValue
   pub are_taken : fold_frames v (map move_text ms) ≡ Ok after
   pub has : Has after w
   pub asks : after.asks ≡ asks_after_all ms v.asks
-  pub replies : after.replies ≡ v.replies ++ flat_map kept_after ms
+  pub replies : after.replies ≡ v.replies ++ kept_after_all ms v.asks
   pub pauses : after.pauses ≡ v.pauses ++ flat_map pauses_after ms
   pub taken : after.taken ≡ v.taken + length ms
 
@@ -178,7 +231,11 @@ abbrev pub IsAnswer : Move → Ask → Type 0
 IsAnswer (change id c) ask = ⊥
 IsAnswer clear ask = ⊥
 IsAnswer (met why) ask = ⊥
+IsAnswer (added s) ask = ⊥
+IsAnswer (dropped n) ask = ⊥
+IsAnswer (rewritten n text) ask = ⊥
 IsAnswer (root id b) ask = (ask.id ≡ id) × (ask.method ≡ codes "DOM.getDocument")
+IsAnswer (texted id n text) ask = (ask.id ≡ id) × (ask.method ≡ codes "CSS.getStyleSheetText") × IsOfSheet n ask.sheet
 IsAnswer (replied id body) ask = (ask.id ≡ id) × (answers ask.method body ≡ true) × (is_quiet (effect_of ask.method body) ≡ true)
 IsAnswer (all_off id) ask = (ask.id ≡ id) × (ask.method ≡ codes "DOM.disable")
 IsAnswer (sheets_off id) ask = (ask.id ≡ id) × (ask.method ≡ codes "CSS.disable")

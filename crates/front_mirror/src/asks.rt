@@ -1,30 +1,51 @@
 // The asks that wait.
-ghost use Rattle.std.specs.Prelude.{◌≡◌, option_map};
-ghost use Rattle.front_mirror.specs.Front.{method_of, without};
+ghost use Rattle.std.specs.Prelude.{◌≡◌, option_map, option_copied};
+ghost use Rattle.front_mirror.specs.Front.{ask_under, method_of, fetched_sheet, without};
 
 use crate::replies::Ask;
 
-/// The method of the first ask with that id.
-pub(crate) fn method_of(asks: &[Ask], id: u64) -> Option<&str>
-    ensures { option_map (λ m. m.now) result ≡ method_of id asks.now }
+/// The first ask with that id.
+fn ask_under(asks: &[Ask], id: u64) -> Option<&Ask>
+    ensures { option_copied result ≡ ask_under id asks.now }
 {
     for ask in asks {
         if ask.id == id {
-            return Some(ask.method.as_str());
+            return Some(ask);
         }
     }
     None
 }
 
-/// Drops the first ask with that id.
-pub(crate) fn drop_ask(asks: &mut Vec<Ask>, id: u64)
-    ensures { asks.new.items ≡ without id asks.old.items }
+/// The method of the first ask with that id.
+pub(crate) fn method_of(asks: &[Ask], id: u64) -> Option<&str>
+    ensures { option_map (λ m. m.now) result ≡ method_of id asks.now }
+{
+    match ask_under(asks, id) {
+        Some(ask) => Some(ask.method.as_str()),
+        None => None,
+    }
+}
+
+/// The sheet that the first ask with that id fetches, if it is a fetch.
+pub(crate) fn fetched_sheet(asks: &[Ask], id: u64) -> Option<u64>
+    ensures { result ≡ fetched_sheet id asks.now }
+{
+    match ask_under(asks, id) {
+        Some(ask) => ask.sheet,
+        None => None,
+    }
+}
+
+/// Takes the first ask with that id out.
+pub(crate) fn take_ask(asks: &mut Vec<Ask>, id: u64) -> Option<Ask>
+    ensures ask { result ≡ ask_under id asks.old.items }
+    ensures rest { asks.new.items ≡ without id asks.old.items }
 {
     for i in 0..asks.len() {
         let ask = &asks[i];
         if ask.id == id {
-            let _ = asks.remove(i);
-            return;
+            return Some(asks.remove(i));
         }
     }
+    None
 }

@@ -1,8 +1,10 @@
-ghost use Rattle.std.specs.Prelude.{◌≡◌, ◌<◌, ◌^◌, ◌↔◌, ℕ, [], IsTrue, IsErr, Some, None, Ok, Err, true, option_map, IfOk, OnOk, OnErr};
+ghost use Rattle.std.specs.Prelude.{◌≡◌, ◌<◌, ◌^◌, ◌+◌, ◌↔◌, ℕ, [], length, slice_get, codes, IsTrue, IsErr, Some, None, Ok, Err, true, option_map, IfOk, OnOk, OnErr};
 ghost use Rattle.serde_json.specs.View.{view};
 ghost use Rattle.pipe_frames.specs.Frames.{framed};
 ghost use Rattle.cdp_messages.specs.Asked.{command_text, is_whole_where_there};
-ghost use Rattle.front_mirror.specs.Front.{FrontState, first_state, after_take, after_ask};
+ghost use Rattle.front_mirror.specs.Front.{FrontState, first_state, after_take, after_ask, after_fetch, fetch_params};
+ghost use Rattle.front_mirror.specs.declared.sheets.KnownSheet.{KnownSheet};
+ghost use Rattle.front_mirror.specs.Sheets.{has_sheet, stale_of};
 
 use crate::faults::{FrontErr, FrontFault};
 use crate::folding::fold_whole;
@@ -10,19 +12,28 @@ use crate::known::Known;
 use crate::mirror::Mirror;
 use crate::pauses::SeenPause;
 use crate::replies::{Ask, Kept};
+use crate::sheets::stale_of;
+use cdp_json::object;
 use cdp_messages::write_command;
+use css_objects::{SheetOrigin, sheet_value};
 use node_tree::Text;
 use pipe_frames::Splitter;
 use serde_json::Value;
 use std::alloc::{AllocError, Global};
 use std::marker::Model;
 
-/// The first id that no ask may have.
+/// The first id that no ask may have, which is that of the first fetch.
 const ASK_LIMIT: u64 = 1 << 30;
 
-/// The front end of one session. It counts its asks from 1, and the messages that come from 1. The first message that it
-/// refuses is its fault, which every later `take` answers; the mirror then stands as before that message. After want of
-/// memory it is dead: each later call that can answer want of memory does.
+/// The first id that no fetch may have.
+const FETCH_LIMIT: u64 = 1 << 52;
+
+/// The command that fetches the text of a sheet.
+const FETCH: &str = "CSS.getStyleSheetText";
+
+/// The front end of one session. It counts its asks from 1, its fetches of sheets' texts from 2^30, and the messages that
+/// come from 1. The first message that it refuses is its fault, which every later `take` answers; the mirror then stands as
+/// before that message. After want of memory it is dead: each later call that can answer want of memory does.
 #[derive(Drop)]
 pub struct Front {
     alloc: Global,
@@ -30,6 +41,7 @@ pub struct Front {
     splitter: Splitter,
     fault: Option<FrontFault>,
     next: u64,
+    fetches: u64,
     is_dead: bool,
 }
 
@@ -43,9 +55,22 @@ impl Model for Front {
 
     ghost coded = { coded_state };
 
-    ghost view = { λ f. record { value = value_of f.known; rest = f.splitter.rest; fault = f.fault; next = f.next; dead = f.is_dead } };
+    ghost view = { λ f. record { value = value_of f.known; rest = f.splitter.rest; fault = f.fault; next = f.next; fetches = f.fetches; dead = f.is_dead } };
 
     ghost invariant = { λ f. f.is_dead ≡ false → f.fault ≡ None → f.splitter.whole ≡ [] };
+}
+
+/// The frame that fetches the text of a sheet under that id, with its zero byte.
+fn fetch_frame(alloc: Global, id: u64, sheet: u64) -> Result<Vec<u8>, AllocError>
+    ensures { IfOk result (λ frame. frame.items ≡ framed (command_text id (codes "CSS.getStyleSheetText")
+        (Some (fetch_params sheet)) None)) }
+{
+    let number = sheet_value(alloc, sheet)?;
+    let fields = vec![in alloc; ("styleSheetId", Some(number))]?;
+    let params = object(alloc, fields)?;
+    let mut frame = Vec::new(alloc);
+    write_command(alloc, id, FETCH, Some(&params), None, &mut frame)?;
+    Ok(frame)
 }
 
 impl Front {
@@ -59,15 +84,17 @@ impl Front {
             splitter: Splitter::new(alloc),
             fault: None,
             next: 1,
+            fetches: 0,
             is_dead: false,
         })
     }
 
-    /// Whether there is an id for one ask more; ids of asks are below 2^30.
+    /// Whether there is an id for one ask more, and one for one fetch more; ids of asks are below 2^30, and those of fetches
+    /// from there on.
     pub fn has_room(&self) -> bool
-        ensures { IsTrue result ↔ (self.now.next < 2 ^ 30) }
+        ensures { IsTrue result ↔ ((self.now.next < 2 ^ 30) × (2 ^ 30 + self.now.fetches < 2 ^ 52)) }
     {
-        self.next < ASK_LIMIT
+        self.next < ASK_LIMIT && self.fetches < FETCH_LIMIT - ASK_LIMIT
     }
 
     /// Makes the frame of a command, with its zero byte, and waits for the reply. No number in `params` and `session` has a
@@ -95,8 +122,51 @@ impl Front {
         write_command(self.alloc, self.next, method, params, session, &mut frame)?;
         let method = Text::copied(self.alloc, method)?;
         let id = self.next;
-        self.known.asks.push(Ask { id, method })?;
+        self.known.asks.push(Ask {
+            id,
+            method,
+            sheet: None,
+        })?;
         self.next = id + 1;
+        self.is_dead = false;
+        Ok(frame)
+    }
+
+    /// The numbers of the sheets without a text that is not old, in their order.
+    pub fn stale(&self) -> Result<Vec<u64>, AllocError>
+        ensures sheets { IfOk result (λ numbers. numbers.items ≡ stale_of self.now.value.sheets) }
+        ensures dead { self.now.dead ≡ true → IsErr result }
+    {
+        if self.is_dead {
+            return Err(AllocError);
+        }
+        stale_of(self.alloc, &self.known.sheets)
+    }
+
+    /// Makes the frame that fetches the text of a sheet (`CSS.getStyleSheetText`), with its zero byte, and waits for the
+    /// reply.
+    pub fn fetch(&mut self, sheet: u64) -> Result<Vec<u8>, AllocError>
+        requires known { has_sheet sheet self.old.value.sheets ≡ true }
+        requires room { 2 ^ 30 + self.old.fetches < 2 ^ 52 }
+        ensures frame { IfOk result (λ frame. frame.items ≡ framed (command_text (2 ^ 30 + self.old.fetches)
+            (codes "CSS.getStyleSheetText") (Some (fetch_params sheet)) None)) }
+        ensures asked { OnOk result (self.new ≡ after_fetch self.old sheet) }
+        ensures memory { OnErr result (self.new.dead ≡ true) }
+        ensures dead { self.old.dead ≡ true → IsErr result }
+    {
+        if self.is_dead {
+            return Err(AllocError);
+        }
+        self.is_dead = true;
+        let id = ASK_LIMIT + self.fetches;
+        let frame = fetch_frame(self.alloc, id, sheet)?;
+        let method = Text::copied(self.alloc, FETCH)?;
+        self.known.asks.push(Ask {
+            id,
+            method,
+            sheet: Some(sheet),
+        })?;
+        self.fetches = self.fetches + 1;
         self.is_dead = false;
         Ok(frame)
     }
@@ -139,7 +209,31 @@ impl Front {
         &self.known.mirror
     }
 
-    /// The replies that came, in their order.
+    /// How many sheets are known.
+    pub fn sheet_len(&self) -> usize
+        ensures { result ≡ length self.now.value.sheets }
+    {
+        self.known.sheets.len()
+    }
+
+    /// The number of the sheet at place `i`, counted from 0, where it comes from, and its text where it has one, which may be
+    /// old.
+    pub fn sheet_at(&self, i: usize) -> (u64, SheetOrigin, Option<&str>)
+        requires place { i < length self.now.value.sheets }
+        ensures number { option_map (λ (s : KnownSheet). s.number) (slice_get self.now.value.sheets i) ≡ Some result.0 }
+        ensures origin { option_map (λ (s : KnownSheet). s.origin) (slice_get self.now.value.sheets i) ≡ Some result.1 }
+        ensures text { option_map (λ (s : KnownSheet). s.text) (slice_get self.now.value.sheets i)
+            ≡ Some (option_map (λ t. t.now) result.2) }
+    {
+        let sheet = &self.known.sheets[i];
+        let text = match &sheet.text {
+            Some(text) => Some(text.as_str()),
+            None => None,
+        };
+        (sheet.number, sheet.origin, text)
+    }
+
+    /// The replies that came, in their order, but those to fetches.
     pub fn replies(&self) -> &[Kept]
         ensures { result.now ≡ self.now.value.replies }
     {

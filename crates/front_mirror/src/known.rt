@@ -6,18 +6,18 @@ ghost use Rattle.cdp_messages.specs.NodeData.{fits_tree};
 ghost use Rattle.cdp_messages.specs.Moves.{paused_nodes};
 ghost use Rattle.cdp_messages.specs.Events.{news_of, fits_news};
 ghost use Rattle.front_mirror.specs.Known.{value_of, Takes};
-ghost use Rattle.front_mirror.specs.Front.{FrontValue, first_value, kept, method_of, replied, refused, told, with_root, with_effect, with_reply, with_fault, with_change, with_pause, with_added, with_sheet, told_sheets, with_news, take_frame, is_shown, halted, root_fault};
+ghost use Rattle.front_mirror.specs.Front.{FrontValue, first_value, kept, method_of, fetched_sheet, sheets_fetched, replied, refused, told, with_root, with_effect, with_reply, with_fault, with_change, with_pause, with_added, with_sheet, told_sheets, with_news, take_frame, is_shown, halted, root_fault};
 ghost use Rattle.front_mirror.specs.Sheets.{new_sheet, marked_old, without_sheet};
 ghost use Rattle.front_mirror.specs.Edits.{edit_told, fits_edit, fits_effect};
 
-use crate::asks::{drop_ask, method_of};
+use crate::asks::{fetched_sheet, method_of, take_ask};
 use crate::edits::{NodeEdit, edit_fault};
 use crate::faults::FrontKind;
 use crate::mirror::Mirror;
 use crate::pauses::{SeenPause, seen_pause};
 use crate::replies::{Ask, Kept};
 use crate::roots::root_fault;
-use crate::sheets::{KnownSheet, drop_sheet, has_sheet, mark_old, new_sheet};
+use crate::sheets::{KnownSheet, drop_sheet, has_sheet, keep_text, mark_old, new_sheet};
 use cdp_messages::{
     Down, DownErr, Effect, Event, Header, NodeTree, PauseData, read_down, read_result,
 };
@@ -118,11 +118,27 @@ impl Known {
             Effect::Document(root) => self.take_root(id, root, frame),
             Effect::AllOff => self.take_end(id, frame),
             Effect::SheetsOff => self.take_sheets_end(id, frame),
-            Effect::SheetText(_) | Effect::NothingElse => {
+            Effect::SheetText(text) => self.take_sheet_text(id, text, frame),
+            Effect::NothingElse => {
                 self.keep_reply(id, frame, true)?;
                 Ok(())
             }
         }
+    }
+
+    /// The text of a sheet, which stays known where it was fetched.
+    fn take_sheet_text(&mut self, id: u64, text: Text, frame: Text) -> Result<(), FrameErr>
+        ensures { Takes (value_of self.old) (value_of self.new) result
+            (Ok (record (replied (value_of self.old) id frame true (value_of self.old).tree) {
+              sheets = sheets_fetched (fetched_sheet id (value_of self.old).asks) text (value_of self.old).sheets;
+            })) }
+    {
+        let fetched = fetched_sheet(&self.asks, id);
+        self.keep_reply(id, frame, true)?;
+        if let Some(number) = fetched {
+            keep_text(&mut self.sheets, number, text);
+        }
+        Ok(())
     }
 
     /// Neither nodes nor sheets are told any more.
@@ -219,7 +235,7 @@ impl Known {
     fn take_refusal(&mut self, frame: Text) -> Result<(), FrameErr>
         ensures { Takes (value_of self.old) (value_of self.new) result (Ok (refused (value_of self.old) frame)) }
     {
-        self.keep(None, frame, false)?;
+        self.keep(None, None, frame, false)?;
         Ok(())
     }
 
@@ -310,24 +326,46 @@ impl Known {
         Ok(())
     }
 
-    /// Keeps a reply to the ask of that id, which then waits no longer.
+    /// Keeps a reply to the ask of that id, which then waits no longer. A reply to a fetch is not kept.
     fn keep_reply(&mut self, id: u64, frame: Text, good: bool) -> Result<(), AllocError>
         ensures { OnOk result (value_of self.new ≡ replied (value_of self.old) id frame good (value_of self.old).tree) }
     {
-        self.keep(Some(id), frame, good)?;
-        drop_ask(&mut self.asks, id);
+        match take_ask(&mut self.asks, id) {
+            Some(Ask { sheet: Some(_), .. }) => self.count(),
+            Some(Ask { method, sheet: None, .. }) => self.keep(Some(id), Some(method), frame, good),
+            None => self.keep(Some(id), None, frame, good),
+        }
+    }
+
+    /// Counts the message.
+    fn count(&mut self) -> Result<(), AllocError>
+        ensures { OnOk result (value_of self.new ≡ record (value_of self.old) { taken = (value_of self.old).taken + 1 }) }
+    {
+        self.taken = self.taken.checked_add(1).ok_or(AllocError)?;
         Ok(())
     }
 
     /// Keeps a reply, and counts the message.
-    fn keep(&mut self, id: Option<u64>, text: Text, good: bool) -> Result<(), AllocError>
+    fn keep(
+        &mut self,
+        id: Option<u64>,
+        method: Option<Text>,
+        text: Text,
+        good: bool,
+    ) -> Result<(), AllocError>
         ensures { OnOk result (value_of self.new ≡ record (value_of self.old) {
-          replies = (value_of self.old).replies ++ kept id text good ∷ [];
+          replies = (value_of self.old).replies ++ kept id method text good ∷ [];
           taken = (value_of self.old).taken + 1;
         }) }
     {
         let taken = self.taken.checked_add(1).ok_or(AllocError)?;
-        self.replies.push(Kept { id, text, good })?;
+        let reply = Kept {
+            id,
+            method,
+            text,
+            good,
+        };
+        self.replies.push(reply)?;
         self.taken = taken;
         Ok(())
     }

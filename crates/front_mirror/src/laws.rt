@@ -1,6 +1,6 @@
-ghost use Rattle.front_mirror.specs.Laws.{GoesOn, AskJoins, Begins, TakesFold, StaysFold, AsksFold, MoveGives, CourseGives, TurnsAreAwaited};
+ghost use Rattle.front_mirror.specs.Laws.{GoesOn, AskJoins, Begins, TakesFold, StaysFold, AsksFold, FetchesFold, MoveGives, CourseGives, TurnsAreAwaited};
 
-/// The law of the fold: it goes on from the fold of a shorter stream, and an ask that is sent only joins those that wait.
+/// The law of the fold: it goes on from the fold of a shorter stream, and an ask or a fetch that is sent only joins those that wait.
 /// So a front is at all times the fold of the asks that it sent and the bytes that it took, in whatever pieces, or has the
 /// first fault of that fold.
 pub fn front_law()
@@ -10,6 +10,7 @@ pub fn front_law()
     ensures takes { TakesFold }
     ensures stays { StaysFold }
     ensures asks { AsksFold }
+    ensures fetches { FetchesFold }
 {}
 
 /// The law of the moves of a view: a front that has a view has the next one, once it took the move's message, and has the

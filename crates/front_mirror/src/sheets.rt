@@ -1,9 +1,10 @@
 // The sheets that messages told of.
-ghost use Rattle.std.specs.Prelude.{◌≡◌};
-ghost use Rattle.front_mirror.specs.Sheets.{new_sheet, stale_sheet, has_sheet, marked_old, without_sheet};
+ghost use Rattle.std.specs.Prelude.{◌≡◌, IfOk};
+ghost use Rattle.front_mirror.specs.Sheets.{new_sheet, stale_sheet, fresh_sheet, has_sheet, marked_old, with_fetched, without_sheet, has_fresh_text, stale_of};
 
 use cdp_messages::{Header, SheetOrigin};
 use node_tree::Text;
+use std::alloc::{AllocError, Global};
 
 /// A sheet, with its text where a reply gave one.
 #[derive(Drop, Debug)]
@@ -56,6 +57,45 @@ pub(crate) fn mark_old(sheets: &mut Vec<KnownSheet>, number: u64)
             return;
         }
     }
+}
+
+fn freshen(sheet: &mut KnownSheet, text: Text)
+    ensures { sheet.new ≡ fresh_sheet text sheet.old }
+{
+    sheet.text = Some(text);
+    sheet.stale = false;
+}
+
+/// Gives the first sheet of that number its text, which is not old.
+pub(crate) fn keep_text(sheets: &mut Vec<KnownSheet>, number: u64, text: Text)
+    ensures { sheets.new.items ≡ with_fetched number text sheets.old.items }
+{
+    for i in 0..sheets.len() {
+        let sheet = &sheets[i];
+        if sheet.number == number {
+            freshen(&mut sheets[i], text);
+            return;
+        }
+    }
+}
+
+fn has_fresh_text(sheet: &KnownSheet) -> bool
+    ensures { result ≡ has_fresh_text sheet.now }
+{
+    sheet.text.is_some() && !sheet.stale
+}
+
+/// The numbers of the sheets without a text that is not old, in their order.
+pub(crate) fn stale_of(alloc: Global, sheets: &[KnownSheet]) -> Result<Vec<u64>, AllocError>
+    ensures { IfOk result (λ numbers. numbers.items ≡ stale_of sheets.now) }
+{
+    let mut numbers = Vec::new(alloc);
+    for sheet in sheets {
+        if !has_fresh_text(sheet) {
+            numbers.push(sheet.number)?;
+        }
+    }
+    Ok(numbers)
 }
 
 /// Drops the first sheet of that number.

@@ -95,7 +95,7 @@ takes up0 down0 up down w frames e n piece in_world front_part =
       front_is =
           ap (λ state. after_take state piece) in_world.front_is
           ∙ ap (λ bytes. after_take (good_front in_world.value (held w.down) (w.spent.asks + 1)) bytes) front_part
-          ∙ ap (λ (end : Folded). record { value = end.value; rest = held_after (held w.down) (take n w.down.flying); fault = end.fault; next = w.spent.asks + 1; dead = false }) taken
+          ∙ ap (λ (end : Folded). record { value = end.value; rest = held_after (held w.down) (take n w.down.flying); fault = end.fault; next = w.spent.asks + 1; fetches = 0; dead = false }) taken
           ∙ ap (λ rest. good_front halves.middle rest (w.spent.asks + 1)) (sym (rest-given n w.down));
       is_fold =
           ap (folded take_frame start) (whole-given n w.down)

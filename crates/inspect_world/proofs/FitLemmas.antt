@@ -16,7 +16,7 @@ use Rattle.inspect_world.specs.Fold.{folded, then, Laws, Leads}
 use Rattle.inspect_world.specs.Fits.{join, ask_in, ask_with, with_ask, Sendable, is_ask, is_bare, AreSendable, asks_among, most_asks, IsNext, next_ask, next_raw, IsNextTurn, most_drawn, most_serials, IsFit, replay}
 use Rattle.front_mirror.proofs.FoldLemmas.{take_frame-more}
 use Rattle.inspect_world.proofs.AskLemmas.{asks_among-append, sendable-last}
-use Rattle.inspect_world.proofs.Messages.{asked-ask}
+use Rattle.inspect_world.proofs.Messages.{asked-ask, ask-plain}
 use Rattle.inspect_world.proofs.StepsTaken.{AreQuiet, course-quiet, Taken, taken, tells-all, by-asked, by-refusal}
 use Rattle.back_end.proofs.FrameLemmas.{frame-steps-well}
 use Rattle.back_end.proofs.StepLemmas.{turn-steps-well}
@@ -94,7 +94,7 @@ fit-asked : (n m : Spent) (text : List ℕ) (front : FrontValue) (state : State)
 fit-asked n _ text front state frames (next_ask method is few) fit =
     let joins : join front text ≡ with_ask front (Some (ask_with method (n.asks + 1))) = ap (with_ask front) is in
     record {
-      has = subst (λ v. Has v (view_of state)) (sym joins) (record { tree = fit.has.tree });
+      has = subst (λ v. Has v (view_of state)) (sym joins) (record { tree = fit.has.tree; sheets = fit.has.sheets });
       asks =
           asks_among-append frames (text ∷ [])
           ∙ ap (λ asks. asks ++ (option_to_list (ask_in text) ++ [])) fit.asks
@@ -182,7 +182,7 @@ fit-answered n frame front state frames fit =
     in_turn : (done : Step) → IsAnswered (asked frame false) done.moves → AreQuiet done.moves → Sendable frame → InTurn done.moves front.asks (asks_among frames)
     in_turn done answered quiet (is_ask ask is) =
         subst (λ asks. InTurn done.moves asks (asks_among frames)) (first-asks frame frames front.asks (Some ask) fit.asks is)
-        (by-asked ask (asks_among frames) done.moves (asked frame false) (asked-ask frame ask is) answered quiet)
+        (by-asked ask (asks_among frames) done.moves (asked frame false) (ask-plain frame ask is) (asked-ask frame ask is) answered quiet)
     in_turn done answered quiet (is_bare bare) =
         subst (λ asks. InTurn done.moves asks (asks_among frames)) (first-asks frame frames front.asks None fit.asks bare.no_ask)
         (by-refusal (asks_among frames) done.moves (refusal None bare.why) refl (subst (λ r. IsAnswered r done.moves) bare.refused answered))

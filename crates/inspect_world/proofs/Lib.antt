@@ -5,6 +5,7 @@ pub mod AskLemmas
 pub mod Pipes
 pub mod Replies
 pub mod Messages
+pub mod PlainAsks
 pub mod MoveTexts
 pub mod StepsTaken
 pub mod FitLemmas

@@ -1,5 +1,5 @@
 -- The ends follow every link, whatever bytes it gives.
-use Rattle.std.proofs.Common.{Option, ◌≡◌, refl, false, ℕ, ◌+◌, ◌^◌, ◌<◌, ◌≤◌, List, [], ◌∷◌, ◌++◌, length, map, drop, Some, None, sym, ◌∙◌, ap, subst, append_assoc, append-nil, length-append, Result, Ok, Err, arith}
+use Rattle.std.proofs.Common.{Option, ◌≡◌, refl, true, false, ℕ, ◌+◌, ◌^◌, ◌<◌, ◌≤◌, List, [], ◌∷◌, ◌++◌, length, map, drop, Some, None, sym, ◌∙◌, ap, subst, append_assoc, append-nil, length-append, Result, Ok, Err, arith}
 use Rattle.std.specs.List.{flat_map}
 use Rattle.std.specs.Option.{option_to_list}
 use Rattle.std.proofs.Math.Seq.{drop-append_seam}
@@ -10,13 +10,15 @@ use Rattle.pipe_frames.proofs.FrameLemmas.{frames_of-append, frames_of-one}
 use Rattle.cdp_messages.specs.declared.command.Asked.{Asked}
 use Rattle.cdp_messages.specs.declared.command.Refused.{Refused}
 use Rattle.cdp_messages.specs.Asked.{asked, command_text, method_name}
+use Rattle.cdp_messages.specs.Views.{ShownSheet}
 use Rattle.cdp_messages.specs.Moves.{failed}
 use Rattle.front_mirror.specs.declared.replies.Ask.{Ask}
 use Rattle.front_mirror.specs.declared.faults.FrontFault.{FrontFault}
 use Rattle.front_mirror.specs.Front as front
 use Rattle.front_mirror.specs.Front.{FrontValue, FrontState, Folded, first_value, first_state, take_frame, fold, fold_frames, outcome, after_ask, after_take}
 use Rattle.front_mirror.specs.Laws as front_laws
-use Rattle.front_mirror.specs.Laws.{InTurn, rests, meets}
+use Rattle.front_mirror.specs.Laws.{KnowsSheets, InTurn, rests, meets}
+use Rattle.front_mirror.specs.declared.sheets.KnownSheet.{KnownSheet}
 use Rattle.replay_script.specs.Forms.{AskForm}
 use Rattle.back_end.specs.declared.seat.Seat.{Seat}
 use Rattle.back_end.specs.declared.side.PageSide.{PageSide}
@@ -34,6 +36,7 @@ use Rattle.back_end.proofs.FrameLemmas.{frame-steps-well}
 use Rattle.back_end.proofs.StepLemmas.{turn-steps-well}
 use Rattle.back_end.proofs.AnswerLemmas.{turn-answers}
 use Rattle.inspect_world.proofs.Messages.{IsText-sent, ask_in-sent}
+use Rattle.inspect_world.proofs.PlainAsks.{ArePlain}
 use Rattle.inspect_world.proofs.Replies.{replies-folded, replies_among-append}
 use Rattle.inspect_world.proofs.StepsTaken.{course-quiet, Taken, taken, tells-all, meets-one, by-refusal, ids-kept}
 use Rattle.inspect_world.proofs.AskLemmas.{asks_among-append}
@@ -47,29 +50,37 @@ pub record Sends (state : State) (h : Happening) : Type 0 where
   pub frames_are : frames_of (step_of h state).sent ≡ record { whole = texts; rest = [] }
   pub ids_are : map (λ (t : ShownReply). t.id) (replies_among texts) ≡ map reply_id (frames_among (h ∷ []))
 
+-- sheets whose texts are not known
+abbrev unread : List ShownSheet → List KnownSheet
+unread ss = map (λ (s : ShownSheet). record { number = s.number; origin = s.origin; text = None; stale = true }) ss
+
+knows-unread : (ss : List ShownSheet) → KnowsSheets (unread ss) ss
+knows-unread [] = tt
+knows-unread (s ∷ ss) = (record { number = refl; origin = refl; text = λ fresh. absurd cc }, knows-unread ss)
+
 -- a front end that shows what the client sees, and waits for these
 abbrev waiting_front : State → List Ask → FrontValue
-waiting_front state asks = record (first_value asks) { tree = (view_of state).tree }
+waiting_front state asks = record (first_value asks) { tree = (view_of state).tree; sheets = unread (view_of state).sheets }
 
 -- what the moves of a step send
 sends-moves : (state : State) (h : Happening) (done : Step) (asks rest : List Ask) → StepsWell state done → step_of h state ≡ as_bytes done
-    → InTurn done.moves asks rest → flat_map reply_ids done.moves ≡ map reply_id (frames_among (h ∷ [])) → Sends state h
-sends-moves state h done asks rest well is_step in_turn ids =
-    let t : Taken done (waiting_front state asks) rest = taken state done (waiting_front state asks) rest well.course (record { tree = refl }) in_turn in
-    let among : map told_of t.after.replies ≡ replies_among t.texts = replies-folded t.texts (waiting_front state asks) t.after t.is_fold in
+    → ArePlain asks → InTurn done.moves asks rest → flat_map reply_ids done.moves ≡ map reply_id (frames_among (h ∷ [])) → Sends state h
+sends-moves state h done asks rest well is_step plain in_turn ids =
+    let t : Taken done (waiting_front state asks) rest = taken state done (waiting_front state asks) rest well.course (record { tree = refl; sheets = knows-unread (view_of state).sheets }) in_turn in
+    let among : map told_of t.after.replies ≡ replies_among t.texts = replies-folded t.texts (waiting_front state asks) t.after plain t.is_fold in
     record {
       texts = t.texts;
       frames_are = ap (λ (d : Stepped State). frames_of d.sent) is_step ∙ t.frames_are;
       ids_are =
           ap (map (λ (x : ShownReply). x.id)) (sym among ∙ ap (map told_of) t.replies)
-          ∙ ids-kept done.moves ∙ ids;
+          ∙ ids-kept done.moves asks plain ∙ ids;
     }
 
 -- a frame that came
 sends-frame : (state : State) (frame : List ℕ) (done : Step) → frame_step frame state ≡ done → StepsWell state done → (r : Result Asked Refused) → asked frame false ≡ r
     → IsAnswered r done.moves → Sends state (came frame)
 sends-frame state frame done is well (Ok a) asks answered =
-    sends-moves state (came frame) done (ask_with (method_name a.command) a.id ∷ []) [] well (ap as_bytes is)
+    sends-moves state (came frame) done (ask_with (method_name a.command) a.id ∷ []) [] well (ap as_bytes is) (refl, tt)
     (meets-one done.moves (method_name a.command) a.id [] answered.0 answered.1 (course-quiet done.moves (view_of state) (view_of done.state) well.course))
     (answered.0 ∙ ap (λ o. id_asked o ∷ []) (sym asks))
 sends-frame state frame done is well (Err r) asks answered = at r.id refl where
@@ -77,9 +88,9 @@ sends-frame state frame done is well (Err r) asks answered = at r.id refl where
   ids = ap (flat_map reply_ids) answered ∙ ap (λ o. id_asked o ∷ []) (sym asks)
 
   at : (o : Option ℕ) → r.id ≡ o → Sends state (came frame)
-  at None none = sends-moves state (came frame) done [] [] well (ap as_bytes is) (by-refusal [] done.moves r none answered) ids
+  at None none = sends-moves state (came frame) done [] [] well (ap as_bytes is) tt (by-refusal [] done.moves r none answered) ids
   at (Some id) some =
-      sends-moves state (came frame) done (ask_with [] id ∷ []) [] well (ap as_bytes is)
+      sends-moves state (came frame) done (ask_with [] id ∷ []) [] well (ap as_bytes is) (refl, tt)
       (subst (λ ms. InTurn ms (ask_with [] id ∷ []) []) (sym answered) (meets (failed r) [] (ask_with [] id) [] [] some (rests []))) ids
 
 pub frame-sends : (state : State) (frame : List ℕ) → IsState state → HasRoom state → Sends state (came frame)
@@ -91,7 +102,7 @@ frame-sends state frame is room =
 pub turn-sends : (state : State) (x : Turn) → IsState state → HasRoom state → IsTurn x → Sends state (made x)
 turn-sends state x is room is_turn =
     let none = turn-answers x state in
-    sends-moves state (made x) (turn_step x state) [] [] (turn-steps-well state x is room is_turn) refl (tells-all (turn_step x state).moves [] none) none
+    sends-moves state (made x) (turn_step x state) [] [] (turn-steps-well state x is room is_turn) refl tt (tells-all (turn_step x state).moves [] none) none
 
 -- ---- one happening more
 
@@ -385,7 +396,7 @@ module _ (state0 : State) (up0 down0 : Pipe) where
   -- what the front is after these bytes
   front-down : (up down : Pipe) (waiting : List (List ℕ)) (e : Ends) (piece : List ℕ) (f : Follows state0 up0 down0 up down waiting e)
       → let end = front.folded f.value (frames_from (frames_of f.given_down).rest piece) in
-      after_take e.front piece ≡ record { value = end.value; rest = held_after (frames_of f.given_down).rest piece; fault = end.fault; next = e.front.next; dead = false }
+      after_take e.front piece ≡ record { value = end.value; rest = held_after (frames_of f.given_down).rest piece; fault = end.fault; next = e.front.next; fetches = 0; dead = false }
   front-down up down waiting e piece f = ap (λ s. after_take s piece) f.front_is
 
   -- any bytes are given down, and the front refuses none of the messages
@@ -408,7 +419,7 @@ module _ (state0 : State) (up0 down0 : Pipe) where
         value = end.value;
         front_is =
             front_now
-            ∙ ap (λ o. record { value = end.value; rest = held_after (frames_of f.given_down).rest piece; fault = o; next = e.front.next; dead = false }) none
+            ∙ ap (λ o. record { value = end.value; rest = held_after (frames_of f.given_down).rest piece; fault = o; next = e.front.next; fetches = 0; dead = false }) none
             ∙ ap (λ n. good_front end.value (held_after (frames_of f.given_down).rest piece) n) (sym next)
             ∙ ap (λ rest. good_front end.value rest (after_take e.front piece).next) (sym (ap (λ (fs : Frames). fs.rest) (frames_of-append f.given_down piece)));
         is_fold = fold-down up down waiting e piece f ∙ ap (outcome end.value) none;

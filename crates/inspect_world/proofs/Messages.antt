@@ -58,18 +58,18 @@ pub data AskedAs (ask : Ask) : Result Asked Refused → Type 0 where
   commanded : (command : Command) → ask.method ≡ method_name command → AskedAs ask (Ok (record { id = ask.id; command = command }))
   refused_as : (why : Why) → AskedAs ask (Err (record { id = Some ask.id; why = why }))
 
-by_command : (id : ℕ) (method : List ℕ) (r : Result Command Why) → ((c : Command) → r ≡ Ok c → (method ≡ method_name c) × (fits_command c ≡ true))
-    → AskedAs (ask_with method id) (asked_by id r)
-by_command id method (Ok c) is = commanded c (is c refl).0
-by_command id method (Err why) is = refused_as why
+by_command : (ask : Ask) (r : Result Command Why) → ((c : Command) → r ≡ Ok c → (ask.method ≡ method_name c) × (fits_command c ≡ true))
+    → AskedAs ask (asked_by ask.id r)
+by_command ask (Ok c) is = commanded c (is c refl).0
+by_command ask (Err why) is = refused_as why
 
 -- the id and the method of a frame that is an ask
 id_method : (i : Option ℕ) (m : Option (List ℕ)) (ask : Ask)
     → option_and_then (λ id. option_and_then (λ method. Some (ask_with method id)) m) i ≡ Some ask
-    → (i ≡ Some ask.id) × (m ≡ Some ask.method)
+    → (i ≡ Some ask.id) × (m ≡ Some ask.method) × (ask.sheet ≡ None)
 id_method None m ask e = absurd cc
 id_method (Some id) None ask e = absurd cc
-id_method (Some id) (Some method) ask e = let same : ask_with method id ≡ ask = cc in (ap (λ (a : Ask). Some a.id) same, ap (λ (a : Ask). Some a.method) same)
+id_method (Some id) (Some method) ask e = let same : ask_with method id ≡ ask = cc in (ap (λ (a : Ask). Some a.id) same, ap (λ (a : Ask). Some a.method) same, sym (ap (λ (a : Ask). a.sheet) same))
 
 -- a field that is read
 there : {T : Type 0} (reads : Data → Option T) (o : Option Data) (x : T) → option_and_then reads o ≡ Some x → field_from reads o ≡ Is x
@@ -85,7 +85,7 @@ frame_ask frame ask e =
     let is : asked_in false (Some frame) ≡ asked_by ask.id (rest ask.method) =
     ap (λ f. with_id f (command_in false frame)) id_is ∙ ap (λ f. asked_by ask.id (then_ok (method_in f) rest)) method_is in
     subst (AskedAs ask) (sym is)
-    (by_command ask.id ask.method (rest ask.method) (commands_are_named false ask.method (get_member (codes "params") frame) (get_member (codes "sessionId") frame)))
+    (by_command ask (rest ask.method) (commands_are_named false ask.method (get_member (codes "params") frame) (get_member (codes "sessionId") frame)))
 
 object_ask : (o : Option Members) (ask : Ask) → option_and_then ask_of o ≡ Some ask → AskedAs ask (asked_in false o)
 object_ask None ask e = absurd cc
@@ -105,3 +105,9 @@ ask-id frame ask is =
     let p = id_method (option_and_then as_whole (get_member (codes "id") o.0)) (option_and_then as_str (get_member (codes "method") o.0)) ask o.2 in
     let d = and_then_some as_whole (get_member (codes "id") o.0) ask.id p.0 in
     whole-is d.0 ask.id d.2
+
+-- the ask that a frame is fetches no text
+pub ask-plain : (frame : List ℕ) (ask : Ask) → ask_in frame ≡ Some ask → ask.sheet ≡ None
+ask-plain frame ask is =
+    let o = and_then_some ask_of (option_and_then as_object (json_of frame)) ask is in
+    (id_method (option_and_then as_whole (get_member (codes "id") o.0)) (option_and_then as_str (get_member (codes "method") o.0)) ask o.2).2

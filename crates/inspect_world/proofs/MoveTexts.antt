@@ -4,14 +4,14 @@ use Rattle.cdp_json.specs.Plain.{is_plain}
 use Rattle.node_tree.specs.Nodes.{Nodes, Branch, alone}
 use Rattle.node_tree.specs.Seen.{Seen}
 use Rattle.pipe_frames.specs.Frames.{IsText}
-use Rattle.cdp_messages.specs.declared.down.ReplyBody.TheVariants.{Nothing, Root}
+use Rattle.cdp_messages.specs.declared.down.ReplyBody.TheVariants.{Nothing, Root, SheetText}
 use Rattle.cdp_messages.specs.declared.down.PauseData.{PauseData}
 use Rattle.cdp_messages.specs.declared.down.PauseData.TheVariants as pause
-use Rattle.cdp_messages.specs.Events.{paused, document_updated, fits_news}
+use Rattle.cdp_messages.specs.Events.{paused, document_updated, sheet_added, sheet_changed, sheet_removed, fits_news}
 use Rattle.cdp_messages.specs.Replies.{message_data}
 use Rattle.cdp_messages.specs.Tellable.{suits_tree}
 use Rattle.cdp_messages.specs.Told.{told_branch}
-use Rattle.cdp_messages.specs.Views.{View}
+use Rattle.cdp_messages.specs.Views.{AreSheets, sheet_header, View}
 use Rattle.cdp_messages.specs.Moves as move
 use Rattle.cdp_messages.specs.Moves.{Move, change_news, message_of, move_text, paused_nodes, AreShown, suits_view, IsTellable, CanBeTold, Moves}
 use Rattle.cdp_messages.proofs.Messages.{reply_plain, refusal_plain}
@@ -20,6 +20,7 @@ use Rattle.cdp_messages.proofs.TellableLaws.{shown_trees_fit}
 use Rattle.cdp_messages.proofs.ZeroFree.{texts_have_no_zero}
 use Rattle.front_mirror.proofs.BoolLemmas.{and_left, both}
 use Rattle.front_mirror.proofs.FollowLemmas.{told_change_news, shown_id}
+use Rattle.front_mirror.proofs.KnownSheets.{last_is_sheet, shown_is_sheet, added_news_fit, changed_news_fit, removed_news_fit}
 
 pause-fits : (why : PauseData) (u : Nodes Seen) → AreShown (paused_nodes why) u → suits_view u ≡ true → fits_news (paused why) ≡ true
 pause-fits (pause.Subtree watched target true) u are s =
@@ -42,6 +43,11 @@ move-plain : (m : Move) (u w : View) → CanBeTold u → CanBeTold w → Moves m
 move-plain (move.change id c) u w here there moves = news_plain (change_news id c) (told_change_news u.tree w.tree id c here.tree there.tree moves.0).fits
 move-plain move.clear u w here there moves = news_plain document_updated refl
 move-plain (move.met why) u w here there moves = news_plain (paused why) (pause-fits why u.tree moves.1 here.tree.forms)
+move-plain (move.added s) u w here there moves =
+    news_plain (sheet_added (sheet_header s)) (added_news_fit s (last_is_sheet u.sheets s (subst AreSheets (ap (λ (x : View). x.sheets) moves.0) there.sheets)) moves.1)
+move-plain (move.dropped n) u w here there moves = news_plain (sheet_removed n) (removed_news_fit n (shown_is_sheet n u.sheets here.sheets moves.1))
+move-plain (move.rewritten n text) u w here there moves = news_plain (sheet_changed n) (changed_news_fit n (shown_is_sheet n u.sheets here.sheets moves.1))
+move-plain (move.texted id n text) u w here there moves = reply_plain id (SheetText text) moves.2 refl
 move-plain (move.root id b) u w here there moves =
     reply_plain id (Root (told_branch 0 b)) moves.1 (shown_trees_fit b (root-suits b w there (ap (λ (x : View). x.tree) (sym moves.0))))
 move-plain (move.replied id body) u w here there moves = reply_plain id body moves.1.id_fits moves.1.fits

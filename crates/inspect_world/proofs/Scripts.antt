@@ -45,7 +45,7 @@ IsState-first nodes can texts = record {
 
 fit-first : (nodes : Nodes Label) → CanLoad nodes → HaveTexts nodes → IsFit nothing_spent (first_value []) (loaded_state nodes) []
 fit-first nodes can texts = record {
-  has = record { tree = refl };
+  has = record { tree = refl; sheets = tt };
   asks = refl;
   sendable = tt;
   is_state = IsState-first nodes can texts;

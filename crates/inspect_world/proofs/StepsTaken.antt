@@ -1,8 +1,9 @@
 -- What the messages of a step make of a front end that has the view before it: the front has the view after it.
-use Rattle.std.proofs.Common.{◌≡◌, true, false, ℕ, ◌+◌, List, [], ◌∷◌, ◌++◌, map, Option, Some, None, refl, sym, ◌∙◌, ap, subst, Result, Ok, Err}
+use Rattle.std.proofs.Common.{◌≡◌, Bool, true, false, ℕ, ◌+◌, List, [], ◌∷◌, ◌++◌, map, Option, Some, None, refl, sym, ◌∙◌, ap, subst, Result, Ok, Err}
 use Rattle.std.specs.Prelude.{⊤}
 use Rattle.std.specs.List.{flat_map}
 use Rattle.std.specs.Option.{option_to_list}
+use Rattle.std.proofs.lemmas.List.{map-append}
 use Rattle.pipe_frames.specs.Frames.{IsText, Frames, frames_of}
 use Rattle.pipe_frames.proofs.FrameLemmas.{frames_of-framed}
 use Rattle.cdp_messages.specs.declared.command.Asked.{Asked}
@@ -13,13 +14,14 @@ use Rattle.cdp_messages.specs.declared.down.ReplyBody.TheVariants as body
 use Rattle.cdp_messages.specs.declared.effects.Effect.TheVariants.{NothingElse}
 use Rattle.cdp_messages.specs.Effects.{effect_of_method, effect_of}
 use Rattle.cdp_messages.specs.Views.{View}
-use Rattle.cdp_messages.specs.Moves.{Move, change, clear, met, root, replied, all_off, sheets_off, failed, move_text, frames_of_moves, tells_document, CanBeTold, Moves, Course, ends, goes, answered_by}
+use Rattle.cdp_messages.specs.Moves.{Move, change, clear, met, added, dropped, rewritten, root, texted, replied, all_off, sheets_off, failed, move_text, frames_of_moves, tells_view, CanBeTold, Moves, Course, ends, goes, answered_by}
 use Rattle.front_mirror.specs.declared.replies.Ask.{Ask}
+use Rattle.front_mirror.specs.declared.replies.Kept.{Kept}
 use Rattle.front_mirror.specs.declared.faults.FrontKind.{FrontKind}
 use Rattle.front_mirror.specs.declared.faults.FrontFault.{FrontFault}
 use Rattle.front_mirror.specs.Front as front
-use Rattle.front_mirror.specs.Front.{FrontValue, take_frame, after_message, outcome, fold_frames}
-use Rattle.front_mirror.specs.Laws.{Has, AreAwaited, asks_after_all, AreTaken, kept_after, is_quiet, InTurn, rests, tells, meets}
+use Rattle.front_mirror.specs.Front.{FrontValue, kept_reply, take_frame, after_message, outcome, fold_frames}
+use Rattle.front_mirror.specs.Laws.{Has, AreAwaited, asks_after, asks_after_all, AreTaken, kept_fault, kept_after, kept_after_all, is_quiet, InTurn, rests, tells, meets}
 use Rattle.back_end.specs.States.{State, view_of}
 use Rattle.back_end.specs.Steps.{Step}
 use Rattle.back_end.specs.Laws.{reply_ids, MayAnswerAll, IsAnswered}
@@ -29,6 +31,7 @@ use Rattle.inspect_world.specs.ShownReplies.{ShownReply, told_of}
 use Rattle.inspect_world.proofs.Messages.{AskedAs, commanded, refused_as}
 use Rattle.front_mirror.proofs.MoveLemmas.{course_gives, turns_are_awaited}
 use Rattle.inspect_world.proofs.MoveTexts.{move-is-text}
+use Rattle.inspect_world.proofs.PlainAsks.{ArePlain, kept-plain, without_all-plain}
 
 -- ---- the frames of moves
 
@@ -52,13 +55,17 @@ course-texts : (ms : List Move) (u w : View) → Course ms u w → AreTexts ms
 course-texts _ _ _ (ends v here) = tt
 course-texts _ _ _ (goes m ms u v w here moves later) = (move-is-text m u v here (course-start ms v w later) moves, course-texts ms v w later)
 
--- a reply that leaves the view as it is tells no document
+-- a reply that leaves the view as it is tells neither a document nor the text of a sheet
 abbrev pub IsQuiet : Move → Type 0
 IsQuiet (change id c) = ⊤
 IsQuiet clear = ⊤
 IsQuiet (met why) = ⊤
+IsQuiet (added s) = ⊤
+IsQuiet (dropped n) = ⊤
+IsQuiet (rewritten n text) = ⊤
 IsQuiet (root id b) = ⊤
-IsQuiet (replied id body) = tells_document body ≡ false
+IsQuiet (texted id n text) = ⊤
+IsQuiet (replied id body) = tells_view body ≡ false
 IsQuiet (all_off id) = ⊤
 IsQuiet (sheets_off id) = ⊤
 IsQuiet (failed r) = ⊤
@@ -71,7 +78,11 @@ move-quiet : (m : Move) (u w : View) → Moves m u w → IsQuiet m
 move-quiet (change id c) u w moves = tt
 move-quiet clear u w moves = tt
 move-quiet (met why) u w moves = tt
+move-quiet (added s) u w moves = tt
+move-quiet (dropped n) u w moves = tt
+move-quiet (rewritten n text) u w moves = tt
 move-quiet (root id b) u w moves = tt
+move-quiet (texted id n text) u w moves = tt
 move-quiet (replied id body) u w moves = moves.1.plain
 move-quiet (all_off id) u w moves = tt
 move-quiet (sheets_off id) u w moves = tt
@@ -81,7 +92,7 @@ pub course-quiet : (ms : List Move) (u w : View) → Course ms u w → AreQuiet 
 course-quiet _ _ _ (ends v here) = tt
 course-quiet _ _ _ (goes m ms u v w here moves later) = (move-quiet m u v moves, course-quiet ms v w later)
 
-quiet-effect : (method : List ℕ) (body : ReplyBody) → tells_document body ≡ false → effect_of_method method ≡ NothingElse → is_quiet (effect_of method body) ≡ true
+quiet-effect : (method : List ℕ) (body : ReplyBody) → tells_view body ≡ false → effect_of_method method ≡ NothingElse → is_quiet (effect_of method body) ≡ true
 quiet-effect method body.Nothing plain e = ap is_quiet e
 quiet-effect method (body.Root tree) plain e = absurd cc
 quiet-effect method (body.Node tree) plain e = refl
@@ -89,7 +100,7 @@ quiet-effect method (body.NodeId id) plain e = refl
 quiet-effect method (body.NodeIds ids) plain e = refl
 quiet-effect method (body.Attributes pairs) plain e = refl
 quiet-effect method (body.ClassNames names) plain e = refl
-quiet-effect method (body.SheetText text) plain e = refl
+quiet-effect method (body.SheetText text) plain e = absurd cc
 quiet-effect method (body.Styles styles) plain e = refl
 quiet-effect method (body.Selectors selectors) plain e = refl
 quiet-effect method (body.Rule rule) plain e = refl
@@ -122,7 +133,11 @@ no-reply : (m : Move) → reply_ids m ≡ [] → answered_by m ≡ []
 no-reply (change id c) e = refl
 no-reply clear e = refl
 no-reply (met why) e = refl
+no-reply (added s) e = refl
+no-reply (dropped n) e = refl
+no-reply (rewritten n text) e = refl
 no-reply (root id b) e = absurd cc
+no-reply (texted id n text) e = absurd cc
 no-reply (replied id body) e = absurd cc
 no-reply (all_off id) e = absurd cc
 no-reply (sheets_off id) e = absurd cc
@@ -147,6 +162,12 @@ meets-one [] method id rest e may quiet = absurd cc
 meets-one (change node c ∷ ms) method id rest e may quiet = tells (change node c) ms _ rest refl (meets-one ms method id rest e may.1 quiet.1)
 meets-one (clear ∷ ms) method id rest e may quiet = tells clear ms _ rest refl (meets-one ms method id rest e may.1 quiet.1)
 meets-one (met why ∷ ms) method id rest e may quiet = tells (met why) ms _ rest refl (meets-one ms method id rest e may.1 quiet.1)
+meets-one (added s ∷ ms) method id rest e may quiet = tells (added s) ms _ rest refl (meets-one ms method id rest e may.1 quiet.1)
+meets-one (dropped n ∷ ms) method id rest e may quiet = tells (dropped n) ms _ rest refl (meets-one ms method id rest e may.1 quiet.1)
+meets-one (rewritten n text ∷ ms) method id rest e may quiet = tells (rewritten n text) ms _ rest refl (meets-one ms method id rest e may.1 quiet.1)
+meets-one (texted found n text ∷ ms) method id rest e may quiet =
+    let p = head-is (Some found) (Some id) (flat_map reply_ids ms) [] e in
+    meets (texted found n text) ms (ask_with method id) rest rest (sym (id-is found id p.0), may.0, tt) (tells-all ms rest p.1)
 meets-one (root found b ∷ ms) method id rest e may quiet =
     let p = head-is (Some found) (Some id) (flat_map reply_ids ms) [] e in
     meets (root found b) ms (ask_with method id) rest rest (sym (id-is found id p.0), may.0) (tells-all ms rest p.1)
@@ -164,11 +185,13 @@ meets-one (failed r ∷ ms) method id rest e may quiet =
     meets (failed r) ms (ask_with method id) rest rest p.0 (tells-all ms rest p.1)
 
 -- what answers an ask answers the first that waits
-pub by-asked : (ask : Ask) (rest : List Ask) (moves : List Move) (result : Result Asked Refused) → AskedAs ask result → IsAnswered result moves → AreQuiet moves
+pub by-asked : (ask : Ask) (rest : List Ask) (moves : List Move) (result : Result Asked Refused) → ask.sheet ≡ None → AskedAs ask result → IsAnswered result moves → AreQuiet moves
     → InTurn moves (ask ∷ rest) rest
-by-asked ask rest moves _ (commanded command method_is) answered quiet =
-    subst (λ method. InTurn moves (ask_with method ask.id ∷ rest) rest) (sym method_is) (meets-one moves (method_name command) ask.id rest answered.0 answered.1 quiet)
-by-asked ask rest moves _ (refused_as why) answered quiet =
+by-asked ask rest moves _ plain (commanded command method_is) answered quiet =
+    let same : ask_with ask.method ask.id ≡ ask = ap (λ (sheet : Option ℕ). record { id = ask.id; method = ask.method; sheet = sheet }) (sym plain) in
+    subst (λ (a : Ask). InTurn moves (a ∷ rest) rest) same
+    (subst (λ method. InTurn moves (ask_with method ask.id ∷ rest) rest) (sym method_is) (meets-one moves (method_name command) ask.id rest answered.0 answered.1 quiet))
+by-asked ask rest moves _ plain (refused_as why) answered quiet =
     let r : Refused = record { id = Some ask.id; why = why } in
     subst (λ ms. InTurn ms (ask ∷ rest) rest) (sym answered) (meets (failed r) [] ask rest rest refl (rests rest))
 
@@ -186,7 +209,7 @@ pub record Taken (done : Step) (v : FrontValue) (rest : List Ask) : Type 0 where
   pub is_fold : folded take_frame v texts ≡ Ok after
   pub has : Has after (view_of done.state)
   pub asks : after.asks ≡ rest
-  pub replies : after.replies ≡ v.replies ++ flat_map kept_after done.moves
+  pub replies : after.replies ≡ v.replies ++ kept_after_all done.moves v.asks
 
 pub taken : (before : State) (done : Step) (v : FrontValue) (rest : List Ask)
     → Course done.moves (view_of before) (view_of done.state) → Has v (view_of before) → InTurn done.moves v.asks rest → Taken done v rest
@@ -203,14 +226,34 @@ taken before done v rest course has turn =
       replies = t.replies;
     }
 
--- the ids of the replies that are kept
-pub ids-kept : (ms : List Move) → map (λ (t : ShownReply). t.id) (map told_of (flat_map kept_after ms)) ≡ flat_map reply_ids ms
-ids-kept [] = refl
-ids-kept (change id c ∷ ms) = ids-kept ms
-ids-kept (clear ∷ ms) = ids-kept ms
-ids-kept (met why ∷ ms) = ids-kept ms
-ids-kept (root id b ∷ ms) = ap (λ ids. Some id ∷ ids) (ids-kept ms)
-ids-kept (replied id body ∷ ms) = ap (λ ids. Some id ∷ ids) (ids-kept ms)
-ids-kept (all_off id ∷ ms) = ap (λ ids. Some id ∷ ids) (ids-kept ms)
-ids-kept (sheets_off id ∷ ms) = ap (λ ids. Some id ∷ ids) (ids-kept ms)
-ids-kept (failed r ∷ ms) = ap (λ ids. r.id ∷ ids) (ids-kept ms)
+-- the ids of the replies that are kept, where no ask is a fetch
+ids-one : (id : ℕ) (asks : List Ask) (frame : List ℕ) (good : Bool) → ArePlain asks
+    → map (λ (t : ShownReply). t.id) (map told_of (kept_reply id asks frame good)) ≡ Some id ∷ []
+ids-one id asks frame good plain = ap (λ (ks : List Kept). map (λ (t : ShownReply). t.id) (map told_of ks)) (kept-plain id asks frame good plain)
+
+ids-fault : (o : Option ℕ) (asks : List Ask) (frame : List ℕ) → ArePlain asks → map (λ (t : ShownReply). t.id) (map told_of (kept_fault o asks frame)) ≡ o ∷ []
+ids-fault None asks frame plain = refl
+ids-fault (Some id) asks frame plain = ids-one id asks frame false plain
+
+ids-move : (m : Move) (asks : List Ask) → ArePlain asks → map (λ (t : ShownReply). t.id) (map told_of (kept_after m asks)) ≡ reply_ids m
+ids-move (change id c) asks plain = refl
+ids-move clear asks plain = refl
+ids-move (met why) asks plain = refl
+ids-move (added s) asks plain = refl
+ids-move (dropped n) asks plain = refl
+ids-move (rewritten n text) asks plain = refl
+ids-move (root id b) asks plain = ids-one id asks (move_text (root id b)) true plain
+ids-move (texted id n text) asks plain = ids-one id asks (move_text (texted id n text)) true plain
+ids-move (replied id body) asks plain = ids-one id asks (move_text (replied id body)) true plain
+ids-move (all_off id) asks plain = ids-one id asks (move_text (all_off id)) true plain
+ids-move (sheets_off id) asks plain = ids-one id asks (move_text (sheets_off id)) true plain
+ids-move (failed r) asks plain = ids-fault r.id asks (move_text (failed r)) plain
+
+pub ids-kept : (ms : List Move) (asks : List Ask) → ArePlain asks → map (λ (t : ShownReply). t.id) (map told_of (kept_after_all ms asks)) ≡ flat_map reply_ids ms
+ids-kept [] asks plain = refl
+ids-kept (m ∷ ms) asks plain =
+    let later = kept_after_all ms (asks_after m asks) in
+    ap (map (λ (t : ShownReply). t.id)) (map-append told_of (kept_after m asks) later)
+    ∙ map-append (λ (t : ShownReply). t.id) (map told_of (kept_after m asks)) (map told_of later)
+    ∙ ap (λ ids. ids ++ map (λ (t : ShownReply). t.id) (map told_of later)) (ids-move m asks plain)
+    ∙ ap (λ ids. reply_ids m ++ ids) (ids-kept ms (asks_after m asks) (without_all-plain (answered_by m) asks plain))

@@ -9,7 +9,7 @@ use Rattle.cdp_messages.specs.Asked.{json_of, refusal, asked}
 use Rattle.std.specs.Option.{option_to_list}
 use Rattle.front_mirror.specs.declared.replies.Ask.{Ask}
 use Rattle.front_mirror.specs.declared.faults.FrontKind.{FrontKind}
-use Rattle.front_mirror.specs.Front.{FrontValue, first_value, take_frame}
+use Rattle.front_mirror.specs.Front.{FrontValue, first_value, plain_ask, take_frame}
 use Rattle.front_mirror.specs.Laws.{Has}
 use Rattle.inspect_world.specs.World.{World, Spent, one_ask, one_raw}
 use Rattle.back_end.specs.States.{State, IsState, view_of}
@@ -20,9 +20,9 @@ use Rattle.inspect_world.specs.Fold as fold
 
 -- ---- the asks that stand in frames
 
--- an ask of that method and id
+-- an ask of that method and id, which is no fetch
 abbrev pub ask_with : List ℕ → ℕ → Ask
-ask_with method id = record { id = id; method = method }
+ask_with method id = plain_ask id method
 
 -- the ask that an object is
 abbrev pub ask_of : Members → Option Ask

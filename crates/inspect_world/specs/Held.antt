@@ -24,9 +24,9 @@ pub record Ends : Type 0 where
   pub down_there : ℕ
   pub told : ℕ
 
--- a front end that has met no fault
+-- a front end that has met no fault, and has fetched nothing
 abbrev pub good_front : FrontValue → List ℕ → ℕ → FrontState
-good_front value rest next = record { value = value; rest = rest; fault = None; next = next; dead = false }
+good_front value rest next = record { value = value; rest = rest; fault = None; next = next; fetches = 0; dead = false }
 
 -- Since the pipes were as `up0` and `down0`, the link and the ends have come to where the run is; `frames` are whole at the
 -- back end and not yet answered, or on their way to it.

@@ -1,4 +1,4 @@
-use Rattle.front_mirror.proofs.FoldLemmas.{fold-append, fold-more, fold_begins, fold_takes, fold_stays, fold_asks}
+use Rattle.front_mirror.proofs.FoldLemmas.{fold-append, fold-more, fold_begins, fold_takes, fold_stays, fold_asks, fold_fetches}
 use Rattle.front_mirror.proofs.laws.front_law.Goals as goal
 
 pub returns-clause-goes_on : goal.returns-clause-goes_on
@@ -18,3 +18,6 @@ returns-clause-stays c = fold_stays
 
 pub returns-clause-asks : goal.returns-clause-asks
 returns-clause-asks c = fold_asks
+
+pub returns-clause-fetches : goal.returns-clause-fetches
+returns-clause-fetches c = fold_fetches

@@ -34,7 +34,7 @@ returns-in-Ok-clause-follows g c = λ state0 up0 down0 run.
     let left : c.in-Some.there ≡ c.args.self.now.up_there + length frame = omega (arith, c.in-Some.ensures, c.len.ensures, c.in_ok-frame.frame.ok) in
     kept-run (Ok c.in-Ok.field-0) state0 up0 down0 _ _ _ tt (record {
       so_far = asked-follows state0 up0 down0 _ _ _ _ e (seen_ask c.args.ask.now) c.args.self.now.splitter.whole frame c.deref.result.now c.in-Some.there c.ask.new.self
-          c.requires.can (c.if-not-has_room.ensures.0 refl) run.so_far left
+          c.requires.can (c.if-not-has_room.ensures.0 refl).0 run.so_far left
           (frame-seen next c.args.ask.now frame _ _ _ c.as_str.ensures c.as_ref.ensures.value c.as_ref-2.ensures.value c.in_ok-frame.ensures.frame)
           (c.in_ok-frame.ensures.asked ∙ ap (after_ask c.args.self.now.front) c.as_str.ensures)
           c.deref.ensures.value c.in-Ok.ensures.up c.send_up.ensures.down;
