@@ -33,7 +33,7 @@ answers-nothing : (b : Bool) (m : Move) → reply_ids m ≡ [] → flat_map repl
 answers-nothing true m h = rw h refl
 answers-nothing false m h = refl
 
-flat-append : (ms ks : List Move) → flat_map reply_ids ms ≡ [] → flat_map reply_ids (ms ++ ks) ≡ flat_map reply_ids ms ++ flat_map reply_ids ks
+pub flat-append : (ms ks : List Move) → flat_map reply_ids ms ≡ [] → flat_map reply_ids (ms ++ ks) ≡ flat_map reply_ids ms ++ flat_map reply_ids ks
 flat-append [] ks h = refl
 flat-append (m ∷ ms) ks h = at (reply_ids m) h (λ rest. flat-append ms ks rest) where
   at : (ids : List (Option ℕ)) → ids ++ flat_map reply_ids ms ≡ [] → (flat_map reply_ids ms ≡ [] → flat_map reply_ids (ms ++ ks) ≡ flat_map reply_ids ms ++ flat_map reply_ids ks)

@@ -1,5 +1,5 @@
 -- What a frame asks has its parameters in their ranges, and a refusal an id in its range.
-use Rattle.std.proofs.Common.{◌≡◌, ℕ, Bool, true, false, List, Option, Some, None, refl, sym, ◌∙◌, ap, Result, Ok, Err}
+use Rattle.std.proofs.Common.{◌≡◌, ℕ, Bool, true, List, Option, Some, None, refl, sym, ◌∙◌, ap, Result, Ok, Err}
 use Rattle.std.specs.Prelude.{IfSome}
 use Rattle.serde_json.specs.Data.{Data, Num, unsigned, negative, float, Members}
 use Rattle.serde_json.specs.Find.{as_number, as_object}
@@ -77,9 +77,9 @@ abbrev pub AskedFits : Result Asked Refused → Type 0
 AskedFits (Ok a) = (is_counted a.id ≡ true) × (fits_command a.command ≡ true)
 AskedFits (Err r) = holds_of_some is_counted r.id ≡ true
 
-pub frame-fits : (frame : List ℕ) → AskedFits (asked frame false)
-frame-fits frame = at (asked frame false) refl
+pub frame-fits : (own : Bool) (frame : List ℕ) → AskedFits (asked frame own)
+frame-fits own frame = at (asked frame own) refl
   where
-    at : (r : Result Asked Refused) → asked frame false ≡ r → AskedFits r
-    at (Ok a) is = asks_fit false frame a is
-    at (Err r) is = refused-value false (json_of frame) r is
+    at : (r : Result Asked Refused) → asked frame own ≡ r → AskedFits r
+    at (Ok a) is = asks_fit own frame a is
+    at (Err r) is = refused-value own (json_of frame) r is

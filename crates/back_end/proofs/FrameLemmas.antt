@@ -1,7 +1,9 @@
 -- The step on a frame: the state after it is valid, its moves lead on, and it is answered once.
 use Rattle.std.proofs.Common.{◌≡◌, codes, ℕ, ◌+◌, ◌≤◌, Bool, true, false, not, ◌&&◌, ◌||◌, cond, List, [], ◌∷◌, length, Option, Some, None, Result, Ok, Err, refl, sym, ◌∙◌, ap, subst, arith}
 use Rattle.std.specs.List.{flat_map}
+use Rattle.serde_json.specs.Data.{Data}
 use Rattle.cdp_json.specs.Kinds.{is_counted, holds_of_some}
+use Rattle.cdp_json.specs.Plain.{HasUtf8}
 use Rattle.node_tree.specs.Nodes.{node_count}
 use Rattle.node_binding.specs.Sessions.{Session, IsSession}
 use Rattle.node_binding.proofs.SessionLemmas.{IsSession-reset}
@@ -26,10 +28,14 @@ use Rattle.dom_agent.proofs.RepliedLemmas.{description-keeps}
 use Rattle.dom_agent.proofs.OutcomeLemmas.{stays_session, draws_few}
 use Rattle.dom_agent.proofs.MoveLemmas.{steps_are_moves, replies_answer}
 use Rattle.back_end.specs.States.{State, nodes_in, sheets_shown, view_of, HasNoMore, IsState}
-use Rattle.back_end.specs.Steps.{Step, with_client, refusing, client_reset, ask_needs_on, turns_on, client_served, agent_step, server_step, command_step, asked_step, frame_step}
-use Rattle.back_end.specs.Servers.{Server, enables, disables, agent, nobody, by_agent, server_of}
-use Rattle.back_end.specs.Laws.{reply_ids, MayAnswer, HasRoom, StepsWell, MayAnswerAll, IsAnswered}
+use Rattle.back_end.specs.OwnMethods.{load_asked, act_asked}
+use Rattle.back_end.specs.Steps.{Step, with_client, refusing, client_reset, Turn, acts, loads, turn_step, ask_needs_on, turns_on, client_served, agent_step, own_step, server_step, command_step, asked_step, frame_step}
+use Rattle.back_end.specs.Servers.{Server, enables, disables, agent, page_load, page_act, nobody, by_agent, server_of, HasOwnTexts}
+use Rattle.back_end.specs.Laws.{reply_ids, MayAnswer, HasRoom, StepsWell, MayAnswerAll, IsAnswered, IsTurn}
 use Rattle.back_end.proofs.AskedLemmas.{AskedFits, frame-fits}
+use Rattle.back_end.proofs.OwnTexts.{AskedTexts, frame-texts}
+use Rattle.back_end.proofs.OwnLemmas.{load-turn, act-turn, answering-well, answering-once}
+use Rattle.back_end.proofs.TurnAnswers.{may-append, turn-may}
 use Rattle.back_end.proofs.AnswerLemmas.{outcome-answers, outcome-may}
 use Rattle.back_end.proofs.StepLemmas.{can-tell, can-sheets, told-view, stays-with, empty-view, few-steps, more}
 
@@ -192,7 +198,19 @@ data IsServer (c : Command) : Server → Type 0 where
   is_enables : MayAnswer (method_name c) (replied 0 Nothing) → IsServer c enables
   is_disables : method_name c ≡ codes "DOM.disable" → IsServer c disables
   is_agent : (ask : DomAsk) → method_name c ≡ ask_name ask → fits_ask ask ≡ true → IsServer c (agent ask)
+  is_load : (params : Data) → MayAnswer (method_name c) (replied 0 Nothing) → HasUtf8 params → IsServer c (page_load params)
+  is_act : (params : Data) → MayAnswer (method_name c) (replied 0 Nothing) → HasUtf8 params → IsServer c (page_act params)
   is_nobody : IsServer c nobody
+
+-- what one of our own two methods comes to
+serves-own : {A : Type 0} (turn_of : A → Turn) (id : ℕ) (r : Result A Why) (method : List ℕ) (state : State) → ((a : A) → r ≡ Ok a → IsTurn (turn_of a))
+    → MayAnswer method (replied 0 Nothing) → IsState state → HasRoom state → is_counted id ≡ true → Serves state (own_step turn_of id r state) id method
+serves-own turn_of id (Ok a) method state can h is room small = record {
+  well = answering-well id (turn_of a) state is room small (can a refl);
+  once = answering-once id (turn_of a) state;
+  may = may-append method (turn_step (turn_of a) state).moves (replied id Nothing ∷ []) (turn-may method (turn_of a) state) (h, tt);
+}
+serves-own turn_of id (Err why) method state can h is room small = serves-refusal id why method state is room small
 
 serves : (id : ℕ) (c : Command) (server : Server) (state : State) → IsServer c server → IsState state → HasRoom state → is_counted id ≡ true
     → Serves state (command_step id server state) id (method_name c)
@@ -210,6 +228,10 @@ serves id c _ state (is_agent ask h fits) is room small = at (ask_needs_on ask &
     may = subst (λ method. MayAnswerAll method (agent_step id ask state).moves) (sym h)
         (outcome-may id ask (session_outcome state.side.page ask state.client.session) (replies_answer state.side.page ask state.client.session is.page fits is.session));
   }
+serves id c _ state (is_load params h u) is room small =
+    serves-own loads id (load_asked params) (method_name c) state (λ nodes e. load-turn params nodes u e) h is room small
+serves id c _ state (is_act params h u) is room small =
+    serves-own acts id (act_asked params state.side.page) (method_name c) state (λ act e. act-turn params state.side.page act u e) h is room small
 serves id c _ state is_nobody is room small = serves-refusal id NoMethod (method_name c) state is room small
 
 by-agent : (c : Command) → fits_command c ≡ true → IsServer c (by_agent (dom_ask_in c))
@@ -220,45 +242,45 @@ by-agent c fits = at (dom_ask_in c) refl where
       let same : c ≡ as_command ask = dom_asks_are_commands c ask e in
       is_agent ask (ap method_name same) (ap fits_command (sym same) ∙ fits)
 
-server-is : (c : Command) → fits_command c ≡ true → IsServer c (server_of c)
-server-is DomEnable fits = is_enables (refl, refl)
-server-is DomDisable fits = is_disables refl
-server-is (GetDocument depth pierce) fits = by-agent (GetDocument depth pierce) fits
-server-is (RequestChildNodes node depth pierce) fits = by-agent (RequestChildNodes node depth pierce) fits
-server-is (PushByPath path) fits = by-agent (PushByPath path) fits
-server-is (PushBySerials serials) fits = by-agent (PushBySerials serials) fits
-server-is (QuerySelector node selector) fits = by-agent (QuerySelector node selector) fits
-server-is (QuerySelectorAll node selector) fits = by-agent (QuerySelectorAll node selector) fits
-server-is (GetAttributes node) fits = by-agent (GetAttributes node) fits
-server-is (DescribeNode id serial depth pierce) fits = by-agent (DescribeNode id serial depth pierce) fits
-server-is (SetAttributeValue node name value) fits = by-agent (SetAttributeValue node name value) fits
-server-is (RemoveAttribute node name) fits = by-agent (RemoveAttribute node name) fits
-server-is (SetNodeValue node value) fits = by-agent (SetNodeValue node value) fits
-server-is (RemoveNode node) fits = by-agent (RemoveNode node) fits
-server-is (MoveTo node target before) fits = by-agent (MoveTo node target before) fits
-server-is (CopyTo node target before) fits = by-agent (CopyTo node target before) fits
-server-is MarkUndoableState fits = by-agent MarkUndoableState fits
-server-is Undo fits = by-agent Undo fits
-server-is Redo fits = by-agent Redo fits
-server-is CssEnable fits = by-agent CssEnable fits
-server-is CssDisable fits = by-agent CssDisable fits
-server-is (GetMatchedStyles node) fits = by-agent (GetMatchedStyles node) fits
-server-is (GetStyleSheetText sheet) fits = by-agent (GetStyleSheetText sheet) fits
-server-is (CollectClassNames sheet) fits = by-agent (CollectClassNames sheet) fits
-server-is (SetStyleTexts edits) fits = by-agent (SetStyleTexts edits) fits
-server-is (SetRuleSelector sheet range selector) fits = by-agent (SetRuleSelector sheet range selector) fits
-server-is (SetStyleSheetText sheet text) fits = by-agent (SetStyleSheetText sheet text) fits
-server-is (AddRule sheet rule_text location) fits = by-agent (AddRule sheet rule_text location) fits
-server-is (SetBreakpoint node kind) fits = by-agent (SetBreakpoint node kind) fits
-server-is (RemoveBreakpoint node kind) fits = by-agent (RemoveBreakpoint node kind) fits
-server-is (ReplayLoad params) fits = is_nobody
-server-is (ReplayAct params) fits = is_nobody
+server-is : (c : Command) → fits_command c ≡ true → HasOwnTexts (server_of c) → IsServer c (server_of c)
+server-is DomEnable fits texts = is_enables (refl, refl)
+server-is DomDisable fits texts = is_disables refl
+server-is (GetDocument depth pierce) fits texts = by-agent (GetDocument depth pierce) fits
+server-is (RequestChildNodes node depth pierce) fits texts = by-agent (RequestChildNodes node depth pierce) fits
+server-is (PushByPath path) fits texts = by-agent (PushByPath path) fits
+server-is (PushBySerials serials) fits texts = by-agent (PushBySerials serials) fits
+server-is (QuerySelector node selector) fits texts = by-agent (QuerySelector node selector) fits
+server-is (QuerySelectorAll node selector) fits texts = by-agent (QuerySelectorAll node selector) fits
+server-is (GetAttributes node) fits texts = by-agent (GetAttributes node) fits
+server-is (DescribeNode id serial depth pierce) fits texts = by-agent (DescribeNode id serial depth pierce) fits
+server-is (SetAttributeValue node name value) fits texts = by-agent (SetAttributeValue node name value) fits
+server-is (RemoveAttribute node name) fits texts = by-agent (RemoveAttribute node name) fits
+server-is (SetNodeValue node value) fits texts = by-agent (SetNodeValue node value) fits
+server-is (RemoveNode node) fits texts = by-agent (RemoveNode node) fits
+server-is (MoveTo node target before) fits texts = by-agent (MoveTo node target before) fits
+server-is (CopyTo node target before) fits texts = by-agent (CopyTo node target before) fits
+server-is MarkUndoableState fits texts = by-agent MarkUndoableState fits
+server-is Undo fits texts = by-agent Undo fits
+server-is Redo fits texts = by-agent Redo fits
+server-is CssEnable fits texts = by-agent CssEnable fits
+server-is CssDisable fits texts = by-agent CssDisable fits
+server-is (GetMatchedStyles node) fits texts = by-agent (GetMatchedStyles node) fits
+server-is (GetStyleSheetText sheet) fits texts = by-agent (GetStyleSheetText sheet) fits
+server-is (CollectClassNames sheet) fits texts = by-agent (CollectClassNames sheet) fits
+server-is (SetStyleTexts edits) fits texts = by-agent (SetStyleTexts edits) fits
+server-is (SetRuleSelector sheet range selector) fits texts = by-agent (SetRuleSelector sheet range selector) fits
+server-is (SetStyleSheetText sheet text) fits texts = by-agent (SetStyleSheetText sheet text) fits
+server-is (AddRule sheet rule_text location) fits texts = by-agent (AddRule sheet rule_text location) fits
+server-is (SetBreakpoint node kind) fits texts = by-agent (SetBreakpoint node kind) fits
+server-is (RemoveBreakpoint node kind) fits texts = by-agent (RemoveBreakpoint node kind) fits
+server-is (ReplayLoad params) fits texts = is_load params (refl, refl) texts
+server-is (ReplayAct params) fits texts = is_act params (refl, refl) texts
 
 -- ---- a frame
 
-pub frame-steps-well : (state : State) (frame : List ℕ) → IsState state → HasRoom state
-    → StepsWell state (frame_step frame state) × IsAnswered (asked frame false) (frame_step frame state).moves
-frame-steps-well state frame is room = at (asked frame false) (frame-fits frame) where
-  at : (r : Result Asked Refused) → AskedFits r → StepsWell state (asked_step r state) × IsAnswered r (asked_step r state).moves
-  at (Ok a) fits = let s = serves a.id a.command (server_of a.command) state (server-is a.command fits.1) is room fits.0 in (s.well, (s.once, s.may))
-  at (Err r) fits = (refusing-well r state is room fits, refl)
+pub frame-steps-well : (own : Bool) (state : State) (frame : List ℕ) → IsState state → HasRoom state
+    → StepsWell state (frame_step own frame state) × IsAnswered (asked frame own) (frame_step own frame state).moves
+frame-steps-well own state frame is room = at (asked frame own) (frame-fits own frame) (frame-texts own frame) where
+  at : (r : Result Asked Refused) → AskedFits r → AskedTexts r → StepsWell state (asked_step r state) × IsAnswered r (asked_step r state).moves
+  at (Ok a) fits texts = let s = serves a.id a.command (server_of a.command) state (server-is a.command fits.1 texts) is room fits.0 in (s.well, (s.once, s.may))
+  at (Err r) fits texts = (refusing-well r state is room fits, refl)

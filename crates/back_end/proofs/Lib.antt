@@ -3,5 +3,9 @@ pub mod TextLemmas
 pub mod StepLemmas
 pub mod AnswerLemmas
 pub mod FrameLemmas
+pub mod TurnAnswers
+pub mod OwnTexts
+pub mod OwnLemmas
 pub mod SeatLemmas
 pub mod ScriptLemmas
+pub mod OwnSeats

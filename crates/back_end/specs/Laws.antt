@@ -1,5 +1,5 @@
 -- What holds of each step.
-use Rattle.std.specs.Prelude.{◌≡◌, ℕ, ◌+◌, ◌^◌, ◌≤◌, ◌<◌, true, false, List, [], ◌∷◌, length, codes, ⊤, Option, Some, Result, Ok, Err}
+use Rattle.std.specs.Prelude.{◌≡◌, ℕ, ◌+◌, ◌^◌, ◌≤◌, ◌<◌, Bool, true, List, [], ◌∷◌, length, codes, ⊤, Option, Some, Result, Ok, Err}
 use Rattle.std.specs.List.{flat_map}
 use Rattle.page_tree.specs.Forms.{CanLoad, max_nodes}
 use Rattle.page_forms.specs.Acts.{IsInsertable}
@@ -66,11 +66,11 @@ abbrev pub IsAnswered : Result Asked Refused → List Move → Type 0
 IsAnswered (Ok a) moves = (flat_map reply_ids moves ≡ Some a.id ∷ []) × MayAnswerAll (method_name a.command) moves
 IsAnswered (Err r) moves = moves ≡ failed r ∷ []
 
--- the step on a frame
+-- the step on a frame, whether our own two methods are known or not
 abbrev pub FramesStepWell : Type 0
 FramesStepWell =
-    (state : State) (frame : List ℕ) → IsState state → HasRoom state
-    → StepsWell state (frame_step frame state) × IsAnswered (asked frame false) (frame_step frame state).moves
+    (own : Bool) (state : State) (frame : List ℕ) → IsState state → HasRoom state
+    → StepsWell state (frame_step own frame state) × IsAnswered (asked frame own) (frame_step own frame state).moves
 
 -- what a script may do: the nodes may be loaded, and new nodes have the form that an insert asks for; texts are UTF-8
 abbrev pub IsTurn : Turn → Type 0

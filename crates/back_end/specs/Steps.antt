@@ -28,7 +28,8 @@ use Rattle.dom_breakpoints.specs.Watched.{Watched, unwatched, without_subtree}
 use Rattle.undo_marks.specs.Marks.{no_marks, crossed_over}
 use Rattle.back_end.specs.States.{Client, State}
 use Rattle.back_end.specs.Plans.{Plan, act_fault, act_plan}
-use Rattle.back_end.specs.Servers.{Server, enables, disables, agent, nobody, server_of}
+use Rattle.back_end.specs.OwnMethods.{load_asked, act_judged, act_asked}
+use Rattle.back_end.specs.Servers.{Server, enables, disables, agent, page_load, page_act, nobody, server_of}
 
 -- what a step makes: the state after it, and what it tells the client
 pub record Step : Type 0 where
@@ -158,6 +159,8 @@ abbrev pub needs_on : Server → Bool
 needs_on enables = false
 needs_on disables = true
 needs_on (agent ask) = ask_needs_on ask
+needs_on (page_load params) = false
+needs_on (page_act params) = false
 needs_on nobody = false
 
 -- an ask that turns DOM on
@@ -183,11 +186,26 @@ agent_step id ask state =
     let outcome = session_outcome state.side.page ask state.client.session in
     record { state = with_client (client_served ask outcome state.client) state; moves = moves_of id outcome }
 
+-- a step that is answered at last by the empty result
+abbrev pub answering : ℕ → Step → Step
+answering id done = record { state = done.state; moves = done.moves ++ replied id Nothing ∷ [] }
+
+-- the step on one of our own two methods: the script's step that it comes to, and the reply; or the refusal
+abbrev pub own_step : {A : Type 0} → (A → Turn) → ℕ → Result A Why → State → Step
+own_step turn_of id (Ok a) state = answering id (turn_step (turn_of a) state)
+own_step turn_of id (Err why) state = refusing (Some id) why state
+
+-- the step on an act that was read
+abbrev pub judged_step : ℕ → Act → State → Step
+judged_step id act state = own_step acts id (act_judged state.side.page act) state
+
 -- the step on a command, where DOM is on or need not be
 abbrev pub server_step : ℕ → Server → State → Step
 server_step id enables state = record { state = with_client (record state.client { dom_on = true }) state; moves = replied id Nothing ∷ [] }
 server_step id disables state = record { state = with_client (client_reset false state.client) state; moves = all_off id ∷ [] }
 server_step id (agent ask) state = agent_step id ask state
+server_step id (page_load params) state = own_step loads id (load_asked params) state
+server_step id (page_act params) state = own_step acts id (act_asked params state.side.page) state
 server_step id nobody state = refusing (Some id) NoMethod state
 
 -- the step on a command: a refusal while DOM is off, where it needs it
@@ -199,9 +217,9 @@ abbrev pub asked_step : Result Asked Refused → State → Step
 asked_step (Ok a) state = command_step a.id (server_of a.command) state
 asked_step (Err r) state = record { state = state; moves = failed r ∷ [] }
 
--- the step on one frame
-abbrev pub frame_step : List ℕ → State → Step
-frame_step frame state = asked_step (asked frame false) state
+-- the step on one frame; `own` says whether our own two methods are known
+abbrev pub frame_step : Bool → List ℕ → State → Step
+frame_step own frame state = asked_step (asked frame own) state
 
 -- ---- as bytes
 
@@ -214,9 +232,9 @@ pub record Stepped (S : Type 0) : Type 0 where
 abbrev pub as_bytes : Step → Stepped State
 as_bytes done = record { state = done.state; sent = frames_of_moves done.moves }
 
--- the step on one frame, as bytes
+-- the step on one frame of a front end, as bytes: our own two methods are unknown
 abbrev pub step : State → List ℕ → Stepped State
-step state frame = as_bytes (frame_step frame state)
+step state frame = as_bytes (frame_step false frame state)
 
 -- the script's own step, as bytes
 abbrev pub turn : Turn → State → Stepped State

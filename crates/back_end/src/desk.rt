@@ -4,7 +4,7 @@ ghost use Rattle.cdp_messages.specs.DomAsks.{fits_ask};
 ghost use Rattle.cdp_messages.specs.Asked.{fits_command};
 ghost use Rattle.cdp_messages.specs.Moves.{frames_of_moves};
 ghost use Rattle.back_end.specs.States.{State};
-ghost use Rattle.back_end.specs.Servers.{by_agent, by_part, server_of};
+ghost use Rattle.back_end.specs.Servers.{by_agent, by_part, server_of, HasOwnTexts};
 ghost use Rattle.back_end.specs.Servers as server;
 ghost use Rattle.back_end.specs.Steps.{ask_needs_on, command_step, frame_step, refusing, server_step};
 ghost use Rattle.back_end.specs.Steps as steps;
@@ -75,15 +75,16 @@ impl Desk {
         &mut self,
         side: &mut PageSide,
         frame: &[u8],
+        own: bool,
         out: &mut Vec<u8>,
     ) -> Result<(), AllocError>
         requires room { HasRoomLeft self.old side.old }
         ensures stands { (state : State) → DeskStandsFor self.old side.old state
-            → OnOk result (DeskStandsFor self.new side.new (frame_step frame.now state).state) }
+            → OnOk result (DeskStandsFor self.new side.new (frame_step own frame.now state).state) }
         ensures sent { (state : State) → DeskStandsFor self.old side.old state
-            → OnOk result (out.new.items ≡ out.old.items ++ frames_of_moves (frame_step frame.now state).moves) }
+            → OnOk result (out.new.items ≡ out.old.items ++ frames_of_moves (frame_step own frame.now state).moves) }
     {
-        match read_command(self.alloc, frame, false) {
+        match read_command(self.alloc, frame, own) {
             Ok(asked) => self.answer(side, asked.id, asked.command, out),
             Err(ReadErr::Refused(refused)) => write_refused(self.alloc, &refused, out),
             Err(ReadErr::Memory) => Err(AllocError),
@@ -99,16 +100,19 @@ impl Desk {
         out: &mut Vec<u8>,
     ) -> Result<(), AllocError>
         requires command { fits_command command ≡ true }
+        requires texts { HasOwnTexts (server_of command) }
         requires room { HasRoomLeft self.old side.old }
         ensures stands { (state : State) → DeskStandsFor self.old side.old state
             → OnOk result (DeskStandsFor self.new side.new (command_step id (server_of command) state).state) }
         ensures sent { (state : State) → DeskStandsFor self.old side.old state
             → OnOk result (out.new.items ≡ out.old.items ++ frames_of_moves (command_step id (server_of command) state).moves) }
     {
-        match SeatPart::of_command(&command) {
+        match SeatPart::of_command(command) {
             SeatPart::Enables => self.enable(side, id, out),
             SeatPart::Disables => self.disable(side, id, out),
-            SeatPart::Others => self.answer_by_agent(side, id, DomAsk::of_command(command), out),
+            SeatPart::Loads { params } => self.answer_load(side, id, params.as_value(), out),
+            SeatPart::Acts { params } => self.answer_act(side, id, params.as_value(), out),
+            SeatPart::Others { ask } => self.answer_by_agent(side, id, ask, out),
         }
     }
 
@@ -133,7 +137,7 @@ impl Desk {
         }
     }
 
-    fn refuse(&self, id: u64, why: Why, out: &mut Vec<u8>) -> Result<(), AllocError>
+    pub(crate) fn refuse(&self, id: u64, why: Why, out: &mut Vec<u8>) -> Result<(), AllocError>
         ensures { (state : State) → OnOk result (out.new.items ≡ out.old.items ++ frames_of_moves (refusing (Some id) why state).moves) }
     {
         let refused = Refused { id: Some(id), why };

@@ -3,6 +3,7 @@
 
 mod desk;
 mod laws;
+mod own;
 mod parts;
 mod script;
 mod seat;

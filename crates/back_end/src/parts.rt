@@ -2,56 +2,35 @@
 ghost use Rattle.std.specs.Prelude.{◌≡◌};
 ghost use Rattle.back_end.specs.Servers.{part_of};
 
-use cdp_messages::Command;
+use cdp_messages::{Command, DomAsk, Json};
 
-/// The part of a seat that a command is for.
-#[derive(Clone, Copy, PartialEq, Eq, Debug)]
+/// The part of a seat that a command is for, with what it is given.
+#[derive(Drop)]
 pub(crate) enum SeatPart {
     /// `DOM.enable`
     Enables,
     /// `DOM.disable`
     Disables,
+    /// `Replay.load`
+    Loads { params: Json },
+    /// `Replay.act`
+    Acts { params: Json },
     /// What an agent may serve.
-    Others,
+    Others { ask: Option<DomAsk> },
 }
 
 impl SeatPart {
-    pub(crate) fn of_command(command: &Command) -> SeatPart
-        ensures { result ≡ part_of command.now }
+    pub(crate) fn of_command(command: Command) -> SeatPart
+        ensures { result ≡ part_of command }
     {
         match command {
             Command::DomEnable => SeatPart::Enables,
             Command::DomDisable => SeatPart::Disables,
-            Command::GetDocument { .. }
-            | Command::RequestChildNodes { .. }
-            | Command::PushByPath { .. }
-            | Command::PushBySerials { .. }
-            | Command::QuerySelector { .. }
-            | Command::QuerySelectorAll { .. }
-            | Command::GetAttributes { .. }
-            | Command::DescribeNode { .. }
-            | Command::SetAttributeValue { .. }
-            | Command::RemoveAttribute { .. }
-            | Command::SetNodeValue { .. }
-            | Command::RemoveNode { .. }
-            | Command::MoveTo { .. }
-            | Command::CopyTo { .. }
-            | Command::MarkUndoableState
-            | Command::Undo
-            | Command::Redo
-            | Command::CssEnable
-            | Command::CssDisable
-            | Command::GetMatchedStyles { .. }
-            | Command::GetStyleSheetText { .. }
-            | Command::CollectClassNames { .. }
-            | Command::SetStyleTexts { .. }
-            | Command::SetRuleSelector { .. }
-            | Command::SetStyleSheetText { .. }
-            | Command::AddRule { .. }
-            | Command::SetBreakpoint { .. }
-            | Command::RemoveBreakpoint { .. }
-            | Command::ReplayLoad { .. }
-            | Command::ReplayAct { .. } => SeatPart::Others,
+            Command::ReplayLoad { params } => SeatPart::Loads { params },
+            Command::ReplayAct { params } => SeatPart::Acts { params },
+            others => SeatPart::Others {
+                ask: DomAsk::of_command(others),
+            },
         }
     }
 }

@@ -54,18 +54,19 @@ impl Seat {
     }
 
     /// Answers one frame: the messages of its step are appended to `out`. A frame that is refused gets one error reply, and
-    /// changes nothing.
+    /// changes nothing. `own` says whether `Replay.load` and `Replay.act` are known, by which a client does what a script may.
     pub fn take_message(
         &mut self,
         side: &mut PageSide,
         frame: &[u8],
+        own: bool,
         out: &mut Vec<u8>,
     ) -> Result<(), AllocError>
         requires room { HasRoomLeft self.old.desk side.old }
         ensures stands { (state : State) → StandsFor self.old side.old state
-            → OnOk result (StandsFor self.new side.new (frame_step frame.now state).state) }
+            → OnOk result (StandsFor self.new side.new (frame_step own frame.now state).state) }
         ensures sent { (state : State) → StandsFor self.old side.old state
-            → OnOk result (out.new.items ≡ out.old.items ++ frames_of_moves (frame_step frame.now state).moves) }
+            → OnOk result (out.new.items ≡ out.old.items ++ frames_of_moves (frame_step own frame.now state).moves) }
         ensures alive { OnOk result (self.new.is_dead ≡ false) }
         ensures memory { OnErr result (self.new.is_dead ≡ true) }
         ensures dead { self.old.is_dead ≡ true → IsErr result }
@@ -74,7 +75,7 @@ impl Seat {
             return Err(AllocError);
         }
         self.is_dead = true;
-        self.desk.answer_frame(side, frame, out)?;
+        self.desk.answer_frame(side, frame, own, out)?;
         self.is_dead = false;
         Ok(())
     }

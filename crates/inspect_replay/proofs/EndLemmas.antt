@@ -1,5 +1,5 @@
 -- What the calls on the link and on the ends make of a run.
-use Rattle.std.proofs.Common.{◌≡◌, ℕ, ◌+◌, ◌-◌, ◌<◌, ◌^◌, min, List, [], ◌∷◌, ◌++◌, length, take, true, not, Option, Some, None, refl, sym, ◌∙◌, ap, subst, Result, arith}
+use Rattle.std.proofs.Common.{◌≡◌, ℕ, ◌+◌, ◌-◌, ◌<◌, ◌^◌, min, List, [], ◌∷◌, ◌++◌, length, take, true, false, not, Option, Some, None, refl, sym, ◌∙◌, ap, subst, Result, arith}
 use Rattle.std.proofs.lemmas.List.{take_min}
 use Rattle.pipe_frames.specs.Pipe.{Pipe, waiting}
 use Rattle.pipe_frames.specs.Frames.{IsText, Frames, framed, frames_of, frames_from, held_after, continued}
@@ -55,8 +55,8 @@ room-left seat side state stands left =
 pub answered_in : (up0 down0 up down up1 down1 : Pipe) (w : World State) (frame : List ℕ) (frames : List (List ℕ)) (seat seat1 : Seat) (side side1 : PageSide) (e : Ends)
     (old out bytes : List ℕ) (there : ℕ)
     → InWorld up0 down0 up down w (frame ∷ frames) (record e { seat = seat; side = side })
-    → ((state : State) → StandsFor seat side state → StandsFor seat1 side1 (frame_step frame state).state)
-    → ((state : State) → StandsFor seat side state → out ≡ old ++ frames_of_moves (frame_step frame state).moves)
+    → ((state : State) → StandsFor seat side state → StandsFor seat1 side1 (frame_step false frame state).state)
+    → ((state : State) → StandsFor seat side state → out ≡ old ++ frames_of_moves (frame_step false frame state).moves)
     → old ≡ [] → bytes ≡ out
     → up1 ≡ up → (down1.sent ≡ down.sent ++ bytes) × (down1.given ≡ down.given) → there ≡ e.down_there + length out
     → InWorld up0 down0 up1 down1 (answered step (frame ∷ []) w) frames (record e { seat = seat1; side = side1; down_there = there })

@@ -125,8 +125,8 @@ pub answered-follows : (state0 : State) (up0 down0 up down up1 down1 : Pipe) (fr
     (old out bytes : List ℕ) (there : ℕ)
     → Follows state0 up0 down0 up down (frame ∷ frames) (record e { seat = seat; side = side }) → there ≡ e.down_there + length out
     → HasRoomLeft seat.desk side
-    → ((state : State) → StandsFor seat side state → StandsFor seat1 side1 (frame_step frame state).state)
-    → ((state : State) → StandsFor seat side state → out ≡ old ++ frames_of_moves (frame_step frame state).moves)
+    → ((state : State) → StandsFor seat side state → StandsFor seat1 side1 (frame_step false frame state).state)
+    → ((state : State) → StandsFor seat side state → out ≡ old ++ frames_of_moves (frame_step false frame state).moves)
     → old ≡ [] → bytes ≡ out → up1 ≡ up → (down1.sent ≡ down.sent ++ bytes) × (down1.given ≡ down.given)
     → Follows state0 up0 down0 up1 down1 frames (record e { seat = seat1; side = side1; down_there = there })
 answered-follows state0 up0 down0 up down up1 down1 frame frames seat seat1 side side1 e old out bytes there f left room stood said empty same_out same_up sent =

@@ -169,8 +169,8 @@ first-asks frame frames asks o e is = ap (λ p. option_to_list p ++ asks_among f
 fit-answered : (n : Spent) (frame : List ℕ) (front : FrontValue) (state : State) (frames : List (List ℕ))
     → IsFit n front state (frame ∷ frames) → Leads take_frame (IsFit n) front (step state frame) frames
 fit-answered n frame front state frames fit =
-    let well = frame-steps-well state frame fit.is_state (fit-room n front state (frame ∷ frames) fit) in
-    let done : Step = frame_step frame state in
+    let well = frame-steps-well false state frame fit.is_state (fit-room n front state (frame ∷ frames) fit) in
+    let done : Step = frame_step false frame state in
     leads-on n n state done front (frame ∷ frames) frames fit well.0 (in_turn done well.1 (course-quiet done.moves (view_of state) (view_of done.state) well.0.course) fit.sendable.0) fit.sendable.1 (record {
       few = fit.few;
       few_raws = fit.few_raws;

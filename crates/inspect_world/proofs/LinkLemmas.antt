@@ -77,7 +77,7 @@ sends-moves state h done asks rest well is_step plain in_turn ids =
     }
 
 -- a frame that came
-sends-frame : (state : State) (frame : List ℕ) (done : Step) → frame_step frame state ≡ done → StepsWell state done → (r : Result Asked Refused) → asked frame false ≡ r
+sends-frame : (state : State) (frame : List ℕ) (done : Step) → frame_step false frame state ≡ done → StepsWell state done → (r : Result Asked Refused) → asked frame false ≡ r
     → IsAnswered r done.moves → Sends state (came frame)
 sends-frame state frame done is well (Ok a) asks answered =
     sends-moves state (came frame) done (ask_with (method_name a.command) a.id ∷ []) [] well (ap as_bytes is) (refl, tt)
@@ -95,8 +95,8 @@ sends-frame state frame done is well (Err r) asks answered = at r.id refl where
 
 pub frame-sends : (state : State) (frame : List ℕ) → IsState state → HasRoom state → Sends state (came frame)
 frame-sends state frame is room =
-    let well = frame-steps-well state frame is room in
-    sends-frame state frame (frame_step frame state) refl well.0 (asked frame false) refl well.1
+    let well = frame-steps-well false state frame is room in
+    sends-frame state frame (frame_step false frame state) refl well.0 (asked frame false) refl well.1
 
 -- a step that the script made
 pub turn-sends : (state : State) (x : Turn) → IsState state → HasRoom state → IsTurn x → Sends state (made x)

@@ -1,6 +1,5 @@
 -- `DOM.enable` is the seat's own.
 use Rattle.std.proofs.Common.{◌++◌, ap, ◌∙◌}
-use Rattle.cdp_messages.specs.DomAsks.{dom_ask_in}
 use Rattle.cdp_messages.specs.Moves.{frames_of_moves}
 use Rattle.back_end.specs.Servers.{by_part}
 use Rattle.back_end.specs.Steps.{command_step}
@@ -10,4 +9,4 @@ use Rattle.back_end.proofs.desk.Desk.answer.Goals as goal
 pub returns-in-Enables-clause-sent : goal.returns-in-Enables-clause-sent
 returns-in-Enables-clause-sent c = λ state stands.
     on_ok c.enable.result _ _ (c.enable.ensures.sent state)
-    (λ sent. sent ∙ ap (λ p. c.args.out.now.items ++ frames_of_moves (command_step c.args.id (by_part p (dom_ask_in c.args.command)) state).moves) c.in-Enables.ensures)
+    (λ sent. sent ∙ ap (λ p. c.args.out.now.items ++ frames_of_moves (command_step c.args.id (by_part p) state).moves) c.in-Enables.ensures)

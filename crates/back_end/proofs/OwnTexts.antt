@@ -1,0 +1,161 @@
+-- What our own two methods are given has UTF-8 texts, as each frame that is read has.
+use Rattle.std.proofs.Common.{◌≡◌, List, ℕ, Bool, true, false, cond, Option, Some, None, Result, Ok, Err, Ordering, Less, Equal, Greater, nat_cmp, refl, codes}
+use Rattle.std.specs.Prelude.{⊤}
+use Rattle.std.specs.Str.{is_utf8}
+use Rattle.std.specs.Ordering.{match_ordering}
+use Rattle.std.specs.Cmp.Lexicographic.{slice_cmp}
+use Rattle.std.proofs.lemmas.Str.{IsUtf8-from_is_utf8}
+use Rattle.serde_json.specs.Data.{Data, Members, no_members, member}
+use Rattle.serde_json.specs.Find.{get_member, as_str, as_object}
+use Rattle.serde_json.specs.Read.{read}
+use Rattle.cdp_json.specs.Kinds.{as_whole}
+use Rattle.cdp_json.specs.declared.fields.Field.{Field}
+use Rattle.cdp_json.specs.declared.fields.Field.TheVariants.{Is, Missing, WrongKind}
+use Rattle.cdp_json.specs.Fields.{field_of}
+use Rattle.cdp_json.specs.Lookups.{then_ok}
+use Rattle.cdp_json.specs.Plain.{HasUtf8, MembersHaveUtf8}
+use Rattle.cdp_json.proofs.ReadTexts.{IfSome, read_utf8}
+use Rattle.page_forms.proofs.NodeTexts.{object_utf8}
+use Rattle.cdp_messages.specs.declared.command.Asked.{Asked}
+use Rattle.cdp_messages.specs.declared.command.Command.{Command}
+use Rattle.cdp_messages.specs.declared.command.Command.TheVariants.{GetDocument, RequestChildNodes, PushByPath, PushBySerials, QuerySelector, QuerySelectorAll, GetAttributes, DescribeNode, SetAttributeValue, RemoveAttribute, SetNodeValue, RemoveNode, MoveTo, CopyTo, GetMatchedStyles, GetStyleSheetText, CollectClassNames, SetStyleTexts, SetRuleSelector, SetStyleSheetText, AddRule, SetBreakpoint, RemoveBreakpoint}
+use Rattle.cdp_messages.specs.declared.command.Refused.{Refused}
+use Rattle.cdp_messages.specs.declared.command.Why.{Why}
+use Rattle.cdp_messages.specs.declared.method.Method.{Method}
+use Rattle.cdp_messages.specs.declared.method.Method.TheVariants as method
+use Rattle.cdp_messages.specs.declared.dom_ask.DomAsk.{DomAsk}
+use Rattle.cdp_messages.specs.DomAsks.{dom_ask_in}
+use Rattle.cdp_messages.specs.Methods.{known_method}
+use Rattle.cdp_messages.specs.Parameters.{command_by}
+use Rattle.cdp_messages.specs.Asked.{json_of, of_method, command_for, unless_session, or_bad_request, params_of, command_of, method_in, command_in, asked_by, with_id, asked_in, asked_value, asked}
+use Rattle.back_end.specs.Servers.{by_agent, server_of, HasOwnTexts}
+
+-- what is asked, if anything is, has UTF-8 texts where it is one of our own two methods
+abbrev CommandTexts : Result Command Why → Type 0
+CommandTexts (Ok c) = HasOwnTexts (server_of c)
+CommandTexts (Err why) = ⊤
+
+-- the same of a frame
+abbrev pub AskedTexts : Result Asked Refused → Type 0
+AskedTexts (Ok a) = HasOwnTexts (server_of a.command)
+AskedTexts (Err r) = ⊤
+
+-- ---- a command by its method
+
+-- what an agent may serve is none of them
+agents : (o : Option DomAsk) → HasOwnTexts (by_agent o)
+agents None = tt
+agents (Some ask) = tt
+
+by-agents : {T : Type 0} (r : Result T Why) (makes : T → Command) → ((x : T) → HasOwnTexts (server_of (makes x))) → CommandTexts (then_ok r (λ x. Ok (makes x)))
+by-agents (Ok x) makes has = has x
+by-agents (Err why) makes has = tt
+
+by-method : (m : Method) (ms : Members) → MembersHaveUtf8 ms → CommandTexts (command_by m ms)
+by-method method.DomEnable ms u = tt
+by-method method.DomDisable ms u = tt
+by-method method.GetDocument ms u = by-agents _ (λ x. GetDocument x.0 x.1.0) (λ x. agents (dom_ask_in (GetDocument x.0 x.1.0)))
+by-method method.RequestChildNodes ms u = by-agents _ (λ x. RequestChildNodes x.0 x.1.0 x.1.1.0) (λ x. agents (dom_ask_in (RequestChildNodes x.0 x.1.0 x.1.1.0)))
+by-method method.PushByPath ms u = by-agents _ (λ x. PushByPath x.0) (λ x. agents (dom_ask_in (PushByPath x.0)))
+by-method method.PushBySerials ms u = by-agents _ (λ x. PushBySerials x.0) (λ x. agents (dom_ask_in (PushBySerials x.0)))
+by-method method.QuerySelector ms u = by-agents _ (λ x. QuerySelector x.0 x.1.0) (λ x. agents (dom_ask_in (QuerySelector x.0 x.1.0)))
+by-method method.QuerySelectorAll ms u = by-agents _ (λ x. QuerySelectorAll x.0 x.1.0) (λ x. agents (dom_ask_in (QuerySelectorAll x.0 x.1.0)))
+by-method method.GetAttributes ms u = by-agents _ (λ x. GetAttributes x.0) (λ x. agents (dom_ask_in (GetAttributes x.0)))
+by-method method.DescribeNode ms u = by-agents _ (λ x. DescribeNode x.0 x.1.0 x.1.1.0 x.1.1.1.0) (λ x. agents (dom_ask_in (DescribeNode x.0 x.1.0 x.1.1.0 x.1.1.1.0)))
+by-method method.SetAttributeValue ms u = by-agents _ (λ x. SetAttributeValue x.0 x.1.0 x.1.1.0) (λ x. agents (dom_ask_in (SetAttributeValue x.0 x.1.0 x.1.1.0)))
+by-method method.RemoveAttribute ms u = by-agents _ (λ x. RemoveAttribute x.0 x.1.0) (λ x. agents (dom_ask_in (RemoveAttribute x.0 x.1.0)))
+by-method method.SetNodeValue ms u = by-agents _ (λ x. SetNodeValue x.0 x.1.0) (λ x. agents (dom_ask_in (SetNodeValue x.0 x.1.0)))
+by-method method.RemoveNode ms u = by-agents _ (λ x. RemoveNode x.0) (λ x. agents (dom_ask_in (RemoveNode x.0)))
+by-method method.MoveTo ms u = by-agents _ (λ x. MoveTo x.0 x.1.0 x.1.1.0) (λ x. agents (dom_ask_in (MoveTo x.0 x.1.0 x.1.1.0)))
+by-method method.CopyTo ms u = by-agents _ (λ x. CopyTo x.0 x.1.0 x.1.1.0) (λ x. agents (dom_ask_in (CopyTo x.0 x.1.0 x.1.1.0)))
+by-method method.MarkUndoableState ms u = tt
+by-method method.Undo ms u = tt
+by-method method.Redo ms u = tt
+by-method method.CssEnable ms u = tt
+by-method method.CssDisable ms u = tt
+by-method method.GetMatchedStyles ms u = by-agents _ (λ x. GetMatchedStyles x.0) (λ x. agents (dom_ask_in (GetMatchedStyles x.0)))
+by-method method.GetStyleSheetText ms u = by-agents _ (λ x. GetStyleSheetText x.0) (λ x. agents (dom_ask_in (GetStyleSheetText x.0)))
+by-method method.CollectClassNames ms u = by-agents _ (λ x. CollectClassNames x.0) (λ x. agents (dom_ask_in (CollectClassNames x.0)))
+by-method method.SetStyleTexts ms u = by-agents _ (λ x. SetStyleTexts x.0) (λ x. agents (dom_ask_in (SetStyleTexts x.0)))
+by-method method.SetRuleSelector ms u = by-agents _ (λ x. SetRuleSelector x.0 x.1.0 x.1.1.0) (λ x. agents (dom_ask_in (SetRuleSelector x.0 x.1.0 x.1.1.0)))
+by-method method.SetStyleSheetText ms u = by-agents _ (λ x. SetStyleSheetText x.0 x.1.0) (λ x. agents (dom_ask_in (SetStyleSheetText x.0 x.1.0)))
+by-method method.AddRule ms u = by-agents _ (λ x. AddRule x.0 x.1.0 x.1.1.0) (λ x. agents (dom_ask_in (AddRule x.0 x.1.0 x.1.1.0)))
+by-method method.SetBreakpoint ms u = by-agents _ (λ x. SetBreakpoint x.0 x.1.0) (λ x. agents (dom_ask_in (SetBreakpoint x.0 x.1.0)))
+by-method method.RemoveBreakpoint ms u = by-agents _ (λ x. RemoveBreakpoint x.0 x.1.0) (λ x. agents (dom_ask_in (RemoveBreakpoint x.0 x.1.0)))
+by-method method.ReplayLoad ms u = u
+by-method method.ReplayAct ms u = u
+
+-- ---- a frame
+
+found : (o : Ordering) (here : Data) (later : Option Data) → HasUtf8 here → IfSome HasUtf8 later → IfSome HasUtf8 (match_ordering o later (Some here) later)
+found Less here later u v = v
+found Equal here later u v = u
+found Greater here later u v = v
+
+member-texts : (k : List ℕ) (ms : Members) → MembersHaveUtf8 ms → IfSome HasUtf8 (get_member k ms)
+member-texts k no_members u = tt
+member-texts k (member l e ms) u = found (slice_cmp nat_cmp k l) e (get_member k ms) u.1 (member-texts k ms u.2)
+
+-- parameters that are an object
+abbrev ParamsTexts : Result Members Why → Type 0
+ParamsTexts (Ok ms) = MembersHaveUtf8 ms
+ParamsTexts (Err why) = ⊤
+
+object-params : (o : Option Members) → IfSome MembersHaveUtf8 o → ParamsTexts (or_bad_request o)
+object-params None u = tt
+object-params (Some ms) u = u
+
+params-texts : (p : Option Data) → IfSome HasUtf8 p → ParamsTexts (params_of p)
+params-texts None u = tt
+params-texts (Some d) u = object-params (as_object d) (object_utf8 d u)
+
+method-texts : (o : Option Method) (ms : Members) → MembersHaveUtf8 ms → CommandTexts (of_method o ms)
+method-texts None ms u = tt
+method-texts (Some m) ms u = by-method m ms u
+
+sessions-texts : (session : Option Data) (r : Result Command Why) → CommandTexts r → CommandTexts (unless_session session r)
+sessions-texts None r u = u
+sessions-texts (Some d) r u = tt
+
+command-texts : (own : Bool) (name : List ℕ) (params session : Option Data) → IfSome HasUtf8 params → CommandTexts (command_of own name params session)
+command-texts own name params session u = at (params_of params) (params-texts params u) where
+  at : (r : Result Members Why) → ParamsTexts r → CommandTexts (then_ok r (λ ps. unless_session session (command_for own name ps)))
+  at (Ok ms) v = sessions-texts session (command_for own name ms) (method-texts (known_method own name) ms v)
+  at (Err why) v = tt
+
+in-frame : (own : Bool) (frame : Members) → MembersHaveUtf8 frame → CommandTexts (command_in own frame)
+in-frame own frame u = at (method_in (field_of as_str (codes "method") frame)) where
+  at : (r : Result (List ℕ) Why) → CommandTexts (then_ok r (λ name. command_of own name (get_member (codes "params") frame) (get_member (codes "sessionId") frame)))
+  at (Ok name) = command-texts own name (get_member (codes "params") frame) (get_member (codes "sessionId") frame) (member-texts (codes "params") frame u)
+  at (Err why) = tt
+
+by-id : (id : ℕ) (r : Result Command Why) → CommandTexts r → AskedTexts (asked_by id r)
+by-id id (Ok c) u = u
+by-id id (Err why) u = tt
+
+with-id : (f : Field ℕ) (r : Result Command Why) → CommandTexts r → AskedTexts (with_id f r)
+with-id Missing r u = tt
+with-id WrongKind r u = tt
+with-id (Is id) r u = by-id id r u
+
+object-texts : (own : Bool) (o : Option Members) → IfSome MembersHaveUtf8 o → AskedTexts (asked_in own o)
+object-texts own None u = tt
+object-texts own (Some frame) u = with-id (field_of as_whole (codes "id") frame) (command_in own frame) (in-frame own frame u)
+
+value-texts : (own : Bool) (o : Option Data) → IfSome HasUtf8 o → AskedTexts (asked_value own o)
+value-texts own None u = tt
+value-texts own (Some d) u = object-texts own (as_object d) (object_utf8 d u)
+
+json-texts : (bytes : List ℕ) → IfSome HasUtf8 (json_of bytes)
+json-texts bytes = at (is_utf8 bytes) refl where
+  read-texts : (o : Option Data) → is_utf8 bytes ≡ true → read bytes ≡ o → IfSome HasUtf8 o
+  read-texts None is e = tt
+  read-texts (Some d) is e = read_utf8 bytes d (IsUtf8-from_is_utf8 bytes is) e
+
+  at : (b : Bool) → is_utf8 bytes ≡ b → IfSome HasUtf8 (cond b (read bytes) None)
+  at true is = read-texts (read bytes) is refl
+  at false is = tt
+
+-- what is asked of a frame has UTF-8 texts
+pub frame-texts : (own : Bool) (frame : List ℕ) → AskedTexts (asked frame own)
+frame-texts own frame = value-texts own (json_of frame) (json-texts frame)

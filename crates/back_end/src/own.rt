@@ -1,0 +1,162 @@
+// Our own two methods, by which a client without a script loads a page and changes it.
+ghost use Rattle.std.specs.Prelude.{◌≡◌, ◌++◌, Some, IfOk, OnOk};
+ghost use Rattle.serde_json.specs.View.{view};
+ghost use Rattle.cdp_json.specs.Plain.{HasUtf8};
+ghost use Rattle.page_tree.specs.Forms.{CanLoad};
+ghost use Rattle.page_forms.specs.Acts.{IsInsertable};
+ghost use Rattle.page_forms.specs.Pages.{loaded_nodes};
+ghost use Rattle.cdp_messages.specs.Answers.{Commands};
+ghost use Rattle.cdp_messages.specs.Moves.{frames_of_moves};
+ghost use Rattle.back_end.specs.OwnMethods.{edit_why, load_why, load_asked, act_read, Finds};
+ghost use Rattle.back_end.specs.Servers as server;
+ghost use Rattle.back_end.specs.States.{State};
+ghost use Rattle.back_end.specs.Steps.{command_step, judged_step};
+ghost use Rattle.back_end.specs.Texts.{HaveTexts, ActHasTexts};
+ghost use Rattle.back_end.specs.Seats.{DeskStandsFor, HasRoomLeft};
+
+use crate::desk::Desk;
+use crate::side::PageSide;
+use cdp_json::all_whole;
+use cdp_messages::{CommandErr, Param, ReplyBody, Why, write_reply};
+use page_forms::{Act, ActErr, PageForm, read_act, read_page, texts_law};
+use page_tree::{EditFault, LoadErr, LoadFault};
+use serde_json::Value;
+use std::alloc::{AllocError, Global};
+
+/// What a load is refused with.
+fn load_why(fault: LoadFault) -> Why
+    ensures { result ≡ load_why fault }
+{
+    match fault {
+        LoadFault::BadForm => Why::BadParam(Param::Params),
+        LoadFault::TooDeep => Why::TooDeep,
+        LoadFault::TooMany => Why::TooMany,
+        LoadFault::BadName => Why::BadName,
+    }
+}
+
+/// What an edit of the page is refused with.
+fn edit_why(fault: EditFault) -> Why
+    ensures { result ≡ edit_why fault }
+{
+    match fault {
+        EditFault::NoNode => Why::NoNode,
+        EditFault::NotElement => Why::NotElement,
+        EditFault::NotText => Why::NotText,
+        EditFault::IsDocument => Why::IsDocument,
+        EditFault::NotChild => Why::NotChild,
+        EditFault::Inside => Why::Inside,
+        EditFault::TooDeep => Why::TooDeep,
+        EditFault::TooMany => Why::TooMany,
+        EditFault::BadName => Why::BadName,
+        EditFault::NoAttr => Why::NoAttr,
+        EditFault::NotContainer => Why::NotContainer,
+    }
+}
+
+/// The page that the parameters of a load spell.
+fn asked_page(alloc: Global, params: &Value) -> Result<PageForm, CommandErr>
+    requires texts { HasUtf8 (view params.now) }
+    ensures finds { Finds loaded_nodes result (load_asked (view params.now)) }
+    ensures fit { IfOk result (λ page. CanLoad (loaded_nodes page)) }
+    ensures texts { IfOk result (λ page. HaveTexts (loaded_nodes page)) }
+{
+    if !all_whole(params) {
+        return Err(CommandErr::Refused(Why::BadParam(Param::Params)));
+    }
+    texts_law();
+    match read_page(alloc, params) {
+        Ok(page) => Ok(page),
+        Err(LoadErr::Fault(fault)) => Err(CommandErr::Refused(load_why(fault))),
+        Err(LoadErr::Memory) => Err(CommandErr::Memory),
+    }
+}
+
+/// The act that the parameters spell, whatever the page is.
+fn asked_act(alloc: Global, params: &Value) -> Result<Act, CommandErr>
+    requires texts { HasUtf8 (view params.now) }
+    ensures finds { Commands result (act_read (view params.now)) }
+    ensures fit { IfOk result IsInsertable }
+    ensures texts { IfOk result ActHasTexts }
+{
+    if !all_whole(params) {
+        return Err(CommandErr::Refused(Why::BadParam(Param::Params)));
+    }
+    texts_law();
+    match read_act(alloc, params) {
+        Ok(act) => Ok(act),
+        Err(ActErr::BadForm) => Err(CommandErr::Refused(Why::BadParam(Param::Params))),
+        Err(ActErr::Memory) => Err(CommandErr::Memory),
+    }
+}
+
+impl Desk {
+    /// `Replay.load`, which needs no domain on.
+    pub(crate) fn answer_load(
+        &mut self,
+        side: &mut PageSide,
+        id: u64,
+        params: &Value,
+        out: &mut Vec<u8>,
+    ) -> Result<(), AllocError>
+        requires texts { HasUtf8 (view params.now) }
+        requires room { HasRoomLeft self.old side.old }
+        ensures stands { (state : State) → DeskStandsFor self.old side.old state
+            → OnOk result (DeskStandsFor self.new side.new (command_step id (server.page_load (view params.now)) state).state) }
+        ensures sent { (state : State) → DeskStandsFor self.old side.old state
+            → OnOk result (out.new.items ≡ out.old.items ++ frames_of_moves (command_step id (server.page_load (view params.now)) state).moves) }
+    {
+        match asked_page(self.alloc, params) {
+            Ok(page) => {
+                self.load(side, page, out)?;
+                write_reply(self.alloc, id, &ReplyBody::Nothing, out)
+            }
+            Err(CommandErr::Refused(why)) => self.refuse(id, why, out),
+            Err(CommandErr::Memory) => Err(AllocError),
+        }
+    }
+
+    /// `Replay.act`, which needs no domain on. One that the page refuses changes nothing, and draws no serial.
+    pub(crate) fn answer_act(
+        &mut self,
+        side: &mut PageSide,
+        id: u64,
+        params: &Value,
+        out: &mut Vec<u8>,
+    ) -> Result<(), AllocError>
+        requires texts { HasUtf8 (view params.now) }
+        requires room { HasRoomLeft self.old side.old }
+        ensures stands { (state : State) → DeskStandsFor self.old side.old state
+            → OnOk result (DeskStandsFor self.new side.new (command_step id (server.page_act (view params.now)) state).state) }
+        ensures sent { (state : State) → DeskStandsFor self.old side.old state
+            → OnOk result (out.new.items ≡ out.old.items ++ frames_of_moves (command_step id (server.page_act (view params.now)) state).moves) }
+    {
+        match asked_act(self.alloc, params) {
+            Ok(act) => self.answer_changed(side, id, act, out),
+            Err(CommandErr::Refused(why)) => self.refuse(id, why, out),
+            Err(CommandErr::Memory) => Err(AllocError),
+        }
+    }
+
+    /// Answers an act: it is carried out, or refused with the fault that the page finds.
+    fn answer_changed(
+        &mut self,
+        side: &mut PageSide,
+        id: u64,
+        act: Act,
+        out: &mut Vec<u8>,
+    ) -> Result<(), AllocError>
+        requires form { IsInsertable act }
+        requires texts { ActHasTexts act }
+        requires room { HasRoomLeft self.old side.old }
+        ensures stands { (state : State) → DeskStandsFor self.old side.old state
+            → OnOk result (DeskStandsFor self.new side.new (judged_step id act state).state) }
+        ensures sent { (state : State) → DeskStandsFor self.old side.old state
+            → OnOk result (out.new.items ≡ out.old.items ++ frames_of_moves (judged_step id act state).moves) }
+    {
+        if let Some(fault) = self.script(side, act, out)? {
+            return self.refuse(id, edit_why(fault), out);
+        }
+        write_reply(self.alloc, id, &ReplyBody::Nothing, out)
+    }
+}
