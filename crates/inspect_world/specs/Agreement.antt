@@ -38,8 +38,8 @@ pub record RunsAgree {S F E X A : Type 0} (machine : Machine S F E X) (start : F
 
 -- Two runs of one script that go on together: w as the report tells it, and v with the fetches of its settles. Both fit the
 -- state, they agree, and of the frames that the front end has sent in w none is a fetch.
-pub record RunTogether {S F E X A : Type 0} (machine : Machine S F E X) (Fit : Spent → F → S → List (List ℕ) → Type 0) (start : F) (seen : F → A)
-    (IsPlain : List ℕ → Type 0) (w v : World S) : Type 0 where
+pub record RunTogether {S F E X A : Type 0} (machine : Machine S F E X) (Fit : Spent → F → S → List (List ℕ) → Type 0)
+    (start : F) (seen : F → A) (IsPlain : List ℕ → Type 0) (w v : World S) : Type 0 where
   pub fits : Fits machine.take machine.join Fit start w
   pub fits_fresh : Fits machine.take machine.join Fit start v
   pub agrees : RunsAgree machine start seen w v

@@ -56,7 +56,8 @@ pub record IsDue {S F : Type 0} (Fit : Spent → F → S → List (List ℕ) →
   pub left : n.fetches + 1 ≤ most
 
 -- The answer to a fetch leaves the state as it is; the front end shows the same, and the sheet has a fresh text.
-pub record GivesText {S F A : Type 0} (fetcher : Fetcher F) (seen : F → A) (before after : F) (state state1 : S) (numbers : List ℕ) : Type 0 where
+pub record GivesText {S F A : Type 0} (fetcher : Fetcher F) (seen : F → A) (before after : F) (state state1 : S)
+    (numbers : List ℕ) : Type 0 where
   pub state_is : state1 ≡ state
   pub left : fetcher.stale after ≡ numbers
   pub same : seen after ≡ seen before
@@ -66,7 +67,8 @@ pub record GivesText {S F A : Type 0} (fetcher : Fetcher F) (seen : F → A) (be
 pub record FetchLaws {S F E X A : Type 0} (machine : Machine S F E X) (IsNext : Spent → List ℕ → Spent → Type 0)
     (Fit : Spent → F → S → List (List ℕ) → Type 0) (fetcher : Fetcher F) (seen : F → A) (sheets most : ℕ) : Type 0 where
   -- fronts that show the same, and both take a message, show the same then
-  pub takes : (v w v1 w1 : F) (frame : List ℕ) → seen v ≡ seen w → machine.take v frame ≡ Ok v1 → machine.take w frame ≡ Ok w1 → seen v1 ≡ seen w1
+  pub takes : (v w v1 w1 : F) (frame : List ℕ) → seen v ≡ seen w → machine.take v frame ≡ Ok v1 → machine.take w frame ≡ Ok w1
+      → seen v1 ≡ seen w1
   -- and so do those that send the same
   pub joins : (v w : F) (ask : List ℕ) → seen v ≡ seen w → seen (machine.join v ask) ≡ seen (machine.join w ask)
   -- a front end has no more sheets than a page
@@ -81,5 +83,6 @@ pub record FetchLaws {S F E X A : Type 0} (machine : Machine S F E X) (IsNext : 
   -- and what the state answers gives the text
   pub answer : (n : Spent) (front after : F) (state : S) (number : ℕ) (numbers : List ℕ)
       → IsDue Fit fetcher most n front state number numbers
-      → folded machine.take (machine.join front (fetcher.text n.fetches number)) (frames_of (machine.step state (fetcher.text n.fetches number)).sent).whole ≡ Ok after
+      → folded machine.take (machine.join front (fetcher.text n.fetches number))
+      (frames_of (machine.step state (fetcher.text n.fetches number)).sent).whole ≡ Ok after
       → GivesText fetcher seen front after state (machine.step state (fetcher.text n.fetches number)).state numbers

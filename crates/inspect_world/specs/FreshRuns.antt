@@ -68,8 +68,8 @@ FreshLinesFit fetcher IsPlain =
 -- with each input that a replay reads
 abbrev pub FreshInputsFit : Fetcher FrontValue → (List ℕ → Type 0) → Type 0
 FreshInputsFit fetcher IsPlain =
-    (input : List ℕ) (nodes : Nodes Label) (lines : List LineForm) → script_forms input ≡ load nodes ∷ lines → length input ≤ most_asks → (n : ℕ)
-    → RunTogether replay IsFit (first_value []) unstyled IsPlain (after_lines (take n lines) (loaded_world nodes))
+    (input : List ℕ) (nodes : Nodes Label) (lines : List LineForm) → script_forms input ≡ load nodes ∷ lines → length input ≤ most_asks
+    → (n : ℕ) → RunTogether replay IsFit (first_value []) unstyled IsPlain (after_lines (take n lines) (loaded_world nodes))
     (fresh_lines fetcher (take n lines) (loaded_world nodes))
 
 -- After a settle of both, the front end of the run with fetches shows exactly what the client sees, no text of a sheet is old,
