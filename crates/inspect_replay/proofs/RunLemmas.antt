@@ -57,7 +57,8 @@ use Rattle.front_mirror.specs.declared.faults.FrontFault.{FrontFault}
 use Rattle.inspect_replay.specs.Answers.{Absent, AtEnd, InRunOnly, TookAt, RunTells, RunTook, Prints}
 use Rattle.inspect_replay.specs.Prints.{CarriesOut, NumberedLine, line_of, Closes, IsRead}
 use Rattle.replay_script.proofs.ScriptLemmas.{first_bad-good, good_lines-good, good_lines-bad}
-use Rattle.inspect_world.proofs.Scripts.{settled-shows, given-all, IsState-first, left-first, left-after, left-one}
+use Rattle.inspect_world.proofs.Frames.{given-all}
+use Rattle.inspect_world.proofs.Scripts.{settled-shows, IsState-first, left-first, left-after, left-one}
 use Rattle.inspect_world.proofs.Inputs.{input-script, Script, length-lines_of}
 use Rattle.inspect_world.proofs.Ends.{world-first, world-replies, world-told}
 

@@ -6,7 +6,7 @@ use Rattle.node_tree.specs.Labels.{Label}
 use Rattle.page_tree.specs.Forms.{CanLoad}
 use Rattle.pipe_frames.specs.Pipe.{Pipe}
 use Rattle.pipe_frames.specs.Frames.{IsText, framed, frames_of, held_after}
-use Rattle.pipe_frames.proofs.FrameLemmas.{frames_of-append, frames_of-one}
+use Rattle.pipe_frames.proofs.FrameLemmas.{frames_of-one}
 use Rattle.cdp_messages.specs.Asked.{command_text}
 use Rattle.front_mirror.specs.declared.faults.FrontKind.{FrontKind}
 use Rattle.front_mirror.specs.Front as front
@@ -27,7 +27,7 @@ use Rattle.inspect_world.specs.ScriptsFit.{CanSend}
 use Rattle.inspect_world.specs.ShownReplies.{told_of, replies_in}
 use Rattle.inspect_world.specs.Held.{Ends, good_front, InWorld}
 use Rattle.inspect_world.specs.Carried.{Carries}
-use Rattle.inspect_world.proofs.Frames.{sent-passed, awaited-passed}
+use Rattle.inspect_world.proofs.Frames.{sent-passed, awaited-passed, whole-sent, whole-given, rest-given}
 use Rattle.inspect_world.proofs.Worlds.{whole-after, fits-sent_up, fits-turned, fits-given_up, fits-answered_one}
 use Rattle.inspect_world.proofs.FitLemmas.{world_laws}
 use Rattle.inspect_world.proofs.Messages.{IsText-sent, ask_in-sent, IsNext-sent}
@@ -48,16 +48,6 @@ front-folded (frame ∷ frames) v w e =
       | Ok next ↦ λ rest. front-folded frames next w rest
       | Err kind ↦ λ rest. let no : ◌≡◌ {A = Result FrontValue FrontKind} (Err kind) (Ok w) = rest in cc
     ]) e
-
--- the whole frames that were given, and those that are on their way
-whole-sent : (s : Stream) → (frames_of (sent s)).whole ≡ (frames_of s.given).whole ++ awaited s
-whole-sent s = ap (λ fs. fs.whole) (frames_of-append s.given s.flying)
-
-whole-given : (n : ℕ) (s : Stream) → (frames_of (passed n s).given).whole ≡ (frames_of s.given).whole ++ arriving n s
-whole-given n s = ap (λ fs. fs.whole) (frames_of-append s.given (take n s.flying))
-
-rest-given : (n : ℕ) (s : Stream) → held (passed n s) ≡ held_after (held s) (take n s.flying)
-rest-given n s = ap (λ fs. fs.rest) (frames_of-append s.given (take n s.flying))
 
 -- how many bytes are left of a stream
 left-passed : (n there there' : ℕ) (piece : List ℕ) (s : Stream) → there ≡ length s.flying → piece ≡ take n s.flying

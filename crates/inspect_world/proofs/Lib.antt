@@ -1,6 +1,10 @@
 pub mod Frames
 pub mod Folds
 pub mod Worlds
+pub mod AgreeLemmas
+pub mod FetchLemmas
+pub mod TogetherLemmas
+pub mod KeepLemmas
 pub mod AskLemmas
 pub mod Pipes
 pub mod Replies
@@ -15,3 +19,5 @@ pub mod LinkLemmas
 pub mod BareFrames
 pub mod SendForms
 pub mod Inputs
+pub mod FreshLemmas
+pub mod UnstyledLemmas

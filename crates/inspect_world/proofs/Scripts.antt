@@ -1,6 +1,5 @@
 -- The streams of a script fit the state of the page, line by line.
-use Rattle.std.proofs.Common.{◌≡◌, ℕ, zero, suc, ◌+◌, ◌^◌, ◌<◌, ◌≤◌, List, [], ◌∷◌, ◌++◌, length, take, append-nil, Ok, refl, sym, ◌∙◌, ap, arith}
-use Rattle.std.proofs.lemmas.List.{drop_all}
+use Rattle.std.proofs.Common.{◌≡◌, ℕ, zero, suc, ◌+◌, ◌*◌, ◌^◌, ◌<◌, ◌≤◌, List, [], ◌∷◌, length, take, Ok, refl, sym, ◌∙◌, ap, arith}
 use Rattle.std.proofs.lemmas.Str.{IsUtf8-nil}
 use Rattle.node_tree.specs.Nodes.{Nodes, none, node, node_count}
 use Rattle.node_tree.specs.Labels.{Label}
@@ -13,17 +12,18 @@ use Rattle.dom_agent.specs.Laws.{RowsHaveUtf8}
 use Rattle.front_mirror.specs.Front.{first_value, take_frame}
 use Rattle.replay_script.specs.Forms as forms
 use Rattle.replay_script.specs.Forms.{AskForm, LineForm, load, ask, up, down, settle, show_front, show_page, show_replies}
-use Rattle.pipe_frames.specs.Frames.{IsText, frames_of, frames_from}
-use Rattle.inspect_world.specs.Stream.{Stream, sent, passed, held, awaited}
+use Rattle.pipe_frames.specs.Frames.{IsText, frames_of}
+use Rattle.inspect_world.specs.Stream.{sent, held, awaited}
 use Rattle.inspect_world.specs.Fold.{folded, joined}
-use Rattle.inspect_world.specs.World.{World, nothing_spent, one_raw, raw, turned, delivered_up, settled}
+use Rattle.inspect_world.specs.World.{World, Spent, nothing_spent, one_raw, raw, turned, delivered_up, settled}
 use Rattle.back_end.specs.States.{State, nodes_in, loaded_state, IsState}
 use Rattle.back_end.specs.Steps.{Turn, acts, loads, step, turn}
-use Rattle.inspect_world.specs.Fits.{join, asks_among, IsNext, next_raw, IsBare, IsNextTurn, HasLeft, most_asks, IsFit, replay, Fits}
+use Rattle.inspect_world.specs.Fits.{join, asks_among, IsNext, next_raw, IsBare, IsNextTurn, HasLeft, most_asks, most_sheets, most_fetches, IsFit, replay, Fits}
 use Rattle.inspect_world.specs.Scripts.{sends, after_line, after_lines, loaded_world}
 use Rattle.page_forms.specs.Texts.{HaveTexts}
 use Rattle.inspect_world.specs.ScriptsFit.{CanSend, IsLater, AreLater, LinesFit, BareFramesFit, TurnsFit, DeliveriesFit, SettledShows}
 use Rattle.inspect_world.proofs.Messages.{IsText-sent, IsNext-sent}
+use Rattle.inspect_world.proofs.Frames.{given-all, sent-all, awaited-none}
 use Rattle.inspect_world.proofs.Replies.{replies-of}
 use Rattle.inspect_world.proofs.Worlds.{fits-first, fits-sent_up, fits-asked, fits-turned, fits-delivered_up, fits-delivered_down, fits-settled}
 use Rattle.inspect_world.proofs.FitLemmas.{world_laws}
@@ -43,7 +43,7 @@ IsState-first nodes can texts = record {
   no_more = record { sheets = refl; css_off = refl; watched = refl; marks = refl };
 }
 
-fit-first : (nodes : Nodes Label) → CanLoad nodes → HaveTexts nodes → IsFit nothing_spent (first_value []) (loaded_state nodes) []
+pub fit-first : (nodes : Nodes Label) → CanLoad nodes → HaveTexts nodes → IsFit nothing_spent (first_value []) (loaded_state nodes) []
 fit-first nodes can texts = record {
   has = record { tree = refl; sheets = tt };
   asks = refl;
@@ -93,41 +93,44 @@ fits-line show_front w later left fits = settled-fits w fits
 fits-line show_page w later left fits = fits
 fits-line show_replies w later left fits = fits-told (settled step w) _ (settled-fits w fits)
 
--- a line spends one of each at most
-spent-more : (asks raws turns asks1 raws1 turns1 k : ℕ) → asks1 ≤ asks + 1 → raws1 ≤ raws + 1 → turns1 ≤ turns + 1
-    → HasLeft (record { asks = asks; fetches = 0; raws = raws; turns = turns }) (suc k) → HasLeft (record { asks = asks1; fetches = 0; raws = raws1; turns = turns1 }) k
-spent-more asks raws turns asks1 raws1 turns1 k a r t left =
-    let ha : asks + suc k ≤ most_asks = left.asks in
-    let hr : raws + suc k ≤ most_asks = left.raws in
-    let ht : turns + suc k ≤ most_asks = left.turns in
-    record { asks = omega (arith, a, ha); raws = omega (arith, r, hr); turns = omega (arith, t, ht) }
+-- one of these counts, where a line spends one at most
+left-count : (before after k : ℕ) → after ≤ before + 1 → before + suc k ≤ most_asks → after + k ≤ most_asks
+left-count before after k more left = omega (arith, more, left)
 
--- the same of the counts of two runs
-spent-on : (k : ℕ) (w v : World State) → v.spent.asks ≤ w.spent.asks + 1 → v.spent.raws ≤ w.spent.raws + 1 → v.spent.turns ≤ w.spent.turns + 1
-    → HasLeft w.spent (suc k) → HasLeft v.spent k
-spent-on k w v a r t left =
-    let h = spent-more w.spent.asks w.spent.raws w.spent.turns v.spent.asks v.spent.raws v.spent.turns k a r t (record { asks = left.asks; raws = left.raws; turns = left.turns }) in
-    record { asks = h.asks; raws = h.raws; turns = h.turns }
+-- and of fetches a page's sheets at most
+left-fetches : (before after k : ℕ) → after ≤ before + most_sheets → before + (suc k + 1) * most_sheets ≤ most_fetches → after + (k + 1) * most_sheets ≤ most_fetches
+left-fetches before after k more left = omega (arith, more, left)
+
+-- a line spends no more
+pub spent-on : (k : ℕ) (n m : Spent) → m.asks ≤ n.asks + 1 → m.fetches ≤ n.fetches + most_sheets → m.raws ≤ n.raws + 1 → m.turns ≤ n.turns + 1
+    → HasLeft n (suc k) → HasLeft m k
+spent-on k n m asks fetches raws turns left = record {
+  asks = left-count n.asks m.asks k asks left.asks;
+  fetches = left-fetches n.fetches m.fetches k fetches left.fetches;
+  raws = left-count n.raws m.raws k raws left.raws;
+  turns = left-count n.turns m.turns k turns left.turns;
+}
 
 pub left-after : (line : LineForm) (k : ℕ) (w : World State) → HasLeft w.spent (suc k) → HasLeft (after_line line w).spent k
-left-after (load nodes) k w left = spent-on k w (after_line (load nodes) w) (omega arith) (omega arith) (omega arith) left
-left-after (forms.act a) k w left = spent-on k w (after_line (forms.act a) w) (omega arith) (omega arith) (omega arith) left
-left-after (ask a) k w left = spent-on k w (after_line (ask a) w) (omega arith) (omega arith) (omega arith) left
-left-after (forms.raw text) k w left = spent-on k w (after_line (forms.raw text) w) (omega arith) (omega arith) (omega arith) left
-left-after (up n) k w left = spent-on k w (after_line (up n) w) (omega arith) (omega arith) (omega arith) left
-left-after (down n) k w left = spent-on k w (after_line (down n) w) (omega arith) (omega arith) (omega arith) left
-left-after settle k w left = spent-on k w (after_line settle w) (omega arith) (omega arith) (omega arith) left
-left-after show_front k w left = spent-on k w (after_line show_front w) (omega arith) (omega arith) (omega arith) left
-left-after show_page k w left = spent-on k w (after_line show_page w) (omega arith) (omega arith) (omega arith) left
-left-after show_replies k w left = spent-on k w (after_line show_replies w) (omega arith) (omega arith) (omega arith) left
+left-after (load nodes) k w left = spent-on k w.spent (after_line (load nodes) w).spent (omega arith) (omega arith) (omega arith) (omega arith) left
+left-after (forms.act a) k w left = spent-on k w.spent (after_line (forms.act a) w).spent (omega arith) (omega arith) (omega arith) (omega arith) left
+left-after (ask a) k w left = spent-on k w.spent (after_line (ask a) w).spent (omega arith) (omega arith) (omega arith) (omega arith) left
+left-after (forms.raw text) k w left = spent-on k w.spent (after_line (forms.raw text) w).spent (omega arith) (omega arith) (omega arith) (omega arith) left
+left-after (up n) k w left = spent-on k w.spent (after_line (up n) w).spent (omega arith) (omega arith) (omega arith) (omega arith) left
+left-after (down n) k w left = spent-on k w.spent (after_line (down n) w).spent (omega arith) (omega arith) (omega arith) (omega arith) left
+left-after settle k w left = spent-on k w.spent (after_line settle w).spent (omega arith) (omega arith) (omega arith) (omega arith) left
+left-after show_front k w left = spent-on k w.spent (after_line show_front w).spent (omega arith) (omega arith) (omega arith) (omega arith) left
+left-after show_page k w left = spent-on k w.spent (after_line show_page w).spent (omega arith) (omega arith) (omega arith) (omega arith) left
+left-after show_replies k w left = spent-on k w.spent (after_line show_replies w).spent (omega arith) (omega arith) (omega arith) (omega arith) left
 
 -- one line of some
 pub left-one : (k : ℕ) (w : World State) → HasLeft w.spent (suc k) → HasLeft w.spent 1
 left-one k w left =
     let ha : w.spent.asks + suc k ≤ most_asks = left.asks in
+    let hf : w.spent.fetches + (suc k + 1) * most_sheets ≤ most_fetches = left.fetches in
     let hr : w.spent.raws + suc k ≤ most_asks = left.raws in
     let ht : w.spent.turns + suc k ≤ most_asks = left.turns in
-    record { asks = omega (arith, ha); raws = omega (arith, hr); turns = omega (arith, ht) }
+    record { asks = omega (arith, ha); fetches = omega (arith, hf); raws = omega (arith, hr); turns = omega (arith, ht) }
 
 fits-lines : (n : ℕ) (lines : List LineForm) (w : World State) → AreLater lines → HasLeft w.spent (length lines) → Fits w → Fits (after_lines (take n lines) w)
 fits-lines zero lines w later left fits = fits
@@ -137,7 +140,7 @@ fits-lines (suc n) (line ∷ lines) w later left fits =
 
 -- nothing was spent at the start
 pub left-first : (nodes : Nodes Label) (k : ℕ) → k ≤ most_asks → HasLeft (loaded_world nodes).spent k
-left-first nodes k few = record { asks = omega (arith, few); raws = omega (arith, few); turns = omega (arith, few) }
+left-first nodes k few = record { asks = omega (arith, few); fetches = omega (arith, few); raws = omega (arith, few); turns = omega (arith, few) }
 
 pub lines-fit : LinesFit
 lines-fit nodes lines can texts later few n = fits-lines n lines (loaded_world nodes) later (left-first nodes (length lines) few) (fits-loaded nodes can texts)
@@ -157,18 +160,6 @@ deliveries-fit w n fits = (
   fits-delivered_up replay IsNext IsNextTurn IsFit world_laws (first_value []) n w fits,
   fits-delivered_down replay IsNext IsNextTurn IsFit world_laws (first_value []) n w fits,
 )
-
--- nothing is on its way after all was given
-pub given-all : (s : Stream) → (passed (length s.flying) s).flying ≡ []
-given-all s = drop_all (length s.flying) s.flying (omega arith)
-
-sent-all : (s : Stream) → s.flying ≡ [] → sent s ≡ s.given
-sent-all s still = ap (λ bytes. s.given ++ bytes) still ∙ append-nil s.given
-
--- no frame is awaited where nothing is held and nothing is on its way
-awaited-none : (s : Stream) → s.flying ≡ [] → held s ≡ [] → awaited s ≡ []
-unfolding frames_of
-awaited-none s still empty = ap (λ bytes. frames_from (held s) bytes) still ∙ ap (λ rest. frames_from rest []) empty
 
 pub settled-shows : SettledShows
 settled-shows w fits =

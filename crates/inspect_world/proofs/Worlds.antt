@@ -21,6 +21,14 @@ pub rest-after : (before more : List ℕ) → (frames_of before).rest ≡ []
 rest-after before more none =
     ap (λ fs. fs.rest) (frames_of-append before more) ∙ ap (λ rest. held_after rest more) none
 
+-- the frames of a stream on which one frame more was put
+pub whole-framed : (text : List ℕ) (s : Stream) → IsText text → (frames_of (sent s)).rest ≡ []
+    → (frames_of (sent (put (framed text) s))).whole ≡ (frames_of (sent s)).whole ++ text ∷ []
+whole-framed text s letters none =
+    ap (λ bytes. (frames_of bytes).whole) (sym (append_assoc s.given s.flying (framed text)))
+    ∙ whole-after (sent s) (framed text) none
+    ∙ ap (λ fs. (frames_of (sent s)).whole ++ fs.whole) (frames_of-one text letters)
+
 -- nothing is sent
 pub put-nil : (s : Stream) → put [] s ≡ s
 put-nil s = ap (λ bytes. record { given = s.given; flying = bytes }) (append-nil s.flying)
@@ -48,10 +56,7 @@ module _ {S F E X : Type 0} (machine : Machine S F E X) (IsNext : Spent → List
   pub fits-sent_up : (start : F) (ask : List ℕ) (more : Spent → Spent) (w : World S) → IsText ask → IsNext w.spent ask (more w.spent)
       → Fits machine.take machine.join Fit start w → Fits machine.take machine.join Fit start (sent_up ask more w)
   fits-sent_up start ask more w letters is_next fits =
-      let all : (frames_of (sent (sent_up ask more w).up)).whole ≡ (frames_of (sent w.up)).whole ++ ask ∷ [] =
-      ap (λ bytes. (frames_of bytes).whole) (sym (append_assoc w.up.given w.up.flying (framed ask)))
-      ∙ whole-after (sent w.up) (framed ask) fits.up_whole
-      ∙ ap (λ fs. (frames_of (sent w.up)).whole ++ fs.whole) (frames_of-one ask letters) in
+      let all : (frames_of (sent (sent_up ask more w).up)).whole ≡ (frames_of (sent w.up)).whole ++ ask ∷ [] = whole-framed ask w.up letters fits.up_whole in
       let none : held_after (held w.up) w.up.flying ≡ [] = sym (rest-sent w.up) ∙ fits.up_whole in
       let last : awaited (sent_up ask more w).up ≡ awaited w.up ++ ask ∷ [] =
       frames_from-append (held w.up) w.up.flying (framed ask)

@@ -49,6 +49,14 @@ join v frame = with_ask v (ask_in frame)
 abbrev pub most_asks : ℕ
 most_asks = 2 ^ 26
 
+-- how many sheets a page has at most
+abbrev pub most_sheets : ℕ
+most_sheets = 1000
+
+-- how many fetches a script can come to at most: in each settle, and in the closing one, one for each sheet of a page
+abbrev pub most_fetches : ℕ
+most_fetches = (most_asks + 1) * most_sheets
+
 -- a frame that names no ask, and to which the back end answers with an error reply without an id
 pub record IsBare (frame : List ℕ) : Type 0 where
   pub no_ask : ask_in frame ≡ None
@@ -80,9 +88,11 @@ pub record IsNextTurn (n : Spent) (x : Turn) : Type 0 where
   pub is_turn : IsTurn x
   pub few : n.turns + 1 ≤ most_asks
 
--- so many lines more may be carried out, each of which sends a frame or makes a step of the script at most
+-- So many lines more may be carried out, each of which sends a frame, makes a step of the script or fetches the texts of a page
+-- at most; and after them the texts may be fetched once more.
 pub record HasLeft (n : Spent) (lines : ℕ) : Type 0 where
   pub asks : n.asks + lines ≤ most_asks
+  pub fetches : n.fetches + (lines + 1) * most_sheets ≤ most_fetches
   pub raws : n.raws + lines ≤ most_asks
   pub turns : n.turns + lines ≤ most_asks
 

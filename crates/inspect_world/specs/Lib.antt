@@ -1,6 +1,9 @@
 pub mod Stream
 pub mod World
 pub mod Fold
+pub mod Fetches
+pub mod Agreement
+pub mod Keeping
 pub mod Carried
 pub mod Fits
 pub mod Held
@@ -8,4 +11,5 @@ pub mod ShownReplies
 pub mod ActTexts
 pub mod Scripts
 pub mod ScriptsFit
+pub mod FreshRuns
 pub mod Links

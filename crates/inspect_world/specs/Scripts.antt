@@ -26,23 +26,31 @@ sends a w = asked (command_text (w.spent.asks + 1) a.method a.params a.session) 
 abbrev pub all_told : World State → World State
 all_told w = record { state = w.state; up = w.up; down = w.down; spent = w.spent; told = length (replies_in w.down.given) }
 
--- the run after a line; an act that is refused leaves the state as it is
-abbrev pub after_line : LineForm → World State → World State
-after_line (load nodes) w = turned turn (loads nodes) w
-after_line (forms.act a) w = turned turn (acts a) w
-after_line (ask a) w = sends a w
-after_line (forms.raw text) w = raw text w
-after_line (up n) w = delivered_up step n w
-after_line (down n) w = delivered_down n w
-after_line settle w = settled step w
-after_line show_front w = settled step w
-after_line show_page w = w
-after_line show_replies w = all_told (settled step w)
+-- The run after a line, by what a settle does to a run; an act that is refused leaves the state as it is.
+abbrev pub after_line_by : (World State → World State) → LineForm → World State → World State
+after_line_by settles (load nodes) w = turned turn (loads nodes) w
+after_line_by settles (forms.act a) w = turned turn (acts a) w
+after_line_by settles (ask a) w = sends a w
+after_line_by settles (forms.raw text) w = raw text w
+after_line_by settles (up n) w = delivered_up step n w
+after_line_by settles (down n) w = delivered_down n w
+after_line_by settles settle w = settles w
+after_line_by settles show_front w = settles w
+after_line_by settles show_page w = w
+after_line_by settles show_replies w = all_told (settles w)
 
 -- the run after some lines
+abbrev pub after_lines_by : (World State → World State) → List LineForm → World State → World State
+after_lines_by settles [] w = w
+after_lines_by settles (line ∷ lines) w = after_lines_by settles lines (after_line_by settles line w)
+
+-- the run after a line, as the report tells it: a settle delivers all that is on its way
+abbrev pub after_line : LineForm → World State → World State
+after_line line w = after_line_by (settled step) line w
+
+-- the run after some lines, as the report tells it
 abbrev pub after_lines : List LineForm → World State → World State
-after_lines [] w = w
-after_lines (line ∷ lines) w = after_lines lines (after_line line w)
+after_lines lines w = after_lines_by (settled step) lines w
 
 -- before the line after the load
 abbrev pub loaded_world : Nodes Label → World State

@@ -1,0 +1,216 @@
+-- The run of a script with the fetches of its settles goes together with the run that the report tells, line by line.
+use Rattle.std.proofs.Common.{◌≡◌, ℕ, zero, suc, ◌+◌, ◌*◌, ◌^◌, ◌<◌, ◌≤◌, List, [], ◌∷◌, length, take, map, Ok, sym, ◌∙◌, ap, subst, arith}
+use Rattle.std.specs.List.{All}
+use Rattle.node_tree.specs.Nodes.{Nodes}
+use Rattle.node_tree.specs.Labels.{Label}
+use Rattle.page_tree.specs.Forms.{CanLoad}
+use Rattle.page_forms.specs.Texts.{HaveTexts}
+use Rattle.pipe_frames.specs.Frames.{IsText, frames_of}
+use Rattle.cdp_messages.specs.Asked.{command_text}
+use Rattle.replay_script.specs.Forms as forms
+use Rattle.replay_script.specs.Forms.{AskForm, LineForm, load, ask, up, down, settle, show_front, show_page, show_replies}
+use Rattle.front_mirror.specs.Front.{FrontValue, first_value, take_frame}
+use Rattle.front_mirror.specs.Laws.{Has}
+use Rattle.back_end.specs.States.{State, loaded_state, view_of}
+use Rattle.back_end.specs.Steps.{Turn, acts, loads, step, turn}
+use Rattle.inspect_world.specs.Stream.{sent}
+use Rattle.inspect_world.specs.World.{World, Spent, one_ask, sent_up, turned, settled}
+use Rattle.inspect_world.specs.Fold.{folded, joined}
+use Rattle.inspect_world.specs.Fetches.{Fetcher, front_in, FetchLaws}
+use Rattle.inspect_world.specs.Agreement.{RunTogether}
+use Rattle.inspect_world.specs.Fits.{join, most_asks, most_sheets, most_fetches, HasLeft, IsBare, IsNext, next_raw, IsNextTurn, IsFit, replay}
+use Rattle.inspect_world.specs.Scripts.{sends, all_told, after_line, after_lines, loaded_world}
+use Rattle.inspect_world.specs.ScriptsFit.{CanSend, IsLater, AreLater}
+use Rattle.inspect_world.specs.ShownReplies.{told_of, replies_in}
+use Rattle.inspect_world.specs.FreshRuns.{refreshes, fresh_line, fresh_lines, Unstyled, unstyled, Together, FreshLinesFit, FreshInputsFit, RefreshedShows}
+use Rattle.inspect_world.proofs.Frames.{sent-all, sent-passed}
+use Rattle.inspect_world.proofs.FitLemmas.{world_laws}
+use Rattle.inspect_world.proofs.Messages.{IsText-sent, IsNext-sent}
+use Rattle.inspect_world.proofs.Scripts.{fit-first, fits-told, left-first, spent-on}
+use Rattle.inspect_world.proofs.Inputs.{input-script, Script}
+use Rattle.inspect_world.proofs.FetchLemmas.{IsRefreshed, refreshed-made, fit-rests}
+use Rattle.inspect_world.proofs.TogetherLemmas.{together-first, together-asked, together-raw, together-turned, together-delivered_up, together-delivered_down, together-settled}
+
+-- the asks of both runs are counted alike
+sent-alike : (a : AskForm) (w v : World State) → w.spent.asks ≡ v.spent.asks
+    → sends a v ≡ sent_up (command_text (w.spent.asks + 1) a.method a.params a.session) one_ask v
+sent-alike a w v same = ap (λ n. sent_up (command_text (n + 1) a.method a.params a.session) one_ask v) (sym same)
+
+-- a count of the one run is that of the other
+few-alike : (n m most : ℕ) → n ≡ m → m + 1 ≤ most → n + 1 ≤ most
+few-alike n m most same few = omega (arith, same, few)
+
+module _ (fetcher : Fetcher FrontValue) (IsPlain : List ℕ → Type 0)
+    (fetching : FetchLaws replay IsNext IsFit fetcher unstyled most_sheets most_fetches)
+    (plain-sent : (id : ℕ) (a : AskForm) → CanSend a → id < 2 ^ 53 → IsPlain (command_text id a.method a.params a.session))
+    (plain-bare : (text : List ℕ) → IsBare text → IsPlain text) where
+  -- both runs of a script
+  abbrev pub BothRuns : World State → World State → Type 0
+  BothRuns w v = RunTogether replay IsFit (first_value []) unstyled IsPlain w v
+
+  -- ---- a line
+
+  both-sent : (a : AskForm) (w v : World State) → CanSend a → HasLeft v.spent 1 → BothRuns w v → BothRuns (sends a w) (sends a v)
+  both-sent a w v can left both =
+      let few : w.spent.asks + 1 ≤ 2 ^ 26 = few-alike w.spent.asks v.spent.asks (2 ^ 26) both.agrees.asks left.asks in
+      let small : w.spent.asks + 1 < 2 ^ 53 = omega (arith, few) in
+      let text = command_text (w.spent.asks + 1) a.method a.params a.session in
+      let next1 : IsNext v.spent text (one_ask v.spent) =
+      subst (λ k. IsNext v.spent (command_text (k + 1) a.method a.params a.session) (one_ask v.spent)) (sym both.agrees.asks)
+      (IsNext-sent v.spent a can left.asks (subst (λ k. k + 1 < 2 ^ 53) both.agrees.asks small)) in
+      subst (λ u. BothRuns (sends a w) u) (sym (sent-alike a w v both.agrees.asks))
+      (together-asked replay IsNext IsNextTurn IsFit world_laws fetcher unstyled most_sheets most_fetches fetching IsPlain (first_value []) text w v
+      (IsText-sent (w.spent.asks + 1) a can small) (plain-sent (w.spent.asks + 1) a can small) (IsNext-sent w.spent a can few small) next1 both)
+
+  both-raw : (text : List ℕ) (w v : World State) → IsText text → IsBare text → HasLeft v.spent 1 → BothRuns w v → BothRuns (after_line (forms.raw text) w) (fresh_line fetcher (forms.raw text) v)
+  both-raw text w v letters bare left both =
+      together-raw replay IsNext IsNextTurn IsFit world_laws fetcher unstyled most_sheets most_fetches fetching IsPlain (first_value []) text w v letters
+      (plain-bare text bare) (next_raw bare (few-alike w.spent.raws v.spent.raws most_asks both.agrees.raws left.raws)) (next_raw bare left.raws) both
+
+  both-turned : (x : Turn) (w v : World State) → IsNextTurn v.spent x → BothRuns w v → BothRuns (turned turn x w) (turned turn x v)
+  both-turned x w v next both =
+      together-turned replay IsNext IsNextTurn IsFit world_laws fetcher unstyled most_sheets most_fetches fetching IsPlain (first_value []) x w v
+      (record { is_turn = next.is_turn; few = few-alike w.spent.turns v.spent.turns most_asks both.agrees.turns next.few }) next both
+
+  -- a settle, which fetches the texts of a page's sheets at most
+  room-fetches : (v : World State) (k : ℕ) → HasLeft v.spent k → v.spent.fetches + most_sheets ≤ most_fetches
+  room-fetches v k left = let room : v.spent.fetches + (k + 1) * most_sheets ≤ most_fetches = left.fetches in omega (arith, room)
+
+  both-settled : (w v : World State) → HasLeft v.spent 1 → BothRuns w v → BothRuns (settled step w) (refreshes fetcher v)
+  both-settled w v left both =
+      together-settled replay IsNext IsNextTurn IsFit world_laws fetcher unstyled most_sheets most_fetches fetching IsPlain (first_value []) w v
+      (room-fetches v 1 left) both
+
+  -- how many replies were told says nothing of the streams
+  both-told : (w v : World State) → BothRuns w v → BothRuns (all_told w) (all_told v)
+  both-told w v both = record {
+    fits = fits-told w _ both.fits;
+    fits_fresh = fits-told v _ both.fits_fresh;
+    agrees = record {
+      state = both.agrees.state;
+      up = both.agrees.up;
+      down = both.agrees.down;
+      asks = both.agrees.asks;
+      raws = both.agrees.raws;
+      turns = both.agrees.turns;
+      plain = both.agrees.plain;
+      fresh = both.agrees.fresh;
+      plain_is = both.agrees.plain_is;
+      fresh_is = both.agrees.fresh_is;
+      same = both.agrees.same;
+    };
+    plain = both.plain;
+  }
+
+  both-line : (line : LineForm) (w v : World State) → IsLater line → HasLeft v.spent 1 → BothRuns w v → BothRuns (after_line line w) (fresh_line fetcher line v)
+  both-line (load nodes) w v later left both = both-turned (loads nodes) w v (record { is_turn = later; few = left.turns }) both
+  both-line (forms.act a) w v later left both = both-turned (acts a) w v (record { is_turn = later; few = left.turns }) both
+  both-line (ask a) w v later left both = both-sent a w v later left both
+  both-line (forms.raw text) w v later left both = both-raw text w v later.0 later.1 left both
+  both-line (up n) w v later left both =
+      together-delivered_up replay IsNext IsNextTurn IsFit world_laws fetcher unstyled most_sheets most_fetches fetching IsPlain (first_value []) n w v both
+  both-line (down n) w v later left both =
+      together-delivered_down replay IsNext IsNextTurn IsFit world_laws fetcher unstyled most_sheets most_fetches fetching IsPlain (first_value []) n w v both
+  both-line settle w v later left both = both-settled w v left both
+  both-line show_front w v later left both = both-settled w v left both
+  both-line show_page w v later left both = both
+  both-line show_replies w v later left both = both-told (settled step w) (refreshes fetcher v) (both-settled w v left both)
+
+  -- ---- what a line spends
+
+  -- what a settle spends
+  settle-left : (w v : World State) (k : ℕ) → HasLeft v.spent (suc k) → BothRuns w v → HasLeft v.spent 1 → HasLeft (refreshes fetcher v).spent k
+  settle-left w v k left both one =
+      let made : IsRefreshed replay IsNext IsNextTurn IsFit world_laws fetcher unstyled most_sheets most_fetches fetching (first_value []) w v (refreshes fetcher v) =
+      refreshed-made replay IsNext IsNextTurn IsFit world_laws fetcher unstyled most_sheets most_fetches fetching (first_value []) w v
+      both.fits both.fits_fresh both.agrees (room-fetches v 1 one) in
+      let asks : (refreshes fetcher v).spent.asks ≡ v.spent.asks = sym made.agrees.asks ∙ both.agrees.asks in
+      let raws : (refreshes fetcher v).spent.raws ≡ v.spent.raws = sym made.agrees.raws ∙ both.agrees.raws in
+      let turns : (refreshes fetcher v).spent.turns ≡ v.spent.turns = sym made.agrees.turns ∙ both.agrees.turns in
+      spent-on k v.spent (refreshes fetcher v).spent (omega (arith, asks)) made.fetches (omega (arith, raws)) (omega (arith, turns)) left
+
+  line-left : (line : LineForm) (w v : World State) (k : ℕ) → HasLeft v.spent (suc k) → HasLeft v.spent 1 → BothRuns w v → HasLeft (fresh_line fetcher line v).spent k
+  line-left (load nodes) w v k left one both = spent-on k v.spent (fresh_line fetcher (load nodes) v).spent (omega arith) (omega arith) (omega arith) (omega arith) left
+  line-left (forms.act a) w v k left one both = spent-on k v.spent (fresh_line fetcher (forms.act a) v).spent (omega arith) (omega arith) (omega arith) (omega arith) left
+  line-left (ask a) w v k left one both = spent-on k v.spent (fresh_line fetcher (ask a) v).spent (omega arith) (omega arith) (omega arith) (omega arith) left
+  line-left (forms.raw text) w v k left one both = spent-on k v.spent (fresh_line fetcher (forms.raw text) v).spent (omega arith) (omega arith) (omega arith) (omega arith) left
+  line-left (up n) w v k left one both = spent-on k v.spent (fresh_line fetcher (up n) v).spent (omega arith) (omega arith) (omega arith) (omega arith) left
+  line-left (down n) w v k left one both = spent-on k v.spent (fresh_line fetcher (down n) v).spent (omega arith) (omega arith) (omega arith) (omega arith) left
+  line-left settle w v k left one both = settle-left w v k left both one
+  line-left show_front w v k left one both = settle-left w v k left both one
+  line-left show_page w v k left one both = spent-on k v.spent v.spent (omega arith) (omega arith) (omega arith) (omega arith) left
+  line-left show_replies w v k left one both = settle-left w v k left both one
+
+  -- room for so many lines is room for one
+  one-left : (n : Spent) (k : ℕ) → HasLeft n (suc k) → HasLeft n 1
+  one-left n k left =
+      let ha : n.asks + suc k ≤ most_asks = left.asks in
+      let hf : n.fetches + (suc k + 1) * most_sheets ≤ most_fetches = left.fetches in
+      let hr : n.raws + suc k ≤ most_asks = left.raws in
+      let ht : n.turns + suc k ≤ most_asks = left.turns in
+      record { asks = omega (arith, ha); fetches = omega (arith, hf); raws = omega (arith, hr); turns = omega (arith, ht) }
+
+  -- both runs are carried on by a line
+  pub together-line : (line : LineForm) (k : ℕ) (w v : World State) → IsLater line → Together IsPlain (suc k) w v
+      → Together IsPlain k (after_line line w) (fresh_line fetcher line v)
+  together-line line k w v later both =
+      let one = one-left v.spent k both.left in
+      record { runs = both-line line w v later one both.runs; left = line-left line w v k both.left one both.runs }
+
+  -- ---- all lines
+
+  both-lines : (n : ℕ) (lines : List LineForm) (w v : World State) → AreLater lines → Together IsPlain (length lines) w v
+      → BothRuns (after_lines (take n lines) w) (fresh_lines fetcher (take n lines) v)
+  both-lines zero lines w v later both = both.runs
+  both-lines (suc n) [] w v later both = both.runs
+  both-lines (suc n) (line ∷ lines) w v later both =
+      both-lines n lines (after_line line w) (fresh_line fetcher line v) later.1 (together-line line (length lines) w v later.0 both)
+
+  -- both runs begin with the load
+  pub together-loaded : (nodes : Nodes Label) (k : ℕ) → CanLoad nodes → HaveTexts nodes → k ≤ most_asks → Together IsPlain k (loaded_world nodes) (loaded_world nodes)
+  together-loaded nodes k can texts few = record {
+    runs =
+        together-first replay IsNext IsNextTurn IsFit world_laws fetcher unstyled most_sheets most_fetches fetching IsPlain (first_value []) (loaded_state nodes)
+        (fit-first nodes can texts);
+    left = left-first nodes k few;
+  }
+
+  pub fresh-lines-fit : FreshLinesFit fetcher IsPlain
+  fresh-lines-fit nodes lines can texts later few n =
+      both-lines n lines (loaded_world nodes) (loaded_world nodes) later (together-loaded nodes (length lines) can texts few)
+
+  pub fresh-inputs-fit : FreshInputsFit fetcher IsPlain
+  fresh-inputs-fit input nodes lines is few n =
+      let script : Script nodes lines (length input) = input-script input nodes lines is in
+      let a : length lines ≤ length input = script.rest.few in
+      fresh-lines-fit nodes lines script.can script.texts script.rest.later (omega (arith, a, few)) n
+
+  -- ---- after a settle
+
+  -- the frames that were sent are the same after a settle
+  settled-plain : (w : World State) → All IsPlain (frames_of (sent w.up)).whole → All IsPlain (frames_of (sent (settled step w).up)).whole
+  settled-plain w all = subst (λ bytes. All IsPlain (frames_of bytes).whole) (sym (sent-passed (length w.up.flying) w.up)) all
+
+  -- `kept`: a front end that has sent no fetch has kept the replies that came down
+  pub refreshed-shows : ((w : World State) (front : FrontValue) → All IsPlain (frames_of (sent w.up)).whole
+      → front_in replay (first_value []) w ≡ Ok front → map told_of front.replies ≡ replies_in w.down.given)
+      → RefreshedShows fetcher IsPlain
+  refreshed-shows kept w v both =
+      let made : IsRefreshed replay IsNext IsNextTurn IsFit world_laws fetcher unstyled most_sheets most_fetches fetching (first_value []) w v (refreshes fetcher v) =
+      refreshed-made replay IsNext IsNextTurn IsFit world_laws fetcher unstyled most_sheets most_fetches fetching (first_value []) w v
+      both.runs.fits both.runs.fits_fresh both.runs.agrees (room-fetches v 0 both.left) in
+      let v1 = refreshes fetcher v in
+      let front = made.agrees.fresh in
+      let fit : IsFit v1.spent front v1.state [] =
+      fit-rests replay IsNext IsNextTurn IsFit world_laws fetcher unstyled most_sheets most_fetches fetching (first_value []) v1 front made.fits made.rests made.agrees.fresh_is in
+      record {
+        front = front;
+        is_fold =
+            ap (λ bytes. folded take_frame (joined join (first_value []) (frames_of bytes).whole) (frames_of v1.down.given).whole) (sym (sent-all v1.up made.rests.up.flying))
+            ∙ made.agrees.fresh_is;
+        shows = subst (λ state. Has front (view_of state)) (sym made.agrees.state) fit.has;
+        fresh = made.none;
+        told = sym (ap (λ (u : Unstyled). map told_of u.replies) made.agrees.same) ∙ kept (settled step w) made.agrees.plain (settled-plain w both.runs.plain) made.agrees.plain_is;
+        waits = sym fit.asks;
+        whole = made.rests.down.held;
+      }

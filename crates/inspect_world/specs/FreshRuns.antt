@@ -1,0 +1,89 @@
+-- The run of a script with the fetches of its settles put into the streams, beside the run that the report tells.
+use Rattle.std.specs.Prelude.{◌≡◌, ℕ, ◌≤◌, List, [], ◌∷◌, length, take, map, Ok}
+use Rattle.node_tree.specs.Nodes.{Nodes}
+use Rattle.node_tree.specs.Labels.{Label}
+use Rattle.node_tree.specs.Seen.{Seen}
+use Rattle.page_tree.specs.Forms.{CanLoad}
+use Rattle.page_forms.specs.Texts.{HaveTexts}
+use Rattle.pipe_frames.specs.Frames.{frames_of}
+use Rattle.replay_script.specs.Forms.{LineForm, load}
+use Rattle.replay_script.specs.Script.{script_forms}
+use Rattle.front_mirror.specs.declared.replies.Ask.{Ask}
+use Rattle.front_mirror.specs.declared.replies.Kept.{Kept}
+use Rattle.front_mirror.specs.declared.pauses.SeenPause.{SeenPause}
+use Rattle.front_mirror.specs.Front.{FrontValue, first_value, take_frame}
+use Rattle.front_mirror.specs.Laws.{Has}
+use Rattle.back_end.specs.States.{State, view_of}
+use Rattle.back_end.specs.Steps.{step}
+use Rattle.inspect_world.specs.Stream.{held}
+use Rattle.inspect_world.specs.World.{World, settled}
+use Rattle.inspect_world.specs.Fold.{folded, joined}
+use Rattle.inspect_world.specs.Fetches.{Fetcher, refreshed}
+use Rattle.inspect_world.specs.Agreement.{RunTogether}
+use Rattle.inspect_world.specs.Fits.{join, most_asks, HasLeft, IsFit, replay}
+use Rattle.inspect_world.specs.ShownReplies.{told_of, replies_in}
+use Rattle.inspect_world.specs.Scripts.{after_line_by, after_lines_by, after_lines, loaded_world}
+use Rattle.inspect_world.specs.ScriptsFit.{AreLater}
+
+-- ---- the run with fetches
+
+-- a settle with its fetches
+abbrev pub refreshes : Fetcher FrontValue → World State → World State
+refreshes fetcher w = refreshed replay fetcher (first_value []) w
+
+-- the run after a line
+abbrev pub fresh_line : Fetcher FrontValue → LineForm → World State → World State
+fresh_line fetcher line w = after_line_by (refreshes fetcher) line w
+
+-- the run after some lines
+abbrev pub fresh_lines : Fetcher FrontValue → List LineForm → World State → World State
+fresh_lines fetcher lines w = after_lines_by (refreshes fetcher) lines w
+
+-- ---- that both go together
+
+-- what a front end has but for its sheets, and for how many messages it took
+pub record Unstyled : Type 0 where
+  pub tree : Nodes Seen
+  pub asks : List Ask
+  pub replies : List Kept
+  pub pauses : List SeenPause
+
+-- the same of a front end
+abbrev pub unstyled : FrontValue → Unstyled
+unstyled v = record { tree = v.tree; asks = v.asks; replies = v.replies; pauses = v.pauses }
+
+-- w is the run that the report tells, and v the same with fetches; so many lines more may be carried out
+pub record Together (IsPlain : List ℕ → Type 0) (lines : ℕ) (w v : World State) : Type 0 where
+  pub runs : RunTogether replay IsFit (first_value []) unstyled IsPlain w v
+  pub left : HasLeft v.spent lines
+
+-- With any page and any lines, as many as a script can have, and after any number of these lines: the two whole streams with
+-- the fetches fit the state, and both runs agree.
+abbrev pub FreshLinesFit : Fetcher FrontValue → (List ℕ → Type 0) → Type 0
+FreshLinesFit fetcher IsPlain =
+    (nodes : Nodes Label) (lines : List LineForm) → CanLoad nodes → HaveTexts nodes → AreLater lines → length lines ≤ most_asks → (n : ℕ)
+    → RunTogether replay IsFit (first_value []) unstyled IsPlain (after_lines (take n lines) (loaded_world nodes))
+    (fresh_lines fetcher (take n lines) (loaded_world nodes))
+
+-- with each input that a replay reads
+abbrev pub FreshInputsFit : Fetcher FrontValue → (List ℕ → Type 0) → Type 0
+FreshInputsFit fetcher IsPlain =
+    (input : List ℕ) (nodes : Nodes Label) (lines : List LineForm) → script_forms input ≡ load nodes ∷ lines → length input ≤ most_asks
+    → (n : ℕ) → RunTogether replay IsFit (first_value []) unstyled IsPlain (after_lines (take n lines) (loaded_world nodes))
+    (fresh_lines fetcher (take n lines) (loaded_world nodes))
+
+-- After a settle of both, the front end of the run with fetches shows exactly what the client sees, no text of a sheet is old,
+-- and it has kept just the replies that came down in the run without; it waits for no reply, and holds no part of a frame.
+pub record ShowsFresh (fetcher : Fetcher FrontValue) (w v : World State) : Type 0 where
+  pub front : FrontValue
+  pub is_fold : folded take_frame (joined join (first_value []) (frames_of v.up.given).whole) (frames_of v.down.given).whole ≡ Ok front
+  pub shows : Has front (view_of w.state)
+  pub fresh : fetcher.stale front ≡ []
+  pub told : map told_of front.replies ≡ replies_in w.down.given
+  pub waits : front.asks ≡ []
+  pub whole : held v.down ≡ []
+
+-- once all that is on its way has come, and the texts that were old were fetched
+abbrev pub RefreshedShows : Fetcher FrontValue → (List ℕ → Type 0) → Type 0
+RefreshedShows fetcher IsPlain =
+    (w v : World State) → Together IsPlain 0 w v → ShowsFresh fetcher (settled step w) (refreshes fetcher v)
