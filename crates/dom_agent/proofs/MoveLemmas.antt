@@ -14,7 +14,7 @@ use Rattle.cdp_messages.specs.declared.down.ReplyBody.TheVariants.{Nothing, Root
 use Rattle.cdp_messages.specs.DomAsks.{ask_name, fits_ask}
 use Rattle.cdp_messages.specs.Laws.{answers}
 use Rattle.cdp_messages.specs.Views.{ShownSheet, View}
-use Rattle.cdp_messages.specs.Moves.{root, replied, failed, tells_document, IsPlainReply, CanBeTold, Course, ends, goes}
+use Rattle.cdp_messages.specs.Moves.{root, replied, failed, tells_view, IsPlainReply, CanBeTold, Course, ends, goes}
 use Rattle.cdp_messages.specs.Told.{Told}
 use Rattle.dom_agent.specs.Requests.{Outcome, shows_root, served, refused, state_after, moves_of}
 use Rattle.dom_agent.specs.Laws.{session_outcome, CanTell, view_of, IsReplyTo, StepsAreMoves, RepliesAnswer}
@@ -22,27 +22,27 @@ use Rattle.dom_agent.proofs.StepLemmas.{CanSay, CanSpell, course-join, goes-few}
 use Rattle.dom_agent.proofs.OutcomeLemmas.{IsOther, either_ask, OutcomeGoes, asks-go, stays_session}
 use Rattle.dom_agent.proofs.TellableLemmas.{can_say}
 
--- the command's reply is no document
-abbrev TellsNoRoot : DomAsk → Type 0
-TellsNoRoot c = (b : Branch Told) → answers (ask_name c) (Root b) ≡ false
+-- the command's reply is no document, and no text of a sheet
+abbrev TellsNoView : DomAsk → Type 0
+TellsNoView c = ((b : Branch Told) → answers (ask_name c) (Root b) ≡ false) × ((text : List ℕ) → answers (ask_name c) (SheetText text) ≡ false)
 
--- a reply that is no document
-no_document : (c : DomAsk) (body : ReplyBody) → TellsNoRoot c → answers (ask_name c) body ≡ true → tells_document body ≡ false
-no_document c Nothing other is = refl
-no_document c (Root b) other is = let no_root : false ≡ true = sym (other b) ∙ is in absurd cc
-no_document c (Node b) other is = refl
-no_document c (NodeId node) other is = refl
-no_document c (NodeIds nodes) other is = refl
-no_document c (Attributes pairs) other is = refl
-no_document c (ClassNames names) other is = refl
-no_document c (SheetText text) other is = refl
-no_document c (Styles styles) other is = refl
-no_document c (Selectors selectors) other is = refl
-no_document c (Rule rule) other is = refl
-no_document c (Matched matched) other is = refl
+-- a reply that is neither
+is_no_view : (c : DomAsk) (body : ReplyBody) → TellsNoView c → answers (ask_name c) body ≡ true → tells_view body ≡ false
+is_no_view c Nothing other is = refl
+is_no_view c (Root b) other is = let is_told : false ≡ true = sym (other.0 b) ∙ is in absurd cc
+is_no_view c (Node b) other is = refl
+is_no_view c (NodeId node) other is = refl
+is_no_view c (NodeIds nodes) other is = refl
+is_no_view c (Attributes pairs) other is = refl
+is_no_view c (ClassNames names) other is = refl
+is_no_view c (SheetText text) other is = let is_told : false ≡ true = sym (other.1 text) ∙ is in absurd cc
+is_no_view c (Styles styles) other is = refl
+is_no_view c (Selectors selectors) other is = refl
+is_no_view c (Rule rule) other is = refl
+is_no_view c (Matched matched) other is = refl
 
-plain : (c : DomAsk) (id : ℕ) (body : ReplyBody) → TellsNoRoot c → is_counted id ≡ true → CanSpell body → answers (ask_name c) body ≡ true → IsPlainReply id body
-plain c id body other small spells is = record { id_fits = small; plain = no_document c body other is; fits = spells.fits; texts = spells.texts; levels = spells.levels }
+plain : (c : DomAsk) (id : ℕ) (body : ReplyBody) → TellsNoView c → is_counted id ≡ true → CanSpell body → answers (ask_name c) body ≡ true → IsPlainReply id body
+plain c id body other small spells is = record { id_fits = small; plain = is_no_view c body other is; fits = spells.fits; texts = spells.texts; levels = spells.levels }
 
 -- a reply alone
 replied_course : (id : ℕ) (body : ReplyBody) (v : View) → IsPlainReply id body → CanBeTold v → Course (replied id body ∷ []) v v
@@ -50,7 +50,7 @@ replied_course id body v is told = goes (replied id body) [] v v v told (refl, i
 
 module _ (page : State) (c : DomAsk) (w : Session) (id : ℕ) (sheets : List ShownSheet) (session : IsSession (alone page.tree) w) (can : CanTell page w) (small : is_counted id ≡ true)
     (say : CanSay (alone page.tree) (length w.pushed + node_count (alone page.tree)) sheets) where
-  moved : (out : Outcome Session) → TellsNoRoot c → OutcomeGoes page c w out → Course (moves_of id out) (view_of w page sheets) (view_of (state_after w out) page sheets)
+  moved : (out : Outcome Session) → TellsNoView c → OutcomeGoes page c w out → Course (moves_of id out) (view_of w page sheets) (view_of (state_after w out) page sheets)
   moved (shows_root z b) other g = absurd g
   moved (served p body) other g =
       let few : length p.state.pushed ≤ length w.pushed + node_count (alone page.tree) = goes-few (alone page.tree) w p.state p.shown g.0 in
@@ -64,15 +64,15 @@ module _ (page : State) (c : DomAsk) (w : Session) (id : ℕ) (sheets : List Sho
   document_moved depth z b told is =
       goes (root id b) [] (view_of w page sheets) (view_of z page sheets) (view_of z page sheets) (say w session (omega arith)) (is, small) (ends (view_of z page sheets) told)
 
-no_root : (c : DomAsk) → IsOther c → TellsNoRoot c
-no_root (GetDocument depth pierce) other b = absurd other
-no_root (RequestChildNodes id depth pierce) other b = refl
-no_root (PushByPath path) other b = refl
-no_root (PushBySerials serials) other b = refl
-no_root (QuerySelector id text) other b = refl
-no_root (QuerySelectorAll id text) other b = refl
-no_root (GetAttributes id) other b = refl
-no_root (DescribeNode id serial depth pierce) other b = refl
+tells_no_view : (c : DomAsk) → IsOther c → TellsNoView c
+tells_no_view (GetDocument depth pierce) other = absurd other
+tells_no_view (RequestChildNodes id depth pierce) other = (λ b. refl, λ text. refl)
+tells_no_view (PushByPath path) other = (λ b. refl, λ text. refl)
+tells_no_view (PushBySerials serials) other = (λ b. refl, λ text. refl)
+tells_no_view (QuerySelector id text) other = (λ b. refl, λ text. refl)
+tells_no_view (QuerySelectorAll id text) other = (λ b. refl, λ text. refl)
+tells_no_view (GetAttributes id) other = (λ b. refl, λ text. refl)
+tells_no_view (DescribeNode id serial depth pierce) other = (λ b. refl, λ text. refl)
 
 pub steps_are_moves : StepsAreMoves
 steps_are_moves page ask w id sheets valid fits session can small can_sheets =
@@ -83,7 +83,7 @@ steps_are_moves page ask w id sheets valid fits session can small can_sheets =
     let z : Session = document_opened d n w in
     document_moved page (GetDocument depth pierce) w id sheets session can small say depth z _
     (say z (stays_session page (GetDocument depth pierce) w valid h session) (omega (arith, length-append w.pushed (known (above d n) n), length-known (above d n) n))) refl))
-    (λ c other h. moved page c w id sheets session can small say (session_outcome page c w) (no_root c other) (asks-go page valid c other w session))
+    (λ c other h. moved page c w id sheets session can small say (session_outcome page c w) (tells_no_view c other) (asks-go page valid c other w session))
     ask fits
 
 -- ---- the reply
