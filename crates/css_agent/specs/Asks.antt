@@ -1,7 +1,10 @@
 -- What each command of the domain CSS that edits nothing comes to: a result, or why it is refused. The page's tree and the
 -- numbers, origins and texts of the book's sheets tell it.
-use Rattle.std.specs.Prelude.{ℕ, List, option_and_then, Option, Some, None, Result, Ok, Err}
+use Rattle.std.specs.Prelude.{ℕ, List, option_and_then, Option, Some, None, IsSome, Result, Ok, Err, ⊤}
 use Rattle.css_objects.specs.Sheets.{sheet_in}
+use Rattle.node_tree.specs.Nodes.{Branch}
+use Rattle.page_tree.specs.Pages.{Row, find_in}
+use Rattle.page_tree.specs.Zippers.{zipper_at}
 use Rattle.sheet_reader.specs.declared.book.SheetEntry.{SheetEntry}
 use Rattle.sheet_reader.specs.Books.{entry_of}
 use Rattle.cdp_messages.specs.declared.command.Command.{Command}
@@ -14,6 +17,7 @@ use Rattle.cdp_messages.specs.Moves.{Move, replied, failed}
 use Rattle.css_agent.specs.declared.asks.CssAsk.{CssAsk}
 use Rattle.css_agent.specs.declared.asks.CssAsk.TheVariants as ask
 use Rattle.css_agent.specs.ClassNames.{class_names}
+use Rattle.css_agent.specs.MatchedStyles.{matched_styles}
 
 -- what the agent is asked by a command, if it is one that edits nothing
 abbrev pub css_ask_in : Command → Option CssAsk
@@ -38,7 +42,7 @@ css_ask_in Undo = None
 css_ask_in Redo = None
 css_ask_in CssEnable = None
 css_ask_in CssDisable = None
-css_ask_in (GetMatchedStyles node) = None
+css_ask_in (GetMatchedStyles id) = Some (ask.GetMatchedStyles id)
 css_ask_in (GetStyleSheetText sheet) = Some (ask.GetStyleSheetText sheet)
 css_ask_in (CollectClassNames sheet) = Some (ask.CollectClassNames sheet)
 css_ask_in (SetStyleTexts edits) = None
@@ -55,20 +59,27 @@ abbrev pub sheet_named : List ℕ → List SheetEntry → Option SheetEntry
 sheet_named text book = option_and_then (λ id. entry_of id book) (sheet_in text)
 
 -- what a command comes to
-abbrev pub Outcome : Type 0
-Outcome = Result ReplyBody Why
+abbrev pub CssOutcome : Type 0
+CssOutcome = Result ReplyBody Why
 
 -- what is told of the sheet, if there is one
-abbrev pub if_sheet : (SheetEntry → ReplyBody) → Option SheetEntry → Outcome
+abbrev pub if_sheet : (SheetEntry → ReplyBody) → Option SheetEntry → CssOutcome
 if_sheet told None = Err NoSheet
 if_sheet told (Some e) = Ok (told e)
 
--- each command
-abbrev pub outcome_of : List SheetEntry → CssAsk → Outcome
-outcome_of book (ask.GetStyleSheetText sheet) = if_sheet (λ e. body.SheetText e.text) (sheet_named sheet book)
-outcome_of book (ask.CollectClassNames sheet) = if_sheet (λ e. body.ClassNames (class_names e.text)) (sheet_named sheet book)
+-- the node that the command asks for is one of the tree: that with this serial
+abbrev pub NodeIsThere : ℕ → Branch Row → CssAsk → Type 0
+NodeIsThere node tree (ask.GetMatchedStyles id) = IsSome (find_in node tree)
+NodeIsThere node tree (ask.GetStyleSheetText sheet) = ⊤
+NodeIsThere node tree (ask.CollectClassNames sheet) = ⊤
+
+-- each command, where the node that it asks for, if it asks for one, has this serial in the tree
+abbrev pub css_outcome : Branch Row → List SheetEntry → ℕ → CssAsk → CssOutcome
+css_outcome tree book node (ask.GetMatchedStyles id) = Ok (body.Matched (matched_styles book (zipper_at node tree)))
+css_outcome tree book node (ask.GetStyleSheetText sheet) = if_sheet (λ e. body.SheetText e.text) (sheet_named sheet book)
+css_outcome tree book node (ask.CollectClassNames sheet) = if_sheet (λ e. body.ClassNames (class_names e.text)) (sheet_named sheet book)
 
 -- the move that answers the command with that id
-abbrev pub answer_move : ℕ → Outcome → Move
+abbrev pub answer_move : ℕ → CssOutcome → Move
 answer_move id (Ok result) = replied id result
 answer_move id (Err why) = failed (record { id = Some id; why = why })

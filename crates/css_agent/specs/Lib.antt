@@ -1,3 +1,6 @@
 pub mod Told
 pub mod ClassNames
+pub mod Texts
+pub mod RuleObjects
+pub mod MatchedStyles
 pub mod Asks

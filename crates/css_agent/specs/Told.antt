@@ -23,12 +23,12 @@ abbrev pub units_in : List ℕ → ℕ
 units_in text = sum_by units_at text
 
 -- what is told of a sheet as it comes: how long its text is, where it comes from, and its number
-abbrev pub header_of : SheetEntry → Header
-header_of e = record { length = units_in e.text; origin = told_origin e.origin; sheet = e.id }
+abbrev pub told_header : SheetEntry → Header
+told_header e = record { length = units_in e.text; origin = told_origin e.origin; sheet = e.id }
 
 -- the message that tells that a sheet comes
 abbrev pub added_message : SheetEntry → Message
-added_message e = event (sheet_added (header_of e))
+added_message e = event (sheet_added (told_header e))
 
 -- the messages that a turn of the domain sends, from what it was to what it is: where it comes on, each sheet of the book comes, in order
 abbrev pub turn_messages : Bool → Bool → List SheetEntry → List Message
@@ -39,9 +39,9 @@ abbrev pub event_messages : Bool → News → List Message
 event_messages on news = cond on (event news ∷ []) []
 
 -- the text of a message as one frame, with its zero byte
-abbrev pub frame_of : Message → List ℕ
-frame_of m = ended (compact_text (message_data m))
+abbrev pub message_frame : Message → List ℕ
+message_frame m = ended (compact_text (message_data m))
 
 -- the frames of messages, one after the other
-abbrev pub frames_of : List Message → List ℕ
-frames_of ms = flat_map frame_of ms
+abbrev pub message_frames : List Message → List ℕ
+message_frames ms = flat_map message_frame ms

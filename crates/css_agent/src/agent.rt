@@ -1,13 +1,14 @@
 ghost use Rattle.std.specs.Prelude.{◌≡◌, ◌++◌, [], ◌∷◌, false, OnOk, OnErr};
 ghost use Rattle.cdp_messages.specs.Moves.{frames_of_moves};
 ghost use Rattle.cdp_messages.specs.Events.{news_of};
-ghost use Rattle.css_agent.specs.Told.{turn_messages, event_messages, frames_of};
-ghost use Rattle.css_agent.specs.Asks.{outcome_of, answer_move};
+ghost use Rattle.css_agent.specs.Told.{turn_messages, event_messages, message_frames};
+ghost use Rattle.css_agent.specs.Asks.{NodeIsThere, css_outcome, answer_move};
 
 use crate::asks::CssAsk;
 use crate::frames::{answer, tell_sheets_if};
-use crate::outcomes::outcome_of;
+use crate::outcomes::css_outcome;
 use cdp_messages::{Event, write_event};
+use page_tree::Page;
 use sheet_reader::SheetBook;
 use std::alloc::{AllocError, Global};
 use std::marker::Model;
@@ -51,7 +52,7 @@ impl CssAgent {
         out: &mut Vec<u8>,
     ) -> Result<(), AllocError>
         ensures on { OnOk result (self.new ≡ on) }
-        ensures sent { OnOk result (out.new.items ≡ out.old.items ++ frames_of (turn_messages self.old on book.now)) }
+        ensures sent { OnOk result (out.new.items ≡ out.old.items ++ message_frames (turn_messages self.old on book.now)) }
         ensures unchanged { OnErr result (self.new ≡ self.old) }
     {
         let comes = on && !self.on;
@@ -62,7 +63,7 @@ impl CssAgent {
 
     /// Appends the event where the domain is on, and nothing where it is off.
     pub fn tell(&self, event: &Event, out: &mut Vec<u8>) -> Result<(), AllocError>
-        ensures sent { OnOk result (out.new.items ≡ out.old.items ++ frames_of (event_messages self.now (news_of event.now))) }
+        ensures sent { OnOk result (out.new.items ≡ out.old.items ++ message_frames (event_messages self.now (news_of event.now))) }
         ensures unsent { OnErr result (out.new.items ≡ out.old.items) }
     {
         if !self.on {
@@ -71,18 +72,22 @@ impl CssAgent {
         write_event(self.alloc, event, out)
     }
 
-    /// Appends what answers the command: the reply, or the error reply where it is refused.
+    /// Appends what answers the command, which has that id: the reply, or the error reply where it is refused. Where the command
+    /// names a node, `node` is its serial.
     pub fn ask(
         &self,
+        page: &Page,
         book: &SheetBook,
+        node: u64,
         id: u64,
         ask: &CssAsk,
         out: &mut Vec<u8>,
     ) -> Result<(), AllocError>
+        requires { NodeIsThere node page.now.tree ask.now }
         ensures { OnOk result (out.new.items
-            ≡ out.old.items ++ frames_of_moves (answer_move id (outcome_of book.now ask.now) ∷ [])) }
+            ≡ out.old.items ++ frames_of_moves (answer_move id (css_outcome page.now.tree book.now node ask.now) ∷ [])) }
     {
-        let outcome = outcome_of(self.alloc, book, ask)?;
+        let outcome = css_outcome(self.alloc, page, book, node, ask)?;
         answer(self.alloc, id, &outcome, out)
     }
 }

@@ -7,6 +7,8 @@ use cdp_messages::{Command, Text};
 /// A command of the domain CSS that edits nothing, with its parameters, as they stand in the command.
 #[derive(Drop, Debug)]
 pub enum CssAsk {
+    /// `CSS.getMatchedStylesForNode`: the node is named by its id.
+    GetMatchedStyles { node: u64 },
     /// `CSS.getStyleSheetText`
     GetStyleSheetText { sheet: Text },
     /// `CSS.collectClassNames`
@@ -19,6 +21,7 @@ impl CssAsk {
         ensures { result ≡ css_ask_in command }
     {
         match command {
+            Command::GetMatchedStyles { node } => Some(CssAsk::GetMatchedStyles { node }),
             Command::GetStyleSheetText { sheet } => Some(CssAsk::GetStyleSheetText { sheet }),
             Command::CollectClassNames { sheet } => Some(CssAsk::CollectClassNames { sheet }),
             Command::DomEnable
@@ -42,7 +45,6 @@ impl CssAsk {
             | Command::Redo
             | Command::CssEnable
             | Command::CssDisable
-            | Command::GetMatchedStyles { .. }
             | Command::SetStyleTexts { .. }
             | Command::SetRuleSelector { .. }
             | Command::SetStyleSheetText { .. }

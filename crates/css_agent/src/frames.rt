@@ -2,25 +2,25 @@
 ghost use Rattle.std.specs.Prelude.{◌≡◌, ◌++◌, cond, [], ◌∷◌, map, OnOk};
 ghost use Rattle.cdp_messages.specs.Moves.{frames_of_moves};
 ghost use Rattle.sheet_reader.specs.Books.{IsEntry};
-ghost use Rattle.css_agent.specs.Told.{added_message, frames_of};
+ghost use Rattle.css_agent.specs.Told.{added_message, message_frames};
 ghost use Rattle.css_agent.specs.Asks.{answer_move};
 
-use crate::headers::header_of;
+use crate::headers::told_header;
 use cdp_messages::{Event, Refused, ReplyBody, Why, write_event, write_refused, write_reply};
 use sheet_reader::{SheetBook, SheetEntry};
 use std::alloc::{AllocError, Global};
 
 fn tell_sheet(alloc: Global, entry: &SheetEntry, out: &mut Vec<u8>) -> Result<(), AllocError>
     requires { IsEntry entry.now }
-    ensures { OnOk result (out.new.items ≡ out.old.items ++ frames_of (added_message entry.now ∷ [])) }
+    ensures { OnOk result (out.new.items ≡ out.old.items ++ message_frames (added_message entry.now ∷ [])) }
 {
-    let header = header_of(entry);
+    let header = told_header(entry);
     write_event(alloc, &Event::StyleSheetAdded { header }, out)?;
     Ok(())
 }
 
 fn tell_sheets(alloc: Global, book: &SheetBook, out: &mut Vec<u8>) -> Result<(), AllocError>
-    ensures { OnOk result (out.new.items ≡ out.old.items ++ frames_of (map added_message book.now)) }
+    ensures { OnOk result (out.new.items ≡ out.old.items ++ message_frames (map added_message book.now)) }
 {
     for i in 0..book.len() {
         tell_sheet(alloc, book.at(i), out)?;
@@ -35,7 +35,7 @@ pub(crate) fn tell_sheets_if(
     book: &SheetBook,
     out: &mut Vec<u8>,
 ) -> Result<(), AllocError>
-    ensures { OnOk result (out.new.items ≡ out.old.items ++ frames_of (cond comes (map added_message book.now) [])) }
+    ensures { OnOk result (out.new.items ≡ out.old.items ++ message_frames (cond comes (map added_message book.now) [])) }
 {
     if comes {
         tell_sheets(alloc, book, out)?;

@@ -1,7 +1,7 @@
 // What is told of a sheet as it comes.
 ghost use Rattle.std.specs.Prelude.{◌≡◌};
 ghost use Rattle.sheet_reader.specs.Books.{IsEntry};
-ghost use Rattle.css_agent.specs.Told.{told_origin, header_of};
+ghost use Rattle.css_agent.specs.Told.{told_origin, told_header};
 
 use crate::units::units_in;
 use css_objects::{Header, SheetOrigin};
@@ -16,9 +16,9 @@ pub(crate) fn told_origin(origin: Origin) -> SheetOrigin
     }
 }
 
-pub(crate) fn header_of(entry: &SheetEntry) -> Header
+pub(crate) fn told_header(entry: &SheetEntry) -> Header
     requires { IsEntry entry.now }
-    ensures { result ≡ header_of entry.now }
+    ensures { result ≡ told_header entry.now }
 {
     Header {
         length: units_in(entry.text.as_str()),

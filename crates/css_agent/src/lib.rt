@@ -6,7 +6,11 @@ mod asks;
 mod class_names;
 mod frames;
 mod headers;
+mod matched_styles;
 mod outcomes;
+mod rulers;
+mod rules;
+mod styles;
 mod units;
 
 pub use agent::CssAgent;

@@ -1,14 +1,18 @@
 // What each command that edits nothing comes to.
-ghost use Rattle.std.specs.Prelude.{◌≡◌, IfOk, IfSome};
+ghost use Rattle.std.specs.Prelude.{◌≡◌, Ok, IfOk, IfSome};
 ghost use Rattle.std.specs.Option.{option_copied};
 ghost use Rattle.sheet_reader.specs.Books.{IsEntry};
-ghost use Rattle.css_agent.specs.declared.asks.CssAsk.TheVariants.{GetStyleSheetText, CollectClassNames};
-ghost use Rattle.css_agent.specs.Asks.{sheet_named, outcome_of};
+ghost use Rattle.cdp_messages.specs.declared.down.ReplyBody.TheVariants.{ClassNames, SheetText, Matched};
+ghost use Rattle.css_agent.specs.ClassNames.{class_names};
+ghost use Rattle.css_agent.specs.MatchedStyles.{matched_styles};
+ghost use Rattle.css_agent.specs.Asks.{if_sheet, sheet_named, NodeIsThere, css_outcome};
 
 use crate::asks::CssAsk;
 use crate::class_names::class_names;
+use crate::matched_styles::matched_styles;
 use cdp_messages::{Listed, ReplyBody, Why};
 use css_objects::sheet_in;
+use page_tree::{NodeRef, Page};
 use sheet_reader::{SheetBook, SheetEntry};
 use std::alloc::{AllocError, Global};
 
@@ -21,8 +25,8 @@ fn sheet_named<'a>(book: &'a SheetBook, text: &str) -> Option<&'a SheetEntry>
     book.get(id)
 }
 
-fn text_of(book: &SheetBook, sheet: &str) -> Result<Result<ReplyBody, Why>, AllocError>
-    ensures { IfOk result (λ o. o ≡ outcome_of book.now (GetStyleSheetText sheet.now)) }
+fn told_text(book: &SheetBook, sheet: &str) -> Result<Result<ReplyBody, Why>, AllocError>
+    ensures { IfOk result (λ o. o ≡ if_sheet (λ e. SheetText e.text) (sheet_named sheet.now book.now)) }
 {
     let Some(entry) = sheet_named(book, sheet) else {
         return Ok(Err(Why::NoSheet));
@@ -30,12 +34,12 @@ fn text_of(book: &SheetBook, sheet: &str) -> Result<Result<ReplyBody, Why>, Allo
     Ok(Ok(ReplyBody::SheetText(entry.text.try_clone()?)))
 }
 
-fn class_names_of(
+fn told_class_names(
     alloc: Global,
     book: &SheetBook,
     sheet: &str,
 ) -> Result<Result<ReplyBody, Why>, AllocError>
-    ensures { IfOk result (λ o. o ≡ outcome_of book.now (CollectClassNames sheet.now)) }
+    ensures { IfOk result (λ o. o ≡ if_sheet (λ e. ClassNames (class_names e.text)) (sheet_named sheet.now book.now)) }
 {
     let Some(entry) = sheet_named(book, sheet) else {
         return Ok(Err(Why::NoSheet));
@@ -44,16 +48,31 @@ fn class_names_of(
     Ok(Ok(ReplyBody::ClassNames(Listed::new(names))))
 }
 
-/// The result of the command, or why it is refused.
-pub(crate) fn outcome_of(
+fn told_matched(
     alloc: Global,
     book: &SheetBook,
+    node: NodeRef<'_>,
+) -> Result<Result<ReplyBody, Why>, AllocError>
+    ensures { IfOk result (λ o. o ≡ Ok (Matched (matched_styles book.now node.entry))) }
+{
+    let styles = matched_styles(alloc, book, node)?;
+    Ok(Ok(ReplyBody::Matched(styles)))
+}
+
+/// The result of the command, or why it is refused.
+pub(crate) fn css_outcome(
+    alloc: Global,
+    page: &Page,
+    book: &SheetBook,
+    node: u64,
     ask: &CssAsk,
 ) -> Result<Result<ReplyBody, Why>, AllocError>
-    ensures { IfOk result (λ o. o ≡ outcome_of book.now ask.now) }
+    requires { NodeIsThere node page.now.tree ask.now }
+    ensures { IfOk result (λ o. o ≡ css_outcome page.now.tree book.now node ask.now) }
 {
     match ask {
-        CssAsk::GetStyleSheetText { sheet } => text_of(book, sheet.as_str()),
-        CssAsk::CollectClassNames { sheet } => class_names_of(alloc, book, sheet.as_str()),
+        CssAsk::GetMatchedStyles { node: _ } => told_matched(alloc, book, page.node_ref(node)),
+        CssAsk::GetStyleSheetText { sheet } => told_text(book, sheet.as_str()),
+        CssAsk::CollectClassNames { sheet } => told_class_names(alloc, book, sheet.as_str()),
     }
 }

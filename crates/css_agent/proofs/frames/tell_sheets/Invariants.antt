@@ -1,7 +1,7 @@
 -- What is sent and the sheets that are left make up the whole.
 use Rattle.std.proofs.Common.{◌≡◌, ◌++◌, map, drop}
-use Rattle.css_agent.specs.Told.{added_message, frames_of}
+use Rattle.css_agent.specs.Told.{added_message, message_frames}
 use Rattle.css_agent.proofs.frames.tell_sheets.Given as goal
 
 abbrev pub invariant-loop-i : goal.invariant-loop-i
-invariant-loop-i l = l.out.items ++ frames_of (map added_message (drop l.i l.book)) ≡ l.initial.out.items ++ frames_of (map added_message l.book)
+invariant-loop-i l = l.out.items ++ message_frames (map added_message (drop l.i l.book)) ≡ l.initial.out.items ++ message_frames (map added_message l.book)
