@@ -332,7 +332,13 @@ impl Known {
     {
         match take_ask(&mut self.asks, id) {
             Some(Ask { sheet: Some(_), .. }) => self.count(),
-            Some(Ask { method, sheet: None, .. }) => self.keep(Some(id), Some(method), frame, good),
+            Some(
+                Ask {
+                    method,
+                    sheet: None,
+                    ..
+                },
+            ) => self.keep(Some(id), Some(method), frame, good),
             None => self.keep(Some(id), None, frame, good),
         }
     }

@@ -2,7 +2,6 @@
 use Rattle.std.proofs.Common.{◌≡◌, ℕ, ◌==◌, Bool, true, false, cond, List, [], ◌∷◌, ◌++◌, Option, Some, None, option_and_then, refl, ap}
 use Rattle.std.specs.Prelude.{⊤}
 use Rattle.front_mirror.specs.declared.replies.Ask.{Ask}
-use Rattle.front_mirror.specs.declared.replies.Kept.{Kept}
 use Rattle.front_mirror.specs.Front.{FrontValue, ask_under, method_of, fetched_sheet, without, kept, unless_fetch, kept_reply}
 use Rattle.front_mirror.specs.Laws.{without_all}
 use Rattle.inspect_world.specs.Fold.{joined}
