@@ -10,7 +10,8 @@ use Rattle.inspect_replay.specs.declared.status.Status.{Status}
 use Rattle.inspect_replay.specs.declared.status.Status.TheVariants as status
 use Rattle.inspect_replay.specs.declared.stop.Stop.{Stop}
 use Rattle.inspect_replay.specs.declared.stop.Stop.TheVariants.{Line, TooLong, ReadFault, WriteFault, LinkFault, FrontRefused, Memory}
-use Rattle.std.specs.Result.{IsOk}
+use Rattle.std.specs.Result.{IsOk, IsErrAnd}
+use Rattle.std.proofs.lemmas.Result.{err_from_is_err_and}
 use Rattle.front_mirror.specs.declared.faults.FrontFault.{FrontFault}
 use Rattle.front_mirror.specs.Front.{FrontValue}
 use Rattle.inspect_replay.specs.Followed.{StatusFolds}
@@ -174,6 +175,14 @@ nothing-served left taken = record {
   read = Consumes-nil left;
   wrote = record { part = []; rest = served []; whole = refl; wrote = Appends-nil taken };
 }
+
+-- no memory was left to begin with
+pub nothing-begun : {T : Type 0} (result : Result T Stop) (left taken : Option (List ℕ)) → IsErrAnd result (λ stop. stop ≡ Memory)
+    → HasServed (record { left_before = left; left_after = left; taken_before = taken; taken_after = taken }) result
+nothing-begun result left taken lost =
+    let p = err_from_is_err_and result lost in
+    let is : result ≡ Err Memory = p.1 ∙ ap (λ (stop : Stop). Err stop) p.2 in
+    subst (λ (r : Result _ Stop). HasServed (record { left_before = left; left_after = left; taken_before = taken; taken_after = taken }) r) (sym is) (nothing-served left taken)
 
 -- a source that tells its bytes had these, and has the others left
 known-left : (before after : Option (List ℕ)) (input bytes : List ℕ) → before ≡ Some input → Consumes before after bytes

@@ -1,6 +1,6 @@
 -- A service answers the frames that came, in whatever pieces they come.
 use Rattle.std.proofs.Common.{◌≡◌, ℕ, List, [], ◌∷◌, ◌++◌, length, true, false, Option, Some, None, Result, Ok, Err, refl, sym, ◌∙◌, ap, subst, append_assoc, append-nil, length-append, arith}
-use Rattle.std.specs.Result.{OnOk}
+use Rattle.std.specs.Result.{OnOk, IsErrAnd}
 use Rattle.std.specs.Io.KnownBytes.{Appends, Consumes, Keeps, IsAtEnd}
 use Rattle.pipe_frames.specs.Frames.{Frames, frames_of, continued, frames_from, held_after}
 use Rattle.pipe_frames.specs.Whole.{ReadPart, WrotePart}
@@ -222,3 +222,9 @@ piece-ends (Err stop) so_far old new piece split serves taken left answers = pie
 -- a sink that took nothing took the front part of any text
 pub unwritten : (taken : Option (List ℕ)) (text : List ℕ) → WrotePart taken taken text
 unwritten taken text = record { part = []; rest = text; whole = refl; wrote = Appends-nil taken }
+
+-- a frame that no memory was left for
+pub frame-lost : {T : Type 0} (Q : Stop → Type 0) (result : Result T Stop) (done : Stepped State) (taken : Option (List ℕ)) (service : Service) → IsErrAnd result Q
+    → Answered done taken (serve_moment service taken) result
+frame-lost Q (Ok value) done taken service lost = absurd lost
+frame-lost Q (Err stop) done taken service lost = unwritten taken done.sent

@@ -1,6 +1,8 @@
 -- A frame is answered whole, or in part where the write stops.
-use Rattle.inspect_replay.specs.Serving.{serve_moment}
-use Rattle.inspect_replay.proofs.ServeLemmas.{frame-answered, frame-in-part, unwritten}
+use Rattle.std.proofs.Common.{[], ◌∷◌}
+use Rattle.inspect_world.specs.World.{steps}
+use Rattle.inspect_replay.specs.Serving.{served_step, serve_moment}
+use Rattle.inspect_replay.proofs.ServeLemmas.{frame-answered, frame-in-part, frame-lost, unwritten}
 use Rattle.inspect_replay.proofs.serve.Service.answer.Goals as goal
 
 pub returns-in-Ok-clause-answers : goal.returns-in-Ok-clause-answers
@@ -23,4 +25,6 @@ pub returns-then-not-has_room-clause-answers : goal.returns-then-not-has_room-cl
 returns-then-not-has_room-clause-answers g c = λ state stands. unwritten (g.K.Sink.taken c.args.out.now) _
 
 pub returns-in_err-take_message-clause-answers : goal.returns-in_err-take_message-clause-answers
-returns-in_err-take_message-clause-answers g c = λ state stands. unwritten (g.K.Sink.taken c.args.out.now) _
+returns-in_err-take_message-clause-answers g c = λ state stands.
+    frame-lost _ c.from_residual.result (steps served_step state (c.args.frame.now ∷ [])) (g.K.Sink.taken c.args.out.now)
+    (record { alloc = c.args.self.now.alloc; side = c.take_message.new.side; seat = c.take_message.new.self; splitter = c.args.self.now.splitter }) c.from_residual.ensures.1

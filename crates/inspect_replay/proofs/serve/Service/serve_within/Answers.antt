@@ -3,7 +3,7 @@ use Rattle.std.proofs.Common.{◌≤◌, ◌+◌, ◌^◌, length, arith}
 use Rattle.std.proofs.lemmas.List.{length-take}
 use Rattle.inspect_replay.specs.Serving.{serve_moment}
 use Rattle.inspect_replay.proofs.ServeLemmas.{serves-nothing}
-use Rattle.inspect_replay.proofs.ServeEnds.{nothing-came, more-came, loop-ended, loop-stopped}
+use Rattle.inspect_replay.proofs.ServeEnds.{nothing-came, more-came, loop-ended, loop-full, loop-stopped}
 use Rattle.inspect_replay.proofs.serve.Service.serve_within.Goals as goal
 
 pub loop-came-init : goal.loop-came-init
@@ -49,3 +49,9 @@ returns-in-Err-clause-served g c =
     loop-stopped (g.S.Source.left c.args.src.now) (g.S.Source.left c.loop-came.src) (g.S.Source.left c.serve_piece.new.src) (g.K.Sink.taken c.args.out.now)
     (serve_moment c.loop-came.self (g.K.Sink.taken c.loop-came.out)) (serve_moment c.serve_piece.new.self (g.K.Sink.taken c.serve_piece.new.out))
     c.loop-came.came (length c.serve_piece.new.buf) c.in-Err.stop so_far (c.in-Err.ensures.served _ so_far.serves) room
+
+pub returns-clause-served : goal.returns-clause-served
+returns-clause-served g c =
+    let full : 2 ^ 26 ≤ c.loop-came.came = omega (arith, c.loop-came-test.false) in
+    loop-full (g.S.Source.left c.args.src.now) (g.S.Source.left c.loop-came.src) (g.S.Source.left c.end_of_input.new.src) (g.K.Sink.taken c.args.out.now)
+    (serve_moment c.loop-came.self (g.K.Sink.taken c.loop-came.out)) c.loop-came.came c.end_of_input.result c.loop-came.invariant.so_far full c.end_of_input.ensures.met
