@@ -4,3 +4,5 @@ pub mod RunLemmas
 pub mod FollowLemmas
 pub mod AnswerLemmas
 pub mod PageLemmas
+pub mod ServeLemmas
+pub mod ServeEnds

@@ -8,3 +8,4 @@ pub mod Moments
 pub mod Runs
 pub mod Followed
 pub mod Prints
+pub mod Serving

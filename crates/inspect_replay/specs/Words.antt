@@ -6,3 +6,9 @@ abbrev pub is_replay : List (List ℕ) → Bool
 is_replay [] = false
 is_replay (word ∷ []) = bytes_eq word (codes "replay")
 is_replay (word ∷ next ∷ more) = false
+
+-- the one word `serve`
+abbrev pub is_serve : List (List ℕ) → Bool
+is_serve [] = false
+is_serve (word ∷ []) = bytes_eq word (codes "serve")
+is_serve (word ∷ next ∷ more) = false

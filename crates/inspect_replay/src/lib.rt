@@ -1,4 +1,5 @@
-//! The replay of a script: a back end and a front end over a link, and what the script's lines print.
+//! The replay of a script: a back end and a front end over a link, and what the script's lines print. And the back end alone,
+//! which serves a client.
 #![tactic(auto)]
 
 mod ends;
@@ -6,6 +7,7 @@ mod page_lines;
 mod pipes;
 mod program;
 mod run;
+mod serve;
 mod show;
 mod status;
 mod stop;

@@ -1,18 +1,20 @@
-ghost use Rattle.std.specs.Prelude.{◌≡◌, ◌≤◌, ◌+◌, ◌^◌, ◌↔◌, ℕ, List, map, string_bytes, length, Some, [], false, true, IfOk, OnOk};
+ghost use Rattle.std.specs.Prelude.{◌≡◌, ◌≤◌, ◌+◌, ◌^◌, ◌↔◌, ◌||◌, ℕ, List, map, string_bytes, length, Some, [], false, true, IfOk, OnOk};
 ghost use Rattle.pipe_frames.specs.Pipe.{IsLevel};
 ghost use Rattle.pipe_frames.specs.Whole.{ReadPart};
 ghost use Rattle.replay_script.specs.Script.{script_fault};
 ghost use Rattle.inspect_world.specs.Scripts.{report};
-ghost use Rattle.inspect_replay.specs.Words.{is_replay};
+ghost use Rattle.inspect_replay.specs.Words.{is_replay, is_serve};
 ghost use Rattle.inspect_replay.specs.declared.status.Status.TheVariants.{Done, Usage};
 ghost use Rattle.inspect_replay.specs.Followed.{StatusFolds, EndsShown, AnswersInOrder, GivesNoMore, fold_since};
 ghost use Rattle.inspect_replay.specs.Answers.{FitsLimits, TellsLine, Took, WritesNothing, StatusRose, InputTells, IsInputStop, ReadsAll, IsLate};
 ghost use Rattle.inspect_replay.specs.Says.{status_of};
+ghost use Rattle.inspect_replay.specs.Serving.{ServeTook, IsServeStatus};
 
 use crate::run::run_script;
+use crate::serve::serve;
 use crate::status::Status;
 use crate::stop::Stop;
-use crate::words::is_replay;
+use crate::words::{is_replay, is_serve};
 use pipe_frames::{Link, ReadErr, Sink, Source, read_all};
 use replay_script::has_long_line;
 use std::alloc::Global;
@@ -27,6 +29,8 @@ pub const LINE_LIMIT: usize = 16_777_216;
 ///
 /// `replay` reads the whole input, and then carries out its lines in order: a back end and a front end speak over `link`,
 /// and what the lines print goes to `out` before the next line is looked at.
+///
+/// `serve` answers frames: each that is whole is answered on `out` before more is read. It does not use `link`.
 pub fn inspect<S: Source, K: Sink, L: Link>(
     alloc: Global,
     words: &[String],
@@ -41,22 +45,26 @@ pub fn inspect<S: Source, K: Sink, L: Link>(
     // over every link: a message is refused exactly where the fold of the bytes sent up and given down refuses it
     ensures refused { StatusFolds result (fold_since (L.up link.old) (L.down link.old) (L.up link.new) (L.down link.new)) }
     // over every link: what is written ends with the outline of what that fold shows
-    ensures closes { result ≡ Done → EndsShown (K.taken out.old) (K.taken out.new)
+    ensures closes { is_replay (map string_bytes words.now) ≡ true → result ≡ Done → EndsShown (K.taken out.old) (K.taken out.new)
         (fold_since (L.up link.old) (L.down link.old) (L.up link.new) (L.down link.new)) }
     // over every link: the replies sent down answer the frames given up, in their order, each with its frame's id
-    ensures replies { result ≡ Done → AnswersInOrder (L.up link.old) (L.down link.old) (L.up link.new) (L.down link.new) }
+    ensures replies { is_replay (map string_bytes words.now) ≡ true
+        → result ≡ Done → AnswersInOrder (L.up link.old) (L.down link.old) (L.up link.new) (L.down link.new) }
     // over every link: a delivery asks for no more bytes than are there, so no more are given than were sent
     ensures less { result ≡ Done → GivesNoMore (L.up link.old) (L.down link.old) (L.up link.new) (L.down link.new) }
-    ensures usage { result ≡ Usage ↔ (is_replay (map string_bytes words.now) ≡ false) }
+    ensures usage { result ≡ Usage ↔ ((is_replay (map string_bytes words.now) || is_serve (map string_bytes words.now)) ≡ false) }
     ensures unread { result ≡ Usage → src.new ≡ src.old }
     ensures unwritten { result ≡ Usage → out.new ≡ out.old }
     ensures unlinked { result ≡ Usage → link.new ≡ link.old }
-    ensures line { (input : List ℕ) → S.left src.old ≡ Some input → TellsLine result (script_fault input) }
-    ensures limits { (input : List ℕ) → S.left src.old ≡ Some input → FitsLimits result input }
-    ensures whole { (input : List ℕ) → S.left src.old ≡ Some input → ReadsAll result (S.left src.new) }
+    ensures line { is_replay (map string_bytes words.now) ≡ true
+        → (input : List ℕ) → S.left src.old ≡ Some input → TellsLine result (script_fault input) }
+    ensures limits { is_replay (map string_bytes words.now) ≡ true
+        → (input : List ℕ) → S.left src.old ≡ Some input → FitsLimits result input }
+    ensures whole { is_replay (map string_bytes words.now) ≡ true
+        → (input : List ℕ) → S.left src.old ≡ Some input → ReadsAll result (S.left src.new) }
     // reading stops as soon as more than 2^26 bytes came
     ensures reads { ReadPart (S.left src.old) (S.left src.new) (2 ^ 26 + 1) }
-    ensures nothing { WritesNothing result (K.taken out.old) (K.taken out.new) }
+    ensures nothing { is_replay (map string_bytes words.now) ≡ true → WritesNothing result (K.taken out.old) (K.taken out.new) }
     ensures cause { StatusRose (record {
       source_before = S.faults src.old;
       source_after = S.faults src.new;
@@ -66,11 +74,24 @@ pub fn inspect<S: Source, K: Sink, L: Link>(
       link_after = L.faults link.new;
     }) result }
     ensures honest { L.honest link.old → L.honest link.new }
+    // a client is answered: the sink takes the answers to the whole frames that came, and nothing else
+    ensures serves { is_serve (map string_bytes words.now) ≡ true
+        → (input : List ℕ) → S.left src.old ≡ Some input → ServeTook result input (record {
+          left_before = S.left src.old;
+          left_after = S.left src.new;
+          taken_before = K.taken out.old;
+          taken_after = K.taken out.new;
+        }) }
+    ensures serve_status { is_serve (map string_bytes words.now) ≡ true → IsServeStatus result }
+    ensures serve_unlinked { is_serve (map string_bytes words.now) ≡ true → link.new ≡ link.old }
 {
-    if !is_replay(words) {
-        return Status::Usage;
+    if is_replay(words) {
+        return replay(alloc, src, out, link);
     }
-    replay(alloc, src, out, link)
+    if is_serve(words) {
+        return serve(alloc, src, out);
+    }
+    Status::Usage
 }
 
 fn replay<S: Source, K: Sink, L: Link>(
@@ -160,7 +181,7 @@ fn read_input<S: Source>(alloc: Global, src: &mut S) -> Result<Vec<u8>, Stop>
     Ok(input)
 }
 
-fn status_of(stop: Stop) -> Status
+pub(crate) fn status_of(stop: Stop) -> Status
     ensures { result ≡ status_of stop }
 {
     match stop {

@@ -1,6 +1,13 @@
--- With other words nothing is sent, and the fold of nothing meets no fault.
+-- With other words, and for a client, nothing is sent over the link, and the fold of nothing meets no fault.
 use Rattle.inspect_replay.proofs.FollowLemmas.{start-good}
+use Rattle.inspect_replay.proofs.ServeEnds.{serve-folds}
 use Rattle.inspect_replay.proofs.program.inspect.Goals as goal
 
-pub returns-then-not-is_replay-clause-refused : goal.returns-then-not-is_replay-clause-refused
-returns-then-not-is_replay-clause-refused g c = start-good (g.L.Link.up c.args.link.now) (g.L.Link.down c.args.link.now)
+pub returns-clause-refused : goal.returns-clause-refused
+returns-clause-refused g c = start-good (g.L.Link.up c.args.link.now) (g.L.Link.down c.args.link.now)
+
+pub returns-then-is_serve-clause-refused : goal.returns-then-is_serve-clause-refused
+returns-then-is_serve-clause-refused g c = serve-folds c.serve.result _ c.serve.ensures.only (start-good (g.L.Link.up c.args.link.now) (g.L.Link.down c.args.link.now))
+
+pub returns-then-is_serve-clause-cause : goal.returns-then-is_serve-clause-cause
+returns-then-is_serve-clause-cause g c = c.serve.ensures.cause _ _

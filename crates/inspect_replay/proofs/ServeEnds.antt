@@ -1,0 +1,310 @@
+-- What came was read and answered by the end of the source, or until the call stopped.
+use Rattle.std.proofs.Common.{◌≡◌, ℕ, zero, suc, ◌+◌, ◌-◌, ◌^◌, ◌≤◌, ◌<◌, List, [], ◌∷◌, ◌++◌, length, take, drop, Option, Some, None, Result, Ok, Err, refl, sym, ◌∙◌, ap, subst, append_assoc, append-nil, length-append, arith}
+use Rattle.std.specs.Prelude.{⊤}
+use Rattle.std.specs.Io.KnownBytes.{Appends, Consumes, Keeps, IsAtEnd}
+use Rattle.pipe_frames.specs.Fault.{Rose}
+use Rattle.pipe_frames.specs.Whole.{ReadPart, WrotePart}
+use Rattle.pipe_frames.proofs.FaultLemmas.{Rose-before}
+use Rattle.pipe_frames.proofs.WholeLemmas.{Appends-nil, WrotePart-all, WrotePart-longer, WrotePart-none, Consumes-nil, Consumes-append}
+use Rattle.inspect_replay.specs.declared.status.Status.{Status}
+use Rattle.inspect_replay.specs.declared.status.Status.TheVariants as status
+use Rattle.inspect_replay.specs.declared.stop.Stop.{Stop}
+use Rattle.inspect_replay.specs.declared.stop.Stop.TheVariants.{Line, TooLong, ReadFault, WriteFault, LinkFault, FrontRefused, Memory}
+use Rattle.std.specs.Result.{IsOk, IsErrAnd}
+use Rattle.std.proofs.lemmas.Result.{err_from_is_err_and}
+use Rattle.front_mirror.specs.declared.faults.FrontFault.{FrontFault}
+use Rattle.front_mirror.specs.Front.{FrontValue}
+use Rattle.inspect_replay.specs.Followed.{StatusFolds}
+use Rattle.inspect_replay.specs.Answers.{StatusRose}
+use Rattle.inspect_replay.specs.Says.{Counts, PartRose, status_of}
+use Rattle.inspect_replay.specs.Serving.{served, ServeCall, ServedRead, ServedAll, ServedLimit, ServeTook, IsServeStatus, ServeMoment, SoFar, with_more, Serves, PieceRead, PieceAnswered, PieceInPart, PieceServed, EndIsMet, ReadAnswered, PartAnswered, EndAnswered, LimitAnswered, FaultAnswered, HasServed, WriteRose, HasWriteCause, ServeRose, HasServeCause}
+use Rattle.inspect_replay.proofs.ServeLemmas.{answers_after, served-more}
+
+-- ---- the loop
+
+-- so many bytes came, and were answered
+pub record ServedSoFar (before left start : Option (List ℕ)) (now : ServeMoment) (came : ℕ) : Type 0 where
+  pub bytes : List ℕ
+  pub count : length bytes ≡ came
+  pub few : came ≤ 2 ^ 26
+  pub read : Consumes before left bytes
+  pub serves : Serves (record { start = start; bytes = bytes }) now
+
+-- nothing came yet
+pub nothing-came : (before : Option (List ℕ)) (now : ServeMoment) → Serves (record { start = now.taken; bytes = [] }) now → ServedSoFar before before now.taken now 0
+nothing-came before now serves = record { bytes = []; count = refl; few = omega arith; read = Consumes-nil before; serves = serves }
+
+-- a piece more
+pub more-came : (before left after start : Option (List ℕ)) (now new : ServeMoment) (came count most : ℕ) (s : ServedSoFar before left start now came)
+    → PieceAnswered (record { start = start; bytes = s.bytes }) new (record { before = left; after = after; most = most }) count → came + most ≤ 2 ^ 26
+    → ServedSoFar before after start new (came + count)
+more-came before left after start now new came count most s p room = record {
+  bytes = s.bytes ++ p.piece;
+  count = length-append s.bytes p.piece ∙ ap (λ n. n + length p.piece) s.count ∙ ap (λ n. came + n) p.length_is;
+  few = let small : count ≤ most = p.few in omega (arith, small, room);
+  read = Consumes-append before left after s.bytes p.piece s.read p.consumed;
+  serves = p.serves;
+}
+
+-- what came is what was read
+read-answered : (before left start : Option (List ℕ)) (now : ServeMoment) (came : ℕ) (s : ServedSoFar before left start now came)
+    → ReadAnswered (record { left_before = before; left_after = left; taken_before = start; taken_after = now.taken }) s.bytes []
+read-answered before left start now came s = record {
+  few = let count = s.count in let few = s.few in omega (arith, count, few);
+  read = subst (λ bytes. Consumes before left bytes) (sym (append-nil s.bytes)) s.read;
+  wrote = s.serves.wrote;
+}
+
+-- the source ended
+pub loop-ended : (before left start : Option (List ℕ)) (now : ServeMoment) (came : ℕ) → ServedSoFar before left start now came → IsAtEnd left
+    → EndAnswered (record { left_before = before; left_after = left; taken_before = start; taken_after = now.taken })
+loop-ended before left start now came s ended = record { bytes = s.bytes; answered = read-answered before left start now came s; ended = ended }
+
+-- a front part of the answers to what came was written
+loop-part : (before left after start : Option (List ℕ)) (now new : ServeMoment) (came most : ℕ) (s : ServedSoFar before left start now came)
+    → PieceInPart (record { start = start; bytes = s.bytes }) new (record { before = left; after = after; most = most }) → came + most ≤ 2 ^ 26
+    → PartAnswered (record { left_before = before; left_after = after; taken_before = start; taken_after = new.taken })
+loop-part before left after start now new came most s p room = record {
+  bytes = s.bytes ++ p.piece;
+  few =
+      let size : length (s.bytes ++ p.piece) ≡ length s.bytes + length p.piece = length-append s.bytes p.piece in
+      let count = s.count in let small = p.few in omega (arith, size, count, small, room);
+  read = Consumes-append before left after s.bytes p.piece s.read p.consumed;
+  wrote = p.part;
+}
+
+-- the loop stopped
+pub loop-stopped : (before left after start : Option (List ℕ)) (now new : ServeMoment) (came most : ℕ) (stop : Stop) (s : ServedSoFar before left start now came)
+    → PieceServed (record { start = start; bytes = s.bytes }) new (record { before = left; after = after; most = most }) (Err stop) → came + most ≤ 2 ^ 26
+    → HasServed {T = Unit {0}} (record { left_before = before; left_after = after; taken_before = start; taken_after = new.taken }) (Err stop)
+loop-stopped before left after start now new came most (Line number fault) s p room = absurd p
+loop-stopped before left after start now new came most TooLong s p room = absurd p
+loop-stopped before left after start now new came most ReadFault s p room = record {
+  bytes = s.bytes;
+  answered = record {
+    few = let count = s.count in let few = s.few in omega (arith, count, few);
+    read = Consumes-append before left after s.bytes [] s.read p.0;
+    wrote = p.1.wrote;
+  };
+}
+loop-stopped before left after start now new came most WriteFault s p room = loop-part before left after start now new came most s p room
+loop-stopped before left after start now new came most LinkFault s p room = absurd p
+loop-stopped before left after start now new came most (FrontRefused place fault) s p room = absurd p
+loop-stopped before left after start now new came most Memory s p room = loop-part before left after start now new came most s p room
+
+-- as many came as an input may have
+pub loop-full : (before left after start : Option (List ℕ)) (now : ServeMoment) (came : ℕ) (result : Result (Unit {0}) Stop) → ServedSoFar before left start now came → 2 ^ 26 ≤ came
+    → EndIsMet left after result → HasServed (record { left_before = before; left_after = after; taken_before = start; taken_after = now.taken }) result
+loop-full before left after start now came (Ok value) s full met = record {
+  bytes = s.bytes;
+  answered = record {
+    few = let count = s.count in let few = s.few in omega (arith, count, few);
+    read = Consumes-append before left after s.bytes [] s.read met.0;
+    wrote = s.serves.wrote;
+  };
+  ended = met.1;
+}
+loop-full before left after start now came (Err (Line number fault)) s full met = absurd met
+loop-full before left after start now came (Err TooLong) s full met = record {
+  bytes = s.bytes;
+  past = met.0;
+  answered = record {
+    few = let count = s.count in let few = s.few in omega (arith, count, few);
+    read = Consumes-append before left after s.bytes met.0 s.read met.2;
+    wrote = s.serves.wrote;
+  };
+  full = let count = s.count in let few = s.few in omega (arith, count, few, full);
+  one_more = met.1;
+}
+loop-full before left after start now came (Err ReadFault) s full met = record {
+  bytes = s.bytes;
+  answered = record {
+    few = let count = s.count in let few = s.few in omega (arith, count, few);
+    read = Consumes-append before left after s.bytes [] s.read met;
+    wrote = s.serves.wrote;
+  };
+}
+loop-full before left after start now came (Err WriteFault) s full met = absurd met
+loop-full before left after start now came (Err LinkFault) s full met = absurd met
+loop-full before left after start now came (Err (FrontRefused place fault)) s full met = absurd met
+loop-full before left after start now came (Err Memory) s full met = absurd met
+
+-- ---- causes
+
+-- of a call within another
+pub write-rose-before : {T : Type 0} (start before after : ℕ) (result : Result T Stop) → start ≤ before → WriteRose before after result → WriteRose start after result
+write-rose-before start before after (Ok value) low rose = tt
+write-rose-before start before after (Err (Line number fault)) low rose = rose
+write-rose-before start before after (Err TooLong) low rose = rose
+write-rose-before start before after (Err ReadFault) low rose = rose
+write-rose-before start before after (Err WriteFault) low rose = Rose-before start before after low rose
+write-rose-before start before after (Err LinkFault) low rose = rose
+write-rose-before start before after (Err (FrontRefused place fault)) low rose = rose
+write-rose-before start before after (Err Memory) low rose = tt
+
+pub serve-rose-before : {T : Type 0} (c d : Counts) (result : Result T Stop) → c.source_before ≤ d.source_before → c.sink_before ≤ d.sink_before
+    → d.source_after ≡ c.source_after → d.sink_after ≡ c.sink_after → ServeRose d result → ServeRose c result
+serve-rose-before c d (Ok value) low low_sink same same_sink rose = tt
+serve-rose-before c d (Err (Line number fault)) low low_sink same same_sink rose = rose
+serve-rose-before c d (Err TooLong) low low_sink same same_sink rose = tt
+serve-rose-before c d (Err ReadFault) low low_sink same same_sink rose =
+    subst (λ n. Rose c.source_before n) same (Rose-before c.source_before d.source_before d.source_after low rose)
+serve-rose-before c d (Err WriteFault) low low_sink same same_sink rose =
+    subst (λ n. Rose c.sink_before n) same_sink (Rose-before c.sink_before d.sink_before d.sink_after low_sink rose)
+serve-rose-before c d (Err LinkFault) low low_sink same same_sink rose = rose
+serve-rose-before c d (Err (FrontRefused place fault)) low low_sink same same_sink rose = rose
+serve-rose-before c d (Err Memory) low low_sink same same_sink rose = tt
+
+-- what a stop that is a status says of causes
+pub stop-rose : (c : Counts) (stop : Stop) → ServeRose {T = Unit {0}} c (Err stop) → StatusRose c (status_of stop)
+stop-rose c (Line number fault) rose = absurd rose
+stop-rose c TooLong rose = tt
+stop-rose c ReadFault rose = rose
+stop-rose c WriteFault rose = rose
+stop-rose c LinkFault rose = absurd rose
+stop-rose c (FrontRefused place fault) rose = absurd rose
+stop-rose c Memory rose = tt
+
+-- ---- the whole call
+
+-- nothing was read, and nothing was written
+pub nothing-served : (left taken : Option (List ℕ)) → PartAnswered (record { left_before = left; left_after = left; taken_before = taken; taken_after = taken })
+nothing-served left taken = record {
+  bytes = [];
+  few = omega arith;
+  read = Consumes-nil left;
+  wrote = record { part = []; rest = served []; whole = refl; wrote = Appends-nil taken };
+}
+
+-- no memory was left to begin with
+pub nothing-begun : {T : Type 0} (result : Result T Stop) (left taken : Option (List ℕ)) → IsErrAnd result (λ stop. stop ≡ Memory)
+    → HasServed (record { left_before = left; left_after = left; taken_before = taken; taken_after = taken }) result
+nothing-begun result left taken lost =
+    let p = err_from_is_err_and result lost in
+    let is : result ≡ Err Memory = p.1 ∙ ap (λ (stop : Stop). Err stop) p.2 in
+    subst (λ (r : Result _ Stop). HasServed (record { left_before = left; left_after = left; taken_before = taken; taken_after = taken }) r) (sym is) (nothing-served left taken)
+
+-- a source that tells its bytes had these, and has the others left
+known-left : (before after : Option (List ℕ)) (input bytes : List ℕ) → before ≡ Some input → Consumes before after bytes
+    → (rest : List ℕ) × (after ≡ Some rest) × (input ≡ bytes ++ rest)
+known-left None after input bytes is read = let no : ◌≡◌ {A = Option (List ℕ)} None (Some input) = is in absurd cc
+known-left (Some left) None input bytes is read = absurd read
+known-left (Some left) (Some rest) input bytes is read = let same : left ≡ input = cc in (rest, refl, sym same ∙ read)
+
+-- the first n bytes of a text begin with its front, where this has at most n
+take-past : (n : ℕ) (bytes rest : List ℕ) → length bytes ≤ n → (more : List ℕ) × (take n (bytes ++ rest) ≡ bytes ++ more)
+take-past n [] rest few = (take n rest, refl)
+take-past zero (byte ∷ bytes) rest few = absurd (omega (arith, few))
+take-past (suc n) (byte ∷ bytes) rest few =
+    let later = take-past n bytes rest (omega (arith, few)) in (later.0, ap (λ text. byte ∷ text) later.1)
+
+take-full : (n : ℕ) (bytes rest : List ℕ) → length bytes ≡ n → take n (bytes ++ rest) ≡ bytes
+take-full n [] rest is = subst (λ m. take m rest ≡ []) is refl
+take-full zero (byte ∷ bytes) rest is = absurd (omega (arith, is))
+take-full (suc n) (byte ∷ bytes) rest is = ap (λ text. byte ∷ text) (take-full n bytes rest (omega (arith, is)))
+
+served-part : (input bytes rest : List ℕ) (before after : Option (List ℕ)) → input ≡ bytes ++ rest → length bytes ≤ 2 ^ 26 → WrotePart before after (served bytes)
+    → WrotePart before after (served (take (2 ^ 26) input))
+served-part input bytes rest before after whole few wrote =
+    let later = take-past (2 ^ 26) bytes rest few in
+    let front : take (2 ^ 26) input ≡ bytes ++ later.0 = ap (take (2 ^ 26)) whole ∙ later.1 in
+    subst (λ text. WrotePart before after text) (sym (ap served front ∙ served-more bytes later.0))
+    (WrotePart-longer before after (served bytes) (answers_after bytes later.0).sent wrote)
+
+part-took : (input : List ℕ) (call : ServeCall) → call.left_before ≡ Some input → PartAnswered call → WrotePart call.taken_before call.taken_after (served (take (2 ^ 26) input))
+part-took input call is p =
+    let k = known-left call.left_before call.left_after input p.bytes is p.read in
+    served-part input p.bytes k.0 call.taken_before call.taken_after k.2 p.few p.wrote
+
+-- the whole input was answered
+pub end-took : (input : List ℕ) (call : ServeCall) → call.left_before ≡ Some input → EndAnswered call → ServedAll input call
+end-took input call is p =
+    let k = known-left call.left_before call.left_after input (p.bytes ++ []) is p.answered.read in
+    let ended : k.0 ≡ [] = at call.left_after k.0 k.1 p.ended in
+    let whole : input ≡ p.bytes = k.2 ∙ ap (λ rest. (p.bytes ++ []) ++ rest) ended ∙ append-nil (p.bytes ++ []) ∙ append-nil p.bytes in
+    record {
+      few = let few = p.answered.few in let size : length input ≡ length p.bytes = ap length whole in omega (arith, few, size);
+      left = k.1 ∙ ap (λ rest. Some rest) ended;
+      wrote = subst (λ bytes. Appends call.taken_before call.taken_after (served bytes)) (sym whole) p.answered.wrote;
+    }
+  where
+    at : (left : Option (List ℕ)) (rest : List ℕ) → left ≡ Some rest → IsAtEnd left → rest ≡ []
+    at None rest is ended = let no : ◌≡◌ {A = Option (List ℕ)} None (Some rest) = is in absurd cc
+    at (Some left) rest is ended = let same : left ≡ rest = cc in sym same ∙ ended
+
+limit-took : (input : List ℕ) (call : ServeCall) → call.left_before ≡ Some input → LimitAnswered call → ServedLimit input call
+limit-took input call is p =
+    let k = known-left call.left_before call.left_after input (p.bytes ++ p.past) is p.answered.read in
+    let whole : input ≡ p.bytes ++ (p.past ++ k.0) = k.2 ∙ append_assoc p.bytes p.past k.0 in
+    let size : length input ≡ length p.bytes + length (p.past ++ k.0) = ap length whole ∙ length-append p.bytes (p.past ++ k.0) in
+    let beyond : length (p.past ++ k.0) ≡ length p.past + length k.0 = length-append p.past k.0 in
+    let full = p.full in
+    let one = p.one_more in
+    let front : take (2 ^ 26) input ≡ p.bytes = ap (take (2 ^ 26)) whole ∙ take-full (2 ^ 26) p.bytes (p.past ++ k.0) full in
+    record {
+      more = omega (arith, size, beyond, full, one);
+      wrote = subst (λ bytes. Appends call.taken_before call.taken_after (served bytes)) (sym front) p.answered.wrote;
+    }
+
+fault-took : (input : List ℕ) (call : ServeCall) → call.left_before ≡ Some input → FaultAnswered call → ServedRead input call
+fault-took input call is p =
+    let k = known-left call.left_before call.left_after input (p.bytes ++ []) is p.answered.read in
+    record {
+      part = p.bytes;
+      rest = k.0;
+      left = k.1;
+      whole = k.2 ∙ ap (λ bytes. bytes ++ k.0) (append-nil p.bytes);
+      wrote = p.answered.wrote;
+    }
+
+-- what a stop that is a status took
+pub stop-served : (stop : Stop) (input : List ℕ) (call : ServeCall) → call.left_before ≡ Some input → HasServed {T = Unit {0}} call (Err stop) → ServeTook (status_of stop) input call
+stop-served (Line number fault) input call is p = absurd p
+stop-served TooLong input call is p = limit-took input call is p
+stop-served ReadFault input call is p = fault-took input call is p
+stop-served WriteFault input call is p = part-took input call is p
+stop-served LinkFault input call is p = absurd p
+stop-served (FrontRefused place fault) input call is p = absurd p
+stop-served Memory input call is p = part-took input call is p
+
+pub stop-status : (stop : Stop) (call : ServeCall) → HasServed {T = Unit {0}} call (Err stop) → IsServeStatus (status_of stop)
+stop-status (Line number fault) call p = absurd p
+stop-status TooLong call p = tt
+stop-status ReadFault call p = tt
+stop-status WriteFault call p = tt
+stop-status LinkFault call p = absurd p
+stop-status (FrontRefused place fault) call p = absurd p
+stop-status Memory call p = tt
+
+-- at most one byte more than an input may have was read
+answered-reads : (call : ServeCall) (bytes past : List ℕ) → ReadAnswered call bytes past → length past ≤ 1 → ReadPart call.left_before call.left_after (2 ^ 26 + 1)
+answered-reads call bytes past p one = record {
+  part = bytes ++ past;
+  count = let size : length (bytes ++ past) ≡ length bytes + length past = length-append bytes past in let few = p.few in omega (arith, size, few, one);
+  read = p.read;
+}
+
+part-reads : (call : ServeCall) → PartAnswered call → ReadPart call.left_before call.left_after (2 ^ 26 + 1)
+part-reads call p = record { part = p.bytes; count = let few = p.few in omega (arith, few); read = p.read }
+
+pub served-reads : (call : ServeCall) (result : Result (Unit {0}) Stop) → HasServed call result → ReadPart call.left_before call.left_after (2 ^ 26 + 1)
+served-reads call (Ok value) p = answered-reads call p.bytes [] p.answered (omega arith)
+served-reads call (Err (Line number fault)) p = absurd p
+served-reads call (Err TooLong) p = answered-reads call p.bytes p.past p.answered (let one = p.one_more in omega (arith, one))
+served-reads call (Err ReadFault) p = answered-reads call p.bytes [] p.answered (omega arith)
+served-reads call (Err WriteFault) p = part-reads call p
+served-reads call (Err LinkFault) p = absurd p
+served-reads call (Err (FrontRefused place fault)) p = absurd p
+served-reads call (Err Memory) p = part-reads call p
+
+-- an answer of serving says nothing of a front end
+pub serve-folds : (s : Status) (fold : Result FrontValue FrontFault) → IsServeStatus s → IsOk fold → StatusFolds s fold
+serve-folds status.Done fold is good = good
+serve-folds status.Usage fold is good = absurd is
+serve-folds (status.Line number fault) fold is good = absurd is
+serve-folds status.TooLong fold is good = good
+serve-folds status.ReadFault fold is good = good
+serve-folds status.WriteFault fold is good = good
+serve-folds status.LinkFault fold is good = absurd is
+serve-folds (status.FrontRefused place kind) fold is good = absurd is
+serve-folds status.Memory fold is good = tt

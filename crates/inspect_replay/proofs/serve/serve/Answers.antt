@@ -1,0 +1,15 @@
+-- A stop is the status that was served.
+use Rattle.std.proofs.Common.{sym, subst}
+use Rattle.inspect_replay.specs.Serving.{ServeCall, ServeTook}
+use Rattle.inspect_replay.proofs.ServeEnds.{stop-served}
+use Rattle.inspect_replay.proofs.serve.serve.Goals as goal
+
+pub returns-in-Err-clause-took : goal.returns-in-Err-clause-took
+returns-in-Err-clause-took g c = λ input left.
+    let call : ServeCall = record {
+      left_before = g.S.Source.left c.args.src.now;
+      left_after = g.S.Source.left c.serve_source.new.src;
+      taken_before = g.K.Sink.taken c.args.out.now;
+      taken_after = g.K.Sink.taken c.serve_source.new.out;
+    } in
+    subst (λ status. ServeTook status input call) (sym c.status_of.ensures) (stop-served c.in-Err.stop input call left c.in-Err.ensures.served)
