@@ -155,10 +155,9 @@ all-answered now new state all before so_far none same_seat same_side same_taken
     let whole : all ≡ so_far.answered = so_far.cut ∙ ap (λ others. so_far.answered ++ others) none ∙ append-nil so_far.answered in
     let stands : StandsFor now.service.seat now.service.side (steps served_step state all).state =
     subst (λ frames. StandsFor now.service.seat now.service.side (steps served_step state frames).state) (sym whole) so_far.stands in
-    let wrote : Appends before now.taken (steps served_step state all).sent = subst (λ frames. Appends before now.taken (steps served_step state frames).sent) (sym whole) so_far.wrote in
-    (
+    let wrote : Appends before now.taken (steps served_step state all).sent = subst (λ frames. Appends before now.taken (steps served_step state frames).sent) (sym whole) so_far.wrote in (
       subst (λ side. StandsFor new.service.seat side (steps served_step state all).state) (sym same_side)
-      (subst (λ seat. StandsFor seat now.service.side (steps served_step state all).state) (sym same_seat) stands),
+          (subst (λ seat. StandsFor seat now.service.side (steps served_step state all).state) (sym same_seat) stands),
       subst (λ taken. Appends before taken (steps served_step state all).sent) (sym same_taken) wrote,
     )
 

@@ -281,7 +281,8 @@ impl Ends {
             return Err(Stop::Memory);
         }
         let mut out = Vec::new(self.alloc);
-        self.seat.take_message(&mut self.side, frame, false, &mut out)?;
+        self.seat
+            .take_message(&mut self.side, frame, false, &mut out)?;
         let Some(there) = self.down_there.checked_add(out.len() as u64) else {
             return Err(Stop::Memory);
         };

@@ -51,7 +51,8 @@ impl Service {
             return Err(Stop::Memory);
         }
         let mut message = Vec::new(self.alloc);
-        self.seat.take_message(&mut self.side, frame, true, &mut message)?;
+        self.seat
+            .take_message(&mut self.side, frame, true, &mut message)?;
         match write_all(out, &message) {
             Ok(()) => Ok(()),
             Err(OutErr::Failed) => Err(Stop::WriteFault),
