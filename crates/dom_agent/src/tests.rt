@@ -216,7 +216,7 @@ fn elements_are_found_and_described(rt: HostRuntime) -> Result<(), Fail> {
     let query = DomAsk::QuerySelector { node: 1, selector };
     assert!(rt; agent.next_id() < 100);
     agent.ask(&page, 7, &query, &mut out)?;
-    assert!(rt; out.as_slice() == b"{\"id\":7,\"result\":{\"nodeId\":0}}\0");
+    assert!(rt; out.as_slice() == b"{\"id\":7,\"result\":{\"nodeId\":0}}\0".as_slice());
     Ok(())
 }
 
