@@ -160,12 +160,6 @@ const PAUSED_UNKNOWN: &[u8] =
 const REWRITTEN: &[u8] =
     b"{\"method\":\"CSS.styleSheetChanged\",\"params\":{\"styleSheetId\":\"s1\"}}\0";
 
-const SHEET: &[u8] =
-    b"{\"method\":\"CSS.styleSheetAdded\",\"params\":{\"header\":{\"length\":2,\"origin\":\"regular\",\"styleSheetId\":\"s1\"}}}\0";
-
-// The reply to the first fetch.
-const FETCHED: &[u8] = b"{\"id\":1073741824,\"result\":{\"text\":\"p{\"}}\0";
-
 /// A front that shows the document, the element and its two children.
 fn showing(alloc: Global, out: &mut Vec<u8>) -> Result<Front, AllocError> {
     let mut front = asking(alloc)?;
@@ -213,26 +207,6 @@ fn refuses_changes(rt: HostRuntime) -> Result<(), Fail> {
         out.as_slice(),
         b"UnknownNode\nNotChild\nUnknownNode\nUnknownSheet\n".as_slice()
     );
-    Ok(())
-}
-
-#[test]
-fn fetches(rt: HostRuntime) -> Result<(), Fail> {
-    let mut out = Vec::new(rt.alloc());
-    let mut front = Front::new(rt.alloc())?;
-    take(&mut front, SHEET, &mut out)?;
-    assert_eq!(rt; front.stale()?.as_slice(), [1].as_slice());
-    let frame = front.fetch(1)?;
-    assert_eq!(rt;
-        frame.as_slice(),
-        b"{\"id\":1073741824,\"method\":\"CSS.getStyleSheetText\",\"params\":{\"styleSheetId\":\"s1\"}}\0".as_slice()
-    );
-    take(&mut front, FETCHED, &mut out)?;
-    assert_eq!(rt; front.stale()?.len(), 0);
-    assert_eq!(rt; front.replies().len(), 0);
-    take(&mut front, REWRITTEN, &mut out)?;
-    assert_eq!(rt; front.stale()?.as_slice(), [1].as_slice());
-    assert_eq!(rt; front.sheet_at(0).2, Some("p{"));
     Ok(())
 }
 
