@@ -22,7 +22,7 @@ fn tell<L: Link>(
         owned.push(String::from_str(alloc, word)?)?;
     }
     let faults = Vec::from_slice(alloc, &[source_fault])?;
-    let mut source = MemSource::new(Vec::from_slice(alloc, input)?, 3, faults);
+    let mut source = MemSource::new(Vec::from_slice(alloc, input)?, 50, faults);
     let mut sink = MemSink::new(alloc, Vec::from_slice(alloc, &[sink_fault])?);
     let status = inspect(alloc, &owned, &mut source, &mut sink, link);
     out.extend_from_slice(exit_code(&status).to_string(alloc)?.as_bytes())?;
@@ -196,20 +196,6 @@ fn frames_are_refused_and_ids_die(rt: HostRuntime) -> Result<(), Fail> {
     )?;
     let want =
         b"0 \n# replies\n1 {\"id\":1,\"result\":{\"root\":{\"backendNodeId\":1,\"childNodeCount\":1,\"children\":[{\"attributes\":[],\"backendNodeId\":2,\"childNodeCount\":0,\"localName\":\"p\",\"nodeId\":2,\"nodeName\":\"P\",\"nodeType\":1,\"nodeValue\":\"\",\"parentId\":1}],\"localName\":\"\",\"nodeId\":1,\"nodeName\":\"#document\",\"nodeType\":9,\"nodeValue\":\"\"}}}\n2 {\"error\":{\"code\":-32000,\"message\":\"unknown node\"},\"id\":2}\n- {\"error\":{\"code\":-32700,\"message\":\"not JSON\"}}\n3 {\"error\":{\"code\":-32601,\"message\":\"unknown method\"},\"id\":3}\n# replies\n4 {\"error\":{\"code\":-32000,\"message\":\"unknown node\"},\"id\":4}\n# front\nno document\n# end\n3 #document\n  4 <q>\n";
-    assert_eq!(rt; out.as_slice(), want.as_slice());
-    Ok(())
-}
-
-#[test]
-fn a_client_is_served(rt: HostRuntime) -> Result<(), Fail> {
-    let alloc = rt.alloc();
-    let mut link = MemLink::new(alloc, Vec::new(alloc));
-    let mut out = Vec::new(alloc);
-    let frames =
-        b"[\0\0{\"id\":\"1\"}\0{\"id\":1}\0{\"id\":2,\"method\":\"DOM.nope\",\"sessionId\":\"x\"}\0{\"id\":3,\"method\":\"DOM.nope\"}\0{\"id\":4,\"method\":\"DOM.getDocument\",\"params\":{\"depth\":0}}\0{\"id\":5,\"method\":\"DOM.getDocument\",\"params\":{\"depth\":1.0}}\0{\"id\":6,\"method\":\"DOM.requestChildNodes\",\"params\":{\"nodeId\":1}}\0{\"id\":7,\"method\":\"Replay.act\",\"params\":{\"do\":\"insert\",\"parent\":1,\"before\":0,\"node\":{\"e\":\"html\"}}}\0{\"id\":8,\"method\":\"Replay.act\",\"params\":{\"do\":\"remove\",\"node\":1}}\0{\"id\":9,\"method\":\"Replay.load\",\"params\":{\"document\":[],\"sheets\":[]}}\0{\"id\":10,\"method\":\"DOM.getDoc";
-    tell(alloc, &["serve"], frames, 0, 0, &mut link, &mut out)?;
-    let want =
-        b"0 \n{\"error\":{\"code\":-32700,\"message\":\"not JSON\"}}\0{\"error\":{\"code\":-32700,\"message\":\"not JSON\"}}\0{\"error\":{\"code\":-32600,\"message\":\"no usable id\"}}\0{\"error\":{\"code\":-32600,\"message\":\"bad request\"},\"id\":1}\0{\"error\":{\"code\":-32001,\"message\":\"unknown session\"},\"id\":2}\0{\"error\":{\"code\":-32601,\"message\":\"unknown method\"},\"id\":3}\0{\"error\":{\"code\":-32602,\"message\":\"bad parameter: depth\"},\"id\":4}\0{\"error\":{\"code\":-32602,\"message\":\"bad parameter: depth\"},\"id\":5}\0{\"error\":{\"code\":-32000,\"message\":\"DOM is off\"},\"id\":6}\0{\"id\":7,\"result\":{}}\0{\"error\":{\"code\":-32000,\"message\":\"IsDocument\"},\"id\":8}\0{\"error\":{\"code\":-32602,\"message\":\"bad parameter: params\"},\"id\":9}\0";
     assert_eq!(rt; out.as_slice(), want.as_slice());
     Ok(())
 }
