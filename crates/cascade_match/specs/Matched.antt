@@ -13,6 +13,7 @@ use Rattle.cascade_match.specs.declared.keys.Key.{Key}
 use Rattle.cascade_match.specs.declared.hits.Hit.{Hit}
 use Rattle.cascade_match.specs.Precedence.{key_of, key_cmp, greater}
 
+-- the places of the selectors that match, counted from i
 abbrev pub places_from : ℕ → List SelectorForm → Zipper → List ℕ
 places_from i [] z = []
 places_from i (s ∷ ss) z = cond (selector_matches s z) (i ∷ places_from (i + 1) ss z) (places_from (i + 1) ss z)
@@ -21,6 +22,7 @@ places_from i (s ∷ ss) z = cond (selector_matches s z) (i ∷ places_from (i +
 abbrev pub places_matching : List SelectorForm → Zipper → List ℕ
 places_matching ss z = places_from 0 ss z
 
+-- the least specificity, zero in each part
 abbrev pub no_weight : Spec
 no_weight = record { a = 0; b = 0; c = 0 }
 
@@ -34,9 +36,11 @@ pub record Source : Type 0 where
   pub id : ℕ
   pub origin : Origin
 
+-- the sheet at a place of its book, as a source
 abbrev pub source_of : ℕ → SheetEntry → Source
 source_of place e = record { place = place; id = e.id; origin = e.origin }
 
+-- the rule with its key and the places of its selectors that match; None where there are none
 abbrev pub entry_by : Source → ℕ → Spec → List ℕ → Option (Key × Hit)
 entry_by from rule weight [] = None
 entry_by from rule weight (p ∷ ps) = Some (key_of from.origin weight from.place rule, record { sheet = from.id; rule = rule; matching = p ∷ ps })
@@ -64,5 +68,6 @@ put_all sorted (e ∷ es) = put_all (insert_entry key_cmp sorted e.0 e.1) es
 abbrev pub matched_entries : List SheetEntry → Zipper → List (Key × Hit)
 matched_entries book z = put_all [] (entries_of_sheets 0 book z)
 
+-- the rules that match a node, in ascending order of their keys
 abbrev pub matched_of : List SheetEntry → Zipper → List Hit
 matched_of book z = map (λ e. e.1) (matched_entries book z)

@@ -12,6 +12,7 @@ abbrev pub origin_rank : Origin → ℕ
 origin_rank UserAgent = 0
 origin_rank Regular = 1
 
+-- the key of a rule, by its sheet's origin, its specificity, its sheet's place and its own place there
 abbrev pub key_of : Origin → Spec → ℕ → ℕ → Key
 key_of origin spec sheet rule = record { origin = origin_rank origin; a = spec.a; b = spec.b; c = spec.c; sheet = sheet; rule = rule }
 

@@ -19,6 +19,7 @@ pub record Candidate : Type 0 where
   pub name : List ℕ
   pub rank : ℕ
 
+-- a declaration of a sheet of that origin, as a candidate
 abbrev pub candidate_of : Origin → Decl → Candidate
 candidate_of origin d = record { name = d.name; rank = rank_of origin d.important }
 
@@ -38,6 +39,7 @@ overrides r other = bytes_eq other.name r.name && not (nat_lt other.rank r.rank)
 abbrev pub is_winner : List Candidate → Candidate → List Candidate → Bool
 is_winner before r after = not (list_any (outranks r) before) && not (list_any (overrides r) after)
 
+-- for each candidate that follows those before, whether it wins
 abbrev pub wins_from : List Candidate → List Candidate → List Bool
 wins_from before [] = []
 wins_from before (r ∷ after) = is_winner before r after ∷ wins_from (before ++ r ∷ []) after

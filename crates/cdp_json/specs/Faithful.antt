@@ -13,6 +13,7 @@ pub record FaithfulKind {T : Type 0} (k : Kind T) : Type 0 where
   -- what is spelled is plain, if the loose parts are
   pub plain : (x : T) → k.fits x ≡ true → passes k.loose x ≡ true → is_plain (k.spell x) ≡ true
 
+-- What is read fits, what was put is read again and is plain, and further fields count for nothing.
 pub record FaithfulLookups {E T : Type 0} (l : Lookups E T) : Type 0 where
   pub fit : (ms : Members) (x : T) → l.gets ms ≡ Ok x → l.fits x ≡ true
   pub again : (x : T) → l.fits x ≡ true → l.gets (l.puts x) ≡ Ok x

@@ -5,10 +5,12 @@ use Rattle.serde_json.specs.Find.{get_member}
 use Rattle.cdp_json.specs.declared.fields.Field.{Field}
 use Rattle.cdp_json.specs.declared.fields.Field.TheVariants.{Is, Missing, WrongKind}
 
+-- a field that is there: its value, and WrongKind where it could not be read
 abbrev pub field_if : {T : Type 0} → Option T → Field T
 field_if None = WrongKind
 field_if (Some x) = Is x
 
+-- a field by the JSON at its name: Missing where there is none, and else as it is read
 abbrev pub field_from : {T : Type 0} → (Data → Option T) → Option Data → Field T
 field_from reads None = Missing
 field_from reads (Some d) = field_if (reads d)
@@ -17,6 +19,7 @@ field_from reads (Some d) = field_if (reads d)
 abbrev pub field_of : {T : Type 0} → (Data → Option T) → List ℕ → Members → Field T
 field_of reads name ms = field_from reads (get_member name ms)
 
+-- the same field with f applied to its value, where it has one
 abbrev pub field_map : {S T : Type 0} → (S → T) → Field S → Field T
 field_map f Missing = Missing
 field_map f WrongKind = WrongKind

@@ -20,18 +20,22 @@ abbrev pub passes : {T : Type 0} → Option (T → Bool) → T → Bool
 passes None x = true
 passes (Some test) x = test x
 
+-- there is no value, or it passes the test
 abbrev pub holds_of_some : {T : Type 0} → (T → Bool) → Option T → Bool
 holds_of_some test None = true
 holds_of_some test (Some x) = test x
 
+-- x, where it passes the test
 abbrev pub if_holds : {T : Type 0} → (T → Bool) → T → Option T
 if_holds test x = if test x then Some x else None
 
 -- ---- what a value is
 
+-- from 0 to 2^53-1
 abbrev pub is_counted : ℕ → Bool
 is_counted n = nat_lt n (2 ^ 53)
 
+-- the whole number that a JSON number is, where it is from 0 to 2^53-1
 abbrev pub unsigned_from : Num → Option ℕ
 unsigned_from (unsigned n) = if_holds is_counted n
 unsigned_from (negative z) = None
@@ -41,6 +45,7 @@ unsigned_from (float x) = None
 abbrev pub as_whole : Data → Option ℕ
 as_whole d = option_and_then unsigned_from (as_number d)
 
+-- -1, or from 1 to 2^53-1
 abbrev pub is_depth : ℤ → Bool
 is_depth z = int_eq z (negsuc 0) || (int_lt (pos 0) z && int_lt z (pos (2 ^ 53)))
 
@@ -53,6 +58,7 @@ abbrev pub is_signed : ℤ → Bool
 is_signed (pos n) = nat_lt n (2 ^ 63)
 is_signed (negsuc n) = nat_lt n (2 ^ 63)
 
+-- the whole number that a JSON number is, where it is from -2^63 to 2^63-1
 abbrev pub signed_from : Num → Option ℤ
 signed_from (unsigned n) = if_holds is_signed (pos n)
 signed_from (negative (pos n)) = None
@@ -65,22 +71,28 @@ as_signed d = option_and_then signed_from (as_number d)
 
 -- ---- the kinds that stand alone
 
+-- a number: a whole one from 0 to 2^53-1
 abbrev pub whole : Kind ℕ
 whole = record { spell = λ n. number (unsigned n); reads = as_whole; fits = is_counted; loose = None }
 
+-- a number: a whole one from -2^63 to 2^63-1
 abbrev pub signed : Kind ℤ
 signed = record { spell = λ z. number (of_integer z); reads = as_signed; fits = is_signed; loose = None }
 
+-- a string, as bytes
 abbrev pub text : Kind (List ℕ)
 text = record { spell = string; reads = as_str; fits = λ _. true; loose = None }
 
+-- a boolean
 abbrev pub flag : Kind Bool
 flag = record { spell = boolean; reads = as_bool; fits = λ _. true; loose = None }
 
+-- a boolean that is true
 abbrev pub true_from : Bool → Option ⊤
 true_from true = Some tt
 true_from false = None
 
+-- the JSON value `true`
 abbrev pub as_true : Data → Option ⊤
 as_true d = option_and_then true_from (as_bool d)
 
@@ -92,9 +104,11 @@ only_true = record { spell = λ _. boolean true; reads = as_true; fits = λ _. t
 abbrev pub anything : Kind Data
 anything = record { spell = λ d. d; reads = Some; fits = λ _. true; loose = Some is_plain }
 
+-- an array with items of any form
 abbrev pub any_items : Kind Items
 any_items = record { spell = array; reads = as_array; fits = λ _. true; loose = Some items_are_plain }
 
+-- an object with members of any form
 abbrev pub any_object : Kind Members
 any_object = record { spell = object; reads = as_object; fits = λ _. true; loose = Some members_are_plain }
 
@@ -122,9 +136,11 @@ choice name all = through text name (named name all)
 abbrev pub only_text : List ℕ → Kind ⊤
 only_text s = choice (λ _. s) (tt ∷ [])
 
+-- the list with x in front, where there is a list
 abbrev pub and_first : {T : Type 0} → T → Option (List T) → Option (List T)
 and_first x rest = option_map (λ xs. x ∷ xs) rest
 
+-- the values of all items of an array; None where one of them cannot be read
 abbrev pub read_items : {T : Type 0} → (Data → Option T) → Items → Option (List T)
 read_items reads no_items = Some []
 read_items reads (item d ds) = option_and_then (λ x. and_first x (read_items reads ds)) (reads d)

@@ -5,6 +5,7 @@ use Rattle.cdp_json.specs.Plain.{is_before, starts_after, is_plain, members_are_
 use Rattle.cdp_json.specs.Kinds.{Kind, passes}
 use Rattle.cdp_json.specs.Rows.{Row, members_of}
 
+-- What is read is spelled just so, and what was spelled is read again.
 pub record LawfulKind {T : Type 0} (k : Kind T) : Type 0 where
   -- what is read is spelled so
   pub takes : (d : Data) (x : T) → k.reads d ≡ Some x → (k.spell x ≡ d) × (k.fits x ≡ true)
@@ -18,6 +19,7 @@ abbrev pub is_before_all : List ℕ → List (List ℕ) → Bool
 is_before_all k [] = true
 is_before_all k (l ∷ ls) = is_before k l && is_before_all k ls
 
+-- The fields of an object: what is read is written just so, and what was written is read again.
 pub record LawfulRow {T : Type 0} (row : Row T) : Type 0 where
   pub takes : (ms : Members) (x : T) → row.gets ms ≡ Some x → (members_of (row.writes x) ≡ ms) × (row.fits x ≡ true)
   pub again : (x : T) → row.fits x ≡ true → row.gets (members_of (row.writes x)) ≡ Some x

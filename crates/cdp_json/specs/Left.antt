@@ -7,6 +7,7 @@ use Rattle.serde_json.specs.View.{view, members_view}
 use Rattle.serde_json.specs.declared.value.Value.{Value}
 use Rattle.cdp_json.specs.declared.cursor.Cursor.{Cursor}
 
+-- the entry ahead as a member, before the other members; no member where no entry is ahead
 abbrev from_ahead : Option (Bor (String Global) × Bor Value) → Members → Members
 from_ahead None ms = no_members
 from_ahead (Some e) ms = member (string_bytes e.0.now) (view e.1.now) ms

@@ -22,6 +22,7 @@ number_is_plain (negative (pos n)) = false
 number_is_plain (negative (negsuc n)) = nat_lt n (2 ^ 63)
 number_is_plain (float x) = false
 
+-- each number is a whole one of 64 bits, and the names of each object ascend by bytes
 abbrev mutual
   pub is_plain : Data → Bool
   is_plain null = true

@@ -13,6 +13,7 @@ abbrev pub first_at : List ℕ → Members → Option Data
 first_at name no_members = None
 first_at name (member k d ms) = if bytes_eq name k then Some d else None
 
+-- the members after the first
 abbrev pub after_first : Members → Members
 after_first no_members = no_members
 after_first (member k d ms) = ms
@@ -21,9 +22,11 @@ after_first (member k d ms) = ms
 abbrev pub need : {T : Type 0} → (Data → Option T) → List ℕ → Members → Option (T × Members)
 need reads name ms = option_map (beside (after_first ms)) (option_and_then reads (first_at name ms))
 
+-- a value that is there, with what is left after it
 abbrev pub some_beside : {A B : Type 0} → B → A → Option A × B
 some_beside b a = (Some a, b)
 
+-- a field that may be absent, by its JSON if any, with what is left after it; None where the JSON cannot be read
 abbrev pub may_from : {T : Type 0} → (Data → Option T) → Members → Option Data → Option (Option T × Members)
 may_from reads ms None = Some (None, ms)
 may_from reads ms (Some d) = option_map (some_beside (after_first ms)) (reads d)
@@ -32,6 +35,7 @@ may_from reads ms (Some d) = option_map (some_beside (after_first ms)) (reads d)
 abbrev pub may : {T : Type 0} → (Data → Option T) → List ℕ → Members → Option (Option T × Members)
 may reads name ms = may_from reads ms (first_at name ms)
 
+-- whether there is a value, with what is left after it
 abbrev pub is_there : {A B : Type 0} → Option A × B → Bool × B
 is_there p = (is_some p.0, p.1)
 
@@ -66,6 +70,7 @@ pub record Row (T : Type 0) : Type 0 where
   pub fits : T → Bool
   pub loose : Option (T → Bool)
 
+-- a value just where the condition holds
 abbrev pub unit_if : Bool → Option ⊤
 unit_if b = if b then Some tt else None
 
@@ -77,6 +82,7 @@ ends = record { names = []; writes = λ _. []; gets = λ ms. unit_if (is_done ms
 abbrev pub and_then : {A B : Type 0} → (Members → Option B) → Option (A × Members) → Option (A × B)
 and_then gets found = option_and_then (λ p. option_map (λ b. (p.0, b)) (gets p.1)) found
 
+-- the test of the loose parts of a pair, by those of its two sides
 abbrev pub both_loose : {A B : Type 0} → Option (A → Bool) → Option (B → Bool) → Option (A × B → Bool)
 both_loose None None = None
 both_loose None (Some g) = Some (λ p. g p.1)

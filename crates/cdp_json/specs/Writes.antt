@@ -7,6 +7,7 @@ use Rattle.serde_json.specs.declared.value.Value.{Value}
 use Rattle.cdp_json.specs.Rows.{Written}
 use Rattle.cdp_json.specs.Lawful.{is_before_all}
 
+-- a name and a value, if any, that code holds, as they are written
 abbrev pub written : Bor (List ℕ) × Option Value → Written
 written f = (f.0.now, option_map view f.1)
 
@@ -20,6 +21,7 @@ abbrev pub put_some : List ℕ → Option Data → Members → Members
 put_some name None ms = ms
 put_some name (Some d) ms = put name d ms
 
+-- the members, with the value of each field that has one at its name
 abbrev pub put_all : List Written → Members → Members
 put_all [] ms = ms
 put_all (f ∷ fs) ms = put_all fs (put_some f.0 f.1 ms)

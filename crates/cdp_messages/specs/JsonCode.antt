@@ -10,16 +10,19 @@ use Rattle.node_tree.specs.Nodes.{Nodes, none, node, coded_nodes}
 abbrev NumberCode : Type 0
 NumberCode = ℕ ⊎ (ℤ ⊎ Float)
 
+-- the code of a number
 abbrev number_code : Num → NumberCode
 number_code (unsigned n) = inl n
 number_code (negative z) = inr (inl z)
 number_code (float x) = inr (inr x)
 
+-- the number that a code stands for
 abbrev number_from : NumberCode → Num
 number_from (inl n) = unsigned n
 number_from (inr (inl z)) = negative z
 number_from (inr (inr x)) = float x
 
+-- the code of a number stands for that number
 number_back : (n : Num) → number_from (number_code n) ≡ n
 number_back (unsigned n) = refl
 number_back (negative z) = refl
@@ -29,6 +32,7 @@ number_back (float x) = refl
 abbrev Symbol : Type 0
 Symbol = Option (Bool ⊎ (NumberCode ⊎ (List ℕ ⊎ Bool)))
 
+-- the symbol of a value
 abbrev symbol : Data → Symbol
 symbol null = None
 symbol (boolean b) = Some (inl b)
@@ -41,6 +45,7 @@ symbol (object ms) = Some (inr (inr (inr false)))
 abbrev SymbolRow : Type 0
 SymbolRow = List ℕ × Symbol
 
+-- the rows of what stands inside a value, of items and of members; the row of an item has the empty name
 abbrev mutual
   inside : Data → Nodes SymbolRow
   inside null = none
@@ -58,6 +63,7 @@ abbrev mutual
   member_rows no_members = none
   member_rows (member k d ms) = node (k, symbol d) (inside d) (member_rows ms)
 
+-- the value of a symbol, with these items where it is an array, and these members where it is an object
 abbrev data_from : Symbol → Items → Members → Data
 data_from None ds ms = null
 data_from (Some (inl b)) ds ms = boolean b
@@ -92,12 +98,15 @@ mutual
   members_back no_members = refl
   members_back (member k d ms) = ap₂ (member k) (data_back d) (members_back ms)
 
+-- the code of a number by its form
 abbrev coded_number : Coded NumberCode
 coded_number = coded⊎ coded_ℕ (coded⊎ coded_ℤ coded_float)
 
+-- a symbol by its form
 abbrev coded_symbol : Coded Symbol
 coded_symbol = coded_option (coded⊎ coded_bool (coded⊎ coded_number (coded⊎ (coded_list coded_ℕ) coded_bool)))
 
+-- a value by its symbol and the rows of what stands inside
 abbrev pub coded_data : Coded Data
 coded_data =
     code_by (Symbol × Nodes SymbolRow) (coded× coded_symbol (coded_nodes (coded× (coded_list coded_ℕ) coded_symbol))) (λ d. (symbol d, inside d))

@@ -67,6 +67,7 @@ abbrev pub before : Option (Branch Told) → Option (Nodes Told) → Option (Nod
 before None t = None
 before (Some b) t = option_map (node b.row b.children) t
 
+-- a node and the nodes below it, as JSON spells them
 abbrev mutual
   -- a node that is told in this manner, at the top or below it
   pub tree_of : Manner → Bool → Data → Option (Branch Told)

@@ -15,9 +15,11 @@ use Rattle.cdp_messages.specs.Told.{told_branch}
 use Rattle.dom_agent.specs.Keepers.{session_keeper, binding_keeper}
 use Rattle.dom_agent.specs.Requests.{Outcome, shows_root, served, refused, outcome, state_after, moves_of}
 
+-- what a command comes to for a session with the page
 abbrev pub session_outcome : State → DomAsk → Session → Outcome Session
 session_outcome page c w = outcome (session_keeper (alone page.tree)) page.tree c w
 
+-- what a command comes to for a binding with the page
 abbrev pub binding_outcome : State → DomAsk → Bound → Outcome Bound
 binding_outcome page c b = outcome (binding_keeper (alone page.tree)) page.tree c b
 
@@ -79,6 +81,7 @@ IsReplyTo ask (shows_root w b) = answers (ask_name ask) (Root (told_branch 0 b))
 IsReplyTo ask (served p body) = answers (ask_name ask) body ≡ true
 IsReplyTo ask (refused why) = ⊤
 
+-- each command is refused, or its reply is one of its method
 abbrev pub RepliesAnswer : Type 0
 RepliesAnswer =
     (page : State) (ask : DomAsk) (w : Session) → IsValid page → fits_ask ask ≡ true → IsSession (alone page.tree) w

@@ -4,6 +4,7 @@ use Rattle.std.specs.Prelude.{◌≡◌, true}
 use Rattle.dom_agent.specs.declared.openings.Opening as held
 use Rattle.dom_agent.specs.Requests.{Opening}
 
+-- the opening that code holds
 abbrev pub opening_of : held.Opening → Opening
 opening_of o = record { levels = o.levels; node = o.node }
 

@@ -15,6 +15,7 @@ abbrev pub parts_after : Option (List ℕ) → List (List ℕ)
 parts_after None = []
 parts_after (Some text) = parts_of text
 
+-- the byte is a decimal digit
 abbrev pub is_digit : ℕ → Bool
 is_digit b = nat_le 48 b && nat_le b 57
 
@@ -23,6 +24,7 @@ abbrev pub number_from : ℕ → List ℕ → ℕ
 number_from n [] = n
 number_from n (b ∷ bs) = number_from (n * 10 + (b - 48)) bs
 
+-- the number that digits spell
 abbrev pub number_in : List ℕ → ℕ
 number_in digits = number_from 0 digits
 
@@ -41,9 +43,11 @@ pub record Step : Type 0 where
   pub index : ℕ
   pub name : List ℕ
 
+-- the step of an index and a name; None where the index does not have its form
 abbrev pub step_of : List ℕ → List ℕ → Option Step
 step_of index name = cond (is_index index) (Some (record { index = number_in index; name = name })) None
 
+-- a step before the others, where all are there
 abbrev pub onto : Option Step → Option (List Step) → Option (List Step)
 onto None steps = None
 onto (Some s) steps = option_map (λ ss. s ∷ ss) steps

@@ -179,6 +179,7 @@ module _ {S : Type 0} (k : Keeper S) (document : Branch Row) where
 
 -- ---- what is kept, and what is sent
 
+-- what is kept after a command; a refusal keeps what was there
 abbrev pub state_after : {S : Type 0} → S → Outcome S → S
 state_after w (shows_root z b) = z
 state_after w (served p body) = p.state

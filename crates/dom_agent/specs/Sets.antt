@@ -48,6 +48,7 @@ pub record IsAncestorOfOne (document : Branch Row) (serials : List ℕ) (t : ℕ
   pub listed : is_in serial serials ≡ true
   pub above : IsAncestor document serial t
 
+-- once the document is opened, a push by serials opens the proper ancestors of each node that has one of them
 abbrev pub SerialsOpen : Type 0
 SerialsOpen = (page : State) (serials : List ℕ) (w : Session) → IsValid page → is_open w.opened page.tree.row.serial ≡ true
     → OpensAlso w (state_after w (session_outcome page (PushBySerials serials) w)) (IsAncestorOfOne page.tree serials)

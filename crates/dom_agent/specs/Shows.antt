@@ -37,6 +37,7 @@ told_by (shows_root w b) = []
 told_by (served p body) = p.shown
 told_by (refused why) = []
 
+-- each event of a request for the children of the known node x tells a container's children, to the levels that are left
 abbrev pub RequestTells : Type 0
 RequestTells = (page : State) (id : ℕ) (depth : Option ℤ) (pierce : Option Bool) (w : Session) (x : Branch Row) → IsValid page → IsSession (alone page.tree) w
     → known_node (session_keeper (alone page.tree)) page.tree w (serial_at w (alone page.tree) id) ≡ Some x

@@ -9,14 +9,17 @@ use Rattle.page_tree.specs.Pages.{Row, row_serial, node_at}
 use Rattle.dom_breakpoints.specs.declared.pauses.WatchKind.{WatchKind}
 use Rattle.dom_breakpoints.specs.declared.pauses.WatchKind.TheVariants.{Subtree, Attribute, Removed}
 
+-- a set of nodes' serials
 abbrev pub Serials : Type 0
 Serials = set.FinSet nat_cmp
 
+-- the nodes watched for each kind of change, by their serials
 pub record Watched : Type 0 where
   pub subtree : Serials
   pub attribute : Serials
   pub removed : Serials
 
+-- how sets of watches are told apart: by the set of serials of each kind
 abbrev pub coded_watched : Coded Watched
 coded_watched =
     code_by (Serials × (Serials × Serials)) (coded× (set.code coded_ℕ) (coded× (set.code coded_ℕ) (set.code coded_ℕ)))
@@ -40,6 +43,7 @@ with_watch Subtree serial w = record { subtree = set.insert w.subtree serial; at
 with_watch Attribute serial w = record { subtree = w.subtree; attribute = set.insert w.attribute serial; removed = w.removed }
 with_watch Removed serial w = record { subtree = w.subtree; attribute = w.attribute; removed = set.insert w.removed serial }
 
+-- without the watch of that kind on the node
 abbrev pub without_watch : WatchKind → ℕ → Watched → Watched
 without_watch Subtree serial w = record { subtree = set.remove w.subtree serial; attribute = w.attribute; removed = w.removed }
 without_watch Attribute serial w = record { subtree = w.subtree; attribute = set.remove w.attribute serial; removed = w.removed }

@@ -17,6 +17,7 @@ pub record Bound : Type 0 where
   pub serials : map.FinMap nat_cmp ℕ
   pub next : ℕ
 
+-- a binding by its parts
 abbrev pub coded_bound : Coded Bound
 coded_bound =
     code_by ((set.FinSet nat_cmp × map.FinMap nat_cmp ℕ) × (map.FinMap nat_cmp ℕ × ℕ)) (coded× (coded× (set.code coded_ℕ) (map.code coded_ℕ coded_ℕ)) (coded× (map.code coded_ℕ coded_ℕ) coded_ℕ))
@@ -45,9 +46,11 @@ abbrev pub all_bound : List ℕ → Bound → Bound
 all_bound [] b = b
 all_bound (s ∷ ss) b = all_bound ss (with_bound s b)
 
+-- s is opened
 abbrev pub with_opened : ℕ → Bound → Bound
 with_opened s b = record { opened = set.insert b.opened s; ids = b.ids; serials = b.serials; next = b.next }
 
+-- each of them is opened
 abbrev pub all_opened : List ℕ → Bound → Bound
 all_opened [] b = b
 all_opened (s ∷ ss) b = all_opened ss (with_opened s b)

@@ -1,6 +1,7 @@
 -- How often a number stands in a list, and where.
 use Rattle.std.specs.Prelude.{ℕ, suc, ◌+◌, Bool, cond, not, ◌==◌, List, [], ◌∷◌}
 
+-- how often s stands in the list
 abbrev pub times : ℕ → List ℕ → ℕ
 times s [] = 0
 times s (x ∷ xs) = cond {A = ℕ} (x == s) 1 0 + times s xs

@@ -11,6 +11,7 @@ abbrev pub IsDepth : ℤ → Type 0
 IsDepth (pos d) = 1 ≤ d
 IsDepth (negsuc d) = d ≡ 0
 
+-- the levels that a depth stands for
 abbrev pub levels_of : ℤ → Option ℕ
 levels_of (pos d) = Some d
 levels_of (negsuc d) = None

@@ -20,6 +20,7 @@ pub record Session : Type 0 where
 abbrev pub session_of : (ℕ → Bool) → List ℕ → ℕ → Session
 session_of o pushed since = record { opened = Some o; pushed = pushed; since = since }
 
+-- s is in the opened set; nothing is where there is no such set
 abbrev pub is_open : Option (ℕ → Bool) → ℕ → Bool
 is_open None s = false
 is_open (Some o) s = o s
@@ -29,6 +30,7 @@ abbrev pub known_by : Option (ℕ → Bool) → Nodes Row → List ℕ
 known_by None n = []
 known_by (Some o) n = known o n
 
+-- what a client sees of the page, with the ids by i; nothing where nothing is opened
 abbrev pub cut_by : Option (ℕ → Bool) → (ℕ → ℕ) → Nodes Row → Nodes Seen
 cut_by None i n = none
 cut_by (Some o) i n = cut o i n
@@ -37,6 +39,7 @@ cut_by (Some o) i n = cut o i n
 abbrev pub ids_in : Session → ℕ → ℕ
 ids_in w s = id_of w.pushed w.since s
 
+-- the node s is known
 abbrev pub knows : Session → Nodes Row → ℕ → Bool
 knows w n s = is_in s (known_by w.opened n)
 

@@ -50,6 +50,7 @@ code_hold None = leaf
 code_hold (Some None) = opened
 code_hold (Some (Some n)) = counted n
 
+-- what code writes of what is shown below a node is read back as the same
 pub code_hold-hold_code : (h : Hold) → code_hold (hold_code h) ≡ h
 code_hold-hold_code leaf = refl
 code_hold-hold_code (counted n) = refl

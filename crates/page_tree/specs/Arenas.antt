@@ -17,6 +17,7 @@ use Rattle.page_tree.specs.declared.arenas.Arena.{Arena}
 abbrev pub slot_row : Slot → Row
 slot_row s = record { serial = s.serial; label = record { kind = s.kind; name = s.name; value = s.value; attributes = s.attributes } }
 
+-- what a slot of a page says: its node's row, its serial, its parent's key and its children's keys
 abbrev pub page_slots : SlotForm Slot Row
 page_slots = record { row = slot_row; number = row_serial; parent = λ s. s.parent; children = λ s. s.children }
 
@@ -24,6 +25,7 @@ page_slots = record { row = slot_row; number = row_serial; parent = λ s. s.pare
 abbrev pub slots_in : Arena → ℕ → Option Slot
 slots_in a = slab.get a.slots
 
+-- the key of the slot that has the serial
 abbrev pub keys_in : Arena → ℕ → Option ℕ
 keys_in a = map.get nat_cmp a.keys
 
@@ -142,6 +144,7 @@ place_in a serial (k ∷ ks) = cond {A = ℕ} (is_numbered a serial k) 0 (suc (p
 abbrev pub with_child_key : Arena → ℕ → ℕ → Slot → Slot
 with_child_key a before child slot = record slot { children = insert slot.children (place_in a before slot.children) child }
 
+-- the slot without the key of its child of that serial
 abbrev pub without_child_key : Arena → ℕ → Slot → Slot
 without_child_key a serial slot = record slot { children = remove slot.children (place_in a serial slot.children) }
 

@@ -17,6 +17,7 @@ max_nodes = 100000
 abbrev pub may_stand : Bool → Kind → Bool
 may_stand top kind = not (is_document kind) && (top || not (is_doctype kind))
 
+-- there is no node
 abbrev pub is_bare : Nodes Label → Bool
 is_bare none = true
 is_bare (node l c t) = false

@@ -21,6 +21,7 @@ use Rattle.page_tree.specs.declared.faults.LoadErr.TheVariants.{Fault, Memory}
 
 -- ---- attributes: a flat list of names and values
 
+-- names and values in turn, as pairs; None where a name has no value or an item is not a string
 abbrev pub pairs_of : Items → Option (List Pair)
 pairs_of no_items = Some []
 pairs_of (item n no_items) = None
@@ -60,9 +61,11 @@ times_of key d = cond (is_some (get key d)) 1 0
 abbrev pub text_at : List ℕ → Data → Option (List ℕ)
 text_at key d = option_and_then as_str (get key d)
 
+-- the text at a property that is the only one
 abbrev pub text_alone : List ℕ → Data → Option (List ℕ)
 text_alone key d = cond (property_count d == 1) (text_at key d) None
 
+-- the label of that kind, name, value and attributes
 abbrev pub labelled : Kind → List ℕ → List ℕ → List Pair → Label
 labelled kind name value attributes = record { kind = kind; name = name; value = value; attributes = attributes }
 
@@ -74,6 +77,7 @@ attributes_at d = option_map_or attributes_of (get (codes "a") d) (Some [])
 abbrev pub element_name : Data → Option (List ℕ)
 element_name d = cond (property_count d == 1 + times_of (codes "a") d + times_of (codes "c") d) (text_at (codes "e") d) None
 
+-- the label of the element that an object spells
 abbrev pub element_label : Data → Option Label
 element_label d = option_and_then (λ name. option_map (labelled Element name []) (attributes_at d)) (element_name d)
 
@@ -88,9 +92,11 @@ label_of top d =
 
 -- ---- nodes
 
+-- a node and what is below it, where both are there
 abbrev pub branch_of : Option Label → Option (Nodes Label) → Option (Branch Label)
 branch_of l n = option_and_then (λ l. option_map (λ n. record { row = l; children = n }) n) l
 
+-- a tree before those that follow it, where both are there
 abbrev pub before : Option (Branch Label) → Option (Nodes Label) → Option (Nodes Label)
 before b n = option_and_then (λ b. option_map (node b.row b.children) n) b
 
@@ -140,12 +146,15 @@ abbrev pub first_true : {F : Type 0} → List (F × Bool) → Option F
 first_true [] = None
 first_true (x ∷ xs) = cond x.1 (Some x.0) (first_true xs)
 
+-- below a document, no node is on a level beyond the highest
 abbrev pub are_low : Nodes Label → Bool
 are_low n = nat_le (height n) max_level
 
+-- the nodes and a document are no more than a page may have
 abbrev pub are_few : Nodes Label → Bool
 are_few n = nat_le (suc (node_count n)) max_nodes
 
+-- the faults that nodes may have, each with whether they have it, in the order in which they count
 abbrev pub limit_faults : Nodes Label → List (LoadFault × Bool)
 limit_faults n = (TooDeep, not (are_low n)) ∷ (TooMany, not (are_few n)) ∷ (BadName, not (are_named n)) ∷ []
 

@@ -12,12 +12,15 @@ pub record Row : Type 0 where
   pub serial : ℕ
   pub label : Label
 
+-- the serial of a node
 abbrev pub row_serial : Row → ℕ
 row_serial r = r.serial
 
+-- the label of a node
 abbrev pub row_label : Row → Label
 row_label r = r.label
 
+-- a row by its parts
 abbrev pub coded_row : Coded Row
 coded_row = code_by (ℕ × Label) (coded× coded_ℕ coded_label) (λ r. (r.serial, r.label)) (λ p. record { serial = p.0; label = p.1 }) (λ _. refl)
 
@@ -26,6 +29,7 @@ pub record State : Type 0 where
   pub tree : Branch Row
   pub next : ℕ
 
+-- a page by its parts
 abbrev pub coded_state : Coded State
 coded_state = code_by (Branch Row × ℕ) (coded× (coded_branch coded_row) coded_ℕ) (λ p. (p.tree, p.next)) (λ p. record { tree = p.0; next = p.1 }) (λ _. refl)
 
@@ -64,6 +68,7 @@ pub record IsValid (page : State) : Type 0 where
 
 -- ---- a load
 
+-- the label of the document
 abbrev pub document_label : Label
 document_label = record { kind = Document; name = []; value = []; attributes = [] }
 

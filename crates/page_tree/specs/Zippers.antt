@@ -18,6 +18,7 @@ pub record Zipper : Type 0 where
   pub after : Nodes Row
   pub above : List Generation
 
+-- a node among its siblings, by its parts
 abbrev pub coded_generation : Coded Generation
 coded_generation =
     code_by (Branch Row × (List (Branch Row) × Nodes Row)) (coded× (coded_branch coded_row) (coded× (coded_list (coded_branch coded_row)) (coded_nodes coded_row)))
@@ -25,15 +26,19 @@ coded_generation =
     (λ p. record { branch = p.0; before = p.1.0; after = p.1.1 })
     (λ _. refl)
 
+-- the node among its siblings, without what is above it
 abbrev pub generation_of : Zipper → Generation
 generation_of z = record { branch = z.branch; before = z.before; after = z.after }
 
+-- a node among its siblings, with what is above it
 abbrev pub zipper_of : Generation → List Generation → Zipper
 zipper_of g above = record { branch = g.branch; before = g.before; after = g.after; above = above }
 
+-- a zipper by its parts
 abbrev pub coded_zipper : Coded Zipper
 coded_zipper = code_by (Generation × List Generation) (coded× coded_generation (coded_list coded_generation)) (λ z. (generation_of z, z.above)) (λ p. zipper_of p.0 p.1) (λ _. refl)
 
+-- the serial of the node
 abbrev pub serial_of : Zipper → ℕ
 serial_of z = z.branch.row.serial
 
@@ -44,6 +49,7 @@ abbrev pub ancestors_in : List Generation → List Zipper
 ancestors_in [] = []
 ancestors_in (g ∷ above) = zipper_of g above ∷ ancestors_in above
 
+-- the proper ancestors of a node, from its parent up to the root
 abbrev pub ancestors : Zipper → List Zipper
 ancestors z = ancestors_in z.above
 
@@ -69,10 +75,12 @@ later z = in_row z.above (z.branch ∷ z.before) z.after
 abbrev pub children_of : Zipper → List Zipper
 children_of z = in_row (generation_of z ∷ z.above) [] z.branch.children
 
+-- the first of a list, if there is one
 abbrev pub head : List Zipper → Option Zipper
 head [] = None
 head (z ∷ zs) = Some z
 
+-- the parent; the root has none
 abbrev pub parent_of : Zipper → Option Zipper
 parent_of z = head (ancestors z)
 
@@ -84,6 +92,7 @@ previous_of z = head (earlier z)
 abbrev pub next_of : Zipper → Option Zipper
 next_of z = head (later z)
 
+-- the first child, if there is one
 abbrev pub first_child_of : Zipper → Option Zipper
 first_child_of z = head (children_of z)
 
@@ -104,9 +113,11 @@ below z = all_in (generation_of z ∷ z.above) [] z.branch.children
 abbrev pub zippers : Branch Row → List Zipper
 zippers tree = all_in [] [] (alone tree)
 
+-- the root of a tree
 abbrev pub root_of : Branch Row → Zipper
 root_of tree = record { branch = tree; before = []; after = none; above = [] }
 
+-- the node has the serial
 abbrev pub has_serial : ℕ → Zipper → Bool
 has_serial serial z = serial_of z == serial
 

@@ -10,18 +10,23 @@ use Rattle.selectors.specs.declared.selector.NthKind.{NthKind}
 use Rattle.selectors.specs.declared.selector.NthKind.TheVariants.{Child, LastChild, OfType, LastOfType}
 use Rattle.select_match.specs.Texts.{is_empty}
 
+-- the label of a node
 abbrev pub label_of : Zipper → Label
 label_of z = z.branch.row.label
 
+-- the kind of a node
 abbrev pub kind_of : Zipper → Kind
 kind_of z = (label_of z).kind
 
+-- the name of a node
 abbrev pub name_of : Zipper → List ℕ
 name_of z = (label_of z).name
 
+-- the attributes of a node
 abbrev pub attributes_of : Zipper → List Pair
 attributes_of z = (label_of z).attributes
 
+-- the node is an element
 abbrev pub is_element : Zipper → Bool
 is_element z = labels.is_element (kind_of z)
 

@@ -25,6 +25,7 @@ test_holds only_child z = index sides.Child z == 1 && index sides.LastChild z ==
 test_holds only_of_type z = index sides.OfType z == 1 && index sides.LastOfType z == 1
 test_holds never z = false
 
+-- what a simple selector asks of an element, whether it stands alone or inside `:not()`
 abbrev pub simple_holds : SimpleForm → Zipper → Bool
 simple_holds (is t) z = test_holds t z
 simple_holds (is_not t) z = not (test_holds t z)

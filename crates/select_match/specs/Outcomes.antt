@@ -5,6 +5,7 @@ use Rattle.page_tree.specs.Zippers.{Generation, Zipper, zipper_of, earlier}
 use Rattle.select_match.specs.declared.outcome.Outcome.{Outcome}
 use Rattle.select_match.specs.declared.outcome.Outcome.TheVariants.{Found, NotHere, NotBeside, Nowhere}
 
+-- the ancestors, the nearest first, each with the siblings before it
 abbrev pub behind_in : List Generation → List Zipper
 behind_in [] = []
 behind_in (g ∷ above) = zipper_of g above ∷ (earlier (zipper_of g above) ++ behind_in above)

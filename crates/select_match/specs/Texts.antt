@@ -11,6 +11,7 @@ use Rattle.selectors.specs.declared.selector.AttrOp.TheVariants.{Exists, Equal, 
 abbrev pub same_name : List ℕ → List ℕ → Bool
 same_name a b = bytes_eq (map to_ascii_lowercase a) (map to_ascii_lowercase b)
 
+-- the text has no byte
 abbrev pub is_empty : List ℕ → Bool
 is_empty text = length text == 0
 

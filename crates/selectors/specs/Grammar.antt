@@ -48,6 +48,7 @@ pub data IsArgument : List ℕ → List Word → TestForm → Type 0 where
   a_any : (text : List ℕ) (w : Word) → w.kind ≡ Mark 42 → IsArgument text (w ∷ []) any
   a_test : (text : List ℕ) (front : List Word) (t : TestForm) → IsTest text front t → IsArgument text front t
 
+-- a pseudo-element: two colons and a name, or one colon and one of the four old names
 pub data IsElement : List ℕ → List Word → Type 0 where
   one_colon : (text : List ℕ) (colon name : Word) → colon.kind ≡ Mark 58 → name.kind ≡ Ident → name.spaced ≡ false → is_element (lower_of text name) ≡ true → IsElement text (colon ∷ name ∷ [])
   two_colons : (text : List ℕ) (colon second name : Word) → colon.kind ≡ Mark 58 → second.kind ≡ Mark 58 → second.spaced ≡ false → name.kind ≡ Ident → name.spaced ≡ false
@@ -77,9 +78,11 @@ abbrev pub IsTight : List Word → Type 0
 IsTight [] = ⊥
 IsTight (w ∷ ws) = w.spaced ≡ false
 
+-- a part of a compound behind its first: an item with no white space before it
 abbrev pub IsNextItem : List ℕ → List Word → Item → Type 0
 IsNextItem text front x = IsTight front × IsItem text front x
 
+-- all words are one compound: its first part and the parts that follow it tightly
 pub record IsCompound (text : List ℕ) (all : List Word) (x : Item) : Type 0 where
   pub front : List Word
   pub rest : List Word
@@ -95,6 +98,7 @@ pub data IsCombinator : List Word → List Word → Joint → Type 0 where
   mark : (w : Word) (compound : List Word) (joint : Joint) → combinator_of w.kind ≡ Some joint → IsCombinator (w ∷ []) compound joint
   white : (w : Word) (ws : List Word) → w.spaced ≡ true → IsCombinator [] (w ∷ ws) joints.Descendant
 
+-- all words are a combinator and the compound behind it
 pub record IsJoined (text : List ℕ) (all : List Word) (x : Joined) : Type 0 where
   pub combinator : List Word
   pub compound : List Word
@@ -105,6 +109,7 @@ pub record IsJoined (text : List ℕ) (all : List Word) (x : Joined) : Type 0 wh
   pub is_compound : IsCompound text compound item
   pub whole : x ≡ (compound_form joint item.0 ∷ [], item.1)
 
+-- all words are a selector: a compound, and compounds each behind a combinator
 pub record IsSelector (text : List ℕ) (all : List Word) (s : SelectorForm) : Type 0 where
   pub compound : List Word
   pub rest : List Word
@@ -123,5 +128,6 @@ AreSelectors text [] [] = Unit {0}
 AreSelectors text (own ∷ others) (s ∷ ss) = IsSelector text own s × AreSelectors text others ss
 AreSelectors text _ _ = ⊥
 
+-- the text spells this selector list: its selectors are what stands between the commas, in turn
 abbrev pub IsSelectorList : List ℕ → List SelectorForm → Type 0
 IsSelectorList text ss = AreSelectors text (segments (words_of text)) ss

@@ -5,6 +5,7 @@ use Rattle.css_tokens.specs.Codes.{is_sign, begins}
 use Rattle.selectors.specs.Forms.{◌>>=◌}
 use Rattle.css_tokens.specs.Runs.{white_run, digits, sign_len}
 
+-- the text without the white space that it begins with
 abbrev pub skip_white : List ℕ → List ℕ
 skip_white text = drop (white_run text) text
 
@@ -16,9 +17,11 @@ is_blank text = white_run text == length text
 abbrev pub decimal : List ℕ → ℕ
 decimal ds = fold (λ n d. n * 10 + digit_value d) 0 ds
 
+-- the number, or its negative where the sign is minus
 abbrev pub signed : Bool → ℕ → ℤ
 signed negative n = if negative then neg_ℤ (pos n) else pos n
 
+-- the text begins with `-`
 abbrev pub is_negative : List ℕ → Bool
 is_negative text = begins (λ c. c == 45) text
 
@@ -30,6 +33,7 @@ number_at text = if nat_le (digits text) 9 then Some (decimal (take (digits text
 abbrev pub ends_number : List ℕ → Bool
 ends_number text = nat_lt 0 (digits text) && is_blank (drop (digits text) text)
 
+-- this offset where the test holds, otherwise none
 abbrev pub offset_if : Bool → ℤ → Option ℤ
 offset_if test z = if test then Some z else None
 
@@ -75,6 +79,7 @@ abbrev pub is_even : List ℕ → Bool
 is_even (a ∷ b ∷ c ∷ d ∷ rest) = (is_letter 101 a && is_letter 118 b) && ((is_letter 101 c && is_letter 110 d) && is_blank rest)
 is_even _ = false
 
+-- step and offset of a text with no white space before it: `odd`, `even`, or an+b
 abbrev pub nth_by : List ℕ → Option (ℤ × ℤ)
 nth_by own = if is_odd own then Some (pos 2, pos 1) else (if is_even own then Some (pos 2, pos 0) else linear_of own)
 

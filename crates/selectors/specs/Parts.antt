@@ -15,5 +15,6 @@ many_in ends read (suc n) element r =
     if ends r then Some (([], element), r)
     else (if element then None else (read r >>= λ x. with_front x.0.0 (many_in ends read n x.0.1 x.1)))
 
+-- the parts from here to where `ends` holds, if each can be read; none may follow if a pseudo-element stands before
 abbrev pub many : {X : Type 0} → (Reading → Bool) → (Reading → Option ((List X × Bool) × Reading)) → Bool → Reading → Option ((List X × Bool) × Reading)
 many ends read element r = many_in ends read (suc (length r.words)) element r

@@ -22,5 +22,6 @@ abbrev pub AreTiles : List ℕ → ℕ → ℕ → List Token → Type 0
 AreTiles text from to [] = from ≡ to
 AreTiles text from to (t ∷ ts) = (t.start ≡ from) × IsCutAt text t × AreTiles text t.end to ts
 
+-- the ranges of the selectors, in turn
 abbrev pub ranges_of : List SelectorForm → List Range
 ranges_of ss = map (λ s. s.range) ss

@@ -26,6 +26,7 @@ use Rattle.selectors.specs.Parts.{with_front, many}
 abbrev pub value_of : List ℕ → Word → List ℕ
 value_of text w = unescaped (between text w.start w.end)
 
+-- the value of a hash, without its `#`
 abbrev pub id_of : List ℕ → Word → List ℕ
 id_of text w = unescaped (between text (w.start + 1) w.end)
 
@@ -33,6 +34,7 @@ id_of text w = unescaped (between text (w.start + 1) w.end)
 abbrev pub string_end : List ℕ → Word → ℕ
 string_end text w = if nat_lt (w.start + 1) w.end && slice_index text (w.end - 1) == slice_index text w.start then w.end - 1 else w.end
 
+-- the value of a string, without its quotes
 abbrev pub string_of : List ℕ → Word → List ℕ
 string_of text w = unescaped (between text (w.start + 1) (string_end text w))
 
@@ -40,9 +42,11 @@ string_of text w = unescaped (between text (w.start + 1) (string_end text w))
 abbrev pub lower_of : List ℕ → Word → List ℕ
 lower_of text w = map to_ascii_lowercase (value_of text w)
 
+-- a function's name in lower case, without its `(`
 abbrev pub function_of : List ℕ → Word → List ℕ
 function_of text w = map to_ascii_lowercase (unescaped (between text w.start (w.end - 1)))
 
+-- there is a first word, and p holds of it
 abbrev pub first_is : (Word → Bool) → List Word → Bool
 first_is p [] = false
 first_is p (w ∷ ws) = p w
@@ -51,34 +55,42 @@ first_is p (w ∷ ws) = p w
 abbrev pub is_tight : Reading → Bool
 is_tight r = first_is (λ w. not w.spaced) r.words
 
+-- what follows this mark, if it is the next word
 abbrev pub take_mark : ℕ → Reading → Option Reading
 take_mark c r = next_word r >>= λ w. if is_mark c w.0.kind then Some w.1 else None
 
+-- the value of an ident, none for a word of another kind
 abbrev pub name_by : List ℕ → WordKind → Option (List ℕ)
 name_by value Ident = Some value
 name_by value _ = None
 
+-- a value together with what is still to be read, if there is a value
 abbrev pub with_rest : {A : Type 0} → Option A → Reading → Option (A × Reading)
 with_rest None r = None
 with_rest (Some x) r = Some (x, r)
 
+-- an ident's value
 unfoldable pub ident_at : Reading → Option (List ℕ × Reading)
 ident_at r = next_word r >>= λ w. with_rest (name_by (value_of r.text w.0) w.0.kind) w.1
 
+-- an ident's value, with no white space before the ident
 abbrev pub tight_ident_at : Reading → Option (List ℕ × Reading)
 tight_ident_at r = if is_tight r then ident_at r else None
 
 -- ---- attribute selectors
 
+-- the attribute operator that a mark begins: `~`, `|`, `^`, `$` or `*`
 abbrev pub operator_of : WordKind → Option AttrOp
 operator_of (Mark c) =
     if c == 126 then Some ops.Word else (if c == 124 then Some ops.Dash else (if c == 94 then Some ops.Prefix
     else (if c == 36 then Some ops.Suffix else (if c == 42 then Some ops.Part else None))))
 operator_of _ = None
 
+-- the operator op, if `=` stands right behind its first mark w
 abbrev pub equals_at : Word → AttrOp → Reading → Option (AttrOp × Reading)
 equals_at w op r = next_word r >>= λ e. if is_mark 61 e.0.kind && e.0.start == w.end then Some (op, e.1) else None
 
+-- an attribute operator, of which w is the first word
 abbrev pub operator_from : Word → Reading → Option (AttrOp × Reading)
 operator_from w r = if is_mark 61 w.kind then Some (ops.Equal, r) else (operator_of w.kind >>= λ op. equals_at w op r)
 
@@ -86,17 +98,21 @@ operator_from w r = if is_mark 61 w.kind then Some (ops.Equal, r) else (operator
 unfoldable pub operator_at : Reading → Option (AttrOp × Reading)
 operator_at r = next_word r >>= λ w. operator_from w.0 w.1
 
+-- an attribute selector's operand: an ident's value or a string's, none for a word of another kind
 abbrev pub operand_by : List ℕ → List ℕ → WordKind → Option (List ℕ)
 operand_by name string Ident = Some name
 operand_by name string Str = Some string
 operand_by name string _ = None
 
+-- the operand of an attribute selector
 unfoldable pub operand_at : Reading → Option (List ℕ × Reading)
 operand_at r = next_word r >>= λ w. with_rest (operand_by (value_of r.text w.0) (string_of r.text w.0) w.0.kind) w.1
 
+-- after the name, `]`: the element has the attribute
 abbrev pub exists_at : List ℕ → Reading → Option (TestForm × Reading)
 exists_at name r = take_mark 93 r >>= λ rest. Some (attr name ops.Exists [], rest)
 
+-- after the name, an operator, an operand and `]`
 abbrev pub compare_at : List ℕ → Reading → Option (TestForm × Reading)
 compare_at name r = operator_at r >>= λ op. operand_at op.1 >>= λ operand. take_mark 93 operand.1 >>= λ rest. Some (attr name op.0 operand.0, rest)
 
@@ -110,9 +126,11 @@ attribute_at r = ident_at r >>= λ name. attribute_after name.0 name.1
 
 -- ---- pseudo-classes
 
+-- position 1 by this kind of counting: an+b with step 0 and offset 1
 abbrev pub first_child : NthKind → TestForm
 first_child kind = nth kind (pos 0) (pos 1)
 
+-- the name is this word
 abbrev pub is_named : List ℕ → List ℕ → Bool
 is_named word name = bytes_eq name word
 
@@ -123,6 +141,7 @@ is_never name =
     || is_named (codes "link") name || is_named (codes "visited") name || is_named (codes "target") name
     || is_named (codes "enabled") name || is_named (codes "disabled") name || is_named (codes "checked") name
 
+-- the test of a pseudo-class without an argument, by its name in lower case
 unfoldable pub pseudo_class : List ℕ → Option TestForm
 pseudo_class name =
     if is_named (codes "root") name then Some root
@@ -135,11 +154,13 @@ pseudo_class name =
     else (if is_named (codes "only-of-type") name then Some only_of_type
     else (if is_never name then Some never else None))))))))
 
+-- the names of the pseudo-elements
 unfoldable pub is_element : List ℕ → Bool
 is_element name =
     is_named (codes "before") name || is_named (codes "after") name
     || is_named (codes "first-line") name || is_named (codes "first-letter") name
 
+-- what a pseudo-class with an argument an+b counts, by its name in lower case
 unfoldable pub nth_kind : List ℕ → Option NthKind
 nth_kind name =
     if is_named (codes "nth-child") name then Some nths.Child
@@ -152,6 +173,7 @@ unfoldable pub closing : List Word → Option (Word × List Word)
 closing [] = None
 closing (w ∷ ws) = if is_mark 41 w.kind then Some (w, ws) else closing ws
 
+-- the first `)`, and the reading behind it
 abbrev pub closing_at : Reading → Option (Word × Reading)
 closing_at r = closing r.words >>= λ x. Some (x.0, reading r.text x.1)
 
@@ -159,6 +181,7 @@ closing_at r = closing r.words >>= λ x. Some (x.0, reading r.text x.1)
 unfoldable pub nth_at : NthKind → ℕ → Reading → Option (TestForm × Reading)
 nth_at kind start r = closing_at r >>= λ close. nth_of (between r.text start close.0.start) >>= λ v. Some (nth kind v.0 v.1, close.1)
 
+-- what follows this mark, if it is the next word with no white space before it
 abbrev pub tight_mark_at : ℕ → Reading → Option Reading
 tight_mark_at c r = if is_tight r then take_mark c r else None
 
@@ -174,9 +197,11 @@ function_at name start r =
 
 -- ---- simple selectors
 
+-- after `.`, an ident with no white space before it
 abbrev pub class_at : Reading → Option (TestForm × Reading)
 class_at r = tight_ident_at r >>= λ n. Some (class n.0, n.1)
 
+-- an id, a class or an attribute selector, by the kind of its first word w
 abbrev pub plain_by : Word → Reading → WordKind → Option (TestForm × Reading)
 plain_by w r Id = Some (id (id_of r.text w), r)
 plain_by w r (Mark c) = if c == 46 then class_at r else (if c == 91 then attribute_at r else None)
@@ -190,9 +215,11 @@ plain_from w r = plain_by w r w.kind
 abbrev pub named_at : Word → Reading → Option (TestForm × Reading)
 named_at w r = with_rest (pseudo_class (lower_of r.text w)) r
 
+-- a pseudo-class with an argument but `:not`, of which w is the function
 abbrev pub called_at : Word → Reading → Option (TestForm × Reading)
 called_at w r = function_at (function_of r.text w) w.end r
 
+-- after `:`, a pseudo-class but `:not`, by the kind of the word w
 abbrev pub pseudo_by : Word → Reading → WordKind → Option (TestForm × Reading)
 pseudo_by w r Ident = named_at w r
 pseudo_by w r Function = called_at w r
@@ -202,6 +229,7 @@ pseudo_by w r _ = None
 unfoldable pub pseudo_at : Reading → Option (TestForm × Reading)
 pseudo_at r = next_word r >>= λ w. if w.0.spaced then None else pseudo_by w.0 w.1 w.0.kind
 
+-- the argument of `:not`, by the kind of its first word w: a type, `*`, or another simple selector but `:not`
 abbrev pub argument_by : Word → Reading → WordKind → Option (TestForm × Reading)
 argument_by w r Ident = Some (tag (value_of r.text w), r)
 argument_by w r (Mark c) = if c == 42 then Some (any, r) else (if c == 58 then pseudo_at r else plain_from w r)
@@ -211,6 +239,7 @@ argument_by w r _ = plain_from w r
 unfoldable pub argument_from : Word → Reading → Option (TestForm × Reading)
 argument_from w r = argument_by w r w.kind
 
+-- the argument of `:not`, from the next word on
 abbrev pub argument_at : Reading → Option (TestForm × Reading)
 argument_at r = next_word r >>= λ w. argument_from w.0 w.1
 
@@ -227,10 +256,12 @@ abbrev pub item_seen : Option Simple → Item
 item_seen None = ([], true)
 item_seen (Some s) = (simple_seen s ∷ [], false)
 
+-- a test that was read, as a part of a compound
 abbrev pub item_is : Option (TestForm × Reading) → Option (Item × Reading)
 item_is None = None
 item_is (Some x) = Some ((is x.0 ∷ [], false), x.1)
 
+-- the argument of `:not` that was read, negated, as a part of a compound
 abbrev pub item_is_not : Option (TestForm × Reading) → Option (Item × Reading)
 item_is_not None = None
 item_is_not (Some x) = Some ((is_not x.0 ∷ [], false), x.1)
@@ -247,6 +278,7 @@ colon_named w r = if is_element (lower_of r.text w) then Some (([], true), r) el
 abbrev pub colon_called : Word → Reading → Option (Item × Reading)
 colon_called w r = if is_named (codes "not") (function_of r.text w) then item_is_not (not_at r) else item_is (called_at w r)
 
+-- after `:`, a pseudo-class or a pseudo-element, by the kind of the word w
 abbrev pub colon_by : Word → Reading → WordKind → Option (Item × Reading)
 colon_by w r Ident = colon_named w r
 colon_by w r Function = colon_called w r
@@ -257,12 +289,15 @@ colon_by w r _ = None
 unfoldable pub colon_at : Reading → Option (Item × Reading)
 colon_at r = next_word r >>= λ w. if w.0.spaced then None else colon_by w.0 w.1 w.0.kind
 
+-- a part of a compound that begins with this word
 unfoldable pub item_from : Word → Reading → Option (Item × Reading)
 item_from w r = if is_mark 58 w.kind then colon_at r else item_is (plain_from w r)
 
+-- a compound's part from the next word on, neither a type nor `*`
 abbrev pub item_at : Reading → Option (Item × Reading)
 item_at r = next_word r >>= λ w. item_from w.0 w.1
 
+-- a compound's first part, by the kind of its first word w: a type, `*`, or any other part
 abbrev pub first_by : Word → Reading → WordKind → Option (Item × Reading)
 first_by w r Ident = Some ((is (tag (value_of r.text w)) ∷ [], false), r)
 first_by w r (Mark c) = if c == 42 then Some ((is any ∷ [], false), r) else item_from w r
@@ -272,15 +307,18 @@ first_by w r _ = item_from w r
 unfoldable pub first_from : Word → Reading → Option (Item × Reading)
 first_from w r = first_by w r w.kind
 
+-- a compound's first part, from the next word on
 abbrev pub first_at : Reading → Option (Item × Reading)
 first_at r = next_word r >>= λ w. first_from w.0 w.1
 
 -- ---- compounds and selectors
 
+-- the combinator that a mark is: `>`, `+` or `~`
 abbrev pub combinator_of : WordKind → Option Joint
 combinator_of (Mark c) = if c == 62 then Some joints.Child else (if c == 43 then Some joints.Next else (if c == 126 then Some joints.Later else None))
 combinator_of _ = None
 
+-- a compound ends before this word: there is none, white space stands before it, or it is a combinator
 abbrev pub ends_by : Option Word → Bool
 ends_by None = true
 ends_by (Some w) = w.spaced || is_some (combinator_of w.kind)
@@ -289,22 +327,28 @@ ends_by (Some w) = w.spaced || is_some (combinator_of w.kind)
 abbrev pub ends_compound : Reading → Bool
 ends_compound r = ends_by (head r)
 
+-- the parts that follow in the same compound
 unfoldable pub tests_at : Bool → Reading → Option (Item × Reading)
 tests_at element r = many ends_compound item_at element r
 
+-- Compounds, each with the combinator on its left, and whether the last ends in a pseudo-element.
 abbrev pub Joined : Type 0
 Joined = List CompoundForm × Bool
 
+-- a compound as the code has it, and whether it ends in a pseudo-element
 abbrev pub joined_seen : Compound × Bool → Joined
 joined_seen x = (compound_seen x.0 ∷ [], x.1)
 
+-- the parts that were read, as one compound with this combinator on its left
 abbrev pub compound_of : Joint → Option (Item × Reading) → Option (Joined × Reading)
 compound_of joint None = None
 compound_of joint (Some x) = Some ((compound_form joint x.0.0 ∷ [], x.0.1), x.1)
 
+-- a compound with this combinator on its left
 unfoldable pub compound_at : Joint → Reading → Option (Joined × Reading)
 compound_at joint r = first_at r >>= λ first. compound_of joint (with_front first.0.0 (tests_at first.0.1 first.1))
 
+-- the combinator that the next word is, or else the descendant combinator where white space stands before that word
 abbrev pub joint_of : Reading → Reading → Option Joint → Bool → Option (Joint × Reading)
 joint_of r rest (Some joint) spaced = Some (joint, rest)
 joint_of r rest None true = Some (joints.Descendant, r)
@@ -314,16 +358,20 @@ joint_of r rest None false = None
 unfoldable pub joint_at : Reading → Option (Joint × Reading)
 joint_at r = next_word r >>= λ w. joint_of r w.1 (combinator_of w.0.kind) w.0.spaced
 
+-- a combinator and the compound behind it
 unfoldable pub joined_at : Reading → Option (Joined × Reading)
 joined_at r = joint_at r >>= λ j. compound_at j.0 j.1
 
+-- no words are left
 abbrev pub is_over : List Word → Bool
 is_over [] = true
 is_over (w ∷ ws) = false
 
+-- the selector ends here: no words are left to read
 abbrev pub ends_selector : Reading → Bool
 ends_selector r = is_over r.words
 
+-- the compounds up to the end, each with its combinator
 unfoldable pub compounds_at : Bool → Reading → Option (Joined × Reading)
 compounds_at element r = many ends_selector joined_at element r
 
@@ -332,12 +380,15 @@ abbrev pub range_by : Option Word → Option Word → Option Range
 range_by (Some first) (Some last) = Some (record { start = first.start; end = last.end })
 range_by _ _ = None
 
+-- the range from the first word to the last, none where there are no words
 abbrev pub range_of : List Word → Option Range
 range_of ws = range_by (slice_get ws 0) (slice_get ws (length ws - 1))
 
+-- the selector with this range, these compounds and this pseudo-element flag
 abbrev pub selector_form : Range → Joined → SelectorForm
 selector_form range x = record { compounds = x.0; pseudo_element = x.1; range = range }
 
+-- a first compound and those behind it
 unfoldable pub joined_of : Reading → Option (Joined × Reading)
 joined_of r = compound_at joints.Descendant r >>= λ first. with_front first.0.0 (compounds_at first.0.1 first.1)
 
@@ -352,18 +403,22 @@ abbrev pub put_first : Word → List (List Word) → List (List Word)
 put_first w [] = (w ∷ []) ∷ []
 put_first w (own ∷ others) = (w ∷ own) ∷ others
 
+-- the words between the commas, one list more than there are commas
 unfoldable pub segments : List Word → List (List Word)
 segments [] = [] ∷ []
 segments (w ∷ ws) = if is_mark 44 w.kind then [] ∷ segments ws else put_first w (segments ws)
 
+-- a selector in front of those that were read, if they were
 abbrev pub put_before : SelectorForm → Option (List SelectorForm) → Option (List SelectorForm)
 put_before s None = None
 put_before s (Some ss) = Some (s ∷ ss)
 
+-- the selectors that these lists of words spell, if each spells one
 unfoldable pub selectors_in : List ℕ → List (List Word) → Option (List SelectorForm)
 selectors_in text [] = Some []
 selectors_in text (own ∷ others) = selector_of (reading text own) >>= λ s. put_before s (selectors_in text others)
 
+-- the selector list that the words still to come spell, if there is one
 abbrev pub list_of : Reading → Option (List SelectorForm)
 list_of r = selectors_in r.text (segments r.words)
 

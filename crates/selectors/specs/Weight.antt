@@ -3,6 +3,7 @@ use Rattle.std.specs.Prelude.{ℕ, ◌+◌, min, Bool, List, sum_by, if◌then�
 use Rattle.selectors.specs.declared.weight.Spec.{Spec}
 use Rattle.selectors.specs.Forms.{TestForm, any, tag, id, SimpleForm, is, is_not, CompoundForm, SelectorForm}
 
+-- id selectors
 abbrev pub ids : TestForm → ℕ
 ids (id name) = 1
 ids _ = 0
@@ -14,6 +15,7 @@ classes (tag name) = 0
 classes (id name) = 0
 classes _ = 1
 
+-- type selectors
 abbrev pub types : TestForm → ℕ
 types (tag name) = 1
 types _ = 0
@@ -23,9 +25,11 @@ abbrev pub test_of : SimpleForm → TestForm
 test_of (is t) = t
 test_of (is_not t) = t
 
+-- the count over the simple selectors of a compound
 abbrev pub in_tests : (TestForm → ℕ) → List SimpleForm → ℕ
 in_tests f tests = sum_by (λ s. f (test_of s)) tests
 
+-- the count over the compounds of a selector
 abbrev pub in_compounds : (TestForm → ℕ) → List CompoundForm → ℕ
 in_compounds f compounds = sum_by (λ c. in_tests f c.tests) compounds
 
@@ -33,11 +37,14 @@ in_compounds f compounds = sum_by (λ c. in_tests f c.tests) compounds
 abbrev pub bounded : ℕ → ℕ
 bounded n = min n 4294967295
 
+-- the specificity with these three counts, each bounded
 abbrev pub spec_of : ℕ → ℕ → ℕ → Spec
 spec_of a b c = record { a = bounded a; b = bounded b; c = bounded c }
 
+-- pseudo-elements: one, or none
 abbrev pub elements : Bool → ℕ
 elements pseudo_element = if pseudo_element then 1 else 0
 
+-- a selector's specificity: ids; classes, attribute selectors and pseudo-classes; types and pseudo-elements
 abbrev pub specificity_of : SelectorForm → Spec
 specificity_of s = spec_of (in_compounds ids s.compounds) (in_compounds classes s.compounds) (in_compounds types s.compounds + elements s.pseudo_element)

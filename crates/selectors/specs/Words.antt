@@ -33,6 +33,7 @@ word_kind tokens.BadString c = Bad
 word_kind tokens.BadUrl c = Bad
 word_kind _ c = Other
 
+-- a piece as a word, with whether white space stands before it
 abbrev pub word_of : List ℕ → Bool → Token → Word
 word_of text spaced t = record { kind = word_kind t.kind (slice_index text t.start); start = t.start; end = t.end; spaced = spaced }
 
@@ -42,14 +43,17 @@ passed tokens.Comment spaced = Some spaced
 passed tokens.WhiteSpace spaced = Some true
 passed _ spaced = None
 
+-- the words from a piece on: the word w in front unless the piece is passed over, then those that follow
 abbrev pub words_by : Option Bool → Word → (Bool → List Word) → List Word
 words_by None w more = w ∷ more false
 words_by (Some spaced) w more = more spaced
 
+-- the words of these pieces, the first with white space before it or not
 unfoldable pub words_after : List ℕ → Bool → List Token → List Word
 words_after text spaced [] = []
 words_after text spaced (t ∷ ts) = words_by (passed t.kind spaced) (word_of text spaced t) (λ s. words_after text s ts)
 
+-- the words of a whole text
 abbrev pub words_of : List ℕ → List Word
 words_of text = words_after text false (pieces text)
 
@@ -78,16 +82,20 @@ pub record Reading : Type 0 where
   pub text : List ℕ
   pub words : List Word
 
+-- the reading of this text with these words still to come
 abbrev pub reading : List ℕ → List Word → Reading
 reading text words = record { text = text; words = words }
 
+-- the first of these words and the reading behind it, if there is a word
 abbrev pub first_of : List ℕ → List Word → Option (Word × Reading)
 first_of text [] = None
 first_of text (w ∷ ws) = Some (w, reading text ws)
 
+-- the next word and the reading behind it, if there is one
 abbrev pub next_word : Reading → Option (Word × Reading)
 next_word r = first_of r.text r.words
 
+-- the next word, if there is one
 abbrev pub head : Reading → Option Word
 head r = option_map (λ x. x.0) (next_word r)
 
@@ -95,10 +103,12 @@ head r = option_map (λ x. x.0) (next_word r)
 abbrev pub between : List ℕ → ℕ → ℕ → List ℕ
 between text start end = take (end - start) (drop start text)
 
+-- the kind is the mark with this code
 abbrev pub is_mark : ℕ → WordKind → Bool
 is_mark c (Mark d) = d == c
 is_mark c _ = false
 
+-- the word is not a comma
 abbrev pub is_no_comma : Word → Bool
 is_no_comma w = not (is_mark 44 w.kind)
 
@@ -106,5 +116,6 @@ is_no_comma w = not (is_mark 44 w.kind)
 abbrev pub before_comma : List Word → List Word
 before_comma ws = take (prefix_len is_no_comma ws) ws
 
+-- the words from the first comma on; no words where there is no comma
 abbrev pub from_comma : List Word → List Word
 from_comma ws = drop (prefix_len is_no_comma ws) ws

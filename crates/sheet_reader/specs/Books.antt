@@ -17,6 +17,7 @@ pub record IsStored (e : SheetEntry) : Type 0 where
   pub entry : IsEntry e
   pub utf8 : IsUtf8 e.text
 
+-- the ids of the entries, in their order
 abbrev pub ids_of : List SheetEntry → List ℕ
 ids_of es = map (λ e. e.id) es
 
@@ -48,6 +49,7 @@ abbrev pub entries_in : List (ℕ × SheetEntry) → List SheetEntry
 entries_in [] = []
 entries_in (p ∷ ps) = p.1 ∷ entries_in ps
 
+-- each entry of a map stands under its own id, and is as a book has it
 abbrev pub AreEntries : List (ℕ × SheetEntry) → Type 0
 AreEntries [] = Unit {0}
 AreEntries (p ∷ ps) = (p.0 ≡ p.1.id) × IsStored p.1 × AreEntries ps

@@ -25,6 +25,7 @@ closed_by CloseSquare = Some Square
 closed_by CloseCurly = Some Curly
 closed_by _ = None
 
+-- both are round, both are square, or both are curly
 abbrev pub is_same : Bracket → Bracket → Bool
 is_same Round Round = true
 is_same Square Square = true
@@ -36,6 +37,7 @@ abbrev pub without : Bracket → List Bracket → List Bracket
 without b [] = []
 without b (first ∷ outer) = if is_same b first then outer else first ∷ outer
 
+-- the brackets that are open behind a piece, by the bracket that it opens, or else the one that it closes, if any
 abbrev pub open_by : List Bracket → Option Bracket → Option Bracket → List Bracket
 open_by brackets (Some b) closes = b ∷ brackets
 open_by brackets None (Some b) = without b brackets
@@ -45,6 +47,7 @@ open_by brackets None None = brackets
 abbrev pub open_after : List Bracket → TokenKind → List Bracket
 open_after brackets kind = open_by brackets (opened_by kind) (closed_by kind)
 
+-- no bracket is open
 abbrev pub is_none_open : List Bracket → Bool
 is_none_open [] = true
 is_none_open (b ∷ bs) = false
@@ -64,9 +67,11 @@ until_in stop brackets [] = 0
 until_in stop brackets (t ∷ ts) =
     if is_none_open brackets && stops_at stop t.kind then 0 else suc (until_in stop (open_after brackets t.kind) ts)
 
+-- the same from where no bracket is open
 abbrev pub until : Stop → List Token → ℕ
 until stop ts = until_in stop [] ts
 
+-- this bracket is the innermost of those that are open
 abbrev pub is_innermost : Bracket → List Bracket → Bool
 is_innermost b [] = false
 is_innermost b (first ∷ outer) = is_same b first
@@ -76,9 +81,11 @@ abbrev pub is_stray_by : List Bracket → Option Bracket → Bool
 is_stray_by brackets None = false
 is_stray_by brackets (Some b) = if is_innermost b brackets then false else true
 
+-- a piece of this kind is a closing bracket, and its bracket is not the innermost open one
 abbrev pub is_stray : List Bracket → TokenKind → Bool
 is_stray brackets kind = is_stray_by brackets (closed_by kind)
 
+-- at the end of a text: closed where no bracket is open, and else open
 abbrev pub nesting_of : List Bracket → Nesting
 nesting_of [] = Closed
 nesting_of (b ∷ bs) = Open
@@ -88,5 +95,6 @@ unfoldable pub nesting_in : List Bracket → List Token → Nesting
 nesting_in brackets [] = nesting_of brackets
 nesting_in brackets (t ∷ ts) = if is_stray brackets t.kind then Stray else nesting_in (open_after brackets t.kind) ts
 
+-- the same for a whole list of pieces, with no bracket open before it
 abbrev pub nesting : List Token → Nesting
 nesting ts = nesting_in [] ts

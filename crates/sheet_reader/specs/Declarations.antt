@@ -31,6 +31,7 @@ pub data ItemForm : Type 0 where
   candidate : List Token → ItemForm
   other : List Token → ItemForm
 
+-- the item that begins with this piece and goes on in the pieces behind it, by the piece's kind
 abbrev pub item_by : Token → List Token → TokenKind → ItemForm
 item_by t ts Comment = passed t
 item_by t ts WhiteSpace = passed t
@@ -43,6 +44,7 @@ item_by t ts _ = other (take (until stops.Semicolon (t ∷ ts)) (t ∷ ts))
 unfoldable pub item_at : Token → List Token → ItemForm
 item_at t ts = item_by t ts t.kind
 
+-- all the pieces of an item, in their order
 abbrev pub item_pieces : ItemForm → List Token
 item_pieces (passed t) = t ∷ []
 item_pieces (at_rule p) = part_pieces p
@@ -57,10 +59,12 @@ items_after zero (t ∷ ts) = item_at t ts ∷ items_after (length (item_pieces 
 
 -- ---- values
 
+-- a word of this kind is the ident `important` in any case
 abbrev pub names_important : List ℕ → Word → WordKind → Bool
 names_important text w Ident = bytes_eq (lower_of text w) (codes "important")
 names_important text w _ = false
 
+-- both words are there: the first is `!`, and the second is the ident `important` in any case
 abbrev pub is_important_by : List ℕ → Option Word → Option Word → Bool
 is_important_by text (Some mark) (Some name) = is_mark 33 mark.kind && names_important text name name.kind
 is_important_by text _ _ = false
@@ -73,11 +77,13 @@ is_important text value = nat_lt 1 (length value) && is_important_by text (slice
 abbrev pub plain_value : Bool → List Word → List Word
 plain_value important value = if important then take (length value - 2) value else value
 
+-- a bad string or a bad url
 abbrev pub is_bad_kind : TokenKind → Bool
 is_bad_kind BadString = true
 is_bad_kind BadUrl = true
 is_bad_kind _ = false
 
+-- there is a closing bracket without its opening one
 abbrev pub is_stray_nesting : Nesting → Bool
 is_stray_nesting Stray = true
 is_stray_nesting _ = false
@@ -100,10 +106,12 @@ abbrev pub value_range : Word → Option Range → Range
 value_range colon (Some r) = r
 value_range colon None = range colon.end colon.end
 
+-- the value has no words
 abbrev pub is_no_word : List Word → Bool
 is_no_word [] = true
 is_no_word (w ∷ ws) = false
 
+-- the declaration with this name, the range of this value, this importance and this range as a whole
 abbrev pub property : List ℕ → Word → Bool → List Word → Range → Property
 property name colon important value whole = record { name = name; value = value_range colon (range_of value); important = important; whole = whole }
 
@@ -118,6 +126,7 @@ declared_by text (name ∷ colon ∷ value) whole =
     if is_mark 58 colon.kind then property_by (name_by (value_of text name)) colon (is_important text value) (plain_value (is_important text value) value) whole else None
 declared_by text _ whole = None
 
+-- the declaration that these words are, if they are one: its whole goes from the first word to the last one
 abbrev pub declared_in : List ℕ → List Word → Option Property
 declared_in text ws = range_of ws >>= λ whole. declared_by text ws whole
 
@@ -125,12 +134,14 @@ declared_in text ws = range_of ws >>= λ whole. declared_by text ws whole
 unfoldable pub declaration_of : List ℕ → List Token → Option Property
 declaration_of text ts = if holds_bad ts then None else declared_in text (words_after text false ts)
 
+-- the declaration that an item is, if it is one: only what begins with an ident can be
 abbrev pub item_property : List ℕ → ItemForm → Option Property
 item_property text (candidate ts) = declaration_of text ts
 item_property text (passed t) = None
 item_property text (at_rule p) = None
 item_property text (other ts) = None
 
+-- the declarations among these items, in their order
 unfoldable pub properties_in : List ℕ → List ItemForm → List Property
 properties_in text [] = []
 properties_in text (item ∷ items) = option_to_list (item_property text item) ++ properties_in text items

@@ -6,14 +6,17 @@ use Rattle.selectors.specs.Lists.{list_seen}
 use Rattle.sheet_reader.specs.declared.sheet.Property.{Property}
 use Rattle.sheet_reader.specs.declared.sheet.StyleRule.{StyleRule}
 
+-- the range from start to end
 abbrev pub range : ℕ → ℕ → Range
 range start end = record { start = start; end = end }
 
+-- a style rule: the ranges of its prelude and its body, its selectors and its declarations
 pub record RuleForm : Type 0 where
   pub prelude : Range
   pub selectors : List SelectorForm
   pub body : Range
   pub properties : List Property
 
+-- a style rule as contracts see it
 abbrev pub rule_seen : StyleRule → RuleForm
 rule_seen r = record { prelude = r.prelude; selectors = list_seen r.selectors; body = r.body; properties = r.properties }

@@ -16,10 +16,12 @@ pub data Place : Type 0 where
   outside : Stop → Place
   inside : Bracket → Place
 
+-- the bracket that a piece closes, if any, is this one
 abbrev pub is_closing_by : Bracket → Option Bracket → Bool
 is_closing_by b None = false
 is_closing_by b (Some c) = is_same c b
 
+-- a piece of this kind is this bracket's closing one
 abbrev pub is_closing : Bracket → TokenKind → Bool
 is_closing b kind = is_closing_by b (closed_by kind)
 
@@ -49,6 +51,7 @@ pub data IsEnding : EndingForm → List Token → Type 0 where
   in_block : {rest : List Token} (first close : Token) (within : List Token) → first.kind ≡ OpenCurly → AreValues (outside stops.BlockEnd) within (close ∷ rest) → close.kind ≡ CloseCurly → IsEnding (block first within (Some close)) rest
   in_open_block : {rest : List Token} (first : Token) (within : List Token) → first.kind ≡ OpenCurly → AreValues (outside stops.BlockEnd) within [] → rest ≡ [] → IsEnding (block first within None) rest
 
+-- an at-keyword
 abbrev pub is_at_keyword : TokenKind → Bool
 is_at_keyword AtKeyword = true
 is_at_keyword _ = false
@@ -75,12 +78,14 @@ abbrev pub AreParts : List PartForm → List Token → Type 0
 AreParts [] ts = ts ≡ []
 AreParts (p ∷ ps) ts = (rest : List Token) × (ts ≡ part_pieces p ++ rest) × IsPart p rest × AreParts ps rest
 
+-- a comment, white space or a semicolon
 abbrev pub is_separator : TokenKind → Bool
 is_separator Comment = true
 is_separator WhiteSpace = true
 is_separator Semicolon = true
 is_separator _ = false
 
+-- an ident
 abbrev pub is_ident : TokenKind → Bool
 is_ident Ident = true
 is_ident _ = false

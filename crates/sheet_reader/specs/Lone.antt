@@ -16,6 +16,7 @@ is_blank_kind Comment = true
 is_blank_kind WhiteSpace = true
 is_blank_kind _ = false
 
+-- a piece that is white space or a comment
 abbrev pub is_blank_piece : Token → Bool
 is_blank_piece t = is_blank_kind t.kind
 
@@ -23,6 +24,7 @@ is_blank_piece t = is_blank_kind t.kind
 abbrev pub skip_blank : List Token → List Token
 skip_blank ts = drop (prefix_len is_blank_piece ts) ts
 
+-- a part that is white space or a comment
 abbrev pub is_blank_part : PartForm → Bool
 is_blank_part (passed t) = is_blank_piece t
 is_blank_part (at_rule keyword prelude ending) = false
@@ -35,6 +37,7 @@ is_closed_ending (semicolon t) = false
 is_closed_ending (block first inside None) = false
 is_closed_ending (block first inside (Some close)) = true
 
+-- a qualified rule with a block that has its `}`
 abbrev pub is_closed_rule : PartForm → Bool
 is_closed_rule (passed t) = false
 is_closed_rule (at_rule keyword prelude ending) = false
@@ -48,6 +51,7 @@ solid_parts ps = filter (λ p. not (is_blank_part p)) ps
 abbrev pub lone_by : List ℕ → PartForm → LoneRule
 lone_by text p = if is_closed_rule p then (if is_some (rule_of text p) then Style else Dropped) else Other
 
+-- what these parts are as one rule: what the part is where there is just one, and no such rule where there is none or more
 abbrev pub lone_of : List ℕ → List PartForm → LoneRule
 lone_of text [] = Other
 lone_of text (p ∷ []) = lone_by text p

@@ -19,6 +19,7 @@ pub data PartForm : Type 0 where
   at_rule : Token → List Token → EndingForm → PartForm
   qualified : List Token → EndingForm → PartForm
 
+-- a comment, white space, `<!--` or `-->`
 abbrev pub is_passed : TokenKind → Bool
 is_passed Comment = true
 is_passed WhiteSpace = true
@@ -30,10 +31,12 @@ is_passed _ = false
 abbrev pub block_at : Token → List Token → EndingForm
 block_at first rest = block first (take (until stops.BlockEnd rest) rest) (slice_get rest (until stops.BlockEnd rest))
 
+-- the ending that begins with this piece, by its kind: a semicolon is an ending by itself, any other piece opens a block
 abbrev pub ending_by : Token → List Token → TokenKind → EndingForm
 ending_by first rest Semicolon = semicolon first
 ending_by first rest _ = block_at first rest
 
+-- the ending that these pieces begin with: the text's end where there are none
 abbrev pub ending_at : List Token → EndingForm
 ending_at [] = text_end
 ending_at (t ∷ ts) = ending_by t ts t.kind
@@ -47,6 +50,7 @@ at_rule_at keyword rest =
 abbrev pub qualified_at : List Token → PartForm
 qualified_at ts = qualified (take (until stops.Block ts) ts) (ending_at (drop (until stops.Block ts) ts))
 
+-- the part that begins with this piece and goes on in the pieces behind it, by the piece's kind
 abbrev pub part_by : Token → List Token → TokenKind → PartForm
 part_by t ts AtKeyword = at_rule_at t ts
 part_by t ts kind = if is_passed kind then passed t else qualified_at (t ∷ ts)
@@ -57,11 +61,13 @@ part_at t ts = part_by t ts t.kind
 
 -- ---- the pieces of a part
 
+-- the pieces of an ending: none at the text's end, the semicolon, or the block with its `{` and with its `}` if it has one
 abbrev pub ending_pieces : EndingForm → List Token
 ending_pieces text_end = []
 ending_pieces (semicolon t) = t ∷ []
 ending_pieces (block first body close) = first ∷ (body ++ option_to_list close)
 
+-- all the pieces of a part, in their order
 abbrev pub part_pieces : PartForm → List Token
 part_pieces (passed t) = t ∷ []
 part_pieces (at_rule keyword prelude ending) = keyword ∷ (prelude ++ ending_pieces ending)
@@ -73,5 +79,6 @@ parts_after skip [] = []
 parts_after (suc skip) (t ∷ ts) = parts_after skip ts
 parts_after zero (t ∷ ts) = part_at t ts ∷ parts_after (length (part_pieces (part_at t ts)) - 1) ts
 
+-- the parts of a sheet with these pieces
 abbrev pub parts : List Token → List PartForm
 parts ts = parts_after 0 ts

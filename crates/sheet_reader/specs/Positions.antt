@@ -3,6 +3,7 @@ use Rattle.std.specs.Prelude.{ℕ, ◌+◌, Bool, ◌==◌, not, nat_lt, List, t
 use Rattle.std.specs.List.{prefix_len, count_by, sum_by}
 use Rattle.sheet_reader.specs.declared.place.Position.{Position}
 
+-- the byte is a line feed
 abbrev pub is_line_feed : ℕ → Bool
 is_line_feed c = c == 10
 
@@ -18,12 +19,15 @@ line_back front = take (prefix_len (λ c. not (is_line_feed c)) (reverse front))
 unfoldable pub line_of : List ℕ → ℕ
 line_of front = count_by is_line_feed front
 
+-- the UTF-16 units behind the last line feed of what stands before
 unfoldable pub column_of : List ℕ → ℕ
 column_of front = sum_by units_at (line_back front)
 
+-- the position with this line and this column
 abbrev pub position : ℕ → ℕ → Position
 position line column = record { line = line; column = column }
 
+-- the position behind the bytes that stand before it
 abbrev pub position_behind : List ℕ → Position
 position_behind front = position (line_of front) (column_of front)
 

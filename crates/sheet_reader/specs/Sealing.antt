@@ -8,18 +8,22 @@ use Rattle.sheet_reader.specs.declared.brackets.Nesting.{Nesting}
 use Rattle.sheet_reader.specs.declared.brackets.Nesting.TheVariants.{Closed}
 use Rattle.sheet_reader.specs.Brackets.{nesting}
 
+-- white space
 abbrev pub is_white_kind : TokenKind → Bool
 is_white_kind WhiteSpace = true
 is_white_kind _ = false
 
+-- a `}`
 abbrev pub is_close_kind : TokenKind → Bool
 is_close_kind CloseCurly = true
 is_close_kind _ = false
 
+-- each opening bracket has its closing one, and each closing bracket its opening one
 abbrev pub is_closed_nesting : Nesting → Bool
 is_closed_nesting Closed = true
 is_closed_nesting _ = false
 
+-- a piece is there and is of such a kind
 abbrev pub passes : (TokenKind → Bool) → Option Token → Bool
 passes p None = false
 passes p (Some t) = p t.kind
@@ -28,6 +32,7 @@ passes p (Some t) = p t.kind
 abbrev pub last_is : (TokenKind → Bool) → List Token → Bool
 last_is p ts = passes p (slice_get ts (length ts - 1))
 
+-- the pieces without the last one
 abbrev pub all_but_last : List Token → List Token
 all_but_last ts = take (length ts - 1) ts
 

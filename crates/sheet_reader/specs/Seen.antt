@@ -8,16 +8,19 @@ use Rattle.sheet_reader.specs.declared.declarations.Item.TheVariants as item_kin
 use Rattle.sheet_reader.specs.Declarations as items
 use Rattle.sheet_reader.specs.Parts.{EndingForm, text_end, semicolon, block, PartForm, passed, at_rule, qualified}
 
+-- the ending of a rule, a block's body as the list of its pieces
 abbrev pub ending_seen : Ending → EndingForm
 ending_seen endings.TextEnd = text_end
 ending_seen (endings.Semicolon t) = semicolon t
 ending_seen (endings.Block first body close) = block first body.now close
 
+-- a part of a sheet, its prelude and its block's body as lists of their pieces
 abbrev pub part_seen : Part → PartForm
 part_seen (part_kinds.Passed t) = passed t
 part_seen (part_kinds.AtRule keyword prelude ending) = at_rule keyword prelude.now (ending_seen ending)
 part_seen (part_kinds.Qualified prelude ending) = qualified prelude.now (ending_seen ending)
 
+-- an item of a body, its pieces as a list
 abbrev pub item_seen : Item → items.ItemForm
 item_seen (item_kinds.Passed t) = items.passed t
 item_seen (item_kinds.AtRule part) = items.at_rule (part_seen part)

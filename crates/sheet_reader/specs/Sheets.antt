@@ -25,6 +25,7 @@ style_rule text words body inside =
     range_of words >>= λ prelude. list_of (reading text words) >>= λ selectors.
     Some (record { prelude = prelude; selectors = selectors; body = body; properties = declarations text inside })
 
+-- the style rule with this prelude and this ending: none where it ends without a block, or the prelude is no selector list
 abbrev pub rule_by : List ℕ → List Token → EndingForm → Option RuleForm
 rule_by text prelude (block first inside close) = style_rule text (words_after text false prelude) (range first.end (body_end text close)) inside
 rule_by text prelude (semicolon t) = None
@@ -40,14 +41,17 @@ rule_of text (at_rule keyword prelude ending) = None
 abbrev pub is_closed_comment : List ℕ → Token → Bool
 is_closed_comment text t = nat_le (t.start + 4) t.end && (slice_index text (t.end - 2) == 42 && slice_index text (t.end - 1) == 47)
 
+-- the place behind a piece that is passed over, unless it is a comment without its `*/`
 abbrev pub passed_place : List ℕ → Token → TokenKind → Option ℕ
 passed_place text t Comment = if is_closed_comment text t then Some t.end else None
 passed_place text t _ = Some t.end
 
+-- the place behind a block's `}`, if it has one
 abbrev pub closing_place : Option Token → Option ℕ
 closing_place (Some close) = Some close.end
 closing_place None = None
 
+-- the place behind the ending of a rule, unless the text's end cut the rule short
 abbrev pub ending_place : EndingForm → Option ℕ
 ending_place text_end = None
 ending_place (semicolon t) = Some t.end
@@ -59,10 +63,12 @@ place_of text (passed t) = passed_place text t t.kind
 place_of text (at_rule keyword prelude ending) = ending_place ending
 place_of text (qualified prelude ending) = ending_place ending
 
+-- the style rules among these parts, in their order
 unfoldable pub rules_in : List ℕ → List PartForm → List RuleForm
 rules_in text [] = []
 rules_in text (p ∷ ps) = option_to_list (rule_of text p) ++ rules_in text ps
 
+-- the places behind these parts, in their order
 unfoldable pub places_in : List ℕ → List PartForm → List ℕ
 places_in text [] = []
 places_in text (p ∷ ps) = option_to_list (place_of text p) ++ places_in text ps

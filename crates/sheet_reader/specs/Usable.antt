@@ -15,6 +15,7 @@ pub record IsPropertyOf (text : List ℕ) (p : Property) : Type 0 where
   pub starts : p.whole.start ≤ p.value.start
   pub ends : p.value.end ≤ p.whole.end
 
+-- the ranges of whole declarations, in their order
 abbrev pub wholes_of : List Property → List Range
 wholes_of ps = map (λ p. p.whole) ps
 

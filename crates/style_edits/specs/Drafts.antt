@@ -20,6 +20,7 @@ pub record IsAt (text : List ℕ) (lines : LineRange) (r : Range) : Type 0 where
   pub start : position_of text r.start ≡ position lines.start_line lines.start_column
   pub end : position_of text r.end ≡ position lines.end_line lines.end_column
 
+-- both ranges have the same start and the same end
 abbrev pub is_same_range : Range → Range → Bool
 is_same_range a b = a.start == b.start && a.end == b.end
 

@@ -28,6 +28,7 @@ use Rattle.style_edits.specs.Splices.{spliced, after_splice, back_splice, after_
 
 -- ---- ranges of lines and columns
 
+-- the position has this line and this column
 abbrev pub is_position : ℕ → ℕ → Position → Bool
 is_position line column p = p.line == line && p.column == column
 
@@ -55,6 +56,7 @@ place_at text lines = find (is_at text lines) (map (λ p. range p p) (sheet_of t
 abbrev pub Found : Type 0
 Found = Result Splice SheetFault
 
+-- the splice that puts a text in the place of a part of the sheet
 abbrev pub splice_at : SheetEntry → Range → List ℕ → Splice
 splice_at e part text = record { sheet = e.id; start = part.start; end = part.end; text = text }
 
@@ -63,6 +65,7 @@ abbrev pub placed_text : SheetEntry → Range → List ℕ → Found
 placed_text e part text =
     if nat_le (length (spliced e.text part.start part.end text)) (2 ^ 24) then Ok (splice_at e part text) else Err TooBig
 
+-- the edit's text in the place of the body that was found, if there is one and the text is sealed
 abbrev pub style_by : StyleEdit → SheetEntry → Option Range → Found
 style_by x e None = Err BadRange
 style_by x e (Some part) = if is_sealed x.text then placed_text e part x.text else Err BadText
@@ -71,6 +74,7 @@ style_by x e (Some part) = if is_sealed x.text then placed_text e part x.text el
 abbrev pub style_in : StyleEdit → SheetEntry → Found
 style_in x e = style_by x e (body_at e.text x.range)
 
+-- a text in the place of the prelude that was found, if there is one and the text is sealed and a selector list
 abbrev pub selector_by : List ℕ → SheetEntry → Option Range → Found
 selector_by text e None = Err BadRange
 selector_by text e (Some part) =
@@ -80,6 +84,7 @@ selector_by text e (Some part) =
 abbrev pub selector_in : LineRange → List ℕ → SheetEntry → Found
 selector_in lines text e = selector_by text e (prelude_at e.text lines)
 
+-- the range of a whole text
 abbrev pub whole_range : List ℕ → Range
 whole_range text = range 0 (length text)
 
@@ -87,10 +92,12 @@ whole_range text = range 0 (length text)
 abbrev pub text_in : List ℕ → SheetEntry → Found
 text_in text e = placed_text e (whole_range e.text) text
 
+-- a text put at the place that was found, if there is one
 abbrev pub put_by : List ℕ → SheetEntry → Option Range → Found
 put_by text e None = Err BadPlace
 put_by text e (Some part) = placed_text e part text
 
+-- a text put at the place that was found, if as one rule it is a style rule
 abbrev pub added_by : List ℕ → SheetEntry → Option Range → LoneRule → Found
 added_by text e place lone.Other = Err BadText
 added_by text e place lone.Dropped = Err BadSelector
@@ -102,10 +109,12 @@ rule_in lines text e = if is_sealed text then added_by text e (place_at e.text l
 
 -- ---- edits of a book
 
+-- the sheet, if its origin is not the user agent
 abbrev pub mutable : SheetEntry → Origin → Result SheetEntry SheetFault
 mutable e origins.UserAgent = Err NotMutable
 mutable e origins.Regular = Ok e
 
+-- the sheet that was found, if there is one and a client may edit it
 abbrev pub client_by : Option SheetEntry → Result SheetEntry SheetFault
 client_by None = Err NoSheet
 client_by (Some e) = mutable e e.origin
@@ -114,19 +123,24 @@ client_by (Some e) = mutable e e.origin
 abbrev pub client_sheet : ℕ → List SheetEntry → Result SheetEntry SheetFault
 client_sheet id book = client_by (entry_of id book)
 
+-- what an edit makes of a sheet, or the fault with which there is no such sheet
 abbrev pub found_by : (SheetEntry → Found) → Result SheetEntry SheetFault → Found
 found_by edit (Err f) = Err f
 found_by edit (Ok e) = edit e
 
+-- what an edit of a style rule's body comes to in a book
 abbrev pub style_splice : StyleEdit → List SheetEntry → Found
 style_splice x book = found_by (style_in x) (client_sheet x.sheet book)
 
+-- what an edit of a style rule's prelude comes to in a book
 abbrev pub selector_splice : ℕ → LineRange → List ℕ → List SheetEntry → Found
 selector_splice id lines text book = found_by (selector_in lines text) (client_sheet id book)
 
+-- what an edit of the whole text of the sheet with this id comes to in a book
 abbrev pub text_splice : ℕ → List ℕ → List SheetEntry → Found
 text_splice id text book = found_by (text_in text) (client_sheet id book)
 
+-- what adding a rule to the sheet with this id comes to in a book
 abbrev pub rule_splice : ℕ → LineRange → List ℕ → List SheetEntry → Found
 rule_splice id lines text book = found_by (rule_in lines text) (client_sheet id book)
 
@@ -139,10 +153,12 @@ edited book (Err f) = Err f
 abbrev pub EditsOutcome : Type 0
 EditsOutcome = Result (List SheetEntry × List Splice) SheetFault
 
+-- what edits come to behind one more, whose splice back this is
 abbrev pub with_back : Splice → EditsOutcome → EditsOutcome
 with_back back (Ok rest) = Ok (rest.0, back ∷ rest.1)
 with_back back (Err f) = Err f
 
+-- what a first edit and the rest in the book that it left come to; the first one's fault is the fault of all
 abbrev pub go_on : Result (List SheetEntry × Splice) SheetFault → (List SheetEntry → EditsOutcome) → EditsOutcome
 go_on (Ok first) rest = with_back first.1 (rest first.0)
 go_on (Err f) rest = Err f
@@ -172,6 +188,7 @@ LeadBack xs =
 abbrev pub is_too_big : List ℕ → List SheetEntry → Bool
 is_too_big text book = nat_lt (2 ^ 24) (length text) || nat_le 1000 (length book)
 
+-- a sheet with this id, origin and text, and what the text says
 abbrev pub new_sheet : ℕ → Origin → List ℕ → SheetEntry
 new_sheet id origin text = record { id = id; origin = origin; text = text; reading = sheet_of text }
 

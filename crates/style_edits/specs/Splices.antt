@@ -16,6 +16,7 @@ spliced text start end new = take start text ++ (new ++ drop end text)
 abbrev pub with_text : SheetEntry → List ℕ → SheetEntry
 with_text e text = record { id = e.id; origin = e.origin; text = text; reading = sheet_of text }
 
+-- a sheet after the splice of its text, and what that text says
 abbrev pub spliced_entry : Splice → SheetEntry → SheetEntry
 spliced_entry s e = with_text e (spliced e.text s.start s.end s.text)
 
@@ -23,6 +24,7 @@ spliced_entry s e = with_text e (spliced e.text s.start s.end s.text)
 abbrev pub back_in : Splice → SheetEntry → Splice
 back_in s e = record { sheet = s.sheet; start = s.start; end = s.start + length s.text; text = slice_range e.text s.start s.end }
 
+-- a book after a splice of the sheet that was found; as it was where there is none
 abbrev pub after_by : Splice → List SheetEntry → Option SheetEntry → List SheetEntry
 after_by s book None = book
 after_by s book (Some e) = changed (spliced_entry s e) book
@@ -31,6 +33,7 @@ after_by s book (Some e) = changed (spliced_entry s e) book
 abbrev pub after_splice : Splice → List SheetEntry → List SheetEntry
 after_splice s book = after_by s book (entry_of s.sheet book)
 
+-- the splice that leads back in the sheet that was found; the splice itself where there is none
 abbrev pub back_by : Splice → Option SheetEntry → Splice
 back_by s None = s
 back_by s (Some e) = back_in s e

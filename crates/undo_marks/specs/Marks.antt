@@ -2,6 +2,7 @@
 use Rattle.std.specs.Prelude.{ℕ, ◌+◌, ◌==◌, Bool, true, false, not, ◌&&◌, ◌||◌, cond, List, [], ◌∷◌, ◌++◌, length, reverse, Option, Some, None, is_none, refl}
 use Rattle.std.specs.Coded.{Coded, code_by, coded×, coded_list, coded_bool}
 
+-- the two lists and the two flags of a history
 pub record Marks (A : Type 0) : Type 0 where
   -- what was done, the newest group first; in a group in the order in which it came
   pub past : List (List A)
