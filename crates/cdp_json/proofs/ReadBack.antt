@@ -122,7 +122,7 @@ mutual
   members_depth-outline no_members = omega arith
   members_depth-outline (member k d ms) = omega (arith, depth-outline d, members_depth-outline ms)
 
-tokens-compact_text : (d : Data) → is_plain d ≡ true → tokens (compact_text d) ≡ tree.json_tokens (outline d)
+pub tokens-compact_text : (d : Data) → is_plain d ≡ true → tokens (compact_text d) ≡ tree.json_tokens (outline d)
 tokens-compact_text d p = ap tokens (sym (print-outline d)) ∙ tokens-print (tree.json_tokens (outline d)) (ArePrintable-json_tokens (outline d) (has_numbers d p))
 
 pub read-compact_text : ReadsBack

@@ -1,8 +1,7 @@
 use crate::{
-    Attributes, DomAsk, Down, DownErr, Effect, Event, Kind, NodeTree, ReadErr, ReplyBody, Text,
-    read_command, read_down, read_result, write_command, write_event, write_refused, write_reply,
+    Attributes, DomAsk, Down, DownErr, Effect, Kind, NodeTree, ReplyBody, Text, read_command,
+    read_down, read_result, write_command, write_event, write_reply,
 };
-use serde_json::Value;
 use std::alloc::{AllocError, Global};
 use std::test::Fail;
 
@@ -36,37 +35,8 @@ fn small_page(alloc: Global) -> Result<ReplyBody, AllocError> {
     Ok(ReplyBody::Root(page))
 }
 
-// A title with its text, below node 3.
-fn title_shown(alloc: Global) -> Result<Event, AllocError> {
-    let mut text = node(alloc, 6, 5, Kind::Text, "")?;
-    text.serial = 5;
-    text.value = Text::copied(alloc, "T")?;
-    let mut title = node(alloc, 5, 3, Kind::Element, "title")?;
-    title.serial = 4;
-    title.count = 1;
-    title.children = Some(vec![in alloc; text]?);
-    Ok(Event::SetChildNodes {
-        parent: 3,
-        nodes: vec![in alloc; title]?,
-    })
-}
-
-const TITLE_SHOWN: &[u8] =
-    b"{\"method\":\"DOM.setChildNodes\",\"params\":{\"nodes\":[{\"attributes\":[],\"backendNodeId\":4,\"childNodeCount\":1,\"children\":[{\"backendNodeId\":5,\"localName\":\"\",\"nodeId\":6,\"nodeName\":\"#text\",\"nodeType\":3,\"nodeValue\":\"T\",\"parentId\":5}],\"localName\":\"title\",\"nodeId\":5,\"nodeName\":\"TITLE\",\"nodeType\":1,\"nodeValue\":\"\",\"parentId\":3}],\"parentId\":3}}";
-
 const SMALL_REPLY: &[u8] =
     b"{\"id\":1,\"result\":{\"root\":{\"backendNodeId\":1,\"childNodeCount\":1,\"children\":[{\"attributes\":[],\"backendNodeId\":2,\"childNodeCount\":2,\"localName\":\"html\",\"nodeId\":2,\"nodeName\":\"HTML\",\"nodeType\":1,\"nodeValue\":\"\",\"parentId\":1}],\"localName\":\"\",\"nodeId\":1,\"nodeName\":\"#document\",\"nodeType\":9,\"nodeValue\":\"\"}}}";
-
-// How a frame is refused, with the zero byte.
-fn refusal(alloc: Global, frame: &str) -> Result<Vec<u8>, AllocError> {
-    let mut out = Vec::new(alloc);
-    match read_command(alloc, frame.as_bytes(), false) {
-        Ok(_) => out.extend_from_slice(b"a command")?,
-        Err(ReadErr::Refused(refused)) => write_refused(alloc, &refused, &mut out)?,
-        Err(ReadErr::Memory) => return Err(AllocError),
-    }
-    Ok(out)
-}
 
 // Reads a reply to that method with its result, or an event, and writes it again.
 fn again(alloc: Global, method: &str, bytes: &[u8]) -> Result<Vec<u8>, DownErr> {
@@ -80,12 +50,6 @@ fn again(alloc: Global, method: &str, bytes: &[u8]) -> Result<Vec<u8>, DownErr> 
         Down::Event(event) => write_event(alloc, &event, &mut out)?,
     }
     Ok(out)
-}
-
-// The result of a method, as it is read.
-fn result_read(alloc: Global, method: &str, text: &str) -> Result<String, Fail> {
-    let body = read_result(alloc, method, &Value::from_str(alloc, text)?)?;
-    Ok(format!(in alloc; "{body:?}")?)
 }
 
 // What a frame asks.
@@ -115,47 +79,16 @@ fn a_reply_is_written_and_read_again(rt: HostRuntime) -> Result<(), Fail> {
 }
 
 #[test]
-fn an_event_is_written_and_read_again(rt: HostRuntime) -> Result<(), Fail> {
-    let mut out = Vec::new(rt.alloc());
-    write_event(rt.alloc(), &title_shown(rt.alloc())?, &mut out)?;
-    assert_eq!(rt; out.pop(), Some(0));
-    assert_eq!(rt; out.as_slice(), TITLE_SHOWN);
-    let mut copy = again(rt.alloc(), "", TITLE_SHOWN)?;
-    assert_eq!(rt; copy.pop(), Some(0));
-    assert_eq!(rt; copy.as_slice(), TITLE_SHOWN);
-    Ok(())
-}
-
-#[test]
-fn each_event_is_read_and_written_again(rt: HostRuntime) -> Result<(), Fail> {
+fn events_are_read_and_written_again(rt: HostRuntime) -> Result<(), Fail> {
     for text in [
-        r#"{"method":"DOM.documentUpdated","params":{}}"#,
-        r#"{"method":"DOM.attributeModified","params":{"name":"lang","nodeId":2,"value":"en"}}"#,
-        r#"{"method":"DOM.childNodeCountUpdated","params":{"childNodeCount":3,"nodeId":2}}"#,
         r#"{"method":"DOM.childNodeInserted","params":{"node":{"backendNodeId":7,"localName":"","nodeId":3,"nodeName":"html","nodeType":10,"nodeValue":"","parentId":1},"parentNodeId":1,"previousNodeId":0}}"#,
         r#"{"method":"CSS.styleSheetAdded","params":{"header":{"length":3,"origin":"regular","styleSheetId":"s1"}}}"#,
-        r#"{"method":"CSS.styleSheetRemoved","params":{"styleSheetId":"s1"}}"#,
         r#"{"method":"Debugger.paused","params":{"callFrames":[],"data":{"insertion":true,"nodeId":4,"targetNodeId":4,"type":"subtree-modified"},"reason":"DOM"}}"#,
     ] {
         let mut copy = again(rt.alloc(), "", text.as_bytes())?;
         assert_eq!(rt; copy.pop(), Some(0));
         assert_eq!(rt; copy.as_slice(), text.as_bytes());
     }
-    Ok(())
-}
-
-#[test]
-fn results_are_read_by_method(rt: HostRuntime) -> Result<(), Fail> {
-    let nothing = result_read(rt.alloc(), "DOM.requestChildNodes", "{}")?;
-    assert_eq!(rt; nothing.as_str(), "Nothing");
-    let id = result_read(rt.alloc(), "DOM.pushNodeByPathToFrontend", "{\"nodeId\":0}")?;
-    assert_eq!(rt; id.as_str(), "NodeId(0)");
-    let ids = result_read(
-        rt.alloc(),
-        "DOM.pushNodesByBackendIdsToFrontend",
-        "{\"nodeIds\":[6,0,5]}",
-    )?;
-    assert_eq!(rt; ids.as_str(), "NodeIds(Numbers { list: [6, 0, 5] })");
     Ok(())
 }
 
@@ -196,46 +129,6 @@ fn a_switch_off_has_an_effect(rt: HostRuntime) -> Result<(), Fail> {
 }
 
 #[test]
-fn refusals_come_in_order(rt: HostRuntime) -> Result<(), Fail> {
-    for (frame, answer) in [
-        ("[", r#"{"error":{"code":-32700,"message":"not JSON"}}"#),
-        (
-            r#"{"id":"1"}"#,
-            r#"{"error":{"code":-32600,"message":"no usable id"}}"#,
-        ),
-        (
-            r#"{"id":1}"#,
-            r#"{"error":{"code":-32600,"message":"bad request"},"id":1}"#,
-        ),
-        (
-            r#"{"id":2,"method":"DOM.nope","sessionId":"x"}"#,
-            r#"{"error":{"code":-32001,"message":"unknown session"},"id":2}"#,
-        ),
-        (
-            r#"{"id":3,"method":"Replay.act"}"#,
-            r#"{"error":{"code":-32601,"message":"unknown method"},"id":3}"#,
-        ),
-        (
-            r#"{"id":4,"method":"DOM.getDocument","params":{"depth":1.0}}"#,
-            r#"{"error":{"code":-32602,"message":"bad parameter: depth"},"id":4}"#,
-        ),
-        (
-            r#"{"id":5,"method":"DOM.describeNode","params":{"depth":0}}"#,
-            r#"{"error":{"code":-32602,"message":"bad parameter: nodeId"},"id":5}"#,
-        ),
-        (
-            r#"{"id":6,"method":"CSS.addRule","params":{"ruleText":"u{}","styleSheetId":"s1"}}"#,
-            r#"{"error":{"code":-32602,"message":"bad parameter: location"},"id":6}"#,
-        ),
-    ] {
-        let mut out = refusal(rt.alloc(), frame)?;
-        assert_eq!(rt; out.pop(), Some(0));
-        assert_eq!(rt; out.as_slice(), answer.as_bytes());
-    }
-    Ok(())
-}
-
-#[test]
 fn a_command_is_written_and_asked(rt: HostRuntime) -> Result<(), Fail> {
     let mut out = Vec::new(rt.alloc());
     write_command(rt.alloc(), 1, "DOM.getDocument", None, None, &mut out)?;
@@ -247,35 +140,6 @@ fn a_command_is_written_and_asked(rt: HostRuntime) -> Result<(), Fail> {
     assert_eq!(rt;
         document.as_str(),
         "1 GetDocument { depth: None, pierce: None }"
-    );
-    let children = asked(
-        rt.alloc(),
-        b"{\"id\":2,\"method\":\"DOM.requestChildNodes\",\"params\":{\"depth\":-1,\"nodeId\":3}}",
-    )?;
-    assert_eq!(rt;
-        children.as_str(),
-        "2 RequestChildNodes { node: 3, depth: Some(-1), pierce: None }"
-    );
-    Ok(())
-}
-
-#[test]
-fn nodes_are_asked_by_path_and_by_serial(rt: HostRuntime) -> Result<(), Fail> {
-    let path = asked(
-        rt.alloc(),
-        b"{\"id\":3,\"method\":\"DOM.pushNodeByPathToFrontend\",\"params\":{\"path\":\"0,HTML\"}}",
-    )?;
-    assert_eq!(rt;
-        path.as_str(),
-        "3 PushByPath { path: Text { text: \"0,HTML\" } }"
-    );
-    let serials = asked(
-        rt.alloc(),
-        b"{\"id\":4,\"method\":\"DOM.pushNodesByBackendIdsToFrontend\",\"params\":{\"backendNodeIds\":[5,9]}}",
-    )?;
-    assert_eq!(rt;
-        serials.as_str(),
-        "4 PushBySerials { serials: Numbers { list: [5, 9] } }"
     );
     Ok(())
 }

@@ -18,35 +18,12 @@ const REFUSED: &[u8] = b"{\"error\":{\"code\":-32000,\"message\":\"no\"},\"id\":
 
 const UNASKED: &[u8] = b"{\"error\":{\"code\":-32000,\"message\":\"no\"},\"id\":3}\0";
 
-// The reply to the second ask.
-const DONE: &[u8] = b"{\"id\":2,\"result\":{}}\0";
-
-const UPDATED: &[u8] = b"{\"method\":\"DOM.documentUpdated\",\"params\":{}}\0";
-
-// One property too many.
-const NO_EVENT: &[u8] = b"{\"method\":\"DOM.documentUpdated\",\"params\":{\"x\":1}}\0";
-
 // The two children of the element, in two pieces.
 const SHOW_HEAD: &[u8] =
     b"{\"method\":\"DOM.setChildNodes\",\"params\":{\"nodes\":[{\"attributes\":[],\"backendNodeId\":3,\"childNode";
 
 const SHOW_TAIL: &[u8] =
     b"Count\":1,\"localName\":\"p\",\"nodeId\":3,\"nodeName\":\"P\",\"nodeType\":1,\"nodeValue\":\"\",\"parentId\":2},{\"backendNodeId\":4,\"localName\":\"\",\"nodeId\":4,\"nodeName\":\"#text\",\"nodeType\":3,\"nodeValue\":\"hi\",\"parentId\":2}],\"parentId\":2}}\0";
-
-const UNKNOWN: &[u8] =
-    b"{\"method\":\"DOM.setChildNodes\",\"params\":{\"nodes\":[{\"backendNodeId\":3,\"localName\":\"\",\"nodeId\":3,\"nodeName\":\"#text\",\"nodeType\":3,\"nodeValue\":\"hi\",\"parentId\":9}],\"parentId\":9}}\0";
-
-// A node whose children are shown; its child has an id that is known.
-const OPENED: &[u8] =
-    b"{\"method\":\"DOM.setChildNodes\",\"params\":{\"nodes\":[{\"backendNodeId\":3,\"localName\":\"\",\"nodeId\":1,\"nodeName\":\"#text\",\"nodeType\":3,\"nodeValue\":\"hi\",\"parentId\":1}],\"parentId\":1}}\0";
-
-// A child of another parent, with an id that is known.
-const NO_CHILD: &[u8] =
-    b"{\"method\":\"DOM.setChildNodes\",\"params\":{\"nodes\":[{\"backendNodeId\":3,\"localName\":\"\",\"nodeId\":1,\"nodeName\":\"#text\",\"nodeType\":3,\"nodeValue\":\"hi\",\"parentId\":1}],\"parentId\":2}}\0";
-
-// An id that is known.
-const TAKEN: &[u8] =
-    b"{\"method\":\"DOM.setChildNodes\",\"params\":{\"nodes\":[{\"backendNodeId\":3,\"localName\":\"\",\"nodeId\":1,\"nodeName\":\"#text\",\"nodeType\":3,\"nodeValue\":\"hi\",\"parentId\":2}],\"parentId\":2}}\0";
 
 fn word(kind: FrontKind) -> &'static str {
     match kind {
@@ -58,9 +35,6 @@ fn word(kind: FrontKind) -> &'static str {
         FrontKind::TooDeep => "TooDeep\n",
     }
 }
-
-const TEXT: &[u8] =
-    b"{\"backendNodeId\":62,\"localName\":\"\",\"nodeId\":62,\"nodeName\":\"#text\",\"nodeType\":3,\"nodeValue\":\"hi\",\"parentId\":61}";
 
 /// A front that asked for the document and for the children of a node.
 fn asking(alloc: Global) -> Result<Front, AllocError> {
@@ -85,41 +59,6 @@ fn tell(alloc: Global, first: &[u8], second: &[u8], out: &mut Vec<u8>) -> Result
     take(&mut front, first, out)?;
     take(&mut front, second, out)?;
     write_outline(alloc, front.mirror(), out)
-}
-
-/// Takes the document and then two pieces, and appends the faults and the outline.
-fn show(alloc: Global, first: &[u8], second: &[u8], out: &mut Vec<u8>) -> Result<(), AllocError> {
-    let mut front = asking(alloc)?;
-    take(&mut front, HEAD, out)?;
-    take(&mut front, TAIL, out)?;
-    take(&mut front, first, out)?;
-    take(&mut front, second, out)?;
-    write_outline(alloc, front.mirror(), out)
-}
-
-/// The children of the element, one below the other, down to the level 61.
-fn deep(alloc: Global) -> Result<Vec<u8>, AllocError> {
-    let mut event = Vec::new(alloc);
-    event.extend_from_slice(b"{\"method\":\"DOM.setChildNodes\",\"params\":{\"nodes\":[")?;
-    for id in 3..62 {
-        let head = format!(in alloc;
-            "{{\"attributes\":[],\"backendNodeId\":{},\"childNodeCount\":1,\"children\":[",
-            id
-        )?;
-        event.extend_from_slice(head.as_bytes())?;
-    }
-    event.extend_from_slice(TEXT)?;
-    for step in 0..59u64 {
-        let parent = 60 - step;
-        let tail = format!(in alloc;
-            "],\"localName\":\"p\",\"nodeId\":{},\"nodeName\":\"P\",\"nodeType\":1,\"nodeValue\":\"\",\"parentId\":{}}}",
-            parent + 1,
-            parent
-        )?;
-        event.extend_from_slice(tail.as_bytes())?;
-    }
-    event.extend_from_slice(b"],\"parentId\":2}}\0")?;
-    Ok(event)
 }
 
 const SET: &[u8] =
@@ -221,61 +160,6 @@ fn folds(rt: HostRuntime) -> Result<(), Fail> {
     let want =
         b"1 #document\n  2 <html> +2\nIdTaken\nno document\nNotMessage\nNotMessage\nno document\nNotMessage\nno document\n";
     assert_eq!(rt; out.as_slice(), want.as_slice());
-    Ok(())
-}
-
-#[test]
-fn folds_events(rt: HostRuntime) -> Result<(), Fail> {
-    let alloc = rt.alloc();
-    let mut out = Vec::new(alloc);
-    show(alloc, SHOW_HEAD, SHOW_TAIL, &mut out)?;
-    show(alloc, DONE, UPDATED, &mut out)?;
-    show(alloc, DONE, DONE, &mut out)?;
-    let want =
-        b"1 #document\n  2 <html>\n    3 <p> +1\n    4 \"hi\"\nno document\nNotMessage\n1 #document\n  2 <html> +2\n";
-    assert_eq!(rt; out.as_slice(), want.as_slice());
-    Ok(())
-}
-
-#[test]
-fn refuses_events(rt: HostRuntime) -> Result<(), Fail> {
-    let alloc = rt.alloc();
-    let mut out = Vec::new(alloc);
-    tell(alloc, NO_EVENT, b"", &mut out)?;
-    tell(alloc, UNKNOWN, b"", &mut out)?;
-    let event = deep(alloc)?;
-    let mut front = asking(alloc)?;
-    take(&mut front, HEAD, &mut out)?;
-    take(&mut front, TAIL, &mut out)?;
-    take(&mut front, &event, &mut out)?;
-    let want =
-        b"NotMessage\nNotMessage\nno document\nUnknownNode\nUnknownNode\nno document\nTooDeep\n";
-    assert_eq!(rt; out.as_slice(), want.as_slice());
-    Ok(())
-}
-
-#[test]
-fn refuses_children(rt: HostRuntime) -> Result<(), Fail> {
-    let alloc = rt.alloc();
-    let mut out = Vec::new(alloc);
-    show(alloc, UNKNOWN, UPDATED, &mut out)?;
-    show(alloc, OPENED, UPDATED, &mut out)?;
-    show(alloc, NO_CHILD, UPDATED, &mut out)?;
-    show(alloc, TAKEN, UPDATED, &mut out)?;
-    let want =
-        b"UnknownNode\nUnknownNode\n1 #document\n  2 <html> +2\nUnknownNode\nUnknownNode\n1 #document\n  2 <html> +2\nNotChild\nNotChild\n1 #document\n  2 <html> +2\nIdTaken\nIdTaken\n1 #document\n  2 <html> +2\n";
-    assert_eq!(rt; out.as_slice(), want.as_slice());
-    Ok(())
-}
-
-#[test]
-fn writes_a_line(rt: HostRuntime) -> Result<(), Fail> {
-    let alloc = rt.alloc();
-    let mut out = Vec::new(alloc);
-    let none = Attributes::new(alloc);
-    write_node_line(alloc, 3, Kind::Comment, "", "a\"b", &none, 0, &mut out)?;
-    write_node_line(alloc, 4, Kind::Element, "p", "", &none, 1, &mut out)?;
-    assert_eq!(rt; out.as_slice(), b"3 <!--\"a\\\"b\"-->4 <p> +1".as_slice());
     Ok(())
 }
 

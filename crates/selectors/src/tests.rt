@@ -70,138 +70,18 @@ fn texts_and_their_lists(rt: HostRuntime) -> Result<(), Fail> {
             " a , *.b#c\t,\n[d]:ROOT /**/",
             "_a 1-2;_*.b#c 5-10;_[d Exists ]:root 13-21;",
         ),
-        ("a b>c+d~e", "_a_b>c+d~e 0-9;"),
         ("a > b /**/ + c~d", "_a>b+c~d 0-16;"),
-        ("a/**/.b", "_a.b 0-7;"),
-        ("a /**/ b", "_a_b 0-8;"),
         ("\\41.b\\.c", "_A.b.c 0-8;"),
-        ("[a=b]", "_[a Equal b] 0-5;"),
         ("[ a ~= 'b\\\nc' ]", "_[a Word bc] 0-15;"),
-        (
-            "[a|=b][a^=\"\"][a$=b][a*=b]",
-            "_[a Dash b][a Prefix ][a Suffix b][a Part b] 0-25;",
-        ),
-        (
-            ":empty:only-child:only-of-type",
-            "_:empty:only:only-type 0-30;",
-        ),
-        (
-            ":first-child:Last-Child:first-of-type:last-of-type",
-            "_Child(0,1)LastChild(0,1)OfType(0,1)LastOfType(0,1) 0-50;",
-        ),
-        (
-            ":hover:active:focus:link:visited",
-            "_:never:never:never:never:never 0-32;",
-        ),
-        (
-            ":target:enabled:disabled:checked:lang(en)",
-            "_:never:never:never:never:never 0-41;",
-        ),
-        (
-            ":nth-child(ODD):nth-last-child( even )",
-            "_Child(2,1)LastChild(2,0) 0-38;",
-        ),
         (
             ":nth-of-type( -n+3 ):nth-last-of-type(+2N - 1)",
             "_OfType(-1,3)LastOfType(2,-1) 0-46;",
         ),
-        (
-            ":nth-child(-0007):nth-child(999999999n)",
-            "_Child(0,-7)Child(999999999,0) 0-39;",
-        ),
-        ("a:not( .b ):not(*):NOT(c)", "_a!.b!*!c 0-25;"),
-        (
-            ":not([a]):not(#b):not(:hover)",
-            "_![a Exists ]!#b!:never 0-29;",
-        ),
-        ("a::before, b:After", "_a:: 0-9;_b:: 11-18;"),
-        ("::first-line", "_:: 0-12;"),
-        ("a > :first-letter", "_a>:: 0-17;"),
+        ("a:not( .b ):hover, b:After", "_a!.b:never 0-17;_b:: 19-26;"),
+        ("a,,b", "invalid"),
+        (":not(a.b)", "invalid"),
     ] {
         assert_eq!(rt; list_text(rt.alloc(), text)?.as_str(), want, "of {text:?}");
-    }
-    Ok(())
-}
-
-#[test]
-fn texts_that_spell_none(rt: HostRuntime) -> Result<(), Fail> {
-    for text in [
-        "",
-        " ",
-        "/**/",
-        ",",
-        "a,,b",
-        "a,",
-        ",a",
-        "#1",
-        "a|b",
-        "*|a",
-        "|a",
-        ".",
-        ". a",
-        "a. b",
-        "a*",
-        ".b a*",
-        "a >",
-        "> a",
-        "a > > b",
-        "a/**/b",
-        "1",
-        "@a",
-        "a{",
-        "url(a)",
-        "[a~/**/=b]",
-        "[a=b",
-        "[a",
-        "[a=1]",
-        "[a b]",
-        "[=b]",
-        "['a']",
-        "[a='b",
-        "[a=b c]",
-        ":not(a.b)",
-        ":not(:not(a))",
-        ":not(::before)",
-        ":not(:before)",
-        ":not()",
-        ":not(a",
-        "::x",
-        ":x",
-        "::",
-        ":",
-        ": hover",
-        ": :before",
-        ":: before",
-        "::hover",
-        ":before:hover",
-        "a:before b",
-        "::before::after",
-        "a:before.b",
-        ":nth-child",
-        ":nth-child()",
-        ":nth-child(+ 1)",
-        ":nth-child(1234567890)",
-        ":nth-child(n+1234567890)",
-        ":nth-child(n\\2b 1)",
-        ":nth-child(n/**/+1)",
-        ":nth-child(2 n)",
-        ":nth-child(n+ )",
-        ":nth-child(n 1)",
-        ":nth-child(--1)",
-        ":nth-child(oddx)",
-        ":nth-child(1",
-        ":lang( en )",
-        ":lang(en )",
-        ":lang()",
-        ":lang(en,de)",
-        ":root()",
-        ":hover(a)",
-    ] {
-        assert_eq!(rt;
-            list_text(rt.alloc(), text)?.as_str(),
-            "invalid",
-            "of {text:?}"
-        );
     }
     Ok(())
 }
@@ -219,17 +99,5 @@ fn specificities(rt: HostRuntime) -> Result<(), Fail> {
         let spec = specificity(list.at(0));
         assert_eq!(rt; (spec.a, spec.b, spec.c), want, "of {text:?}");
     }
-    Ok(())
-}
-
-#[test]
-fn a_long_list(rt: HostRuntime) -> Result<(), Fail> {
-    let mut text = "a".to_string(rt.alloc())?;
-    for _ in 1..10_000 {
-        text.push_str(", a")?;
-    }
-    let list = read_selectors(rt.alloc(), text.as_str())?;
-    assert_eq!(rt; list.len(), 10_000);
-    assert_eq!(rt; list.at(9_999).range.end, 29_998);
     Ok(())
 }

@@ -1,7 +1,0 @@
--- What has no fault has room.
-use Rattle.std.proofs.Common.{sym, ◌∙◌}
-use Rattle.page_tree.proofs.FaultLemmas.{insert_few}
-use Rattle.page_tree.proofs.tests.insert.Goals as goal
-
-pub grow-requires-clause-few : goal.grow-requires-clause-few
-grow-requires-clause-few c = insert_few c.args.parent c.args.before c.in_ok-form.form c.args.page.now.tree (sym c.insert_fault.ensures ∙ c.in_default.is)
