@@ -1,32 +1,15 @@
 -- What an edit makes of a page, and the edit that leads back. All reads nodes and texts; of the next serial an attach alone
 -- says something, and nothing hangs on it.
-use Rattle.std.specs.Prelude.{ℕ, suc, ◌+◌, ◌==◌, ◌||◌, ◌&&◌, max, Bool, false, cond, List, [], ◌∷◌, Option, Some, None, bytes_eq}
+use Rattle.std.specs.Prelude.{ℕ, suc, ◌+◌, ◌==◌, ◌||◌, ◌&&◌, max, Bool, false, cond, List, [], ◌∷◌, Option, Some, None}
 use Rattle.node_tree.specs.Nodes.{Nodes, none, node, Branch, alone, map_branch, branch_count}
-use Rattle.node_tree.specs.Labels.{Pair, Label, value_of}
+use Rattle.node_tree.specs.Labels.{Label, value_of}
+pub use Rattle.node_tree.specs.LabelChanges.{pairs_without, with_attribute, without_attribute, with_value}
 use Rattle.node_tree.specs.Keys as keys
 use Rattle.page_tree.specs.Pages.{Row, row_serial, row_label, State, node_at, parent_at, numbered}
-use Rattle.page_tree.specs.Loads.{placed}
 use Rattle.page_tree.specs.declared.edits.TreeEdit.{TreeEdit}
 use Rattle.page_tree.specs.declared.edits.TreeEdit.TheVariants.{SetAttr, DropAttr, SetText, Attach, Detach}
 
 -- ---- what an edit makes of the one node that it changes
-
--- the pairs without the first of that name
-abbrev pub pairs_without : List ℕ → List Pair → List Pair
-pairs_without name [] = []
-pairs_without name (p ∷ ps) = cond (bytes_eq p.0 name) ps (p ∷ pairs_without name ps)
-
--- the label with the attribute of that name set: one that is there keeps its place, and a new one stands in the order of names
-abbrev pub with_attribute : List ℕ → List ℕ → Label → Label
-with_attribute name value l = record l { attributes = placed (name, value) l.attributes }
-
--- the label without the attribute of that name
-abbrev pub without_attribute : List ℕ → Label → Label
-without_attribute name l = record l { attributes = pairs_without name l.attributes }
-
--- the label with another value
-abbrev pub with_value : List ℕ → Label → Label
-with_value value l = record l { value = value }
 
 -- the node with its label changed
 abbrev pub relabelled : (Label → Label) → Branch Row → Branch Row

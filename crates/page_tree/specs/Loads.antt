@@ -2,13 +2,12 @@
 use Rattle.std.specs.Prelude.{◌≡◌, ℕ, suc, ◌+◌, ◌==◌, ◌||◌, Bool, true, false, not, nat_le, cond, List, [], ◌∷◌, Option, Some, None, Result, Ok, Err, is_some, option_map, option_and_then, codes, bytes_eq, Vec}
 use Rattle.std.specs.declared.alloc.Global.{Global}
 use Rattle.std.specs.Option.{option_map_or}
-use Rattle.std.specs.Ordering.{nat_cmp, match_ordering}
-use Rattle.std.specs.Cmp.Lexicographic.{slice_cmp}
 use Rattle.serde_json.specs.Data.{Data, null, boolean, number, string, array, object, Items, no_items, item, Members, no_members, member}
 use Rattle.serde_json.specs.Find.{get, as_str, as_array, as_object}
 use Rattle.serde_json.specs.Events.{members_len}
 use Rattle.node_tree.specs.Nodes.{Nodes, none, node, Branch, nodes_of, node_count, height}
 use Rattle.node_tree.specs.Labels.{Pair, Label}
+pub use Rattle.node_tree.specs.LabelChanges.{placed}
 use Rattle.node_tree.specs.Keys.{first_of}
 use Rattle.node_tree.specs.declared.Kind.{Kind}
 use Rattle.node_tree.specs.declared.Kind.TheVariants.{Element, Text, Comment, Doctype}
@@ -31,11 +30,6 @@ pairs_of (item n (item v ds)) = option_and_then (λ name. option_and_then (λ va
 abbrev pub is_taken : List ℕ → List Pair → Bool
 is_taken name [] = false
 is_taken name (p ∷ ps) = bytes_eq name p.0 || is_taken name ps
-
--- pairs that ascend by the bytes of their names, with one more in its place
-abbrev pub placed : Pair → List Pair → List Pair
-placed p [] = p ∷ []
-placed p (q ∷ qs) = match_ordering (slice_cmp nat_cmp p.0 q.0) (p ∷ q ∷ qs) ((q.0, p.1) ∷ qs) (q ∷ placed p qs)
 
 -- The pairs in ascending order of their names' bytes, put one after another in their places among those that are in order
 -- already; None where a name is there twice.
