@@ -9,12 +9,14 @@ pub struct PageSide {
 }
 
 impl PageSide {
+    /// The page's side of this page, with no sheets.
     pub fn new(page: Page) -> PageSide
         ensures { result.page ≡ page }
     {
         PageSide { page }
     }
 
+    /// The page as it stands.
     pub fn page(&self) -> &Page
         ensures { result.now ≡ self.now.page }
     {

@@ -37,6 +37,7 @@ impl Declarations {
         Declarations { declarations }
     }
 
+    /// The declarations, in their order in the block.
     pub fn as_slice(&self) -> &[Decl]
         ensures { result.now ≡ self.now }
     {
@@ -50,6 +51,7 @@ impl Declarations {
         self.declarations
     }
 
+    /// How many declarations there are.
     pub fn len(&self) -> usize
         ensures { result ≡ length self.now }
     {

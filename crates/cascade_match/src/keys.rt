@@ -30,6 +30,7 @@ pub fn origin_rank(origin: Origin) -> u8
     }
 }
 
+/// The key by which a rule stands in the cascade: `sheet` and `rule` are places, from 0.
 pub fn key_of(origin: Origin, spec: Spec, sheet: usize, rule: usize) -> Key
     ensures { result ≡ key_of origin spec sheet rule }
 {

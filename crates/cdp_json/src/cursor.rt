@@ -69,6 +69,7 @@ impl<'a> Cursor<'a> {
         Some(value)
     }
 
+    /// The field of this name, which must be there, as a whole number of at least 0.
     pub fn need_whole(&mut self, name: &str) -> Option<u64>
         ensures value { option_map (beside (left self.new)) result
             ≡ need as_whole name.now (left self.old) }
@@ -79,6 +80,7 @@ impl<'a> Cursor<'a> {
         Some(found)
     }
 
+    /// The field of this name, which must be there, as a whole number.
     pub fn need_signed(&mut self, name: &str) -> Option<i64>
         ensures value { option_map (beside (left self.new)) result
             ≡ need as_signed name.now (left self.old) }
@@ -89,6 +91,7 @@ impl<'a> Cursor<'a> {
         Some(found)
     }
 
+    /// The field of this name, which must be there, as a string.
     pub fn need_text(&mut self, name: &str) -> Option<&'a str>
         ensures value { option_map (λ s. beside (left self.new) s.now) result
             ≡ need as_str name.now (left self.old) }
@@ -99,6 +102,7 @@ impl<'a> Cursor<'a> {
         Some(found)
     }
 
+    /// The field of this name, which must be there, as a boolean.
     pub fn need_flag(&mut self, name: &str) -> Option<bool>
         ensures value { option_map (beside (left self.new)) result
             ≡ need as_bool name.now (left self.old) }
@@ -109,6 +113,7 @@ impl<'a> Cursor<'a> {
         Some(found)
     }
 
+    /// The field of this name, which must be there, as an array.
     pub fn need_list(&mut self, name: &str) -> Option<&'a [Value]>
         ensures value { option_map (λ xs. beside (left self.new) (items_view xs.now)) result
             ≡ need as_array name.now (left self.old) }
@@ -119,6 +124,7 @@ impl<'a> Cursor<'a> {
         Some(found)
     }
 
+    /// The field of this name, which must be there, as an object.
     pub fn need_object(&mut self, name: &str) -> Option<&'a Map<String, Value>>
         ensures value { option_map (λ m. beside (left self.new) (members_view m.now.entries)) result
             ≡ need as_object name.now (left self.old) }
@@ -140,6 +146,7 @@ impl<'a> Cursor<'a> {
         Some(value)
     }
 
+    /// The field of this name, if it is there, as a whole number of at least 0.
     pub fn may_whole(&mut self, name: &str) -> Option<Option<u64>>
         ensures value { option_map (beside (left self.new)) result
             ≡ may as_whole name.now (left self.old) }
@@ -153,6 +160,7 @@ impl<'a> Cursor<'a> {
         Some(Some(found))
     }
 
+    /// The field of this name, if it is there, as a string.
     pub fn may_text(&mut self, name: &str) -> Option<Option<&'a str>>
         ensures value { option_map (λ o. beside (left self.new) (option_map (λ s. s.now) o)) result
             ≡ may as_str name.now (left self.old) }
@@ -166,6 +174,7 @@ impl<'a> Cursor<'a> {
         Some(Some(found))
     }
 
+    /// The field of this name, if it is there, as an array.
     pub fn may_list(&mut self, name: &str) -> Option<Option<&'a [Value]>>
         ensures value { option_map (λ o. beside (left self.new) (option_map (λ xs. items_view xs.now) o)) result
             ≡ may as_array name.now (left self.old) }
@@ -179,6 +188,7 @@ impl<'a> Cursor<'a> {
         Some(Some(found))
     }
 
+    /// The field of this name, if it is there, as an object.
     pub fn may_object(&mut self, name: &str) -> Option<Option<&'a Map<String, Value>>>
         ensures value { option_map (λ o. beside (left self.new) (option_map (λ m. members_view m.now.entries) o)) result
             ≡ may as_object name.now (left self.old) }

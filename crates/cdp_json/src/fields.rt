@@ -60,6 +60,7 @@ pub fn depth_field(object: &Map<String, Value>, name: &str) -> Field<i64>
     }
 }
 
+/// The field of this name as a string.
 pub fn text_field<'a>(object: &'a Map<String, Value>, name: &str) -> Field<&'a str>
     ensures { field_map (λ s. s.now) result
         ≡ field_of as_str name.now (members_view object.now.entries) }
@@ -70,6 +71,7 @@ pub fn text_field<'a>(object: &'a Map<String, Value>, name: &str) -> Field<&'a s
     }
 }
 
+/// The field of this name as a boolean.
 pub fn flag_field(object: &Map<String, Value>, name: &str) -> Field<bool>
     ensures { result ≡ field_of as_bool name.now (members_view object.now.entries) }
 {
@@ -79,6 +81,7 @@ pub fn flag_field(object: &Map<String, Value>, name: &str) -> Field<bool>
     }
 }
 
+/// The field of this name as an array.
 pub fn list_field<'a>(object: &'a Map<String, Value>, name: &str) -> Field<&'a [Value]>
     ensures { field_map (λ xs. items_view xs.now) result
         ≡ field_of as_array name.now (members_view object.now.entries) }
@@ -89,6 +92,7 @@ pub fn list_field<'a>(object: &'a Map<String, Value>, name: &str) -> Field<&'a [
     }
 }
 
+/// The field of this name as an object.
 pub fn object_field<'a>(object: &'a Map<String, Value>, name: &str) -> Field<&'a Map<String, Value>>
     ensures { field_map (λ m. members_view m.now.entries) result
         ≡ field_of as_object name.now (members_view object.now.entries) }

@@ -38,6 +38,7 @@ pub fn texts_of(alloc: Global, items: &[Value]) -> Result<Option<Vec<String>>, A
     Ok(Some(texts))
 }
 
+/// An array of these numbers.
 pub fn whole_list(alloc: Global, numbers: &[u64]) -> Result<Value, AllocError>
     ensures { IfOk result (λ v. view v ≡ (list_of whole).spell numbers.now) }
 {
@@ -48,6 +49,7 @@ pub fn whole_list(alloc: Global, numbers: &[u64]) -> Result<Value, AllocError>
     Ok(Value::Array(items))
 }
 
+/// An array of copies of these strings.
 pub fn text_list(alloc: Global, texts: &[String]) -> Result<Value, AllocError>
     ensures { IfOk result (λ v. view v ≡ (list_of text).spell (map string_bytes texts.now)) }
 {

@@ -37,18 +37,21 @@ pub fn signed_of(value: &Value) -> Option<i64>
     value.as_i64()
 }
 
+/// The string that the value is, if it is one.
 pub fn text_of(value: &Value) -> Option<&str>
     ensures { option_map (λ s. s.now) result ≡ as_str (view value.now) }
 {
     value.as_str()
 }
 
+/// The boolean that the value is, if it is one.
 pub fn flag_of(value: &Value) -> Option<bool>
     ensures { result ≡ as_bool (view value.now) }
 {
     value.as_bool()
 }
 
+/// The elements of the array that the value is, if it is one.
 pub fn list_of(value: &Value) -> Option<&[Value]>
     ensures { option_map (λ xs. items_view xs.now) result ≡ as_array (view value.now) }
 {
@@ -58,6 +61,7 @@ pub fn list_of(value: &Value) -> Option<&[Value]>
     }
 }
 
+/// The object that the value is, if it is one.
 pub fn object_of(value: &Value) -> Option<&Map<String, Value>>
     ensures { option_map (λ m. members_view m.now.entries) result ≡ as_object (view value.now) }
 {

@@ -29,12 +29,14 @@ impl Model for TextEdits {
 }
 
 impl TextEdits {
+    /// The edits of one command, in their order.
     pub fn new(list: Vec<TextEdit>) -> TextEdits
         ensures { result ≡ list.items }
     {
         TextEdits { list }
     }
 
+    /// The edits, in their order.
     pub fn as_slice(&self) -> &[TextEdit]
         ensures { result.now ≡ self.now }
     {

@@ -25,12 +25,14 @@ impl Model for Json {
 }
 
 impl Json {
+    /// The value, kept as it is.
     pub fn new(value: Value) -> Json
         ensures { result ≡ view value }
     {
         Json { value }
     }
 
+    /// A copy of the value.
     pub fn copied(value: &Value) -> Result<Json, AllocError>
         ensures { IfOk result (λ json. json ≡ view value.now) }
     {
@@ -39,6 +41,7 @@ impl Json {
         })
     }
 
+    /// The value that is kept.
     pub fn as_value(&self) -> &Value
         ensures { view result.now ≡ self.now }
     {

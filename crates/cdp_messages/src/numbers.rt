@@ -17,12 +17,14 @@ impl Model for Numbers {
 }
 
 impl Numbers {
+    /// The numbers, in their order.
     pub fn new(list: Vec<u64>) -> Numbers
         ensures { result ≡ list.items }
     {
         Numbers { list }
     }
 
+    /// The numbers, in their order.
     pub fn as_slice(&self) -> &[u64]
         ensures { result.now ≡ self.now }
     {

@@ -23,6 +23,7 @@ impl Model for NumberSet {
 }
 
 impl NumberSet {
+    /// The empty set.
     pub fn new(alloc: Global) -> NumberSet
         ensures { result ≡ set.empty }
     {
@@ -31,12 +32,14 @@ impl NumberSet {
         }
     }
 
+    /// Whether the number is in the set.
     pub fn contains(&self, number: u64) -> bool
         ensures { result ≡ set.contains self.now number }
     {
         self.numbers.contains(&number)
     }
 
+    /// Puts the number in; one that is there stays. After want of memory the set is as before.
     pub fn insert(&mut self, number: u64) -> Result<(), AllocError>
         ensures { OnOk result (self.new ≡ set.insert self.old number) }
     {
@@ -44,12 +47,14 @@ impl NumberSet {
         Ok(())
     }
 
+    /// Takes the number out, if it is there.
     pub fn remove(&mut self, number: u64)
         ensures { self.new ≡ set.remove self.old number }
     {
         self.numbers.remove(&number);
     }
 
+    /// Takes all numbers out.
     pub fn clear(&mut self)
         ensures { self.new ≡ set.empty }
     {
@@ -72,6 +77,7 @@ impl Model for NumberMap {
 }
 
 impl NumberMap {
+    /// The map without keys.
     pub fn new(alloc: Global) -> NumberMap
         ensures { result ≡ map.empty }
     {
@@ -80,12 +86,14 @@ impl NumberMap {
         }
     }
 
+    /// The number under the key, if there is one.
     pub fn get(&self, key: u64) -> Option<u64>
         ensures { result ≡ map.get self.now key }
     {
         self.pairs.get(&key).copied()
     }
 
+    /// Puts the number under the key, in the place of one that is there. After want of memory the map is as before.
     pub fn insert(&mut self, key: u64, number: u64) -> Result<(), AllocError>
         ensures { OnOk result (self.new ≡ map.insert self.old key number) }
     {
@@ -101,6 +109,7 @@ impl NumberMap {
         self.pairs.remove(&key)
     }
 
+    /// Takes all keys out.
     pub fn clear(&mut self)
         ensures { self.new ≡ map.empty }
     {

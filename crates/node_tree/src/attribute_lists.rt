@@ -119,6 +119,7 @@ impl Attributes {
         mem::replace(&mut pair.1, value)
     }
 
+    /// A copy of the list and of its texts.
     pub fn try_clone(&self, alloc: Global) -> Result<Attributes, AllocError>
         ensures { IfOk result (λ copy. copy ≡ self.now) }
     {

@@ -28,6 +28,7 @@ impl Model for Splitter {
 }
 
 impl Splitter {
+    /// A splitter that holds nothing.
     pub fn new(alloc: Global) -> Splitter
         ensures { result ≡ record { whole = []; rest = [] } }
     {

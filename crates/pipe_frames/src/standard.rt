@@ -11,6 +11,7 @@ pub struct StdSource<R> {
 }
 
 impl<R: Read> StdSource<R> {
+    /// The reader as a source; no call has failed yet.
     pub fn new(reader: R) -> StdSource<R>
         ensures faults { ⟦<StdSource<R> as Source>⟧.faults result ≡ 0 }
         ensures left { ⟦<StdSource<R> as Source>⟧.left result ≡ R.remaining reader }
@@ -43,6 +44,7 @@ pub struct StdSink<W> {
 }
 
 impl<W: Write> StdSink<W> {
+    /// The writer as a sink; no call has failed yet.
     pub fn new(writer: W) -> StdSink<W>
         ensures faults { ⟦<StdSink<W> as Sink>⟧.faults result ≡ 0 }
         ensures taken { ⟦<StdSink<W> as Sink>⟧.taken result ≡ W.contents writer }

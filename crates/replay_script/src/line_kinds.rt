@@ -54,6 +54,7 @@ impl LineKind {
         }
     }
 
+    /// Whether the line is a load.
     pub fn is_load(self) -> bool
         ensures { result ≡ is_load self }
     {

@@ -8,12 +8,14 @@ ghost use Rattle.select_match.specs.Elements.{is_element, fills, is_root_by, sid
 use page_tree::{Kind, NodeRef};
 use selectors::NthKind;
 
+/// Whether the node is an element.
 pub fn is_element(node: &NodeRef<'_>) -> bool
     ensures { result ≡ is_element node.now }
 {
     node.kind() == Kind::Element
 }
 
+/// Whether the node is an element right below the document: `:root`.
 pub fn is_root(node: &NodeRef<'_>) -> bool
     ensures { result ≡ is_root_by (parent_of node.now) }
 {

@@ -75,6 +75,7 @@ impl KnownPlaces {
         }
     }
 
+    /// The place that was counted, if one was: from 1.
     pub fn place(&self, kind: NthKind) -> Option<u64>
         ensures { result ≡ place_known kind self.now }
     {
@@ -86,6 +87,7 @@ impl KnownPlaces {
         }
     }
 
+    /// Keeps a place that was counted.
     pub fn set_place(&mut self, kind: NthKind, place: u64)
         ensures { self.new ≡ with_place kind place self.old }
     {

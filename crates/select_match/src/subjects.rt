@@ -80,6 +80,7 @@ impl<'a> Subject<'a> {
         })
     }
 
+    /// The node itself.
     pub fn node(&self) -> &NodeRef<'a>
         ensures { result.now ≡ self.now }
     {

@@ -21,6 +21,7 @@ fn is_among(word: &[u8], text: &[u8]) -> bool
     text.split(|b| b.is_ascii_whitespace()).any(|w| w == word)
 }
 
+/// Whether the word is one of those of the text, which white space separates: `[a~=word]`.
 pub fn has_word(word: &str, text: &str) -> bool
     ensures { result ≡ has_word word.now text.now }
 {

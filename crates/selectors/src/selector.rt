@@ -131,12 +131,14 @@ impl SelectorList {
     ghost use Rattle.selectors.specs.Forms.{selector_seen};
     ghost use Rattle.selectors.specs.Lists.{list_seen, moved_selector, CanMove};
 
+    /// How many selectors the list has.
     pub fn len(&self) -> usize
         ensures { result ≡ length (list_seen self.now) }
     {
         self.list.len()
     }
 
+    /// The selector at this place, from 0.
     pub fn at(&self, i: usize) -> &Selector
         requires { i < length (list_seen self.now) }
         ensures { slice_get (list_seen self.now) i ≡ Some (selector_seen result.now) }

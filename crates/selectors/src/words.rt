@@ -43,6 +43,7 @@ pub struct Word {
 }
 
 impl Word {
+    /// Whether the word is this one character, in ASCII.
     pub fn is_mark(&self, mark: u8) -> bool
         ensures { result ≡ is_mark mark self.now.kind }
     {
@@ -150,6 +151,7 @@ impl<'a> Model for Words<'a> {
 }
 
 impl<'a> Words<'a> {
+    /// The words of this text, from the first on.
     pub fn new(text: &'a str, words: &'a [Word]) -> Words<'a>
         requires { AllByRecursion (IsWordOf text.now) words.now }
         ensures { result ≡ reading text.now words.now }
@@ -157,12 +159,14 @@ impl<'a> Words<'a> {
         Words { text, words }
     }
 
+    /// The text that the words are of.
     pub fn text(&self) -> &'a str
         ensures { result.now ≡ self.now.text }
     {
         self.text
     }
 
+    /// The next word, which is then behind; None at the end.
     pub fn next(&mut self) -> Option<Word>
         ensures first { option_map (λ w. (w, self.new)) result ≡ next_word self.old }
         ensures over { IfNone result (self.new ≡ self.old) }
@@ -187,6 +191,7 @@ impl<'a> Words<'a> {
         }
     }
 
+    /// Whether no word is left.
     pub fn is_over(&self) -> bool
         ensures { result ≡ is_over self.now.words }
     {

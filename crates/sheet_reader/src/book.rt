@@ -63,6 +63,7 @@ impl SheetBook {
         self.alloc
     }
 
+    /// How many sheets the book has.
     pub fn len(&self) -> usize
         ensures { result ≡ length self.now }
     {
@@ -81,6 +82,7 @@ impl SheetBook {
         }
     }
 
+    /// The sheet with this id, if there is one.
     pub fn get(&self, id: u64) -> Option<&SheetEntry>
         ensures found { option_copied result ≡ entry_of id self.now }
         ensures read { IfSome result (λ e. IsEntry e.now) }

@@ -22,24 +22,28 @@ impl Model for Properties {
 }
 
 impl Properties {
+    /// The declarations, in their order.
     pub fn new(properties: Vec<Property>) -> Properties
         ensures { result ≡ properties.items }
     {
         Properties { properties }
     }
 
+    /// The declarations, in their order.
     pub fn as_slice(&self) -> &[Property]
         ensures { result.now ≡ self.now }
     {
         self.properties.as_slice()
     }
 
+    /// Gives the declarations back.
     pub fn into_vec(self) -> Vec<Property>
         ensures { result.items ≡ self }
     {
         self.properties
     }
 
+    /// How many there are.
     pub fn len(&self) -> usize
         ensures { result ≡ length self.now }
     {
@@ -63,24 +67,28 @@ impl Model for StyleRules {
 }
 
 impl StyleRules {
+    /// The rules, in their order.
     pub fn new(rules: Vec<StyleRule>) -> StyleRules
         ensures { result ≡ map rule_seen rules.items }
     {
         StyleRules { rules }
     }
 
+    /// The rules, in their order.
     pub fn as_slice(&self) -> &[StyleRule]
         ensures { map rule_seen result.now ≡ self.now }
     {
         self.rules.as_slice()
     }
 
+    /// Gives the rules back.
     pub fn into_vec(self) -> Vec<StyleRule>
         ensures { map rule_seen result.items ≡ self }
     {
         self.rules
     }
 
+    /// How many there are.
     pub fn len(&self) -> usize
         ensures { result ≡ length self.now }
     {
@@ -103,18 +111,21 @@ impl Model for Places {
 }
 
 impl Places {
+    /// The places, in bytes, in their order.
     pub fn new(places: Vec<usize>) -> Places
         ensures { result ≡ places.items }
     {
         Places { places }
     }
 
+    /// The places, in bytes, in their order.
     pub fn as_slice(&self) -> &[usize]
         ensures { result.now ≡ self.now }
     {
         self.places.as_slice()
     }
 
+    /// Gives the places, in bytes back.
     pub fn into_vec(self) -> Vec<usize>
         ensures { result.items ≡ self }
     {
