@@ -12,6 +12,7 @@ pub mod Messages
 pub mod PlainAsks
 pub mod MoveTexts
 pub mod StepsTaken
+pub mod FetchRefused
 pub mod FitLemmas
 pub mod Scripts
 pub mod Ends
