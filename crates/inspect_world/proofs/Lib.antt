@@ -22,3 +22,6 @@ pub mod SendForms
 pub mod Inputs
 pub mod FreshLemmas
 pub mod UnstyledLemmas
+pub mod StaleLemmas
+pub mod FetchForms
+pub mod FetchesFit
