@@ -3,6 +3,7 @@ use Rattle.std.proofs.Common.{◌≡◌, ℕ, ◌+◌, ◌^◌, ◌<◌, ◌≤�
 use Rattle.std.specs.List.{All}
 use Rattle.pipe_frames.specs.Frames.{IsText, frames_of}
 use Rattle.css_objects.specs.Sheets.{is_sheet}
+use Rattle.css_objects.proofs.SheetIds.{sheet_bounds}
 use Rattle.cdp_messages.specs.Asked.{command_text}
 use Rattle.cdp_messages.specs.Views.{ShownSheet, AreSheets}
 use Rattle.cdp_messages.specs.Moves.{CanBeTold}
@@ -83,7 +84,7 @@ fetch_laws = record {
   few = few-stale;
   known = λ front number numbers first. stale-known front.sheets number numbers first;
   letters = λ n front state number numbers due. fetcher-text n.fetches number due.left;
-  next = λ n front state number numbers due. fetcher-next n number due.left (due-numbered n front state number numbers due);
+  next = λ n front state number numbers due. fetcher-next n number due.left (sheet_bounds number (due-numbered n front state number numbers due)).1;
   answer = λ n front after state number numbers due taken. never-due n front state number numbers due;
 }
 

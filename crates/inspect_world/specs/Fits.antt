@@ -1,9 +1,10 @@
 -- A front end that shows the state of the page, and waits for the answers that are to come.
-use Rattle.std.specs.Prelude.{⊤, ◌≡◌, ◌≤◌, ℕ, ◌+◌, ◌*◌, ◌^◌, List, [], ◌∷◌, ◌++◌, length, Option, Some, None, is_some, option_and_then, codes, false, cond, nat_lt, bytes_eq, Err}
+use Rattle.std.specs.Prelude.{⊤, ◌≡◌, ◌≤◌, ℕ, ◌+◌, ◌*◌, ◌^◌, List, [], ◌∷◌, ◌++◌, length, drop, Option, Some, None, is_some, option_and_then, codes, false, cond, nat_lt, bytes_eq, Err}
 use Rattle.serde_json.specs.Data.{Data, Members}
 use Rattle.serde_json.specs.Find.{get_member, as_str, as_object}
-use Rattle.cdp_json.specs.Kinds.{as_whole}
-use Rattle.css_objects.specs.Sheets.{sheet_kind}
+use Rattle.std.specs.Str.Parse.{digits_value}
+use Rattle.cdp_json.specs.Kinds.{as_whole, if_holds}
+use Rattle.css_objects.specs.Sheets.{sheet_text}
 use Rattle.page_tree.specs.Forms.{max_nodes}
 use Rattle.cdp_messages.specs.declared.command.Why.{Why}
 use Rattle.cdp_messages.specs.Asked.{json_of, refusal, asked}
@@ -25,9 +26,14 @@ use Rattle.inspect_world.specs.Fold as fold
 abbrev pub ask_with : List ℕ → ℕ → Ask
 ask_with method id = plain_ask id method
 
+-- the number of the sheet whose id has this text
+abbrev pub sheet_told : List ℕ → Option ℕ
+sheet_told text = if_holds (λ n. bytes_eq (sheet_text n) text) (digits_value 10 (drop 1 text))
+
 -- the sheet that parameters name
 abbrev pub sheet_named : Data → Option ℕ
-sheet_named params = option_and_then (λ ms. option_and_then sheet_kind.reads (get_member (codes "styleSheetId") ms)) (as_object params)
+sheet_named params =
+    option_and_then (λ ms. option_and_then sheet_told (option_and_then as_str (get_member (codes "styleSheetId") ms))) (as_object params)
 
 -- The sheet that an ask fetches, by its id, its method and its parameters. The ids of fetches are from 2^30 on, and no other ask
 -- has one of them.

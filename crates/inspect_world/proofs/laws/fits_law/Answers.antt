@@ -1,6 +1,3 @@
-use Rattle.inspect_world.proofs.Ends.{world-told}
-use Rattle.inspect_world.proofs.LinkLemmas.{follows-told}
-use Rattle.inspect_world.proofs.KeepLemmas.{replies-agree}
 use Rattle.inspect_world.proofs.Inputs.{inputs-fit}
 use Rattle.inspect_world.proofs.Scripts.{lines-fit, bare-frames-fit, turns-fit, deliveries-fit, settled-shows}
 use Rattle.inspect_world.proofs.FetchesFit.{fresh-lines, fresh-inputs, refreshed-all}
