@@ -14,7 +14,7 @@ use Rattle.cdp_messages.specs.declared.command.Why.{Why}
 use Rattle.cdp_messages.specs.declared.command.Why.TheVariants.{NotJson, NoId}
 use Rattle.cdp_messages.specs.Asked.{json_of, refusal, with_id, command_in, asked_value}
 use Rattle.replay_script.specs.Faults.{is_zero, is_whole_number, has_whole_id, is_no_frame}
-use Rattle.inspect_world.specs.Fits.{ask_of, ask_with, IsBare}
+use Rattle.inspect_world.specs.Fits.{ask_of, ask_by, IsBare}
 
 or_neither : (a b : Bool) → (a || b) ≡ false → (a ≡ false) × (b ≡ false)
 or_neither true b e = absurd cc
@@ -58,7 +58,7 @@ bare_object : (frame : Members) → option_map_or is_whole_number (get_member (c
 bare_object frame e =
     let p = bare_id (get_member (codes "id") frame) (command_in false frame) e in
     record {
-      no_ask = ap (option_and_then (λ id. option_and_then (λ (method : List ℕ). Some (ask_with method id)) (option_and_then as_str (get_member (codes "method") frame)))) p.0;
+      no_ask = ap (option_and_then (λ id. option_and_then (λ (method : List ℕ). Some (ask_by frame id method)) (option_and_then as_str (get_member (codes "method") frame)))) p.0;
       why = NoId;
       refused = p.1;
     }

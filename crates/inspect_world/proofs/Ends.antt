@@ -1,6 +1,9 @@
 -- The ends follow the run as bytes are sent and given.
-use Rattle.std.proofs.Common.{◌≡◌, refl, false, ℕ, ◌+◌, ◌-◌, ◌^◌, ◌<◌, ◌≤◌, List, [], ◌∷◌, ◌++◌, length, map, take, drop, Some, None, sym, ◌∙◌, ap, subst, append_assoc, append-nil, Result, Ok, Err, arith, length-append}
+use Rattle.std.proofs.Common.{◌≡◌, refl, false, ℕ, ◌+◌, ◌-◌, ◌^◌, ◌<◌, ◌≤◌, List, [], ◌∷◌, ◌++◌, length, map, take, drop, Some, None, option_and_then, sym, ◌∙◌, ap, subst, append_assoc, append-nil, Result, Ok, Err, arith, length-append}
 use Rattle.std.proofs.lemmas.List.{take-append-drop, length-map}
+use Rattle.std.specs.List.{All}
+use Rattle.std.proofs.lemmas.List.Elements.{All-nil, All-cons, All-append}
+use Rattle.front_mirror.specs.declared.replies.Ask.{Ask}
 use Rattle.node_tree.specs.Nodes.{Nodes}
 use Rattle.node_tree.specs.Labels.{Label}
 use Rattle.page_tree.specs.Forms.{CanLoad}
@@ -20,7 +23,7 @@ use Rattle.back_end.specs.declared.side.PageSide.{PageSide}
 use Rattle.back_end.specs.States.{State, loaded_state}
 use Rattle.back_end.specs.Steps.{Turn, step, turn}
 use Rattle.back_end.specs.Seats.{StandsFor}
-use Rattle.inspect_world.specs.Fits.{join, IsNext, next_raw, IsBare, IsNextTurn, replay, ask_in, ask_with, with_ask, HasLeft, IsFit}
+use Rattle.inspect_world.specs.Fits.{join, IsNext, next_raw, IsBare, IsPlainFrame, IsNextTurn, replay, ask_in, ask_with, with_ask, HasLeft, IsFit}
 use Rattle.inspect_world.specs.Scripts.{sends, all_told, loaded_world}
 use Rattle.page_forms.specs.Texts.{HaveTexts}
 use Rattle.inspect_world.specs.ScriptsFit.{CanSend}
@@ -28,7 +31,7 @@ use Rattle.inspect_world.specs.ShownReplies.{told_of, replies_in}
 use Rattle.inspect_world.specs.Held.{Ends, good_front, InWorld}
 use Rattle.inspect_world.specs.Carried.{Carries}
 use Rattle.inspect_world.proofs.Frames.{sent-passed, awaited-passed, whole-sent, whole-given, rest-given}
-use Rattle.inspect_world.proofs.Worlds.{whole-after, fits-sent_up, fits-turned, fits-given_up, fits-answered_one}
+use Rattle.inspect_world.proofs.Worlds.{whole-after, whole-framed, fits-sent_up, fits-turned, fits-given_up, fits-answered_one}
 use Rattle.inspect_world.proofs.FitLemmas.{world_laws}
 use Rattle.inspect_world.proofs.Messages.{IsText-sent, ask_in-sent, IsNext-sent}
 use Rattle.inspect_world.proofs.Replies.{replies-of}
@@ -112,6 +115,7 @@ world-delivered_down up0 down0 up down down1 w frames e n there piece in_world f
       up_left = in_world.up_left;
       down_left = left-passed n e.down_there there piece w.down in_world.down_left front_part left;
       told_is = in_world.told_is;
+      plain = in_world.plain;
       fits = record {
         front = in_world.fits.front;
         is_fold =
@@ -133,11 +137,11 @@ never-refuses up0 down0 up down w frames e n piece in_world front_part =
 
 -- a frame is sent
 pub world-sent_up : (up0 down0 up down up1 : Pipe) (w : World State) (e : Ends) (text : List ℕ) (more : Spent → Spent) (front1 : FrontState) (there : ℕ)
-    → (in_world : InWorld up0 down0 up down w (awaited w.up) e) → IsText text → IsNext w.spent text (more w.spent)
+    → (in_world : InWorld up0 down0 up down w (awaited w.up) e) → IsText text → IsPlainFrame text → IsNext w.spent text (more w.spent)
     → front1 ≡ good_front (join in_world.value text) (held w.down) ((more w.spent).asks + 1)
     → up1.sent ≡ up.sent ++ framed text → up1.given ≡ up.given → there ≡ e.up_there + length (framed text)
     → InWorld up0 down0 up1 down (sent_up text more w) (awaited (sent_up text more w).up) (record e { front = front1; up_there = there })
-world-sent_up up0 down0 up down up1 w e text more front1 there in_world letters is_next front_is sent_is given_is left =
+world-sent_up up0 down0 up down up1 w e text more front1 there in_world letters plain is_next front_is sent_is given_is left =
     let start = joined join (first_value []) (frames_of (sent w.up)).whole in
     record {
       up_is = carries-put up0 up up1 (framed text) w.up in_world.up_is sent_is given_is;
@@ -157,6 +161,9 @@ world-sent_up up0 down0 up down up1 w e text more front1 there in_world letters 
       up_left = left ∙ ap (λ n. n + length (framed text)) in_world.up_left ∙ sym (length-append w.up.flying (framed text));
       down_left = in_world.down_left;
       told_is = in_world.told_is;
+      plain =
+          subst (λ frames. All IsPlainFrame frames) (sym (whole-framed text w.up letters in_world.fits.up_whole))
+          (All-append IsPlainFrame (frames_of (sent w.up)).whole (text ∷ []) in_world.plain (All-cons IsPlainFrame text [] plain (All-nil IsPlainFrame)));
       fits = fits-sent_up replay IsNext IsNextTurn IsFit world_laws (first_value []) text more w letters is_next in_world.fits;
     }
 
@@ -169,12 +176,12 @@ pub world-sent : (up0 down0 up down up1 : Pipe) (w : World State) (e : Ends) (a 
     (record e { front = after_ask e.front a.method; up_there = there })
 world-sent up0 down0 up down up1 w e a text there in_world can room text_is sent_is given_is left =
     let few : w.spent.asks + 1 ≤ 2 ^ 26 = room.asks in
-    let small : w.spent.asks + 1 < 2 ^ 53 = omega (arith, few) in
+    let small : w.spent.asks + 1 < 2 ^ 30 = omega (arith, few) in
     let sends_text = command_text (w.spent.asks + 1) a.method a.params a.session in
     let is : ask_in sends_text ≡ Some (ask_with a.method (w.spent.asks + 1)) = ask_in-sent (w.spent.asks + 1) a can small in
     let joins : join in_world.value sends_text ≡ with_ask in_world.value (Some (ask_with a.method (w.spent.asks + 1))) = ap (with_ask in_world.value) is in
     world-sent_up up0 down0 up down up1 w e sends_text one_ask (after_ask e.front a.method) there in_world
-    (IsText-sent (w.spent.asks + 1) a can small) (IsNext-sent w.spent a can few small)
+    (IsText-sent (w.spent.asks + 1) a can (omega (arith, few))) (ap (λ o. option_and_then (λ (ask : Ask). ask.sheet) o) is) (IsNext-sent w.spent a can few small)
     (ap (λ front. after_ask front a.method) in_world.front_is
     ∙ ap (λ value. good_front value (held w.down) (w.spent.asks + 1 + 1)) (sym joins))
     (sent_is ∙ ap (λ bytes. up.sent ++ framed bytes) text_is) given_is (left ∙ ap (λ bytes. e.up_there + length (framed bytes)) text_is)
@@ -186,7 +193,7 @@ pub world-raw : (up0 down0 up down up1 : Pipe) (w : World State) (e : Ends) (tex
     → InWorld up0 down0 up1 down (raw text w) (awaited (raw text w).up) (record e { up_there = there })
 world-raw up0 down0 up down up1 w e text there in_world letters bare room sent_is given_is left =
     let joins : join in_world.value text ≡ in_world.value = ap (with_ask in_world.value) bare.no_ask in
-    world-sent_up up0 down0 up down up1 w e text one_raw e.front there in_world letters (next_raw bare room.raws)
+    world-sent_up up0 down0 up down up1 w e text one_raw e.front there in_world letters (ap (λ o. option_and_then (λ (ask : Ask). ask.sheet) o) bare.no_ask) (next_raw bare room.raws)
     (in_world.front_is ∙ ap (λ value. good_front value (held w.down) (w.spent.asks + 1)) (sym joins)) sent_is given_is left
 
 -- bytes come up
@@ -211,6 +218,7 @@ world-given_up up0 down0 up down up1 w e n there piece rest in_world front_part 
   up_left = left-passed n e.up_there there piece w.up in_world.up_left front_part left;
   down_left = in_world.down_left;
   told_is = in_world.told_is;
+  plain = subst (λ bytes. All IsPlainFrame (frames_of bytes).whole) (sym (sent-passed n w.up)) in_world.plain;
   fits = fits-given_up replay IsNext IsNextTurn IsFit world_laws (first_value []) n w in_world.fits;
 }
 
@@ -245,6 +253,7 @@ world-answered up0 down0 up down down1 w frame frames e seat side out there in_w
       up_left = in_world.up_left;
       down_left = left-put w there e.down_there out (steps step w.state (frame ∷ [])).sent in_world.down_left all left;
       told_is = in_world.told_is;
+      plain = in_world.plain;
       fits = fits-answered_one replay IsNext IsNextTurn IsFit world_laws (first_value []) frame frames w in_world.fits;
     }
 
@@ -266,6 +275,7 @@ world-turned up0 down0 up down down1 w e x seat side out there in_world next sta
   up_left = in_world.up_left;
   down_left = left-put w there e.down_there out (turn x w.state).sent in_world.down_left out_is left;
   told_is = in_world.told_is;
+  plain = in_world.plain;
   fits = fits-turned replay IsNext IsNextTurn IsFit world_laws (first_value []) x w next in_world.fits;
 }
 
@@ -276,7 +286,7 @@ pub world-replies : (up0 down0 up down : Pipe) (w : World State) (frames : List 
     → InWorld up0 down0 up down w frames e → map told_of e.front.value.replies ≡ replies_in w.down.given
 world-replies up0 down0 up down w frames e in_world =
     ap (λ (s : FrontState). map told_of s.value.replies) in_world.front_is
-    ∙ replies-of (frames_of (sent w.up)).whole (frames_of w.down.given).whole in_world.value in_world.is_fold
+    ∙ replies-of (frames_of (sent w.up)).whole (frames_of w.down.given).whole in_world.value in_world.plain in_world.is_fold
 
 -- all of them are told
 pub world-told : (up0 down0 up down : Pipe) (w : World State) (frames : List (List ℕ)) (e : Ends) (n : ℕ)
@@ -293,6 +303,7 @@ world-told up0 down0 up down w frames e n in_world all = record {
   up_left = in_world.up_left;
   down_left = in_world.down_left;
   told_is = all ∙ sym (length-map e.front.value.replies told_of) ∙ ap length (world-replies up0 down0 up down w frames e in_world);
+  plain = in_world.plain;
   fits = record {
     front = in_world.fits.front;
     is_fold = in_world.fits.is_fold;
@@ -321,5 +332,6 @@ world-first up0 down0 nodes seat side can texts up_level down_level stands = rec
   up_left = refl;
   down_left = refl;
   told_is = refl;
+  plain = All-nil IsPlainFrame;
   fits = fits-loaded nodes can texts;
 }

@@ -1,23 +1,24 @@
 -- The front end and the state of the page keep fitting: what a run needs of the messages.
-use Rattle.std.proofs.Common.{◌≡◌, ℕ, suc, ◌+◌, ◌*◌, ◌^◌, ◌<◌, ◌≤◌, List, [], ◌∷◌, ◌++◌, length, Option, Some, None, false, refl, sym, ◌∙◌, ap, subst, length-append, Result, Ok, Err, arith, append-nil}
+use Rattle.std.proofs.Common.{◌≡◌, ℕ, suc, ◌+◌, ◌*◌, ◌^◌, ◌<◌, ◌≤◌, List, [], ◌∷◌, ◌++◌, length, Option, Some, None, option_and_then, false, refl, sym, ◌∙◌, ap, subst, Result, Ok, Err, arith, append-nil}
 use Rattle.std.specs.Option.{option_to_list}
 use Rattle.page_tree.specs.Forms.{max_nodes}
 use Rattle.pipe_frames.specs.Frames.{Frames}
 use Rattle.cdp_messages.specs.Asked.{asked, refusal}
 use Rattle.front_mirror.specs.declared.replies.Ask.{Ask}
 use Rattle.front_mirror.specs.declared.faults.FrontKind.{FrontKind}
-use Rattle.front_mirror.specs.Front.{FrontValue, take_frame}
+use Rattle.front_mirror.specs.Front.{FrontValue, fetch_ask, take_frame}
 use Rattle.front_mirror.specs.Laws.{Has, InTurn}
 use Rattle.back_end.specs.States.{State, view_of}
 use Rattle.back_end.specs.Steps.{Step, Turn, frame_step, turn_step, as_bytes, step, turn}
 use Rattle.back_end.specs.Laws.{HasRoom, StepsWell, IsAnswered}
 use Rattle.inspect_world.specs.World.{Spent, one_turn}
 use Rattle.inspect_world.specs.Fold.{folded, then, Laws, Leads}
-use Rattle.inspect_world.specs.Fits.{join, ask_in, ask_with, with_ask, Sendable, is_ask, is_bare, AreSendable, asks_among, most_asks, IsNext, next_ask, next_raw, IsNextTurn, most_drawn, most_serials, IsFit, replay}
+use Rattle.inspect_world.specs.Fits.{join, ask_in, ask_with, sheet_in, IsPlainFrame, drawing, with_ask, Sendable, is_ask, is_bare, AreSendable, asks_among, most_asks, IsNext, next_ask, next_fetch, next_raw, IsNextTurn, most_drawn, most_serials, IsFit, replay}
 use Rattle.front_mirror.proofs.FoldLemmas.{take_frame-more}
-use Rattle.inspect_world.proofs.AskLemmas.{asks_among-append, sendable-last}
-use Rattle.inspect_world.proofs.Messages.{asked-ask, ask-plain}
-use Rattle.inspect_world.proofs.StepsTaken.{AreQuiet, course-quiet, Taken, taken, tells-all, by-asked, by-refusal}
+use Rattle.inspect_world.proofs.AskLemmas.{asks_among-append, sendable-last, draws-one, draws-none, drawing-last, drawing-fetch}
+use Rattle.inspect_world.proofs.Messages.{asked-ask}
+use Rattle.inspect_world.proofs.FetchRefused.{fetch-refused}
+use Rattle.inspect_world.proofs.StepsTaken.{AreQuiet, course-quiet, Taken, taken, tells-all, by-asked, by-failed, by-refusal}
 use Rattle.back_end.proofs.FrameLemmas.{frame-steps-well}
 use Rattle.back_end.proofs.StepLemmas.{turn-steps-well}
 use Rattle.back_end.proofs.AnswerLemmas.{turn-answers}
@@ -44,25 +45,27 @@ folded-join ask before after (frame ∷ frames) e =
 -- ---- how much is drawn
 
 -- one frame more may be answered
-sent_drawn : (all frames steps nodes : ℕ) → all + frames * nodes ≤ steps * nodes → all + (frames + 1) * nodes ≤ (steps + 1) * nodes
-sent_drawn all frames steps nodes h =
-    let left : (frames + 1) * nodes ≡ frames * nodes + nodes = grind arith in
-    let right : (steps + 1) * nodes ≡ steps * nodes + nodes = grind arith in
-    omega (arith, h, left, right)
+one_more_ids : (all before after steps steps1 : ℕ) → after ≤ before + 1 → steps1 ≡ steps + 1 → all + before * 100000 ≤ steps * 100000
+    → all + after * 100000 ≤ steps1 * 100000
+one_more_ids all before after steps steps1 more step h = omega (arith, more, step, h)
 
--- the same of frames in a list, with one more at its end, where the steps are counted in any order
-one_more : (all : ℕ) (frames : List (List ℕ)) (text : List ℕ) (steps steps1 nodes : ℕ) → steps1 ≡ steps + 1 → all + length frames * nodes ≤ steps * nodes
-    → all + length (frames ++ text ∷ []) * nodes ≤ steps1 * nodes
-one_more all frames text steps steps1 nodes more h =
-    subst (λ k. all + k * nodes ≤ steps1 * nodes) (sym (length-append frames (text ∷ [])))
-    (subst (λ k. all + (length frames + 1) * nodes ≤ k * nodes) (sym more) (sent_drawn all (length frames) steps nodes h))
+one_more_serials : (all before after steps steps1 : ℕ) → after ≤ before + 1 → steps1 ≡ steps + 1 → all + before * 100001 ≤ steps * 100001
+    → all + after * 100001 ≤ steps1 * 100001
+one_more_serials all before after steps steps1 more step h = omega (arith, more, step, h)
 
 -- an answer draws no more than was kept for it
-answered_ids : (before after others all : ℕ) → after ≤ before + 100000 → before + suc others * 100000 ≤ all → after + others * 100000 ≤ all
-answered_ids before after others all few h = omega (arith, few, h)
+answered_ids : (before after frames others all : ℕ) → frames ≡ 1 + others → after ≤ before + 100000 → before + frames * 100000 ≤ all → after + others * 100000 ≤ all
+answered_ids before after frames others all one few h = omega (arith, one, few, h)
 
-answered_serials : (before after others all : ℕ) → after ≤ before + 100001 → before + suc others * 100001 ≤ all → after + others * 100001 ≤ all
-answered_serials before after others all few h = omega (arith, few, h)
+answered_serials : (before after frames others all : ℕ) → frames ≡ 1 + others → after ≤ before + 100001 → before + frames * 100001 ≤ all → after + others * 100001 ≤ all
+answered_serials before after frames others all one few h = omega (arith, one, few, h)
+
+-- and that to a fetch draws nothing
+fetched_ids : (before after frames others all : ℕ) → frames ≡ 0 + others → after ≡ before → before + frames * 100000 ≤ all → after + others * 100000 ≤ all
+fetched_ids before after frames others all none same h = omega (arith, none, same, h)
+
+fetched_serials : (before after frames others all : ℕ) → frames ≡ 0 + others → after ≡ before → before + frames * 100001 ≤ all → after + others * 100001 ≤ all
+fetched_serials before after frames others all none same h = omega (arith, none, same, h)
 
 -- and the script's own step no more than one step may
 turned_ids : (before after others asks raws turns : ℕ) → after ≤ before + 100000 → before + others * 100000 ≤ (asks + raws + turns) * 100000
@@ -82,8 +85,8 @@ serials_left next others asks raws turns few few_raws few_turns h = omega (arith
 
 pub fit-room : (n : Spent) (front : FrontValue) (state : State) (frames : List (List ℕ)) → IsFit n front state frames → HasRoom state
 fit-room n front state frames fit = record {
-  ids = ids_left (length state.client.session.pushed) (length frames) n.asks n.raws n.turns fit.few fit.few_raws fit.few_turns fit.drawn;
-  serials = serials_left state.side.page.next (length frames) n.asks n.raws n.turns fit.few fit.few_raws fit.few_turns fit.serials;
+  ids = ids_left (length state.client.session.pushed) (drawing frames) n.asks n.raws n.turns fit.few fit.few_raws fit.few_turns fit.drawn;
+  serials = serials_left state.side.page.next (drawing frames) n.asks n.raws n.turns fit.few fit.few_raws fit.few_turns fit.serials;
 }
 
 -- ---- a frame is sent
@@ -105,8 +108,27 @@ fit-asked n _ text front state frames (next_ask method is few) fit =
       few = few;
       few_raws = fit.few_raws;
       few_turns = fit.few_turns;
-      drawn = one_more (length state.client.session.pushed) frames text (n.asks + n.raws + n.turns) (n.asks + 1 + n.raws + n.turns) max_nodes (omega arith) fit.drawn;
-      serials = one_more state.side.page.next frames text (n.asks + n.raws + n.turns + 1) (n.asks + 1 + n.raws + n.turns + 1) (max_nodes + 1) (omega arith) fit.serials;
+      drawn = one_more_ids (length state.client.session.pushed) (drawing frames) (drawing (frames ++ text ∷ [])) (n.asks + n.raws + n.turns) (n.asks + 1 + n.raws + n.turns) (drawing-last frames text) (omega arith) fit.drawn;
+      serials = one_more_serials state.side.page.next (drawing frames) (drawing (frames ++ text ∷ [])) (n.asks + n.raws + n.turns + 1) (n.asks + 1 + n.raws + n.turns + 1) (drawing-last frames text) (omega arith) fit.serials;
+    }
+fit-asked n _ text front state frames (next_fetch sheet is few) fit =
+    let joins : join front text ≡ with_ask front (Some (fetch_ask n.fetches sheet)) = ap (with_ask front) is in
+    let fetches : sheet_in text ≡ Some sheet = ap (option_and_then (λ (ask : Ask). ask.sheet)) is in
+    let drawn : drawing (frames ++ text ∷ []) ≡ drawing frames = drawing-fetch frames text sheet fetches in
+    record {
+      has = subst (λ v. Has v (view_of state)) (sym joins) (record { tree = fit.has.tree; sheets = fit.has.sheets });
+      asks =
+          asks_among-append frames (text ∷ [])
+          ∙ ap (λ asks. asks ++ (option_to_list (ask_in text) ++ [])) fit.asks
+          ∙ ap (λ o. front.asks ++ (option_to_list o ++ [])) is
+          ∙ ap (λ (v : FrontValue). v.asks) (sym joins);
+      sendable = sendable-last frames text fit.sendable (is_ask (fetch_ask n.fetches sheet) is);
+      is_state = fit.is_state;
+      few = fit.few;
+      few_raws = fit.few_raws;
+      few_turns = fit.few_turns;
+      drawn = subst (λ k. length state.client.session.pushed + k * max_nodes ≤ most_drawn n) (sym drawn) fit.drawn;
+      serials = subst (λ k. state.side.page.next + k * (max_nodes + 1) ≤ most_serials n) (sym drawn) fit.serials;
     }
 fit-asked n _ text front state frames (next_raw bare few) fit =
     let joins : join front text ≡ front = ap (with_ask front) bare.no_ask in
@@ -123,8 +145,8 @@ fit-asked n _ text front state frames (next_raw bare few) fit =
       few = fit.few;
       few_raws = few;
       few_turns = fit.few_turns;
-      drawn = one_more (length state.client.session.pushed) frames text (n.asks + n.raws + n.turns) (n.asks + (n.raws + 1) + n.turns) max_nodes (omega arith) fit.drawn;
-      serials = one_more state.side.page.next frames text (n.asks + n.raws + n.turns + 1) (n.asks + (n.raws + 1) + n.turns + 1) (max_nodes + 1) (omega arith) fit.serials;
+      drawn = one_more_ids (length state.client.session.pushed) (drawing frames) (drawing (frames ++ text ∷ [])) (n.asks + n.raws + n.turns) (n.asks + (n.raws + 1) + n.turns) (drawing-last frames text) (omega arith) fit.drawn;
+      serials = one_more_serials state.side.page.next (drawing frames) (drawing (frames ++ text ∷ [])) (n.asks + n.raws + n.turns + 1) (n.asks + (n.raws + 1) + n.turns + 1) (drawing-last frames text) (omega arith) fit.serials;
     }
 
 -- ---- a step is made
@@ -134,8 +156,8 @@ record Enough (m : Spent) (state : State) (frames : List (List ℕ)) : Type 0 wh
   few : m.asks ≤ most_asks
   few_raws : m.raws ≤ most_asks
   few_turns : m.turns ≤ most_asks
-  drawn : length state.client.session.pushed + length frames * max_nodes ≤ most_drawn m
-  serials : state.side.page.next + length frames * (max_nodes + 1) ≤ most_serials m
+  drawn : length state.client.session.pushed + drawing frames * max_nodes ≤ most_drawn m
+  serials : state.side.page.next + drawing frames * (max_nodes + 1) ≤ most_serials m
 
 -- the messages of a step take the front along
 leads-on : (n m : Spent) (before : State) (done : Step) (front : FrontValue) (frames more : List (List ℕ))
@@ -165,27 +187,74 @@ first-asks : (frame : List ℕ) (frames : List (List ℕ)) (asks : List Ask) (o 
     → option_to_list o ++ asks_among frames ≡ asks
 first-asks frame frames asks o e is = ap (λ p. option_to_list p ++ asks_among frames) (sym is) ∙ e
 
+-- what a step on the first frame answers, and how much it draws
+record Answer (n : Spent) (state : State) (asks : List Ask) (frames : List (List ℕ)) (done : Step) : Type 0 where
+  in_turn : InTurn done.moves asks (asks_among frames)
+  drawn : length done.state.client.session.pushed + drawing frames * max_nodes ≤ most_drawn n
+  serials : done.state.side.page.next + drawing frames * (max_nodes + 1) ≤ most_serials n
+
+-- the step on a frame that is no fetch
+answer-plain : (n : Spent) (frame : List ℕ) (front : FrontValue) (state : State) (frames : List (List ℕ)) (done : Step)
+    → IsFit n front state (frame ∷ frames) → StepsWell state done → IsPlainFrame frame → InTurn done.moves front.asks (asks_among frames)
+    → Answer n state front.asks frames done
+answer-plain n frame front state frames done fit well plain in_turn =
+    let one : drawing (frame ∷ frames) ≡ 1 + drawing frames = draws-one frame frames plain in
+    record {
+      in_turn = in_turn;
+      drawn = answered_ids (length state.client.session.pushed) (length done.state.client.session.pushed) (drawing (frame ∷ frames)) (drawing frames) (most_drawn n) one well.ids fit.drawn;
+      serials = answered_serials state.side.page.next done.state.side.page.next (drawing (frame ∷ frames)) (drawing frames) (most_serials n) one well.serials fit.serials;
+    }
+
+-- the step on a fetch
+answer-fetch : (n : Spent) (frame : List ℕ) (front : FrontValue) (state : State) (frames : List (List ℕ)) (ask : Ask) (sheet : ℕ)
+    → IsFit n front state (frame ∷ frames) → ask_in frame ≡ Some ask → ask.sheet ≡ Some sheet → Answer n state front.asks frames (frame_step false frame state)
+answer-fetch n frame front state frames ask sheet fit is fetches =
+    let p = fetch-refused frame ask sheet state is fetches in
+    let done : Step = frame_step false frame state in
+    let none : drawing (frame ∷ frames) ≡ 0 + drawing frames = draws-none frame frames sheet (ap (option_and_then (λ (a : Ask). a.sheet)) is ∙ fetches) in
+    record {
+      in_turn =
+          subst (λ asks. InTurn done.moves asks (asks_among frames)) (first-asks frame frames front.asks (Some ask) fit.asks is)
+          (by-failed ask (asks_among frames) done.moves p.0 (ap (λ (d : Step). d.moves) p.1));
+      drawn = fetched_ids (length state.client.session.pushed) (length done.state.client.session.pushed) (drawing (frame ∷ frames)) (drawing frames) (most_drawn n) none
+          (ap (λ (d : Step). length d.state.client.session.pushed) p.1) fit.drawn;
+      serials = fetched_serials state.side.page.next done.state.side.page.next (drawing (frame ∷ frames)) (drawing frames) (most_serials n) none
+          (ap (λ (d : Step). d.state.side.page.next) p.1) fit.serials;
+    }
+
 -- what a step on a frame sends takes the front along
 fit-answered : (n : Spent) (frame : List ℕ) (front : FrontValue) (state : State) (frames : List (List ℕ))
     → IsFit n front state (frame ∷ frames) → Leads take_frame (IsFit n) front (step state frame) frames
 fit-answered n frame front state frames fit =
     let well = frame-steps-well false state frame fit.is_state (fit-room n front state (frame ∷ frames) fit) in
     let done : Step = frame_step false frame state in
-    leads-on n n state done front (frame ∷ frames) frames fit well.0 (in_turn done well.1 (course-quiet done.moves (view_of state) (view_of done.state) well.0.course) fit.sendable.0) fit.sendable.1 (record {
+    let quiet : AreQuiet done.moves = course-quiet done.moves (view_of state) (view_of done.state) well.0.course in
+    let answer : Answer n state front.asks frames done = by-sendable well.0 well.1 quiet fit.sendable.0 in
+    leads-on n n state done front (frame ∷ frames) frames fit well.0 answer.in_turn fit.sendable.1 (record {
       few = fit.few;
       few_raws = fit.few_raws;
       few_turns = fit.few_turns;
-      drawn = answered_ids (length state.client.session.pushed) (length done.state.client.session.pushed) (length frames) (most_drawn n) well.0.ids fit.drawn;
-      serials = answered_serials state.side.page.next done.state.side.page.next (length frames) (most_serials n) well.0.serials fit.serials;
+      drawn = answer.drawn;
+      serials = answer.serials;
     })
   where
-    in_turn : (done : Step) → IsAnswered (asked frame false) done.moves → AreQuiet done.moves → Sendable frame → InTurn done.moves front.asks (asks_among frames)
-    in_turn done answered quiet (is_ask ask is) =
-        subst (λ asks. InTurn done.moves asks (asks_among frames)) (first-asks frame frames front.asks (Some ask) fit.asks is)
-        (by-asked ask (asks_among frames) done.moves (asked frame false) (ask-plain frame ask is) (asked-ask frame ask is) answered quiet)
-    in_turn done answered quiet (is_bare bare) =
-        subst (λ asks. InTurn done.moves asks (asks_among frames)) (first-asks frame frames front.asks None fit.asks bare.no_ask)
-        (by-refusal (asks_among frames) done.moves (refusal None bare.why) refl (subst (λ r. IsAnswered r done.moves) bare.refused answered))
+    by-sheet : (ask : Ask) (o : Option ℕ) → StepsWell state (frame_step false frame state) → IsAnswered (asked frame false) (frame_step false frame state).moves
+        → AreQuiet (frame_step false frame state).moves → ask_in frame ≡ Some ask → ask.sheet ≡ o → Answer n state front.asks frames (frame_step false frame state)
+    by-sheet ask (Some sheet) well answered quiet is fetches = answer-fetch n frame front state frames ask sheet fit is fetches
+    by-sheet ask None well answered quiet is plain =
+        let done : Step = frame_step false frame state in
+        answer-plain n frame front state frames done fit well (ap (option_and_then (λ (a : Ask). a.sheet)) is ∙ plain)
+        (subst (λ asks. InTurn done.moves asks (asks_among frames)) (first-asks frame frames front.asks (Some ask) fit.asks is)
+        (by-asked ask (asks_among frames) done.moves (asked frame false) plain (asked-ask frame ask is) answered quiet))
+
+    by-sendable : StepsWell state (frame_step false frame state) → IsAnswered (asked frame false) (frame_step false frame state).moves
+        → AreQuiet (frame_step false frame state).moves → Sendable frame → Answer n state front.asks frames (frame_step false frame state)
+    by-sendable well answered quiet (is_ask ask is) = by-sheet ask ask.sheet well answered quiet is refl
+    by-sendable well answered quiet (is_bare bare) =
+        let done : Step = frame_step false frame state in
+        answer-plain n frame front state frames done fit well (ap (option_and_then (λ (a : Ask). a.sheet)) bare.no_ask)
+        (subst (λ asks. InTurn done.moves asks (asks_among frames)) (first-asks frame frames front.asks None fit.asks bare.no_ask)
+        (by-refusal (asks_among frames) done.moves (refusal None bare.why) refl (subst (λ r. IsAnswered r done.moves) bare.refused answered)))
 
 -- and so does what the script's own step sends
 fit-turned : (n : Spent) (x : Turn) (front : FrontValue) (state : State) (frames : List (List ℕ))
@@ -198,8 +267,8 @@ fit-turned n x front state frames next fit =
       few = fit.few;
       few_raws = fit.few_raws;
       few_turns = next.few;
-      drawn = turned_ids (length state.client.session.pushed) (length done.state.client.session.pushed) (length frames) n.asks n.raws n.turns well.ids fit.drawn;
-      serials = turned_serials state.side.page.next done.state.side.page.next (length frames) n.asks n.raws n.turns well.serials fit.serials;
+      drawn = turned_ids (length state.client.session.pushed) (length done.state.client.session.pushed) (drawing frames) n.asks n.raws n.turns well.ids fit.drawn;
+      serials = turned_serials state.side.page.next done.state.side.page.next (drawing frames) n.asks n.raws n.turns well.serials fit.serials;
     })
 
 pub world_laws : Laws replay IsNext IsNextTurn IsFit

@@ -42,7 +42,7 @@ few-alike n m most same few = omega (arith, same, few)
 
 module _ (fetcher : Fetcher FrontValue) (IsPlain : List ℕ → Type 0)
     (fetching : FetchLaws replay IsNext IsFit fetcher unstyled most_sheets most_fetches)
-    (plain-sent : (id : ℕ) (a : AskForm) → CanSend a → id < 2 ^ 53 → IsPlain (command_text id a.method a.params a.session))
+    (plain-sent : (id : ℕ) (a : AskForm) → CanSend a → id < 2 ^ 30 → IsPlain (command_text id a.method a.params a.session))
     (plain-bare : (text : List ℕ) → IsBare text → IsPlain text) where
   -- both runs of a script
   abbrev pub BothRuns : World State → World State → Type 0
@@ -53,14 +53,14 @@ module _ (fetcher : Fetcher FrontValue) (IsPlain : List ℕ → Type 0)
   both-sent : (a : AskForm) (w v : World State) → CanSend a → HasLeft v.spent 1 → BothRuns w v → BothRuns (sends a w) (sends a v)
   both-sent a w v can left both =
       let few : w.spent.asks + 1 ≤ 2 ^ 26 = few-alike w.spent.asks v.spent.asks (2 ^ 26) both.agrees.asks left.asks in
-      let small : w.spent.asks + 1 < 2 ^ 53 = omega (arith, few) in
+      let small : w.spent.asks + 1 < 2 ^ 30 = omega (arith, few) in
       let text = command_text (w.spent.asks + 1) a.method a.params a.session in
       let next1 : IsNext v.spent text (one_ask v.spent) =
       subst (λ k. IsNext v.spent (command_text (k + 1) a.method a.params a.session) (one_ask v.spent)) (sym both.agrees.asks)
-      (IsNext-sent v.spent a can left.asks (subst (λ k. k + 1 < 2 ^ 53) both.agrees.asks small)) in
+      (IsNext-sent v.spent a can left.asks (subst (λ k. k + 1 < 2 ^ 30) both.agrees.asks small)) in
       subst (λ u. BothRuns (sends a w) u) (sym (sent-alike a w v both.agrees.asks))
       (together-asked replay IsNext IsNextTurn IsFit world_laws fetcher unstyled most_sheets most_fetches fetching IsPlain (first_value []) text w v
-      (IsText-sent (w.spent.asks + 1) a can small) (plain-sent (w.spent.asks + 1) a can small) (IsNext-sent w.spent a can few small) next1 both)
+      (IsText-sent (w.spent.asks + 1) a can (omega (arith, few))) (plain-sent (w.spent.asks + 1) a can small) (IsNext-sent w.spent a can few small) next1 both)
 
   both-raw : (text : List ℕ) (w v : World State) → IsText text → IsBare text → HasLeft v.spent 1 → BothRuns w v → BothRuns (after_line (forms.raw text) w) (fresh_line fetcher (forms.raw text) v)
   both-raw text w v letters bare left both =

@@ -12,6 +12,7 @@ pub mod Messages
 pub mod PlainAsks
 pub mod MoveTexts
 pub mod StepsTaken
+pub mod FetchRefused
 pub mod FitLemmas
 pub mod Scripts
 pub mod Ends
@@ -21,3 +22,6 @@ pub mod SendForms
 pub mod Inputs
 pub mod FreshLemmas
 pub mod UnstyledLemmas
+pub mod StaleLemmas
+pub mod FetchForms
+pub mod FetchesFit

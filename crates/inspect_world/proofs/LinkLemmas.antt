@@ -270,12 +270,12 @@ module _ (state0 : State) (up0 down0 : Pipe) where
 
   -- the ask of a line
   pub follows-sends : (up down up1 : Pipe) (waiting : List (List ℕ)) (e : Ends) (a : AskForm) (text : List ℕ) (there : ℕ)
-      → Follows state0 up0 down0 up down waiting e → there ≡ e.up_there + length (framed text) → CanSend a → e.front.next < 2 ^ 53 → text ≡ command_text e.front.next a.method a.params a.session
+      → Follows state0 up0 down0 up down waiting e → there ≡ e.up_there + length (framed text) → CanSend a → e.front.next < 2 ^ 30 → text ≡ command_text e.front.next a.method a.params a.session
       → up1.sent ≡ up.sent ++ framed text → up1.given ≡ up.given
       → Follows state0 up0 down0 up1 down waiting (record e { front = after_ask e.front a.method; up_there = there })
   follows-sends up down up1 waiting e a text there f left can small text_is sent_is given_is =
       follows-asked up down up1 waiting e (command_text e.front.next a.method a.params a.session) a.method there f (left ∙ ap (λ bytes. e.up_there + length (framed bytes)) text_is)
-      (IsText-sent e.front.next a can small) (ask_in-sent e.front.next a can small) (sent_is ∙ ap (λ bytes. up.sent ++ framed bytes) text_is) given_is
+      (IsText-sent e.front.next a can (omega (arith, small))) (ask_in-sent e.front.next a can small) (sent_is ∙ ap (λ bytes. up.sent ++ framed bytes) text_is) given_is
 
   -- any bytes are given up; the frames that become whole wait
   pub follows-given_up : (up down up1 : Pipe) (waiting : List (List ℕ)) (e : Ends) (piece rest : List ℕ) (there : ℕ)

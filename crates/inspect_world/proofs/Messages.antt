@@ -1,5 +1,6 @@
 -- What a run needs of single messages: that an ask is the ask that it is meant to be, and what the back end makes of one.
-use Rattle.std.proofs.Common.{◌≡◌, ◌+◌, ℕ, ◌^◌, ◌<◌, ◌≤◌, true, false, List, codes, Option, Some, None, option_and_then, refl, sym, ◌∙◌, ap, subst, Result, Ok, Err, lt-ltb}
+use Rattle.std.proofs.Common.{◌≡◌, ◌+◌, ℕ, ◌^◌, ◌<◌, ◌≤◌, Bool, true, false, cond, nat_lt, bytes_eq, List, codes, Option, Some, None, option_and_then, refl, sym, ◌∙◌, ap, subst, Result, Ok, Err, lt-ltb, arith}
+use Rattle.std.proofs.lemmas.Slice.Eq.{bytes_eq-Decides}
 use Rattle.serde_json.specs.Data.{Data, Members}
 use Rattle.serde_json.specs.Find.{get_member, as_str, as_object}
 use Rattle.cdp_json.specs.Kinds.{is_counted, as_whole}
@@ -16,7 +17,7 @@ use Rattle.cdp_json.specs.Lookups.{then_ok}
 use Rattle.front_mirror.specs.declared.replies.Ask.{Ask}
 use Rattle.replay_script.specs.Forms.{AskForm}
 use Rattle.inspect_world.specs.World.{Spent, one_ask}
-use Rattle.inspect_world.specs.Fits.{ask_of, ask_in, ask_with, most_asks, IsNext, next_ask}
+use Rattle.inspect_world.specs.Fits.{sheet_named, sheet_asked, ask_by, ask_of, ask_in, ask_with, most_asks, IsNext, next_ask}
 use Rattle.inspect_world.specs.ScriptsFit.{CanSend}
 use Rattle.cdp_json.proofs.Options.{and_then_some}
 use Rattle.back_end.proofs.AskedLemmas.{whole-is}
@@ -32,22 +33,23 @@ sent_plain id a can small = ask_plain id a.method a.params a.session (lt-ltb id 
 pub IsText-sent : (id : ℕ) (a : AskForm) → CanSend a → id < 2 ^ 53 → IsText (command_text id a.method a.params a.session)
 IsText-sent id a can small = texts_have_no_zero (command_value id a.method a.params a.session) (sent_plain id a can small)
 
-value_ask_in : (id : ℕ) (method : List ℕ) (params session : Option Data) → is_counted id ≡ true
+value_ask_in : (id : ℕ) (method : List ℕ) (params session : Option Data) → is_counted id ≡ true → nat_lt id (2 ^ 30) ≡ true
     → option_and_then ask_of (option_and_then as_object (Some (command_value id method params session))) ≡ Some (ask_with method id)
-value_ask_in id method None None c = rw c
-value_ask_in id method None (Some s) c = rw c
-value_ask_in id method (Some p) None c = rw c
-value_ask_in id method (Some p) (Some s) c = rw c
+value_ask_in id method None None c small = rw (c, small)
+value_ask_in id method None (Some s) c small = rw (c, small)
+value_ask_in id method (Some p) None c small = rw (c, small)
+value_ask_in id method (Some p) (Some s) c small = rw (c, small)
 
 -- the front end's command is the ask that it is meant to be
-pub ask_in-sent : (id : ℕ) (a : AskForm) → CanSend a → id < 2 ^ 53 → ask_in (command_text id a.method a.params a.session) ≡ Some (ask_with a.method id)
+pub ask_in-sent : (id : ℕ) (a : AskForm) → CanSend a → id < 2 ^ 30 → ask_in (command_text id a.method a.params a.session) ≡ Some (ask_with a.method id)
 ask_in-sent id a can small =
-    let c : is_counted id ≡ true = lt-ltb id (2 ^ 53) small in
+    let low : id < 2 ^ 53 = omega (arith, small) in
+    let c : is_counted id ≡ true = lt-ltb id (2 ^ 53) low in
     let d = command_value id a.method a.params a.session in
-    ap (λ o. option_and_then ask_of (option_and_then as_object o)) (json_of-compact_text d (sent_plain id a can small) (can.shallow id) (can.texts id c))
-    ∙ value_ask_in id a.method a.params a.session c
+    ap (λ o. option_and_then ask_of (option_and_then as_object o)) (json_of-compact_text d (sent_plain id a can low) (can.shallow id) (can.texts id c))
+    ∙ value_ask_in id a.method a.params a.session c (lt-ltb id (2 ^ 30) small)
 
-pub IsNext-sent : (n : Spent) (a : AskForm) → CanSend a → n.asks + 1 ≤ most_asks → n.asks + 1 < 2 ^ 53
+pub IsNext-sent : (n : Spent) (a : AskForm) → CanSend a → n.asks + 1 ≤ most_asks → n.asks + 1 < 2 ^ 30
     → IsNext n (command_text (n.asks + 1) a.method a.params a.session) (one_ask n)
 IsNext-sent n a can few small = next_ask a.method (ask_in-sent (n.asks + 1) a can small) few
 
@@ -64,12 +66,17 @@ by_command ask (Ok c) is = commanded c (is c refl).0
 by_command ask (Err why) is = refused_as why
 
 -- the id and the method of a frame that is an ask
-id_method : (i : Option ℕ) (m : Option (List ℕ)) (ask : Ask)
-    → option_and_then (λ id. option_and_then (λ method. Some (ask_with method id)) m) i ≡ Some ask
-    → (i ≡ Some ask.id) × (m ≡ Some ask.method) × (ask.sheet ≡ None)
-id_method None m ask e = absurd cc
-id_method (Some id) None ask e = absurd cc
-id_method (Some id) (Some method) ask e = let same : ask_with method id ≡ ask = cc in (ap (λ (a : Ask). Some a.id) same, ap (λ (a : Ask). Some a.method) same, sym (ap (λ (a : Ask). a.sheet) same))
+id_method : (frame : Members) (i : Option ℕ) (m : Option (List ℕ)) (ask : Ask)
+    → option_and_then (λ id. option_and_then (λ method. Some (ask_by frame id method)) m) i ≡ Some ask
+    → (i ≡ Some ask.id) × (m ≡ Some ask.method) × (ask.sheet ≡ sheet_asked ask.id ask.method (get_member (codes "params") frame))
+id_method frame None m ask e = absurd cc
+id_method frame (Some id) None ask e = absurd cc
+id_method frame (Some id) (Some method) ask e =
+    let same : ask_by frame id method ≡ ask = cc in (
+      ap (λ (a : Ask). Some a.id) same,
+      ap (λ (a : Ask). Some a.method) same,
+      subst (λ (a : Ask). a.sheet ≡ sheet_asked a.id a.method (get_member (codes "params") frame)) same refl,
+    )
 
 -- a field that is read
 there : {T : Type 0} (reads : Data → Option T) (o : Option Data) (x : T) → option_and_then reads o ≡ Some x → field_from reads o ≡ Is x
@@ -78,7 +85,7 @@ there reads (Some d) x e = ap field_if e
 
 frame_ask : (frame : Members) (ask : Ask) → ask_of frame ≡ Some ask → AskedAs ask (asked_in false (Some frame))
 frame_ask frame ask e =
-    let p = id_method (option_and_then as_whole (get_member (codes "id") frame)) (option_and_then as_str (get_member (codes "method") frame)) ask e in
+    let p = id_method frame (option_and_then as_whole (get_member (codes "id") frame)) (option_and_then as_str (get_member (codes "method") frame)) ask e in
     let rest = λ (method : List ℕ). command_of false method (get_member (codes "params") frame) (get_member (codes "sessionId") frame) in
     let id_is : field_of as_whole (codes "id") frame ≡ Is ask.id = there as_whole (get_member (codes "id") frame) ask.id p.0 in
     let method_is : field_of as_str (codes "method") frame ≡ Is ask.method = there as_str (get_member (codes "method") frame) ask.method p.1 in
@@ -102,12 +109,20 @@ asked-ask frame ask is = value_ask (json_of frame) ask is
 pub ask-id : (frame : List ℕ) (ask : Ask) → ask_in frame ≡ Some ask → is_counted ask.id ≡ true
 ask-id frame ask is =
     let o = and_then_some ask_of (option_and_then as_object (json_of frame)) ask is in
-    let p = id_method (option_and_then as_whole (get_member (codes "id") o.0)) (option_and_then as_str (get_member (codes "method") o.0)) ask o.2 in
+    let p = id_method o.0 (option_and_then as_whole (get_member (codes "id") o.0)) (option_and_then as_str (get_member (codes "method") o.0)) ask o.2 in
     let d = and_then_some as_whole (get_member (codes "id") o.0) ask.id p.0 in
     whole-is d.0 ask.id d.2
 
--- the ask that a frame is fetches no text
-pub ask-plain : (frame : List ℕ) (ask : Ask) → ask_in frame ≡ Some ask → ask.sheet ≡ None
-ask-plain frame ask is =
+-- only the method of fetches names a sheet
+asked-method : (method : List ℕ) (params : Option Data) (sheet : ℕ) (low named : Bool) → bytes_eq method (codes "CSS.getStyleSheetText") ≡ named
+    → cond low None (cond named (option_and_then sheet_named params) None) ≡ Some sheet → method ≡ codes "CSS.getStyleSheetText"
+asked-method method params sheet true named is e = absurd cc
+asked-method method params sheet false true is e = (bytes_eq-Decides method (codes "CSS.getStyleSheetText")).0 is
+asked-method method params sheet false false is e = absurd cc
+
+-- the ask that fetches a sheet's text has that method
+pub fetch-method : (frame : List ℕ) (ask : Ask) (sheet : ℕ) → ask_in frame ≡ Some ask → ask.sheet ≡ Some sheet → ask.method ≡ codes "CSS.getStyleSheetText"
+fetch-method frame ask sheet is fetches =
     let o = and_then_some ask_of (option_and_then as_object (json_of frame)) ask is in
-    (id_method (option_and_then as_whole (get_member (codes "id") o.0)) (option_and_then as_str (get_member (codes "method") o.0)) ask o.2).2
+    let p = id_method o.0 (option_and_then as_whole (get_member (codes "id") o.0)) (option_and_then as_str (get_member (codes "method") o.0)) ask o.2 in
+    asked-method ask.method (get_member (codes "params") o.0) sheet (nat_lt ask.id (2 ^ 30)) (bytes_eq ask.method (codes "CSS.getStyleSheetText")) refl (sym p.2 ∙ fetches)

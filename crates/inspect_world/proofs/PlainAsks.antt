@@ -1,12 +1,13 @@
 -- Asks that wait, none of which is a fetch: each reply is kept.
 use Rattle.std.proofs.Common.{◌≡◌, ℕ, ◌==◌, Bool, true, false, cond, List, [], ◌∷◌, ◌++◌, Option, Some, None, option_and_then, refl, ap}
 use Rattle.std.specs.Prelude.{⊤}
+use Rattle.std.specs.List.{All}
+use Rattle.std.proofs.lemmas.List.Elements.{All-head, All-tail}
 use Rattle.front_mirror.specs.declared.replies.Ask.{Ask}
 use Rattle.front_mirror.specs.Front.{FrontValue, ask_under, method_of, fetched_sheet, without, kept, unless_fetch, kept_reply}
 use Rattle.front_mirror.specs.Laws.{without_all}
 use Rattle.inspect_world.specs.Fold.{joined}
-use Rattle.inspect_world.specs.Fits.{ask_in, with_ask, join}
-use Rattle.inspect_world.proofs.Messages.{ask-plain}
+use Rattle.inspect_world.specs.Fits.{ask_in, IsPlainFrame, with_ask, join}
 
 -- none of them is a fetch
 abbrev pub ArePlain : List Ask → Type 0
@@ -43,11 +44,12 @@ last-plain : (asks : List Ask) (ask : Ask) → ArePlain asks → ask.sheet ≡ N
 last-plain [] ask plain one = (one, tt)
 last-plain (first ∷ asks) ask plain one = (plain.0, last-plain asks ask plain.1 one)
 
-with_ask-plain : (v : FrontValue) (frame : List ℕ) (o : Option Ask) → ask_in frame ≡ o → ArePlain v.asks → ArePlain (with_ask v o).asks
-with_ask-plain v frame None is plain = plain
-with_ask-plain v frame (Some ask) is plain = last-plain v.asks ask plain (ask-plain frame ask is)
+with_ask-plain : (v : FrontValue) (o : Option Ask) → option_and_then (λ (x : Ask). x.sheet) o ≡ None → ArePlain v.asks → ArePlain (with_ask v o).asks
+with_ask-plain v None one plain = plain
+with_ask-plain v (Some ask) one plain = last-plain v.asks ask plain one
 
--- the asks of frames are none
-pub joined-plain : (v : FrontValue) (frames : List (List ℕ)) → ArePlain v.asks → ArePlain (joined join v frames).asks
-joined-plain v [] plain = plain
-joined-plain v (frame ∷ frames) plain = joined-plain (join v frame) frames (with_ask-plain v frame (ask_in frame) refl plain)
+-- the asks of frames that are no fetches are none
+pub joined-plain : (v : FrontValue) (frames : List (List ℕ)) → All IsPlainFrame frames → ArePlain v.asks → ArePlain (joined join v frames).asks
+joined-plain v [] all plain = plain
+joined-plain v (frame ∷ frames) all plain =
+    joined-plain (join v frame) frames (All-tail IsPlainFrame frame frames all) (with_ask-plain v (ask_in frame) (All-head IsPlainFrame frame frames all) plain)

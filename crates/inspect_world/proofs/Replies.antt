@@ -1,5 +1,5 @@
 -- The replies that a front end keeps are those among the frames that it took.
-use Rattle.std.specs.List.{list_all}
+use Rattle.std.specs.List.{All, list_all}
 use Rattle.cdp_messages.specs.declared.down.PauseData.{PauseData}
 use Rattle.cdp_messages.specs.Moves.{shows, inserts, removes, counts, sets, drops, says, paused_nodes}
 use Rattle.cdp_messages.specs.Told.{seen_nodes, seen_branch}
@@ -24,7 +24,7 @@ use Rattle.front_mirror.specs.declared.sheets.KnownSheet.{KnownSheet}
 use Rattle.front_mirror.specs.Sheets.{new_sheet, has_sheet, marked_old, without_sheet}
 use Rattle.front_mirror.specs.Front.{FrontValue, first_value, take_frame, method_of, without, kept, kept_reply, replied, refused, with_root, root_fault, with_effect, with_body, with_reply, with_fault, with_tree, ToldChange, told_change, at_spot, change_fault, with_change, halted, is_shown, told_sheets, with_news, with_message}
 use Rattle.inspect_world.specs.Fold.{folded, joined, then}
-use Rattle.inspect_world.specs.Fits.{join, with_ask, ask_in}
+use Rattle.inspect_world.specs.Fits.{join, with_ask, ask_in, IsPlainFrame}
 use Rattle.inspect_world.specs.ShownReplies.{ShownReply, told_of, told_by, replies_among}
 use Rattle.inspect_world.proofs.PlainAsks.{ArePlain, kept-plain, without-plain, joined-plain}
 
@@ -171,11 +171,11 @@ pub replies-joined : (v : FrontValue) (frames : List (List ℕ)) → (joined joi
 replies-joined v [] = refl
 replies-joined v (frame ∷ frames) = replies-joined (join v frame) frames ∙ replies-with_ask v (ask_in frame)
 
--- a front end that began with no reply has those among the frames
-pub replies-of : (sent_frames frames : List (List ℕ)) (w : FrontValue) → folded take_frame (joined join (first_value []) sent_frames) frames ≡ Ok w
+-- a front end that began with no reply, and sent no fetch, has those among the frames
+pub replies-of : (sent_frames frames : List (List ℕ)) (w : FrontValue) → All IsPlainFrame sent_frames → folded take_frame (joined join (first_value []) sent_frames) frames ≡ Ok w
     → map told_of w.replies ≡ replies_among frames
-replies-of sent_frames frames w e =
-    replies-folded frames (joined join (first_value []) sent_frames) w (joined-plain (first_value []) sent_frames tt) e
+replies-of sent_frames frames w all e =
+    replies-folded frames (joined join (first_value []) sent_frames) w (joined-plain (first_value []) sent_frames all tt) e
     ∙ ap (λ ks. map told_of ks ++ replies_among frames) (replies-joined (first_value []) sent_frames)
 
 pub replies_among-append : (first second : List (List ℕ)) → replies_among (first ++ second) ≡ replies_among first ++ replies_among second

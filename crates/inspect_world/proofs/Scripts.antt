@@ -64,9 +64,9 @@ fits-loaded nodes can texts =
 
 pub fits-sent : (a : AskForm) (w : World State) → CanSend a → w.spent.asks + 1 ≤ 2 ^ 26 → Fits w → Fits (sends a w)
 fits-sent a w can few fits =
-    let small : w.spent.asks + 1 < 2 ^ 53 = omega (arith, few) in
+    let small : w.spent.asks + 1 < 2 ^ 30 = omega (arith, few) in
     fits-asked replay IsNext IsNextTurn IsFit world_laws (first_value []) (command_text (w.spent.asks + 1) a.method a.params a.session) w
-    (IsText-sent (w.spent.asks + 1) a can small) (IsNext-sent w.spent a can few small) fits
+    (IsText-sent (w.spent.asks + 1) a can (omega (arith, few))) (IsNext-sent w.spent a can few small) fits
 
 -- how many replies were told says nothing of the streams
 pub fits-told : (w : World State) (n : ℕ) → Fits w → Fits (record { state = w.state; up = w.up; down = w.down; spent = w.spent; told = n })
@@ -177,7 +177,7 @@ settled-shows w fits =
       front = all.front;
       is_fold = given_fold;
       shows = all.fit.has;
-      told = replies-of (frames_of w'.up.given).whole (frames_of w'.down.given).whole all.front given_fold;
+      told = λ plain. replies-of (frames_of w'.up.given).whole (frames_of w'.down.given).whole all.front plain given_fold;
       waits = sym all.fit.asks ∙ ap asks_among awaits;
       whole = ap (λ bytes. (frames_of bytes).rest) (sym (sent-all w'.down down_none)) ∙ all.down_whole;
     }

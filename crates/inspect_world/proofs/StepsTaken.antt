@@ -8,6 +8,7 @@ use Rattle.pipe_frames.specs.Frames.{IsText, Frames, frames_of}
 use Rattle.pipe_frames.proofs.FrameLemmas.{frames_of-framed}
 use Rattle.cdp_messages.specs.declared.command.Asked.{Asked}
 use Rattle.cdp_messages.specs.declared.command.Refused.{Refused}
+use Rattle.cdp_messages.specs.declared.command.Why.{Why}
 use Rattle.cdp_messages.specs.Asked.{method_name}
 use Rattle.cdp_messages.specs.declared.down.ReplyBody.{ReplyBody}
 use Rattle.cdp_messages.specs.declared.down.ReplyBody.TheVariants as body
@@ -194,6 +195,10 @@ by-asked ask rest moves _ plain (commanded command method_is) answered quiet =
 by-asked ask rest moves _ plain (refused_as why) answered quiet =
     let r : Refused = record { id = Some ask.id; why = why } in
     subst (λ ms. InTurn ms (ask ∷ rest) rest) (sym answered) (meets (failed r) [] ask rest rest refl (rests rest))
+
+-- an error reply under its id answers an ask, which may be a fetch
+pub by-failed : (ask : Ask) (rest : List Ask) (moves : List Move) (why : Why) → moves ≡ failed (record { id = Some ask.id; why = why }) ∷ [] → InTurn moves (ask ∷ rest) rest
+by-failed ask rest moves why is = subst (λ ms. InTurn ms (ask ∷ rest) rest) (sym is) (meets (failed (record { id = Some ask.id; why = why })) [] ask rest rest refl (rests rest))
 
 -- an error reply without an id answers none
 pub by-refusal : (asks : List Ask) (moves : List Move) (r : Refused) → r.id ≡ None → moves ≡ failed r ∷ [] → InTurn moves asks asks

@@ -1,17 +1,19 @@
 -- A front end that shows the state of the page, and waits for the answers that are to come.
-use Rattle.std.specs.Prelude.{⊤, ◌≡◌, ◌≤◌, ℕ, ◌+◌, ◌*◌, ◌^◌, List, [], ◌∷◌, ◌++◌, length, Option, Some, None, option_and_then, codes, false, Err}
-use Rattle.serde_json.specs.Data.{Members}
+use Rattle.std.specs.Prelude.{⊤, ◌≡◌, ◌≤◌, ℕ, ◌+◌, ◌*◌, ◌^◌, List, [], ◌∷◌, ◌++◌, length, drop, Option, Some, None, is_some, option_and_then, codes, false, cond, nat_lt, bytes_eq, Err}
+use Rattle.serde_json.specs.Data.{Data, Members}
 use Rattle.serde_json.specs.Find.{get_member, as_str, as_object}
-use Rattle.cdp_json.specs.Kinds.{as_whole}
+use Rattle.std.specs.Str.Parse.{digits_value}
+use Rattle.cdp_json.specs.Kinds.{as_whole, if_holds}
+use Rattle.css_objects.specs.Sheets.{sheet_text}
 use Rattle.page_tree.specs.Forms.{max_nodes}
 use Rattle.cdp_messages.specs.declared.command.Why.{Why}
 use Rattle.cdp_messages.specs.Asked.{json_of, refusal, asked}
 use Rattle.std.specs.Option.{option_to_list}
 use Rattle.front_mirror.specs.declared.replies.Ask.{Ask}
 use Rattle.front_mirror.specs.declared.faults.FrontKind.{FrontKind}
-use Rattle.front_mirror.specs.Front.{FrontValue, first_value, plain_ask, take_frame}
+use Rattle.front_mirror.specs.Front.{FrontValue, first_value, plain_ask, fetch_ask, take_frame}
 use Rattle.front_mirror.specs.Laws.{Has}
-use Rattle.inspect_world.specs.World.{World, Spent, one_ask, one_raw}
+use Rattle.inspect_world.specs.World.{World, Spent, one_ask, one_fetch, one_raw}
 use Rattle.back_end.specs.States.{State, IsState, view_of}
 use Rattle.back_end.specs.Steps.{Turn, step, turn}
 use Rattle.back_end.specs.Laws.{IsTurn}
@@ -24,10 +26,29 @@ use Rattle.inspect_world.specs.Fold as fold
 abbrev pub ask_with : List ℕ → ℕ → Ask
 ask_with method id = plain_ask id method
 
+-- the number of the sheet whose id has this text
+abbrev pub sheet_told : List ℕ → Option ℕ
+sheet_told text = if_holds (λ n. bytes_eq (sheet_text n) text) (digits_value 10 (drop 1 text))
+
+-- the sheet that parameters name
+abbrev pub sheet_named : Data → Option ℕ
+sheet_named params =
+    option_and_then (λ ms. option_and_then sheet_told (option_and_then as_str (get_member (codes "styleSheetId") ms))) (as_object params)
+
+-- The sheet that an ask fetches, by its id, its method and its parameters. The ids of fetches are from 2^30 on, and no other ask
+-- has one of them.
+abbrev pub sheet_asked : ℕ → List ℕ → Option Data → Option ℕ
+sheet_asked id method params =
+    cond (nat_lt id (2 ^ 30)) None (cond (bytes_eq method (codes "CSS.getStyleSheetText")) (option_and_then sheet_named params) None)
+
+-- the ask that an object with this id and this method is
+abbrev pub ask_by : Members → ℕ → List ℕ → Ask
+ask_by frame id method = record { id = id; method = method; sheet = sheet_asked id method (get_member (codes "params") frame) }
+
 -- the ask that an object is
 abbrev pub ask_of : Members → Option Ask
 ask_of frame =
-    option_and_then (λ id. option_and_then (λ method. Some (ask_with method id)) (option_and_then as_str (get_member (codes "method") frame)))
+    option_and_then (λ id. option_and_then (λ method. Some (ask_by frame id method)) (option_and_then as_str (get_member (codes "method") frame)))
     (option_and_then as_whole (get_member (codes "id") frame))
 
 -- the ask that a frame is: an object with an id and a method
@@ -68,6 +89,19 @@ pub data Sendable (frame : List ℕ) : Type 0 where
   is_ask : (ask : Ask) → ask_in frame ≡ Some ask → Sendable frame
   is_bare : IsBare frame → Sendable frame
 
+-- the sheet whose text a frame fetches, if it is a fetch
+abbrev pub sheet_in : List ℕ → Option ℕ
+sheet_in frame = option_and_then (λ (ask : Ask). ask.sheet) (ask_in frame)
+
+-- the frame is no fetch
+abbrev pub IsPlainFrame : List ℕ → Type 0
+IsPlainFrame frame = sheet_in frame ≡ None
+
+-- how many of these frames are no fetches: those alone may draw ids and serials
+abbrev pub drawing : List (List ℕ) → ℕ
+drawing [] = 0
+drawing (frame ∷ frames) = cond (is_some (sheet_in frame)) 0 1 + drawing frames
+
 -- frames each of which may be sent
 abbrev pub AreSendable : List (List ℕ) → Type 0
 AreSendable [] = ⊤
@@ -78,9 +112,10 @@ abbrev pub asks_among : List (List ℕ) → List Ask
 asks_among [] = []
 asks_among (frame ∷ frames) = option_to_list (ask_in frame) ++ asks_among frames
 
--- After n the text may be sent, as the next ask or as a bare frame, and m is then spent.
+-- After n the text may be sent, as the next ask, as the next fetch or as a bare frame, and m is then spent.
 pub data IsNext (n : Spent) (text : List ℕ) : Spent → Type 0 where
   next_ask : (method : List ℕ) → ask_in text ≡ Some (ask_with method (n.asks + 1)) → n.asks + 1 ≤ most_asks → IsNext n text (one_ask n)
+  next_fetch : (sheet : ℕ) → ask_in text ≡ Some (fetch_ask n.fetches sheet) → n.fetches + 1 ≤ most_fetches → IsNext n text (one_fetch n)
   next_raw : IsBare text → n.raws + 1 ≤ most_asks → IsNext n text (one_raw n)
 
 -- after n the script may make this step by itself
@@ -98,11 +133,11 @@ pub record HasLeft (n : Spent) (lines : ℕ) : Type 0 where
 
 -- ---- fits
 
--- how many ids may have been drawn: a frame and a step of the script make at most all nodes of a page known
+-- how many ids may have been drawn: a frame that is no fetch and a step of the script make at most all nodes of a page known
 abbrev pub most_drawn : Spent → ℕ
 most_drawn n = (n.asks + n.raws + n.turns) * max_nodes
 
--- how far the serials may have come: the load, a frame and a step of the script draw those of one page at most
+-- how far the serials may have come: the load, a frame that is no fetch and a step of the script draw those of one page at most
 abbrev pub most_serials : Spent → ℕ
 most_serials n = (n.asks + n.raws + n.turns + 1) * (max_nodes + 1)
 
@@ -116,8 +151,8 @@ pub record IsFit (n : Spent) (v : FrontValue) (state : State) (frames : List (Li
   pub few : n.asks ≤ most_asks
   pub few_raws : n.raws ≤ most_asks
   pub few_turns : n.turns ≤ most_asks
-  pub drawn : length state.client.session.pushed + length frames * max_nodes ≤ most_drawn n
-  pub serials : state.side.page.next + length frames * (max_nodes + 1) ≤ most_serials n
+  pub drawn : length state.client.session.pushed + drawing frames * max_nodes ≤ most_drawn n
+  pub serials : state.side.page.next + drawing frames * (max_nodes + 1) ≤ most_serials n
 
 -- how the run of a replay goes on
 abbrev pub replay : Machine State FrontValue FrontKind Turn

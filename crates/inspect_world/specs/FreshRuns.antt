@@ -1,5 +1,5 @@
 -- The run of a script with the fetches of its settles put into the streams, beside the run that the report tells.
-use Rattle.std.specs.Prelude.{◌≡◌, ℕ, ◌≤◌, List, [], ◌∷◌, length, take, map, Ok}
+use Rattle.std.specs.Prelude.{◌≡◌, ℕ, ◌+◌, ◌^◌, ◌≤◌, List, [], ◌∷◌, length, take, map, codes, Some, None, Ok}
 use Rattle.node_tree.specs.Nodes.{Nodes}
 use Rattle.node_tree.specs.Labels.{Label}
 use Rattle.node_tree.specs.Seen.{Seen}
@@ -11,7 +11,9 @@ use Rattle.replay_script.specs.Script.{script_forms}
 use Rattle.front_mirror.specs.declared.replies.Ask.{Ask}
 use Rattle.front_mirror.specs.declared.replies.Kept.{Kept}
 use Rattle.front_mirror.specs.declared.pauses.SeenPause.{SeenPause}
-use Rattle.front_mirror.specs.Front.{FrontValue, first_value, take_frame}
+use Rattle.front_mirror.specs.Front.{FrontValue, first_value, fetch_params, take_frame}
+use Rattle.front_mirror.specs.Sheets.{has_sheet, stale_of}
+use Rattle.cdp_messages.specs.Asked.{command_text}
 use Rattle.front_mirror.specs.Laws.{Has}
 use Rattle.back_end.specs.States.{State, view_of}
 use Rattle.back_end.specs.Steps.{step}
@@ -24,6 +26,14 @@ use Rattle.inspect_world.specs.Fits.{join, most_asks, HasLeft, IsFit, replay}
 use Rattle.inspect_world.specs.ShownReplies.{told_of, replies_in}
 use Rattle.inspect_world.specs.Scripts.{after_line_by, after_lines_by, after_lines, loaded_world}
 use Rattle.inspect_world.specs.ScriptsFit.{AreLater}
+
+-- the fetches of the front end: their ids are from 2^30 on
+abbrev pub front_fetcher : Fetcher FrontValue
+front_fetcher = record {
+  stale = λ v. stale_of v.sheets;
+  knows = λ v number. has_sheet number v.sheets;
+  text = λ count number. command_text (2 ^ 30 + count) (codes "CSS.getStyleSheetText") (Some (fetch_params number)) None;
+}
 
 -- ---- the run with fetches
 

@@ -1,5 +1,5 @@
 -- What the two ends hold while a script is carried out over a link, and that they follow the run.
-use Rattle.std.specs.Prelude.{◌≡◌, ℕ, ◌+◌, false, List, [], length, None, Ok}
+use Rattle.std.specs.Prelude.{◌≡◌, ℕ, ◌+◌, false, List, [], length, All, None, Ok}
 use Rattle.pipe_frames.specs.Pipe.{Pipe}
 use Rattle.pipe_frames.specs.Frames.{frames_of}
 use Rattle.front_mirror.specs.Front.{FrontValue, FrontState, first_value, take_frame}
@@ -11,7 +11,7 @@ use Rattle.back_end.specs.declared.seat.Seat.{Seat}
 use Rattle.back_end.specs.declared.side.PageSide.{PageSide}
 use Rattle.back_end.specs.States.{State}
 use Rattle.back_end.specs.Seats.{StandsFor}
-use Rattle.inspect_world.specs.Fits.{join, FitsWith}
+use Rattle.inspect_world.specs.Fits.{join, IsPlainFrame, FitsWith}
 
 -- The client's seat and the page's side; what the back end has of a frame that is not whole; the front end; how many bytes of
 -- each pipe were sent and not given; and how many of the replies were told.
@@ -41,4 +41,5 @@ pub record InWorld (up0 down0 up down : Pipe) (w : World State) (frames : List (
   pub up_left : e.up_there ≡ length w.up.flying
   pub down_left : e.down_there ≡ length w.down.flying
   pub told_is : e.told ≡ w.told
+  pub plain : All IsPlainFrame (frames_of (sent w.up)).whole
   pub fits : FitsWith w frames

@@ -1,6 +1,6 @@
 -- While a script is carried out, the whole streams between the ends stay such that the front end's fold meets no fault, and
 -- shows exactly what the client sees of the page.
-use Rattle.std.specs.Prelude.{◌≡◌, ℕ, ◌≤◌, List, [], ◌∷◌, length, take, map, true, Ok, ⊤, IsUtf8, ◌+◌}
+use Rattle.std.specs.Prelude.{◌≡◌, ℕ, ◌≤◌, List, [], ◌∷◌, length, take, map, All, true, Ok, ⊤, IsUtf8, ◌+◌}
 use Rattle.node_tree.specs.Nodes.{Nodes}
 use Rattle.node_tree.specs.Labels.{Label}
 use Rattle.page_tree.specs.Forms.{CanLoad}
@@ -21,7 +21,7 @@ use Rattle.page_forms.specs.Texts.{HaveTexts}
 use Rattle.back_end.specs.States.{State, view_of}
 use Rattle.back_end.specs.Steps.{Turn, acts, loads, step, turn}
 use Rattle.back_end.specs.Laws.{IsTurn}
-use Rattle.inspect_world.specs.Fits.{join, most_asks, IsBare, IsNextTurn, Fits}
+use Rattle.inspect_world.specs.Fits.{join, most_asks, IsBare, IsPlainFrame, IsNextTurn, Fits}
 use Rattle.inspect_world.specs.ShownReplies.{told_of, replies_in}
 use Rattle.inspect_world.specs.Scripts.{loaded_world, after_lines}
 
@@ -77,13 +77,13 @@ abbrev pub DeliveriesFit : Type 0
 DeliveriesFit = (w : World State) (n : ℕ) → Fits w → Fits (delivered_up step n w) × Fits (delivered_down n w)
 
 -- A front end that has sent all that the up pipe has given, and has taken all that the down pipe has given, shows exactly what
--- the client sees of the page, and has kept just the replies that came down; it waits for no reply, and holds no part of a
--- frame.
+-- the client sees of the page; it waits for no reply, and holds no part of a frame. Where no frame that it sent is a fetch, it
+-- has kept just the replies that came down; replies to fetches are not kept.
 pub record ShowsAll (w : World State) : Type 0 where
   pub front : FrontValue
   pub is_fold : folded take_frame (joined join (first_value []) (frames_of w.up.given).whole) (frames_of w.down.given).whole ≡ Ok front
   pub shows : Has front (view_of w.state)
-  pub told : map told_of front.replies ≡ replies_in w.down.given
+  pub told : All IsPlainFrame (frames_of w.up.given).whole → map told_of front.replies ≡ replies_in w.down.given
   pub waits : front.asks ≡ []
   pub whole : held w.down ≡ []
 

@@ -1,8 +1,11 @@
 // The law of the run, which makes no call.
+ghost use Rattle.inspect_world.specs.Fits.{IsPlainFrame};
+ghost use Rattle.inspect_world.specs.FreshRuns.{front_fetcher, FreshLinesFit, FreshInputsFit, RefreshedShows};
 ghost use Rattle.inspect_world.specs.ScriptsFit.{LinesFit, InputsFit, BareFramesFit, TurnsFit, DeliveriesFit, SettledShows};
 
 /// While the lines of a script are carried out, the bytes that the ends have sent, folded whole, meet no fault at the front
-/// end, and give exactly what the client sees of the page.
+/// end, and give exactly what the client sees of the page. The same holds with the fetches of the settles and their replies
+/// put into the streams, and then no text of a sheet is old after a settle.
 pub fn fits_law()
     ensures lines { LinesFit }
     ensures inputs { InputsFit }
@@ -10,4 +13,7 @@ pub fn fits_law()
     ensures turns { TurnsFit }
     ensures deliveries { DeliveriesFit }
     ensures settled { SettledShows }
+    ensures fresh_lines { FreshLinesFit front_fetcher IsPlainFrame }
+    ensures fresh_inputs { FreshInputsFit front_fetcher IsPlainFrame }
+    ensures refreshed { RefreshedShows front_fetcher IsPlainFrame }
 {}

@@ -1,5 +1,6 @@
 use Rattle.inspect_world.proofs.Inputs.{inputs-fit}
 use Rattle.inspect_world.proofs.Scripts.{lines-fit, bare-frames-fit, turns-fit, deliveries-fit, settled-shows}
+use Rattle.inspect_world.proofs.FetchesFit.{fresh-lines, fresh-inputs, refreshed-all}
 use Rattle.inspect_world.proofs.laws.fits_law.Goals as goal
 
 pub returns : goal.returns
@@ -10,4 +11,7 @@ returns c = record {
   turns = turns-fit;
   deliveries = deliveries-fit;
   settled = settled-shows;
+  fresh_lines = fresh-lines;
+  fresh_inputs = fresh-inputs;
+  refreshed = refreshed-all;
 }
