@@ -19,6 +19,8 @@ use Rattle.cdp_messages.specs.Answers.{ended}
 use Rattle.cdp_messages.specs.Told.{Told, told_tree}
 use Rattle.cdp_messages.specs.NodeObject.{flat, attribute_list, type_number, node_name, local_name, only_if, node_members, node_fields, object_with}
 use Rattle.cdp_messages.specs.NodeData.{tree_items, tree_data}
+use Rattle.cdp_messages.specs.Events.{envelope}
+use Rattle.cdp_messages.specs.Replies.{reply, message_data}
 use Rattle.cdp_messages.specs.Tokens.{data_tokens, field_tokens, head_tokens, tail_tokens}
 use Rattle.cdp_messages.proofs.Written.{written_items, tree_written}
 
@@ -166,19 +168,43 @@ branches_end old start now last bs cs i all same begun so ended =
 
 -- ---- a frame
 
-text_is : (ts : List Token) (d : Data) → ts ≡ [] ++ data_tokens d → print ts ≡ compact_text d
-text_is ts d e = ap print e ∙ print-outline d
+text_is : (ts : List Token) {us : List Token} (d : Data) → us ≡ [] → ts ≡ us ++ data_tokens d → print ts ≡ compact_text d
+text_is ts d none e = ap print (e ∙ ap (λ us. us ++ data_tokens d) none) ∙ print-outline d
 
-pub frame_is : {E : Type 0} (written result : Result (Unit {0}) E) (old before now : List ℕ) (ts : List Token) (d : Data) → OnOk written (ts ≡ [] ++ data_tokens d) → OnOk result (IsOk written)
+pub frame_is : {E : Type 0} (written result : Result (Unit {0}) E) (old before now : List ℕ) (us ts : List Token) (d : Data) → us ≡ [] → OnOk written (ts ≡ us ++ data_tokens d) → OnOk result (IsOk written)
     → before ≡ old → OnOk result (now ≡ before ++ ended (print ts)) → OnOk result (now ≡ old ++ ended (compact_text d))
-frame_is (Ok u) (Ok w) old before now ts d e done b n = n ∙ ap₂ (λ xs ys. xs ++ ended ys) b (text_is ts d e)
-frame_is (Ok u) (Err x) old before now ts d e done b n = tt
-frame_is (Err x) (Ok w) old before now ts d e done b n = absurd cc
-frame_is (Err x) (Err y) old before now ts d e done b n = tt
+frame_is (Ok u) (Ok w) old before now us ts d begun e done b n = n ∙ ap₂ (λ xs ys. xs ++ ended ys) b (text_is ts d begun e)
+frame_is (Ok u) (Err x) old before now us ts d begun e done b n = tt
+frame_is (Err x) (Ok w) old before now us ts d begun e done b n = absurd cc
+frame_is (Err x) (Err y) old before now us ts d begun e done b n = tt
 
-pub frame_utf8 : {E : Type 0} (written result : Result (Unit {0}) E) (ts : List Token) (d : Data) → OnOk written (ts ≡ [] ++ data_tokens d) → OnOk result (IsOk written)
+pub frame_utf8 : {E : Type 0} (written result : Result (Unit {0}) E) (us ts : List Token) (d : Data) → us ≡ [] → OnOk written (ts ≡ us ++ data_tokens d) → OnOk result (IsOk written)
     → OnOk result (IsUtf8 (print ts)) → OnOk result (IsUtf8 (compact_text d))
-frame_utf8 (Ok u) (Ok w) ts d e done b = subst IsUtf8 (text_is ts d e) b
-frame_utf8 (Ok u) (Err x) ts d e done b = tt
-frame_utf8 (Err x) (Ok w) ts d e done b = absurd cc
-frame_utf8 (Err x) (Err y) ts d e done b = tt
+frame_utf8 (Ok u) (Ok w) us ts d begun e done b = subst IsUtf8 (text_is ts d begun e) b
+frame_utf8 (Ok u) (Err x) us ts d begun e done b = tt
+frame_utf8 (Err x) (Ok w) us ts d begun e done b = absurd cc
+frame_utf8 (Err x) (Err y) us ts d begun e done b = tt
+
+-- ---- messages with nodes, after each of the calls that write them
+
+-- a reply with an object that was written before
+pub reply_written : (old : List Token) (id : ℕ) (d : Data) {t1 t2 t3 t4 new : List Token} → t1 ≡ old ++ begin_object ∷ [] → t2 ≡ t1 ++ field_tokens (codes "id") (Some (whole.spell id))
+    → t3 ≡ t2 ++ key (codes "result") ∷ [] → t4 ≡ t3 ++ data_tokens d → new ≡ t4 ++ end_object ∷ [] → new ≡ old ++ data_tokens (message_data (reply id d))
+reply_written old id d {t1 = t1} {t2 = t2} {t3 = t3} e1 e2 e3 e4 e5 =
+    after old (begin_object ∷ []) (field_tokens (codes "id") (Some (whole.spell id)) ++ (key (codes "result") ∷ (data_tokens d ++ end_object ∷ []))) e1
+    (after t1 (field_tokens (codes "id") (Some (whole.spell id))) (key (codes "result") ∷ (data_tokens d ++ end_object ∷ [])) e2
+    (after t2 (key (codes "result") ∷ []) (data_tokens d ++ end_object ∷ []) e3 (after t3 (data_tokens d) (end_object ∷ []) e4 e5)))
+
+-- an event with parameters that were written before
+pub event_written : (old : List Token) (name : List ℕ) (d : Data) {t1 t2 new : List Token} → t1 ≡ old ++ begin_object ∷ (field_tokens (codes "method") (Some (text.spell name)) ++ key (codes "params") ∷ [])
+    → t2 ≡ t1 ++ data_tokens d → new ≡ t2 ++ end_object ∷ [] → new ≡ old ++ data_tokens (envelope.spell (name, (d, tt)))
+event_written old name d {t1 = t1} e1 e2 e3 =
+    after old (begin_object ∷ (field_tokens (codes "method") (Some (text.spell name)) ++ key (codes "params") ∷ [])) (data_tokens d ++ end_object ∷ []) e1
+    (after t1 (data_tokens d) (end_object ∷ []) e2 e3)
+
+-- what was written of a value that is known by another name
+pub said : {E : Type 0} (r : Result (Unit {0}) E) (old now : List ℕ) {d e : Data} → d ≡ e → OnOk r (now ≡ old ++ ended (compact_text d)) → OnOk r (now ≡ old ++ ended (compact_text e))
+said r old now is done = subst (λ x. OnOk r (now ≡ old ++ ended (compact_text x))) is done
+
+pub said_utf8 : {E : Type 0} (r : Result (Unit {0}) E) {d e : Data} → d ≡ e → OnOk r (IsUtf8 (compact_text d)) → OnOk r (IsUtf8 (compact_text e))
+said_utf8 r is done = subst (λ x. OnOk r (IsUtf8 (compact_text x))) is done

@@ -2,13 +2,14 @@
 ghost use Rattle.std.specs.Prelude.{◌≡◌, ◌++◌, [], ◌∷◌, Some, codes, IfOk, OnOk, OnErr, IsUtf8, false};
 ghost use Rattle.json.specs.Token.{begin_object, key};
 ghost use Rattle.serde_json.specs.View.{view};
-ghost use Rattle.serde_json.specs.Written.{compact_text, has_float};
+ghost use Rattle.serde_json.specs.Written.{compact_text};
 ghost use Rattle.cdp_json.specs.Kinds.{text};
 ghost use Rattle.node_tree.specs.Nodes.{nodes_of};
 ghost use Rattle.cdp_messages.specs.Answers.{ended};
 ghost use Rattle.cdp_messages.specs.Events.{news_of, set_children, inserted, watch as watched, event_name, envelope, modified_kind, dropped_kind, data_kind, count_kind, inserted_kind, removed_kind, children_kind, added_kind, sheet_id_kind, pause_kind, paused_kind, news_data};
 ghost use Rattle.cdp_messages.specs.Replies.{event_text};
 ghost use Rattle.cdp_messages.specs.Tokens.{data_tokens, field_tokens};
+ghost use Rattle.cdp_messages.specs.Forms.{event_said};
 
 use crate::command::WatchWord;
 use crate::down::{Event, PauseData};
@@ -148,23 +149,13 @@ fn paused_value(alloc: Global, pause: PauseData) -> Result<Value, AllocError>
     object(alloc, fields)
 }
 
-// Appends an event of that method with these parameters.
-fn append_event(
-    alloc: Global,
-    name: EventName,
-    params: Value,
-    out: &mut Vec<u8>,
-) -> Result<(), AllocError>
-    requires { has_float (view params) ≡ false }
-    ensures ok { OnOk result (out.new.items ≡ out.old.items
-        ++ ended (compact_text (envelope.spell (event_name name, (view params, tt))))) }
-    ensures utf8 { OnOk result (IsUtf8 (compact_text (envelope.spell (event_name name, (view params, tt))))) }
-    ensures err { OnErr result (out.new.items ≡ out.old.items) }
+// An event of that method with these parameters.
+fn envelope_value(alloc: Global, name: EventName, params: Value) -> Result<Value, AllocError>
+    ensures { IfOk result (λ v. view v ≡ envelope.spell (event_name name, (view params, tt))) }
 {
     let method = Value::try_from_str(alloc, name.as_str())?;
     let fields = vec![in alloc; ("method", Some(method)), ("params", Some(params))]?;
-    let value = object(alloc, fields)?;
-    append(alloc, &value, out)
+    object(alloc, fields)
 }
 
 // An event of that method, up to its parameters.
@@ -215,7 +206,7 @@ fn write_children_event(
     Ok(())
 }
 
-fn append_children_event(
+fn append_children(
     alloc: Global,
     parent: u64,
     nodes: &Vec<NodeTree>,
@@ -269,7 +260,7 @@ fn write_inserted_event(
     Ok(())
 }
 
-fn append_inserted_event(
+fn append_inserted(
     alloc: Global,
     parent: u64,
     previous: u64,
@@ -286,59 +277,110 @@ fn append_inserted_event(
     end_frame(writer, start, written, out)
 }
 
+// An event as it is to be written.
+#[derive(Drop)]
+pub(crate) enum EventForm<'a> {
+    Plain(Value),
+    Inserted {
+        parent: u64,
+        previous: u64,
+        node: &'a NodeTree,
+    },
+    Children {
+        parent: u64,
+        nodes: &'a Vec<NodeTree>,
+    },
+}
+
+// An event of that method with these parameters.
+fn plain_form<'a>(
+    alloc: Global,
+    name: EventName,
+    params: Value,
+) -> Result<EventForm<'a>, AllocError>
+    ensures { IfOk result (λ form. event_said form ≡ envelope.spell (event_name name, (view params, tt))) }
+{
+    let value = envelope_value(alloc, name, params)?;
+    Ok(EventForm::Plain(value))
+}
+
+fn event_form(alloc: Global, event: &Event) -> Result<EventForm<'_>, AllocError>
+    ensures { IfOk result (λ form. event_said form ≡ news_data (news_of event.now)) }
+{
+    match event {
+        Event::AttributeModified { node, name, value } => {
+            let params = modified_value(alloc, *node, name, value)?;
+            plain_form(alloc, EventName::AttributeModified, params)
+        }
+        Event::AttributeRemoved { node, name } => {
+            let params = dropped_value(alloc, *node, name)?;
+            plain_form(alloc, EventName::AttributeRemoved, params)
+        }
+        Event::CharacterDataModified { node, text } => {
+            let params = data_value(alloc, *node, text)?;
+            plain_form(alloc, EventName::CharacterDataModified, params)
+        }
+        Event::ChildNodeCountUpdated { node, count } => {
+            let params = count_value(alloc, *node, *count)?;
+            plain_form(alloc, EventName::ChildNodeCountUpdated, params)
+        }
+        Event::ChildNodeInserted {
+            parent,
+            previous,
+            node,
+        } => Ok(EventForm::Inserted {
+            parent: *parent,
+            previous: *previous,
+            node,
+        }),
+        Event::ChildNodeRemoved { parent, node } => {
+            let params = removed_value(alloc, *parent, *node)?;
+            plain_form(alloc, EventName::ChildNodeRemoved, params)
+        }
+        Event::SetChildNodes { parent, nodes } => Ok(EventForm::Children {
+            parent: *parent,
+            nodes,
+        }),
+        Event::DocumentUpdated => {
+            let params = Value::Object(Map::new(alloc));
+            plain_form(alloc, EventName::DocumentUpdated, params)
+        }
+        Event::StyleSheetAdded { header } => {
+            let params = added_value(alloc, *header)?;
+            plain_form(alloc, EventName::StyleSheetAdded, params)
+        }
+        Event::StyleSheetChanged { sheet } => {
+            let params = sheet_id_value(alloc, *sheet)?;
+            plain_form(alloc, EventName::StyleSheetChanged, params)
+        }
+        Event::StyleSheetRemoved { sheet } => {
+            let params = sheet_id_value(alloc, *sheet)?;
+            plain_form(alloc, EventName::StyleSheetRemoved, params)
+        }
+        Event::Paused(pause) => {
+            let params = paused_value(alloc, *pause)?;
+            plain_form(alloc, EventName::Paused, params)
+        }
+    }
+}
+
 /// Appends an event as one frame, with its zero byte.
 pub fn write_event(alloc: Global, event: &Event, out: &mut Vec<u8>) -> Result<(), AllocError>
     ensures ok { OnOk result (out.new.items ≡ out.old.items ++ ended (event_text (news_of event.now))) }
     ensures utf8 { OnOk result (IsUtf8 (event_text (news_of event.now))) }
     ensures err { OnErr result (out.new.items ≡ out.old.items) }
 {
-    match event {
-        Event::ChildNodeInserted {
+    let form = match event_form(alloc, event) {
+        Ok(form) => form,
+        Err(error) => return Err(error),
+    };
+    match form {
+        EventForm::Plain(value) => append(alloc, &value, out),
+        EventForm::Inserted {
             parent,
             previous,
             node,
-        } => append_inserted_event(alloc, *parent, *previous, node, out),
-        Event::SetChildNodes { parent, nodes } =>
-            append_children_event(alloc, *parent, nodes, out),
-        Event::AttributeModified { node, name, value } => {
-            let params = modified_value(alloc, *node, name, value)?;
-            append_event(alloc, EventName::AttributeModified, params, out)
-        }
-        Event::AttributeRemoved { node, name } => {
-            let params = dropped_value(alloc, *node, name)?;
-            append_event(alloc, EventName::AttributeRemoved, params, out)
-        }
-        Event::CharacterDataModified { node, text } => {
-            let params = data_value(alloc, *node, text)?;
-            append_event(alloc, EventName::CharacterDataModified, params, out)
-        }
-        Event::ChildNodeCountUpdated { node, count } => {
-            let params = count_value(alloc, *node, *count)?;
-            append_event(alloc, EventName::ChildNodeCountUpdated, params, out)
-        }
-        Event::ChildNodeRemoved { parent, node } => {
-            let params = removed_value(alloc, *parent, *node)?;
-            append_event(alloc, EventName::ChildNodeRemoved, params, out)
-        }
-        Event::DocumentUpdated => {
-            let params = Value::Object(Map::new(alloc));
-            append_event(alloc, EventName::DocumentUpdated, params, out)
-        }
-        Event::StyleSheetAdded { header } => {
-            let params = added_value(alloc, *header)?;
-            append_event(alloc, EventName::StyleSheetAdded, params, out)
-        }
-        Event::StyleSheetChanged { sheet } => {
-            let params = sheet_id_value(alloc, *sheet)?;
-            append_event(alloc, EventName::StyleSheetChanged, params, out)
-        }
-        Event::StyleSheetRemoved { sheet } => {
-            let params = sheet_id_value(alloc, *sheet)?;
-            append_event(alloc, EventName::StyleSheetRemoved, params, out)
-        }
-        Event::Paused(pause) => {
-            let params = paused_value(alloc, *pause)?;
-            append_event(alloc, EventName::Paused, params, out)
-        }
+        } => append_inserted(alloc, parent, previous, node, out),
+        EventForm::Children { parent, nodes } => append_children(alloc, parent, nodes, out),
     }
 }

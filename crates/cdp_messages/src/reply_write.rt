@@ -6,9 +6,10 @@ ghost use Rattle.serde_json.specs.Written.{compact_text, has_float};
 ghost use Rattle.cdp_messages.specs.NodeObject.{attribute_list};
 ghost use Rattle.cdp_messages.specs.NodeData.{tree_data};
 ghost use Rattle.cdp_messages.specs.Results.{id_kind, ids_kind, attributes_kind};
-ghost use Rattle.cdp_messages.specs.Replies.{reply, message_data, reply_text};
+ghost use Rattle.cdp_messages.specs.Replies.{reply, message_data, body_data, reply_text};
 ghost use Rattle.cdp_messages.specs.Answers.{ended};
 ghost use Rattle.cdp_messages.specs.Tokens.{data_tokens};
+ghost use Rattle.cdp_messages.specs.Forms.{body_said};
 
 use crate::down::ReplyBody;
 use crate::node_write::write_node;
@@ -119,16 +120,52 @@ fn append_node_reply(
     end_frame(writer, start, written, out)
 }
 
+// A result as it is to be written.
+#[derive(Drop)]
+pub(crate) enum BodyForm<'a> {
+    Plain(Value),
+    Root(&'a NodeTree),
+    Node(&'a NodeTree),
+}
+
+fn body_form(alloc: Global, body: &ReplyBody) -> Result<BodyForm<'_>, AllocError>
+    ensures { IfOk result (λ form. body_said form ≡ body_data body.now) }
+{
+    match body {
+        ReplyBody::Nothing => Ok(BodyForm::Plain(Value::Object(Map::new(alloc)))),
+        ReplyBody::Root(tree) => Ok(BodyForm::Root(tree)),
+        ReplyBody::Node(tree) => Ok(BodyForm::Node(tree)),
+        ReplyBody::NodeId(id) => Ok(BodyForm::Plain(id_value(alloc, *id)?)),
+        ReplyBody::NodeIds(ids) => Ok(BodyForm::Plain(ids_value(alloc, ids)?)),
+        ReplyBody::Attributes(attributes) =>
+            Ok(BodyForm::Plain(attributes_body(alloc, attributes)?)),
+        ReplyBody::ClassNames(names) =>
+            Ok(BodyForm::Plain(class_names_value(alloc, names.as_slice())?)),
+        ReplyBody::SheetText(text) => Ok(BodyForm::Plain(sheet_text_value(alloc, text)?)),
+        ReplyBody::Styles(styles) => Ok(BodyForm::Plain(styles_value(alloc, styles.as_slice())?)),
+        ReplyBody::Selectors(selectors) =>
+            Ok(BodyForm::Plain(new_selectors_value(alloc, selectors)?)),
+        ReplyBody::Rule(rule) => Ok(BodyForm::Plain(new_rule_value(alloc, rule)?)),
+        ReplyBody::Matched(matched) => Ok(BodyForm::Plain(matched_value(alloc, matched)?)),
+    }
+}
+
+fn reply_value(alloc: Global, id: u64, body: Value) -> Result<Value, AllocError>
+    ensures { IfOk result (λ v. view v ≡ message_data (reply id (view body))) }
+{
+    let fields = vec![in alloc; ("id", Some(Value::from(id))), ("result", Some(body))]?;
+    object(alloc, fields)
+}
+
 // Appends a reply with this result.
 fn append_reply(alloc: Global, id: u64, body: Value, out: &mut Vec<u8>) -> Result<(), AllocError>
-    requires { has_float (view body) ≡ false }
+    requires { has_float (message_data (reply id (view body))) ≡ false }
     ensures ok { OnOk result (out.new.items ≡ out.old.items
         ++ ended (compact_text (message_data (reply id (view body))))) }
     ensures utf8 { OnOk result (IsUtf8 (compact_text (message_data (reply id (view body))))) }
     ensures err { OnErr result (out.new.items ≡ out.old.items) }
 {
-    let fields = vec![in alloc; ("id", Some(Value::from(id))), ("result", Some(body))]?;
-    let value = object(alloc, fields)?;
+    let value = reply_value(alloc, id, body)?;
     append(alloc, &value, out)
 }
 
@@ -143,22 +180,13 @@ pub fn write_reply(
     ensures utf8 { OnOk result (IsUtf8 (reply_text id body.now)) }
     ensures err { OnErr result (out.new.items ≡ out.old.items) }
 {
-    match body {
-        ReplyBody::Root(tree) => append_node_reply(alloc, id, "root", tree, out),
-        ReplyBody::Node(tree) => append_node_reply(alloc, id, "node", tree, out),
-        ReplyBody::Nothing => append_reply(alloc, id, Value::Object(Map::new(alloc)), out),
-        ReplyBody::NodeId(node) => append_reply(alloc, id, id_value(alloc, *node)?, out),
-        ReplyBody::NodeIds(nodes) => append_reply(alloc, id, ids_value(alloc, nodes)?, out),
-        ReplyBody::Attributes(attributes) =>
-            append_reply(alloc, id, attributes_body(alloc, attributes)?, out),
-        ReplyBody::ClassNames(names) =>
-            append_reply(alloc, id, class_names_value(alloc, names.as_slice())?, out),
-        ReplyBody::SheetText(text) => append_reply(alloc, id, sheet_text_value(alloc, text)?, out),
-        ReplyBody::Styles(styles) =>
-            append_reply(alloc, id, styles_value(alloc, styles.as_slice())?, out),
-        ReplyBody::Selectors(selectors) =>
-            append_reply(alloc, id, new_selectors_value(alloc, selectors)?, out),
-        ReplyBody::Rule(rule) => append_reply(alloc, id, new_rule_value(alloc, rule)?, out),
-        ReplyBody::Matched(matched) => append_reply(alloc, id, matched_value(alloc, matched)?, out),
+    let form = match body_form(alloc, body) {
+        Ok(form) => form,
+        Err(error) => return Err(error),
+    };
+    match form {
+        BodyForm::Plain(value) => append_reply(alloc, id, value, out),
+        BodyForm::Root(tree) => append_node_reply(alloc, id, "root", tree, out),
+        BodyForm::Node(tree) => append_node_reply(alloc, id, "node", tree, out),
     }
 }
