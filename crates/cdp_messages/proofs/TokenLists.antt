@@ -208,3 +208,9 @@ said r old now is done = subst (λ x. OnOk r (now ≡ old ++ ended (compact_text
 
 pub said_utf8 : {E : Type 0} (r : Result (Unit {0}) E) {d e : Data} → d ≡ e → OnOk r (IsUtf8 (compact_text d)) → OnOk r (IsUtf8 (compact_text e))
 said_utf8 r is done = subst (λ x. OnOk r (IsUtf8 (compact_text x))) is done
+
+-- an event of a method, up to its parameters
+pub method_written : (old : List Token) (name : List ℕ) {shown : List ℕ} {t1 t2 new : List Token} → shown ≡ name → t1 ≡ old ++ begin_object ∷ []
+    → t2 ≡ t1 ++ field_tokens (codes "method") (Some (text.spell shown)) → new ≡ t2 ++ key (codes "params") ∷ []
+    → new ≡ old ++ begin_object ∷ (field_tokens (codes "method") (Some (text.spell name)) ++ key (codes "params") ∷ [])
+method_written old name is e1 e2 e3 = rw (e3, e2, e1, is) (simp append_assoc)
