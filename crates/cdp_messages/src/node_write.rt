@@ -90,11 +90,7 @@ fn write_attributes(out: &mut Writer, attributes: &Attributes) -> Result<(), All
     Ok(())
 }
 
-fn attributes_field(
-    out: &mut Writer,
-    kind: Kind,
-    attributes: &Attributes,
-) -> Result<(), AllocError>
+fn attributes_field(out: &mut Writer, kind: Kind, attributes: &Attributes) -> Result<(), AllocError>
     ensures ok { OnOk result (out.new.tokens ≡ out.old.tokens ++ field_tokens (codes "attributes")
         (option_map attribute_list.spell (only_if (is_element kind) attributes.now))) }
     ensures before { out.new.before ≡ out.old.before }

@@ -137,14 +137,18 @@ fn body_form(alloc: Global, body: &ReplyBody) -> Result<BodyForm<'_>, AllocError
         ReplyBody::Node(tree) => Ok(BodyForm::Node(tree)),
         ReplyBody::NodeId(id) => Ok(BodyForm::Plain(id_value(alloc, *id)?)),
         ReplyBody::NodeIds(ids) => Ok(BodyForm::Plain(ids_value(alloc, ids)?)),
-        ReplyBody::Attributes(attributes) =>
-            Ok(BodyForm::Plain(attributes_body(alloc, attributes)?)),
-        ReplyBody::ClassNames(names) =>
-            Ok(BodyForm::Plain(class_names_value(alloc, names.as_slice())?)),
+        ReplyBody::Attributes(attributes) => Ok(BodyForm::Plain(attributes_body(
+            alloc, attributes,
+        )?)),
+        ReplyBody::ClassNames(names) => Ok(BodyForm::Plain(class_names_value(
+            alloc,
+            names.as_slice(),
+        )?)),
         ReplyBody::SheetText(text) => Ok(BodyForm::Plain(sheet_text_value(alloc, text)?)),
         ReplyBody::Styles(styles) => Ok(BodyForm::Plain(styles_value(alloc, styles.as_slice())?)),
-        ReplyBody::Selectors(selectors) =>
-            Ok(BodyForm::Plain(new_selectors_value(alloc, selectors)?)),
+        ReplyBody::Selectors(selectors) => Ok(BodyForm::Plain(new_selectors_value(
+            alloc, selectors,
+        )?)),
         ReplyBody::Rule(rule) => Ok(BodyForm::Plain(new_rule_value(alloc, rule)?)),
         ReplyBody::Matched(matched) => Ok(BodyForm::Plain(matched_value(alloc, matched)?)),
     }
