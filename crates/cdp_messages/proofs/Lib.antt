@@ -12,6 +12,7 @@ pub mod NewsLaws
 mod Rules
 pub mod TellableLaws
 pub mod TextsUtf8
+mod TokenLists
 mod TreesRead
 mod Written
 pub mod ZeroFree

@@ -9,26 +9,17 @@ use Rattle.cdp_messages.specs.Told.{Told, hold_of, told_tree}
 use Rattle.cdp_messages.specs.NodeObject.{node_fields, only_if, node_members, object_with}
 use Rattle.cdp_messages.specs.NodeData.{tree_items, tree_data}
 
--- an object is as its values are
-pub same_members : {a a' c c' k k' p p' : Option Data} {s s' l l' i i' n n' t t' v v' : Data} → a ≡ a' → s ≡ s' → c ≡ c' → k ≡ k' → l ≡ l' → i ≡ i' → n ≡ n' → t ≡ t' → v ≡ v' → p ≡ p'
-    → node_members a s c k l i n t v p ≡ node_members a' s' c' k' l' i' n' t' v' p'
-same_members a s c k l i n t v p = λ x. node_members (a x) (s x) (c x) (k x) (l x) (i x) (n x) (t x) (v x) (p x)
-
-pub tree_items-nodes_of : (bs : List (Branch Told)) → items_of (map tree_data bs) ≡ tree_items (nodes_of bs)
-tree_items-nodes_of [] = refl
-tree_items-nodes_of (b ∷ bs) = ap (item (tree_data b)) (tree_items-nodes_of bs)
-
 hidden : {A : Type 0} (container : Bool) (count : ℕ) (x : A) → None ≡ only_if (is_opened (hold_of false container count)) x
 hidden true count x = refl
 hidden false count x = refl
 
 abbrev pub written_items : Vec (Branch Told) Global → Items
-written_items ts = items_of (map tree_data ts.items)
+written_items ts = tree_items (nodes_of ts.items)
 
 written_at : (parent count id serial : ℕ) (label : Label) (o : Option (Vec (Branch Told) Global))
     → node_fields.spell (object_with (told_tree parent count id serial label o).row (option_map written_items o)) ≡ tree_data (told_tree parent count id serial label o)
 written_at parent count id serial label None = ap (λ k. node_fields.spell (object_with (told_tree parent count id serial label None).row k)) (hidden (holds label.kind) count _)
-written_at parent count id serial label (Some ts) = ap (λ ds. node_fields.spell (object_with (told_tree parent count id serial label (Some ts)).row (Some ds))) (tree_items-nodes_of ts.items)
+written_at parent count id serial label (Some ts) = refl
 
 pub tree_written : (parent count id serial : ℕ) (label : Label) (o : Option (Vec (Branch Told) Global)) (b : Branch Told) (list : Option Items)
     → told_tree parent count id serial label o ≡ b → list ≡ option_map written_items o → node_fields.spell (object_with b.row list) ≡ tree_data b

@@ -1,6 +1,8 @@
 pub mod Told
 pub mod NodeObject
 pub mod NodeData
+pub mod Tokens
+pub mod Forms
 pub mod JsonCode
 pub mod Methods
 pub mod Refusals

@@ -1,19 +1,26 @@
 // Writing what the back end tells unasked.
-ghost use Rattle.std.specs.Prelude.{◌≡◌, ◌++◌, IfOk, OnOk, OnErr, IsUtf8};
+ghost use Rattle.std.specs.Prelude.{◌≡◌, ◌++◌, [], ◌∷◌, Some, codes, IfOk, OnOk, OnErr, IsUtf8, false};
+ghost use Rattle.json.specs.Token.{begin_object, key};
 ghost use Rattle.serde_json.specs.View.{view};
+ghost use Rattle.serde_json.specs.Written.{compact_text};
+ghost use Rattle.cdp_json.specs.Kinds.{text};
 ghost use Rattle.node_tree.specs.Nodes.{nodes_of};
 ghost use Rattle.cdp_messages.specs.Answers.{ended};
-ghost use Rattle.cdp_messages.specs.Events.{news_of, watch as watched, event_name, envelope, modified_kind, dropped_kind, data_kind, count_kind, inserted_kind, removed_kind, nodes_kind, children_kind, added_kind, sheet_id_kind, pause_kind, paused_kind, news_data};
+ghost use Rattle.cdp_messages.specs.Events.{news_of, set_children, inserted, watch as watched, event_name, envelope, modified_kind, dropped_kind, data_kind, count_kind, inserted_kind, removed_kind, children_kind, added_kind, sheet_id_kind, pause_kind, paused_kind, news_data};
 ghost use Rattle.cdp_messages.specs.Replies.{event_text};
+ghost use Rattle.cdp_messages.specs.Tokens.{data_tokens, field_tokens};
+ghost use Rattle.cdp_messages.specs.Forms.{event_said};
 
 use crate::command::WatchWord;
 use crate::down::{Event, PauseData};
 use crate::event_names::EventName;
-use crate::node_write::{node_value, node_values};
+use crate::node_write::{write_node, write_nodes};
+use crate::token_write::{begin_frame, end_frame, text_field, whole_field};
 use crate::tree::NodeTree;
 use crate::write::append;
 use cdp_json::object;
 use css_objects::{Header, header_value, sheet_value};
+use json::Writer;
 use node_tree::Text;
 use serde_json::{Map, Value};
 use std::alloc::{AllocError, Global};
@@ -60,47 +67,12 @@ fn count_value(alloc: Global, node: u64, count: u64) -> Result<Value, AllocError
     object(alloc, fields)
 }
 
-fn inserted_value(
-    alloc: Global,
-    parent: u64,
-    previous: u64,
-    node: &NodeTree,
-) -> Result<Value, AllocError>
-    ensures { IfOk result (λ v. view v ≡ inserted_kind.spell (node.now, (parent, (previous, tt)))) }
-{
-    let node = node_value(alloc, node)?;
-    let fields = vec![in alloc;
-        ("node", Some(node)),
-        ("parentNodeId", Some(Value::from(parent))),
-        ("previousNodeId", Some(Value::from(previous))),
-    ]?;
-    object(alloc, fields)
-}
-
 fn removed_value(alloc: Global, parent: u64, node: u64) -> Result<Value, AllocError>
     ensures { IfOk result (λ v. view v ≡ removed_kind.spell (node, (parent, tt))) }
 {
     let fields = vec![in alloc;
         ("nodeId", Some(Value::from(node))),
         ("parentNodeId", Some(Value::from(parent))),
-    ]?;
-    object(alloc, fields)
-}
-
-fn nodes_value(alloc: Global, nodes: &Vec<NodeTree>) -> Result<Value, AllocError>
-    ensures { IfOk result (λ v. view v ≡ nodes_kind.spell (nodes_of nodes.now.items)) }
-{
-    let list = node_values(alloc, nodes)?;
-    Ok(Value::Array(list))
-}
-
-fn children_value(alloc: Global, parent: u64, nodes: &Vec<NodeTree>) -> Result<Value, AllocError>
-    ensures { IfOk result (λ v. view v ≡ children_kind.spell (nodes_of nodes.now.items, (parent, tt))) }
-{
-    let nodes = nodes_value(alloc, nodes)?;
-    let fields = vec![in alloc;
-        ("nodes", Some(nodes)),
-        ("parentId", Some(Value::from(parent))),
     ]?;
     object(alloc, fields)
 }
@@ -186,61 +158,208 @@ fn envelope_value(alloc: Global, name: EventName, params: Value) -> Result<Value
     object(alloc, fields)
 }
 
-fn event_value(alloc: Global, event: &Event) -> Result<Value, AllocError>
-    ensures { IfOk result (λ v. view v ≡ news_data (news_of event.now)) }
+// An event of that method, up to its parameters.
+fn write_method(out: &mut Writer, name: EventName) -> Result<(), AllocError>
+    ensures ok { OnOk result (out.new.tokens ≡ out.old.tokens
+        ++ begin_object ∷ (field_tokens (codes "method") (Some (text.spell (event_name name)))
+        ++ key (codes "params") ∷ [])) }
+    ensures before { out.new.before ≡ out.old.before }
+{
+    out.begin_object()?;
+    text_field(out, "method", name.as_str())?;
+    out.key("params")?;
+    Ok(())
+}
+
+// The parameters of `DOM.setChildNodes`.
+fn write_children(
+    alloc: Global,
+    out: &mut Writer,
+    parent: u64,
+    nodes: &Vec<NodeTree>,
+) -> Result<(), AllocError>
+    ensures ok { OnOk result (out.new.tokens ≡ out.old.tokens
+        ++ data_tokens (children_kind.spell (nodes_of nodes.now.items, (parent, tt)))) }
+    ensures before { out.new.before ≡ out.old.before }
+{
+    out.begin_object()?;
+    out.key("nodes")?;
+    write_nodes(alloc, out, nodes)?;
+    whole_field(out, "parentId", parent)?;
+    out.end_object()?;
+    Ok(())
+}
+
+fn write_children_event(
+    alloc: Global,
+    out: &mut Writer,
+    parent: u64,
+    nodes: &Vec<NodeTree>,
+) -> Result<(), AllocError>
+    ensures ok { OnOk result (out.new.tokens ≡ out.old.tokens
+        ++ data_tokens (news_data (set_children parent (nodes_of nodes.now.items)))) }
+    ensures before { out.new.before ≡ out.old.before }
+{
+    write_method(out, EventName::SetChildNodes)?;
+    write_children(alloc, out, parent, nodes)?;
+    out.end_object()?;
+    Ok(())
+}
+
+fn append_children(
+    alloc: Global,
+    parent: u64,
+    nodes: &Vec<NodeTree>,
+    out: &mut Vec<u8>,
+) -> Result<(), AllocError>
+    ensures ok { OnOk result (out.new.items ≡ out.old.items
+        ++ ended (event_text (set_children parent (nodes_of nodes.now.items)))) }
+    ensures utf8 { OnOk result (IsUtf8 (event_text (set_children parent (nodes_of nodes.now.items)))) }
+    ensures err { OnErr result (out.new.items ≡ out.old.items) }
+{
+    let (mut writer, start) = begin_frame(alloc, out);
+    let written = write_children_event(alloc, &mut writer, parent, nodes);
+    end_frame(writer, start, written, out)
+}
+
+// The parameters of `DOM.childNodeInserted`.
+fn write_inserted(
+    alloc: Global,
+    out: &mut Writer,
+    parent: u64,
+    previous: u64,
+    node: &NodeTree,
+) -> Result<(), AllocError>
+    ensures ok { OnOk result (out.new.tokens ≡ out.old.tokens
+        ++ data_tokens (inserted_kind.spell (node.now, (parent, (previous, tt))))) }
+    ensures before { out.new.before ≡ out.old.before }
+{
+    out.begin_object()?;
+    out.key("node")?;
+    write_node(alloc, out, node)?;
+    whole_field(out, "parentNodeId", parent)?;
+    whole_field(out, "previousNodeId", previous)?;
+    out.end_object()?;
+    Ok(())
+}
+
+fn write_inserted_event(
+    alloc: Global,
+    out: &mut Writer,
+    parent: u64,
+    previous: u64,
+    node: &NodeTree,
+) -> Result<(), AllocError>
+    ensures ok { OnOk result (out.new.tokens ≡ out.old.tokens
+        ++ data_tokens (news_data (inserted parent previous node.now))) }
+    ensures before { out.new.before ≡ out.old.before }
+{
+    write_method(out, EventName::ChildNodeInserted)?;
+    write_inserted(alloc, out, parent, previous, node)?;
+    out.end_object()?;
+    Ok(())
+}
+
+fn append_inserted(
+    alloc: Global,
+    parent: u64,
+    previous: u64,
+    node: &NodeTree,
+    out: &mut Vec<u8>,
+) -> Result<(), AllocError>
+    ensures ok { OnOk result (out.new.items ≡ out.old.items
+        ++ ended (event_text (inserted parent previous node.now))) }
+    ensures utf8 { OnOk result (IsUtf8 (event_text (inserted parent previous node.now))) }
+    ensures err { OnErr result (out.new.items ≡ out.old.items) }
+{
+    let (mut writer, start) = begin_frame(alloc, out);
+    let written = write_inserted_event(alloc, &mut writer, parent, previous, node);
+    end_frame(writer, start, written, out)
+}
+
+// An event as it is to be written.
+#[derive(Drop)]
+pub(crate) enum EventForm<'a> {
+    Plain(Value),
+    Inserted {
+        parent: u64,
+        previous: u64,
+        node: &'a NodeTree,
+    },
+    Children {
+        parent: u64,
+        nodes: &'a Vec<NodeTree>,
+    },
+}
+
+// An event of that method with these parameters.
+fn plain_form<'a>(
+    alloc: Global,
+    name: EventName,
+    params: Value,
+) -> Result<EventForm<'a>, AllocError>
+    ensures { IfOk result (λ form. event_said form ≡ envelope.spell (event_name name, (view params, tt))) }
+{
+    let value = envelope_value(alloc, name, params)?;
+    Ok(EventForm::Plain(value))
+}
+
+fn event_form(alloc: Global, event: &Event) -> Result<EventForm<'_>, AllocError>
+    ensures { IfOk result (λ form. event_said form ≡ news_data (news_of event.now)) }
 {
     match event {
         Event::AttributeModified { node, name, value } => {
             let params = modified_value(alloc, *node, name, value)?;
-            envelope_value(alloc, EventName::AttributeModified, params)
+            plain_form(alloc, EventName::AttributeModified, params)
         }
         Event::AttributeRemoved { node, name } => {
             let params = dropped_value(alloc, *node, name)?;
-            envelope_value(alloc, EventName::AttributeRemoved, params)
+            plain_form(alloc, EventName::AttributeRemoved, params)
         }
         Event::CharacterDataModified { node, text } => {
             let params = data_value(alloc, *node, text)?;
-            envelope_value(alloc, EventName::CharacterDataModified, params)
+            plain_form(alloc, EventName::CharacterDataModified, params)
         }
         Event::ChildNodeCountUpdated { node, count } => {
             let params = count_value(alloc, *node, *count)?;
-            envelope_value(alloc, EventName::ChildNodeCountUpdated, params)
+            plain_form(alloc, EventName::ChildNodeCountUpdated, params)
         }
         Event::ChildNodeInserted {
             parent,
             previous,
             node,
-        } => {
-            let params = inserted_value(alloc, *parent, *previous, node)?;
-            envelope_value(alloc, EventName::ChildNodeInserted, params)
-        }
+        } => Ok(EventForm::Inserted {
+            parent: *parent,
+            previous: *previous,
+            node,
+        }),
         Event::ChildNodeRemoved { parent, node } => {
             let params = removed_value(alloc, *parent, *node)?;
-            envelope_value(alloc, EventName::ChildNodeRemoved, params)
+            plain_form(alloc, EventName::ChildNodeRemoved, params)
         }
-        Event::SetChildNodes { parent, nodes } => {
-            let params = children_value(alloc, *parent, nodes)?;
-            envelope_value(alloc, EventName::SetChildNodes, params)
-        }
+        Event::SetChildNodes { parent, nodes } => Ok(EventForm::Children {
+            parent: *parent,
+            nodes,
+        }),
         Event::DocumentUpdated => {
             let params = Value::Object(Map::new(alloc));
-            envelope_value(alloc, EventName::DocumentUpdated, params)
+            plain_form(alloc, EventName::DocumentUpdated, params)
         }
         Event::StyleSheetAdded { header } => {
             let params = added_value(alloc, *header)?;
-            envelope_value(alloc, EventName::StyleSheetAdded, params)
+            plain_form(alloc, EventName::StyleSheetAdded, params)
         }
         Event::StyleSheetChanged { sheet } => {
             let params = sheet_id_value(alloc, *sheet)?;
-            envelope_value(alloc, EventName::StyleSheetChanged, params)
+            plain_form(alloc, EventName::StyleSheetChanged, params)
         }
         Event::StyleSheetRemoved { sheet } => {
             let params = sheet_id_value(alloc, *sheet)?;
-            envelope_value(alloc, EventName::StyleSheetRemoved, params)
+            plain_form(alloc, EventName::StyleSheetRemoved, params)
         }
         Event::Paused(pause) => {
             let params = paused_value(alloc, *pause)?;
-            envelope_value(alloc, EventName::Paused, params)
+            plain_form(alloc, EventName::Paused, params)
         }
     }
 }
@@ -251,6 +370,17 @@ pub fn write_event(alloc: Global, event: &Event, out: &mut Vec<u8>) -> Result<()
     ensures utf8 { OnOk result (IsUtf8 (event_text (news_of event.now))) }
     ensures err { OnErr result (out.new.items ≡ out.old.items) }
 {
-    let value = event_value(alloc, event)?;
-    append(alloc, &value, out)
+    let form = match event_form(alloc, event) {
+        Ok(form) => form,
+        Err(error) => return Err(error),
+    };
+    match form {
+        EventForm::Plain(value) => append(alloc, &value, out),
+        EventForm::Inserted {
+            parent,
+            previous,
+            node,
+        } => append_inserted(alloc, parent, previous, node, out),
+        EventForm::Children { parent, nodes } => append_children(alloc, parent, nodes, out),
+    }
 }

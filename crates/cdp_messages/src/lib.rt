@@ -21,9 +21,10 @@ mod parameters;
 mod read;
 mod read_by;
 mod receive;
+mod reply_write;
 mod result_forms;
 mod result_read;
-mod result_write;
+mod token_write;
 mod tree;
 mod write;
 
@@ -44,9 +45,10 @@ pub use node_tree::{Attributes, Kind, Kind as NodeType, Text};
 pub use numbers::Numbers;
 pub use read::{read_ask, read_command};
 pub use receive::read_down;
+pub use reply_write::write_reply;
 pub use result_read::read_result;
 pub use tree::NodeTree;
-pub use write::{write_command, write_refused, write_reply};
+pub use write::{write_command, write_refused};
 
 #[cfg(test)]
 mod tests;

@@ -1,31 +1,19 @@
-// A tree of nodes as a JSON value.
-ghost use Rattle.std.specs.Prelude.{◌≡◌, IfOk, map, nat_lt, option_map, string_bytes};
+// A tree of nodes as the tokens of its text, with no JSON values in between.
+ghost use Rattle.std.specs.Prelude.{◌≡◌, ◌++◌, IfOk, OnOk, nat_lt, codes, option_map, string_bytes, Some};
 ghost use Rattle.std.specs.Str.{str_to_ascii_uppercase};
-ghost use Rattle.serde_json.specs.Data.{array, string};
-ghost use Rattle.serde_json.specs.View.{view, items_of};
-ghost use Rattle.cdp_json.specs.Kinds.{whole};
+ghost use Rattle.cdp_json.specs.Kinds.{whole, text};
 ghost use Rattle.node_tree.specs.Labels.{is_element, holds};
-ghost use Rattle.cdp_messages.specs.NodeObject.{attribute_list, node_type, name_shown, local_name_of, node_name, local_name, only_if, node_members, object_with, node_fields};
+ghost use Rattle.node_tree.specs.Nodes.{nodes_of};
+ghost use Rattle.cdp_messages.specs.NodeObject.{attribute_list, node_type, type_number, name_shown, local_name_of, only_if};
 ghost use Rattle.cdp_messages.specs.NodeData.{tree_data};
+ghost use Rattle.cdp_messages.specs.Events.{nodes_kind};
+ghost use Rattle.cdp_messages.specs.Tokens.{data_tokens, field_tokens, head_tokens, tail_tokens};
 
+use crate::token_write::{text_field, whole_field};
 use crate::tree::NodeTree;
-use cdp_json::object;
+use json::Writer;
 use node_tree::{Attributes, Kind};
-use serde_json::Value;
 use std::alloc::{AllocError, Global};
-
-// Names and values in turn.
-pub(crate) fn attributes_value(alloc: Global, attributes: &Attributes) -> Result<Value, AllocError>
-    ensures { IfOk result (λ v. view v ≡ attribute_list.spell attributes.now) }
-{
-    let mut list = Vec::new(alloc);
-    let pairs = attributes.as_slice();
-    for pair in pairs {
-        list.push(Value::try_from_str(alloc, pair.0.as_str())?)?;
-        list.push(Value::try_from_str(alloc, pair.1.as_str())?)?;
-    }
-    Ok(Value::Array(list))
-}
 
 pub(crate) fn is_container(kind: Kind) -> bool
     ensures { result ≡ holds kind }
@@ -46,15 +34,15 @@ pub(crate) fn is_element(kind: Kind) -> bool
 }
 
 // The number of a node's type (DOM, section 4.4).
-fn type_value(kind: Kind) -> Value
-    ensures { view result ≡ node_type.spell kind }
+fn type_number(kind: Kind) -> u64
+    ensures { result ≡ type_number kind }
 {
     match kind {
-        Kind::Element => Value::from(1u64),
-        Kind::Text => Value::from(3u64),
-        Kind::Comment => Value::from(8u64),
-        Kind::Document => Value::from(9u64),
-        Kind::Doctype => Value::from(10u64),
+        Kind::Element => 1,
+        Kind::Text => 3,
+        Kind::Comment => 8,
+        Kind::Document => 9,
+        Kind::Doctype => 10,
     }
 }
 
@@ -86,145 +74,134 @@ pub(crate) fn local_name(kind: Kind, name: &str) -> &str
     if is_element(kind) { name } else { "" }
 }
 
-fn attributes_field(
-    alloc: Global,
-    kind: Kind,
-    attributes: &Attributes,
-) -> Result<Option<Value>, AllocError>
-    ensures { IfOk result (λ o. option_map view o
-        ≡ option_map attribute_list.spell (only_if (is_element kind) attributes.now)) }
+// Names and values in turn.
+fn write_attributes(out: &mut Writer, attributes: &Attributes) -> Result<(), AllocError>
+    ensures ok { OnOk result (out.new.tokens ≡ out.old.tokens
+        ++ data_tokens (attribute_list.spell attributes.now)) }
+    ensures before { out.new.before ≡ out.old.before }
+{
+    out.begin_array()?;
+    let pairs = attributes.as_slice();
+    for pair in pairs {
+        out.string(pair.0.as_str())?;
+        out.string(pair.1.as_str())?;
+    }
+    out.end_array()?;
+    Ok(())
+}
+
+fn attributes_field(out: &mut Writer, kind: Kind, attributes: &Attributes) -> Result<(), AllocError>
+    ensures ok { OnOk result (out.new.tokens ≡ out.old.tokens ++ field_tokens (codes "attributes")
+        (option_map attribute_list.spell (only_if (is_element kind) attributes.now))) }
+    ensures before { out.new.before ≡ out.old.before }
 {
     if is_element(kind) {
-        return Ok(Some(attributes_value(alloc, attributes)?));
+        out.key("attributes")?;
+        write_attributes(out, attributes)
+    } else {
+        Ok(())
     }
-    Ok(None)
 }
 
-fn count_field(kind: Kind, count: u64) -> Option<Value>
-    ensures { option_map view result ≡ option_map whole.spell (only_if (holds kind) count) }
+fn count_field(out: &mut Writer, kind: Kind, count: u64) -> Result<(), AllocError>
+    ensures ok { OnOk result (out.new.tokens ≡ out.old.tokens ++ field_tokens (codes "childNodeCount")
+        (option_map whole.spell (only_if (holds kind) count))) }
+    ensures before { out.new.before ≡ out.old.before }
 {
     if is_container(kind) {
-        Some(Value::from(count))
+        whole_field(out, "childNodeCount", count)
     } else {
-        None
+        Ok(())
     }
 }
 
-fn parent_field(parent: u64) -> Option<Value>
-    ensures { option_map view result ≡ option_map whole.spell (only_if (nat_lt 0 parent) parent) }
+fn parent_field(out: &mut Writer, parent: u64) -> Result<(), AllocError>
+    ensures ok { OnOk result (out.new.tokens ≡ out.old.tokens ++ field_tokens (codes "parentId")
+        (option_map whole.spell (only_if (nat_lt 0 parent) parent))) }
+    ensures before { out.new.before ≡ out.old.before }
 {
     if parent > 0 {
-        Some(Value::from(parent))
+        whole_field(out, "parentId", parent)
     } else {
-        None
+        Ok(())
     }
 }
 
-// The values of a node's fields, but for its attributes, its children and its numbers.
-#[derive(Drop)]
-struct Texts {
-    local_name: Value,
-    name: Value,
-    kind: Value,
-    value: Value,
-}
-
-fn texts_of(alloc: Global, tree: &NodeTree) -> Result<Texts, AllocError>
-    ensures local_name { IfOk result (λ texts. view texts.local_name
-        ≡ string (local_name tree.now.row.seen.label)) }
-    ensures name { IfOk result (λ texts. view texts.name ≡ string (node_name tree.now.row.seen.label)) }
-    ensures kind { IfOk result (λ texts. view texts.kind ≡ node_type.spell tree.now.row.seen.label.kind) }
-    ensures value { IfOk result (λ texts. view texts.value ≡ string tree.now.row.seen.label.value) }
+// The name that is shown of a node.
+fn name_field(alloc: Global, out: &mut Writer, kind: Kind, name: &str) -> Result<(), AllocError>
+    ensures ok { OnOk result (out.new.tokens ≡ out.old.tokens ++ field_tokens (codes "nodeName")
+        (Some (text.spell (name_shown kind name.now)))) }
+    ensures before { out.new.before ≡ out.old.before }
 {
-    Ok(Texts {
-        local_name: Value::try_from_str(alloc, local_name(tree.kind, tree.name.as_str()))?,
-        name: Value::String(node_name(alloc, tree.kind, tree.name.as_str())?),
-        kind: type_value(tree.kind),
-        value: Value::try_from_str(alloc, tree.value.as_str())?,
-    })
+    let shown = node_name(alloc, kind, name)?;
+    text_field(out, "nodeName", shown.as_str())
 }
 
-// A node's object, by the values of its fields.
-fn fields_value(
-    alloc: Global,
-    tree: &NodeTree,
-    attributes: Option<Value>,
-    children: Option<Value>,
-    texts: Texts,
-) -> Result<Value, AllocError>
-    ensures { IfOk result (λ v. view v ≡ node_members (option_map view attributes)
-        (whole.spell tree.now.row.seen.serial)
-        (option_map whole.spell (only_if (holds tree.now.row.seen.label.kind) tree.now.row.count))
-        (option_map view children) (view texts.local_name) (whole.spell tree.now.row.seen.id)
-        (view texts.name) (view texts.kind) (view texts.value)
-        (option_map whole.spell (only_if (nat_lt 0 tree.now.row.parent) tree.now.row.parent))) }
+// A node's object, up to its children.
+fn write_head(out: &mut Writer, tree: &NodeTree) -> Result<(), AllocError>
+    ensures ok { OnOk result (out.new.tokens ≡ out.old.tokens ++ head_tokens tree.now.row) }
+    ensures before { out.new.before ≡ out.old.before }
 {
-    let count = count_field(tree.kind, tree.count);
-    let parent = parent_field(tree.parent);
-    let fields = vec![in alloc;
-        ("attributes", attributes),
-        ("backendNodeId", Some(Value::from(tree.serial))),
-        ("childNodeCount", count),
-        ("children", children),
-        ("localName", Some(texts.local_name)),
-        ("nodeId", Some(Value::from(tree.id))),
-        ("nodeName", Some(texts.name)),
-        ("nodeType", Some(texts.kind)),
-        ("nodeValue", Some(texts.value)),
-        ("parentId", parent),
-    ]?;
-    object(alloc, fields)
+    out.begin_object()?;
+    attributes_field(out, tree.kind, &tree.attributes)?;
+    whole_field(out, "backendNodeId", tree.serial)?;
+    count_field(out, tree.kind, tree.count)?;
+    Ok(())
 }
 
-// A node's object, with these children.
-fn row_value(
-    alloc: Global,
-    tree: &NodeTree,
-    children: Option<Vec<Value>>,
-) -> Result<Value, AllocError>
-    ensures { IfOk result (λ v. view v ≡ node_fields.spell
-        (object_with tree.now.row (option_map (λ list. items_of (map view list.items)) children))) }
+// A node's object, behind its children.
+fn write_tail(alloc: Global, out: &mut Writer, tree: &NodeTree) -> Result<(), AllocError>
+    ensures ok { OnOk result (out.new.tokens ≡ out.old.tokens ++ tail_tokens tree.now.row) }
+    ensures before { out.new.before ≡ out.old.before }
 {
-    let attributes = attributes_field(alloc, tree.kind, &tree.attributes)?;
-    let texts = texts_of(alloc, tree)?;
-    let value = fields_value(alloc, tree, attributes, list_field(children), texts)?;
-    Ok(value)
+    let name = tree.name.as_str();
+    text_field(out, "localName", local_name(tree.kind, name))?;
+    whole_field(out, "nodeId", tree.id)?;
+    name_field(alloc, out, tree.kind, name)?;
+    whole_field(out, "nodeType", type_number(tree.kind))?;
+    text_field(out, "nodeValue", tree.value.as_str())?;
+    parent_field(out, tree.parent)?;
+    out.end_object()?;
+    Ok(())
 }
 
-fn list_field(list: Option<Vec<Value>>) -> Option<Value>
-    ensures { option_map view result
-        ≡ option_map array (option_map (λ list. items_of (map view list.items)) list) }
-{
-    match list {
-        Some(list) => Some(Value::Array(list)),
-        None => None,
-    }
-}
-
-#[cycle(node_value)]
-pub(crate) fn node_value(alloc: Global, tree: &NodeTree) -> Result<Value, AllocError>
-    ensures { IfOk result (λ v. view v ≡ tree_data tree.now) }
+/// A node with all that is shown below it.
+#[cycle(write_node)]
+pub(crate) fn write_node(alloc: Global, out: &mut Writer, tree: &NodeTree) -> Result<(), AllocError>
+    ensures ok { OnOk result (out.new.tokens ≡ out.old.tokens ++ data_tokens (tree_data tree.now)) }
+    ensures before { out.new.before ≡ out.old.before }
 {
     match &tree.children {
         Some(trees) => {
-            let list = node_values(alloc, trees)?;
-            let value = row_value(alloc, tree, Some(list))?;
-            Ok(value)
+            write_head(out, tree)?;
+            out.key("children")?;
+            write_nodes(alloc, out, trees)?;
+            write_tail(alloc, out, tree)?;
+            Ok(())
         }
         None => {
-            let value = row_value(alloc, tree, None)?;
-            Ok(value)
+            write_head(out, tree)?;
+            write_tail(alloc, out, tree)?;
+            Ok(())
         }
     }
 }
 
-#[cycle(node_value)]
-pub(crate) fn node_values(alloc: Global, trees: &Vec<NodeTree>) -> Result<Vec<Value>, AllocError>
-    ensures { IfOk result (λ list. map view list.items ≡ map tree_data trees.now.items) }
+/// Nodes side by side, as an array.
+#[cycle(write_node)]
+pub(crate) fn write_nodes(
+    alloc: Global,
+    out: &mut Writer,
+    trees: &Vec<NodeTree>,
+) -> Result<(), AllocError>
+    ensures ok { OnOk result (out.new.tokens ≡ out.old.tokens
+        ++ data_tokens (nodes_kind.spell (nodes_of trees.now.items))) }
+    ensures before { out.new.before ≡ out.old.before }
 {
-    let mut list = Vec::with_capacity(alloc, trees.len())?;
+    out.begin_array()?;
     for tree in trees {
-        list.push(node_value(alloc, tree)?)?;
+        write_node(alloc, out, tree)?;
     }
-    Ok(list)
+    out.end_array()?;
+    Ok(())
 }

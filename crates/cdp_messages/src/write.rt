@@ -4,12 +4,10 @@ ghost use Rattle.serde_json.specs.View.{view};
 ghost use Rattle.serde_json.specs.Written.{compact_text, has_float};
 ghost use Rattle.cdp_messages.specs.Refusals.{param_name, code_of, said_first, said_of_param, text_of};
 ghost use Rattle.cdp_messages.specs.Asked.{command_value, command_text, is_whole_where_there};
-ghost use Rattle.cdp_messages.specs.Replies.{error_kind, reply, fault, message_data, reply_text, refused_text};
+ghost use Rattle.cdp_messages.specs.Replies.{error_kind, fault, message_data, refused_text};
 ghost use Rattle.cdp_messages.specs.Answers.{ended};
 
 use crate::command::{Param, Refused, Why};
-use crate::down::ReplyBody;
-use crate::result_write::body_value;
 use cdp_json::object;
 use serde_json::Value;
 use std::alloc::{AllocError, Global};
@@ -255,28 +253,5 @@ pub fn write_refused(alloc: Global, refused: &Refused, out: &mut Vec<u8>) -> Res
 {
     let text = text_of(alloc, refused.why)?;
     let value = fault_value(alloc, refused.id, code_of(refused.why), text)?;
-    append(alloc, &value, out)
-}
-
-fn reply_value(alloc: Global, id: u64, body: Value) -> Result<Value, AllocError>
-    ensures { IfOk result (λ v. view v ≡ message_data (reply id (view body))) }
-{
-    let fields = vec![in alloc; ("id", Some(Value::from(id))), ("result", Some(body))]?;
-    object(alloc, fields)
-}
-
-/// Appends a reply as one frame, with its zero byte.
-pub fn write_reply(
-    alloc: Global,
-    id: u64,
-    body: &ReplyBody,
-    out: &mut Vec<u8>,
-) -> Result<(), AllocError>
-    ensures ok { OnOk result (out.new.items ≡ out.old.items ++ ended (reply_text id body.now)) }
-    ensures utf8 { OnOk result (IsUtf8 (reply_text id body.now)) }
-    ensures err { OnErr result (out.new.items ≡ out.old.items) }
-{
-    let body = body_value(alloc, body)?;
-    let value = reply_value(alloc, id, body)?;
     append(alloc, &value, out)
 }

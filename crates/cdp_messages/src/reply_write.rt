@@ -1,0 +1,196 @@
+// Writing replies.
+ghost use Rattle.std.specs.Prelude.{◌≡◌, ◌++◌, map, IfOk, OnOk, OnErr, IsUtf8, false};
+ghost use Rattle.serde_json.specs.Data.{string, object as object_data, no_members, member};
+ghost use Rattle.serde_json.specs.View.{view, items_of};
+ghost use Rattle.serde_json.specs.Written.{compact_text, has_float};
+ghost use Rattle.cdp_messages.specs.NodeObject.{attribute_list};
+ghost use Rattle.cdp_messages.specs.NodeData.{tree_data};
+ghost use Rattle.cdp_messages.specs.Results.{id_kind, ids_kind, attributes_kind};
+ghost use Rattle.cdp_messages.specs.Replies.{reply, message_data, body_data, reply_text};
+ghost use Rattle.cdp_messages.specs.Answers.{ended};
+ghost use Rattle.cdp_messages.specs.Tokens.{data_tokens};
+ghost use Rattle.cdp_messages.specs.Forms.{body_said};
+
+use crate::down::ReplyBody;
+use crate::node_write::write_node;
+use crate::numbers::Numbers;
+use crate::token_write::{begin_frame, end_frame, whole_field};
+use crate::tree::NodeTree;
+use crate::write::append;
+use cdp_json::{object, whole_list};
+use css_objects::{
+    class_names_value, matched_value, new_rule_value, new_selectors_value, sheet_text_value,
+    styles_value,
+};
+use json::Writer;
+use node_tree::Attributes;
+use serde_json::{Map, Value};
+use std::alloc::{AllocError, Global};
+
+// Names and values in turn.
+fn attributes_value(alloc: Global, attributes: &Attributes) -> Result<Value, AllocError>
+    ensures { IfOk result (λ v. view v ≡ attribute_list.spell attributes.now) }
+{
+    let mut list = Vec::new(alloc);
+    let pairs = attributes.as_slice();
+    for pair in pairs {
+        list.push(Value::try_from_str(alloc, pair.0.as_str())?)?;
+        list.push(Value::try_from_str(alloc, pair.1.as_str())?)?;
+    }
+    Ok(Value::Array(list))
+}
+
+fn ids_value(alloc: Global, ids: &Numbers) -> Result<Value, AllocError>
+    ensures { IfOk result (λ v. view v ≡ ids_kind.spell (ids.now, tt)) }
+{
+    let list = whole_list(alloc, ids.as_slice())?;
+    let fields = vec![in alloc; ("nodeIds", Some(list))]?;
+    object(alloc, fields)
+}
+
+fn attributes_body(alloc: Global, attributes: &Attributes) -> Result<Value, AllocError>
+    ensures { IfOk result (λ v. view v ≡ attributes_kind.spell (attributes.now, tt)) }
+{
+    let list = attributes_value(alloc, attributes)?;
+    let fields = vec![in alloc; ("attributes", Some(list))]?;
+    object(alloc, fields)
+}
+
+fn id_value(alloc: Global, id: u64) -> Result<Value, AllocError>
+    ensures { IfOk result (λ v. view v ≡ id_kind.spell (id, tt)) }
+{
+    let fields = vec![in alloc; ("nodeId", Some(Value::from(id)))]?;
+    object(alloc, fields)
+}
+
+// A reply whose result is one node, under this name.
+fn write_node_reply(
+    alloc: Global,
+    out: &mut Writer,
+    id: u64,
+    name: &str,
+    tree: &NodeTree,
+) -> Result<(), AllocError>
+    ensures ok { OnOk result (out.new.tokens ≡ out.old.tokens
+        ++ data_tokens (message_data (reply id (object_data (member name.now (tree_data tree.now) no_members))))) }
+    ensures before { out.new.before ≡ out.old.before }
+{
+    out.begin_object()?;
+    whole_field(out, "id", id)?;
+    out.key("result")?;
+    write_node_object(alloc, out, name, tree)?;
+    out.end_object()?;
+    Ok(())
+}
+
+// An object with one node, under this name.
+fn write_node_object(
+    alloc: Global,
+    out: &mut Writer,
+    name: &str,
+    tree: &NodeTree,
+) -> Result<(), AllocError>
+    ensures ok { OnOk result (out.new.tokens ≡ out.old.tokens
+        ++ data_tokens (object_data (member name.now (tree_data tree.now) no_members))) }
+    ensures before { out.new.before ≡ out.old.before }
+{
+    out.begin_object()?;
+    out.key(name)?;
+    write_node(alloc, out, tree)?;
+    out.end_object()?;
+    Ok(())
+}
+
+// Appends a reply whose result is one node, under this name.
+fn append_node_reply(
+    alloc: Global,
+    id: u64,
+    name: &str,
+    tree: &NodeTree,
+    out: &mut Vec<u8>,
+) -> Result<(), AllocError>
+    ensures ok { OnOk result (out.new.items ≡ out.old.items ++ ended (compact_text
+        (message_data (reply id (object_data (member name.now (tree_data tree.now) no_members)))))) }
+    ensures utf8 { OnOk result (IsUtf8 (compact_text
+        (message_data (reply id (object_data (member name.now (tree_data tree.now) no_members)))))) }
+    ensures err { OnErr result (out.new.items ≡ out.old.items) }
+{
+    let (mut writer, start) = begin_frame(alloc, out);
+    let written = write_node_reply(alloc, &mut writer, id, name, tree);
+    end_frame(writer, start, written, out)
+}
+
+// A result as it is to be written.
+#[derive(Drop)]
+pub(crate) enum BodyForm<'a> {
+    Plain(Value),
+    Root(&'a NodeTree),
+    Node(&'a NodeTree),
+}
+
+fn body_form(alloc: Global, body: &ReplyBody) -> Result<BodyForm<'_>, AllocError>
+    ensures { IfOk result (λ form. body_said form ≡ body_data body.now) }
+{
+    match body {
+        ReplyBody::Nothing => Ok(BodyForm::Plain(Value::Object(Map::new(alloc)))),
+        ReplyBody::Root(tree) => Ok(BodyForm::Root(tree)),
+        ReplyBody::Node(tree) => Ok(BodyForm::Node(tree)),
+        ReplyBody::NodeId(id) => Ok(BodyForm::Plain(id_value(alloc, *id)?)),
+        ReplyBody::NodeIds(ids) => Ok(BodyForm::Plain(ids_value(alloc, ids)?)),
+        ReplyBody::Attributes(attributes) => Ok(BodyForm::Plain(attributes_body(
+            alloc, attributes,
+        )?)),
+        ReplyBody::ClassNames(names) => Ok(BodyForm::Plain(class_names_value(
+            alloc,
+            names.as_slice(),
+        )?)),
+        ReplyBody::SheetText(text) => Ok(BodyForm::Plain(sheet_text_value(alloc, text)?)),
+        ReplyBody::Styles(styles) => Ok(BodyForm::Plain(styles_value(alloc, styles.as_slice())?)),
+        ReplyBody::Selectors(selectors) => Ok(BodyForm::Plain(new_selectors_value(
+            alloc, selectors,
+        )?)),
+        ReplyBody::Rule(rule) => Ok(BodyForm::Plain(new_rule_value(alloc, rule)?)),
+        ReplyBody::Matched(matched) => Ok(BodyForm::Plain(matched_value(alloc, matched)?)),
+    }
+}
+
+fn reply_value(alloc: Global, id: u64, body: Value) -> Result<Value, AllocError>
+    ensures { IfOk result (λ v. view v ≡ message_data (reply id (view body))) }
+{
+    let fields = vec![in alloc; ("id", Some(Value::from(id))), ("result", Some(body))]?;
+    object(alloc, fields)
+}
+
+// Appends a reply with this result.
+fn append_reply(alloc: Global, id: u64, body: Value, out: &mut Vec<u8>) -> Result<(), AllocError>
+    requires { has_float (message_data (reply id (view body))) ≡ false }
+    ensures ok { OnOk result (out.new.items ≡ out.old.items
+        ++ ended (compact_text (message_data (reply id (view body))))) }
+    ensures utf8 { OnOk result (IsUtf8 (compact_text (message_data (reply id (view body))))) }
+    ensures err { OnErr result (out.new.items ≡ out.old.items) }
+{
+    let value = reply_value(alloc, id, body)?;
+    append(alloc, &value, out)
+}
+
+/// Appends a reply as one frame, with its zero byte.
+pub fn write_reply(
+    alloc: Global,
+    id: u64,
+    body: &ReplyBody,
+    out: &mut Vec<u8>,
+) -> Result<(), AllocError>
+    ensures ok { OnOk result (out.new.items ≡ out.old.items ++ ended (reply_text id body.now)) }
+    ensures utf8 { OnOk result (IsUtf8 (reply_text id body.now)) }
+    ensures err { OnErr result (out.new.items ≡ out.old.items) }
+{
+    let form = match body_form(alloc, body) {
+        Ok(form) => form,
+        Err(error) => return Err(error),
+    };
+    match form {
+        BodyForm::Plain(value) => append_reply(alloc, id, value, out),
+        BodyForm::Root(tree) => append_node_reply(alloc, id, "root", tree, out),
+        BodyForm::Node(tree) => append_node_reply(alloc, id, "node", tree, out),
+    }
+}
