@@ -33,7 +33,7 @@ use Rattle.front_mirror.proofs.BoolLemmas.{and_left, and_right, both}
 
 -- ---- what is refused, and what is taken
 
-known-spot : (id : ℕ) (tree : Nodes Seen) (s : Spot Seen) → spot seen_id id 0 tree ≡ Some s → known_at id tree ≡ s.branch
+pub known-spot : (id : ℕ) (tree : Nodes Seen) (s : Spot Seen) → spot seen_id id 0 tree ≡ Some s → known_at id tree ≡ s.branch
 known-spot id tree s is = ap (λ (o : Option (Branch Seen)). unwrap_or o no_node) (find-spot seen_id id 0 tree ∙ ap (option_map spot_branch) is)
 
 abbrev taken_well : FrontValue → Result FrontValue FrontKind
@@ -301,17 +301,17 @@ module _ {old new : Branch Seen} where
   }
 
 -- what holds where nothing is wrong with a change
-record Clear (v : Nodes Seen) (t : ToldChange) (s : Spot Seen) : Type 0 where
-  suits : suits_change t.change s.branch ≡ true
-  new : (is_unique t.nodes && is_fresh v t.nodes) ≡ true
-  low : stands_low s.level t.nodes ≡ true
+pub record Clear (v : Nodes Seen) (t : ToldChange) (s : Spot Seen) : Type 0 where
+  pub suits : suits_change t.change s.branch ≡ true
+  pub new : (is_unique t.nodes && is_fresh v t.nodes) ≡ true
+  pub low : stands_low s.level t.nodes ≡ true
 
 clear_four : {A : Type 0} (x y z w : A) (p q r s : Bool) → first_true ((x, not p) ∷ (y, not q) ∷ (z, not r) ∷ (w, not s) ∷ []) ≡ None
     → (p ≡ true) × ((q ≡ true) × ((r ≡ true) × (s ≡ true)))
 clear_four x y z w true q r s e = (refl, clear_three y z w q r s e)
 clear_four x y z w false q r s e = cc
 
-clear_change : (v : Nodes Seen) (t : ToldChange) (s : Spot Seen) → change_fault v t s ≡ None → Clear v t s
+pub clear_change : (v : Nodes Seen) (t : ToldChange) (s : Spot Seen) → change_fault v t s ≡ None → Clear v t s
 clear_change v t s e =
     let p = clear_four _ _ _ _ (takes_change t.change s.branch.row && knows_named v t.change) (suits_change t.change s.branch && is_kin t.node t.nodes) (is_unique t.nodes && is_fresh v t.nodes)
     (stands_low s.level t.nodes) e in

@@ -17,3 +17,11 @@ pub mod FollowLemmas
 pub mod SheetLemmas
 pub mod KnownSheets
 pub mod MoveLemmas
+pub mod IdLemmas
+pub mod TableLemmas
+pub mod LookLemmas
+pub mod WalkLemmas
+pub mod NewLemmas
+pub mod TurnLemmas
+pub mod MirrorLemmas
+pub mod EditTableLemmas
