@@ -44,7 +44,7 @@ pub ids-has : (x : ℕ) (n : Nodes Seen) → is_in x (root_ids n) ≡ has_tree x
 ids-has x none = refl
 ids-has x (node r c t) = ap (λ (v : Bool). v || is_in x (root_ids t)) (same_eq x r.id) ∙ ap (λ (v : Bool). (r.id == x) || v) (ids-has x t)
 
-some_there : {A : Type 0} (o : Option A) → is_some o ≡ true → (x : A) × (o ≡ Some x)
+pub some_there : {A : Type 0} (o : Option A) → is_some o ≡ true → (x : A) × (o ≡ Some x)
 some_there None e = absurd (cc)
 some_there (Some x) e = (x, refl)
 

@@ -1,5 +1,5 @@
 -- A table with one node changed.
-use Rattle.std.proofs.Common.{◌≡◌, ◌≢◌, ◌⊎◌, ℕ, suc, ◌+◌, ◌<◌, ◌≤◌, ◌==◌, ◌||◌, Bool, true, false, cond, List, [], ◌∷◌, Option, Some, None, refl, sym, ap, subst, ◌∙◌, inl, inr, arith}
+use Rattle.std.proofs.Common.{◌≡◌, ◌≢◌, ◌⊎◌, ℕ, suc, ◌+◌, ◌<◌, ◌≤◌, ◌==◌, ◌||◌, Bool, true, false, cond, List, [], ◌∷◌, Option, Some, None, IsSome, refl, sym, ap, subst, ◌∙◌, inl, inr, arith}
 use Rattle.std.specs.Ordering.{nat_cmp}
 use Rattle.std.specs.BTreeMap as map
 use Rattle.std.proofs.lemmas.Bool.{eq-eqb, eqb-true, cases_lt, cases_eq}
@@ -15,10 +15,10 @@ use Rattle.cdp_messages.specs.Moves.{put_behind, put_after, without_tree, has_tr
 use Rattle.front_mirror.specs.declared.slots.Slot.{Slot}
 use Rattle.front_mirror.specs.declared.table.Table.{Table}
 use Rattle.front_mirror.specs.IdLists.{id_behind, id_after, without_id}
-use Rattle.front_mirror.specs.Tables.{slot_row, by_id, by_serial, slots_in, ids_in, IsListed, root_ids, planted, listed, without_slots, Puts, HasOwnIds, trees_in, tree_in, IsTable}
+use Rattle.front_mirror.specs.Tables.{slot_row, by_id, by_serial, slots_in, ids_in, IsListed, root_ids, planted, listed, without_slots, Puts, Turned, HasOwnIds, trees_in, tree_in, IsTable}
 use Rattle.front_mirror.proofs.InsertedLemmas.{Inserted, first, later, tally-inserted}
 use Rattle.front_mirror.proofs.TableLemmas.{planted-outside, planted-own, planted-only, planted-keeps, planted-files, AreNew, gone-outside, gone-inside}
-use Rattle.front_mirror.proofs.LookLemmas.{Located, located, keeps-ids}
+use Rattle.front_mirror.proofs.LookLemmas.{Located, located, keeps-ids, some_there}
 
 -- what a table keeps is read from it
 pub tree_is : (t : Table) (roots : List ℕ) (n : Nodes Seen) → IsTable t roots n → height n ≤ most_levels → tree_in t roots ≡ n
@@ -27,6 +27,14 @@ tree_is t roots n table low = kept_trees-keeps by_id (slots_in t) most_levels n 
 
 pub rebuilt : (t : Table) (roots : List ℕ) (n : Nodes Seen) → IsTable t roots n → height n ≤ most_levels → IsTable t roots (tree_in t roots)
 rebuilt t roots n table low = subst (λ (m : Nodes Seen). IsTable t roots m) (sym (tree_is t roots n table low)) table
+
+-- a slot that keeps its serial leaves the serials as they are
+pub listed_turned : (a m : Table) (x : ℕ) (f : Slot → Slot) → IsListed a → IsSome (slots_in a x) → ((s : Slot) → (f s).serial ≡ s.serial) → Turned a m x f → m.ids ≡ a.ids → IsListed m
+listed_turned a m x f files there serials turned same =
+    let (slot, at) = some_there (slots_in a x) there in
+    let puts = turned slot at in
+    subst (λ d. IsFiled by_serial (slots_in m) (map.get nat_cmp d)) (sym same)
+    (files-turn by_serial (slots_in a) (slots_in m) (ids_in a) (ids_in a) x slot (f slot) files (record { before = at; at = puts.at; others = puts.others }) (serials slot))
 
 -- ---- slots of children, one more or one less
 
@@ -273,8 +281,8 @@ module _ (a : Table) (roots : List ℕ) (n : Nodes Seen) (table : IsTable a root
           | inr few ↦ let absent : tally seen_id k (alone w) ≡ 0 = omega arith in (absent, sym (left k absent) ∙ e)
         ]
 
-    b_own : HasOwnIds (slots_in b)
-    b_own k s e = turned_own m slot2 puts ids_are same_id same_serial k s (kept_slot k s e).1
+    less_own : HasOwnIds (slots_in b)
+    less_own k s e = turned_own m slot2 puts ids_are same_id same_serial k s (kept_slot k s e).1
 
     pub table_cut : IsTable b roots (put seen_id x less n)
     table_cut =
@@ -287,7 +295,7 @@ module _ (a : Table) (roots : List ℕ) (n : Nodes Seen) (table : IsTable a root
         let v = within k in
         let o = once k in
         left k (omega arith) ∙ e) kept in
-        changed_table b less files b_own
+        changed_table b less files less_own
         (slot2, left x (let i = split x in let o = own_below in omega arith) ∙ puts.at, same_parent, row_is, subst (λ (ks : List ℕ). Keeps by_id (slots_in b) (without_tree child old.children) (Some x) ks) (sym children_are) kept_b, tt)
         (λ k s e absent. left k (let i = split k in omega arith) ∙ puts.others k (other_slot k absent) ∙ e)
         (λ k s e.
