@@ -109,15 +109,15 @@ module _ (a : Table) (roots : List ℕ) (v : Nodes Seen) (id : ℕ) (table : IsT
   ascends slot e element formed = ap (λ (r : Seen). is_ascending r.label.attributes) (slot_is slot e).0 ∙ ascending_label s.branch.row.label element formed
 
   pub suits_at : (e : NodeEdit) → suits_change (edit_change e) s.branch ≡ true → is_formed_label s.branch.row.label ≡ true → (slot : Slot) → slots_in a id ≡ Some slot → Suits e slot
-  suits_at (edit.Show nodes) suits formed slot at = tt
-  suits_at (edit.Insert previous tree) suits formed slot at =
+  suits_at (edit.Show nodes) suits formed z e = tt
+  suits_at (edit.Insert previous tree) suits formed z e =
       let there = and_right (is_opened s.branch.row.hold) (previous == 0 || has_tree previous s.branch.children) (and_left _ (not (is_opened tree.row.seen.hold)) suits) in
-      ap (λ (b : Bool). previous == 0 || b) (ap (is_in previous) (slot_is slot at).1 ∙ ids-has previous s.branch.children) ∙ there
-  suits_at (edit.Remove child) suits formed slot at = tt
-  suits_at (edit.Count n) suits formed slot at = tt
-  suits_at (edit.SetAttribute name value) suits formed slot at = ascends slot at suits formed
-  suits_at (edit.DropAttribute name) suits formed slot at = ascends slot at suits formed
-  suits_at (edit.SetValue value) suits formed slot at = tt
+      ap (λ (b : Bool). previous == 0 || b) (ap (is_in previous) (slot_is z e).1 ∙ ids-has previous s.branch.children) ∙ there
+  suits_at (edit.Remove child) suits formed z e = tt
+  suits_at (edit.Count n) suits formed z e = tt
+  suits_at (edit.SetAttribute name value) suits formed z e = ascends z e suits formed
+  suits_at (edit.DropAttribute name) suits formed z e = ascends z e suits formed
+  suits_at (edit.SetValue value) suits formed z e = tt
 
 module _ (a : Table) (roots : List ℕ) (v : Nodes Seen) (id : ℕ) (e : NodeEdit) (kept : IsKept a roots) (view : tree_in a roots ≡ v) (fits : fits_edit e ≡ true) (clear : spot_fault v (edit_told id e) (spot seen_id id 0 v) ≡ None) where
   table : IsTable a roots v
@@ -148,6 +148,11 @@ module _ (a : Table) (roots : List ℕ) (v : Nodes Seen) (id : ℕ) (e : NodeEdi
 
   pub edit_done : (b : Table) → IsEdited e a b id → (tree_in b roots ≡ with_changed id (edit_change e) v) × IsKept b roots
   edit_done b edited = edit_settled a b roots v id e table mirror fits edited clear
+
+  -- the table and the roots were taken out before
+  pub edit_lands : (before : Table) (ks : List ℕ) → before ≡ a → ks ≡ roots → (b : Table) → IsEdited e before b id → (tree_in b ks ≡ with_changed id (edit_change e) v) × IsKept b ks
+  edit_lands before ks same keys b edited =
+      subst (λ (l : List ℕ). (tree_in b l ≡ with_changed id (edit_change e) v) × IsKept b l) (sym keys) (edit_done b (subst (λ (t : Table). IsEdited e t b id) same edited))
 
 -- ---- an empty mirror, and a new document
 

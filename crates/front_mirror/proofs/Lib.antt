@@ -24,4 +24,5 @@ pub mod WalkLemmas
 pub mod NewLemmas
 pub mod TurnLemmas
 pub mod MirrorLemmas
+pub mod ReadLemmas
 pub mod EditTableLemmas

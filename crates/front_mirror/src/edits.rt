@@ -3,9 +3,9 @@ ghost use Rattle.std.specs.Prelude.{◌≡◌, ◌&&◌, ◌==◌, ◌<◌, IfOk
 ghost use Rattle.node_tree.specs.Nodes.{nodes_of, Branch};
 ghost use Rattle.node_tree.specs.Keys.{spot};
 ghost use Rattle.node_tree.specs.Seen.{Seen, seen_id};
-ghost use Rattle.cdp_messages.specs.Moves.{suits_change};
 ghost use Rattle.cdp_messages.specs.Views.{most_levels};
 ghost use Rattle.front_mirror.specs.Tables.{slot_row, IsFace};
+ghost use Rattle.front_mirror.specs.TableEdits.{suits_slot};
 ghost use Rattle.front_mirror.specs.Front.{any_node, clashes, is_unique, is_fresh, stands_low, takes_change, knows_named, change_fault};
 ghost use Rattle.front_mirror.specs.Edits.{edit_nodes, edit_change, edit_told, spot_fault};
 
@@ -80,7 +80,7 @@ impl NodeEdit {
 
     /// Whether it may be told of the node.
     fn suits(&self, slot: &Slot) -> bool
-        ensures { (b : Branch Seen) → IsFace slot.now b → result ≡ suits_change (edit_change self.now) b }
+        ensures { result ≡ suits_slot (edit_change self.now) slot.now }
     {
         match self {
             NodeEdit::Show(_) | NodeEdit::Count(_) => slot.is_unopened(),
@@ -138,6 +138,7 @@ fn stand_low(nodes: &[NodeTree], level: usize) -> bool
 }
 
 /// What is wrong with a change of the node in that slot, on that level, the first by number.
+#[tactic(auto, using(crate::proofs::ReadLemmas::suits_face))]
 fn slot_fault(
     alloc: Global,
     mirror: &Mirror,
@@ -177,5 +178,5 @@ pub(crate) fn edit_fault(
     let Some(slot) = mirror.find(id) else {
         return Ok(Some(FrontKind::UnknownNode));
     };
-    slot_fault(alloc, mirror, slot, mirror.level(slot), edit)
+    slot_fault(alloc, mirror, slot, mirror.level(id), edit)
 }

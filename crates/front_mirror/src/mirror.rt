@@ -1,4 +1,4 @@
-ghost use Rattle.std.specs.Prelude.{◌≡◌, ◌≢◌, ◌↔◌, ◌<◌, ◌++◌, length, IsTrue, IsSome, is_some, Some, option_map, slice_get, None, true, IfOk, IfSome, OnOk};
+ghost use Rattle.std.specs.Prelude.{◌≡◌, ◌≢◌, ◌↔◌, ◌<◌, ◌++◌, length, IsTrue, IsSome, is_some, Some, option_map, unwrap_or, slice_get, None, true, IfOk, IfSome, OnOk};
 ghost use Rattle.node_tree.specs.Nodes.{none, alone, width, tree_at, nodes_of};
 ghost use Rattle.std.specs.Option.{option_copied};
 ghost use Rattle.node_tree.specs.Keys.{has, find, parent_of, level_of, spot};
@@ -119,7 +119,8 @@ impl Mirror {
 
     /// The slot of that id.
     pub(crate) fn find(&self, id: u64) -> Option<&Slot>
-        ensures { Looks (option_copied result) (find seen_id id self.now) }
+        ensures looks { Looks (option_copied result) (find seen_id id self.now) }
+        ensures parent { IfSome result (λ slot. Some (unwrap_or slot.now.parent 0) ≡ parent_of seen_id id 0 self.now) }
     {
         self.table.get(id)
     }
@@ -128,6 +129,7 @@ impl Mirror {
         requires known { IsSome (find seen_id id self.now) }
         ensures row { slot_row result.now ≡ (known_at id self.now).row }
         ensures children { result.now.children ≡ root_ids (known_at id self.now).children }
+        ensures parent { Some (unwrap_or result.now.parent 0) ≡ parent_of seen_id id 0 self.now }
     {
         let Some(slot) = self.find(id) else {
             unreachable!()
@@ -150,11 +152,14 @@ impl Mirror {
     }
 
     /// The level of a known node.
-    pub(crate) fn level(&self, slot: &Slot) -> usize
-        requires { find seen_id slot.now.id self.now ≢ None }
-        ensures level { level_of seen_id slot.now.id 0 self.now ≡ Some result }
+    pub(crate) fn level(&self, id: u64) -> usize
+        requires known { IsSome (find seen_id id self.now) }
+        ensures level { level_of seen_id id 0 self.now ≡ Some result }
         ensures low { result < most_levels }
     {
+        let Some(slot) = self.table.get(id) else {
+            unreachable!()
+        };
         self.table.climb(slot.parent, MOST_LEVELS)
     }
 
