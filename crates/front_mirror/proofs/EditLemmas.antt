@@ -28,7 +28,6 @@ use Rattle.front_mirror.proofs.ViewLemmas.{clear_three, shows_nodes}
 use Rattle.front_mirror.proofs.SpotLemmas.{spot_branch, find-spot, put-spot, depth-at}
 use Rattle.front_mirror.proofs.ApartLemmas.{once_new}
 use Rattle.front_mirror.proofs.InsertedLemmas.{Inserted, tally-inserted, height-inserted, inserted_after, taken_out, passes-at, all-at, all-inserted}
-use Rattle.front_mirror.proofs.PutLemmas.{refilled}
 use Rattle.front_mirror.proofs.BoolLemmas.{and_left, and_right, both}
 
 -- ---- what is refused, and what is taken
@@ -378,17 +377,3 @@ module _ (v : Nodes Seen) (id : ℕ) (e : NodeEdit) (mirror : IsMirror v) (fits 
 
   pub edit_ready : spot_fault v (edit_told id e) (spot seen_id id 0 v) ≡ None → is_ready id (edit_change e) v ≡ true
   edit_ready clear = ready_at (spot seen_id id 0 v) refl clear
-
-  -- the same of the trees that it keeps
-  pub ready_in : (now : List (Branch Told)) → shown now ≡ v → spot_fault v (edit_told id e) (spot seen_id id 0 v) ≡ None → is_ready id (edit_change e) (shown now) ≡ true
-  ready_in now is clear = ap (is_ready id (edit_change e)) is ∙ edit_ready clear
-
-  pub kept_mirror : (roots : Vec (Branch Told) Global) (now after : List (Branch Told)) → shown roots.items ≡ v → now ≡ roots.items → length now ≡ roots.len
-      → length after ≡ length now → shown after ≡ with_changed id (edit_change e) (shown now) → spot_fault v (edit_told id e) (spot seen_id id 0 v) ≡ None
-      → IsMirror (shown (take roots.len (after ++ drop (length after) roots.items)))
-  kept_mirror roots now after seen items len kept below clear =
-      let all : take roots.len (after ++ drop (length after) roots.items) ≡ after
-      = ap (λ (ys : List (Branch Told)). take roots.len (after ++ drop (length after) ys)) (sym items) ∙ refilled after now roots.len kept len in
-      let is : shown (take roots.len (after ++ drop (length after) roots.items)) ≡ with_changed id (edit_change e) v
-      = ap shown all ∙ below ∙ ap (with_changed id (edit_change e)) (ap shown items ∙ seen) in
-      rw is (mirror_of_edit clear)

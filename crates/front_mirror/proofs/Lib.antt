@@ -9,8 +9,6 @@ pub mod PairLemmas
 pub mod SearchedLemmas
 pub mod InsertedLemmas
 pub mod EditLemmas
-pub mod PlaceLemmas
-pub mod PutLemmas
 pub mod MessageLemmas
 pub mod FoldLemmas
 pub mod FollowLemmas

@@ -25,9 +25,6 @@ pub tree_is : (t : Table) (roots : List ℕ) (n : Nodes Seen) → IsTable t root
 unfolding tree_in
 tree_is t roots n table low = kept_trees-keeps by_id (slots_in t) most_levels n None roots table.stands low
 
-pub rebuilt : (t : Table) (roots : List ℕ) (n : Nodes Seen) → IsTable t roots n → height n ≤ most_levels → IsTable t roots (tree_in t roots)
-rebuilt t roots n table low = subst (λ (m : Nodes Seen). IsTable t roots m) (sym (tree_is t roots n table low)) table
-
 -- a slot that keeps its serial leaves the serials as they are
 pub listed_turned : (a m : Table) (x : ℕ) (f : Slot → Slot) → IsListed a → IsSome (slots_in a x) → ((s : Slot) → (f s).serial ≡ s.serial) → Turned a m x f → m.ids ≡ a.ids → IsListed m
 listed_turned a m x f files there serials turned same =

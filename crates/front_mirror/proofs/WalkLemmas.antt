@@ -47,9 +47,3 @@ lines-beside level none m = refl
 lines-beside level (node r c t) m =
     let e = lines-beside level t m in
     rw e (simp append_assoc)
-
-pub one_there : (t : Table) (levels k : ℕ) (slot : Slot) → slots_in t k ≡ Some slot → trees_in t (suc levels) (k ∷ []) ≡ node (slot_row slot) (trees_in t levels slot.children) none
-one_there t levels k slot e = ap (λ (o : Option Slot). slot_tree by_id (slots_in t) o (kept_trees by_id (slots_in t) levels) none) e
-
-pub one_nowhere : (t : Table) (levels k : ℕ) → slots_in t k ≡ None → trees_in t (suc levels) (k ∷ []) ≡ none
-one_nowhere t levels k e = ap (λ (o : Option Slot). slot_tree by_id (slots_in t) o (kept_trees by_id (slots_in t) levels) none) e
