@@ -1,5 +1,5 @@
 -- One node changed: what is refused, and that the mirror stays one.
-use Rattle.std.proofs.Common.{◌≡◌, ℕ, suc, ◌+◌, ◌-◌, ◌<◌, ◌≤◌, ◌==◌, max, nat_le, Bool, true, false, not, cond, ◌&&◌, ◌||◌, List, [], ◌∷◌, ◌++◌, length, take, drop, Vec, Option, Some, None, option_map, unwrap_or, Result, Ok, refl, sym, ap, ◌∙◌, arith}
+use Rattle.std.proofs.Common.{◌≡◌, ℕ, suc, ◌+◌, ◌-◌, ◌<◌, ◌≤◌, ◌==◌, max, nat_le, Bool, true, false, not, cond, ◌&&◌, ◌||◌, List, [], ◌∷◌, Option, Some, None, option_map, unwrap_or, Result, Ok, refl, sym, ap, ◌∙◌, arith}
 use Rattle.std.specs.List.{list_all}
 use Rattle.node_tree.specs.declared.Kind.{Kind}
 use Rattle.node_tree.specs.declared.Kind.TheVariants as kind
@@ -12,15 +12,14 @@ use Rattle.node_tree.specs.Seen.{Seen, Hold, leaf, counted, opened, is_opened, i
 use Rattle.node_tree.proofs.KeyLemmas.{tally-at, height-at, height_above-at}
 use Rattle.node_tree.proofs.ChangeLemmas.{at-old}
 use Rattle.front_mirror.proofs.PairLemmas.{is_ascending-placed, names-placed, names-without, ascending-without}
-use Rattle.cdp_messages.specs.Told.{Told, seen_nodes}
+use Rattle.cdp_messages.specs.Told.{seen_nodes}
 use Rattle.cdp_messages.specs.NodeData.{fits_nodes}
 use Rattle.cdp_messages.specs.Moves.{Change, shows, inserts, removes, counts, sets, drops, says, changed, suits_change, has_tree, put_after, without_tree, has_named_attribute}
 use Rattle.cdp_messages.specs.Views.{IsMirror, most_levels, is_empty, is_bare, has_formed_labels, is_document_tree}
 use Rattle.front_mirror.specs.declared.faults.FrontKind.{FrontKind}
 use Rattle.front_mirror.specs.declared.edits.NodeEdit.{NodeEdit}
 use Rattle.front_mirror.specs.declared.edits.NodeEdit.TheVariants as edit
-use Rattle.std.specs.declared.alloc.Global.{Global}
-use Rattle.front_mirror.specs.Shown.{shown, known_at, no_node}
+use Rattle.front_mirror.specs.Shown.{known_at, no_node}
 use Rattle.front_mirror.specs.Front.{FrontValue, ToldChange, first_true, is_kin, is_unique, is_fresh, takes_change, knows_named, stands_low, change_fault, told, with_tree, at_spot}
 use Rattle.front_mirror.specs.Edits.{edit_nodes, edit_change, edit_told, fits_edit, is_ready, spot_fault, with_changed}
 use Rattle.front_mirror.proofs.ToldLemmas.{height-seen}

@@ -1,30 +1,30 @@
 -- The mirror's table after an edit of one node, by what the edit is.
-use Rattle.std.proofs.Common.{◌≡◌, ℕ, suc, ◌+◌, ◌<◌, ◌≤◌, ◌==◌, ◌&&◌, ◌||◌, Bool, true, false, not, List, [], ◌∷◌, Option, Some, None, option_map, is_some, IsSome, unwrap_or, refl, sym, ap, subst, ◌∙◌, inl, inr, arith}
+use Rattle.std.proofs.Common.{◌≡◌, ℕ, ◌≤◌, ◌==◌, ◌||◌, Bool, true, false, not, List, [], ◌∷◌, Option, Some, None, option_map, IsSome, refl, sym, ap, subst, ◌∙◌, inl, inr, arith}
 use Rattle.std.specs.Option.{option_map_or}
-use Rattle.node_tree.specs.Nodes.{Nodes, none, node, Branch, nodes_of, alone, height}
-use Rattle.node_tree.specs.Keys.{Spot, tally, find, spot, put, At}
+use Rattle.node_tree.specs.Nodes.{Nodes, none, Branch, nodes_of, alone, height}
+use Rattle.node_tree.specs.Keys.{Spot, find, spot, put}
 use Rattle.node_tree.specs.Labels.{is_element, is_ascending, is_formed_label}
 use Rattle.node_tree.specs.Arena.{Keeps, IsFiled}
-use Rattle.node_tree.specs.Seen.{Seen, is_opened, seen_id, seen_serial}
+use Rattle.node_tree.specs.Seen.{Seen, is_opened, seen_id}
 use Rattle.node_tree.proofs.KeyLemmas.{height_above-at}
 use Rattle.node_tree.proofs.ChangeLemmas.{at-old}
-use Rattle.cdp_messages.specs.Told.{Told, seen_nodes, seen_branch}
+use Rattle.cdp_messages.specs.Told.{seen_branch}
 use Rattle.cdp_messages.specs.Views.{IsMirror, most_levels, is_in}
 use Rattle.cdp_messages.specs.Moves.{changed, suits_change, has_tree}
 use Rattle.front_mirror.specs.declared.edits.NodeEdit.{NodeEdit}
 use Rattle.front_mirror.specs.declared.edits.NodeEdit.TheVariants as edit
 use Rattle.front_mirror.specs.declared.slots.Slot.{Slot}
 use Rattle.front_mirror.specs.declared.table.Table.{Table}
-use Rattle.front_mirror.specs.Shown.{shown, known_at}
-use Rattle.front_mirror.specs.Front.{is_unique, is_fresh, change_fault}
-use Rattle.front_mirror.specs.Edits.{edit_nodes, edit_change, edit_told, fits_edit, can_change, spot_fault, with_changed}
+use Rattle.front_mirror.specs.Shown.{shown}
+use Rattle.front_mirror.specs.Front.{change_fault}
+use Rattle.front_mirror.specs.Edits.{edit_change, edit_told, fits_edit, can_change, spot_fault, with_changed}
 use Rattle.front_mirror.specs.declared.faults.FrontKind.TheVariants.{UnknownNode}
 use Rattle.front_mirror.specs.Tables.{slot_row, by_id, by_serial, slots_in, ids_in, root_ids, planted, listed, HasOwnIds, IsListed, IsTable, IsKept, tree_in, opened_slot, with_child}
 use Rattle.front_mirror.specs.TableEdits.{Suits, IsEdited}
 use Rattle.front_mirror.proofs.BoolLemmas.{and_left, and_right}
 use Rattle.front_mirror.proofs.SpotLemmas.{spot_branch, find-spot, put-spot}
-use Rattle.front_mirror.proofs.ApartLemmas.{Once, once_new}
-use Rattle.front_mirror.proofs.EditLemmas.{Clear, clear_change, counted_none, bare-at, known-spot, ascending_label, mirror_of_edit, edit_ready}
+use Rattle.front_mirror.proofs.ApartLemmas.{once_new}
+use Rattle.front_mirror.proofs.EditLemmas.{clear_change, counted_none, bare-at, known-spot, ascending_label, mirror_of_edit, edit_ready}
 use Rattle.front_mirror.proofs.TableLemmas.{AreNew, planted-own, planted-only, planted-keeps, planted-files}
 use Rattle.front_mirror.proofs.LookLemmas.{located, keeps-ids, ids-has}
 use Rattle.front_mirror.proofs.NewLemmas.{new_turned}

@@ -1,18 +1,18 @@
 -- What is read of the nodes of a table.
-use Rattle.std.proofs.Common.{◌≡◌, ◌≢◌, ◌⊎◌, ℕ, zero, suc, ◌+◌, ◌<◌, ◌≤◌, ◌==◌, ◌||◌, nat_eq, Bool, true, false, cond, List, [], ◌∷◌, ◌++◌, length, slice_get, Option, Some, None, option_map, is_some, unwrap_or, IsSome, refl, sym, ap, subst, ◌∙◌, inl, inr, arith}
+use Rattle.std.proofs.Common.{◌≡◌, ◌⊎◌, ℕ, zero, suc, ◌<◌, ◌≤◌, ◌==◌, ◌||◌, nat_eq, Bool, true, false, cond, List, [], ◌∷◌, length, slice_get, Option, Some, None, option_map, is_some, unwrap_or, refl, sym, ap, subst, ◌∙◌, inl, inr, arith}
 use Rattle.std.specs.Option.{option_and_then}
-use Rattle.std.proofs.lemmas.Bool.{eq-eqb, ne_eqb, cases_lt, cases_eq}
-use Rattle.node_tree.specs.Nodes.{Nodes, none, node, Branch, alone, tree_at, width, height}
-use Rattle.node_tree.specs.Keys.{tally, find, has, first_of, level_of, parent_of, spot, Spot, At}
+use Rattle.std.proofs.lemmas.Bool.{eq-eqb, ne_eqb, cases_eq}
+use Rattle.node_tree.specs.Nodes.{Nodes, none, node, Branch, tree_at, width}
+use Rattle.node_tree.specs.Keys.{tally, find, first_of, level_of, parent_of, spot, Spot}
 use Rattle.node_tree.specs.Seen.{Seen, seen_id, seen_serial}
-use Rattle.node_tree.specs.Arena.{Keeps, KeepsOne, IsFiled}
-use Rattle.node_tree.proofs.KeyLemmas.{tally_row, tally_below, tally_cases, found_key, has-find, has-there, find-absent, stands-find, find-stands, At-tally}
-use Rattle.node_tree.proofs.ArenaLemmas.{keeps-find, keeps-up, kept_trees-keeps}
-use Rattle.cdp_messages.specs.Views.{most_levels, is_in}
+use Rattle.node_tree.specs.Arena.{Keeps}
+use Rattle.node_tree.proofs.KeyLemmas.{found_key, has-find, has-there, stands-find, find-stands}
+use Rattle.node_tree.proofs.ArenaLemmas.{keeps-find, keeps-up}
+use Rattle.cdp_messages.specs.Views.{is_in}
 use Rattle.cdp_messages.specs.Moves.{has_tree}
 use Rattle.front_mirror.specs.declared.slots.Slot.{Slot}
 use Rattle.front_mirror.specs.declared.table.Table.{Table}
-use Rattle.front_mirror.specs.Tables.{slot_row, by_id, by_serial, slots_in, ids_in, root_ids, HasOwnIds, trees_in, tree_in, IsTable, Looks, climbed}
+use Rattle.front_mirror.specs.Tables.{slot_row, by_id, slots_in, ids_in, root_ids, HasOwnIds, IsTable, Looks, climbed}
 
 -- the ids of children are those of the trees that they keep
 pub keeps-ids : (slots : ℕ → Option Slot) (n : Nodes Seen) (above : Option ℕ) (ks : List ℕ) → HasOwnIds slots → Keeps by_id slots n above ks → ks ≡ root_ids n

@@ -1,21 +1,19 @@
 -- The mirror's table after an edit of one node.
-use Rattle.std.proofs.Common.{◌≡◌, ◌≢◌, ℕ, ◌+◌, ◌<◌, ◌≤◌, ◌==◌, ◌||◌, true, List, [], ◌∷◌, Option, Some, None, unwrap_or, refl, sym, ap, subst, ◌∙◌, arith}
-use Rattle.node_tree.specs.Nodes.{Nodes, none, node, Branch, alone, height}
-use Rattle.node_tree.specs.Labels.{Label}
-use Rattle.node_tree.specs.Keys.{tally, tally_in, find, put}
-use Rattle.node_tree.specs.Seen.{Seen, counted, opened, seen_id, seen_serial}
-use Rattle.cdp_messages.specs.Views.{most_levels, keys, is_in}
+use Rattle.std.proofs.Common.{◌≡◌, ℕ, ◌+◌, ◌≤◌, ◌==◌, ◌||◌, true, List, [], ◌∷◌, Some, refl, ap, subst, ◌∙◌, arith}
+use Rattle.node_tree.specs.Nodes.{Nodes, none, Branch, alone, height}
+use Rattle.node_tree.specs.Keys.{tally, find, put}
+use Rattle.node_tree.specs.Seen.{Seen, counted, opened, seen_id}
+use Rattle.cdp_messages.specs.Views.{most_levels, keys}
 use Rattle.cdp_messages.specs.LabelChanges.{placed, pairs_without, with_attribute, without_attribute, with_value}
-use Rattle.cdp_messages.specs.Moves.{shows, inserts, removes, counts, sets, drops, says, changed, has_tree, put_after, without_tree}
+use Rattle.cdp_messages.specs.Moves.{shows, inserts, removes, counts, sets, drops, says, changed, has_tree, without_tree}
 use Rattle.node_tree.proofs.ArenaLemmas.{kept_trees-keeps}
 use Rattle.front_mirror.specs.declared.slots.Slot.{Slot}
 use Rattle.front_mirror.specs.declared.slots.Below.TheVariants.{Counted}
 use Rattle.front_mirror.specs.declared.table.Table.{Table}
-use Rattle.front_mirror.specs.Tables.{slot_row, by_id, slots_in, ids_in, IsListed, root_ids, Turned, Grown, Cut, opened_slot, with_child, without_child, trees_in, without_slots, tree_in, IsTable}
+use Rattle.front_mirror.specs.Tables.{slot_row, by_id, slots_in, ids_in, root_ids, Turned, Grown, Cut, opened_slot, with_child, without_child, trees_in, without_slots, IsTable}
 use Rattle.front_mirror.proofs.InsertedLemmas.{Inserted, tally-inserted, height-inserted, inserted_after}
 use Rattle.front_mirror.proofs.TableLemmas.{AreNew}
-use Rattle.front_mirror.proofs.LookLemmas.{Located, located, keeps-ids, ids-has}
-use Rattle.front_mirror.proofs.TurnLemmas.{here, after_keeps, goes, Goes, turned_below, table_relabelled, table_grown, table_cut}
+use Rattle.front_mirror.proofs.TurnLemmas.{here, after_keeps, goes, table_relabelled, table_grown, table_cut}
 
 -- a tree is no higher than those among which it stands
 height_inserted_le : (w : Branch Seen) (m k : Nodes Seen) → Inserted w m k → height k ≤ most_levels → height (alone w) ≤ most_levels

@@ -1,15 +1,15 @@
 -- What a mirror reads from its table.
-use Rattle.std.proofs.Common.{◌≡◌, ℕ, suc, ◌+◌, ◌<◌, ◌≤◌, ◌==◌, ◌&&◌, ◌||◌, Bool, true, false, not, List, [], ◌∷◌, ◌++◌, length, slice_get, Option, Some, None, Result, Ok, Err, IfOk, OnOk, IfSome, IsSome, option_map, is_some, unwrap_or, refl, sym, ap, subst, ◌∙◌, rules, arith}
+use Rattle.std.proofs.Common.{◌≡◌, ℕ, ◌+◌, ◌<◌, ◌≤◌, ◌==◌, ◌&&◌, ◌||◌, Bool, not, List, ◌++◌, length, slice_get, Option, Some, None, Result, Ok, Err, IfOk, OnOk, IfSome, IsSome, option_map, is_some, unwrap_or, refl, sym, ap, subst, ◌∙◌, rules, arith}
 use Rattle.std.specs.Borrow.{Bor}
 use Rattle.std.specs.Option.{option_copied}
-use Rattle.node_tree.specs.Nodes.{Nodes, none, node, Branch, tree_at, width, height}
+use Rattle.node_tree.specs.Nodes.{Nodes, Branch, tree_at, width, height}
 use Rattle.node_tree.specs.Keys.{Spot, has, find, spot, level_of, parent_of}
 use Rattle.node_tree.specs.Labels.{is_element, has_value}
 use Rattle.node_tree.specs.Seen.{Seen, is_opened, is_counted, seen_id, seen_serial}
 use Rattle.node_tree.proofs.KeyLemmas.{has-find, found_key}
 use Rattle.cdp_messages.specs.Told.{count_in}
 use Rattle.cdp_messages.specs.Views.{IsMirror, most_levels, is_in}
-use Rattle.cdp_messages.specs.Moves.{Change, shows, inserts, removes, counts, sets, drops, says, suits_change, has_tree}
+use Rattle.cdp_messages.specs.Moves.{Change, shows, inserts, removes, counts, sets, drops, says, suits_change}
 use Rattle.front_mirror.specs.declared.edits.NodeEdit.{NodeEdit}
 use Rattle.front_mirror.specs.declared.faults.FrontKind.{FrontKind}
 use Rattle.front_mirror.specs.declared.faults.FrontKind.TheVariants.{UnknownNode}
@@ -20,7 +20,7 @@ use Rattle.front_mirror.specs.declared.table.Table.{Table}
 use Rattle.front_mirror.specs.Front.{change_fault}
 use Rattle.front_mirror.specs.Edits.{edit_told, spot_fault}
 use Rattle.front_mirror.specs.Outline.{lines_at, seen_line}
-use Rattle.front_mirror.specs.Tables.{below_hold, slot_row, slots_in, ids_in, root_ids, trees_in, tree_in, IsTable, IsKept, IsFace, Looks, climbed}
+use Rattle.front_mirror.specs.Tables.{below_hold, slots_in, ids_in, root_ids, trees_in, tree_in, IsTable, IsKept, IsFace, Looks, climbed}
 use Rattle.front_mirror.specs.TableEdits.{suits_slot}
 use Rattle.front_mirror.proofs.SpotLemmas.{spot_branch, find-spot, spot_level}
 use Rattle.front_mirror.proofs.TableLemmas.{on_ok}

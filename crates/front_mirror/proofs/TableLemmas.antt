@@ -1,19 +1,18 @@
 -- Slots put in and taken out, and the trees that they keep.
-use Rattle.std.proofs.Common.{◌≡◌, ◌≢◌, ◌⊎◌, ℕ, zero, suc, ◌+◌, ◌<◌, ◌≤◌, ◌==◌, Bool, true, false, cond, List, [], ◌∷◌, ◌++◌, length, get_or, drop, Option, Some, None, Result, Ok, Err, OnOk, option_map, is_some, refl, sym, ap, subst, ◌∙◌, inl, inr, arith}
+use Rattle.std.proofs.Common.{◌≡◌, ◌≢◌, ◌⊎◌, ℕ, ◌+◌, ◌<◌, ◌≤◌, List, [], ◌∷◌, ◌++◌, length, get_or, drop, Option, Some, None, Result, Ok, Err, OnOk, refl, sym, ap, subst, ◌∙◌, inl, inr, arith}
 use Rattle.std.proofs.lemmas.Bool.{eq-eqb, ne_eqb, cases_lt, cases_eq}
-use Rattle.node_tree.specs.Nodes.{Nodes, none, node, Branch, alone, width, height}
-use Rattle.node_tree.specs.Keys.{tally, find, At}
+use Rattle.node_tree.specs.Nodes.{Nodes, none, node}
+use Rattle.node_tree.specs.Keys.{tally}
 use Rattle.node_tree.specs.Seen.{Hold, leaf, counted, opened, Seen, seen_id, seen_serial}
-use Rattle.node_tree.specs.Arena.{Keeps, KeepsOne, IsFiled, Comes}
+use Rattle.node_tree.specs.Arena.{Keeps, IsFiled, Comes}
 use Rattle.node_tree.proofs.KeyLemmas.{tally_row, tally_below, tally_cases}
-use Rattle.node_tree.proofs.ArenaLemmas.{keeps-same, files-add, files-remove, files-same}
+use Rattle.node_tree.proofs.ArenaLemmas.{keeps-same, files-add, files-remove}
 use Rattle.std.proofs.lemmas.List.{drop_more}
 use Rattle.std.specs.Ordering.{nat_cmp}
 use Rattle.std.specs.BTreeMap as map
 use Rattle.cdp_messages.specs.Views.{keys}
 use Rattle.front_mirror.specs.declared.table.Table.{Table}
 use Rattle.front_mirror.specs.declared.slots.Slot.{Slot}
-use Rattle.front_mirror.specs.declared.slots.Below.{Below}
 use Rattle.front_mirror.specs.Tables.{hold_below, below_hold, slot_row, by_id, by_serial, with_entry, Puts, root_ids, new_slot, planted, listed, without_slots, slots_in, ids_in, IsListed, HasOwnIds}
 
 -- ---- one entry
@@ -194,13 +193,6 @@ plant_slots above r c d old mid new slot id is puts id_is same e =
     ∙ ap (λ (n : Nodes Seen). planted (Some r.id) n mid) same
     ∙ ap (λ (m : ℕ → Option Slot). planted (Some r.id) c m) (puts_is slot.id (Some slot) old mid puts ∙ ap (λ (s : Slot). with_entry s.id (Some s) old) is)
 
-pub plant_ids : (above : Option ℕ) (r : Seen) (c d : Nodes Seen) (old mid new : ℕ → Option ℕ) (slot : Slot) → slot ≡ new_slot above r (root_ids c) → Puts old mid slot.serial (Some slot.id) → d ≡ c
-    → new ≡ listed d mid → new ≡ listed (node r c none) old
-plant_ids above r c d old mid new slot is puts same e =
-    e
-    ∙ ap (λ (n : Nodes Seen). listed n mid) same
-    ∙ ap (λ (m : ℕ → Option ℕ). listed c m) (puts_is slot.serial (Some slot.id) old mid puts ∙ ap (λ (s : Slot). with_entry s.serial (Some s.id) old) is)
-
 pub on_ok : {A E : Type 0} (r : Result A E) (P Q : Type 0) → (P → Q) → OnOk r P → OnOk r Q
 on_ok (Ok x) P Q f p = f p
 on_ok (Err e) P Q f p = p
@@ -215,15 +207,6 @@ remove_files a b d id slot files at gone ids_are slots_are gone_id =
     let ids_same : (y : ℕ) → ids_in b y ≡ ids_in a y = λ y. ap (λ m. map.get nat_cmp m y) ids_are in
     files-remove by_serial (slots_in a) (slots_in d) (ids_in a) (ids_in d) slot.serial id files (files.filed id slot at) (slots_same id ∙ gone.at)
     (λ j other. slots_same j ∙ gone.others j other) gone_id.at (λ y other. gone_id.others y other ∙ ids_same y)
-
--- there was none
-pub remove_nothing : (a b : Table) (id : ℕ) → IsListed a → slots_in a id ≡ None → Puts (slots_in a) (slots_in b) id None → b.ids ≡ a.ids → IsListed b
-remove_nothing a b id files at gone ids_are =
-    let same : (j : ℕ) → slots_in b j ≡ slots_in a j = λ j. elim (cases_eq j id) [
-      | inl is ↦ ap (slots_in b) is ∙ gone.at ∙ sym at ∙ ap (slots_in a) (sym is)
-      | inr other ↦ gone.others j other
-    ] in
-    files-same by_serial (slots_in a) (slots_in b) (ids_in a) (ids_in b) files same (λ y. ap (λ m. map.get nat_cmp m y) ids_are)
 
 pub without_turn : (ids : List ℕ) (i : ℕ) (now new first : ℕ → Option Slot) → i < length ids → Puts now new (get_or ids i 0) None → without_slots (drop i ids) now ≡ first → without_slots (drop (i + 1) ids) new ≡ first
 without_turn ids i now new first within puts e =

@@ -1,5 +1,5 @@
 -- Trees that messages tell, and what is shown of them.
-use Rattle.std.proofs.Common.{◌≡◌, ℕ, zero, suc, ◌+◌, ◌<◌, List, [], ◌∷◌, length, get_or, refl, ap, ◌∙◌, arith}
+use Rattle.std.proofs.Common.{◌≡◌, ℕ, zero, suc, ◌<◌, List, [], ◌∷◌, length, get_or, refl, ap, ◌∙◌, arith}
 use Rattle.node_tree.specs.Nodes.{Nodes, none, node, Branch, nodes_of, width, node_count, height}
 use Rattle.node_tree.proofs.NodeLemmas.{width-nodes_of}
 use Rattle.node_tree.specs.Seen.{Seen}

@@ -1,24 +1,24 @@
 -- A table with one node changed.
-use Rattle.std.proofs.Common.{◌≡◌, ◌≢◌, ◌⊎◌, ℕ, suc, ◌+◌, ◌<◌, ◌≤◌, ◌==◌, ◌||◌, Bool, true, false, cond, List, [], ◌∷◌, Option, Some, None, IsSome, refl, sym, ap, subst, ◌∙◌, inl, inr, arith}
+use Rattle.std.proofs.Common.{◌≡◌, ◌≢◌, ℕ, ◌+◌, ◌<◌, ◌≤◌, ◌==◌, ◌||◌, Bool, true, false, cond, List, [], ◌∷◌, Option, Some, None, IsSome, refl, sym, ap, subst, ◌∙◌, inl, inr, arith}
 use Rattle.std.specs.Ordering.{nat_cmp}
 use Rattle.std.specs.BTreeMap as map
 use Rattle.std.proofs.lemmas.Bool.{eq-eqb, eqb-true, cases_lt, cases_eq}
 use Rattle.node_tree.specs.Nodes.{Nodes, none, node, Branch, alone, height}
-use Rattle.node_tree.specs.Keys.{tally, tally_in, find, put, At}
-use Rattle.node_tree.specs.Seen.{Seen, seen_id, seen_serial}
-use Rattle.node_tree.specs.Arena.{Keeps, KeepsOne, IsFiled, Turns}
+use Rattle.node_tree.specs.Keys.{tally, tally_in, find, put}
+use Rattle.node_tree.specs.Seen.{Seen, seen_id}
+use Rattle.node_tree.specs.Arena.{Keeps, KeepsOne, IsFiled}
 use Rattle.node_tree.proofs.KeyLemmas.{tally_row, tally_below, tally_cases, tally-at, found_key, at-put}
 use Rattle.node_tree.proofs.ChangeLemmas.{tally_in-at}
-use Rattle.node_tree.proofs.ArenaLemmas.{keeps-same, keeps-at, row_there, row_alone, files-turn, kept_trees-keeps}
+use Rattle.node_tree.proofs.ArenaLemmas.{keeps-same, keeps-at, files-turn, kept_trees-keeps}
 use Rattle.cdp_messages.specs.Views.{most_levels, keys}
 use Rattle.cdp_messages.specs.Moves.{put_behind, put_after, without_tree, has_tree}
 use Rattle.front_mirror.specs.declared.slots.Slot.{Slot}
 use Rattle.front_mirror.specs.declared.table.Table.{Table}
 use Rattle.front_mirror.specs.IdLists.{id_behind, id_after, without_id}
-use Rattle.front_mirror.specs.Tables.{slot_row, by_id, by_serial, slots_in, ids_in, IsListed, root_ids, planted, listed, without_slots, Puts, Turned, HasOwnIds, trees_in, tree_in, IsTable}
+use Rattle.front_mirror.specs.Tables.{slot_row, by_id, by_serial, slots_in, ids_in, IsListed, root_ids, planted, listed, without_slots, Puts, Turned, HasOwnIds, tree_in, IsTable}
 use Rattle.front_mirror.proofs.InsertedLemmas.{Inserted, first, later, tally-inserted}
 use Rattle.front_mirror.proofs.TableLemmas.{planted-outside, planted-own, planted-only, planted-keeps, planted-files, AreNew, gone-outside, gone-inside}
-use Rattle.front_mirror.proofs.LookLemmas.{Located, located, keeps-ids, some_there}
+use Rattle.front_mirror.proofs.LookLemmas.{Located, located, some_there}
 
 -- what a table keeps is read from it
 pub tree_is : (t : Table) (roots : List ℕ) (n : Nodes Seen) → IsTable t roots n → height n ≤ most_levels → tree_in t roots ≡ n

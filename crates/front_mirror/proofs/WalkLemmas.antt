@@ -1,14 +1,14 @@
 -- Trees of a table, one after the other.
-use Rattle.std.proofs.Common.{◌≡◌, ℕ, zero, suc, ◌+◌, ◌-◌, ◌<◌, ◌≤◌, List, [], ◌∷◌, ◌++◌, length, get_or, drop, Option, Some, None, Result, OnOk, refl, sym, ap, ◌∙◌, append_assoc, append-nil, add-one, arith}
+use Rattle.std.proofs.Common.{◌≡◌, ℕ, suc, ◌+◌, ◌-◌, ◌<◌, ◌≤◌, List, [], ◌∷◌, ◌++◌, length, get_or, drop, Option, Some, None, refl, sym, ap, ◌∙◌, append_assoc, append-nil}
 use Rattle.std.proofs.lemmas.List.{drop_more, drop_all}
 use Rattle.node_tree.specs.Nodes.{Nodes, none, node, beside}
 use Rattle.node_tree.specs.Seen.{Seen, seen_id}
 use Rattle.node_tree.specs.Arena.{slot_tree, slot_trees, kept_trees}
 use Rattle.cdp_messages.specs.Views.{keys}
-use Rattle.front_mirror.specs.Outline.{indent, lines_at, seen_line}
+use Rattle.front_mirror.specs.Outline.{lines_at, seen_line}
 use Rattle.front_mirror.specs.declared.slots.Slot.{Slot}
 use Rattle.front_mirror.specs.declared.table.Table.{Table}
-use Rattle.front_mirror.specs.Tables.{slot_row, by_id, slots_in, trees_in}
+use Rattle.front_mirror.specs.Tables.{by_id, slots_in, trees_in}
 
 slot_beside : (o : Option Slot) (slots : ℕ → Option Slot) (below : List ℕ → Nodes Seen) (after : Nodes Seen) → slot_tree by_id slots o below after ≡ beside (slot_tree by_id slots o below none) after
 slot_beside None slots below after = refl

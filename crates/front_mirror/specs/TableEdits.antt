@@ -28,7 +28,8 @@ Suits (edit.SetValue value) s = ⊤
 -- the change may be told of the node in that slot
 abbrev pub suits_slot : Change → Slot → Bool
 suits_slot (shows kids) s = is_counted (slot_row s).hold
-suits_slot (inserts previous w) s = is_opened (slot_row s).hold && (previous == 0 || is_in previous s.children) && not (is_opened w.row.hold)
+suits_slot (inserts previous w) s =
+    is_opened (slot_row s).hold && (previous == 0 || is_in previous s.children) && not (is_opened w.row.hold)
 suits_slot (removes id) s = is_opened (slot_row s).hold && is_in id s.children
 suits_slot (counts n) s = is_counted (slot_row s).hold
 suits_slot (sets name value) s = is_element s.kind

@@ -1,5 +1,5 @@
 -- The mirror as a table: a slot for each known node under its id, and the id of each serial.
-use Rattle.std.specs.Prelude.{◌≡◌, ◌≢◌, ℕ, zero, suc, ◌+◌, ◌<◌, ◌≤◌, ◌==◌, cond, List, [], ◌∷◌, Option, Some, None, option_and_then}
+use Rattle.std.specs.Prelude.{◌≡◌, ◌≢◌, ℕ, zero, suc, ◌<◌, ◌==◌, cond, List, [], ◌∷◌, Option, Some, None, option_and_then}
 use Rattle.std.specs.Option.{option_map_or}
 use Rattle.std.specs.Ordering.{nat_cmp}
 use Rattle.std.specs.BTreeMap as map
@@ -28,7 +28,12 @@ below_hold Opened = opened
 
 -- the row of a slot's node
 abbrev pub slot_row : Slot → Seen
-slot_row s = record { id = s.id; serial = s.serial; label = record { kind = s.kind; name = s.name; value = s.value; attributes = s.attributes }; hold = below_hold s.below }
+slot_row s = record {
+  id = s.id;
+  serial = s.serial;
+  label = record { kind = s.kind; name = s.name; value = s.value; attributes = s.attributes };
+  hold = below_hold s.below;
+}
 
 -- slots by the ids of their nodes, which are their keys
 abbrev pub by_id : SlotForm Slot Seen

@@ -148,7 +148,8 @@ fn slot_fault(
 ) -> Result<Option<FrontKind>, AllocError>
     requires { level < most_levels }
     ensures { (b : Branch Seen) → IsFace slot.now b
-        → IfOk result (λ wrong. wrong ≡ change_fault mirror.now (edit_told slot.now.id edit.now) (record { branch = b; level = level })) }
+        → IfOk result (λ wrong. wrong ≡ change_fault mirror.now (edit_told slot.now.id edit.now)
+        (record { branch = b; level = level })) }
 {
     if !edit.is_for(slot) || !edit.is_named(mirror) {
         return Ok(Some(FrontKind::UnknownNode));

@@ -166,6 +166,7 @@ impl Slot {
         }
     }
 
+    /// Whether it is an element.
     pub(crate) fn is_element(&self) -> bool
         ensures { result ≡ is_element self.now.kind }
     {

@@ -17,7 +17,12 @@ use std::slice;
 
 impl Table {
     /// Shows the children of a node. After want of memory some of them may stand.
-    pub(crate) fn show(&mut self, alloc: Global, id: u64, nodes: Vec<NodeTree>) -> Result<(), AllocError>
+    pub(crate) fn show(
+        &mut self,
+        alloc: Global,
+        id: u64,
+        nodes: Vec<NodeTree>,
+    ) -> Result<(), AllocError>
         ensures { OnOk result (Grown self.old self.new id (opened_slot (root_ids (shown nodes.items))) (shown nodes.items)) }
     {
         let ids = ids_of(alloc, &nodes)?;

@@ -15,6 +15,7 @@ use node_tree::Text;
 use std::alloc::AllocError;
 
 impl Table {
+    /// What is shown below a node, but for its children.
     pub(crate) fn set_below(&mut self, id: u64, below: Below)
         ensures ids { self.new.ids ≡ self.old.ids }
         ensures slots { Turned self.old self.new id (λ slot. record slot { below = below }) }
@@ -35,6 +36,7 @@ impl Table {
         }
     }
 
+    /// Its value is this one.
     pub(crate) fn set_value(&mut self, id: u64, value: Text)
         ensures ids { self.new.ids ≡ self.old.ids }
         ensures slots { Turned self.old self.new id (λ slot. record slot { value = value }) }
@@ -44,10 +46,12 @@ impl Table {
         }
     }
 
+    /// Sets the attribute of that name, or adds it in its place.
     pub(crate) fn set_attr(&mut self, id: u64, name: Text, value: Text) -> Result<(), AllocError>
         requires { (slot : Slot) → slots_in self.old id ≡ Some slot → is_ascending slot.attributes ≡ true }
         ensures ids { self.new.ids ≡ self.old.ids }
-        ensures slots { OnOk result (Turned self.old self.new id (λ slot. record slot { attributes = placed (name, value) slot.attributes })) }
+        ensures slots { OnOk result (Turned self.old self.new id
+            (λ slot. record slot { attributes = placed (name, value) slot.attributes })) }
     {
         if let Some(slot) = self.slots.get_mut(&id) {
             let _was = set_attribute(&mut slot.attributes, name, value)?;
@@ -55,6 +59,7 @@ impl Table {
         Ok(())
     }
 
+    /// Takes the attribute of that name away, where there is one.
     pub(crate) fn drop_attr(&mut self, id: u64, name: &str)
         requires { (slot : Slot) → slots_in self.old id ≡ Some slot → is_ascending slot.attributes ≡ true }
         ensures ids { self.new.ids ≡ self.old.ids }
@@ -66,10 +71,16 @@ impl Table {
     }
 
     /// Puts an id behind another among those of the children, or first where that is 0.
-    pub(crate) fn insert_child(&mut self, id: u64, previous: u64, child: u64) -> Result<(), AllocError>
+    pub(crate) fn insert_child(
+        &mut self,
+        id: u64,
+        previous: u64,
+        child: u64,
+    ) -> Result<(), AllocError>
         requires { (slot : Slot) → slots_in self.old id ≡ Some slot → (previous == 0 || is_in previous slot.children) ≡ true }
         ensures ids { self.new.ids ≡ self.old.ids }
-        ensures slots { OnOk result (Turned self.old self.new id (λ slot. record slot { children = id_after previous child slot.children })) }
+        ensures slots { OnOk result (Turned self.old self.new id
+            (λ slot. record slot { children = id_after previous child slot.children })) }
     {
         match self.slots.get_mut(&id) {
             Some(slot) => slot.children.insert_after(previous, child),

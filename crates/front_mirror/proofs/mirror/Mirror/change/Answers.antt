@@ -1,5 +1,5 @@
 -- The edit, made in the table.
-use Rattle.std.proofs.Common.{ℕ, IsSome, sym, ap, subst, ◌∙◌}
+use Rattle.std.proofs.Common.{IsSome, sym, ap, subst, ◌∙◌}
 use Rattle.front_mirror.specs.declared.table.Table.{Table}
 use Rattle.front_mirror.specs.Tables.{slots_in, ids_in}
 use Rattle.front_mirror.proofs.EditTableLemmas.{edit_there, edit_suits, edit_lands, nothing_kept}

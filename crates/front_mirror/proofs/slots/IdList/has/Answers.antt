@@ -1,5 +1,5 @@
 -- Its place is among those of the list.
-use Rattle.std.proofs.Common.{ℕ, nat_lt, length, ap, sym, ◌∙◌}
+use Rattle.std.proofs.Common.{ℕ, nat_lt, ap, ◌∙◌}
 use Rattle.front_mirror.specs.IdLists.{place_in}
 use Rattle.front_mirror.proofs.IdLemmas.{place_there}
 use Rattle.front_mirror.proofs.slots.IdList.has.Goals as goal

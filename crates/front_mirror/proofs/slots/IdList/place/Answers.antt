@@ -1,7 +1,5 @@
 -- One id more, or the one that is looked for.
-use Rattle.std.proofs.Common.{◌≤◌, ℕ, List, length, ap, sym, ◌∙◌, arith}
-use Rattle.std.proofs.lemmas.List.{drop_all}
-use Rattle.front_mirror.specs.IdLists.{place_in}
+use Rattle.std.proofs.Common.{arith}
 use Rattle.front_mirror.proofs.IdLemmas.{place_here, place_on}
 use Rattle.front_mirror.proofs.slots.IdList.place.Goals as goal
 

@@ -1,7 +1,7 @@
 -- The first that is the id is out, or none is.
-use Rattle.std.proofs.Common.{◌≤◌, ℕ, List, length, ap, sym, ◌∙◌, arith}
+use Rattle.std.proofs.Common.{◌≤◌, ℕ, List, length, ap, ◌∙◌, arith}
 use Rattle.std.specs.List.{remove}
-use Rattle.front_mirror.specs.IdLists.{place_in, without_id}
+use Rattle.front_mirror.specs.IdLists.{place_in}
 use Rattle.front_mirror.proofs.IdLemmas.{place_out, place_nowhere}
 use Rattle.front_mirror.proofs.slots.IdList.remove.Goals as goal
 

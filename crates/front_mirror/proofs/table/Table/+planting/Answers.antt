@@ -1,10 +1,10 @@
 -- A node comes in with what is below it, and one tree more.
-use Rattle.std.proofs.Common.{◌≡◌, ◌+◌, ◌*◌, ◌<◌, List, ℕ, Some, refl, sym, ap, subst, ◌∙◌, arith}
-use Rattle.node_tree.specs.Nodes.{Nodes, Branch, alone, nodes_of, node_count, branch_count, none, node}
+use Rattle.std.proofs.Common.{◌+◌, ◌*◌, ◌<◌, ℕ, ap, subst, arith}
+use Rattle.node_tree.specs.Nodes.{Nodes, Branch, nodes_of, node_count, branch_count}
 use Rattle.cdp_messages.specs.Told.{Told, seen_nodes}
 use Rattle.front_mirror.specs.Shown.{shown}
-use Rattle.front_mirror.specs.Tables.{slots_in, ids_in, planted, listed}
-use Rattle.front_mirror.proofs.TableLemmas.{plant_slots, plant_ids, on_ok}
+use Rattle.front_mirror.specs.Tables.{slots_in}
+use Rattle.front_mirror.proofs.TableLemmas.{plant_slots, on_ok}
 use Rattle.front_mirror.proofs.table.Table.+planting.Goals as goal
 
 pub plant-plant_all-requires : goal.plant-plant_all-requires

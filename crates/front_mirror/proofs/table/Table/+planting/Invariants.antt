@@ -1,5 +1,5 @@
 -- What is left, planted into what there is, is all of it planted.
-use Rattle.std.proofs.Common.{◌≡◌, ◌≤◌, ◌+◌, ◌*◌, Some}
+use Rattle.std.proofs.Common.{◌≡◌, ◌≤◌, ◌+◌, ◌*◌}
 use Rattle.node_tree.specs.Nodes.{nodes_of, node_count, branch_count}
 use Rattle.front_mirror.specs.Shown.{shown}
 use Rattle.front_mirror.specs.Tables.{slots_in, ids_in, planted, listed}

@@ -1,6 +1,6 @@
 -- The slot goes with its serial.
 use Rattle.std.proofs.Common.{sym, ◌∙◌}
-use Rattle.front_mirror.proofs.TableLemmas.{remove_files, remove_nothing}
+use Rattle.front_mirror.proofs.TableLemmas.{remove_files}
 use Rattle.front_mirror.proofs.table.Table.remove.Goals as goal
 
 pub returns-in-Some-clause-listed : goal.returns-in-Some-clause-listed
