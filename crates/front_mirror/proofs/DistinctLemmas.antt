@@ -1,5 +1,5 @@
 -- Lists in which no number comes twice.
-use Rattle.std.proofs.Common.{◌≡◌, ◌≢◌, ℕ, zero, suc, ◌+◌, ◌<◌, nat_eq, Bool, true, false, not, ◌&&◌, ◌||◌, List, [], ◌∷◌, ◌++◌, length, get_or, take, drop, refl, sym, ap, ◌∙◌, inl, inr, arith, add-one}
+use Rattle.std.proofs.Common.{◌≡◌, ◌≢◌, ℕ, zero, suc, ◌+◌, ◌<◌, ◌≤◌, nat_eq, Bool, true, false, not, ◌&&◌, ◌||◌, List, [], ◌∷◌, ◌++◌, length, get_or, take, drop, refl, sym, ap, ◌∙◌, inl, inr, arith, add-one}
 use Rattle.std.proofs.lemmas.List.{take_more}
 use Rattle.std.proofs.lemmas.Bool.{cases_eq, ne_eqb}
 use Rattle.cdp_messages.specs.Views.{is_in, is_distinct}
@@ -81,3 +81,37 @@ was_there added has false is same e = cc (is, same, e)
 pub was_new : (added has there : Bool) → added ≡ not has → has ≡ there → added ≡ true → there ≡ false
 was_new added has true is same e = cc (is, same, e)
 was_new added has false is same e = refl
+
+-- ---- numbers that ascend
+
+absent_above : (b : Bool) (x last : ℕ) → (b ≡ true → x ≤ last) → last < x → b ≡ false
+absent_above true x last low above = let h = low refl in absurd (omega arith)
+absent_above false x last low above = refl
+
+-- a number above all before it is new
+pub above_new : (xs : List ℕ) (i last : ℕ) → ((x : ℕ) → is_in x (take i xs) ≡ true → x ≤ last) → last < get_or xs i 0 → is_in (get_or xs i 0) (take i xs) ≡ false
+above_new xs i last low above = absent_above (is_in (get_or xs i 0) (take i xs)) (get_or xs i 0) last (low (get_or xs i 0)) above
+
+either_low : (a b : Bool) (x y last : ℕ) → (a ≡ true → x ≤ last) → (b ≡ true → x ≡ y) → last < y → (a || b) ≡ true → x ≤ y
+either_low true b x y last f g above e = let h = f refl in omega arith
+either_low false b x y last f g above e = let h = g e in omega arith
+
+is_in_more : (x y : ℕ) (xs : List ℕ) → is_in x (xs ++ y ∷ []) ≡ (is_in x xs || nat_eq x y)
+is_in_more x y [] = or_end (nat_eq x y)
+  where
+    or_end : (b : Bool) → (b || false) ≡ b
+    or_end true = refl
+    or_end false = refl
+is_in_more x y (z ∷ xs) = ap (λ (b : Bool). nat_eq x z || b) (is_in_more x y xs) ∙ or_next (nat_eq x z) (is_in x xs) (nat_eq x y)
+  where
+    or_next : (a b c : Bool) → (a || (b || c)) ≡ ((a || b) || c)
+    or_next true b c = refl
+    or_next false b c = refl
+
+eq_of : (x y : ℕ) → nat_eq x y ≡ true → x ≡ y
+eq_of x y e = grind arith
+
+pub above_low : (xs : List ℕ) (i last : ℕ) → i < length xs → ((x : ℕ) → is_in x (take i xs) ≡ true → x ≤ last) → last < get_or xs i 0 → (x : ℕ) → is_in x (take (i + 1) xs) ≡ true → x ≤ get_or xs i 0
+above_low xs i last h low above x e =
+    let more : is_in x (take (i + 1) xs) ≡ (is_in x (take i xs) || nat_eq x (get_or xs i 0)) = ap (is_in x) (take_more xs i 0 h) ∙ is_in_more x (get_or xs i 0) (take i xs) in
+    either_low (is_in x (take i xs)) (nat_eq x (get_or xs i 0)) x (get_or xs i 0) last (low x) (eq_of x (get_or xs i 0)) above (sym more ∙ e)

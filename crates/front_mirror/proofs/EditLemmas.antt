@@ -1,5 +1,5 @@
 -- One node changed: what is refused, and that the mirror stays one.
-use Rattle.std.proofs.Common.{◌≡◌, ℕ, suc, ◌+◌, ◌-◌, ◌<◌, ◌≤◌, ◌==◌, max, nat_le, Bool, true, false, not, cond, ◌&&◌, ◌||◌, List, [], ◌∷◌, ◌++◌, length, take, drop, Vec, Option, Some, None, option_map, unwrap_or, Result, Ok, refl, sym, ap, ◌∙◌, arith}
+use Rattle.std.proofs.Common.{◌≡◌, ℕ, suc, ◌+◌, ◌-◌, ◌<◌, ◌≤◌, ◌==◌, max, nat_le, Bool, true, false, not, cond, ◌&&◌, ◌||◌, List, [], ◌∷◌, Option, Some, None, option_map, unwrap_or, Result, Ok, refl, sym, ap, ◌∙◌, arith}
 use Rattle.std.specs.List.{list_all}
 use Rattle.node_tree.specs.declared.Kind.{Kind}
 use Rattle.node_tree.specs.declared.Kind.TheVariants as kind
@@ -12,15 +12,14 @@ use Rattle.node_tree.specs.Seen.{Seen, Hold, leaf, counted, opened, is_opened, i
 use Rattle.node_tree.proofs.KeyLemmas.{tally-at, height-at, height_above-at}
 use Rattle.node_tree.proofs.ChangeLemmas.{at-old}
 use Rattle.front_mirror.proofs.PairLemmas.{is_ascending-placed, names-placed, names-without, ascending-without}
-use Rattle.cdp_messages.specs.Told.{Told, seen_nodes}
+use Rattle.cdp_messages.specs.Told.{seen_nodes}
 use Rattle.cdp_messages.specs.NodeData.{fits_nodes}
 use Rattle.cdp_messages.specs.Moves.{Change, shows, inserts, removes, counts, sets, drops, says, changed, suits_change, has_tree, put_after, without_tree, has_named_attribute}
 use Rattle.cdp_messages.specs.Views.{IsMirror, most_levels, is_empty, is_bare, has_formed_labels, is_document_tree}
 use Rattle.front_mirror.specs.declared.faults.FrontKind.{FrontKind}
 use Rattle.front_mirror.specs.declared.edits.NodeEdit.{NodeEdit}
 use Rattle.front_mirror.specs.declared.edits.NodeEdit.TheVariants as edit
-use Rattle.std.specs.declared.alloc.Global.{Global}
-use Rattle.front_mirror.specs.Shown.{shown, known_at, no_node}
+use Rattle.front_mirror.specs.Shown.{known_at, no_node}
 use Rattle.front_mirror.specs.Front.{FrontValue, ToldChange, first_true, is_kin, is_unique, is_fresh, takes_change, knows_named, stands_low, change_fault, told, with_tree, at_spot}
 use Rattle.front_mirror.specs.Edits.{edit_nodes, edit_change, edit_told, fits_edit, is_ready, spot_fault, with_changed}
 use Rattle.front_mirror.proofs.ToldLemmas.{height-seen}
@@ -28,12 +27,11 @@ use Rattle.front_mirror.proofs.ViewLemmas.{clear_three, shows_nodes}
 use Rattle.front_mirror.proofs.SpotLemmas.{spot_branch, find-spot, put-spot, depth-at}
 use Rattle.front_mirror.proofs.ApartLemmas.{once_new}
 use Rattle.front_mirror.proofs.InsertedLemmas.{Inserted, tally-inserted, height-inserted, inserted_after, taken_out, passes-at, all-at, all-inserted}
-use Rattle.front_mirror.proofs.PutLemmas.{refilled}
 use Rattle.front_mirror.proofs.BoolLemmas.{and_left, and_right, both}
 
 -- ---- what is refused, and what is taken
 
-known-spot : (id : ℕ) (tree : Nodes Seen) (s : Spot Seen) → spot seen_id id 0 tree ≡ Some s → known_at id tree ≡ s.branch
+pub known-spot : (id : ℕ) (tree : Nodes Seen) (s : Spot Seen) → spot seen_id id 0 tree ≡ Some s → known_at id tree ≡ s.branch
 known-spot id tree s is = ap (λ (o : Option (Branch Seen)). unwrap_or o no_node) (find-spot seen_id id 0 tree ∙ ap (option_map spot_branch) is)
 
 abbrev taken_well : FrontValue → Result FrontValue FrontKind
@@ -301,17 +299,17 @@ module _ {old new : Branch Seen} where
   }
 
 -- what holds where nothing is wrong with a change
-record Clear (v : Nodes Seen) (t : ToldChange) (s : Spot Seen) : Type 0 where
-  suits : suits_change t.change s.branch ≡ true
-  new : (is_unique t.nodes && is_fresh v t.nodes) ≡ true
-  low : stands_low s.level t.nodes ≡ true
+pub record Clear (v : Nodes Seen) (t : ToldChange) (s : Spot Seen) : Type 0 where
+  pub suits : suits_change t.change s.branch ≡ true
+  pub new : (is_unique t.nodes && is_fresh v t.nodes) ≡ true
+  pub low : stands_low s.level t.nodes ≡ true
 
 clear_four : {A : Type 0} (x y z w : A) (p q r s : Bool) → first_true ((x, not p) ∷ (y, not q) ∷ (z, not r) ∷ (w, not s) ∷ []) ≡ None
     → (p ≡ true) × ((q ≡ true) × ((r ≡ true) × (s ≡ true)))
 clear_four x y z w true q r s e = (refl, clear_three y z w q r s e)
 clear_four x y z w false q r s e = cc
 
-clear_change : (v : Nodes Seen) (t : ToldChange) (s : Spot Seen) → change_fault v t s ≡ None → Clear v t s
+pub clear_change : (v : Nodes Seen) (t : ToldChange) (s : Spot Seen) → change_fault v t s ≡ None → Clear v t s
 clear_change v t s e =
     let p = clear_four _ _ _ _ (takes_change t.change s.branch.row && knows_named v t.change) (suits_change t.change s.branch && is_kin t.node t.nodes) (is_unique t.nodes && is_fresh v t.nodes)
     (stands_low s.level t.nodes) e in
@@ -378,17 +376,3 @@ module _ (v : Nodes Seen) (id : ℕ) (e : NodeEdit) (mirror : IsMirror v) (fits 
 
   pub edit_ready : spot_fault v (edit_told id e) (spot seen_id id 0 v) ≡ None → is_ready id (edit_change e) v ≡ true
   edit_ready clear = ready_at (spot seen_id id 0 v) refl clear
-
-  -- the same of the trees that it keeps
-  pub ready_in : (now : List (Branch Told)) → shown now ≡ v → spot_fault v (edit_told id e) (spot seen_id id 0 v) ≡ None → is_ready id (edit_change e) (shown now) ≡ true
-  ready_in now is clear = ap (is_ready id (edit_change e)) is ∙ edit_ready clear
-
-  pub kept_mirror : (roots : Vec (Branch Told) Global) (now after : List (Branch Told)) → shown roots.items ≡ v → now ≡ roots.items → length now ≡ roots.len
-      → length after ≡ length now → shown after ≡ with_changed id (edit_change e) (shown now) → spot_fault v (edit_told id e) (spot seen_id id 0 v) ≡ None
-      → IsMirror (shown (take roots.len (after ++ drop (length after) roots.items)))
-  kept_mirror roots now after seen items len kept below clear =
-      let all : take roots.len (after ++ drop (length after) roots.items) ≡ after
-      = ap (λ (ys : List (Branch Told)). take roots.len (after ++ drop (length after) ys)) (sym items) ∙ refilled after now roots.len kept len in
-      let is : shown (take roots.len (after ++ drop (length after) roots.items)) ≡ with_changed id (edit_change e) v
-      = ap shown all ∙ below ∙ ap (with_changed id (edit_change e)) (ap shown items ∙ seen) in
-      rw is (mirror_of_edit clear)

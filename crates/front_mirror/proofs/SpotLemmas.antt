@@ -1,13 +1,7 @@
 -- A node that is found with its level, and the one node that a put changes.
-use Rattle.std.proofs.Common.{◌≡◌, ℕ, suc, ◌+◌, ◌<◌, ◌≤◌, ◌==◌, ◌^◌, ◌||◌, Bool, true, false, cond, List, Option, Some, None, option_map, is_some, IfSome, refl, ap, sym, ◌∙◌, subst, rules, arith}
-use Rattle.std.specs.Borrow.{Bor}
-use Rattle.node_tree.specs.Nodes.{Nodes, none, node, Branch, nodes_of, height}
+use Rattle.std.proofs.Common.{◌≡◌, ℕ, suc, ◌+◌, ◌<◌, ◌==◌, ◌||◌, Bool, true, false, cond, Option, Some, None, option_map, is_some, refl, subst, arith}
+use Rattle.node_tree.specs.Nodes.{Nodes, none, node, Branch, height}
 use Rattle.node_tree.specs.Keys.{first_of, Spot, has, find, spot, put, At, here, within, past}
-use Rattle.node_tree.specs.Seen.{Seen, seen_id}
-use Rattle.cdp_messages.specs.Told.{Told, seen_nodes}
-use Rattle.cdp_messages.specs.Views.{most_levels}
-use Rattle.front_mirror.specs.Shown.{shown, told_id, seen_spot, told_spot, shown_spot}
-use Rattle.front_mirror.proofs.ToldLemmas.{height-seen}
 
 abbrev pub spot_branch : {R : Type 0} → Spot R → Branch R
 spot_branch s = s.branch
@@ -78,46 +72,3 @@ module _ {R : Type 0} where
       let h = depth-at p.2 in
       let l = p.1 in
       omega arith
-
--- ---- among told nodes, and those that are shown
-
-seen_here : (v : Bool) (s : Spot Told) (a b : Option (Spot Told))
-    → cond v (Some (seen_spot s)) (first_of (option_map seen_spot a) (option_map seen_spot b)) ≡ option_map seen_spot (cond v (Some s) (first_of a b))
-seen_here true s a b = refl
-seen_here false s None b = refl
-seen_here false s (Some x) b = refl
-
-pub spot-seen : (key : Seen → ℕ) (x level : ℕ) (n : Nodes Told) → spot key x level (seen_nodes n) ≡ option_map seen_spot (spot (λ r. key r.seen) x level n)
-spot-seen key x level none = refl
-spot-seen key x level (node r c t) =
-    rw (spot-seen key x (suc level) c, spot-seen key x level t)
-    (seen_here (key r.seen == x) (record { branch = record { row = r; children = c }; level = level }) _ _)
-
-pub shown_as : (o : Option (Bor (Branch Told) × ℕ)) → option_map shown_spot o ≡ option_map seen_spot (option_map told_spot o)
-shown_as None = refl
-shown_as (Some p) = refl
-
--- ---- a mirror's value, and the trees that it keeps
-
--- the levels of the trees are those of what they show, and fit a word
-pub levels_kept : (bs items : List (Branch Told)) → bs ≡ items → height (shown items) ≤ most_levels → 0 + height (nodes_of bs) < 2 ^ 64
-levels_kept bs items is h = let e = height-seen (nodes_of items) in rw is (omega arith)
-
-pub spot_shown : (bs items : List (Branch Told)) (v : Nodes Seen) (x : ℕ) (o : Option (Bor (Branch Told) × ℕ)) → bs ≡ items → shown items ≡ v
-    → option_map told_spot o ≡ spot told_id x 0 (nodes_of bs) → option_map shown_spot o ≡ spot seen_id x 0 v
-spot_shown bs items v x o is seen found =
-    shown_as o
-    ∙ ap (option_map seen_spot) found
-    ∙ sym (spot-seen seen_id x 0 (nodes_of bs))
-    ∙ ap (λ (trees : List (Branch Told)). spot seen_id x 0 (shown trees)) is
-    ∙ ap (spot seen_id x 0) seen
-
--- no node of a view stands above the level limit
-level_within : (v : Nodes Seen) (x : ℕ) (o : Option (Bor (Branch Told) × ℕ)) → option_map shown_spot o ≡ spot seen_id x 0 v → height v ≤ most_levels
-    → IfSome o (λ p. p.1 < most_levels)
-level_within v x None e h = search rules
-level_within v x (Some p) e h = let l = spot_level seen_id x 0 v (shown_spot p) (sym e) in omega arith
-
-pub spot_within : (bs items : List (Branch Told)) (x : ℕ) (o : Option (Bor (Branch Told) × ℕ)) → bs ≡ items → height (shown items) ≤ most_levels
-    → option_map told_spot o ≡ spot told_id x 0 (nodes_of bs) → IfSome o (λ p. p.1 < most_levels)
-spot_within bs items x o is h found = level_within (shown items) x o (spot_shown bs items (shown items) x o is refl found) h

@@ -7,3 +7,6 @@ pub mod Codes
 pub mod Known
 pub mod Laws
 pub mod Searches
+pub mod IdLists
+pub mod Tables
+pub mod TableEdits

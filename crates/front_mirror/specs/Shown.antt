@@ -1,11 +1,10 @@
 -- What a mirror shows, and how its nodes are found.
 use Rattle.std.specs.Prelude.{ℕ, List, [], unwrap_or}
-use Rattle.std.specs.Borrow.{Bor}
 use Rattle.node_tree.specs.Nodes.{Nodes, none, node, Branch, nodes_of}
 use Rattle.node_tree.specs.declared.Kind.TheVariants.{Document}
-use Rattle.node_tree.specs.Keys.{Spot, find}
+use Rattle.node_tree.specs.Keys.{find}
 use Rattle.node_tree.specs.Seen.{Seen, leaf, seen_id}
-use Rattle.cdp_messages.specs.Told.{Told, seen_nodes, seen_branch}
+use Rattle.cdp_messages.specs.Told.{Told, seen_nodes}
 
 -- what these trees of a message show
 abbrev pub shown : List (Branch Told) → Nodes Seen
@@ -34,15 +33,3 @@ told_id r = r.seen.id
 -- the serial of a told node
 abbrev pub told_serial : Told → ℕ
 told_serial r = r.seen.serial
-
--- a node that is found and its level, as code holds them
-abbrev pub told_spot : Bor (Branch Told) × ℕ → Spot Told
-told_spot p = record { branch = p.0.now; level = p.1 }
-
--- what is shown of it
-abbrev pub seen_spot : Spot Told → Spot Seen
-seen_spot s = record { branch = seen_branch s.branch; level = s.level }
-
--- the node and the level that a search answers
-abbrev pub shown_spot : Bor (Branch Told) × ℕ → Spot Seen
-shown_spot p = seen_spot (told_spot p)

@@ -1,5 +1,5 @@
 // What is asked of nodes that come.
-ghost use Rattle.std.specs.Prelude.{◌≡◌, ◌++◌, nat_le, IfOk, OnOk};
+ghost use Rattle.std.specs.Prelude.{◌≡◌, ◌++◌, true, nat_le, IfOk, OnOk};
 ghost use Rattle.node_tree.specs.Nodes.{nodes_of, height};
 ghost use Rattle.cdp_messages.specs.Views.{keys, is_distinct};
 ghost use Rattle.front_mirror.specs.Shown.{told_id, told_serial};
@@ -60,10 +60,27 @@ pub(crate) fn push_keys(
     Ok(())
 }
 
+/// Whether each number is greater than the one before it, and the first greater than 0: then none comes twice.
+fn ascend(numbers: &[u64]) -> bool
+    ensures { result ≡ true → is_distinct numbers.now ≡ true }
+{
+    let mut last = 0;
+    for number in numbers {
+        if *number <= last {
+            return false;
+        }
+        last = *number;
+    }
+    true
+}
+
 /// No number comes twice.
 pub(crate) fn are_distinct(alloc: Global, numbers: &[u64]) -> Result<bool, AllocError>
     ensures { IfOk result (λ distinct. distinct ≡ is_distinct numbers.now) }
 {
+    if ascend(numbers) {
+        return Ok(true);
+    }
     let mut seen = BTreeSet::new(alloc);
     for number in numbers {
         if !seen.insert(*number)? {

@@ -1,20 +1,20 @@
 // Changes of one node of the mirror: whether they fit it.
-ghost use Rattle.std.specs.Prelude.{◌≡◌, ◌&&◌, ◌==◌, ◌<◌, position, IfOk};
-ghost use Rattle.node_tree.specs.Labels.{is_element, has_value};
-ghost use Rattle.node_tree.specs.Nodes.{nodes_of};
+ghost use Rattle.std.specs.Prelude.{◌≡◌, ◌&&◌, ◌==◌, ◌<◌, IfOk};
+ghost use Rattle.node_tree.specs.Nodes.{nodes_of, Branch};
 ghost use Rattle.node_tree.specs.Keys.{spot};
-ghost use Rattle.node_tree.specs.Seen.{seen_id};
-ghost use Rattle.cdp_messages.specs.Moves.{has_tree, suits_change};
+ghost use Rattle.node_tree.specs.Seen.{Seen, seen_id};
 ghost use Rattle.cdp_messages.specs.Views.{most_levels};
-ghost use Rattle.cdp_messages.specs.Told.{seen_nodes, seen_branch};
-ghost use Rattle.front_mirror.specs.Front.{any_node, clashes, is_unique, is_fresh, stands_low, takes_change, knows_named};
+ghost use Rattle.front_mirror.specs.Tables.{slot_row, IsFace};
+ghost use Rattle.front_mirror.specs.TableEdits.{suits_slot};
+ghost use Rattle.front_mirror.specs.Front.{any_node, clashes, is_unique, is_fresh, stands_low, takes_change, knows_named, change_fault};
 ghost use Rattle.front_mirror.specs.Edits.{edit_nodes, edit_change, edit_told, spot_fault};
 
 use crate::checks::{MOST_LEVELS, are_kin, are_new, are_within};
 use crate::faults::FrontKind;
 use crate::mirror::Mirror;
-use crate::told::{children_of, is_opened, is_unopened};
-use cdp_messages::{Kind, NodeTree};
+use crate::slots::Slot;
+use crate::told::{children_of, is_opened};
+use cdp_messages::NodeTree;
 use node_tree::Text;
 use std::alloc::{AllocError, Global};
 use std::slice;
@@ -35,38 +35,6 @@ pub(crate) enum NodeEdit {
     SetValue(Text),
 }
 
-/// The place of the first of these trees that has the id.
-pub(crate) fn place_of(trees: &[NodeTree], id: u64) -> Option<usize>
-    ensures { result ≡ position (λ tree. tree.row.seen.id == id) trees.now }
-{
-    trees.iter().position(|tree| tree.id == id)
-}
-
-/// Whether a shown child of the node has the id.
-fn has_child(node: &NodeTree, id: u64) -> bool
-    ensures { result ≡ has_tree id (seen_nodes node.now.children) }
-{
-    place_of(children_of(node), id).is_some()
-}
-
-fn is_element(node: &NodeTree) -> bool
-    ensures { result ≡ is_element node.now.row.seen.label.kind }
-{
-    match node.kind {
-        Kind::Element => true,
-        Kind::Document | Kind::Text | Kind::Comment | Kind::Doctype => false,
-    }
-}
-
-fn has_value(node: &NodeTree) -> bool
-    ensures { result ≡ has_value node.now.row.seen.label.kind }
-{
-    match node.kind {
-        Kind::Text | Kind::Comment => true,
-        Kind::Document | Kind::Element | Kind::Doctype => false,
-    }
-}
-
 impl NodeEdit {
     /// The nodes that come with it.
     fn nodes(&self) -> &[NodeTree]
@@ -84,14 +52,14 @@ impl NodeEdit {
     }
 
     /// Whether the node is of a kind and in a state that it fits.
-    fn is_for(&self, node: &NodeTree) -> bool
-        ensures { result ≡ takes_change (edit_change self.now) node.now.row.seen }
+    fn is_for(&self, slot: &Slot) -> bool
+        ensures { result ≡ takes_change (edit_change self.now) (slot_row slot.now) }
     {
         match self {
-            NodeEdit::Show(_) | NodeEdit::Count(_) => is_unopened(node),
-            NodeEdit::Insert { .. } | NodeEdit::Remove(_) => is_opened(node),
-            NodeEdit::SetAttribute { .. } | NodeEdit::DropAttribute(_) => is_element(node),
-            NodeEdit::SetValue(_) => has_value(node),
+            NodeEdit::Show(_) | NodeEdit::Count(_) => slot.is_unopened(),
+            NodeEdit::Insert { .. } | NodeEdit::Remove(_) => slot.is_opened(),
+            NodeEdit::SetAttribute { .. } | NodeEdit::DropAttribute(_) => slot.is_element(),
+            NodeEdit::SetValue(_) => slot.has_value(),
         }
     }
 
@@ -111,22 +79,19 @@ impl NodeEdit {
     }
 
     /// Whether it may be told of the node.
-    fn suits(&self, node: &NodeTree) -> bool
-        ensures { result ≡ suits_change (edit_change self.now) (seen_branch node.now) }
+    fn suits(&self, slot: &Slot) -> bool
+        ensures { result ≡ suits_slot (edit_change self.now) slot.now }
     {
         match self {
-            NodeEdit::Show(_) | NodeEdit::Count(_) => is_unopened(node),
-            NodeEdit::Insert {
-                previous,
-                node: child,
-            } => {
-                is_opened(node)
-                    && (*previous == 0 || has_child(node, *previous))
-                    && !is_opened(child)
+            NodeEdit::Show(_) | NodeEdit::Count(_) => slot.is_unopened(),
+            NodeEdit::Insert { previous, node } => {
+                slot.is_opened()
+                    && (*previous == 0 || slot.children.has(*previous))
+                    && !is_opened(node)
             }
-            NodeEdit::Remove(id) => is_opened(node) && has_child(node, *id),
-            NodeEdit::SetAttribute { .. } | NodeEdit::DropAttribute(_) => is_element(node),
-            NodeEdit::SetValue(_) => has_value(node),
+            NodeEdit::Remove(id) => slot.is_opened() && slot.children.has(*id),
+            NodeEdit::SetAttribute { .. } | NodeEdit::DropAttribute(_) => slot.is_element(),
+            NodeEdit::SetValue(_) => slot.has_value(),
         }
     }
 }
@@ -172,23 +137,25 @@ fn stand_low(nodes: &[NodeTree], level: usize) -> bool
     are_within(nodes, MOST_LEVELS - 1 - level)
 }
 
-/// What is wrong with a change of the node of that id, the first by number.
-pub(crate) fn edit_fault(
+/// What is wrong with a change of the node in that slot, on that level, the first by number.
+#[tactic(auto, using(crate::proofs::ReadLemmas::suits_face))]
+fn slot_fault(
     alloc: Global,
     mirror: &Mirror,
-    id: u64,
+    slot: &Slot,
+    level: usize,
     edit: &NodeEdit,
 ) -> Result<Option<FrontKind>, AllocError>
-    ensures { IfOk result (λ wrong. wrong ≡ spot_fault mirror.now (edit_told id edit.now) (spot seen_id id 0 mirror.now)) }
+    requires { level < most_levels }
+    ensures { (b : Branch Seen) → IsFace slot.now b
+        → IfOk result (λ wrong. wrong ≡ change_fault mirror.now (edit_told slot.now.id edit.now)
+        (record { branch = b; level = level })) }
 {
-    let Some((node, level)) = mirror.spot(id) else {
-        return Ok(Some(FrontKind::UnknownNode));
-    };
-    if !edit.is_for(node) || !edit.is_named(mirror) {
+    if !edit.is_for(slot) || !edit.is_named(mirror) {
         return Ok(Some(FrontKind::UnknownNode));
     }
     let nodes = edit.nodes();
-    if !edit.suits(node) || !are_kin(nodes, id) {
+    if !edit.suits(slot) || !are_kin(nodes, slot.id) {
         return Ok(Some(FrontKind::NotChild));
     }
     if !are_fresh(alloc, mirror, nodes)? {
@@ -198,4 +165,19 @@ pub(crate) fn edit_fault(
         return Ok(Some(FrontKind::TooDeep));
     }
     Ok(None)
+}
+
+/// What is wrong with a change of the node of that id, the first by number.
+pub(crate) fn edit_fault(
+    alloc: Global,
+    mirror: &Mirror,
+    id: u64,
+    edit: &NodeEdit,
+) -> Result<Option<FrontKind>, AllocError>
+    ensures { IfOk result (λ wrong. wrong ≡ spot_fault mirror.now (edit_told id edit.now) (spot seen_id id 0 mirror.now)) }
+{
+    let Some(slot) = mirror.find(id) else {
+        return Ok(Some(FrontKind::UnknownNode));
+    };
+    slot_fault(alloc, mirror, slot, mirror.level(id), edit)
 }

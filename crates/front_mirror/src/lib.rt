@@ -16,9 +16,15 @@ mod lines;
 mod mirror;
 mod outline;
 mod pauses;
+mod plants;
 mod replies;
 mod roots;
 mod sheets;
+mod slots;
+mod table;
+mod table_changes;
+mod table_edits;
+mod table_walks;
 mod told;
 
 pub use faults::{FrontErr, FrontFault, FrontKind};

@@ -1,18 +1,18 @@
-ghost use Rattle.std.specs.Prelude.{◌≡◌, ◌≢◌, ◌↔◌, ◌<◌, ◌++◌, length, IsTrue, IsSome, is_some, Some, option_map, option_copied, slice_get, None, true, IfOk, IfSome, OnOk};
+ghost use Rattle.std.specs.Prelude.{◌≡◌, ◌≢◌, ◌↔◌, ◌<◌, ◌++◌, length, IsTrue, IsSome, is_some, Some, option_map, unwrap_or, slice_get, None, true, IfOk, IfSome, OnOk};
 ghost use Rattle.node_tree.specs.Nodes.{none, alone, width, tree_at, nodes_of};
-ghost use Rattle.node_tree.specs.Keys.{has, find, parent_of, spot};
+ghost use Rattle.std.specs.Option.{option_copied};
+ghost use Rattle.node_tree.specs.Keys.{has, find, parent_of, level_of, spot};
 ghost use Rattle.node_tree.specs.Seen.{is_opened, seen_id, seen_serial};
 ghost use Rattle.cdp_messages.specs.Told.{count_in, seen_nodes, seen_branch};
 ghost use Rattle.cdp_messages.specs.NodeData.{fits_tree};
-ghost use Rattle.front_mirror.specs.Shown.{shown, shown_spot, known_at, root_id};
-ghost use Rattle.front_mirror.specs.Outline.{outline_text, seen_line};
+ghost use Rattle.front_mirror.specs.Shown.{known_at, root_id};
+ghost use Rattle.front_mirror.specs.Outline.{lines_at, seen_line};
+ghost use Rattle.front_mirror.specs.Tables.{slot_row, root_ids, Looks};
 
-use crate::changes::change_among;
+use crate::checks::MOST_LEVELS;
 use crate::edits::NodeEdit;
-use crate::told::{
-    child_id, children_of, count_of, find_by_id, find_by_serial, is_opened, parent_among,
-    spot_by_id,
-};
+use crate::slots::{IdList, Slot};
+use crate::table::Table;
 use cdp_messages::{Kind, NodeTree};
 use std::alloc::{AllocError, Global};
 use std::marker::Model;
@@ -22,22 +22,22 @@ use std::mem;
 /// page, or nothing. The readers take no memory. A node is known by its id.
 #[derive(Drop)]
 pub struct Mirror {
-    roots: Vec<NodeTree>,
+    table: Table,
+    roots: IdList,
 }
 
 impl Model for Mirror {
     ghost use Rattle.node_tree.specs.Nodes.{Nodes, coded_nodes};
     ghost use Rattle.node_tree.specs.Seen.{Seen, coded_seen};
-    ghost use Rattle.front_mirror.specs.Shown.{shown};
-    ghost use Rattle.cdp_messages.specs.Views.{IsMirror};
+    ghost use Rattle.front_mirror.specs.Tables.{tree_in, IsKept};
 
     ghost Value = { Nodes Seen };
 
     ghost coded = { coded_nodes coded_seen };
 
-    ghost view = { λ m. shown m.roots.items };
+    ghost view = { λ m. tree_in m.table m.roots };
 
-    ghost invariant = { λ m. IsMirror (shown m.roots.items) };
+    ghost invariant = { λ m. IsKept m.table m.roots };
 }
 
 impl Mirror {
@@ -49,7 +49,8 @@ impl Mirror {
         ensures { result ≡ none }
     {
         Mirror {
-            roots: Vec::new(alloc),
+            table: Table::new(alloc),
+            roots: IdList::new(alloc),
         }
     }
 
@@ -59,9 +60,11 @@ impl Mirror {
         requires clear { root_fault root ≡ None }
         ensures { IfOk result (λ mirror. mirror ≡ seen_nodes (alone root)) }
     {
-        let mut roots = Vec::new(alloc);
-        roots.push(root)?;
-        Ok(Mirror { roots })
+        let mut table = Table::new(alloc);
+        let mut roots = IdList::new(alloc);
+        roots.push(root.id)?;
+        table.plant(alloc, root, None)?;
+        Ok(Mirror { table, roots })
     }
 
     /// Changes a known node, where nothing is wrong with the edit. After want of memory the mirror is empty.
@@ -75,8 +78,10 @@ impl Mirror {
         requires clear { spot_fault self.old (edit_told id edit) (spot seen_id id 0 self.old) ≡ None }
         ensures { OnOk result (self.new ≡ with_changed id (edit_change edit) self.old) }
     {
-        let mut roots = mem::replace(&mut self.roots, Vec::new(alloc));
-        change_among(&mut roots, id, edit)?;
+        let mut table = mem::replace(&mut self.table, Table::new(alloc));
+        let roots = mem::replace(&mut self.roots, IdList::new(alloc));
+        table.change(alloc, id, edit)?;
+        self.table = table;
         self.roots = roots;
         Ok(())
     }
@@ -89,17 +94,19 @@ impl Mirror {
         let _ = &self.roots;
     }
 
-    pub(crate) fn roots(&self) -> &[NodeTree]
-        ensures { shown result.now ≡ self.now }
+    /// Appends one line for each node.
+    pub(crate) fn write_lines(&self, alloc: Global, out: &mut Vec<u8>) -> Result<(), AllocError>
+        ensures { OnOk result (out.new.items ≡ out.old.items ++ lines_at seen_line 0 self.now) }
     {
-        self.roots.as_slice()
+        self.table
+            .write_all(alloc, self.roots.as_slice(), MOST_LEVELS, 0, out)
     }
 
     /// Whether nothing is shown.
     pub fn is_empty(&self) -> bool
         ensures { IsTrue result ↔ (self.now ≡ none) }
     {
-        self.roots.as_slice().is_empty()
+        self.roots.len() == 0
     }
 
     /// The id of the document.
@@ -107,30 +114,27 @@ impl Mirror {
         requires { self.now ≢ none }
         ensures { result ≡ root_id self.now }
     {
-        let root = &self.roots[0];
-        root.id
+        self.roots.at(0)
     }
 
-    fn find(&self, id: u64) -> Option<&NodeTree>
-        ensures { find seen_id id self.now ≡ option_map seen_branch (option_copied result) }
+    /// The slot of that id.
+    pub(crate) fn find(&self, id: u64) -> Option<&Slot>
+        ensures looks { Looks (option_copied result) (find seen_id id self.now) }
+        ensures parent { IfSome result (λ slot. Some (unwrap_or slot.now.parent 0) ≡ parent_of seen_id id 0 self.now) }
     {
-        find_by_id(&self.roots, id)
+        self.table.get(id)
     }
 
-    fn find_serial(&self, serial: u64) -> Option<&NodeTree>
-        ensures { find seen_serial serial self.now ≡ option_map seen_branch (option_copied result) }
-    {
-        find_by_serial(&self.roots, serial)
-    }
-
-    fn node(&self, id: u64) -> &NodeTree
+    fn at(&self, id: u64) -> &Slot
         requires known { IsSome (find seen_id id self.now) }
-        ensures { seen_branch result.now ≡ known_at id self.now }
+        ensures row { slot_row result.now ≡ (known_at id self.now).row }
+        ensures children { result.now.children ≡ root_ids (known_at id self.now).children }
+        ensures parent { Some (unwrap_or result.now.parent 0) ≡ parent_of seen_id id 0 self.now }
     {
-        let Some(node) = self.find(id) else {
+        let Some(slot) = self.find(id) else {
             unreachable!()
         };
-        node
+        slot
     }
 
     /// Whether a node of that id is shown.
@@ -144,21 +148,19 @@ impl Mirror {
     pub(crate) fn has_serial(&self, serial: u64) -> bool
         ensures { result ≡ has seen_serial serial self.now }
     {
-        self.find_serial(serial).is_some()
+        self.table.id_of(serial).is_some()
     }
 
-    /// The known node of that id, and its level.
-    pub(crate) fn spot(&self, id: u64) -> Option<(&NodeTree, usize)>
-        ensures spot { option_map shown_spot result ≡ spot seen_id id 0 self.now }
-        ensures level { IfSome result (λ p. p.1 < most_levels) }
+    /// The level of a known node.
+    pub(crate) fn level(&self, id: u64) -> usize
+        requires known { IsSome (find seen_id id self.now) }
+        ensures level { level_of seen_id id 0 self.now ≡ Some result }
+        ensures low { result < most_levels }
     {
-        spot_by_id(&self.roots, id, 0)
-    }
-
-    fn parent_of(&self, id: u64) -> Option<u64>
-        ensures { result ≡ parent_of seen_id id 0 self.now }
-    {
-        parent_among(&self.roots, 0, id)
+        let Some(slot) = self.table.get(id) else {
+            unreachable!()
+        };
+        self.table.climb(slot.parent, MOST_LEVELS)
     }
 
     /// Whether a node of that id is shown.
@@ -172,10 +174,7 @@ impl Mirror {
     pub fn id_of(&self, serial: u64) -> Option<u64>
         ensures { result ≡ option_map (λ b. b.row.id) (find seen_serial serial self.now) }
     {
-        match self.find_serial(serial) {
-            Some(node) => Some(node.id),
-            None => None,
-        }
+        self.table.id_of(serial)
     }
 
     /// The kind of the node of that id.
@@ -183,7 +182,7 @@ impl Mirror {
         requires known { IsSome (find seen_id id self.now) }
         ensures { result ≡ (known_at id self.now).row.label.kind }
     {
-        self.node(id).kind
+        self.at(id).kind
     }
 
     /// The name of an element or a doctype, else the empty text.
@@ -191,7 +190,7 @@ impl Mirror {
         requires known { IsSome (find seen_id id self.now) }
         ensures { result.now ≡ (known_at id self.now).row.label.name }
     {
-        self.node(id).name.as_str()
+        self.at(id).name.as_str()
     }
 
     /// The value of a text or a comment, else the empty text.
@@ -199,7 +198,7 @@ impl Mirror {
         requires known { IsSome (find seen_id id self.now) }
         ensures { result.now ≡ (known_at id self.now).row.label.value }
     {
-        self.node(id).value.as_str()
+        self.at(id).value.as_str()
     }
 
     /// The serial of the node of that id, the protocol's `backendNodeId`.
@@ -207,19 +206,15 @@ impl Mirror {
         requires known { IsSome (find seen_id id self.now) }
         ensures { result ≡ (known_at id self.now).row.serial }
     {
-        self.node(id).serial
+        self.at(id).serial
     }
 
     /// The id of the parent, 0 for the document.
-    #[tactic(auto, using(crate::proofs::ToldLemmas::parent_missing))]
     pub fn parent(&self, id: u64) -> u64
         requires known { IsSome (find seen_id id self.now) }
         ensures { Some result ≡ parent_of seen_id id 0 self.now }
     {
-        let Some(parent) = self.parent_of(id) else {
-            unreachable!()
-        };
-        parent
+        self.at(id).parent.unwrap_or(0)
     }
 
     /// Whether its children are known.
@@ -227,7 +222,7 @@ impl Mirror {
         requires known { IsSome (find seen_id id self.now) }
         ensures { result ≡ is_opened (known_at id self.now).row.hold }
     {
-        is_opened(self.node(id))
+        self.at(id).is_opened()
     }
 
     /// How many children it has, known or only counted.
@@ -235,26 +230,24 @@ impl Mirror {
         requires known { IsSome (find seen_id id self.now) }
         ensures { result ≡ count_in (known_at id self.now).row.hold (known_at id self.now).children }
     {
-        count_of(self.node(id))
+        self.at(id).count()
     }
 
     /// How many of its children are known.
-    #[tactic(auto, using(crate::proofs::ToldLemmas::known_width))]
     pub fn children_len(&self, id: u64) -> usize
         requires known { IsSome (find seen_id id self.now) }
         ensures { result ≡ width (known_at id self.now).children }
     {
-        children_of(self.node(id)).len()
+        self.at(id).children.len()
     }
 
     /// The id of its known child at place `i`, counted from 0.
-    #[tactic(auto, using(crate::proofs::ToldLemmas::known_place, crate::proofs::ToldLemmas::known_child))]
     pub fn child_at(&self, id: u64, i: usize) -> u64
         requires known { IsSome (find seen_id id self.now) }
         requires place { i < width (known_at id self.now).children }
         ensures { Some result ≡ option_map (λ b. b.row.id) (tree_at i (known_at id self.now).children) }
     {
-        child_id(self.node(id), i)
+        self.at(id).children.at(i)
     }
 
     /// How many attributes the node of that id has.
@@ -262,7 +255,7 @@ impl Mirror {
         requires known { IsSome (find seen_id id self.now) }
         ensures { result ≡ length (known_at id self.now).row.label.attributes }
     {
-        self.node(id).attributes.len()
+        self.at(id).attributes.len()
     }
 
     /// The name and the value of its attribute at place `i`, counted from 0.
@@ -271,6 +264,6 @@ impl Mirror {
         requires place { i < length (known_at id self.now).row.label.attributes }
         ensures { slice_get (known_at id self.now).row.label.attributes i ≡ Some (result.0.now, result.1.now) }
     {
-        self.node(id).attributes.at(i)
+        self.at(id).attributes.at(i)
     }
 }

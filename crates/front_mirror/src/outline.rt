@@ -2,7 +2,6 @@ ghost use Rattle.std.specs.Prelude.{◌≡◌, ◌++◌, OnOk};
 ghost use Rattle.front_mirror.specs.Outline.{outline_text, seen_line};
 
 use crate::mirror::Mirror;
-use crate::told::write_lines;
 use std::alloc::{AllocError, Global};
 
 /// Appends the outline: one line for each node in document order, two spaces deeper for each level, or the line
@@ -15,7 +14,5 @@ pub fn write_outline(alloc: Global, mirror: &Mirror, out: &mut Vec<u8>) -> Resul
         out.extend_from_slice(b"no document\n")?;
         return Ok(());
     }
-    mirror.valid();
-    write_lines(alloc, mirror.roots(), 0, out)?;
-    Ok(())
+    mirror.write_lines(alloc, out)
 }

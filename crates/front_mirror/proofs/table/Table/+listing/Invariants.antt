@@ -1,0 +1,20 @@
+-- The ids so far, before those of the nodes that are left.
+use Rattle.std.proofs.Common.{◌≡◌, ◌+◌, ◌-◌, ◌*◌, ◌<◌, ◌++◌, suc, drop}
+use Rattle.node_tree.specs.Seen.{seen_id}
+use Rattle.cdp_messages.specs.Views.{keys}
+use Rattle.front_mirror.specs.Tables.{trees_in}
+use Rattle.front_mirror.proofs.table.Table.+listing.Given as goal
+
+abbrev pub decreases-list_one : goal.decreases-list_one
+decreases-list_one l = 2 * l.levels + 1
+
+abbrev pub decreases-list_all : goal.decreases-list_all
+decreases-list_all l = 2 * l.levels
+
+abbrev pub invariant-list_all-loop-id : goal.invariant-list_all-loop-id
+invariant-list_all-loop-id l = record {
+  some : 0 < l.levels;
+  listed :
+      l.ids.items ++ keys seen_id (trees_in l.self (suc (l.levels - 1)) (drop l.id-index l.roots))
+      ≡ l.initial.ids.items ++ keys seen_id (trees_in l.self (suc (l.levels - 1)) l.roots);
+}

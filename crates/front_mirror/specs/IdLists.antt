@@ -1,0 +1,21 @@
+-- Ids of children in their order.
+use Rattle.std.specs.Prelude.{ℕ, suc, ◌==◌, cond, List, [], ◌∷◌}
+
+-- the place of the first that is the id, and else the number of them
+abbrev pub place_in : ℕ → List ℕ → ℕ
+place_in x [] = 0
+place_in x (k ∷ ks) = cond {A = ℕ} (k == x) 0 (suc (place_in x ks))
+
+-- the ids with one more behind another
+abbrev pub id_behind : ℕ → ℕ → List ℕ → List ℕ
+id_behind previous x [] = []
+id_behind previous x (k ∷ ks) = cond (k == previous) (k ∷ x ∷ ks) (k ∷ id_behind previous x ks)
+
+-- the same, or first where the other is 0
+abbrev pub id_after : ℕ → ℕ → List ℕ → List ℕ
+id_after previous x ks = cond (previous == 0) (x ∷ ks) (id_behind previous x ks)
+
+-- the ids without the first that is this one
+abbrev pub without_id : ℕ → List ℕ → List ℕ
+without_id x [] = []
+without_id x (k ∷ ks) = cond (k == x) ks (k ∷ without_id x ks)

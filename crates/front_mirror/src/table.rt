@@ -1,0 +1,68 @@
+ghost use Rattle.std.specs.Prelude.{◌≡◌, ◌≤◌, ℕ, None, Some, OnOk};
+ghost use Rattle.std.specs.Option.{option_copied};
+ghost use Rattle.front_mirror.specs.Tables.{slots_in, ids_in, climbed, Puts};
+
+use crate::slots::Slot;
+use std::alloc::{AllocError, Global};
+use std::collections::BTreeMap;
+
+/// The known nodes in slots, each under its id, and the id of each serial.
+#[derive(Drop)]
+pub(crate) struct Table {
+    pub(crate) slots: BTreeMap<u64, Slot>,
+    pub(crate) ids: BTreeMap<u64, u64>,
+}
+
+impl Table {
+    /// No slots.
+    pub(crate) fn new(alloc: Global) -> Table
+        ensures slots { (k : ℕ) → slots_in result k ≡ None }
+        ensures ids { (x : ℕ) → ids_in result x ≡ None }
+    {
+        Table {
+            slots: BTreeMap::new(alloc),
+            ids: BTreeMap::new(alloc),
+        }
+    }
+
+    /// The slot of an id.
+    pub(crate) fn get(&self, id: u64) -> Option<&Slot>
+        ensures { option_copied result ≡ slots_in self.now id }
+    {
+        self.slots.get(&id)
+    }
+
+    /// The id of a serial.
+    pub(crate) fn id_of(&self, serial: u64) -> Option<u64>
+        ensures { result ≡ ids_in self.now serial }
+    {
+        self.ids.get(&serial).copied()
+    }
+
+    /// How many slots there are from the one of that id up, at most so many.
+    pub(crate) fn climb(&self, above: Option<u64>, levels: usize) -> usize
+        ensures rise { result ≡ climbed self.now levels above }
+        ensures few { result ≤ levels }
+    {
+        if levels == 0 {
+            return 0;
+        }
+        let Some(id) = above else {
+            return 0;
+        };
+        let Some(slot) = self.get(id) else {
+            return 1;
+        };
+        self.climb(slot.parent, levels - 1) + 1
+    }
+
+    /// Puts a node into its slot.
+    pub(crate) fn put(&mut self, slot: Slot) -> Result<(), AllocError>
+        ensures slots { OnOk result (Puts (slots_in self.old) (slots_in self.new) slot.id (Some slot)) }
+        ensures ids { OnOk result (Puts (ids_in self.old) (ids_in self.new) slot.serial (Some slot.id)) }
+    {
+        self.ids.insert(slot.serial, slot.id)?;
+        self.slots.insert(slot.id, slot)?;
+        Ok(())
+    }
+}

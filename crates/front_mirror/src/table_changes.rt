@@ -1,0 +1,60 @@
+// Changes of one node of the table, with what comes and goes below it.
+ghost use Rattle.std.specs.Prelude.{◌≡◌, ◌==◌, ◌||◌, true, Some, IsSome, OnOk};
+ghost use Rattle.node_tree.specs.Nodes.{alone};
+ghost use Rattle.cdp_messages.specs.Told.{seen_nodes};
+ghost use Rattle.cdp_messages.specs.Views.{is_in};
+ghost use Rattle.front_mirror.specs.declared.slots.Slot.{Slot};
+ghost use Rattle.front_mirror.specs.Shown.{shown};
+ghost use Rattle.front_mirror.specs.IdLists.{id_after};
+ghost use Rattle.front_mirror.specs.Tables.{slots_in, IsListed, Grown, Cut, opened_slot, with_child, root_ids};
+
+use crate::checks::MOST_LEVELS;
+use crate::plants::ids_of;
+use crate::table::Table;
+use cdp_messages::NodeTree;
+use std::alloc::{AllocError, Global};
+use std::slice;
+
+impl Table {
+    /// Shows the children of a node. After want of memory some of them may stand.
+    pub(crate) fn show(
+        &mut self,
+        alloc: Global,
+        id: u64,
+        nodes: Vec<NodeTree>,
+    ) -> Result<(), AllocError>
+        ensures { OnOk result (Grown self.old self.new id (opened_slot (root_ids (shown nodes.items))) (shown nodes.items)) }
+    {
+        let ids = ids_of(alloc, &nodes)?;
+        self.open(id, ids);
+        self.plant_all(alloc, nodes, Some(id))
+    }
+
+    /// Puts a child behind that of the id, or first where that is 0.
+    pub(crate) fn insert(
+        &mut self,
+        alloc: Global,
+        id: u64,
+        previous: u64,
+        node: NodeTree,
+    ) -> Result<(), AllocError>
+        requires { (slot : Slot) → slots_in self.old id ≡ Some slot → (previous == 0 || is_in previous slot.children) ≡ true }
+        ensures { OnOk result (Grown self.old self.new id (with_child previous node.row.seen.id) (seen_nodes (alone node))) }
+    {
+        self.insert_child(id, previous, node.id)?;
+        self.plant(alloc, node, Some(id))
+    }
+
+    /// Takes a child out, with all below it.
+    pub(crate) fn cut(&mut self, alloc: Global, id: u64, child: u64) -> Result<(), AllocError>
+        requires listed { IsListed self.old }
+        requires there { IsSome (slots_in self.old id) }
+        ensures { OnOk result (Cut self.old self.new id child) }
+    {
+        let mut ids = Vec::new(alloc);
+        self.list_all(slice::from_ref(&child), MOST_LEVELS, &mut ids)?;
+        self.remove_child(id, child);
+        self.remove_all(&ids);
+        Ok(())
+    }
+}

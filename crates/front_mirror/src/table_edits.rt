@@ -1,0 +1,137 @@
+// Changes of single slots of the table.
+ghost use Rattle.std.specs.Prelude.{◌≡◌, ◌==◌, ◌||◌, ℕ, [], ◌∷◌, true, Some, None, OnOk};
+ghost use Rattle.node_tree.specs.Labels.{is_ascending};
+ghost use Rattle.cdp_messages.specs.LabelChanges.{placed, pairs_without};
+ghost use Rattle.cdp_messages.specs.Views.{is_in};
+ghost use Rattle.front_mirror.specs.declared.slots.Slot.{Slot};
+ghost use Rattle.front_mirror.specs.declared.slots.Below.TheVariants.{Opened};
+ghost use Rattle.front_mirror.specs.IdLists.{id_after, without_id};
+ghost use Rattle.front_mirror.specs.Tables.{slots_in, ids_in, Turned, Puts, IsListed, without_slots};
+
+use crate::attribute_changes::{drop_attribute, set_attribute};
+use crate::slots::{Below, IdList, Slot};
+use crate::table::Table;
+use node_tree::Text;
+use std::alloc::AllocError;
+
+impl Table {
+    /// What is shown below a node, but for its children.
+    pub(crate) fn set_below(&mut self, id: u64, below: Below)
+        ensures ids { self.new.ids ≡ self.old.ids }
+        ensures slots { Turned self.old self.new id (λ slot. record slot { below = below }) }
+    {
+        if let Some(slot) = self.slots.get_mut(&id) {
+            slot.below = below;
+        }
+    }
+
+    /// Its children are shown from now on.
+    pub(crate) fn open(&mut self, id: u64, children: IdList)
+        ensures ids { self.new.ids ≡ self.old.ids }
+        ensures slots { Turned self.old self.new id (λ slot. record slot { below = Opened; children = children }) }
+    {
+        if let Some(slot) = self.slots.get_mut(&id) {
+            slot.below = Below::Opened;
+            slot.children = children;
+        }
+    }
+
+    /// Its value is this one.
+    pub(crate) fn set_value(&mut self, id: u64, value: Text)
+        ensures ids { self.new.ids ≡ self.old.ids }
+        ensures slots { Turned self.old self.new id (λ slot. record slot { value = value }) }
+    {
+        if let Some(slot) = self.slots.get_mut(&id) {
+            slot.value = value;
+        }
+    }
+
+    /// Sets the attribute of that name, or adds it in its place.
+    pub(crate) fn set_attr(&mut self, id: u64, name: Text, value: Text) -> Result<(), AllocError>
+        requires { (slot : Slot) → slots_in self.old id ≡ Some slot → is_ascending slot.attributes ≡ true }
+        ensures ids { self.new.ids ≡ self.old.ids }
+        ensures slots { OnOk result (Turned self.old self.new id
+            (λ slot. record slot { attributes = placed (name, value) slot.attributes })) }
+    {
+        if let Some(slot) = self.slots.get_mut(&id) {
+            let _was = set_attribute(&mut slot.attributes, name, value)?;
+        }
+        Ok(())
+    }
+
+    /// Takes the attribute of that name away, where there is one.
+    pub(crate) fn drop_attr(&mut self, id: u64, name: &str)
+        requires { (slot : Slot) → slots_in self.old id ≡ Some slot → is_ascending slot.attributes ≡ true }
+        ensures ids { self.new.ids ≡ self.old.ids }
+        ensures slots { Turned self.old self.new id (λ slot. record slot { attributes = pairs_without name.now slot.attributes }) }
+    {
+        if let Some(slot) = self.slots.get_mut(&id) {
+            let _was = drop_attribute(&mut slot.attributes, name);
+        }
+    }
+
+    /// Puts an id behind another among those of the children, or first where that is 0.
+    pub(crate) fn insert_child(
+        &mut self,
+        id: u64,
+        previous: u64,
+        child: u64,
+    ) -> Result<(), AllocError>
+        requires { (slot : Slot) → slots_in self.old id ≡ Some slot → (previous == 0 || is_in previous slot.children) ≡ true }
+        ensures ids { self.new.ids ≡ self.old.ids }
+        ensures slots { OnOk result (Turned self.old self.new id
+            (λ slot. record slot { children = id_after previous child slot.children })) }
+    {
+        match self.slots.get_mut(&id) {
+            Some(slot) => slot.children.insert_after(previous, child),
+            None => Ok(()),
+        }
+    }
+
+    /// Takes an id out from among those of the children.
+    pub(crate) fn remove_child(&mut self, id: u64, child: u64)
+        ensures ids { self.new.ids ≡ self.old.ids }
+        ensures slots { Turned self.old self.new id (λ slot. record slot { children = without_id child slot.children }) }
+    {
+        if let Some(slot) = self.slots.get_mut(&id) {
+            slot.children.remove(child);
+        }
+    }
+
+    fn take_slot(&mut self, id: u64) -> Option<Slot>
+        ensures ids { self.new.ids ≡ self.old.ids }
+        ensures slots { Puts (slots_in self.old) (slots_in self.new) id None }
+        ensures was { result ≡ slots_in self.old id }
+    {
+        self.slots.remove(&id)
+    }
+
+    fn drop_serial(&mut self, serial: u64)
+        ensures slots { self.new.slots ≡ self.old.slots }
+        ensures ids { Puts (ids_in self.old) (ids_in self.new) serial None }
+    {
+        self.ids.remove(&serial);
+    }
+
+    /// Takes the slot of an id out, where it has one.
+    fn remove(&mut self, id: u64)
+        requires { IsListed self.old }
+        ensures listed { IsListed self.new }
+        ensures slots { Puts (slots_in self.old) (slots_in self.new) id None }
+    {
+        if let Some(slot) = self.take_slot(id) {
+            self.drop_serial(slot.serial);
+        }
+    }
+
+    /// Takes the slots of these ids out.
+    pub(crate) fn remove_all(&mut self, ids: &[u64])
+        requires { IsListed self.old }
+        ensures listed { IsListed self.new }
+        ensures slots { slots_in self.new ≡ without_slots ids.now (slots_in self.old) }
+    {
+        for id in ids {
+            self.remove(*id);
+        }
+    }
+}
