@@ -12,7 +12,7 @@ use crate::known::Known;
 use crate::mirror::Mirror;
 use crate::pauses::SeenPause;
 use crate::replies::{Ask, Kept};
-use crate::sheets::stale_of;
+use crate::sheets::{has_sheet, stale_of};
 use cdp_json::object;
 use cdp_messages::write_command;
 use css_objects::{SheetOrigin, sheet_value};
@@ -214,6 +214,13 @@ impl Front {
         ensures { result ≡ length self.now.value.sheets }
     {
         self.known.sheets.len()
+    }
+
+    /// Whether a sheet of that number is known.
+    pub fn knows_sheet(&self, number: u64) -> bool
+        ensures { result ≡ has_sheet number self.now.value.sheets }
+    {
+        has_sheet(&self.known.sheets, number)
     }
 
     /// The number of the sheet at place `i`, counted from 0, where it comes from, and its text where it has one, which may be
