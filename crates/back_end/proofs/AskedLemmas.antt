@@ -33,6 +33,9 @@ ask-fits c (Some a) is fits = ap fits_command (sym (dom_asks_are_commands c a (s
 abbrev ask_of_part : SeatPart → Option DomAsk
 ask_of_part part.Enables = None
 ask_of_part part.Disables = None
+ask_of_part part.CssEnables = None
+ask_of_part part.CssDisables = None
+ask_of_part (part.Styles ask) = None
 ask_of_part (part.Loads params) = None
 ask_of_part (part.Acts params) = None
 ask_of_part (part.Others ask) = ask

@@ -1,43 +1,48 @@
 -- The step on a frame: the state after it is valid, its moves lead on, and it is answered once.
-use Rattle.std.proofs.Common.{◌≡◌, codes, ℕ, ◌+◌, ◌≤◌, Bool, true, false, not, ◌&&◌, ◌||◌, cond, List, [], ◌∷◌, length, Option, Some, None, Result, Ok, Err, refl, sym, ◌∙◌, ap, subst, arith}
+use Rattle.std.proofs.Common.{◌≡◌, codes, ℕ, ◌+◌, ◌≤◌, Bool, true, false, not, ◌&&◌, ◌||◌, cond, List, [], ◌∷◌, ◌++◌, length, Option, Some, None, Result, Ok, Err, refl, sym, ◌∙◌, ap, subst, arith}
 use Rattle.std.specs.List.{flat_map}
 use Rattle.serde_json.specs.Data.{Data}
 use Rattle.cdp_json.specs.Kinds.{is_counted, holds_of_some}
 use Rattle.cdp_json.specs.Plain.{HasUtf8}
-use Rattle.node_tree.specs.Nodes.{node_count}
-use Rattle.node_binding.specs.Sessions.{Session, IsSession}
-use Rattle.node_binding.proofs.SessionLemmas.{IsSession-reset}
+use Rattle.node_tree.specs.Nodes.{none, node_count}
+use Rattle.node_binding.specs.Sessions.{Session, IsSession, reset}
 use Rattle.node_binding.proofs.StartLemmas.{count-alone}
 use Rattle.cdp_messages.specs.declared.command.Command.{Command}
 use Rattle.cdp_messages.specs.declared.command.Command.TheVariants.{DomEnable, DomDisable, GetDocument, RequestChildNodes, PushByPath, PushBySerials, QuerySelector, QuerySelectorAll, GetAttributes, DescribeNode, SetAttributeValue, RemoveAttribute, SetNodeValue, RemoveNode, MoveTo, CopyTo, MarkUndoableState, Undo, Redo, CssEnable, CssDisable, GetMatchedStyles, GetStyleSheetText, CollectClassNames, SetStyleTexts, SetRuleSelector, SetStyleSheetText, AddRule, SetBreakpoint, RemoveBreakpoint, ReplayLoad, ReplayAct}
 use Rattle.cdp_messages.specs.declared.command.Asked.{Asked}
 use Rattle.cdp_messages.specs.declared.command.Refused.{Refused}
 use Rattle.cdp_messages.specs.declared.command.Why.{Why}
-use Rattle.cdp_messages.specs.declared.command.Why.TheVariants.{DomOff, NoMethod}
+use Rattle.cdp_messages.specs.declared.command.Why.TheVariants.{DomOff, CssOff, NoMethod}
 use Rattle.cdp_messages.specs.declared.dom_ask.DomAsk.{DomAsk}
 use Rattle.cdp_messages.specs.declared.dom_ask.DomAsk.TheVariants as ask
 use Rattle.cdp_messages.specs.declared.down.ReplyBody.TheVariants.{Nothing}
 use Rattle.cdp_messages.specs.Asked.{asked, method_name, fits_command}
 use Rattle.cdp_messages.specs.DomAsks.{as_command, dom_ask_in, ask_name, fits_ask}
+use Rattle.cdp_messages.specs.Views.{ShownSheet}
 use Rattle.cdp_messages.specs.Moves.{replied, all_off, failed, CanBeTold, Course, ends, goes}
 use Rattle.cdp_messages.proofs.DomAskLaws.{dom_asks_are_commands}
+use Rattle.css_agent.specs.declared.asks.CssAsk.{CssAsk}
+use Rattle.css_agent.specs.declared.asks.CssAsk.TheVariants as css
 use Rattle.dom_agent.specs.Laws.{session_outcome, CanTell, view_of as seen_by}
 use Rattle.dom_agent.specs.Keepers.{session_keeper}
 use Rattle.dom_agent.specs.Requests.{Outcome, shows_root, served, refused, named_node, state_after, moves_of}
 use Rattle.dom_agent.proofs.RepliedLemmas.{description-keeps}
 use Rattle.dom_agent.proofs.OutcomeLemmas.{stays_session, draws_few}
 use Rattle.dom_agent.proofs.MoveLemmas.{steps_are_moves, replies_answer}
-use Rattle.back_end.specs.States.{State, nodes_in, sheets_shown, view_of, HasNoMore, IsState}
+use Rattle.back_end.specs.States.{State, nodes_in, book_in, sheets_shown, view_of, IsState}
 use Rattle.back_end.specs.OwnMethods.{load_asked, act_asked}
-use Rattle.back_end.specs.Steps.{Step, with_client, refusing, client_reset, Turn, acts, loads, turn_step, ask_needs_on, turns_on, client_served, agent_step, own_step, server_step, command_step, asked_step, frame_step}
-use Rattle.back_end.specs.Servers.{Server, enables, disables, agent, page_load, page_act, nobody, by_agent, server_of, HasOwnTexts}
-use Rattle.back_end.specs.Laws.{reply_ids, MayAnswer, HasRoom, StepsWell, MayAnswerAll, IsAnswered, IsTurn}
+use Rattle.back_end.specs.Steps.{Step, with_client, refusing, client_reset, moves_come, Turn, acts, loads, turn_step, ask_needs_on, needs_on, needs_css, turns_on, client_served, agent_step, css_step, own_step, server_step, command_step, asked_step, frame_step}
+use Rattle.back_end.specs.Servers.{Server, enables, disables, css_enables, css_disables, agent, css_agent, page_load, page_act, nobody, by_agent, server_of, HasOwnTexts}
+use Rattle.back_end.specs.Laws.{reply_ids, MayAnswer, HasRoom, StepsWell, MayAnswerAll, text_asked, TellTextOf, IsAnswered, IsTurn}
 use Rattle.back_end.proofs.AskedLemmas.{AskedFits, frame-fits}
 use Rattle.back_end.proofs.OwnTexts.{AskedTexts, frame-texts}
 use Rattle.back_end.proofs.OwnLemmas.{load-turn, act-turn, answering-well, answering-once}
-use Rattle.back_end.proofs.TurnAnswers.{may-append, turn-may}
-use Rattle.back_end.proofs.AnswerLemmas.{outcome-answers, outcome-may}
-use Rattle.back_end.proofs.StepLemmas.{can-tell, can-sheets, told-view, stays-with, empty-view, few-steps, more}
+use Rattle.back_end.proofs.TurnAnswers.{AreEvents, events-answer, events-may, events-text, may-append, texts-append, come-are-events, turn-events}
+use Rattle.back_end.proofs.AnswerLemmas.{flat-append, outcome-answers, outcome-may, outcome-text}
+use Rattle.back_end.proofs.CssAnswers.{css_command, css-well, css-once, css-may, css-text}
+use Rattle.back_end.proofs.SheetSteps.{css-on-well, css-off-well}
+use Rattle.back_end.proofs.StepLemmas.{reset-is}
+use Rattle.back_end.proofs.WellSteps.{HasNumbers, room-numbers, can-tell, can-sheets, told-view, stays-with, few-steps, more}
 
 -- ---- what the agent is asked
 
@@ -70,10 +75,10 @@ off-after (ask.DescribeNode id serial depth pierce) state is h k =
     ap (λ (z : Session). z.opened) (description-keeps (session_keeper (nodes_in state)) state.side.page.tree depth (named_node (session_keeper (nodes_in state)) state.side.page.tree w id serial) w)
     ∙ is.off (still-off state.client.dom_on k)
 
-no-more-served : (ask : DomAsk) (o : Outcome Session) (state : State) → HasNoMore state → HasNoMore (with_client (client_served ask o state.client) state)
-no-more-served ask (shows_root w b) state is = record { sheets = is.sheets; css_off = is.css_off; watched = is.watched; marks = is.marks }
-no-more-served ask (served p body) state is = record { sheets = is.sheets; css_off = is.css_off; watched = is.watched; marks = is.marks }
-no-more-served ask (refused why) state is = record { sheets = is.sheets; css_off = is.css_off; watched = is.watched; marks = is.marks }
+-- where an ask that was carried out leaves DOM off, it was off
+was-off : (on turns : Bool) → (on || turns) ≡ false → on ≡ false
+was-off true turns h = absurd cc
+was-off false turns h = refl
 
 -- the state after an ask, by what it came to
 pub served-is : (ask : DomAsk) (o : Outcome Session) (state : State) → IsState state → ((state.client.dom_on || turns_on ask) ≡ false → (state_after state.client.session o).opened ≡ None)
@@ -81,23 +86,29 @@ pub served-is : (ask : DomAsk) (o : Outcome Session) (state : State) → IsState
 served-is ask (shows_root w b) state is off session = record {
   page = is.page;
   texts = is.texts;
+  sheets = is.sheets;
   session = session;
   off = off;
-  no_more = no-more-served ask (shows_root w b) state is.no_more;
+  css_off = λ h. is.css_off (was-off state.client.dom_on (turns_on ask) h);
+  no_more = record { watched = is.no_more.watched; marks = is.no_more.marks };
 }
 served-is ask (served p body) state is off session = record {
   page = is.page;
   texts = is.texts;
+  sheets = is.sheets;
   session = session;
   off = off;
-  no_more = no-more-served ask (served p body) state is.no_more;
+  css_off = λ h. is.css_off (was-off state.client.dom_on (turns_on ask) h);
+  no_more = record { watched = is.no_more.watched; marks = is.no_more.marks };
 }
 served-is ask (refused why) state is off session = record {
   page = is.page;
   texts = is.texts;
+  sheets = is.sheets;
   session = is.session;
   off = is.off;
-  no_more = no-more-served ask (refused why) state is.no_more;
+  css_off = is.css_off;
+  no_more = record { watched = is.no_more.watched; marks = is.no_more.marks };
 }
 
 served-view : (ask : DomAsk) (o : Outcome Session) (state : State)
@@ -118,14 +129,16 @@ agent-well id ask state is room small fits on =
     let page = state.side.page in
     let w = state.client.session in
     let o : Outcome Session = session_outcome page ask w in
-    let can : CanTell page w = can-tell state is (omega (arith, room.ids)) (omega (arith, room.serials)) in
+    let low : HasNumbers state = room-numbers state room in
+    let can : CanTell page w = can-tell state is low in
     let few : length (state_after w o).pushed ≤ length w.pushed + node_count (nodes_in state) = draws_few page ask w is.page fits is.session in
     let count : node_count (nodes_in state) ≤ 100000 = count-alone page is.page in
     record {
       is_state = served-is ask o state is (off-after ask state is on) (stays_session page ask w is.page fits is.session);
-      course = subst (λ v. Course (moves_of id o) (view_of state) v) (served-view ask o state) (steps_are_moves page ask w id (sheets_shown state) is.page fits is.session can small (can-sheets state is));
+      course = subst (λ v. Course (moves_of id o) (view_of state) v) (served-view ask o state) (steps_are_moves page ask w id (sheets_shown state) is.page fits is.session can small (can-sheets state is low));
       ids = omega (arith, few, count, served-pushed ask o state);
       serials = omega arith;
+      sheets = omega arith;
     }
 
 -- ---- the seat's own commands
@@ -135,104 +148,164 @@ pub enabled-is : (state : State) → IsState state → IsState (with_client (rec
 enabled-is state is = record {
   page = is.page;
   texts = is.texts;
+  sheets = is.sheets;
   session = is.session;
   off = λ h. absurd cc;
-  no_more = record { sheets = is.no_more.sheets; css_off = is.no_more.css_off; watched = is.no_more.watched; marks = is.no_more.marks };
+  css_off = λ h. absurd cc;
+  no_more = record { watched = is.no_more.watched; marks = is.no_more.marks };
 }
 
 enables-well : (id : ℕ) (state : State) → IsState state → HasRoom state → is_counted id ≡ true → StepsWell state (server_step id enables state)
 enables-well id state is room small =
-    let told : CanBeTold (view_of state) = told-view state is (omega (arith, room.ids)) (omega (arith, room.serials)) in
+    let told : CanBeTold (view_of state) = told-view state is (room-numbers state room) in
     record {
       is_state = enabled-is state is;
       course = goes (replied id Nothing) [] (view_of state) (view_of state) (view_of state) told
           (refl, record { id_fits = small; plain = refl; fits = refl; texts = tt; levels = omega arith }) (ends (view_of state) told);
       ids = omega arith;
       serials = omega arith;
+      sheets = omega arith;
     }
 
 pub disabled-is : (state : State) → IsState state → IsState (with_client (client_reset false state.client) state)
-disabled-is state is = record {
-  page = is.page;
-  texts = is.texts;
-  session = IsSession-reset (nodes_in state) state.client.session;
-  off = λ h. refl;
-  no_more = record { sheets = is.no_more.sheets; css_off = ap (λ css. css && false) is.no_more.css_off; watched = refl; marks = refl };
-}
+disabled-is state is = reset-is state state.side false is.page is.texts is.sheets
+
+and-false : (b : Bool) → (b && false) ≡ false
+and-false true = refl
+and-false false = refl
 
 disables-well : (id : ℕ) (state : State) → IsState state → HasRoom state → is_counted id ≡ true → StepsWell state (server_step id disables state)
 disables-well id state is room small =
     let after : State = with_client (client_reset false state.client) state in
     let done : IsState after = disabled-is state is in
-    let told : CanBeTold (view_of state) = told-view state is (omega (arith, room.ids)) (omega (arith, room.serials)) in
-    let told_after : CanBeTold (view_of after) = told-view after done (omega (arith, room.ids)) (omega (arith, room.serials)) in
+    let told : CanBeTold (view_of state) = told-view state is (room-numbers state room) in
+    let told_after : CanBeTold (view_of after) = told-view after done (record { ids = omega (arith, room.ids); serials = omega (arith, room.serials); sheets = omega (arith, room.sheets) }) in
+    let unseen : view_of after ≡ record { tree = none; sheets = [] } =
+    ap (λ (b : Bool). seen_by (reset state.client.session) state.side.page (cond b state.side.sheets [])) (and-false state.client.css_on) in
     record {
       is_state = done;
-      course = goes (all_off id) [] (view_of state) (view_of after) (view_of after) told (empty-view after done.no_more refl, small) (ends (view_of after) told_after);
+      course = goes (all_off id) [] (view_of state) (view_of after) (view_of after) told (unseen, small) (ends (view_of after) told_after);
       ids = omega arith;
       serials = omega arith;
+      sheets = omega arith;
     }
 
 -- a refusal changes nothing
 refusing-well : (r : Refused) (state : State) → IsState state → HasRoom state → holds_of_some is_counted r.id ≡ true → StepsWell state (record { state = state; moves = failed r ∷ [] })
 refusing-well r state is room small =
-    few-steps (more (omega arith) (omega arith) (stays-with (failed r) state is (omega (arith, room.ids)) (omega (arith, room.serials)) (refl, small)))
+    few-steps (more (omega arith) (omega arith) (omega arith) (stays-with (failed r) state is (room-numbers state room) (refl, small)))
 
 -- ---- a command
 
--- what a step comes to: it is well, and answers the command of that id and method once
-record Serves (state : State) (done : Step) (id : ℕ) (method : List ℕ) : Type 0 where
+-- what a step comes to: it is well, and answers the command of that id once
+record Serves (state : State) (done : Step) (id : ℕ) (c : Command) : Type 0 where
   pub well : StepsWell state done
   pub once : flat_map reply_ids done.moves ≡ Some id ∷ []
-  pub may : MayAnswerAll method done.moves
+  pub may : MayAnswerAll (method_name c) done.moves
+  pub texts : TellTextOf (text_asked c) done.moves
 
-serves-refusal : (id : ℕ) (why : Why) (method : List ℕ) (state : State) → IsState state → HasRoom state → is_counted id ≡ true → Serves state (refusing (Some id) why state) id method
-serves-refusal id why method state is room small = record {
+serves-refusal : (id : ℕ) (why : Why) (c : Command) (state : State) → IsState state → HasRoom state → is_counted id ≡ true → Serves state (refusing (Some id) why state) id c
+serves-refusal id why c state is room small = record {
   well = refusing-well (record { id = Some id; why = why }) state is room small;
   once = refl;
   may = (tt, tt);
+  texts = (tt, tt);
 }
 
 -- a server that a replay has
 data IsServer (c : Command) : Server → Type 0 where
   is_enables : MayAnswer (method_name c) (replied 0 Nothing) → IsServer c enables
   is_disables : method_name c ≡ codes "DOM.disable" → IsServer c disables
+  is_css_enables : MayAnswer (method_name c) (replied 0 Nothing) → IsServer c css_enables
+  is_css_disables : method_name c ≡ codes "CSS.disable" → IsServer c css_disables
   is_agent : (ask : DomAsk) → method_name c ≡ ask_name ask → fits_ask ask ≡ true → IsServer c (agent ask)
+  is_css : (ask : CssAsk) → c ≡ css_command ask → IsServer c (css_agent ask)
   is_load : (params : Data) → MayAnswer (method_name c) (replied 0 Nothing) → HasUtf8 params → IsServer c (page_load params)
   is_act : (params : Data) → MayAnswer (method_name c) (replied 0 Nothing) → HasUtf8 params → IsServer c (page_act params)
   is_nobody : IsServer c nobody
 
 -- what one of our own two methods comes to
-serves-own : {A : Type 0} (turn_of : A → Turn) (id : ℕ) (r : Result A Why) (method : List ℕ) (state : State) → ((a : A) → r ≡ Ok a → IsTurn (turn_of a))
-    → MayAnswer method (replied 0 Nothing) → IsState state → HasRoom state → is_counted id ≡ true → Serves state (own_step turn_of id r state) id method
-serves-own turn_of id (Ok a) method state can h is room small = record {
-  well = answering-well id (turn_of a) state is room small (can a refl);
-  once = answering-once id (turn_of a) state;
-  may = may-append method (turn_step (turn_of a) state).moves (replied id Nothing ∷ []) (turn-may method (turn_of a) state) (h, tt);
-}
-serves-own turn_of id (Err why) method state can h is room small = serves-refusal id why method state is room small
+serves-own : {A : Type 0} (turn_of : A → Turn) (id : ℕ) (r : Result A Why) (c : Command) (state : State) → ((a : A) → r ≡ Ok a → IsTurn (turn_of a))
+    → MayAnswer (method_name c) (replied 0 Nothing) → IsState state → HasRoom state → is_counted id ≡ true → Serves state (own_step turn_of id r state) id c
+serves-own turn_of id (Ok a) c state can h is room small =
+    let events = turn-events (turn_of a) state in
+    record {
+      well = answering-well id (turn_of a) state is room small (can a refl);
+      once = answering-once id (turn_of a) state;
+      may = may-append (method_name c) (turn_step (turn_of a) state).moves (replied id Nothing ∷ []) (events-may (method_name c) (turn_step (turn_of a) state).moves events) (h, tt);
+      texts = texts-append (text_asked c) (turn_step (turn_of a) state).moves (replied id Nothing ∷ []) (events-text (text_asked c) (turn_step (turn_of a) state).moves events) (tt, tt);
+    }
+serves-own turn_of id (Err why) c state can h is room small = serves-refusal id why c state is room small
+
+-- a command is refused while a domain is off that it needs, and else carried out
+command-serves : (id : ℕ) (c : Command) (server : Server) (state : State) → IsState state → HasRoom state → is_counted id ≡ true
+    → ((needs_on server && not state.client.dom_on) ≡ false → (needs_css server && not state.client.css_on) ≡ false → Serves state (server_step id server state) id c)
+    → Serves state (command_step id server state) id c
+command-serves id c server state is room small goes_on = at (needs_on server && not state.client.dom_on) refl (needs_css server && not state.client.css_on) refl where
+  at : (a : Bool) → (needs_on server && not state.client.dom_on) ≡ a → (b : Bool) → (needs_css server && not state.client.css_on) ≡ b
+      → Serves state (cond a (refusing (Some id) DomOff state) (cond b (refusing (Some id) CssOff state) (server_step id server state))) id c
+  at true e b f = serves-refusal id DomOff c state is room small
+  at false e true f = serves-refusal id CssOff c state is room small
+  at false e false f = goes_on e f
+
+on-by : (b : Bool) → (true && not b) ≡ false → b ≡ true
+on-by true e = refl
+on-by false e = absurd cc
+
+css-once-on : (id : ℕ) (b : Bool) (sheets : List ShownSheet) → flat_map reply_ids (cond b [] (moves_come sheets) ++ replied id Nothing ∷ []) ≡ Some id ∷ []
+css-once-on id b sheets = at b where
+  quiet : flat_map reply_ids (moves_come sheets) ≡ []
+  quiet = events-answer (moves_come sheets) (come-are-events sheets)
+
+  at : (b : Bool) → flat_map reply_ids (cond b [] (moves_come sheets) ++ replied id Nothing ∷ []) ≡ Some id ∷ []
+  at true = refl
+  at false = flat-append (moves_come sheets) (replied id Nothing ∷ []) quiet ∙ ap (λ ids. ids ++ Some id ∷ []) quiet
+
+on-events : (b : Bool) (sheets : List ShownSheet) → AreEvents (cond b [] (moves_come sheets))
+on-events true sheets = tt
+on-events false sheets = come-are-events sheets
 
 serves : (id : ℕ) (c : Command) (server : Server) (state : State) → IsServer c server → IsState state → HasRoom state → is_counted id ≡ true
-    → Serves state (command_step id server state) id (method_name c)
-serves id c _ state (is_enables h) is room small = record { well = enables-well id state is room small; once = refl; may = (h, tt) }
-serves id c _ state (is_disables h) is room small = at state.client.dom_on where
-  at : (on : Bool) → Serves state (cond (not on) (refusing (Some id) DomOff state) (server_step id disables state)) id (method_name c)
-  at true = record { well = disables-well id state is room small; once = refl; may = (h, tt) }
-  at false = serves-refusal id DomOff (method_name c) state is room small
-serves id c _ state (is_agent ask h fits) is room small = at (ask_needs_on ask && not state.client.dom_on) refl where
-  at : (b : Bool) → (ask_needs_on ask && not state.client.dom_on) ≡ b → Serves state (cond b (refusing (Some id) DomOff state) (agent_step id ask state)) id (method_name c)
-  at true e = serves-refusal id DomOff (method_name c) state is room small
-  at false e = record {
-    well = agent-well id ask state is room small fits e;
-    once = outcome-answers id (session_outcome state.side.page ask state.client.session);
-    may = subst (λ method. MayAnswerAll method (agent_step id ask state).moves) (sym h)
-        (outcome-may id ask (session_outcome state.side.page ask state.client.session) (replies_answer state.side.page ask state.client.session is.page fits is.session));
-  }
-serves id c _ state (is_load params h u) is room small =
-    serves-own loads id (load_asked params) (method_name c) state (λ nodes e. load-turn params nodes u e) h is room small
+    → Serves state (command_step id server state) id c
+serves id c _ state (is_enables h) is room small =
+    command-serves id c enables state is room small (λ dom css. record { well = enables-well id state is room small; once = refl; may = (h, tt); texts = (tt, tt) })
+serves id c _ state (is_disables h) is room small =
+    command-serves id c disables state is room small (λ dom css. record { well = disables-well id state is room small; once = refl; may = (h, tt); texts = (tt, tt) })
+serves id c _ state (is_css_enables h) is room small =
+    let events = on-events state.client.css_on state.side.sheets in
+    let first = cond state.client.css_on [] (moves_come state.side.sheets) in
+    command-serves id c css_enables state is room small (λ dom css. record {
+      well = few-steps (more (omega arith) (omega arith) (omega arith) (css-on-well id state is (room-numbers state room) (on-by state.client.dom_on dom) small));
+      once = css-once-on id state.client.css_on state.side.sheets;
+      may = may-append (method_name c) first (replied id Nothing ∷ []) (events-may (method_name c) first events) (h, tt);
+      texts = texts-append (text_asked c) first (replied id Nothing ∷ []) (events-text (text_asked c) first events) (tt, tt);
+    })
+serves id c _ state (is_css_disables h) is room small =
+    command-serves id c css_disables state is room small (λ dom css. record {
+      well = few-steps (more (omega arith) (omega arith) (omega arith) (css-off-well id state is (room-numbers state room) small));
+      once = refl;
+      may = (h, tt);
+      texts = (tt, tt);
+    })
+serves id c _ state (is_agent ask h fits) is room small =
+    command-serves id c (agent ask) state is room small (λ dom css. record {
+      well = agent-well id ask state is room small fits dom;
+      once = outcome-answers id (session_outcome state.side.page ask state.client.session);
+      may = subst (λ method. MayAnswerAll method (agent_step id ask state).moves) (sym h)
+          (outcome-may id ask (session_outcome state.side.page ask state.client.session) (replies_answer state.side.page ask state.client.session is.page fits is.session));
+      texts = outcome-text (text_asked c) id (session_outcome state.side.page ask state.client.session);
+    })
+serves id c _ state (is_css ask h) is room small =
+    command-serves id c (css_agent ask) state is room small (λ dom css. record {
+      well = few-steps (more (omega arith) (omega arith) (omega arith) (css-well id ask state is (room-numbers state room) (on-by state.client.css_on css) small));
+      once = css-once id ask state;
+      may = subst (λ d. MayAnswerAll (method_name d) (css_step id ask state).moves) (sym h) (css-may id ask state);
+      texts = subst (λ d. TellTextOf (text_asked d) (css_step id ask state).moves) (sym h) (css-text id ask state);
+    })
+serves id c _ state (is_load params h u) is room small = serves-own loads id (load_asked params) c state (λ page e. load-turn params page u e) h is room small
 serves id c _ state (is_act params h u) is room small =
-    serves-own acts id (act_asked params state.side.page) (method_name c) state (λ act e. act-turn params state.side.page act u e) h is room small
-serves id c _ state is_nobody is room small = serves-refusal id NoMethod (method_name c) state is room small
+    serves-own acts id (act_asked params state.side.page (book_in state)) c state (λ act e. act-turn params state.side.page (book_in state) act u e) h is room small
+serves id c _ state is_nobody is room small = serves-refusal id NoMethod c state is room small
 
 by-agent : (c : Command) → fits_command c ≡ true → IsServer c (by_agent (dom_ask_in c))
 by-agent c fits = at (dom_ask_in c) refl where
@@ -262,11 +335,11 @@ server-is (CopyTo node target before) fits texts = by-agent (CopyTo node target 
 server-is MarkUndoableState fits texts = by-agent MarkUndoableState fits
 server-is Undo fits texts = by-agent Undo fits
 server-is Redo fits texts = by-agent Redo fits
-server-is CssEnable fits texts = by-agent CssEnable fits
-server-is CssDisable fits texts = by-agent CssDisable fits
-server-is (GetMatchedStyles node) fits texts = by-agent (GetMatchedStyles node) fits
-server-is (GetStyleSheetText sheet) fits texts = by-agent (GetStyleSheetText sheet) fits
-server-is (CollectClassNames sheet) fits texts = by-agent (CollectClassNames sheet) fits
+server-is CssEnable fits texts = is_css_enables (refl, refl)
+server-is CssDisable fits texts = is_css_disables refl
+server-is (GetMatchedStyles node) fits texts = is_css (css.GetMatchedStyles node) refl
+server-is (GetStyleSheetText sheet) fits texts = is_css (css.GetStyleSheetText sheet) refl
+server-is (CollectClassNames sheet) fits texts = is_css (css.CollectClassNames sheet) refl
 server-is (SetStyleTexts edits) fits texts = by-agent (SetStyleTexts edits) fits
 server-is (SetRuleSelector sheet range selector) fits texts = by-agent (SetRuleSelector sheet range selector) fits
 server-is (SetStyleSheetText sheet text) fits texts = by-agent (SetStyleSheetText sheet text) fits
@@ -282,5 +355,5 @@ pub frame-steps-well : (own : Bool) (state : State) (frame : List ℕ) → IsSta
     → StepsWell state (frame_step own frame state) × IsAnswered (asked frame own) (frame_step own frame state).moves
 frame-steps-well own state frame is room = at (asked frame own) (frame-fits own frame) (frame-texts own frame) where
   at : (r : Result Asked Refused) → AskedFits r → AskedTexts r → StepsWell state (asked_step r state) × IsAnswered r (asked_step r state).moves
-  at (Ok a) fits texts = let s = serves a.id a.command (server_of a.command) state (server-is a.command fits.1 texts) is room fits.0 in (s.well, (s.once, s.may))
+  at (Ok a) fits texts = let s = serves a.id a.command (server_of a.command) state (server-is a.command fits.1 texts) is room fits.0 in (s.well, (s.once, s.may, s.texts))
   at (Err r) fits texts = (refusing-well r state is room fits, refl)

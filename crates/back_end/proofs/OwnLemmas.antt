@@ -1,5 +1,5 @@
 -- What our own two methods come to is a step that a script may make, and then the reply.
-use Rattle.std.proofs.Common.{◌≡◌, ◌∙◌, ℕ, Bool, true, false, cond, [], ◌∷◌, ◌++◌, Option, Some, None, Result, Ok, Err, refl, sym, ap, arith}
+use Rattle.std.proofs.Common.{◌≡◌, ◌∙◌, ℕ, Bool, true, false, cond, List, [], ◌∷◌, ◌++◌, Option, Some, None, Result, Ok, Err, refl, sym, ap, arith}
 use Rattle.std.specs.Prelude.{option_map}
 use Rattle.std.specs.List.{flat_map}
 use Rattle.serde_json.specs.Data.{Data}
@@ -7,16 +7,13 @@ use Rattle.serde_json.specs.Written.{has_float}
 use Rattle.cdp_json.specs.Kinds.{is_counted}
 use Rattle.cdp_json.specs.Lookups.{then_ok}
 use Rattle.cdp_json.specs.Plain.{HasUtf8}
-use Rattle.cdp_json.proofs.Options.{and_then_some}
-use Rattle.node_tree.specs.Nodes.{Nodes}
-use Rattle.node_tree.specs.Labels.{Label}
 use Rattle.page_tree.specs.Pages.{State as PageValue}
-use Rattle.page_tree.specs.Loads.{nodes_in, first_load_fault}
-use Rattle.page_tree.proofs.FormedLemmas.{can_load}
+use Rattle.sheet_reader.specs.declared.book.SheetEntry.{SheetEntry}
 use Rattle.page_forms.specs.declared.acts.Act.{Act}
 use Rattle.page_forms.specs.Acts.{act_in}
-use Rattle.page_forms.specs.Pages.{document_in, page_nodes}
-use Rattle.page_forms.proofs.ActLemmas.{act-insertable, acts_have_texts, pages_have_texts}
+use Rattle.page_forms.specs.Pages.{LoadedPage, page_in, first_page_fault}
+use Rattle.page_forms.proofs.ActLemmas.{act-insertable, acts_have_texts}
+use Rattle.page_forms.proofs.PageLemmas.{can_load_page, pages_have_texts}
 use Rattle.cdp_messages.specs.declared.command.Param.TheVariants.{Params}
 use Rattle.cdp_messages.specs.declared.command.Why.{Why}
 use Rattle.cdp_messages.specs.declared.command.Why.TheVariants.{BadParam}
@@ -25,11 +22,12 @@ use Rattle.cdp_messages.specs.Moves.{replied, CanBeTold, ends, goes}
 use Rattle.dom_agent.proofs.StepLemmas.{course-join}
 use Rattle.back_end.specs.States.{State, IsState, view_of}
 use Rattle.back_end.specs.Plans.{act_fault}
-use Rattle.back_end.specs.OwnMethods.{load_why, edit_why, unless_why, if_whole, load_form, load_asked, act_form, act_judged, act_asked}
+use Rattle.back_end.specs.OwnMethods.{load_why, act_why, unless_why, if_whole, load_form, load_asked, act_form, act_judged, act_asked}
 use Rattle.back_end.specs.Steps.{Turn, acts, loads, turn_step, answering}
 use Rattle.back_end.specs.Laws.{HasRoom, StepsWell, IsTurn, reply_ids}
 use Rattle.back_end.proofs.AnswerLemmas.{flat-append, turn-answers}
-use Rattle.back_end.proofs.StepLemmas.{told-view, turn-steps-well}
+use Rattle.back_end.proofs.WellSteps.{told-view, after-numbers}
+use Rattle.back_end.proofs.StepLemmas.{turn-steps-well}
 
 -- ---- what is found
 
@@ -52,32 +50,32 @@ unmapped f (Some a) e = absurd cc
 
 -- ---- a load
 
-form-turn : (params : Data) (o : Option (Nodes Label)) (nodes : Nodes Label) → HasUtf8 params → page_nodes params ≡ o → load_form o ≡ Ok nodes → IsTurn (loads nodes)
-form-turn params None nodes u is e = no-ok _ nodes e
-form-turn params (Some found) nodes u is e =
-    let p = unless-is (option_map load_why (first_load_fault (Some found))) found nodes e in
-    let spelt : page_nodes params ≡ Some nodes = is ∙ ap (λ n. Some n) p.1 in
-    let clear : first_load_fault (Some nodes) ≡ None = ap (λ n. first_load_fault (Some n)) (sym p.1) ∙ unmapped load_why (first_load_fault (Some found)) p.0 in
-    let q = and_then_some nodes_in (document_in params) nodes spelt in
-    (can_load q.0 nodes q.2 clear, pages_have_texts params nodes u spelt)
+form-turn : (params : Data) (o : Option LoadedPage) (page : LoadedPage) → HasUtf8 params → page_in params ≡ o → load_form o ≡ Ok page → IsTurn (loads page)
+form-turn params None page u is e = no-ok _ page e
+form-turn params (Some found) page u is e =
+    let p = unless-is (option_map load_why (first_page_fault (Some found))) found page e in
+    let spelt : page_in params ≡ Some page = is ∙ ap (λ n. Some n) p.1 in
+    let clear : first_page_fault (Some page) ≡ None = ap (λ n. first_page_fault (Some n)) (sym p.1) ∙ unmapped load_why (first_page_fault (Some found)) p.0 in
+    (can_load_page params page spelt (ap first_page_fault spelt ∙ clear), pages_have_texts params page u spelt)
 
-pub load-turn : (params : Data) (nodes : Nodes Label) → HasUtf8 params → load_asked params ≡ Ok nodes → IsTurn (loads nodes)
-load-turn params nodes u e = form-turn params (page_nodes params) nodes u refl (whole-is params (load_form (page_nodes params)) nodes e)
+pub load-turn : (params : Data) (page : LoadedPage) → HasUtf8 params → load_asked params ≡ Ok page → IsTurn (loads page)
+load-turn params page u e = form-turn params (page_in params) page u refl (whole-is params (load_form (page_in params)) page e)
 
 -- ---- an act
 
-spelt-turn : (params : Data) (o : Option Act) (page : PageValue) (act : Act) → HasUtf8 params → act_in params ≡ o → then_ok (act_form o) (act_judged page) ≡ Ok act → IsTurn (acts act)
-spelt-turn params None page act u is e = no-ok _ act e
-spelt-turn params (Some found) page act u is e =
-    let p = unless-is (option_map edit_why (act_fault found page)) found act e in
+spelt-turn : (params : Data) (o : Option Act) (page : PageValue) (book : List SheetEntry) (act : Act) → HasUtf8 params → act_in params ≡ o → then_ok (act_form o) (act_judged page book) ≡ Ok act
+    → IsTurn (acts act)
+spelt-turn params None page book act u is e = no-ok _ act e
+spelt-turn params (Some found) page book act u is e =
+    let p = unless-is (option_map act_why (act_fault found page book)) found act e in
     let spelt : act_in params ≡ Some act = is ∙ ap (λ a. Some a) p.1 in
     (act-insertable params act spelt, acts_have_texts params act u spelt)
 
-pub act-turn : (params : Data) (page : PageValue) (act : Act) → HasUtf8 params → act_asked params page ≡ Ok act → IsTurn (acts act)
-act-turn params page act u e = at (has_float params) e where
-  at : (b : Bool) → then_ok (cond b (Err (BadParam Params)) (act_form (act_in params))) (act_judged page) ≡ Ok act → IsTurn (acts act)
+pub act-turn : (params : Data) (page : PageValue) (book : List SheetEntry) (act : Act) → HasUtf8 params → act_asked params page book ≡ Ok act → IsTurn (acts act)
+act-turn params page book act u e = at (has_float params) e where
+  at : (b : Bool) → then_ok (cond b (Err (BadParam Params)) (act_form (act_in params))) (act_judged page book) ≡ Ok act → IsTurn (acts act)
   at true h = no-ok _ act h
-  at false h = spelt-turn params (act_in params) page act u refl h
+  at false h = spelt-turn params (act_in params) page book act u refl h
 
 -- ---- the step, and the reply
 
@@ -85,13 +83,14 @@ pub answering-well : (id : ℕ) (x : Turn) (state : State) → IsState state →
 answering-well id x state is room small can =
     let done : StepsWell state (turn_step x state) = turn-steps-well state x is room can in
     let after : State = (turn_step x state).state in
-    let told : CanBeTold (view_of after) = told-view after done.is_state (omega (arith, room.ids, done.ids)) (omega (arith, room.serials, done.serials)) in
+    let told : CanBeTold (view_of after) = told-view after done.is_state (after-numbers state (turn_step x state) room done) in
     record {
       is_state = done.is_state;
       course = course-join done.course (goes (replied id Nothing) [] (view_of after) (view_of after) (view_of after) told
           (refl, record { id_fits = small; plain = refl; fits = refl; texts = tt; levels = omega arith }) (ends (view_of after) told));
       ids = done.ids;
       serials = done.serials;
+      sheets = done.sheets;
     }
 
 pub answering-once : (id : ℕ) (x : Turn) (state : State) → flat_map reply_ids (answering id (turn_step x state)).moves ≡ Some id ∷ []

@@ -4,9 +4,8 @@ use Rattle.std.specs.Prelude.{option_map}
 use Rattle.std.proofs.lemmas.List.Concat.{flat_map-append}
 use Rattle.serde_json.specs.Data.{Data}
 use Rattle.cdp_json.specs.Lookups.{then_ok}
-use Rattle.node_tree.specs.Nodes.{Nodes}
-use Rattle.node_tree.specs.Labels.{Label}
-use Rattle.page_tree.specs.declared.edit_faults.EditFault.{EditFault}
+use Rattle.page_tree.specs.Pages.{State as PageValue}
+use Rattle.page_forms.specs.Pages.{LoadedPage}
 use Rattle.page_forms.specs.declared.acts.Act.{Act}
 use Rattle.cdp_messages.specs.declared.command.CommandErr.{CommandErr}
 use Rattle.cdp_messages.specs.declared.command.CommandErr.TheVariants as command_err
@@ -15,9 +14,10 @@ use Rattle.cdp_messages.specs.declared.down.ReplyBody.TheVariants.{Nothing}
 use Rattle.cdp_messages.specs.Answers.{Commands, ended}
 use Rattle.cdp_messages.specs.Moves.{Move, replied, frames_of_moves, move_text}
 use Rattle.cdp_messages.specs.Replies.{reply_text}
-use Rattle.back_end.specs.States.{State}
+use Rattle.back_end.specs.declared.faults.ActFault.{ActFault}
+use Rattle.back_end.specs.States.{State, book_in}
 use Rattle.back_end.specs.Plans.{act_fault, act_plan}
-use Rattle.back_end.specs.OwnMethods.{edit_why, unless_why, load_asked, act_read, act_judged, Finds}
+use Rattle.back_end.specs.OwnMethods.{act_why, unless_why, load_asked, act_read, act_judged, Finds}
 use Rattle.back_end.specs.Steps.{Step, acts, loads, planned_step, act_step, load_step, refusing, answering, own_step, judged_step, command_step}
 use Rattle.back_end.specs.Servers.{page_load, page_act}
 use Rattle.back_end.specs.Seats.{DeskStandsFor}
@@ -43,15 +43,15 @@ commands-why {T} e why found is finds = subst (λ x. Commands {T = T} (Err x) fo
 
 -- ---- a load
 
-pub loaded-stands : (d : Desk) (s : PageSide) (state : State) (id : ℕ) (params : Data) (nodes : Nodes Label) → load_asked params ≡ Ok nodes
-    → DeskStandsFor d s (load_step nodes state).state → DeskStandsFor d s (command_step id (page_load params) state).state
-loaded-stands d s state id params nodes is stands = subst (λ r. DeskStandsFor d s (own_step loads id r state).state) (sym is) stands
+pub loaded-stands : (d : Desk) (s : PageSide) (state : State) (id : ℕ) (params : Data) (page : LoadedPage) → load_asked params ≡ Ok page
+    → DeskStandsFor d s (load_step page state).state → DeskStandsFor d s (command_step id (page_load params) state).state
+loaded-stands d s state id params page is stands = subst (λ r. DeskStandsFor d s (own_step loads id r state).state) (sym is) stands
 
-pub loaded-sent : (state : State) (id : ℕ) (params : Data) (nodes : Nodes Label) (old middle new : List ℕ) → load_asked params ≡ Ok nodes
-    → middle ≡ old ++ frames_of_moves (load_step nodes state).moves → new ≡ middle ++ ended (reply_text id Nothing)
+pub loaded-sent : (state : State) (id : ℕ) (params : Data) (page : LoadedPage) (old middle new : List ℕ) → load_asked params ≡ Ok page
+    → middle ≡ old ++ frames_of_moves (load_step page state).moves → new ≡ middle ++ ended (reply_text id Nothing)
     → new ≡ old ++ frames_of_moves (command_step id (page_load params) state).moves
-loaded-sent state id params nodes old middle new is first last =
-    answered-sent id (load_step nodes state).moves old middle new first last
+loaded-sent state id params page old middle new is first last =
+    answered-sent id (load_step page state).moves old middle new first last
     ∙ ap (λ r. old ++ frames_of_moves (own_step loads id r state).moves) (sym is)
 
 pub unloaded-stands : (d : Desk) (s : PageSide) (state : State) (id : ℕ) (params : Data) (why : Why) → load_asked params ≡ Err why
@@ -65,8 +65,8 @@ unloaded-sent state id params why old new is sent = sent ∙ ap (λ r. old ++ fr
 -- ---- an act
 
 -- the step on an act with parameters that were read
-judged-is : (state : State) (id : ℕ) (params : Data) (r : Result Act Why) → act_read params ≡ r → command_step id (page_act params) state ≡ own_step acts id (then_ok r (act_judged state.side.page)) state
-judged-is state id params r is = ap (λ found. own_step acts id (then_ok found (act_judged state.side.page)) state) is
+judged-is : (state : State) (id : ℕ) (params : Data) (r : Result Act Why) → act_read params ≡ r → command_step id (page_act params) state ≡ own_step acts id (then_ok r (act_judged state.side.page (book_in state))) state
+judged-is state id params r is = ap (λ found. own_step acts id (then_ok found (act_judged state.side.page (book_in state))) state) is
 
 pub changed-stands : (d : Desk) (s : PageSide) (state : State) (id : ℕ) (params : Data) (act : Act) → act_read params ≡ Ok act
     → DeskStandsFor d s (judged_step id act state).state → DeskStandsFor d s (command_step id (page_act params) state).state
@@ -85,19 +85,21 @@ pub unread-sent : (state : State) (id : ℕ) (params : Data) (why : Why) (old ne
 unread-sent state id params why old new is sent = sent ∙ ap (λ (done : Step). old ++ frames_of_moves done.moves) (sym (judged-is state id params (Err why) is))
 
 -- the fault of an act is that which the state's page has
-fault-here : (d : Desk) (s : PageSide) (state : State) (act : Act) (o : Option EditFault) → DeskStandsFor d s state → o ≡ act_fault act s.page → act_fault act state.side.page ≡ o
-fault-here d s state act o stands is = sym (is ∙ ap (act_fault act) stands.page_is)
+fault-here : (d : Desk) (s : PageSide) (state : State) (act : Act) (o : Option ActFault) → DeskStandsFor d s state → o ≡ act_fault act s.page s.sheets.entries
+    → act_fault act state.side.page (book_in state) ≡ o
+fault-here d s state act o stands is =
+    sym (is ∙ ap (λ (p : PageValue). act_fault act p s.sheets.entries) stands.page_is ∙ ap (act_fault act state.side.page) stands.sheets_are)
 
 -- what the page takes is carried out
-taken-is : (state : State) (id : ℕ) (act : Act) → act_fault act state.side.page ≡ None → judged_step id act state ≡ answering id (act_step act state)
-taken-is state id act none = ap (λ o. own_step acts id (unless_why (option_map edit_why o) act) state) none
+taken-is : (state : State) (id : ℕ) (act : Act) → act_fault act state.side.page (book_in state) ≡ None → judged_step id act state ≡ answering id (act_step act state)
+taken-is state id act none = ap (λ o. own_step acts id (unless_why (option_map act_why o) act) state) none
 
-pub taken-stands : (d d1 : Desk) (s s1 : PageSide) (state : State) (id : ℕ) (act : Act) → DeskStandsFor d s state → None ≡ act_fault act s.page
+pub taken-stands : (d d1 : Desk) (s s1 : PageSide) (state : State) (id : ℕ) (act : Act) → DeskStandsFor d s state → None ≡ act_fault act s.page s.sheets.entries
     → DeskStandsFor d1 s1 (act_step act state).state → DeskStandsFor d1 s1 (judged_step id act state).state
 taken-stands d d1 s s1 state id act before none stands =
     subst (λ (done : Step). DeskStandsFor d1 s1 done.state) (sym (taken-is state id act (fault-here d s state act None before none))) stands
 
-pub taken-sent : (d : Desk) (s : PageSide) (state : State) (id : ℕ) (act : Act) (old middle new : List ℕ) → DeskStandsFor d s state → None ≡ act_fault act s.page
+pub taken-sent : (d : Desk) (s : PageSide) (state : State) (id : ℕ) (act : Act) (old middle new : List ℕ) → DeskStandsFor d s state → None ≡ act_fault act s.page s.sheets.entries
     → middle ≡ old ++ frames_of_moves (act_step act state).moves → new ≡ middle ++ ended (reply_text id Nothing)
     → new ≡ old ++ frames_of_moves (judged_step id act state).moves
 taken-sent d s state id act old middle new before none first last =
@@ -105,26 +107,26 @@ taken-sent d s state id act old middle new before none first last =
     ∙ ap (λ (done : Step). old ++ frames_of_moves done.moves) (sym (taken-is state id act (fault-here d s state act None before none)))
 
 -- what the page refuses changes nothing
-faulty-is : (state : State) (id : ℕ) (act : Act) (f : EditFault) → act_fault act state.side.page ≡ Some f → judged_step id act state ≡ refusing (Some id) (edit_why f) state
-faulty-is state id act f some = ap (λ o. own_step acts id (unless_why (option_map edit_why o) act) state) some
+faulty-is : (state : State) (id : ℕ) (act : Act) (f : ActFault) → act_fault act state.side.page (book_in state) ≡ Some f → judged_step id act state ≡ refusing (Some id) (act_why f) state
+faulty-is state id act f some = ap (λ o. own_step acts id (unless_why (option_map act_why o) act) state) some
 
-unmoved-is : (state : State) (act : Act) (f : EditFault) → act_fault act state.side.page ≡ Some f → act_step act state ≡ record { state = state; moves = [] }
-unmoved-is state act f some = ap (λ o. planned_step o (act_plan act state.side.page) state) some
+unmoved-is : (state : State) (act : Act) (f : ActFault) → act_fault act state.side.page (book_in state) ≡ Some f → act_step act state ≡ record { state = state; moves = [] }
+unmoved-is state act f some = ap (λ o. planned_step o (act_plan act state.side.page (book_in state)) state) some
 
-pub faulty-stands : (d d1 : Desk) (s s1 : PageSide) (state : State) (id : ℕ) (act : Act) (f : EditFault) → DeskStandsFor d s state → Some f ≡ act_fault act s.page
+pub faulty-stands : (d d1 : Desk) (s s1 : PageSide) (state : State) (id : ℕ) (act : Act) (f : ActFault) → DeskStandsFor d s state → Some f ≡ act_fault act s.page s.sheets.entries
     → DeskStandsFor d1 s1 (act_step act state).state → DeskStandsFor d1 s1 (judged_step id act state).state
 faulty-stands d d1 s s1 state id act f before some stands =
-    let here : act_fault act state.side.page ≡ Some f = fault-here d s state act (Some f) before some in
+    let here : act_fault act state.side.page (book_in state) ≡ Some f = fault-here d s state act (Some f) before some in
     subst (λ (done : Step). DeskStandsFor d1 s1 done.state) (sym (faulty-is state id act f here))
     (subst (λ (done : Step). DeskStandsFor d1 s1 done.state) (unmoved-is state act f here) stands)
 
-pub faulty-sent : (d : Desk) (s : PageSide) (state : State) (id : ℕ) (act : Act) (f : EditFault) (why : Why) (old middle new : List ℕ) → DeskStandsFor d s state
-    → Some f ≡ act_fault act s.page → why ≡ edit_why f → middle ≡ old ++ frames_of_moves (act_step act state).moves
+pub faulty-sent : (d : Desk) (s : PageSide) (state : State) (id : ℕ) (act : Act) (f : ActFault) (why : Why) (old middle new : List ℕ) → DeskStandsFor d s state
+    → Some f ≡ act_fault act s.page s.sheets.entries → why ≡ act_why f → middle ≡ old ++ frames_of_moves (act_step act state).moves
     → new ≡ middle ++ frames_of_moves (refusing (Some id) why state).moves
     → new ≡ old ++ frames_of_moves (judged_step id act state).moves
 faulty-sent d s state id act f why old middle new before some why_is first last =
-    let here : act_fault act state.side.page ≡ Some f = fault-here d s state act (Some f) before some in
+    let here : act_fault act state.side.page (book_in state) ≡ Some f = fault-here d s state act (Some f) before some in
     let same : middle ≡ old = first ∙ ap (λ (done : Step). old ++ frames_of_moves done.moves) (unmoved-is state act f here) ∙ append-nil old in
     last ∙ ap (λ w. middle ++ frames_of_moves (refusing (Some id) w state).moves) why_is
-    ∙ ap (λ bs. bs ++ frames_of_moves (refusing (Some id) (edit_why f) state).moves) same
+    ∙ ap (λ bs. bs ++ frames_of_moves (refusing (Some id) (act_why f) state).moves) same
     ∙ ap (λ (done : Step). old ++ frames_of_moves done.moves) (sym (faulty-is state id act f here))

@@ -1,10 +1,9 @@
 -- What a script does at a seat is the step of the state.
-use Rattle.std.proofs.Common.{◌≡◌, ℕ, suc, ◌+◌, ◌^◌, ◌<◌, ◌≤◌, List, [], ◌∷◌, ◌++◌, length, Bool, true, false, cond, Option, Some, None, Result, Ok, Err, refl, sym, ◌∙◌, ap, subst, append-nil, append_assoc, arith}
+use Rattle.std.proofs.Common.{◌≡◌, ℕ, suc, ◌+◌, ◌^◌, ◌<◌, ◌≤◌, List, ◌++◌, length, Bool, true, false, cond, Option, Some, None, Result, Ok, Err, refl, sym, ◌∙◌, ap, subst, append-nil, append_assoc, arith}
 use Rattle.std.proofs.lemmas.List.Concat.{flat_map-append}
 use Rattle.node_tree.specs.Nodes.{Nodes, none, node, Branch, alone, branch_count}
 use Rattle.node_tree.specs.Labels.{Label}
-use Rattle.page_tree.specs.Forms.{CanLoad}
-use Rattle.page_tree.specs.Pages.{Row, State as PageValue, IsValid, loaded, node_at}
+use Rattle.page_tree.specs.Pages.{Row, State as PageValue, IsValid, node_at}
 use Rattle.page_tree.specs.Edits.{after, drawn, numbered_branch, moved_before}
 use Rattle.page_tree.specs.EditFaults.{CanApply, CanInsert, Refuses, first_fault, insert_fault, move_fault}
 use Rattle.page_tree.proofs.InsertLemmas.{insert-leads}
@@ -15,25 +14,25 @@ use Rattle.page_tree.specs.declared.edit_faults.EditFault.{EditFault}
 use Rattle.page_tree.specs.declared.edit_faults.EditErr.{EditErr}
 use Rattle.page_tree.specs.declared.edit_faults.EditErr.TheVariants.{Fault}
 use Rattle.page_forms.specs.declared.acts.Act.TheVariants.{Insert, Move}
-use Rattle.node_binding.specs.Bindings.{Bound, Stands, cleared, with_bound, forgotten, all_forgotten, opened_in}
-use Rattle.node_binding.specs.Sessions.{reset}
+use Rattle.node_binding.specs.Bindings.{Bound, Stands, with_bound, forgotten, all_forgotten, opened_in}
 use Rattle.dom_agent.specs.Edits.{Edited, OnFault}
 use Rattle.std.specs.Result.{OnOk}
-use Rattle.node_binding.proofs.StandsLemmas.{Stands-reset}
 use Rattle.cdp_messages.specs.Moves.{Move as Told, frames_of_moves, move_text}
 use Rattle.cdp_messages.specs.Answers.{ended}
 use Rattle.dom_agent.specs.EditLaws.{session_edited, binding_edited}
 use Rattle.dom_agent.proofs.EditKeepers.{edit_keeps_bound, same_edit_moves}
-use Rattle.back_end.specs.States.{State, nodes_in}
-use Rattle.back_end.specs.Plans.{act_plan}
-use Rattle.back_end.specs.Steps.{with_page, edit_step, with_crossed, planned_step, act_step, lone_step, load_step}
-use Rattle.back_end.specs.Texts.{HaveTexts, FormHasTexts, EditHasTexts}
+use Rattle.back_end.specs.Sheets.{NumberedBook}
+use Rattle.back_end.specs.States.{State, nodes_in, book_in}
+use Rattle.back_end.specs.Plans.{one_edit, edit_fault, act_plan}
+use Rattle.back_end.specs.Steps.{with_page, edit_step, with_crossed, planned_step, act_step, lone_step}
+use Rattle.back_end.specs.Texts.{FormHasTexts, EditHasTexts}
 use Rattle.dom_agent.specs.Laws.{RowsHaveUtf8}
 use Rattle.back_end.proofs.TextLemmas.{node_at-texts, branch-texts}
 use Rattle.back_end.specs.declared.desk.Desk.{Desk}
 use Rattle.back_end.specs.declared.side.PageSide.{PageSide}
 use Rattle.back_end.specs.Seats.{DeskStandsFor}
-use Rattle.back_end.proofs.StepLemmas.{Well, edit-well, crossed-is, with-page-is, drawn-valid, load-is}
+use Rattle.back_end.proofs.WellSteps.{Well, HasNumbers}
+use Rattle.back_end.proofs.StepLemmas.{edit-well, crossed-is, with-page-is, drawn-valid}
 
 -- ids that are left at the desk are left in the state
 ids-left : (n next most : ℕ) → next ≡ n + 1 → next < most → suc n < most + 1
@@ -42,22 +41,27 @@ ids-left n next most is h = omega (arith, is, h)
 -- ---- an edit that the page takes
 
 pub edit-stands : (d d1 : Desk) (s s1 : PageSide) (state : State) (e : TreeEdit) → DeskStandsFor d s state
-    → CanApply s.page.next e s.page.tree → EditHasTexts e → d.agent.next < 2 ^ 51 → s.page.next < 2 ^ 51
-    → s1.page ≡ after e s.page → d1.is_on ≡ d.is_on → d1.agent ≡ (binding_edited e s.page d.agent).state
+    → CanApply s.page.next e s.page.tree → EditHasTexts e → d.agent.next < 2 ^ 51 → s.page.next < 2 ^ 51 → s.sheets.next < 2 ^ 51
+    → s1.page ≡ after e s.page → s1.sheets ≡ s.sheets → d1.is_on ≡ d.is_on → d1.css ≡ d.css → d1.agent ≡ (binding_edited e s.page d.agent).state
     → DeskStandsFor d1 s1 (edit_step e state).state
-edit-stands d d1 s s1 state e stands can texts ids serials page_is on_is agent_is =
+edit-stands d d1 s s1 state e stands can texts ids serials sheets page_is sheets_is on_is css_is agent_is =
     let page = state.side.page in
     let w = state.client.session in
     let same : s.page ≡ page = stands.page_is in
     let can_here : CanApply page.next e page.tree = subst (λ (p : PageValue). CanApply p.next e p.tree) same can in
     let next : d.agent.next ≡ length w.pushed + 1 = stands.stands.next_is in
     let low : s.page.next ≡ page.next = ap (λ (p : PageValue). p.next) same in
-    let well : Well state (edit_step e state) 1 0 = edit-well state e stands.is_state (omega (arith, next, ids)) (omega (arith, low, serials)) can_here texts in
+    let last : s.sheets.next ≡ state.side.next_sheet = stands.next_is in
+    let numbers : HasNumbers state = record { ids = omega (arith, next, ids); serials = omega (arith, low, serials); sheets = omega (arith, last, sheets) } in
+    let well : Well state (edit_step e state) 1 0 0 = edit-well state e stands.is_state numbers (omega (arith, next, ids)) can_here texts in
     let bound = edit_keeps_bound page e w d.agent stands.is_state.page can_here (record { session = stands.is_state.session; stands = stands.stands }) in
     record {
       is_state = well.is_state;
       page_is = page_is ∙ ap (after e) same;
+      sheets_are = ap (λ (b : NumberedBook). b.entries) sheets_is ∙ stands.sheets_are;
+      next_is = ap (λ (b : NumberedBook). b.next) sheets_is ∙ stands.next_is;
       on_is = on_is ∙ stands.on_is;
+      css_is = css_is ∙ stands.css_is;
       stands = subst (λ a. Stands (alone (after e page).tree) (session_edited e page w).state a)
           (sym (agent_is ∙ ap (λ (p : PageValue). (binding_edited e p d.agent).state) same)) bound.stands;
     }
@@ -96,15 +100,26 @@ edit-few page e b b1 is = let few = bound-few page e b in let same : b1.next ≡
 
 -- at the end of a plan the history is crossed
 pub crossed-stands : (d : Desk) (s : PageSide) (state : State) → DeskStandsFor d s state → DeskStandsFor d s (with_crossed state)
-crossed-stands d s state stands = record { is_state = crossed-is state stands.is_state; page_is = stands.page_is; on_is = stands.on_is; stands = stands.stands }
+crossed-stands d s state stands = record {
+  is_state = crossed-is state stands.is_state;
+  page_is = stands.page_is;
+  sheets_are = stands.sheets_are;
+  next_is = stands.next_is;
+  on_is = stands.on_is;
+  css_is = stands.css_is;
+  stands = stands.stands;
+}
 
 -- the page with drawn serials
-pub drawn-stands : (d : Desk) (s s1 : PageSide) (state : State) (page : PageValue) → DeskStandsFor d s state → s1.page ≡ page → IsValid page → page.tree ≡ state.side.page.tree
+pub drawn-stands : (d : Desk) (s s1 : PageSide) (state : State) (page : PageValue) → DeskStandsFor d s state → s1.page ≡ page → s1.sheets ≡ s.sheets → IsValid page → page.tree ≡ state.side.page.tree
     → DeskStandsFor d s1 (with_page page state)
-drawn-stands d s s1 state page stands is valid same = record {
+drawn-stands d s s1 state page stands is sheets_is valid same = record {
   is_state = with-page-is state page stands.is_state valid same;
   page_is = is;
+  sheets_are = ap (λ (b : NumberedBook). b.entries) sheets_is ∙ stands.sheets_are;
+  next_is = ap (λ (b : NumberedBook). b.next) sheets_is ∙ stands.next_is;
   on_is = stands.on_is;
+  css_is = stands.css_is;
   stands = subst (λ tree. Stands (alone tree) state.client.session d.agent) (sym same) stands.stands;
 }
 
@@ -113,41 +128,27 @@ pub lone-stands : (d d1 : Desk) (s s1 : PageSide) (state : State) (e : TreeEdit)
     → DeskStandsFor d1 s1 (edit_step e state).state → DeskStandsFor d1 s1 (lone_step e state).state
 lone-stands d d1 s s1 state e same fits stands =
     let here : first_fault e state.side.page.tree ≡ None = ap (λ (p : PageValue). first_fault e p.tree) (sym same) ∙ fits in
-    subst (λ o. DeskStandsFor d1 s1 (planned_step o (record { page = state.side.page; edits = e ∷ [] }) state).state) (sym here)
+    subst (λ o. DeskStandsFor d1 s1 (planned_step o (one_edit e state.side.page) state).state) (sym (ap edit_fault here))
     (crossed-stands d1 s1 (edit_step e state).state stands)
 
 pub lone-refused : (d : Desk) (s : PageSide) (state : State) (e : TreeEdit) (f : EditFault) → s.page ≡ state.side.page → first_fault e s.page.tree ≡ Some f
     → DeskStandsFor d s state → DeskStandsFor d s (lone_step e state).state
 lone-refused d s state e f same fault stands =
     let here : first_fault e state.side.page.tree ≡ Some f = ap (λ (p : PageValue). first_fault e p.tree) (sym same) ∙ fault in
-    subst (λ o. DeskStandsFor d s (planned_step o (record { page = state.side.page; edits = e ∷ [] }) state).state) (sym here) stands
+    subst (λ o. DeskStandsFor d s (planned_step o (one_edit e state.side.page) state).state) (sym (ap edit_fault here)) stands
 
 pub lone-sent : (s : PageSide) (state : State) (e : TreeEdit) (old new : List ℕ) → s.page ≡ state.side.page → first_fault e s.page.tree ≡ None
     → new ≡ old ++ frames_of_moves (edit_step e state).moves → new ≡ old ++ frames_of_moves (lone_step e state).moves
 lone-sent s state e old new same fits sent =
     let here : first_fault e state.side.page.tree ≡ None = ap (λ (p : PageValue). first_fault e p.tree) (sym same) ∙ fits in
     sent ∙ ap (λ ms. old ++ frames_of_moves ms) (sym (append-nil (edit_step e state).moves))
-    ∙ ap (λ o. old ++ frames_of_moves (planned_step o (record { page = state.side.page; edits = e ∷ [] }) state).moves) (sym here)
+    ∙ ap (λ o. old ++ frames_of_moves (planned_step o (one_edit e state.side.page) state).moves) (sym (ap edit_fault here))
 
 pub lone-unsent : (s : PageSide) (state : State) (e : TreeEdit) (f : EditFault) (old new : List ℕ) → s.page ≡ state.side.page → first_fault e s.page.tree ≡ Some f
     → new ≡ old → new ≡ old ++ frames_of_moves (lone_step e state).moves
 lone-unsent s state e f old new same fault sent =
     let here : first_fault e state.side.page.tree ≡ Some f = ap (λ (p : PageValue). first_fault e p.tree) (sym same) ∙ fault in
-    sent ∙ sym (append-nil old) ∙ ap (λ o. old ++ frames_of_moves (planned_step o (record { page = state.side.page; edits = e ∷ [] }) state).moves) (sym here)
-
--- ---- loads
-
-pub load-stands : (d d1 : Desk) (s s1 : PageSide) (state : State) (nodes : Nodes Label) → DeskStandsFor d s state → CanLoad nodes → HaveTexts nodes
-    → s1.page ≡ loaded s.page.next nodes → d1.is_on ≡ d.is_on → d1.agent ≡ cleared d.agent → DeskStandsFor d1 s1 (load_step nodes state).state
-load-stands d d1 s s1 state nodes stands can texts page_is on_is agent_is =
-    let same : s.page ≡ state.side.page = stands.page_is in
-    record {
-      is_state = load-is state nodes stands.is_state can texts;
-      page_is = page_is ∙ ap (λ (p : PageValue). loaded p.next nodes) same;
-      on_is = on_is ∙ stands.on_is;
-      stands = subst (λ a. Stands (nodes_in (load_step nodes state).state) (reset state.client.session) a) (sym agent_is)
-          (Stands-reset (nodes_in state) (nodes_in (load_step nodes state).state) state.client.session d.agent stands.stands);
-    }
+    sent ∙ sym (append-nil old) ∙ ap (λ o. old ++ frames_of_moves (planned_step o (one_edit e state.side.page) state).moves) (sym (ap edit_fault here))
 
 -- ---- inserts
 
@@ -165,11 +166,11 @@ grown-texts page form tree texts tree_is = subst (λ t. RowsHaveUtf8 (alone t)) 
 pub grown-low : (page drawn_page : PageValue) (form : Branch Label) → page.next < 2 ^ 50 → branch_count form ≤ 100000 → drawn_page ≡ drawn form page → drawn_page.next < 2 ^ 51
 grown-low page drawn_page form low few drawn_is = let is : drawn_page.next ≡ page.next + branch_count form = ap (λ (p : PageValue). p.next) drawn_is in omega (arith, low, few, is)
 
-pub drawn-form : (d : Desk) (s s1 : PageSide) (state : State) (form : Branch Label) → DeskStandsFor d s state → s1.page ≡ drawn form s.page
+pub drawn-form : (d : Desk) (s s1 : PageSide) (state : State) (form : Branch Label) → DeskStandsFor d s state → s1.page ≡ drawn form s.page → s1.sheets ≡ s.sheets
     → DeskStandsFor d s1 (with_page (drawn form state.side.page) state)
-drawn-form d s s1 state form stands is =
+drawn-form d s s1 state form stands is sheets_is =
     let same : s1.page ≡ drawn form state.side.page = is ∙ ap (drawn form) stands.page_is in
-    drawn-stands d s s1 state (drawn form state.side.page) stands same (drawn-valid form state.side.page stands.is_state.page) refl
+    drawn-stands d s s1 state (drawn form state.side.page) stands same sheets_is (drawn-valid form state.side.page stands.is_state.page) refl
 
 pub grown-stands : (d1 : Desk) (s1 : PageSide) (state : State) (parent before : ℕ) (form : Branch Label) (tree : Branch Row) (page : PageValue) → page ≡ state.side.page
     → insert_fault parent before form page.tree ≡ None → tree ≡ numbered_branch page.next form
@@ -178,7 +179,7 @@ pub grown-stands : (d1 : Desk) (s1 : PageSide) (state : State) (parent before : 
 grown-stands d1 s1 state parent before form tree page same fits tree_is stands =
     let here : insert_fault parent before form state.side.page.tree ≡ None = ap (λ (p : PageValue). insert_fault parent before form p.tree) (sym same) ∙ fits in
     let tree_here : tree ≡ numbered_branch state.side.page.next form = tree_is ∙ ap (λ (p : PageValue). numbered_branch p.next form) same in
-    subst (λ o. DeskStandsFor d1 s1 (planned_step o (act_plan (Insert parent before form) state.side.page) state).state) (sym here)
+    subst (λ o. DeskStandsFor d1 s1 (planned_step o (act_plan (Insert parent before form) state.side.page (book_in state)) state).state) (sym (ap edit_fault here))
     (crossed-stands d1 s1 (edit_step (Attach parent before (numbered_branch state.side.page.next form)) (with_page (drawn form state.side.page) state)).state
     (subst (λ t. DeskStandsFor d1 s1 (edit_step (Attach parent before t) (with_page (drawn form state.side.page) state)).state) tree_here stands))
 
@@ -192,7 +193,7 @@ grown-sent state parent before form tree page old new same fits tree_is sent =
     sent
     ∙ ap (λ t. old ++ frames_of_moves (edit_step (Attach parent before t) (with_page (drawn form state.side.page) state)).moves) tree_here
     ∙ ap (λ ms. old ++ frames_of_moves ms) (sym (append-nil (edit_step (Attach parent before (numbered_branch state.side.page.next form)) (with_page (drawn form state.side.page) state)).moves))
-    ∙ ap (λ o. old ++ frames_of_moves (planned_step o (act_plan (Insert parent before form) state.side.page) state).moves) (sym here)
+    ∙ ap (λ o. old ++ frames_of_moves (planned_step o (act_plan (Insert parent before form) state.side.page (book_in state)) state).moves) (sym (ap edit_fault here))
 
 -- ---- moves
 
@@ -232,7 +233,7 @@ moved-stands d1 s1 state serial parent before there tree page same fits there_is
     let there_here : there ≡ moved_before serial parent before state.side.page.tree = there_is ∙ ap (λ (p : PageValue). moved_before serial parent before p.tree) same in
     let tree_here : tree ≡ node_at serial state.side.page.tree = tree_is ∙ ap (λ (p : PageValue). node_at serial p.tree) same in
     let first = (edit_step (Detach serial) state).state in
-    subst (λ o. DeskStandsFor d1 s1 (planned_step o (act_plan (Move serial parent before) state.side.page) state).state) (sym here)
+    subst (λ o. DeskStandsFor d1 s1 (planned_step o (act_plan (Move serial parent before) state.side.page (book_in state)) state).state) (sym (ap edit_fault here))
     (crossed-stands d1 s1 (edit_step (Attach parent (moved_before serial parent before state.side.page.tree) (node_at serial state.side.page.tree)) first).state
     (subst (λ b. DeskStandsFor d1 s1 (edit_step (Attach parent b (node_at serial state.side.page.tree)) first).state) there_here
     (subst (λ t. DeskStandsFor d1 s1 (edit_step (Attach parent there t) first).state) tree_here stands)))
@@ -256,7 +257,7 @@ moved-sent state serial parent before there tree page old middle new same fits t
     ∙ append_assoc old (frames_of_moves one) (frames_of_moves last)
     ∙ ap (λ bs. old ++ bs) (sym (flat_map-append (λ (m : Told). ended (move_text m)) one last))
     ∙ ap (λ ms. old ++ frames_of_moves (one ++ ms)) (sym (append-nil last))
-    ∙ ap (λ o. old ++ frames_of_moves (planned_step o (act_plan (Move serial parent before) state.side.page) state).moves) (sym here)
+    ∙ ap (λ o. old ++ frames_of_moves (planned_step o (act_plan (Move serial parent before) state.side.page (book_in state)) state).moves) (sym (ap edit_fault here))
 
 -- ---- what an edit gave
 
@@ -277,11 +278,15 @@ in_any (Err fault) P holds = tt
 pub in_none : {T E : Type 0} (result : Result T E) (P : Type 0) (fault : E) → result ≡ Err fault → OnOk result P
 in_none result P fault is = subst (λ r. OnOk r P) (sym is) tt
 
--- a desk and a page that stayed as they were
-pub stayed-stands : (d d1 : Desk) (s s1 : PageSide) (state : State) → d1.is_on ≡ d.is_on → d1.agent ≡ d.agent → s1.page ≡ s.page → DeskStandsFor d s state → DeskStandsFor d1 s1 state
-stayed-stands d d1 s s1 state on_is agent_is page_is stands = record {
+-- a desk and a side that stayed as they were
+pub stayed-stands : (d d1 : Desk) (s s1 : PageSide) (state : State) → d1.is_on ≡ d.is_on → d1.css ≡ d.css → d1.agent ≡ d.agent → s1.page ≡ s.page → s1.sheets ≡ s.sheets
+    → DeskStandsFor d s state → DeskStandsFor d1 s1 state
+stayed-stands d d1 s s1 state on_is css_is agent_is page_is sheets_is stands = record {
   is_state = stands.is_state;
   page_is = page_is ∙ stands.page_is;
+  sheets_are = ap (λ (b : NumberedBook). b.entries) sheets_is ∙ stands.sheets_are;
+  next_is = ap (λ (b : NumberedBook). b.next) sheets_is ∙ stands.next_is;
   on_is = on_is ∙ stands.on_is;
+  css_is = css_is ∙ stands.css_is;
   stands = subst (λ a. Stands (nodes_in state) state.client.session a) (sym agent_is) stands.stands;
 }

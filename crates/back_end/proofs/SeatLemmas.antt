@@ -1,5 +1,5 @@
 -- The answer of a seat to a command is the step of the state.
-use Rattle.std.proofs.Common.{◌≡◌, ℕ, List, ◌++◌, Bool, true, false, not, ◌&&◌, ◌||◌, cond, Some, Result, Ok, Err, refl, sym, ◌∙◌, ap, subst}
+use Rattle.std.proofs.Common.{◌≡◌, ℕ, List, [], ◌++◌, Bool, true, false, not, ◌&&◌, ◌||◌, cond, Some, Result, Ok, Err, refl, sym, ◌∙◌, ap, subst, append-nil}
 use Rattle.std.specs.Result.{OnOk}
 use Rattle.page_tree.specs.Pages.{State as PageValue}
 use Rattle.node_binding.specs.Bindings.{Stands, cleared}
@@ -9,14 +9,15 @@ use Rattle.cdp_messages.specs.DomAsks.{fits_ask}
 use Rattle.cdp_messages.specs.Moves.{frames_of_moves}
 use Rattle.cdp_messages.specs.declared.dom_ask.DomAsk.{DomAsk}
 use Rattle.cdp_messages.specs.declared.dom_ask.DomAsk.TheVariants.{GetDocument, RequestChildNodes, PushByPath, PushBySerials, QuerySelector, QuerySelectorAll, GetAttributes, DescribeNode}
-use Rattle.cdp_messages.specs.declared.command.Why.TheVariants.{DomOff}
+use Rattle.cdp_messages.specs.declared.command.Why.TheVariants.{DomOff, CssOff}
 use Rattle.dom_agent.specs.Laws.{session_outcome, binding_outcome}
 use Rattle.dom_agent.specs.Requests.{Outcome, shows_root, served, refused, state_after, answer}
 use Rattle.dom_agent.proofs.OutcomeLemmas.{stays_session}
 use Rattle.dom_agent.proofs.KeeperLemmas.{stays_bound, same_moves}
+use Rattle.back_end.specs.Sheets.{NumberedBook}
 use Rattle.back_end.specs.States.{Client, State, nodes_in}
 use Rattle.back_end.specs.Servers.{Server, enables, disables, agent}
-use Rattle.back_end.specs.Steps.{Step, refusing, ask_needs_on, needs_on, turns_on, client_served, server_step, command_step}
+use Rattle.back_end.specs.Steps.{Step, refusing, ask_needs_on, needs_on, needs_css, turns_on, client_served, server_step, command_step}
 use Rattle.back_end.specs.declared.desk.Desk.{Desk}
 use Rattle.back_end.specs.declared.side.PageSide.{PageSide}
 use Rattle.back_end.specs.Seats.{DeskStandsFor}
@@ -31,11 +32,22 @@ on_ok (Err fault) P Q p f = tt
 
 -- one that is refused, since DOM is off
 pub off-is : (id : ℕ) (server : Server) (state : State) → (needs_on server && not state.client.dom_on) ≡ true → command_step id server state ≡ refusing (Some id) DomOff state
-off-is id server state off = ap (λ t. cond t (refusing (Some id) DomOff state) (server_step id server state)) off
+off-is id server state off =
+    ap (λ t. cond t (refusing (Some id) DomOff state) (cond (needs_css server && not state.client.css_on) (refusing (Some id) CssOff state) (server_step id server state))) off
+
+-- one that is refused, since CSS is off
+pub css-off-is : (id : ℕ) (server : Server) (state : State) → (needs_on server && not state.client.dom_on) ≡ false → (needs_css server && not state.client.css_on) ≡ true
+    → command_step id server state ≡ refusing (Some id) CssOff state
+css-off-is id server state on off =
+    ap (λ t. cond t (refusing (Some id) DomOff state) (cond (needs_css server && not state.client.css_on) (refusing (Some id) CssOff state) (server_step id server state))) on
+    ∙ ap (λ t. cond t (refusing (Some id) CssOff state) (server_step id server state)) off
 
 -- one that is carried out
-pub on-is : (id : ℕ) (server : Server) (state : State) → (needs_on server && not state.client.dom_on) ≡ false → command_step id server state ≡ server_step id server state
-on-is id server state on = ap (λ t. cond t (refusing (Some id) DomOff state) (server_step id server state)) on
+pub on-is : (id : ℕ) (server : Server) (state : State) → (needs_on server && not state.client.dom_on) ≡ false → (needs_css server && not state.client.css_on) ≡ false
+    → command_step id server state ≡ server_step id server state
+on-is id server state on css_on =
+    ap (λ t. cond t (refusing (Some id) DomOff state) (cond (needs_css server && not state.client.css_on) (refusing (Some id) CssOff state) (server_step id server state))) on
+    ∙ ap (λ t. cond t (refusing (Some id) CssOff state) (server_step id server state)) css_on
 
 -- whether it is refused, as the state has it
 same-on : (c : DomAsk) (b on t : Bool) → b ≡ on → t ≡ (ask_needs_on c && not b) → (ask_needs_on c && not on) ≡ t
@@ -68,6 +80,11 @@ on-after (QuerySelectorAll id text) page client on is = still-on (QuerySelectorA
 on-after (GetAttributes id) page client on is = still-on (GetAttributes id) page client on refl is
 on-after (DescribeNode id serial depth pierce) page client on is = still-on (DescribeNode id serial depth pierce) page client on refl is
 
+served-css : (c : DomAsk) (o : Outcome Session) (client : Client) → client.css_on ≡ (client_served c o client).css_on
+served-css c (shows_root w b) client = refl
+served-css c (served p body) client = refl
+served-css c (refused why) client = refl
+
 served-session : (c : DomAsk) (o : Outcome Session) (client : Client) → state_after client.session o ≡ (client_served c o client).session
 served-session c (shows_root w b) client = refl
 served-session c (served p body) client = refl
@@ -75,9 +92,9 @@ served-session c (refused why) client = refl
 
 pub asked-stands : (d d1 : Desk) (s s1 : PageSide) (state : State) (id : ℕ) (c : DomAsk) (page : PageValue)
     → fits_ask c ≡ true → false ≡ (ask_needs_on c && not d.is_on) → DeskStandsFor d s state
-    → s1.page ≡ s.page → page ≡ s.page → d1.is_on ≡ (d.is_on || turns_on c) → d1.agent ≡ state_after d.agent (binding_outcome page c d.agent)
+    → s1.page ≡ s.page → s1.sheets ≡ s.sheets → page ≡ s.page → d1.is_on ≡ (d.is_on || turns_on c) → d1.css ≡ d.css → d1.agent ≡ state_after d.agent (binding_outcome page c d.agent)
     → DeskStandsFor d1 s1 (command_step id (agent c) state).state
-asked-stands d d1 s s1 state id c page fits is_off stands same_side same_page on_is agent_is =
+asked-stands d d1 s s1 state id c page fits is_off stands same_side sheets_is same_page on_is css_is agent_is =
     let w = state.client.session in
     let on : (ask_needs_on c && not state.client.dom_on) ≡ false = same-on c d.is_on state.client.dom_on false stands.on_is is_off in
     let o : Outcome Session = session_outcome state.side.page c w in
@@ -85,10 +102,13 @@ asked-stands d d1 s s1 state id c page fits is_off stands same_side same_page on
     stays_bound state.side.page c w d.agent stands.is_state.page fits stands.is_state.session stands.stands in
     let agent_now : state_after d.agent (binding_outcome state.side.page c d.agent) ≡ d1.agent =
     sym (agent_is ∙ ap (λ page. state_after d.agent (binding_outcome page c d.agent)) (same_page ∙ stands.page_is)) in
-    subst (λ (done : Step). DeskStandsFor d1 s1 done.state) (sym (on-is id (agent c) state on)) (record {
+    subst (λ (done : Step). DeskStandsFor d1 s1 done.state) (sym (on-is id (agent c) state on refl)) (record {
       is_state = served-is c o state stands.is_state (off-after c state stands.is_state on) (stays_session state.side.page c w stands.is_state.page fits stands.is_state.session);
       page_is = same_side ∙ stands.page_is;
+      sheets_are = ap (λ (b : NumberedBook). b.entries) sheets_is ∙ stands.sheets_are;
+      next_is = ap (λ (b : NumberedBook). b.next) sheets_is ∙ stands.next_is;
       on_is = on_is ∙ on-after c state.side.page state.client d.is_on stands.on_is;
+      css_is = css_is ∙ stands.css_is ∙ served-css c o state.client;
       stands = subst (λ z. Stands (nodes_in state) z d1.agent) (served-session c o state.client) (subst (λ a. Stands (nodes_in state) (state_after w o) a) agent_now bound);
     })
 
@@ -99,7 +119,7 @@ asked-sent d s state id c page old new fits is_off stands same_page sent =
     let on : (ask_needs_on c && not state.client.dom_on) ≡ false = same-on c d.is_on state.client.dom_on false stands.on_is is_off in
     sent ∙ ap (λ page. old ++ answer id (binding_outcome page c d.agent)) (same_page ∙ stands.page_is)
     ∙ ap (λ ms. old ++ frames_of_moves ms) (same_moves state.side.page c state.client.session d.agent id stands.is_state.page fits stands.is_state.session stands.stands)
-    ∙ ap (λ (done : Step). old ++ frames_of_moves done.moves) (sym (on-is id (agent c) state on))
+    ∙ ap (λ (done : Step). old ++ frames_of_moves done.moves) (sym (on-is id (agent c) state on refl))
 
 -- an ask that is refused
 pub refused-stands : (d : Desk) (s : PageSide) (state : State) (id : ℕ) (c : DomAsk) → true ≡ (ask_needs_on c && not d.is_on) → DeskStandsFor d s state
@@ -116,12 +136,15 @@ refused-sent d s state id c old new is_off stands sent =
 
 -- ---- the seat's own commands
 
-pub enabled-stands : (d d1 : Desk) (s s1 : PageSide) (state : State) (id : ℕ) → DeskStandsFor d s state → s1.page ≡ s.page → d1.is_on ≡ true → d1.agent ≡ d.agent
+pub enabled-stands : (d d1 : Desk) (s s1 : PageSide) (state : State) (id : ℕ) → DeskStandsFor d s state → s1.page ≡ s.page → s1.sheets ≡ s.sheets → d1.is_on ≡ true → d1.css ≡ d.css → d1.agent ≡ d.agent
     → DeskStandsFor d1 s1 (server_step id enables state).state
-enabled-stands d d1 s s1 state id stands same on agent_is = record {
+enabled-stands d d1 s s1 state id stands same sheets_is on css_is agent_is = record {
   is_state = enabled-is state stands.is_state;
   page_is = same ∙ stands.page_is;
+  sheets_are = ap (λ (b : NumberedBook). b.entries) sheets_is ∙ stands.sheets_are;
+  next_is = ap (λ (b : NumberedBook). b.next) sheets_is ∙ stands.next_is;
   on_is = on;
+  css_is = css_is ∙ stands.css_is;
   stands = subst (λ a. Stands (nodes_in state) state.client.session a) (sym agent_is) stands.stands;
 }
 
@@ -132,20 +155,27 @@ disable-on b on is h = ap (λ x. not x) (sym is ∙ h)
 disable-off : (b on : Bool) → b ≡ on → b ≡ false → (true && not on) ≡ true
 disable-off b on is h = ap (λ x. not x) (sym is ∙ h)
 
-pub disabled-stands : (d d1 : Desk) (s s1 : PageSide) (state : State) (id : ℕ) → DeskStandsFor d s state → d.is_on ≡ true → s1.page ≡ s.page → d1.is_on ≡ false
-    → d1.agent ≡ cleared d.agent → DeskStandsFor d1 s1 (command_step id disables state).state
-disabled-stands d d1 s s1 state id stands was same off agent_is =
-    subst (λ (done : Step). DeskStandsFor d1 s1 done.state) (sym (on-is id disables state (disable-on d.is_on state.client.dom_on stands.on_is was))) (record {
+and-false : (b : Bool) → (b && false) ≡ false
+and-false true = refl
+and-false false = refl
+
+pub disabled-stands : (d d1 : Desk) (s s1 : PageSide) (state : State) (id : ℕ) → DeskStandsFor d s state → d.is_on ≡ true → s1.page ≡ s.page → s1.sheets ≡ s.sheets → d1.is_on ≡ false
+    → d1.css ≡ false → d1.agent ≡ cleared d.agent → DeskStandsFor d1 s1 (command_step id disables state).state
+disabled-stands d d1 s s1 state id stands was same sheets_is off css_off agent_is =
+    subst (λ (done : Step). DeskStandsFor d1 s1 done.state) (sym (on-is id disables state (disable-on d.is_on state.client.dom_on stands.on_is was) refl)) (record {
       is_state = disabled-is state stands.is_state;
       page_is = same ∙ stands.page_is;
+      sheets_are = ap (λ (b : NumberedBook). b.entries) sheets_is ∙ stands.sheets_are;
+      next_is = ap (λ (b : NumberedBook). b.next) sheets_is ∙ stands.next_is;
       on_is = off;
+      css_is = css_off ∙ sym (and-false state.client.css_on);
       stands = subst (λ a. Stands (nodes_in state) (reset state.client.session) a) (sym agent_is) (Stands-reset (nodes_in state) (nodes_in state) state.client.session d.agent stands.stands);
     })
 
-pub disabled-sent : (d : Desk) (s : PageSide) (state : State) (id : ℕ) (old new : List ℕ) → DeskStandsFor d s state → d.is_on ≡ true
-    → new ≡ old ++ frames_of_moves (server_step id disables state).moves → new ≡ old ++ frames_of_moves (command_step id disables state).moves
-disabled-sent d s state id old new stands was sent =
-    sent ∙ ap (λ (done : Step). old ++ frames_of_moves done.moves) (sym (on-is id disables state (disable-on d.is_on state.client.dom_on stands.on_is was)))
+pub disabled-sent : (d : Desk) (s : PageSide) (state : State) (id : ℕ) (old middle new : List ℕ) → DeskStandsFor d s state → d.is_on ≡ true
+    → middle ≡ old ++ frames_of_moves (server_step id disables state).moves → new ≡ middle ++ [] → new ≡ old ++ frames_of_moves (command_step id disables state).moves
+disabled-sent d s state id old middle new stands was sent more =
+    more ∙ append-nil middle ∙ sent ∙ ap (λ (done : Step). old ++ frames_of_moves done.moves) (sym (on-is id disables state (disable-on d.is_on state.client.dom_on stands.on_is was) refl))
 
 pub off-stands : (d : Desk) (s : PageSide) (state : State) (id : ℕ) → DeskStandsFor d s state → d.is_on ≡ false → DeskStandsFor d s (command_step id disables state).state
 off-stands d s state id stands was =

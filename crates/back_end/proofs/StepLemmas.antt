@@ -1,23 +1,24 @@
--- What holds of a step: the state after it is valid, and its moves lead from the view before to the view after.
+-- What a script does: its step is well.
 use Rattle.std.proofs.Common.{◌≡◌, ℕ, suc, ◌+◌, ◌^◌, ◌<◌, ◌≤◌, Bool, true, false, not, ◌&&◌, cond, nat_le, List, [], ◌∷◌, length, Option, Some, None, refl, sym, ◌∙◌, ap, subst, arith}
 use Rattle.std.specs.Prelude.{⊤, option_map}
 use Rattle.std.specs.FinSet as set
 use Rattle.std.specs.Ordering.{nat_cmp}
 use Rattle.std.specs.Cmp.{nat_cmp_total}
+use Rattle.std.specs.Str.{IsUtf8}
 use Rattle.std.proofs.lemmas.Bool.{leb-true}
 use Rattle.std.proofs.lemmas.Str.{IsUtf8-nil}
-use Rattle.node_tree.specs.Nodes.{Nodes, none, Branch, alone, node_count, branch_count}
+use Rattle.node_tree.specs.Nodes.{none, Branch, alone, node_count, branch_count}
 use Rattle.node_tree.specs.Labels.{Label}
-use Rattle.page_tree.specs.Forms.{CanLoad}
-use Rattle.page_tree.specs.Pages.{Row, row_serial, State as PageValue, IsValid, loaded, node_at}
+use Rattle.page_tree.specs.Pages.{Row, row_serial, State as PageValue, IsValid, node_at}
 use Rattle.page_tree.specs.Edits.{after, drawn}
 use Rattle.page_tree.specs.EditFaults.{CanApply, CanApplyAll, attach_faults, insert_fault}
 use Rattle.page_tree.specs.declared.edits.TreeEdit.{TreeEdit}
 use Rattle.page_tree.specs.declared.edits.TreeEdit.TheVariants as edit
 use Rattle.page_tree.specs.declared.edit_faults.EditFault.{EditFault}
 use Rattle.page_forms.specs.declared.acts.Act.{Act}
-use Rattle.page_forms.specs.declared.acts.Act.TheVariants.{SetAttr, DropAttr, SetText, Insert, Remove, Move}
+use Rattle.page_forms.specs.declared.acts.Act.TheVariants.{SetAttr, DropAttr, SetText, Insert, Remove, Move, AddSheet, DropSheet, ReplaceSheet}
 use Rattle.page_forms.specs.Acts.{IsInsertable}
+use Rattle.page_forms.specs.Pages.{LoadedPage, CanLoadPage}
 use Rattle.page_tree.proofs.EditLemmas.{valid-after, clear}
 use Rattle.page_tree.proofs.InsertLemmas.{next-stays, insert-leads}
 use Rattle.page_tree.proofs.MoveLemmas.{move-leads}
@@ -28,68 +29,31 @@ use Rattle.node_binding.specs.Sessions.{Session, IsSession, is_open}
 use Rattle.node_binding.specs.Openings.{opened_without}
 use Rattle.node_binding.proofs.SessionLemmas.{IsSession-reset}
 use Rattle.node_binding.proofs.StartLemmas.{count-alone}
-use Rattle.cdp_messages.specs.Views.{ShownSheet}
-use Rattle.cdp_messages.specs.Moves.{Move as Told, clear as cleared, CanBeTold, Moves, Course, ends, goes}
+use Rattle.sheet_reader.specs.declared.book.SheetEntry.{SheetEntry}
+use Rattle.sheet_reader.specs.Books.{removed}
+use Rattle.style_edits.specs.declared.faults.SheetFault.TheVariants.{TooBig}
+use Rattle.style_edits.specs.Edits.{is_too_big}
+use Rattle.cdp_messages.specs.Views.{ShownSheet, sheets_without}
+use Rattle.cdp_messages.specs.Moves.{CanBeTold, Course}
+use Rattle.css_agent.specs.Asks.{sheet_named}
 use Rattle.dom_agent.specs.Laws.{CanTell, CanTellSheets, RowsHaveUtf8, view_of as seen_by}
 use Rattle.dom_agent.specs.EditLaws.{session_edited}
-use Rattle.dom_agent.proofs.StepLemmas.{course-join}
-use Rattle.dom_agent.proofs.TellableLemmas.{can_say}
 use Rattle.dom_agent.proofs.EditMoves.{edits_are_moves}
 use Rattle.dom_agent.proofs.EditLemmas.{edit_keeps_session, edit_draws_one}
 use Rattle.dom_breakpoints.specs.Watched.{unwatched, is_within, outside, without_subtree}
 use Rattle.undo_marks.specs.Marks.{crossed_over}
-use Rattle.back_end.specs.States.{Side, State, nodes_in, sheets_shown, view_of, HasNoMore, IsState}
-use Rattle.back_end.specs.Plans.{Plan, act_fault, act_plan}
-use Rattle.back_end.specs.Steps.{Step, with_page, watched_after, edit_step, edit_steps, with_crossed, plan_step, planned_step, act_step, client_reset, load_step, Turn, acts, loads, turn_step}
-use Rattle.back_end.specs.Texts.{HaveTexts, ActHasTexts, EditHasTexts}
+use Rattle.back_end.specs.declared.faults.ActFault.{ActFault}
+use Rattle.back_end.specs.declared.faults.ActFault.TheVariants.{Sheet}
+use Rattle.back_end.specs.Sheets.{as_book, AreSheetsBelow}
+use Rattle.back_end.specs.States.{Side, Client, State, book_in, sheets_shown, view_of, loaded_side, IsState}
+use Rattle.back_end.specs.Plans.{Plan, Deed, edits, restyles, edit_fault, size_fault, drop_fault, replace_fault, dropping, replacing, act_fault, act_plan}
+use Rattle.back_end.specs.Steps.{Step, with_page, watched_after, edit_step, edit_steps, with_crossed, crossing, deed_step, planned_step, act_step, client_reset, load_step, Turn, acts, loads, turn_step}
+use Rattle.back_end.specs.Texts.{PageHasTexts, ActHasTexts, EditHasTexts}
 use Rattle.back_end.specs.Laws.{HasRoom, StepsWell, IsTurn}
 use Rattle.back_end.proofs.TextLemmas.{node_at-texts, after-texts, numbered-texts, branch-texts}
-
--- a step that draws at most so many ids and serials
-pub record Well (before : State) (done : Step) (ids serials : ℕ) : Type 0 where
-  pub is_state : IsState done.state
-  pub course : Course done.moves (view_of before) (view_of done.state)
-  pub few_ids : length done.state.client.session.pushed ≤ length before.client.session.pushed + ids
-  pub few_serials : done.state.side.page.next ≤ before.side.page.next + serials
-
--- ---- what can be told of a state
-
-sheets-none : (state : State) → HasNoMore state → sheets_shown state ≡ []
-sheets-none state is = ap (λ b. cond b state.side.sheets []) is.css_off
-
-pub can-sheets : (state : State) → IsState state → CanTellSheets (sheets_shown state)
-can-sheets state is = subst CanTellSheets (sym (sheets-none state is.no_more)) (record { are = tt; apart = refl })
-
-pub can-tell : (state : State) → IsState state → length state.client.session.pushed < 2 ^ 52 → state.side.page.next ≤ 2 ^ 52 → CanTell state.side.page state.client.session
-can-tell state is ids serials =
-    let few : node_count (nodes_in state) ≤ 100000 = count-alone state.side.page is.page in
-    record { serials = omega (arith, serials); ids = omega (arith, ids, few); texts = is.texts }
-
-pub told-view : (state : State) → IsState state → length state.client.session.pushed < 2 ^ 52 → state.side.page.next ≤ 2 ^ 52 → CanBeTold (view_of state)
-told-view state is ids serials =
-    can_say state.side.page state.client.session (sheets_shown state) is.page (can-tell state is ids serials) (can-sheets state is)
-    state.client.session is.session (omega arith)
-
--- nothing changes, and nothing is told
-stays : (state : State) → IsState state → length state.client.session.pushed < 2 ^ 52 → state.side.page.next ≤ 2 ^ 52 → Well state (record { state = state; moves = [] }) 0 0
-stays state is ids serials = record {
-  is_state = is;
-  course = ends (view_of state) (told-view state is ids serials);
-  few_ids = omega arith;
-  few_serials = omega arith;
-}
-
--- nothing changes, and a move is told that says so
-pub stays-with : (m : Told) (state : State) → IsState state → length state.client.session.pushed < 2 ^ 52 → state.side.page.next ≤ 2 ^ 52 → Moves m (view_of state) (view_of state)
-    → Well state (record { state = state; moves = m ∷ [] }) 0 0
-stays-with m state is ids serials moves =
-    let told = told-view state is ids serials in
-    record {
-      is_state = is;
-      course = goes m [] (view_of state) (view_of state) (view_of state) told moves (ends (view_of state) told);
-      few_ids = omega arith;
-      few_serials = omega arith;
-    }
+use Rattle.back_end.proofs.SheetLemmas.{ascend-order, sheets-loaded, sheets-few, book-without, named-is, fits-beside}
+use Rattle.back_end.proofs.SheetSteps.{CanChangeAll, changes-well, load-course}
+use Rattle.back_end.proofs.WellSteps.{Well, HasNumbers, room-numbers, can-sheets, can-tell, told-with, stays, then-well, more, few-steps}
 
 -- ---- one edit
 
@@ -122,9 +86,9 @@ unwatched-after (edit.SetText serial value) state h = h
 unwatched-after (edit.Attach parent before x) state h = h
 unwatched-after (edit.Detach serial) state h = ap (without_subtree serial state.side.page.tree) h ∙ none-left serial state.side.page.tree
 
-pub edit-well : (state : State) (e : TreeEdit) → IsState state → suc (length state.client.session.pushed) < 2 ^ 52 → state.side.page.next ≤ 2 ^ 52
-    → CanApply state.side.page.next e state.side.page.tree → EditHasTexts e → Well state (edit_step e state) 1 0
-edit-well state e is ids serials can texts =
+pub edit-well : (state : State) (e : TreeEdit) → IsState state → HasNumbers state → suc (length state.client.session.pushed) < 2 ^ 52
+    → CanApply state.side.page.next e state.side.page.tree → EditHasTexts e → Well state (edit_step e state) 1 0 0
+edit-well state e is low ids can texts =
     let page = state.side.page in
     let w = state.client.session in
     let valid : IsValid (after e page) = valid-after page e is.page can in
@@ -132,23 +96,21 @@ edit-well state e is ids serials can texts =
     let few : length (session_edited e page w).state.pushed ≤ length w.pushed + 1 = edit_draws_one page e w in
     let has : RowsHaveUtf8 (alone (after e page).tree) = after-texts e page.tree texts is.texts in
     let count : node_count (alone (after e page).tree) ≤ 100000 = count-alone (after e page) valid in
-    let later : CanTell (after e page) (session_edited e page w).state = record { serials = omega (arith, next, serials); ids = omega (arith, few, count, ids); texts = has } in
+    let later : CanTell (after e page) (session_edited e page w).state = record { serials = omega (arith, next, low.serials); ids = omega (arith, few, count, ids); texts = has } in
     record {
       is_state = record {
         page = valid;
         texts = has;
+        sheets = is.sheets;
         session = edit_keeps_session page e w is.page can is.session;
         off = λ h. edited-off e page w (is.off h);
-        no_more = record {
-          sheets = is.no_more.sheets;
-          css_off = is.no_more.css_off;
-          watched = unwatched-after e state is.no_more.watched;
-          marks = is.no_more.marks;
-        };
+        css_off = is.css_off;
+        no_more = record { watched = unwatched-after e state is.no_more.watched; marks = is.no_more.marks };
       };
-      course = edits_are_moves page e w (sheets_shown state) is.page can is.session (can-tell state is (omega (arith, ids)) serials) later (can-sheets state is);
+      course = edits_are_moves page e w (sheets_shown state) is.page can is.session (can-tell state is low) later (can-sheets state is low);
       few_ids = few;
       few_serials = omega (arith, next);
+      few_sheets = omega arith;
     }
 
 -- ---- edits, one after the other
@@ -158,19 +120,18 @@ abbrev EditsHaveTexts : List TreeEdit → Type 0
 EditsHaveTexts [] = ⊤
 EditsHaveTexts (e ∷ es) = EditHasTexts e × EditsHaveTexts es
 
-edits-well : (es : List TreeEdit) (state : State) → IsState state → length es + length state.client.session.pushed < 2 ^ 52 → state.side.page.next ≤ 2 ^ 52
-    → CanApplyAll es state.side.page → EditsHaveTexts es → Well state (edit_steps es state) (length es) 0
-edits-well [] state is ids serials can texts = stays state is (omega (arith, ids)) serials
-edits-well (e ∷ es) state is ids serials can texts =
-    let first : Well state (edit_step e state) 1 0 = edit-well state e is (omega (arith, ids)) serials can.0 texts.0 in
-    let later : Well (edit_step e state).state (edit_steps es (edit_step e state).state) (length es) 0 =
-    edits-well es (edit_step e state).state first.is_state (omega (arith, ids, first.few_ids)) (omega (arith, serials, first.few_serials)) can.1 texts.1 in
-    record {
-      is_state = later.is_state;
-      course = course-join first.course later.course;
-      few_ids = omega (arith, first.few_ids, later.few_ids);
-      few_serials = omega (arith, first.few_serials, later.few_serials);
-    }
+edits-well : (es : List TreeEdit) (state : State) → IsState state → HasNumbers state → length es + length state.client.session.pushed < 2 ^ 52
+    → CanApplyAll es state.side.page → EditsHaveTexts es → Well state (edit_steps es state) (length es) 0 0
+edits-well [] state is low ids can texts = stays state is low
+edits-well (e ∷ es) state is low ids can texts =
+    let first : Well state (edit_step e state) 1 0 0 = edit-well state e is low (omega (arith, ids)) can.0 texts.0 in
+    let next : HasNumbers (edit_step e state).state = record {
+      ids = omega (arith, ids, first.few_ids);
+      serials = omega (arith, low.serials, first.few_serials);
+      sheets = omega (arith, low.sheets, first.few_sheets);
+    } in
+    more (omega arith) (omega arith) (omega arith)
+    (then-well first (edits-well es (edit_step e state).state first.is_state next (omega (arith, ids, first.few_ids)) can.1 texts.1))
 
 -- ---- acts
 
@@ -218,38 +179,74 @@ form-few state parent before form h =
     negated true e = refl
     negated false e = absurd cc
 
-planned : (state : State) (act : Act) → IsState state → IsInsertable act → ActHasTexts act → act_fault act state.side.page ≡ None → Planned state (act_plan act state.side.page)
-planned state (SetAttr serial name value) is can texts h = planned-edit state (edit.SetAttr serial name value) is (record { fits = h; ready = tt }) texts
-planned state (DropAttr serial name) is can texts h = planned-edit state (edit.DropAttr serial name) is (record { fits = h; ready = tt }) texts
-planned state (SetText serial value) is can texts h = planned-edit state (edit.SetText serial value) is (record { fits = h; ready = tt }) texts
-planned state (Insert parent before form) is can texts h =
-    let few : branch_count form ≤ 100000 = form-few state parent before form h in
+-- what an act's deed begins with, and that what it comes to can be done
+abbrev CanDo : Deed → State → Type 0
+CanDo (edits plan) state = Planned state plan
+CanDo (restyles changes) state = CanChangeAll changes state × (length changes ≤ 2)
+
+unmapped : (o : Option EditFault) → edit_fault o ≡ None → o ≡ None
+unmapped None e = refl
+unmapped (Some f) e = absurd cc
+
+fits-size : (text : List ℕ) (book : List SheetEntry) → size_fault text book ≡ None → is_too_big text book ≡ false
+fits-size text book e = at (is_too_big text book) e where
+  at : (b : Bool) → cond b (Some (Sheet TooBig)) None ≡ None → b ≡ false
+  at true e = absurd cc
+  at false e = refl
+
+-- a sheet that is there goes
+drops-can : (sheet : List ℕ) (state : State) (o : Option SheetEntry) → sheet_named sheet (book_in state) ≡ o → drop_fault o ≡ None → CanChangeAll (dropping o) state × (length (dropping o) ≤ 2)
+drops-can sheet state None e fits = absurd cc
+drops-can sheet state (Some x) e fits = (((named-is sheet state.side.sheets x e).shows, tt), omega arith)
+
+-- and another comes in its place
+replaces-can : (sheet text : List ℕ) (state : State) (o : Option SheetEntry) → IsUtf8 text → sheet_named sheet (book_in state) ≡ o → replace_fault text (book_in state) o ≡ None
+    → CanChangeAll (replacing text o) state × (length (replacing text o) ≤ 2)
+replaces-can sheet text state None utf8 e fits = absurd cc
+replaces-can sheet text state (Some x) utf8 e fits =
+    let rest : is_too_big text (as_book (sheets_without x.id state.side.sheets)) ≡ false =
+    subst (λ (book : List SheetEntry). is_too_big text book ≡ false) (book-without x.id state.side.sheets) (fits-size text (removed x.id (book_in state)) fits) in
+    (((named-is sheet state.side.sheets x e).shows, (fits-beside text (sheets_without x.id state.side.sheets) utf8 rest, tt)), omega arith)
+
+can-do : (state : State) (act : Act) → IsState state → IsInsertable act → ActHasTexts act → act_fault act state.side.page (book_in state) ≡ None
+    → CanDo (act_plan act state.side.page (book_in state)) state
+can-do state (SetAttr serial name value) is can texts h = planned-edit state (edit.SetAttr serial name value) is (record { fits = unmapped _ h; ready = tt }) texts
+can-do state (DropAttr serial name) is can texts h = planned-edit state (edit.DropAttr serial name) is (record { fits = unmapped _ h; ready = tt }) texts
+can-do state (SetText serial value) is can texts h = planned-edit state (edit.SetText serial value) is (record { fits = unmapped _ h; ready = tt }) texts
+can-do state (Insert parent before form) is can texts h =
+    let fits : insert_fault parent before form state.side.page.tree ≡ None = unmapped _ h in
+    let few : branch_count form ≤ 100000 = form-few state parent before form fits in
     record {
       page = drawn-valid form state.side.page is.page;
       same = refl;
       serials = omega (arith, few);
-      taken = (insert-leads state.side.page parent before form is.page can h).taken;
+      taken = (insert-leads state.side.page parent before form is.page can fits).taken;
       texts = (branch-texts state.side.page.next form texts, tt);
       short = omega arith;
     }
-planned state (Remove serial) is can texts h = planned-edit state (edit.Detach serial) is (record { fits = h; ready = tt }) tt
-planned state (Move serial parent before) is can texts h = record {
+can-do state (Remove serial) is can texts h = planned-edit state (edit.Detach serial) is (record { fits = unmapped _ h; ready = tt }) tt
+can-do state (Move serial parent before) is can texts h = record {
   page = is.page;
   same = refl;
   serials = omega arith;
-  taken = move-leads state.side.page serial parent before is.page h;
+  taken = move-leads state.side.page serial parent before is.page (unmapped _ h);
   texts = (tt, (node_at-texts serial state.side.page.tree is.texts, tt));
   short = omega arith;
 }
+can-do state (AddSheet origin text) is can texts h = ((fits-beside text state.side.sheets texts (fits-size text (book_in state) h), tt), omega arith)
+can-do state (DropSheet sheet) is can texts h = drops-can sheet state (sheet_named sheet (book_in state)) refl h
+can-do state (ReplaceSheet sheet text) is can texts h = replaces-can sheet text state (sheet_named sheet (book_in state)) texts.1 refl h
 
 -- a state with the plan's page
 pub with-page-is : (state : State) (page : PageValue) → IsState state → IsValid page → page.tree ≡ state.side.page.tree → IsState (with_page page state)
 with-page-is state page is valid same = record {
   page = valid;
   texts = subst (λ tree. RowsHaveUtf8 (alone tree)) (sym same) is.texts;
+  sheets = is.sheets;
   session = subst (λ tree. IsSession (alone tree) state.client.session) (sym same) is.session;
   off = is.off;
-  no_more = record { sheets = is.no_more.sheets; css_off = is.no_more.css_off; watched = is.no_more.watched; marks = is.no_more.marks };
+  css_off = is.css_off;
+  no_more = record { watched = is.no_more.watched; marks = is.no_more.marks };
 }
 
 -- the client sees the same where only the next serial is another
@@ -261,58 +258,83 @@ pub crossed-is : (state : State) → IsState state → IsState (with_crossed sta
 crossed-is state is = record {
   page = is.page;
   texts = is.texts;
+  sheets = is.sheets;
   session = is.session;
   off = is.off;
-  no_more = record { sheets = is.no_more.sheets; css_off = is.no_more.css_off; watched = is.no_more.watched; marks = ap crossed_over is.no_more.marks ∙ refl };
+  css_off = is.css_off;
+  no_more = record { watched = is.no_more.watched; marks = ap crossed_over is.no_more.marks ∙ refl };
 }
 
-plan-well : (state : State) (plan : Plan) → IsState state → 2 + length state.client.session.pushed < 2 ^ 52 → 100000 + state.side.page.next ≤ 2 ^ 52
-    → Planned state plan → Well state (plan_step plan state) 2 100000
-plan-well state plan is ids serials p =
+-- a step that is not the client's is as well as the step itself
+crossing-well : {before : State} {done : Step} {ids serials sheets : ℕ} → Well before done ids serials sheets → Well before (crossing done) ids serials sheets
+crossing-well {done = done} well = record {
+  is_state = crossed-is done.state well.is_state;
+  course = well.course;
+  few_ids = well.few_ids;
+  few_serials = well.few_serials;
+  few_sheets = well.few_sheets;
+}
+
+plan-well : (state : State) (plan : Plan) → IsState state → HasRoom state → Planned state plan → Well state (deed_step (edits plan) state) 2 100000 1
+plan-well state plan is room p =
     let begun : IsState (with_page plan.page state) = with-page-is state plan.page is p.page p.same in
-    let done : Well (with_page plan.page state) (edit_steps plan.edits (with_page plan.page state)) (length plan.edits) 0 =
-    edits-well plan.edits (with_page plan.page state) begun (omega (arith, ids, p.short)) (omega (arith, serials, p.serials)) p.taken p.texts in
+    let low : HasNumbers (with_page plan.page state) = record {
+      ids = omega (arith, room.ids);
+      serials = omega (arith, room.serials, p.serials);
+      sheets = omega (arith, room.sheets);
+    } in
+    let done : Well (with_page plan.page state) (edit_steps plan.edits (with_page plan.page state)) (length plan.edits) 0 0 =
+    edits-well plan.edits (with_page plan.page state) begun low (omega (arith, room.ids, p.short)) p.taken p.texts in
     record {
       is_state = crossed-is (edit_steps plan.edits (with_page plan.page state)).state done.is_state;
       course = subst (λ v. Course (edit_steps plan.edits (with_page plan.page state)).moves v (view_of (edit_steps plan.edits (with_page plan.page state)).state)) (same-view state plan.page p.same) done.course;
       few_ids = omega (arith, done.few_ids, p.short);
       few_serials = omega (arith, done.few_serials, p.serials);
+      few_sheets = omega (arith, done.few_sheets);
     }
 
-pub more : {before : State} {done : Step} {i j k l : ℕ} → i ≤ k → j ≤ l → Well before done i j → Well before done k l
-more small low well = record {
-  is_state = well.is_state;
-  course = well.course;
-  few_ids = omega (arith, well.few_ids, small);
-  few_serials = omega (arith, well.few_serials, low);
-}
+deed-well : (state : State) (deed : Deed) → IsState state → HasRoom state → CanDo deed state → Well state (deed_step deed state) 2 100000 2
+deed-well state (edits plan) is room can = more (omega arith) (omega arith) (omega arith) (plan-well state plan is room can)
+deed-well state (restyles changes) is room can =
+    more (omega arith) (omega arith) can.1
+    (crossing-well (changes-well changes state is (room-numbers state room) (omega (arith, room.sheets, can.1)) can.0))
 
-act-well : (state : State) (act : Act) → IsState state → 2 + length state.client.session.pushed < 2 ^ 52 → 100000 + state.side.page.next ≤ 2 ^ 52
-    → IsInsertable act → ActHasTexts act → Well state (act_step act state) 2 100000
-act-well state act is ids serials can texts = at (act_fault act state.side.page) refl where
-  at : (o : Option EditFault) → act_fault act state.side.page ≡ o → Well state (planned_step o (act_plan act state.side.page) state) 2 100000
-  at None h = plan-well state (act_plan act state.side.page) is ids serials (planned state act is can texts h)
-  at (Some f) h = more (omega arith) (omega arith) (stays state is (omega (arith, ids)) (omega (arith, serials)))
+act-well : (state : State) (act : Act) → IsState state → HasRoom state → IsInsertable act → ActHasTexts act → Well state (act_step act state) 2 100000 2
+act-well state act is room can texts = at (act_fault act state.side.page (book_in state)) refl where
+  at : (o : Option ActFault) → act_fault act state.side.page (book_in state) ≡ o → Well state (planned_step o (act_plan act state.side.page (book_in state)) state) 2 100000 2
+  at None h = deed-well state (act_plan act state.side.page (book_in state)) is room (can-do state act is can texts h)
+  at (Some f) h = more (omega arith) (omega arith) (omega arith) (stays state is (room-numbers state room))
 
 -- ---- loads
 
+and-false : (b : Bool) → (b && false) ≡ false
+and-false true = refl
+and-false false = refl
+
 -- the client of a page that went
-reset-is : (state : State) (side : Side) (on : Bool) → IsState state → IsValid side.page → RowsHaveUtf8 (alone side.page.tree) → side.sheets ≡ []
+pub reset-is : (state : State) (side : Side) (on : Bool) → IsValid side.page → RowsHaveUtf8 (alone side.page.tree) → AreSheetsBelow side.next_sheet side.sheets
     → IsState (record { side = side; client = client_reset on state.client })
-reset-is state side on is valid texts sheets = record {
+reset-is state side on valid texts sheets = record {
   page = valid;
   texts = texts;
+  sheets = sheets;
   session = IsSession-reset (alone side.page.tree) state.client.session;
   off = λ h. refl;
-  no_more = record { sheets = sheets; css_off = ap (λ css. css && on) is.no_more.css_off; watched = refl; marks = refl };
+  css_off = λ h. ap (λ b. state.client.css_on && b) h ∙ and-false state.client.css_on;
+  no_more = record { watched = refl; marks = refl };
 }
 
--- where nothing is known, the client sees nothing
-pub empty-view : (state : State) → HasNoMore state → state.client.session.opened ≡ None → view_of state ≡ record { tree = none; sheets = [] }
-empty-view state is h = λ i. record { tree = nothing-seen state h i; sheets = sheets-none state is i }
-  where
-    nothing-seen : (state : State) → state.client.session.opened ≡ None → (view_of state).tree ≡ none
-    nothing-seen state h = rw h refl
+-- where nothing is known, messages can tell any sheets
+pub nothing-told : (sheets : List ShownSheet) → CanTellSheets sheets → CanBeTold (record { tree = none; sheets = sheets })
+nothing-told sheets can = record {
+  tree = record {
+    view = record { ids = λ x. omega arith; serials = λ x. omega arith; above = refl; levels = omega arith; bare = refl };
+    forms = refl;
+    texts = tt;
+  };
+  sheets = can.are;
+  apart = can.apart;
+}
 
 -- the next serial is at least 1
 pub page-least : (page : PageValue) → IsValid page → 1 ≤ page.next
@@ -323,42 +345,34 @@ page-least page valid =
 next-least : (state : State) → IsState state → 1 ≤ state.side.page.next
 next-least state is = page-least state.side.page is.page
 
-load-course : (state : State) (nodes : Nodes Label) → IsState state → IsState (load_step nodes state).state
-    → CanBeTold (view_of state) → CanBeTold (view_of (load_step nodes state).state) → (on : Bool) → state.client.dom_on ≡ on
-    → Course (cond on (cleared ∷ []) []) (view_of state) (view_of (load_step nodes state).state)
-load-course state nodes is done before after true h =
-    goes cleared [] (view_of state) _ _ before
-    (empty-view (load_step nodes state).state done.no_more refl ∙ ap (λ (sheets : List ShownSheet). record { tree = none; sheets = sheets }) (sym (sheets-none state is.no_more)))
-    (ends (view_of (load_step nodes state).state) after)
-load-course state nodes is done before after false h =
-    let same : view_of state ≡ view_of (load_step nodes state).state = empty-view state is.no_more (is.off h) ∙ sym (empty-view (load_step nodes state).state done.no_more refl) in
-    subst (λ v. Course [] v (view_of (load_step nodes state).state)) (sym same) (ends (view_of (load_step nodes state).state) after)
+pub loaded-is : (serial number : ℕ) (page : LoadedPage) (client : Client) → 1 ≤ serial → 1 ≤ number → CanLoadPage page → PageHasTexts page
+    → IsState (record { side = loaded_side serial number page; client = client_reset client.dom_on client })
+loaded-is serial number page client least some can texts =
+    reset-is (record { side = loaded_side serial number page; client = client }) (loaded_side serial number page) client.dom_on (loaded_valid serial page.nodes least can.nodes)
+    ((IsUtf8-nil, IsUtf8-nil, tt), numbered-texts (serial + 1) page.nodes texts.nodes, tt) (sheets-loaded number page.sheets some can.sheets texts.sheets)
 
-pub load-is : (state : State) (nodes : Nodes Label) → IsState state → CanLoad nodes → HaveTexts nodes → IsState (load_step nodes state).state
-load-is state nodes is can texts =
-    let side : Side = record { page = loaded state.side.page.next nodes; sheets = []; next_sheet = state.side.next_sheet } in
-    reset-is state side state.client.dom_on is (loaded_valid state.side.page.next nodes (next-least state is) can)
-    ((IsUtf8-nil, IsUtf8-nil, tt), numbered-texts (state.side.page.next + 1) nodes texts, tt) refl
+pub load-is : (state : State) (page : LoadedPage) → IsState state → CanLoadPage page → PageHasTexts page → IsState (load_step page state).state
+load-is state page is can texts =
+    loaded-is state.side.page.next state.side.next_sheet page state.client (next-least state is) (ascend-order 1 state.side.next_sheet state.side.sheets is.sheets.numbers) can texts
 
-load-well : (state : State) (nodes : Nodes Label) → IsState state → length state.client.session.pushed < 2 ^ 52 → 100001 + state.side.page.next ≤ 2 ^ 52
-    → CanLoad nodes → HaveTexts nodes → Well state (load_step nodes state) 0 100001
-load-well state nodes is ids serials can texts =
-    let room : suc (node_count nodes) ≤ 100000 = can.room in
-    let done : IsState (load_step nodes state).state = load-is state nodes is can texts in
+load-well : (state : State) (page : LoadedPage) → IsState state → HasRoom state → CanLoadPage page → PageHasTexts page → Well state (load_step page state) 0 100001 1000
+load-well state page is room can texts =
+    let nodes : suc (node_count page.nodes) ≤ 100000 = can.nodes.room in
+    let few = sheets-few page.sheets can.sheets in
+    let done : IsState (load_step page state).state = load-is state page is can texts in
+    let low = room-numbers state room in
     record {
       is_state = done;
-      course = load-course state nodes is done (told-view state is ids (omega (arith, serials))) (told-view (load_step nodes state).state done ids (omega (arith, serials, room))) state.client.dom_on refl;
+      course = load-course state.client.session state.client.session state.side.page (load_step page state).state.side.page state.side.sheets (load_step page state).state.side.sheets
+          state.side.next_sheet (load_step page state).state.side.next_sheet state.client.dom_on state.client.css_on
+          (λ sheets k. told-with state sheets is low k) nothing-told (omega (arith, low.sheets)) (omega (arith, room.sheets, few)) is.sheets done.sheets is.off is.css_off;
       few_ids = omega arith;
-      few_serials = omega (arith, room);
+      few_serials = omega (arith, nodes);
+      few_sheets = omega (arith, few);
     }
 
 -- ---- the law of a script's own steps
 
-pub few-steps : {before : State} {done : Step} → Well before done 2 100001 → StepsWell before done
-few-steps well = record { is_state = well.is_state; course = well.course; ids = omega (arith, well.few_ids); serials = well.few_serials }
-
 pub turn-steps-well : (state : State) (x : Turn) → IsState state → HasRoom state → IsTurn x → StepsWell state (turn_step x state)
-turn-steps-well state (acts act) is room can =
-    few-steps (more (omega arith) (omega arith) (act-well state act is (omega (arith, room.ids)) (omega (arith, room.serials)) can.0 can.1))
-turn-steps-well state (loads nodes) is room can =
-    few-steps (more (omega arith) (omega arith) (load-well state nodes is (omega (arith, room.ids)) (omega (arith, room.serials)) can.0 can.1))
+turn-steps-well state (acts act) is room can = few-steps (more (omega arith) (omega arith) (omega arith) (act-well state act is room can.0 can.1))
+turn-steps-well state (loads page) is room can = few-steps (more (omega arith) (omega arith) (omega arith) (load-well state page is room can.0 can.1))

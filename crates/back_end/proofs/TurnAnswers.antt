@@ -1,58 +1,169 @@
--- The moves of a script's own step are events, which may come before the reply to any method.
-use Rattle.std.proofs.Common.{ℕ, Bool, true, false, cond, List, [], ◌∷◌, ◌++◌, Option, Some, None}
+-- The moves of a script's own step are events: they answer nothing, and may come before the reply to any command.
+use Rattle.std.proofs.Common.{◌≡◌, ℕ, Bool, true, false, cond, List, [], ◌∷◌, ◌++◌, Option, Some, None, refl}
+use Rattle.std.specs.Prelude.{⊤}
+use Rattle.std.specs.List.{flat_map}
 use Rattle.node_tree.specs.Nodes.{alone}
 use Rattle.page_tree.specs.Pages.{State as PageValue, parent_at}
 use Rattle.page_tree.specs.declared.edits.TreeEdit.{TreeEdit}
 use Rattle.page_tree.specs.declared.edits.TreeEdit.TheVariants.{SetAttr, DropAttr, SetText, Attach, Detach}
-use Rattle.page_tree.specs.declared.edit_faults.EditFault.{EditFault}
 use Rattle.page_forms.specs.declared.acts.Act.{Act}
 use Rattle.node_binding.specs.Sessions.{Session, knows, is_open}
-use Rattle.cdp_messages.specs.Moves.{Move, clear}
+use Rattle.cdp_messages.specs.Views.{ShownSheet}
+use Rattle.cdp_messages.specs.Moves.{Move, change, clear, met, added, dropped, rewritten, root, texted, replied, all_off, sheets_off, failed}
 use Rattle.dom_agent.specs.Edits.{Edited}
 use Rattle.dom_agent.specs.EditLaws.{session_edited}
-use Rattle.back_end.specs.States.{State}
-use Rattle.back_end.specs.Plans.{act_fault, act_plan}
-use Rattle.back_end.specs.Steps.{edit_step, edit_steps, with_page, planned_step, act_step, Turn, acts, loads, turn_step}
-use Rattle.back_end.specs.Laws.{MayAnswer, MayAnswerAll}
+use Rattle.back_end.specs.declared.faults.ActFault.{ActFault}
+use Rattle.back_end.specs.Sheets.{SheetChange, leaves, comes}
+use Rattle.back_end.specs.States.{Side, State, book_in}
+use Rattle.back_end.specs.Plans.{Deed, edits, restyles, act_fault, act_plan}
+use Rattle.back_end.specs.Steps.{edit_step, edit_steps, with_page, sheet_move, sheet_step, sheet_steps, moves_gone, moves_come, deed_step, planned_step, act_step, load_step, Turn, acts, loads, turn_step}
+use Rattle.back_end.specs.Laws.{reply_ids, MayAnswerAll, TellTextOf}
+
+-- a move that an event tells
+abbrev pub IsEvent : Move → Type 0
+IsEvent (change id c) = ⊤
+IsEvent clear = ⊤
+IsEvent (met why) = ⊤
+IsEvent (added s) = ⊤
+IsEvent (dropped n) = ⊤
+IsEvent (rewritten n text) = ⊤
+IsEvent (root id b) = ⊥
+IsEvent (texted id n text) = ⊥
+IsEvent (replied id body) = ⊥
+IsEvent (all_off id) = ⊥
+IsEvent (sheets_off id) = ⊥
+IsEvent (failed r) = ⊥
+
+abbrev pub AreEvents : List Move → Type 0
+AreEvents [] = ⊤
+AreEvents (m ∷ ms) = IsEvent m × AreEvents ms
+
+-- ---- what holds of events
+
+pub events-answer : (ms : List Move) → AreEvents ms → flat_map reply_ids ms ≡ []
+events-answer [] are = refl
+events-answer (change id c ∷ ms) are = events-answer ms are.1
+events-answer (clear ∷ ms) are = events-answer ms are.1
+events-answer (met why ∷ ms) are = events-answer ms are.1
+events-answer (added s ∷ ms) are = events-answer ms are.1
+events-answer (dropped n ∷ ms) are = events-answer ms are.1
+events-answer (rewritten n text ∷ ms) are = events-answer ms are.1
+events-answer (root id b ∷ ms) are = absurd are.0
+events-answer (texted id n text ∷ ms) are = absurd are.0
+events-answer (replied id body ∷ ms) are = absurd are.0
+events-answer (all_off id ∷ ms) are = absurd are.0
+events-answer (sheets_off id ∷ ms) are = absurd are.0
+events-answer (failed r ∷ ms) are = absurd are.0
+
+pub events-may : (method : List ℕ) (ms : List Move) → AreEvents ms → MayAnswerAll method ms
+events-may method [] are = tt
+events-may method (change id c ∷ ms) are = (tt, events-may method ms are.1)
+events-may method (clear ∷ ms) are = (tt, events-may method ms are.1)
+events-may method (met why ∷ ms) are = (tt, events-may method ms are.1)
+events-may method (added s ∷ ms) are = (tt, events-may method ms are.1)
+events-may method (dropped n ∷ ms) are = (tt, events-may method ms are.1)
+events-may method (rewritten n text ∷ ms) are = (tt, events-may method ms are.1)
+events-may method (root id b ∷ ms) are = absurd are.0
+events-may method (texted id n text ∷ ms) are = absurd are.0
+events-may method (replied id body ∷ ms) are = absurd are.0
+events-may method (all_off id ∷ ms) are = absurd are.0
+events-may method (sheets_off id ∷ ms) are = absurd are.0
+events-may method (failed r ∷ ms) are = absurd are.0
+
+pub events-text : (sheet : Option ℕ) (ms : List Move) → AreEvents ms → TellTextOf sheet ms
+events-text sheet [] are = tt
+events-text sheet (change id c ∷ ms) are = (tt, events-text sheet ms are.1)
+events-text sheet (clear ∷ ms) are = (tt, events-text sheet ms are.1)
+events-text sheet (met why ∷ ms) are = (tt, events-text sheet ms are.1)
+events-text sheet (added s ∷ ms) are = (tt, events-text sheet ms are.1)
+events-text sheet (dropped n ∷ ms) are = (tt, events-text sheet ms are.1)
+events-text sheet (rewritten n text ∷ ms) are = (tt, events-text sheet ms are.1)
+events-text sheet (root id b ∷ ms) are = absurd are.0
+events-text sheet (texted id n text ∷ ms) are = absurd are.0
+events-text sheet (replied id body ∷ ms) are = absurd are.0
+events-text sheet (all_off id ∷ ms) are = absurd are.0
+events-text sheet (sheets_off id ∷ ms) are = absurd are.0
+events-text sheet (failed r ∷ ms) are = absurd are.0
+
+pub events-append : (ms ks : List Move) → AreEvents ms → AreEvents ks → AreEvents (ms ++ ks)
+events-append [] ks left right = right
+events-append (m ∷ ms) ks left right = (left.0, events-append ms ks left.1 right)
 
 pub may-append : (method : List ℕ) (ms ks : List Move) → MayAnswerAll method ms → MayAnswerAll method ks → MayAnswerAll method (ms ++ ks)
 may-append method [] ks h k = k
 may-append method (m ∷ ms) ks h k = (h.0, may-append method ms ks h.1 k)
 
-may-one : (method : List ℕ) (b : Bool) (m : Move) → MayAnswer method m → MayAnswerAll method (cond b (m ∷ []) [])
-may-one method true m h = (h, tt)
-may-one method false m h = tt
+pub texts-append : (sheet : Option ℕ) (ms ks : List Move) → TellTextOf sheet ms → TellTextOf sheet ks → TellTextOf sheet (ms ++ ks)
+texts-append sheet [] ks h k = k
+texts-append sheet (m ∷ ms) ks h k = (h.0, texts-append sheet ms ks h.1 k)
 
-came-may : (method : List ℕ) (b d : Bool) (s z : Session) (m k : Move) → MayAnswer method m → MayAnswer method k
-    → MayAnswerAll method (cond {A = Edited Session} b (record { state = s; moves = m ∷ [] }) (record { state = z; moves = cond d (k ∷ []) [] })).moves
-came-may method true d s z m k h j = (h, tt)
-came-may method false d s z m k h j = may-one method d k j
+-- ---- edits of the page
 
-gone-may : (method : List ℕ) (b d : Bool) (m k : Move) → MayAnswer method m → MayAnswer method k → MayAnswerAll method (cond b (m ∷ []) (cond d (k ∷ []) []))
-gone-may method true d m k h j = (h, tt)
-gone-may method false d m k h j = may-one method d k j
+one-event : (b : Bool) (ms : List Move) → AreEvents ms → AreEvents (cond b ms [])
+one-event true ms are = are
+one-event false ms are = tt
 
-edit-may : (method : List ℕ) (e : TreeEdit) (page : PageValue) (w : Session) → MayAnswerAll method (session_edited e page w).moves
-edit-may method (SetAttr serial name value) page w = may-one method (knows w (alone page.tree) serial) _ tt
-edit-may method (DropAttr serial name) page w = may-one method (knows w (alone page.tree) serial) _ tt
-edit-may method (SetText serial value) page w = may-one method (knows w (alone page.tree) serial) _ tt
-edit-may method (Attach parent before x) page w = came-may method (is_open w.opened parent) (knows w (alone page.tree) parent) _ _ _ _ tt tt
-edit-may method (Detach serial) page w =
+came-events : (b d : Bool) (s z : Session) (m k : Move) → IsEvent m → IsEvent k
+    → AreEvents (cond {A = Edited Session} b (record { state = s; moves = m ∷ [] }) (record { state = z; moves = cond d (k ∷ []) [] })).moves
+came-events true d s z m k h j = (h, tt)
+came-events false d s z m k h j = one-event d (k ∷ []) (j, tt)
+
+gone-events : (b d : Bool) (m k : Move) → IsEvent m → IsEvent k → AreEvents (cond b (m ∷ []) (cond d (k ∷ []) []))
+gone-events true d m k h j = (h, tt)
+gone-events false d m k h j = one-event d (k ∷ []) (j, tt)
+
+edit-events : (e : TreeEdit) (page : PageValue) (w : Session) → AreEvents (session_edited e page w).moves
+edit-events (SetAttr serial name value) page w = one-event (knows w (alone page.tree) serial) _ (tt, tt)
+edit-events (DropAttr serial name) page w = one-event (knows w (alone page.tree) serial) _ (tt, tt)
+edit-events (SetText serial value) page w = one-event (knows w (alone page.tree) serial) _ (tt, tt)
+edit-events (Attach parent before x) page w = came-events (is_open w.opened parent) (knows w (alone page.tree) parent) _ _ _ _ tt tt
+edit-events (Detach serial) page w =
     let parent = parent_at serial page.tree in
-    gone-may method (is_open w.opened parent) (knows w (alone page.tree) parent) _ _ tt tt
+    gone-events (is_open w.opened parent) (knows w (alone page.tree) parent) _ _ tt tt
 
-edits-may : (method : List ℕ) (es : List TreeEdit) (state : State) → MayAnswerAll method (edit_steps es state).moves
-edits-may method [] state = tt
-edits-may method (e ∷ es) state =
-    may-append method (edit_step e state).moves (edit_steps es (edit_step e state).state).moves
-    (edit-may method e state.side.page state.client.session) (edits-may method es (edit_step e state).state)
+edits-events : (es : List TreeEdit) (state : State) → AreEvents (edit_steps es state).moves
+edits-events [] state = tt
+edits-events (e ∷ es) state =
+    events-append (edit_step e state).moves (edit_steps es (edit_step e state).state).moves
+    (edit-events e state.side.page state.client.session) (edits-events es (edit_step e state).state)
 
-act-may : (method : List ℕ) (act : Act) (state : State) → MayAnswerAll method (act_step act state).moves
-act-may method act state = at (act_fault act state.side.page) where
-  at : (o : Option EditFault) → MayAnswerAll method (planned_step o (act_plan act state.side.page) state).moves
-  at None = let plan = act_plan act state.side.page in edits-may method plan.edits (with_page plan.page state)
+-- ---- changes of the sheets
+
+change-event : (c : SheetChange) (side : Side) → IsEvent (sheet_move c side)
+change-event (leaves n) side = tt
+change-event (comes origin text) side = tt
+
+changes-events : (cs : List SheetChange) (state : State) → AreEvents (sheet_steps cs state).moves
+changes-events [] state = tt
+changes-events (c ∷ cs) state =
+    events-append (sheet_step c state).moves (sheet_steps cs (sheet_step c state).state).moves
+    (one-event state.client.css_on (sheet_move c state.side ∷ []) (change-event c state.side, tt)) (changes-events cs (sheet_step c state).state)
+
+pub gone-are-events : (ss : List ShownSheet) → AreEvents (moves_gone ss)
+gone-are-events [] = tt
+gone-are-events (s ∷ ss) = (tt, gone-are-events ss)
+
+pub come-are-events : (ss : List ShownSheet) → AreEvents (moves_come ss)
+come-are-events [] = tt
+come-are-events (s ∷ ss) = (tt, come-are-events ss)
+
+-- ---- a script's own step
+
+deed-events : (deed : Deed) (state : State) → AreEvents (deed_step deed state).moves
+deed-events (edits plan) state = edits-events plan.edits (with_page plan.page state)
+deed-events (restyles changes) state = changes-events changes state
+
+act-events : (act : Act) (state : State) → AreEvents (act_step act state).moves
+act-events act state = at (act_fault act state.side.page (book_in state)) where
+  at : (o : Option ActFault) → AreEvents (planned_step o (act_plan act state.side.page (book_in state)) state).moves
+  at None = deed-events (act_plan act state.side.page (book_in state)) state
   at (Some f) = tt
 
-pub turn-may : (method : List ℕ) (x : Turn) (state : State) → MayAnswerAll method (turn_step x state).moves
-turn-may method (acts act) state = act-may method act state
-turn-may method (loads nodes) state = may-one method state.client.dom_on clear tt
+pub turn-events : (x : Turn) (state : State) → AreEvents (turn_step x state).moves
+turn-events (acts act) state = act-events act state
+turn-events (loads page) state =
+    let old = state.side.sheets in
+    let new = (load_step page state).state.side.sheets in
+    events-append (cond state.client.dom_on (clear ∷ []) []) (cond state.client.css_on (moves_gone old ++ moves_come new) [])
+    (one-event state.client.dom_on (clear ∷ []) (tt, tt))
+    (one-event state.client.css_on (moves_gone old ++ moves_come new) (events-append (moves_gone old) (moves_come new) (gone-are-events old) (come-are-events new)))

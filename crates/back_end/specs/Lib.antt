@@ -1,3 +1,4 @@
+pub mod Sheets
 pub mod Texts
 pub mod States
 pub mod Plans

@@ -1,24 +1,26 @@
 -- Our own two methods, `Replay.load` and `Replay.act`: what they come to with these parameters, or why they are refused.
-use Rattle.std.specs.Prelude.{◌≡◌, Option, Some, None, option_map, cond, Result, Ok, Err, ⊤}
+use Rattle.std.specs.Prelude.{◌≡◌, List, Option, Some, None, option_map, cond, Result, Ok, Err, ⊤}
 use Rattle.serde_json.specs.Data.{Data}
 use Rattle.serde_json.specs.Written.{has_float}
 use Rattle.cdp_json.specs.Lookups.{then_ok}
-use Rattle.node_tree.specs.Nodes.{Nodes}
-use Rattle.node_tree.specs.Labels.{Label}
-use Rattle.page_tree.specs.Loads.{first_load_fault}
 use Rattle.page_tree.specs.Pages.{State as PageValue}
 use Rattle.page_tree.specs.declared.faults.LoadFault.{LoadFault}
 use Rattle.page_tree.specs.declared.faults.LoadFault.TheVariants as load_fault
 use Rattle.page_tree.specs.declared.edit_faults.EditFault.{EditFault}
 use Rattle.page_tree.specs.declared.edit_faults.EditFault.TheVariants as edit_fault
+use Rattle.sheet_reader.specs.declared.book.SheetEntry.{SheetEntry}
+use Rattle.style_edits.specs.declared.faults.SheetFault.{SheetFault}
+use Rattle.style_edits.specs.declared.faults.SheetFault.TheVariants as sheet_fault
 use Rattle.page_forms.specs.declared.acts.Act.{Act}
 use Rattle.page_forms.specs.Acts.{act_in}
-use Rattle.page_forms.specs.Pages.{page_nodes}
+use Rattle.page_forms.specs.Pages.{LoadedPage, page_in, first_page_fault}
 use Rattle.cdp_messages.specs.declared.command.CommandErr.{CommandErr}
 use Rattle.cdp_messages.specs.declared.command.CommandErr.TheVariants as command_err
 use Rattle.cdp_messages.specs.declared.command.Param.TheVariants.{Params}
 use Rattle.cdp_messages.specs.declared.command.Why.{Why}
-use Rattle.cdp_messages.specs.declared.command.Why.TheVariants.{BadParam, NoNode, NotElement, NotText, IsDocument, NotChild, Inside, TooDeep, TooMany, BadName, NoAttr, NotContainer}
+use Rattle.cdp_messages.specs.declared.command.Why.TheVariants.{BadParam, NoNode, NotElement, NotText, IsDocument, NotChild, Inside, TooDeep, TooMany, BadName, NoAttr, NotContainer, NoSheet, NotMutable, BadRange, BadText, BadSelector, BadPlace, TooBig}
+use Rattle.back_end.specs.declared.faults.ActFault.{ActFault}
+use Rattle.back_end.specs.declared.faults.ActFault.TheVariants.{Edit, Sheet}
 use Rattle.back_end.specs.Plans.{act_fault}
 
 -- what a load is refused with: parameters that are no page, or else the name of the fault
@@ -42,6 +44,21 @@ edit_why edit_fault.BadName = BadName
 edit_why edit_fault.NoAttr = NoAttr
 edit_why edit_fault.NotContainer = NotContainer
 
+-- and a change of its sheets
+abbrev pub sheet_why : SheetFault → Why
+sheet_why sheet_fault.NoSheet = NoSheet
+sheet_why sheet_fault.NotMutable = NotMutable
+sheet_why sheet_fault.BadRange = BadRange
+sheet_why sheet_fault.BadText = BadText
+sheet_why sheet_fault.BadSelector = BadSelector
+sheet_why sheet_fault.BadPlace = BadPlace
+sheet_why sheet_fault.TooBig = TooBig
+
+-- what an act is refused with
+abbrev pub act_why : ActFault → Why
+act_why (Edit f) = edit_why f
+act_why (Sheet f) = sheet_why f
+
 -- a value, unless there is a reason against it
 abbrev pub unless_why : {A : Type 0} → Option Why → A → Result A Why
 unless_why None a = Ok a
@@ -51,14 +68,14 @@ unless_why (Some why) a = Err why
 abbrev pub if_whole : {A : Type 0} → Data → Result A Why → Result A Why
 if_whole params found = cond (has_float params) (Err (BadParam Params)) found
 
--- the nodes of a page that may be loaded
-abbrev pub load_form : Option (Nodes Label) → Result (Nodes Label) Why
+-- a page that may be loaded
+abbrev pub load_form : Option LoadedPage → Result LoadedPage Why
 load_form None = Err (BadParam Params)
-load_form (Some nodes) = unless_why (option_map load_why (first_load_fault (Some nodes))) nodes
+load_form (Some page) = unless_why (option_map load_why (first_page_fault (Some page))) page
 
--- the nodes that a `Replay.load` puts in the place of the page
-abbrev pub load_asked : Data → Result (Nodes Label) Why
-load_asked params = if_whole params (load_form (page_nodes params))
+-- the page that a `Replay.load` puts in the place of the other
+abbrev pub load_asked : Data → Result LoadedPage Why
+load_asked params = if_whole params (load_form (page_in params))
 
 -- an act in its form
 abbrev pub act_form : Option Act → Result Act Why
@@ -70,12 +87,12 @@ abbrev pub act_read : Data → Result Act Why
 act_read params = if_whole params (act_form (act_in params))
 
 -- an act that the page takes
-abbrev pub act_judged : PageValue → Act → Result Act Why
-act_judged page act = unless_why (option_map edit_why (act_fault act page)) act
+abbrev pub act_judged : PageValue → List SheetEntry → Act → Result Act Why
+act_judged page book act = unless_why (option_map act_why (act_fault act page book)) act
 
 -- the act that a `Replay.act` carries out, where the page takes it
-abbrev pub act_asked : Data → PageValue → Result Act Why
-act_asked params page = then_ok (act_read params) (act_judged page)
+abbrev pub act_asked : Data → PageValue → List SheetEntry → Result Act Why
+act_asked params page book = then_ok (act_read params) (act_judged page book)
 
 -- a reader answers what was found, as `seen` sees it, or the refusal; want of memory is free
 abbrev pub Finds : {X T : Type 0} → (X → T) → Result X CommandErr → Result T Why → Type 0

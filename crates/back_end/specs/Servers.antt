@@ -6,6 +6,8 @@ use Rattle.cdp_messages.specs.declared.command.Command.{Command}
 use Rattle.cdp_messages.specs.declared.command.Command.TheVariants.{DomEnable, DomDisable, GetDocument, RequestChildNodes, PushByPath, PushBySerials, QuerySelector, QuerySelectorAll, GetAttributes, DescribeNode, SetAttributeValue, RemoveAttribute, SetNodeValue, RemoveNode, MoveTo, CopyTo, MarkUndoableState, Undo, Redo, CssEnable, CssDisable, GetMatchedStyles, GetStyleSheetText, CollectClassNames, SetStyleTexts, SetRuleSelector, SetStyleSheetText, AddRule, SetBreakpoint, RemoveBreakpoint, ReplayLoad, ReplayAct}
 use Rattle.cdp_messages.specs.declared.dom_ask.DomAsk.{DomAsk}
 use Rattle.cdp_messages.specs.DomAsks.{dom_ask_in}
+use Rattle.css_agent.specs.declared.asks.CssAsk.{CssAsk}
+use Rattle.css_agent.specs.declared.asks.CssAsk.TheVariants as css
 use Rattle.back_end.specs.declared.parts.SeatPart.{SeatPart}
 use Rattle.back_end.specs.declared.parts.SeatPart.TheVariants as part
 
@@ -14,8 +16,13 @@ pub data Server : Type 0 where
   -- `DOM.enable` and `DOM.disable` are the seat's own
   enables : Server
   disables : Server
+  -- and so are `CSS.enable` and `CSS.disable`
+  css_enables : Server
+  css_disables : Server
   -- what the DOM agent is asked
   agent : DomAsk → Server
+  -- what the CSS agent is asked
+  css_agent : CssAsk → Server
   -- `Replay.load` and `Replay.act`, with their parameters, are the seat's own
   page_load : Data → Server
   page_act : Data → Server
@@ -48,11 +55,11 @@ part_of (CopyTo node target before) = part.Others (dom_ask_in (CopyTo node targe
 part_of MarkUndoableState = part.Others (dom_ask_in MarkUndoableState)
 part_of Undo = part.Others (dom_ask_in Undo)
 part_of Redo = part.Others (dom_ask_in Redo)
-part_of CssEnable = part.Others (dom_ask_in CssEnable)
-part_of CssDisable = part.Others (dom_ask_in CssDisable)
-part_of (GetMatchedStyles node) = part.Others (dom_ask_in (GetMatchedStyles node))
-part_of (GetStyleSheetText sheet) = part.Others (dom_ask_in (GetStyleSheetText sheet))
-part_of (CollectClassNames sheet) = part.Others (dom_ask_in (CollectClassNames sheet))
+part_of CssEnable = part.CssEnables
+part_of CssDisable = part.CssDisables
+part_of (GetMatchedStyles node) = part.Styles (css.GetMatchedStyles node)
+part_of (GetStyleSheetText sheet) = part.Styles (css.GetStyleSheetText sheet)
+part_of (CollectClassNames sheet) = part.Styles (css.CollectClassNames sheet)
 part_of (SetStyleTexts edits) = part.Others (dom_ask_in (SetStyleTexts edits))
 part_of (SetRuleSelector sheet range selector) = part.Others (dom_ask_in (SetRuleSelector sheet range selector))
 part_of (SetStyleSheetText sheet text) = part.Others (dom_ask_in (SetStyleSheetText sheet text))
@@ -66,6 +73,9 @@ part_of (ReplayAct params) = part.Acts params
 abbrev pub by_part : SeatPart → Server
 by_part part.Enables = enables
 by_part part.Disables = disables
+by_part part.CssEnables = css_enables
+by_part part.CssDisables = css_disables
+by_part (part.Styles ask) = css_agent ask
 by_part (part.Loads params) = page_load params
 by_part (part.Acts params) = page_act params
 by_part (part.Others ask) = by_agent ask
@@ -78,7 +88,10 @@ server_of c = by_part (part_of c)
 abbrev pub HasOwnTexts : Server → Type 0
 HasOwnTexts enables = ⊤
 HasOwnTexts disables = ⊤
+HasOwnTexts css_enables = ⊤
+HasOwnTexts css_disables = ⊤
 HasOwnTexts (agent ask) = ⊤
+HasOwnTexts (css_agent ask) = ⊤
 HasOwnTexts (page_load params) = HasUtf8 params
 HasOwnTexts (page_act params) = HasUtf8 params
 HasOwnTexts nobody = ⊤

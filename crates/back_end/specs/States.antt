@@ -1,7 +1,6 @@
 -- The state of a back end: the page's side, and what its client has of it.
-use Rattle.std.specs.Prelude.{◌≡◌, ℕ, Bool, false, cond, List, [], None}
+use Rattle.std.specs.Prelude.{◌≡◌, ℕ, ◌+◌, Bool, false, cond, List, [], length, None}
 use Rattle.node_tree.specs.Nodes.{Nodes, alone}
-use Rattle.node_tree.specs.Labels.{Label}
 use Rattle.page_tree.specs.Pages.{Row, State as PageValue, IsValid, loaded}
 use Rattle.node_binding.specs.Sessions.{Session, IsSession, begun}
 use Rattle.cdp_messages.specs.Views.{ShownSheet, View}
@@ -11,6 +10,9 @@ use Rattle.undo_marks.specs.Changes.{Change as Entry}
 use Rattle.undo_marks.specs.Saved.{Saved}
 use Rattle.undo_marks.specs.declared.inverse_lists.Inverse.{Inverse}
 use Rattle.dom_agent.specs.Laws.{RowsHaveUtf8, view_of as seen_by}
+use Rattle.page_forms.specs.Pages.{LoadedPage}
+use Rattle.sheet_reader.specs.declared.book.SheetEntry.{SheetEntry}
+use Rattle.back_end.specs.Sheets.{as_book, numbered_sheets, AreSheetsBelow}
 
 -- ---- states
 
@@ -39,6 +41,10 @@ pub record State : Type 0 where
 abbrev pub nodes_in : State → Nodes Row
 nodes_in state = alone state.side.page.tree
 
+-- the page's sheets as a book
+abbrev pub book_in : State → List SheetEntry
+book_in state = as_book state.side.sheets
+
 -- the sheets that the client was told of: the page's while the domain CSS is on
 abbrev pub sheets_shown : State → List ShownSheet
 sheets_shown state = cond state.client.css_on state.side.sheets []
@@ -51,24 +57,32 @@ view_of state = seen_by state.client.session state.side.page (sheets_shown state
 abbrev pub new_client : Client
 new_client = record { dom_on = false; css_on = false; session = begun; watched = unwatched; marks = no_marks }
 
--- a page that was just loaded, with serials from 1 on; nothing is known of it
-abbrev pub loaded_state : Nodes Label → State
-loaded_state nodes = record { side = record { page = loaded 1 nodes; sheets = []; next_sheet = 1 }; client = new_client }
+-- a page that is loaded, whose serials and numbers of sheets go on from these
+abbrev pub loaded_side : ℕ → ℕ → LoadedPage → Side
+loaded_side serial number page = record {
+  page = loaded serial page.nodes;
+  sheets = numbered_sheets number page.sheets;
+  next_sheet = number + length page.sheets;
+}
+
+-- a page that was just loaded, with serials and numbers of sheets from 1 on; nothing is known of it
+abbrev pub loaded_state : LoadedPage → State
+loaded_state page = record { side = loaded_side 1 1 page; client = new_client }
 
 -- ---- valid states
 
--- What no command, act or load reaches so far is empty: sheets, the domain CSS, watches, the history.
+-- What no command, act or load reaches so far is empty: watches, the history.
 pub record HasNoMore (state : State) : Type 0 where
-  pub sheets : state.side.sheets ≡ []
-  pub css_off : state.client.css_on ≡ false
   pub watched : state.client.watched ≡ unwatched
   pub marks : state.client.marks ≡ no_marks
 
--- What always holds of a state: the page is valid and its texts are UTF-8, the session is one of this page, and while DOM is
--- off nothing is known.
+-- What always holds of a state: the page is valid and its texts are UTF-8, and so are its sheets; the session is one of this page;
+-- while DOM is off, CSS is off and nothing is known.
 pub record IsState (state : State) : Type 0 where
   pub page : IsValid state.side.page
   pub texts : RowsHaveUtf8 (nodes_in state)
+  pub sheets : AreSheetsBelow state.side.next_sheet state.side.sheets
   pub session : IsSession (nodes_in state) state.client.session
   pub off : state.client.dom_on ≡ false → state.client.session.opened ≡ None
+  pub css_off : state.client.dom_on ≡ false → state.client.css_on ≡ false
   pub no_more : HasNoMore state

@@ -1,35 +1,43 @@
 -- The steps of a state: on each frame that comes up, and those that a script makes itself. A step gives the state after it, and
 -- the moves by which the client's view comes to what it is then.
-use Rattle.std.specs.Prelude.{ℕ, Bool, true, false, not, ◌&&◌, ◌||◌, cond, List, [], ◌∷◌, ◌++◌, Option, Some, None, Result, Ok, Err}
-use Rattle.node_tree.specs.Nodes.{Nodes}
-use Rattle.node_tree.specs.Labels.{Label}
-use Rattle.page_tree.specs.Pages.{State as PageValue, loaded}
+use Rattle.std.specs.Prelude.{ℕ, ◌+◌, Bool, true, false, not, ◌&&◌, ◌||◌, cond, List, [], ◌∷◌, ◌++◌, map, Option, Some, None, Result, Ok, Err}
+use Rattle.node_tree.specs.Nodes.{Branch}
+use Rattle.node_tree.specs.Labels.{is_element}
+use Rattle.page_tree.specs.Pages.{Row, State as PageValue}
 use Rattle.page_tree.specs.Edits.{after}
 use Rattle.page_tree.specs.EditFaults.{first_fault}
 use Rattle.page_tree.specs.declared.edits.TreeEdit.{TreeEdit}
 use Rattle.page_tree.specs.declared.edits.TreeEdit.TheVariants.{SetAttr, DropAttr, SetText, Attach, Detach}
-use Rattle.page_tree.specs.declared.edit_faults.EditFault.{EditFault}
 use Rattle.page_forms.specs.declared.acts.Act.{Act}
-use Rattle.node_binding.specs.Sessions.{Session, reset}
+use Rattle.page_forms.specs.Pages.{LoadedPage}
+use Rattle.node_binding.specs.Sessions.{Session, serial_at, reset}
 use Rattle.cdp_messages.specs.declared.command.Why.{Why}
-use Rattle.cdp_messages.specs.declared.command.Why.TheVariants.{NoMethod, DomOff}
+use Rattle.cdp_messages.specs.declared.command.Why.TheVariants.{NoMethod, DomOff, CssOff, UnknownNode, NotElement, NoSheet}
 use Rattle.cdp_messages.specs.declared.command.Asked.{Asked}
 use Rattle.cdp_messages.specs.declared.command.Refused.{Refused}
 use Rattle.cdp_messages.specs.declared.dom_ask.DomAsk.{DomAsk}
 use Rattle.cdp_messages.specs.declared.dom_ask.DomAsk.TheVariants.{GetDocument, RequestChildNodes, PushByPath, PushBySerials, QuerySelector, QuerySelectorAll, GetAttributes, DescribeNode}
 use Rattle.cdp_messages.specs.declared.down.ReplyBody.TheVariants.{Nothing}
 use Rattle.cdp_messages.specs.Asked.{asked}
-use Rattle.cdp_messages.specs.Moves.{Move, clear, replied, all_off, failed, frames_of_moves}
-use Rattle.dom_agent.specs.Requests.{Outcome, shows_root, served, refused, moves_of}
+use Rattle.sheet_reader.specs.declared.book.SheetEntry.{SheetEntry}
+use Rattle.cdp_messages.specs.Views.{ShownSheet, sheets_without}
+use Rattle.cdp_messages.specs.Moves.{Move, clear, added, dropped, texted, replied, all_off, sheets_off, failed, frames_of_moves}
+use Rattle.css_agent.specs.declared.asks.CssAsk.{CssAsk}
+use Rattle.css_agent.specs.declared.asks.CssAsk.TheVariants as css
+use Rattle.css_agent.specs.Asks.{css_outcome, answer_move, sheet_named}
+use Rattle.dom_agent.specs.Keepers.{session_keeper}
+use Rattle.dom_agent.specs.Requests.{Outcome, shows_root, served, refused, known_node, moves_of}
 use Rattle.dom_agent.specs.Edits.{Edited}
 use Rattle.dom_agent.specs.EditLaws.{session_edited}
 use Rattle.dom_agent.specs.Laws.{session_outcome}
 use Rattle.dom_breakpoints.specs.Watched.{Watched, unwatched, without_subtree}
 use Rattle.undo_marks.specs.Marks.{no_marks, crossed_over}
-use Rattle.back_end.specs.States.{Client, State}
-use Rattle.back_end.specs.Plans.{Plan, act_fault, act_plan}
+use Rattle.back_end.specs.declared.faults.ActFault.{ActFault}
+use Rattle.back_end.specs.Sheets.{shown_sheet, SheetChange, leaves, comes}
+use Rattle.back_end.specs.States.{Side, Client, State, nodes_in, book_in, loaded_side}
+use Rattle.back_end.specs.Plans.{Deed, edits, restyles, one_edit, edit_fault, act_fault, act_plan}
 use Rattle.back_end.specs.OwnMethods.{load_asked, act_judged, act_asked}
-use Rattle.back_end.specs.Servers.{Server, enables, disables, agent, page_load, page_act, nobody, server_of}
+use Rattle.back_end.specs.Servers.{Server, enables, disables, css_enables, css_disables, agent, css_agent, page_load, page_act, nobody, server_of}
 
 -- what a step makes: the state after it, and what it tells the client
 pub record Step : Type 0 where
@@ -88,28 +96,65 @@ abbrev pub edit_steps : List TreeEdit → State → Step
 edit_steps [] state = record { state = state; moves = [] }
 edit_steps (e ∷ es) state = let first = edit_step e state in telling first.moves (edit_steps es first.state)
 
+-- ---- changes of the sheets
+
+-- the page's side after a change of its sheets
+abbrev pub side_changed : SheetChange → Side → Side
+side_changed (leaves number) side = record { page = side.page; sheets = sheets_without number side.sheets; next_sheet = side.next_sheet }
+side_changed (comes origin text) side = record {
+  page = side.page;
+  sheets = side.sheets ++ shown_sheet side.next_sheet origin text ∷ [];
+  next_sheet = side.next_sheet + 1;
+}
+
+-- the move that tells it
+abbrev pub sheet_move : SheetChange → Side → Move
+sheet_move (leaves number) side = dropped number
+sheet_move (comes origin text) side = added (shown_sheet side.next_sheet origin text)
+
+-- moves that are told while the domain CSS is on
+abbrev pub while_css : State → List Move → List Move
+while_css state moves = cond state.client.css_on moves []
+
+-- one change of the sheets, with its event
+abbrev pub sheet_step : SheetChange → State → Step
+sheet_step change state = record {
+  state = record { side = side_changed change state.side; client = state.client };
+  moves = while_css state (sheet_move change state.side ∷ []);
+}
+
+-- changes, one after the other
+abbrev pub sheet_steps : List SheetChange → State → Step
+sheet_steps [] state = record { state = state; moves = [] }
+sheet_steps (c ∷ cs) state = let first = sheet_step c state in telling first.moves (sheet_steps cs first.state)
+
 -- ---- what a script does
 
 -- a change that is not the client's empties the history
 abbrev pub with_crossed : State → State
 with_crossed state = with_client (record state.client { marks = crossed_over state.client.marks }) state
 
--- the edits of a plan, from the page with the drawn serials
-abbrev pub plan_step : Plan → State → Step
-plan_step plan state = let done = edit_steps plan.edits (with_page plan.page state) in record { state = with_crossed done.state; moves = done.moves }
+-- a step that is not the client's
+abbrev pub crossing : Step → Step
+crossing done = record { state = with_crossed done.state; moves = done.moves }
 
--- a plan that is refused changes nothing, and tells nothing
-abbrev pub planned_step : Option EditFault → Plan → State → Step
-planned_step None plan state = plan_step plan state
-planned_step (Some f) plan state = record { state = state; moves = [] }
+-- edits of the page, from that with the drawn serials; or changes of its sheets
+abbrev pub deed_step : Deed → State → Step
+deed_step (edits plan) state = crossing (edit_steps plan.edits (with_page plan.page state))
+deed_step (restyles changes) state = crossing (sheet_steps changes state)
+
+-- an act that is refused changes nothing, and tells nothing
+abbrev pub planned_step : Option ActFault → Deed → State → Step
+planned_step None deed state = deed_step deed state
+planned_step (Some f) deed state = record { state = state; moves = [] }
 
 -- the step of an act
 abbrev pub act_step : Act → State → Step
-act_step act state = planned_step (act_fault act state.side.page) (act_plan act state.side.page) state
+act_step act state = planned_step (act_fault act state.side.page (book_in state)) (act_plan act state.side.page (book_in state)) state
 
 -- the step of one edit by a script
 abbrev pub lone_step : TreeEdit → State → Step
-lone_step e state = planned_step (first_fault e state.side.page.tree) (record { page = state.side.page; edits = e ∷ [] }) state
+lone_step e state = planned_step (edit_fault (first_fault e state.side.page.tree)) (one_edit e state.side.page) state
 
 -- the client of a page that goes: nothing is known, the ids are dead, no node is watched and no edit kept
 abbrev pub client_reset : Bool → Client → Client
@@ -121,25 +166,36 @@ client_reset on client = record {
   marks = no_marks;
 }
 
--- A load puts a new page in the place of the old one. Serials go on; a client whose DOM is on is told.
-abbrev pub load_step : Nodes Label → State → Step
-load_step nodes state = record {
-  state = record {
-    side = record { page = loaded state.side.page.next nodes; sheets = []; next_sheet = state.side.next_sheet };
-    client = client_reset state.client.dom_on state.client;
-  };
-  moves = cond state.client.dom_on (clear ∷ []) [];
+-- the moves that tell that sheets go, each by itself
+abbrev pub moves_gone : List ShownSheet → List Move
+moves_gone sheets = map (λ s. dropped s.number) sheets
+
+-- and that sheets come
+abbrev pub moves_come : List ShownSheet → List Move
+moves_come sheets = map (λ s. added s) sheets
+
+-- the side after a load: serials and numbers of sheets go on
+abbrev pub side_loaded : LoadedPage → Side → Side
+side_loaded page side = loaded_side side.page.next side.next_sheet page
+
+-- A load puts a new page in the place of the old one. A client whose DOM is on is told, and then, where its CSS is on, that each old
+-- sheet goes and that each new one comes.
+abbrev pub load_step : LoadedPage → State → Step
+load_step page state = record {
+  state = record { side = side_loaded page state.side; client = client_reset state.client.dom_on state.client };
+  moves = cond state.client.dom_on (clear ∷ []) []
+      ++ while_css state (moves_gone state.side.sheets ++ moves_come (side_loaded page state.side).sheets);
 }
 
 -- what a script does by itself
 pub data Turn : Type 0 where
   acts : Act → Turn
-  loads : Nodes Label → Turn
+  loads : LoadedPage → Turn
 
 -- its step
 abbrev pub turn_step : Turn → State → Step
 turn_step (acts act) state = act_step act state
-turn_step (loads nodes) state = load_step nodes state
+turn_step (loads page) state = load_step page state
 
 -- ---- commands
 
@@ -158,10 +214,25 @@ ask_needs_on (DescribeNode id serial depth pierce) = false
 abbrev pub needs_on : Server → Bool
 needs_on enables = false
 needs_on disables = true
+needs_on css_enables = true
+needs_on css_disables = true
 needs_on (agent ask) = ask_needs_on ask
+needs_on (css_agent ask) = true
 needs_on (page_load params) = false
 needs_on (page_act params) = false
 needs_on nobody = false
+
+-- a command that is refused while CSS is off
+abbrev pub needs_css : Server → Bool
+needs_css enables = false
+needs_css disables = false
+needs_css css_enables = false
+needs_css css_disables = true
+needs_css (agent ask) = false
+needs_css (css_agent ask) = true
+needs_css (page_load params) = false
+needs_css (page_act params) = false
+needs_css nobody = false
 
 -- an ask that turns DOM on
 abbrev pub turns_on : DomAsk → Bool
@@ -186,6 +257,54 @@ agent_step id ask state =
     let outcome = session_outcome state.side.page ask state.client.session in
     record { state = with_client (client_served ask outcome state.client) state; moves = moves_of id outcome }
 
+-- ---- the commands of the domain CSS
+
+-- the serial of a node that is to be an element, or why there is none
+abbrev pub element_serial : Option (Branch Row) → Result ℕ Why
+element_serial None = Err UnknownNode
+element_serial (Some b) = cond (is_element b.row.label.kind) (Ok b.row.serial) (Err NotElement)
+
+-- that of the known node that has the id
+abbrev pub element_named : ℕ → State → Result ℕ Why
+element_named node state =
+    let w = state.client.session in
+    let n = nodes_in state in
+    element_serial (known_node (session_keeper n) state.side.page.tree w (serial_at w n node))
+
+-- the move that answers an ask of the node that was named, or the refusal
+abbrev pub node_answer : ℕ → CssAsk → Result ℕ Why → State → Move
+node_answer id ask (Err why) state = failed (record { id = Some id; why = why })
+node_answer id ask (Ok serial) state = answer_move id (css_outcome state.side.page.tree (book_in state) serial ask)
+
+-- the move that answers an ask for the text of a sheet
+abbrev pub text_answer : ℕ → Option SheetEntry → Move
+text_answer id None = failed (record { id = Some id; why = NoSheet })
+text_answer id (Some e) = texted id e.id e.text
+
+-- the move that answers what the agent is asked
+abbrev pub css_answer : ℕ → CssAsk → State → Move
+css_answer id (css.GetMatchedStyles node) state = node_answer id (css.GetMatchedStyles node) (element_named node state) state
+css_answer id (css.GetStyleSheetText sheet) state = text_answer id (sheet_named sheet (book_in state))
+css_answer id (css.CollectClassNames sheet) state =
+    answer_move id (css_outcome state.side.page.tree (book_in state) 0 (css.CollectClassNames sheet))
+
+-- the step on what the CSS agent is asked
+abbrev pub css_step : ℕ → CssAsk → State → Step
+css_step id ask state = record { state = state; moves = css_answer id ask state ∷ [] }
+
+-- the step that turns the domain on: each sheet comes, where it was off
+abbrev pub css_on_step : ℕ → State → Step
+css_on_step id state = record {
+  state = with_client (record state.client { css_on = true }) state;
+  moves = cond state.client.css_on [] (moves_come state.side.sheets) ++ replied id Nothing ∷ [];
+}
+
+-- the step that turns it off
+abbrev pub css_off_step : ℕ → State → Step
+css_off_step id state = record { state = with_client (record state.client { css_on = false }) state; moves = sheets_off id ∷ [] }
+
+-- ---- our own two methods
+
 -- a step that is answered at last by the empty result
 abbrev pub answering : ℕ → Step → Step
 answering id done = record { state = done.state; moves = done.moves ++ replied id Nothing ∷ [] }
@@ -197,20 +316,27 @@ own_step turn_of id (Err why) state = refusing (Some id) why state
 
 -- the step on an act that was read
 abbrev pub judged_step : ℕ → Act → State → Step
-judged_step id act state = own_step acts id (act_judged state.side.page act) state
+judged_step id act state = own_step acts id (act_judged state.side.page (book_in state) act) state
 
--- the step on a command, where DOM is on or need not be
+-- ---- a command
+
+-- the step on a command, where the domains are on that it needs
 abbrev pub server_step : ℕ → Server → State → Step
 server_step id enables state = record { state = with_client (record state.client { dom_on = true }) state; moves = replied id Nothing ∷ [] }
 server_step id disables state = record { state = with_client (client_reset false state.client) state; moves = all_off id ∷ [] }
+server_step id css_enables state = css_on_step id state
+server_step id css_disables state = css_off_step id state
 server_step id (agent ask) state = agent_step id ask state
+server_step id (css_agent ask) state = css_step id ask state
 server_step id (page_load params) state = own_step loads id (load_asked params) state
-server_step id (page_act params) state = own_step acts id (act_asked params state.side.page) state
+server_step id (page_act params) state = own_step acts id (act_asked params state.side.page (book_in state)) state
 server_step id nobody state = refusing (Some id) NoMethod state
 
--- the step on a command: a refusal while DOM is off, where it needs it
+-- the step on a command: a refusal while DOM is off, where it needs it; and then one while CSS is off, where it needs that
 abbrev pub command_step : ℕ → Server → State → Step
-command_step id server state = cond (needs_on server && not state.client.dom_on) (refusing (Some id) DomOff state) (server_step id server state)
+command_step id server state =
+    cond (needs_on server && not state.client.dom_on) (refusing (Some id) DomOff state)
+    (cond (needs_css server && not state.client.css_on) (refusing (Some id) CssOff state) (server_step id server state))
 
 -- a refused frame changes nothing, and gets one error reply
 abbrev pub asked_step : Result Asked Refused → State → Step

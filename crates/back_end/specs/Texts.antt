@@ -5,7 +5,7 @@ use Rattle.node_tree.specs.Nodes.{alone}
 use Rattle.page_tree.specs.declared.edits.TreeEdit.{TreeEdit}
 use Rattle.page_tree.specs.declared.edits.TreeEdit.TheVariants.{SetAttr, DropAttr, SetText, Attach, Detach}
 use Rattle.dom_agent.specs.Laws.{RowsHaveUtf8}
-pub use Rattle.page_forms.specs.Texts.{HaveTexts, FormHasTexts, ActHasTexts}
+pub use Rattle.page_forms.specs.Texts.{HaveTexts, FormHasTexts, SheetsHaveTexts, PageHasTexts, ActHasTexts}
 
 -- the texts of an edit of the page are UTF-8
 abbrev pub EditHasTexts : TreeEdit → Type 0

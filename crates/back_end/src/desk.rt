@@ -15,14 +15,16 @@ use crate::side::PageSide;
 use cdp_messages::{
     Command, DomAsk, ReadErr, Refused, ReplyBody, Why, read_command, write_refused, write_reply,
 };
+use css_agent::CssAgent;
 use dom_agent::DomAgent;
 use std::alloc::{AllocError, Global};
 
-/// What a seat works with: whether the domain DOM is on, and what the client knows of the page.
+/// What a seat works with: whether the domains DOM and CSS are on, and what the client knows of the page.
 #[derive(Drop)]
 pub(crate) struct Desk {
     pub(crate) alloc: Global,
     pub(crate) is_on: bool,
+    pub(crate) css: CssAgent,
     pub(crate) agent: DomAgent,
 }
 
@@ -61,11 +63,13 @@ impl Desk {
     /// The desk of a client that has asked for nothing yet.
     pub(crate) fn new(alloc: Global) -> Desk
         ensures off { result.is_on ≡ false }
+        ensures css { result.css ≡ false }
         ensures agent { result.agent ≡ empty_from 1 }
     {
         Desk {
             alloc,
             is_on: false,
+            css: CssAgent::new(alloc),
             agent: DomAgent::new(alloc),
         }
     }
@@ -110,6 +114,9 @@ impl Desk {
         match SeatPart::of_command(command) {
             SeatPart::Enables => self.enable(side, id, out),
             SeatPart::Disables => self.disable(side, id, out),
+            SeatPart::CssEnables => self.enable_css(side, id, out),
+            SeatPart::CssDisables => self.disable_css(side, id, out),
+            SeatPart::Styles { ask } => self.answer_styles(side, id, &ask, out),
             SeatPart::Loads { params } => self.answer_load(side, id, params.as_value(), out),
             SeatPart::Acts { params } => self.answer_act(side, id, params.as_value(), out),
             SeatPart::Others { ask } => self.answer_by_agent(side, id, ask, out),
@@ -163,11 +170,11 @@ impl Desk {
         ensures sent { (state : State) → DeskStandsFor self.old side.old state
             → OnOk result (out.new.items ≡ out.old.items ++ frames_of_moves (command_step id server.disables state).moves) }
     {
-        let _ = side;
         if !self.is_on {
             return self.refuse(id, Why::DomOff, out);
         }
         write_reply(self.alloc, id, &ReplyBody::Nothing, out)?;
+        self.css.switch(false, side.book(), out)?;
         self.is_on = false;
         self.agent.reset();
         Ok(())

@@ -2,15 +2,21 @@
 #![tactic(auto)]
 
 mod desk;
+mod faults;
 mod laws;
 mod own;
 mod parts;
 mod script;
 mod seat;
+mod sheet_acts;
+mod sheets;
 mod side;
+mod styles;
 
+pub use faults::ActFault;
 pub use laws::step_law;
-pub use page_forms::{Act, ActErr, PageForm, read_act, read_page};
+pub use page_forms::{Act, ActErr, PageForm, SheetForm, read_act, read_page};
 pub use page_tree::EditFault;
 pub use seat::Seat;
 pub use side::PageSide;
+pub use style_edits::SheetFault;

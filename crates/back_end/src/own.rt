@@ -2,19 +2,19 @@
 ghost use Rattle.std.specs.Prelude.{◌≡◌, ◌++◌, Some, IfOk, OnOk};
 ghost use Rattle.serde_json.specs.View.{view};
 ghost use Rattle.cdp_json.specs.Plain.{HasUtf8};
-ghost use Rattle.page_tree.specs.Forms.{CanLoad};
 ghost use Rattle.page_forms.specs.Acts.{IsInsertable};
-ghost use Rattle.page_forms.specs.Pages.{loaded_nodes};
+ghost use Rattle.page_forms.specs.Pages.{loaded_page, CanLoadPage};
 ghost use Rattle.cdp_messages.specs.Answers.{Commands};
 ghost use Rattle.cdp_messages.specs.Moves.{frames_of_moves};
-ghost use Rattle.back_end.specs.OwnMethods.{edit_why, load_why, load_asked, act_read, Finds};
+ghost use Rattle.back_end.specs.OwnMethods.{act_why, edit_why, sheet_why, load_why, load_asked, act_read, Finds};
 ghost use Rattle.back_end.specs.Servers as server;
 ghost use Rattle.back_end.specs.States.{State};
 ghost use Rattle.back_end.specs.Steps.{command_step, judged_step};
-ghost use Rattle.back_end.specs.Texts.{HaveTexts, ActHasTexts};
+ghost use Rattle.back_end.specs.Texts.{PageHasTexts, ActHasTexts};
 ghost use Rattle.back_end.specs.Seats.{DeskStandsFor, HasRoomLeft};
 
 use crate::desk::Desk;
+use crate::faults::ActFault;
 use crate::side::PageSide;
 use cdp_json::all_whole;
 use cdp_messages::{CommandErr, Param, ReplyBody, Why, write_reply};
@@ -22,6 +22,7 @@ use page_forms::{Act, ActErr, PageForm, read_act, read_page, texts_law};
 use page_tree::{EditFault, LoadErr, LoadFault};
 use serde_json::Value;
 use std::alloc::{AllocError, Global};
+use style_edits::SheetFault;
 
 /// What a load is refused with.
 fn load_why(fault: LoadFault) -> Why
@@ -54,12 +55,37 @@ fn edit_why(fault: EditFault) -> Why
     }
 }
 
+/// What a change of the page's sheets is refused with.
+fn sheet_why(fault: SheetFault) -> Why
+    ensures { result ≡ sheet_why fault }
+{
+    match fault {
+        SheetFault::NoSheet => Why::NoSheet,
+        SheetFault::NotMutable => Why::NotMutable,
+        SheetFault::BadRange => Why::BadRange,
+        SheetFault::BadText => Why::BadText,
+        SheetFault::BadSelector => Why::BadSelector,
+        SheetFault::BadPlace => Why::BadPlace,
+        SheetFault::TooBig => Why::TooBig,
+    }
+}
+
+/// What an act is refused with.
+fn act_why(fault: ActFault) -> Why
+    ensures { result ≡ act_why fault }
+{
+    match fault {
+        ActFault::Edit(fault) => edit_why(fault),
+        ActFault::Sheet(fault) => sheet_why(fault),
+    }
+}
+
 /// The page that the parameters of a load spell.
 fn asked_page(alloc: Global, params: &Value) -> Result<PageForm, CommandErr>
     requires texts { HasUtf8 (view params.now) }
-    ensures finds { Finds loaded_nodes result (load_asked (view params.now)) }
-    ensures fit { IfOk result (λ page. CanLoad (loaded_nodes page)) }
-    ensures texts { IfOk result (λ page. HaveTexts (loaded_nodes page)) }
+    ensures finds { Finds loaded_page result (load_asked (view params.now)) }
+    ensures fit { IfOk result (λ page. CanLoadPage (loaded_page page)) }
+    ensures texts { IfOk result (λ page. PageHasTexts (loaded_page page)) }
 {
     if !all_whole(params) {
         return Err(CommandErr::Refused(Why::BadParam(Param::Params)));
@@ -155,7 +181,7 @@ impl Desk {
             → OnOk result (out.new.items ≡ out.old.items ++ frames_of_moves (judged_step id act state).moves) }
     {
         if let Some(fault) = self.script(side, act, out)? {
-            return self.refuse(id, edit_why(fault), out);
+            return self.refuse(id, act_why(fault), out);
         }
         write_reply(self.alloc, id, &ReplyBody::Nothing, out)
     }

@@ -3,6 +3,7 @@ ghost use Rattle.std.specs.Prelude.{◌≡◌};
 ghost use Rattle.back_end.specs.Servers.{part_of};
 
 use cdp_messages::{Command, DomAsk, Json};
+use css_agent::CssAsk;
 
 /// The part of a seat that a command is for, with what it is given.
 #[derive(Drop)]
@@ -11,11 +12,17 @@ pub(crate) enum SeatPart {
     Enables,
     /// `DOM.disable`
     Disables,
+    /// `CSS.enable`
+    CssEnables,
+    /// `CSS.disable`
+    CssDisables,
+    /// What the CSS agent is asked.
+    Styles { ask: CssAsk },
     /// `Replay.load`
     Loads { params: Json },
     /// `Replay.act`
     Acts { params: Json },
-    /// What an agent may serve.
+    /// What the DOM agent may serve.
     Others { ask: Option<DomAsk> },
 }
 
@@ -26,6 +33,17 @@ impl SeatPart {
         match command {
             Command::DomEnable => SeatPart::Enables,
             Command::DomDisable => SeatPart::Disables,
+            Command::CssEnable => SeatPart::CssEnables,
+            Command::CssDisable => SeatPart::CssDisables,
+            Command::GetMatchedStyles { node } => SeatPart::Styles {
+                ask: CssAsk::GetMatchedStyles { node },
+            },
+            Command::GetStyleSheetText { sheet } => SeatPart::Styles {
+                ask: CssAsk::GetStyleSheetText { sheet },
+            },
+            Command::CollectClassNames { sheet } => SeatPart::Styles {
+                ask: CssAsk::CollectClassNames { sheet },
+            },
             Command::ReplayLoad { params } => SeatPart::Loads { params },
             Command::ReplayAct { params } => SeatPart::Acts { params },
             others => SeatPart::Others {

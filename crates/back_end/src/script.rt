@@ -1,22 +1,22 @@
 // What a script does to the page under the client's eyes.
 ghost use Rattle.std.specs.Prelude.{◌≡◌, ◌<◌, ◌^◌, ◌+◌, ◌∷◌, ◌++◌, [], cond, OnOk, IfOk};
-ghost use Rattle.page_tree.specs.Forms.{CanLoad};
 ghost use Rattle.page_tree.specs.EditFaults.{CanApply, CanInsert, IsReady, first_fault, insert_fault, move_fault};
 ghost use Rattle.page_tree.specs.Edits.{after, back_tree};
 ghost use Rattle.page_forms.specs.Acts.{IsInsertable};
-ghost use Rattle.page_forms.specs.Pages.{loaded_nodes};
+ghost use Rattle.page_forms.specs.Pages.{loaded_page, CanLoadPage};
 ghost use Rattle.cdp_messages.specs.Moves.{clear, frames_of_moves};
 ghost use Rattle.back_end.specs.States.{State};
-ghost use Rattle.back_end.specs.Plans.{act_fault};
+ghost use Rattle.back_end.specs.Plans.{edit_fault, act_fault};
 ghost use Rattle.back_end.specs.Steps.{act_step, edit_step, load_step, lone_step};
-ghost use Rattle.back_end.specs.Texts.{HaveTexts, FormHasTexts, ActHasTexts, EditHasTexts};
+ghost use Rattle.back_end.specs.Texts.{PageHasTexts, FormHasTexts, ActHasTexts, EditHasTexts};
 ghost use Rattle.back_end.specs.Seats.{DeskStandsFor, HasRoomLeft};
 
 use crate::desk::Desk;
+use crate::faults::ActFault;
 use crate::side::PageSide;
 use cdp_messages::{Event, write_event};
 use page_forms::{Act, PageForm};
-use page_tree::{EditErr, EditFault, NodeForm, Page, TreeEdit};
+use page_tree::{EditErr, NodeForm, TreeEdit};
 use std::alloc::AllocError;
 
 impl Desk {
@@ -30,7 +30,9 @@ impl Desk {
         requires can { CanApply side.old.page.next edit side.old.page.tree }
         requires ids { self.old.agent.next < 2 ^ 51 }
         requires serials { side.old.page.next < 2 ^ 51 }
+        requires sheets { side.old.sheets.next < 2 ^ 51 }
         ensures page { OnOk result (side.new.page ≡ after edit side.old.page) }
+        ensures kept { side.new.sheets ≡ side.old.sheets }
         ensures few { OnOk result (self.new.agent.next < self.old.agent.next + 2) }
         ensures back { IfOk result (λ back. back ≡ back_tree edit side.old.page.tree) }
         ensures stands { (state : State) → DeskStandsFor self.old side.old state → EditHasTexts edit
@@ -51,11 +53,11 @@ impl Desk {
         side: &mut PageSide,
         edit: TreeEdit,
         out: &mut Vec<u8>,
-    ) -> Result<Option<EditFault>, AllocError>
+    ) -> Result<Option<ActFault>, AllocError>
         requires ready { IsReady side.old.page.next edit side.old.page.tree }
         requires texts { EditHasTexts edit }
         requires room { HasRoomLeft self.old side.old }
-        ensures fault { IfOk result (λ fault. fault ≡ first_fault edit side.old.page.tree) }
+        ensures fault { IfOk result (λ fault. fault ≡ edit_fault (first_fault edit side.old.page.tree)) }
         ensures stands { (state : State) → DeskStandsFor self.old side.old state
             → OnOk result (DeskStandsFor self.new side.new (lone_step edit state).state) }
         ensures sent { (state : State) → DeskStandsFor self.old side.old state
@@ -63,7 +65,7 @@ impl Desk {
     {
         match self.agent.edit(&mut side.page, edit, out) {
             Ok(_) => Ok(None),
-            Err(EditErr::Fault(fault)) => Ok(Some(fault)),
+            Err(EditErr::Fault(fault)) => Ok(Some(ActFault::Edit(fault))),
             Err(EditErr::Memory) => Err(AllocError),
         }
     }
@@ -76,11 +78,11 @@ impl Desk {
         before: u64,
         form: NodeForm,
         out: &mut Vec<u8>,
-    ) -> Result<Option<EditFault>, AllocError>
+    ) -> Result<Option<ActFault>, AllocError>
         requires form { CanInsert form }
         requires texts { FormHasTexts form }
         requires room { HasRoomLeft self.old side.old }
-        ensures fault { IfOk result (λ fault. fault ≡ insert_fault parent before form side.old.page.tree) }
+        ensures fault { IfOk result (λ fault. fault ≡ edit_fault (insert_fault parent before form side.old.page.tree)) }
         ensures stands { (state : State) → DeskStandsFor self.old side.old state
             → OnOk result (DeskStandsFor self.new side.new (act_step (Act.Insert parent before form) state).state) }
         ensures sent { (state : State) → DeskStandsFor self.old side.old state
@@ -88,7 +90,7 @@ impl Desk {
     {
         side.page.valid();
         if let Some(fault) = side.page.insert_fault(parent, before, &form) {
-            return Ok(Some(fault));
+            return Ok(Some(ActFault::Edit(fault)));
         }
         let tree = side.page.grow(form)?;
         let attach = TreeEdit::Attach {
@@ -108,9 +110,9 @@ impl Desk {
         parent: u64,
         before: u64,
         out: &mut Vec<u8>,
-    ) -> Result<Option<EditFault>, AllocError>
+    ) -> Result<Option<ActFault>, AllocError>
         requires room { HasRoomLeft self.old side.old }
-        ensures fault { IfOk result (λ fault. fault ≡ move_fault node parent before side.old.page.tree) }
+        ensures fault { IfOk result (λ fault. fault ≡ edit_fault (move_fault node parent before side.old.page.tree)) }
         ensures stands { (state : State) → DeskStandsFor self.old side.old state
             → OnOk result (DeskStandsFor self.new side.new (act_step (Act.Move node parent before) state).state) }
         ensures sent { (state : State) → DeskStandsFor self.old side.old state
@@ -118,7 +120,7 @@ impl Desk {
     {
         side.page.valid();
         if let Some(fault) = side.page.move_fault(node, parent, before) {
-            return Ok(Some(fault));
+            return Ok(Some(ActFault::Edit(fault)));
         }
         let before = side.page.moved_before(node, parent, before);
         let back = self.apply(side, TreeEdit::Detach { node }, out)?;
@@ -140,11 +142,11 @@ impl Desk {
         side: &mut PageSide,
         act: Act,
         out: &mut Vec<u8>,
-    ) -> Result<Option<EditFault>, AllocError>
+    ) -> Result<Option<ActFault>, AllocError>
         requires form { IsInsertable act }
         requires texts { ActHasTexts act }
         requires room { HasRoomLeft self.old side.old }
-        ensures fault { IfOk result (λ fault. fault ≡ act_fault act side.old.page) }
+        ensures fault { IfOk result (λ fault. fault ≡ act_fault act side.old.page side.old.sheets.entries) }
         ensures stands { (state : State) → DeskStandsFor self.old side.old state
             → OnOk result (DeskStandsFor self.new side.new (act_step act state).state) }
         ensures sent { (state : State) → DeskStandsFor self.old side.old state
@@ -167,30 +169,37 @@ impl Desk {
                 parent,
                 before,
             } => self.move_node(side, node, parent, before, out),
+            Act::AddSheet { origin, text } => self.add_sheet(side, origin, text.as_str(), out),
+            Act::DropSheet { sheet } => self.drop_sheet(side, sheet.as_str(), out),
+            Act::ReplaceSheet { sheet, text } => {
+                self.replace_sheet(side, sheet.as_str(), text.as_str(), out)
+            }
         }
     }
 
-    /// A new page in the place of the old one. Serials go on, and nothing is known of it.
+    /// A new page in the place of the old one. Serials and numbers of sheets go on, and nothing is known of it.
     pub(crate) fn load(
         &mut self,
         side: &mut PageSide,
         form: PageForm,
         out: &mut Vec<u8>,
     ) -> Result<(), AllocError>
-        requires can { CanLoad (loaded_nodes form) }
-        requires texts { HaveTexts (loaded_nodes form) }
+        requires can { CanLoadPage (loaded_page form) }
+        requires texts { PageHasTexts (loaded_page form) }
         requires room { HasRoomLeft self.old side.old }
         ensures stands { (state : State) → DeskStandsFor self.old side.old state
-            → OnOk result (DeskStandsFor self.new side.new (load_step (loaded_nodes form) state).state) }
+            → OnOk result (DeskStandsFor self.new side.new (load_step (loaded_page form) state).state) }
         ensures sent { (state : State) → DeskStandsFor self.old side.old state
-            → OnOk result (out.new.items ≡ out.old.items ++ frames_of_moves (load_step (loaded_nodes form) state).moves) }
+            → OnOk result (out.new.items ≡ out.old.items ++ frames_of_moves (load_step (loaded_page form) state).moves) }
     {
         side.page.valid();
-        let page = Page::load(self.alloc, side.page.next_serial(), form.nodes)?;
+        let serial = side.page.next_serial();
+        let loaded = PageSide::loaded(self.alloc, serial, side.sheets.next_number(), form)?;
         self.tell_load(out)?;
-        side.page = page;
+        self.tell_gone(side.book(), out)?;
         self.agent.reset();
-        Ok(())
+        *side = loaded;
+        self.tell_come(side.book(), out)
     }
 
     /// Tells a load, while DOM is on.

@@ -1,22 +1,21 @@
 ghost use Rattle.std.specs.Prelude.{◌≡◌, ◌++◌, ◌↔◌, IsTrue, true, false, IfOk, OnOk, OnErr, IsErr};
 ghost use Rattle.node_binding.specs.Bindings.{empty_from};
-ghost use Rattle.page_tree.specs.Forms.{CanLoad};
 ghost use Rattle.page_forms.specs.Acts.{IsInsertable};
-ghost use Rattle.page_forms.specs.Pages.{loaded_nodes};
+ghost use Rattle.page_forms.specs.Pages.{loaded_page, CanLoadPage};
 ghost use Rattle.cdp_messages.specs.Moves.{frames_of_moves};
 ghost use Rattle.back_end.specs.States.{State};
 ghost use Rattle.back_end.specs.Plans.{act_fault};
 ghost use Rattle.back_end.specs.Steps.{act_step, frame_step, load_step};
-ghost use Rattle.back_end.specs.Texts.{HaveTexts, ActHasTexts};
+ghost use Rattle.back_end.specs.Texts.{PageHasTexts, ActHasTexts};
 ghost use Rattle.back_end.specs.Seats.{StandsFor, HasRoomLeft};
 
 use crate::desk::Desk;
+use crate::faults::ActFault;
 use crate::side::PageSide;
 use page_forms::{Act, PageForm};
-use page_tree::EditFault;
 use std::alloc::{AllocError, Global};
 
-/// The least number that is no id and no serial with room behind it for another step.
+/// The least number that is no id, no serial and no number of a sheet with room behind it for another step.
 const LIMIT: u64 = 1 << 50;
 
 /// A client's seat at the page's side. After want of memory it is dead: each later call that can answer want of memory does.
@@ -30,6 +29,7 @@ impl Seat {
     /// The seat of a client that has asked for nothing yet.
     pub fn new(alloc: Global) -> Seat
         ensures off { result.desk.is_on ≡ false }
+        ensures css { result.desk.css ≡ false }
         ensures agent { result.desk.agent ≡ empty_from 1 }
         ensures alive { result.is_dead ≡ false }
     {
@@ -39,11 +39,13 @@ impl Seat {
         }
     }
 
-    /// Whether the next id and the next serial are below 2^50, so that a step can draw what it needs.
+    /// Whether the next id, the next serial and the next sheet's number are below 2^50, so that a step can draw what it needs.
     pub fn has_room(&self, side: &PageSide) -> bool
         ensures { IsTrue result ↔ HasRoomLeft self.now.desk side.now }
     {
-        self.desk.agent.next_id() < LIMIT && side.page.next_serial() < LIMIT
+        self.desk.agent.next_id() < LIMIT
+            && side.page.next_serial() < LIMIT
+            && side.sheets.next_number() < LIMIT
     }
 
     /// Whether an earlier call answered want of memory.
@@ -80,18 +82,18 @@ impl Seat {
         Ok(())
     }
 
-    /// A script changes the page: the events of its edits are appended to `out`. It gives the fault of a change that is refused,
-    /// which changes nothing and tells nothing.
+    /// A script changes the page: the events of its edits, or of the changes of its sheets, are appended to `out`. It gives the
+    /// fault of a change that is refused, which changes nothing and tells nothing.
     pub fn script(
         &mut self,
         side: &mut PageSide,
         act: Act,
         out: &mut Vec<u8>,
-    ) -> Result<Option<EditFault>, AllocError>
+    ) -> Result<Option<ActFault>, AllocError>
         requires form { IsInsertable act }
         requires texts { ActHasTexts act }
         requires room { HasRoomLeft self.old.desk side.old }
-        ensures fault { IfOk result (λ fault. fault ≡ act_fault act side.old.page) }
+        ensures fault { IfOk result (λ fault. fault ≡ act_fault act side.old.page side.old.sheets.entries) }
         ensures stands { (state : State) → StandsFor self.old side.old state
             → OnOk result (StandsFor self.new side.new (act_step act state).state) }
         ensures sent { (state : State) → StandsFor self.old side.old state
@@ -109,20 +111,21 @@ impl Seat {
         Ok(fault)
     }
 
-    /// A script loads another page: a client whose DOM is on is told, by what is appended to `out`.
+    /// A script loads another page: a client whose DOM is on is told, by what is appended to `out`, and where its CSS is on too
+    /// that each old sheet went and each new one came.
     pub fn load(
         &mut self,
         side: &mut PageSide,
         form: PageForm,
         out: &mut Vec<u8>,
     ) -> Result<(), AllocError>
-        requires can { CanLoad (loaded_nodes form) }
-        requires texts { HaveTexts (loaded_nodes form) }
+        requires can { CanLoadPage (loaded_page form) }
+        requires texts { PageHasTexts (loaded_page form) }
         requires room { HasRoomLeft self.old.desk side.old }
         ensures stands { (state : State) → StandsFor self.old side.old state
-            → OnOk result (StandsFor self.new side.new (load_step (loaded_nodes form) state).state) }
+            → OnOk result (StandsFor self.new side.new (load_step (loaded_page form) state).state) }
         ensures sent { (state : State) → StandsFor self.old side.old state
-            → OnOk result (out.new.items ≡ out.old.items ++ frames_of_moves (load_step (loaded_nodes form) state).moves) }
+            → OnOk result (out.new.items ≡ out.old.items ++ frames_of_moves (load_step (loaded_page form) state).moves) }
         ensures alive { OnOk result (self.new.is_dead ≡ false) }
         ensures memory { OnErr result (self.new.is_dead ≡ true) }
         ensures dead { self.old.is_dead ≡ true → IsErr result }

@@ -14,6 +14,3 @@ pub use hits::Hit;
 pub use laws::{order_law, places_law, standing_law, winner_law};
 pub use matching::{matched, matched_on};
 pub use winning::winners;
-
-#[cfg(test)]
-mod tests;

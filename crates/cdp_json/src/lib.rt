@@ -4,8 +4,6 @@ mod cursor;
 mod fields;
 mod laws;
 mod lists;
-#[cfg(test)]
-mod tests;
 mod values;
 mod whole;
 mod write;

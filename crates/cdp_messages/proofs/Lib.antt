@@ -12,6 +12,8 @@ pub mod NewsLaws
 mod Rules
 pub mod TellableLaws
 pub mod TextsUtf8
+mod ScannedNodes
+mod ScannedTokens
 mod TokenLists
 mod TreesRead
 mod Written

@@ -309,7 +309,7 @@ body_object (Selectors selectors) = refl
 body_object (Rule rule) = refl
 body_object (Matched matched) = refl
 
-reply_fits : (id : ℕ) (body : ReplyBody) → is_counted id ≡ true → fits_message (reply id (body_data body)) ≡ true
+pub reply_fits : (id : ℕ) (body : ReplyBody) → is_counted id ≡ true → fits_message (reply id (body_data body)) ≡ true
 reply_fits id body c = both c (both (body_object body) refl)
 
 pub reply_plain : (id : ℕ) (body : ReplyBody) → is_counted id ≡ true → fits_body body ≡ true → is_plain (message_data (reply id (body_data body))) ≡ true

@@ -44,7 +44,7 @@ children_of-members m (a, (s, (c, (k, (l, (i, (n, (t, (v, (p, u)))))))))) = at a
 
 -- ---- what is written is read
 
-items_len-tree_items : (n : Nodes Told) → items_len (tree_items n) ≡ width n
+pub items_len-tree_items : (n : Nodes Told) → items_len (tree_items n) ≡ width n
 items_len-tree_items none = refl
 items_len-tree_items (node r c t) = ap suc (items_len-tree_items t)
 
@@ -147,7 +147,7 @@ before_some None t n e = absurd cc
 before_some (Some b) None n e = absurd cc
 before_some (Some b) (Some m) n e = (b, m, refl, refl, cc)
 
-counted_or_zero : (o : Option ℕ) → holds_of_some is_counted o ≡ true → is_counted (unwrap_or o 0) ≡ true
+pub counted_or_zero : (o : Option ℕ) → holds_of_some is_counted o ≡ true → is_counted (unwrap_or o 0) ≡ true
 counted_or_zero None e = refl
 counted_or_zero (Some n) e = e
 
@@ -175,7 +175,7 @@ hidden_below None true count n is e = e
 hidden_below None false count n is e = e
 hidden_below (Some ds) container count n is e = absurd cc
 
-below_told : (x : NodeObject) (n : Nodes Told) → tree_items n ≡ children_in x → fits_below (told_in x) n ≡ true
+pub below_told : (x : NodeObject) (n : Nodes Told) → tree_items n ≡ children_in x → fits_below (told_in x) n ≡ true
 below_told x n e = at x.children refl where
   at : (o : Option Items) → x.children ≡ o → fits_below (told_in x) n ≡ true
   at None is = hidden_below x.children (holds x.kind) (unwrap_or x.count 0) n is (no_items_none n (e ∙ ap (λ o. unwrap_or o no_items) is))

@@ -1,6 +1,6 @@
 -- Tokens that are written one after the other.
 use Rattle.std.proofs.Common.{◌≡◌, ℕ, ◌+◌, ◌<◌, ◌≤◌, List, [], ◌∷◌, ◌++◌, length, get_or, take, map, Option, Some, None, Result, Ok, Err, Vec, Global, OnOk, IsOk, IsUtf8, append_assoc, refl, sym, ap, ap₂, ◌∙◌, subst, add-one}
-use Rattle.std.specs.Prelude.{codes, nat_lt, flat_map, option_map, string_bytes}
+use Rattle.std.specs.Prelude.{codes, nat_lt, flat_map, option_map}
 use Rattle.std.proofs.Math.Seq.{take-suc}
 use Rattle.std.proofs.lemmas.List.{take_all, flat_map_more}
 use Rattle.json.specs.Token.{Token, begin_object, end_object, begin_array, end_array, key, string}
@@ -64,7 +64,7 @@ regroup : (b : Token) (x y z r : List Token) → b ∷ (x ++ (y ++ (z ++ r))) �
 regroup b x y z r = ap (λ ts. b ∷ ts) (sym (append_assoc x (y ++ z) r ∙ ap (λ ts. x ++ ts) (append_assoc y z r)))
 
 -- a node's object by its fields
-object_tokens : (a : Option Data) (s : Data) (c k : Option Data) (l i n t v : Data) (p : Option Data)
+pub object_tokens : (a : Option Data) (s : Data) (c k : Option Data) (l i n t v : Data) (p : Option Data)
     → data_tokens (node_members a s c k l i n t v p)
     ≡ (begin_object ∷ (field_tokens (codes "attributes") a ++ (field_tokens (codes "backendNodeId") (Some s) ++ field_tokens (codes "childNodeCount") c)))
     ++ (field_tokens (codes "children") k ++ (field_tokens (codes "localName") (Some l) ++ (field_tokens (codes "nodeId") (Some i) ++ (field_tokens (codes "nodeName") (Some n)
@@ -134,11 +134,11 @@ pair_tokens p = string p.0 ∷ string p.1 ∷ []
 abbrev pub branch_tokens : Branch Told → List Token
 branch_tokens b = data_tokens (tree_data b)
 
-pairs_tokens : (ps : List Pair) → items_tokens (items_outline (items_of (map values.string (flat ps)))) ≡ flat_map pair_tokens ps ++ end_array ∷ []
+pub pairs_tokens : (ps : List Pair) → items_tokens (items_outline (items_of (map values.string (flat ps)))) ≡ flat_map pair_tokens ps ++ end_array ∷ []
 pairs_tokens [] = refl
 pairs_tokens (p ∷ ps) = ap (λ ts. string p.0 ∷ string p.1 ∷ ts) (pairs_tokens ps)
 
-branches_tokens : (bs : List (Branch Told)) → items_tokens (items_outline (tree_items (nodes_of bs))) ≡ flat_map branch_tokens bs ++ end_array ∷ []
+pub branches_tokens : (bs : List (Branch Told)) → items_tokens (items_outline (tree_items (nodes_of bs))) ≡ flat_map branch_tokens bs ++ end_array ∷ []
 branches_tokens [] = refl
 branches_tokens (b ∷ bs) = ap (λ ts. branch_tokens b ++ ts) (branches_tokens bs) ∙ sym (append_assoc (branch_tokens b) (flat_map branch_tokens bs) (end_array ∷ []))
 

@@ -1,12 +1,11 @@
 -- What the writer of nodes writes.
-use Rattle.std.proofs.Common.{◌≡◌, ℕ, List, [], ◌∷◌, Bool, true, false, map, Option, Some, None, option_map, Vec, Global, refl, ap, ◌∙◌, subst}
-use Rattle.serde_json.specs.Data.{Data, Items, item}
-use Rattle.serde_json.specs.View.{items_of}
+use Rattle.std.proofs.Common.{◌≡◌, ℕ, Bool, true, false, Option, Some, None, option_map, Vec, Global, refl, ap, ◌∙◌, subst}
+use Rattle.serde_json.specs.Data.{Items}
 use Rattle.node_tree.specs.Labels.{Label, holds}
 use Rattle.node_tree.specs.Nodes.{Branch, nodes_of}
 use Rattle.node_tree.specs.Seen.{is_opened}
 use Rattle.cdp_messages.specs.Told.{Told, hold_of, told_tree}
-use Rattle.cdp_messages.specs.NodeObject.{node_fields, only_if, node_members, object_with}
+use Rattle.cdp_messages.specs.NodeObject.{node_fields, only_if, object_with}
 use Rattle.cdp_messages.specs.NodeData.{tree_items, tree_data}
 
 hidden : {A : Type 0} (container : Bool) (count : ℕ) (x : A) → None ≡ only_if (is_opened (hold_of false container count)) x

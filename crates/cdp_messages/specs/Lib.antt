@@ -3,6 +3,7 @@ pub mod NodeObject
 pub mod NodeData
 pub mod Tokens
 pub mod Forms
+pub mod Raw
 pub mod JsonCode
 pub mod Methods
 pub mod Refusals
@@ -14,7 +15,6 @@ pub mod Results
 pub mod Replies
 pub mod Effects
 pub mod Answers
-pub mod Raw
 pub mod LabelChanges
 pub mod Tellable
 pub mod Laws

@@ -24,6 +24,7 @@ mod receive;
 mod reply_write;
 mod result_forms;
 mod result_read;
+mod scan;
 mod token_write;
 mod tree;
 mod write;
@@ -47,8 +48,6 @@ pub use read::{read_ask, read_command};
 pub use receive::read_down;
 pub use reply_write::write_reply;
 pub use result_read::read_result;
+pub use scan::read_root;
 pub use tree::NodeTree;
 pub use write::{write_command, write_refused};
-
-#[cfg(test)]
-mod tests;

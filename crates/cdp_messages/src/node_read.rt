@@ -19,19 +19,25 @@ use node_tree::{Attributes, Kind, Text};
 use serde_json::Value;
 use std::alloc::{AllocError, Global};
 
+// The fields of a node's object, but for its children.
+#[derive(Drop)]
+pub(crate) struct NodeParts<'a> {
+    pub(crate) attributes: Option<Attributes>,
+    pub(crate) serial: u64,
+    pub(crate) count: Option<u64>,
+    pub(crate) local_name: &'a str,
+    pub(crate) id: u64,
+    pub(crate) name: &'a str,
+    pub(crate) kind: Kind,
+    pub(crate) value: &'a str,
+    pub(crate) parent: Option<u64>,
+}
+
 // The fields of a node's object.
 #[derive(Drop)]
 pub(crate) struct RawNode<'a> {
-    attributes: Option<Attributes>,
-    serial: u64,
-    count: Option<u64>,
+    parts: NodeParts<'a>,
     children: Option<&'a [Value]>,
-    local_name: &'a str,
-    id: u64,
-    name: &'a str,
-    kind: Kind,
-    value: &'a str,
-    parent: Option<u64>,
 }
 
 // Names and values in turn.
@@ -62,7 +68,7 @@ fn or_none(alloc: Global, attributes: Option<Attributes>) -> Attributes
     }
 }
 
-fn kind_of_type(number: u64) -> Option<Kind>
+pub(crate) fn kind_of_type(number: u64) -> Option<Kind>
     ensures { result ≡ kind_of_type number }
 {
     match number {
@@ -123,27 +129,27 @@ impl<'a> RawNode<'a> {
         if !fields.is_done() {
             return Err(DownErr::NotMessage);
         }
-        Ok(RawNode {
+        let parts = NodeParts {
             attributes,
             serial,
             count,
-            children,
             local_name,
             id,
             name,
             kind,
             value,
             parent,
-        })
+        };
+        Ok(RawNode { parts, children })
     }
 }
 
-impl<'a> RawNode<'a> {
-    ghost use Rattle.serde_json.specs.Data.{no_items};
+impl<'a> NodeParts<'a> {
+    ghost use Rattle.std.specs.Prelude.{◌&&◌, is_some, None};
     ghost use Rattle.node_tree.specs.Labels.{is_element, holds};
     ghost use Rattle.cdp_messages.specs.Told.{told_tree};
-    ghost use Rattle.cdp_messages.specs.NodeObject.{name_in, label_in, told_in, children_in, agrees, fits_place, fits_described, fits_told, tells};
-    ghost use Rattle.cdp_messages.specs.Raw.{object_in};
+    ghost use Rattle.cdp_messages.specs.NodeObject.{name_in, label_in, agrees, fits_place, fits_described, fits_told};
+    ghost use Rattle.cdp_messages.specs.Raw.{object_over, told_over};
 
     // The name of the node that is told.
     fn label_name(&self) -> &'a str
@@ -168,7 +174,7 @@ impl<'a> RawNode<'a> {
     // Whether the name that is shown is that of the node.
     fn shows_name(&self, alloc: Global) -> Result<bool, AllocError>
         ensures { IfOk result (λ b. b
-            ≡ bytes_eq self.now.name.now (node_name (label_in (object_in self.now)))) }
+            ≡ bytes_eq self.now.name.now (node_name (label_in (object_over self.now None)))) }
     {
         let shown = node_name(alloc, self.kind, self.label_name())?;
         Ok(self.name == shown.as_str())
@@ -176,7 +182,7 @@ impl<'a> RawNode<'a> {
 
     // Whether the fields say the same as the row that they tell.
     fn agrees(&self, alloc: Global) -> Result<bool, AllocError>
-        ensures { IfOk result (λ b. b ≡ agrees (object_in self.now)) }
+        ensures { IfOk result (λ b. b ≡ agrees (object_over self.now None)) }
     {
         let same_parts = self.attributes.is_some() == is_element(self.kind)
             && self.count.is_some() == is_container(self.kind);
@@ -190,9 +196,8 @@ impl<'a> RawNode<'a> {
     }
 
     // Whether the node may stand here, at the top of a document or below it.
-    fn fits_place(&self, top: bool) -> bool
-        ensures { result ≡ fits_place top (items_len (children_in (object_in self.now)))
-            (told_in (object_in self.now)) }
+    fn fits_place(&self, top: bool, shown: Option<u64>) -> bool
+        ensures { result ≡ fits_place top (unwrap_or shown 0) (told_over self.now (is_some shown)) }
     {
         let count = self.count.unwrap_or(0);
         let parent = self.parent.unwrap_or(0);
@@ -202,13 +207,12 @@ impl<'a> RawNode<'a> {
             && is_named_label(self.kind, self.label_name(), self.pairs())
             && is_document(self.kind) == top
             && (parent == 0) == top
-            && fits_hold(self.children, is_container(self.kind), count)
+            && fits_hold(shown, is_container(self.kind), count)
     }
 
     // Whether a node that is described alone may stand here.
-    fn fits_described(&self, top: bool) -> bool
-        ensures { result ≡ fits_described top (items_len (children_in (object_in self.now)))
-            (told_in (object_in self.now)) }
+    fn fits_described(&self, top: bool, shown: Option<u64>) -> bool
+        ensures { result ≡ fits_described top (unwrap_or shown 0) (told_over self.now (is_some shown)) }
     {
         let count = self.count.unwrap_or(0);
         let parent = self.parent.unwrap_or(0);
@@ -218,34 +222,41 @@ impl<'a> RawNode<'a> {
             && is_named_label(self.kind, self.label_name(), self.pairs())
             && (top || !is_document(self.kind))
             && parent == 0
-            && fits_hold(self.children, is_container(self.kind), count)
+            && fits_hold(shown, is_container(self.kind), count)
     }
 
-    fn fits_told(&self, manner: Manner, top: bool) -> bool
-        ensures { result ≡ fits_told manner top (items_len (children_in (object_in self.now)))
-            (told_in (object_in self.now)) }
+    fn fits_told(&self, manner: Manner, top: bool, shown: Option<u64>) -> bool
+        ensures { result ≡ fits_told manner top (unwrap_or shown 0) (told_over self.now (is_some shown)) }
     {
         match manner {
-            Manner::Pushed => self.fits_place(top),
-            Manner::Described => self.fits_described(top),
+            Manner::Pushed => self.fits_place(top, shown),
+            Manner::Described => self.fits_described(top, shown),
         }
     }
 
-    fn tells(&self, alloc: Global, manner: Manner, top: bool) -> Result<bool, AllocError>
-        ensures { IfOk result (λ b. b ≡ tells manner top (object_in self.now)) }
+    // Whether the fields tell a node, with that many children shown.
+    pub(crate) fn tells(
+        &self,
+        alloc: Global,
+        manner: Manner,
+        top: bool,
+        shown: Option<u64>,
+    ) -> Result<bool, AllocError>
+        ensures { IfOk result (λ b. b ≡ (agrees (object_over self.now None)
+            && fits_told manner top (unwrap_or shown 0) (told_over self.now (is_some shown)))) }
     {
-        Ok(self.agrees(alloc)? && self.fits_told(manner, top))
+        Ok(self.agrees(alloc)? && self.fits_told(manner, top, shown))
     }
 
     // The node with these children.
-    fn finished(
+    pub(crate) fn finished(
         self,
         alloc: Global,
         children: Option<Vec<NodeTree>>,
     ) -> Result<NodeTree, AllocError>
         ensures { IfOk result (λ tree. tree ≡ told_tree (unwrap_or self.entry.parent 0)
             (unwrap_or self.entry.count 0) self.entry.id self.entry.serial
-            (label_in (object_in self.entry)) children) }
+            (label_in (object_over self.entry None)) children) }
     {
         let name = Text::copied(alloc, self.label_name())?;
         let value = Text::copied(alloc, self.value)?;
@@ -260,6 +271,42 @@ impl<'a> RawNode<'a> {
             count: self.count.unwrap_or(0),
             children,
         })
+    }
+}
+
+impl<'a> RawNode<'a> {
+    ghost use Rattle.cdp_messages.specs.Told.{told_tree};
+    ghost use Rattle.cdp_messages.specs.NodeObject.{label_in, tells};
+    ghost use Rattle.cdp_messages.specs.Raw.{object_in};
+
+    fn tells(&self, alloc: Global, manner: Manner, top: bool) -> Result<bool, AllocError>
+        ensures { IfOk result (λ b. b ≡ tells manner top (object_in self.now)) }
+    {
+        self.parts
+            .tells(alloc, manner, top, count_of(self.children))
+    }
+
+    // The node with these children.
+    fn finished(
+        self,
+        alloc: Global,
+        children: Option<Vec<NodeTree>>,
+    ) -> Result<NodeTree, AllocError>
+        ensures { IfOk result (λ tree. tree ≡ told_tree (unwrap_or self.entry.parts.parent 0)
+            (unwrap_or self.entry.parts.count 0) self.entry.parts.id self.entry.parts.serial
+            (label_in (object_in self.entry)) children) }
+    {
+        self.parts.finished(alloc, children)
+    }
+}
+
+// How many there are.
+fn count_of(children: Option<&[Value]>) -> Option<u64>
+    ensures { result ≡ option_map (λ xs. items_len (items_view xs.now)) children.entry }
+{
+    match children {
+        Some(children) => Some(children.len() as u64),
+        None => None,
     }
 }
 

@@ -1,9 +1,6 @@
 // What has to hold of a node that a message tells.
-ghost use Rattle.std.specs.Prelude.{◌≡◌, [], if◌then◌else◌, is_some, option_map, unwrap_or};
+ghost use Rattle.std.specs.Prelude.{◌≡◌, [], if◌then◌else◌, is_some, unwrap_or};
 ghost use Rattle.std.specs.List.{list_all};
-ghost use Rattle.serde_json.specs.Data.{no_items};
-ghost use Rattle.serde_json.specs.Events.{items_len};
-ghost use Rattle.serde_json.specs.View.{items_view};
 ghost use Rattle.node_tree.specs.Labels.{is_document, is_element, has_name, has_value, is_empty, is_before, is_ascending, is_formed_label, is_named_label};
 ghost use Rattle.node_tree.specs.Names.{is_attribute_name};
 ghost use Rattle.cdp_messages.specs.Told.{hold_of};
@@ -11,7 +8,6 @@ ghost use Rattle.cdp_messages.specs.NodeObject.{fits_hold};
 
 use crate::node_write::is_element;
 use node_tree::{Kind, Text, is_attribute_name, is_element_name};
-use serde_json::Value;
 use std::cmp::Ordering;
 
 // How the nodes of a message are told.
@@ -123,13 +119,13 @@ pub(crate) fn is_named_label(kind: Kind, name: &str, pairs: &[(Text, Text)]) -> 
     (!has_name(kind) || is_element_name(name)) && are_attribute_names(pairs)
 }
 
-// What is shown below a node is as its kind and its number of children say.
-pub(crate) fn fits_hold(children: Option<&[Value]>, container: bool, count: u64) -> bool
-    ensures { result ≡ fits_hold (hold_of (is_some children.entry) container count) container count
-        (items_len (unwrap_or (option_map (λ xs. items_view xs.now) children.entry) no_items)) }
+// What is shown below a node, so many children or none, is as its kind and its number of children say.
+pub(crate) fn fits_hold(shown: Option<u64>, container: bool, count: u64) -> bool
+    ensures { result ≡ fits_hold (hold_of (is_some shown) container count) container count
+        (unwrap_or shown 0) }
 {
-    match children {
-        Some(values) => container && count == values.len() as u64,
+    match shown {
+        Some(width) => container && count == width,
         None => container || count == 0,
     }
 }

@@ -1,5 +1,5 @@
 -- The names of the classes that the selectors of a sheet ask for.
-use Rattle.std.specs.Prelude.{ℕ, List, [], ◌∷◌, map, fold, Option, Some, None, option_to_list}
+use Rattle.std.specs.Prelude.{ℕ, List, [], fold, Option, Some, None, option_to_list}
 use Rattle.std.specs.List.{flat_map}
 use Rattle.std.specs.Ordering.{nat_cmp}
 use Rattle.std.specs.Cmp.Lexicographic.{slice_cmp}

@@ -4,3 +4,4 @@ pub mod Texts
 pub mod RuleObjects
 pub mod MatchedStyles
 pub mod Asks
+pub mod Edits

@@ -1,5 +1,5 @@
 -- What gives an element its style: its `style` attribute, the rules that match it, and both of each of its ancestors.
-use Rattle.std.specs.Prelude.{ℕ, codes, List, map, Option, Some, None, option_map, option_and_then}
+use Rattle.std.specs.Prelude.{ℕ, codes, List, map, Option, option_map, option_and_then}
 use Rattle.std.specs.List.{filter_map, slice_get}
 use Rattle.css_objects.specs.declared.styles.Style.{Style}
 use Rattle.css_objects.specs.declared.rules.RuleMatch.{RuleMatch}

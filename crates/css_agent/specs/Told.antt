@@ -9,8 +9,9 @@ use Rattle.sheet_reader.specs.declared.book.Origin.{Origin}
 use Rattle.sheet_reader.specs.declared.book.Origin.TheVariants.{UserAgent, Regular}
 use Rattle.sheet_reader.specs.declared.book.SheetEntry.{SheetEntry}
 use Rattle.sheet_reader.specs.Positions.{units_at}
+use Rattle.style_edits.specs.declared.splice.Splice.{Splice}
 use Rattle.cdp_messages.specs.Answers.{ended}
-use Rattle.cdp_messages.specs.Events.{News, sheet_added}
+use Rattle.cdp_messages.specs.Events.{News, sheet_added, sheet_changed}
 use Rattle.cdp_messages.specs.Replies.{Message, event, message_data}
 
 -- where a sheet comes from, as messages tell it
@@ -29,6 +30,10 @@ told_header e = record { length = units_in e.text; origin = told_origin e.origin
 -- the message that tells that a sheet comes
 abbrev pub added_message : SheetEntry → Message
 added_message e = event (sheet_added (told_header e))
+
+-- the message that tells that the sheet of a splice was edited
+abbrev pub changed_message : Splice → Message
+changed_message back = event (sheet_changed back.sheet)
 
 -- the messages that a turn of the domain sends, from what it was to what it is: where it comes on, each sheet of the book comes, in order
 abbrev pub turn_messages : Bool → Bool → List SheetEntry → List Message

@@ -1,17 +1,22 @@
-ghost use Rattle.std.specs.Prelude.{◌≡◌, ◌++◌, [], ◌∷◌, false, OnOk, OnErr};
+ghost use Rattle.std.specs.Prelude.{◌≡◌, ◌++◌, [], ◌∷◌, false, Ok, Err, IfOk, OnOk, OnErr};
 ghost use Rattle.cdp_messages.specs.Moves.{frames_of_moves};
 ghost use Rattle.cdp_messages.specs.Events.{news_of};
+ghost use Rattle.style_edits.specs.Edits.{IfFault};
 ghost use Rattle.css_agent.specs.Told.{turn_messages, event_messages, message_frames};
 ghost use Rattle.css_agent.specs.Asks.{NodeIsThere, css_outcome, answer_move};
+ghost use Rattle.css_agent.specs.Edits.{css_edited, edit_splices, edit_frames};
 
 use crate::asks::CssAsk;
-use crate::frames::{answer, tell_sheets_if};
+use crate::edit_outcomes::css_edited;
+use crate::edits::CssEdit;
+use crate::frames::{answer, tell_edit, tell_sheets_if};
 use crate::outcomes::css_outcome;
 use cdp_messages::{Event, write_event};
 use page_tree::Page;
 use sheet_reader::SheetBook;
 use std::alloc::{AllocError, Global};
 use std::marker::Model;
+use style_edits::{SheetErr, Splice};
 
 /// Serves the commands of the domain CSS. It knows whether the domain is on; contracts see that alone.
 #[derive(Drop)]
@@ -89,5 +94,29 @@ impl CssAgent {
     {
         let outcome = css_outcome(self.alloc, page, book, node, ask)?;
         answer(self.alloc, id, &outcome, out)
+    }
+
+    /// Carries the edit out, and appends what tells of it: a `CSS.styleSheetChanged` for each splice, and the reply to the command
+    /// with that id. Answers the splices that lead back, in the order of the edits. A fault changes nothing and appends nothing:
+    /// the caller writes the refusal. After want of memory the book may be as it was or as the edit leaves it.
+    pub fn edit(
+        &self,
+        book: &mut SheetBook,
+        id: u64,
+        edit: &CssEdit,
+        out: &mut Vec<u8>,
+    ) -> Result<Vec<Splice>, SheetErr>
+        ensures done { IfOk result (λ backs. edit_splices (css_edited book.old edit.now) ≡ Ok (book.new, backs.items)) }
+        ensures sent { OnOk result (out.new.items ≡ out.old.items ++ edit_frames id (css_edited book.old edit.now)) }
+        ensures fault { IfFault result (λ f. css_edited book.old edit.now ≡ Err f) }
+        ensures unchanged { IfFault result (λ f. book.new ≡ book.old) }
+        ensures unsent { IfFault result (λ f. out.new.items ≡ out.old.items) }
+    {
+        let done = match css_edited(self.alloc, book, edit) {
+            Ok(done) => done,
+            Err(stop) => return Err(stop),
+        };
+        tell_edit(self.alloc, id, done.backs.as_slice(), &done.body, out)?;
+        Ok(done.backs)
     }
 }

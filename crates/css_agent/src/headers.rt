@@ -16,7 +16,8 @@ pub(crate) fn told_origin(origin: Origin) -> SheetOrigin
     }
 }
 
-pub(crate) fn told_header(entry: &SheetEntry) -> Header
+/// What is told of a sheet as it comes.
+pub fn told_header(entry: &SheetEntry) -> Header
     requires { IsEntry entry.now }
     ensures { result ≡ told_header entry.now }
 {

@@ -4,6 +4,10 @@
 mod agent;
 mod asks;
 mod class_names;
+mod edit_outcomes;
+mod edit_words;
+mod edited_rules;
+mod edits;
 mod frames;
 mod headers;
 mod matched_styles;
@@ -15,6 +19,6 @@ mod units;
 
 pub use agent::CssAgent;
 pub use asks::CssAsk;
-
-#[cfg(test)]
-mod tests;
+pub use edits::CssEdit;
+pub use headers::told_header;
+pub use outcomes::sheet_named;

@@ -50,7 +50,7 @@ fn rule_among(rules: &[StyleRule], place: usize) -> Option<&StyleRule>
 }
 
 /// The style rule at a place of a sheet.
-fn rule_at(entry: &SheetEntry, place: usize) -> Option<&StyleRule>
+pub(crate) fn rule_at(entry: &SheetEntry, place: usize) -> Option<&StyleRule>
     requires { IsEntry entry.now }
     ensures rule { option_map (λ r. rule_seen r.now) result ≡ slice_get (sheet_of entry.now.text).rules place }
     ensures usable { IfSome result (λ r. IsRuleOf entry.now.text (rule_seen r.now)) }

@@ -17,7 +17,7 @@ use sheet_reader::{SheetBook, SheetEntry};
 use std::alloc::{AllocError, Global};
 
 /// The sheet of the book whose id has this text.
-fn sheet_named<'a>(book: &'a SheetBook, text: &str) -> Option<&'a SheetEntry>
+pub fn sheet_named<'a>(book: &'a SheetBook, text: &str) -> Option<&'a SheetEntry>
     ensures found { option_copied result ≡ sheet_named text.now book.now }
     ensures read { IfSome result (λ e. IsEntry e.now) }
 {

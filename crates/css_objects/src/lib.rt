@@ -10,8 +10,6 @@ mod rules;
 mod selectors;
 mod sheets;
 mod styles;
-#[cfg(test)]
-mod tests;
 
 pub use laws::css_objects_law;
 pub use listed::Listed;

@@ -17,6 +17,3 @@ pub use laws::{seam_law, table_law};
 pub use token::{Range, Token, TokenKind};
 pub use tokens::{Tokens, all_tokens};
 pub use values::unescape;
-
-#[cfg(test)]
-mod tests;

@@ -14,6 +14,3 @@ mod told;
 
 pub use agent::DomAgent;
 pub use laws::{edit_law, serve_law};
-
-#[cfg(test)]
-mod tests;

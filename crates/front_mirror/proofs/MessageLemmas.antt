@@ -20,12 +20,12 @@ use Rattle.cdp_messages.specs.Told.{Told}
 use Rattle.cdp_messages.specs.NodeData.{fits_tree, fits_nodes}
 use Rattle.cdp_messages.specs.Asked.{json_of}
 use Rattle.cdp_messages.specs.Events.{attribute_modified, attribute_removed, inserted, set_children, news_of, is_unopened, fits_news}
-use Rattle.cdp_messages.specs.Replies.{Message, event, message_of, message_in, down_of, result_of, fits_body, fits_message}
-use Rattle.cdp_messages.proofs.Messages.{messages_are_spelled, results_are_spelled}
+use Rattle.cdp_messages.specs.Replies.{Message, reply, event, message_of, message_in, down_of, body_data, result_of, fits_body, fits_message}
+use Rattle.cdp_messages.proofs.Messages.{messages_are_spelled, results_are_read, results_are_spelled}
 use Rattle.front_mirror.specs.declared.faults.FrontKind.TheVariants.{NotMessage}
 use Rattle.front_mirror.specs.declared.edits.NodeEdit.TheVariants as edit
 use Rattle.front_mirror.specs.Edits.{fits_edit, fits_effect}
-use Rattle.front_mirror.specs.Front.{FrontValue, with_message, take_frame}
+use Rattle.front_mirror.specs.Front.{FrontValue, method_of, root_fault, with_root, with_body, with_reply, with_message, take_frame}
 use Rattle.front_mirror.proofs.BoolLemmas.{and_left, both}
 
 -- a result that is read has the forms of one, and so has what it changes
@@ -99,3 +99,10 @@ ok_err (Err d) e is h = cc
 pub text_refused : {A E : Type 0} (v : FrontValue) (bytes : List ℕ) (r : Result A E) (e : E) → r ≡ Err e → (IsUtf8 bytes → IsOk r)
     → take_frame v bytes ≡ Err NotMessage
 text_refused v bytes r e is succeeds = ap (with_message v bytes) (no_text bytes (λ u. ok_err r e is (succeeds u)))
+
+-- a document that an ask waits for
+pub document_taken : (v : FrontValue) (frame : List ℕ) (id : ℕ) (tree : Branch Told) (method : List ℕ) → down_of frame ≡ Some (reply id (body_data (body.Root tree))) → fits_tree true tree ≡ true
+    → method_of id v.asks ≡ Some method → method ≡ codes "DOM.getDocument" → take_frame v frame ≡ with_root v id frame tree (root_fault tree)
+document_taken v frame id tree method told fits waits is =
+    ap (with_message v frame) told ∙ ap (with_reply v id frame (body_data (body.Root tree))) (waits ∙ ap Some is)
+    ∙ ap (with_body v id frame (codes "DOM.getDocument")) (results_are_read (codes "DOM.getDocument") (body.Root tree) refl fits)

@@ -1,4 +1,4 @@
-ghost use Rattle.std.specs.Prelude.{◌≡◌, ◌+◌, [], ◌∷◌, ◌++◌, option_map, Some, None, Ok, true, IfOk, OnOk};
+ghost use Rattle.std.specs.Prelude.{◌≡◌, ◌+◌, [], ◌∷◌, ◌++◌, option_map, Some, None, Ok, true, IfOk, IfSome, OnOk};
 ghost use Rattle.serde_json.specs.View.{view};
 ghost use Rattle.std.specs.List.{list_all};
 ghost use Rattle.node_tree.specs.Nodes.{none};
@@ -19,7 +19,7 @@ use crate::replies::{Ask, Kept};
 use crate::roots::root_fault;
 use crate::sheets::{KnownSheet, drop_sheet, has_sheet, keep_text, mark_old, new_sheet};
 use cdp_messages::{
-    Down, DownErr, Effect, Event, Header, NodeTree, PauseData, read_down, read_result,
+    Down, DownErr, Effect, Event, Header, NodeTree, PauseData, read_down, read_result, read_root,
 };
 use node_tree::Text;
 use serde_json::Value;
@@ -39,6 +39,16 @@ impl From<AllocError> for FrameErr {
 
     fn from(_error: AllocError) -> FrameErr {
         FrameErr::Memory
+    }
+}
+
+/// Whether a text begins as a reply with a document does, so that no other text is tried as one.
+fn begins_document(text: &str) -> bool {
+    match text.strip_prefix("{\"id\":") {
+        Some(rest) => rest
+            .trim_start_matches(|c: char| c.is_ascii_digit())
+            .starts_with(",\"result\":{\"root\":"),
+        None => false,
     }
 }
 
@@ -79,7 +89,35 @@ impl Known {
         self.take_text(Text::new(text))
     }
 
+    /// A document is read without values in between, where its text is as it is written; all else is read as a value.
     fn take_text(&mut self, frame: Text) -> Result<(), FrameErr>
+        ensures { Takes (value_of self.old) (value_of self.new) result (take_frame (value_of self.old) frame) }
+    {
+        match self.document_in(frame.as_str()) {
+            Some((id, root)) => self.take_root(id, root, frame),
+            None => self.take_value(frame),
+        }
+    }
+
+    /// The document that a text brings, and the id of the ask that waits for it.
+    fn document_in(&self, text: &str) -> Option<(u64, NodeTree)>
+        ensures taken { IfSome result (λ p. take_frame (value_of self.now) text.now
+            ≡ with_root (value_of self.now) p.0 text.now p.1 (root_fault p.1)) }
+        ensures fits { IfSome result (λ p. fits_tree true p.1 ≡ true) }
+    {
+        if !begins_document(text) {
+            return None;
+        }
+        let (id, root) = read_root(self.alloc, text).ok()?;
+        let method = method_of(&self.asks, id)?;
+        if method == "DOM.getDocument" {
+            Some((id, root))
+        } else {
+            None
+        }
+    }
+
+    fn take_value(&mut self, frame: Text) -> Result<(), FrameErr>
         ensures { Takes (value_of self.old) (value_of self.new) result (take_frame (value_of self.old) frame) }
     {
         match read_down(self.alloc, frame.as_str().as_bytes()) {

@@ -35,6 +35,3 @@ pub use mirror::Mirror;
 pub use outline::write_outline;
 pub use pauses::SeenPause;
 pub use replies::{Ask, Kept};
-
-#[cfg(test)]
-mod tests;

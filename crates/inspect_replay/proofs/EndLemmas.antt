@@ -1,9 +1,10 @@
 -- What the calls on the link and on the ends make of a run.
-use Rattle.std.proofs.Common.{◌≡◌, ℕ, ◌+◌, ◌-◌, ◌<◌, ◌^◌, min, List, [], ◌∷◌, ◌++◌, length, take, true, false, not, Option, Some, None, refl, sym, ◌∙◌, ap, subst, Result, arith}
+use Rattle.std.proofs.Common.{◌≡◌, ℕ, suc, ◌+◌, ◌*◌, ◌-◌, ◌<◌, ◌≤◌, ◌^◌, min, List, [], ◌∷◌, ◌++◌, length, take, drop, get_or, drop-cons, add-one, Bool, true, false, not, cond, Ok, Option, Some, None, refl, sym, ◌∙◌, ap, subst, Result, arith}
 use Rattle.std.proofs.lemmas.List.{take_min}
 use Rattle.pipe_frames.specs.Pipe.{Pipe, waiting}
 use Rattle.pipe_frames.specs.Frames.{IsText, Frames, framed, frames_of, frames_from, held_after, continued}
-use Rattle.front_mirror.specs.Front.{FrontState, after_take, after_ask}
+use Rattle.front_mirror.specs.Front.{FrontState, first_value, after_take, after_ask, after_fetch}
+use Rattle.front_mirror.specs.Sheets.{has_sheet, stale_of}
 use Rattle.front_mirror.specs.declared.faults.FrontFault.{FrontFault}
 use Rattle.std.specs.Borrow.{Bor}
 use Rattle.std.specs.Option.{option_copied, option_map}
@@ -19,11 +20,13 @@ use Rattle.replay_script.specs.declared.forms.Ask.{Ask}
 use Rattle.replay_script.specs.Seen.{seen_ask}
 use Rattle.replay_script.specs.Forms.{AskForm}
 use Rattle.cdp_messages.specs.Asked.{command_text, is_whole_where_there}
-use Rattle.inspect_world.specs.Fits.{IsBare, IsNextTurn, HasLeft}
+use Rattle.inspect_world.specs.Fits.{IsBare, IsNextTurn, HasLeft, FitsWith, Fits, most_sheets, most_fetches, replay}
+use Rattle.inspect_world.specs.Fetches.{front_in, fetched, fetched_if, all_fetched, stale_in}
+use Rattle.inspect_world.specs.FreshRuns.{front_fetcher, refreshes}
 use Rattle.inspect_world.specs.Scripts.{sends}
 use Rattle.inspect_world.specs.ScriptsFit.{CanSend}
 use Rattle.inspect_world.specs.Stream.{Stream, passed, arriving, awaited}
-use Rattle.inspect_world.specs.World.{World, raw, turned, answered, given_up, delivered_up, delivered_down, settled}
+use Rattle.inspect_world.specs.World.{World, one_fetch, sent_up, raw, turned, answered, given_up, delivered_up, delivered_down, settled}
 use Rattle.cdp_messages.specs.Moves.{frames_of_moves}
 use Rattle.back_end.specs.declared.seat.Seat.{Seat}
 use Rattle.back_end.specs.declared.side.PageSide.{PageSide}
@@ -34,13 +37,14 @@ use Rattle.inspect_world.specs.Held.{Ends, InWorld}
 use Rattle.inspect_replay.specs.declared.ends.Ends.{Ends as ProgramEnds}
 use Rattle.inspect_replay.specs.declared.stop.Stop.{Stop}
 use Rattle.back_end.specs.Seats.{StandsFor, HasRoomLeft}
-use Rattle.inspect_replay.specs.Runs.{InRunWith, InRun, AnswersOne, AnswersAll, Steps, ends_of}
+use Rattle.inspect_replay.specs.Runs.{InRunWith, InRun, AnswersOne, AnswersAll, Steps, FetchesOne, FetchesAll, ends_of}
 use Rattle.inspect_replay.specs.Moments.{moment}
-use Rattle.inspect_replay.specs.Stops.{NotRefused}
+use Rattle.inspect_replay.specs.Stops.{GoesWell}
 use Rattle.back_end.proofs.SeatLemmas.{on_ok}
 use Rattle.inspect_world.proofs.Worlds.{answered-cons}
 use Rattle.inspect_world.proofs.Pipes.{waiting-is}
-use Rattle.inspect_world.proofs.Ends.{world-sent, world-raw, world-turned, world-answered, world-given_up, world-delivered_down, never-refuses}
+use Rattle.inspect_world.proofs.FetchesFit.{fetched-if-spends, few-then}
+use Rattle.inspect_world.proofs.Ends.{world-room, world-ids, world-sent, world-fetched, world-raw, world-turned, world-answered, world-given_up, world-delivered_down, never-refuses}
 
 -- ---- a step is made
 
@@ -49,7 +53,21 @@ pub room-left : (seat : Seat) (side : PageSide) (state : State) → StandsFor se
 room-left seat side state stands left =
     let next : seat.desk.agent.next ≡ length state.client.session.pushed + 1 = stands.stands.next_is in
     let few : seat.desk.agent.next < 2 ^ 50 = left.ids in
-    record { ids = omega (arith, next, few); serials = subst (λ page. page.next < 2 ^ 50) stands.page_is left.serials }
+    record {
+      ids = omega (arith, next, few);
+      serials = subst (λ page. page.next < 2 ^ 50) stands.page_is left.serials;
+      sheets = subst (λ n. n < 2 ^ 50) stands.next_is left.sheets;
+    }
+
+-- over an honest link the back end has room
+pub has-room : (up0 down0 up down : Pipe) (w : World State) (frames : List (List ℕ)) (e : Ends) → InWorld up0 down0 up down w frames e
+    → (HasRoomLeft e.seat.desk e.side → false ≡ true) → ⊥
+has-room up0 down0 up down w frames e in_world none = let no : false ≡ true = none (world-room up0 down0 up down w frames e in_world) in absurd cc
+
+-- and so has the front end
+pub has-ids : (up0 down0 up down : Pipe) (w : World State) (frames : List (List ℕ)) (e : Ends) → InWorld up0 down0 up down w frames e
+    → w.spent.fetches ≤ most_fetches → ((e.front.next < 2 ^ 30) × (2 ^ 30 + e.front.fetches < 2 ^ 52) → false ≡ true) → ⊥
+has-ids up0 down0 up down w frames e in_world few none = let no : false ≡ true = none (world-ids up0 down0 up down w frames e in_world few) in absurd cc
 
 -- a frame is answered
 pub answered_in : (up0 down0 up down up1 down1 : Pipe) (w : World State) (frame : List ℕ) (frames : List (List ℕ)) (seat seat1 : Seat) (side side1 : PageSide) (e : Ends)
@@ -144,6 +162,27 @@ raw_in up0 down0 up down up1 down1 w e text whole frame bytes there letters bare
     subst (λ pipe. InWorld up0 down0 up1 pipe (raw text w) (whole ++ awaited (raw text w).up) (record e { up_there = there })) (sym same_down)
     (subst (λ frames. InWorld up0 down0 up1 down (raw text w) (frames ++ awaited (raw text w).up) (record e { up_there = there })) (sym none) all)
 
+-- the text of a sheet is fetched
+pub fetched_in : (up0 down0 up down up1 down1 : Pipe) (w : World State) (e : Ends) (sheet : ℕ) (whole : List (List ℕ)) (frame bytes : List ℕ) (there : ℕ) (front1 : FrontState)
+    → sheet < 2 ^ 64 → w.spent.fetches + 1 ≤ most_fetches → InWorld up0 down0 up down w (whole ++ awaited w.up) e → whole ≡ []
+    → frame ≡ framed (front_fetcher.text e.front.fetches sheet) → front1 ≡ after_fetch e.front sheet
+    → bytes ≡ frame → (up1.sent ≡ up.sent ++ bytes) × (up1.given ≡ up.given) → down1 ≡ down → there ≡ e.up_there + length frame
+    → InWorld up0 down0 up1 down1 (sent_up (front_fetcher.text w.spent.fetches sheet) one_fetch w) (whole ++ awaited (sent_up (front_fetcher.text w.spent.fetches sheet) one_fetch w).up)
+    (record e { front = front1; up_there = there })
+fetched_in up0 down0 up down up1 down1 w e sheet whole frame bytes there front1 fits few in_world none frame_is front_is same_bytes sent same_down left =
+    let count : e.front.fetches ≡ w.spent.fetches = ap (λ (f : FrontState). f.fetches) in_world.front_is in
+    let text = front_fetcher.text w.spent.fetches sheet in
+    let after : World State = sent_up text one_fetch w in
+    let framed_is : frame ≡ framed text = frame_is ∙ ap (λ n. framed (front_fetcher.text n sheet)) count in
+    let start : InWorld up0 down0 up down w (awaited w.up) e = subst (λ frames. InWorld up0 down0 up down w (frames ++ awaited w.up) e) none in_world in
+    let all : InWorld up0 down0 up1 down after (awaited after.up) (record e { front = after_fetch e.front sheet; up_there = there }) =
+    world-fetched up0 down0 up down up1 w e sheet there start fits few
+    (sent.0 ∙ ap (λ piece. up.sent ++ piece) (same_bytes ∙ framed_is)) sent.1
+    (left ∙ ap (λ piece. e.up_there + length piece) framed_is) in
+    subst (λ pipe. InWorld up0 down0 up1 pipe after (whole ++ awaited after.up) (record e { front = front1; up_there = there })) (sym same_down)
+    (subst (λ frames. InWorld up0 down0 up1 down after (frames ++ awaited after.up) (record e { front = front1; up_there = there })) (sym none)
+    (subst (λ f. InWorld up0 down0 up1 down after (awaited after.up) (record e { front = f; up_there = there })) (sym front_is) all))
+
 -- ---- bytes come
 
 -- as many bytes as are asked for and are there
@@ -221,7 +260,7 @@ pub answer_turn : {T : Type 0} (result : Result T Stop) (honest honest1 : Type 0
     → Answering honest up0 down0 up down target e
     → e.splitter.whole ≡ frame ∷ s.whole → s.rest ≡ e.splitter.rest
     → AnswersOne (moment honest up down (record e { splitter = s })) (moment honest1 up1 down1 e1) frame result → e1.splitter ≡ s
-    → NotRefused result × OnOk result (Answering honest1 up0 down0 up1 down1 target e1)
+    → GoesWell result × OnOk result (Answering honest1 up0 down0 up1 down1 target e1)
 answer_turn {T} result honest honest1 up0 down0 up down up1 down1 target e e1 s frame going whole rest answers same =
     let w = going.world in
     let start : InWorld up0 down0 up down w (frame ∷ (s.whole ++ awaited w.up)) (ends_of (record e { splitter = s })) =
@@ -240,9 +279,9 @@ pub deliver_goes : {T : Type 0} (result : Result T Stop) (honest honest1 : Type 
     (e e1 : ProgramEnds)
     → InRunWith honest up0 down0 up down (given_up n w) e × (e.splitter.whole ≡ arriving n w.up)
     → AnswersAll (moment honest up down e) (moment honest1 up1 down1 e1) result
-    → NotRefused result × OnOk result (InRun honest1 up0 down0 up1 down1 (delivered_up step n w) e1)
+    → GoesWell result × OnOk result (InRun honest1 up0 down0 up1 down1 (delivered_up step n w) e1)
 deliver_goes result honest honest1 up0 down0 up down up1 down1 w n e e1 run answers =
-    subst (λ frames. NotRefused result × OnOk result (InRun honest1 up0 down0 up1 down1 (answered step frames (given_up n w)) e1)) run.1
+    subst (λ frames. GoesWell result × OnOk result (InRun honest1 up0 down0 up1 down1 (answered step frames (given_up n w)) e1)) run.1
     (answers up0 down0 (given_up n w) run.0)
 
 -- all of the up pipe was delivered, and then all of the down pipe
@@ -251,9 +290,89 @@ pub settle_goes : {T : Type 0} (result : Result T Stop) (honest honest1 : Type 0
     → n ≡ length w.up.flying
     → InRun honest up0 down0 up down (delivered_up step n w) e
     → Steps (moment honest up down e) (moment honest1 up1 down1 e1) result (λ v. delivered_down e.down_there v)
-    → NotRefused result × OnOk result (InRun honest1 up0 down0 up1 down1 (settled step w) e1)
+    → GoesWell result × OnOk result (InRun honest1 up0 down0 up1 down1 (settled step w) e1)
 settle_goes result honest honest1 up0 down0 up down up1 down1 w n e e1 all run steps =
     let same : delivered_down e.down_there (delivered_up step n w) ≡ settled step w =
     ap (λ m. delivered_down m (delivered_up step n w)) run.so_far.in_world.down_left
     ∙ ap (λ m. delivered_down (length (delivered_up step m w).down.flying) (delivered_up step m w)) all in
-    subst (λ v. NotRefused result × OnOk result (InRun honest1 up0 down0 up1 down1 v e1)) same (steps up0 down0 (delivered_up step n w) run)
+    subst (λ v. GoesWell result × OnOk result (InRun honest1 up0 down0 up1 down1 v e1)) same (steps up0 down0 (delivered_up step n w) run)
+
+-- ---- the fetches of a settle
+
+-- the front end of the run is that of the ends
+pub run-front : (honest : Type 0) (up0 down0 up down : Pipe) (w : World State) (e : ProgramEnds) → InRun honest up0 down0 up down w e
+    → front_in replay (first_value []) w ≡ Ok e.front.value
+run-front honest up0 down0 up down w e run =
+    run.so_far.in_world.is_fold ∙ ap (λ (f : FrontState). Ok f.value) (sym run.so_far.in_world.front_is)
+
+-- a sheet is fetched where the front end knows it
+fetched-is : (honest : Type 0) (up0 down0 up down : Pipe) (w : World State) (e : ProgramEnds) (number : ℕ) (known : Bool) → InRun honest up0 down0 up down w e
+    → has_sheet number e.front.value.sheets ≡ known
+    → fetched_if replay front_fetcher (front_in replay (first_value []) w) number w ≡ cond known (fetched replay front_fetcher number w) w
+fetched-is honest up0 down0 up down w e number known run is =
+    ap (λ r. fetched_if replay front_fetcher r number w) (run-front honest up0 down0 up down w e run)
+    ∙ ap (λ b. cond b (fetched replay front_fetcher number w) w) is
+
+pub fetch_known : {T : Type 0} (result : Result T Stop) (honest honest1 : Type 0) (up0 down0 up down up1 down1 : Pipe) (w : World State) (e e1 : ProgramEnds) (number : ℕ)
+    → InRun honest up0 down0 up down w e → has_sheet number e.front.value.sheets ≡ true
+    → GoesWell result × OnOk result (InRun honest1 up0 down0 up1 down1 (fetched replay front_fetcher number w) e1)
+    → GoesWell result × OnOk result (InRun honest1 up0 down0 up1 down1 (fetched_if replay front_fetcher (front_in replay (first_value []) w) number w) e1)
+fetch_known result honest honest1 up0 down0 up down up1 down1 w e e1 number run is goes =
+    subst (λ v. GoesWell result × OnOk result (InRun honest1 up0 down0 up1 down1 v e1)) (sym (fetched-is honest up0 down0 up down w e number true run is)) goes
+
+pub fetch_unknown : (honest : Type 0) (up0 down0 up down : Pipe) (w : World State) (e : ProgramEnds) (number : ℕ)
+    → InRun honest up0 down0 up down w e → has_sheet number e.front.value.sheets ≡ false
+    → InRun honest up0 down0 up down (fetched_if replay front_fetcher (front_in replay (first_value []) w) number w) e
+fetch_unknown honest up0 down0 up down w e number run is =
+    subst (λ v. InRun honest up0 down0 up down v e) (sym (fetched-is honest up0 down0 up down w e number false run is)) run
+
+-- while texts are fetched: where the run is, and that it goes to where it would have gone
+pub record Fetching (honest : Type 0) (up0 down0 up down : Pipe) (target : World State) (numbers : List ℕ) (e : ProgramEnds) : Type 0 where
+  pub world : World State
+  pub in_run : InRun honest up0 down0 up down world e
+  pub few : world.spent.fetches + length numbers ≤ most_fetches
+  pub goes : all_fetched replay front_fetcher (first_value []) numbers world ≡ target
+
+-- the next of them is fetched, or passed over
+next_fetched : {T : Type 0} (result : Result T Stop) (honest honest1 : Type 0) (up0 down0 up down up1 down1 : Pipe) (target : World State) (number : ℕ) (numbers : List ℕ)
+    (e e1 : ProgramEnds)
+    → Fetching honest up0 down0 up down target (number ∷ numbers) e → FetchesOne (moment honest up down e) (moment honest1 up1 down1 e1) number result
+    → GoesWell result × OnOk result (Fetching honest1 up0 down0 up1 down1 target numbers e1)
+next_fetched result honest honest1 up0 down0 up down up1 down1 target number numbers e e1 going fetches =
+    let w = going.world in
+    let few : w.spent.fetches + suc (length numbers) ≤ most_fetches = going.few in
+    let both = fetches up0 down0 w (omega (arith, few)) going.in_run in
+    let after : World State = fetched_if replay front_fetcher (front_in replay (first_value []) w) number w in
+    let spent : after.spent.fetches ≤ w.spent.fetches + 1 = fetched-if-spends (first_value []) number w in
+    (both.0, on_ok result _ _ both.1 (λ run. record { world = after; in_run = run; few = omega (arith, few, spent); goes = going.goes }))
+
+pub fetch_turn : {T : Type 0} (result : Result T Stop) (honest honest1 : Type 0) (up0 down0 up down up1 down1 : Pipe) (target : World State) (numbers : List ℕ) (i number : ℕ)
+    (e e1 : ProgramEnds) → i < length numbers → number ≡ get_or numbers i 0
+    → Fetching honest up0 down0 up down target (drop i numbers) e → FetchesOne (moment honest up down e) (moment honest1 up1 down1 e1) number result
+    → GoesWell result × OnOk result (Fetching honest1 up0 down0 up1 down1 target (drop (i + 1) numbers) e1)
+fetch_turn result honest honest1 up0 down0 up down up1 down1 target numbers i number e e1 h at going fetches =
+    let split : drop i numbers ≡ number ∷ drop (i + 1) numbers = rw (add-one, drop-cons numbers i 0) (ap (λ x. x ∷ drop (suc i) numbers) (sym at)) in
+    next_fetched result honest honest1 up0 down0 up down up1 down1 target number (drop (i + 1) numbers) e e1
+    (subst (λ ns. Fetching honest up0 down0 up down target ns e) split going) fetches
+
+-- no sheet is left
+pub fetch_end : (honest : Type 0) (up0 down0 up down : Pipe) (target : World State) (numbers : List ℕ) (e : ProgramEnds) → numbers ≡ []
+    → Fetching honest up0 down0 up down target numbers e → InRun honest up0 down0 up down target e
+fetch_end honest up0 down0 up down target numbers e none going =
+    subst (λ w. InRun honest up0 down0 up down w e) (sym (ap (λ ns. all_fetched replay front_fetcher (first_value []) ns going.world) none) ∙ going.goes) going.in_run
+
+-- after all was delivered the texts that are old are fetched
+pub refresh_goes : {T : Type 0} (result : Result T Stop) (honest honest0 honest1 : Type 0) (up0 down0 up down up1 down1 up2 down2 : Pipe) (w : World State)
+    (e e1 e2 : ProgramEnds)
+    → HasLeft w.spent 0 → InRun honest up0 down0 up down w e → InRun honest0 up0 down0 up1 down1 (settled step w) e1
+    → FetchesAll (moment honest0 up1 down1 e1) (moment honest1 up2 down2 e2) (stale_of e1.front.value.sheets) result
+    → GoesWell result × OnOk result (InRun honest1 up0 down0 up2 down2 (refreshes front_fetcher w) e2)
+refresh_goes result honest honest0 honest1 up0 down0 up down up1 down1 up2 down2 w e e1 e2 left run run1 fetches =
+    let w1 = settled step w in
+    let front_is : front_in replay (first_value []) w1 ≡ Ok e1.front.value = run-front honest0 up0 down0 up1 down1 w1 e1 run1 in
+    let fits : Fits w1 = subst (λ frames. FitsWith w1 (frames ++ awaited w1.up)) run1.none_whole run1.so_far.in_world.fits in
+    let few : length (stale_of e1.front.value.sheets) ≤ most_sheets = few-then w e1.front.value fits front_is in
+    let room : w.spent.fetches + (0 + 1) * most_sheets ≤ most_fetches = left.fetches in
+    subst (λ numbers. GoesWell result × OnOk result (InRun honest1 up0 down0 up2 down2 (all_fetched replay front_fetcher (first_value []) numbers w1) e2))
+    (sym (ap (stale_in front_fetcher) front_is))
+    (fetches up0 down0 w1 (omega (arith, few, room)) run1)

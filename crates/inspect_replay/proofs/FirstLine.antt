@@ -1,9 +1,7 @@
 -- The first line of a script loads a page.
 use Rattle.std.proofs.Common.{◌≡◌, ℕ, List, Bool, true, false, not, ◌&&◌, Option, Some, None, option_and_then, refl, sym, ◌∙◌, ap}
 use Rattle.serde_json.specs.Data.{Data}
-use Rattle.node_tree.specs.Nodes.{Nodes}
-use Rattle.node_tree.specs.Labels.{Label}
-use Rattle.page_forms.specs.Pages.{page_nodes}
+use Rattle.page_forms.specs.Pages.{LoadedPage, page_in}
 use Rattle.cdp_messages.specs.Asked.{json_of}
 use Rattle.replay_script.specs.declared.line_kinds.LineKind.{LineKind}
 use Rattle.replay_script.specs.declared.line_kinds.LineKind.TheVariants as kind
@@ -14,13 +12,13 @@ use Rattle.replay_script.proofs.FaultLemmas.{json_good, line_good}
 use Rattle.cdp_json.proofs.Options.{map_some}
 use Rattle.inspect_replay.specs.Prints.{load_of}
 
--- a line that loads some nodes
+-- a line that loads a page
 pub record Loads (form : LineForm) : Type 0 where
-  pub nodes : Nodes Label
-  pub is : form ≡ load nodes
+  pub page : LoadedPage
+  pub is : form ≡ load page
 
 loads-by : (k : LineKind) (v : Data) (form : LineForm) → (true && not (is_load k)) ≡ false → form_by k v ≡ Some form → Loads form
-loads-by kind.Load v form first is = let p = map_some load (page_nodes v) form is in record { nodes = p.0; is = sym p.2 }
+loads-by kind.Load v form first is = let p = map_some load (page_in v) form is in record { page = p.0; is = sym p.2 }
 loads-by kind.Act v form first is = absurd cc
 loads-by kind.Ask v form first is = absurd cc
 loads-by kind.Raw v form first is = absurd cc
@@ -42,13 +40,13 @@ first-loads line form good is =
 pub loads-not : (line : List ℕ) (form : LineForm) → line_fault 1 line ≡ None → line_form line ≡ Some form → load_of form ≡ None → ⊥
 loads-not line form good is none =
     let l : Loads form = first-loads line form good is in
-    let no : ◌≡◌ {A = Option (Nodes Label)} None (Some l.nodes) = sym none ∙ ap load_of l.is in
+    let no : ◌≡◌ {A = Option LoadedPage} None (Some l.page) = sym none ∙ ap load_of l.is in
     cc
 
-pub loads-these : (line : List ℕ) (form : LineForm) (nodes : Nodes Label) → line_fault 1 line ≡ None → line_form line ≡ Some form → load_of form ≡ Some nodes
-    → line_form line ≡ Some (load nodes)
-loads-these line form nodes good is some =
+pub loads-these : (line : List ℕ) (form : LineForm) (page : LoadedPage) → line_fault 1 line ≡ None → line_form line ≡ Some form → load_of form ≡ Some page
+    → line_form line ≡ Some (load page)
+loads-these line form page good is some =
     let l : Loads form = first-loads line form good is in
-    let both : ◌≡◌ {A = Option (Nodes Label)} (Some nodes) (Some l.nodes) = sym some ∙ ap load_of l.is in
-    let same : nodes ≡ l.nodes = cc in
+    let both : ◌≡◌ {A = Option LoadedPage} (Some page) (Some l.page) = sym some ∙ ap load_of l.is in
+    let same : page ≡ l.page = cc in
     is ∙ ap (λ f. Some f) l.is ∙ ap (λ n. Some (load n)) (sym same)

@@ -1,5 +1,5 @@
 -- What the calls on the link and on the ends keep over every link.
-use Rattle.std.proofs.Common.{◌≡◌, ◌+◌, ℕ, ◌<◌, ◌^◌, List, [], ◌∷◌, ◌++◌, length, drop, codes, Option, Some, None, false, refl, sym, ◌∙◌, ap, subst, arith, append_assoc, Result, Ok, Err}
+use Rattle.std.proofs.Common.{◌≡◌, ◌+◌, ◌*◌, ◌≤◌, ℕ, suc, ◌<◌, ◌^◌, List, [], ◌∷◌, ◌++◌, length, drop, codes, Option, Some, None, true, false, refl, sym, ◌∙◌, ap, subst, arith, append_assoc, Result, Ok, Err}
 use Rattle.std.proofs.lemmas.List.{drop_all}
 use Rattle.std.specs.Result.{OnOk, IsOk}
 use Rattle.std.specs.Io.KnownBytes.{Appends}
@@ -7,14 +7,14 @@ use Rattle.pipe_frames.specs.Pipe.{Pipe, given_since}
 use Rattle.pipe_frames.specs.Frames.{IsText, Frames, framed, frames_of, held_after, continued}
 use Rattle.pipe_frames.proofs.WholeLemmas.{Appends-nil, Appends-append}
 use Rattle.node_tree.specs.Nodes.{Nodes}
-use Rattle.node_tree.specs.Labels.{Label}
 use Rattle.node_tree.specs.Seen.{Seen}
-use Rattle.page_tree.specs.Forms.{CanLoad}
-use Rattle.page_tree.specs.Pages.{loaded}
-use Rattle.node_binding.specs.Bindings.{empty_from}
+use Rattle.page_tree.specs.Forms.{max_nodes}
+use Rattle.page_forms.specs.Pages.{LoadedPage, CanLoadPage}
+use Rattle.page_forms.specs.Sheets.{max_sheets}
 use Rattle.cdp_messages.specs.Moves.{frames_of_moves}
 use Rattle.cdp_messages.specs.Asked.{command_text}
-use Rattle.front_mirror.specs.Front.{FrontValue, FrontState, first_state, after_take, after_ask}
+use Rattle.front_mirror.specs.Front.{FrontValue, FrontState, first_state, after_take, after_ask, after_fetch}
+use Rattle.inspect_world.specs.FreshRuns.{front_fetcher}
 use Rattle.front_mirror.specs.Outline.{outline_text, seen_line}
 use Rattle.front_mirror.specs.declared.faults.FrontFault.{FrontFault}
 use Rattle.replay_script.specs.Forms.{AskForm}
@@ -24,67 +24,99 @@ use Rattle.back_end.specs.declared.side.PageSide.{PageSide}
 use Rattle.back_end.specs.States.{State, loaded_state}
 use Rattle.back_end.specs.Steps.{Turn, frame_step, turn_step, step, turn}
 use Rattle.back_end.specs.Laws.{IsTurn}
-use Rattle.page_forms.specs.Texts.{HaveTexts}
+use Rattle.page_forms.specs.Texts.{PageHasTexts}
 use Rattle.inspect_world.specs.ScriptsFit.{CanSend}
 use Rattle.inspect_world.specs.Held.{Ends as HeldEnds}
-use Rattle.inspect_world.specs.Links.{Follows, fold_of}
+use Rattle.inspect_world.specs.Links.{Started, started, one_line_more, Follows, fold_of}
 use Rattle.inspect_world.specs.Fits.{ask_in}
-use Rattle.inspect_world.proofs.LinkLemmas.{follows-told, follows-less, follows-start, follows-sends, follows-raw, follows-given_up, follows-answered, follows-turned, follows-delivered_down, follows-refused, follows-fold, follows-replies}
+use Rattle.inspect_world.proofs.Scripts.{fit-first}
+use Rattle.inspect_world.proofs.LinkLemmas.{follows-fewer, front-full, seat-full, follows-told, follows-less, follows-start, follows-sends, follows-fetched, follows-raw, follows-given_up, follows-answered, follows-turned, follows-delivered_down, follows-refused, follows-fold, follows-replies}
 use Rattle.inspect_replay.specs.declared.ends.Ends.{Ends}
 use Rattle.inspect_replay.specs.declared.stop.Stop.{Stop}
-use Rattle.inspect_replay.specs.declared.stop.Stop.TheVariants.{Line, TooLong, ReadFault, WriteFault, LinkFault, FrontRefused, Memory}
+use Rattle.inspect_replay.specs.declared.stop.Stop.TheVariants.{Line, TooLong, ReadFault, WriteFault, LinkFault, FrontRefused, NoRoom, Memory}
 use Rattle.inspect_replay.specs.declared.status.Status.{Status}
 use Rattle.inspect_replay.specs.declared.status.Status.TheVariants as status
-use Rattle.inspect_replay.specs.Says.{Phase, untouched, reading, underway, ended, anywhen, PartRose, Says, says, status_of}
+use Rattle.inspect_replay.specs.Says.{Phase, untouched, reading, underway, ended, anywhen, Lie, PartRose, Says, says, status_of}
 use Rattle.inspect_replay.specs.Answers.{InReadOnly, source_counts, IsInputStop}
 use Rattle.back_end.specs.Seats.{StandsFor, HasRoomLeft}
-use Rattle.inspect_replay.specs.Followed.{GivesNoMore, FoldsAt, fold_since, StatusFolds, StopFolds, EndsShown, AnswersInOrder, FollowsWith, FollowsRun, FollowsAnswer, PrintedSome}
+use Rattle.inspect_replay.specs.Followed.{GivesNoMore, Passed, FoldsAt, fold_since, StatusFolds, StopFolds, EndsShown, AnswersInOrder, FollowsWith, FollowsRun, FollowsAnswer, PrintedSome}
 use Rattle.inspect_replay.specs.Prints.{IsRead, ReadsAt}
 use Rattle.inspect_replay.specs.Runs.{ends_of}
 use Rattle.inspect_replay.specs.Moments.{moment}
-use Rattle.inspect_replay.specs.Stops.{NotRefused}
+use Rattle.inspect_replay.specs.Stops.{GoesWell}
 use Rattle.inspect_replay.proofs.EndLemmas.{room-left}
-use Rattle.inspect_replay.proofs.RunLemmas.{no_frames, first_ends, ends-first, stands-first}
+use Rattle.inspect_replay.proofs.RunLemmas.{no_frames, first_ends, ends-first, IsNewSide, stands-first}
 
 -- ---- stops
 
 -- a stop that is not the front end's, where the fold meets no fault
-pub stop-folds : (stop : Stop) (fold : Result FrontValue FrontFault) → NotRefused {T = Unit {0}} (Err stop) → IsOk fold → StopFolds {T = Unit {0}} (Err stop) fold
-stop-folds (Line number fault) fold never good = good
-stop-folds TooLong fold never good = good
-stop-folds ReadFault fold never good = good
-stop-folds WriteFault fold never good = good
-stop-folds LinkFault fold never good = good
-stop-folds (FrontRefused place kind) fold never good = absurd never
-stop-folds Memory fold never good = tt
+pub stop-folds : (stop : Stop) (passed : Passed) → GoesWell {T = Unit {0}} (Err stop) → IsOk passed.fold → StopFolds {T = Unit {0}} (Err stop) passed
+stop-folds (Line number fault) passed never good = good
+stop-folds TooLong passed never good = good
+stop-folds ReadFault passed never good = good
+stop-folds WriteFault passed never good = good
+stop-folds LinkFault passed never good = good
+stop-folds (FrontRefused place kind) passed never good = absurd never
+stop-folds NoRoom passed never good = absurd never
+stop-folds Memory passed never good = tt
 
 -- the fold of a run that follows meets no fault
-pub follows-good : (state0 : State) (up0 down0 up down : Pipe) (waiting : List (List ℕ)) (e : HeldEnds) → Follows state0 up0 down0 up down waiting e
-    → IsOk (fold_since up0 down0 up down)
+pub follows-good : (state0 : Started) (up0 down0 up down : Pipe) (waiting : List (List ℕ)) (e : HeldEnds) → Follows state0 up0 down0 up down waiting e
+    → IsOk (fold_since up0 down0 up down).fold
 follows-good state0 up0 down0 up down waiting e f = subst IsOk (sym (follows-fold state0 up0 down0 up down waiting e f)) refl
 
-pub run-good : (state0 : State) (up0 down0 up down : Pipe) (e : Ends) → FollowsRun state0 up0 down0 up down e → IsOk (fold_since up0 down0 up down)
+pub run-good : (state0 : Started) (up0 down0 up down : Pipe) (e : Ends) → FollowsRun state0 up0 down0 up down e → IsOk (fold_since up0 down0 up down).fold
 run-good state0 up0 down0 up down e run = follows-good state0 up0 down0 up down e.splitter.whole (ends_of e) run.so_far
 
 -- nothing was sent or given when a call stops
-pub same-stop : (stop : Stop) (state0 : State) (up0 down0 up down up1 down1 : Pipe) (waiting : List (List ℕ)) (e : HeldEnds)
-    → Follows state0 up0 down0 up down waiting e → NotRefused {T = Unit {0}} (Err stop) → up1 ≡ up → down1 ≡ down → StopFolds {T = Unit {0}} (Err stop) (fold_since up0 down0 up1 down1)
+pub same-stop : (stop : Stop) (state0 : Started) (up0 down0 up down up1 down1 : Pipe) (waiting : List (List ℕ)) (e : HeldEnds)
+    → Follows state0 up0 down0 up down waiting e → GoesWell {T = Unit {0}} (Err stop) → up1 ≡ up → down1 ≡ down → StopFolds {T = Unit {0}} (Err stop) (fold_since up0 down0 up1 down1)
 same-stop stop state0 up0 down0 up down up1 down1 waiting e f never same_up same_down =
     stop-folds stop (fold_since up0 down0 up1 down1) never
-    (subst (λ u. IsOk (fold_since up0 down0 u down1)) (sym same_up)
-    (subst (λ d. IsOk (fold_since up0 down0 up d)) (sym same_down) (follows-good state0 up0 down0 up down waiting e f)))
+    (subst (λ u. IsOk (fold_since up0 down0 u down1).fold) (sym same_up)
+    (subst (λ d. IsOk (fold_since up0 down0 up d).fold) (sym same_down) (follows-good state0 up0 down0 up down waiting e f)))
 
 -- ---- what a call keeps
 
 -- it has come through, or not
-pub kept-run : {T : Type 0} (result : Result T Stop) (state0 : State) (up0 down0 up down : Pipe) (e : Ends) → NotRefused result → FollowsRun state0 up0 down0 up down e
+pub kept-run : {T : Type 0} (result : Result T Stop) (state0 : Started) (up0 down0 up down : Pipe) (e : Ends) → GoesWell result → FollowsRun state0 up0 down0 up down e
     → OnOk result (FollowsRun state0 up0 down0 up down e) × StopFolds result (fold_since up0 down0 up down)
 kept-run (Ok value) state0 up0 down0 up down e never run = (run, run-good state0 up0 down0 up down e run)
 kept-run (Err stop) state0 up0 down0 up down e never run = (tt, stop-folds stop (fold_since up0 down0 up down) never (run-good state0 up0 down0 up down e run))
 
+-- a line that makes no step of the script
+pub run-fewer : (state0 : Started) (up0 down0 up down : Pipe) (e : Ends) → FollowsRun (one_line_more state0) up0 down0 up down e → FollowsRun state0 up0 down0 up down e
+run-fewer state0 up0 down0 up down e run =
+    record { so_far = follows-fewer state0 up0 down0 up down e.splitter.whole (ends_of e) run.so_far; none_whole = run.none_whole }
+
+-- the line that comes next is one of those that are left
+pub run-line : (state0 : State) (up0 down0 up down : Pipe) (e : Ends) (lines : List (List ℕ)) (line : List ℕ) (more : List (List ℕ)) → lines ≡ line ∷ more
+    → FollowsRun (started state0 (length lines)) up0 down0 up down e → FollowsRun (one_line_more (started state0 (length more))) up0 down0 up down e
+run-line state0 up0 down0 up down e lines line more is run =
+    let count : length lines ≡ suc (length more) = ap length is in
+    let plus : length lines ≡ length more + 1 = omega (arith, count) in
+    subst (λ n. FollowsRun (started state0 n) up0 down0 up down e) plus run
+
+-- and then none is left
+pub run-last : (state0 : State) (up0 down0 up down : Pipe) (e : Ends) (lines : List (List ℕ)) → lines ≡ []
+    → FollowsRun (started state0 (length lines)) up0 down0 up down e → FollowsRun (started state0 0) up0 down0 up down e
+run-last state0 up0 down0 up down e lines none run = subst (λ (ls : List (List ℕ)). FollowsRun (started state0 (length ls)) up0 down0 up down e) none run
+
+-- where the front end has no id left, the call stops
+pub front-stops : (state0 : Started) (up0 down0 up down : Pipe) (e : Ends) → FollowsRun state0 up0 down0 up down e
+    → ((e.front.next < 2 ^ 30) × (2 ^ 30 + e.front.fetches < 2 ^ 52) → false ≡ true) → StopFolds {T = Unit {0}} (Err NoRoom) (fold_since up0 down0 up down)
+front-stops state0 up0 down0 up down e run none =
+    (run-good state0 up0 down0 up down e run, front-full state0 up0 down0 up down e.splitter.whole (ends_of e) run.so_far none)
+
+-- or the back end
+pub seat-stops : (state0 : Started) (up0 down0 up down : Pipe) (waiting : List (List ℕ)) (e : HeldEnds) → Follows state0 up0 down0 up down waiting e
+    → (HasRoomLeft e.seat.desk e.side → false ≡ true) → StopFolds {T = Unit {0}} (Err NoRoom) (fold_since up0 down0 up down)
+seat-stops state0 up0 down0 up down waiting e f none =
+    (follows-good state0 up0 down0 up down waiting e f, seat-full state0 up0 down0 up down waiting e f none)
+
 -- ---- the link and the ends
 
-pub asked-follows : (state0 : State) (up0 down0 up down up1 down1 : Pipe) (e : HeldEnds) (a : AskForm) (waiting : List (List ℕ)) (frame bytes : List ℕ) (there : ℕ) (front1 : FrontState)
+pub asked-follows : (state0 : Started) (up0 down0 up down up1 down1 : Pipe) (e : HeldEnds) (a : AskForm) (waiting : List (List ℕ)) (frame bytes : List ℕ) (there : ℕ) (front1 : FrontState)
     → CanSend a → e.front.next < 2 ^ 30 → Follows state0 up0 down0 up down waiting e → there ≡ e.up_there + length frame
     → frame ≡ framed (command_text e.front.next a.method a.params a.session) → front1 ≡ after_ask e.front a.method
     → bytes ≡ frame → (up1.sent ≡ up.sent ++ bytes) × (up1.given ≡ up.given) → down1 ≡ down
@@ -97,8 +129,21 @@ asked-follows state0 up0 down0 up down up1 down1 e a waiting frame bytes there f
     subst (λ pipe. Follows state0 up0 down0 up1 pipe waiting (record e { front = front1; up_there = there })) (sym same_down)
     (subst (λ s. Follows state0 up0 down0 up1 down waiting (record e { front = s; up_there = there })) (sym front_is) all)
 
+-- the text of a sheet is fetched
+pub fetched-follows : (state0 : Started) (up0 down0 up down up1 down1 : Pipe) (e : HeldEnds) (sheet : ℕ) (waiting : List (List ℕ)) (frame bytes : List ℕ) (there : ℕ) (front1 : FrontState)
+    → sheet < 2 ^ 64 → 2 ^ 30 + e.front.fetches < 2 ^ 52 → Follows state0 up0 down0 up down waiting e → there ≡ e.up_there + length frame
+    → frame ≡ framed (front_fetcher.text e.front.fetches sheet) → front1 ≡ after_fetch e.front sheet
+    → bytes ≡ frame → (up1.sent ≡ up.sent ++ bytes) × (up1.given ≡ up.given) → down1 ≡ down
+    → Follows state0 up0 down0 up1 down1 waiting (record e { front = front1; up_there = there })
+fetched-follows state0 up0 down0 up down up1 down1 e sheet waiting frame bytes there front1 fits room f left frame_is front_is same_bytes sent same_down =
+    let all : Follows state0 up0 down0 up1 down waiting (record e { front = after_fetch e.front sheet; up_there = there }) =
+    follows-fetched state0 up0 down0 up down up1 waiting e sheet there f fits room (left ∙ ap (λ bytes. e.up_there + length bytes) frame_is)
+    (sent.0 ∙ ap (λ piece. up.sent ++ piece) (same_bytes ∙ frame_is)) sent.1 in
+    subst (λ pipe. Follows state0 up0 down0 up1 pipe waiting (record e { front = front1; up_there = there })) (sym same_down)
+    (subst (λ s. Follows state0 up0 down0 up1 down waiting (record e { front = s; up_there = there })) (sym front_is) all)
+
 -- a frame is sent that names no ask
-pub raw-follows : (state0 : State) (up0 down0 up down up1 down1 : Pipe) (e : HeldEnds) (text : List ℕ) (waiting : List (List ℕ)) (frame bytes : List ℕ) (there : ℕ)
+pub raw-follows : (state0 : Started) (up0 down0 up down up1 down1 : Pipe) (e : HeldEnds) (text : List ℕ) (waiting : List (List ℕ)) (frame bytes : List ℕ) (there : ℕ)
     → IsText text → ask_in text ≡ None → Follows state0 up0 down0 up down waiting e → there ≡ e.up_there + length frame
     → frame ≡ framed text → bytes ≡ frame → (up1.sent ≡ up.sent ++ bytes) × (up1.given ≡ up.given) → down1 ≡ down
     → Follows state0 up0 down0 up1 down1 waiting (record e { up_there = there })
@@ -109,7 +154,7 @@ raw-follows state0 up0 down0 up down up1 down1 e text waiting frame bytes there 
     subst (λ pipe. Follows state0 up0 down0 up1 pipe waiting (record e { up_there = there })) (sym same_down) all
 
 -- bytes came up, and were cut into frames
-pub given-follows : (state0 : State) (up0 down0 up down up1 down1 : Pipe) (e : HeldEnds) (s s1 : Frames) (piece bytes : List ℕ) (there : ℕ)
+pub given-follows : (state0 : Started) (up0 down0 up down up1 down1 : Pipe) (e : HeldEnds) (s s1 : Frames) (piece bytes : List ℕ) (there : ℕ)
     → Follows state0 up0 down0 up down s.whole (record e { back_rest = s.rest }) → there + length bytes ≡ e.up_there → (up1.sent ≡ up.sent) × (up1.given ≡ up.given ++ bytes) → down1 ≡ down
     → piece ≡ bytes → s1 ≡ continued s piece
     → Follows state0 up0 down0 up1 down1 s1.whole (record e { back_rest = s1.rest; up_there = there })
@@ -121,7 +166,7 @@ given-follows state0 up0 down0 up down up1 down1 e s s1 piece bytes there f left
     (subst (λ (x : Frames). Follows state0 up0 down0 up1 down x.whole (record e { back_rest = x.rest; up_there = there })) now all)
 
 -- a frame was answered
-pub answered-follows : (state0 : State) (up0 down0 up down up1 down1 : Pipe) (frame : List ℕ) (frames : List (List ℕ)) (seat seat1 : Seat) (side side1 : PageSide) (e : HeldEnds)
+pub answered-follows : (state0 : Started) (up0 down0 up down up1 down1 : Pipe) (frame : List ℕ) (frames : List (List ℕ)) (seat seat1 : Seat) (side side1 : PageSide) (e : HeldEnds)
     (old out bytes : List ℕ) (there : ℕ)
     → Follows state0 up0 down0 up down (frame ∷ frames) (record e { seat = seat; side = side }) → there ≡ e.down_there + length out
     → HasRoomLeft seat.desk side
@@ -138,9 +183,9 @@ answered-follows state0 up0 down0 up down up1 down1 frame frames seat seat1 side
     subst (λ pipe. Follows state0 up0 down0 pipe down1 frames (record e { seat = seat1; side = side1; down_there = there })) (sym same_up) all
 
 -- the script made a step by itself
-pub turned-follows : (state0 : State) (up0 down0 up down up1 down1 : Pipe) (x : Turn) (waiting : List (List ℕ)) (seat seat1 : Seat) (side side1 : PageSide) (e : HeldEnds)
+pub turned-follows : (state0 : Started) (up0 down0 up down up1 down1 : Pipe) (x : Turn) (waiting : List (List ℕ)) (seat seat1 : Seat) (side side1 : PageSide) (e : HeldEnds)
     (old out bytes : List ℕ) (there : ℕ)
-    → Follows state0 up0 down0 up down waiting (record e { seat = seat; side = side }) → there ≡ e.down_there + length out
+    → Follows (one_line_more state0) up0 down0 up down waiting (record e { seat = seat; side = side }) → there ≡ e.down_there + length out
     → HasRoomLeft seat.desk side → IsTurn x
     → ((state : State) → StandsFor seat side state → StandsFor seat1 side1 (turn_step x state).state)
     → ((state : State) → StandsFor seat side state → out ≡ old ++ frames_of_moves (turn_step x state).moves)
@@ -155,7 +200,7 @@ turned-follows state0 up0 down0 up down up1 down1 x waiting seat seat1 side side
     subst (λ pipe. Follows state0 up0 down0 pipe down1 waiting (record e { seat = seat1; side = side1; down_there = there })) (sym same_up) all
 
 -- bytes came down, and the front end refused none of the messages
-pub delivered-follows : (state0 : State) (up0 down0 up down up1 down1 : Pipe) (waiting : List (List ℕ)) (e : HeldEnds) (piece bytes : List ℕ) (there : ℕ) (front1 : FrontState)
+pub delivered-follows : (state0 : Started) (up0 down0 up down up1 down1 : Pipe) (waiting : List (List ℕ)) (e : HeldEnds) (piece bytes : List ℕ) (there : ℕ) (front1 : FrontState)
     → Follows state0 up0 down0 up down waiting e → there + length bytes ≡ e.down_there → (down1.sent ≡ down.sent) × (down1.given ≡ down.given ++ bytes) → up1 ≡ up
     → piece ≡ bytes → front1 ≡ after_take e.front piece → front1.fault ≡ None
     → Follows state0 up0 down0 up1 down1 waiting (record e { front = front1; down_there = there })
@@ -167,17 +212,17 @@ delivered-follows state0 up0 down0 up down up1 down1 waiting e piece bytes there
     (subst (λ s. Follows state0 up0 down0 up down1 waiting (record e { front = s; down_there = there })) (sym now) all)
 
 -- or it refused one
-pub refused-folds : (state0 : State) (up0 down0 up down up1 down1 : Pipe) (waiting : List (List ℕ)) (e : HeldEnds) (piece bytes : List ℕ) (front1 : FrontState) (fault : FrontFault)
+pub refused-folds : (state0 : Started) (up0 down0 up down up1 down1 : Pipe) (waiting : List (List ℕ)) (e : HeldEnds) (piece bytes : List ℕ) (front1 : FrontState) (fault : FrontFault)
     → Follows state0 up0 down0 up down waiting e → (down1.sent ≡ down.sent) × (down1.given ≡ down.given ++ bytes) → up1 ≡ up
     → piece ≡ bytes → front1 ≡ after_take e.front piece → front1.fault ≡ Some fault
-    → fold_since up0 down0 up1 down1 ≡ Err fault
+    → (fold_since up0 down0 up1 down1).fold ≡ Err fault
 refused-folds state0 up0 down0 up down up1 down1 waiting e piece bytes front1 fault f moved same_up same_bytes front_is bad =
     let now : front1 ≡ after_take e.front bytes = front_is ∙ ap (after_take e.front) same_bytes in
-    ap (λ pipe. fold_since up0 down0 pipe down1) same_up
+    ap (λ pipe. (fold_since up0 down0 pipe down1).fold) same_up
     ∙ follows-refused state0 up0 down0 up down down1 waiting e bytes fault f moved.0 moved.1 (sym (ap (λ (s : FrontState). s.fault) now) ∙ bad)
 
 -- the next frame is answered, before those that the splitter holds
-pub follow_turn : {T : Type 0} (result : Result T Stop) (state0 : State) (up0 down0 up down up1 down1 : Pipe) (e e1 : Ends) (s : Frames) (frame : List ℕ)
+pub follow_turn : {T : Type 0} (result : Result T Stop) (state0 : Started) (up0 down0 up down up1 down1 : Pipe) (e e1 : Ends) (s : Frames) (frame : List ℕ)
     → FollowsWith state0 up0 down0 up down e → e.splitter.whole ≡ frame ∷ s.whole → s.rest ≡ e.splitter.rest
     → FollowsAnswer (moment (Unit {0}) up down (record e { splitter = s })) (moment (Unit {0}) up1 down1 e1) frame result
     → OnOk result (FollowsWith state0 up0 down0 up1 down1 e1) × StopFolds result (fold_since up0 down0 up1 down1)
@@ -187,8 +232,8 @@ follow_turn result state0 up0 down0 up down up1 down1 e e1 s frame f whole rest 
     (subst (λ frames. Follows state0 up0 down0 up down frames (ends_of e)) whole f))
 
 -- no frame is left
-pub follow_end : (state0 : State) (up0 down0 up down : Pipe) (e : Ends) (s : Frames) → FollowsWith state0 up0 down0 up down e → s ≡ e.splitter → s.whole ≡ []
-    → FollowsRun state0 up0 down0 up down (record e { splitter = s }) × IsOk (fold_since up0 down0 up down)
+pub follow_end : (state0 : Started) (up0 down0 up down : Pipe) (e : Ends) (s : Frames) → FollowsWith state0 up0 down0 up down e → s ≡ e.splitter → s.whole ≡ []
+    → FollowsRun state0 up0 down0 up down (record e { splitter = s }) × IsOk (fold_since up0 down0 up down).fold
 follow_end state0 up0 down0 up down e s f same none = (
   record {
     so_far = subst (λ (x : Frames). FollowsWith state0 up0 down0 up down (record e { splitter = x })) (sym same) f;
@@ -199,7 +244,7 @@ follow_end state0 up0 down0 up down e s f same none = (
 
 -- ---- what is told and printed
 
-pub told-run : (state0 : State) (up0 down0 up down : Pipe) (e e1 : Ends) (n : ℕ) → e1 ≡ record e { told = n } → FollowsRun state0 up0 down0 up down e
+pub told-run : (state0 : Started) (up0 down0 up down : Pipe) (e e1 : Ends) (n : ℕ) → e1 ≡ record e { told = n } → FollowsRun state0 up0 down0 up down e
     → FollowsRun state0 up0 down0 up down e1
 told-run state0 up0 down0 up down e e1 n is run =
     subst (λ x. FollowsRun state0 up0 down0 up down x) (sym is)
@@ -217,8 +262,8 @@ pub more-printed : (before middle after : Option (List ℕ)) → PrintedSome bef
 more-printed before middle after a b = record { written = a.written ++ b.written; printed = Appends-append before middle after a.written b.written a.printed b.printed }
 
 -- the closing part, where it was printed
-pub closes-shown : (result : Result (Unit {0}) Stop) (state0 : State) (up0 down0 up down : Pipe) (before after : Option (List ℕ)) (e : Ends) (tree : Nodes Seen)
-    → FollowsRun state0 up0 down0 up down e → tree ≡ e.front.value.tree → NotRefused result
+pub closes-shown : (result : Result (Unit {0}) Stop) (state0 : Started) (up0 down0 up down : Pipe) (before after : Option (List ℕ)) (e : Ends) (tree : Nodes Seen)
+    → FollowsRun state0 up0 down0 up down e → tree ≡ e.front.value.tree → GoesWell result
     → OnOk result (Appends before after (codes "# end" ++ 10 ∷ outline_text seen_line tree))
     → OnOk result (EndsShown before after (fold_since up0 down0 up down) × AnswersInOrder up0 down0 up down × GivesNoMore up0 down0 up down) × StopFolds result (fold_since up0 down0 up down)
 closes-shown (Ok value) state0 up0 down0 up down before after e tree run shows never printed = (
@@ -237,8 +282,8 @@ closes-shown (Ok value) state0 up0 down0 up down before after e tree run shows n
 closes-shown (Err stop) state0 up0 down0 up down before after e tree run shows never printed = (tt, stop-folds stop (fold_since up0 down0 up down) never (run-good state0 up0 down0 up down e run))
 
 -- after what was printed before
-ends-after : (before middle after : Option (List ℕ)) (fold : Result FrontValue FrontFault) → PrintedSome before middle → EndsShown middle after fold → EndsShown before after fold
-ends-after before middle after fold some shown =
+ends-after : (before middle after : Option (List ℕ)) (passed : Passed) → PrintedSome before middle → EndsShown middle after passed → EndsShown before after passed
+ends-after before middle after passed some shown =
     let head = codes "# end" in
     let outline = 10 ∷ outline_text seen_line shown.value.tree in
     let same : ((some.written ++ shown.written) ++ head) ++ outline ≡ some.written ++ ((shown.written ++ head) ++ outline) =
@@ -269,7 +314,7 @@ no-more (Err stop) before after up0 down0 up down all = tt
 -- ---- the start and the end
 
 -- nothing was sent or given yet
-pub start-good : (up down : Pipe) → IsOk (fold_since up down up down)
+pub start-good : (up down : Pipe) → IsOk (fold_since up down up down).fold
 unfolding frames_of
 start-good up down =
     let none : (bytes : List ℕ) → drop (length bytes) bytes ≡ [] = λ bytes. drop_all (length bytes) bytes (omega arith) in
@@ -277,46 +322,50 @@ start-good up down =
     subst (λ bytes. IsOk (fold_of bytes (given_since down down))) (sym (none up.sent))
     (subst (λ bytes. IsOk (fold_of [] bytes)) (sym (none down.given)) folds)
 
-pub run-first : (up down : Pipe) (nodes : Nodes Label) (e : Ends) → CanLoad nodes → HaveTexts nodes
-    → e.side.page ≡ loaded 1 nodes → e.seat.desk.is_on ≡ false → e.seat.desk.agent ≡ empty_from 1 → e.splitter ≡ no_frames → e.front ≡ first_state
-    → e.up_there ≡ 0 → e.down_there ≡ 0 → e.told ≡ 0
-    → FollowsRun (loaded_state nodes) up down up down e
-run-first up down nodes e can texts page_is off agent_is splitter_is front_is up_none down_none told_none =
+pub run-first : (up down : Pipe) (page : LoadedPage) (lines : ℕ) (e : Ends) → CanLoadPage page → PageHasTexts page → lines ≤ 2 ^ 26 → IsNewSide e.seat e.side page
+    → e.splitter ≡ no_frames → e.front ≡ first_state → e.up_there ≡ 0 → e.down_there ≡ 0 → e.told ≡ 0
+    → FollowsRun (started (loaded_state page) lines) up down up down e
+run-first up down page lines e can texts few new splitter_is front_is up_none down_none told_none =
+    let start : Started = started (loaded_state page) lines in
     let same : ends_of e ≡ first_ends e.seat e.side = ends-first e splitter_is front_is up_none down_none told_none in
     let none : e.splitter.whole ≡ [] = ap (λ (f : Frames). f.whole) splitter_is in
+    let fit = fit-first page can texts in
+    let drawn : length (loaded_state page).client.session.pushed + 0 * max_nodes ≤ 0 * max_nodes = fit.drawn in
+    let serials : (loaded_state page).side.page.next + 0 * (max_nodes + 1) ≤ (0 + 1) * (max_nodes + 1) = fit.serials in
+    let numbers : (loaded_state page).side.next_sheet + 0 * max_sheets ≤ (0 + 1) * max_sheets + 1 = fit.numbers in
     record {
-      so_far = subst (λ h. Follows (loaded_state nodes) up down up down e.splitter.whole h) (sym same)
-          (subst (λ frames. Follows (loaded_state nodes) up down up down frames (first_ends e.seat e.side)) (sym none)
-          (follows-start up down (loaded_state nodes) e.seat e.side (stands-first nodes e.seat e.side can texts page_is off agent_is)));
+      so_far = subst (λ h. Follows start up down up down e.splitter.whole h) (sym same)
+          (subst (λ frames. Follows start up down up down frames (first_ends e.seat e.side)) (sym none)
+          (follows-start up down start e.seat e.side (stands-first page e.seat e.side can texts new) few (omega (arith, drawn)) (omega (arith, serials)) (omega (arith, numbers))));
       none_whole = none;
     }
 
 -- a line that is not read
-pub read-folds : (stop : Stop) (number : ℕ) (bad : Option LineFault) (fold : Result FrontValue FrontFault) → IsRead {T = Unit {0}} (Err stop) number bad → IsOk fold
-    → StopFolds {T = Unit {0}} (Err stop) fold
-read-folds stop number bad fold read good = let s : Says = says (status_of stop) in at-line s.phase s.message s.line read
+pub read-folds : (stop : Stop) (number : ℕ) (bad : Option LineFault) (passed : Passed) → IsRead {T = Unit {0}} (Err stop) number bad → IsOk passed.fold
+    → StopFolds {T = Unit {0}} (Err stop) passed
+read-folds stop number bad passed read good = let s : Says = says (status_of stop) in at-line s.phase s.lie s.line read
   where
-    at-line : (phase : Phase) (message : Option FrontFault) (line : Option (ℕ × LineFault)) → ReadsAt phase line number bad → FoldsAt phase message fold
-    at-line untouched message line read = absurd read
-    at-line reading message line read = absurd read
-    at-line underway message line read = absurd read
-    at-line ended message line read = good
-    at-line anywhen message line read = tt
+    at-line : (phase : Phase) (lie : Option Lie) (line : Option (ℕ × LineFault)) → ReadsAt phase line number bad → FoldsAt phase lie passed
+    at-line untouched lie line read = absurd read
+    at-line reading lie line read = absurd read
+    at-line underway lie line read = absurd read
+    at-line ended lie line read = good
+    at-line anywhen lie line read = tt
 
 -- the status that a stop is
-pub status-folds : (stop : Stop) (status : Status) (fold : Result FrontValue FrontFault) → status ≡ status_of stop → StopFolds {T = Unit {0}} (Err stop) fold → StatusFolds status fold
-status-folds stop status fold is folds = subst (λ s. StatusFolds s fold) (sym is) folds
+pub status-folds : (stop : Stop) (status : Status) (passed : Passed) → status ≡ status_of stop → StopFolds {T = Unit {0}} (Err stop) passed → StatusFolds status passed
+status-folds stop status passed is folds = subst (λ s. StatusFolds s passed) (sym is) folds
 
 -- an input that is not read
-pub input-folds : (stop : Stop) (before after : ℕ) (fold : Result FrontValue FrontFault) → IsInputStop before after (Err stop) → IsOk fold → StopFolds {T = Unit {0}} (Err stop) fold
-input-folds stop before after fold is good = let s : Says = says (status_of stop) in at-input s.phase s.message (PartRose (source_counts before after) s.failed) is
+pub input-folds : (stop : Stop) (before after : ℕ) (passed : Passed) → IsInputStop before after (Err stop) → IsOk passed.fold → StopFolds {T = Unit {0}} (Err stop) passed
+input-folds stop before after passed is good = let s : Says = says (status_of stop) in at-input s.phase s.lie (PartRose (source_counts before after) s.failed) is
   where
-    at-input : (phase : Phase) (message : Option FrontFault) (P : Type 0) → InReadOnly phase P → FoldsAt phase message fold
-    at-input untouched message P is = absurd is
-    at-input reading message P is = good
-    at-input underway message P is = absurd is
-    at-input ended message P is = absurd is
-    at-input anywhen message P is = tt
+    at-input : (phase : Phase) (lie : Option Lie) (P : Type 0) → InReadOnly phase P → FoldsAt phase lie passed
+    at-input untouched lie P is = absurd is
+    at-input reading lie P is = good
+    at-input underway lie P is = absurd is
+    at-input ended lie P is = absurd is
+    at-input anywhen lie P is = tt
 
 -- a stop is not the end
 pub never-done : (stop : Stop) (s : Status) → s ≡ status_of stop → s ≡ status.Done → ⊥
@@ -329,4 +378,5 @@ never-done stop s is done = by-stop stop (sym is ∙ done)
     by-stop WriteFault e = cc
     by-stop LinkFault e = cc
     by-stop (FrontRefused place kind) e = cc
+    by-stop NoRoom e = cc
     by-stop Memory e = cc

@@ -6,3 +6,4 @@ pub mod AnswerLemmas
 pub mod PageLemmas
 pub mod ServeLemmas
 pub mod ServeEnds
+pub mod SheetLineLemmas

@@ -9,12 +9,12 @@ use Rattle.pipe_frames.proofs.WholeLemmas.{Appends-nil, WrotePart-all, WrotePart
 use Rattle.inspect_replay.specs.declared.status.Status.{Status}
 use Rattle.inspect_replay.specs.declared.status.Status.TheVariants as status
 use Rattle.inspect_replay.specs.declared.stop.Stop.{Stop}
-use Rattle.inspect_replay.specs.declared.stop.Stop.TheVariants.{Line, TooLong, ReadFault, WriteFault, LinkFault, FrontRefused, Memory}
+use Rattle.inspect_replay.specs.declared.stop.Stop.TheVariants.{Line, TooLong, ReadFault, WriteFault, LinkFault, FrontRefused, NoRoom, Memory}
 use Rattle.std.specs.Result.{IsOk, IsErrAnd}
 use Rattle.std.proofs.lemmas.Result.{err_from_is_err_and}
 use Rattle.front_mirror.specs.declared.faults.FrontFault.{FrontFault}
 use Rattle.front_mirror.specs.Front.{FrontValue}
-use Rattle.inspect_replay.specs.Followed.{StatusFolds}
+use Rattle.inspect_replay.specs.Followed.{Passed, StatusFolds}
 use Rattle.inspect_replay.specs.Answers.{StatusRose}
 use Rattle.inspect_replay.specs.Says.{Counts, PartRose, status_of}
 use Rattle.inspect_replay.specs.Serving.{served, ServeCall, ServedRead, ServedAll, ServedLimit, ServeTook, IsServeStatus, ServeMoment, SoFar, with_more, Serves, PieceRead, PieceAnswered, PieceInPart, PieceServed, EndIsMet, ReadAnswered, PartAnswered, EndAnswered, LimitAnswered, FaultAnswered, HasServed, WriteRose, HasWriteCause, ServeRose, HasServeCause}
@@ -90,6 +90,7 @@ loop-stopped before left after start now new came most ReadFault s p room = reco
 loop-stopped before left after start now new came most WriteFault s p room = loop-part before left after start now new came most s p room
 loop-stopped before left after start now new came most LinkFault s p room = absurd p
 loop-stopped before left after start now new came most (FrontRefused place fault) s p room = absurd p
+loop-stopped before left after start now new came most NoRoom s p room = absurd p
 loop-stopped before left after start now new came most Memory s p room = loop-part before left after start now new came most s p room
 
 -- as many came as an input may have
@@ -127,6 +128,7 @@ loop-full before left after start now came (Err ReadFault) s full met = record {
 loop-full before left after start now came (Err WriteFault) s full met = absurd met
 loop-full before left after start now came (Err LinkFault) s full met = absurd met
 loop-full before left after start now came (Err (FrontRefused place fault)) s full met = absurd met
+loop-full before left after start now came (Err NoRoom) s full met = absurd met
 loop-full before left after start now came (Err Memory) s full met = absurd met
 
 -- ---- causes
@@ -140,6 +142,7 @@ write-rose-before start before after (Err ReadFault) low rose = rose
 write-rose-before start before after (Err WriteFault) low rose = Rose-before start before after low rose
 write-rose-before start before after (Err LinkFault) low rose = rose
 write-rose-before start before after (Err (FrontRefused place fault)) low rose = rose
+write-rose-before start before after (Err NoRoom) low rose = rose
 write-rose-before start before after (Err Memory) low rose = tt
 
 pub serve-rose-before : {T : Type 0} (c d : Counts) (result : Result T Stop) → c.source_before ≤ d.source_before → c.sink_before ≤ d.sink_before
@@ -153,6 +156,7 @@ serve-rose-before c d (Err WriteFault) low low_sink same same_sink rose =
     subst (λ n. Rose c.sink_before n) same_sink (Rose-before c.sink_before d.sink_before d.sink_after low_sink rose)
 serve-rose-before c d (Err LinkFault) low low_sink same same_sink rose = rose
 serve-rose-before c d (Err (FrontRefused place fault)) low low_sink same same_sink rose = rose
+serve-rose-before c d (Err NoRoom) low low_sink same same_sink rose = rose
 serve-rose-before c d (Err Memory) low low_sink same same_sink rose = tt
 
 -- what a stop that is a status says of causes
@@ -163,6 +167,7 @@ stop-rose c ReadFault rose = rose
 stop-rose c WriteFault rose = rose
 stop-rose c LinkFault rose = absurd rose
 stop-rose c (FrontRefused place fault) rose = absurd rose
+stop-rose c NoRoom rose = absurd rose
 stop-rose c Memory rose = tt
 
 -- ---- the whole call
@@ -265,6 +270,7 @@ stop-served ReadFault input call is p = fault-took input call is p
 stop-served WriteFault input call is p = part-took input call is p
 stop-served LinkFault input call is p = absurd p
 stop-served (FrontRefused place fault) input call is p = absurd p
+stop-served NoRoom input call is p = absurd p
 stop-served Memory input call is p = part-took input call is p
 
 pub stop-status : (stop : Stop) (call : ServeCall) → HasServed {T = Unit {0}} call (Err stop) → IsServeStatus (status_of stop)
@@ -274,6 +280,7 @@ stop-status ReadFault call p = tt
 stop-status WriteFault call p = tt
 stop-status LinkFault call p = absurd p
 stop-status (FrontRefused place fault) call p = absurd p
+stop-status NoRoom call p = absurd p
 stop-status Memory call p = tt
 
 -- at most one byte more than an input may have was read
@@ -295,16 +302,18 @@ served-reads call (Err ReadFault) p = answered-reads call p.bytes [] p.answered 
 served-reads call (Err WriteFault) p = part-reads call p
 served-reads call (Err LinkFault) p = absurd p
 served-reads call (Err (FrontRefused place fault)) p = absurd p
+served-reads call (Err NoRoom) p = absurd p
 served-reads call (Err Memory) p = part-reads call p
 
 -- an answer of serving says nothing of a front end
-pub serve-folds : (s : Status) (fold : Result FrontValue FrontFault) → IsServeStatus s → IsOk fold → StatusFolds s fold
-serve-folds status.Done fold is good = good
-serve-folds status.Usage fold is good = absurd is
-serve-folds (status.Line number fault) fold is good = absurd is
-serve-folds status.TooLong fold is good = good
-serve-folds status.ReadFault fold is good = good
-serve-folds status.WriteFault fold is good = good
-serve-folds status.LinkFault fold is good = absurd is
-serve-folds (status.FrontRefused place kind) fold is good = absurd is
-serve-folds status.Memory fold is good = tt
+pub serve-folds : (s : Status) (passed : Passed) → IsServeStatus s → IsOk passed.fold → StatusFolds s passed
+serve-folds status.Done passed is good = good
+serve-folds status.Usage passed is good = absurd is
+serve-folds (status.Line number fault) passed is good = absurd is
+serve-folds status.TooLong passed is good = good
+serve-folds status.ReadFault passed is good = good
+serve-folds status.WriteFault passed is good = good
+serve-folds status.LinkFault passed is good = absurd is
+serve-folds (status.FrontRefused place kind) passed is good = absurd is
+serve-folds status.NoRoom passed is good = absurd is
+serve-folds status.Memory passed is good = tt

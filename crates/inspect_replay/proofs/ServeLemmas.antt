@@ -6,21 +6,22 @@ use Rattle.pipe_frames.specs.Frames.{Frames, frames_of, continued, frames_from, 
 use Rattle.pipe_frames.specs.Whole.{ReadPart, WrotePart}
 use Rattle.pipe_frames.proofs.FrameLemmas.{frames_of-append}
 use Rattle.pipe_frames.proofs.WholeLemmas.{Appends-nil, Appends-append, WrotePart-all, WrotePart-longer, WrotePart-after, Consumes-nil, Consumes-append, Consumes-keeps}
-use Rattle.node_tree.specs.Nodes as nodes
-use Rattle.page_tree.specs.Forms.{CanLoad}
-use Rattle.page_tree.specs.Pages.{loaded}
-use Rattle.node_binding.specs.Bindings.{empty_from}
+use Rattle.std.specs.Str.{IsUtf8}
+use Rattle.std.proofs.lemmas.List.Elements.{All-nil}
+use Rattle.page_forms.specs.declared.sheets.SheetForm.{SheetForm}
+use Rattle.page_forms.specs.Pages.{CanLoadPage}
+use Rattle.page_forms.specs.Texts.{PageHasTexts}
 use Rattle.cdp_messages.specs.Moves.{frames_of_moves}
 use Rattle.back_end.specs.States.{State}
 use Rattle.back_end.specs.Steps.{Stepped, frame_step}
-use Rattle.back_end.specs.Seats.{StandsFor}
+use Rattle.back_end.specs.Seats.{StandsFor, first_page}
 use Rattle.back_end.specs.declared.seat.Seat.{Seat}
 use Rattle.back_end.specs.declared.side.PageSide.{PageSide}
 use Rattle.inspect_world.specs.World.{steps}
 use Rattle.inspect_replay.specs.declared.serve.Service.{Service}
 use Rattle.inspect_replay.specs.declared.stop.Stop.{Stop}
 use Rattle.inspect_replay.specs.Serving.{first_served, served_step, served_run, served, IsServing, ServeMoment, serve_moment, SoFar, with_more, Serves, Answered, AnswersFrames, PartServed, ServesOn}
-use Rattle.inspect_replay.proofs.RunLemmas.{stands-first}
+use Rattle.inspect_replay.proofs.RunLemmas.{IsNewSide, stands-first}
 
 -- ---- steps on frames
 
@@ -63,15 +64,17 @@ none-held : (frames_of []).rest ≡ []
 unfolding frames_of
 none-held = refl
 
-pub nothing-loaded : CanLoad nodes.none
-nothing-loaded = record { formed = refl; named = refl; levels = omega arith; room = omega arith }
+nothing-loaded : CanLoadPage (first_page None)
+nothing-loaded = record { nodes = record { formed = refl; named = refl; levels = omega arith; room = omega arith }; sheets = refl }
 
-pub starts-serving : (service : Service) → service.side.page ≡ loaded 1 nodes.none → service.seat.desk.is_on ≡ false → service.seat.desk.agent ≡ empty_from 1
-    → service.splitter ≡ record { whole = []; rest = [] } → IsServing service []
-starts-serving service page_is off agent_is cut = record {
+no-texts : PageHasTexts (first_page None)
+no-texts = record { nodes = tt; sheets = All-nil (λ (sheet : SheetForm). IsUtf8 sheet.text) }
+
+pub starts-serving : (service : Service) → IsNewSide service.seat service.side (first_page None) → service.splitter ≡ record { whole = []; rest = [] } → IsServing service []
+starts-serving service new cut = record {
   cut = cut ∙ ap (λ rest. record { whole = []; rest = rest }) (sym none-held);
   stands = subst (λ (done : Stepped State). StandsFor service.seat service.side done.state) (sym none-served)
-      (stands-first nodes.none service.seat service.side nothing-loaded tt page_is off agent_is);
+      (stands-first (first_page None) service.seat service.side nothing-loaded no-texts new);
 }
 
 -- before anything came

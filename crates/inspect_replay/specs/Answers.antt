@@ -5,10 +5,9 @@ use Rattle.std.specs.declared.alloc.Global.{Global}
 use Rattle.pipe_frames.specs.Whole.{WrotePart}
 use Rattle.replay_script.specs.declared.faults.LineFault.{LineFault}
 use Rattle.replay_script.specs.Lines.{has_long_line}
-use Rattle.front_mirror.specs.declared.faults.FrontFault.{FrontFault}
 use Rattle.inspect_replay.specs.declared.status.Status.{Status}
 use Rattle.inspect_replay.specs.declared.stop.Stop.{Stop}
-use Rattle.inspect_replay.specs.Says.{Phase, untouched, reading, underway, ended, anywhen, Counts, PartRose, says, says_of}
+use Rattle.inspect_replay.specs.Says.{Phase, untouched, reading, underway, ended, anywhen, Lie, Counts, PartRose, says, says_of}
 
 -- where the test holds, the statement does
 abbrev pub OnTrue : Bool → Type 0 → Type 0
@@ -64,19 +63,24 @@ ReadsAll status left = OnceRead (says status).phase (left ≡ Some [])
 
 -- ---- what was written, over an honest link
 
--- what the sink took of the report, by how far the call had come and whether the front end refused a message
-abbrev pub TookAt : Phase → Option FrontFault → Option (List ℕ) → Option (List ℕ) → List ℕ → Type 0
-TookAt untouched message before after report = after ≡ before
-TookAt reading message before after report = after ≡ before
+-- what the sink took of the report, by how far the call had come and whether the answer comes over no honest link
+abbrev pub TookAt : Phase → Option Lie → Option (List ℕ) → Option (List ℕ) → List ℕ → Type 0
+TookAt untouched lie before after report = after ≡ before
+TookAt reading lie before after report = after ≡ before
 TookAt underway None before after report = WrotePart before after report
-TookAt underway (Some fault) before after report = ⊥
-TookAt ended message before after report = Appends before after report
-TookAt anywhen message before after report = WrotePart before after report
+TookAt underway (Some lie) before after report = ⊥
+TookAt ended lie before after report = Appends before after report
+TookAt anywhen lie before after report = WrotePart before after report
 
 -- The report on Done; of a script with a line that is refused, the report is what the lines before that one print.
--- Nothing before the input was read; a front part of the report on any other answer. The front end never refuses.
+-- Nothing before the input was read; a front part of the report on any other answer. The front end never refuses, and there
+-- is always room.
 abbrev pub Took : Status → Option (List ℕ) → Option (List ℕ) → List ℕ → Type 0
-Took status before after report = TookAt (says status).phase (says status).message before after report
+Took status before after report = TookAt (says status).phase (says status).lie before after report
+
+-- an answer that may come over an honest link
+abbrev pub IsHonest : Status → Type 0
+IsHonest status = Absent (says status).lie
 
 -- a statement of answers that come before the input was read
 abbrev pub BeforeRead : Phase → Type 0 → Type 0
@@ -106,7 +110,7 @@ RunTells result bad = InRunOnly (says_of result).phase (AtEnd (says_of result).p
 
 -- what the sink took of what a run prints
 abbrev pub RunTook : {T : Type 0} → Result T Stop → Option (List ℕ) → Option (List ℕ) → List ℕ → Type 0
-RunTook result before after text = InRunOnly (says_of result).phase (TookAt (says_of result).phase (says_of result).message before after text)
+RunTook result before after text = InRunOnly (says_of result).phase (TookAt (says_of result).phase (says_of result).lie before after text)
 
 -- a part of a run that prints a text, and is not one that refuses lines
 abbrev pub Prints : {T : Type 0} → Result T Stop → Option (List ℕ) → Option (List ℕ) → List ℕ → Type 0

@@ -1,21 +1,19 @@
 -- What the parts of a run over an honest link take it to, and print.
-use Rattle.std.specs.Prelude.{◌≡◌, ℕ, List, length, Option, Some, None, Result, Ok, Err, OnOk, ⊤}
+use Rattle.std.specs.Prelude.{◌≡◌, ◌+◌, ℕ, List, length, Option, Some, None, Result, Ok, Err, OnOk, ⊤}
 use Rattle.pipe_frames.specs.Pipe.{Pipe}
-use Rattle.node_tree.specs.Nodes.{Nodes}
-use Rattle.node_tree.specs.Labels.{Label}
-use Rattle.replay_script.specs.Forms.{LineForm, load, ask, show_front, show_page, show_replies}
+use Rattle.page_forms.specs.Pages.{LoadedPage}
+use Rattle.replay_script.specs.Forms.{LineForm, load, ask, show_front, show_page, show_sheets, show_replies}
 use Rattle.replay_script.specs.Forms as forms
 use Rattle.replay_script.specs.declared.faults.LineFault.{LineFault}
 use Rattle.replay_script.specs.Script.{good_lines}
 use Rattle.inspect_world.specs.World.{World}
 use Rattle.back_end.specs.States.{State}
-use Rattle.inspect_world.specs.Fits.{HasLeft}
 use Rattle.inspect_world.specs.Scripts.{after_line, after_lines, line_text, lines_text, closing_text}
 use Rattle.inspect_replay.specs.declared.stop.Stop.{Stop}
 use Rattle.inspect_replay.specs.Says.{Phase, untouched, reading, underway, ended, anywhen, says, status_of}
 use Rattle.inspect_replay.specs.Moments.{Scene}
-use Rattle.inspect_replay.specs.Runs.{InRun}
-use Rattle.inspect_replay.specs.Stops.{NotRefused}
+use Rattle.inspect_replay.specs.Runs.{InPlay}
+use Rattle.inspect_replay.specs.Stops.{GoesWell}
 use Rattle.inspect_replay.specs.Answers.{RunTook, Prints}
 
 -- a line with its number
@@ -30,23 +28,23 @@ line_of number form = record { number = number; form = form }
 -- a line is carried out, and prints what it prints
 abbrev pub CarriesOut : {T : Type 0} → Scene → Scene → NumberedLine → Result T Stop → Type 0
 CarriesOut old new line result =
-    (up0 down0 : Pipe) (w : World State) → HasLeft w.spent 1 → InRun old.now.honest up0 down0 old.now.up old.now.down w old.now.ends
-    → NotRefused result
-    × OnOk result (InRun new.now.honest up0 down0 new.now.up new.now.down (after_line line.form w) new.now.ends)
+    (up0 down0 : Pipe) (more : ℕ) (w : World State) → InPlay old.now.honest up0 down0 old.now.up old.now.down (more + 1) w old.now.ends
+    → GoesWell result
+    × OnOk result (InPlay new.now.honest up0 down0 new.now.up new.now.down more (after_line line.form w) new.now.ends)
     × Prints result old.taken new.taken (line_text line.number line.form w)
 
 -- the lines after the load are carried out, up to the first that is refused
 abbrev pub RunsLines : {T : Type 0} → Scene → Scene → List (List ℕ) → Result T Stop → Type 0
 RunsLines old new lines result =
-    (up0 down0 : Pipe) (w : World State) → HasLeft w.spent (length lines) → InRun old.now.honest up0 down0 old.now.up old.now.down w old.now.ends
-    → OnOk result (InRun new.now.honest up0 down0 new.now.up new.now.down (after_lines (good_lines 2 lines) w) new.now.ends)
+    (up0 down0 : Pipe) (w : World State) → InPlay old.now.honest up0 down0 old.now.up old.now.down (length lines) w old.now.ends
+    → OnOk result (InPlay new.now.honest up0 down0 new.now.up new.now.down 0 (after_lines (good_lines 2 lines) w) new.now.ends)
     × RunTook result old.taken new.taken (lines_text 2 (good_lines 2 lines) w)
 
 -- the closing part is printed
 abbrev pub Closes : {T : Type 0} → Scene → Option (List ℕ) → Result T Stop → Type 0
 Closes old taken result =
-    (up0 down0 : Pipe) (w : World State) → InRun old.now.honest up0 down0 old.now.up old.now.down w old.now.ends
-    → NotRefused result × Prints result old.taken taken (closing_text w)
+    (up0 down0 : Pipe) (w : World State) → InPlay old.now.honest up0 down0 old.now.up old.now.down 0 w old.now.ends
+    → GoesWell result × Prints result old.taken taken (closing_text w)
 
 -- the line is the one of that number, with that fault
 abbrev pub IsLine : Option (ℕ × LineFault) → ℕ → Option LineFault → Type 0
@@ -66,9 +64,9 @@ abbrev pub IsRead : {T : Type 0} → Result T Stop → ℕ → Option LineFault 
 IsRead (Ok line) number fault = ⊤
 IsRead (Err stop) number fault = ReadsAt (says (status_of stop)).phase (says (status_of stop)).line number fault
 
--- the nodes of a line that loads a page
-abbrev pub load_of : LineForm → Option (Nodes Label)
-load_of (load nodes) = Some nodes
+-- the page of a line that loads one
+abbrev pub load_of : LineForm → Option LoadedPage
+load_of (load page) = Some page
 load_of (forms.act a) = None
 load_of (ask a) = None
 load_of (forms.raw text) = None
@@ -77,4 +75,5 @@ load_of (forms.down n) = None
 load_of forms.settle = None
 load_of show_front = None
 load_of show_page = None
+load_of show_sheets = None
 load_of show_replies = None

@@ -1,16 +1,19 @@
 -- A run in hand: the link is honest, and the link and the ends have come to where the run of the script is.
-use Rattle.std.specs.Prelude.{◌≡◌, ℕ, List, [], ◌∷◌, ◌++◌, Result, OnOk}
+use Rattle.std.specs.Prelude.{◌≡◌, ◌≤◌, ◌+◌, ℕ, List, [], ◌∷◌, ◌++◌, length, Result, OnOk}
 use Rattle.pipe_frames.specs.Pipe.{Pipe}
 use Rattle.inspect_world.specs.Stream.{arriving, awaited}
-use Rattle.inspect_world.specs.World.{World, given_up, answered}
+use Rattle.inspect_world.specs.World.{World, one_fetch, sent_up, given_up, answered}
 use Rattle.back_end.specs.States.{State}
 use Rattle.back_end.specs.Steps.{step}
-use Rattle.inspect_world.specs.Fits.{HasLeft}
+use Rattle.front_mirror.specs.Front.{first_value}
+use Rattle.inspect_world.specs.Fits.{HasLeft, IsPlainFrame, most_fetches, replay}
+use Rattle.inspect_world.specs.Fetches.{front_in, fetched, fetched_if, all_fetched}
+use Rattle.inspect_world.specs.FreshRuns.{front_fetcher, refreshes, Together}
 use Rattle.inspect_world.specs.Held.{Ends as HeldEnds, InWorld}
 use Rattle.inspect_replay.specs.declared.ends.Ends.{Ends}
 use Rattle.inspect_replay.specs.declared.stop.Stop.{Stop}
 use Rattle.inspect_replay.specs.Moments.{Moment}
-use Rattle.inspect_replay.specs.Stops.{NotRefused}
+use Rattle.inspect_replay.specs.Stops.{GoesWell}
 
 -- what the ends of the program hold
 abbrev pub ends_of : Ends → HeldEnds
@@ -24,7 +27,8 @@ ends_of e = record {
   told = e.told;
 }
 
--- Over an honest link the run has come to the world w since the pipes were as `up0` and `down0`, with nothing left to give.
+-- Over an honest link the run, with the fetches of its settles, has come to the world w since the pipes were as `up0` and
+-- `down0`, with nothing left to give.
 -- The frames that the splitter holds came up whole, and are not yet answered.
 pub record InRunWith (honest : Type 0) (up0 down0 up down : Pipe) (w : World State) (e : Ends) : Type 0 where
   pub is_honest : honest
@@ -39,30 +43,73 @@ pub record InRun (honest : Type 0) (up0 down0 up down : Pipe) (w : World State) 
 abbrev pub Steps : {T : Type 0} → Moment → Moment → Result T Stop → (World State → World State) → Type 0
 Steps old new result f =
     (up0 down0 : Pipe) (w : World State) → InRun old.honest up0 down0 old.up old.down w old.ends
-    → NotRefused result × OnOk result (InRun new.honest up0 down0 new.up new.down (f w) new.ends)
+    → GoesWell result × OnOk result (InRun new.honest up0 down0 new.up new.down (f w) new.ends)
 
 -- the same of a call that sends a frame or makes a step of the script, while there is room for one
 abbrev pub Spends : {T : Type 0} → Moment → Moment → Result T Stop → (World State → World State) → Type 0
 Spends old new result f =
     (up0 down0 : Pipe) (w : World State) → HasLeft w.spent 1 → InRun old.honest up0 down0 old.up old.down w old.ends
-    → NotRefused result × OnOk result (InRun new.honest up0 down0 new.up new.down (f w) new.ends)
+    → GoesWell result × OnOk result (InRun new.honest up0 down0 new.up new.down (f w) new.ends)
 
 -- the same of a call that answers the frames that came up whole
 abbrev pub AnswersAll : {T : Type 0} → Moment → Moment → Result T Stop → Type 0
 AnswersAll old new result =
     (up0 down0 : Pipe) (w : World State) → InRunWith old.honest up0 down0 old.up old.down w old.ends
-    → NotRefused result × OnOk result (InRun new.honest up0 down0 new.up new.down (answered step old.ends.splitter.whole w) new.ends)
+    → GoesWell result × OnOk result (InRun new.honest up0 down0 new.up new.down (answered step old.ends.splitter.whole w) new.ends)
 
 -- the same of a call that answers one frame, before those that the splitter holds
 abbrev pub AnswersOne : {T : Type 0} → Moment → Moment → List ℕ → Result T Stop → Type 0
 AnswersOne old new frame result =
     (up0 down0 : Pipe) (w : World State) → old.honest
     → InWorld up0 down0 old.up old.down w (frame ∷ (old.ends.splitter.whole ++ awaited w.up)) (ends_of old.ends)
-    → NotRefused result × OnOk result (InRunWith new.honest up0 down0 new.up new.down (answered step (frame ∷ []) w) new.ends)
+    → GoesWell result × OnOk result (InRunWith new.honest up0 down0 new.up new.down (answered step (frame ∷ []) w) new.ends)
 
 -- the same of a call that takes bytes that come up, and cuts them into frames
 abbrev pub TakesUp : {T : Type 0} → Moment → Moment → ℕ → Result T Stop → Type 0
 TakesUp old new n result =
     (up0 down0 : Pipe) (w : World State) → InRun old.honest up0 down0 old.up old.down w old.ends
-    → NotRefused result
+    → GoesWell result
     × OnOk result (InRunWith new.honest up0 down0 new.up new.down (given_up n w) new.ends × (new.ends.splitter.whole ≡ arriving n w.up))
+
+-- ---- the fetches of a settle
+
+-- the same of a call that makes fetches, while there is room for so many
+abbrev pub SpendsFetches : {T : Type 0} → Moment → Moment → ℕ → Result T Stop → (World State → World State) → Type 0
+SpendsFetches old new count result f =
+    (up0 down0 : Pipe) (w : World State) → w.spent.fetches + count ≤ most_fetches → InRun old.honest up0 down0 old.up old.down w old.ends
+    → GoesWell result × OnOk result (InRun new.honest up0 down0 new.up new.down (f w) new.ends)
+
+-- of one that sends the fetch of a sheet's text
+abbrev pub SendsFetch : {T : Type 0} → Moment → Moment → ℕ → Result T Stop → Type 0
+SendsFetch old new number result =
+    SpendsFetches old new 1 result (λ w. sent_up (front_fetcher.text w.spent.fetches number) one_fetch w)
+
+-- of one that fetches it
+abbrev pub FetchesText : {T : Type 0} → Moment → Moment → ℕ → Result T Stop → Type 0
+FetchesText old new number result = SpendsFetches old new 1 result (fetched replay front_fetcher number)
+
+-- of one that fetches it, unless the sheet is passed over
+abbrev pub FetchesOne : {T : Type 0} → Moment → Moment → ℕ → Result T Stop → Type 0
+FetchesOne old new number result =
+    SpendsFetches old new 1 result (λ w. fetched_if replay front_fetcher (front_in replay (first_value []) w) number w)
+
+-- of one that fetches the texts of these sheets
+abbrev pub FetchesAll : {T : Type 0} → Moment → Moment → List ℕ → Result T Stop → Type 0
+FetchesAll old new numbers result =
+    SpendsFetches old new (length numbers) result (all_fetched replay front_fetcher (first_value []) numbers)
+
+-- and of a settle with its fetches, while there is room for those of one settle
+abbrev pub Refreshes : {T : Type 0} → Moment → Moment → Result T Stop → Type 0
+Refreshes old new result =
+    (up0 down0 : Pipe) (w : World State) → HasLeft w.spent 0 → InRun old.honest up0 down0 old.up old.down w old.ends
+    → GoesWell result × OnOk result (InRun new.honest up0 down0 new.up new.down (refreshes front_fetcher w) new.ends)
+
+-- ---- beside the run that the report tells
+
+-- The run that the report tells has come to w, and over an honest link the run with fetches to a world that goes together with
+-- w; so many lines more may be carried out. As many replies were told in both.
+pub record InPlay (honest : Type 0) (up0 down0 up down : Pipe) (lines : ℕ) (w : World State) (e : Ends) : Type 0 where
+  pub fresh : World State
+  pub both : Together IsPlainFrame lines w fresh
+  pub in_run : InRun honest up0 down0 up down fresh e
+  pub told_is : fresh.told ≡ w.told

@@ -7,7 +7,7 @@ use Rattle.front_mirror.specs.declared.faults.FrontFault.{FrontFault}
 use Rattle.inspect_replay.specs.declared.status.Status.{Status}
 use Rattle.inspect_replay.specs.declared.status.Status.TheVariants as status
 use Rattle.inspect_replay.specs.declared.stop.Stop.{Stop}
-use Rattle.inspect_replay.specs.declared.stop.Stop.TheVariants.{Line, TooLong, ReadFault, WriteFault, LinkFault, FrontRefused, Memory}
+use Rattle.inspect_replay.specs.declared.stop.Stop.TheVariants.{Line, TooLong, ReadFault, WriteFault, LinkFault, FrontRefused, NoRoom, Memory}
 
 -- how far a call had come
 pub data Phase : Type 0 where
@@ -28,6 +28,13 @@ pub data Part : Type 0 where
   sink : Part
   link : Part
 
+-- what ends a run over a link that is not honest alone
+pub data Lie : Type 0 where
+  -- the front end refused this message
+  refused : FrontFault → Lie
+  -- no id or serial was left
+  no_room : Lie
+
 -- what an answer says
 pub record Says : Type 0 where
   pub phase : Phase
@@ -35,14 +42,14 @@ pub record Says : Type 0 where
   pub failed : Option Part
   -- the first line that is refused
   pub line : Option (ℕ × LineFault)
-  -- the message that the front end refused
-  pub message : Option FrontFault
+  -- what comes over no honest link
+  pub lie : Option Lie
   -- the input is too long
   pub over : Bool
 
 -- an answer that says how far the call had come, and nothing else
 abbrev pub at : Phase → Says
-at phase = record { phase = phase; failed = None; line = None; message = None; over = false }
+at phase = record { phase = phase; failed = None; line = None; lie = None; over = false }
 
 -- what each status says
 abbrev pub says : Status → Says
@@ -53,7 +60,8 @@ says status.TooLong = record (at reading) { over = true }
 says status.ReadFault = record (at reading) { failed = Some source }
 says status.WriteFault = record (at underway) { failed = Some sink }
 says status.LinkFault = record (at underway) { failed = Some link }
-says (status.FrontRefused place kind) = record (at underway) { message = Some (record { place = place; kind = kind }) }
+says (status.FrontRefused place kind) = record (at underway) { lie = Some (refused (record { place = place; kind = kind })) }
+says status.NoRoom = record (at underway) { lie = Some no_room }
 says status.Memory = at anywhen
 
 -- the status that a stop is
@@ -64,6 +72,7 @@ status_of ReadFault = status.ReadFault
 status_of WriteFault = status.WriteFault
 status_of LinkFault = status.LinkFault
 status_of (FrontRefused place fault) = status.FrontRefused place fault
+status_of NoRoom = status.NoRoom
 status_of Memory = status.Memory
 
 -- what a result of a part of the call says

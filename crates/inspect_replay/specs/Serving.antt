@@ -4,23 +4,22 @@ use Rattle.std.specs.Io.KnownBytes.{Appends, Consumes, IsAtEnd}
 use Rattle.pipe_frames.specs.Fault.{Rose}
 use Rattle.pipe_frames.specs.Frames.{frames_of}
 use Rattle.pipe_frames.specs.Whole.{WrotePart}
-use Rattle.node_tree.specs.Nodes as nodes
 use Rattle.back_end.specs.States.{State, loaded_state}
 use Rattle.back_end.specs.Steps.{Stepped, as_bytes, frame_step}
-use Rattle.back_end.specs.Seats.{StandsFor}
+use Rattle.back_end.specs.Seats.{StandsFor, first_page}
 use Rattle.inspect_world.specs.World.{steps}
 use Rattle.inspect_replay.specs.declared.serve.Service.{Service}
 use Rattle.inspect_replay.specs.Says.{Counts}
 use Rattle.inspect_replay.specs.declared.status.Status.{Status}
 use Rattle.inspect_replay.specs.declared.status.Status.TheVariants as status
 use Rattle.inspect_replay.specs.declared.stop.Stop.{Stop}
-use Rattle.inspect_replay.specs.declared.stop.Stop.TheVariants.{Line, TooLong, ReadFault, WriteFault, LinkFault, FrontRefused, Memory}
+use Rattle.inspect_replay.specs.declared.stop.Stop.TheVariants.{Line, TooLong, ReadFault, WriteFault, LinkFault, FrontRefused, NoRoom, Memory}
 
 -- ---- what is answered
 
--- the page of one document without children, with the serial 1, of which nothing is known
+-- the page of one document without children, with the serial 1 and no sheets, of which nothing is known
 abbrev pub first_served : State
-first_served = loaded_state nodes.none
+first_served = loaded_state (first_page None)
 
 -- the step on one frame, as bytes: our own two methods are known
 abbrev pub served_step : State → List ℕ → Stepped State
@@ -72,6 +71,7 @@ ServeTook status.ReadFault input call = ServedRead input call
 ServeTook status.WriteFault input call = WrotePart call.taken_before call.taken_after (served (take (2 ^ 26) input))
 ServeTook status.LinkFault input call = ⊥
 ServeTook (status.FrontRefused place kind) input call = ⊥
+ServeTook status.NoRoom input call = ⊥
 ServeTook status.Memory input call = WrotePart call.taken_before call.taken_after (served (take (2 ^ 26) input))
 
 -- an answer that `serve` gives
@@ -84,6 +84,7 @@ IsServeStatus status.ReadFault = ⊤
 IsServeStatus status.WriteFault = ⊤
 IsServeStatus status.LinkFault = ⊥
 IsServeStatus (status.FrontRefused place kind) = ⊥
+IsServeStatus status.NoRoom = ⊥
 IsServeStatus status.Memory = ⊤
 
 -- ---- a service in hand
@@ -172,6 +173,7 @@ PieceServed so_far new read (Err ReadFault) = Consumes read.before read.after []
 PieceServed so_far new read (Err WriteFault) = PieceInPart so_far new read
 PieceServed so_far new read (Err LinkFault) = ⊥
 PieceServed so_far new read (Err (FrontRefused place fault)) = ⊥
+PieceServed so_far new read (Err NoRoom) = ⊥
 PieceServed so_far new read (Err Memory) = PieceInPart so_far new read
 
 -- the end of a source, or the one byte that is too much
@@ -183,6 +185,7 @@ EndIsMet before after (Err ReadFault) = Consumes before after []
 EndIsMet before after (Err WriteFault) = ⊥
 EndIsMet before after (Err LinkFault) = ⊥
 EndIsMet before after (Err (FrontRefused place fault)) = ⊥
+EndIsMet before after (Err NoRoom) = ⊥
 EndIsMet before after (Err Memory) = ⊥
 
 -- bytes that were read, at most 2^26, and the whole frames in them answered
@@ -226,6 +229,7 @@ HasServed call (Err ReadFault) = FaultAnswered call
 HasServed call (Err WriteFault) = PartAnswered call
 HasServed call (Err LinkFault) = ⊥
 HasServed call (Err (FrontRefused place fault)) = ⊥
+HasServed call (Err NoRoom) = ⊥
 HasServed call (Err Memory) = PartAnswered call
 
 -- ---- causes
@@ -239,6 +243,7 @@ WriteRose before after (Err ReadFault) = ⊥
 WriteRose before after (Err WriteFault) = Rose before after
 WriteRose before after (Err LinkFault) = ⊥
 WriteRose before after (Err (FrontRefused place fault)) = ⊥
+WriteRose before after (Err NoRoom) = ⊥
 WriteRose before after (Err Memory) = ⊤
 
 -- the count of a sink never falls, and a fault has its cause
@@ -255,6 +260,7 @@ ServeRose c (Err ReadFault) = Rose c.source_before c.source_after
 ServeRose c (Err WriteFault) = Rose c.sink_before c.sink_after
 ServeRose c (Err LinkFault) = ⊥
 ServeRose c (Err (FrontRefused place fault)) = ⊥
+ServeRose c (Err NoRoom) = ⊥
 ServeRose c (Err Memory) = ⊤
 
 -- neither count falls, and a fault has its cause

@@ -4,7 +4,7 @@ use Rattle.replay_script.specs.Names.{fault_name}
 use Rattle.front_mirror.specs.declared.faults.FrontKind.{FrontKind}
 use Rattle.front_mirror.specs.declared.faults.FrontKind.TheVariants.{NotMessage, UnknownNode, NotChild, IdTaken, UnknownSheet, TooDeep}
 use Rattle.inspect_replay.specs.declared.status.Status.{Status}
-use Rattle.inspect_replay.specs.declared.status.Status.TheVariants.{Done, Usage, Line, TooLong, ReadFault, WriteFault, LinkFault, FrontRefused, Memory}
+use Rattle.inspect_replay.specs.declared.status.Status.TheVariants.{Done, Usage, Line, TooLong, ReadFault, WriteFault, LinkFault, FrontRefused, NoRoom, Memory}
 
 -- how a status line names the fault of a message
 abbrev pub kind_name : FrontKind → List ℕ
@@ -25,6 +25,7 @@ line_of_status ReadFault = codes "read fault"
 line_of_status WriteFault = codes "write fault"
 line_of_status LinkFault = codes "link fault"
 line_of_status (FrontRefused place fault) = codes "front refused message " ++ decimal place ++ codes ": " ++ kind_name fault
+line_of_status NoRoom = codes "no room"
 line_of_status Memory = codes "out of memory"
 
 -- the exit status
@@ -37,4 +38,5 @@ code_of_status ReadFault = 5
 code_of_status WriteFault = 6
 code_of_status LinkFault = 7
 code_of_status (FrontRefused place fault) = 8
+code_of_status NoRoom = 10
 code_of_status Memory = 9

@@ -32,9 +32,9 @@ pub record HasStopCause {T : Type 0} (sink_before sink_after link_before link_af
   pub link_later : link_before ≤ link_after
   pub rose : RoseAt (two_counts sink_before sink_after link_before link_after) result
 
--- the front end was not at fault
-abbrev pub NotRefused : {T : Type 0} → Result T Stop → Type 0
-NotRefused result = Absent (says_of result).message
+-- a call goes well: the front end was not at fault, and there was room
+abbrev pub GoesWell : {T : Type 0} → Result T Stop → Type 0
+GoesWell result = Absent (says_of result).lie
 
 -- the same of a run that may stop at a line that is refused
 abbrev pub RunRoseAt : {T : Type 0} → Counts → Result T Stop → Type 0

@@ -1,13 +1,16 @@
-ghost use Rattle.std.specs.Prelude.{◌≡◌, [], false, length, option_map, IsTrue, IfOk};
+ghost use Rattle.std.specs.Prelude.{◌≡◌, ◌+◌, [], true, false, length, option_map, IsTrue, IfOk};
 ghost use Rattle.serde_json.specs.View.{view};
 ghost use Rattle.cdp_messages.specs.Asked.{is_whole_where_there};
 ghost use Rattle.node_binding.specs.Bindings.{empty_from};
 ghost use Rattle.front_mirror.specs.Front.{first_state};
+ghost use Rattle.front_mirror.specs.Sheets.{has_sheet, stale_of};
 ghost use Rattle.replay_script.specs.Seen.{seen_ask};
 ghost use Rattle.inspect_replay.specs.Stops.{HasStopCause};
 ghost use Rattle.inspect_world.specs.World.{delivered_up, delivered_down, settled};
 ghost use Rattle.pipe_frames.specs.Frames.{IsText, framed};
-ghost use Rattle.page_forms.specs.Pages.{loaded_nodes};
+ghost use Rattle.page_tree.specs.Pages.{loaded};
+ghost use Rattle.page_forms.specs.Pages.{CanLoadPage, loaded_nodes, loaded_sheets, loaded_page};
+ghost use Rattle.back_end.specs.Sheets.{as_book, numbered_sheets};
 ghost use Rattle.back_end.specs.Steps.{acts, loads, step, turn};
 ghost use Rattle.back_end.specs.Plans.{act_fault};
 ghost use Rattle.back_end.specs.Laws.{IsTurn};
@@ -15,13 +18,13 @@ ghost use Rattle.inspect_world.specs.World.{raw, turned};
 ghost use Rattle.inspect_world.specs.Fits.{IsBare};
 ghost use Rattle.inspect_world.specs.Scripts.{sends};
 ghost use Rattle.inspect_world.specs.ScriptsFit.{CanSend};
-ghost use Rattle.inspect_replay.specs.Runs.{Steps, Spends, TakesUp, AnswersAll, AnswersOne};
+ghost use Rattle.inspect_replay.specs.Runs.{Steps, Spends, TakesUp, AnswersAll, AnswersOne, SendsFetch, FetchesText, FetchesOne, FetchesAll, Refreshes};
 ghost use Rattle.inspect_replay.specs.Moments.{moment};
-ghost use Rattle.inspect_replay.specs.Followed.{KeepsFollowing, KeepsFollowingWith, FollowsAnswers, FollowsAnswer};
+ghost use Rattle.inspect_replay.specs.Followed.{KeepsFollowing, LineFollows, KeepsFollowingWith, FollowsAnswers, FollowsAnswer};
 
 use crate::pipes::{receive_down, receive_up, send_down, send_up};
 use crate::stop::Stop;
-use back_end::{Act, EditFault, PageForm, PageSide, Seat};
+use back_end::{Act, ActFault, PageForm, PageSide, Seat};
 use front_mirror::{Front, FrontErr, Kept, Mirror};
 use page_tree::Page;
 use pipe_frames::{Link, Splitter};
@@ -51,9 +54,14 @@ fn framed(alloc: Global, text: &str) -> Result<Vec<u8>, AllocError>
 }
 
 impl Ends {
-    pub(crate) fn new(alloc: Global, page: Page) -> Result<Ends, AllocError>
-        ensures page { IfOk result (λ ends. ends.side.page ≡ page) }
+    /// Both ends of a page that is loaded, with serials and numbers of sheets from 1 on.
+    pub(crate) fn new(alloc: Global, form: PageForm) -> Result<Ends, AllocError>
+        requires can { CanLoadPage (loaded_page form) }
+        ensures page { IfOk result (λ ends. ends.side.page ≡ loaded 1 (loaded_nodes form)) }
+        ensures sheets { IfOk result (λ ends. ends.side.sheets.entries ≡ as_book (numbered_sheets 1 (loaded_sheets form))) }
+        ensures numbers { IfOk result (λ ends. ends.side.sheets.next ≡ 1 + length (loaded_sheets form)) }
         ensures off { IfOk result (λ ends. ends.seat.desk.is_on ≡ false) }
+        ensures css { IfOk result (λ ends. ends.seat.desk.css ≡ false) }
         ensures agent { IfOk result (λ ends. ends.seat.desk.agent ≡ empty_from 1) }
         ensures splitter { IfOk result (λ ends. ends.splitter ≡ record { whole = []; rest = [] }) }
         ensures front { IfOk result (λ ends. ends.front ≡ first_state) }
@@ -63,7 +71,7 @@ impl Ends {
     {
         Ok(Ends {
             alloc,
-            side: PageSide::new(page),
+            side: PageSide::new(alloc, Some(form))?,
             seat: Seat::new(alloc),
             splitter: Splitter::new(alloc),
             front: Front::new(alloc)?,
@@ -85,6 +93,13 @@ impl Ends {
         ensures { result.now ≡ self.now.side.page }
     {
         self.side.page()
+    }
+
+    /// The front end.
+    pub(crate) fn front(&self) -> &Front
+        ensures { result.now ≡ self.now.front }
+    {
+        &self.front
     }
 
     /// The replies that came, in their order.
@@ -114,7 +129,7 @@ impl Ends {
             (moment (L.honest link.new) (L.up link.new) (L.down link.new) self.new) result (λ w. sends (seen_ask ask.now) w) }
     {
         if !self.front.has_room() {
-            return Err(Stop::Memory);
+            return Err(Stop::NoRoom);
         }
         let frame = self.front.ask(
             ask.method.as_str(),
@@ -162,18 +177,18 @@ impl Ends {
         &mut self,
         link: &mut L,
         act: Act,
-    ) -> Result<Option<EditFault>, Stop>
+    ) -> Result<Option<ActFault>, Stop>
         requires { IsTurn (acts act) }
-        ensures fault { IfOk result (λ fault. fault ≡ act_fault act self.old.side.page) }
+        ensures fault { IfOk result (λ fault. fault ≡ act_fault act self.old.side.page self.old.side.sheets.entries) }
         ensures honest { L.honest link.old → L.honest link.new }
         ensures cause { HasStopCause 0 0 (L.faults link.old) (L.faults link.new) result }
-        ensures follows { KeepsFollowing (moment (L.honest link.old) (L.up link.old) (L.down link.old) self.old)
+        ensures follows { LineFollows (moment (L.honest link.old) (L.up link.old) (L.down link.old) self.old)
             (moment (L.honest link.new) (L.up link.new) (L.down link.new) self.new) result }
         ensures steps { Spends (moment (L.honest link.old) (L.up link.old) (L.down link.old) self.old)
             (moment (L.honest link.new) (L.up link.new) (L.down link.new) self.new) result (λ w. turned turn (acts act) w) }
     {
         if !self.seat.has_room(&self.side) {
-            return Err(Stop::Memory);
+            return Err(Stop::NoRoom);
         }
         let mut out = Vec::new(self.alloc);
         let fault = self.seat.script(&mut self.side, act, &mut out)?;
@@ -191,16 +206,16 @@ impl Ends {
 
     /// The script loads another page.
     pub(crate) fn load_page<L: Link>(&mut self, link: &mut L, form: PageForm) -> Result<(), Stop>
-        requires { IsTurn (loads (loaded_nodes form)) }
+        requires { IsTurn (loads (loaded_page form)) }
         ensures honest { L.honest link.old → L.honest link.new }
         ensures cause { HasStopCause 0 0 (L.faults link.old) (L.faults link.new) result }
-        ensures follows { KeepsFollowing (moment (L.honest link.old) (L.up link.old) (L.down link.old) self.old)
+        ensures follows { LineFollows (moment (L.honest link.old) (L.up link.old) (L.down link.old) self.old)
             (moment (L.honest link.new) (L.up link.new) (L.down link.new) self.new) result }
         ensures steps { Spends (moment (L.honest link.old) (L.up link.old) (L.down link.old) self.old)
-            (moment (L.honest link.new) (L.up link.new) (L.down link.new) self.new) result (λ w. turned turn (loads (loaded_nodes form)) w) }
+            (moment (L.honest link.new) (L.up link.new) (L.down link.new) self.new) result (λ w. turned turn (loads (loaded_page form)) w) }
     {
         if !self.seat.has_room(&self.side) {
-            return Err(Stop::Memory);
+            return Err(Stop::NoRoom);
         }
         let mut out = Vec::new(self.alloc);
         self.seat.load(&mut self.side, form, &mut out)?;
@@ -278,7 +293,7 @@ impl Ends {
             (moment (L.honest link.new) (L.up link.new) (L.down link.new) self.new) frame.now result }
     {
         if !self.seat.has_room(&self.side) {
-            return Err(Stop::Memory);
+            return Err(Stop::NoRoom);
         }
         let mut out = Vec::new(self.alloc);
         self.seat
@@ -320,7 +335,7 @@ impl Ends {
     }
 
     /// Delivers all of the up pipe, and then all of the down pipe.
-    pub(crate) fn settle<L: Link>(&mut self, link: &mut L) -> Result<(), Stop>
+    fn deliver_all<L: Link>(&mut self, link: &mut L) -> Result<(), Stop>
         ensures honest { L.honest link.old → L.honest link.new }
         ensures cause { HasStopCause 0 0 (L.faults link.old) (L.faults link.new) result }
         ensures follows { KeepsFollowing (moment (L.honest link.old) (L.up link.old) (L.down link.old) self.old)
@@ -334,6 +349,109 @@ impl Ends {
                 let down = self.down_there;
                 self.deliver_down(link, down)
             }
+            Err(stop) => Err(stop),
+        }
+    }
+
+    /// The front end sends the fetch of a sheet's text.
+    fn send_fetch<L: Link>(&mut self, link: &mut L, number: u64) -> Result<(), Stop>
+        requires known { has_sheet number self.old.front.value.sheets ≡ true }
+        ensures honest { L.honest link.old → L.honest link.new }
+        ensures cause { HasStopCause 0 0 (L.faults link.old) (L.faults link.new) result }
+        ensures follows { KeepsFollowing (moment (L.honest link.old) (L.up link.old) (L.down link.old) self.old)
+            (moment (L.honest link.new) (L.up link.new) (L.down link.new) self.new) result }
+        ensures steps { SendsFetch (moment (L.honest link.old) (L.up link.old) (L.down link.old) self.old)
+            (moment (L.honest link.new) (L.up link.new) (L.down link.new) self.new) number result }
+    {
+        if !self.front.has_room() {
+            return Err(Stop::NoRoom);
+        }
+        let frame = self.front.fetch(number)?;
+        let Some(there) = self.up_there.checked_add(frame.len() as u64) else {
+            return Err(Stop::Memory);
+        };
+        match send_up(link, &frame) {
+            Ok(()) => {
+                self.up_there = there;
+                Ok(())
+            }
+            Err(stop) => Err(stop),
+        }
+    }
+
+    /// Fetches the text of a sheet that the front end knows.
+    fn fetch_text<L: Link>(&mut self, link: &mut L, number: u64) -> Result<(), Stop>
+        requires known { has_sheet number self.old.front.value.sheets ≡ true }
+        ensures honest { L.honest link.old → L.honest link.new }
+        ensures cause { HasStopCause 0 0 (L.faults link.old) (L.faults link.new) result }
+        ensures follows { KeepsFollowing (moment (L.honest link.old) (L.up link.old) (L.down link.old) self.old)
+            (moment (L.honest link.new) (L.up link.new) (L.down link.new) self.new) result }
+        ensures steps { FetchesText (moment (L.honest link.old) (L.up link.old) (L.down link.old) self.old)
+            (moment (L.honest link.new) (L.up link.new) (L.down link.new) self.new) number result }
+    {
+        match self.send_fetch(link, number) {
+            Ok(()) => self.deliver_all(link),
+            Err(stop) => Err(stop),
+        }
+    }
+
+    /// The same; a sheet that the front end does not know any more is passed over.
+    fn fetch_if_known<L: Link>(&mut self, link: &mut L, number: u64) -> Result<(), Stop>
+        ensures honest { L.honest link.old → L.honest link.new }
+        ensures cause { HasStopCause 0 0 (L.faults link.old) (L.faults link.new) result }
+        ensures follows { KeepsFollowing (moment (L.honest link.old) (L.up link.old) (L.down link.old) self.old)
+            (moment (L.honest link.new) (L.up link.new) (L.down link.new) self.new) result }
+        ensures steps { FetchesOne (moment (L.honest link.old) (L.up link.old) (L.down link.old) self.old)
+            (moment (L.honest link.new) (L.up link.new) (L.down link.new) self.new) number result }
+    {
+        if self.front.knows_sheet(number) {
+            return self.fetch_text(link, number);
+        }
+        Ok(())
+    }
+
+    /// Fetches the texts of these sheets, one after the other.
+    fn fetch_all<L: Link>(&mut self, link: &mut L, numbers: &[u64]) -> Result<(), Stop>
+        ensures honest { L.honest link.old → L.honest link.new }
+        ensures cause { HasStopCause 0 0 (L.faults link.old) (L.faults link.new) result }
+        ensures follows { KeepsFollowing (moment (L.honest link.old) (L.up link.old) (L.down link.old) self.old)
+            (moment (L.honest link.new) (L.up link.new) (L.down link.new) self.new) result }
+        ensures steps { FetchesAll (moment (L.honest link.old) (L.up link.old) (L.down link.old) self.old)
+            (moment (L.honest link.new) (L.up link.new) (L.down link.new) self.new) numbers.now result }
+    {
+        for number in numbers {
+            match self.fetch_if_known(link, *number) {
+                Ok(()) => {}
+                Err(stop) => return Err(stop),
+            }
+        }
+        Ok(())
+    }
+
+    /// Fetches each text that the front end lacks or knows to be old. Which these are is found before the first fetch.
+    fn fetch_stale<L: Link>(&mut self, link: &mut L) -> Result<(), Stop>
+        ensures honest { L.honest link.old → L.honest link.new }
+        ensures cause { HasStopCause 0 0 (L.faults link.old) (L.faults link.new) result }
+        ensures follows { KeepsFollowing (moment (L.honest link.old) (L.up link.old) (L.down link.old) self.old)
+            (moment (L.honest link.new) (L.up link.new) (L.down link.new) self.new) result }
+        ensures steps { FetchesAll (moment (L.honest link.old) (L.up link.old) (L.down link.old) self.old)
+            (moment (L.honest link.new) (L.up link.new) (L.down link.new) self.new) (stale_of self.old.front.value.sheets) result }
+    {
+        let numbers = self.front.stale()?;
+        self.fetch_all(link, &numbers)
+    }
+
+    /// Delivers all that is on its way, and then fetches each text that the front end lacks or knows to be old.
+    pub(crate) fn settle<L: Link>(&mut self, link: &mut L) -> Result<(), Stop>
+        ensures honest { L.honest link.old → L.honest link.new }
+        ensures cause { HasStopCause 0 0 (L.faults link.old) (L.faults link.new) result }
+        ensures follows { KeepsFollowing (moment (L.honest link.old) (L.up link.old) (L.down link.old) self.old)
+            (moment (L.honest link.new) (L.up link.new) (L.down link.new) self.new) result }
+        ensures steps { Refreshes (moment (L.honest link.old) (L.up link.old) (L.down link.old) self.old)
+            (moment (L.honest link.new) (L.up link.new) (L.down link.new) self.new) result }
+    {
+        match self.deliver_all(link) {
+            Ok(()) => self.fetch_stale(link),
             Err(stop) => Err(stop),
         }
     }

@@ -8,6 +8,7 @@ mod pipes;
 mod program;
 mod run;
 mod serve;
+mod sheet_lines;
 mod show;
 mod status;
 mod stop;
@@ -17,6 +18,3 @@ pub use inspect_world::fits_law;
 pub use program::{INPUT_LIMIT, LINE_LIMIT, inspect};
 pub use replay_script::LineFault;
 pub use status::{Status, exit_code, status_line};
-
-#[cfg(test)]
-mod tests;

@@ -6,7 +6,7 @@ ghost use Rattle.inspect_world.specs.Scripts.{report};
 ghost use Rattle.inspect_replay.specs.Words.{is_replay, is_serve};
 ghost use Rattle.inspect_replay.specs.declared.status.Status.TheVariants.{Done, Usage};
 ghost use Rattle.inspect_replay.specs.Followed.{StatusFolds, EndsShown, AnswersInOrder, GivesNoMore, fold_since};
-ghost use Rattle.inspect_replay.specs.Answers.{FitsLimits, TellsLine, Took, WritesNothing, StatusRose, InputTells, IsInputStop, ReadsAll, IsLate};
+ghost use Rattle.inspect_replay.specs.Answers.{FitsLimits, TellsLine, Took, IsHonest, WritesNothing, StatusRose, InputTells, IsInputStop, ReadsAll, IsLate};
 ghost use Rattle.inspect_replay.specs.Says.{status_of};
 ghost use Rattle.inspect_replay.specs.Serving.{ServeTook, IsServeStatus};
 
@@ -42,7 +42,10 @@ pub fn inspect<S: Source, K: Sink, L: Link>(
     ensures report { L.honest link.old → IsLevel (L.up link.old) → IsLevel (L.down link.old)
         → (input : List ℕ) → S.left src.old ≡ Some input → is_replay (map string_bytes words.now) ≡ true
         → Took result (K.taken out.old) (K.taken out.new) (report input) }
-    // over every link: a message is refused exactly where the fold of the bytes sent up and given down refuses it
+    // over an honest link no message is refused, and there is always room, whatever the source tells of its bytes
+    ensures sound { L.honest link.old → IsLevel (L.up link.old) → IsLevel (L.down link.old) → IsHonest result }
+    // over every link: a message is refused exactly where the fold of the bytes sent up and given down refuses it; and no room
+    // is left only where at least 2^28 bytes were sent up
     ensures refused { StatusFolds result (fold_since (L.up link.old) (L.down link.old) (L.up link.new) (L.down link.new)) }
     // over every link: what is written ends with the outline of what that fold shows
     ensures closes { is_replay (map string_bytes words.now) ≡ true → result ≡ Done → EndsShown (K.taken out.old) (K.taken out.new)
@@ -103,6 +106,7 @@ fn replay<S: Source, K: Sink, L: Link>(
     ensures report { L.honest link.old → IsLevel (L.up link.old) → IsLevel (L.down link.old)
         → (input : List ℕ) → S.left src.old ≡ Some input
         → Took result (K.taken out.old) (K.taken out.new) (report input) }
+    ensures sound { L.honest link.old → IsLevel (L.up link.old) → IsLevel (L.down link.old) → IsHonest result }
     ensures refused { StatusFolds result (fold_since (L.up link.old) (L.down link.old) (L.up link.new) (L.down link.new)) }
     ensures closes { result ≡ Done → EndsShown (K.taken out.old) (K.taken out.new)
         (fold_since (L.up link.old) (L.down link.old) (L.up link.new) (L.down link.new)) }
@@ -136,6 +140,7 @@ fn run_input<K: Sink, L: Link>(alloc: Global, input: &[u8], out: &mut K, link: &
     requires few { length input.now ≤ 2 ^ 26 }
     ensures report { L.honest link.old → IsLevel (L.up link.old) → IsLevel (L.down link.old)
         → Took result (K.taken out.old) (K.taken out.new) (report input.now) }
+    ensures sound { L.honest link.old → IsLevel (L.up link.old) → IsLevel (L.down link.old) → IsHonest result }
     ensures refused { StatusFolds result (fold_since (L.up link.old) (L.down link.old) (L.up link.new) (L.down link.new)) }
     ensures closes { result ≡ Done → EndsShown (K.taken out.old) (K.taken out.new)
         (fold_since (L.up link.old) (L.down link.old) (L.up link.new) (L.down link.new)) }
@@ -191,6 +196,7 @@ pub(crate) fn status_of(stop: Stop) -> Status
         Stop::WriteFault => Status::WriteFault,
         Stop::LinkFault => Status::LinkFault,
         Stop::FrontRefused { place, fault } => Status::FrontRefused { place, fault },
+        Stop::NoRoom => Status::NoRoom,
         Stop::Memory => Status::Memory,
     }
 }

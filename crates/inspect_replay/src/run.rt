@@ -1,16 +1,15 @@
 ghost use Rattle.std.specs.Prelude.{ℕ, ◌≡◌, ◌≤◌, ◌^◌, ◌∷◌, [], length, option_map, Some, None, IfOk, OnOk, IfSome, IsNone};
 ghost use Rattle.pipe_frames.specs.Pipe.{IsLevel};
-ghost use Rattle.page_tree.specs.Forms.{CanLoad};
 ghost use Rattle.replay_script.specs.Faults.{line_fault};
-ghost use Rattle.replay_script.specs.Forms.{act, load, line_form, show_front, show_replies};
-ghost use Rattle.page_forms.specs.Pages.{loaded_nodes};
+ghost use Rattle.replay_script.specs.Forms.{act, load, line_form, show_front, show_sheets, show_replies};
+ghost use Rattle.page_forms.specs.Pages.{CanLoadPage, loaded_page};
 ghost use Rattle.pipe_frames.specs.Frames.{IsText};
 ghost use Rattle.back_end.specs.Steps.{acts};
 ghost use Rattle.back_end.specs.Laws.{IsTurn};
 ghost use Rattle.inspect_world.specs.Fits.{IsBare};
 ghost use Rattle.replay_script.specs.Script.{first_bad, good_lines, script_fault};
 ghost use Rattle.replay_script.specs.Seen.{seen, seen_ask};
-ghost use Rattle.page_forms.specs.Texts.{HaveTexts};
+ghost use Rattle.page_forms.specs.Texts.{PageHasTexts};
 ghost use Rattle.inspect_world.specs.ScriptsFit.{CanSend, IsLater};
 ghost use Rattle.inspect_world.specs.World as world;
 ghost use Rattle.inspect_world.specs.Scripts.{report, rest_text, loaded_world, sends};
@@ -18,15 +17,14 @@ ghost use Rattle.inspect_replay.specs.Runs.{Spends};
 ghost use Rattle.inspect_replay.specs.Stops.{HasStopCause, HasRunCause};
 ghost use Rattle.inspect_replay.specs.Answers.{RunTells, RunTook};
 ghost use Rattle.inspect_replay.specs.Moments.{moment, scene};
-ghost use Rattle.inspect_replay.specs.Followed.{KeepsFollowing, PrintedSome, ClosesShown, StopFolds, fold_since, EndsShown, AnswersInOrder, GivesNoMore};
+ghost use Rattle.inspect_replay.specs.Followed.{KeepsFollowing, LineFollows, LinesFollow, PrintedSome, ClosesShown, StopFolds, fold_since, EndsShown, AnswersInOrder, GivesNoMore};
 ghost use Rattle.inspect_replay.specs.Prints.{CarriesOut, RunsLines, Closes, IsRead, line_of, load_of};
 
 use crate::ends::Ends;
-use crate::show::{print_fault, print_outline, print_page, print_replies};
+use crate::show::{print_fault, print_outline, print_page, print_replies, print_sheets};
 use crate::stop::Stop;
 use back_end::{Act, PageForm};
 use node_tree::Text;
-use page_tree::Page;
 use pipe_frames::{Link, Sink};
 use replay_script::{Ask, Line, LineErr, LineFault, Lines, read_line};
 use std::alloc::Global;
@@ -82,6 +80,27 @@ fn show_replies<K: Sink, L: Link>(
     }
 }
 
+/// Settles, and prints the sheets that the front end knows.
+fn show_sheets<K: Sink, L: Link>(
+    alloc: Global,
+    ends: &mut Ends,
+    out: &mut K,
+    link: &mut L,
+) -> Result<(), Stop>
+    ensures honest { L.honest link.old → L.honest link.new }
+    ensures cause { HasStopCause (K.faults out.old) (K.faults out.new) (L.faults link.old) (L.faults link.new) result }
+    ensures follows { KeepsFollowing (moment (L.honest link.old) (L.up link.old) (L.down link.old) ends.old)
+        (moment (L.honest link.new) (L.up link.new) (L.down link.new) ends.new) result }
+    ensures some { OnOk result (PrintedSome (K.taken out.old) (K.taken out.new)) }
+    ensures runs { (number : ℕ) → CarriesOut (scene (moment (L.honest link.old) (L.up link.old) (L.down link.old) ends.old) (K.taken out.old))
+        (scene (moment (L.honest link.new) (L.up link.new) (L.down link.new) ends.new) (K.taken out.new)) (line_of number show_sheets) result }
+{
+    match ends.settle(link) {
+        Ok(()) => print_sheets(alloc, ends.front(), out),
+        Err(stop) => Err(stop),
+    }
+}
+
 /// Changes the page, or prints why the change is refused.
 fn carry_act<K: Sink, L: Link>(
     alloc: Global,
@@ -94,7 +113,7 @@ fn carry_act<K: Sink, L: Link>(
     requires { IsTurn (acts change) }
     ensures honest { L.honest link.old → L.honest link.new }
     ensures cause { HasStopCause (K.faults out.old) (K.faults out.new) (L.faults link.old) (L.faults link.new) result }
-    ensures follows { KeepsFollowing (moment (L.honest link.old) (L.up link.old) (L.down link.old) ends.old)
+    ensures follows { LineFollows (moment (L.honest link.old) (L.up link.old) (L.down link.old) ends.old)
         (moment (L.honest link.new) (L.up link.new) (L.down link.new) ends.new) result }
     ensures some { OnOk result (PrintedSome (K.taken out.old) (K.taken out.new)) }
     ensures runs { CarriesOut (scene (moment (L.honest link.old) (L.up link.old) (L.down link.old) ends.old) (K.taken out.old))
@@ -145,7 +164,7 @@ fn carry_out<K: Sink, L: Link>(
     requires { IsLater (seen line) }
     ensures honest { L.honest link.old → L.honest link.new }
     ensures cause { HasStopCause (K.faults out.old) (K.faults out.new) (L.faults link.old) (L.faults link.new) result }
-    ensures follows { KeepsFollowing (moment (L.honest link.old) (L.up link.old) (L.down link.old) ends.old)
+    ensures follows { LineFollows (moment (L.honest link.old) (L.up link.old) (L.down link.old) ends.old)
         (moment (L.honest link.new) (L.up link.new) (L.down link.new) ends.new) result }
     ensures some { OnOk result (PrintedSome (K.taken out.old) (K.taken out.new)) }
     ensures runs { CarriesOut (scene (moment (L.honest link.old) (L.up link.old) (L.down link.old) ends.old) (K.taken out.old))
@@ -161,6 +180,7 @@ fn carry_out<K: Sink, L: Link>(
         Line::Settle => ends.settle(link),
         Line::ShowFront => show_front(alloc, ends, out, link),
         Line::ShowPage => print_page(alloc, ends.page(), out),
+        Line::ShowSheets => show_sheets(alloc, ends, out, link),
         Line::ShowReplies => show_replies(alloc, ends, out, link),
     }
 }
@@ -177,8 +197,8 @@ fn run_lines<K: Sink, L: Link>(
     ensures tells { RunTells result (first_bad 2 lines.entry) }
     ensures honest { L.honest link.old → L.honest link.new }
     ensures cause { HasRunCause (K.faults out.old) (K.faults out.new) (L.faults link.old) (L.faults link.new) result }
-    ensures follows { KeepsFollowing (moment (L.honest link.old) (L.up link.old) (L.down link.old) ends.old)
-        (moment (L.honest link.new) (L.up link.new) (L.down link.new) ends.new) result }
+    ensures follows { LinesFollow (moment (L.honest link.old) (L.up link.old) (L.down link.old) ends.old)
+        (moment (L.honest link.new) (L.up link.new) (L.down link.new) ends.new) lines.entry result }
     ensures some { OnOk result (PrintedSome (K.taken out.old) (K.taken out.new)) }
     ensures runs { RunsLines (scene (moment (L.honest link.old) (L.up link.old) (L.down link.old) ends.old) (K.taken out.old))
         (scene (moment (L.honest link.new) (L.up link.new) (L.down link.new) ends.new) (K.taken out.new)) lines.entry result }
@@ -220,7 +240,7 @@ fn read(alloc: Global, number: u64, text: &[u8]) -> Result<Line, Stop>
 
 /// The page of a line that loads one.
 fn load_of(line: Line) -> Option<PageForm>
-    ensures { option_map loaded_nodes result ≡ load_of (seen line) }
+    ensures { option_map loaded_page result ≡ load_of (seen line) }
 {
     match line {
         Line::Load(page) => Some(page),
@@ -232,6 +252,7 @@ fn load_of(line: Line) -> Option<PageForm>
         | Line::Settle
         | Line::ShowFront
         | Line::ShowPage
+        | Line::ShowSheets
         | Line::ShowReplies => None,
     }
 }
@@ -239,7 +260,7 @@ fn load_of(line: Line) -> Option<PageForm>
 /// Reads the first line of a script, which loads a page.
 fn read_load(alloc: Global, text: &[u8]) -> Result<PageForm, Stop>
     ensures good { IfOk result (λ _. line_fault 1 text.now ≡ None) }
-    ensures form { IfOk result (λ page. line_form text.now ≡ Some (load (loaded_nodes page))) }
+    ensures form { IfOk result (λ page. line_form text.now ≡ Some (load (loaded_page page))) }
     ensures bad { IsRead result 1 (line_fault 1 text.now) }
 {
     match read(alloc, 1, text) {
@@ -278,8 +299,8 @@ fn run_loaded<K: Sink, L: Link>(
     out: &mut K,
     link: &mut L,
 ) -> Result<(), Stop>
-    requires can { CanLoad (loaded_nodes form) }
-    requires texts { HaveTexts (loaded_nodes form) }
+    requires can { CanLoadPage (loaded_page form) }
+    requires texts { PageHasTexts (loaded_page form) }
     requires few { length lines ≤ 2 ^ 26 }
     ensures tells { RunTells result (first_bad 2 lines.entry) }
     ensures honest { L.honest link.old → L.honest link.new }
@@ -290,10 +311,9 @@ fn run_loaded<K: Sink, L: Link>(
     ensures less { OnOk result (GivesNoMore (L.up link.old) (L.down link.old) (L.up link.new) (L.down link.new)) }
     ensures took { L.honest link.old → IsLevel (L.up link.old) → IsLevel (L.down link.old)
         → RunTook result (K.taken out.old) (K.taken out.new)
-        (rest_text (first_bad 2 lines.entry) (good_lines 2 lines.entry) (loaded_world (loaded_nodes form))) }
+        (rest_text (first_bad 2 lines.entry) (good_lines 2 lines.entry) (loaded_world (loaded_page form))) }
 {
-    let page = Page::load(alloc, 1, form.nodes)?;
-    let mut ends = Ends::new(alloc, page)?;
+    let mut ends = Ends::new(alloc, form)?;
     match run_lines(alloc, lines, &mut ends, out, link) {
         Ok(()) => close(alloc, &mut ends, out, link),
         Err(stop) => Err(stop),

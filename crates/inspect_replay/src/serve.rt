@@ -11,7 +11,6 @@ use crate::program::{INPUT_LIMIT, status_of};
 use crate::status::Status;
 use crate::stop::Stop;
 use back_end::{PageSide, Seat};
-use page_tree::Page;
 use pipe_frames::{OutErr, Sink, Source, Splitter, write_all};
 use std::alloc::{AllocError, Global};
 
@@ -32,10 +31,10 @@ impl Service {
     fn new(alloc: Global) -> Result<Service, AllocError>
         ensures first { IfOk result (λ service. IsServing service []) }
     {
-        let page = Page::load(alloc, 1, Vec::new(alloc))?;
+        let side = PageSide::new(alloc, None)?;
         Ok(Service {
             alloc,
-            side: PageSide::new(page),
+            side,
             seat: Seat::new(alloc),
             splitter: Splitter::new(alloc),
         })

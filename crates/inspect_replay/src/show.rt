@@ -3,15 +3,17 @@ ghost use Rattle.std.specs.Io.KnownBytes.{Appends};
 ghost use Rattle.pipe_frames.specs.Whole.{WrotePart};
 ghost use Rattle.front_mirror.specs.Outline.{outline_text, seen_line};
 ghost use Rattle.node_tree.specs.Nodes.{alone};
-ghost use Rattle.inspect_world.specs.ActTexts.{edit_fault_name, refused_line, act_text};
+ghost use Rattle.inspect_world.specs.ActTexts.{edit_fault_name, sheet_fault_name, act_fault_name, refused_line, act_text};
+ghost use Rattle.inspect_world.specs.SheetTexts.{known_lines};
 ghost use Rattle.inspect_world.specs.Scripts.{page_line};
 ghost use Rattle.inspect_world.specs.ShownReplies.{told_of, told_line, told_lines};
-ghost use Rattle.inspect_replay.specs.Stops.{HasStopCause, NotRefused};
+ghost use Rattle.inspect_replay.specs.Stops.{HasStopCause, GoesWell};
 
 use crate::page_lines::page_text;
+use crate::sheet_lines::sheets_text;
 use crate::stop::Stop;
-use back_end::EditFault;
-use front_mirror::{Kept, Mirror, write_outline};
+use back_end::{ActFault, EditFault, SheetFault};
+use front_mirror::{Front, Kept, Mirror, write_outline};
 use page_tree::Page;
 use pipe_frames::{OutErr, Sink, write_all};
 use std::alloc::{AllocError, Global};
@@ -27,7 +29,7 @@ pub(crate) fn print_outline<K: Sink>(
         (heading.now ++ 10 ∷ outline_text seen_line mirror.now)) }
     ensures err { OnErr result (WrotePart (K.taken out.old) (K.taken out.new)
         (heading.now ++ 10 ∷ outline_text seen_line mirror.now)) }
-    ensures never { NotRefused result }
+    ensures never { GoesWell result }
     ensures cause { HasStopCause (K.faults out.old) (K.faults out.new) 0 0 result }
 {
     let text = outline_under(alloc, heading, mirror)?;
@@ -81,7 +83,7 @@ pub(crate) fn print_replies<K: Sink>(
         (codes "# replies" ++ 10 ∷ told_lines (map told_of replies.now))) }
     ensures err { OnErr result (WrotePart (K.taken out.old) (K.taken out.new)
         (codes "# replies" ++ 10 ∷ told_lines (map told_of replies.now))) }
-    ensures never { NotRefused result }
+    ensures never { GoesWell result }
     ensures cause { HasStopCause (K.faults out.old) (K.faults out.new) 0 0 result }
 {
     let text = replies_under(alloc, replies)?;
@@ -98,10 +100,27 @@ pub(crate) fn print_page<K: Sink>(alloc: Global, page: &Page, out: &mut K) -> Re
         (codes "# page" ++ 10 ∷ outline_text page_line (alone page.now.tree))) }
     ensures err { OnErr result (WrotePart (K.taken out.old) (K.taken out.new)
         (codes "# page" ++ 10 ∷ outline_text page_line (alone page.now.tree))) }
-    ensures never { NotRefused result }
+    ensures never { GoesWell result }
     ensures cause { HasStopCause (K.faults out.old) (K.faults out.new) 0 0 result }
 {
     let text = page_text(alloc, page)?;
+    match write_all(out, &text) {
+        Ok(()) => Ok(()),
+        Err(OutErr::Failed) => Err(Stop::WriteFault),
+        Err(OutErr::Memory) => Err(Stop::Memory),
+    }
+}
+
+/// Writes the sheets that the front end knows.
+pub(crate) fn print_sheets<K: Sink>(alloc: Global, front: &Front, out: &mut K) -> Result<(), Stop>
+    ensures ok { OnOk result (Appends (K.taken out.old) (K.taken out.new)
+        (codes "# sheets" ++ 10 ∷ known_lines front.now.value.sheets)) }
+    ensures err { OnErr result (WrotePart (K.taken out.old) (K.taken out.new)
+        (codes "# sheets" ++ 10 ∷ known_lines front.now.value.sheets)) }
+    ensures never { GoesWell result }
+    ensures cause { HasStopCause (K.faults out.old) (K.faults out.new) 0 0 result }
+{
+    let text = sheets_text(alloc, front)?;
     match write_all(out, &text) {
         Ok(()) => Ok(()),
         Err(OutErr::Failed) => Err(Stop::WriteFault),
@@ -113,12 +132,12 @@ pub(crate) fn print_page<K: Sink>(alloc: Global, page: &Page, out: &mut K) -> Re
 pub(crate) fn print_fault<K: Sink>(
     alloc: Global,
     number: u64,
-    fault: Option<EditFault>,
+    fault: Option<ActFault>,
     out: &mut K,
 ) -> Result<(), Stop>
     ensures ok { OnOk result (Appends (K.taken out.old) (K.taken out.new) (act_text number fault)) }
     ensures err { OnErr result (WrotePart (K.taken out.old) (K.taken out.new) (act_text number fault)) }
-    ensures never { NotRefused result }
+    ensures never { GoesWell result }
     ensures cause { HasStopCause (K.faults out.old) (K.faults out.new) 0 0 result }
 {
     match fault {
@@ -130,12 +149,12 @@ pub(crate) fn print_fault<K: Sink>(
 fn print_refusal<K: Sink>(
     alloc: Global,
     number: u64,
-    fault: EditFault,
+    fault: ActFault,
     out: &mut K,
 ) -> Result<(), Stop>
     ensures ok { OnOk result (Appends (K.taken out.old) (K.taken out.new) (refused_line number fault)) }
     ensures err { OnErr result (WrotePart (K.taken out.old) (K.taken out.new) (refused_line number fault)) }
-    ensures never { NotRefused result }
+    ensures never { GoesWell result }
     ensures cause { HasStopCause (K.faults out.old) (K.faults out.new) 0 0 result }
 {
     let text = refusal_text(alloc, number, fault)?;
@@ -146,7 +165,7 @@ fn print_refusal<K: Sink>(
     }
 }
 
-fn refusal_text(alloc: Global, number: u64, fault: EditFault) -> Result<Vec<u8>, AllocError>
+fn refusal_text(alloc: Global, number: u64, fault: ActFault) -> Result<Vec<u8>, AllocError>
     ensures { IfOk result (λ text. text.items ≡ refused_line number fault) }
 {
     let mut text = Vec::from_slice(alloc, b"line ")?;
@@ -158,7 +177,32 @@ fn refusal_text(alloc: Global, number: u64, fault: EditFault) -> Result<Vec<u8>,
 }
 
 /// The name of a fault, as a refused act prints it.
-fn fault_word(fault: EditFault) -> &'static str
+fn fault_word(fault: ActFault) -> &'static str
+    ensures { result.now ≡ act_fault_name fault }
+{
+    match fault {
+        ActFault::Edit(fault) => edit_word(fault),
+        ActFault::Sheet(fault) => sheet_word(fault),
+    }
+}
+
+/// The name of a fault of a change of the sheets.
+fn sheet_word(fault: SheetFault) -> &'static str
+    ensures { result.now ≡ sheet_fault_name fault }
+{
+    match fault {
+        SheetFault::NoSheet => "NoSheet",
+        SheetFault::NotMutable => "NotMutable",
+        SheetFault::BadRange => "BadRange",
+        SheetFault::BadText => "BadText",
+        SheetFault::BadSelector => "BadSelector",
+        SheetFault::BadPlace => "BadPlace",
+        SheetFault::TooBig => "TooBig",
+    }
+}
+
+/// The name of a fault of an edit of the nodes.
+fn edit_word(fault: EditFault) -> &'static str
     ensures { result.now ≡ edit_fault_name fault }
 {
     match fault {

@@ -25,6 +25,8 @@ pub enum Status {
     LinkFault,
     /// The front end refused the message at this place of the down stream, counted from 1.
     FrontRefused { place: u64, fault: FrontKind },
+    /// No id or serial was left. At least 2^28 bytes were sent up, over a link that is not honest.
+    NoRoom,
     /// There was no memory for the run.
     Memory,
 }
@@ -45,6 +47,7 @@ pub fn status_line(alloc: Global, s: &Status) -> Result<String, AllocError>
         Status::WriteFault => String::from_str(alloc, "write fault"),
         Status::LinkFault => String::from_str(alloc, "link fault"),
         Status::FrontRefused { place, fault } => refused_message(alloc, *place, *fault),
+        Status::NoRoom => String::from_str(alloc, "no room"),
         Status::Memory => String::from_str(alloc, "out of memory"),
     }
 }
@@ -96,6 +99,7 @@ pub fn exit_code(s: &Status) -> u8
         Status::WriteFault => 6,
         Status::LinkFault => 7,
         Status::FrontRefused { .. } => 8,
+        Status::NoRoom => 10,
         Status::Memory => 9,
     }
 }

@@ -15,6 +15,7 @@ pub(crate) enum Stop {
     WriteFault,
     LinkFault,
     FrontRefused { place: u64, fault: FrontKind },
+    NoRoom,
     Memory,
 }
 

@@ -1,40 +1,37 @@
 -- The ends follow the run as bytes are sent and given.
-use Rattle.std.proofs.Common.{◌≡◌, refl, false, ℕ, ◌+◌, ◌-◌, ◌^◌, ◌<◌, ◌≤◌, List, [], ◌∷◌, ◌++◌, length, map, take, drop, Some, None, option_and_then, sym, ◌∙◌, ap, subst, append_assoc, append-nil, Result, Ok, Err, arith, length-append}
-use Rattle.std.proofs.lemmas.List.{take-append-drop, length-map}
-use Rattle.std.specs.List.{All}
-use Rattle.std.proofs.lemmas.List.Elements.{All-nil, All-cons, All-append}
-use Rattle.front_mirror.specs.declared.replies.Ask.{Ask}
-use Rattle.node_tree.specs.Nodes.{Nodes}
-use Rattle.node_tree.specs.Labels.{Label}
-use Rattle.page_tree.specs.Forms.{CanLoad}
+use Rattle.std.proofs.Common.{◌≡◌, refl, false, ℕ, ◌+◌, ◌-◌, ◌^◌, ◌<◌, ◌≤◌, List, [], ◌∷◌, ◌++◌, length, take, drop, Some, None, sym, ◌∙◌, ap, subst, append_assoc, append-nil, Result, Ok, Err, arith, length-append}
+use Rattle.std.proofs.lemmas.List.{take-append-drop}
+use Rattle.page_forms.specs.Pages.{LoadedPage, CanLoadPage}
+use Rattle.page_tree.specs.Pages.{State as PageValue}
 use Rattle.pipe_frames.specs.Pipe.{Pipe}
 use Rattle.pipe_frames.specs.Frames.{IsText, framed, frames_of, held_after}
 use Rattle.pipe_frames.proofs.FrameLemmas.{frames_of-one}
 use Rattle.cdp_messages.specs.Asked.{command_text}
 use Rattle.front_mirror.specs.declared.faults.FrontKind.{FrontKind}
 use Rattle.front_mirror.specs.Front as front
-use Rattle.front_mirror.specs.Front.{FrontValue, FrontState, first_state, first_value, take_frame, Folded, after_message, after_ask, after_take}
+use Rattle.front_mirror.specs.Front.{FrontValue, FrontState, first_state, first_value, take_frame, Folded, after_message, fetch_ask, after_ask, after_fetch, after_take}
 use Rattle.replay_script.specs.Forms.{AskForm}
 use Rattle.inspect_world.specs.Stream.{Stream, sent, put, passed, held, arriving, awaited}
-use Rattle.inspect_world.specs.World.{World, Spent, one_ask, one_raw, steps, sent_up, raw, turned, answered, given_up, delivered_down}
+use Rattle.inspect_world.specs.World.{World, Spent, one_ask, one_fetch, one_raw, steps, sent_up, raw, turned, answered, given_up, delivered_down}
 use Rattle.inspect_world.specs.Fold.{folded, joined, then}
 use Rattle.back_end.specs.declared.seat.Seat.{Seat}
 use Rattle.back_end.specs.declared.side.PageSide.{PageSide}
 use Rattle.back_end.specs.States.{State, loaded_state}
 use Rattle.back_end.specs.Steps.{Turn, step, turn}
-use Rattle.back_end.specs.Seats.{StandsFor}
-use Rattle.inspect_world.specs.Fits.{join, IsNext, next_raw, IsBare, IsPlainFrame, IsNextTurn, replay, ask_in, ask_with, with_ask, HasLeft, IsFit}
-use Rattle.inspect_world.specs.Scripts.{sends, all_told, loaded_world}
-use Rattle.page_forms.specs.Texts.{HaveTexts}
+use Rattle.back_end.specs.Laws.{HasRoom}
+use Rattle.back_end.specs.Seats.{StandsFor, HasRoomLeft}
+use Rattle.inspect_world.specs.Fits.{join, IsNext, next_raw, IsBare, IsNextTurn, replay, ask_in, ask_with, with_ask, most_asks, most_fetches, HasLeft, IsFit}
+use Rattle.inspect_world.specs.FreshRuns.{front_fetcher}
+use Rattle.inspect_world.specs.Scripts.{sends, loaded_world}
+use Rattle.page_forms.specs.Texts.{PageHasTexts}
 use Rattle.inspect_world.specs.ScriptsFit.{CanSend}
-use Rattle.inspect_world.specs.ShownReplies.{told_of, replies_in}
 use Rattle.inspect_world.specs.Held.{Ends, good_front, InWorld}
 use Rattle.inspect_world.specs.Carried.{Carries}
 use Rattle.inspect_world.proofs.Frames.{sent-passed, awaited-passed, whole-sent, whole-given, rest-given}
-use Rattle.inspect_world.proofs.Worlds.{whole-after, whole-framed, fits-sent_up, fits-turned, fits-given_up, fits-answered_one}
-use Rattle.inspect_world.proofs.FitLemmas.{world_laws}
+use Rattle.inspect_world.proofs.Worlds.{whole-after, fits-sent_up, fits-turned, fits-given_up, fits-answered_one}
+use Rattle.inspect_world.proofs.FitLemmas.{world_laws, fit-room}
 use Rattle.inspect_world.proofs.Messages.{IsText-sent, ask_in-sent, IsNext-sent}
-use Rattle.inspect_world.proofs.Replies.{replies-of}
+use Rattle.inspect_world.proofs.FetchForms.{fetcher-text, fetcher-asks, fetcher-next}
 use Rattle.inspect_world.proofs.Scripts.{fits-loaded}
 use Rattle.inspect_world.proofs.Folds.{Halves, folded-append, folded-halves, folded-rest, joined-append}
 use Rattle.inspect_world.proofs.Pipes.{carries-start, carries-put, carries-get}
@@ -66,7 +63,7 @@ left-passed n there there' piece s is front after =
 -- what the front end makes of the bytes that come down in an honest run
 pub record Takes (front1 : FrontState) (w : World State) (n : ℕ) : Type 0 where
   pub value : FrontValue
-  pub front_is : front1 ≡ good_front value (held (passed n w.down)) (w.spent.asks + 1)
+  pub front_is : front1 ≡ good_front value (held (passed n w.down)) (w.spent.asks + 1) w.spent.fetches
   pub is_fold : folded take_frame (joined join (first_value []) (frames_of (sent w.up)).whole) (frames_of (passed n w.down).given).whole ≡ Ok value
 
 takes : (up0 down0 up down : Pipe) (w : World State) (frames : List (List ℕ)) (e : Ends) (n : ℕ) (piece : List ℕ)
@@ -87,9 +84,9 @@ takes up0 down0 up down w frames e n piece in_world front_part =
       value = halves.middle;
       front_is =
           ap (λ state. after_take state piece) in_world.front_is
-          ∙ ap (λ bytes. after_take (good_front in_world.value (held w.down) (w.spent.asks + 1)) bytes) front_part
-          ∙ ap (λ (end : Folded). record { value = end.value; rest = held_after (held w.down) (take n w.down.flying); fault = end.fault; next = w.spent.asks + 1; fetches = 0; dead = false }) taken
-          ∙ ap (λ rest. good_front halves.middle rest (w.spent.asks + 1)) (sym (rest-given n w.down));
+          ∙ ap (λ bytes. after_take (good_front in_world.value (held w.down) (w.spent.asks + 1) w.spent.fetches) bytes) front_part
+          ∙ ap (λ (end : Folded). record { value = end.value; rest = held_after (held w.down) (take n w.down.flying); fault = end.fault; next = w.spent.asks + 1; fetches = w.spent.fetches; dead = false }) taken
+          ∙ ap (λ rest. good_front halves.middle rest (w.spent.asks + 1) w.spent.fetches) (sym (rest-given n w.down));
       is_fold =
           ap (folded take_frame start) (whole-given n w.down)
           ∙ folded-append take_frame start given (arriving n w.down)
@@ -115,7 +112,6 @@ world-delivered_down up0 down0 up down down1 w frames e n there piece in_world f
       up_left = in_world.up_left;
       down_left = left-passed n e.down_there there piece w.down in_world.down_left front_part left;
       told_is = in_world.told_is;
-      plain = in_world.plain;
       fits = record {
         front = in_world.fits.front;
         is_fold =
@@ -137,11 +133,11 @@ never-refuses up0 down0 up down w frames e n piece in_world front_part =
 
 -- a frame is sent
 pub world-sent_up : (up0 down0 up down up1 : Pipe) (w : World State) (e : Ends) (text : List ℕ) (more : Spent → Spent) (front1 : FrontState) (there : ℕ)
-    → (in_world : InWorld up0 down0 up down w (awaited w.up) e) → IsText text → IsPlainFrame text → IsNext w.spent text (more w.spent)
-    → front1 ≡ good_front (join in_world.value text) (held w.down) ((more w.spent).asks + 1)
+    → (in_world : InWorld up0 down0 up down w (awaited w.up) e) → IsText text → IsNext w.spent text (more w.spent)
+    → front1 ≡ good_front (join in_world.value text) (held w.down) ((more w.spent).asks + 1) (more w.spent).fetches
     → up1.sent ≡ up.sent ++ framed text → up1.given ≡ up.given → there ≡ e.up_there + length (framed text)
     → InWorld up0 down0 up1 down (sent_up text more w) (awaited (sent_up text more w).up) (record e { front = front1; up_there = there })
-world-sent_up up0 down0 up down up1 w e text more front1 there in_world letters plain is_next front_is sent_is given_is left =
+world-sent_up up0 down0 up down up1 w e text more front1 there in_world letters is_next front_is sent_is given_is left =
     let start = joined join (first_value []) (frames_of (sent w.up)).whole in
     record {
       up_is = carries-put up0 up up1 (framed text) w.up in_world.up_is sent_is given_is;
@@ -161,9 +157,6 @@ world-sent_up up0 down0 up down up1 w e text more front1 there in_world letters 
       up_left = left ∙ ap (λ n. n + length (framed text)) in_world.up_left ∙ sym (length-append w.up.flying (framed text));
       down_left = in_world.down_left;
       told_is = in_world.told_is;
-      plain =
-          subst (λ frames. All IsPlainFrame frames) (sym (whole-framed text w.up letters in_world.fits.up_whole))
-          (All-append IsPlainFrame (frames_of (sent w.up)).whole (text ∷ []) in_world.plain (All-cons IsPlainFrame text [] plain (All-nil IsPlainFrame)));
       fits = fits-sent_up replay IsNext IsNextTurn IsFit world_laws (first_value []) text more w letters is_next in_world.fits;
     }
 
@@ -181,9 +174,9 @@ world-sent up0 down0 up down up1 w e a text there in_world can room text_is sent
     let is : ask_in sends_text ≡ Some (ask_with a.method (w.spent.asks + 1)) = ask_in-sent (w.spent.asks + 1) a can small in
     let joins : join in_world.value sends_text ≡ with_ask in_world.value (Some (ask_with a.method (w.spent.asks + 1))) = ap (with_ask in_world.value) is in
     world-sent_up up0 down0 up down up1 w e sends_text one_ask (after_ask e.front a.method) there in_world
-    (IsText-sent (w.spent.asks + 1) a can (omega (arith, few))) (ap (λ o. option_and_then (λ (ask : Ask). ask.sheet) o) is) (IsNext-sent w.spent a can few small)
+    (IsText-sent (w.spent.asks + 1) a can (omega (arith, few))) (IsNext-sent w.spent a can few small)
     (ap (λ front. after_ask front a.method) in_world.front_is
-    ∙ ap (λ value. good_front value (held w.down) (w.spent.asks + 1 + 1)) (sym joins))
+    ∙ ap (λ value. good_front value (held w.down) (w.spent.asks + 1 + 1) w.spent.fetches) (sym joins))
     (sent_is ∙ ap (λ bytes. up.sent ++ framed bytes) text_is) given_is (left ∙ ap (λ bytes. e.up_there + length (framed bytes)) text_is)
 
 -- a frame is sent that names no ask
@@ -193,8 +186,25 @@ pub world-raw : (up0 down0 up down up1 : Pipe) (w : World State) (e : Ends) (tex
     → InWorld up0 down0 up1 down (raw text w) (awaited (raw text w).up) (record e { up_there = there })
 world-raw up0 down0 up down up1 w e text there in_world letters bare room sent_is given_is left =
     let joins : join in_world.value text ≡ in_world.value = ap (with_ask in_world.value) bare.no_ask in
-    world-sent_up up0 down0 up down up1 w e text one_raw e.front there in_world letters (ap (λ o. option_and_then (λ (ask : Ask). ask.sheet) o) bare.no_ask) (next_raw bare room.raws)
-    (in_world.front_is ∙ ap (λ value. good_front value (held w.down) (w.spent.asks + 1)) (sym joins)) sent_is given_is left
+    world-sent_up up0 down0 up down up1 w e text one_raw e.front there in_world letters (next_raw bare room.raws)
+    (in_world.front_is ∙ ap (λ value. good_front value (held w.down) (w.spent.asks + 1) w.spent.fetches) (sym joins)) sent_is given_is left
+
+-- the text of a sheet is fetched
+pub world-fetched : (up0 down0 up down up1 : Pipe) (w : World State) (e : Ends) (sheet there : ℕ)
+    → InWorld up0 down0 up down w (awaited w.up) e → sheet < 2 ^ 64 → w.spent.fetches + 1 ≤ most_fetches
+    → up1.sent ≡ up.sent ++ framed (front_fetcher.text w.spent.fetches sheet) → up1.given ≡ up.given
+    → there ≡ e.up_there + length (framed (front_fetcher.text w.spent.fetches sheet))
+    → InWorld up0 down0 up1 down (sent_up (front_fetcher.text w.spent.fetches sheet) one_fetch w) (awaited (sent_up (front_fetcher.text w.spent.fetches sheet) one_fetch w).up)
+    (record e { front = after_fetch e.front sheet; up_there = there })
+world-fetched up0 down0 up down up1 w e sheet there in_world fits few sent_is given_is left =
+    let text = front_fetcher.text w.spent.fetches sheet in
+    let is : ask_in text ≡ Some (fetch_ask w.spent.fetches sheet) = fetcher-asks w.spent.fetches sheet few fits in
+    let joins : join in_world.value text ≡ with_ask in_world.value (Some (fetch_ask w.spent.fetches sheet)) = ap (with_ask in_world.value) is in
+    world-sent_up up0 down0 up down up1 w e text one_fetch (after_fetch e.front sheet) there in_world
+    (fetcher-text w.spent.fetches sheet few) (fetcher-next w.spent sheet few fits)
+    (ap (λ front. after_fetch front sheet) in_world.front_is
+    ∙ ap (λ value. good_front value (held w.down) (w.spent.asks + 1) (w.spent.fetches + 1)) (sym joins))
+    sent_is given_is left
 
 -- bytes come up
 pub world-given_up : (up0 down0 up down up1 : Pipe) (w : World State) (e : Ends) (n there : ℕ) (piece rest : List ℕ)
@@ -218,7 +228,6 @@ world-given_up up0 down0 up down up1 w e n there piece rest in_world front_part 
   up_left = left-passed n e.up_there there piece w.up in_world.up_left front_part left;
   down_left = in_world.down_left;
   told_is = in_world.told_is;
-  plain = subst (λ bytes. All IsPlainFrame (frames_of bytes).whole) (sym (sent-passed n w.up)) in_world.plain;
   fits = fits-given_up replay IsNext IsNextTurn IsFit world_laws (first_value []) n w in_world.fits;
 }
 
@@ -253,7 +262,6 @@ world-answered up0 down0 up down down1 w frame frames e seat side out there in_w
       up_left = in_world.up_left;
       down_left = left-put w there e.down_there out (steps step w.state (frame ∷ [])).sent in_world.down_left all left;
       told_is = in_world.told_is;
-      plain = in_world.plain;
       fits = fits-answered_one replay IsNext IsNextTurn IsFit world_laws (first_value []) frame frames w in_world.fits;
     }
 
@@ -275,24 +283,40 @@ world-turned up0 down0 up down down1 w e x seat side out there in_world next sta
   up_left = in_world.up_left;
   down_left = left-put w there e.down_there out (turn x w.state).sent in_world.down_left out_is left;
   told_is = in_world.told_is;
-  plain = in_world.plain;
   fits = fits-turned replay IsNext IsNextTurn IsFit world_laws (first_value []) x w next in_world.fits;
 }
 
+-- ---- there is room
+
+-- at the back end
+pub world-room : (up0 down0 up down : Pipe) (w : World State) (frames : List (List ℕ)) (e : Ends) → InWorld up0 down0 up down w frames e
+    → HasRoomLeft e.seat.desk e.side
+world-room up0 down0 up down w frames e in_world =
+    let room : HasRoom w.state = fit-room w.spent in_world.fits.front w.state frames in_world.fits.fit in
+    let next : e.seat.desk.agent.next ≡ length w.state.client.session.pushed + 1 = in_world.stands.stands.next_is in
+    let ids : length w.state.client.session.pushed + 1 < 2 ^ 50 = room.ids in
+    record {
+      ids = omega (arith, next, ids);
+      serials = subst (λ (page : PageValue). page.next < 2 ^ 50) (sym in_world.stands.page_is) room.serials;
+      sheets = subst (λ n. n < 2 ^ 50) (sym in_world.stands.next_is) room.sheets;
+    }
+
+-- and at the front end
+pub world-ids : (up0 down0 up down : Pipe) (w : World State) (frames : List (List ℕ)) (e : Ends) → InWorld up0 down0 up down w frames e
+    → w.spent.fetches ≤ most_fetches → (e.front.next < 2 ^ 30) × (2 ^ 30 + e.front.fetches < 2 ^ 52)
+world-ids up0 down0 up down w frames e in_world few_fetches =
+    let next : e.front.next ≡ w.spent.asks + 1 = ap (λ (f : FrontState). f.next) in_world.front_is in
+    let fetches : e.front.fetches ≡ w.spent.fetches = ap (λ (f : FrontState). f.fetches) in_world.front_is in
+    let few : w.spent.asks ≤ most_asks = in_world.fits.fit.few in
+    (omega (arith, next, few), omega (arith, fetches, few_fetches))
+
 -- ---- the replies
 
--- the front end has kept just the replies that came down
-pub world-replies : (up0 down0 up down : Pipe) (w : World State) (frames : List (List ℕ)) (e : Ends)
-    → InWorld up0 down0 up down w frames e → map told_of e.front.value.replies ≡ replies_in w.down.given
-world-replies up0 down0 up down w frames e in_world =
-    ap (λ (s : FrontState). map told_of s.value.replies) in_world.front_is
-    ∙ replies-of (frames_of (sent w.up)).whole (frames_of w.down.given).whole in_world.value in_world.plain in_world.is_fold
-
--- all of them are told
+-- how many of them were told says nothing of the link
 pub world-told : (up0 down0 up down : Pipe) (w : World State) (frames : List (List ℕ)) (e : Ends) (n : ℕ)
-    → InWorld up0 down0 up down w frames e → n ≡ length e.front.value.replies
-    → InWorld up0 down0 up down (all_told w) frames (record e { told = n })
-world-told up0 down0 up down w frames e n in_world all = record {
+    → InWorld up0 down0 up down w frames e
+    → InWorld up0 down0 up down (record { state = w.state; up = w.up; down = w.down; spent = w.spent; told = n }) frames (record e { told = n })
+world-told up0 down0 up down w frames e n in_world = record {
   up_is = in_world.up_is;
   down_is = in_world.down_is;
   stands = in_world.stands;
@@ -302,8 +326,7 @@ world-told up0 down0 up down w frames e n in_world all = record {
   is_fold = in_world.is_fold;
   up_left = in_world.up_left;
   down_left = in_world.down_left;
-  told_is = all ∙ sym (length-map e.front.value.replies told_of) ∙ ap length (world-replies up0 down0 up down w frames e in_world);
-  plain = in_world.plain;
+  told_is = refl;
   fits = record {
     front = in_world.fits.front;
     is_fold = in_world.fits.is_fold;
@@ -316,12 +339,12 @@ world-told up0 down0 up down w frames e n in_world all = record {
 -- ---- the start
 
 -- a page was loaded, and nothing was sent since the pipes had nothing left to give
-pub world-first : (up0 down0 : Pipe) (nodes : Nodes Label) (seat : Seat) (side : PageSide) → CanLoad nodes → HaveTexts nodes
-    → up0.given ≡ up0.sent → down0.given ≡ down0.sent → StandsFor seat side (loaded_state nodes)
-    → InWorld up0 down0 up0 down0 (loaded_world nodes) []
+pub world-first : (up0 down0 : Pipe) (page : LoadedPage) (seat : Seat) (side : PageSide) → CanLoadPage page → PageHasTexts page
+    → up0.given ≡ up0.sent → down0.given ≡ down0.sent → StandsFor seat side (loaded_state page)
+    → InWorld up0 down0 up0 down0 (loaded_world page) []
     (record { seat = seat; side = side; back_rest = []; front = first_state; up_there = 0; down_there = 0; told = 0 })
 unfolding frames_of
-world-first up0 down0 nodes seat side can texts up_level down_level stands = record {
+world-first up0 down0 page seat side can texts up_level down_level stands = record {
   up_is = carries-start up0 up_level;
   down_is = carries-start down0 down_level;
   stands = stands;
@@ -332,6 +355,5 @@ world-first up0 down0 nodes seat side can texts up_level down_level stands = rec
   up_left = refl;
   down_left = refl;
   told_is = refl;
-  plain = All-nil IsPlainFrame;
-  fits = fits-loaded nodes can texts;
+  fits = fits-loaded page can texts;
 }

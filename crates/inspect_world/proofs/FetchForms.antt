@@ -1,5 +1,5 @@
 -- The frame of a fetch is a text, and is the ask of the sheet that it fetches.
-use Rattle.std.proofs.Common.{◌≡◌, ℕ, ◌+◌, ◌^◌, ◌<◌, ◌≤◌, Bool, true, false, cond, nat_lt, List, [], ◌∷◌, codes, Option, Some, None, option_and_then, refl, sym, ◌∙◌, ap, arith, lt-ltb}
+use Rattle.std.proofs.Common.{◌≡◌, ℕ, ◌+◌, ◌^◌, ◌<◌, ◌≤◌, Bool, true, false, cond, nat_lt, List, [], ◌∷◌, codes, Option, Some, None, option_and_then, Ok, refl, sym, ◌∙◌, ap, arith, lt-ltb}
 use Rattle.std.specs.Prelude.{bytes_eq, decimal, IsUtf8, if◌then◌else◌}
 use Rattle.std.specs.Str.Parse.{digits_value}
 use Rattle.std.proofs.lemmas.Fmt.{decimal_is_IsNumeral, IsAscii-decimal}
@@ -15,7 +15,8 @@ use Rattle.cdp_json.specs.Plain.{is_plain, HasUtf8}
 use Rattle.cdp_json.proofs.ReadBack.{IsUtf8-compact_text}
 use Rattle.css_objects.specs.Sheets.{sheet_text}
 use Rattle.pipe_frames.specs.Frames.{IsText}
-use Rattle.cdp_messages.specs.Asked.{command_value, command_text}
+use Rattle.cdp_messages.specs.declared.command.Command.TheVariants.{GetStyleSheetText}
+use Rattle.cdp_messages.specs.Asked.{command_value, command_text, asked_value, asked}
 use Rattle.cdp_messages.proofs.Commands.{ask_plain}
 use Rattle.cdp_messages.proofs.Messages.{json_of-compact_text}
 use Rattle.cdp_messages.proofs.ZeroFree.{texts_have_no_zero}
@@ -87,8 +88,25 @@ fetch-small count few = omega (arith, few)
 pub fetcher-text : (count sheet : ℕ) → count + 1 ≤ most_fetches → IsText (front_fetcher.text count sheet)
 fetcher-text count sheet few = fetch-text (2 ^ 30 + count) sheet (fetch-small count few)
 
+pub sent-fetch : (count sheet : ℕ) → 2 ^ 30 + count < 2 ^ 53 → sheet < 2 ^ 64 → ask_in (front_fetcher.text count sheet) ≡ Some (fetch_ask count sheet)
+sent-fetch count sheet small fits = fetch-asks (2 ^ 30 + count) sheet fits small (high-id count)
+
 pub fetcher-asks : (count sheet : ℕ) → count + 1 ≤ most_fetches → sheet < 2 ^ 64 → ask_in (front_fetcher.text count sheet) ≡ Some (fetch_ask count sheet)
-fetcher-asks count sheet few fits = fetch-asks (2 ^ 30 + count) sheet fits (fetch-small count few) (high-id count)
+fetcher-asks count sheet few fits = sent-fetch count sheet (fetch-small count few) fits
+
+-- what the back end reads in a fetch
+value_asked : (id sheet : ℕ) → is_counted id ≡ true
+    → asked_value false (Some (fetch_value id sheet)) ≡ Ok (record { id = id; command = GetStyleSheetText (sheet_text sheet) })
+value_asked id sheet small = rw small
+
+pub fetcher-asked : (count sheet : ℕ) → count + 1 ≤ most_fetches → sheet < 2 ^ 64
+    → asked (front_fetcher.text count sheet) false ≡ Ok (record { id = 2 ^ 30 + count; command = GetStyleSheetText (sheet_text sheet) })
+fetcher-asked count sheet few fits =
+    let id : ℕ = 2 ^ 30 + count in
+    let c : is_counted id ≡ true = lt-ltb id (2 ^ 53) (fetch-small count few) in
+    ap (asked_value false)
+    (json_of-compact_text (fetch_value id sheet) (fetch-plain id sheet c) (fetch-shallow id sheet) (IsUtf8-compact_text (fetch_value id sheet) (fetch-plain id sheet c) (fetch-utf8 id sheet fits)))
+    ∙ value_asked id sheet c
 
 pub fetcher-next : (n : Spent) (sheet : ℕ) → n.fetches + 1 ≤ most_fetches → sheet < 2 ^ 64 → IsNext n (front_fetcher.text n.fetches sheet) (one_fetch n)
 fetcher-next n sheet few fits = next_fetch sheet (fetcher-asks n.fetches sheet few fits) few

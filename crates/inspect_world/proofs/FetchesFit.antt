@@ -1,79 +1,170 @@
 -- What the fetches of a settle need of this protocol.
-use Rattle.std.proofs.Common.{◌≡◌, ℕ, ◌+◌, ◌^◌, ◌<◌, ◌≤◌, Bool, true, false, cond, List, [], ◌∷◌, length, map, Option, Some, None, option_and_then, Ok, refl, sym, ◌∙◌, ap, subst, arith}
+use Rattle.std.proofs.Common.{◌≡◌, ℕ, suc, ◌+◌, ◌==◌, ◌^◌, ◌<◌, ◌≤◌, Bool, true, false, ◌&&◌, cond, nat_lt, List, [], ◌∷◌, ◌++◌, length, map, codes, Option, Some, None, option_map, option_and_then, Result, Ok, Err, refl, sym, ◌∙◌, ap, subst, arith, append-nil, lt-ltb}
 use Rattle.std.specs.List.{All}
-use Rattle.pipe_frames.specs.Frames.{IsText, frames_of}
+use Rattle.std.specs.Str.{IsUtf8}
+use Rattle.std.proofs.lemmas.Bool.{eq-eqb}
+use Rattle.pipe_frames.specs.Frames.{IsText, Frames, frames_of}
+use Rattle.cdp_json.specs.Kinds.{is_counted}
 use Rattle.css_objects.specs.Sheets.{is_sheet}
-use Rattle.css_objects.proofs.SheetIds.{sheet_bounds}
+use Rattle.cdp_messages.specs.declared.down.ReplyBody.TheVariants.{SheetText}
 use Rattle.cdp_messages.specs.Asked.{command_text}
-use Rattle.cdp_messages.specs.Views.{ShownSheet, AreSheets}
-use Rattle.cdp_messages.specs.Moves.{CanBeTold}
-use Rattle.replay_script.specs.Forms.{AskForm}
+use Rattle.cdp_messages.specs.Views.{ShownSheet, shown_text}
+use Rattle.cdp_messages.specs.Replies.{body_data, message_data, reply, reply_text}
+use Rattle.cdp_messages.specs.Moves.{texted, move_text, frames_of_moves}
+use Rattle.cdp_messages.proofs.Depths.{replies_are_shallow}
+use Rattle.cdp_messages.proofs.Messages.{reply_plain, replies_are_read, results_are_read}
+use Rattle.cdp_messages.proofs.TextsUtf8.{replies_are_utf8}
+use Rattle.cdp_messages.proofs.ZeroFree.{texts_have_no_zero}
+use Rattle.replay_script.specs.Forms.{AskForm, LineForm}
+use Rattle.page_forms.specs.Pages.{LoadedPage, CanLoadPage}
+use Rattle.page_forms.specs.Texts.{PageHasTexts}
+use Rattle.back_end.specs.Steps.{Step, asked_step, frame_step, step}
 use Rattle.front_mirror.specs.declared.replies.Ask.{Ask}
-use Rattle.front_mirror.specs.declared.sheets.KnownSheet.{KnownSheet}
-use Rattle.front_mirror.specs.Sheets.{has_fresh_text, stale_of}
-use Rattle.front_mirror.specs.Front.{FrontValue, first_value}
-use Rattle.front_mirror.specs.Laws.{KnowsSheets}
+use Rattle.front_mirror.specs.declared.replies.Kept.{Kept}
+use Rattle.front_mirror.specs.Sheets.{has_sheet, with_fetched, stale_of}
+use Rattle.front_mirror.specs.declared.faults.FrontKind.{FrontKind}
+use Rattle.front_mirror.specs.Front.{FrontValue, first_value, fetch_ask, method_of, fetched_sheet, kept, unless_fetch, kept_reply, sheets_fetched, without, replied, with_body, with_reply, with_message, take_frame}
+use Rattle.front_mirror.specs.Laws.{Has}
 use Rattle.back_end.specs.States.{State, IsState, sheets_shown, view_of}
 use Rattle.back_end.specs.Laws.{HasRoom}
-use Rattle.back_end.proofs.StepLemmas.{told-view}
 use Rattle.inspect_world.specs.Stream.{sent}
-use Rattle.inspect_world.specs.World.{World, Spent, one_fetch}
-use Rattle.inspect_world.specs.Fetches.{front_in, IsDue, FetchLaws}
-use Rattle.inspect_world.specs.Fits.{IsPlainFrame, most_sheets, most_fetches, IsBare, IsNext, IsFit, replay}
-use Rattle.inspect_world.specs.ScriptsFit.{CanSend}
+use Rattle.inspect_world.specs.World.{World, Spent, settled}
+use Rattle.inspect_world.specs.Fold.{folded, then}
+use Rattle.inspect_world.specs.Fetches.{front_in, fetched, fetched_if, all_fetched, stale_in, IsDue, GivesText, FetchLaws}
+use Rattle.inspect_world.specs.Fits.{join, with_ask, IsPlainFrame, most_asks, most_sheets, most_fetches, IsBare, IsNext, IsNextTurn, IsFit, replay, Fits}
+use Rattle.inspect_world.specs.Scripts.{after_line, loaded_world}
+use Rattle.inspect_world.specs.ScriptsFit.{CanSend, IsLater}
 use Rattle.inspect_world.specs.ShownReplies.{told_of, replies_in}
-use Rattle.inspect_world.specs.FreshRuns.{front_fetcher, unstyled, FreshLinesFit, FreshInputsFit, RefreshedShows}
-use Rattle.inspect_world.proofs.FitLemmas.{fit-room}
+use Rattle.inspect_world.specs.FreshRuns.{front_fetcher, refreshes, fresh_line, Unstyled, unstyled, Together, FreshLinesFit, FreshInputsFit, RefreshedShows}
+use Rattle.inspect_world.proofs.FitLemmas.{fit-room, world_laws}
+use Rattle.inspect_world.proofs.AgreeLemmas.{ok-one}
+use Rattle.inspect_world.proofs.FetchLemmas.{IsRefreshed, settled-rests, fit-rests, refreshed-made}
 use Rattle.inspect_world.proofs.Messages.{ask_in-sent}
 use Rattle.inspect_world.proofs.Replies.{replies-of}
-use Rattle.inspect_world.proofs.StaleLemmas.{stale-known}
+use Rattle.inspect_world.proofs.StepsTaken.{frames_of-moves}
+use Rattle.inspect_world.proofs.ShownSheets.{shown-below, are-apart, known-length, HasText, stale-shown, shown-number, shown-utf8}
+use Rattle.inspect_world.proofs.StaleLemmas.{AreApart, stale-known, stale-few, stale-fetched}
+use Rattle.inspect_world.proofs.FetchTold.{shown-told}
 use Rattle.inspect_world.proofs.UnstyledLemmas.{unstyled-takes, unstyled-joins}
-use Rattle.inspect_world.proofs.FetchForms.{fetcher-text, fetcher-next}
-use Rattle.inspect_world.proofs.FreshLemmas.{fresh-lines-fit, fresh-inputs-fit, refreshed-shows}
+use Rattle.inspect_world.proofs.FetchForms.{fetcher-text, fetcher-asks, fetcher-asked, fetcher-next}
+use Rattle.inspect_world.proofs.FreshLemmas.{together-told, room-fetches, settled-plain, together-line, together-loaded, fresh-lines-fit, fresh-inputs-fit, refreshed-shows}
 
 -- ---- which sheets are fetched
 
--- a sheet without a fresh text has a number of sheets
-numbered-by : (fresh : Bool) (s : ShownSheet) (k : KnownSheet) (ks : List KnownSheet) (number : ℕ) (numbers : List ℕ) → k.number ≡ s.number → is_sheet s.number ≡ true
-    → cond fresh (stale_of ks) (k.number ∷ stale_of ks) ≡ number ∷ numbers → (stale_of ks ≡ number ∷ numbers → is_sheet number ≡ true) → is_sheet number ≡ true
-numbered-by true s k ks number numbers same fits e later = later e
-numbered-by false s k ks number numbers same fits e later = let first : k.number ≡ number = cc e in ap is_sheet (sym first ∙ same) ∙ fits
-
-stale-numbered : (ks : List KnownSheet) (ss : List ShownSheet) (number : ℕ) (numbers : List ℕ) → KnowsSheets ks ss → AreSheets ss → stale_of ks ≡ number ∷ numbers
-    → is_sheet number ≡ true
-stale-numbered [] ss number numbers knows are e = absurd cc
-stale-numbered (k ∷ ks) [] number numbers knows are e = absurd knows
-stale-numbered (k ∷ ks) (s ∷ ss) number numbers knows are e =
-    numbered-by (has_fresh_text k) s k ks number numbers knows.0.number are.0 e (λ rest. stale-numbered ks ss number numbers knows.1 are.2 rest)
-
-due-numbered : (n : Spent) (front : FrontValue) (state : State) (number : ℕ) (numbers : List ℕ) → IsDue IsFit front_fetcher most_fetches n front state number numbers
-    → is_sheet number ≡ true
-due-numbered n front state number numbers due =
-    let room : HasRoom state = fit-room n front state [] due.fit in
-    let told : CanBeTold (view_of state) = told-view state due.fit.is_state (omega (arith, room.ids)) (omega (arith, room.serials)) in
-    stale-numbered front.sheets (sheets_shown state) number numbers due.fit.has.sheets told.sheets due.first
-
--- ---- no sheet is told of so far
-
-shown-none : (state : State) → IsState state → sheets_shown state ≡ []
-shown-none state is = ap (λ on. cond on state.side.sheets []) is.no_more.css_off
-
-known-none : (ks : List KnownSheet) (ss : List ShownSheet) → ss ≡ [] → KnowsSheets ks ss → ks ≡ []
-known-none [] ss none knows = refl
-known-none (k ∷ ks) ss none knows = absurd (subst (KnowsSheets (k ∷ ks)) none knows)
-
--- so a front end that fits knows none
-fit-none : (n : Spent) (front : FrontValue) (state : State) (frames : List (List ℕ)) → IsFit n front state frames → front.sheets ≡ []
-fit-none n front state frames fit = known-none front.sheets (sheets_shown state) (shown-none state fit.is_state) fit.has.sheets
-
+-- a front end that fits knows the sheets that are shown, which are few
 few-stale : (n : Spent) (front : FrontValue) (state : State) (frames : List (List ℕ)) → IsFit n front state frames → length (stale_of front.sheets) ≤ most_sheets
 few-stale n front state frames fit =
-    let none : length (stale_of front.sheets) ≡ 0 = ap (λ ks. length (stale_of ks)) (fit-none n front state frames fit) in omega (arith, none)
+    let shown : length (sheets_shown state) ≤ 1000 = (shown-below state fit.is_state).few in
+    let known : length front.sheets ≡ length (sheets_shown state) = known-length front.sheets (sheets_shown state) fit.has.sheets in
+    let stale : length (stale_of front.sheets) ≤ length front.sheets = stale-few front.sheets in
+    omega (arith, shown, known, stale)
 
--- and no fetch is due
-never-due : {P : Type 0} (n : Spent) (front : FrontValue) (state : State) (number : ℕ) (numbers : List ℕ) → IsDue IsFit front_fetcher most_fetches n front state number numbers → P
-never-due n front state number numbers due =
-    let no : [] ≡ number ∷ numbers = sym (ap stale_of (fit-none n front state [] due.fit)) ∙ due.first in absurd cc
+-- a sheet whose text is fetched: it is shown, with a number of sheets; both domains are on
+record IsShownSheet (state : State) (number : ℕ) : Type 0 where
+  text : List ℕ
+  shown : shown_text number state.side.sheets ≡ Some text
+  css : state.client.css_on ≡ true
+  dom : state.client.dom_on ≡ true
+  low : 1 ≤ number
+  high : number < 2 ^ 53
+
+shown-on : (on : Bool) (ss : List ShownSheet) (number : ℕ) (text : List ℕ) → shown_text number (cond on ss []) ≡ Some text → (on ≡ true) × (shown_text number ss ≡ Some text)
+shown-on true ss number text e = (refl, e)
+shown-on false ss number text e = absurd cc
+
+not-off : (b : Bool) → (b ≡ false → ⊥) → b ≡ true
+not-off true never = refl
+not-off false never = absurd (never refl)
+
+due-shown : (n : Spent) (front : FrontValue) (state : State) (number : ℕ) (numbers : List ℕ) → IsDue IsFit front_fetcher most_fetches n front state number numbers
+    → IsShownSheet state number
+due-shown n front state number numbers due =
+    let room : HasRoom state = fit-room n front state [] due.fit in
+    let next : state.side.next_sheet < 2 ^ 50 = room.sheets in
+    let has : HasText number (sheets_shown state) = stale-shown front.sheets (sheets_shown state) number numbers due.fit.has.sheets due.first in
+    let on = shown-on state.client.css_on state.side.sheets number has.text has.is in
+    let within : (1 ≤ number) × (number < state.side.next_sheet) =
+    shown-number number 1 state.side.next_sheet (sheets_shown state) has.text (shown-below state due.fit.is_state).numbers has.is in
+    record {
+      text = has.text;
+      shown = on.1;
+      css = on.0;
+      dom = not-off state.client.dom_on (λ off. let no : true ≡ false = sym on.0 ∙ due.fit.is_state.css_off off in absurd cc);
+      low = within.0;
+      high = let below : number < state.side.next_sheet = within.1 in omega (arith, next, below);
+    }
+
+numbered : (number : ℕ) → 1 ≤ number → number < 2 ^ 53 → is_sheet number ≡ true
+numbered number low high = both (nat_lt 0 number) (is_counted number) (lt-ltb 0 number (omega (arith, low))) (lt-ltb number (2 ^ 53) high)
+  where
+    both : (a b : Bool) → a ≡ true → b ≡ true → (a && b) ≡ true
+    both true b x y = y
+    both false b x y = absurd cc
+
+-- ---- what is answered
+
+-- a reply with a text is one without a zero byte
+texted-is-text : (id number : ℕ) (text : List ℕ) → is_counted id ≡ true → IsText (move_text (texted id number text))
+texted-is-text id number text counted = texts_have_no_zero (message_data (reply id (body_data (SheetText text)))) (reply_plain id (SheetText text) counted refl)
+
+-- the step on the fetch
+fetch-step : (n : Spent) (number : ℕ) (state : State) → n.fetches + 1 ≤ most_fetches → (s : IsShownSheet state number)
+    → frame_step false (front_fetcher.text n.fetches number) state ≡ record { state = state; moves = texted (2 ^ 30 + n.fetches) number s.text ∷ [] }
+fetch-step n number state few s =
+    ap (λ r. asked_step r state) (fetcher-asked n.fetches number few (omega (arith, s.high)))
+    ∙ shown-told (2 ^ 30 + n.fetches) number s.text state s.dom s.css s.high (numbered number s.low s.high) s.shown
+
+-- a reply with the text of a sheet, to the fetch that waits alone
+fetched-front : (v : FrontValue) (count number : ℕ) (text : List ℕ) → v.asks ≡ fetch_ask count number ∷ [] → is_counted (2 ^ 30 + count) ≡ true → IsUtf8 text
+    → (after : FrontValue) × (take_frame v (move_text (texted (2 ^ 30 + count) number text)) ≡ Ok after)
+    × (after.sheets ≡ with_fetched number text v.sheets) × (unstyled after ≡ record (unstyled v) { asks = [] })
+fetched-front v count number text asks counted utf8 =
+    let id : ℕ = 2 ^ 30 + count in
+    let frame = reply_text id (SheetText text) in
+    let method = codes "CSS.getStyleSheetText" in
+    let first : (id == id) ≡ true = eq-eqb id id refl in
+    let waits : method_of id v.asks ≡ Some method =
+    ap (method_of id) asks ∙ ap (λ b. option_map (λ (a : Ask). a.method) (cond b (Some (fetch_ask count number)) None)) first in
+    let sheet : fetched_sheet id v.asks ≡ Some number =
+    ap (fetched_sheet id) asks ∙ ap (λ b. option_and_then (λ (a : Ask). a.sheet) (cond b (Some (fetch_ask count number)) None)) first in
+    let gone : without id v.asks ≡ [] = ap (without id) asks ∙ ap (λ b. cond b [] (fetch_ask count number ∷ [])) first in
+    let after : FrontValue = record (replied v id frame true v.tree) { sheets = sheets_fetched (fetched_sheet id v.asks) text v.sheets } in
+    let kept : kept_reply id v.asks frame true ≡ [] = ap (λ o. unless_fetch o (kept (Some id) (method_of id v.asks) frame true)) sheet in (
+      after,
+      ap (with_message v frame) (replies_are_read id (SheetText text) counted refl (replies_are_shallow id (SheetText text) (omega arith)) (replies_are_utf8 id (SheetText text) counted refl utf8))
+          ∙ ap (with_reply v id frame (body_data (SheetText text))) waits
+          ∙ ap (with_body v id frame method) (results_are_read method (SheetText text) refl refl),
+      ap (λ o. sheets_fetched o text v.sheets) sheet,
+      λ i. record { tree = v.tree; asks = gone i; replies = (ap (λ ks. v.replies ++ ks) kept ∙ append-nil v.replies) i; pauses = v.pauses },
+    )
+
+-- the answer to a fetch that is due leaves the state, and gives the text
+gives-text : (n : Spent) (front after : FrontValue) (state : State) (number : ℕ) (numbers : List ℕ) → IsDue IsFit front_fetcher most_fetches n front state number numbers
+    → folded take_frame (join front (front_fetcher.text n.fetches number)) (frames_of (step state (front_fetcher.text n.fetches number)).sent).whole ≡ Ok after
+    → GivesText front_fetcher unstyled front after state (step state (front_fetcher.text n.fetches number)).state numbers
+gives-text n front after state number numbers due taken =
+    let s : IsShownSheet state number = due-shown n front state number numbers due in
+    let text = front_fetcher.text n.fetches number in
+    let move = texted (2 ^ 30 + n.fetches) number s.text in
+    let done : frame_step false text state ≡ record { state = state; moves = move ∷ [] } = fetch-step n number state due.left s in
+    let few : n.fetches + 1 ≤ most_fetches = due.left in
+    let counted : is_counted (2 ^ 30 + n.fetches) ≡ true = lt-ltb (2 ^ 30 + n.fetches) (2 ^ 53) (omega (arith, few)) in
+    let utf8 : IsUtf8 s.text = shown-utf8 number s.text state.side.sheets due.fit.is_state.sheets.texts s.shown in
+    let joins : join front text ≡ with_ask front (Some (fetch_ask n.fetches number)) = ap (with_ask front) (fetcher-asks n.fetches number due.left (omega (arith, s.high))) in
+    let v = with_ask front (Some (fetch_ask n.fetches number)) in
+    let asks : v.asks ≡ fetch_ask n.fetches number ∷ [] = ap (λ (asks : List Ask). asks ++ fetch_ask n.fetches number ∷ []) (sym due.fit.asks) in
+    let f = fetched-front v n.fetches number s.text asks counted utf8 in
+    let frames : (frames_of (step state text).sent).whole ≡ move_text move ∷ [] =
+    ap (λ (d : Step). (frames_of (frames_of_moves d.moves)).whole) done ∙ ap (λ (fs : Frames). fs.whole) (frames_of-moves (move ∷ []) (texted-is-text (2 ^ 30 + n.fetches) number s.text counted, tt)) in
+    let is : after ≡ f.0 =
+    ok-one (folded take_frame (join front text) (frames_of (step state text).sent).whole) after f.0 taken
+    (ap (λ u. folded take_frame u (frames_of (step state text).sent).whole) joins ∙ ap (folded take_frame v) frames ∙ ap (λ r. then r (λ (next : FrontValue). Ok next)) f.1) in
+    let apart : AreApart front.sheets = are-apart 1 state.side.next_sheet front.sheets (sheets_shown state) due.fit.has.sheets (shown-below state due.fit.is_state).numbers in
+    record {
+      state_is = ap (λ (d : Step). d.state) done;
+      left = ap (λ (u : FrontValue). stale_of u.sheets) is ∙ ap stale_of f.2 ∙ stale-fetched front.sheets number numbers s.text apart due.first;
+      same = ap unstyled is ∙ f.3 ∙ ap (λ (asks : List Ask). record (unstyled front) { asks = asks }) due.fit.asks;
+    }
 
 -- ---- the laws
 
@@ -84,8 +175,8 @@ fetch_laws = record {
   few = few-stale;
   known = λ front number numbers first. stale-known front.sheets number numbers first;
   letters = λ n front state number numbers due. fetcher-text n.fetches number due.left;
-  next = λ n front state number numbers due. fetcher-next n number due.left (sheet_bounds number (due-numbered n front state number numbers due)).1;
-  answer = λ n front after state number numbers due taken. never-due n front state number numbers due;
+  next = λ n front state number numbers due. let s : IsShownSheet state number = due-shown n front state number numbers due in fetcher-next n number due.left (omega (arith, s.high));
+  answer = gives-text;
 }
 
 -- a script's asks are no fetches
@@ -111,3 +202,83 @@ fresh-inputs = fresh-inputs-fit front_fetcher IsPlainFrame fetch_laws plain-sent
 
 pub refreshed-all : RefreshedShows front_fetcher IsPlainFrame
 refreshed-all = refreshed-shows front_fetcher IsPlainFrame fetch_laws plain-sent plain-bare kept-all
+
+-- ---- lines, in both runs
+
+pub play-line : (line : LineForm) (k : ℕ) (w v : World State) → IsLater line → Together IsPlainFrame (suc k) w v
+    → Together IsPlainFrame k (after_line line w) (fresh_line front_fetcher line v)
+play-line = together-line front_fetcher IsPlainFrame fetch_laws plain-sent plain-bare
+
+pub play-loaded : (page : LoadedPage) (k : ℕ) → CanLoadPage page → PageHasTexts page → k ≤ most_asks → Together IsPlainFrame k (loaded_world page) (loaded_world page)
+play-loaded = together-loaded front_fetcher IsPlainFrame fetch_laws plain-sent plain-bare
+
+pub play-told : (k : ℕ) (w v : World State) (n : ℕ) → Together IsPlainFrame k w v
+    → Together IsPlainFrame k w (record { state = v.state; up = v.up; down = v.down; spent = v.spent; told = n })
+play-told = together-told front_fetcher IsPlainFrame fetch_laws plain-sent plain-bare
+
+-- what a front end shows after a settle: what the client sees; and it has kept the replies that came in the run without fetches
+pub record ShownThen (w : World State) (front : FrontValue) : Type 0 where
+  pub has : Has front (view_of (settled step w).state)
+  pub fresh : stale_of front.sheets ≡ []
+  pub told : map told_of front.replies ≡ replies_in (settled step w).down.given
+
+pub shown-then : (k : ℕ) (w v : World State) (front : FrontValue) → Together IsPlainFrame k w v
+    → front_in replay (first_value []) (refreshes front_fetcher v) ≡ Ok front → ShownThen w front
+shown-then k w v front both is =
+    let made : IsRefreshed replay IsNext IsNextTurn IsFit world_laws front_fetcher unstyled most_sheets most_fetches fetch_laws (first_value []) w v (refreshes front_fetcher v) =
+    refreshed-made replay IsNext IsNextTurn IsFit world_laws front_fetcher unstyled most_sheets most_fetches fetch_laws (first_value []) w v
+    both.runs.fits both.runs.fits_fresh both.runs.agrees (room-fetches front_fetcher IsPlainFrame fetch_laws plain-sent plain-bare v k both.left) in
+    let v1 = refreshes front_fetcher v in
+    let fit : IsFit v1.spent front v1.state [] =
+    fit-rests replay IsNext IsNextTurn IsFit world_laws front_fetcher unstyled most_sheets most_fetches fetch_laws (first_value []) v1 front made.fits made.rests is in
+    let same : made.agrees.fresh ≡ front = ok-one (front_in replay (first_value []) v1) made.agrees.fresh front made.agrees.fresh_is is in
+    record {
+      has = subst (λ state. Has front (view_of state)) (sym made.agrees.state) fit.has;
+      fresh = ap (λ (f : FrontValue). stale_of f.sheets) (sym same) ∙ made.none;
+      told =
+          ap (λ (f : FrontValue). map told_of f.replies) (sym same)
+          ∙ sym (ap (λ (u : Unstyled). map told_of u.replies) made.agrees.same)
+          ∙ kept-all (settled step w) made.agrees.plain
+          (settled-plain front_fetcher IsPlainFrame fetch_laws plain-sent plain-bare w both.runs.plain) made.agrees.plain_is;
+    }
+
+-- ---- fetches spend nothing but fetches, and tell no reply
+
+-- a sheet that is fetched, or passed over, spends one fetch at most
+pub fetched-if-spends : (start : FrontValue) (number : ℕ) (w : World State)
+    → (fetched_if replay front_fetcher (front_in replay start w) number w).spent.fetches ≤ w.spent.fetches + 1
+fetched-if-spends start number w = at (front_in replay start w) where
+  by : (known : Bool) → (cond known (fetched replay front_fetcher number w) w).spent.fetches ≤ w.spent.fetches + 1
+  by true = omega arith
+  by false = omega arith
+
+  at : (r : Result FrontValue FrontKind) → (fetched_if replay front_fetcher r number w).spent.fetches ≤ w.spent.fetches + 1
+  at (Ok front) = by (has_sheet number front.sheets)
+  at (Err kind) = omega arith
+
+fetched-if-told : (start : FrontValue) (number : ℕ) (w : World State) → (fetched_if replay front_fetcher (front_in replay start w) number w).told ≡ w.told
+fetched-if-told start number w = at (front_in replay start w) where
+  by : (known : Bool) → (cond known (fetched replay front_fetcher number w) w).told ≡ w.told
+  by true = refl
+  by false = refl
+
+  at : (r : Result FrontValue FrontKind) → (fetched_if replay front_fetcher r number w).told ≡ w.told
+  at (Ok front) = by (has_sheet number front.sheets)
+  at (Err kind) = refl
+
+all-fetched-told : (start : FrontValue) (numbers : List ℕ) (w : World State) → (all_fetched replay front_fetcher start numbers w).told ≡ w.told
+all-fetched-told start [] w = refl
+all-fetched-told start (number ∷ numbers) w =
+    all-fetched-told start numbers (fetched_if replay front_fetcher (front_in replay start w) number w) ∙ fetched-if-told start number w
+
+pub refreshed-told : (w : World State) → (refreshes front_fetcher w).told ≡ w.told
+refreshed-told w = all-fetched-told (first_value []) (stale_in front_fetcher (front_in replay (first_value []) (settled step w))) (settled step w)
+
+-- after a settle the sheets that the front end would fetch are few
+pub few-then : (w : World State) (front : FrontValue) → Fits (settled step w) → front_in replay (first_value []) (settled step w) ≡ Ok front
+    → length (stale_of front.sheets) ≤ most_sheets
+few-then w front fits is =
+    let w1 = settled step w in
+    let rests = settled-rests replay IsNext IsNextTurn IsFit world_laws front_fetcher unstyled most_sheets most_fetches fetch_laws (first_value []) w fits in
+    few-stale w1.spent front w1.state []
+    (fit-rests replay IsNext IsNextTurn IsFit world_laws front_fetcher unstyled most_sheets most_fetches fetch_laws (first_value []) w1 front fits rests is)

@@ -1,23 +1,25 @@
 -- The front end and the state of the page keep fitting: what a run needs of the messages.
-use Rattle.std.proofs.Common.{◌≡◌, ℕ, suc, ◌+◌, ◌*◌, ◌^◌, ◌<◌, ◌≤◌, List, [], ◌∷◌, ◌++◌, length, Option, Some, None, option_and_then, false, refl, sym, ◌∙◌, ap, subst, Result, Ok, Err, arith, append-nil}
+use Rattle.std.proofs.Common.{◌≡◌, ℕ, suc, ◌+◌, ◌*◌, ◌^◌, ◌<◌, ◌≤◌, List, [], ◌∷◌, ◌++◌, length, codes, Option, Some, None, option_and_then, false, refl, sym, ◌∙◌, ap, subst, Result, Ok, Err, arith, append-nil}
 use Rattle.std.specs.Option.{option_to_list}
 use Rattle.page_tree.specs.Forms.{max_nodes}
+use Rattle.page_forms.specs.Sheets.{max_sheets}
 use Rattle.pipe_frames.specs.Frames.{Frames}
 use Rattle.cdp_messages.specs.Asked.{asked, refusal}
 use Rattle.front_mirror.specs.declared.replies.Ask.{Ask}
 use Rattle.front_mirror.specs.declared.faults.FrontKind.{FrontKind}
 use Rattle.front_mirror.specs.Front.{FrontValue, fetch_ask, take_frame}
-use Rattle.front_mirror.specs.Laws.{Has, InTurn}
+use Rattle.cdp_messages.specs.Moves.{texted}
+use Rattle.front_mirror.specs.Laws.{Has, IsOfSheet, InTurn, rests, meets}
 use Rattle.back_end.specs.States.{State, view_of}
 use Rattle.back_end.specs.Steps.{Step, Turn, frame_step, turn_step, as_bytes, step, turn}
 use Rattle.back_end.specs.Laws.{HasRoom, StepsWell, IsAnswered}
 use Rattle.inspect_world.specs.World.{Spent, one_turn}
 use Rattle.inspect_world.specs.Fold.{folded, then, Laws, Leads}
-use Rattle.inspect_world.specs.Fits.{join, ask_in, ask_with, sheet_in, IsPlainFrame, drawing, with_ask, Sendable, is_ask, is_bare, AreSendable, asks_among, most_asks, IsNext, next_ask, next_fetch, next_raw, IsNextTurn, most_drawn, most_serials, IsFit, replay}
+use Rattle.inspect_world.specs.Fits.{join, ask_in, ask_with, sheet_in, IsPlainFrame, drawing, with_ask, Sendable, is_ask, is_bare, AreSendable, asks_among, most_asks, IsNext, next_ask, next_fetch, next_raw, IsNextTurn, most_drawn, most_serials, most_numbers, IsFit, replay}
 use Rattle.front_mirror.proofs.FoldLemmas.{take_frame-more}
 use Rattle.inspect_world.proofs.AskLemmas.{asks_among-append, sendable-last, draws-one, draws-none, drawing-last, drawing-fetch}
-use Rattle.inspect_world.proofs.Messages.{asked-ask}
-use Rattle.inspect_world.proofs.FetchRefused.{fetch-refused}
+use Rattle.inspect_world.proofs.Messages.{asked-ask, fetch-method}
+use Rattle.inspect_world.proofs.FetchTold.{FetchAnswered, not_told, is_told, fetch-answered}
 use Rattle.inspect_world.proofs.StepsTaken.{AreQuiet, course-quiet, Taken, taken, tells-all, by-asked, by-failed, by-refusal}
 use Rattle.back_end.proofs.FrameLemmas.{frame-steps-well}
 use Rattle.back_end.proofs.StepLemmas.{turn-steps-well}
@@ -53,6 +55,10 @@ one_more_serials : (all before after steps steps1 : ℕ) → after ≤ before + 
     → all + after * 100001 ≤ steps1 * 100001
 one_more_serials all before after steps steps1 more step h = omega (arith, more, step, h)
 
+one_more_numbers : (all before after steps steps1 : ℕ) → after ≤ before + 1 → steps1 ≡ steps + 1 → all + before * 1000 ≤ steps * 1000 + 1
+    → all + after * 1000 ≤ steps1 * 1000 + 1
+one_more_numbers all before after steps steps1 more step h = omega (arith, more, step, h)
+
 -- an answer draws no more than was kept for it
 answered_ids : (before after frames others all : ℕ) → frames ≡ 1 + others → after ≤ before + 100000 → before + frames * 100000 ≤ all → after + others * 100000 ≤ all
 answered_ids before after frames others all one few h = omega (arith, one, few, h)
@@ -60,12 +66,18 @@ answered_ids before after frames others all one few h = omega (arith, one, few, 
 answered_serials : (before after frames others all : ℕ) → frames ≡ 1 + others → after ≤ before + 100001 → before + frames * 100001 ≤ all → after + others * 100001 ≤ all
 answered_serials before after frames others all one few h = omega (arith, one, few, h)
 
+answered_numbers : (before after frames others all : ℕ) → frames ≡ 1 + others → after ≤ before + 1000 → before + frames * 1000 ≤ all → after + others * 1000 ≤ all
+answered_numbers before after frames others all one few h = omega (arith, one, few, h)
+
 -- and that to a fetch draws nothing
 fetched_ids : (before after frames others all : ℕ) → frames ≡ 0 + others → after ≡ before → before + frames * 100000 ≤ all → after + others * 100000 ≤ all
 fetched_ids before after frames others all none same h = omega (arith, none, same, h)
 
 fetched_serials : (before after frames others all : ℕ) → frames ≡ 0 + others → after ≡ before → before + frames * 100001 ≤ all → after + others * 100001 ≤ all
 fetched_serials before after frames others all none same h = omega (arith, none, same, h)
+
+fetched_numbers : (before after frames others all : ℕ) → frames ≡ 0 + others → after ≡ before → before + frames * 1000 ≤ all → after + others * 1000 ≤ all
+fetched_numbers before after frames others all none same h = omega (arith, none, same, h)
 
 -- and the script's own step no more than one step may
 turned_ids : (before after others asks raws turns : ℕ) → after ≤ before + 100000 → before + others * 100000 ≤ (asks + raws + turns) * 100000
@@ -76,17 +88,25 @@ turned_serials : (before after others asks raws turns : ℕ) → after ≤ befor
     → after + others * 100001 ≤ (asks + raws + (turns + 1) + 1) * 100001
 turned_serials before after others asks raws turns few h = omega (arith, few, h)
 
--- a run is too short to use all ids and all serials
+turned_numbers : (before after others asks raws turns : ℕ) → after ≤ before + 1000 → before + others * 1000 ≤ (asks + raws + turns + 1) * 1000 + 1
+    → after + others * 1000 ≤ (asks + raws + (turns + 1) + 1) * 1000 + 1
+turned_numbers before after others asks raws turns few h = omega (arith, few, h)
+
+-- a run is too short to use all ids, all serials and all numbers of sheets
 ids_left : (pushed others asks raws turns : ℕ) → asks ≤ 2 ^ 26 → raws ≤ 2 ^ 26 → turns ≤ 2 ^ 26 → pushed + others * 100000 ≤ (asks + raws + turns) * 100000 → pushed + 1 < 2 ^ 50
 ids_left pushed others asks raws turns few few_raws few_turns h = omega (arith, few, few_raws, few_turns, h)
 
 serials_left : (next others asks raws turns : ℕ) → asks ≤ 2 ^ 26 → raws ≤ 2 ^ 26 → turns ≤ 2 ^ 26 → next + others * 100001 ≤ (asks + raws + turns + 1) * 100001 → next < 2 ^ 50
 serials_left next others asks raws turns few few_raws few_turns h = omega (arith, few, few_raws, few_turns, h)
 
+numbers_left : (next others asks raws turns : ℕ) → asks ≤ 2 ^ 26 → raws ≤ 2 ^ 26 → turns ≤ 2 ^ 26 → next + others * 1000 ≤ (asks + raws + turns + 1) * 1000 + 1 → next < 2 ^ 50
+numbers_left next others asks raws turns few few_raws few_turns h = omega (arith, few, few_raws, few_turns, h)
+
 pub fit-room : (n : Spent) (front : FrontValue) (state : State) (frames : List (List ℕ)) → IsFit n front state frames → HasRoom state
 fit-room n front state frames fit = record {
   ids = ids_left (length state.client.session.pushed) (drawing frames) n.asks n.raws n.turns fit.few fit.few_raws fit.few_turns fit.drawn;
   serials = serials_left state.side.page.next (drawing frames) n.asks n.raws n.turns fit.few fit.few_raws fit.few_turns fit.serials;
+  sheets = numbers_left state.side.next_sheet (drawing frames) n.asks n.raws n.turns fit.few fit.few_raws fit.few_turns fit.numbers;
 }
 
 -- ---- a frame is sent
@@ -110,6 +130,7 @@ fit-asked n _ text front state frames (next_ask method is few) fit =
       few_turns = fit.few_turns;
       drawn = one_more_ids (length state.client.session.pushed) (drawing frames) (drawing (frames ++ text ∷ [])) (n.asks + n.raws + n.turns) (n.asks + 1 + n.raws + n.turns) (drawing-last frames text) (omega arith) fit.drawn;
       serials = one_more_serials state.side.page.next (drawing frames) (drawing (frames ++ text ∷ [])) (n.asks + n.raws + n.turns + 1) (n.asks + 1 + n.raws + n.turns + 1) (drawing-last frames text) (omega arith) fit.serials;
+      numbers = one_more_numbers state.side.next_sheet (drawing frames) (drawing (frames ++ text ∷ [])) (n.asks + n.raws + n.turns + 1) (n.asks + 1 + n.raws + n.turns + 1) (drawing-last frames text) (omega arith) fit.numbers;
     }
 fit-asked n _ text front state frames (next_fetch sheet is few) fit =
     let joins : join front text ≡ with_ask front (Some (fetch_ask n.fetches sheet)) = ap (with_ask front) is in
@@ -129,6 +150,7 @@ fit-asked n _ text front state frames (next_fetch sheet is few) fit =
       few_turns = fit.few_turns;
       drawn = subst (λ k. length state.client.session.pushed + k * max_nodes ≤ most_drawn n) (sym drawn) fit.drawn;
       serials = subst (λ k. state.side.page.next + k * (max_nodes + 1) ≤ most_serials n) (sym drawn) fit.serials;
+      numbers = subst (λ k. state.side.next_sheet + k * max_sheets ≤ most_numbers n) (sym drawn) fit.numbers;
     }
 fit-asked n _ text front state frames (next_raw bare few) fit =
     let joins : join front text ≡ front = ap (with_ask front) bare.no_ask in
@@ -147,6 +169,7 @@ fit-asked n _ text front state frames (next_raw bare few) fit =
       few_turns = fit.few_turns;
       drawn = one_more_ids (length state.client.session.pushed) (drawing frames) (drawing (frames ++ text ∷ [])) (n.asks + n.raws + n.turns) (n.asks + (n.raws + 1) + n.turns) (drawing-last frames text) (omega arith) fit.drawn;
       serials = one_more_serials state.side.page.next (drawing frames) (drawing (frames ++ text ∷ [])) (n.asks + n.raws + n.turns + 1) (n.asks + (n.raws + 1) + n.turns + 1) (drawing-last frames text) (omega arith) fit.serials;
+      numbers = one_more_numbers state.side.next_sheet (drawing frames) (drawing (frames ++ text ∷ [])) (n.asks + n.raws + n.turns + 1) (n.asks + (n.raws + 1) + n.turns + 1) (drawing-last frames text) (omega arith) fit.numbers;
     }
 
 -- ---- a step is made
@@ -158,6 +181,7 @@ record Enough (m : Spent) (state : State) (frames : List (List ℕ)) : Type 0 wh
   few_turns : m.turns ≤ most_asks
   drawn : length state.client.session.pushed + drawing frames * max_nodes ≤ most_drawn m
   serials : state.side.page.next + drawing frames * (max_nodes + 1) ≤ most_serials m
+  numbers : state.side.next_sheet + drawing frames * max_sheets ≤ most_numbers m
 
 -- the messages of a step take the front along
 leads-on : (n m : Spent) (before : State) (done : Step) (front : FrontValue) (frames more : List (List ℕ))
@@ -178,6 +202,7 @@ leads-on n m before done front frames more fit well in_turn sendable enough =
         few_turns = enough.few_turns;
         drawn = enough.drawn;
         serials = enough.serials;
+        numbers = enough.numbers;
       };
       whole = ap (λ (fs : Frames). fs.rest) t.frames_are;
     }
@@ -192,6 +217,7 @@ record Answer (n : Spent) (state : State) (asks : List Ask) (frames : List (List
   in_turn : InTurn done.moves asks (asks_among frames)
   drawn : length done.state.client.session.pushed + drawing frames * max_nodes ≤ most_drawn n
   serials : done.state.side.page.next + drawing frames * (max_nodes + 1) ≤ most_serials n
+  numbers : done.state.side.next_sheet + drawing frames * max_sheets ≤ most_numbers n
 
 -- the step on a frame that is no fetch
 answer-plain : (n : Spent) (frame : List ℕ) (front : FrontValue) (state : State) (frames : List (List ℕ)) (done : Step)
@@ -203,23 +229,38 @@ answer-plain n frame front state frames done fit well plain in_turn =
       in_turn = in_turn;
       drawn = answered_ids (length state.client.session.pushed) (length done.state.client.session.pushed) (drawing (frame ∷ frames)) (drawing frames) (most_drawn n) one well.ids fit.drawn;
       serials = answered_serials state.side.page.next done.state.side.page.next (drawing (frame ∷ frames)) (drawing frames) (most_serials n) one well.serials fit.serials;
+      numbers = answered_numbers state.side.next_sheet done.state.side.next_sheet (drawing (frame ∷ frames)) (drawing frames) (most_numbers n) one well.sheets fit.numbers;
     }
+
+-- the reply to a fetch answers the ask that it is
+fetch-turn : (ask : Ask) (rest : List Ask) (sheet : ℕ) (state : State) (done : Step) → ask.sheet ≡ Some sheet → ask.method ≡ codes "CSS.getStyleSheetText"
+    → FetchAnswered ask.id sheet state done → InTurn done.moves (ask ∷ rest) rest
+fetch-turn ask rest sheet state _ fetches method (not_told why) = by-failed ask rest _ why refl
+fetch-turn ask rest sheet state _ fetches method (is_told text) =
+    meets (texted ask.id sheet text) [] ask rest rest (refl, method, subst (IsOfSheet sheet) (sym fetches) refl) (rests rest)
+
+fetch-same : (id sheet : ℕ) (state : State) (done : Step) → FetchAnswered id sheet state done → done.state ≡ state
+fetch-same id sheet state _ (not_told why) = refl
+fetch-same id sheet state _ (is_told text) = refl
 
 -- the step on a fetch
 answer-fetch : (n : Spent) (frame : List ℕ) (front : FrontValue) (state : State) (frames : List (List ℕ)) (ask : Ask) (sheet : ℕ)
     → IsFit n front state (frame ∷ frames) → ask_in frame ≡ Some ask → ask.sheet ≡ Some sheet → Answer n state front.asks frames (frame_step false frame state)
 answer-fetch n frame front state frames ask sheet fit is fetches =
-    let p = fetch-refused frame ask sheet state is fetches in
     let done : Step = frame_step false frame state in
+    let answered : FetchAnswered ask.id sheet state done = fetch-answered frame ask sheet state is fetches in
+    let same : done.state ≡ state = fetch-same ask.id sheet state done answered in
     let none : drawing (frame ∷ frames) ≡ 0 + drawing frames = draws-none frame frames sheet (ap (option_and_then (λ (a : Ask). a.sheet)) is ∙ fetches) in
     record {
       in_turn =
           subst (λ asks. InTurn done.moves asks (asks_among frames)) (first-asks frame frames front.asks (Some ask) fit.asks is)
-          (by-failed ask (asks_among frames) done.moves p.0 (ap (λ (d : Step). d.moves) p.1));
+          (fetch-turn ask (asks_among frames) sheet state done fetches (fetch-method frame ask sheet is fetches) answered);
       drawn = fetched_ids (length state.client.session.pushed) (length done.state.client.session.pushed) (drawing (frame ∷ frames)) (drawing frames) (most_drawn n) none
-          (ap (λ (d : Step). length d.state.client.session.pushed) p.1) fit.drawn;
+          (ap (λ (s : State). length s.client.session.pushed) same) fit.drawn;
       serials = fetched_serials state.side.page.next done.state.side.page.next (drawing (frame ∷ frames)) (drawing frames) (most_serials n) none
-          (ap (λ (d : Step). d.state.side.page.next) p.1) fit.serials;
+          (ap (λ (s : State). s.side.page.next) same) fit.serials;
+      numbers = fetched_numbers state.side.next_sheet done.state.side.next_sheet (drawing (frame ∷ frames)) (drawing frames) (most_numbers n) none
+          (ap (λ (s : State). s.side.next_sheet) same) fit.numbers;
     }
 
 -- what a step on a frame sends takes the front along
@@ -236,6 +277,7 @@ fit-answered n frame front state frames fit =
       few_turns = fit.few_turns;
       drawn = answer.drawn;
       serials = answer.serials;
+      numbers = answer.numbers;
     })
   where
     by-sheet : (ask : Ask) (o : Option ℕ) → StepsWell state (frame_step false frame state) → IsAnswered (asked frame false) (frame_step false frame state).moves
@@ -269,6 +311,7 @@ fit-turned n x front state frames next fit =
       few_turns = next.few;
       drawn = turned_ids (length state.client.session.pushed) (length done.state.client.session.pushed) (drawing frames) n.asks n.raws n.turns well.ids fit.drawn;
       serials = turned_serials state.side.page.next done.state.side.page.next (drawing frames) n.asks n.raws n.turns well.serials fit.serials;
+      numbers = turned_numbers state.side.next_sheet done.state.side.next_sheet (drawing frames) n.asks n.raws n.turns well.sheets fit.numbers;
     })
 
 pub world_laws : Laws replay IsNext IsNextTurn IsFit

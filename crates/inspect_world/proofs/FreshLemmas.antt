@@ -1,14 +1,12 @@
 -- The run of a script with the fetches of its settles goes together with the run that the report tells, line by line.
 use Rattle.std.proofs.Common.{◌≡◌, ℕ, zero, suc, ◌+◌, ◌*◌, ◌^◌, ◌<◌, ◌≤◌, List, [], ◌∷◌, length, take, map, Ok, sym, ◌∙◌, ap, subst, arith}
 use Rattle.std.specs.List.{All}
-use Rattle.node_tree.specs.Nodes.{Nodes}
-use Rattle.node_tree.specs.Labels.{Label}
-use Rattle.page_tree.specs.Forms.{CanLoad}
-use Rattle.page_forms.specs.Texts.{HaveTexts}
+use Rattle.page_forms.specs.Pages.{LoadedPage, CanLoadPage}
+use Rattle.page_forms.specs.Texts.{PageHasTexts}
 use Rattle.pipe_frames.specs.Frames.{IsText, frames_of}
 use Rattle.cdp_messages.specs.Asked.{command_text}
 use Rattle.replay_script.specs.Forms as forms
-use Rattle.replay_script.specs.Forms.{AskForm, LineForm, load, ask, up, down, settle, show_front, show_page, show_replies}
+use Rattle.replay_script.specs.Forms.{AskForm, LineForm, load, ask, up, down, settle, show_front, show_page, show_sheets, show_replies}
 use Rattle.front_mirror.specs.Front.{FrontValue, first_value, take_frame}
 use Rattle.front_mirror.specs.Laws.{Has}
 use Rattle.back_end.specs.States.{State, loaded_state, view_of}
@@ -73,7 +71,7 @@ module _ (fetcher : Fetcher FrontValue) (IsPlain : List ℕ → Type 0)
       (record { is_turn = next.is_turn; few = few-alike w.spent.turns v.spent.turns most_asks both.agrees.turns next.few }) next both
 
   -- a settle, which fetches the texts of a page's sheets at most
-  room-fetches : (v : World State) (k : ℕ) → HasLeft v.spent k → v.spent.fetches + most_sheets ≤ most_fetches
+  pub room-fetches : (v : World State) (k : ℕ) → HasLeft v.spent k → v.spent.fetches + most_sheets ≤ most_fetches
   room-fetches v k left = let room : v.spent.fetches + (k + 1) * most_sheets ≤ most_fetches = left.fetches in omega (arith, room)
 
   both-settled : (w v : World State) → HasLeft v.spent 1 → BothRuns w v → BothRuns (settled step w) (refreshes fetcher v)
@@ -102,8 +100,33 @@ module _ (fetcher : Fetcher FrontValue) (IsPlain : List ℕ → Type 0)
     plain = both.plain;
   }
 
+  -- in the run with fetches it may be any number
+  pub together-told : (k : ℕ) (w v : World State) (n : ℕ) → Together IsPlain k w v
+      → Together IsPlain k w (record { state = v.state; up = v.up; down = v.down; spent = v.spent; told = n })
+  together-told k w v n both = record {
+    runs = record {
+      fits = both.runs.fits;
+      fits_fresh = fits-told v n both.runs.fits_fresh;
+      agrees = record {
+        state = both.runs.agrees.state;
+        up = both.runs.agrees.up;
+        down = both.runs.agrees.down;
+        asks = both.runs.agrees.asks;
+        raws = both.runs.agrees.raws;
+        turns = both.runs.agrees.turns;
+        plain = both.runs.agrees.plain;
+        fresh = both.runs.agrees.fresh;
+        plain_is = both.runs.agrees.plain_is;
+        fresh_is = both.runs.agrees.fresh_is;
+        same = both.runs.agrees.same;
+      };
+      plain = both.runs.plain;
+    };
+    left = both.left;
+  }
+
   both-line : (line : LineForm) (w v : World State) → IsLater line → HasLeft v.spent 1 → BothRuns w v → BothRuns (after_line line w) (fresh_line fetcher line v)
-  both-line (load nodes) w v later left both = both-turned (loads nodes) w v (record { is_turn = later; few = left.turns }) both
+  both-line (load page) w v later left both = both-turned (loads page) w v (record { is_turn = later; few = left.turns }) both
   both-line (forms.act a) w v later left both = both-turned (acts a) w v (record { is_turn = later; few = left.turns }) both
   both-line (ask a) w v later left both = both-sent a w v later left both
   both-line (forms.raw text) w v later left both = both-raw text w v later.0 later.1 left both
@@ -114,6 +137,7 @@ module _ (fetcher : Fetcher FrontValue) (IsPlain : List ℕ → Type 0)
   both-line settle w v later left both = both-settled w v left both
   both-line show_front w v later left both = both-settled w v left both
   both-line show_page w v later left both = both
+  both-line show_sheets w v later left both = both-settled w v left both
   both-line show_replies w v later left both = both-told (settled step w) (refreshes fetcher v) (both-settled w v left both)
 
   -- ---- what a line spends
@@ -130,7 +154,7 @@ module _ (fetcher : Fetcher FrontValue) (IsPlain : List ℕ → Type 0)
       spent-on k v.spent (refreshes fetcher v).spent (omega (arith, asks)) made.fetches (omega (arith, raws)) (omega (arith, turns)) left
 
   line-left : (line : LineForm) (w v : World State) (k : ℕ) → HasLeft v.spent (suc k) → HasLeft v.spent 1 → BothRuns w v → HasLeft (fresh_line fetcher line v).spent k
-  line-left (load nodes) w v k left one both = spent-on k v.spent (fresh_line fetcher (load nodes) v).spent (omega arith) (omega arith) (omega arith) (omega arith) left
+  line-left (load page) w v k left one both = spent-on k v.spent (fresh_line fetcher (load page) v).spent (omega arith) (omega arith) (omega arith) (omega arith) left
   line-left (forms.act a) w v k left one both = spent-on k v.spent (fresh_line fetcher (forms.act a) v).spent (omega arith) (omega arith) (omega arith) (omega arith) left
   line-left (ask a) w v k left one both = spent-on k v.spent (fresh_line fetcher (ask a) v).spent (omega arith) (omega arith) (omega arith) (omega arith) left
   line-left (forms.raw text) w v k left one both = spent-on k v.spent (fresh_line fetcher (forms.raw text) v).spent (omega arith) (omega arith) (omega arith) (omega arith) left
@@ -139,6 +163,7 @@ module _ (fetcher : Fetcher FrontValue) (IsPlain : List ℕ → Type 0)
   line-left settle w v k left one both = settle-left w v k left both one
   line-left show_front w v k left one both = settle-left w v k left both one
   line-left show_page w v k left one both = spent-on k v.spent v.spent (omega arith) (omega arith) (omega arith) (omega arith) left
+  line-left show_sheets w v k left one both = settle-left w v k left both one
   line-left show_replies w v k left one both = settle-left w v k left both one
 
   -- room for so many lines is room for one
@@ -167,28 +192,28 @@ module _ (fetcher : Fetcher FrontValue) (IsPlain : List ℕ → Type 0)
       both-lines n lines (after_line line w) (fresh_line fetcher line v) later.1 (together-line line (length lines) w v later.0 both)
 
   -- both runs begin with the load
-  pub together-loaded : (nodes : Nodes Label) (k : ℕ) → CanLoad nodes → HaveTexts nodes → k ≤ most_asks → Together IsPlain k (loaded_world nodes) (loaded_world nodes)
-  together-loaded nodes k can texts few = record {
+  pub together-loaded : (page : LoadedPage) (k : ℕ) → CanLoadPage page → PageHasTexts page → k ≤ most_asks → Together IsPlain k (loaded_world page) (loaded_world page)
+  together-loaded page k can texts few = record {
     runs =
-        together-first replay IsNext IsNextTurn IsFit world_laws fetcher unstyled most_sheets most_fetches fetching IsPlain (first_value []) (loaded_state nodes)
-        (fit-first nodes can texts);
-    left = left-first nodes k few;
+        together-first replay IsNext IsNextTurn IsFit world_laws fetcher unstyled most_sheets most_fetches fetching IsPlain (first_value []) (loaded_state page)
+        (fit-first page can texts);
+    left = left-first page k few;
   }
 
   pub fresh-lines-fit : FreshLinesFit fetcher IsPlain
-  fresh-lines-fit nodes lines can texts later few n =
-      both-lines n lines (loaded_world nodes) (loaded_world nodes) later (together-loaded nodes (length lines) can texts few)
+  fresh-lines-fit page lines can texts later few n =
+      both-lines n lines (loaded_world page) (loaded_world page) later (together-loaded page (length lines) can texts few)
 
   pub fresh-inputs-fit : FreshInputsFit fetcher IsPlain
-  fresh-inputs-fit input nodes lines is few n =
-      let script : Script nodes lines (length input) = input-script input nodes lines is in
+  fresh-inputs-fit input page lines is few n =
+      let script : Script page lines (length input) = input-script input page lines is in
       let a : length lines ≤ length input = script.rest.few in
-      fresh-lines-fit nodes lines script.can script.texts script.rest.later (omega (arith, a, few)) n
+      fresh-lines-fit page lines script.can script.texts script.rest.later (omega (arith, a, few)) n
 
   -- ---- after a settle
 
   -- the frames that were sent are the same after a settle
-  settled-plain : (w : World State) → All IsPlain (frames_of (sent w.up)).whole → All IsPlain (frames_of (sent (settled step w).up)).whole
+  pub settled-plain : (w : World State) → All IsPlain (frames_of (sent w.up)).whole → All IsPlain (frames_of (sent (settled step w).up)).whole
   settled-plain w all = subst (λ bytes. All IsPlain (frames_of bytes).whole) (sym (sent-passed (length w.up.flying) w.up)) all
 
   -- `kept`: a front end that has sent no fetch has kept the replies that came down

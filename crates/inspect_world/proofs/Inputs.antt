@@ -10,14 +10,10 @@ use Rattle.cdp_json.specs.Plain.{is_plain, HasUtf8}
 use Rattle.std.specs.Str.{is_utf8}
 use Rattle.std.proofs.lemmas.Str.{IsUtf8-from_is_utf8}
 use Rattle.node_tree.specs.Keys.{first_of}
-use Rattle.node_tree.specs.Nodes.{Nodes}
-use Rattle.node_tree.specs.Labels.{Label}
-use Rattle.page_tree.specs.Forms.{CanLoad}
-use Rattle.page_tree.specs.Loads.{nodes_in}
-use Rattle.page_tree.proofs.FormedLemmas.{can_load}
 use Rattle.page_forms.specs.Acts.{act_in}
-use Rattle.page_forms.specs.Pages.{document_in, page_nodes}
-use Rattle.page_forms.proofs.ActLemmas.{act-insertable, acts_have_texts, pages_have_texts}
+use Rattle.page_forms.specs.Pages.{LoadedPage, CanLoadPage, page_in}
+use Rattle.page_forms.proofs.ActLemmas.{act-insertable, acts_have_texts}
+use Rattle.page_forms.proofs.PageLemmas.{can_load_page, pages_have_texts}
 use Rattle.cdp_messages.specs.Asked.{json_of}
 use Rattle.replay_script.specs.declared.line_kinds.LineKind.{LineKind}
 use Rattle.replay_script.specs.declared.line_kinds.LineKind.TheVariants as kind
@@ -25,13 +21,13 @@ use Rattle.std.specs.List.{onto_first}
 use Rattle.replay_script.specs.Lines.{is_line_feed, lines_of}
 use Rattle.replay_script.specs.Kinds.{line_kind_name, all_line_kinds, sole_member, sole, styles_in, kind_said}
 use Rattle.replay_script.specs.Forms as forms
-use Rattle.replay_script.specs.Forms.{LineForm, load, ask, up, down, settle, show_front, show_page, show_replies, ask_in, show_from, form_by, form_of, line_form}
+use Rattle.replay_script.specs.Forms.{LineForm, load, ask, up, down, settle, show_front, show_page, show_sheets, show_replies, ask_in, show_from, form_by, form_of, line_form}
 use Rattle.std.specs.Option.{option_map_or}
 use Rattle.replay_script.specs.Faults.{is_no_frame, fault_of_data, line_fault}
 use Rattle.replay_script.specs.Script.{script_forms, good_lines}
-use Rattle.page_forms.specs.Texts.{HaveTexts}
+use Rattle.page_forms.specs.Texts.{PageHasTexts}
 use Rattle.inspect_world.specs.ScriptsFit.{IsLater, AreLater, InputsFit}
-use Rattle.replay_script.proofs.FaultLemmas.{line_form-good, line_good, is_clear, IsClear, json_good, page_clear}
+use Rattle.replay_script.proofs.FaultLemmas.{line_form-good, line_good, is_clear, IsClear, json_good}
 use Rattle.replay_script.proofs.ScriptLemmas.{good_lines-good, good_lines-bad}
 use Rattle.cdp_json.proofs.ReadPlain.{read_plain}
 use Rattle.inspect_world.proofs.SendForms.{can_send}
@@ -86,12 +82,10 @@ record IsPlainRead (v : Data) : Type 0 where
   texts : HasUtf8 v
   levels : depth v ≤ max_depth
 
-later_load : (v : Data) (form : LineForm) → IsClear kind.Load v → IsPlainRead v → option_map load (page_nodes v) ≡ Some form → IsLater form
+later_load : (v : Data) (form : LineForm) → IsClear kind.Load v → IsPlainRead v → option_map load (page_in v) ≡ Some form → IsLater form
 later_load v form clear read is =
-    let page = page_clear v clear.page in
-    let same : load page.0 ≡ form = cc (sym (ap (option_map load) page.1) ∙ is) in
-    let document = and_then_some nodes_in (document_in v) page.0 page.1 in
-    subst IsLater same (can_load document.0 page.0 document.2 page.2, pages_have_texts v page.0 read.texts page.1)
+    let p = map_some load (page_in v) form is in
+    subst IsLater p.2 (can_load_page v p.0 p.1 clear.page, pages_have_texts v p.0 read.texts p.1)
 
 later_act : (v : Data) (form : LineForm) → IsPlainRead v → option_map forms.act (act_in v) ≡ Some form → IsLater form
 later_act v form read is =
@@ -108,11 +102,13 @@ later_raw v form clear is =
     let p = map_some forms.raw (as_str v) form is in
     subst IsLater p.2 (raw_is_frame p.0 (sym (ap (λ o. option_map_or is_no_frame o false) p.1) ∙ clear.frame))
 
-later_show : (b c d : Bool) (form : LineForm) → (if b then Some show_front else if c then Some show_page else if d then Some show_replies else None) ≡ Some form → IsLater form
-later_show true c d form is = let same : show_front ≡ form = cc is in subst IsLater same tt
-later_show false true d form is = let same : show_page ≡ form = cc is in subst IsLater same tt
-later_show false false true form is = let same : show_replies ≡ form = cc is in subst IsLater same tt
-later_show false false false form is = absurd cc
+later_show : (b c s d : Bool) (form : LineForm)
+    → (if b then Some show_front else if c then Some show_page else if s then Some show_sheets else if d then Some show_replies else None) ≡ Some form → IsLater form
+later_show true c s d form is = let same : show_front ≡ form = cc is in subst IsLater same tt
+later_show false true s d form is = let same : show_page ≡ form = cc is in subst IsLater same tt
+later_show false false true d form is = let same : show_sheets ≡ form = cc is in subst IsLater same tt
+later_show false false false true form is = let same : show_replies ≡ form = cc is in subst IsLater same tt
+later_show false false false false form is = absurd cc
 
 later_by : (k : LineKind) (v : Data) (form : LineForm) → IsClear k v → IsPlainRead v → form_by k v ≡ Some form → IsLater form
 later_by kind.Load v form clear read is = later_load v form clear read is
@@ -124,7 +120,7 @@ later_by kind.Down v form clear read is = let p = map_some down (as_whole v) for
 later_by kind.Settle v form clear read is = let p = map_some (λ _. settle) (as_true v) form is in subst IsLater p.2 tt
 later_by kind.Show v form clear read is =
     let p = and_then_some show_from (as_str v) form is in
-    later_show (bytes_eq p.0 (codes "front")) (bytes_eq p.0 (codes "page")) (bytes_eq p.0 (codes "replies")) form p.2
+    later_show (bytes_eq p.0 (codes "front")) (bytes_eq p.0 (codes "page")) (bytes_eq p.0 (codes "sheets")) (bytes_eq p.0 (codes "replies")) form p.2
 later_by kind.Close v form clear read is = absurd cc
 later_by kind.Styles v form clear read is = absurd cc
 
@@ -182,31 +178,31 @@ later_lines nth (line ∷ more) =
     ]) refl
 
 -- a script whose first line is a load
-pub record Script (nodes : Nodes Label) (forms : List LineForm) (most : ℕ) : Type 0 where
-  pub can : CanLoad nodes
-  pub texts : HaveTexts nodes
+pub record Script (page : LoadedPage) (forms : List LineForm) (most : ℕ) : Type 0 where
+  pub can : CanLoadPage page
+  pub texts : PageHasTexts page
   pub rest : Later forms most
 
-script_of : (lines : List (List ℕ)) (nodes : Nodes Label) (forms : List LineForm) → good_lines 1 lines ≡ load nodes ∷ forms → Script nodes forms (length lines)
-script_of [] nodes forms is = let no : ◌≡◌ {A = List LineForm} [] (load nodes ∷ forms) = is in absurd cc
-script_of (line ∷ more) nodes forms is =
-    (elim (line_fault 1 line) as (λ f. line_fault 1 line ≡ f → Script nodes forms (suc (length more))) [
+script_of : (lines : List (List ℕ)) (page : LoadedPage) (forms : List LineForm) → good_lines 1 lines ≡ load page ∷ forms → Script page forms (length lines)
+script_of [] page forms is = let no : ◌≡◌ {A = List LineForm} [] (load page ∷ forms) = is in absurd cc
+script_of (line ∷ more) page forms is =
+    (elim (line_fault 1 line) as (λ f. line_fault 1 line ≡ f → Script page forms (suc (length more))) [
       | None ↦ λ e.
           let form = line_form-good 1 line e in
           let later = good_lines (1 + 1) more in
-          let all : ◌≡◌ {A = List LineForm} (form.0 ∷ later) (load nodes ∷ forms) = sym (good_lines-good 1 line more form.0 e form.1) ∙ is in
-          let head : form.0 ≡ load nodes = cc all in
+          let all : ◌≡◌ {A = List LineForm} (form.0 ∷ later) (load page ∷ forms) = sym (good_lines-good 1 line more form.0 e form.1) ∙ is in
+          let head : form.0 ≡ load page = cc all in
           let tail : later ≡ forms = cc all in
           let rest : Later later (length more) = later_lines 2 more in
           let same : Later forms (length more) = subst (λ fs. Later fs (length more)) tail rest in
-          let first : IsLater (load nodes) = later_line 1 line (load nodes) e (form.1 ∙ ap Some head) in
+          let first : IsLater (load page) = later_line 1 line (load page) e (form.1 ∙ ap Some head) in
           record {
             can = first.0;
             texts = first.1;
             rest = record { later = same.later; few = let h : length forms ≤ length more = same.few in omega arith };
           }
       | Some fault ↦ λ e.
-          let no : ◌≡◌ {A = List LineForm} [] (load nodes ∷ forms) = sym (good_lines-bad 1 line more fault e) ∙ is in absurd cc
+          let no : ◌≡◌ {A = List LineForm} [] (load page ∷ forms) = sym (good_lines-bad 1 line more fault e) ∙ is in absurd cc
     ]) refl
 
 -- no more lines than bytes
@@ -223,15 +219,15 @@ length-lines_of [] = omega arith
 length-lines_of (b ∷ more) = length-cut (is_line_feed b) b (lines_of more) (length more) (length-lines_of more)
 
 -- what the lines of an input are that is carried out
-pub input-script : (input : List ℕ) (nodes : Nodes Label) (lines : List LineForm) → script_forms input ≡ load nodes ∷ lines → Script nodes lines (length input)
-input-script input nodes lines is =
-    let script : Script nodes lines (length (lines_of input)) = script_of (lines_of input) nodes lines is in
+pub input-script : (input : List ℕ) (page : LoadedPage) (lines : List LineForm) → script_forms input ≡ load page ∷ lines → Script page lines (length input)
+input-script input page lines is =
+    let script : Script page lines (length (lines_of input)) = script_of (lines_of input) page lines is in
     let a : length lines ≤ length (lines_of input) = script.rest.few in
     let b : length (lines_of input) ≤ length input = length-lines_of input in
     record { can = script.can; texts = script.texts; rest = record { later = script.rest.later; few = omega (arith, a, b) } }
 
 pub inputs-fit : InputsFit
-inputs-fit input nodes lines is few =
-    let script : Script nodes lines (length input) = input-script input nodes lines is in
+inputs-fit input page lines is few =
+    let script : Script page lines (length input) = input-script input page lines is in
     let a : length lines ≤ length input = script.rest.few in
-    lines-fit nodes lines script.can script.texts script.rest.later (omega (arith, a, few))
+    lines-fit page lines script.can script.texts script.rest.later (omega (arith, a, few))

@@ -12,10 +12,12 @@ pub mod Messages
 pub mod PlainAsks
 pub mod MoveTexts
 pub mod StepsTaken
-pub mod FetchRefused
+pub mod ShownSheets
+pub mod FetchTold
 pub mod FitLemmas
 pub mod Scripts
 pub mod Ends
+pub mod CountLemmas
 pub mod LinkLemmas
 pub mod BareFrames
 pub mod SendForms

@@ -1,5 +1,5 @@
 -- The ends follow every link, whatever bytes it gives.
-use Rattle.std.proofs.Common.{Option, ◌≡◌, refl, true, false, ℕ, ◌+◌, ◌^◌, ◌<◌, ◌≤◌, List, [], ◌∷◌, ◌++◌, length, map, drop, Some, None, sym, ◌∙◌, ap, subst, append_assoc, append-nil, length-append, Result, Ok, Err, arith}
+use Rattle.std.proofs.Common.{Option, ◌≡◌, refl, true, false, ℕ, ◌+◌, ◌*◌, ◌^◌, ◌<◌, ◌≤◌, List, [], ◌∷◌, ◌++◌, length, map, drop, Some, None, sym, ◌∙◌, ap, subst, append_assoc, append-nil, length-append, Result, Ok, Err, arith}
 use Rattle.std.specs.List.{flat_map}
 use Rattle.std.specs.Option.{option_to_list}
 use Rattle.std.proofs.Math.Seq.{drop-append_seam}
@@ -15,7 +15,7 @@ use Rattle.cdp_messages.specs.Moves.{failed}
 use Rattle.front_mirror.specs.declared.replies.Ask.{Ask}
 use Rattle.front_mirror.specs.declared.faults.FrontFault.{FrontFault}
 use Rattle.front_mirror.specs.Front as front
-use Rattle.front_mirror.specs.Front.{FrontValue, FrontState, Folded, first_value, first_state, take_frame, fold, fold_frames, outcome, after_ask, after_take}
+use Rattle.front_mirror.specs.Front.{FrontValue, FrontState, Folded, first_value, first_state, take_frame, fold, fold_frames, outcome, fetch_ask, after_ask, after_fetch, after_take}
 use Rattle.front_mirror.specs.Laws as front_laws
 use Rattle.front_mirror.specs.Laws.{KnowsSheets, InTurn, rests, meets}
 use Rattle.front_mirror.specs.declared.sheets.KnownSheet.{KnownSheet}
@@ -25,11 +25,16 @@ use Rattle.back_end.specs.declared.side.PageSide.{PageSide}
 use Rattle.back_end.specs.States.{State, IsState, view_of}
 use Rattle.back_end.specs.Steps.{Step, Turn, Stepped, frame_step, turn_step, as_bytes, step, turn}
 use Rattle.back_end.specs.Laws.{HasRoom, StepsWell, IsAnswered, IsTurn, reply_ids}
-use Rattle.back_end.specs.Seats.{StandsFor}
-use Rattle.inspect_world.specs.Fits.{ask_in, ask_with, asks_among}
+use Rattle.page_tree.specs.Forms.{max_nodes}
+use Rattle.page_forms.specs.Sheets.{max_sheets}
+use Rattle.page_tree.specs.Pages.{State as PageValue}
+use Rattle.back_end.specs.Seats.{StandsFor, HasRoomLeft}
+use Rattle.inspect_world.specs.Fits.{ask_in, ask_with, asks_among, most_asks}
 use Rattle.inspect_world.specs.Held.{Ends, good_front}
-use Rattle.inspect_world.specs.Links.{fold_of, Happening, came, made, step_of, happened, frames_among, GoesOn, Follows}
+use Rattle.inspect_world.specs.Links.{fold_of, Happening, came, made, step_of, happened, frames_among, made_among, Started, started, one_line_more, GoesOn, Follows}
 use Rattle.inspect_world.specs.ScriptsFit.{CanSend}
+use Rattle.inspect_world.specs.FreshRuns.{front_fetcher}
+use Rattle.inspect_world.proofs.FetchForms.{fetch-text, sent-fetch}
 use Rattle.inspect_world.specs.ShownReplies.{ShownReply, told_of, replies_among, replies_in, id_asked, reply_id}
 use Rattle.front_mirror.proofs.FoldLemmas.{fold-append, fold-more}
 use Rattle.back_end.proofs.FrameLemmas.{frame-steps-well}
@@ -41,6 +46,7 @@ use Rattle.inspect_world.proofs.Replies.{replies-folded, replies_among-append}
 use Rattle.inspect_world.proofs.StepsTaken.{course-quiet, Taken, taken, tells-all, meets-one, by-refusal, ids-kept}
 use Rattle.inspect_world.proofs.AskLemmas.{asks_among-append}
 use Rattle.inspect_world.proofs.Worlds.{whole-after, rest-after}
+use Rattle.inspect_world.proofs.CountLemmas.{events-counted, frames-few, made-last, more_ids, more_serials, more_numbers, is-full, ids-left, serials-left, numbers-left}
 
 -- ---- what a step sends
 
@@ -49,6 +55,9 @@ pub record Sends (state : State) (h : Happening) : Type 0 where
   pub texts : List (List ℕ)
   pub frames_are : frames_of (step_of h state).sent ≡ record { whole = texts; rest = [] }
   pub ids_are : map (λ (t : ShownReply). t.id) (replies_among texts) ≡ map reply_id (frames_among (h ∷ []))
+  pub ids : length (step_of h state).state.client.session.pushed ≤ length state.client.session.pushed + max_nodes
+  pub serials : (step_of h state).state.side.page.next ≤ state.side.page.next + (max_nodes + 1)
+  pub numbers : (step_of h state).state.side.next_sheet ≤ state.side.next_sheet + max_sheets
 
 -- sheets whose texts are not known
 abbrev unread : List ShownSheet → List KnownSheet
@@ -74,6 +83,10 @@ sends-moves state h done asks rest well is_step plain in_turn ids =
       ids_are =
           ap (map (λ (x : ShownReply). x.id)) (sym among ∙ ap (map told_of) t.replies)
           ∙ ids-kept done.moves asks plain ∙ ids;
+      ids =
+          subst (λ (d : Stepped State). length d.state.client.session.pushed ≤ length state.client.session.pushed + max_nodes) (sym is_step) well.ids;
+      serials = subst (λ (d : Stepped State). d.state.side.page.next ≤ state.side.page.next + (max_nodes + 1)) (sym is_step) well.serials;
+      numbers = subst (λ (d : Stepped State). d.state.side.next_sheet ≤ state.side.next_sheet + max_sheets) (sym is_step) well.sheets;
     }
 
 -- a frame that came
@@ -173,11 +186,13 @@ folds-sent sent_up more given_down v whole e =
 -- ---- the start
 
 -- a page was loaded, and both ends are new
-pub follows-start : (up0 down0 : Pipe) (state0 : State) (seat : Seat) (side : PageSide) → StandsFor seat side state0
+pub follows-start : (up0 down0 : Pipe) (state0 : Started) (seat : Seat) (side : PageSide) → StandsFor seat side state0.state
+    → state0.lines ≤ most_asks → length state0.state.client.session.pushed ≤ 0 * max_nodes → state0.state.side.page.next ≤ (0 + 1) * (max_nodes + 1)
+    → state0.state.side.next_sheet ≤ (0 + 1) * max_sheets + 1
     → Follows state0 up0 down0 up0 down0 []
     (record { seat = seat; side = side; back_rest = []; front = first_state; up_there = 0; down_there = 0; told = 0 })
 unfolding frames_of
-follows-start up0 down0 state0 seat side stands = record {
+follows-start up0 down0 state0 seat side stands few ids serials numbers = record {
   sent_up = [];
   given_up = [];
   sent_down = [];
@@ -191,7 +206,7 @@ follows-start up0 down0 state0 seat side stands = record {
   events = [];
   frames_are = refl;
   back_is = refl;
-  state = state0;
+  state = state0.state;
   side_is = refl;
   sent_is = refl;
   replies_are = refl;
@@ -199,19 +214,57 @@ follows-start up0 down0 state0 seat side stands = record {
   stands = stands;
   up_left = refl;
   down_left = refl;
+  few_asked = omega arith;
+  few_made = omega (arith, few);
+  few_ids = ids;
+  few_serials = serials;
+  few_numbers = numbers;
 }
 
-module _ (state0 : State) (up0 down0 : Pipe) where
+-- a line that makes no step of the script
+pub follows-fewer : (state0 : Started) (up0 down0 up down : Pipe) (waiting : List (List ℕ)) (e : Ends)
+    → Follows (one_line_more state0) up0 down0 up down waiting e → Follows state0 up0 down0 up down waiting e
+follows-fewer state0 up0 down0 up down waiting e f = record {
+  sent_up = f.sent_up;
+  given_up = f.given_up;
+  sent_down = f.sent_down;
+  given_down = f.given_down;
+  up_is = f.up_is;
+  down_is = f.down_is;
+  up_whole = f.up_whole;
+  value = f.value;
+  front_is = f.front_is;
+  is_fold = f.is_fold;
+  events = f.events;
+  frames_are = f.frames_are;
+  back_is = f.back_is;
+  state = f.state;
+  side_is = f.side_is;
+  sent_is = f.sent_is;
+  replies_are = f.replies_are;
+  down_whole = f.down_whole;
+  stands = f.stands;
+  up_left = f.up_left;
+  down_left = f.down_left;
+  few_asked = f.few_asked;
+  few_made = let few : made_among f.events + (state0.lines + 1) ≤ most_asks = f.few_made in omega (arith, few);
+  few_ids = f.few_ids;
+  few_serials = f.few_serials;
+  few_numbers = f.few_numbers;
+}
+
+module _ (state0 : Started) (up0 down0 : Pipe) where
   -- ---- bytes go up
 
   -- a frame is sent, and the front end waits for the ask that it is, if it is one
   follows-sent : (up down up1 : Pipe) (waiting : List (List ℕ)) (e : Ends) (text : List ℕ) (value1 : FrontValue) (front1 : FrontState) (there : ℕ)
       → (f : Follows state0 up0 down0 up down waiting e) → there ≡ e.up_there + length (framed text) → IsText text
-      → front1 ≡ good_front value1 (frames_of f.given_down).rest front1.next
+      → front1 ≡ good_front value1 (frames_of f.given_down).rest front1.next front1.fetches
+      → front1.next + front1.fetches ≤ e.front.next + e.front.fetches + 1
       → fold (asks_among (frames_of f.sent_up).whole ++ option_to_list (ask_in text)) f.given_down ≡ Ok value1
       → up1.sent ≡ up.sent ++ framed text → up1.given ≡ up.given
       → Follows state0 up0 down0 up1 down waiting (record e { front = front1; up_there = there })
-  follows-sent up down up1 waiting e text value1 front1 there f left letters front_is folds sent_is given_is =
+  follows-sent up down up1 waiting e text value1 front1 there f left letters front_is one folds sent_is given_is =
       let frames : (frames_of (f.sent_up ++ framed text)).whole ≡ (frames_of f.sent_up).whole ++ text ∷ [] =
       whole-after f.sent_up (framed text) f.up_whole ∙ ap (λ (fs : Frames). (frames_of f.sent_up).whole ++ fs.whole) (frames_of-one text letters) in
       let asks : asks_among (frames_of (f.sent_up ++ framed text)).whole ≡ asks_among (frames_of f.sent_up).whole ++ option_to_list (ask_in text) =
@@ -242,6 +295,15 @@ module _ (state0 : State) (up0 down0 : Pipe) where
             let before : e.up_there + length f.given_up ≡ length f.sent_up = f.up_left in
             omega (arith, more, before, left);
         down_left = f.down_left;
+        few_asked =
+            let more : length (f.sent_up ++ framed text) ≡ length f.sent_up + length (framed text) = length-append f.sent_up (framed text) in
+            let zero : length (framed text) ≡ length text + 1 = length-append text (0 ∷ []) in
+            let before : e.front.next + e.front.fetches ≤ length f.sent_up + 1 = f.few_asked in
+            omega (arith, more, zero, before, one);
+        few_made = f.few_made;
+        few_ids = f.few_ids;
+        few_serials = f.few_serials;
+        few_numbers = f.few_numbers;
       }
 
   -- an ask is sent
@@ -252,7 +314,7 @@ module _ (state0 : State) (up0 down0 : Pipe) where
   follows-asked up down up1 waiting e text method there f left letters is sent_is given_is =
       let ask = ask_with method e.front.next in
       follows-sent up down up1 waiting e text (front_laws.joined f.value ask) (after_ask e.front method) there f left letters
-      (ap (λ s. after_ask s method) f.front_is)
+      (ap (λ s. after_ask s method) f.front_is) (omega arith)
       (ap (λ o. fold (asks_among (frames_of f.sent_up).whole ++ option_to_list o) f.given_down) is
       ∙ fold-more (asks_among (frames_of f.sent_up).whole) ask f.given_down f.value f.is_fold)
       sent_is given_is
@@ -263,9 +325,26 @@ module _ (state0 : State) (up0 down0 : Pipe) where
       → up1.sent ≡ up.sent ++ framed text → up1.given ≡ up.given
       → Follows state0 up0 down0 up1 down waiting (record e { up_there = there })
   follows-raw up down up1 waiting e text there f left letters none sent_is given_is =
-      follows-sent up down up1 waiting e text f.value e.front there f left letters f.front_is
+      follows-sent up down up1 waiting e text f.value e.front there f left letters f.front_is (omega arith)
       (ap (λ o. fold (asks_among (frames_of f.sent_up).whole ++ option_to_list o) f.given_down) none
       ∙ ap (λ asks. fold asks f.given_down) (append-nil (asks_among (frames_of f.sent_up).whole)) ∙ f.is_fold)
+      sent_is given_is
+
+  -- the text of a sheet is fetched
+  pub follows-fetched : (up down up1 : Pipe) (waiting : List (List ℕ)) (e : Ends) (sheet there : ℕ)
+      → Follows state0 up0 down0 up down waiting e → sheet < 2 ^ 64 → 2 ^ 30 + e.front.fetches < 2 ^ 52
+      → there ≡ e.up_there + length (framed (front_fetcher.text e.front.fetches sheet))
+      → up1.sent ≡ up.sent ++ framed (front_fetcher.text e.front.fetches sheet) → up1.given ≡ up.given
+      → Follows state0 up0 down0 up1 down waiting (record e { front = after_fetch e.front sheet; up_there = there })
+  follows-fetched up down up1 waiting e sheet there f fits room left sent_is given_is =
+      let ask = fetch_ask e.front.fetches sheet in
+      let text = front_fetcher.text e.front.fetches sheet in
+      let small : 2 ^ 30 + e.front.fetches < 2 ^ 53 = omega (arith, room) in
+      let is : ask_in text ≡ Some ask = sent-fetch e.front.fetches sheet small fits in
+      follows-sent up down up1 waiting e text (front_laws.joined f.value ask) (after_fetch e.front sheet) there f left (fetch-text (2 ^ 30 + e.front.fetches) sheet small)
+      (ap (λ s. after_fetch s sheet) f.front_is) (omega arith)
+      (ap (λ o. fold (asks_among (frames_of f.sent_up).whole ++ option_to_list o) f.given_down) is
+      ∙ fold-more (asks_among (frames_of f.sent_up).whole) ask f.given_down f.value f.is_fold)
       sent_is given_is
 
   -- the ask of a line
@@ -310,18 +389,25 @@ module _ (state0 : State) (up0 down0 : Pipe) where
         let before : e.up_there + length f.given_up ≡ length f.sent_up = f.up_left in
         omega (arith, more, before, left);
     down_left = f.down_left;
+    few_asked = f.few_asked;
+    few_made = f.few_made;
+    few_ids = f.few_ids;
+    few_serials = f.few_serials;
+    few_numbers = f.few_numbers;
   }
 
   -- ---- a step is made
 
-  -- a step is carried out, and what it sends is put down
-  follows-step : (up down down1 : Pipe) (h : Happening) (waits waiting : List (List ℕ)) (e : Ends) (seat : Seat) (side : PageSide) (out : List ℕ) (there : ℕ)
-      → (f : Follows state0 up0 down0 up down waits e) → waits ≡ frames_among (h ∷ []) ++ waiting → there ≡ e.down_there + length out
+  -- a step is carried out, and what it sends is put down; `lines` is how many lines more there were before
+  follows-step : (lines : ℕ) (up down down1 : Pipe) (h : Happening) (waits waiting : List (List ℕ)) (e : Ends) (seat : Seat) (side : PageSide) (out : List ℕ) (there : ℕ)
+      → made_among (h ∷ []) + state0.lines ≤ lines
+      → (f : Follows (started state0.state lines) up0 down0 up down waits e) → waits ≡ frames_among (h ∷ []) ++ waiting → there ≡ e.down_there + length out
       → Sends f.state h → StandsFor seat side (step_of h f.state).state
       → out ≡ (step_of h f.state).sent → down1.sent ≡ down.sent ++ out → down1.given ≡ down.given
       → Follows state0 up0 down0 up down1 waiting (record e { seat = seat; side = side; down_there = there })
-  follows-step up down down1 h waits waiting e seat side out there f waits_are left s stands out_is sent_is given_is =
-      let old : State = (happened state0 f.events).state in
+  follows-step lines up down down1 h waits waiting e seat side out there room f waits_are left s stands out_is sent_is given_is =
+      let old : State = (happened state0.state f.events).state in
+      let events : length (f.events ++ h ∷ []) ≡ length f.events + 1 = length-append f.events (h ∷ []) in
       let out_frames : frames_of out ≡ record { whole = s.texts; rest = [] } = ap frames_of out_is ∙ s.frames_are in
       let more : (frames_of (f.sent_down ++ out)).whole ≡ (frames_of f.sent_down).whole ++ s.texts =
       whole-after f.sent_down out f.down_whole ∙ ap (λ (fs : Frames). (frames_of f.sent_down).whole ++ fs.whole) out_frames in
@@ -343,11 +429,11 @@ module _ (state0 : State) (up0 down0 : Pipe) where
             ∙ ap (λ frames. frames ++ waiting) (sym (frames-last f.events h));
         back_is = f.back_is;
         state = (step_of h f.state).state;
-        side_is = happened-state state0 f.events h ∙ ap (λ state. (step_of h state).state) f.side_is;
+        side_is = happened-state state0.state f.events h ∙ ap (λ state. (step_of h state).state) f.side_is;
         sent_is =
             ap (λ bytes. f.sent_down ++ bytes) (out_is ∙ ap (λ state. (step_of h state).sent) (sym f.side_is))
             ∙ ap (λ bytes. bytes ++ (step_of h old).sent) f.sent_is
-            ∙ sym (happened-sent state0 f.events h);
+            ∙ sym (happened-sent state0.state f.events h);
         replies_are =
             ap (λ fs. map (λ (t : ShownReply). t.id) (replies_among fs)) more
             ∙ ap (map (λ (t : ShownReply). t.id)) (replies_among-append (frames_of f.sent_down).whole s.texts)
@@ -363,6 +449,14 @@ module _ (state0 : State) (up0 down0 : Pipe) where
             let longer : length (f.sent_down ++ out) ≡ length f.sent_down + length out = length-append f.sent_down out in
             let before : e.down_there + length f.given_down ≡ length f.sent_down = f.down_left in
             omega (arith, longer, before, left);
+        few_asked = f.few_asked;
+        few_made =
+            let before : made_among f.events + lines ≤ most_asks = f.few_made in
+            let last : made_among (f.events ++ h ∷ []) ≡ made_among f.events + made_among (h ∷ []) = made-last f.events h in
+            omega (arith, before, last, room);
+        few_ids = more_ids (length f.state.client.session.pushed) (length (step_of h f.state).state.client.session.pushed) (length f.events) (length (f.events ++ h ∷ [])) events f.few_ids s.ids;
+        few_serials = more_serials f.state.side.page.next (step_of h f.state).state.side.page.next (length f.events) (length (f.events ++ h ∷ [])) events f.few_serials s.serials;
+        few_numbers = more_numbers f.state.side.next_sheet (step_of h f.state).state.side.next_sheet (length f.events) (length (f.events ++ h ∷ [])) events f.few_numbers s.numbers;
       }
 
   -- a frame is answered
@@ -372,17 +466,17 @@ module _ (state0 : State) (up0 down0 : Pipe) where
       → out ≡ (step f.state frame).sent → down1.sent ≡ down.sent ++ out → down1.given ≡ down.given
       → Follows state0 up0 down0 up down1 frames (record e { seat = seat; side = side; down_there = there })
   follows-answered up down down1 frame frames e seat side out there f left room stands out_is sent_is given_is =
-      follows-step up down down1 (came frame) (frame ∷ frames) frames e seat side out there f refl left
+      follows-step state0.lines up down down1 (came frame) (frame ∷ frames) frames e seat side out there (omega arith) f refl left
       (frame-sends f.state frame f.stands.is_state room) stands out_is sent_is given_is
 
   -- the script makes a step by itself
   pub follows-turned : (up down down1 : Pipe) (x : Turn) (waiting : List (List ℕ)) (e : Ends) (seat : Seat) (side : PageSide) (out : List ℕ) (there : ℕ)
-      → (f : Follows state0 up0 down0 up down waiting e) → there ≡ e.down_there + length out → HasRoom f.state → IsTurn x
+      → (f : Follows (one_line_more state0) up0 down0 up down waiting e) → there ≡ e.down_there + length out → HasRoom f.state → IsTurn x
       → StandsFor seat side (turn x f.state).state
       → out ≡ (turn x f.state).sent → down1.sent ≡ down.sent ++ out → down1.given ≡ down.given
       → Follows state0 up0 down0 up down1 waiting (record e { seat = seat; side = side; down_there = there })
   follows-turned up down down1 x waiting e seat side out there f left room is_turn stands out_is sent_is given_is =
-      follows-step up down down1 (made x) waiting waiting e seat side out there f refl left
+      follows-step (state0.lines + 1) up down down1 (made x) waiting waiting e seat side out there (omega arith) f refl left
       (turn-sends f.state x f.stands.is_state room is_turn) stands out_is sent_is given_is
 
   -- ---- bytes go down
@@ -396,7 +490,7 @@ module _ (state0 : State) (up0 down0 : Pipe) where
   -- what the front is after these bytes
   front-down : (up down : Pipe) (waiting : List (List ℕ)) (e : Ends) (piece : List ℕ) (f : Follows state0 up0 down0 up down waiting e)
       → let end = front.folded f.value (frames_from (frames_of f.given_down).rest piece) in
-      after_take e.front piece ≡ record { value = end.value; rest = held_after (frames_of f.given_down).rest piece; fault = end.fault; next = e.front.next; fetches = 0; dead = false }
+      after_take e.front piece ≡ record { value = end.value; rest = held_after (frames_of f.given_down).rest piece; fault = end.fault; next = e.front.next; fetches = e.front.fetches; dead = false }
   front-down up down waiting e piece f = ap (λ s. after_take s piece) f.front_is
 
   -- any bytes are given down, and the front refuses none of the messages
@@ -408,6 +502,7 @@ module _ (state0 : State) (up0 down0 : Pipe) where
       let front_now = front-down up down waiting e piece f in
       let none : end.fault ≡ None = sym (ap (λ (s : FrontState). s.fault) front_now) ∙ good in
       let next : (after_take e.front piece).next ≡ e.front.next = ap (λ (s : FrontState). s.next) front_now in
+      let fetches : (after_take e.front piece).fetches ≡ e.front.fetches = ap (λ (s : FrontState). s.fetches) front_now in
       record {
         sent_up = f.sent_up;
         given_up = f.given_up;
@@ -419,9 +514,10 @@ module _ (state0 : State) (up0 down0 : Pipe) where
         value = end.value;
         front_is =
             front_now
-            ∙ ap (λ o. record { value = end.value; rest = held_after (frames_of f.given_down).rest piece; fault = o; next = e.front.next; fetches = 0; dead = false }) none
-            ∙ ap (λ n. good_front end.value (held_after (frames_of f.given_down).rest piece) n) (sym next)
-            ∙ ap (λ rest. good_front end.value rest (after_take e.front piece).next) (sym (ap (λ (fs : Frames). fs.rest) (frames_of-append f.given_down piece)));
+            ∙ ap (λ o. record { value = end.value; rest = held_after (frames_of f.given_down).rest piece; fault = o; next = e.front.next; fetches = e.front.fetches; dead = false }) none
+            ∙ ap (λ n. good_front end.value (held_after (frames_of f.given_down).rest piece) n e.front.fetches) (sym next)
+            ∙ ap (λ n. good_front end.value (held_after (frames_of f.given_down).rest piece) (after_take e.front piece).next n) (sym fetches)
+            ∙ ap (λ rest. good_front end.value rest (after_take e.front piece).next (after_take e.front piece).fetches) (sym (ap (λ (fs : Frames). fs.rest) (frames_of-append f.given_down piece)));
         is_fold = fold-down up down waiting e piece f ∙ ap (outcome end.value) none;
         events = f.events;
         frames_are = f.frames_are;
@@ -437,6 +533,13 @@ module _ (state0 : State) (up0 down0 : Pipe) where
             let more : length (f.given_down ++ piece) ≡ length f.given_down + length piece = length-append f.given_down piece in
             let before : e.down_there + length f.given_down ≡ length f.sent_down = f.down_left in
             omega (arith, more, before, left);
+        few_asked =
+            let before : e.front.next + e.front.fetches ≤ length f.sent_up + 1 = f.few_asked in
+            omega (arith, before, next, fetches);
+        few_made = f.few_made;
+        few_ids = f.few_ids;
+        few_serials = f.few_serials;
+        few_numbers = f.few_numbers;
       }
 
   -- or the front refuses one, and the fold is this fault
@@ -492,6 +595,36 @@ module _ (state0 : State) (up0 down0 : Pipe) where
       let down_left : e.down_there + length f.given_down ≡ length f.sent_down = f.down_left in
       (omega (arith, up_sent, up_given, up_left), omega (arith, down_sent, down_given, down_left))
 
+  -- ---- where there is no room
+
+  -- where the front end has no id left, 2^28 bytes were sent up
+  pub front-full : (up down : Pipe) (waiting : List (List ℕ)) (e : Ends) → Follows state0 up0 down0 up down waiting e
+      → ((e.front.next < 2 ^ 30) × (2 ^ 30 + e.front.fetches < 2 ^ 52) → false ≡ true) → 2 ^ 28 ≤ length (sent_since up0 up)
+  front-full up down waiting e f none =
+      let sent : length (sent_since up0 up) ≡ length f.sent_up = ap length (sent_since-is up0 up f.sent_up f.given_up f.up_is) in
+      let few : e.front.next + e.front.fetches ≤ length f.sent_up + 1 = f.few_asked in
+      is-full (length (sent_since up0 up)) (λ less. let no : false ≡ true = none (omega (arith, few, sent, less), omega (arith, few, sent, less)) in absurd cc)
+
+  -- and where the back end has none
+  pub seat-full : (up down : Pipe) (waiting : List (List ℕ)) (e : Ends) → Follows state0 up0 down0 up down waiting e
+      → (HasRoomLeft e.seat.desk e.side → false ≡ true) → 2 ^ 28 ≤ length (sent_since up0 up)
+  seat-full up down waiting e f none =
+      let sent : length (sent_since up0 up) ≡ length f.sent_up = ap length (sent_since-is up0 up f.sent_up f.given_up f.up_is) in
+      let left : e.up_there + length f.given_up ≡ length f.sent_up = f.up_left in
+      let few : made_among f.events + state0.lines ≤ most_asks = f.few_made in
+      let counted : length f.events ≡ length (frames_among f.events) + made_among f.events = events-counted f.events in
+      let whole : length (frames_of f.given_up).whole ≤ length f.given_up = frames-few f.given_up in
+      let all : length (frames_of f.given_up).whole ≡ length (frames_among f.events) + length waiting =
+      ap length f.frames_are ∙ length-append (frames_among f.events) waiting in
+      let next : e.seat.desk.agent.next ≡ length f.state.client.session.pushed + 1 = f.stands.stands.next_is in
+      is-full (length (sent_since up0 up)) (λ less.
+      let events : length f.events < 2 ^ 29 = omega (arith, sent, left, few, counted, whole, all, less) in
+      let no : false ≡ true = none (record {
+        ids = subst (λ n. n < 2 ^ 50) (sym next) (ids-left (length f.state.client.session.pushed) (length f.events) events f.few_ids);
+        serials = subst (λ (page : PageValue). page.next < 2 ^ 50) (sym f.stands.page_is) (serials-left f.state.side.page.next (length f.events) events f.few_serials);
+        sheets = subst (λ n. n < 2 ^ 50) (sym f.stands.next_is) (numbers-left f.state.side.next_sheet (length f.events) events f.few_numbers);
+      }) in absurd cc)
+
   -- ---- how many replies were told says nothing of the link
 
   pub follows-told : (up down : Pipe) (waiting : List (List ℕ)) (e : Ends) (n : ℕ) → Follows state0 up0 down0 up down waiting e
@@ -518,4 +651,9 @@ module _ (state0 : State) (up0 down0 : Pipe) where
     stands = f.stands;
     up_left = f.up_left;
     down_left = f.down_left;
+    few_asked = f.few_asked;
+    few_made = f.few_made;
+    few_ids = f.few_ids;
+    few_serials = f.few_serials;
+    few_numbers = f.few_numbers;
   }

@@ -66,7 +66,7 @@ by_command ask (Ok c) is = commanded c (is c refl).0
 by_command ask (Err why) is = refused_as why
 
 -- the id and the method of a frame that is an ask
-id_method : (frame : Members) (i : Option ℕ) (m : Option (List ℕ)) (ask : Ask)
+pub id_method : (frame : Members) (i : Option ℕ) (m : Option (List ℕ)) (ask : Ask)
     → option_and_then (λ id. option_and_then (λ method. Some (ask_by frame id method)) m) i ≡ Some ask
     → (i ≡ Some ask.id) × (m ≡ Some ask.method) × (ask.sheet ≡ sheet_asked ask.id ask.method (get_member (codes "params") frame))
 id_method frame None m ask e = absurd cc
@@ -79,7 +79,7 @@ id_method frame (Some id) (Some method) ask e =
     )
 
 -- a field that is read
-there : {T : Type 0} (reads : Data → Option T) (o : Option Data) (x : T) → option_and_then reads o ≡ Some x → field_from reads o ≡ Is x
+pub there : {T : Type 0} (reads : Data → Option T) (o : Option Data) (x : T) → option_and_then reads o ≡ Some x → field_from reads o ≡ Is x
 there reads None x e = absurd cc
 there reads (Some d) x e = ap field_if e
 

@@ -1,9 +1,16 @@
 -- The streams of a script fit the state of the page, line by line.
-use Rattle.std.proofs.Common.{◌≡◌, ℕ, zero, suc, ◌+◌, ◌*◌, ◌^◌, ◌<◌, ◌≤◌, List, [], ◌∷◌, length, take, Ok, refl, sym, ◌∙◌, ap, arith}
+use Rattle.std.proofs.Common.{◌≡◌, ℕ, zero, suc, ◌+◌, ◌*◌, ◌^◌, ◌<◌, ◌≤◌, List, [], ◌∷◌, length, take, Ok, refl, sym, ◌∙◌, ap, subst, arith}
+use Rattle.std.specs.Prelude.{IsUtf8, Bool, true, false, ◌&&◌, nat_le}
+use Rattle.std.specs.List.{list_all}
+use Rattle.std.proofs.lemmas.Bool.{leb-true}
+use Rattle.std.proofs.lemmas.List.Elements.{All-head, All-tail}
 use Rattle.std.proofs.lemmas.Str.{IsUtf8-nil}
+use Rattle.page_forms.specs.declared.sheets.SheetForm.{SheetForm}
+use Rattle.page_forms.specs.Sheets.{max_sheets, max_sheet_bytes, is_short, can_hold_sheets}
+use Rattle.back_end.specs.Sheets.{numbered_sheets, AscendBetween, AreSheetTexts, AreSheetsBelow}
 use Rattle.node_tree.specs.Nodes.{Nodes, none, node, node_count}
 use Rattle.node_tree.specs.Labels.{Label}
-use Rattle.page_tree.specs.Forms.{CanLoad}
+use Rattle.page_forms.specs.Pages.{LoadedPage, CanLoadPage}
 use Rattle.page_tree.specs.Pages.{numbered}
 use Rattle.page_tree.proofs.NumberLemmas.{loaded_valid}
 use Rattle.node_binding.proofs.SessionLemmas.{IsSession-begun}
@@ -11,7 +18,7 @@ use Rattle.cdp_messages.specs.Asked.{command_text}
 use Rattle.dom_agent.specs.Laws.{RowsHaveUtf8}
 use Rattle.front_mirror.specs.Front.{first_value, take_frame}
 use Rattle.replay_script.specs.Forms as forms
-use Rattle.replay_script.specs.Forms.{AskForm, LineForm, load, ask, up, down, settle, show_front, show_page, show_replies}
+use Rattle.replay_script.specs.Forms.{AskForm, LineForm, load, ask, up, down, settle, show_front, show_page, show_sheets, show_replies}
 use Rattle.pipe_frames.specs.Frames.{IsText, frames_of}
 use Rattle.inspect_world.specs.Stream.{sent, held, awaited}
 use Rattle.inspect_world.specs.Fold.{folded, joined}
@@ -20,7 +27,7 @@ use Rattle.back_end.specs.States.{State, nodes_in, loaded_state, IsState}
 use Rattle.back_end.specs.Steps.{Turn, acts, loads, step, turn}
 use Rattle.inspect_world.specs.Fits.{join, asks_among, IsNext, next_raw, IsBare, IsNextTurn, HasLeft, most_asks, most_sheets, most_fetches, IsFit, replay, Fits}
 use Rattle.inspect_world.specs.Scripts.{sends, after_line, after_lines, loaded_world}
-use Rattle.page_forms.specs.Texts.{HaveTexts}
+use Rattle.page_forms.specs.Texts.{HaveTexts, SheetsHaveTexts, PageHasTexts}
 use Rattle.inspect_world.specs.ScriptsFit.{CanSend, IsLater, AreLater, LinesFit, BareFramesFit, TurnsFit, DeliveriesFit, SettledShows}
 use Rattle.inspect_world.proofs.Messages.{IsText-sent, IsNext-sent}
 use Rattle.inspect_world.proofs.Frames.{given-all, sent-all, awaited-none}
@@ -30,35 +37,72 @@ use Rattle.inspect_world.proofs.FitLemmas.{world_laws}
 
 -- ---- the start
 
+and-true : (a b : Bool) → (a && b) ≡ true → (a ≡ true) × (b ≡ true)
+and-true true b e = (refl, e)
+and-true false b e = absurd cc
+
+-- the sheets of a page that is loaded
+few-sheets : (sheets : List SheetForm) → can_hold_sheets sheets ≡ true → length sheets ≤ 1000
+few-sheets sheets can = leb-true (length sheets) 1000 (and-true (nat_le (length sheets) max_sheets) (list_all is_short sheets) can).0
+
+length-numbered : (next : ℕ) (sheets : List SheetForm) → length (numbered_sheets next sheets) ≡ length sheets
+length-numbered next [] = refl
+length-numbered next (f ∷ fs) = ap suc (length-numbered (next + 1) fs)
+
+ascend-numbered : (next : ℕ) (sheets : List SheetForm) → AscendBetween next (next + length sheets) (numbered_sheets next sheets)
+ascend-numbered next [] = omega arith
+ascend-numbered next (f ∷ fs) =
+    let same : next + 1 + length fs ≡ next + suc (length fs) = omega arith in
+    (omega arith, subst (λ m. AscendBetween (next + 1) m (numbered_sheets (next + 1) fs)) same (ascend-numbered (next + 1) fs))
+
+texts-of-sheets : (next : ℕ) (sheets : List SheetForm) → list_all is_short sheets ≡ true → SheetsHaveTexts sheets → AreSheetTexts (numbered_sheets next sheets)
+texts-of-sheets next [] short texts = tt
+texts-of-sheets next (f ∷ fs) short texts =
+    let p = and-true (is_short f) (list_all is_short fs) short in (
+      All-head (λ (sheet : SheetForm). IsUtf8 sheet.text) f fs texts,
+      leb-true (length f.text) max_sheet_bytes p.0,
+      texts-of-sheets (next + 1) fs p.1 (All-tail (λ (sheet : SheetForm). IsUtf8 sheet.text) f fs texts),
+    )
+
+sheets-first : (sheets : List SheetForm) → can_hold_sheets sheets ≡ true → SheetsHaveTexts sheets → AreSheetsBelow (1 + length sheets) (numbered_sheets 1 sheets)
+sheets-first sheets can texts = record {
+  numbers = ascend-numbered 1 sheets;
+  few = let count : length (numbered_sheets 1 sheets) ≡ length sheets = length-numbered 1 sheets in let few : length sheets ≤ 1000 = few-sheets sheets can in omega (arith, count, few);
+  texts = texts-of-sheets 1 sheets (and-true (nat_le (length sheets) max_sheets) (list_all is_short sheets) can).1 texts;
+}
+
 texts-numbered : (first : ℕ) (n : Nodes Label) → HaveTexts n → RowsHaveUtf8 (numbered first n)
 texts-numbered first none texts = tt
 texts-numbered first (node l c t) texts = (texts.0, texts-numbered (first + 1) c texts.1, texts-numbered (first + 1 + node_count c) t texts.2)
 
-pub IsState-first : (nodes : Nodes Label) → CanLoad nodes → HaveTexts nodes → IsState (loaded_state nodes)
-IsState-first nodes can texts = record {
-  page = loaded_valid 1 nodes (omega arith) can;
-  texts = ((IsUtf8-nil, IsUtf8-nil, tt), texts-numbered 2 nodes texts, tt);
-  session = IsSession-begun (nodes_in (loaded_state nodes));
+pub IsState-first : (page : LoadedPage) → CanLoadPage page → PageHasTexts page → IsState (loaded_state page)
+IsState-first page can texts = record {
+  page = loaded_valid 1 page.nodes (omega arith) can.nodes;
+  texts = ((IsUtf8-nil, IsUtf8-nil, tt), texts-numbered 2 page.nodes texts.nodes, tt);
+  sheets = sheets-first page.sheets can.sheets texts.sheets;
+  session = IsSession-begun (nodes_in (loaded_state page));
   off = λ off. refl;
-  no_more = record { sheets = refl; css_off = refl; watched = refl; marks = refl };
+  css_off = λ off. refl;
+  no_more = record { watched = refl; marks = refl };
 }
 
-pub fit-first : (nodes : Nodes Label) → CanLoad nodes → HaveTexts nodes → IsFit nothing_spent (first_value []) (loaded_state nodes) []
-fit-first nodes can texts = record {
+pub fit-first : (page : LoadedPage) → CanLoadPage page → PageHasTexts page → IsFit nothing_spent (first_value []) (loaded_state page) []
+fit-first page can texts = record {
   has = record { tree = refl; sheets = tt };
   asks = refl;
   sendable = tt;
-  is_state = IsState-first nodes can texts;
+  is_state = IsState-first page can texts;
   few = omega arith;
   few_raws = omega arith;
   few_turns = omega arith;
   drawn = omega arith;
-  serials = let room : suc (node_count nodes) ≤ 100000 = can.room in omega (arith, room);
+  serials = let room : suc (node_count page.nodes) ≤ 100000 = can.nodes.room in omega (arith, room);
+  numbers = let few : length page.sheets ≤ 1000 = few-sheets page.sheets can.sheets in omega (arith, few);
 }
 
-pub fits-loaded : (nodes : Nodes Label) → CanLoad nodes → HaveTexts nodes → Fits (loaded_world nodes)
-fits-loaded nodes can texts =
-    fits-first replay IsNext IsNextTurn IsFit world_laws (first_value []) (loaded_state nodes) (fit-first nodes can texts)
+pub fits-loaded : (page : LoadedPage) → CanLoadPage page → PageHasTexts page → Fits (loaded_world page)
+fits-loaded page can texts =
+    fits-first replay IsNext IsNextTurn IsFit world_laws (first_value []) (loaded_state page) (fit-first page can texts)
 
 -- ---- a line
 
@@ -82,7 +126,7 @@ raw-fits : (text : List ℕ) (w : World State) → IsText text → IsBare text �
 raw-fits text w letters bare few fits = fits-sent_up replay IsNext IsNextTurn IsFit world_laws (first_value []) text one_raw w letters (next_raw bare few) fits
 
 pub fits-line : (line : LineForm) (w : World State) → IsLater line → HasLeft w.spent 1 → Fits w → Fits (after_line line w)
-fits-line (load nodes) w later left fits = turned-fits (loads nodes) w (record { is_turn = later; few = left.turns }) fits
+fits-line (load page) w later left fits = turned-fits (loads page) w (record { is_turn = later; few = left.turns }) fits
 fits-line (forms.act a) w later left fits = turned-fits (acts a) w (record { is_turn = later; few = left.turns }) fits
 fits-line (ask a) w later left fits = fits-sent a w later left.asks fits
 fits-line (forms.raw text) w later left fits = raw-fits text w later.0 later.1 left.raws fits
@@ -91,6 +135,7 @@ fits-line (down n) w later left fits = fits-delivered_down replay IsNext IsNextT
 fits-line settle w later left fits = settled-fits w fits
 fits-line show_front w later left fits = settled-fits w fits
 fits-line show_page w later left fits = fits
+fits-line show_sheets w later left fits = settled-fits w fits
 fits-line show_replies w later left fits = fits-told (settled step w) _ (settled-fits w fits)
 
 -- one of these counts, where a line spends one at most
@@ -112,7 +157,7 @@ spent-on k n m asks fetches raws turns left = record {
 }
 
 pub left-after : (line : LineForm) (k : ℕ) (w : World State) → HasLeft w.spent (suc k) → HasLeft (after_line line w).spent k
-left-after (load nodes) k w left = spent-on k w.spent (after_line (load nodes) w).spent (omega arith) (omega arith) (omega arith) (omega arith) left
+left-after (load page) k w left = spent-on k w.spent (after_line (load page) w).spent (omega arith) (omega arith) (omega arith) (omega arith) left
 left-after (forms.act a) k w left = spent-on k w.spent (after_line (forms.act a) w).spent (omega arith) (omega arith) (omega arith) (omega arith) left
 left-after (ask a) k w left = spent-on k w.spent (after_line (ask a) w).spent (omega arith) (omega arith) (omega arith) (omega arith) left
 left-after (forms.raw text) k w left = spent-on k w.spent (after_line (forms.raw text) w).spent (omega arith) (omega arith) (omega arith) (omega arith) left
@@ -121,6 +166,7 @@ left-after (down n) k w left = spent-on k w.spent (after_line (down n) w).spent 
 left-after settle k w left = spent-on k w.spent (after_line settle w).spent (omega arith) (omega arith) (omega arith) (omega arith) left
 left-after show_front k w left = spent-on k w.spent (after_line show_front w).spent (omega arith) (omega arith) (omega arith) (omega arith) left
 left-after show_page k w left = spent-on k w.spent (after_line show_page w).spent (omega arith) (omega arith) (omega arith) (omega arith) left
+left-after show_sheets k w left = spent-on k w.spent (after_line show_sheets w).spent (omega arith) (omega arith) (omega arith) (omega arith) left
 left-after show_replies k w left = spent-on k w.spent (after_line show_replies w).spent (omega arith) (omega arith) (omega arith) (omega arith) left
 
 -- one line of some
@@ -139,11 +185,11 @@ fits-lines (suc n) (line ∷ lines) w later left fits =
     fits-lines n lines (after_line line w) later.1 (left-after line (length lines) w left) (fits-line line w later.0 (left-one (length lines) w left) fits)
 
 -- nothing was spent at the start
-pub left-first : (nodes : Nodes Label) (k : ℕ) → k ≤ most_asks → HasLeft (loaded_world nodes).spent k
-left-first nodes k few = record { asks = omega (arith, few); fetches = omega (arith, few); raws = omega (arith, few); turns = omega (arith, few) }
+pub left-first : (page : LoadedPage) (k : ℕ) → k ≤ most_asks → HasLeft (loaded_world page).spent k
+left-first page k few = record { asks = omega (arith, few); fetches = omega (arith, few); raws = omega (arith, few); turns = omega (arith, few) }
 
 pub lines-fit : LinesFit
-lines-fit nodes lines can texts later few n = fits-lines n lines (loaded_world nodes) later (left-first nodes (length lines) few) (fits-loaded nodes can texts)
+lines-fit page lines can texts later few n = fits-lines n lines (loaded_world page) later (left-first page (length lines) few) (fits-loaded page can texts)
 
 -- ---- frames that name no ask
 

@@ -37,11 +37,11 @@ use Rattle.inspect_world.proofs.PlainAsks.{ArePlain, kept-plain, without_all-pla
 -- ---- the frames of moves
 
 -- the messages are texts without a zero byte
-abbrev AreTexts : List Move → Type 0
+abbrev pub AreTexts : List Move → Type 0
 AreTexts [] = ⊤
 AreTexts (m ∷ ms) = IsText (move_text m) × AreTexts ms
 
-frames_of-moves : (ms : List Move) → AreTexts ms → frames_of (frames_of_moves ms) ≡ record { whole = map move_text ms; rest = [] }
+pub frames_of-moves : (ms : List Move) → AreTexts ms → frames_of (frames_of_moves ms) ≡ record { whole = map move_text ms; rest = [] }
 unfolding frames_of
 frames_of-moves [] texts = refl
 frames_of-moves (m ∷ ms) texts =
@@ -52,7 +52,7 @@ course-start : (ms : List Move) (u w : View) → Course ms u w → CanBeTold u
 course-start _ _ _ (ends v here) = here
 course-start _ _ _ (goes m ms u v w here moves later) = here
 
-course-texts : (ms : List Move) (u w : View) → Course ms u w → AreTexts ms
+pub course-texts : (ms : List Move) (u w : View) → Course ms u w → AreTexts ms
 course-texts _ _ _ (ends v here) = tt
 course-texts _ _ _ (goes m ms u v w here moves later) = (move-is-text m u v here (course-start ms v w later) moves, course-texts ms v w later)
 

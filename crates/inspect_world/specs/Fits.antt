@@ -6,6 +6,7 @@ use Rattle.std.specs.Str.Parse.{digits_value}
 use Rattle.cdp_json.specs.Kinds.{as_whole, if_holds}
 use Rattle.css_objects.specs.Sheets.{sheet_text}
 use Rattle.page_tree.specs.Forms.{max_nodes}
+use Rattle.page_forms.specs.Sheets.{max_sheets}
 use Rattle.cdp_messages.specs.declared.command.Why.{Why}
 use Rattle.cdp_messages.specs.Asked.{json_of, refusal, asked}
 use Rattle.std.specs.Option.{option_to_list}
@@ -72,7 +73,7 @@ most_asks = 2 ^ 26
 
 -- how many sheets a page has at most
 abbrev pub most_sheets : ℕ
-most_sheets = 1000
+most_sheets = max_sheets
 
 -- how many fetches a script can come to at most: in each settle, and in the closing one, one for each sheet of a page
 abbrev pub most_fetches : ℕ
@@ -141,8 +142,12 @@ most_drawn n = (n.asks + n.raws + n.turns) * max_nodes
 abbrev pub most_serials : Spent → ℕ
 most_serials n = (n.asks + n.raws + n.turns + 1) * (max_nodes + 1)
 
+-- how far the numbers of sheets may have come: as far, by the sheets of one page at most
+abbrev pub most_numbers : Spent → ℕ
+most_numbers n = (n.asks + n.raws + n.turns + 1) * max_sheets + 1
+
 -- After n was spent the front shows exactly what the state's client sees, and waits for the asks among these frames alone.
--- Enough ids and serials are left for these answers.
+-- Enough ids, serials and numbers of sheets are left for these answers.
 pub record IsFit (n : Spent) (v : FrontValue) (state : State) (frames : List (List ℕ)) : Type 0 where
   pub has : Has v (view_of state)
   pub asks : asks_among frames ≡ v.asks
@@ -153,6 +158,7 @@ pub record IsFit (n : Spent) (v : FrontValue) (state : State) (frames : List (Li
   pub few_turns : n.turns ≤ most_asks
   pub drawn : length state.client.session.pushed + drawing frames * max_nodes ≤ most_drawn n
   pub serials : state.side.page.next + drawing frames * (max_nodes + 1) ≤ most_serials n
+  pub numbers : state.side.next_sheet + drawing frames * max_sheets ≤ most_numbers n
 
 -- how the run of a replay goes on
 abbrev pub replay : Machine State FrontValue FrontKind Turn

@@ -1,10 +1,9 @@
 -- The run of a script with the fetches of its settles put into the streams, beside the run that the report tells.
 use Rattle.std.specs.Prelude.{◌≡◌, ℕ, ◌+◌, ◌^◌, ◌≤◌, List, [], ◌∷◌, length, take, map, codes, Some, None, Ok}
 use Rattle.node_tree.specs.Nodes.{Nodes}
-use Rattle.node_tree.specs.Labels.{Label}
 use Rattle.node_tree.specs.Seen.{Seen}
-use Rattle.page_tree.specs.Forms.{CanLoad}
-use Rattle.page_forms.specs.Texts.{HaveTexts}
+use Rattle.page_forms.specs.Pages.{LoadedPage, CanLoadPage}
+use Rattle.page_forms.specs.Texts.{PageHasTexts}
 use Rattle.pipe_frames.specs.Frames.{frames_of}
 use Rattle.replay_script.specs.Forms.{LineForm, load}
 use Rattle.replay_script.specs.Script.{script_forms}
@@ -71,16 +70,16 @@ pub record Together (IsPlain : List ℕ → Type 0) (lines : ℕ) (w v : World S
 -- the fetches fit the state, and both runs agree.
 abbrev pub FreshLinesFit : Fetcher FrontValue → (List ℕ → Type 0) → Type 0
 FreshLinesFit fetcher IsPlain =
-    (nodes : Nodes Label) (lines : List LineForm) → CanLoad nodes → HaveTexts nodes → AreLater lines → length lines ≤ most_asks → (n : ℕ)
-    → RunTogether replay IsFit (first_value []) unstyled IsPlain (after_lines (take n lines) (loaded_world nodes))
-    (fresh_lines fetcher (take n lines) (loaded_world nodes))
+    (page : LoadedPage) (lines : List LineForm) → CanLoadPage page → PageHasTexts page → AreLater lines → length lines ≤ most_asks → (n : ℕ)
+    → RunTogether replay IsFit (first_value []) unstyled IsPlain (after_lines (take n lines) (loaded_world page))
+    (fresh_lines fetcher (take n lines) (loaded_world page))
 
 -- with each input that a replay reads
 abbrev pub FreshInputsFit : Fetcher FrontValue → (List ℕ → Type 0) → Type 0
 FreshInputsFit fetcher IsPlain =
-    (input : List ℕ) (nodes : Nodes Label) (lines : List LineForm) → script_forms input ≡ load nodes ∷ lines → length input ≤ most_asks
-    → (n : ℕ) → RunTogether replay IsFit (first_value []) unstyled IsPlain (after_lines (take n lines) (loaded_world nodes))
-    (fresh_lines fetcher (take n lines) (loaded_world nodes))
+    (input : List ℕ) (page : LoadedPage) (lines : List LineForm) → script_forms input ≡ load page ∷ lines → length input ≤ most_asks
+    → (n : ℕ) → RunTogether replay IsFit (first_value []) unstyled IsPlain (after_lines (take n lines) (loaded_world page))
+    (fresh_lines fetcher (take n lines) (loaded_world page))
 
 -- After a settle of both, the front end of the run with fetches shows exactly what the client sees, no text of a sheet is old,
 -- and it has kept just the replies that came down in the run without; it waits for no reply, and holds no part of a frame.

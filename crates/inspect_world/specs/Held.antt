@@ -1,5 +1,5 @@
 -- What the two ends hold while a script is carried out over a link, and that they follow the run.
-use Rattle.std.specs.Prelude.{◌≡◌, ℕ, ◌+◌, false, List, [], length, All, None, Ok}
+use Rattle.std.specs.Prelude.{◌≡◌, ℕ, ◌+◌, false, List, [], length, None, Ok}
 use Rattle.pipe_frames.specs.Pipe.{Pipe}
 use Rattle.pipe_frames.specs.Frames.{frames_of}
 use Rattle.front_mirror.specs.Front.{FrontValue, FrontState, first_value, take_frame}
@@ -11,7 +11,7 @@ use Rattle.back_end.specs.declared.seat.Seat.{Seat}
 use Rattle.back_end.specs.declared.side.PageSide.{PageSide}
 use Rattle.back_end.specs.States.{State}
 use Rattle.back_end.specs.Seats.{StandsFor}
-use Rattle.inspect_world.specs.Fits.{join, IsPlainFrame, FitsWith}
+use Rattle.inspect_world.specs.Fits.{join, FitsWith}
 
 -- The client's seat and the page's side; what the back end has of a frame that is not whole; the front end; how many bytes of
 -- each pipe were sent and not given; and how many of the replies were told.
@@ -24,22 +24,21 @@ pub record Ends : Type 0 where
   pub down_there : ℕ
   pub told : ℕ
 
--- a front end that has met no fault, and has fetched nothing
-abbrev pub good_front : FrontValue → List ℕ → ℕ → FrontState
-good_front value rest next = record { value = value; rest = rest; fault = None; next = next; fetches = 0; dead = false }
+-- a front end that has met no fault, by the id of its next ask and by how many fetches it has made
+abbrev pub good_front : FrontValue → List ℕ → ℕ → ℕ → FrontState
+good_front value rest next fetches = record { value = value; rest = rest; fault = None; next = next; fetches = fetches; dead = false }
 
--- Since the pipes were as `up0` and `down0`, the link and the ends have come to where the run is; `frames` are whole at the
--- back end and not yet answered, or on their way to it.
+-- Since the pipes were as `up0` and `down0`, the link and the ends have come to where the run is, the fetches of its settles
+-- included; `frames` are whole at the back end and not yet answered, or on their way to it.
 pub record InWorld (up0 down0 up down : Pipe) (w : World State) (frames : List (List ℕ)) (e : Ends) : Type 0 where
   pub up_is : Carries up0 up w.up
   pub down_is : Carries down0 down w.down
   pub stands : StandsFor e.seat e.side w.state
   pub back_is : e.back_rest ≡ held w.up
   pub value : FrontValue
-  pub front_is : e.front ≡ good_front value (held w.down) (w.spent.asks + 1)
+  pub front_is : e.front ≡ good_front value (held w.down) (w.spent.asks + 1) w.spent.fetches
   pub is_fold : folded take_frame (joined join (first_value []) (frames_of (sent w.up)).whole) (frames_of w.down.given).whole ≡ Ok value
   pub up_left : e.up_there ≡ length w.up.flying
   pub down_left : e.down_there ≡ length w.down.flying
   pub told_is : e.told ≡ w.told
-  pub plain : All IsPlainFrame (frames_of (sent w.up)).whole
   pub fits : FitsWith w frames

@@ -9,6 +9,7 @@ pub mod Fits
 pub mod Held
 pub mod ShownReplies
 pub mod ActTexts
+pub mod SheetTexts
 pub mod Scripts
 pub mod ScriptsFit
 pub mod FreshRuns

@@ -1,5 +1,5 @@
 -- What holds over every link, whatever bytes it gives.
-use Rattle.std.specs.Prelude.{◌≡◌, ℕ, ◌+◌, List, [], ◌∷◌, ◌++◌, length, map, Result, Ok}
+use Rattle.std.specs.Prelude.{◌≡◌, ◌≤◌, ℕ, ◌+◌, ◌*◌, List, [], ◌∷◌, ◌++◌, length, map, Result, Ok}
 use Rattle.pipe_frames.specs.Pipe.{Pipe}
 use Rattle.pipe_frames.specs.Frames.{frames_of}
 use Rattle.front_mirror.specs.declared.faults.FrontFault.{FrontFault}
@@ -7,7 +7,9 @@ use Rattle.front_mirror.specs.Front.{FrontValue, fold}
 use Rattle.back_end.specs.States.{State}
 use Rattle.back_end.specs.Steps.{Turn, Stepped, step, turn}
 use Rattle.back_end.specs.Seats.{StandsFor}
-use Rattle.inspect_world.specs.Fits.{asks_among}
+use Rattle.page_tree.specs.Forms.{max_nodes}
+use Rattle.page_forms.specs.Sheets.{max_sheets}
+use Rattle.inspect_world.specs.Fits.{most_asks, asks_among}
 use Rattle.inspect_world.specs.Held.{Ends, good_front}
 use Rattle.inspect_world.specs.ShownReplies.{ShownReply, replies_in, reply_id}
 
@@ -42,17 +44,37 @@ frames_among [] = []
 frames_among (came frame ∷ hs) = frame ∷ frames_among hs
 frames_among (made x ∷ hs) = frames_among hs
 
+-- how many steps the script made
+abbrev pub made_among : List Happening → ℕ
+made_among [] = 0
+made_among (came frame ∷ hs) = made_among hs
+made_among (made x ∷ hs) = made_among hs + 1
+
 -- ---- the ends over a link
+
+-- where a run began, and how many lines more it may carry out, each of which makes one step of the script at most
+pub record Started : Type 0 where
+  pub state : State
+  pub lines : ℕ
+
+-- these together
+abbrev pub started : State → ℕ → Started
+started state lines = record { state = state; lines = lines }
+
+-- one line more may be carried out
+abbrev pub one_line_more : Started → Started
+one_line_more start = started start.state (start.lines + 1)
 
 -- how a pipe goes on from an earlier moment
 pub record GoesOn (start now : Pipe) (sent given : List ℕ) : Type 0 where
   pub sent_is : now.sent ≡ start.sent ++ sent
   pub given_is : now.given ≡ start.given ++ given
 
--- Since the pipes were as `up0` and `down0`, and the page's state was `state0`: the front end is the fold of what it sent and was
+-- Since the pipes were as `up0` and `down0`, and the run began as `state0` says: the front end is the fold of what it sent and was
 -- given; the back end has carried out the frames that were given up, but for those that `waiting` holds whole, and between them
 -- the script's own steps, and has sent just what these steps send. What the ends count as sent and not given is just that.
-pub record Follows (state0 : State) (up0 down0 up down : Pipe) (waiting : List (List ℕ)) (e : Ends) : Type 0 where
+-- Ids, serials and numbers of sheets were drawn for what was sent up and for the script's steps alone.
+pub record Follows (state0 : Started) (up0 down0 up down : Pipe) (waiting : List (List ℕ)) (e : Ends) : Type 0 where
   pub sent_up : List ℕ
   pub given_up : List ℕ
   pub sent_down : List ℕ
@@ -61,16 +83,21 @@ pub record Follows (state0 : State) (up0 down0 up down : Pipe) (waiting : List (
   pub down_is : GoesOn down0 down sent_down given_down
   pub up_whole : (frames_of sent_up).rest ≡ []
   pub value : FrontValue
-  pub front_is : e.front ≡ good_front value (frames_of given_down).rest e.front.next
+  pub front_is : e.front ≡ good_front value (frames_of given_down).rest e.front.next e.front.fetches
   pub is_fold : fold_of sent_up given_down ≡ Ok value
   pub events : List Happening
   pub frames_are : (frames_of given_up).whole ≡ frames_among events ++ waiting
   pub back_is : e.back_rest ≡ (frames_of given_up).rest
   pub state : State
-  pub side_is : (happened state0 events).state ≡ state
-  pub sent_is : sent_down ≡ (happened state0 events).sent
+  pub side_is : (happened state0.state events).state ≡ state
+  pub sent_is : sent_down ≡ (happened state0.state events).sent
   pub replies_are : map (λ (t : ShownReply). t.id) (replies_in sent_down) ≡ map reply_id (frames_among events)
   pub down_whole : (frames_of sent_down).rest ≡ []
   pub stands : StandsFor e.seat e.side state
   pub up_left : e.up_there + length given_up ≡ length sent_up
   pub down_left : e.down_there + length given_down ≡ length sent_down
+  pub few_asked : e.front.next + e.front.fetches ≤ length sent_up + 1
+  pub few_made : made_among events + state0.lines ≤ most_asks
+  pub few_ids : length state.client.session.pushed ≤ length events * max_nodes
+  pub few_serials : state.side.page.next ≤ (length events + 1) * (max_nodes + 1)
+  pub few_numbers : state.side.next_sheet ≤ (length events + 1) * max_sheets + 1

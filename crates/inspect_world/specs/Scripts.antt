@@ -1,18 +1,18 @@
 -- A script carried out line by line, and what it prints.
 use Rattle.std.specs.Prelude.{ℕ, ◌+◌, List, [], ◌∷◌, ◌++◌, length, drop, codes, Option, Some, None}
-use Rattle.node_tree.specs.Nodes.{Nodes}
-use Rattle.node_tree.specs.Labels.{Label}
 use Rattle.page_tree.specs.Pages.{Row}
 use Rattle.cdp_messages.specs.Asked.{command_text}
 use Rattle.front_mirror.specs.Outline.{outline_text, seen_line, node_line}
 use Rattle.replay_script.specs.declared.faults.LineFault.{LineFault}
+use Rattle.page_forms.specs.Pages.{LoadedPage}
 use Rattle.replay_script.specs.Forms as forms
-use Rattle.replay_script.specs.Forms.{AskForm, LineForm, load, ask, up, down, settle, show_front, show_page, show_replies}
+use Rattle.replay_script.specs.Forms.{AskForm, LineForm, load, ask, up, down, settle, show_front, show_page, show_sheets, show_replies}
 use Rattle.replay_script.specs.Script.{script_fault, script_forms}
 use Rattle.inspect_world.specs.World.{World, first_world, asked, raw, turned, delivered_up, delivered_down, settled}
 use Rattle.inspect_world.specs.ShownReplies.{ShownReply, replies_in, told_lines}
 use Rattle.inspect_world.specs.ActTexts.{act_text}
-use Rattle.back_end.specs.States.{State, loaded_state, nodes_in, view_of}
+use Rattle.inspect_world.specs.SheetTexts.{sheet_lines}
+use Rattle.back_end.specs.States.{State, loaded_state, nodes_in, book_in, sheets_shown, view_of}
 use Rattle.back_end.specs.Steps.{acts, loads, step, turn}
 use Rattle.back_end.specs.Plans.{act_fault}
 
@@ -28,7 +28,7 @@ all_told w = record { state = w.state; up = w.up; down = w.down; spent = w.spent
 
 -- The run after a line, by what a settle does to a run; an act that is refused leaves the state as it is.
 abbrev pub after_line_by : (World State → World State) → LineForm → World State → World State
-after_line_by settles (load nodes) w = turned turn (loads nodes) w
+after_line_by settles (load page) w = turned turn (loads page) w
 after_line_by settles (forms.act a) w = turned turn (acts a) w
 after_line_by settles (ask a) w = sends a w
 after_line_by settles (forms.raw text) w = raw text w
@@ -37,6 +37,7 @@ after_line_by settles (down n) w = delivered_down n w
 after_line_by settles settle w = settles w
 after_line_by settles show_front w = settles w
 after_line_by settles show_page w = w
+after_line_by settles show_sheets w = settles w
 after_line_by settles show_replies w = all_told (settles w)
 
 -- the run after some lines
@@ -53,8 +54,8 @@ abbrev pub after_lines : List LineForm → World State → World State
 after_lines lines w = after_lines_by (settled step) lines w
 
 -- before the line after the load
-abbrev pub loaded_world : Nodes Label → World State
-loaded_world nodes = first_world (loaded_state nodes)
+abbrev pub loaded_world : LoadedPage → World State
+loaded_world page = first_world (loaded_state page)
 
 -- ---- what a line prints
 
@@ -70,14 +71,18 @@ page_line r = node_line r.serial r.label 0
 abbrev pub page_outline : State → List ℕ
 page_outline state = outline_text page_line (nodes_in state)
 
+-- the sheets that the client sees
+abbrev pub sheets_of : World State → List ℕ
+sheets_of w = sheet_lines (sheets_shown w.state)
+
 -- the replies that came after so many others
 abbrev pub replies_after : ℕ → World State → List ShownReply
 replies_after n w = drop n (replies_in w.down.given)
 
 -- what the line of that number prints
 abbrev pub line_text : ℕ → LineForm → World State → List ℕ
-line_text number (load nodes) w = []
-line_text number (forms.act a) w = act_text number (act_fault a w.state.side.page)
+line_text number (load page) w = []
+line_text number (forms.act a) w = act_text number (act_fault a w.state.side.page (book_in w.state))
 line_text number (ask a) w = []
 line_text number (forms.raw text) w = []
 line_text number (up n) w = []
@@ -85,6 +90,7 @@ line_text number (down n) w = []
 line_text number settle w = []
 line_text number show_front w = codes "# front" ++ 10 ∷ outline_of (settled step w)
 line_text number show_page w = codes "# page" ++ 10 ∷ page_outline w.state
+line_text number show_sheets w = codes "# sheets" ++ 10 ∷ sheets_of (settled step w)
 line_text number show_replies w = codes "# replies" ++ 10 ∷ told_lines (replies_after w.told (settled step w))
 
 -- what some lines print, the first of which has that number
@@ -110,7 +116,7 @@ rest_text bad lines w = lines_text 2 lines w ++ closing_unless bad (after_lines 
 -- what the lines of a script print, by the first that is refused
 abbrev pub text_of : Option (ℕ × LineFault) → List LineForm → List ℕ
 text_of bad [] = []
-text_of bad (load nodes ∷ lines) = rest_text bad lines (loaded_world nodes)
+text_of bad (load page ∷ lines) = rest_text bad lines (loaded_world page)
 text_of bad (forms.act a ∷ lines) = []
 text_of bad (ask a ∷ lines) = []
 text_of bad (forms.raw text ∷ lines) = []
@@ -119,6 +125,7 @@ text_of bad (down n ∷ lines) = []
 text_of bad (settle ∷ lines) = []
 text_of bad (show_front ∷ lines) = []
 text_of bad (show_page ∷ lines) = []
+text_of bad (show_sheets ∷ lines) = []
 text_of bad (show_replies ∷ lines) = []
 
 -- What a replay of the input writes: what each line before the first that is refused prints, and after the last line, where

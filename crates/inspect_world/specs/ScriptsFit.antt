@@ -1,15 +1,13 @@
 -- While a script is carried out, the whole streams between the ends stay such that the front end's fold meets no fault, and
 -- shows exactly what the client sees of the page.
 use Rattle.std.specs.Prelude.{◌≡◌, ℕ, ◌≤◌, List, [], ◌∷◌, length, take, map, All, true, Ok, ⊤, IsUtf8, ◌+◌}
-use Rattle.node_tree.specs.Nodes.{Nodes}
-use Rattle.node_tree.specs.Labels.{Label}
-use Rattle.page_tree.specs.Forms.{CanLoad}
+use Rattle.page_forms.specs.Pages.{LoadedPage, CanLoadPage}
 use Rattle.cdp_json.specs.Kinds.{is_counted, holds_of_some}
 use Rattle.cdp_json.specs.Plain.{is_plain}
 use Rattle.cdp_messages.specs.Asked.{command_value, command_text}
 use Rattle.cdp_messages.specs.Laws.{Shallow}
 use Rattle.replay_script.specs.Forms as forms
-use Rattle.replay_script.specs.Forms.{AskForm, LineForm, load, ask, up, down, settle, show_front, show_page, show_replies}
+use Rattle.replay_script.specs.Forms.{AskForm, LineForm, load, ask, up, down, settle, show_front, show_page, show_sheets, show_replies}
 use Rattle.replay_script.specs.Script.{script_forms}
 use Rattle.pipe_frames.specs.Frames.{IsText, frames_of}
 use Rattle.front_mirror.specs.Front.{FrontValue, first_value, take_frame}
@@ -17,7 +15,7 @@ use Rattle.front_mirror.specs.Laws.{Has}
 use Rattle.inspect_world.specs.Stream.{held}
 use Rattle.inspect_world.specs.World.{World, raw, turned, delivered_up, delivered_down, settled}
 use Rattle.inspect_world.specs.Fold.{folded, joined}
-use Rattle.page_forms.specs.Texts.{HaveTexts}
+use Rattle.page_forms.specs.Texts.{PageHasTexts}
 use Rattle.back_end.specs.States.{State, view_of}
 use Rattle.back_end.specs.Steps.{Turn, acts, loads, step, turn}
 use Rattle.back_end.specs.Laws.{IsTurn}
@@ -34,7 +32,7 @@ pub record CanSend (a : AskForm) : Type 0 where
 
 -- a line that may come after the load
 abbrev pub IsLater : LineForm → Type 0
-IsLater (load nodes) = IsTurn (loads nodes)
+IsLater (load page) = IsTurn (loads page)
 IsLater (forms.act a) = IsTurn (acts a)
 IsLater (ask a) = CanSend a
 IsLater (forms.raw text) = IsText text × IsBare text
@@ -43,6 +41,7 @@ IsLater (down n) = ⊤
 IsLater settle = ⊤
 IsLater show_front = ⊤
 IsLater show_page = ⊤
+IsLater show_sheets = ⊤
 IsLater show_replies = ⊤
 
 -- lines that may come after the load
@@ -51,18 +50,18 @@ AreLater [] = ⊤
 AreLater (line ∷ lines) = IsLater line × AreLater lines
 
 -- after any number of lines, the two whole streams fit the state of the page
-abbrev pub FitThroughout : Nodes Label → List LineForm → Type 0
-FitThroughout nodes lines = (n : ℕ) → Fits (after_lines (take n lines) (loaded_world nodes))
+abbrev pub FitThroughout : LoadedPage → List LineForm → Type 0
+FitThroughout page lines = (n : ℕ) → Fits (after_lines (take n lines) (loaded_world page))
 
 -- with any page and any lines, as many as a script can have
 abbrev pub LinesFit : Type 0
-LinesFit = (nodes : Nodes Label) (lines : List LineForm) → CanLoad nodes → HaveTexts nodes → AreLater lines → length lines ≤ most_asks
-    → FitThroughout nodes lines
+LinesFit = (page : LoadedPage) (lines : List LineForm) → CanLoadPage page → PageHasTexts page → AreLater lines → length lines ≤ most_asks
+    → FitThroughout page lines
 
 -- with each input that a replay reads
 abbrev pub InputsFit : Type 0
-InputsFit = (input : List ℕ) (nodes : Nodes Label) (lines : List LineForm) → script_forms input ≡ load nodes ∷ lines → length input ≤ most_asks
-    → FitThroughout nodes lines
+InputsFit = (input : List ℕ) (page : LoadedPage) (lines : List LineForm) → script_forms input ≡ load page ∷ lines → length input ≤ most_asks
+    → FitThroughout page lines
 
 -- a frame that names no ask is sent, whatever is on its way
 abbrev pub BareFramesFit : Type 0

@@ -1,2 +1,4 @@
 pub mod NodeTexts
+pub mod FieldTexts
+pub mod PageLemmas
 pub mod ActLemmas

@@ -26,7 +26,7 @@ str_utf8 (string s) u = u
 str_utf8 (array ds) u = tt
 str_utf8 (object ms) u = tt
 
-array_utf8 : (d : Data) → HasUtf8 d → IfSome ItemsHaveUtf8 (as_array d)
+pub array_utf8 : (d : Data) → HasUtf8 d → IfSome ItemsHaveUtf8 (as_array d)
 array_utf8 null u = tt
 array_utf8 (boolean b) u = tt
 array_utf8 (number n) u = tt

@@ -7,7 +7,8 @@ use Rattle.node_tree.specs.Keys.{first_of}
 use Rattle.page_tree.specs.Loads.{node_in}
 use Rattle.page_tree.specs.EditFaults.{CanInsert}
 use Rattle.page_forms.specs.declared.acts.Act.{Act}
-use Rattle.page_forms.specs.declared.acts.Act.TheVariants.{SetAttr, DropAttr, SetText, Insert, Remove, Move}
+use Rattle.page_forms.specs.declared.acts.Act.TheVariants.{SetAttr, DropAttr, SetText, Insert, Remove, Move, AddSheet, DropSheet, ReplaceSheet}
+use Rattle.page_forms.specs.SheetActs.{add_sheet_row, drop_sheet_row, replace_sheet_row}
 
 -- an object of this row
 abbrev pub fields_in : {T : Type 0} → Row T → Data → Option T
@@ -73,6 +74,18 @@ move_row =
 abbrev pub move_in : Data → Option Act
 move_in d = option_map (λ f. Move f.1.1.0 f.1.1.1.0 f.0) (fields_in move_row d)
 
+-- a new sheet, last
+abbrev pub add_sheet_in : Data → Option Act
+add_sheet_in d = option_map (λ f. AddSheet f.1.0 f.1.1.0) (fields_in add_sheet_row d)
+
+-- a sheet that is taken out
+abbrev pub drop_sheet_in : Data → Option Act
+drop_sheet_in d = option_map (λ f. DropSheet f.1.0) (fields_in drop_sheet_row d)
+
+-- a sheet that is taken out, and one of the same origin with this text put last
+abbrev pub replace_sheet_in : Data → Option Act
+replace_sheet_in d = option_map (λ f. ReplaceSheet f.1.0 f.1.1.0) (fields_in replace_sheet_row d)
+
 -- the first of these that is there
 abbrev pub first_act : List (Option Act) → Option Act
 first_act [] = None
@@ -80,7 +93,9 @@ first_act (act ∷ acts) = first_of act (first_act acts)
 
 -- the act that a value spells; none where it has none of the forms
 abbrev pub act_in : Data → Option Act
-act_in d = first_act (set_attr_in d ∷ drop_attr_in d ∷ set_text_in d ∷ insert_in d ∷ remove_in d ∷ move_in d ∷ [])
+act_in d =
+    first_act (set_attr_in d ∷ drop_attr_in d ∷ set_text_in d ∷ insert_in d ∷ remove_in d ∷ move_in d
+    ∷ add_sheet_in d ∷ drop_sheet_in d ∷ replace_sheet_in d ∷ [])
 
 -- the new nodes of an insert have the form that an insert asks for
 abbrev pub IsInsertable : Act → Type 0
@@ -90,3 +105,6 @@ IsInsertable (SetText node value) = ⊤
 IsInsertable (Insert parent before form) = CanInsert form
 IsInsertable (Remove node) = ⊤
 IsInsertable (Move node parent before) = ⊤
+IsInsertable (AddSheet origin bytes) = ⊤
+IsInsertable (DropSheet sheet) = ⊤
+IsInsertable (ReplaceSheet sheet bytes) = ⊤

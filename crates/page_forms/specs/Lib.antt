@@ -1,4 +1,5 @@
-pub mod Acts
+pub mod Sheets
 pub mod SheetActs
+pub mod Acts
 pub mod Pages
 pub mod Texts

@@ -9,15 +9,17 @@ ghost use Rattle.page_tree.specs.Loads.{node_in};
 ghost use Rattle.page_forms.specs.Acts.{set_attr_in, drop_attr_in, set_text_in, insert_in, remove_in, move_in, act_in, IsInsertable};
 ghost use Rattle.page_forms.specs.declared.acts.ActErr.TheVariants.{BadForm};
 
+use crate::sheet_acts::{add_sheet_of, drop_sheet_of, replace_sheet_of};
 use cdp_json::Cursor;
 use node_tree::Text;
 use page_tree::{LoadErr, NodeForm, read_node};
 use serde_json::Value;
+use sheet_reader::Origin;
 use std::alloc::{AllocError, Global};
 use thiserror::Error;
 
-/// A change that a script makes of the page. Nodes are named by their serials, from 0 to 2^53-1; whether they are live is not
-/// judged here, nor are names, levels and the number of nodes.
+/// A change that a script makes of the page. Nodes are named by their serials, from 0 to 2^53-1, and sheets by the texts of their
+/// ids; whether these are live is not judged here, nor are names, levels, the number of nodes and of sheets, and lengths of texts.
 #[derive(Drop)]
 pub enum Act {
     /// Sets the attribute of that name, or adds it.
@@ -51,6 +53,20 @@ pub enum Act {
         node: u64,
         parent: u64,
         before: u64,
+    },
+    /// Puts a new style sheet last.
+    AddSheet {
+        origin: Origin,
+        text: Text,
+    },
+    /// Takes the style sheet of that id out.
+    DropSheet {
+        sheet: Text,
+    },
+    /// Takes the style sheet of that id out, and puts one of the same origin last, with this text and a new id.
+    ReplaceSheet {
+        sheet: Text,
+        text: Text,
     },
 }
 
@@ -234,8 +250,8 @@ fn move_of(value: &Value) -> Option<Act>
     }
 }
 
-/// The act that a value spells. A text is copied; an insert's node has its form, and names, levels and counts are the page's to
-/// judge.
+/// The act that a value spells. A text is copied; an insert's node has its form, and names, levels, counts and lengths are the
+/// page's to judge.
 pub fn read_act(alloc: Global, v: &Value) -> Result<Act, ActErr>
     ensures reads { Gives (λ act. act) BadForm result (act_in (view v.now)) }
     ensures fit { IfOk result IsInsertable }
@@ -255,7 +271,16 @@ pub fn read_act(alloc: Global, v: &Value) -> Result<Act, ActErr>
     if let Some(act) = remove_of(v) {
         return Ok(act);
     }
-    match move_of(v) {
+    if let Some(act) = move_of(v) {
+        return Ok(act);
+    }
+    if let Some(act) = add_sheet_of(alloc, v)? {
+        return Ok(act);
+    }
+    if let Some(act) = drop_sheet_of(alloc, v)? {
+        return Ok(act);
+    }
+    match replace_sheet_of(alloc, v)? {
         Some(act) => Ok(act),
         None => Err(ActErr::BadForm),
     }

@@ -5,11 +5,9 @@ mod acts;
 mod laws;
 mod pages;
 mod sheet_acts;
+mod sheets;
 
 pub use acts::{Act, ActErr, read_act};
 pub use laws::texts_law;
 pub use pages::{PageForm, read_page};
-pub use sheet_acts::is_sheet_act;
-
-#[cfg(test)]
-mod tests;
+pub use sheets::SheetForm;

@@ -1,40 +1,91 @@
 // A page that is loaded.
-ghost use Rattle.std.specs.Prelude.{◌≡◌, option_map, IfOk};
+ghost use Rattle.std.specs.Prelude.{◌≡◌, Option, Some, option_map, IfOk};
 ghost use Rattle.serde_json.specs.View.{view};
-ghost use Rattle.page_tree.specs.Forms.{CanLoad};
-ghost use Rattle.page_forms.specs.Pages.{document_in, loaded_nodes, ReadsPage};
+ghost use Rattle.cdp_json.specs.Rows.{object_of};
+ghost use Rattle.node_tree.specs.Nodes.{Nodes};
+ghost use Rattle.node_tree.specs.Labels.{Label};
+ghost use Rattle.page_tree.specs.Loads.{first_load_fault};
+ghost use Rattle.page_forms.specs.Pages.{page_row, sheets_at, page_with, first_page_fault, loaded_page, CanLoadPage, ReadsPage};
 
+use crate::sheets::{SheetForm, can_hold_sheets, read_sheets};
 use cdp_json::Cursor;
 use page_tree::{LoadErr, LoadFault, NodeForm, read_nodes};
 use serde_json::Value;
-use std::alloc::Global;
+use std::alloc::{AllocError, Global};
 
 /// What a load puts in place of a page.
 #[derive(Drop)]
 pub struct PageForm {
     /// The nodes below the document.
     pub nodes: Vec<NodeForm>,
+    /// The style sheets, in their order.
+    pub sheets: Vec<SheetForm>,
 }
 
-// The list of nodes of an object that has nothing else.
-fn document_of(page: &Value) -> Option<&Value>
-    ensures { option_map (λ v. view v.now) result ≡ document_in (view page.now) }
+// The two lists of an object that has nothing else.
+#[derive(Drop)]
+struct Lists<'a> {
+    document: &'a Value,
+    sheets: Option<&'a Value>,
+}
+
+fn lists_of(page: &Value) -> Option<Lists<'_>>
+    ensures { option_map (λ l. (view l.document.now, (option_map (λ v. view v.now) l.sheets, tt))) result
+        ≡ (object_of page_row).reads (view page.now) }
 {
     let mut fields = Cursor::new(page.as_object()?);
-    let list = fields.need("document")?;
-    if fields.is_done() { Some(list) } else { None }
+    let document = fields.need("document")?;
+    let sheets = fields.may("sheets");
+    if fields.is_done() {
+        Some(Lists { document, sheets })
+    } else {
+        None
+    }
+}
+
+fn sheets_at(alloc: Global, list: Option<&Value>) -> Result<Option<Vec<SheetForm>>, AllocError>
+    ensures { IfOk result (λ o. option_map (λ v. v.items) o
+        ≡ sheets_at (option_map (λ v. view v.now) list.entry)) }
+{
+    match list {
+        Some(list) => read_sheets(alloc, list),
+        None => Ok(Some(Vec::new(alloc))),
+    }
+}
+
+// The first fault of a page whose nodes have this one: sheets that are too many come before a bad name.
+fn fault_beside(fault: LoadFault, sheets: &[SheetForm]) -> LoadFault
+    ensures { (nodes : Option (Nodes Label)) → first_load_fault nodes ≡ Some fault
+        → first_page_fault (page_with nodes (Some sheets.now)) ≡ Some result }
+{
+    if can_hold_sheets(sheets) {
+        return fault;
+    }
+    match fault {
+        LoadFault::BadForm => LoadFault::BadForm,
+        LoadFault::TooDeep => LoadFault::TooDeep,
+        LoadFault::TooMany | LoadFault::BadName => LoadFault::TooMany,
+    }
 }
 
 /// The page that a value spells, or the first fault of the load: `BadForm`, `TooDeep`, `TooMany`, `BadName`.
 pub fn read_page(alloc: Global, v: &Value) -> Result<PageForm, LoadErr>
     ensures reads { ReadsPage result (view v.now) }
-    ensures fit { IfOk result (λ page. CanLoad (loaded_nodes page)) }
+    ensures fit { IfOk result (λ page. CanLoadPage (loaded_page page)) }
 {
-    let Some(list) = document_of(v) else {
+    let Some(lists) = lists_of(v) else {
         return Err(LoadErr::Fault(LoadFault::BadForm));
     };
-    match read_nodes(alloc, list) {
-        Ok(nodes) => Ok(PageForm { nodes }),
-        Err(error) => Err(error),
+    let Some(sheets) = sheets_at(alloc, lists.sheets)? else {
+        return Err(LoadErr::Fault(LoadFault::BadForm));
+    };
+    match read_nodes(alloc, lists.document) {
+        Ok(nodes) => if can_hold_sheets(&sheets) {
+            Ok(PageForm { nodes, sheets })
+        } else {
+            Err(LoadErr::Fault(LoadFault::TooMany))
+        },
+        Err(LoadErr::Fault(fault)) => Err(LoadErr::Fault(fault_beside(fault, &sheets))),
+        Err(LoadErr::Memory) => Err(LoadErr::Memory),
     }
 }

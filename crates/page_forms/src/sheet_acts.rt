@@ -1,85 +1,82 @@
-// The acts on style sheets: their forms. What they say is read as soon as a page has sheets.
-ghost use Rattle.std.specs.Prelude.{◌≡◌, is_some};
+// The acts on style sheets.
+ghost use Rattle.std.specs.Prelude.{◌≡◌, IfOk};
 ghost use Rattle.serde_json.specs.View.{view};
-ghost use Rattle.page_forms.specs.Acts.{fields_in};
-ghost use Rattle.page_forms.specs.SheetActs.{is_origin, add_sheet_row, drop_sheet_row, replace_sheet_row, is_sheet_act};
+ghost use Rattle.page_forms.specs.Acts.{add_sheet_in, drop_sheet_in, replace_sheet_in};
 
-use crate::acts::does;
+use crate::acts::{Act, does};
+use crate::sheets::origin_field;
 use cdp_json::Cursor;
+use node_tree::Text;
 use serde_json::Value;
+use std::alloc::{AllocError, Global};
 
-fn is_origin(text: &str) -> bool
-    ensures { result ≡ is_origin text.now }
-{
-    text == "user-agent" || text == "regular"
-}
-
-fn adds_sheet(value: &Value) -> bool
-    ensures { result ≡ is_some (fields_in add_sheet_row (view value.now)) }
+pub(crate) fn add_sheet_of(alloc: Global, value: &Value) -> Result<Option<Act>, AllocError>
+    ensures { IfOk result (λ act. act ≡ add_sheet_in (view value.now)) }
 {
     let Some(members) = value.as_object() else {
-        return false;
+        return Ok(None);
     };
     let mut fields = Cursor::new(members);
     if !does(&mut fields, "addSheet") {
-        return false;
+        return Ok(None);
     }
-    let Some(origin) = fields.need_text("origin") else {
-        return false;
+    let Some(origin) = origin_field(&mut fields) else {
+        return Ok(None);
     };
-    if !is_origin(origin) {
-        return false;
+    let Some(text) = fields.need_text("text") else {
+        return Ok(None);
+    };
+    if !fields.is_done() {
+        return Ok(None);
     }
-    if fields.need_text("text").is_none() {
-        return false;
-    }
-    fields.is_done()
+    Ok(Some(Act::AddSheet {
+        origin,
+        text: Text::copied(alloc, text)?,
+    }))
 }
 
-fn drops_sheet(value: &Value) -> bool
-    ensures { result ≡ is_some (fields_in drop_sheet_row (view value.now)) }
+pub(crate) fn drop_sheet_of(alloc: Global, value: &Value) -> Result<Option<Act>, AllocError>
+    ensures { IfOk result (λ act. act ≡ drop_sheet_in (view value.now)) }
 {
     let Some(members) = value.as_object() else {
-        return false;
+        return Ok(None);
     };
     let mut fields = Cursor::new(members);
     if !does(&mut fields, "dropSheet") {
-        return false;
+        return Ok(None);
     }
-    if fields.need_text("sheet").is_none() {
-        return false;
+    let Some(sheet) = fields.need_text("sheet") else {
+        return Ok(None);
+    };
+    if !fields.is_done() {
+        return Ok(None);
     }
-    fields.is_done()
+    Ok(Some(Act::DropSheet {
+        sheet: Text::copied(alloc, sheet)?,
+    }))
 }
 
-fn replaces_sheet(value: &Value) -> bool
-    ensures { result ≡ is_some (fields_in replace_sheet_row (view value.now)) }
+pub(crate) fn replace_sheet_of(alloc: Global, value: &Value) -> Result<Option<Act>, AllocError>
+    ensures { IfOk result (λ act. act ≡ replace_sheet_in (view value.now)) }
 {
     let Some(members) = value.as_object() else {
-        return false;
+        return Ok(None);
     };
     let mut fields = Cursor::new(members);
     if !does(&mut fields, "replaceSheet") {
-        return false;
+        return Ok(None);
     }
-    if fields.need_text("sheet").is_none() {
-        return false;
+    let Some(sheet) = fields.need_text("sheet") else {
+        return Ok(None);
+    };
+    let Some(text) = fields.need_text("text") else {
+        return Ok(None);
+    };
+    if !fields.is_done() {
+        return Ok(None);
     }
-    if fields.need_text("text").is_none() {
-        return false;
-    }
-    fields.is_done()
-}
-
-/// Whether a value spells an act on style sheets, which `read_act` does not read so far.
-pub fn is_sheet_act(value: &Value) -> bool
-    ensures { result ≡ is_sheet_act (view value.now) }
-{
-    if adds_sheet(value) {
-        return true;
-    }
-    if drops_sheet(value) {
-        return true;
-    }
-    replaces_sheet(value)
+    Ok(Some(Act::ReplaceSheet {
+        sheet: Text::copied(alloc, sheet)?,
+        text: Text::copied(alloc, text)?,
+    }))
 }

@@ -37,6 +37,3 @@ pub use node_tree::{Attributes, Kind, Text};
 pub use pages::Page;
 pub use relations::relation_law;
 pub use trees::Tree;
-
-#[cfg(test)]
-mod tests;

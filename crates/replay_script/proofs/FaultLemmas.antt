@@ -7,11 +7,9 @@ use Rattle.serde_json.specs.Data.{Data}
 use Rattle.serde_json.specs.Read.{read}
 use Rattle.serde_json.specs.Written.{has_float}
 use Rattle.node_tree.specs.Keys.{first_of}
-use Rattle.node_tree.specs.Nodes.{Nodes}
-use Rattle.node_tree.specs.Labels.{Label}
-use Rattle.page_tree.specs.Loads.{first_true, first_load_fault, limit_faults}
+use Rattle.page_tree.specs.Loads.{first_true}
 use Rattle.page_tree.specs.declared.faults.LoadFault.{LoadFault}
-use Rattle.page_forms.specs.Pages.{page_nodes, page_fault}
+use Rattle.page_forms.specs.Pages.{LoadedPage, page_in, first_page_fault, page_fault}
 use Rattle.cdp_messages.specs.Asked.{json_of}
 use Rattle.replay_script.specs.declared.faults.LineFault.{LineFault}
 use Rattle.replay_script.specs.declared.faults.LineFault.TheVariants.{NotJson, NotLoad, BadForm, BadLoad, BadRaw, NotBuilt}
@@ -84,20 +82,16 @@ is_clear k v e =
       frame = (none_true BadRaw (option_map_or is_no_frame (raw_by k v) false) [] others.1).0;
     }
 
-nodes_there : (o : Option (Nodes Label)) → first_load_fault o ≡ None → (nodes : Nodes Label) × (o ≡ Some nodes) × (first_true (limit_faults nodes) ≡ None)
-nodes_there None e = absurd cc
-nodes_there (Some nodes) e = (nodes, refl, e)
-
--- the nodes of a page without a fault
-pub page_clear : (page : Data) → page_fault page ≡ None → (nodes : Nodes Label) × (page_nodes page ≡ Some nodes) × (first_true (limit_faults nodes) ≡ None)
-page_clear page e = nodes_there (page_nodes page) e
+page_there : (o : Option LoadedPage) → first_page_fault o ≡ None → (page : LoadedPage) × (o ≡ Some page)
+page_there None e = absurd cc
+page_there (Some page) e = (page, refl)
 
 form_other : (o : Option LineForm) (later : Bool) → (is_some o || later) ≡ true → later ≡ false → (form : LineForm) × (o ≡ Some form)
 form_other o later e f = some_there o (or_second (is_some o) later e f)
 
 -- what has no fault has a form
 pub clear_form : (k : LineKind) (v : Data) → IsClear k v → (form : LineForm) × (form_by k v ≡ Some form)
-clear_form kind.Load v c = let p = page_clear v c.page in (load p.0, ap (option_map load) p.1)
+clear_form kind.Load v c = let p = page_there (page_in v) c.page in (load p.0, ap (option_map load) p.1)
 clear_form kind.Act v c = form_other (form_by kind.Act v) (is_later kind.Act v) c.formed c.built
 clear_form kind.Ask v c = form_other (form_by kind.Ask v) (is_later kind.Ask v) c.formed c.built
 clear_form kind.Raw v c = form_other (form_by kind.Raw v) (is_later kind.Raw v) c.formed c.built

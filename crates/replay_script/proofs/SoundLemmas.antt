@@ -23,14 +23,11 @@ use Rattle.cdp_json.proofs.ReadPlain.{read_plain}
 use Rattle.cdp_json.proofs.ReadTexts.{read_utf8}
 use Rattle.cdp_json.proofs.Options.{both_parts, and_then_some, map_some}
 use Rattle.node_tree.specs.Keys.{first_of}
-use Rattle.node_tree.specs.Nodes.{Nodes}
-use Rattle.node_tree.specs.Labels.{Label}
-use Rattle.page_tree.specs.Loads.{nodes_in, first_true, first_load_fault, limit_faults}
-use Rattle.page_tree.proofs.FormedLemmas.{can_load}
 use Rattle.page_forms.specs.Acts.{act_in}
-use Rattle.page_forms.specs.Pages.{document_in, page_nodes}
+use Rattle.page_forms.specs.Pages.{LoadedPage, page_in, page_fault}
 use Rattle.page_forms.specs.declared.acts.Act.{Act}
-use Rattle.page_forms.proofs.ActLemmas.{act-insertable, acts_have_texts, pages_have_texts}
+use Rattle.page_forms.proofs.ActLemmas.{act-insertable, acts_have_texts}
+use Rattle.page_forms.proofs.PageLemmas.{can_load_page, pages_have_texts}
 use Rattle.cdp_messages.specs.Asked.{json_of, asked_value, asked_in, refusal, command_value, is_whole_where_there}
 use Rattle.cdp_messages.specs.declared.command.Why.TheVariants.{NotJson, NoId}
 use Rattle.cdp_messages.proofs.Commands.{ask_plain}
@@ -40,7 +37,7 @@ use Rattle.replay_script.specs.declared.forms.Line.TheVariants as line
 use Rattle.replay_script.specs.declared.line_kinds.LineKind.{LineKind}
 use Rattle.replay_script.specs.declared.line_kinds.LineKind.TheVariants as kind
 use Rattle.replay_script.specs.Kinds.{line_kind_name, all_line_kinds, is_load, sole_member, sole, styles_in, kind_said, said}
-use Rattle.replay_script.specs.Forms.{AskForm, LineForm, load, act, ask, raw, up, down, settle, show_front, show_page, show_replies, AskParts, ask_kind, ask_from, ask_in, show_from, form_by, form_of, line_form}
+use Rattle.replay_script.specs.Forms.{AskForm, LineForm, load, act, ask, raw, up, down, settle, show_front, show_page, show_sheets, show_replies, AskParts, ask_kind, ask_from, ask_in, show_from, form_by, form_of, line_form}
 use Rattle.replay_script.specs.Faults.{is_zero, is_whole_number, has_whole_id, is_no_frame, fault_of_data, line_fault}
 use Rattle.replay_script.specs.Seen.{seen, seen_ask, Refuses}
 use Rattle.replay_script.specs.Sound.{IsSoundLoad, IsSoundAct, CanSend, NamesNoAsk, IsSoundFrame, IsSound, FormsAreSound, FirstIsLoad, FitsPage, AreWhole}
@@ -85,10 +82,8 @@ within_object (array ds) p e = absurd cc
 
 -- ---- a load and an act
 
-load_sound : (page : Data) (nodes : Nodes Label) → HasUtf8 page → page_nodes page ≡ Some nodes → first_true (limit_faults nodes) ≡ None → IsSoundLoad nodes
-load_sound page nodes u is clear =
-    let p = and_then_some nodes_in (document_in page) nodes is in
-    record { can = can_load p.0 nodes p.2 clear; texts = pages_have_texts page nodes u is }
+load_sound : (d : Data) (page : LoadedPage) → HasUtf8 d → page_in d ≡ Some page → page_fault d ≡ None → IsSoundLoad page
+load_sound d page u is none = record { can = can_load_page d page is none; texts = pages_have_texts d page u is }
 
 act_sound : (v : Data) (a : Act) → HasUtf8 v → act_in v ≡ Some a → IsSoundAct a
 act_sound v a u is = record { insertable = act-insertable v a is; texts = acts_have_texts v a u is }
@@ -194,16 +189,17 @@ raw_sound text e = let p = parts (list_any is_zero text) _ e in record { no_zero
 
 -- ---- a form by the kind of its line
 
-show_sound : (a b c : Bool) (form : LineForm) → (if a then Some show_front else if b then Some show_page else if c then Some show_replies else None) ≡ Some form → IsSound form
-show_sound true b c form e = let same : ◌≡◌ {A = LineForm} show_front form = cc in subst IsSound same tt
-show_sound false true c form e = let same : ◌≡◌ {A = LineForm} show_page form = cc in subst IsSound same tt
-show_sound false false true form e = let same : ◌≡◌ {A = LineForm} show_replies form = cc in subst IsSound same tt
-show_sound false false false form e = absurd cc
+show_sound : (a b c d : Bool) (form : LineForm) → (if a then Some show_front else if b then Some show_page else if c then Some show_sheets else if d then Some show_replies else None) ≡ Some form → IsSound form
+show_sound true b c d form e = let same : ◌≡◌ {A = LineForm} show_front form = cc in subst IsSound same tt
+show_sound false true c d form e = let same : ◌≡◌ {A = LineForm} show_page form = cc in subst IsSound same tt
+show_sound false false true d form e = let same : ◌≡◌ {A = LineForm} show_sheets form = cc in subst IsSound same tt
+show_sound false false false true form e = let same : ◌≡◌ {A = LineForm} show_replies form = cc in subst IsSound same tt
+show_sound false false false false form e = absurd cc
 
 form_sound : (k : LineKind) (v : Data) (form : LineForm) → IsRead v → IsClear k v → form_by k v ≡ Some form → IsSound form
 form_sound kind.Load v form r c e =
-    let p = map_some load (page_nodes v) form e in
-    subst IsSound p.2 (load_sound v p.0 r.texts p.1 (sym (ap first_load_fault p.1) ∙ c.page))
+    let p = map_some load (page_in v) form e in
+    subst IsSound p.2 (load_sound v p.0 r.texts p.1 c.page)
 form_sound kind.Act v form r c e = let p = map_some act (act_in v) form e in subst IsSound p.2 (act_sound v p.0 r.texts p.1)
 form_sound kind.Ask v form r c e = let p = map_some ask (ask_in v) form e in subst IsSound p.2 (ask_sound v p.0 r p.1)
 form_sound kind.Raw v form r c e =
@@ -214,7 +210,7 @@ form_sound kind.Down v form r c e = let p = map_some down (as_whole v) form e in
 form_sound kind.Settle v form r c e = let p = map_some (λ _. settle) (as_true v) form e in subst IsSound p.2 tt
 form_sound kind.Show v form r c e =
     let p = and_then_some show_from (as_str v) form e in
-    show_sound (bytes_eq p.0 (codes "front")) (bytes_eq p.0 (codes "page")) (bytes_eq p.0 (codes "replies")) form p.2
+    show_sound (bytes_eq p.0 (codes "front")) (bytes_eq p.0 (codes "page")) (bytes_eq p.0 (codes "sheets")) (bytes_eq p.0 (codes "replies")) form p.2
 form_sound kind.Close v form r c e = absurd cc
 form_sound kind.Styles v form r c e = absurd cc
 
@@ -259,8 +255,8 @@ forms_are_sound n text form e f =
 
 -- ---- the first line
 
-load_form : (k : LineKind) (v : Data) (form : LineForm) → not (is_load k) ≡ false → form_by k v ≡ Some form → (nodes : Nodes Label) × (form ≡ load nodes)
-load_form kind.Load v form e f = let p = map_some load (page_nodes v) form f in (p.0, sym p.2)
+load_form : (k : LineKind) (v : Data) (form : LineForm) → not (is_load k) ≡ false → form_by k v ≡ Some form → (page : LoadedPage) × (form ≡ load page)
+load_form kind.Load v form e f = let p = map_some load (page_in v) form f in (p.0, sym p.2)
 load_form kind.Act v form e f = absurd cc
 load_form kind.Ask v form e f = absurd cc
 load_form kind.Raw v form e f = absurd cc
@@ -295,6 +291,7 @@ fits_line (line.Down n) s = tt
 fits_line line.Settle s = tt
 fits_line line.ShowFront s = tt
 fits_line line.ShowPage s = tt
+fits_line line.ShowSheets s = tt
 fits_line line.ShowReplies s = tt
 
 whole_line : (read : Line) → IsSound (seen read) → AreWhole read
@@ -307,6 +304,7 @@ whole_line (line.Down n) s = tt
 whole_line line.Settle s = tt
 whole_line line.ShowFront s = tt
 whole_line line.ShowPage s = tt
+whole_line line.ShowSheets s = tt
 whole_line line.ShowReplies s = tt
 
 -- each line that is read has a form that is sound

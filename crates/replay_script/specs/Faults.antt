@@ -10,7 +10,6 @@ use Rattle.node_tree.specs.Keys.{first_of}
 use Rattle.page_tree.specs.Loads.{first_true}
 use Rattle.page_tree.specs.declared.faults.LoadFault.{LoadFault}
 use Rattle.page_forms.specs.Pages.{page_fault}
-use Rattle.page_forms.specs.SheetActs.{is_sheet_act}
 use Rattle.cdp_messages.specs.Asked.{json_of}
 use Rattle.replay_script.specs.declared.line_kinds.LineKind.{LineKind}
 use Rattle.replay_script.specs.declared.line_kinds.LineKind.TheVariants as kind
@@ -21,18 +20,14 @@ use Rattle.replay_script.specs.declared.faults.LineFault.TheVariants.{NotJson, N
 
 -- ---- the forms that are not carried out yet
 
--- PAGE has the property `sheets`
-abbrev pub has_sheets : Data → Bool
-has_sheets page = is_some (get (codes "sheets") page)
-
 -- what a show may tell besides
 abbrev pub is_later_word : List ℕ → Bool
-is_later_word word = bytes_eq word (codes "sheets") || (bytes_eq word (codes "pauses") || bytes_eq word (codes "panels"))
+is_later_word word = bytes_eq word (codes "pauses") || bytes_eq word (codes "panels")
 
 -- the value of a line of that kind is in a form that is not carried out yet
 abbrev pub is_later : LineKind → Data → Bool
-is_later kind.Load page = has_sheets page
-is_later kind.Act v = is_sheet_act v
+is_later kind.Load page = false
+is_later kind.Act v = false
 is_later kind.Ask v = false
 is_later kind.Raw v = false
 is_later kind.Up v = false

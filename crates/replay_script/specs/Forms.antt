@@ -4,10 +4,8 @@ use Rattle.serde_json.specs.Data.{Data}
 use Rattle.serde_json.specs.Find.{as_str}
 use Rattle.cdp_json.specs.Kinds.{Kind, anything, text, as_whole, as_true}
 use Rattle.cdp_json.specs.Rows.{ends, and_need, and_may, object_of}
-use Rattle.node_tree.specs.Nodes.{Nodes}
-use Rattle.node_tree.specs.Labels.{Label}
 use Rattle.page_forms.specs.Acts.{act_in}
-use Rattle.page_forms.specs.Pages.{page_nodes}
+use Rattle.page_forms.specs.Pages.{LoadedPage, page_in}
 use Rattle.page_forms.specs.declared.acts.Act.{Act}
 use Rattle.cdp_messages.specs.Asked.{json_of}
 use Rattle.replay_script.specs.declared.line_kinds.LineKind.{LineKind}
@@ -22,8 +20,8 @@ pub record AskForm : Type 0 where
 
 -- what a line says that is carried out
 pub data LineForm : Type 0 where
-  -- a new page with these nodes below its document
-  load : Nodes Label → LineForm
+  -- a new page
+  load : LoadedPage → LineForm
   -- a script's change of the page
   act : Act → LineForm
   ask : AskForm → LineForm
@@ -36,6 +34,7 @@ pub data LineForm : Type 0 where
   settle : LineForm
   show_front : LineForm
   show_page : LineForm
+  show_sheets : LineForm
   show_replies : LineForm
 
 -- ---- `{"ask":{"method":TEXT,"params":ANY,"sessionId":ANY}}`, where `params` and `sessionId` may be absent
@@ -63,6 +62,7 @@ abbrev pub show_from : List ℕ → Option LineForm
 show_from word =
     if bytes_eq word (codes "front") then Some show_front
     else if bytes_eq word (codes "page") then Some show_page
+    else if bytes_eq word (codes "sheets") then Some show_sheets
     else if bytes_eq word (codes "replies") then Some show_replies
     else None
 
@@ -70,7 +70,7 @@ show_from word =
 
 -- The form that the value of a line has by the line's kind. A number is a whole one from 0 to 2^53-1.
 abbrev pub form_by : LineKind → Data → Option LineForm
-form_by kind.Load page = option_map load (page_nodes page)
+form_by kind.Load page = option_map load (page_in page)
 form_by kind.Act v = option_map act (act_in v)
 form_by kind.Ask v = option_map ask (ask_in v)
 form_by kind.Raw v = option_map raw (as_str v)

@@ -4,8 +4,8 @@ use Rattle.std.specs.Borrow.{Bor}
 use Rattle.serde_json.specs.Data.{Data}
 use Rattle.serde_json.specs.View.{view}
 use Rattle.serde_json.specs.declared.value.Value.{Value}
-use Rattle.page_forms.specs.Pages.{loaded_nodes}
-use Rattle.replay_script.specs.Forms.{AskForm, LineForm, load, act, ask, raw, up, down, settle, show_front, show_page, show_replies}
+use Rattle.page_forms.specs.Pages.{loaded_page}
+use Rattle.replay_script.specs.Forms.{AskForm, LineForm, load, act, ask, raw, up, down, settle, show_front, show_page, show_sheets, show_replies}
 use Rattle.replay_script.specs.declared.line_kinds.LineKind.{LineKind}
 use Rattle.replay_script.specs.declared.faults.LineErr.{LineErr}
 use Rattle.replay_script.specs.declared.faults.LineErr.TheVariants.{Fault, Memory}
@@ -37,7 +37,7 @@ parts_form a = record {
 
 -- a line, as contracts see it
 abbrev pub seen : Line → LineForm
-seen (line.Load page) = load (loaded_nodes page)
+seen (line.Load page) = load (loaded_page page)
 seen (line.Act a) = act a
 seen (line.Ask a) = ask (seen_ask a)
 seen (line.Raw text) = raw text
@@ -46,6 +46,7 @@ seen (line.Down n) = down n
 seen line.Settle = settle
 seen line.ShowFront = show_front
 seen line.ShowPage = show_page
+seen line.ShowSheets = show_sheets
 seen line.ShowReplies = show_replies
 
 -- Ok comes where there is no fault, and else the fault; want of memory is free.

@@ -4,27 +4,24 @@ use Rattle.serde_json.specs.Find.{get_member, as_object}
 use Rattle.serde_json.specs.View.{view}
 use Rattle.cdp_json.specs.Kinds.{as_whole, is_counted, holds_of_some}
 use Rattle.cdp_json.specs.Plain.{is_plain}
-use Rattle.node_tree.specs.Nodes.{Nodes}
-use Rattle.node_tree.specs.Labels.{Label}
-use Rattle.page_tree.specs.Forms.{CanLoad}
 use Rattle.page_forms.specs.Acts.{IsInsertable}
-use Rattle.page_forms.specs.Pages.{loaded_nodes}
-use Rattle.page_forms.specs.Texts.{HaveTexts, ActHasTexts}
+use Rattle.page_forms.specs.Pages.{LoadedPage, CanLoadPage, loaded_page}
+use Rattle.page_forms.specs.Texts.{PageHasTexts, ActHasTexts}
 use Rattle.page_forms.specs.declared.acts.Act.{Act}
 use Rattle.cdp_messages.specs.Asked.{json_of, asked, refusal, command_value, command_text, is_whole_where_there}
 use Rattle.cdp_messages.specs.Laws.{Shallow}
 use Rattle.cdp_messages.specs.declared.command.Why.{Why}
 use Rattle.replay_script.specs.declared.forms.Line.{Line}
 use Rattle.replay_script.specs.declared.forms.Line.TheVariants as line
-use Rattle.replay_script.specs.Forms.{AskForm, LineForm, load, act, ask, raw, up, down, settle, show_front, show_page, show_replies, line_form}
+use Rattle.replay_script.specs.Forms.{AskForm, LineForm, load, act, ask, raw, up, down, settle, show_front, show_page, show_sheets, show_replies, line_form}
 use Rattle.replay_script.specs.Faults.{line_fault}
 
 -- ---- a load and an act
 
--- a page may hold these nodes, and their texts are UTF-8
-pub record IsSoundLoad (nodes : Nodes Label) : Type 0 where
-  pub can : CanLoad nodes
-  pub texts : HaveTexts nodes
+-- a page may hold these nodes and sheets, and their texts are UTF-8
+pub record IsSoundLoad (page : LoadedPage) : Type 0 where
+  pub can : CanLoadPage page
+  pub texts : PageHasTexts page
 
 -- the new nodes of an act may be inserted, and its texts are UTF-8
 pub record IsSoundAct (a : Act) : Type 0 where
@@ -61,7 +58,7 @@ pub record IsSoundFrame (text : List ℕ) : Type 0 where
 
 -- what may be done with the form
 abbrev pub IsSound : LineForm → Type 0
-IsSound (load nodes) = IsSoundLoad nodes
+IsSound (load page) = IsSoundLoad page
 IsSound (act a) = IsSoundAct a
 IsSound (ask a) = CanSend a
 IsSound (raw text) = IsSoundFrame text
@@ -70,6 +67,7 @@ IsSound (down n) = ⊤
 IsSound settle = ⊤
 IsSound show_front = ⊤
 IsSound show_page = ⊤
+IsSound show_sheets = ⊤
 IsSound show_replies = ⊤
 
 -- each line that is not refused has such a form
@@ -80,13 +78,13 @@ FormsAreSound = (number : ℕ) (line : List ℕ) (form : LineForm)
 -- a first line that is not refused loads a page
 abbrev pub FirstIsLoad : Type 0
 FirstIsLoad = (line : List ℕ) (form : LineForm)
-    → line_fault 1 line ≡ None → line_form line ≡ Some form → (nodes : Nodes Label) × (form ≡ load nodes)
+    → line_fault 1 line ≡ None → line_form line ≡ Some form → (page : LoadedPage) × (form ≡ load page)
 
 -- ---- the same of what is read
 
--- a page may take it: a load's nodes, and the new nodes of an act
+-- a page may take it: a load's nodes and sheets, and the new nodes of an act
 abbrev pub FitsPage : Line → Type 0
-FitsPage (line.Load page) = CanLoad (loaded_nodes page)
+FitsPage (line.Load page) = CanLoadPage (loaded_page page)
 FitsPage (line.Act a) = IsInsertable a
 FitsPage (line.Ask a) = ⊤
 FitsPage (line.Raw text) = ⊤
@@ -95,6 +93,7 @@ FitsPage (line.Down n) = ⊤
 FitsPage line.Settle = ⊤
 FitsPage line.ShowFront = ⊤
 FitsPage line.ShowPage = ⊤
+FitsPage line.ShowSheets = ⊤
 FitsPage line.ShowReplies = ⊤
 
 -- each number in the JSON of an ask is whole
@@ -110,4 +109,5 @@ AreWhole (line.Down n) = ⊤
 AreWhole line.Settle = ⊤
 AreWhole line.ShowFront = ⊤
 AreWhole line.ShowPage = ⊤
+AreWhole line.ShowSheets = ⊤
 AreWhole line.ShowReplies = ⊤

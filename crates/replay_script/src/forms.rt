@@ -28,6 +28,7 @@ pub enum Line {
     Settle,
     ShowFront,
     ShowPage,
+    ShowSheets,
     ShowReplies,
 }
 

@@ -8,8 +8,6 @@ mod lines;
 mod raw_texts;
 mod reads;
 mod script;
-#[cfg(test)]
-mod tests;
 
 pub use faults::{LineErr, LineFault, fault_name};
 pub use forms::{Ask, Line};

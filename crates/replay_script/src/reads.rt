@@ -14,7 +14,7 @@ use crate::line_kinds::{LineKind, said};
 use crate::raw_texts::{is_no_frame, json_of};
 use cdp_json::{all_whole, flag_of, whole_of};
 use node_tree::Text;
-use page_forms::{ActErr, is_sheet_act, read_act, read_page};
+use page_forms::{ActErr, read_act, read_page};
 use page_tree::LoadErr;
 use serde_json::Value;
 use std::alloc::Global;
@@ -23,9 +23,6 @@ fn read_load(alloc: Global, page: &Value) -> Result<Line, LineErr>
     ensures fault { Refuses result (fault_by kind.Load (view page.now)) }
     ensures form { IfOk result (λ line. form_by kind.Load (view page.now) ≡ Some (seen line)) }
 {
-    if page.get("sheets").is_some() {
-        return Err(LineErr::Fault(LineFault::NotBuilt));
-    }
     match read_page(alloc, page) {
         Ok(form) => Ok(Line::Load(form)),
         Err(LoadErr::Fault(fault)) => Err(LineErr::Fault(LineFault::BadLoad(fault))),
@@ -37,9 +34,6 @@ fn read_change(alloc: Global, value: &Value) -> Result<Line, LineErr>
     ensures fault { Refuses result (fault_by kind.Act (view value.now)) }
     ensures form { IfOk result (λ line. form_by kind.Act (view value.now) ≡ Some (seen line)) }
 {
-    if is_sheet_act(value) {
-        return Err(LineErr::Fault(LineFault::NotBuilt));
-    }
     match read_act(alloc, value) {
         Ok(act) => Ok(Line::Act(act)),
         Err(ActErr::BadForm) => Err(LineErr::Fault(LineFault::BadForm)),
@@ -103,7 +97,7 @@ fn read_settle(value: &Value) -> Result<Line, LineErr>
 fn is_later_word(word: &str) -> bool
     ensures { result ≡ is_later_word word.now }
 {
-    word == "sheets" || word == "pauses" || word == "panels"
+    word == "pauses" || word == "panels"
 }
 
 fn read_show(value: &Value) -> Result<Line, LineErr>
@@ -118,6 +112,9 @@ fn read_show(value: &Value) -> Result<Line, LineErr>
     }
     if word == "page" {
         return Ok(Line::ShowPage);
+    }
+    if word == "sheets" {
+        return Ok(Line::ShowSheets);
     }
     if word == "replies" {
         return Ok(Line::ShowReplies);
@@ -194,8 +191,8 @@ fn read_form(alloc: Global, number: u64, line: &[u8]) -> Result<Line, LineErr>
     }
 }
 
-/// Reads the line with this number, counted from 1. A form that is read may be carried out: a page takes its nodes, and what it
-/// sends is a frame.
+/// Reads the line with this number, counted from 1. A form that is read may be carried out: a page takes its nodes and its sheets,
+/// and what it sends is a frame.
 pub fn read_line(alloc: Global, number: u64, line: &[u8]) -> Result<Line, LineErr>
     ensures fault { Refuses result (line_fault number line.now) }
     ensures form { IfOk result (λ read. line_form line.now ≡ Some (seen read)) }

@@ -7,8 +7,8 @@ pub fn script_law()
     ensures { ScriptLaw }
 {}
 
-/// What is carried out may be: each line that is not refused has nodes that a page takes, an ask that is written and read again as
-/// it is, or a text that names no ask. A first line that is not refused loads a page.
+/// What is carried out may be: each line that is not refused has nodes and sheets that a page takes, an ask that is written and read
+/// again as it is, or a text that names no ask. A first line that is not refused loads a page.
 pub fn forms_law()
     ensures sound { FormsAreSound }
     ensures first { FirstIsLoad }

@@ -21,6 +21,3 @@ pub use selector::{
 };
 pub use weight::{Spec, specificity};
 pub use words::{Word, WordKind, Words, all_words};
-
-#[cfg(test)]
-mod tests;

@@ -28,6 +28,3 @@ pub use places::{byte_at, position};
 pub use rules::read_sheet;
 pub use sealing::sealed;
 pub use sheet::{Property, Sheet, StyleRule};
-
-#[cfg(test)]
-mod tests;

@@ -4,3 +4,4 @@ pub mod DraftForms
 pub mod EditForms
 pub mod SpliceForms
 pub mod FoundForms
+pub mod RuleForms

@@ -1,3 +1,4 @@
 pub mod Splices
 pub mod Edits
 pub mod Drafts
+pub mod EditedRules

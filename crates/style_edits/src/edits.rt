@@ -4,10 +4,12 @@ ghost use Rattle.std.specs.Prelude.{◌≡◌, All, ◌++◌, ◌∷◌, [], Lis
 ghost use Rattle.sheet_reader.specs.Books.{IsEntry, entry_of, changed};
 ghost use Rattle.style_edits.specs.Edits.{style_in, selector_in, text_in, rule_in, client_sheet, style_splice, selector_splice, text_splice, rule_splice, edited, styles_edited, IfFault, whole_range};
 ghost use Rattle.style_edits.specs.Drafts.{Drafts, IsOld, olds_restored, with_backs};
+ghost use Rattle.style_edits.specs.EditedRules.{edited_rules};
 
 use crate::drafts::{Draft, apply, placed};
 use crate::faults::{SheetErr, SheetFault};
 use crate::lines::{LineRange, body_at, place_at, prelude_at};
+use crate::rule_places::{RulePlace, edited_rule};
 use crate::splice::Splice;
 use css_tokens::Range;
 use node_tree::Text;
@@ -217,15 +219,17 @@ fn restore(book: &mut SheetBook, mut olds: Vec<SheetEntry>)
     }
 }
 
-/// Makes the edits, and keeps the splices that lead back and the old sheets.
+/// Makes the edits, and keeps the splices that lead back, the rules and the old sheets.
 fn set_each(
     book: &mut SheetBook,
     edits: &[StyleEdit],
     backs: &mut Vec<Splice>,
+    rules: &mut Vec<RulePlace>,
     olds: &mut Vec<SheetEntry>,
 ) -> Result<(), SheetErr>
     requires olds { All (IsOld book.old) olds.old.items }
     ensures done { OnOk result (with_backs backs.old.items (styles_edited edits.now book.old) ≡ Ok (book.new, backs.new.items)) }
+    ensures rules { OnOk result (rules.new.items ≡ rules.old.items ++ edited_rules edits.now book.old) }
     ensures fault { IfFault result (λ f. styles_edited edits.now book.old ≡ Err f) }
     ensures olds { All (IsOld book.new) olds.new.items }
     ensures same { olds_restored olds.new.items book.new ≡ olds_restored olds.old.items book.old }
@@ -235,8 +239,16 @@ fn set_each(
             Ok(back) => back,
             Err(stop) => return Err(stop),
         };
+        push_rule(rules, edited_rule(book, &back))?;
         push_back(backs, back)?;
     }
+    Ok(())
+}
+
+fn push_rule(rules: &mut Vec<RulePlace>, rule: RulePlace) -> Result<(), AllocError>
+    ensures { OnOk result (rules.new.items ≡ rules.old.items ++ rule ∷ []) }
+{
+    rules.push(rule)?;
     Ok(())
 }
 
@@ -248,20 +260,37 @@ fn push_back(backs: &mut Vec<Splice>, back: Splice) -> Result<(), AllocError>
 }
 
 /// Makes the body of each edit's style rule another text: all of them, each found in the text that the earlier ones left, or
-/// none. Answers the splices that lead back, in the order of the edits.
-pub fn set_styles(book: &mut SheetBook, edits: &[StyleEdit]) -> Result<Vec<Splice>, SheetErr>
+/// none. Answers the splices that lead back, in the order of the edits, and appends to `rules` the rules that were edited, which
+/// may hold some of them after an error.
+pub fn set_styles_noting(
+    book: &mut SheetBook,
+    edits: &[StyleEdit],
+    rules: &mut Vec<RulePlace>,
+) -> Result<Vec<Splice>, SheetErr>
     ensures done { IfOk result (λ backs. styles_edited edits.now book.old ≡ Ok (book.new, backs.items)) }
+    ensures rules { OnOk result (rules.new.items ≡ rules.old.items ++ edited_rules edits.now book.old) }
     ensures fault { IfFault result (λ f. styles_edited edits.now book.old ≡ Err f) }
     ensures unchanged { OnErr result (book.new ≡ book.old) }
 {
     let alloc = book.allocator();
     let mut backs = Vec::new(alloc);
     let mut olds = Vec::new(alloc);
-    match set_each(book, edits, &mut backs, &mut olds) {
+    match set_each(book, edits, &mut backs, rules, &mut olds) {
         Ok(()) => Ok(backs),
         Err(stop) => {
             restore(book, olds);
             Err(stop)
         }
     }
+}
+
+/// Makes the body of each edit's style rule another text: all of them, each found in the text that the earlier ones left, or
+/// none. Answers the splices that lead back, in the order of the edits.
+pub fn set_styles(book: &mut SheetBook, edits: &[StyleEdit]) -> Result<Vec<Splice>, SheetErr>
+    ensures done { IfOk result (λ backs. styles_edited edits.now book.old ≡ Ok (book.new, backs.items)) }
+    ensures fault { IfFault result (λ f. styles_edited edits.now book.old ≡ Err f) }
+    ensures unchanged { OnErr result (book.new ≡ book.old) }
+{
+    let mut rules = Vec::new(book.allocator());
+    set_styles_noting(book, edits, &mut rules)
 }

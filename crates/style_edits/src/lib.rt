@@ -9,13 +9,15 @@ mod edits;
 mod faults;
 mod laws;
 mod lines;
+mod rule_places;
 mod sheets;
 mod splice;
 
-pub use edits::{StyleEdit, add_rule, set_selector, set_styles, set_text};
+pub use edits::{StyleEdit, add_rule, set_selector, set_styles, set_styles_noting, set_text};
 pub use faults::{SheetErr, SheetFault};
 pub use laws::{edits_law, splice_law};
 pub use lines::LineRange;
+pub use rule_places::{RulePlace, edited_rule};
 pub use sheets::{add_sheet, drop_sheet};
 pub use splice::{Splice, put_back};
 

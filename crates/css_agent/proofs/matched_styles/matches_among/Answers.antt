@@ -1,4 +1,4 @@
-use Rattle.std.proofs.Common.{List, Option, ◌++◌, ap, ◌∙◌}
+use Rattle.std.proofs.Common.{Option, ◌++◌, ap, ◌∙◌}
 use Rattle.std.specs.Option.{option_to_list}
 use Rattle.css_objects.specs.declared.rules.RuleMatch.{RuleMatch}
 use Rattle.css_agent.specs.MatchedStyles.{told_hit}

@@ -1,4 +1,3 @@
-use Rattle.std.proofs.Common.{◌∙◌}
 use Rattle.css_agent.proofs.StyleLemmas.{rule-here, rule-usable}
 use Rattle.css_agent.proofs.matched_styles.rule_at.Goals as goal
 

@@ -1,5 +1,7 @@
 -- With other words, and for a client, nothing is sent over the link, and the fold of nothing meets no fault.
+use Rattle.inspect_replay.specs.Followed.{fold_since}
 use Rattle.inspect_replay.proofs.FollowLemmas.{start-good}
+use Rattle.inspect_replay.proofs.AnswerLemmas.{serve-honest}
 use Rattle.inspect_replay.proofs.ServeEnds.{serve-folds}
 use Rattle.inspect_replay.proofs.program.inspect.Goals as goal
 
@@ -7,7 +9,10 @@ pub returns-clause-refused : goal.returns-clause-refused
 returns-clause-refused g c = start-good (g.L.Link.up c.args.link.now) (g.L.Link.down c.args.link.now)
 
 pub returns-then-is_serve-clause-refused : goal.returns-then-is_serve-clause-refused
-returns-then-is_serve-clause-refused g c = serve-folds c.serve.result _ c.serve.ensures.only (start-good (g.L.Link.up c.args.link.now) (g.L.Link.down c.args.link.now))
+returns-then-is_serve-clause-refused g c = serve-folds c.serve.result (fold_since (g.L.Link.up c.args.link.now) (g.L.Link.down c.args.link.now) (g.L.Link.up c.args.link.now) (g.L.Link.down c.args.link.now)) c.serve.ensures.only (start-good (g.L.Link.up c.args.link.now) (g.L.Link.down c.args.link.now))
 
 pub returns-then-is_serve-clause-cause : goal.returns-then-is_serve-clause-cause
 returns-then-is_serve-clause-cause g c = c.serve.ensures.cause _ _
+
+pub returns-then-is_serve-clause-sound : goal.returns-then-is_serve-clause-sound
+returns-then-is_serve-clause-sound g c = λ honest up_level down_level. serve-honest c.serve.result c.serve.ensures.only

@@ -1,8 +1,9 @@
 -- An input that is not read is refused by its limits.
 use Rattle.std.proofs.Common.{sym, subst}
 use Rattle.inspect_world.specs.Scripts.{report}
-use Rattle.inspect_replay.specs.Answers.{FitsLimits, Took}
-use Rattle.inspect_replay.proofs.AnswerLemmas.{stop-limits, stop-took}
+use Rattle.inspect_replay.specs.Answers.{FitsLimits, Took, IsHonest}
+use Rattle.inspect_replay.proofs.AnswerLemmas.{stop-limits, stop-took, stop-honest}
+use Rattle.inspect_replay.specs.Followed.{fold_since}
 use Rattle.inspect_replay.proofs.FollowLemmas.{status-folds, input-folds, start-good, never-done}
 use Rattle.inspect_replay.proofs.program.replay.Goals as goal
 
@@ -12,8 +13,9 @@ returns-in-Err-clause-limits g c = λ input left.
 
 pub returns-in-Err-clause-refused : goal.returns-in-Err-clause-refused
 returns-in-Err-clause-refused g c =
-    status-folds c.in-Err.stop c.status_of.result _ c.status_of.ensures
-    (input-folds c.in-Err.stop _ _ _ c.in-Err.ensures.rose (start-good (g.L.Link.up c.args.link.now) (g.L.Link.down c.args.link.now)))
+    let same = (fold_since (g.L.Link.up c.args.link.now) (g.L.Link.down c.args.link.now) (g.L.Link.up c.args.link.now) (g.L.Link.down c.args.link.now)) in
+    status-folds c.in-Err.stop c.status_of.result same c.status_of.ensures
+    (input-folds c.in-Err.stop _ _ same c.in-Err.ensures.rose (start-good (g.L.Link.up c.args.link.now) (g.L.Link.down c.args.link.now)))
 
 pub returns-in-Err-clause-closes : goal.returns-in-Err-clause-closes
 returns-in-Err-clause-closes g c = λ done. absurd (never-done c.in-Err.stop c.status_of.result c.status_of.ensures done)
@@ -28,3 +30,6 @@ returns-in-Err-clause-report g c = λ honest up_level down_level input left.
 
 pub returns-in-Err-clause-less : goal.returns-in-Err-clause-less
 returns-in-Err-clause-less g c = λ done. absurd (never-done c.in-Err.stop c.status_of.result c.status_of.ensures done)
+
+pub returns-in-Err-clause-sound : goal.returns-in-Err-clause-sound
+returns-in-Err-clause-sound g c = λ honest up_level down_level. subst IsHonest (sym c.status_of.ensures) (stop-honest c.in-Err.stop _ _ c.in-Err.ensures.rose)

@@ -1,4 +1,8 @@
 -- A stop is the status that the fold says.
+use Rattle.std.proofs.Common.{sym, subst}
+use Rattle.inspect_world.specs.Scripts.{report}
+use Rattle.inspect_replay.specs.Answers.{IsHonest}
+use Rattle.inspect_replay.proofs.AnswerLemmas.{run-honest}
 use Rattle.inspect_replay.proofs.FollowLemmas.{status-folds, never-done}
 use Rattle.inspect_replay.proofs.program.run_input.Goals as goal
 
@@ -13,3 +17,8 @@ returns-in-Err-clause-replies g c = λ done. absurd (never-done c.in-Err.stop c.
 
 pub returns-in-Err-clause-less : goal.returns-in-Err-clause-less
 returns-in-Err-clause-less g c = λ done. absurd (never-done c.in-Err.stop c.status_of.result c.status_of.ensures done)
+
+pub returns-in-Err-clause-sound : goal.returns-in-Err-clause-sound
+returns-in-Err-clause-sound g c = λ honest up_level down_level.
+    subst IsHonest (sym c.status_of.ensures)
+    (run-honest c.in-Err.stop (g.K.Sink.taken c.args.out.now) (g.K.Sink.taken c.run_script.new.out) (report c.args.input.now) (c.in-Err.ensures.took honest up_level down_level))

@@ -10,7 +10,7 @@ use Rattle.inspect_replay.proofs.run.carry_act.Goals as goal
 pub returns-in-Ok-clause-runs : goal.returns-in-Ok-clause-runs
 returns-in-Ok-clause-runs g c =
     act-carries c.print_fault.result c.in-Ok.fault _ _ _ _ _ _ _ _ c.args.ends.now c.change_page.new.self c.args.number c.args.change
-    c.in-Ok.ensures.steps c.in-Ok.ensures.fault c.print_fault.ensures.never c.print_fault.ensures.ok c.print_fault.ensures.err
+    c.in-Ok.ensures.steps c.requires c.in-Ok.ensures.fault c.print_fault.ensures.never c.print_fault.ensures.ok c.print_fault.ensures.err
 
 pub returns-in-Err-clause-runs : goal.returns-in-Err-clause-runs
 returns-in-Err-clause-runs g c =

@@ -6,12 +6,12 @@ use Rattle.inspect_replay.proofs.run.close.Goals as goal
 pub returns-in-Ok-clause-runs : goal.returns-in-Ok-clause-runs
 returns-in-Ok-clause-runs g c =
     closes-well c.print_outline.result _ _ _ _ _ _ _ _ c.args.ends.now c.settle.new.self c.mirror.result.now
-    (λ up0 down0 w run. (c.in-Ok.ensures.steps up0 down0 w run).1) c.mirror.ensures c.print_outline.ensures.never c.print_outline.ensures.ok c.print_outline.ensures.err
+    (λ up0 down0 w left run. (c.in-Ok.ensures.steps up0 down0 w left run).1) c.mirror.ensures c.print_outline.ensures.never c.print_outline.ensures.ok c.print_outline.ensures.err
 
 pub returns-in-Err-clause-runs : goal.returns-in-Err-clause-runs
 returns-in-Err-clause-runs g c =
     closes-not c.in-Err.stop _ _ _ _ c.args.ends.now
-    (λ up0 down0 w run. (c.in-Err.ensures.steps up0 down0 w run).0)
+    (λ up0 down0 w left run. (c.in-Err.ensures.steps up0 down0 w left run).0)
 
 pub returns-in-Ok-clause-shown : goal.returns-in-Ok-clause-shown
 returns-in-Ok-clause-shown g c = λ state0 up0 down0 run.

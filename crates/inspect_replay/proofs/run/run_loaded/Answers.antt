@@ -1,36 +1,38 @@
 -- A script whose first line loads a page is carried out.
-use Rattle.std.proofs.Common.{◌∙◌, length}
-use Rattle.page_forms.specs.Pages.{loaded_nodes}
-use Rattle.inspect_world.proofs.Scripts.{left-first}
+use Rattle.std.proofs.Common.{length}
+use Rattle.page_forms.specs.Pages.{loaded_page}
 use Rattle.replay_script.specs.Script.{first_bad, good_lines}
 use Rattle.inspect_world.specs.Scripts.{loaded_world, after_lines}
-use Rattle.inspect_replay.proofs.RunLemmas.{begins, closed-took, stopped-took}
+use Rattle.inspect_replay.proofs.RunLemmas.{begins, play-begins, closed-took, closed-tells, closed-cause, stopped-took}
 use Rattle.back_end.specs.States.{loaded_state}
+use Rattle.inspect_world.specs.Links.{started}
 use Rattle.inspect_replay.proofs.FollowLemmas.{run-first, ends-shown, in-order, no-more}
 use Rattle.inspect_replay.proofs.run.run_loaded.Goals as goal
 
 pub returns-in-Ok-clause-took : goal.returns-in-Ok-clause-took
 returns-in-Ok-clause-took g c = λ honest up_level down_level.
-    let nodes = loaded_nodes c.args.form in
-    let w = loaded_world nodes in
+    let page = loaded_page c.args.form in
+    let w = loaded_world page in
     let first = c.in_ok-ends.ensures in
-    let run = begins (g.L.Link.honest c.args.link.now) (g.L.Link.up c.args.link.now) (g.L.Link.down c.args.link.now) nodes c.in_ok-ends.ends honest c.requires.can c.requires.texts up_level down_level
-    (first.page ∙ c.in_ok-page.ensures) first.off first.agent first.splitter first.front first.up first.down first.told in
-    let few = left-first nodes (length c.args.lines) c.requires.few in
-    let ran = (c.in-Ok.ensures {u = c.in-Ok.field-0}).runs (g.L.Link.up c.args.link.now) (g.L.Link.down c.args.link.now) w few run in
+    let run = begins (g.L.Link.honest c.args.link.now) (g.L.Link.up c.args.link.now) (g.L.Link.down c.args.link.now) page c.in_ok-ends.ends honest c.requires.can c.requires.texts up_level down_level
+    (record { page_is = first.page; sheets_are = first.sheets; next_is = first.numbers; off = first.off; css = first.css; agent_is = first.agent })
+    first.splitter first.front first.up first.down first.told in
+    let play = play-begins (g.L.Link.honest c.args.link.now) (g.L.Link.up c.args.link.now) (g.L.Link.down c.args.link.now) page (length c.args.lines) c.in_ok-ends.ends c.requires.can c.requires.texts c.requires.few run in
+    let ran = (c.in-Ok.ensures {u = c.in-Ok.field-0}).runs (g.L.Link.up c.args.link.now) (g.L.Link.down c.args.link.now) w play in
     let closes = c.close.ensures.runs (g.L.Link.up c.args.link.now) (g.L.Link.down c.args.link.now) (after_lines (good_lines 2 c.args.lines) w) ran.0 in
     closed-took c.close.result _ _ _ _ (g.K.Sink.taken c.args.out.now) (g.K.Sink.taken c.run_lines.new.out) (g.K.Sink.taken c.close.new.out)
     (first_bad 2 c.args.lines) (good_lines 2 c.args.lines) w (c.in-Ok.ensures {u = c.in-Ok.field-0}).tells c.close.ensures.cause closes.0 ran.1 closes.1
 
 pub returns-clause-took : goal.returns-clause-took
 returns-clause-took g c = λ honest up_level down_level.
-    let nodes = loaded_nodes c.args.form in
-    let w = loaded_world nodes in
+    let page = loaded_page c.args.form in
+    let w = loaded_world page in
     let first = c.in_ok-ends.ensures in
-    let run = begins (g.L.Link.honest c.args.link.now) (g.L.Link.up c.args.link.now) (g.L.Link.down c.args.link.now) nodes c.in_ok-ends.ends honest c.requires.can c.requires.texts up_level down_level
-    (first.page ∙ c.in_ok-page.ensures) first.off first.agent first.splitter first.front first.up first.down first.told in
-    let few = left-first nodes (length c.args.lines) c.requires.few in
-    let ran = (c.in-Err.ensures {u = tt}).runs (g.L.Link.up c.args.link.now) (g.L.Link.down c.args.link.now) w few run in
+    let run = begins (g.L.Link.honest c.args.link.now) (g.L.Link.up c.args.link.now) (g.L.Link.down c.args.link.now) page c.in_ok-ends.ends honest c.requires.can c.requires.texts up_level down_level
+    (record { page_is = first.page; sheets_are = first.sheets; next_is = first.numbers; off = first.off; css = first.css; agent_is = first.agent })
+    first.splitter first.front first.up first.down first.told in
+    let play = play-begins (g.L.Link.honest c.args.link.now) (g.L.Link.up c.args.link.now) (g.L.Link.down c.args.link.now) page (length c.args.lines) c.in_ok-ends.ends c.requires.can c.requires.texts c.requires.few run in
+    let ran = (c.in-Err.ensures {u = tt}).runs (g.L.Link.up c.args.link.now) (g.L.Link.down c.args.link.now) w play in
     stopped-took c.in-Err.stop (g.K.Sink.taken c.args.out.now) (g.K.Sink.taken c.run_lines.new.out)
     (first_bad 2 c.args.lines) (good_lines 2 c.args.lines) w (c.in-Err.ensures {u = tt}).tells ran.1
 
@@ -38,24 +40,26 @@ pub returns-in-Ok-clause-refused : goal.returns-in-Ok-clause-refused
 returns-in-Ok-clause-refused g c =
     let up = g.L.Link.up c.args.link.now in
     let down = g.L.Link.down c.args.link.now in
-    let nodes = loaded_nodes c.args.form in
+    let page = loaded_page c.args.form in
     let first = c.in_ok-ends.ensures in
-    let start = run-first up down nodes c.in_ok-ends.ends c.requires.can c.requires.texts
-    (first.page ∙ c.in_ok-page.ensures) first.off first.agent first.splitter first.front first.up first.down first.told in
+    let start = run-first up down page (length c.args.lines) c.in_ok-ends.ends c.requires.can c.requires.texts c.requires.few
+    (record { page_is = first.page; sheets_are = first.sheets; next_is = first.numbers; off = first.off; css = first.css; agent_is = first.agent })
+    first.splitter first.front first.up first.down first.told in
     let ran = c.in-Ok.ensures {u = c.in-Ok.field-0} in
-    let shown = c.close.ensures.shown (loaded_state nodes) up down (ran.follows (loaded_state nodes) up down start).0 in
+    let shown = c.close.ensures.shown (started (loaded_state page) 0) up down (ran.follows (loaded_state page) up down start).0 in
     shown.1
 
 pub returns-in-Ok-clause-closes : goal.returns-in-Ok-clause-closes
 returns-in-Ok-clause-closes g c =
     let up = g.L.Link.up c.args.link.now in
     let down = g.L.Link.down c.args.link.now in
-    let nodes = loaded_nodes c.args.form in
+    let page = loaded_page c.args.form in
     let first = c.in_ok-ends.ensures in
-    let start = run-first up down nodes c.in_ok-ends.ends c.requires.can c.requires.texts
-    (first.page ∙ c.in_ok-page.ensures) first.off first.agent first.splitter first.front first.up first.down first.told in
+    let start = run-first up down page (length c.args.lines) c.in_ok-ends.ends c.requires.can c.requires.texts c.requires.few
+    (record { page_is = first.page; sheets_are = first.sheets; next_is = first.numbers; off = first.off; css = first.css; agent_is = first.agent })
+    first.splitter first.front first.up first.down first.told in
     let ran = c.in-Ok.ensures {u = c.in-Ok.field-0} in
-    let shown = c.close.ensures.shown (loaded_state nodes) up down (ran.follows (loaded_state nodes) up down start).0 in
+    let shown = c.close.ensures.shown (started (loaded_state page) 0) up down (ran.follows (loaded_state page) up down start).0 in
     ends-shown c.close.result (g.K.Sink.taken c.args.out.now) (g.K.Sink.taken c.run_lines.new.out) (g.K.Sink.taken c.close.new.out)
     (g.L.Link.up c.args.link.now) (g.L.Link.down c.args.link.now) (g.L.Link.up c.close.new.link) (g.L.Link.down c.close.new.link) ran.some shown.0
 
@@ -63,12 +67,13 @@ pub returns-in-Ok-clause-replies : goal.returns-in-Ok-clause-replies
 returns-in-Ok-clause-replies g c =
     let up = g.L.Link.up c.args.link.now in
     let down = g.L.Link.down c.args.link.now in
-    let nodes = loaded_nodes c.args.form in
+    let page = loaded_page c.args.form in
     let first = c.in_ok-ends.ensures in
-    let start = run-first up down nodes c.in_ok-ends.ends c.requires.can c.requires.texts
-    (first.page ∙ c.in_ok-page.ensures) first.off first.agent first.splitter first.front first.up first.down first.told in
+    let start = run-first up down page (length c.args.lines) c.in_ok-ends.ends c.requires.can c.requires.texts c.requires.few
+    (record { page_is = first.page; sheets_are = first.sheets; next_is = first.numbers; off = first.off; css = first.css; agent_is = first.agent })
+    first.splitter first.front first.up first.down first.told in
     let ran = c.in-Ok.ensures {u = c.in-Ok.field-0} in
-    let shown = c.close.ensures.shown (loaded_state nodes) up down (ran.follows (loaded_state nodes) up down start).0 in
+    let shown = c.close.ensures.shown (started (loaded_state page) 0) up down (ran.follows (loaded_state page) up down start).0 in
     in-order c.close.result (g.K.Sink.taken c.run_lines.new.out) (g.K.Sink.taken c.close.new.out)
     (g.L.Link.up c.args.link.now) (g.L.Link.down c.args.link.now) (g.L.Link.up c.close.new.link) (g.L.Link.down c.close.new.link) shown.0
 
@@ -76,12 +81,13 @@ pub returns-in-Ok-clause-less : goal.returns-in-Ok-clause-less
 returns-in-Ok-clause-less g c =
     let up = g.L.Link.up c.args.link.now in
     let down = g.L.Link.down c.args.link.now in
-    let nodes = loaded_nodes c.args.form in
+    let page = loaded_page c.args.form in
     let first = c.in_ok-ends.ensures in
-    let start = run-first up down nodes c.in_ok-ends.ends c.requires.can c.requires.texts
-    (first.page ∙ c.in_ok-page.ensures) first.off first.agent first.splitter first.front first.up first.down first.told in
+    let start = run-first up down page (length c.args.lines) c.in_ok-ends.ends c.requires.can c.requires.texts c.requires.few
+    (record { page_is = first.page; sheets_are = first.sheets; next_is = first.numbers; off = first.off; css = first.css; agent_is = first.agent })
+    first.splitter first.front first.up first.down first.told in
     let ran = c.in-Ok.ensures {u = c.in-Ok.field-0} in
-    let shown = c.close.ensures.shown (loaded_state nodes) up down (ran.follows (loaded_state nodes) up down start).0 in
+    let shown = c.close.ensures.shown (started (loaded_state page) 0) up down (ran.follows (loaded_state page) up down start).0 in
     no-more c.close.result (g.K.Sink.taken c.run_lines.new.out) (g.K.Sink.taken c.close.new.out)
     (g.L.Link.up c.args.link.now) (g.L.Link.down c.args.link.now) (g.L.Link.up c.close.new.link) (g.L.Link.down c.close.new.link) shown.0
 
@@ -89,8 +95,19 @@ pub returns-clause-refused : goal.returns-clause-refused
 returns-clause-refused g c =
     let up = g.L.Link.up c.args.link.now in
     let down = g.L.Link.down c.args.link.now in
-    let nodes = loaded_nodes c.args.form in
+    let page = loaded_page c.args.form in
     let first = c.in_ok-ends.ensures in
-    let start = run-first up down nodes c.in_ok-ends.ends c.requires.can c.requires.texts
-    (first.page ∙ c.in_ok-page.ensures) first.off first.agent first.splitter first.front first.up first.down first.told in
-    ((c.in-Err.ensures {u = tt}).follows (loaded_state nodes) up down start).1
+    let start = run-first up down page (length c.args.lines) c.in_ok-ends.ends c.requires.can c.requires.texts c.requires.few
+    (record { page_is = first.page; sheets_are = first.sheets; next_is = first.numbers; off = first.off; css = first.css; agent_is = first.agent })
+    first.splitter first.front first.up first.down first.told in
+    ((c.in-Err.ensures {u = tt}).follows (loaded_state page) up down start).1
+
+pub returns-in-Ok-clause-tells : goal.returns-in-Ok-clause-tells
+returns-in-Ok-clause-tells g c =
+    closed-tells c.close.result _ _ _ _ (first_bad 2 c.args.lines) (c.in-Ok.ensures {u = c.in-Ok.field-0}).tells c.close.ensures.cause
+
+pub returns-in-Ok-clause-cause : goal.returns-in-Ok-clause-cause
+returns-in-Ok-clause-cause g c =
+    let ran = (c.in-Ok.ensures {u = c.in-Ok.field-0}).cause in
+    closed-cause c.close.result (g.K.Sink.faults c.args.out.now) (g.K.Sink.faults c.run_lines.new.out) (g.K.Sink.faults c.close.new.out)
+    (g.L.Link.faults c.args.link.now) (g.L.Link.faults c.run_lines.new.link) (g.L.Link.faults c.close.new.link) ran.sink_later ran.link_later c.close.ensures.cause

@@ -1,10 +1,11 @@
 -- A whole script is carried out.
 use Rattle.std.proofs.Common.{◌≡◌, sym, subst, ◌∙◌, ◌∷◌, ◌^◌, Some}
-use Rattle.page_forms.specs.Pages.{loaded_nodes}
+use Rattle.page_forms.specs.Pages.{loaded_page}
 use Rattle.replay_script.specs.Forms.{load, line_form}
 use Rattle.replay_script.specs.Lines.{lines_of}
 use Rattle.inspect_replay.specs.Answers.{RunTook}
 use Rattle.inspect_replay.proofs.RunLemmas.{script-loads, report-loads, few-lines}
+use Rattle.inspect_replay.specs.Followed.{fold_since}
 use Rattle.inspect_replay.proofs.FollowLemmas.{start-good, read-folds}
 use Rattle.inspect_replay.proofs.run.run_script.Goals as goal
 
@@ -12,14 +13,14 @@ pub run_loaded-requires-clause-can : goal.run_loaded-requires-clause-can
 run_loaded-requires-clause-can g c =
     let lines : lines_of c.args.input.now ≡ c.in-Some.first.now ∷ c.next_line.new.lines = sym c.new-lines.ensures ∙ c.in-Some.ensures.some in
     let read = c.in-Ok.ensures {u = tt} in
-    (script-loads c.args.input.now c.in-Some.first.now c.next_line.new.lines (loaded_nodes c.in-Ok.form) lines read.good
+    (script-loads c.args.input.now c.in-Some.first.now c.next_line.new.lines (loaded_page c.in-Ok.form) lines read.good
     read.form).can
 
 pub run_loaded-requires-clause-texts : goal.run_loaded-requires-clause-texts
 run_loaded-requires-clause-texts g c =
     let lines : lines_of c.args.input.now ≡ c.in-Some.first.now ∷ c.next_line.new.lines = sym c.new-lines.ensures ∙ c.in-Some.ensures.some in
     let read = c.in-Ok.ensures {u = tt} in
-    (script-loads c.args.input.now c.in-Some.first.now c.next_line.new.lines (loaded_nodes c.in-Ok.form) lines read.good
+    (script-loads c.args.input.now c.in-Some.first.now c.next_line.new.lines (loaded_page c.in-Ok.form) lines read.good
     read.form).texts
 
 pub run_loaded-requires-clause-few : goal.run_loaded-requires-clause-few
@@ -30,7 +31,7 @@ pub returns-in-Ok-clause-took : goal.returns-in-Ok-clause-took
 returns-in-Ok-clause-took g c = λ honest up_level down_level.
     let lines : lines_of c.args.input.now ≡ c.in-Some.first.now ∷ c.next_line.new.lines = sym c.new-lines.ensures ∙ c.in-Some.ensures.some in
     let read = c.in-Ok.ensures {u = tt} in
-    let nodes = loaded_nodes c.in-Ok.form in
+    let nodes = loaded_page c.in-Ok.form in
     let form : line_form c.in-Some.first.now ≡ Some (load nodes) = read.form in
     subst (λ text. RunTook c.run_loaded.result (g.K.Sink.taken c.args.out.now) (g.K.Sink.taken c.run_loaded.new.out) text)
     (sym (report-loads c.args.input.now c.in-Some.first.now c.next_line.new.lines nodes lines read.good form))
@@ -40,4 +41,4 @@ pub returns-in_default-clause-refused : goal.returns-in_default-clause-refused
 returns-in_default-clause-refused g c = start-good (g.L.Link.up c.args.link.now) (g.L.Link.down c.args.link.now)
 
 pub returns-in-Err-clause-refused : goal.returns-in-Err-clause-refused
-returns-in-Err-clause-refused g c = read-folds c.in-Err.stop 1 _ _ c.in-Err.ensures.bad (start-good (g.L.Link.up c.args.link.now) (g.L.Link.down c.args.link.now))
+returns-in-Err-clause-refused g c = read-folds c.in-Err.stop 1 _ (fold_since (g.L.Link.up c.args.link.now) (g.L.Link.down c.args.link.now) (g.L.Link.up c.args.link.now) (g.L.Link.down c.args.link.now)) c.in-Err.ensures.bad (start-good (g.L.Link.up c.args.link.now) (g.L.Link.down c.args.link.now))

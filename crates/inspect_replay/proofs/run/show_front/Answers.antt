@@ -8,12 +8,12 @@ use Rattle.inspect_replay.proofs.run.show_front.Goals as goal
 pub returns-in-Ok-clause-runs : goal.returns-in-Ok-clause-runs
 returns-in-Ok-clause-runs g c = λ number.
     show-carries c.print_outline.result _ _ _ _ _ _ _ _ c.args.ends.now c.settle.new.self number c.mirror.result.now
-    (λ up0 down0 w run. (c.in-Ok.ensures.steps up0 down0 w run).1) c.mirror.ensures c.print_outline.ensures.never c.print_outline.ensures.ok c.print_outline.ensures.err
+    (λ up0 down0 w left run. (c.in-Ok.ensures.steps up0 down0 w left run).1) c.mirror.ensures c.print_outline.ensures.never c.print_outline.ensures.ok c.print_outline.ensures.err
 
 pub returns-in-Err-clause-runs : goal.returns-in-Err-clause-runs
 returns-in-Err-clause-runs g c = λ number.
     show-stops c.in-Err.stop (g.L.Link.honest c.args.link.now) (g.L.Link.honest c.settle.new.link) (g.L.Link.up c.args.link.now) (g.L.Link.down c.args.link.now) (g.L.Link.up c.settle.new.link) (g.L.Link.down c.settle.new.link) (g.K.Sink.taken c.args.out.now) c.args.ends.now c.settle.new.self (line_of number show_front)
-    (λ up0 down0 w run. (c.in-Err.ensures.steps up0 down0 w run).0)
+    (λ up0 down0 w left run. (c.in-Err.ensures.steps up0 down0 w left run).0)
 
 pub returns-in-Ok-clause-follows : goal.returns-in-Ok-clause-follows
 returns-in-Ok-clause-follows g c = λ state0 up0 down0 run.

@@ -9,7 +9,7 @@ use Rattle.inspect_replay.proofs.run.show_replies.Goals as goal
 pub returns-in-Err-clause-runs : goal.returns-in-Err-clause-runs
 returns-in-Err-clause-runs g c = λ number.
     show-stops c.in-Err.stop (g.L.Link.honest c.args.link.now) (g.L.Link.honest c.settle.new.link) (g.L.Link.up c.args.link.now) (g.L.Link.down c.args.link.now) (g.L.Link.up c.settle.new.link) (g.L.Link.down c.settle.new.link) (g.K.Sink.taken c.args.out.now) c.args.ends.now c.settle.new.self (line_of number show_replies)
-    (λ up0 down0 w run. (c.in-Err.ensures.steps up0 down0 w run).0)
+    (λ up0 down0 w left run. (c.in-Err.ensures.steps up0 down0 w left run).0)
 
 pub returns-in-Ok-print_replies-clause-runs : goal.returns-in-Ok-print_replies-clause-runs
 returns-in-Ok-print_replies-clause-runs g c = λ number.
@@ -22,7 +22,7 @@ returns-in-Ok-print_replies-clause-runs g c = λ number.
     } in
     replies-carried number (g.L.Link.honest c.args.link.now) (g.L.Link.honest c.settle.new.link) (g.L.Link.up c.args.link.now) (g.L.Link.down c.args.link.now) (g.L.Link.up c.settle.new.link) (g.L.Link.down c.settle.new.link)
     (g.K.Sink.taken c.args.out.now) (g.K.Sink.taken c.print_replies.new.out) c.args.ends.now c.settle.new.self c.tell_all.new.self c.split_at.result.1.now
-    (λ up0 down0 w run. (c.in-Ok.ensures.steps up0 down0 w run).1) untold c.in-Ok-print_replies.ensures.ok c.tell_all.ensures
+    (λ up0 down0 w left run. (c.in-Ok.ensures.steps up0 down0 w left run).1) untold c.in-Ok-print_replies.ensures.ok c.tell_all.ensures
 
 pub returns-in-Err-print_replies-clause-runs : goal.returns-in-Err-print_replies-clause-runs
 returns-in-Err-print_replies-clause-runs g c = λ number.
@@ -35,7 +35,7 @@ returns-in-Err-print_replies-clause-runs g c = λ number.
     } in
     replies-stop number c.in-Err-print_replies.stop (g.L.Link.honest c.args.link.now) (g.L.Link.honest c.settle.new.link) (g.L.Link.up c.args.link.now) (g.L.Link.down c.args.link.now) (g.L.Link.up c.settle.new.link) (g.L.Link.down c.settle.new.link)
     (g.K.Sink.taken c.args.out.now) (g.K.Sink.taken c.print_replies.new.out) c.args.ends.now c.settle.new.self c.settle.new.self c.split_at.result.1.now
-    (λ up0 down0 w run. (c.in-Ok.ensures.steps up0 down0 w run).1) untold c.in-Err-print_replies.ensures.never c.in-Err-print_replies.ensures.err
+    (λ up0 down0 w left run. (c.in-Ok.ensures.steps up0 down0 w left run).1) untold c.in-Err-print_replies.ensures.never c.in-Err-print_replies.ensures.err
 
 pub returns-in-Ok-print_replies-clause-follows : goal.returns-in-Ok-print_replies-clause-follows
 returns-in-Ok-print_replies-clause-follows g c = λ state0 up0 down0 run.

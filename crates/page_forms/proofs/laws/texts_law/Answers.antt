@@ -1,4 +1,5 @@
-use Rattle.page_forms.proofs.ActLemmas.{pages_have_texts, acts_have_texts}
+use Rattle.page_forms.proofs.ActLemmas.{acts_have_texts}
+use Rattle.page_forms.proofs.PageLemmas.{pages_have_texts}
 use Rattle.page_forms.proofs.laws.texts_law.Goals as goal
 
 pub returns-clause-pages : goal.returns-clause-pages

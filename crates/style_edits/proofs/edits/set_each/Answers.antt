@@ -1,7 +1,9 @@
-use Rattle.std.proofs.Common.{◌∙◌, arith}
+use Rattle.std.proofs.Common.{[], ◌∷◌, ◌++◌, ap, ◌∙◌, arith}
+use Rattle.style_edits.specs.declared.rule_places.RulePlace.{RulePlace}
 use Rattle.style_edits.specs.declared.splice.Splice.{Splice}
 use Rattle.style_edits.specs.Edits.{styles_edited, style_splice}
 use Rattle.style_edits.proofs.EditForms.{edits_more, edits_fail, edits_none, fault_of_all}
+use Rattle.style_edits.proofs.RuleForms.{rules_more, rules_none}
 use Rattle.style_edits.proofs.edits.set_each.Goals as goal
 
 pub returns-in-Err-clause-fault : goal.returns-in-Err-clause-fault
@@ -15,7 +17,12 @@ loop-edit-preserved c = record {
   same = c.in-Ok.ensures.same ∙ c.loop-edit.invariant.same;
   so_far = edits_more c.args.edits.now c.loop-edit.edit-index c.edit-item.result c.loop-edit.backs.items c.push_back.new.backs.items c.loop-edit.book c.set_style.new.book c.in-Ok.back _ (omega (arith, c.loop-edit-test.true)) c.edit-item.is
       c.in-Ok.ensures.done c.in_ok-push_back.ensures c.loop-edit.invariant.so_far;
+  rules = rules_more c.args.edits.now c.loop-edit.edit-index c.edit-item.result c.loop-edit.rules.items c.push_rule.new.rules.items c.loop-edit.book c.set_style.new.book c.in-Ok.back _ (omega (arith, c.loop-edit-test.true)) c.edit-item.is
+      c.in-Ok.ensures.done (c.in_ok-push_rule.ensures ∙ ap (λ (p : RulePlace). c.loop-edit.rules.items ++ p ∷ []) c.edited_rule.ensures) c.loop-edit.invariant.rules;
 }
 
 pub returns-clause-done : goal.returns-clause-done
 returns-clause-done c = edits_none c.args.edits.now c.loop-edit.edit-index c.loop-edit.backs.items c.loop-edit.book _ (omega (arith, c.loop-edit-test.false)) c.loop-edit.invariant.so_far
+
+pub returns-clause-rules : goal.returns-clause-rules
+returns-clause-rules c = rules_none c.args.edits.now c.loop-edit.edit-index c.loop-edit.rules.items c.loop-edit.book _ (omega (arith, c.loop-edit-test.false)) c.loop-edit.invariant.rules

@@ -1,6 +1,7 @@
-use Rattle.std.proofs.Common.{◌≡◌, All, drop}
+use Rattle.std.proofs.Common.{◌≡◌, ◌++◌, All, drop}
 use Rattle.style_edits.specs.Drafts.{IsOld, olds_restored, with_backs}
 use Rattle.style_edits.specs.Edits.{styles_edited}
+use Rattle.style_edits.specs.EditedRules.{edited_rules}
 use Rattle.style_edits.proofs.edits.set_each.Given as goal
 
 abbrev pub invariant-loop-edit : goal.invariant-loop-edit
@@ -8,4 +9,5 @@ invariant-loop-edit l = record {
   olds : All (IsOld l.book) l.olds.items;
   same : olds_restored l.olds.items l.book ≡ olds_restored l.fn.olds.items l.fn.book;
   so_far : with_backs l.backs.items (styles_edited (drop l.edit-index l.edits) l.book) ≡ with_backs l.fn.backs.items (styles_edited l.edits l.fn.book);
+  rules : l.rules.items ++ edited_rules (drop l.edit-index l.edits) l.book ≡ l.fn.rules.items ++ edited_rules l.edits l.fn.book;
 }

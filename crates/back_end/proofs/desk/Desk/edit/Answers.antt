@@ -9,14 +9,14 @@ pub returns-clause-stands : goal.returns-clause-stands
 returns-clause-stands c = λ state stands.
     elim c.match-edit.branch [
       | in-Ok w ↦ in_any c.match-edit.result _
-          (lone-stands c.args.self.now (record { alloc = _; is_on = _; agent = _ }) c.args.side.now (record { page = _ }) state c.args.edit stands.page_is w.in-Ok.ensures.fault
-          (edit-stands c.args.self.now (record { alloc = _; is_on = _; agent = _ }) c.args.side.now (record { page = _ }) state c.args.edit stands
+          (lone-stands c.args.self.now (record { alloc = _; is_on = _; css = _; agent = _ }) c.args.side.now (record { page = _; sheets = _ }) state c.args.edit stands.page_is w.in-Ok.ensures.fault
+          (edit-stands c.args.self.now (record { alloc = _; is_on = _; css = _; agent = _ }) c.args.side.now (record { page = _; sheets = _ }) state c.args.edit stands
           (record { fits = w.in-Ok.ensures.fault; ready = c.requires.ready }) c.requires.texts (let low = c.requires.room.ids in omega (arith, low)) (let low = c.requires.room.serials in omega (arith, low))
-          w.in-Ok.ensures.page refl w.in-Ok.ensures.agent))
+          (let low = c.requires.room.sheets in omega (arith, low)) w.in-Ok.ensures.page refl refl refl w.in-Ok.ensures.agent))
       | in-Err-Fault w ↦ in_any c.match-edit.result _
-          (stayed-stands c.args.self.now (record { alloc = _; is_on = _; agent = _ }) c.args.side.now (record { page = _ }) (lone_step c.args.edit state).state refl
+          (stayed-stands c.args.self.now (record { alloc = _; is_on = _; css = _; agent = _ }) c.args.side.now (record { page = _; sheets = _ }) (lone_step c.args.edit state).state refl refl
           (kept-with c.edit.result _ w.in-Err-Fault.fault (w.in-Err-Fault.is ∙ ap Err w.in-Err-Fault.field-0-is) c.edit.ensures.agent_kept)
-          (kept-with c.edit.result _ w.in-Err-Fault.fault (w.in-Err-Fault.is ∙ ap Err w.in-Err-Fault.field-0-is) c.edit.ensures.page_kept)
+          (kept-with c.edit.result _ w.in-Err-Fault.fault (w.in-Err-Fault.is ∙ ap Err w.in-Err-Fault.field-0-is) c.edit.ensures.page_kept) refl
           (lone-refused c.args.self.now c.args.side.now state c.args.edit w.in-Err-Fault.fault stands.page_is
           (refused-with c.edit.result _ w.in-Err-Fault.fault (w.in-Err-Fault.is ∙ ap Err w.in-Err-Fault.field-0-is) c.edit.ensures.fault) stands))
       | in-Err-Memory w ↦ in_none c.match-edit.result _ _ w.result-is

@@ -2,8 +2,8 @@
 use Rattle.std.proofs.Common.{◌≡◌, ◌+◌, ◌++◌, length, arith, refl}
 use Rattle.inspect_world.specs.Stream.{awaited}
 use Rattle.inspect_replay.specs.Runs.{ends_of}
-use Rattle.inspect_replay.proofs.EndLemmas.{answered_in}
-use Rattle.inspect_replay.proofs.FollowLemmas.{answered-follows, follows-good}
+use Rattle.inspect_replay.proofs.EndLemmas.{answered_in, has-room}
+use Rattle.inspect_replay.proofs.FollowLemmas.{answered-follows, follows-good, seat-stops}
 use Rattle.inspect_replay.proofs.ends.Ends.answer.Goals as goal
 
 pub returns-in-Ok-clause-steps : goal.returns-in-Ok-clause-steps
@@ -28,3 +28,11 @@ returns-in-Ok-clause-follows g c = λ state0 up0 down0 f.
     f left (c.if-not-has_room.ensures.0 refl) c.in_ok-take_message.ensures.stands c.in_ok-take_message.ensures.sent c.new-out.ensures.items
     c.deref.ensures.value c.send_down.ensures.up c.in-Ok.ensures.down in
     (after, follows-good state0 up0 down0 (g.L.Link.up c.send_down.new.link) (g.L.Link.down c.send_down.new.link) c.args.self.now.splitter.whole _ after)
+
+pub returns-then-not-has_room-clause-steps : goal.returns-then-not-has_room-clause-steps
+returns-then-not-has_room-clause-steps g c = λ up0 down0 w honest in_world.
+    (has-room up0 down0 _ _ w _ (ends_of c.args.self.now) in_world c.if-not-has_room.ensures.1, tt)
+
+pub returns-then-not-has_room-clause-follows : goal.returns-then-not-has_room-clause-follows
+returns-then-not-has_room-clause-follows g c = λ state0 up0 down0 f.
+    (tt, seat-stops state0 up0 down0 (g.L.Link.up c.args.link.now) (g.L.Link.down c.args.link.now) _ (ends_of c.args.self.now) f c.if-not-has_room.ensures.1)

@@ -1,10 +1,11 @@
 -- An ask that is sent takes the run to where the script takes it.
-use Rattle.std.proofs.Common.{◌≡◌, ◌+◌, length, arith, ap, ◌∙◌, refl, Ok}
+use Rattle.std.proofs.Common.{◌≡◌, ◌≤◌, ◌+◌, ◌*◌, length, arith, ap, ◌∙◌, refl, Ok}
 use Rattle.front_mirror.specs.Front.{after_ask}
 use Rattle.replay_script.specs.Seen.{seen_ask}
+use Rattle.inspect_world.specs.Fits.{most_sheets, most_fetches}
 use Rattle.inspect_replay.specs.Runs.{ends_of}
-use Rattle.inspect_replay.proofs.EndLemmas.{asked_in, frame-seen}
-use Rattle.inspect_replay.proofs.FollowLemmas.{asked-follows, kept-run}
+use Rattle.inspect_replay.proofs.EndLemmas.{asked_in, frame-seen, has-ids}
+use Rattle.inspect_replay.proofs.FollowLemmas.{asked-follows, kept-run, front-stops}
 use Rattle.inspect_replay.proofs.ends.Ends.ask.Goals as goal
 
 pub returns-in-Ok-clause-steps : goal.returns-in-Ok-clause-steps
@@ -40,3 +41,12 @@ returns-in-Ok-clause-follows g c = λ state0 up0 down0 run.
           c.deref.ensures.value c.in-Ok.ensures.up c.send_up.ensures.down;
       none_whole = run.none_whole;
     })
+
+pub returns-then-not-has_room-clause-steps : goal.returns-then-not-has_room-clause-steps
+returns-then-not-has_room-clause-steps g c = λ up0 down0 w few run.
+    let fetches : w.spent.fetches + (1 + 1) * most_sheets ≤ most_fetches = few.fetches in
+    (has-ids up0 down0 _ _ w _ (ends_of c.args.self.now) run.so_far.in_world (omega (arith, fetches)) c.if-not-has_room.ensures.1, tt)
+
+pub returns-then-not-has_room-clause-follows : goal.returns-then-not-has_room-clause-follows
+returns-then-not-has_room-clause-follows g c = λ state0 up0 down0 run.
+    (tt, front-stops state0 up0 down0 (g.L.Link.up c.args.link.now) (g.L.Link.down c.args.link.now) c.args.self.now run c.if-not-has_room.ensures.1)

@@ -1,9 +1,10 @@
 -- A change of the page takes the run one step of the script on.
 use Rattle.std.proofs.Common.{◌≡◌, ◌+◌, length, arith, refl, Ok}
 use Rattle.back_end.specs.Steps.{acts}
+use Rattle.inspect_world.specs.Links.{one_line_more}
 use Rattle.inspect_replay.specs.Runs.{ends_of}
-use Rattle.inspect_replay.proofs.EndLemmas.{turned_in}
-use Rattle.inspect_replay.proofs.FollowLemmas.{turned-follows, kept-run}
+use Rattle.inspect_replay.proofs.EndLemmas.{turned_in, has-room}
+use Rattle.inspect_replay.proofs.FollowLemmas.{turned-follows, kept-run, seat-stops}
 use Rattle.inspect_replay.proofs.ends.Ends.change_page.Goals as goal
 
 pub returns-in-Ok-clause-steps : goal.returns-in-Ok-clause-steps
@@ -33,3 +34,14 @@ returns-in-Ok-clause-follows g c = λ state0 up0 down0 run.
           c.deref.ensures.value c.send_down.ensures.up c.in-Ok.ensures.down;
       none_whole = run.none_whole;
     })
+
+pub returns-then-not-has_room-clause-steps : goal.returns-then-not-has_room-clause-steps
+returns-then-not-has_room-clause-steps g c = λ up0 down0 w room run.
+    (has-room up0 down0 _ _ w _ (ends_of c.args.self.now) run.so_far.in_world c.if-not-has_room.ensures.1, tt)
+
+pub returns-then-not-has_room-clause-follows : goal.returns-then-not-has_room-clause-follows
+returns-then-not-has_room-clause-follows g c = λ state0 up0 down0 run. (
+  tt,
+  seat-stops (one_line_more state0) up0 down0 (g.L.Link.up c.args.link.now) (g.L.Link.down c.args.link.now) c.args.self.now.splitter.whole (ends_of c.args.self.now)
+      run.so_far c.if-not-has_room.ensures.1,
+)

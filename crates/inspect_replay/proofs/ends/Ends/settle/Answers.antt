@@ -1,12 +1,17 @@
--- All of the up pipe is delivered, and then all of the down pipe.
-use Rattle.inspect_replay.proofs.EndLemmas.{settle_goes}
+-- All is delivered, and then the texts that are old are fetched.
+use Rattle.inspect_replay.proofs.EndLemmas.{refresh_goes}
 use Rattle.inspect_replay.proofs.ends.Ends.settle.Goals as goal
 
 pub returns-in-Ok-clause-steps : goal.returns-in-Ok-clause-steps
-returns-in-Ok-clause-steps g c = λ up0 down0 w run.
-    settle_goes c.deliver_down.result _ _ up0 down0 _ _ _ _ w c.args.self.now.up_there c.deliver_up.new.self c.deliver_down.new.self
-    run.so_far.in_world.up_left (c.in-Ok.ensures.steps up0 down0 w run).1 c.deliver_down.ensures.steps
+returns-in-Ok-clause-steps g c = λ up0 down0 w left run.
+    refresh_goes c.fetch_stale.result (g.L.Link.honest c.args.link.now) (g.L.Link.honest c.deliver_all.new.link) (g.L.Link.honest c.fetch_stale.new.link) up0 down0
+    (g.L.Link.up c.args.link.now) (g.L.Link.down c.args.link.now) (g.L.Link.up c.deliver_all.new.link) (g.L.Link.down c.deliver_all.new.link)
+    (g.L.Link.up c.fetch_stale.new.link) (g.L.Link.down c.fetch_stale.new.link) w c.args.self.now c.deliver_all.new.self c.fetch_stale.new.self
+    left run (c.in-Ok.ensures.steps up0 down0 w run).1 c.fetch_stale.ensures.steps
+
+pub returns-in-Err-clause-steps : goal.returns-in-Err-clause-steps
+returns-in-Err-clause-steps g c = λ up0 down0 w left run. ((c.in-Err.ensures.steps up0 down0 w run).0, tt)
 
 pub returns-in-Ok-clause-follows : goal.returns-in-Ok-clause-follows
 returns-in-Ok-clause-follows g c = λ state0 up0 down0 run.
-    c.deliver_down.ensures.follows state0 up0 down0 (c.in-Ok.ensures.follows state0 up0 down0 run).0
+    c.fetch_stale.ensures.follows state0 up0 down0 (c.in-Ok.ensures.follows state0 up0 down0 run).0

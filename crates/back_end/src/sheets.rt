@@ -1,0 +1,136 @@
+// The page's sheets, each under a number of its own.
+ghost use Rattle.std.specs.Prelude.{◌≡◌, ◌<◌, ◌^◌, ◌+◌, ◌++◌, ◌∷◌, [], None, false, true, OnOk, OnErr, IfOk, IfErr, IsSome, length, nat_lt};
+ghost use Rattle.sheet_reader.specs.Books.{entry_of, removed};
+ghost use Rattle.style_edits.specs.declared.faults.SheetFault.TheVariants.{NoSheet, TooBig};
+ghost use Rattle.style_edits.specs.Edits.{is_too_big, new_sheet, IfFault};
+ghost use Rattle.back_end.specs.Sheets.{as_book, numbered_sheets};
+ghost use Rattle.page_forms.specs.Sheets.{can_hold_sheets, max_sheet_bytes};
+
+use page_forms::SheetForm;
+use sheet_reader::{Origin, SheetBook};
+use std::alloc::{AllocError, Global};
+use std::marker::Model;
+use style_edits::{SheetErr, SheetFault, add_sheet, drop_sheet};
+
+/// The most sheets that a page has.
+const MOST_SHEETS: usize = 1000;
+
+/// The most bytes that the text of a sheet has.
+const MOST_BYTES: usize = 1 << 24;
+
+/// Whether a sheet may not have this text.
+fn is_too_long(text: &str) -> bool
+    ensures { result ≡ nat_lt max_sheet_bytes (length text.now) }
+{
+    text.len() > MOST_BYTES
+}
+
+/// A book of sheets whose numbers are below that of the next one.
+#[derive(Drop)]
+pub(crate) struct PageSheets {
+    book: SheetBook,
+    next: u64,
+}
+
+impl Model for PageSheets {
+    ghost use Rattle.std.specs.Prelude.{◌<◌};
+    ghost use Rattle.back_end.specs.Sheets.{NumberedBook, coded_book, AreBelow};
+
+    ghost Value = { NumberedBook };
+
+    ghost coded = { coded_book };
+
+    ghost view = { λ s. record { entries = s.book; next = s.next } };
+
+    ghost invariant = { λ s. (0 < s.next) × AreBelow s.next s.book };
+}
+
+impl PageSheets {
+    /// No sheets; the next one gets this number.
+    pub(crate) fn new(alloc: Global, next: u64) -> PageSheets
+        requires some { 0 < next }
+        ensures { result ≡ record { entries = []; next = next } }
+    {
+        PageSheets {
+            book: SheetBook::new(alloc),
+            next,
+        }
+    }
+
+    /// The sheets in their order.
+    pub(crate) fn book(&self) -> &SheetBook
+        ensures { result.now ≡ self.now.entries }
+    {
+        &self.book
+    }
+
+    /// The number of the next sheet that comes.
+    pub(crate) fn next_number(&self) -> u64
+        ensures value { result ≡ self.now.next }
+        ensures some { 0 < result }
+    {
+        self.next
+    }
+
+    /// Whether a new sheet with this text does not fit.
+    pub(crate) fn is_full_for(&self, text: &str) -> bool
+        ensures { result ≡ is_too_big text.now self.now.entries }
+    {
+        is_too_long(text) || self.book.len() >= MOST_SHEETS
+    }
+
+    /// Whether a new sheet with this text does not fit in the place of one that is there.
+    pub(crate) fn is_full_without(&self, number: u64, text: &str) -> bool
+        requires there { IsSome (entry_of number self.now.entries) }
+        ensures { result ≡ is_too_big text.now (removed number self.now.entries) }
+    {
+        let _ = number;
+        is_too_long(text) || self.book.len() > MOST_SHEETS
+    }
+
+    /// Puts a new sheet last, under the next number. On an error nothing has changed.
+    pub(crate) fn add(&mut self, origin: Origin, text: &str) -> Result<(), SheetErr>
+        requires room { self.old.next < 2 ^ 52 }
+        ensures last { OnOk result (self.new
+            ≡ record { entries = self.old.entries ++ new_sheet self.old.next origin text.now ∷ []; next = self.old.next + 1 }) }
+        ensures fits { OnOk result (is_too_big text.now self.old.entries ≡ false) }
+        ensures fault { IfFault result (λ f. (f ≡ TooBig) × (is_too_big text.now self.old.entries ≡ true)) }
+        ensures unchanged { OnErr result (self.new ≡ self.old) }
+    {
+        add_sheet(&mut self.book, self.next, origin, text)?;
+        self.next += 1;
+        Ok(())
+    }
+
+    /// Takes a sheet out; the others keep their order.
+    pub(crate) fn remove(&mut self, number: u64) -> Result<(), SheetFault>
+        ensures others { self.new ≡ record { entries = removed number self.old.entries; next = self.old.next } }
+        ensures there { OnOk result (IsSome (entry_of number self.old.entries)) }
+        ensures fault { IfErr result (λ f. (f ≡ NoSheet) × (entry_of number self.old.entries ≡ None)) }
+    {
+        drop_sheet(&mut self.book, number)
+    }
+
+    /// The sheets of a page that is loaded, with the numbers from this one on.
+    pub(crate) fn loaded(
+        alloc: Global,
+        next: u64,
+        forms: &[SheetForm],
+    ) -> Result<PageSheets, AllocError>
+        requires some { 0 < next }
+        requires room { next < 2 ^ 51 }
+        requires can { can_hold_sheets forms.now ≡ true }
+        ensures { IfOk result (λ s. s ≡ record { entries = as_book (numbered_sheets next forms.now); next = next + length forms.now }) }
+    {
+        let mut sheets = PageSheets::new(alloc, next);
+        for i in 0..forms.len() {
+            let form = &forms[i];
+            match sheets.add(form.origin, form.text.as_str()) {
+                Ok(()) => {}
+                Err(SheetErr::Fault(_)) => unreachable!(),
+                Err(SheetErr::Memory) => return Err(AllocError),
+            }
+        }
+        Ok(sheets)
+    }
+}

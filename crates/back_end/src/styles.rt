@@ -1,0 +1,153 @@
+// The commands of the domain CSS.
+ghost use Rattle.std.specs.Prelude.{◌≡◌, ◌++◌, IfOk, IsSome, OnOk};
+ghost use Rattle.std.specs.FinMap as map;
+ghost use Rattle.node_tree.specs.Nodes.{alone};
+ghost use Rattle.node_tree.specs.Labels.{is_element};
+ghost use Rattle.page_tree.specs.Pages.{find_in};
+ghost use Rattle.cdp_messages.specs.Moves.{frames_of_moves};
+ghost use Rattle.css_agent.specs.declared.asks.CssAsk.TheVariants.{GetMatchedStyles};
+ghost use Rattle.dom_agent.specs.Keepers.{binding_keeper};
+ghost use Rattle.dom_agent.specs.Requests.{known_node};
+ghost use Rattle.back_end.specs.States.{State};
+ghost use Rattle.back_end.specs.Servers as server;
+ghost use Rattle.back_end.specs.Steps.{command_step, css_step, element_serial};
+ghost use Rattle.back_end.specs.Seats.{DeskStandsFor};
+
+use crate::desk::Desk;
+use crate::side::PageSide;
+use cdp_messages::{ReplyBody, Why, write_reply};
+use css_agent::CssAsk;
+use node_binding::find_in;
+use page_tree::{Kind, Page};
+use std::alloc::AllocError;
+
+fn is_element(kind: Kind) -> bool
+    ensures { result ≡ is_element kind }
+{
+    match kind {
+        Kind::Element => true,
+        Kind::Document | Kind::Text | Kind::Comment | Kind::Doctype => false,
+    }
+}
+
+impl Desk {
+    /// `CSS.enable`: each sheet comes, where CSS was off.
+    pub(crate) fn enable_css(
+        &mut self,
+        side: &mut PageSide,
+        id: u64,
+        out: &mut Vec<u8>,
+    ) -> Result<(), AllocError>
+        ensures stands { (state : State) → DeskStandsFor self.old side.old state
+            → OnOk result (DeskStandsFor self.new side.new (command_step id server.css_enables state).state) }
+        ensures sent { (state : State) → DeskStandsFor self.old side.old state
+            → OnOk result (out.new.items ≡ out.old.items ++ frames_of_moves (command_step id server.css_enables state).moves) }
+    {
+        if !self.is_on {
+            return self.refuse(id, Why::DomOff, out);
+        }
+        self.css.switch(true, side.book(), out)?;
+        write_reply(self.alloc, id, &ReplyBody::Nothing, out)
+    }
+
+    /// `CSS.disable`, which is refused while CSS is off.
+    pub(crate) fn disable_css(
+        &mut self,
+        side: &mut PageSide,
+        id: u64,
+        out: &mut Vec<u8>,
+    ) -> Result<(), AllocError>
+        ensures stands { (state : State) → DeskStandsFor self.old side.old state
+            → OnOk result (DeskStandsFor self.new side.new (command_step id server.css_disables state).state) }
+        ensures sent { (state : State) → DeskStandsFor self.old side.old state
+            → OnOk result (out.new.items ≡ out.old.items ++ frames_of_moves (command_step id server.css_disables state).moves) }
+    {
+        if !self.is_on {
+            return self.refuse(id, Why::DomOff, out);
+        }
+        if !self.css.is_on() {
+            return self.refuse(id, Why::CssOff, out);
+        }
+        write_reply(self.alloc, id, &ReplyBody::Nothing, out)?;
+        self.css.switch(false, side.book(), out)
+    }
+
+    /// The serial of the known node that has the id, where it is an element.
+    fn element_named(&self, page: &Page, node: u64) -> Result<u64, Why>
+        ensures value { result ≡ element_serial
+            (known_node (binding_keeper (alone page.now.tree)) page.now.tree self.now.agent (map.get self.now.agent.serials node)) }
+        ensures there { IfOk result (λ serial. IsSome (find_in serial page.now.tree)) }
+    {
+        let Some(serial) = self.agent.serial_of(node) else {
+            return Err(Why::UnknownNode);
+        };
+        let Some(found) = find_in(page, serial) else {
+            return Err(Why::UnknownNode);
+        };
+        if !is_element(found.kind()) {
+            return Err(Why::NotElement);
+        }
+        Ok(serial)
+    }
+
+    /// `CSS.getMatchedStylesForNode`, while CSS is on.
+    fn answer_matched(
+        &self,
+        side: &PageSide,
+        id: u64,
+        node: u64,
+        out: &mut Vec<u8>,
+    ) -> Result<(), AllocError>
+        ensures { (state : State) → DeskStandsFor self.now side.now state
+            → OnOk result (out.new.items ≡ out.old.items ++ frames_of_moves (css_step id (GetMatchedStyles node) state).moves) }
+    {
+        let ask = CssAsk::GetMatchedStyles { node };
+        match self.element_named(side.page(), node) {
+            Ok(serial) => self
+                .css
+                .ask(side.page(), side.book(), serial, id, &ask, out),
+            Err(why) => self.refuse(id, why, out),
+        }
+    }
+
+    /// What the CSS agent is asked, while CSS is on.
+    fn ask_styles(
+        &self,
+        side: &PageSide,
+        id: u64,
+        ask: &CssAsk,
+        out: &mut Vec<u8>,
+    ) -> Result<(), AllocError>
+        ensures { (state : State) → DeskStandsFor self.now side.now state
+            → OnOk result (out.new.items ≡ out.old.items ++ frames_of_moves (css_step id ask.now state).moves) }
+    {
+        match ask {
+            CssAsk::GetMatchedStyles { node } => self.answer_matched(side, id, *node, out),
+            CssAsk::GetStyleSheetText { .. } | CssAsk::CollectClassNames { .. } => {
+                self.css.ask(side.page(), side.book(), 0, id, ask, out)
+            }
+        }
+    }
+
+    /// What the CSS agent is asked, which is refused while CSS is off.
+    pub(crate) fn answer_styles(
+        &mut self,
+        side: &mut PageSide,
+        id: u64,
+        ask: &CssAsk,
+        out: &mut Vec<u8>,
+    ) -> Result<(), AllocError>
+        ensures stands { (state : State) → DeskStandsFor self.old side.old state
+            → OnOk result (DeskStandsFor self.new side.new (command_step id (server.css_agent ask.now) state).state) }
+        ensures sent { (state : State) → DeskStandsFor self.old side.old state
+            → OnOk result (out.new.items ≡ out.old.items ++ frames_of_moves (command_step id (server.css_agent ask.now) state).moves) }
+    {
+        if !self.is_on {
+            return self.refuse(id, Why::DomOff, out);
+        }
+        if !self.css.is_on() {
+            return self.refuse(id, Why::CssOff, out);
+        }
+        self.ask_styles(side, id, ask, out)
+    }
+}

@@ -1,0 +1,430 @@
+// A document out of the tokens that are written for one, in one pass. Any other text is left to `serde_json`.
+ghost use Rattle.std.specs.Prelude.{◌≡◌, ◌≤◌, [], ◌++◌, ◌∷◌, ◌&&◌, codes, decimal, None, Some, option_map, true, IfOk, IfSome, OnOk};
+ghost use Rattle.json.specs.Token.{begin_object, end_object, begin_array, key, number as number_token, string as string_token};
+ghost use Rattle.serde_json.specs.Data.{array};
+ghost use Rattle.cdp_json.specs.Kinds.{whole, text as text_kind, is_counted, holds_of_some};
+ghost use Rattle.node_tree.specs.Nodes.{nodes_of, alone, height, width};
+ghost use Rattle.cdp_messages.specs.Told.{shown_children};
+ghost use Rattle.cdp_messages.specs.NodeObject.{attribute_list, node_type, node_fields};
+ghost use Rattle.cdp_messages.specs.NodeData.{tree_data, tree_items, fits_tree, fits_nodes};
+ghost use Rattle.cdp_messages.specs.declared.down.ReplyBody.TheVariants.{Root};
+ghost use Rattle.cdp_messages.specs.Replies.{reply, message_data, body_data, down_of};
+ghost use Rattle.cdp_messages.specs.Tokens.{data_tokens, field_tokens};
+ghost use Rattle.cdp_messages.specs.Raw.{object_over, object_behind, behind_tokens, next_name, items_shown};
+
+use crate::down::DownErr;
+use crate::node_read::{NodeParts, kind_of_type};
+use crate::node_rules::Manner;
+use crate::tree::NodeTree;
+use json::{Reader, Scratch, Token};
+use node_tree::{Attributes, Kind, Text};
+use std::alloc::{AllocError, Global};
+
+// The deepest that nodes may stand: JSON that nests deeper is not read.
+const LEVELS: u64 = 61;
+
+fn take_begin_object(reader: &mut Reader<'_>) -> Result<(), DownErr>
+    ensures { OnOk result (reader.old ≡ begin_object ∷ reader.new) }
+{
+    match reader.next() {
+        Some(Token::BeginObject) => Ok(()),
+        _ => Err(DownErr::NotMessage),
+    }
+}
+
+fn take_end_object(reader: &mut Reader<'_>) -> Result<(), DownErr>
+    ensures { OnOk result (reader.old ≡ end_object ∷ reader.new) }
+{
+    match reader.next() {
+        Some(Token::EndObject) => Ok(()),
+        _ => Err(DownErr::NotMessage),
+    }
+}
+
+// That nothing is left.
+fn take_end(reader: &mut Reader<'_>) -> Result<(), DownErr>
+    ensures { OnOk result (reader.old ≡ []) }
+{
+    match reader.next() {
+        None => Ok(()),
+        Some(_) => Err(DownErr::NotMessage),
+    }
+}
+
+fn take_begin_array(reader: &mut Reader<'_>) -> Result<(), DownErr>
+    ensures { OnOk result (reader.old ≡ begin_array ∷ reader.new) }
+{
+    match reader.next() {
+        Some(Token::BeginArray) => Ok(()),
+        _ => Err(DownErr::NotMessage),
+    }
+}
+
+fn any_key<'a>(reader: &mut Reader<'a>) -> Result<&'a str, DownErr>
+    ensures { IfOk result (λ name. reader.old ≡ key name.now ∷ reader.new) }
+{
+    match reader.next() {
+        Some(Token::Key(name)) => Ok(name),
+        _ => Err(DownErr::NotMessage),
+    }
+}
+
+fn take_key(reader: &mut Reader<'_>, name: &str) -> Result<(), DownErr>
+    ensures { OnOk result (reader.old ≡ key name.now ∷ reader.new) }
+{
+    let found = any_key(reader)?;
+    if found == name {
+        Ok(())
+    } else {
+        Err(DownErr::NotMessage)
+    }
+}
+
+fn take_text<'a>(reader: &mut Reader<'a>) -> Result<&'a str, DownErr>
+    ensures { IfOk result (λ text. reader.old ≡ string_token text.now ∷ reader.new) }
+{
+    match reader.next() {
+        Some(Token::String(text)) => Ok(text),
+        _ => Err(DownErr::NotMessage),
+    }
+}
+
+// A number that is spelled as it is written.
+fn spelled(text: &str) -> Option<u64>
+    ensures { IfSome result (λ n. text.now ≡ decimal n) }
+{
+    let number = text.parse::<u64>().ok()?;
+    let mut buffer = itoa::Buffer::new();
+    if buffer.format(number) == text {
+        Some(number)
+    } else {
+        None
+    }
+}
+
+fn take_whole(reader: &mut Reader<'_>) -> Result<u64, DownErr>
+    ensures { IfOk result (λ n. reader.old ≡ number_token (decimal n) ∷ reader.new) }
+{
+    match reader.next() {
+        Some(Token::Number(text)) => spelled(text).ok_or(DownErr::NotMessage),
+        _ => Err(DownErr::NotMessage),
+    }
+}
+
+fn whole_field(reader: &mut Reader<'_>, name: &str) -> Result<u64, DownErr>
+    ensures { IfOk result (λ n. reader.old ≡ field_tokens name.now (Some (whole.spell n)) ++ reader.new) }
+{
+    take_key(reader, name)?;
+    take_whole(reader)
+}
+
+fn take_attributes(alloc: Global, reader: &mut Reader<'_>) -> Result<Attributes, DownErr>
+    ensures { IfOk result (λ pairs. reader.old ≡ data_tokens (attribute_list.spell pairs) ++ reader.new) }
+{
+    take_begin_array(reader)?;
+    let mut pairs = Attributes::new(alloc);
+    'pairs: while !reader.take_end_array() {
+        let name = take_text(reader)?;
+        let value = take_text(reader)?;
+        pairs.push(Text::copied(alloc, name)?, Text::copied(alloc, value)?)?;
+    }
+    Ok(pairs)
+}
+
+// The attributes, if any, and the name of the field behind them.
+fn attributes_ahead(alloc: Global, reader: &mut Reader<'_>) -> Result<Option<Attributes>, DownErr>
+    ensures { IfOk result (λ pairs. reader.old ≡ field_tokens (codes "attributes")
+        (option_map attribute_list.spell pairs) ++ (key (codes "backendNodeId") ∷ reader.new)) }
+{
+    let name = any_key(reader)?;
+    if name == "attributes" {
+        let pairs = take_attributes(alloc, reader)?;
+        take_key(reader, "backendNodeId")?;
+        Ok(Some(pairs))
+    } else if name == "backendNodeId" {
+        Ok(None)
+    } else {
+        Err(DownErr::NotMessage)
+    }
+}
+
+// Whether the field of that name shows children. Else it is the one behind them.
+fn shows_children(name: &str) -> Result<bool, DownErr>
+    ensures { IfOk result (λ shown. name.now ≡ next_name shown) }
+{
+    match name {
+        "children" => Ok(true),
+        "localName" => Ok(false),
+        _ => Err(DownErr::NotMessage),
+    }
+}
+
+// The number of children, if any, and whether the field behind it shows them.
+fn count_ahead(reader: &mut Reader<'_>) -> Result<(Option<u64>, bool), DownErr>
+    ensures { IfOk result (λ p. reader.old ≡ field_tokens (codes "childNodeCount")
+        (option_map whole.spell p.0) ++ (key (next_name p.1) ∷ reader.new)) }
+{
+    let name = any_key(reader)?;
+    if name == "childNodeCount" {
+        let count = take_whole(reader)?;
+        let shown = shows_children(any_key(reader)?)?;
+        Ok((Some(count), shown))
+    } else {
+        let shown = shows_children(name)?;
+        Ok((None, shown))
+    }
+}
+
+// The id of the parent, under that name, and the end of the object.
+fn parent_under(reader: &mut Reader<'_>, name: &str) -> Result<u64, DownErr>
+    ensures { IfOk result (λ parent. key name.now ∷ reader.old ≡ field_tokens (codes "parentId")
+        (Some (whole.spell parent)) ++ (end_object ∷ reader.new)) }
+{
+    if name != "parentId" {
+        return Err(DownErr::NotMessage);
+    }
+    let parent = take_whole(reader)?;
+    take_end_object(reader)?;
+    Ok(parent)
+}
+
+// The id of the parent, if any, and the end of the object.
+fn parent_ahead(reader: &mut Reader<'_>) -> Result<Option<u64>, DownErr>
+    ensures { IfOk result (λ parent. reader.old ≡ field_tokens (codes "parentId")
+        (option_map whole.spell parent) ++ (end_object ∷ reader.new)) }
+{
+    match reader.next() {
+        Some(Token::Key(name)) => {
+            let parent = parent_under(reader, name)?;
+            Ok(Some(parent))
+        }
+        Some(Token::EndObject) => Ok(None),
+        _ => Err(DownErr::NotMessage),
+    }
+}
+
+// What stands in a node's object behind the name of `localName`.
+#[derive(Clone, Copy)]
+struct Behind<'a> {
+    local_name: &'a str,
+    id: u64,
+    name: &'a str,
+    kind: Kind,
+    value: &'a str,
+    parent: Option<u64>,
+}
+
+fn kind_field(reader: &mut Reader<'_>) -> Result<Kind, DownErr>
+    ensures { IfOk result (λ kind. reader.old ≡ field_tokens (codes "nodeType") (Some (node_type.spell kind)) ++ reader.new) }
+{
+    let number = whole_field(reader, "nodeType")?;
+    kind_of_type(number).ok_or(DownErr::NotMessage)
+}
+
+fn text_field<'a>(reader: &mut Reader<'a>, name: &str) -> Result<&'a str, DownErr>
+    ensures { IfOk result (λ t. reader.old ≡ field_tokens name.now (Some (text_kind.spell t.now)) ++ reader.new) }
+{
+    take_key(reader, name)?;
+    take_text(reader)
+}
+
+fn take_behind<'a>(reader: &mut Reader<'a>) -> Result<Behind<'a>, DownErr>
+    ensures { IfOk result (λ b. key (codes "localName") ∷ reader.old ≡ behind_tokens b ++ reader.new) }
+{
+    let local_name = take_text(reader)?;
+    let id = whole_field(reader, "nodeId")?;
+    let name = text_field(reader, "nodeName")?;
+    let kind = kind_field(reader)?;
+    let value = text_field(reader, "nodeValue")?;
+    let parent = parent_ahead(reader)?;
+    Ok(Behind {
+        local_name,
+        id,
+        name,
+        kind,
+        value,
+        parent,
+    })
+}
+
+// The fields of a node, but for its children.
+fn parts_of<'a>(
+    attributes: Option<Attributes>,
+    serial: u64,
+    count: Option<u64>,
+    behind: &Behind<'a>,
+) -> NodeParts<'a>
+    ensures { object_over result None ≡ object_behind attributes serial count behind.now }
+{
+    NodeParts {
+        attributes,
+        serial,
+        count,
+        local_name: behind.local_name,
+        id: behind.id,
+        name: behind.name,
+        kind: behind.kind,
+        value: behind.value,
+        parent: behind.parent,
+    }
+}
+
+fn count_of(children: &Option<Vec<NodeTree>>) -> Option<u64>
+    ensures { result ≡ option_map (λ trees. width (nodes_of trees.items)) children.now }
+{
+    match children {
+        Some(trees) => Some(trees.len() as u64),
+        None => None,
+    }
+}
+
+fn is_counted(number: u64) -> bool
+    ensures { result ≡ is_counted number }
+{
+    number < 1 << 53
+}
+
+fn is_counted_where_there(number: Option<u64>) -> bool
+    ensures { result ≡ holds_of_some is_counted number }
+{
+    match number {
+        Some(number) => is_counted(number),
+        None => true,
+    }
+}
+
+// Each number is below 2^53.
+fn are_counted(parts: &NodeParts<'_>) -> bool
+    ensures { result ≡ (is_counted parts.now.serial && is_counted parts.now.id
+        && holds_of_some is_counted parts.now.count && holds_of_some is_counted parts.now.parent) }
+{
+    is_counted(parts.serial)
+        && is_counted(parts.id)
+        && is_counted_where_there(parts.count)
+        && is_counted_where_there(parts.parent)
+}
+
+// The node with these fields and these children, where it is one that is told.
+fn node_with(
+    alloc: Global,
+    parts: NodeParts<'_>,
+    children: Option<Vec<NodeTree>>,
+    top: bool,
+) -> Result<NodeTree, DownErr>
+    requires { fits_nodes (shown_children children) ≡ true }
+    ensures written { IfOk result (λ tree. tree_data tree
+        ≡ node_fields.spell (object_over parts.entry (items_shown children))) }
+    ensures fits { IfOk result (λ tree. fits_tree top tree ≡ true) }
+    ensures children { IfOk result (λ tree. tree.children ≡ shown_children children) }
+{
+    if !are_counted(&parts) {
+        return Err(DownErr::NotMessage);
+    }
+    let told = parts.tells(alloc, Manner::Pushed, top, count_of(&children))?;
+    if !told {
+        return Err(DownErr::NotMessage);
+    }
+    let tree = parts.finished(alloc, children)?;
+    Ok(tree)
+}
+
+// A node with at most so many levels, at the top or below it.
+#[cycle(scan_node)]
+fn scan_node(
+    alloc: Global,
+    reader: &mut Reader<'_>,
+    levels: u64,
+    top: bool,
+) -> Result<NodeTree, DownErr>
+    ensures read { IfOk result (λ tree. reader.old ≡ data_tokens (tree_data tree) ++ reader.new) }
+    ensures fits { IfOk result (λ tree. fits_tree top tree ≡ true) }
+    ensures shallow { IfOk result (λ tree. height (alone tree) ≤ levels) }
+{
+    if levels == 0 {
+        return Err(DownErr::NotMessage);
+    }
+    take_begin_object(reader)?;
+    let attributes = attributes_ahead(alloc, reader)?;
+    let serial = take_whole(reader)?;
+    let ahead = count_ahead(reader)?;
+    let children = children_ahead(alloc, reader, levels - 1, ahead.1)?;
+    let behind = take_behind(reader)?;
+    let parts = parts_of(attributes, serial, ahead.0, &behind);
+    let tree = node_with(alloc, parts, children, top)?;
+    Ok(tree)
+}
+
+// The children, if they are shown, and the name of the field behind them.
+#[cycle(scan_node)]
+fn children_ahead(
+    alloc: Global,
+    reader: &mut Reader<'_>,
+    levels: u64,
+    shown: bool,
+) -> Result<Option<Vec<NodeTree>>, DownErr>
+    ensures read { IfOk result (λ children. key (next_name shown) ∷ reader.old
+        ≡ field_tokens (codes "children") (option_map array (items_shown children))
+        ++ (key (codes "localName") ∷ reader.new)) }
+    ensures fits { IfOk result (λ children. fits_nodes (shown_children children) ≡ true) }
+    ensures shallow { IfOk result (λ children. height (shown_children children) ≤ levels) }
+{
+    if shown {
+        let trees = scan_nodes(alloc, reader, levels)?;
+        take_key(reader, "localName")?;
+        Ok(Some(trees))
+    } else {
+        Ok(None)
+    }
+}
+
+// Nodes below the top, each with at most so many levels.
+#[cycle(scan_node)]
+fn scan_nodes(alloc: Global, reader: &mut Reader<'_>, levels: u64) -> Result<Vec<NodeTree>, DownErr>
+    ensures read { IfOk result (λ trees. reader.old
+        ≡ data_tokens (array (tree_items (nodes_of trees.items))) ++ reader.new) }
+    ensures fits { IfOk result (λ trees. fits_nodes (nodes_of trees.items) ≡ true) }
+    ensures shallow { IfOk result (λ trees. height (nodes_of trees.items) ≤ levels) }
+{
+    take_begin_array(reader)?;
+    let mut trees = Vec::new(alloc);
+    'trees: while !reader.take_end_array() {
+        let tree = scan_node(alloc, reader, levels, false)?;
+        trees.push(tree)?;
+    }
+    Ok(trees)
+}
+
+// A reply with a document, and nothing behind it.
+fn scan_reply(alloc: Global, reader: &mut Reader<'_>) -> Result<(u64, NodeTree), DownErr>
+    ensures read { IfOk result (λ p. reader.old ≡ data_tokens (message_data (reply p.0 (body_data (Root p.1))))) }
+    ensures counted { IfOk result (λ p. is_counted p.0 ≡ true) }
+    ensures fits { IfOk result (λ p. fits_tree true p.1 ≡ true) }
+    ensures shallow { IfOk result (λ p. height (alone p.1) ≤ 61) }
+{
+    take_begin_object(reader)?;
+    let id = whole_field(reader, "id")?;
+    if !is_counted(id) {
+        return Err(DownErr::NotMessage);
+    }
+    take_key(reader, "result")?;
+    take_begin_object(reader)?;
+    take_key(reader, "root")?;
+    let tree = scan_node(alloc, reader, LEVELS, true)?;
+    take_end_object(reader)?;
+    take_end_object(reader)?;
+    take_end(reader)?;
+    Ok((id, tree))
+}
+
+/// Reads a reply with a document, where the text has the tokens that `write_reply` writes for it: the fields in the order of
+/// their names, the numbers spelled as they are written. Any other text, which may be a message all the same, is answered by
+/// an error.
+pub fn read_root(alloc: Global, text: &str) -> Result<(u64, NodeTree), DownErr>
+    ensures told { IfOk result (λ p. down_of text.now ≡ Some (reply p.0 (body_data (Root p.1)))) }
+    ensures fits { IfOk result (λ p. fits_tree true p.1 ≡ true) }
+{
+    let mut scratch = Scratch::new(alloc);
+    let mut reader = Reader::new(text, &mut scratch)?;
+    let found = scan_reply(alloc, &mut reader)?;
+    Ok(found)
+}

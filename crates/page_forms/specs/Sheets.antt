@@ -1,0 +1,59 @@
+-- The style sheets of a page, as JSON spells them, and which of them a page may hold.
+use Rattle.std.specs.Prelude.{ℕ, ◌^◌, List, [], ◌∷◌, length, codes, Bool, ◌&&◌, nat_le, Option, Some, ⊤}
+use Rattle.std.specs.List.{list_all}
+use Rattle.cdp_json.specs.Kinds.{Kind, text, choice, through, list_of}
+use Rattle.cdp_json.specs.Rows.{Row, ends, and_need, object_of}
+use Rattle.sheet_reader.specs.declared.book.Origin.{Origin}
+use Rattle.sheet_reader.specs.declared.book.Origin.TheVariants.{UserAgent, Regular}
+use Rattle.page_forms.specs.declared.sheets.SheetForm.{SheetForm}
+
+-- the word for whose sheet it is
+abbrev pub origin_word : Origin → List ℕ
+origin_word UserAgent = codes "user-agent"
+origin_word Regular = codes "regular"
+
+-- whose sheets there are
+abbrev pub all_origins : List Origin
+all_origins = UserAgent ∷ Regular ∷ []
+
+-- ORIGIN: `user-agent` or `regular`
+abbrev pub origin_form : Kind Origin
+origin_form = choice origin_word all_origins
+
+-- `{"origin":ORIGIN,"text":TEXT}`, with nothing else
+abbrev pub sheet_row : Row (Origin × (List ℕ × ⊤))
+sheet_row = and_need (codes "origin") origin_form (and_need (codes "text") text ends)
+
+-- a sheet as its fields
+abbrev pub sheet_fields : SheetForm → Origin × (List ℕ × ⊤)
+sheet_fields sheet = (sheet.origin, (sheet.text, tt))
+
+-- the sheet of these fields
+abbrev pub sheet_from : Origin × (List ℕ × ⊤) → Option SheetForm
+sheet_from f = Some (record { origin = f.0; text = f.1.0 })
+
+-- SHEET
+abbrev pub sheet_form : Kind SheetForm
+sheet_form = through (object_of sheet_row) sheet_fields sheet_from
+
+-- the sheets that a list spells
+abbrev pub sheet_list : Kind (List SheetForm)
+sheet_list = list_of sheet_form
+
+-- ---- limits
+
+-- the most sheets of a page
+abbrev pub max_sheets : ℕ
+max_sheets = 1000
+
+-- the most bytes of a sheet's text
+abbrev pub max_sheet_bytes : ℕ
+max_sheet_bytes = 2 ^ 24
+
+-- the text of the sheet is no longer than a sheet's may be
+abbrev pub is_short : SheetForm → Bool
+is_short sheet = nat_le (length sheet.text) max_sheet_bytes
+
+-- a page may hold these sheets
+abbrev pub can_hold_sheets : List SheetForm → Bool
+can_hold_sheets sheets = nat_le (length sheets) max_sheets && list_all is_short sheets
