@@ -4,15 +4,17 @@ use Rattle.std.specs.List.{flat_map}
 use Rattle.serde_json.specs.Data.{Data}
 use Rattle.cdp_json.specs.Kinds.{is_counted, holds_of_some}
 use Rattle.cdp_json.specs.Plain.{HasUtf8}
-use Rattle.node_tree.specs.Nodes.{none, node_count}
-use Rattle.node_binding.specs.Sessions.{Session, IsSession, reset}
+use Rattle.node_tree.specs.Nodes.{none, node_count, alone}
+use Rattle.page_tree.specs.Pages.{State as PageValue, IsValid}
+use Rattle.node_binding.specs.Sessions.{Session, IsSession, is_open, reset}
 use Rattle.node_binding.proofs.StartLemmas.{count-alone}
 use Rattle.cdp_messages.specs.declared.command.Command.{Command}
 use Rattle.cdp_messages.specs.declared.command.Command.TheVariants.{DomEnable, DomDisable, GetDocument, RequestChildNodes, PushByPath, PushBySerials, QuerySelector, QuerySelectorAll, GetAttributes, DescribeNode, SetAttributeValue, RemoveAttribute, SetNodeValue, RemoveNode, MoveTo, CopyTo, MarkUndoableState, Undo, Redo, CssEnable, CssDisable, GetMatchedStyles, GetStyleSheetText, CollectClassNames, SetStyleTexts, SetRuleSelector, SetStyleSheetText, AddRule, SetBreakpoint, RemoveBreakpoint, ReplayLoad, ReplayAct}
 use Rattle.cdp_messages.specs.declared.command.Asked.{Asked}
 use Rattle.cdp_messages.specs.declared.command.Refused.{Refused}
 use Rattle.cdp_messages.specs.declared.command.Why.{Why}
-use Rattle.cdp_messages.specs.declared.command.Why.TheVariants.{DomOff, CssOff, NoMethod}
+use Rattle.cdp_messages.specs.declared.command.Why.TheVariants.{DomOff, CssOff, NoMethod, UnknownNode}
+use Rattle.cdp_messages.specs.declared.command.WatchWord.{WatchWord}
 use Rattle.cdp_messages.specs.declared.dom_ask.DomAsk.{DomAsk}
 use Rattle.cdp_messages.specs.declared.dom_ask.DomAsk.TheVariants as ask
 use Rattle.cdp_messages.specs.declared.down.ReplyBody.TheVariants.{Nothing}
@@ -23,16 +25,24 @@ use Rattle.cdp_messages.specs.Moves.{replied, all_off, failed, CanBeTold, Course
 use Rattle.cdp_messages.proofs.DomAskLaws.{dom_asks_are_commands}
 use Rattle.css_agent.specs.declared.asks.CssAsk.{CssAsk}
 use Rattle.css_agent.specs.declared.asks.CssAsk.TheVariants as css
+use Rattle.css_agent.specs.declared.edits.CssEdit.{CssEdit}
+use Rattle.css_agent.specs.declared.edits.CssEdit.TheVariants as style
+use Rattle.css_agent.specs.EditLaws.{HasEditTexts, css_edit_name}
 use Rattle.dom_agent.specs.Laws.{session_outcome, CanTell, view_of as seen_by}
 use Rattle.dom_agent.specs.Keepers.{session_keeper}
 use Rattle.dom_agent.specs.Requests.{Outcome, shows_root, served, refused, named_node, state_after, moves_of}
 use Rattle.dom_agent.proofs.RepliedLemmas.{description-keeps}
-use Rattle.dom_agent.proofs.OutcomeLemmas.{stays_session, draws_few}
+use Rattle.dom_agent.proofs.OutcomeLemmas.{OutcomeGoes, either_ask, root-opened, asks-go, stays_session, draws_few}
 use Rattle.dom_agent.proofs.MoveLemmas.{steps_are_moves, replies_answer}
+use Rattle.dom_breakpoints.specs.Watched.{Watched, with_watch, without_watch}
+use Rattle.back_end.specs.declared.dom_edits.DomEdit.{DomEdit}
+use Rattle.back_end.specs.declared.dom_edits.DomEdit.TheVariants as tree
+use Rattle.back_end.specs.Texts.{HasTreeTexts}
+use Rattle.back_end.proofs.TreeSteps.{AsksFor, tree-edit-answered}
 use Rattle.back_end.specs.States.{State, nodes_in, book_in, sheets_shown, view_of, IsState}
 use Rattle.back_end.specs.OwnMethods.{load_asked, act_asked}
-use Rattle.back_end.specs.Steps.{Step, with_client, refusing, client_reset, moves_come, Turn, acts, loads, turn_step, ask_needs_on, needs_on, needs_css, turns_on, client_served, agent_step, css_step, own_step, server_step, command_step, asked_step, frame_step}
-use Rattle.back_end.specs.Servers.{Server, enables, disables, css_enables, css_disables, agent, css_agent, page_load, page_act, nobody, by_agent, server_of, HasOwnTexts}
+use Rattle.back_end.specs.Steps.{Step, with_client, refusing, client_reset, moves_come, Turn, acts, loads, turn_step, ask_needs_on, needs_on, needs_css, turns_on, client_served, agent_step, css_step, serial_now, watch_kind, watch_step, own_step, sheet_edit_step, server_step, command_step, asked_step, frame_step}
+use Rattle.back_end.specs.Servers.{Server, enables, disables, css_enables, css_disables, agent, css_agent, edits_tree, edits_sheets, watches, unwatches, page_load, page_act, nobody, by_agent, server_of, HasServedTexts}
 use Rattle.back_end.specs.Laws.{reply_ids, MayAnswer, HasRoom, StepsWell, MayAnswerAll, text_asked, TellTextOf, IsAnswered, IsTurn}
 use Rattle.back_end.proofs.AskedLemmas.{AskedFits, frame-fits}
 use Rattle.back_end.proofs.OwnTexts.{AskedTexts, frame-texts}
@@ -41,6 +51,9 @@ use Rattle.back_end.proofs.TurnAnswers.{AreEvents, events-answer, events-may, ev
 use Rattle.back_end.proofs.AnswerLemmas.{flat-append, outcome-answers, outcome-may, outcome-text}
 use Rattle.back_end.proofs.CssAnswers.{css_command, css-well, css-once, css-may, css-text}
 use Rattle.back_end.proofs.SheetSteps.{css-on-well, css-off-well}
+use Rattle.back_end.proofs.SpliceSteps.{sheet-edit-well, sheet-edit-once, sheet-edit-may, sheet-edit-text}
+use Rattle.back_end.proofs.PushSteps.{session-is}
+use Rattle.back_end.proofs.WatchSteps.{AddsOne, with-adds, without-adds, watch-well}
 use Rattle.back_end.proofs.StepLemmas.{reset-is}
 use Rattle.back_end.proofs.WellSteps.{HasNumbers, room-numbers, can-tell, can-sheets, told-view, stays-with, few-steps, more}
 
@@ -80,35 +93,66 @@ was-off : (on turns : Bool) → (on || turns) ≡ false → on ≡ false
 was-off true turns h = absurd cc
 was-off false turns h = refl
 
+-- where nothing is known after an ask, nothing was
+goes-unknown : (page : PageValue) (valid : IsValid page) (c : DomAsk) (w : Session) (o : Outcome Session) → IsSession (alone page.tree) w → OutcomeGoes page c w o
+    → (state_after w o).opened ≡ None → w.opened ≡ None
+goes-unknown page valid c w (shows_root z b) session g h = absurd g
+goes-unknown page valid c w (refused why) session g h = h
+goes-unknown page valid c w (served p body) session g h = at w.opened refl where
+  at : (o : Option (ℕ → Bool)) → w.opened ≡ o → w.opened ≡ None
+  at None is = is
+  at (Some o) is =
+      let root : o page.tree.row.serial ≡ true = root-opened page valid o w.pushed w.since (subst (λ (z : Session). IsSession (alone page.tree) z) (sym (session-is w (o, is))) session) in
+      let still : is_open p.state.opened page.tree.row.serial ≡ true = g.0.grows page.tree.row.serial (ap (λ z. is_open z page.tree.row.serial) is ∙ root) in
+      let no : false ≡ true = sym (ap (λ z. is_open z page.tree.row.serial) h) ∙ still in
+      absurd cc
+
+pub unknown-before : (page : PageValue) (ask : DomAsk) (w : Session) → IsValid page → IsSession (alone page.tree) w → (state_after w (session_outcome page ask w)).opened ≡ None → w.opened ≡ None
+unknown-before page ask w valid session =
+    either_ask (λ c. (state_after w (session_outcome page c w)).opened ≡ None → w.opened ≡ None)
+    (λ depth pierce h. shown-not _ h)
+    (λ c other h. goes-unknown page valid c w (session_outcome page c w) session (asks-go page valid c other w session) h)
+    ask
+  where
+    shown-not : {A : Type 0} (o : ℕ → Bool) → ◌≡◌ {A = Option (ℕ → Bool)} (Some o) None → A
+    shown-not o h = absurd cc
+
 -- the state after an ask, by what it came to
 pub served-is : (ask : DomAsk) (o : Outcome Session) (state : State) → IsState state → ((state.client.dom_on || turns_on ask) ≡ false → (state_after state.client.session o).opened ≡ None)
+    → ((state_after state.client.session o).opened ≡ None → state.client.session.opened ≡ None)
     → IsSession (nodes_in state) (state_after state.client.session o) → IsState (with_client (client_served ask o state.client) state)
-served-is ask (shows_root w b) state is off session = record {
+served-is ask (shows_root w b) state is off unknown session = record {
   page = is.page;
   texts = is.texts;
   sheets = is.sheets;
   session = session;
   off = off;
   css_off = λ h. is.css_off (was-off state.client.dom_on (turns_on ask) h);
-  no_more = record { watched = is.no_more.watched; marks = is.no_more.marks };
+  watched = is.watched;
+  none_watched = λ h. is.none_watched (unknown h);
+  history = is.history;
 }
-served-is ask (served p body) state is off session = record {
+served-is ask (served p body) state is off unknown session = record {
   page = is.page;
   texts = is.texts;
   sheets = is.sheets;
   session = session;
   off = off;
   css_off = λ h. is.css_off (was-off state.client.dom_on (turns_on ask) h);
-  no_more = record { watched = is.no_more.watched; marks = is.no_more.marks };
+  watched = is.watched;
+  none_watched = λ h. is.none_watched (unknown h);
+  history = is.history;
 }
-served-is ask (refused why) state is off session = record {
+served-is ask (refused why) state is off unknown session = record {
   page = is.page;
   texts = is.texts;
   sheets = is.sheets;
   session = is.session;
   off = is.off;
   css_off = is.css_off;
-  no_more = record { watched = is.no_more.watched; marks = is.no_more.marks };
+  watched = is.watched;
+  none_watched = λ h. is.none_watched (unknown h);
+  history = is.history;
 }
 
 served-view : (ask : DomAsk) (o : Outcome Session) (state : State)
@@ -134,7 +178,7 @@ agent-well id ask state is room small fits on =
     let few : length (state_after w o).pushed ≤ length w.pushed + node_count (nodes_in state) = draws_few page ask w is.page fits is.session in
     let count : node_count (nodes_in state) ≤ 100000 = count-alone page is.page in
     record {
-      is_state = served-is ask o state is (off-after ask state is on) (stays_session page ask w is.page fits is.session);
+      is_state = served-is ask o state is (off-after ask state is on) (unknown-before page ask w is.page is.session) (stays_session page ask w is.page fits is.session);
       course = subst (λ v. Course (moves_of id o) (view_of state) v) (served-view ask o state) (steps_are_moves page ask w id (sheets_shown state) is.page fits is.session can small (can-sheets state is low));
       ids = omega (arith, few, count, served-pushed ask o state);
       serials = omega arith;
@@ -152,7 +196,9 @@ enabled-is state is = record {
   session = is.session;
   off = λ h. absurd cc;
   css_off = λ h. absurd cc;
-  no_more = record { watched = is.no_more.watched; marks = is.no_more.marks };
+  watched = is.watched;
+  none_watched = is.none_watched;
+  history = is.history;
 }
 
 enables-well : (id : ℕ) (state : State) → IsState state → HasRoom state → is_counted id ≡ true → StepsWell state (server_step id enables state)
@@ -220,6 +266,10 @@ data IsServer (c : Command) : Server → Type 0 where
   is_css_disables : method_name c ≡ codes "CSS.disable" → IsServer c css_disables
   is_agent : (ask : DomAsk) → method_name c ≡ ask_name ask → fits_ask ask ≡ true → IsServer c (agent ask)
   is_css : (ask : CssAsk) → c ≡ css_command ask → IsServer c (css_agent ask)
+  is_sheet_edit : (x : CssEdit) → method_name c ≡ css_edit_name x → HasEditTexts x → IsServer c (edits_sheets x)
+  is_tree_edit : (edit : DomEdit) → AsksFor (method_name c) edit → HasTreeTexts edit → IsServer c (edits_tree edit)
+  is_watches : (node : ℕ) (word : WatchWord) → MayAnswer (method_name c) (replied 0 Nothing) → IsServer c (watches node word)
+  is_unwatches : (node : ℕ) (word : WatchWord) → MayAnswer (method_name c) (replied 0 Nothing) → IsServer c (unwatches node word)
   is_load : (params : Data) → MayAnswer (method_name c) (replied 0 Nothing) → HasUtf8 params → IsServer c (page_load params)
   is_act : (params : Data) → MayAnswer (method_name c) (replied 0 Nothing) → HasUtf8 params → IsServer c (page_act params)
   is_nobody : IsServer c nobody
@@ -236,6 +286,19 @@ serves-own turn_of id (Ok a) c state can h is room small =
       texts = texts-append (text_asked c) (turn_step (turn_of a) state).moves (replied id Nothing ∷ []) (events-text (text_asked c) (turn_step (turn_of a) state).moves events) (tt, tt);
     }
 serves-own turn_of id (Err why) c state can h is room small = serves-refusal id why c state is room small
+
+-- what a change of the watches of a node comes to, where the node is known
+serves-watch : (id : ℕ) (change : ℕ → Watched → Watched) (node : ℕ) (c : Command) (state : State) → AddsOne change → MayAnswer (method_name c) (replied 0 Nothing)
+    → IsState state → HasRoom state → is_counted id ≡ true → Serves state (watch_step id change (serial_now state node) state) id c
+serves-watch id change node c state adds h is room small = at (serial_now state node) refl where
+  at : (o : Option ℕ) → serial_now state node ≡ o → Serves state (watch_step id change o state) id c
+  at None e = serves-refusal id UnknownNode c state is room small
+  at (Some serial) e = record {
+    well = few-steps (more (omega arith) (omega arith) (omega arith) (watch-well id change state node serial adds e is (room-numbers state room) small));
+    once = refl;
+    may = (h, tt);
+    texts = (tt, tt);
+  }
 
 -- a command is refused while a domain is off that it needs, and else carried out
 command-serves : (id : ℕ) (c : Command) (server : Server) (state : State) → IsState state → HasRoom state → is_counted id ≡ true
@@ -302,6 +365,20 @@ serves id c _ state (is_css ask h) is room small =
       may = subst (λ d. MayAnswerAll (method_name d) (css_step id ask state).moves) (sym h) (css-may id ask state);
       texts = subst (λ d. TellTextOf (text_asked d) (css_step id ask state).moves) (sym h) (css-text id ask state);
     })
+serves id c _ state (is_sheet_edit x h u) is room small =
+    command-serves id c (edits_sheets x) state is room small (λ dom css. record {
+      well = sheet-edit-well id x state is room u small;
+      once = sheet-edit-once id x state;
+      may = subst (λ method. MayAnswerAll method (sheet_edit_step id x state).moves) (sym h) (sheet-edit-may id x state is room u);
+      texts = sheet-edit-text id x state (text_asked c);
+    })
+serves id c _ state (is_tree_edit edit asks texts) is room small =
+    let a = tree-edit-answered (method_name c) (text_asked c) id edit state texts asks is room small in
+    command-serves id c (edits_tree edit) state is room small (λ dom css. record { well = a.well; once = a.once; may = a.may; texts = a.texts })
+serves id c _ state (is_watches node word h) is room small =
+    command-serves id c (watches node word) state is room small (λ dom css. serves-watch id (with_watch (watch_kind word)) node c state (with-adds (watch_kind word)) h is room small)
+serves id c _ state (is_unwatches node word h) is room small =
+    command-serves id c (unwatches node word) state is room small (λ dom css. serves-watch id (without_watch (watch_kind word)) node c state (without-adds (watch_kind word)) h is room small)
 serves id c _ state (is_load params h u) is room small = serves-own loads id (load_asked params) c state (λ page e. load-turn params page u e) h is room small
 serves id c _ state (is_act params h u) is room small =
     serves-own acts id (act_asked params state.side.page (book_in state)) c state (λ act e. act-turn params state.side.page (book_in state) act u e) h is room small
@@ -315,7 +392,7 @@ by-agent c fits = at (dom_ask_in c) refl where
       let same : c ≡ as_command ask = dom_asks_are_commands c ask e in
       is_agent ask (ap method_name same) (ap fits_command (sym same) ∙ fits)
 
-server-is : (c : Command) → fits_command c ≡ true → HasOwnTexts (server_of c) → IsServer c (server_of c)
+server-is : (c : Command) → fits_command c ≡ true → HasServedTexts (server_of c) → IsServer c (server_of c)
 server-is DomEnable fits texts = is_enables (refl, refl)
 server-is DomDisable fits texts = is_disables refl
 server-is (GetDocument depth pierce) fits texts = by-agent (GetDocument depth pierce) fits
@@ -326,12 +403,12 @@ server-is (QuerySelector node selector) fits texts = by-agent (QuerySelector nod
 server-is (QuerySelectorAll node selector) fits texts = by-agent (QuerySelectorAll node selector) fits
 server-is (GetAttributes node) fits texts = by-agent (GetAttributes node) fits
 server-is (DescribeNode id serial depth pierce) fits texts = by-agent (DescribeNode id serial depth pierce) fits
-server-is (SetAttributeValue node name value) fits texts = by-agent (SetAttributeValue node name value) fits
-server-is (RemoveAttribute node name) fits texts = by-agent (RemoveAttribute node name) fits
-server-is (SetNodeValue node value) fits texts = by-agent (SetNodeValue node value) fits
-server-is (RemoveNode node) fits texts = by-agent (RemoveNode node) fits
-server-is (MoveTo node target before) fits texts = by-agent (MoveTo node target before) fits
-server-is (CopyTo node target before) fits texts = by-agent (CopyTo node target before) fits
+server-is (SetAttributeValue node name value) fits texts = is_tree_edit (tree.SetAttributeValue node name value) (refl, refl) texts
+server-is (RemoveAttribute node name) fits texts = is_tree_edit (tree.RemoveAttribute node name) (refl, refl) texts
+server-is (SetNodeValue node value) fits texts = is_tree_edit (tree.SetNodeValue node value) (refl, refl) texts
+server-is (RemoveNode node) fits texts = is_tree_edit (tree.RemoveNode node) (refl, refl) texts
+server-is (MoveTo node target before) fits texts = is_tree_edit (tree.MoveTo node target before) (λ id. (refl, refl)) texts
+server-is (CopyTo node target before) fits texts = is_tree_edit (tree.CopyTo node target before) (λ id. (refl, refl)) texts
 server-is MarkUndoableState fits texts = by-agent MarkUndoableState fits
 server-is Undo fits texts = by-agent Undo fits
 server-is Redo fits texts = by-agent Redo fits
@@ -340,12 +417,12 @@ server-is CssDisable fits texts = is_css_disables refl
 server-is (GetMatchedStyles node) fits texts = is_css (css.GetMatchedStyles node) refl
 server-is (GetStyleSheetText sheet) fits texts = is_css (css.GetStyleSheetText sheet) refl
 server-is (CollectClassNames sheet) fits texts = is_css (css.CollectClassNames sheet) refl
-server-is (SetStyleTexts edits) fits texts = by-agent (SetStyleTexts edits) fits
-server-is (SetRuleSelector sheet range selector) fits texts = by-agent (SetRuleSelector sheet range selector) fits
-server-is (SetStyleSheetText sheet text) fits texts = by-agent (SetStyleSheetText sheet text) fits
-server-is (AddRule sheet rule_text location) fits texts = by-agent (AddRule sheet rule_text location) fits
-server-is (SetBreakpoint node kind) fits texts = by-agent (SetBreakpoint node kind) fits
-server-is (RemoveBreakpoint node kind) fits texts = by-agent (RemoveBreakpoint node kind) fits
+server-is (SetStyleTexts edits) fits texts = is_sheet_edit (style.SetStyleTexts edits) refl texts
+server-is (SetRuleSelector sheet range selector) fits texts = is_sheet_edit (style.SetRuleSelector sheet range selector) refl texts
+server-is (SetStyleSheetText sheet text) fits texts = is_sheet_edit (style.SetStyleSheetText sheet text) refl texts
+server-is (AddRule sheet rule_text location) fits texts = is_sheet_edit (style.AddRule sheet rule_text location) refl texts
+server-is (SetBreakpoint node kind) fits texts = is_watches node kind (refl, refl)
+server-is (RemoveBreakpoint node kind) fits texts = is_unwatches node kind (refl, refl)
 server-is (ReplayLoad params) fits texts = is_load params (refl, refl) texts
 server-is (ReplayAct params) fits texts = is_act params (refl, refl) texts
 

@@ -8,11 +8,13 @@ use Rattle.std.proofs.lemmas.Str.{IsUtf8-from_is_utf8}
 use Rattle.serde_json.specs.Data.{Data, Members, no_members, member}
 use Rattle.serde_json.specs.Find.{get_member, as_str, as_object}
 use Rattle.serde_json.specs.Read.{read}
-use Rattle.cdp_json.specs.Kinds.{as_whole}
+use Rattle.std.specs.List.{All}
+use Rattle.std.specs.Str.{IsUtf8}
+use Rattle.cdp_json.specs.Kinds.{Kind, as_whole, whole, text, list_of}
 use Rattle.cdp_json.specs.declared.fields.Field.{Field}
 use Rattle.cdp_json.specs.declared.fields.Field.TheVariants.{Is, Missing, WrongKind}
 use Rattle.cdp_json.specs.Fields.{field_of}
-use Rattle.cdp_json.specs.Lookups.{then_ok}
+use Rattle.cdp_json.specs.Lookups.{then_ok, Lookups, no_lookups}
 use Rattle.cdp_json.specs.Plain.{HasUtf8, MembersHaveUtf8}
 use Rattle.cdp_json.proofs.ReadTexts.{IfSome, read_utf8}
 use Rattle.page_forms.proofs.NodeTexts.{object_utf8}
@@ -26,30 +28,80 @@ use Rattle.cdp_messages.specs.declared.method.Method.TheVariants as method
 use Rattle.cdp_messages.specs.declared.dom_ask.DomAsk.{DomAsk}
 use Rattle.cdp_messages.specs.DomAsks.{dom_ask_in}
 use Rattle.cdp_messages.specs.Methods.{known_method}
-use Rattle.cdp_messages.specs.Parameters.{command_by}
+use Rattle.cdp_messages.specs.declared.command.Param.{Param}
+use Rattle.cdp_messages.specs.declared.command.Param.TheVariants as param
+use Rattle.cdp_messages.specs.declared.command.Why.TheVariants.{BadParam}
+use Rattle.cdp_messages.specs.Refusals.{param_name}
+use Rattle.cdp_messages.specs.declared.edits.TextEdit.{TextEdit}
+use Rattle.css_objects.specs.declared.ranges.SourceRange.{SourceRange}
+use Rattle.css_agent.specs.EditLaws.{HasEditText}
+use Rattle.back_end.proofs.CommandTexts.{Any, reads-any, reads-text, reads-list, IfGiven, Gives, member-texts, gives-all, gives-field, reads-edit}
+use Rattle.cdp_messages.specs.Parameters.{command_by, reading, needed, attribute_fields, name_fields, value_fields, edits_field, selector_fields, sheet_text_fields, rule_fields, place, text_edit}
 use Rattle.cdp_messages.specs.Asked.{json_of, of_method, command_for, unless_session, or_bad_request, params_of, command_of, method_in, command_in, asked_by, with_id, asked_in, asked_value, asked}
-use Rattle.back_end.specs.Servers.{by_agent, server_of, HasOwnTexts}
+use Rattle.back_end.specs.Servers.{by_agent, server_of, HasServedTexts}
 
 -- what is asked, if anything is, has UTF-8 texts where it is one of our own two methods
 abbrev CommandTexts : Result Command Why → Type 0
-CommandTexts (Ok c) = HasOwnTexts (server_of c)
+CommandTexts (Ok c) = HasServedTexts (server_of c)
 CommandTexts (Err why) = ⊤
 
 -- the same of a frame
 abbrev pub AskedTexts : Result Asked Refused → Type 0
-AskedTexts (Ok a) = HasOwnTexts (server_of a.command)
+AskedTexts (Ok a) = HasServedTexts (server_of a.command)
 AskedTexts (Err r) = ⊤
 
 -- ---- a command by its method
 
 -- what an agent may serve is none of them
-agents : (o : Option DomAsk) → HasOwnTexts (by_agent o)
+agents : (o : Option DomAsk) → HasServedTexts (by_agent o)
 agents None = tt
 agents (Some ask) = tt
 
-by-agents : {T : Type 0} (r : Result T Why) (makes : T → Command) → ((x : T) → HasOwnTexts (server_of (makes x))) → CommandTexts (then_ok r (λ x. Ok (makes x)))
+by-agents : {T : Type 0} (r : Result T Why) (makes : T → Command) → ((x : T) → HasServedTexts (server_of (makes x))) → CommandTexts (then_ok r (λ x. Ok (makes x)))
 by-agents (Ok x) makes has = has x
 by-agents (Err why) makes has = tt
+
+-- one whose parameters bring texts
+given : {T : Type 0} (fields : Lookups Why T) (makes : T → Command) (P : T → Type 0) (ms : Members) → MembersHaveUtf8 ms → Gives fields P → ((x : T) → P x → HasServedTexts (server_of (makes x)))
+    → CommandTexts (reading fields makes ms)
+given fields makes P ms u gives has = at (fields.gets ms) (gives ms u) where
+  at : (r : Result _ Why) → IfGiven P r → CommandTexts (then_ok r (λ x. Ok (makes x)))
+  at (Ok x) g = has x g
+  at (Err why) g = tt
+
+needed-text : {B : Type 0} (p : Param) (later : Lookups Why B) (Q : B → Type 0) → Gives later Q → Gives (needed p text later) (λ x. IsUtf8 x.0 × Q x.1)
+needed-text p later Q rest = gives-field (param_name p) (BadParam p) text later IsUtf8 Q reads-text rest
+
+needed-any : {A B : Type 0} (p : Param) (k : Kind A) (later : Lookups Why B) (Q : B → Type 0) → Gives later Q → Gives (needed p k later) (λ x. Any x.0 × Q x.1)
+needed-any p k later Q rest = gives-field (param_name p) (BadParam p) k later Any Q (reads-any k.reads) rest
+
+-- what the parameters of each give
+abbrev OneText : List ℕ × ⊤ → Type 0
+OneText x = IsUtf8 x.0 × Any x.1
+
+abbrev TwoTexts : List ℕ × (List ℕ × ⊤) → Type 0
+TwoTexts x = IsUtf8 x.0 × OneText x.1
+
+last-text : (p : Param) → Gives (needed p text no_lookups) OneText
+last-text p = needed-text p no_lookups Any (gives-all Why)
+
+attribute-gives : Gives attribute_fields (λ x. Any x.0 × TwoTexts x.1)
+attribute-gives =
+    needed-any param.NodeId whole (needed param.Name text (needed param.Value text no_lookups)) TwoTexts
+    (needed-text param.Name (needed param.Value text no_lookups) OneText (last-text param.Value))
+
+edits-give : Gives edits_field (λ x. All HasEditText x.0 × Any x.1)
+edits-give = gives-field (param_name param.Edits) (BadParam param.Edits) (list_of text_edit) no_lookups (All HasEditText) Any (reads-list text_edit HasEditText reads-edit) (gives-all Why)
+
+selector-gives : Gives selector_fields (λ x. IsUtf8 x.0 × (Any x.1.0 × OneText x.1.1))
+selector-gives =
+    needed-text param.StyleSheetId (needed param.Range place (needed param.Selector text no_lookups)) (λ (x : SourceRange × (List ℕ × ⊤)). Any x.0 × OneText x.1)
+    (needed-any param.Range place (needed param.Selector text no_lookups) OneText (last-text param.Selector))
+
+rule-gives : Gives rule_fields (λ x. IsUtf8 x.0 × (IsUtf8 x.1.0 × (Any x.1.1.0 × Any x.1.1.1)))
+rule-gives =
+    needed-text param.StyleSheetId (needed param.RuleText text (needed param.Location place no_lookups)) (λ (x : List ℕ × (SourceRange × ⊤)). IsUtf8 x.0 × (Any x.1.0 × Any x.1.1))
+    (needed-text param.RuleText (needed param.Location place no_lookups) (λ (x : SourceRange × ⊤). Any x.0 × Any x.1) (needed-any param.Location place no_lookups Any (gives-all Why)))
 
 by-method : (m : Method) (ms : Members) → MembersHaveUtf8 ms → CommandTexts (command_by m ms)
 by-method method.DomEnable ms u = tt
@@ -62,12 +114,12 @@ by-method method.QuerySelector ms u = by-agents _ (λ x. QuerySelector x.0 x.1.0
 by-method method.QuerySelectorAll ms u = by-agents _ (λ x. QuerySelectorAll x.0 x.1.0) (λ x. agents (dom_ask_in (QuerySelectorAll x.0 x.1.0)))
 by-method method.GetAttributes ms u = by-agents _ (λ x. GetAttributes x.0) (λ x. agents (dom_ask_in (GetAttributes x.0)))
 by-method method.DescribeNode ms u = by-agents _ (λ x. DescribeNode x.0 x.1.0 x.1.1.0 x.1.1.1.0) (λ x. agents (dom_ask_in (DescribeNode x.0 x.1.0 x.1.1.0 x.1.1.1.0)))
-by-method method.SetAttributeValue ms u = by-agents _ (λ x. SetAttributeValue x.0 x.1.0 x.1.1.0) (λ x. agents (dom_ask_in (SetAttributeValue x.0 x.1.0 x.1.1.0)))
-by-method method.RemoveAttribute ms u = by-agents _ (λ x. RemoveAttribute x.0 x.1.0) (λ x. agents (dom_ask_in (RemoveAttribute x.0 x.1.0)))
-by-method method.SetNodeValue ms u = by-agents _ (λ x. SetNodeValue x.0 x.1.0) (λ x. agents (dom_ask_in (SetNodeValue x.0 x.1.0)))
-by-method method.RemoveNode ms u = by-agents _ (λ x. RemoveNode x.0) (λ x. agents (dom_ask_in (RemoveNode x.0)))
-by-method method.MoveTo ms u = by-agents _ (λ x. MoveTo x.0 x.1.0 x.1.1.0) (λ x. agents (dom_ask_in (MoveTo x.0 x.1.0 x.1.1.0)))
-by-method method.CopyTo ms u = by-agents _ (λ x. CopyTo x.0 x.1.0 x.1.1.0) (λ x. agents (dom_ask_in (CopyTo x.0 x.1.0 x.1.1.0)))
+by-method method.SetAttributeValue ms u = given attribute_fields (λ x. SetAttributeValue x.0 x.1.0 x.1.1.0) (λ x. Any x.0 × TwoTexts x.1) ms u attribute-gives (λ x g. (g.1.0, g.1.1.0))
+by-method method.RemoveAttribute ms u = given name_fields (λ x. RemoveAttribute x.0 x.1.0) (λ x. Any x.0 × OneText x.1) ms u (needed-any param.NodeId whole (needed param.Name text no_lookups) OneText (last-text param.Name)) (λ x g. g.1.0)
+by-method method.SetNodeValue ms u = given value_fields (λ x. SetNodeValue x.0 x.1.0) (λ x. Any x.0 × OneText x.1) ms u (needed-any param.NodeId whole (needed param.Value text no_lookups) OneText (last-text param.Value)) (λ x g. g.1.0)
+by-method method.RemoveNode ms u = by-agents _ (λ x. RemoveNode x.0) (λ x. tt)
+by-method method.MoveTo ms u = by-agents _ (λ x. MoveTo x.0 x.1.0 x.1.1.0) (λ x. tt)
+by-method method.CopyTo ms u = by-agents _ (λ x. CopyTo x.0 x.1.0 x.1.1.0) (λ x. tt)
 by-method method.MarkUndoableState ms u = tt
 by-method method.Undo ms u = tt
 by-method method.Redo ms u = tt
@@ -76,25 +128,16 @@ by-method method.CssDisable ms u = tt
 by-method method.GetMatchedStyles ms u = by-agents _ (λ x. GetMatchedStyles x.0) (λ x. tt)
 by-method method.GetStyleSheetText ms u = by-agents _ (λ x. GetStyleSheetText x.0) (λ x. tt)
 by-method method.CollectClassNames ms u = by-agents _ (λ x. CollectClassNames x.0) (λ x. tt)
-by-method method.SetStyleTexts ms u = by-agents _ (λ x. SetStyleTexts x.0) (λ x. agents (dom_ask_in (SetStyleTexts x.0)))
-by-method method.SetRuleSelector ms u = by-agents _ (λ x. SetRuleSelector x.0 x.1.0 x.1.1.0) (λ x. agents (dom_ask_in (SetRuleSelector x.0 x.1.0 x.1.1.0)))
-by-method method.SetStyleSheetText ms u = by-agents _ (λ x. SetStyleSheetText x.0 x.1.0) (λ x. agents (dom_ask_in (SetStyleSheetText x.0 x.1.0)))
-by-method method.AddRule ms u = by-agents _ (λ x. AddRule x.0 x.1.0 x.1.1.0) (λ x. agents (dom_ask_in (AddRule x.0 x.1.0 x.1.1.0)))
-by-method method.SetBreakpoint ms u = by-agents _ (λ x. SetBreakpoint x.0 x.1.0) (λ x. agents (dom_ask_in (SetBreakpoint x.0 x.1.0)))
-by-method method.RemoveBreakpoint ms u = by-agents _ (λ x. RemoveBreakpoint x.0 x.1.0) (λ x. agents (dom_ask_in (RemoveBreakpoint x.0 x.1.0)))
+by-method method.SetStyleTexts ms u = given edits_field (λ x. SetStyleTexts x.0) (λ x. All HasEditText x.0 × Any x.1) ms u edits-give (λ x g. g.0)
+by-method method.SetRuleSelector ms u = given selector_fields (λ x. SetRuleSelector x.0 x.1.0 x.1.1.0) (λ x. IsUtf8 x.0 × (Any x.1.0 × OneText x.1.1)) ms u selector-gives (λ x g. g.1.1.0)
+by-method method.SetStyleSheetText ms u = given sheet_text_fields (λ x. SetStyleSheetText x.0 x.1.0) TwoTexts ms u (needed-text param.StyleSheetId (needed param.Text text no_lookups) OneText (last-text param.Text)) (λ x g. g.1.0)
+by-method method.AddRule ms u = given rule_fields (λ x. AddRule x.0 x.1.0 x.1.1.0) (λ x. IsUtf8 x.0 × (IsUtf8 x.1.0 × (Any x.1.1.0 × Any x.1.1.1))) ms u rule-gives (λ x g. g.1.0)
+by-method method.SetBreakpoint ms u = by-agents _ (λ x. SetBreakpoint x.0 x.1.0) (λ x. tt)
+by-method method.RemoveBreakpoint ms u = by-agents _ (λ x. RemoveBreakpoint x.0 x.1.0) (λ x. tt)
 by-method method.ReplayLoad ms u = u
 by-method method.ReplayAct ms u = u
 
 -- ---- a frame
-
-found : (o : Ordering) (here : Data) (later : Option Data) → HasUtf8 here → IfSome HasUtf8 later → IfSome HasUtf8 (match_ordering o later (Some here) later)
-found Less here later u v = v
-found Equal here later u v = u
-found Greater here later u v = v
-
-member-texts : (k : List ℕ) (ms : Members) → MembersHaveUtf8 ms → IfSome HasUtf8 (get_member k ms)
-member-texts k no_members u = tt
-member-texts k (member l e ms) u = found (slice_cmp nat_cmp k l) e (get_member k ms) u.1 (member-texts k ms u.2)
 
 -- parameters that are an object
 abbrev ParamsTexts : Result Members Why → Type 0

@@ -21,10 +21,11 @@ use Rattle.cdp_messages.specs.Moves.{Move as Told, frames_of_moves, move_text}
 use Rattle.cdp_messages.specs.Answers.{ended}
 use Rattle.dom_agent.specs.EditLaws.{session_edited, binding_edited}
 use Rattle.dom_agent.proofs.EditKeepers.{edit_keeps_bound, same_edit_moves}
+use Rattle.dom_breakpoints.specs.Watched.{Watched}
 use Rattle.back_end.specs.Sheets.{NumberedBook}
 use Rattle.back_end.specs.States.{State, nodes_in, book_in}
 use Rattle.back_end.specs.Plans.{one_edit, edit_fault, act_plan}
-use Rattle.back_end.specs.Steps.{with_page, edit_step, with_crossed, planned_step, act_step, lone_step}
+use Rattle.back_end.specs.Steps.{with_page, watches_left, watched_after, edit_step, script_step, with_crossed, planned_step, act_step, lone_step}
 use Rattle.back_end.specs.Texts.{FormHasTexts, EditHasTexts}
 use Rattle.dom_agent.specs.Laws.{RowsHaveUtf8}
 use Rattle.back_end.proofs.TextLemmas.{node_at-texts, branch-texts}
@@ -40,11 +41,15 @@ ids-left n next most is h = omega (arith, is, h)
 
 -- ---- an edit that the page takes
 
+-- the watches of a desk that are left after an edit are the state's
+left-is : (e : TreeEdit) (page : PageValue) (w : Watched) (state : State) → page ≡ state.side.page → w ≡ state.client.watched → watches_left e page.tree w ≡ watched_after e state
+left-is e page w state page_is is = ap (λ (p : PageValue). watches_left e p.tree w) page_is ∙ ap (watches_left e state.side.page.tree) is
+
 pub edit-stands : (d d1 : Desk) (s s1 : PageSide) (state : State) (e : TreeEdit) → DeskStandsFor d s state
     → CanApply s.page.next e s.page.tree → EditHasTexts e → d.agent.next < 2 ^ 51 → s.page.next < 2 ^ 51 → s.sheets.next < 2 ^ 51
-    → s1.page ≡ after e s.page → s1.sheets ≡ s.sheets → d1.is_on ≡ d.is_on → d1.css ≡ d.css → d1.agent ≡ (binding_edited e s.page d.agent).state
+    → s1.page ≡ after e s.page → s1.sheets ≡ s.sheets → d1.is_on ≡ d.is_on → d1.css ≡ d.css → d1.watches ≡ watches_left e s.page.tree d.watches → d1.agent ≡ (binding_edited e s.page d.agent).state
     → DeskStandsFor d1 s1 (edit_step e state).state
-edit-stands d d1 s s1 state e stands can texts ids serials sheets page_is sheets_is on_is css_is agent_is =
+edit-stands d d1 s s1 state e stands can texts ids serials sheets page_is sheets_is on_is css_is watches_is agent_is =
     let page = state.side.page in
     let w = state.client.session in
     let same : s.page ≡ page = stands.page_is in
@@ -62,6 +67,7 @@ edit-stands d d1 s s1 state e stands can texts ids serials sheets page_is sheets
       next_is = ap (λ (b : NumberedBook). b.next) sheets_is ∙ stands.next_is;
       on_is = on_is ∙ stands.on_is;
       css_is = css_is ∙ stands.css_is;
+      watches_are = watches_is ∙ left-is e s.page d.watches state same stands.watches_are;
       stands = subst (λ a. Stands (alone (after e page).tree) (session_edited e page w).state a)
           (sym (agent_is ∙ ap (λ (p : PageValue). (binding_edited e p d.agent).state) same)) bound.stands;
     }
@@ -107,6 +113,7 @@ crossed-stands d s state stands = record {
   next_is = stands.next_is;
   on_is = stands.on_is;
   css_is = stands.css_is;
+  watches_are = stands.watches_are;
   stands = stands.stands;
 }
 
@@ -120,16 +127,17 @@ drawn-stands d s s1 state page stands is sheets_is valid same = record {
   next_is = ap (λ (b : NumberedBook). b.next) sheets_is ∙ stands.next_is;
   on_is = stands.on_is;
   css_is = stands.css_is;
+  watches_are = stands.watches_are;
   stands = subst (λ tree. Stands (alone tree) state.client.session d.agent) (sym same) stands.stands;
 }
 
 -- one edit
 pub lone-stands : (d d1 : Desk) (s s1 : PageSide) (state : State) (e : TreeEdit) → s.page ≡ state.side.page → first_fault e s.page.tree ≡ None
-    → DeskStandsFor d1 s1 (edit_step e state).state → DeskStandsFor d1 s1 (lone_step e state).state
+    → DeskStandsFor d1 s1 (script_step e state).state → DeskStandsFor d1 s1 (lone_step e state).state
 lone-stands d d1 s s1 state e same fits stands =
     let here : first_fault e state.side.page.tree ≡ None = ap (λ (p : PageValue). first_fault e p.tree) (sym same) ∙ fits in
     subst (λ o. DeskStandsFor d1 s1 (planned_step o (one_edit e state.side.page) state).state) (sym (ap edit_fault here))
-    (crossed-stands d1 s1 (edit_step e state).state stands)
+    (crossed-stands d1 s1 (script_step e state).state stands)
 
 pub lone-refused : (d : Desk) (s : PageSide) (state : State) (e : TreeEdit) (f : EditFault) → s.page ≡ state.side.page → first_fault e s.page.tree ≡ Some f
     → DeskStandsFor d s state → DeskStandsFor d s (lone_step e state).state
@@ -138,10 +146,10 @@ lone-refused d s state e f same fault stands =
     subst (λ o. DeskStandsFor d s (planned_step o (one_edit e state.side.page) state).state) (sym (ap edit_fault here)) stands
 
 pub lone-sent : (s : PageSide) (state : State) (e : TreeEdit) (old new : List ℕ) → s.page ≡ state.side.page → first_fault e s.page.tree ≡ None
-    → new ≡ old ++ frames_of_moves (edit_step e state).moves → new ≡ old ++ frames_of_moves (lone_step e state).moves
+    → new ≡ old ++ frames_of_moves (script_step e state).moves → new ≡ old ++ frames_of_moves (lone_step e state).moves
 lone-sent s state e old new same fits sent =
     let here : first_fault e state.side.page.tree ≡ None = ap (λ (p : PageValue). first_fault e p.tree) (sym same) ∙ fits in
-    sent ∙ ap (λ ms. old ++ frames_of_moves ms) (sym (append-nil (edit_step e state).moves))
+    sent ∙ ap (λ ms. old ++ frames_of_moves ms) (sym (append-nil (script_step e state).moves))
     ∙ ap (λ o. old ++ frames_of_moves (planned_step o (one_edit e state.side.page) state).moves) (sym (ap edit_fault here))
 
 pub lone-unsent : (s : PageSide) (state : State) (e : TreeEdit) (f : EditFault) (old new : List ℕ) → s.page ≡ state.side.page → first_fault e s.page.tree ≡ Some f
@@ -174,25 +182,25 @@ drawn-form d s s1 state form stands is sheets_is =
 
 pub grown-stands : (d1 : Desk) (s1 : PageSide) (state : State) (parent before : ℕ) (form : Branch Label) (tree : Branch Row) (page : PageValue) → page ≡ state.side.page
     → insert_fault parent before form page.tree ≡ None → tree ≡ numbered_branch page.next form
-    → DeskStandsFor d1 s1 (edit_step (Attach parent before tree) (with_page (drawn form state.side.page) state)).state
+    → DeskStandsFor d1 s1 (script_step (Attach parent before tree) (with_page (drawn form state.side.page) state)).state
     → DeskStandsFor d1 s1 (act_step (Insert parent before form) state).state
 grown-stands d1 s1 state parent before form tree page same fits tree_is stands =
     let here : insert_fault parent before form state.side.page.tree ≡ None = ap (λ (p : PageValue). insert_fault parent before form p.tree) (sym same) ∙ fits in
     let tree_here : tree ≡ numbered_branch state.side.page.next form = tree_is ∙ ap (λ (p : PageValue). numbered_branch p.next form) same in
     subst (λ o. DeskStandsFor d1 s1 (planned_step o (act_plan (Insert parent before form) state.side.page (book_in state)) state).state) (sym (ap edit_fault here))
-    (crossed-stands d1 s1 (edit_step (Attach parent before (numbered_branch state.side.page.next form)) (with_page (drawn form state.side.page) state)).state
-    (subst (λ t. DeskStandsFor d1 s1 (edit_step (Attach parent before t) (with_page (drawn form state.side.page) state)).state) tree_here stands))
+    (crossed-stands d1 s1 (script_step (Attach parent before (numbered_branch state.side.page.next form)) (with_page (drawn form state.side.page) state)).state
+    (subst (λ t. DeskStandsFor d1 s1 (script_step (Attach parent before t) (with_page (drawn form state.side.page) state)).state) tree_here stands))
 
 pub grown-sent : (state : State) (parent before : ℕ) (form : Branch Label) (tree : Branch Row) (page : PageValue) (old new : List ℕ) → page ≡ state.side.page
     → insert_fault parent before form page.tree ≡ None → tree ≡ numbered_branch page.next form
-    → new ≡ old ++ frames_of_moves (edit_step (Attach parent before tree) (with_page (drawn form state.side.page) state)).moves
+    → new ≡ old ++ frames_of_moves (script_step (Attach parent before tree) (with_page (drawn form state.side.page) state)).moves
     → new ≡ old ++ frames_of_moves (act_step (Insert parent before form) state).moves
 grown-sent state parent before form tree page old new same fits tree_is sent =
     let here : insert_fault parent before form state.side.page.tree ≡ None = ap (λ (p : PageValue). insert_fault parent before form p.tree) (sym same) ∙ fits in
     let tree_here : tree ≡ numbered_branch state.side.page.next form = tree_is ∙ ap (λ (p : PageValue). numbered_branch p.next form) same in
     sent
-    ∙ ap (λ t. old ++ frames_of_moves (edit_step (Attach parent before t) (with_page (drawn form state.side.page) state)).moves) tree_here
-    ∙ ap (λ ms. old ++ frames_of_moves ms) (sym (append-nil (edit_step (Attach parent before (numbered_branch state.side.page.next form)) (with_page (drawn form state.side.page) state)).moves))
+    ∙ ap (λ t. old ++ frames_of_moves (script_step (Attach parent before t) (with_page (drawn form state.side.page) state)).moves) tree_here
+    ∙ ap (λ ms. old ++ frames_of_moves ms) (sym (append-nil (script_step (Attach parent before (numbered_branch state.side.page.next form)) (with_page (drawn form state.side.page) state)).moves))
     ∙ ap (λ o. old ++ frames_of_moves (planned_step o (act_plan (Insert parent before form) state.side.page (book_in state)) state).moves) (sym (ap edit_fault here))
 
 -- ---- moves
@@ -226,29 +234,29 @@ moved-texts d s state serial tree stands is =
 
 pub moved-stands : (d1 : Desk) (s1 : PageSide) (state : State) (serial parent before there : ℕ) (tree : Branch Row) (page : PageValue) → page ≡ state.side.page
     → move_fault serial parent before page.tree ≡ None → there ≡ moved_before serial parent before page.tree → tree ≡ node_at serial page.tree
-    → DeskStandsFor d1 s1 (edit_step (Attach parent there tree) (edit_step (Detach serial) state).state).state
+    → DeskStandsFor d1 s1 (script_step (Attach parent there tree) (script_step (Detach serial) state).state).state
     → DeskStandsFor d1 s1 (act_step (Move serial parent before) state).state
 moved-stands d1 s1 state serial parent before there tree page same fits there_is tree_is stands =
     let here : move_fault serial parent before state.side.page.tree ≡ None = ap (λ (p : PageValue). move_fault serial parent before p.tree) (sym same) ∙ fits in
     let there_here : there ≡ moved_before serial parent before state.side.page.tree = there_is ∙ ap (λ (p : PageValue). moved_before serial parent before p.tree) same in
     let tree_here : tree ≡ node_at serial state.side.page.tree = tree_is ∙ ap (λ (p : PageValue). node_at serial p.tree) same in
-    let first = (edit_step (Detach serial) state).state in
+    let first = (script_step (Detach serial) state).state in
     subst (λ o. DeskStandsFor d1 s1 (planned_step o (act_plan (Move serial parent before) state.side.page (book_in state)) state).state) (sym (ap edit_fault here))
-    (crossed-stands d1 s1 (edit_step (Attach parent (moved_before serial parent before state.side.page.tree) (node_at serial state.side.page.tree)) first).state
-    (subst (λ b. DeskStandsFor d1 s1 (edit_step (Attach parent b (node_at serial state.side.page.tree)) first).state) there_here
-    (subst (λ t. DeskStandsFor d1 s1 (edit_step (Attach parent there t) first).state) tree_here stands)))
+    (crossed-stands d1 s1 (script_step (Attach parent (moved_before serial parent before state.side.page.tree) (node_at serial state.side.page.tree)) first).state
+    (subst (λ b. DeskStandsFor d1 s1 (script_step (Attach parent b (node_at serial state.side.page.tree)) first).state) there_here
+    (subst (λ t. DeskStandsFor d1 s1 (script_step (Attach parent there t) first).state) tree_here stands)))
 
 pub moved-sent : (state : State) (serial parent before there : ℕ) (tree : Branch Row) (page : PageValue) (old middle new : List ℕ) → page ≡ state.side.page
     → move_fault serial parent before page.tree ≡ None → there ≡ moved_before serial parent before page.tree → tree ≡ node_at serial page.tree
-    → middle ≡ old ++ frames_of_moves (edit_step (Detach serial) state).moves
-    → new ≡ middle ++ frames_of_moves (edit_step (Attach parent there tree) (edit_step (Detach serial) state).state).moves
+    → middle ≡ old ++ frames_of_moves (script_step (Detach serial) state).moves
+    → new ≡ middle ++ frames_of_moves (script_step (Attach parent there tree) (script_step (Detach serial) state).state).moves
     → new ≡ old ++ frames_of_moves (act_step (Move serial parent before) state).moves
 moved-sent state serial parent before there tree page old middle new same fits there_is tree_is first second =
     let here : move_fault serial parent before state.side.page.tree ≡ None = ap (λ (p : PageValue). move_fault serial parent before p.tree) (sym same) ∙ fits in
     let there_here : there ≡ moved_before serial parent before state.side.page.tree = there_is ∙ ap (λ (p : PageValue). moved_before serial parent before p.tree) same in
     let tree_here : tree ≡ node_at serial state.side.page.tree = tree_is ∙ ap (λ (p : PageValue). node_at serial p.tree) same in
-    let one = (edit_step (Detach serial) state).moves in
-    let later : TreeEdit → List Told = λ e. (edit_step e (edit_step (Detach serial) state).state).moves in
+    let one = (script_step (Detach serial) state).moves in
+    let later : TreeEdit → List Told = λ e. (script_step e (script_step (Detach serial) state).state).moves in
     let last = later (Attach parent (moved_before serial parent before state.side.page.tree) (node_at serial state.side.page.tree)) in
     second
     ∙ ap (λ b. middle ++ frames_of_moves (later (Attach parent b tree))) there_here
@@ -279,14 +287,15 @@ pub in_none : {T E : Type 0} (result : Result T E) (P : Type 0) (fault : E) → 
 in_none result P fault is = subst (λ r. OnOk r P) (sym is) tt
 
 -- a desk and a side that stayed as they were
-pub stayed-stands : (d d1 : Desk) (s s1 : PageSide) (state : State) → d1.is_on ≡ d.is_on → d1.css ≡ d.css → d1.agent ≡ d.agent → s1.page ≡ s.page → s1.sheets ≡ s.sheets
+pub stayed-stands : (d d1 : Desk) (s s1 : PageSide) (state : State) → d1.is_on ≡ d.is_on → d1.css ≡ d.css → d1.watches ≡ d.watches → d1.agent ≡ d.agent → s1.page ≡ s.page → s1.sheets ≡ s.sheets
     → DeskStandsFor d s state → DeskStandsFor d1 s1 state
-stayed-stands d d1 s s1 state on_is css_is agent_is page_is sheets_is stands = record {
+stayed-stands d d1 s s1 state on_is css_is watches_is agent_is page_is sheets_is stands = record {
   is_state = stands.is_state;
   page_is = page_is ∙ stands.page_is;
   sheets_are = ap (λ (b : NumberedBook). b.entries) sheets_is ∙ stands.sheets_are;
   next_is = ap (λ (b : NumberedBook). b.next) sheets_is ∙ stands.next_is;
   on_is = on_is ∙ stands.on_is;
   css_is = css_is ∙ stands.css_is;
+  watches_are = watches_is ∙ stands.watches_are;
   stands = subst (λ a. Stands (nodes_in state) state.client.session a) (sym agent_is) stands.stands;
 }

@@ -14,6 +14,7 @@ use Rattle.dom_agent.specs.Laws.{session_outcome, binding_outcome}
 use Rattle.dom_agent.specs.Requests.{Outcome, shows_root, served, refused, state_after, answer}
 use Rattle.dom_agent.proofs.OutcomeLemmas.{stays_session}
 use Rattle.dom_agent.proofs.KeeperLemmas.{stays_bound, same_moves}
+use Rattle.dom_breakpoints.specs.Watched.{unwatched}
 use Rattle.back_end.specs.Sheets.{NumberedBook}
 use Rattle.back_end.specs.States.{Client, State, nodes_in}
 use Rattle.back_end.specs.Servers.{Server, enables, disables, agent}
@@ -21,7 +22,7 @@ use Rattle.back_end.specs.Steps.{Step, refusing, ask_needs_on, needs_on, needs_c
 use Rattle.back_end.specs.declared.desk.Desk.{Desk}
 use Rattle.back_end.specs.declared.side.PageSide.{PageSide}
 use Rattle.back_end.specs.Seats.{DeskStandsFor}
-use Rattle.back_end.proofs.FrameLemmas.{enabled-is, disabled-is, off-after, served-is}
+use Rattle.back_end.proofs.FrameLemmas.{enabled-is, disabled-is, off-after, unknown-before, served-is}
 
 -- what holds where a call answers Ok
 pub on_ok : {T E : Type 0} (result : Result T E) (P Q : Type 0) → OnOk result P → (P → Q) → OnOk result Q
@@ -85,6 +86,11 @@ served-css c (shows_root w b) client = refl
 served-css c (served p body) client = refl
 served-css c (refused why) client = refl
 
+served-watches : (c : DomAsk) (o : Outcome Session) (client : Client) → client.watched ≡ (client_served c o client).watched
+served-watches c (shows_root w b) client = refl
+served-watches c (served p body) client = refl
+served-watches c (refused why) client = refl
+
 served-session : (c : DomAsk) (o : Outcome Session) (client : Client) → state_after client.session o ≡ (client_served c o client).session
 served-session c (shows_root w b) client = refl
 served-session c (served p body) client = refl
@@ -92,9 +98,9 @@ served-session c (refused why) client = refl
 
 pub asked-stands : (d d1 : Desk) (s s1 : PageSide) (state : State) (id : ℕ) (c : DomAsk) (page : PageValue)
     → fits_ask c ≡ true → false ≡ (ask_needs_on c && not d.is_on) → DeskStandsFor d s state
-    → s1.page ≡ s.page → s1.sheets ≡ s.sheets → page ≡ s.page → d1.is_on ≡ (d.is_on || turns_on c) → d1.css ≡ d.css → d1.agent ≡ state_after d.agent (binding_outcome page c d.agent)
+    → s1.page ≡ s.page → s1.sheets ≡ s.sheets → page ≡ s.page → d1.is_on ≡ (d.is_on || turns_on c) → d1.css ≡ d.css → d1.watches ≡ d.watches → d1.agent ≡ state_after d.agent (binding_outcome page c d.agent)
     → DeskStandsFor d1 s1 (command_step id (agent c) state).state
-asked-stands d d1 s s1 state id c page fits is_off stands same_side sheets_is same_page on_is css_is agent_is =
+asked-stands d d1 s s1 state id c page fits is_off stands same_side sheets_is same_page on_is css_is watches_is agent_is =
     let w = state.client.session in
     let on : (ask_needs_on c && not state.client.dom_on) ≡ false = same-on c d.is_on state.client.dom_on false stands.on_is is_off in
     let o : Outcome Session = session_outcome state.side.page c w in
@@ -103,12 +109,13 @@ asked-stands d d1 s s1 state id c page fits is_off stands same_side sheets_is sa
     let agent_now : state_after d.agent (binding_outcome state.side.page c d.agent) ≡ d1.agent =
     sym (agent_is ∙ ap (λ page. state_after d.agent (binding_outcome page c d.agent)) (same_page ∙ stands.page_is)) in
     subst (λ (done : Step). DeskStandsFor d1 s1 done.state) (sym (on-is id (agent c) state on refl)) (record {
-      is_state = served-is c o state stands.is_state (off-after c state stands.is_state on) (stays_session state.side.page c w stands.is_state.page fits stands.is_state.session);
+      is_state = served-is c o state stands.is_state (off-after c state stands.is_state on) (unknown-before state.side.page c w stands.is_state.page stands.is_state.session) (stays_session state.side.page c w stands.is_state.page fits stands.is_state.session);
       page_is = same_side ∙ stands.page_is;
       sheets_are = ap (λ (b : NumberedBook). b.entries) sheets_is ∙ stands.sheets_are;
       next_is = ap (λ (b : NumberedBook). b.next) sheets_is ∙ stands.next_is;
       on_is = on_is ∙ on-after c state.side.page state.client d.is_on stands.on_is;
       css_is = css_is ∙ stands.css_is ∙ served-css c o state.client;
+      watches_are = watches_is ∙ stands.watches_are ∙ served-watches c o state.client;
       stands = subst (λ z. Stands (nodes_in state) z d1.agent) (served-session c o state.client) (subst (λ a. Stands (nodes_in state) (state_after w o) a) agent_now bound);
     })
 
@@ -136,15 +143,16 @@ refused-sent d s state id c old new is_off stands sent =
 
 -- ---- the seat's own commands
 
-pub enabled-stands : (d d1 : Desk) (s s1 : PageSide) (state : State) (id : ℕ) → DeskStandsFor d s state → s1.page ≡ s.page → s1.sheets ≡ s.sheets → d1.is_on ≡ true → d1.css ≡ d.css → d1.agent ≡ d.agent
+pub enabled-stands : (d d1 : Desk) (s s1 : PageSide) (state : State) (id : ℕ) → DeskStandsFor d s state → s1.page ≡ s.page → s1.sheets ≡ s.sheets → d1.is_on ≡ true → d1.css ≡ d.css → d1.watches ≡ d.watches → d1.agent ≡ d.agent
     → DeskStandsFor d1 s1 (server_step id enables state).state
-enabled-stands d d1 s s1 state id stands same sheets_is on css_is agent_is = record {
+enabled-stands d d1 s s1 state id stands same sheets_is on css_is watches_is agent_is = record {
   is_state = enabled-is state stands.is_state;
   page_is = same ∙ stands.page_is;
   sheets_are = ap (λ (b : NumberedBook). b.entries) sheets_is ∙ stands.sheets_are;
   next_is = ap (λ (b : NumberedBook). b.next) sheets_is ∙ stands.next_is;
   on_is = on;
   css_is = css_is ∙ stands.css_is;
+  watches_are = watches_is ∙ stands.watches_are;
   stands = subst (λ a. Stands (nodes_in state) state.client.session a) (sym agent_is) stands.stands;
 }
 
@@ -160,8 +168,8 @@ and-false true = refl
 and-false false = refl
 
 pub disabled-stands : (d d1 : Desk) (s s1 : PageSide) (state : State) (id : ℕ) → DeskStandsFor d s state → d.is_on ≡ true → s1.page ≡ s.page → s1.sheets ≡ s.sheets → d1.is_on ≡ false
-    → d1.css ≡ false → d1.agent ≡ cleared d.agent → DeskStandsFor d1 s1 (command_step id disables state).state
-disabled-stands d d1 s s1 state id stands was same sheets_is off css_off agent_is =
+    → d1.css ≡ false → d1.watches ≡ unwatched → d1.agent ≡ cleared d.agent → DeskStandsFor d1 s1 (command_step id disables state).state
+disabled-stands d d1 s s1 state id stands was same sheets_is off css_off watches_is agent_is =
     subst (λ (done : Step). DeskStandsFor d1 s1 done.state) (sym (on-is id disables state (disable-on d.is_on state.client.dom_on stands.on_is was) refl)) (record {
       is_state = disabled-is state stands.is_state;
       page_is = same ∙ stands.page_is;
@@ -169,6 +177,7 @@ disabled-stands d d1 s s1 state id stands was same sheets_is off css_off agent_i
       next_is = ap (λ (b : NumberedBook). b.next) sheets_is ∙ stands.next_is;
       on_is = off;
       css_is = css_off ∙ sym (and-false state.client.css_on);
+      watches_are = watches_is;
       stands = subst (λ a. Stands (nodes_in state) (reset state.client.session) a) (sym agent_is) (Stands-reset (nodes_in state) (nodes_in state) state.client.session d.agent stands.stands);
     })
 

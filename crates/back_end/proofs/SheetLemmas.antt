@@ -30,7 +30,7 @@ use Rattle.back_end.specs.Sheets.{origin_in_book, entry_of_sheet, as_book, shown
 
 -- ---- tests
 
-same-test : (m n : ℕ) → (m == n) ≡ (n == m)
+pub same-test : (m n : ℕ) → (m == n) ≡ (n == m)
 same-test m n = at (m == n) refl (n == m) refl where
   at : (a : Bool) → (m == n) ≡ a → (b : Bool) → (n == m) ≡ b → a ≡ b
   at true e true f = refl

@@ -43,6 +43,7 @@ use Rattle.style_edits.specs.declared.faults.SheetFault.TheVariants.{TooBig}
 use Rattle.back_end.specs.Sheets.{origin_in_book, entry_of_sheet, as_book, numbered_sheets, SheetChange, leaves, comes, NumberedBook}
 use Rattle.back_end.specs.States.{State, nodes_in, book_in}
 use Rattle.back_end.specs.Plans.{Deed, restyles, size_fault, drop_fault, replace_fault, dropping, replacing}
+use Rattle.dom_breakpoints.specs.Watched.{unwatched}
 use Rattle.back_end.specs.Servers.{Server, css_enables, css_disables, css_agent}
 use Rattle.back_end.specs.Steps.{Step, refusing, with_crossed, planned_step, act_step, sheet_step, sheet_move, moves_gone, moves_come, load_step, needs_on, needs_css, element_serial, element_named, node_answer, text_answer, css_step, command_step}
 use Rattle.back_end.specs.Seats.{DeskStandsFor}
@@ -106,7 +107,7 @@ dom-off-sent d s state id server old new needs stands was sent =
     let off : (needs_on server && not state.client.dom_on) ≡ true = ap (λ a. a && not state.client.dom_on) needs ∙ ap (λ b. not b) (sym stands.on_is ∙ was) in
     sent ∙ ap (λ (done : Step). old ++ frames_of_moves done.moves) (sym (off-is id server state off))
 
-dom-on : (server : Server) (d : Desk) (s : PageSide) (state : State) → DeskStandsFor d s state → d.is_on ≡ true → (needs_on server && not state.client.dom_on) ≡ false
+pub dom-on : (server : Server) (d : Desk) (s : PageSide) (state : State) → DeskStandsFor d s state → d.is_on ≡ true → (needs_on server && not state.client.dom_on) ≡ false
 dom-on server d s state stands was = ap (λ b. needs_on server && not b) (sym stands.on_is ∙ was) ∙ at (needs_on server) where
   at : (a : Bool) → (a && false) ≡ false
   at true = refl
@@ -115,7 +116,7 @@ dom-on server d s state stands was = ap (λ b. needs_on server && not b) (sym st
 css-refused : (server : Server) (d : Desk) (s : PageSide) (state : State) → needs_css server ≡ true → DeskStandsFor d s state → d.css ≡ false → (needs_css server && not state.client.css_on) ≡ true
 css-refused server d s state needs stands was = ap (λ a. a && not state.client.css_on) needs ∙ ap (λ b. not b) (sym stands.css_is ∙ was)
 
-css-taken : (server : Server) (d : Desk) (s : PageSide) (state : State) → DeskStandsFor d s state → d.css ≡ true → (needs_css server && not state.client.css_on) ≡ false
+pub css-taken : (server : Server) (d : Desk) (s : PageSide) (state : State) → DeskStandsFor d s state → d.css ≡ true → (needs_css server && not state.client.css_on) ≡ false
 css-taken server d s state stands was = ap (λ b. needs_css server && not b) (sym stands.css_is ∙ was) ∙ at (needs_css server) where
   at : (a : Bool) → (a && false) ≡ false
   at true = refl
@@ -134,9 +135,9 @@ css-off-sent d s state id server old new needs stands on off sent =
 
 -- ---- `CSS.enable` and `CSS.disable`
 
-pub css-enabled-stands : (d d1 : Desk) (s : PageSide) (state : State) (id : ℕ) → DeskStandsFor d s state → d.is_on ≡ true → d1.is_on ≡ d.is_on → d1.css ≡ true → d1.agent ≡ d.agent
+pub css-enabled-stands : (d d1 : Desk) (s : PageSide) (state : State) (id : ℕ) → DeskStandsFor d s state → d.is_on ≡ true → d1.is_on ≡ d.is_on → d1.css ≡ true → d1.watches ≡ d.watches → d1.agent ≡ d.agent
     → DeskStandsFor d1 s (command_step id css_enables state).state
-css-enabled-stands d d1 s state id stands was on_is css_is agent_is =
+css-enabled-stands d d1 s state id stands was on_is css_is watches_is agent_is =
     subst (λ (done : Step). DeskStandsFor d1 s done.state) (sym (on-is id css_enables state (dom-on css_enables d s state stands was) refl)) (record {
       is_state = css-on-is state stands.is_state (sym stands.on_is ∙ was);
       page_is = stands.page_is;
@@ -144,6 +145,7 @@ css-enabled-stands d d1 s state id stands was on_is css_is agent_is =
       next_is = stands.next_is;
       on_is = on_is ∙ stands.on_is;
       css_is = css_is;
+      watches_are = watches_is ∙ stands.watches_are;
       stands = subst (λ a. Stands (nodes_in state) state.client.session a) (sym agent_is) stands.stands;
     })
 
@@ -162,9 +164,9 @@ css-enabled-sent d s state id book old middle new stands was book_is first last 
     ∙ ap (λ bs. old ++ bs) (sym (frames-append ms (replied id Nothing ∷ [])))
     ∙ ap (λ (done : Step). old ++ frames_of_moves done.moves) (sym (on-is id css_enables state (dom-on css_enables d s state stands was) refl))
 
-pub css-disabled-stands : (d d1 : Desk) (s : PageSide) (state : State) (id : ℕ) → DeskStandsFor d s state → d.is_on ≡ true → d.css ≡ true → d1.is_on ≡ d.is_on → d1.css ≡ false → d1.agent ≡ d.agent
+pub css-disabled-stands : (d d1 : Desk) (s : PageSide) (state : State) (id : ℕ) → DeskStandsFor d s state → d.is_on ≡ true → d.css ≡ true → d1.is_on ≡ d.is_on → d1.css ≡ false → d1.watches ≡ d.watches → d1.agent ≡ d.agent
     → DeskStandsFor d1 s (command_step id css_disables state).state
-css-disabled-stands d d1 s state id stands was css_was on_is css_is agent_is =
+css-disabled-stands d d1 s state id stands was css_was on_is css_is watches_is agent_is =
     subst (λ (done : Step). DeskStandsFor d1 s done.state)
     (sym (on-is id css_disables state (dom-on css_disables d s state stands was) (css-taken css_disables d s state stands css_was))) (record {
       is_state = css-off-is state stands.is_state;
@@ -173,6 +175,7 @@ css-disabled-stands d d1 s state id stands was css_was on_is css_is agent_is =
       next_is = stands.next_is;
       on_is = on_is ∙ stands.on_is;
       css_is = css_is;
+      watches_are = watches_is ∙ stands.watches_are;
       stands = subst (λ a. Stands (nodes_in state) state.client.session a) (sym agent_is) stands.stands;
     })
 
@@ -274,6 +277,7 @@ came-stands d s s1 state origin text stands utf8 fits page_is sheets_is =
       next_is = ap (λ (b : NumberedBook). b.next) sheets_is ∙ ap (λ n. n + 1) stands.next_is;
       on_is = stands.on_is;
       css_is = stands.css_is;
+      watches_are = stands.watches_are;
       stands = stands.stands;
     }
 
@@ -315,6 +319,7 @@ left-stands d s s1 state number stands there page_is sheets_is = at (entry_of nu
     next_is = ap (λ (b : NumberedBook). b.next) sheets_is ∙ stands.next_is;
     on_is = stands.on_is;
     css_is = stands.css_is;
+    watches_are = stands.watches_are;
     stands = stands.stands;
   }
 
@@ -334,6 +339,7 @@ crossed d s state stands = record {
   next_is = stands.next_is;
   on_is = stands.on_is;
   css_is = stands.css_is;
+  watches_are = stands.watches_are;
   stands = stands.stands;
 }
 
@@ -488,14 +494,15 @@ named-there sheet es e h = at (sheet_in sheet) h where
 
 pub load-stands : (d d1 : Desk) (s s1 : PageSide) (state : State) (page : LoadedPage) → DeskStandsFor d s state → CanLoadPage page → PageHasTexts page
     → s1.page ≡ loaded s.page.next page.nodes → s1.sheets.entries ≡ as_book (numbered_sheets s.sheets.next page.sheets) → s1.sheets.next ≡ s.sheets.next + length page.sheets
-    → d1.is_on ≡ d.is_on → d1.css ≡ d.css → d1.agent ≡ cleared d.agent → DeskStandsFor d1 s1 (load_step page state).state
-load-stands d d1 s s1 state page stands can texts page_is sheets_are next_is on_is css_is agent_is = record {
+    → d1.is_on ≡ d.is_on → d1.css ≡ d.css → d1.watches ≡ unwatched → d1.agent ≡ cleared d.agent → DeskStandsFor d1 s1 (load_step page state).state
+load-stands d d1 s s1 state page stands can texts page_is sheets_are next_is on_is css_is watches_is agent_is = record {
   is_state = load-is state page stands.is_state can texts;
   page_is = page_is ∙ ap (λ (p : PageValue). loaded p.next page.nodes) stands.page_is;
   sheets_are = sheets_are ∙ ap (λ n. as_book (numbered_sheets n page.sheets)) stands.next_is;
   next_is = next_is ∙ ap (λ n. n + length page.sheets) stands.next_is;
   on_is = on_is ∙ stands.on_is;
   css_is = css_is ∙ stands.css_is ∙ both-on state.client.css_on state.client.dom_on stands.is_state.css_off;
+  watches_are = watches_is;
   stands = subst (λ a. Stands (nodes_in (load_step page state).state) (reset state.client.session) a) (sym agent_is)
       (Stands-reset (nodes_in state) (nodes_in (load_step page state).state) state.client.session d.agent stands.stands);
 }

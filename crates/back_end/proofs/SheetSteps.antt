@@ -84,7 +84,9 @@ change-is (leaves n) state is can = record {
   session = is.session;
   off = is.off;
   css_off = is.css_off;
-  no_more = record { watched = is.no_more.watched; marks = is.no_more.marks };
+  watched = is.watched;
+  none_watched = is.none_watched;
+  history = is.history;
 }
 change-is (comes origin text) state is can = record {
   page = is.page;
@@ -93,7 +95,9 @@ change-is (comes origin text) state is can = record {
   session = is.session;
   off = is.off;
   css_off = is.css_off;
-  no_more = record { watched = is.no_more.watched; marks = is.no_more.marks };
+  watched = is.watched;
+  none_watched = is.none_watched;
+  history = is.history;
 }
 
 change-few : (c : SheetChange) (state : State) → (side_changed c state.side).next_sheet ≤ state.side.next_sheet + 1
@@ -101,7 +105,7 @@ change-few (leaves n) state = omega arith
 change-few (comes origin text) state = omega arith
 
 -- a change while the domain is on, and while it is off
-change-course : (w : Session) (page : PageValue) (old new : List ShownSheet) (m : Told) (on : Bool)
+pub change-course : (w : Session) (page : PageValue) (old new : List ShownSheet) (m : Told) (on : Bool)
     → ((sheets : List ShownSheet) → CanTellSheets sheets → CanBeTold (seen_by w page sheets)) → CanTellSheets old → CanTellSheets new → CanTellSheets []
     → ((tree : Nodes Seen) → Moves m (seen tree old) (seen tree new)) → Course (cond on (m ∷ []) []) (seen_by w page (cond on old [])) (seen_by w page (cond on new []))
 change-course w page old new m true told can later nothing moves =
@@ -188,7 +192,9 @@ css-on-is state is on = record {
   session = is.session;
   off = is.off;
   css_off = λ h. absurd (no (sym on ∙ h));
-  no_more = record { watched = is.no_more.watched; marks = is.no_more.marks };
+  watched = is.watched;
+  none_watched = is.none_watched;
+  history = is.history;
 }
   where
     no : true ≡ false → ⊥
@@ -226,7 +232,9 @@ css-off-is state is = record {
   session = is.session;
   off = is.off;
   css_off = λ h. refl;
-  no_more = record { watched = is.no_more.watched; marks = is.no_more.marks };
+  watched = is.watched;
+  none_watched = is.none_watched;
+  history = is.history;
 }
 
 pub css-off-well : (id : ℕ) (state : State) → IsState state → HasNumbers state → is_counted id ≡ true → Well state (css_off_step id state) 0 0 0

@@ -1,5 +1,5 @@
 -- What a script does: its step is well.
-use Rattle.std.proofs.Common.{◌≡◌, ℕ, suc, ◌+◌, ◌^◌, ◌<◌, ◌≤◌, Bool, true, false, not, ◌&&◌, cond, nat_le, List, [], ◌∷◌, length, Option, Some, None, refl, sym, ◌∙◌, ap, subst, arith}
+use Rattle.std.proofs.Common.{◌≡◌, ℕ, suc, ◌+◌, ◌*◌, ◌^◌, ◌<◌, ◌≤◌, Bool, true, false, not, ◌&&◌, cond, nat_le, List, [], ◌∷◌, length, Option, Some, None, refl, sym, ◌∙◌, ap, subst, arith}
 use Rattle.std.specs.Prelude.{⊤, option_map}
 use Rattle.std.specs.FinSet as set
 use Rattle.std.specs.Ordering.{nat_cmp}
@@ -40,19 +40,23 @@ use Rattle.dom_agent.specs.Laws.{CanTell, CanTellSheets, RowsHaveUtf8, view_of a
 use Rattle.dom_agent.specs.EditLaws.{session_edited}
 use Rattle.dom_agent.proofs.EditMoves.{edits_are_moves}
 use Rattle.dom_agent.proofs.EditLemmas.{edit_keeps_session, edit_draws_one}
+use Rattle.dom_breakpoints.specs.Pauses.{pause_of}
 use Rattle.dom_breakpoints.specs.Watched.{unwatched, is_within, outside, without_subtree}
 use Rattle.undo_marks.specs.Marks.{crossed_over}
 use Rattle.back_end.specs.declared.faults.ActFault.{ActFault}
 use Rattle.back_end.specs.declared.faults.ActFault.TheVariants.{Sheet}
 use Rattle.back_end.specs.Sheets.{as_book, AreSheetsBelow}
-use Rattle.back_end.specs.States.{Side, Client, State, book_in, sheets_shown, view_of, loaded_side, IsState}
+use Rattle.back_end.specs.States.{Side, Client, State, book_in, sheets_shown, view_of, loaded_side, AreAmong, IsState}
 use Rattle.back_end.specs.Plans.{Plan, Deed, edits, restyles, edit_fault, size_fault, drop_fault, replace_fault, dropping, replacing, act_fault, act_plan}
-use Rattle.back_end.specs.Steps.{Step, with_page, watched_after, edit_step, edit_steps, with_crossed, crossing, deed_step, planned_step, act_step, client_reset, load_step, Turn, acts, loads, turn_step}
+use Rattle.back_end.specs.Steps.{Step, with_page, watched_after, edit_step, pause_step, script_step, script_steps, with_crossed, crossing, deed_step, planned_step, act_step, client_reset, load_step, Turn, acts, loads, turn_step}
 use Rattle.back_end.specs.Texts.{PageHasTexts, ActHasTexts, EditHasTexts}
 use Rattle.back_end.specs.Laws.{HasRoom, StepsWell, IsTurn}
 use Rattle.back_end.proofs.TextLemmas.{node_at-texts, after-texts, numbered-texts, branch-texts}
 use Rattle.back_end.proofs.SheetLemmas.{ascend-order, sheets-loaded, sheets-few, book-without, named-is, fits-beside}
 use Rattle.back_end.proofs.SheetSteps.{CanChangeAll, changes-well, load-course}
+use Rattle.back_end.proofs.PushSteps.{not-begun, begun-edited}
+use Rattle.back_end.proofs.WatchedLemmas.{none-set, among-after}
+use Rattle.back_end.proofs.PauseSteps.{Pauses, edit-pauses}
 use Rattle.back_end.proofs.WellSteps.{Well, HasNumbers, room-numbers, can-sheets, can-tell, told-with, stays, then-well, more, few-steps}
 
 -- ---- one edit
@@ -77,6 +81,13 @@ no-serials root tree =
 
 none-left : (root : ℕ) (tree : Branch Row) → without_subtree root tree unwatched ≡ unwatched
 none-left root tree = λ i. record { subtree = no-serials root tree i; attribute = no-serials root tree i; removed = no-serials root tree i }
+
+-- where nothing is opened after an edit, nothing was
+none-before : (e : TreeEdit) (page : PageValue) (w : Session) → (session_edited e page w).state.opened ≡ None → w.opened ≡ None
+none-before e page w h = at w.opened refl where
+  at : (o : Option (ℕ → Bool)) → w.opened ≡ o → w.opened ≡ None
+  at None is = is
+  at (Some o) is = not-begun (session_edited e page w).state (begun-edited e page w (o, is)) h
 
 -- no watch is set after an edit, where none was
 unwatched-after : (e : TreeEdit) (state : State) → state.client.watched ≡ unwatched → watched_after e state ≡ unwatched
@@ -105,7 +116,9 @@ edit-well state e is low ids can texts =
         session = edit_keeps_session page e w is.page can is.session;
         off = λ h. edited-off e page w (is.off h);
         css_off = is.css_off;
-        no_more = record { watched = unwatched-after e state is.no_more.watched; marks = is.no_more.marks };
+        watched = among-after e state is.page can is.watched;
+        none_watched = λ h. unwatched-after e state (is.none_watched (none-before e page w h));
+        history = is.history;
       };
       course = edits_are_moves page e w (sheets_shown state) is.page can is.session (can-tell state is low) later (can-sheets state is low);
       few_ids = few;
@@ -116,22 +129,42 @@ edit-well state e is low ids can texts =
 -- ---- edits, one after the other
 
 -- the texts of each edit are UTF-8
-abbrev EditsHaveTexts : List TreeEdit → Type 0
+abbrev pub EditsHaveTexts : List TreeEdit → Type 0
 EditsHaveTexts [] = ⊤
 EditsHaveTexts (e ∷ es) = EditHasTexts e × EditsHaveTexts es
 
-edits-well : (es : List TreeEdit) (state : State) → IsState state → HasNumbers state → length es + length state.client.session.pushed < 2 ^ 52
-    → CanApplyAll es state.side.page → EditsHaveTexts es → Well state (edit_steps es state) (length es) 0 0
-edits-well [] state is low ids can texts = stays state is low
-edits-well (e ∷ es) state is low ids can texts =
-    let first : Well state (edit_step e state) 1 0 0 = edit-well state e is low (omega (arith, ids)) can.0 texts.0 in
-    let next : HasNumbers (edit_step e state).state = record {
+-- an edit by a script: a pause, where it comes to one, and then the edit
+script-well : (state : State) (e : TreeEdit) → IsState state → HasNumbers state → length state.client.session.pushed + 200001 < 2 ^ 52
+    → CanApply state.side.page.next e state.side.page.tree → EditHasTexts e
+    → Well state (script_step e state) 200001 0 0 × ((script_step e state).state.side.page ≡ after e state.side.page)
+script-well state e is low ids can texts =
+    let paused : Step = pause_step (pause_of state.client.watched state.side.page.tree e) state in
+    let p : Pauses state paused = edit-pauses state e is low (omega (arith, ids)) can in
+    let well : Well state paused 200000 0 0 = p.well in
+    let next : HasNumbers paused.state = record {
+      ids = omega (arith, ids, well.few_ids);
+      serials = omega (arith, low.serials, well.few_serials);
+      sheets = omega (arith, low.sheets, well.few_sheets);
+    } in
+    let still : CanApply paused.state.side.page.next e paused.state.side.page.tree = subst (λ (side : Side). CanApply side.page.next e side.page.tree) (sym p.side) can in (
+      more (omega arith) (omega arith) (omega arith) (then-well well (edit-well paused.state e well.is_state next (omega (arith, ids, well.few_ids)) still texts)),
+      ap (λ (side : Side). after e side.page) p.side,
+    )
+
+scripts-well : (es : List TreeEdit) (state : State) → IsState state → HasNumbers state → 200001 * length es + length state.client.session.pushed < 2 ^ 52
+    → CanApplyAll es state.side.page → EditsHaveTexts es → Well state (script_steps es state) (200001 * length es) 0 0
+scripts-well [] state is low ids can texts = more (omega arith) (omega arith) (omega arith) (stays state is low)
+scripts-well (e ∷ es) state is low ids can texts =
+    let one = script-well state e is low (omega (arith, ids)) can.0 texts.0 in
+    let first : Well state (script_step e state) 200001 0 0 = one.0 in
+    let next : HasNumbers (script_step e state).state = record {
       ids = omega (arith, ids, first.few_ids);
       serials = omega (arith, low.serials, first.few_serials);
       sheets = omega (arith, low.sheets, first.few_sheets);
     } in
+    let rest : CanApplyAll es (script_step e state).state.side.page = subst (CanApplyAll es) (sym one.1) can.1 in
     more (omega arith) (omega arith) (omega arith)
-    (then-well first (edits-well es (edit_step e state).state first.is_state next (omega (arith, ids, first.few_ids)) can.1 texts.1))
+    (then-well first (scripts-well es (script_step e state).state first.is_state next (omega (arith, ids, first.few_ids)) rest texts.1))
 
 -- ---- acts
 
@@ -146,7 +179,7 @@ drawn-valid form page valid = record {
 }
 
 -- what a plan begins with, and that its edits are taken
-record Planned (state : State) (plan : Plan) : Type 0 where
+pub record Planned (state : State) (plan : Plan) : Type 0 where
   pub page : IsValid plan.page
   pub same : plan.page.tree ≡ state.side.page.tree
   pub serials : plan.page.next ≤ state.side.page.next + 100000
@@ -155,7 +188,7 @@ record Planned (state : State) (plan : Plan) : Type 0 where
   pub short : length plan.edits ≤ 2
 
 -- an edit alone
-planned-edit : (state : State) (e : TreeEdit) → IsState state → CanApply state.side.page.next e state.side.page.tree → EditHasTexts e
+pub planned-edit : (state : State) (e : TreeEdit) → IsState state → CanApply state.side.page.next e state.side.page.tree → EditHasTexts e
     → Planned state (record { page = state.side.page; edits = e ∷ [] })
 planned-edit state e is can texts = record {
   page = is.page;
@@ -246,11 +279,13 @@ with-page-is state page is valid same = record {
   session = subst (λ tree. IsSession (alone tree) state.client.session) (sym same) is.session;
   off = is.off;
   css_off = is.css_off;
-  no_more = record { watched = is.no_more.watched; marks = is.no_more.marks };
+  watched = subst (λ tree. AreAmong state.client.watched (alone tree)) (sym same) is.watched;
+  none_watched = is.none_watched;
+  history = is.history;
 }
 
 -- the client sees the same where only the next serial is another
-same-view : (state : State) (page : PageValue) → page.tree ≡ state.side.page.tree → view_of (with_page page state) ≡ view_of state
+pub same-view : (state : State) (page : PageValue) → page.tree ≡ state.side.page.tree → view_of (with_page page state) ≡ view_of state
 same-view state page same = ap (λ tree. seen_by state.client.session (record { tree = tree; next = 0 }) (sheets_shown state)) same
 
 -- a history with nothing in it has nothing to lose
@@ -262,7 +297,9 @@ crossed-is state is = record {
   session = is.session;
   off = is.off;
   css_off = is.css_off;
-  no_more = record { watched = is.no_more.watched; marks = ap crossed_over is.no_more.marks ∙ refl };
+  watched = is.watched;
+  none_watched = is.none_watched;
+  history = ap crossed_over is.history ∙ refl;
 }
 
 -- a step that is not the client's is as well as the step itself
@@ -275,7 +312,7 @@ crossing-well {done = done} well = record {
   few_sheets = well.few_sheets;
 }
 
-plan-well : (state : State) (plan : Plan) → IsState state → HasRoom state → Planned state plan → Well state (deed_step (edits plan) state) 2 100000 1
+plan-well : (state : State) (plan : Plan) → IsState state → HasRoom state → Planned state plan → Well state (deed_step (edits plan) state) 400002 100000 1
 plan-well state plan is room p =
     let begun : IsState (with_page plan.page state) = with-page-is state plan.page is p.page p.same in
     let low : HasNumbers (with_page plan.page state) = record {
@@ -283,25 +320,26 @@ plan-well state plan is room p =
       serials = omega (arith, room.serials, p.serials);
       sheets = omega (arith, room.sheets);
     } in
-    let done : Well (with_page plan.page state) (edit_steps plan.edits (with_page plan.page state)) (length plan.edits) 0 0 =
-    edits-well plan.edits (with_page plan.page state) begun low (omega (arith, room.ids, p.short)) p.taken p.texts in
+    let steps : Step = script_steps plan.edits (with_page plan.page state) in
+    let done : Well (with_page plan.page state) steps (200001 * length plan.edits) 0 0 =
+    scripts-well plan.edits (with_page plan.page state) begun low (omega (arith, room.ids, p.short)) p.taken p.texts in
     record {
-      is_state = crossed-is (edit_steps plan.edits (with_page plan.page state)).state done.is_state;
-      course = subst (λ v. Course (edit_steps plan.edits (with_page plan.page state)).moves v (view_of (edit_steps plan.edits (with_page plan.page state)).state)) (same-view state plan.page p.same) done.course;
+      is_state = crossed-is steps.state done.is_state;
+      course = subst (λ v. Course steps.moves v (view_of steps.state)) (same-view state plan.page p.same) done.course;
       few_ids = omega (arith, done.few_ids, p.short);
       few_serials = omega (arith, done.few_serials, p.serials);
       few_sheets = omega (arith, done.few_sheets);
     }
 
-deed-well : (state : State) (deed : Deed) → IsState state → HasRoom state → CanDo deed state → Well state (deed_step deed state) 2 100000 2
+deed-well : (state : State) (deed : Deed) → IsState state → HasRoom state → CanDo deed state → Well state (deed_step deed state) 400002 100000 2
 deed-well state (edits plan) is room can = more (omega arith) (omega arith) (omega arith) (plan-well state plan is room can)
 deed-well state (restyles changes) is room can =
     more (omega arith) (omega arith) can.1
     (crossing-well (changes-well changes state is (room-numbers state room) (omega (arith, room.sheets, can.1)) can.0))
 
-act-well : (state : State) (act : Act) → IsState state → HasRoom state → IsInsertable act → ActHasTexts act → Well state (act_step act state) 2 100000 2
+act-well : (state : State) (act : Act) → IsState state → HasRoom state → IsInsertable act → ActHasTexts act → Well state (act_step act state) 400002 100000 2
 act-well state act is room can texts = at (act_fault act state.side.page (book_in state)) refl where
-  at : (o : Option ActFault) → act_fault act state.side.page (book_in state) ≡ o → Well state (planned_step o (act_plan act state.side.page (book_in state)) state) 2 100000 2
+  at : (o : Option ActFault) → act_fault act state.side.page (book_in state) ≡ o → Well state (planned_step o (act_plan act state.side.page (book_in state)) state) 400002 100000 2
   at None h = deed-well state (act_plan act state.side.page (book_in state)) is room (can-do state act is can texts h)
   at (Some f) h = more (omega arith) (omega arith) (omega arith) (stays state is (room-numbers state room))
 
@@ -321,7 +359,9 @@ reset-is state side on valid texts sheets = record {
   session = IsSession-reset (alone side.page.tree) state.client.session;
   off = λ h. refl;
   css_off = λ h. ap (λ b. state.client.css_on && b) h ∙ and-false state.client.css_on;
-  no_more = record { watched = refl; marks = refl };
+  watched = λ kind serial h. none-set kind serial h;
+  none_watched = λ h. refl;
+  history = refl;
 }
 
 -- where nothing is known, messages can tell any sheets

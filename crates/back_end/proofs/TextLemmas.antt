@@ -5,12 +5,12 @@ use Rattle.std.specs.Ordering.{match_ordering}
 use Rattle.std.specs.Cmp.Lexicographic.{slice_cmp}
 use Rattle.page_tree.specs.Loads.{placed}
 use Rattle.std.specs.Str.{IsUtf8}
-use Rattle.node_tree.specs.Nodes.{Nodes, none, node, Branch, alone, node_count}
+use Rattle.node_tree.specs.Nodes.{Nodes, none, node, Branch, alone, node_count, map_rows}
 use Rattle.node_tree.specs.Labels.{Pair, Label}
 use Rattle.node_tree.specs.Keys as keys
 use Rattle.node_tree.specs.Keys.{first_of}
-use Rattle.page_tree.specs.Pages.{Row, row_serial, find_in, node_at, parent_at, numbered}
-use Rattle.page_tree.specs.Edits.{pairs_without, with_attribute, without_attribute, with_value, relabelled, put_before, taken_out, with_child, without_child, put_in, changed_at, after_tree, numbered_branch}
+use Rattle.page_tree.specs.Pages.{Row, row_label, row_serial, find_in, node_at, parent_at, numbered}
+use Rattle.page_tree.specs.Edits.{pairs_without, with_attribute, without_attribute, with_value, relabelled, put_before, taken_out, with_child, without_child, put_in, changed_at, after_tree, form_at, numbered_branch}
 use Rattle.page_tree.specs.declared.edits.TreeEdit.{TreeEdit}
 use Rattle.page_tree.specs.declared.edits.TreeEdit.TheVariants.{SetAttr, DropAttr, SetText, Attach, Detach}
 use Rattle.cdp_messages.specs.Laws.{PairsHaveUtf8, LabelHasUtf8}
@@ -132,3 +132,13 @@ numbered-texts first (node l c t) texts = (texts.0, numbered-texts (first + 1) c
 
 pub branch-texts : (first : ℕ) (form : Branch Label) → FormHasTexts form → TextTree (numbered_branch first form)
 branch-texts first form texts = (texts.0, numbered-texts (first + 1) form.children texts.1, tt)
+
+-- ---- a copy
+
+rows-texts : (n : Nodes Row) → RowsHaveUtf8 n → HaveTexts (map_rows row_label n)
+rows-texts none texts = tt
+rows-texts (node r c t) texts = (texts.0, rows-texts c texts.1, rows-texts t texts.2)
+
+-- the form of a node of the page has its texts
+pub form-texts : (serial : ℕ) (tree : Branch Row) → RowsHaveUtf8 (alone tree) → FormHasTexts (form_at serial tree)
+form-texts serial tree texts = let has = node_at-texts serial tree texts in (has.0, rows-texts (node_at serial tree).children has.1)

@@ -10,13 +10,17 @@ use Rattle.page_forms.specs.declared.acts.Act.{Act}
 use Rattle.node_binding.specs.Sessions.{Session, knows, is_open}
 use Rattle.cdp_messages.specs.Views.{ShownSheet}
 use Rattle.cdp_messages.specs.Moves.{Move, change, clear, met, added, dropped, rewritten, root, texted, replied, all_off, sheets_off, failed}
+use Rattle.dom_agent.specs.Keepers.{session_keeper}
+use Rattle.dom_agent.specs.Requests.{Showing, pushed, opening_moves}
 use Rattle.dom_agent.specs.Edits.{Edited}
 use Rattle.dom_agent.specs.EditLaws.{session_edited}
+use Rattle.dom_breakpoints.specs.declared.pauses.Pause.{Pause}
+use Rattle.dom_breakpoints.specs.Pauses.{pause_of}
 use Rattle.back_end.specs.declared.faults.ActFault.{ActFault}
 use Rattle.back_end.specs.Sheets.{SheetChange, leaves, comes}
-use Rattle.back_end.specs.States.{Side, State, book_in}
+use Rattle.back_end.specs.States.{Side, State, nodes_in, book_in}
 use Rattle.back_end.specs.Plans.{Deed, edits, restyles, act_fault, act_plan}
-use Rattle.back_end.specs.Steps.{edit_step, edit_steps, with_page, sheet_move, sheet_step, sheet_steps, moves_gone, moves_come, deed_step, planned_step, act_step, load_step, Turn, acts, loads, turn_step}
+use Rattle.back_end.specs.Steps.{edit_step, push_step, push_steps, met_step, followed_by, pause_step, script_step, script_steps, with_page, sheet_move, sheet_step, sheet_steps, moves_gone, moves_come, deed_step, planned_step, act_step, load_step, Turn, acts, loads, turn_step}
 use Rattle.back_end.specs.Laws.{reply_ids, MayAnswerAll, TellTextOf}
 
 -- a move that an event tells
@@ -112,7 +116,7 @@ gone-events : (b d : Bool) (m k : Move) → IsEvent m → IsEvent k → AreEvent
 gone-events true d m k h j = (h, tt)
 gone-events false d m k h j = one-event d (k ∷ []) (j, tt)
 
-edit-events : (e : TreeEdit) (page : PageValue) (w : Session) → AreEvents (session_edited e page w).moves
+pub edit-events : (e : TreeEdit) (page : PageValue) (w : Session) → AreEvents (session_edited e page w).moves
 edit-events (SetAttr serial name value) page w = one-event (knows w (alone page.tree) serial) _ (tt, tt)
 edit-events (DropAttr serial name) page w = one-event (knows w (alone page.tree) serial) _ (tt, tt)
 edit-events (SetText serial value) page w = one-event (knows w (alone page.tree) serial) _ (tt, tt)
@@ -121,11 +125,38 @@ edit-events (Detach serial) page w =
     let parent = parent_at serial page.tree in
     gone-events (is_open w.opened parent) (knows w (alone page.tree) parent) _ _ tt tt
 
-edits-events : (es : List TreeEdit) (state : State) → AreEvents (edit_steps es state).moves
-edits-events [] state = tt
-edits-events (e ∷ es) state =
-    events-append (edit_step e state).moves (edit_steps es (edit_step e state).state).moves
-    (edit-events e state.side.page state.client.session) (edits-events es (edit_step e state).state)
+-- ---- pauses, and a script's edits
+
+pub openings-events : (xs : List Showing) → AreEvents (opening_moves xs)
+openings-events [] = tt
+openings-events (x ∷ xs) = (tt, openings-events xs)
+
+push-events : (serial : ℕ) (state : State) → AreEvents (push_step serial state).moves
+push-events serial state = openings-events (pushed (session_keeper (nodes_in state)) state.side.page.tree serial state.client.session).shown
+
+pushes-events : (serial : Option ℕ) (state : State) → AreEvents (push_steps serial state).moves
+pushes-events None state = tt
+pushes-events (Some serial) state = push-events serial state
+
+pause-events : (o : Option Pause) (state : State) → AreEvents (pause_step o state).moves
+pause-events None state = tt
+pause-events (Some p) state =
+    let first = push_step p.node state in
+    let second = followed_by first (push_steps p.target) in
+    events-append second.moves (met_step p second.state).moves
+    (events-append first.moves (push_steps p.target first.state).moves (push-events p.node state) (pushes-events p.target first.state)) (tt, tt)
+
+script-events : (e : TreeEdit) (state : State) → AreEvents (script_step e state).moves
+script-events e state =
+    let pause : Option Pause = pause_of state.client.watched state.side.page.tree e in
+    let paused = pause_step pause state in
+    events-append paused.moves (edit_step e paused.state).moves (pause-events pause state) (edit-events e paused.state.side.page paused.state.client.session)
+
+scripts-events : (es : List TreeEdit) (state : State) → AreEvents (script_steps es state).moves
+scripts-events [] state = tt
+scripts-events (e ∷ es) state =
+    events-append (script_step e state).moves (script_steps es (script_step e state).state).moves
+    (script-events e state) (scripts-events es (script_step e state).state)
 
 -- ---- changes of the sheets
 
@@ -150,7 +181,7 @@ come-are-events (s ∷ ss) = (tt, come-are-events ss)
 -- ---- a script's own step
 
 deed-events : (deed : Deed) (state : State) → AreEvents (deed_step deed state).moves
-deed-events (edits plan) state = edits-events plan.edits (with_page plan.page state)
+deed-events (edits plan) state = scripts-events plan.edits (with_page plan.page state)
 deed-events (restyles changes) state = changes-events changes state
 
 act-events : (act : Act) (state : State) → AreEvents (act_step act state).moves

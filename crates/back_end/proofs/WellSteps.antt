@@ -107,5 +107,5 @@ more ids serials sheets well = record {
   few_sheets = omega (arith, well.few_sheets, sheets);
 }
 
-pub few-steps : {before : State} {done : Step} → Well before done 2 100001 1000 → StepsWell before done
+pub few-steps : {before : State} {done : Step} → Well before done 500000 100001 1000 → StepsWell before done
 few-steps well = record { is_state = well.is_state; course = well.course; ids = omega (arith, well.few_ids); serials = well.few_serials; sheets = well.few_sheets }

@@ -1,5 +1,5 @@
 -- What holds of each step.
-use Rattle.std.specs.Prelude.{◌≡◌, ℕ, ◌+◌, ◌^◌, ◌≤◌, ◌<◌, Bool, true, List, [], ◌∷◌, length, codes, ⊤, Option, Some, None, option_and_then, Result, Ok, Err}
+use Rattle.std.specs.Prelude.{◌≡◌, ℕ, ◌+◌, ◌*◌, ◌^◌, ◌≤◌, ◌<◌, Bool, true, List, [], ◌∷◌, length, codes, ⊤, Option, Some, None, option_and_then, Result, Ok, Err}
 use Rattle.std.specs.List.{flat_map}
 use Rattle.page_tree.specs.Forms.{max_nodes}
 use Rattle.page_forms.specs.Acts.{IsInsertable}
@@ -27,12 +27,17 @@ pub record HasRoom (state : State) : Type 0 where
   pub serials : state.side.page.next < 2 ^ 50
   pub sheets : state.side.next_sheet < 2 ^ 50
 
+-- ids that a step may draw: an edit by a script makes two nodes known before it, each with all that is beside it and above, and a
+-- move is two edits
+abbrev pub most_ids : ℕ
+most_ids = 5 * max_nodes
+
 -- The state after a step is valid; the moves lead the view to the view of it; and a step draws few ids, few serials and few numbers
 -- of sheets.
 pub record StepsWell (before : State) (done : Step) : Type 0 where
   pub is_state : IsState done.state
   pub course : Course done.moves (view_of before) (view_of done.state)
-  pub ids : length done.state.client.session.pushed ≤ length before.client.session.pushed + max_nodes
+  pub ids : length done.state.client.session.pushed ≤ length before.client.session.pushed + most_ids
   pub serials : done.state.side.page.next ≤ before.side.page.next + (max_nodes + 1)
   pub sheets : done.state.side.next_sheet ≤ before.side.next_sheet + max_sheets
 

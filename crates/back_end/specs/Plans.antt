@@ -1,8 +1,8 @@
 -- What a script's change of the page comes to: edits of the page, or changes of its sheets, or the first fault.
 use Rattle.std.specs.Prelude.{ℕ, cond, List, [], ◌∷◌, Option, Some, None, option_map}
 use Rattle.page_tree.specs.Pages.{State as PageValue}
-use Rattle.page_tree.specs.Edits.{drawn, insert_edits, move_edits}
-use Rattle.page_tree.specs.EditFaults.{first_fault, insert_fault, move_fault}
+use Rattle.page_tree.specs.Edits.{drawn, form_at, insert_edits, copy_edits, move_edits}
+use Rattle.page_tree.specs.EditFaults.{first_fault, insert_fault, move_fault, copy_fault}
 use Rattle.page_tree.specs.declared.edits.TreeEdit.{TreeEdit}
 use Rattle.page_tree.specs.declared.edits.TreeEdit.TheVariants as edit
 use Rattle.page_tree.specs.declared.edit_faults.EditFault.{EditFault}
@@ -14,6 +14,8 @@ use Rattle.css_agent.specs.Asks.{sheet_named}
 use Rattle.page_forms.specs.declared.acts.Act.{Act}
 use Rattle.page_forms.specs.declared.acts.Act.TheVariants.{SetAttr, DropAttr, SetText, Insert, Remove, Move, AddSheet, DropSheet, ReplaceSheet}
 use Rattle.back_end.specs.declared.faults.ActFault.{ActFault}
+use Rattle.back_end.specs.declared.dom_edits.NodeEdit.{NodeEdit}
+use Rattle.back_end.specs.declared.dom_edits.NodeEdit.TheVariants.{One, MoveNode, CopyNode}
 use Rattle.back_end.specs.declared.faults.ActFault.TheVariants.{Edit, Sheet}
 use Rattle.back_end.specs.Sheets.{SheetChange, leaves, comes}
 
@@ -88,3 +90,24 @@ act_plan (Move node parent before) page book = edits (record { page = page; edit
 act_plan (AddSheet origin text) page book = restyles (comes origin text ∷ [])
 act_plan (DropSheet sheet) page book = restyles (dropping (sheet_named sheet book))
 act_plan (ReplaceSheet sheet text) page book = restyles (replacing text (sheet_named sheet book))
+
+-- ---- a client's edits of the tree
+
+-- the fault of an edit, the first by number
+abbrev pub node_edit_fault : NodeEdit → PageValue → Option EditFault
+node_edit_fault (One edit) page = first_fault edit page.tree
+node_edit_fault (MoveNode node parent before) page = move_fault node parent before page.tree
+node_edit_fault (CopyNode node parent before) page = copy_fault node parent before page.tree
+
+-- what one without a fault comes to
+abbrev pub node_edit_plan : NodeEdit → PageValue → Plan
+node_edit_plan (One edit) page = record { page = page; edits = edit ∷ [] }
+node_edit_plan (MoveNode node parent before) page = record { page = page; edits = move_edits node parent before page.tree }
+node_edit_plan (CopyNode node parent before) page =
+    record { page = drawn (form_at node page.tree) page; edits = copy_edits node parent before page }
+
+-- the node that was moved, or the copy, which has the first serial that was drawn
+abbrev pub node_put : NodeEdit → PageValue → Option ℕ
+node_put (One edit) page = None
+node_put (MoveNode node parent before) page = Some node
+node_put (CopyNode node parent before) page = Some page.next

@@ -1,7 +1,12 @@
 -- A seat with its side that stands for a state.
-use Rattle.std.specs.Prelude.{◌≡◌, ◌<◌, ◌^◌, [], Option, Some, None}
-use Rattle.node_tree.specs.Nodes.{none}
+use Rattle.std.specs.Prelude.{◌≡◌, ℕ, ◌<◌, ◌^◌, Bool, true, false, [], Option, Some, None, is_some, ⊤}
+use Rattle.node_tree.specs.Nodes.{Nodes, none}
+use Rattle.node_tree.specs.Keys.{has}
+use Rattle.page_tree.specs.Pages.{Row, row_serial}
 use Rattle.node_binding.specs.Bindings.{Stands}
+use Rattle.dom_breakpoints.specs.declared.pauses.WatchKind.TheVariants.{Subtree, Attribute, Removed}
+use Rattle.dom_breakpoints.specs.declared.pauses.Pause.{Pause}
+use Rattle.dom_breakpoints.specs.Watched.{Watched, is_watched}
 use Rattle.page_forms.specs.declared.pages.PageForm.{PageForm}
 use Rattle.page_forms.specs.Pages.{LoadedPage, loaded_page}
 use Rattle.back_end.specs.States.{State, IsState, nodes_in, book_in}
@@ -9,7 +14,8 @@ use Rattle.back_end.specs.declared.desk.Desk.{Desk}
 use Rattle.back_end.specs.declared.seat.Seat.{Seat}
 use Rattle.back_end.specs.declared.side.PageSide.{PageSide}
 
--- The page and its sheets are the state's, and each domain is on where it is on in the state; the binding has the session.
+-- The page and its sheets are the state's, and each domain is on where it is on in the state; the binding has the session,
+-- and the watches are the state's.
 pub record DeskStandsFor (desk : Desk) (side : PageSide) (state : State) : Type 0 where
   pub is_state : IsState state
   pub page_is : side.page ≡ state.side.page
@@ -18,6 +24,7 @@ pub record DeskStandsFor (desk : Desk) (side : PageSide) (state : State) : Type 
   pub on_is : desk.is_on ≡ state.client.dom_on
   pub css_is : desk.css ≡ state.client.css_on
   pub stands : Stands (nodes_in state) state.client.session desk.agent
+  pub watches_are : desk.watches ≡ state.client.watched
 
 -- the same of a seat
 abbrev pub StandsFor : Seat → PageSide → State → Type 0
@@ -28,6 +35,37 @@ pub record HasRoomLeft (desk : Desk) (side : PageSide) : Type 0 where
   pub ids : desk.agent.next < 2 ^ 50
   pub serials : side.page.next < 2 ^ 50
   pub sheets : side.sheets.next < 2 ^ 50
+
+-- ---- nodes that become known
+
+-- A node can become known: something is opened, and the node is one of the page.
+pub record CanPush (serial : ℕ) (state : State) : Type 0 where
+  pub begun : is_some state.client.session.opened ≡ true
+  pub there : has row_serial serial (nodes_in state) ≡ true
+
+-- where there is one
+abbrev pub CanPushAny : Option ℕ → State → Type 0
+CanPushAny None state = ⊤
+CanPushAny (Some serial) state = CanPush serial state
+
+-- the pauses by each kind of watch
+abbrev pub attribute_pause : ℕ → Pause
+attribute_pause node = record { kind = Attribute; node = node; target = None; insertion = false }
+
+-- by a watch of a node that goes
+abbrev pub removal_pause : ℕ → Pause
+removal_pause node = record { kind = Removed; node = node; target = None; insertion = false }
+
+-- by a watch of what is below a node
+abbrev pub subtree_watch_pause : ℕ → ℕ → Bool → Pause
+subtree_watch_pause node target insertion = record { kind = Subtree; node = node; target = Some target; insertion = insertion }
+
+-- A pause by a watch of the edited node itself, or by a subtree watch, of which the target is a node of the page
+pub data IsPause (w : Watched) (n : Nodes Row) : Pause → Type 0 where
+  by_attribute : (s : ℕ) → is_watched Attribute w s ≡ true → IsPause w n (attribute_pause s)
+  by_removal : (s : ℕ) → is_watched Removed w s ≡ true → IsPause w n (removal_pause s)
+  by_subtree : (s target : ℕ) (insertion : Bool) → is_watched Subtree w s ≡ true → has row_serial target n ≡ true
+      → IsPause w n (subtree_watch_pause s target insertion)
 
 -- ---- the first page
 

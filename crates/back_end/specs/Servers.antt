@@ -1,13 +1,20 @@
 -- Who serves a command.
-use Rattle.std.specs.Prelude.{Option, Some, None, ⊤}
+use Rattle.std.specs.Prelude.{ℕ, Option, Some, None, ⊤}
 use Rattle.serde_json.specs.Data.{Data}
 use Rattle.cdp_json.specs.Plain.{HasUtf8}
 use Rattle.cdp_messages.specs.declared.command.Command.{Command}
 use Rattle.cdp_messages.specs.declared.command.Command.TheVariants.{DomEnable, DomDisable, GetDocument, RequestChildNodes, PushByPath, PushBySerials, QuerySelector, QuerySelectorAll, GetAttributes, DescribeNode, SetAttributeValue, RemoveAttribute, SetNodeValue, RemoveNode, MoveTo, CopyTo, MarkUndoableState, Undo, Redo, CssEnable, CssDisable, GetMatchedStyles, GetStyleSheetText, CollectClassNames, SetStyleTexts, SetRuleSelector, SetStyleSheetText, AddRule, SetBreakpoint, RemoveBreakpoint, ReplayLoad, ReplayAct}
 use Rattle.cdp_messages.specs.declared.dom_ask.DomAsk.{DomAsk}
 use Rattle.cdp_messages.specs.DomAsks.{dom_ask_in}
+use Rattle.css_agent.specs.EditLaws.{HasEditTexts}
+use Rattle.back_end.specs.Texts.{HasTreeTexts}
 use Rattle.css_agent.specs.declared.asks.CssAsk.{CssAsk}
 use Rattle.css_agent.specs.declared.asks.CssAsk.TheVariants as css
+use Rattle.cdp_messages.specs.declared.command.WatchWord.{WatchWord}
+use Rattle.css_agent.specs.declared.edits.CssEdit.{CssEdit}
+use Rattle.css_agent.specs.declared.edits.CssEdit.TheVariants as style
+use Rattle.back_end.specs.declared.dom_edits.DomEdit.{DomEdit}
+use Rattle.back_end.specs.declared.dom_edits.DomEdit.TheVariants as tree
 use Rattle.back_end.specs.declared.parts.SeatPart.{SeatPart}
 use Rattle.back_end.specs.declared.parts.SeatPart.TheVariants as part
 
@@ -23,6 +30,12 @@ pub data Server : Type 0 where
   agent : DomAsk → Server
   -- what the CSS agent is asked
   css_agent : CssAsk → Server
+  -- a client's edit of the tree, and one of the sheets
+  edits_tree : DomEdit → Server
+  edits_sheets : CssEdit → Server
+  -- `DOMDebugger.setDOMBreakpoint` and `DOMDebugger.removeDOMBreakpoint`, of the node with that id
+  watches : ℕ → WatchWord → Server
+  unwatches : ℕ → WatchWord → Server
   -- `Replay.load` and `Replay.act`, with their parameters, are the seat's own
   page_load : Data → Server
   page_act : Data → Server
@@ -46,12 +59,12 @@ part_of (QuerySelector node selector) = part.Others (dom_ask_in (QuerySelector n
 part_of (QuerySelectorAll node selector) = part.Others (dom_ask_in (QuerySelectorAll node selector))
 part_of (GetAttributes node) = part.Others (dom_ask_in (GetAttributes node))
 part_of (DescribeNode id serial depth pierce) = part.Others (dom_ask_in (DescribeNode id serial depth pierce))
-part_of (SetAttributeValue node name value) = part.Others (dom_ask_in (SetAttributeValue node name value))
-part_of (RemoveAttribute node name) = part.Others (dom_ask_in (RemoveAttribute node name))
-part_of (SetNodeValue node value) = part.Others (dom_ask_in (SetNodeValue node value))
-part_of (RemoveNode node) = part.Others (dom_ask_in (RemoveNode node))
-part_of (MoveTo node target before) = part.Others (dom_ask_in (MoveTo node target before))
-part_of (CopyTo node target before) = part.Others (dom_ask_in (CopyTo node target before))
+part_of (SetAttributeValue node name value) = part.TreeEdits (tree.SetAttributeValue node name value)
+part_of (RemoveAttribute node name) = part.TreeEdits (tree.RemoveAttribute node name)
+part_of (SetNodeValue node value) = part.TreeEdits (tree.SetNodeValue node value)
+part_of (RemoveNode node) = part.TreeEdits (tree.RemoveNode node)
+part_of (MoveTo node target before) = part.TreeEdits (tree.MoveTo node target before)
+part_of (CopyTo node target before) = part.TreeEdits (tree.CopyTo node target before)
 part_of MarkUndoableState = part.Others (dom_ask_in MarkUndoableState)
 part_of Undo = part.Others (dom_ask_in Undo)
 part_of Redo = part.Others (dom_ask_in Redo)
@@ -60,12 +73,12 @@ part_of CssDisable = part.CssDisables
 part_of (GetMatchedStyles node) = part.Styles (css.GetMatchedStyles node)
 part_of (GetStyleSheetText sheet) = part.Styles (css.GetStyleSheetText sheet)
 part_of (CollectClassNames sheet) = part.Styles (css.CollectClassNames sheet)
-part_of (SetStyleTexts edits) = part.Others (dom_ask_in (SetStyleTexts edits))
-part_of (SetRuleSelector sheet range selector) = part.Others (dom_ask_in (SetRuleSelector sheet range selector))
-part_of (SetStyleSheetText sheet text) = part.Others (dom_ask_in (SetStyleSheetText sheet text))
-part_of (AddRule sheet rule_text location) = part.Others (dom_ask_in (AddRule sheet rule_text location))
-part_of (SetBreakpoint node kind) = part.Others (dom_ask_in (SetBreakpoint node kind))
-part_of (RemoveBreakpoint node kind) = part.Others (dom_ask_in (RemoveBreakpoint node kind))
+part_of (SetStyleTexts edits) = part.SheetEdits (style.SetStyleTexts edits)
+part_of (SetRuleSelector sheet range selector) = part.SheetEdits (style.SetRuleSelector sheet range selector)
+part_of (SetStyleSheetText sheet text) = part.SheetEdits (style.SetStyleSheetText sheet text)
+part_of (AddRule sheet rule_text location) = part.SheetEdits (style.AddRule sheet rule_text location)
+part_of (SetBreakpoint node kind) = part.Watches node kind
+part_of (RemoveBreakpoint node kind) = part.Unwatches node kind
 part_of (ReplayLoad params) = part.Loads params
 part_of (ReplayAct params) = part.Acts params
 
@@ -78,20 +91,28 @@ by_part part.CssDisables = css_disables
 by_part (part.Styles ask) = css_agent ask
 by_part (part.Loads params) = page_load params
 by_part (part.Acts params) = page_act params
+by_part (part.TreeEdits edit) = edits_tree edit
+by_part (part.SheetEdits edit) = edits_sheets edit
+by_part (part.Watches node kind) = watches node kind
+by_part (part.Unwatches node kind) = unwatches node kind
 by_part (part.Others ask) = by_agent ask
 
 -- who serves a command
 abbrev pub server_of : Command → Server
 server_of c = by_part (part_of c)
 
--- the parameters of our own two methods have UTF-8 texts
-abbrev pub HasOwnTexts : Server → Type 0
-HasOwnTexts enables = ⊤
-HasOwnTexts disables = ⊤
-HasOwnTexts css_enables = ⊤
-HasOwnTexts css_disables = ⊤
-HasOwnTexts (agent ask) = ⊤
-HasOwnTexts (css_agent ask) = ⊤
-HasOwnTexts (page_load params) = HasUtf8 params
-HasOwnTexts (page_act params) = HasUtf8 params
-HasOwnTexts nobody = ⊤
+-- The texts that a command brings into the page are UTF-8.
+abbrev pub HasServedTexts : Server → Type 0
+HasServedTexts enables = ⊤
+HasServedTexts disables = ⊤
+HasServedTexts css_enables = ⊤
+HasServedTexts css_disables = ⊤
+HasServedTexts (agent ask) = ⊤
+HasServedTexts (css_agent ask) = ⊤
+HasServedTexts (edits_tree edit) = HasTreeTexts edit
+HasServedTexts (edits_sheets edit) = HasEditTexts edit
+HasServedTexts (watches node kind) = ⊤
+HasServedTexts (unwatches node kind) = ⊤
+HasServedTexts (page_load params) = HasUtf8 params
+HasServedTexts (page_act params) = HasUtf8 params
+HasServedTexts nobody = ⊤

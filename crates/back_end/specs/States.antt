@@ -1,10 +1,12 @@
 -- The state of a back end: the page's side, and what its client has of it.
-use Rattle.std.specs.Prelude.{◌≡◌, ℕ, ◌+◌, Bool, false, cond, List, [], length, None}
+use Rattle.std.specs.Prelude.{◌≡◌, ℕ, ◌+◌, Bool, true, false, cond, List, [], length, None}
 use Rattle.node_tree.specs.Nodes.{Nodes, alone}
-use Rattle.page_tree.specs.Pages.{Row, State as PageValue, IsValid, loaded}
+use Rattle.node_tree.specs.Keys.{has}
+use Rattle.page_tree.specs.Pages.{Row, row_serial, State as PageValue, IsValid, loaded}
 use Rattle.node_binding.specs.Sessions.{Session, IsSession, begun}
 use Rattle.cdp_messages.specs.Views.{ShownSheet, View}
-use Rattle.dom_breakpoints.specs.Watched.{Watched, unwatched}
+use Rattle.dom_breakpoints.specs.declared.pauses.WatchKind.{WatchKind}
+use Rattle.dom_breakpoints.specs.Watched.{Watched, unwatched, is_watched}
 use Rattle.undo_marks.specs.Marks.{Marks, no_marks}
 use Rattle.undo_marks.specs.Changes.{Change as Entry}
 use Rattle.undo_marks.specs.Saved.{Saved}
@@ -71,13 +73,13 @@ loaded_state page = record { side = loaded_side 1 1 page; client = new_client }
 
 -- ---- valid states
 
--- What no command, act or load reaches so far is empty: watches, the history.
-pub record HasNoMore (state : State) : Type 0 where
-  pub watched : state.client.watched ≡ unwatched
-  pub marks : state.client.marks ≡ no_marks
+-- each watched node is one of these
+abbrev pub AreAmong : Watched → Nodes Row → Type 0
+AreAmong w n = (kind : WatchKind) (serial : ℕ) → is_watched kind w serial ≡ true → has row_serial serial n ≡ true
 
 -- What always holds of a state: the page is valid and its texts are UTF-8, and so are its sheets; the session is one of this page;
--- while DOM is off, CSS is off and nothing is known.
+-- while DOM is off, CSS is off and nothing is known; each watched node is one of the page, and where nothing is known none is
+-- watched. No edit is kept so far.
 pub record IsState (state : State) : Type 0 where
   pub page : IsValid state.side.page
   pub texts : RowsHaveUtf8 (nodes_in state)
@@ -85,4 +87,6 @@ pub record IsState (state : State) : Type 0 where
   pub session : IsSession (nodes_in state) state.client.session
   pub off : state.client.dom_on ≡ false → state.client.session.opened ≡ None
   pub css_off : state.client.dom_on ≡ false → state.client.css_on ≡ false
-  pub no_more : HasNoMore state
+  pub watched : AreAmong state.client.watched (nodes_in state)
+  pub none_watched : state.client.session.opened ≡ None → state.client.watched ≡ unwatched
+  pub history : state.client.marks ≡ no_marks

@@ -1,43 +1,62 @@
 -- The steps of a state: on each frame that comes up, and those that a script makes itself. A step gives the state after it, and
 -- the moves by which the client's view comes to what it is then.
-use Rattle.std.specs.Prelude.{ℕ, ◌+◌, Bool, true, false, not, ◌&&◌, ◌||◌, cond, List, [], ◌∷◌, ◌++◌, map, Option, Some, None, Result, Ok, Err}
+use Rattle.std.specs.Prelude.{ℕ, ◌+◌, Bool, true, false, not, ◌&&◌, ◌||◌, cond, List, [], ◌∷◌, ◌++◌, map, Option, Some, None, unwrap_or, Result, Ok, Err}
+use Rattle.std.specs.Char.{to_ascii_lowercase}
 use Rattle.node_tree.specs.Nodes.{Branch}
 use Rattle.node_tree.specs.Labels.{is_element}
 use Rattle.page_tree.specs.Pages.{Row, State as PageValue}
 use Rattle.page_tree.specs.Edits.{after}
 use Rattle.page_tree.specs.EditFaults.{first_fault}
+use Rattle.page_tree.specs.declared.edit_faults.EditFault.{EditFault}
 use Rattle.page_tree.specs.declared.edits.TreeEdit.{TreeEdit}
 use Rattle.page_tree.specs.declared.edits.TreeEdit.TheVariants.{SetAttr, DropAttr, SetText, Attach, Detach}
 use Rattle.page_forms.specs.declared.acts.Act.{Act}
 use Rattle.page_forms.specs.Pages.{LoadedPage}
-use Rattle.node_binding.specs.Sessions.{Session, serial_at, reset}
+use Rattle.node_binding.specs.Sessions.{Session, ids_in, serial_at, reset}
 use Rattle.cdp_messages.specs.declared.command.Why.{Why}
 use Rattle.cdp_messages.specs.declared.command.Why.TheVariants.{NoMethod, DomOff, CssOff, UnknownNode, NotElement, NoSheet}
 use Rattle.cdp_messages.specs.declared.command.Asked.{Asked}
 use Rattle.cdp_messages.specs.declared.command.Refused.{Refused}
 use Rattle.cdp_messages.specs.declared.dom_ask.DomAsk.{DomAsk}
 use Rattle.cdp_messages.specs.declared.dom_ask.DomAsk.TheVariants.{GetDocument, RequestChildNodes, PushByPath, PushBySerials, QuerySelector, QuerySelectorAll, GetAttributes, DescribeNode}
-use Rattle.cdp_messages.specs.declared.down.ReplyBody.TheVariants.{Nothing}
+use Rattle.cdp_messages.specs.declared.command.WatchWord.{WatchWord}
+use Rattle.cdp_messages.specs.declared.command.WatchWord.TheVariants as word
+use Rattle.cdp_messages.specs.declared.down.PauseData.{PauseData}
+use Rattle.cdp_messages.specs.declared.down.PauseData.TheVariants as told_pause
+use Rattle.cdp_messages.specs.declared.down.ReplyBody.{ReplyBody}
+use Rattle.cdp_messages.specs.declared.down.ReplyBody.TheVariants.{Nothing, NodeId}
 use Rattle.cdp_messages.specs.Asked.{asked}
 use Rattle.sheet_reader.specs.declared.book.SheetEntry.{SheetEntry}
-use Rattle.cdp_messages.specs.Views.{ShownSheet, sheets_without}
-use Rattle.cdp_messages.specs.Moves.{Move, clear, added, dropped, texted, replied, all_off, sheets_off, failed, frames_of_moves}
+use Rattle.cdp_messages.specs.Views.{ShownSheet, sheets_without, sheets_with_text}
+use Rattle.cdp_messages.specs.Moves.{Move, clear, met, rewritten, added, dropped, texted, replied, all_off, sheets_off, failed, frames_of_moves}
 use Rattle.css_agent.specs.declared.asks.CssAsk.{CssAsk}
 use Rattle.css_agent.specs.declared.asks.CssAsk.TheVariants as css
 use Rattle.css_agent.specs.Asks.{css_outcome, answer_move, sheet_named}
+use Rattle.css_agent.specs.declared.edits.CssEdit.{CssEdit}
+use Rattle.css_agent.specs.Edits.{CssEdited, css_edited, css_splices, text_under}
+use Rattle.style_edits.specs.declared.splice.Splice.{Splice}
+use Rattle.style_edits.specs.Splices.{after_splice}
 use Rattle.dom_agent.specs.Keepers.{session_keeper}
-use Rattle.dom_agent.specs.Requests.{Outcome, shows_root, served, refused, known_node, moves_of}
+use Rattle.dom_agent.specs.Requests.{pushed, opening_moves, Outcome, shows_root, served, refused, known_node, moves_of}
 use Rattle.dom_agent.specs.Edits.{Edited}
 use Rattle.dom_agent.specs.EditLaws.{session_edited}
 use Rattle.dom_agent.specs.Laws.{session_outcome}
-use Rattle.dom_breakpoints.specs.Watched.{Watched, unwatched, without_subtree}
+use Rattle.dom_breakpoints.specs.declared.pauses.WatchKind.{WatchKind}
+use Rattle.dom_breakpoints.specs.declared.pauses.WatchKind.TheVariants as watch
+use Rattle.dom_breakpoints.specs.declared.pauses.Pause.{Pause}
+use Rattle.dom_breakpoints.specs.Pauses.{pause_of}
+use Rattle.dom_breakpoints.specs.Watched.{Watched, unwatched, with_watch, without_watch, without_subtree}
 use Rattle.undo_marks.specs.Marks.{no_marks, crossed_over}
 use Rattle.back_end.specs.declared.faults.ActFault.{ActFault}
+use Rattle.back_end.specs.declared.dom_edits.DomEdit.{DomEdit}
+use Rattle.back_end.specs.declared.dom_edits.DomEdit.TheVariants as tree
+use Rattle.back_end.specs.declared.dom_edits.NodeEdit.{NodeEdit}
+use Rattle.back_end.specs.declared.dom_edits.NodeEdit.TheVariants.{One, MoveNode, CopyNode}
 use Rattle.back_end.specs.Sheets.{shown_sheet, SheetChange, leaves, comes}
 use Rattle.back_end.specs.States.{Side, Client, State, nodes_in, book_in, loaded_side}
-use Rattle.back_end.specs.Plans.{Deed, edits, restyles, one_edit, edit_fault, act_fault, act_plan}
-use Rattle.back_end.specs.OwnMethods.{load_asked, act_judged, act_asked}
-use Rattle.back_end.specs.Servers.{Server, enables, disables, css_enables, css_disables, agent, css_agent, page_load, page_act, nobody, server_of}
+use Rattle.back_end.specs.Plans.{Plan, node_edit_fault, node_edit_plan, node_put, Deed, edits, restyles, one_edit, edit_fault, act_fault, act_plan}
+use Rattle.back_end.specs.OwnMethods.{edit_why, sheet_why, load_asked, act_judged, act_asked}
+use Rattle.back_end.specs.Servers.{Server, enables, disables, css_enables, css_disables, agent, css_agent, edits_tree, edits_sheets, watches, unwatches, page_load, page_act, nobody, server_of}
 
 -- what a step makes: the state after it, and what it tells the client
 pub record Step : Type 0 where
@@ -56,15 +75,52 @@ refusing id why state = record { state = state; moves = failed (record { id = id
 abbrev pub with_client : Client → State → State
 with_client client state = record { side = state.side; client = client }
 
+-- a step that changes nothing, and tells nothing
+abbrev pub idle : State → Step
+idle state = record { state = state; moves = [] }
+
+-- a step that is answered at last by this result
+abbrev pub replying : ℕ → ReplyBody → Step → Step
+replying id body done = record { state = done.state; moves = done.moves ++ replied id body ∷ [] }
+
+-- by the empty result
+abbrev pub answering : ℕ → Step → Step
+answering id done = replying id Nothing done
+
+-- ---- what becomes known
+
+-- a node and all above it become known: each ancestor that is not opened yet is opened, from the top down
+abbrev pub push_step : ℕ → State → Step
+push_step serial state =
+    let p = pushed (session_keeper (nodes_in state)) state.side.page.tree serial state.client.session in
+    record { state = with_client (record state.client { session = p.state }) state; moves = opening_moves p.shown }
+
+-- where there is one
+abbrev pub push_steps : Option ℕ → State → Step
+push_steps None state = idle state
+push_steps (Some serial) state = push_step serial state
+
+-- the id of a known node
+abbrev pub id_now : State → ℕ → ℕ
+id_now state serial = ids_in state.client.session serial
+
+-- the serial of the known node with that id
+abbrev pub serial_now : State → ℕ → Option ℕ
+serial_now state id = serial_at state.client.session (nodes_in state) id
+
 -- ---- edits of the page
 
--- the watches that are left after an edit: those of a tree that goes are dropped
+-- the watches that are left after an edit of that tree: those of a tree that goes are dropped
+abbrev pub watches_left : TreeEdit → Branch Row → Watched → Watched
+watches_left (SetAttr node name value) tree w = w
+watches_left (DropAttr node name) tree w = w
+watches_left (SetText node value) tree w = w
+watches_left (Attach parent before attached) tree w = w
+watches_left (Detach node) tree w = without_subtree node tree w
+
+-- those of the state's client
 abbrev pub watched_after : TreeEdit → State → Watched
-watched_after (SetAttr node name value) state = state.client.watched
-watched_after (DropAttr node name) state = state.client.watched
-watched_after (SetText node value) state = state.client.watched
-watched_after (Attach parent before tree) state = state.client.watched
-watched_after (Detach node) state = without_subtree node state.side.page.tree state.client.watched
+watched_after e state = watches_left e state.side.page.tree state.client.watched
 
 -- what an edit comes to for the state's session
 abbrev pub edited_by : TreeEdit → State → Edited Session
@@ -91,10 +147,44 @@ edit_step e state = record {
   moves = (edited_by e state).moves;
 }
 
--- edits, one after the other
+-- a client's edits, one after the other
 abbrev pub edit_steps : List TreeEdit → State → Step
-edit_steps [] state = record { state = state; moves = [] }
+edit_steps [] state = idle state
 edit_steps (e ∷ es) state = let first = edit_step e state in telling first.moves (edit_steps es first.state)
+
+-- ---- pauses
+
+-- what is told of a pause; nodes are named by their ids
+abbrev pub pause_data : WatchKind → Pause → (ℕ → ℕ) → PauseData
+pause_data watch.Subtree p ids = told_pause.Subtree (ids p.node) (ids (unwrap_or p.target 0)) p.insertion
+pause_data watch.Attribute p ids = told_pause.Attribute (ids p.node)
+pause_data watch.Removed p ids = told_pause.Removed (ids p.node)
+
+-- a pause is told, whose nodes are known
+abbrev pub met_step : Pause → State → Step
+met_step p state = record { state = state; moves = met (pause_data p.kind p (id_now state)) ∷ [] }
+
+-- the step by another one, and then by this one
+abbrev pub followed_by : Step → (State → Step) → Step
+followed_by first later = telling first.moves (later first.state)
+
+-- a pause: the watched node becomes known, then the target, and then it is told
+abbrev pub pause_step : Option Pause → State → Step
+pause_step None state = idle state
+pause_step (Some p) state = followed_by (followed_by (push_step p.node state) (push_steps p.target)) (met_step p)
+
+-- the pause that an edit by a script comes to
+abbrev pub pause_before : TreeEdit → State → Step
+pause_before e state = pause_step (pause_of state.client.watched state.side.page.tree e) state
+
+-- an edit by a script: its pause, and then its events
+abbrev pub script_step : TreeEdit → State → Step
+script_step e state = followed_by (pause_before e state) (edit_step e)
+
+-- a script's edits, one after the other
+abbrev pub script_steps : List TreeEdit → State → Step
+script_steps [] state = idle state
+script_steps (e ∷ es) state = followed_by (script_step e state) (script_steps es)
 
 -- ---- changes of the sheets
 
@@ -128,6 +218,25 @@ abbrev pub sheet_steps : List SheetChange → State → Step
 sheet_steps [] state = record { state = state; moves = [] }
 sheet_steps (c ∷ cs) state = let first = sheet_step c state in telling first.moves (sheet_steps cs first.state)
 
+-- ---- edits of sheets' texts
+
+-- a splice of a sheet's text, which is told while the domain CSS is on
+abbrev pub splice_step : Splice → State → Step
+splice_step s state =
+    let text = text_under s.sheet (after_splice s (book_in state)) in
+    record {
+      state = record {
+        side = record { page = state.side.page; sheets = sheets_with_text s.sheet text state.side.sheets; next_sheet = state.side.next_sheet };
+        client = state.client;
+      };
+      moves = while_css state (rewritten s.sheet text ∷ []);
+    }
+
+-- splices, one after the other
+abbrev pub splice_steps : List Splice → State → Step
+splice_steps [] state = idle state
+splice_steps (s ∷ ss) state = followed_by (splice_step s state) (splice_steps ss)
+
 -- ---- what a script does
 
 -- a change that is not the client's empties the history
@@ -140,7 +249,7 @@ crossing done = record { state = with_crossed done.state; moves = done.moves }
 
 -- edits of the page, from that with the drawn serials; or changes of its sheets
 abbrev pub deed_step : Deed → State → Step
-deed_step (edits plan) state = crossing (edit_steps plan.edits (with_page plan.page state))
+deed_step (edits plan) state = crossing (script_steps plan.edits (with_page plan.page state))
 deed_step (restyles changes) state = crossing (sheet_steps changes state)
 
 -- an act that is refused changes nothing, and tells nothing
@@ -218,6 +327,10 @@ needs_on css_enables = true
 needs_on css_disables = true
 needs_on (agent ask) = ask_needs_on ask
 needs_on (css_agent ask) = true
+needs_on (edits_tree edit) = true
+needs_on (edits_sheets edit) = true
+needs_on (watches node word) = true
+needs_on (unwatches node word) = true
 needs_on (page_load params) = false
 needs_on (page_act params) = false
 needs_on nobody = false
@@ -230,6 +343,10 @@ needs_css css_enables = false
 needs_css css_disables = true
 needs_css (agent ask) = false
 needs_css (css_agent ask) = true
+needs_css (edits_tree edit) = false
+needs_css (edits_sheets edit) = true
+needs_css (watches node word) = false
+needs_css (unwatches node word) = false
 needs_css (page_load params) = false
 needs_css (page_act params) = false
 needs_css nobody = false
@@ -303,11 +420,102 @@ css_on_step id state = record {
 abbrev pub css_off_step : ℕ → State → Step
 css_off_step id state = record { state = with_client (record state.client { css_on = false }) state; moves = sheets_off id ∷ [] }
 
--- ---- our own two methods
+-- ---- a client's edits of the tree
 
--- a step that is answered at last by the empty result
-abbrev pub answering : ℕ → Step → Step
-answering id done = record { state = done.state; moves = done.moves ++ replied id Nothing ∷ [] }
+-- an edit of one known node
+abbrev pub of_node : (ℕ → NodeEdit) → Option ℕ → Result NodeEdit Why
+of_node edit None = Err UnknownNode
+of_node edit (Some node) = Ok (edit node)
+
+-- an edit that puts a node before a known one
+abbrev pub put_before : (ℕ → ℕ → ℕ → NodeEdit) → ℕ → ℕ → Option ℕ → Result NodeEdit Why
+put_before edit node parent None = Err UnknownNode
+put_before edit node parent (Some before) = Ok (edit node parent before)
+
+-- below a known one
+abbrev pub put_below : (ℕ → ℕ → ℕ → NodeEdit) → ℕ → Option ℕ → Option ℕ → Result NodeEdit Why
+put_below edit node None before = Err UnknownNode
+put_below edit node (Some parent) before = put_before edit node parent before
+
+-- and is known itself
+abbrev pub put_node : (ℕ → ℕ → ℕ → NodeEdit) → Option ℕ → Option ℕ → Option ℕ → Result NodeEdit Why
+put_node edit None parent before = Err UnknownNode
+put_node edit (Some node) parent before = put_below edit node parent before
+
+-- the serial of the known node before which another is put, by the serials of known nodes; 0, which no node has, for the last place
+abbrev pub before_by : (ℕ → Option ℕ) → Option ℕ → Option ℕ
+before_by serials None = Some 0
+before_by serials (Some id) = serials id
+
+-- an edit with names of attributes in ASCII lower case
+abbrev pub lowered : DomEdit → DomEdit
+lowered (tree.SetAttributeValue node name value) = tree.SetAttributeValue node (map to_ascii_lowercase name) value
+lowered (tree.RemoveAttribute node name) = tree.RemoveAttribute node (map to_ascii_lowercase name)
+lowered (tree.SetNodeValue node value) = tree.SetNodeValue node value
+lowered (tree.RemoveNode node) = tree.RemoveNode node
+lowered (tree.MoveTo node target before) = tree.MoveTo node target before
+lowered (tree.CopyTo node target before) = tree.CopyTo node target before
+
+-- an edit with its nodes by their serials, where each is known
+abbrev pub edit_named : (ℕ → Option ℕ) → DomEdit → Result NodeEdit Why
+edit_named serials (tree.SetAttributeValue node name value) = of_node (λ s. One (SetAttr s name value)) (serials node)
+edit_named serials (tree.RemoveAttribute node name) = of_node (λ s. One (DropAttr s name)) (serials node)
+edit_named serials (tree.SetNodeValue node value) = of_node (λ s. One (SetText s value)) (serials node)
+edit_named serials (tree.RemoveNode node) = of_node (λ s. One (Detach s)) (serials node)
+edit_named serials (tree.MoveTo node target before) = put_node MoveNode (serials node) (serials target) (before_by serials before)
+edit_named serials (tree.CopyTo node target before) = put_node CopyNode (serials node) (serials target) (before_by serials before)
+
+-- an edit is answered by the id of the node that was put, which becomes known, or by the empty result
+abbrev pub put_answer : ℕ → Option ℕ → Step → Step
+put_answer id None done = answering id done
+put_answer id (Some node) done =
+    let shown = followed_by done (push_step node) in
+    replying id (NodeId (id_now shown.state node)) shown
+
+-- the edits of a plan, the page first being the plan's
+abbrev pub plan_step : Plan → State → Step
+plan_step plan state = edit_steps plan.edits (with_page plan.page state)
+
+-- the step of an edit; of one that the page refuses
+abbrev pub unless_fault : ℕ → Option EditFault → NodeEdit → State → Step
+unless_fault id (Some f) edit state = refusing (Some id) (edit_why f) state
+unless_fault id None edit state = put_answer id (node_put edit state.side.page) (plan_step (node_edit_plan edit state.side.page) state)
+
+-- of one whose nodes are known
+abbrev pub node_edit_step : ℕ → Result NodeEdit Why → State → Step
+node_edit_step id (Err why) state = refusing (Some id) why state
+node_edit_step id (Ok edit) state = unless_fault id (node_edit_fault edit state.side.page) edit state
+
+-- the step of a client's edit of the tree: no script made it, so that none pauses
+abbrev pub tree_edit_step : ℕ → DomEdit → State → Step
+tree_edit_step id edit state = node_edit_step id (edit_named (serial_now state) (lowered edit)) state
+
+-- ---- a client's edits of sheets
+
+-- the step of an edit that came to this
+abbrev pub restyled_step : ℕ → CssEdited → List Splice → State → Step
+restyled_step id (Err f) splices state = refusing (Some id) (sheet_why f) state
+restyled_step id (Ok done) splices state = replying id done.body (splice_steps splices state)
+
+-- the step of a client's edit of sheets
+abbrev pub sheet_edit_step : ℕ → CssEdit → State → Step
+sheet_edit_step id edit state = restyled_step id (css_edited (book_in state) edit) (css_splices (book_in state) edit) state
+
+-- ---- watches
+
+-- the kind of a watch, by the word of a message
+abbrev pub watch_kind : WatchWord → WatchKind
+watch_kind word.Subtree = watch.Subtree
+watch_kind word.Attribute = watch.Attribute
+watch_kind word.Removed = watch.Removed
+
+-- the watches are others, of a node that is known
+abbrev pub watch_step : ℕ → (ℕ → Watched → Watched) → Option ℕ → State → Step
+watch_step id change None state = refusing (Some id) UnknownNode state
+watch_step id change (Some node) state =
+    answering id (idle (with_client (record state.client { watched = change node state.client.watched }) state))
+
+-- ---- our own two methods
 
 -- the step on one of our own two methods: the script's step that it comes to, and the reply; or the refusal
 abbrev pub own_step : {A : Type 0} → (A → Turn) → ℕ → Result A Why → State → Step
@@ -328,6 +536,10 @@ server_step id css_enables state = css_on_step id state
 server_step id css_disables state = css_off_step id state
 server_step id (agent ask) state = agent_step id ask state
 server_step id (css_agent ask) state = css_step id ask state
+server_step id (edits_tree edit) state = tree_edit_step id edit state
+server_step id (edits_sheets edit) state = sheet_edit_step id edit state
+server_step id (watches node word) state = watch_step id (with_watch (watch_kind word)) (serial_now state node) state
+server_step id (unwatches node word) state = watch_step id (without_watch (watch_kind word)) (serial_now state node) state
 server_step id (page_load params) state = own_step loads id (load_asked params) state
 server_step id (page_act params) state = own_step acts id (act_asked params state.side.page (book_in state)) state
 server_step id nobody state = refusing (Some id) NoMethod state

@@ -1,9 +1,15 @@
 -- The texts of edits of a page; those of loads and acts stand where these are read.
-use Rattle.std.specs.Prelude.{⊤}
+use Rattle.std.specs.Prelude.{ℕ, ⊤}
 use Rattle.std.specs.Str.{IsUtf8}
-use Rattle.node_tree.specs.Nodes.{alone}
+use Rattle.node_tree.specs.Nodes.{Branch, alone}
+use Rattle.page_tree.specs.Pages.{Row}
+use Rattle.page_tree.specs.EditFaults.{IsReady}
 use Rattle.page_tree.specs.declared.edits.TreeEdit.{TreeEdit}
 use Rattle.page_tree.specs.declared.edits.TreeEdit.TheVariants.{SetAttr, DropAttr, SetText, Attach, Detach}
+use Rattle.back_end.specs.declared.dom_edits.DomEdit.{DomEdit}
+use Rattle.back_end.specs.declared.dom_edits.DomEdit.TheVariants as dom
+use Rattle.back_end.specs.declared.dom_edits.NodeEdit.{NodeEdit}
+use Rattle.back_end.specs.declared.dom_edits.NodeEdit.TheVariants.{One, MoveNode, CopyNode}
 use Rattle.dom_agent.specs.Laws.{RowsHaveUtf8}
 pub use Rattle.page_forms.specs.Texts.{HaveTexts, FormHasTexts, SheetsHaveTexts, PageHasTexts, ActHasTexts}
 
@@ -14,3 +20,18 @@ EditHasTexts (DropAttr serial name) = IsUtf8 name
 EditHasTexts (SetText serial value) = IsUtf8 value
 EditHasTexts (Attach parent before tree) = RowsHaveUtf8 (alone tree)
 EditHasTexts (Detach serial) = ⊤
+
+-- the texts of a client's edit of the tree are
+abbrev pub HasTreeTexts : DomEdit → Type 0
+HasTreeTexts (dom.SetAttributeValue node name value) = IsUtf8 name × IsUtf8 value
+HasTreeTexts (dom.RemoveAttribute node name) = IsUtf8 name
+HasTreeTexts (dom.SetNodeValue node value) = IsUtf8 value
+HasTreeTexts (dom.RemoveNode node) = ⊤
+HasTreeTexts (dom.MoveTo node target before) = ⊤
+HasTreeTexts (dom.CopyTo node target before) = ⊤
+
+-- An edit with nodes by their serials: one alone attaches no tree of its own, and its texts are UTF-8.
+abbrev pub IsPlainEdit : NodeEdit → Type 0
+IsPlainEdit (One edit) = EditHasTexts edit × ((next : ℕ) (tree : Branch Row) → IsReady next edit tree)
+IsPlainEdit (MoveNode node parent before) = ⊤
+IsPlainEdit (CopyNode node parent before) = ⊤

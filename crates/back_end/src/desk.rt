@@ -1,10 +1,11 @@
 ghost use Rattle.std.specs.Prelude.{◌≡◌, ◌<◌, ◌^◌, ◌++◌, ◌↔◌, ◌&&◌, ◌||◌, not, false, true, Some, IfSome, IsTrue, OnOk};
 ghost use Rattle.node_binding.specs.Bindings.{empty_from};
+ghost use Rattle.dom_breakpoints.specs.Watched.{unwatched};
 ghost use Rattle.cdp_messages.specs.DomAsks.{fits_ask};
 ghost use Rattle.cdp_messages.specs.Asked.{fits_command};
 ghost use Rattle.cdp_messages.specs.Moves.{frames_of_moves};
 ghost use Rattle.back_end.specs.States.{State};
-ghost use Rattle.back_end.specs.Servers.{by_agent, by_part, server_of, HasOwnTexts};
+ghost use Rattle.back_end.specs.Servers.{by_agent, by_part, server_of, HasServedTexts};
 ghost use Rattle.back_end.specs.Servers as server;
 ghost use Rattle.back_end.specs.Steps.{ask_needs_on, command_step, frame_step, refusing, server_step};
 ghost use Rattle.back_end.specs.Steps as steps;
@@ -17,15 +18,18 @@ use cdp_messages::{
 };
 use css_agent::CssAgent;
 use dom_agent::DomAgent;
+use dom_breakpoints::Watches;
 use std::alloc::{AllocError, Global};
 
-/// What a seat works with: whether the domains DOM and CSS are on, and what the client knows of the page.
+/// What a seat works with: whether the domains DOM and CSS are on, and what the client knows of the page, and
+/// which nodes it watches.
 #[derive(Drop)]
 pub(crate) struct Desk {
     pub(crate) alloc: Global,
     pub(crate) is_on: bool,
     pub(crate) css: CssAgent,
     pub(crate) agent: DomAgent,
+    pub(crate) watches: Watches,
 }
 
 /// Whether an ask is refused while DOM is off.
@@ -65,12 +69,14 @@ impl Desk {
         ensures off { result.is_on ≡ false }
         ensures css { result.css ≡ false }
         ensures agent { result.agent ≡ empty_from 1 }
+        ensures watches { result.watches ≡ unwatched }
     {
         Desk {
             alloc,
             is_on: false,
             css: CssAgent::new(alloc),
             agent: DomAgent::new(alloc),
+            watches: Watches::new(alloc),
         }
     }
 
@@ -104,7 +110,7 @@ impl Desk {
         out: &mut Vec<u8>,
     ) -> Result<(), AllocError>
         requires command { fits_command command ≡ true }
-        requires texts { HasOwnTexts (server_of command) }
+        requires texts { HasServedTexts (server_of command) }
         requires room { HasRoomLeft self.old side.old }
         ensures stands { (state : State) → DeskStandsFor self.old side.old state
             → OnOk result (DeskStandsFor self.new side.new (command_step id (server_of command) state).state) }
@@ -117,6 +123,10 @@ impl Desk {
             SeatPart::CssEnables => self.enable_css(side, id, out),
             SeatPart::CssDisables => self.disable_css(side, id, out),
             SeatPart::Styles { ask } => self.answer_styles(side, id, &ask, out),
+            SeatPart::TreeEdits { edit } => self.answer_tree_edit(side, id, edit, out),
+            SeatPart::SheetEdits { edit } => self.answer_sheet_edit(side, id, &edit, out),
+            SeatPart::Watches { node, kind } => self.watch(side, id, node, kind, out),
+            SeatPart::Unwatches { node, kind } => self.unwatch(side, id, node, kind, out),
             SeatPart::Loads { params } => self.answer_load(side, id, params.as_value(), out),
             SeatPart::Acts { params } => self.answer_act(side, id, params.as_value(), out),
             SeatPart::Others { ask } => self.answer_by_agent(side, id, ask, out),
@@ -177,6 +187,7 @@ impl Desk {
         self.css.switch(false, side.book(), out)?;
         self.is_on = false;
         self.agent.reset();
+        self.watches.clear();
         Ok(())
     }
 

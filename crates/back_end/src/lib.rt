@@ -1,17 +1,23 @@
 //! The back end: the page's side, and a client's seat at it, which answers the client's frames and tells it what a script does.
 #![tactic(auto)]
 
+mod breakpoints;
 mod desk;
+mod dom_edits;
 mod faults;
 mod laws;
 mod own;
 mod parts;
+mod pauses;
+mod pushes;
 mod script;
 mod seat;
 mod sheet_acts;
+mod sheet_edits;
 mod sheets;
 mod side;
 mod styles;
+mod tree_edits;
 
 pub use faults::ActFault;
 pub use laws::step_law;

@@ -37,7 +37,7 @@ fn load_why(fault: LoadFault) -> Why
 }
 
 /// What an edit of the page is refused with.
-fn edit_why(fault: EditFault) -> Why
+pub(crate) fn edit_why(fault: EditFault) -> Why
     ensures { result ≡ edit_why fault }
 {
     match fault {
@@ -56,7 +56,7 @@ fn edit_why(fault: EditFault) -> Why
 }
 
 /// What a change of the page's sheets is refused with.
-fn sheet_why(fault: SheetFault) -> Why
+pub(crate) fn sheet_why(fault: SheetFault) -> Why
     ensures { result ≡ sheet_why fault }
 {
     match fault {

@@ -2,8 +2,9 @@
 ghost use Rattle.std.specs.Prelude.{◌≡◌};
 ghost use Rattle.back_end.specs.Servers.{part_of};
 
-use cdp_messages::{Command, DomAsk, Json};
-use css_agent::CssAsk;
+use crate::dom_edits::DomEdit;
+use cdp_messages::{Command, DomAsk, Json, WatchWord};
+use css_agent::{CssAsk, CssEdit};
 
 /// The part of a seat that a command is for, with what it is given.
 #[derive(Drop)]
@@ -18,6 +19,14 @@ pub(crate) enum SeatPart {
     CssDisables,
     /// What the CSS agent is asked.
     Styles { ask: CssAsk },
+    /// A client's edit of the tree.
+    TreeEdits { edit: DomEdit },
+    /// A client's edit of sheets.
+    SheetEdits { edit: CssEdit },
+    /// `DOMDebugger.setDOMBreakpoint`
+    Watches { node: u64, kind: WatchWord },
+    /// `DOMDebugger.removeDOMBreakpoint`
+    Unwatches { node: u64, kind: WatchWord },
     /// `Replay.load`
     Loads { params: Json },
     /// `Replay.act`
@@ -27,6 +36,7 @@ pub(crate) enum SeatPart {
 }
 
 impl SeatPart {
+    /// The part that a command is for: a row for each command that is not the DOM agent's.
     pub(crate) fn of_command(command: Command) -> SeatPart
         ensures { result ≡ part_of command }
     {
@@ -44,8 +54,72 @@ impl SeatPart {
             Command::CollectClassNames { sheet } => SeatPart::Styles {
                 ask: CssAsk::CollectClassNames { sheet },
             },
+            Command::SetBreakpoint { node, kind } => SeatPart::Watches { node, kind },
+            Command::RemoveBreakpoint { node, kind } => SeatPart::Unwatches { node, kind },
             Command::ReplayLoad { params } => SeatPart::Loads { params },
             Command::ReplayAct { params } => SeatPart::Acts { params },
+            Command::SetAttributeValue { node, name, value } => SeatPart::TreeEdits {
+                edit: DomEdit::SetAttributeValue { node, name, value },
+            },
+            Command::RemoveAttribute { node, name } => SeatPart::TreeEdits {
+                edit: DomEdit::RemoveAttribute { node, name },
+            },
+            Command::SetNodeValue { node, value } => SeatPart::TreeEdits {
+                edit: DomEdit::SetNodeValue { node, value },
+            },
+            Command::RemoveNode { node } => SeatPart::TreeEdits {
+                edit: DomEdit::RemoveNode { node },
+            },
+            Command::MoveTo {
+                node,
+                target,
+                before,
+            } => SeatPart::TreeEdits {
+                edit: DomEdit::MoveTo {
+                    node,
+                    target,
+                    before,
+                },
+            },
+            Command::CopyTo {
+                node,
+                target,
+                before,
+            } => SeatPart::TreeEdits {
+                edit: DomEdit::CopyTo {
+                    node,
+                    target,
+                    before,
+                },
+            },
+            Command::SetStyleTexts { edits } => SeatPart::SheetEdits {
+                edit: CssEdit::SetStyleTexts { edits },
+            },
+            Command::SetRuleSelector {
+                sheet,
+                range,
+                selector,
+            } => SeatPart::SheetEdits {
+                edit: CssEdit::SetRuleSelector {
+                    sheet,
+                    range,
+                    selector,
+                },
+            },
+            Command::SetStyleSheetText { sheet, text } => SeatPart::SheetEdits {
+                edit: CssEdit::SetStyleSheetText { sheet, text },
+            },
+            Command::AddRule {
+                sheet,
+                rule_text,
+                location,
+            } => SeatPart::SheetEdits {
+                edit: CssEdit::AddRule {
+                    sheet,
+                    rule_text,
+                    location,
+                },
+            },
             others => SeatPart::Others {
                 ask: DomAsk::of_command(others),
             },

@@ -7,7 +7,7 @@ ghost use Rattle.page_forms.specs.Pages.{loaded_page, CanLoadPage};
 ghost use Rattle.cdp_messages.specs.Moves.{clear, frames_of_moves};
 ghost use Rattle.back_end.specs.States.{State};
 ghost use Rattle.back_end.specs.Plans.{edit_fault, act_fault};
-ghost use Rattle.back_end.specs.Steps.{act_step, edit_step, load_step, lone_step};
+ghost use Rattle.back_end.specs.Steps.{act_step, edit_step, load_step, lone_step, watches_left};
 ghost use Rattle.back_end.specs.Texts.{PageHasTexts, FormHasTexts, ActHasTexts, EditHasTexts};
 ghost use Rattle.back_end.specs.Seats.{DeskStandsFor, HasRoomLeft};
 
@@ -15,13 +15,28 @@ use crate::desk::Desk;
 use crate::faults::ActFault;
 use crate::side::PageSide;
 use cdp_messages::{Event, write_event};
+use dom_breakpoints::Watches;
 use page_forms::{Act, PageForm};
-use page_tree::{EditErr, NodeForm, TreeEdit};
+use page_tree::{EditErr, NodeForm, Page, TreeEdit};
 use std::alloc::AllocError;
+
+/// Forgets the watches in a tree that an edit takes out, by the page before it.
+fn forget_gone(watches: &mut Watches, page: &Page, edit: &TreeEdit)
+    requires { CanApply page.now.next edit.now page.now.tree }
+    ensures { watches.new ≡ watches_left edit.now page.now.tree watches.old }
+{
+    match edit {
+        TreeEdit::Detach { node } => watches.forget_subtree(page, *node),
+        TreeEdit::SetAttr { .. }
+        | TreeEdit::DropAttr { .. }
+        | TreeEdit::SetText { .. }
+        | TreeEdit::Attach { .. } => {}
+    }
+}
 
 impl Desk {
     /// Carries out an edit that the page takes, and tells it. Gives the edit that leads back.
-    fn apply(
+    pub(crate) fn apply(
         &mut self,
         side: &mut PageSide,
         edit: TreeEdit,
@@ -40,6 +55,7 @@ impl Desk {
         ensures sent { (state : State) → DeskStandsFor self.old side.old state
             → OnOk result (out.new.items ≡ out.old.items ++ frames_of_moves (edit_step edit state).moves) }
     {
+        forget_gone(&mut self.watches, &side.page, &edit);
         match self.agent.edit(&mut side.page, edit, out) {
             Ok(back) => Ok(back),
             Err(EditErr::Fault(_)) => unreachable!(),
@@ -63,11 +79,11 @@ impl Desk {
         ensures sent { (state : State) → DeskStandsFor self.old side.old state
             → OnOk result (out.new.items ≡ out.old.items ++ frames_of_moves (lone_step edit state).moves) }
     {
-        match self.agent.edit(&mut side.page, edit, out) {
-            Ok(_) => Ok(None),
-            Err(EditErr::Fault(fault)) => Ok(Some(ActFault::Edit(fault))),
-            Err(EditErr::Memory) => Err(AllocError),
+        if let Some(fault) = side.page.fault(&edit) {
+            return Ok(Some(ActFault::Edit(fault)));
         }
+        self.apply_by_script(side, edit, out)?;
+        Ok(None)
     }
 
     /// Puts new nodes into the page, unless it refuses them.
@@ -98,7 +114,7 @@ impl Desk {
             before,
             tree,
         };
-        self.apply(side, attach, out)?;
+        self.apply_by_script(side, attach, out)?;
         Ok(None)
     }
 
@@ -123,7 +139,7 @@ impl Desk {
             return Ok(Some(ActFault::Edit(fault)));
         }
         let before = side.page.moved_before(node, parent, before);
-        let back = self.apply(side, TreeEdit::Detach { node }, out)?;
+        let back = self.apply_by_script(side, TreeEdit::Detach { node }, out)?;
         let TreeEdit::Attach { tree, .. } = back else {
             unreachable!()
         };
@@ -132,7 +148,7 @@ impl Desk {
             before,
             tree,
         };
-        self.apply(side, attach, out)?;
+        self.apply_by_script(side, attach, out)?;
         Ok(None)
     }
 
@@ -198,6 +214,7 @@ impl Desk {
         self.tell_load(out)?;
         self.tell_gone(side.book(), out)?;
         self.agent.reset();
+        self.watches.clear();
         *side = loaded;
         self.tell_come(side.book(), out)
     }

@@ -1,5 +1,6 @@
 ghost use Rattle.std.specs.Prelude.{◌≡◌, ◌++◌, ◌↔◌, IsTrue, true, false, IfOk, OnOk, OnErr, IsErr};
 ghost use Rattle.node_binding.specs.Bindings.{empty_from};
+ghost use Rattle.dom_breakpoints.specs.Watched.{unwatched};
 ghost use Rattle.page_forms.specs.Acts.{IsInsertable};
 ghost use Rattle.page_forms.specs.Pages.{loaded_page, CanLoadPage};
 ghost use Rattle.cdp_messages.specs.Moves.{frames_of_moves};
@@ -31,6 +32,7 @@ impl Seat {
         ensures off { result.desk.is_on ≡ false }
         ensures css { result.desk.css ≡ false }
         ensures agent { result.desk.agent ≡ empty_from 1 }
+        ensures watches { result.desk.watches ≡ unwatched }
         ensures alive { result.is_dead ≡ false }
     {
         Seat {

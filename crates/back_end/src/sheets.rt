@@ -1,22 +1,28 @@
 // The page's sheets, each under a number of its own.
-ghost use Rattle.std.specs.Prelude.{◌≡◌, ◌<◌, ◌^◌, ◌+◌, ◌++◌, ◌∷◌, [], None, false, true, OnOk, OnErr, IfOk, IfErr, IsSome, length, nat_lt};
+ghost use Rattle.std.specs.Prelude.{◌≡◌, ◌<◌, ◌^◌, ◌+◌, ◌++◌, ◌∷◌, [], None, Ok, Err, false, true, OnOk, OnErr, IfOk, IfErr, IsSome, length, nat_lt};
+ghost use Rattle.cdp_messages.specs.Moves.{frames_of_moves};
+ghost use Rattle.css_agent.specs.Edits.{css_edited, edit_moves, edit_splices};
 ghost use Rattle.sheet_reader.specs.Books.{entry_of, removed};
 ghost use Rattle.style_edits.specs.declared.faults.SheetFault.TheVariants.{NoSheet, TooBig};
 ghost use Rattle.style_edits.specs.Edits.{is_too_big, new_sheet, IfFault};
 ghost use Rattle.back_end.specs.Sheets.{as_book, numbered_sheets};
 ghost use Rattle.page_forms.specs.Sheets.{can_hold_sheets, max_sheet_bytes};
 
+use css_agent::{CssAgent, CssEdit};
 use page_forms::SheetForm;
 use sheet_reader::{Origin, SheetBook};
 use std::alloc::{AllocError, Global};
 use std::marker::Model;
-use style_edits::{SheetErr, SheetFault, add_sheet, drop_sheet};
+use style_edits::{SheetErr, SheetFault, Splice, add_sheet, drop_sheet};
 
 /// The most sheets that a page has.
 const MOST_SHEETS: usize = 1000;
 
 /// The most bytes that the text of a sheet has.
 const MOST_BYTES: usize = 1 << 24;
+
+/// No sheet has this number, or one above it.
+const END_OF_NUMBERS: u64 = 1 << 53;
 
 /// Whether a sheet may not have this text.
 fn is_too_long(text: &str) -> bool
@@ -109,6 +115,35 @@ impl PageSheets {
         ensures fault { IfErr result (λ f. (f ≡ NoSheet) × (entry_of number self.old.entries ≡ None)) }
     {
         drop_sheet(&mut self.book, number)
+    }
+
+    /// Carries a client's edit out by its agent, which tells of it, and answers the splices that lead back. After a fault nothing
+    /// has changed and nothing is told; after want of memory no number is left for a new sheet.
+    pub(crate) fn edit(
+        &mut self,
+        css: &CssAgent,
+        id: u64,
+        edit: &CssEdit,
+        out: &mut Vec<u8>,
+    ) -> Result<Vec<Splice>, SheetErr>
+        ensures done { IfOk result (λ backs. edit_splices (css_edited self.old.entries edit.now) ≡ Ok (self.new.entries, backs.items)) }
+        ensures next { OnOk result (self.new.next ≡ self.old.next) }
+        ensures sent { OnOk result (out.new.items ≡ out.old.items ++ frames_of_moves (edit_moves id self.old.entries edit.now)) }
+        ensures fault { IfFault result (λ f. css_edited self.old.entries edit.now ≡ Err f) }
+        ensures unchanged { IfFault result (λ f. self.new ≡ self.old) }
+        ensures unsent { IfFault result (λ f. out.new.items ≡ out.old.items) }
+    {
+        let backs = match css.edit(&mut self.book, id, edit, out) {
+            Ok(backs) => backs,
+            Err(SheetErr::Fault(fault)) => return Err(SheetErr::Fault(fault)),
+            Err(SheetErr::Memory) => {
+                // Asked for the proof alone: each number of a book is below the last.
+                let _ = self.book.place_of(0);
+                self.next = END_OF_NUMBERS;
+                return Err(SheetErr::Memory);
+            }
+        };
+        Ok(backs)
     }
 
     /// The sheets of a page that is loaded, with the numbers from this one on.

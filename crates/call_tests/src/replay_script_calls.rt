@@ -90,8 +90,10 @@ fn later_lines(rt: HostRuntime) -> Result<(), Fail> {
         (r#"{"down":9007199254740992}"#, form),
         (r#"{"show":"page"}"#, good),
         (r#"{"show":"sheets"}"#, good),
+        (r#"{"show":"pauses"}"#, good),
         (r#"{"show":"panels"}"#, later),
-        (r#"{"show":"styles","ask":1}"#, later),
+        (r#"{"show":"styles","ask":1}"#, good),
+        (r#"{"show":"styles","ask":-1}"#, form),
         (r#"{"close":1}"#, later),
         ("{}", form),
     ] {

@@ -5,4 +5,6 @@ pub mod UnescapedTexts
 pub mod SelectorNames
 pub mod SheetNames
 pub mod TellableStyles
+pub mod DoneLemmas
 pub mod EditLemmas
+pub mod EditResults

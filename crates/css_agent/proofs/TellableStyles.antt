@@ -23,8 +23,8 @@ use Rattle.css_objects.specs.declared.rules.RuleMatch.{RuleMatch}
 use Rattle.css_objects.specs.declared.rules.Inherited.{Inherited}
 use Rattle.css_objects.specs.Sheets.{is_sheet}
 use Rattle.css_objects.specs.Ranges.{range_kind}
-use Rattle.css_objects.specs.Selectors.{weight_kind, selector_kind}
-use Rattle.css_objects.specs.Styles.{property_kind, is_ranged, is_rangeless, inline_kind}
+use Rattle.css_objects.specs.Selectors.{weight_kind, selector_kind, selectors_kind}
+use Rattle.css_objects.specs.Styles.{property_kind, is_ranged, is_rangeless, inline_kind, rule_style_kind}
 use Rattle.css_objects.specs.Rules.{rule_kind, starts_above, ascend, match_kind, inherited_kind, matched_kind}
 use Rattle.css_objects.specs.Laws.{SelectorHasUtf8, PropertyHasUtf8, StyleHasUtf8, RuleHasUtf8, MatchHasUtf8, InheritedHasUtf8, MatchedHaveUtf8}
 use Rattle.selectors.specs.declared.weight.Spec.{Spec}
@@ -155,20 +155,25 @@ selectors-utf8 text from to [] utf8 all = tt
 selectors-utf8 text from to (s ∷ ss) utf8 all = (part-utf8 text s.range utf8 all.1, selectors-utf8 text s.range.end to ss utf8 all.2)
 
 -- what is needed of an entry of the book
-record IsTold (e : SheetEntry) : Type 0 where
+pub record IsTold (e : SheetEntry) : Type 0 where
   some : 0 < e.id
   low : e.id < 2 ^ 53
   short : length e.text ≤ 2 ^ 24
   utf8 : IsUtf8 e.text
 
-rule-fits : (e : SheetEntry) (r : RuleForm) → IsTold e → rule_kind.fits (told_rule e r) ≡ true
-rule-fits e r is =
+pub prelude-fits : (e : SheetEntry) (r : RuleForm) → IsTold e → selectors_kind.fits (told_rule e r).selectors ≡ true
+prelude-fits e r is = both (selectors-fit e.text r.selectors is.short) refl
+
+pub style-fits : (e : SheetEntry) (r : RuleForm) → IsTold e → rule_style_kind.fits (told_rule e r).style ≡ true
+style-fits e r is =
     let number = sheet-number e.id is.some is.low in
     let all = sheet-properties-fit e.text r.properties is.short in
-    both (both (selectors-fit e.text r.selectors is.short) refl)
-    (both (both (both all.0 (both (range-fits e.text r.body is.short) (both number refl))) all.1) (both number refl))
+    both (both all.0 (both (range-fits e.text r.body is.short) (both number refl))) all.1
 
-rule-utf8 : (e : SheetEntry) (r : RuleForm) → IsTold e → IsRuleOf e.text r → AllByRecursion PropertyNamed r.properties → RuleHasUtf8 (told_rule e r)
+pub rule-fits : (e : SheetEntry) (r : RuleForm) → IsTold e → rule_kind.fits (told_rule e r) ≡ true
+rule-fits e r is = both (prelude-fits e r is) (both (style-fits e r is) (both (sheet-number e.id is.some is.low) refl))
+
+pub rule-utf8 : (e : SheetEntry) (r : RuleForm) → IsTold e → IsRuleOf e.text r → AllByRecursion PropertyNamed r.properties → RuleHasUtf8 (told_rule e r)
 rule-utf8 e r is own named = (
   (selectors-utf8 e.text r.prelude.start r.prelude.end r.selectors is.utf8 own.selectors, part-utf8 e.text r.prelude is.utf8 own.prelude),
   (properties-utf8 (λ p. Some (source_range e.text p.whole)) e.text r.properties is.utf8 own.each named, part-utf8 e.text r.body is.utf8 own.body),
@@ -209,7 +214,7 @@ rules-fit from i most (r ∷ rs) z low all =
     let own = places-fit 0 r.selectors z (omega (arith, low, few)) in
     found-fits from i (greatest r.selectors z) (places_matching r.selectors z) (entries_of_rules from (i + 1) rs z) (own.0, own.1) (rules-fit from (i + 1) most rs z low all.1)
 
-stored-told : (e : SheetEntry) → IsStored e → IsTold e
+pub stored-told : (e : SheetEntry) → IsStored e → IsTold e
 stored-told e is = record { some = is.entry.some; low = is.entry.id; short = is.entry.short; utf8 = is.utf8 }
 
 sheets-fit : (place : ℕ) (es : List SheetEntry) (z : Zipper) → AllByRecursion IsStored es → AllByRecursion EntryFits (entries_of_sheets place es z)
@@ -253,7 +258,7 @@ entry-stored id (x ∷ xs) e all h = at (id == x.id) h (λ k. entry-stored id xs
   at true k more = let same : x ≡ e = cc in subst IsStored same all.0
   at false k more = more k
 
-rule-at : {most : ℕ} (text : List ℕ) (rs : List RuleForm) (i : ℕ) (r : RuleForm) → All (IsRuleOf text) rs → AllByRecursion (RuleNamed most) rs → slice_get rs i ≡ Some r → IsRuleOf text r × RuleNamed most r
+pub rule-at : {most : ℕ} (text : List ℕ) (rs : List RuleForm) (i : ℕ) (r : RuleForm) → All (IsRuleOf text) rs → AllByRecursion (RuleNamed most) rs → slice_get rs i ≡ Some r → IsRuleOf text r × RuleNamed most r
 rule-at text [] i r all named e = absurd cc
 rule-at {most} text (x ∷ xs) zero r all named e = let same : x ≡ r = cc in subst (λ y. IsRuleOf text y × RuleNamed most y) same (All-head (IsRuleOf text) x xs all, named.0)
 rule-at text (x ∷ xs) (suc i) r all named e = rule-at text xs i r (All-tail (IsRuleOf text) x xs all) named.1 e

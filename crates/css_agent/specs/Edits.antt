@@ -1,10 +1,10 @@
 -- What each command of the domain CSS that edits sheets comes to: the book after it, the splices that lead back and the result, or the
 -- first fault. Only the sheets' ids, origins and texts count.
 use Rattle.std.specs.Prelude.{ℕ, List, [], ◌∷◌, ◌++◌, map, Option, Some, None, option_map, option_and_then, unwrap_or, Result, Ok, Err}
-use Rattle.std.specs.List.{filter_map, slice_get}
+use Rattle.std.specs.List.{slice_get}
 use Rattle.css_objects.specs.declared.ranges.SourceRange.{SourceRange}
-use Rattle.css_objects.specs.declared.styles.Style.{Style}
 use Rattle.css_objects.specs.declared.rules.Rule.{Rule}
+use Rattle.css_objects.specs.declared.sheets.SheetOrigin.TheVariants as origin
 use Rattle.css_objects.specs.Sheets.{sheet_in}
 use Rattle.sheet_reader.specs.declared.book.SheetEntry.{SheetEntry}
 use Rattle.sheet_reader.specs.Books.{entry_of}
@@ -14,14 +14,15 @@ use Rattle.style_edits.specs.declared.faults.SheetFault.{SheetFault}
 use Rattle.style_edits.specs.declared.lines.LineRange.{LineRange}
 use Rattle.style_edits.specs.declared.rule_places.RulePlace.{RulePlace}
 use Rattle.style_edits.specs.declared.splice.Splice.{Splice}
-use Rattle.style_edits.specs.Edits.{selector_splice, text_splice, rule_splice, edited, EditsOutcome, styles_edited}
+use Rattle.style_edits.specs.Splices.{after_splice}
+use Rattle.style_edits.specs.Edits.{Found, style_splice, selector_splice, text_splice, rule_splice, edited, EditsOutcome, styles_edited}
 use Rattle.style_edits.specs.EditedRules.{edited_rule, edited_rules}
 use Rattle.cdp_messages.specs.declared.command.Command.{Command}
 use Rattle.cdp_messages.specs.declared.command.Command.TheVariants.{DomEnable, DomDisable, GetDocument, RequestChildNodes, PushByPath, PushBySerials, QuerySelector, QuerySelectorAll, GetAttributes, DescribeNode, SetAttributeValue, RemoveAttribute, SetNodeValue, RemoveNode, MoveTo, CopyTo, MarkUndoableState, Undo, Redo, CssEnable, CssDisable, GetMatchedStyles, GetStyleSheetText, CollectClassNames, SetStyleTexts, SetRuleSelector, SetStyleSheetText, AddRule, SetBreakpoint, RemoveBreakpoint, ReplayLoad, ReplayAct}
 use Rattle.cdp_messages.specs.declared.down.ReplyBody.{ReplyBody}
 use Rattle.cdp_messages.specs.declared.down.ReplyBody.TheVariants as body
 use Rattle.cdp_messages.specs.declared.edits.TextEdit.{TextEdit}
-use Rattle.cdp_messages.specs.Moves.{Move, rewritten, replied, frames_of_moves}
+use Rattle.cdp_messages.specs.Moves.{Move, rewritten, replied}
 use Rattle.css_agent.specs.declared.edits.CssEdit.{CssEdit}
 use Rattle.css_agent.specs.declared.edits.CssEdit.TheVariants as edit
 use Rattle.css_agent.specs.RuleObjects.{told_rule}
@@ -77,23 +78,22 @@ style_edit x = record { sheet = sheet_number x.sheet; range = line_range x.range
 
 -- ---- rules of the book after an edit
 
--- the style rule at that place, as it is told, if it is there
-abbrev pub told_at : List SheetEntry → RulePlace → Option Rule
-told_at book p = option_and_then (λ e. option_map (told_rule e) (slice_get (sheet_of e.text).rules p.rule)) (entry_of p.sheet book)
+-- the style rule at that place, if it is there
+abbrev pub found_at : List SheetEntry → RulePlace → Option Rule
+found_at book p = option_and_then (λ e. option_map (told_rule e) (slice_get (sheet_of e.text).rules p.rule)) (entry_of p.sheet book)
 
--- its style
-abbrev pub style_at : List SheetEntry → RulePlace → Option Style
-style_at book p = option_map (λ r. r.style) (told_at book p)
+-- a rule that has nothing, at the start of a sheet
+abbrev pub empty_rule : ℕ → Rule
+empty_rule sheet = record {
+  origin = origin.Regular;
+  selectors = record { selectors = []; text = [] };
+  style = record { properties = []; text = []; range = Some (record { start_line = 0; start_column = 0; end_line = 0; end_column = 0 }); sheet = Some sheet };
+  sheet = sheet;
+}
 
--- its selectors, as a result
-abbrev pub selectors_result : Option Rule → ReplyBody
-selectors_result (Some r) = body.Selectors r.selectors
-selectors_result None = body.Nothing
-
--- itself, as a result
-abbrev pub rule_result : Option Rule → ReplyBody
-rule_result (Some r) = body.Rule r
-rule_result None = body.Nothing
+-- the style rule that an edit made, as it is told. That it is there follows from how texts are sealed; the definition does not rest on it.
+abbrev pub told_at : List SheetEntry → RulePlace → Rule
+told_at book p = unwrap_or (found_at book p) (empty_rule p.sheet)
 
 -- ---- what edits come to
 
@@ -113,11 +113,11 @@ CssEdited = Result CssDone SheetFault
 
 -- edits of the bodies of rules: the styles of these rules after all of them
 abbrev pub styles_done : List RulePlace → EditsOutcome → CssEdited
-styles_done rules (Ok made) = Ok (css_done made.0 made.1 (body.Styles (filter_map (style_at made.0) rules)))
+styles_done rules (Ok made) = Ok (css_done made.0 made.1 (body.Styles (map (λ p. (told_at made.0 p).style) rules)))
 styles_done rules (Err f) = Err f
 
 -- one edit, of which a result tells the rule that it made
-abbrev pub one_done : (Option Rule → ReplyBody) → Result (List SheetEntry × Splice) SheetFault → CssEdited
+abbrev pub one_done : (Rule → ReplyBody) → Result (List SheetEntry × Splice) SheetFault → CssEdited
 one_done told (Ok made) = Ok (css_done made.0 (made.1 ∷ []) (told (told_at made.0 (edited_rule made.0 made.1))))
 one_done told (Err f) = Err f
 
@@ -125,24 +125,24 @@ one_done told (Err f) = Err f
 abbrev pub styles_set : List TextEdit → List SheetEntry → CssEdited
 styles_set edits book = styles_done (edited_rules (map style_edit edits) book) (styles_edited (map style_edit edits) book)
 
--- `CSS.setRuleSelector`
-abbrev pub selector_set : List ℕ → SourceRange → List ℕ → List SheetEntry → CssEdited
-selector_set sheet range selector book = one_done selectors_result (edited book (selector_splice (sheet_number sheet) (line_range range) selector book))
+-- the edit of `CSS.setRuleSelector`
+abbrev pub selector_edited : List ℕ → SourceRange → List ℕ → List SheetEntry → Result (List SheetEntry × Splice) SheetFault
+selector_edited sheet range selector book = edited book (selector_splice (sheet_number sheet) (line_range range) selector book)
 
--- `CSS.setStyleSheetText`
-abbrev pub text_set : List ℕ → List ℕ → List SheetEntry → CssEdited
-text_set sheet text book = one_done (λ r. body.Nothing) (edited book (text_splice (sheet_number sheet) text book))
+-- that of `CSS.setStyleSheetText`
+abbrev pub text_edited : List ℕ → List ℕ → List SheetEntry → Result (List SheetEntry × Splice) SheetFault
+text_edited sheet text book = edited book (text_splice (sheet_number sheet) text book)
 
--- `CSS.addRule`
-abbrev pub rule_added : List ℕ → List ℕ → SourceRange → List SheetEntry → CssEdited
-rule_added sheet rule_text location book = one_done rule_result (edited book (rule_splice (sheet_number sheet) (line_range location) rule_text book))
+-- that of `CSS.addRule`
+abbrev pub rule_edited : List ℕ → List ℕ → SourceRange → List SheetEntry → Result (List SheetEntry × Splice) SheetFault
+rule_edited sheet rule_text location book = edited book (rule_splice (sheet_number sheet) (line_range location) rule_text book)
 
 -- each command
 abbrev pub css_edited : List SheetEntry → CssEdit → CssEdited
 css_edited book (edit.SetStyleTexts edits) = styles_set edits book
-css_edited book (edit.SetRuleSelector sheet range selector) = selector_set sheet range selector book
-css_edited book (edit.SetStyleSheetText sheet text) = text_set sheet text book
-css_edited book (edit.AddRule sheet rule_text location) = rule_added sheet rule_text location book
+css_edited book (edit.SetRuleSelector sheet range selector) = one_done (λ r. body.Selectors r.selectors) (selector_edited sheet range selector book)
+css_edited book (edit.SetStyleSheetText sheet text) = one_done (λ r. body.Nothing) (text_edited sheet text book)
+css_edited book (edit.AddRule sheet rule_text location) = one_done (λ r. body.Rule r) (rule_edited sheet rule_text location book)
 
 -- ---- what is told of them
 
@@ -150,18 +150,47 @@ css_edited book (edit.AddRule sheet rule_text location) = rule_added sheet rule_
 abbrev pub text_under : ℕ → List SheetEntry → List ℕ
 text_under id book = unwrap_or (option_map (λ e. e.text) (entry_of id book)) []
 
--- the move that tells that a sheet was edited, with its text in the book after all edits
-abbrev pub rewritten_in : List SheetEntry → Splice → Move
-rewritten_in book back = rewritten back.sheet (text_under back.sheet book)
+-- the splice of one edit, if it has no fault
+abbrev pub one_splice : Found → List Splice
+one_splice (Ok s) = s ∷ []
+one_splice (Err f) = []
 
--- the moves that tell what was done and answer the command with that id: one for each splice, and the reply
-abbrev pub done_moves : ℕ → CssDone → List Move
-done_moves id d = map (rewritten_in d.book) d.backs ++ replied id d.body ∷ []
+-- that of a first edit, and those of the rest in the book that it leaves; none from the first fault on
+abbrev pub splices_on : Found → List SheetEntry → (List SheetEntry → List Splice) → List Splice
+splices_on (Ok s) book rest = s ∷ rest (after_splice s book)
+splices_on (Err f) book rest = []
 
--- the frames that are sent of an edit: none on a fault
-abbrev pub edit_frames : ℕ → CssEdited → List ℕ
-edit_frames id (Ok d) = frames_of_moves (done_moves id d)
-edit_frames id (Err f) = []
+-- the splices of edits of the bodies of rules, each in the book that the earlier ones left
+unfoldable pub style_splices : List StyleEdit → List SheetEntry → List Splice
+style_splices [] book = []
+style_splices (x ∷ xs) book = splices_on (style_splice x book) book (λ next. style_splices xs next)
+
+-- the splices that each command comes to, one for each edit
+abbrev pub css_splices : List SheetEntry → CssEdit → List Splice
+css_splices book (edit.SetStyleTexts edits) = style_splices (map style_edit edits) book
+css_splices book (edit.SetRuleSelector sheet range selector) =
+    one_splice (selector_splice (sheet_number sheet) (line_range range) selector book)
+css_splices book (edit.SetStyleSheetText sheet text) = one_splice (text_splice (sheet_number sheet) text book)
+css_splices book (edit.AddRule sheet rule_text location) =
+    one_splice (rule_splice (sheet_number sheet) (line_range location) rule_text book)
+
+-- the move that tells that the sheet of that id was edited, and has the text that it has in this book
+abbrev pub rewritten_in : List SheetEntry → ℕ → Move
+rewritten_in book id = rewritten id (text_under id book)
+
+-- the moves that tell splices, each in the book that the earlier ones left
+abbrev pub splice_moves : List Splice → List SheetEntry → List Move
+splice_moves [] book = []
+splice_moves (s ∷ ss) book = rewritten_in (after_splice s book) s.sheet ∷ splice_moves ss (after_splice s book)
+
+-- these moves, and the reply behind them to the command with that id; none on a fault
+abbrev pub with_reply : ℕ → List Move → CssEdited → List Move
+with_reply id told (Ok d) = told ++ replied id d.body ∷ []
+with_reply id told (Err f) = []
+
+-- the moves that tell an edit: one for each splice, and the reply
+abbrev pub edit_moves : ℕ → List SheetEntry → CssEdit → List Move
+edit_moves id book x = with_reply id (splice_moves (css_splices book x) book) (css_edited book x)
 
 -- the book after an edit and the splices that lead back
 abbrev pub edit_splices : CssEdited → EditsOutcome

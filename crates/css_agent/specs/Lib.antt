@@ -5,3 +5,4 @@ pub mod RuleObjects
 pub mod MatchedStyles
 pub mod Asks
 pub mod Edits
+pub mod EditLaws

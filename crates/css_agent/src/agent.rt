@@ -4,7 +4,7 @@ ghost use Rattle.cdp_messages.specs.Events.{news_of};
 ghost use Rattle.style_edits.specs.Edits.{IfFault};
 ghost use Rattle.css_agent.specs.Told.{turn_messages, event_messages, message_frames};
 ghost use Rattle.css_agent.specs.Asks.{NodeIsThere, css_outcome, answer_move};
-ghost use Rattle.css_agent.specs.Edits.{css_edited, edit_splices, edit_frames};
+ghost use Rattle.css_agent.specs.Edits.{css_edited, edit_splices, edit_moves};
 
 use crate::asks::CssAsk;
 use crate::edit_outcomes::css_edited;
@@ -107,7 +107,7 @@ impl CssAgent {
         out: &mut Vec<u8>,
     ) -> Result<Vec<Splice>, SheetErr>
         ensures done { IfOk result (λ backs. edit_splices (css_edited book.old edit.now) ≡ Ok (book.new, backs.items)) }
-        ensures sent { OnOk result (out.new.items ≡ out.old.items ++ edit_frames id (css_edited book.old edit.now)) }
+        ensures sent { OnOk result (out.new.items ≡ out.old.items ++ frames_of_moves (edit_moves id book.old edit.now)) }
         ensures fault { IfFault result (λ f. css_edited book.old edit.now ≡ Err f) }
         ensures unchanged { IfFault result (λ f. book.new ≡ book.old) }
         ensures unsent { IfFault result (λ f. out.new.items ≡ out.old.items) }

@@ -1,13 +1,14 @@
 // What each command that edits sheets comes to.
 ghost use Rattle.std.specs.Prelude.{◌≡◌, ◌∷◌, [], Ok, Err, IfOk};
+ghost use Rattle.cdp_messages.specs.declared.down.ReplyBody.TheVariants.{Nothing, Selectors, Rule};
 ghost use Rattle.style_edits.specs.Edits.{IfFault};
-ghost use Rattle.css_agent.specs.Edits.{selectors_result, rule_result, css_done, styles_set, selector_set, text_set, rule_added, css_edited};
+ghost use Rattle.css_agent.specs.Edits.{css_done, one_done, styles_set, selector_edited, text_edited, rule_edited, css_edited};
 
 use crate::edit_words::{line_range, sheet_number, style_edits};
 use crate::edited_rules::{styles_at, told_at};
 use crate::edits::CssEdit;
 use cdp_messages::{Listed, ReplyBody, TextEdit};
-use css_objects::{Rule, SourceRange};
+use css_objects::SourceRange;
 use sheet_reader::SheetBook;
 use std::alloc::{AllocError, Global};
 use style_edits::{
@@ -27,24 +28,6 @@ fn one_done(alloc: Global, back: Splice, body: ReplyBody) -> Result<Done, AllocE
 {
     let backs = vec![in alloc; back]?;
     Ok(Done { backs, body })
-}
-
-fn selectors_result(rule: Option<Rule>) -> ReplyBody
-    ensures { result ≡ selectors_result rule }
-{
-    match rule {
-        Some(rule) => ReplyBody::Selectors(rule.selectors),
-        None => ReplyBody::Nothing,
-    }
-}
-
-fn rule_result(rule: Option<Rule>) -> ReplyBody
-    ensures { result ≡ rule_result rule }
-{
-    match rule {
-        Some(rule) => ReplyBody::Rule(rule),
-        None => ReplyBody::Nothing,
-    }
 }
 
 fn styles_set(alloc: Global, book: &mut SheetBook, edits: &[TextEdit]) -> Result<Done, SheetErr>
@@ -72,21 +55,21 @@ fn selector_set(
     range: SourceRange,
     selector: &str,
 ) -> Result<Done, SheetErr>
-    ensures done { IfOk result (λ d. selector_set sheet.now range selector.now book.old ≡ Ok (css_done book.new d.backs.items d.body)) }
-    ensures fault { IfFault result (λ f. selector_set sheet.now range selector.now book.old ≡ Err f) }
+    ensures done { IfOk result (λ d. one_done (λ r. Selectors r.selectors) (selector_edited sheet.now range selector.now book.old) ≡ Ok (css_done book.new d.backs.items d.body)) }
+    ensures fault { IfFault result (λ f. selector_edited sheet.now range selector.now book.old ≡ Err f) }
     ensures unchanged { IfFault result (λ f. book.new ≡ book.old) }
 {
     let back = match set_selector(book, sheet_number(sheet), &line_range(range), selector) {
         Ok(back) => back,
         Err(stop) => return Err(stop),
     };
-    let rule = told_at(alloc, book, edited_rule(book, &back))?;
-    Ok(one_done(alloc, back, selectors_result(rule))?)
+    let rule = told_at(alloc, book, &edited_rule(book, &back))?;
+    Ok(one_done(alloc, back, ReplyBody::Selectors(rule.selectors))?)
 }
 
 fn text_set(alloc: Global, book: &mut SheetBook, sheet: &str, text: &str) -> Result<Done, SheetErr>
-    ensures done { IfOk result (λ d. text_set sheet.now text.now book.old ≡ Ok (css_done book.new d.backs.items d.body)) }
-    ensures fault { IfFault result (λ f. text_set sheet.now text.now book.old ≡ Err f) }
+    ensures done { IfOk result (λ d. one_done (λ r. Nothing) (text_edited sheet.now text.now book.old) ≡ Ok (css_done book.new d.backs.items d.body)) }
+    ensures fault { IfFault result (λ f. text_edited sheet.now text.now book.old ≡ Err f) }
     ensures unchanged { IfFault result (λ f. book.new ≡ book.old) }
 {
     let back = match set_text(book, sheet_number(sheet), text) {
@@ -103,16 +86,16 @@ fn rule_added(
     rule_text: &str,
     location: SourceRange,
 ) -> Result<Done, SheetErr>
-    ensures done { IfOk result (λ d. rule_added sheet.now rule_text.now location book.old ≡ Ok (css_done book.new d.backs.items d.body)) }
-    ensures fault { IfFault result (λ f. rule_added sheet.now rule_text.now location book.old ≡ Err f) }
+    ensures done { IfOk result (λ d. one_done (λ r. Rule r) (rule_edited sheet.now rule_text.now location book.old) ≡ Ok (css_done book.new d.backs.items d.body)) }
+    ensures fault { IfFault result (λ f. rule_edited sheet.now rule_text.now location book.old ≡ Err f) }
     ensures unchanged { IfFault result (λ f. book.new ≡ book.old) }
 {
     let back = match add_rule(book, sheet_number(sheet), rule_text, &line_range(location)) {
         Ok(back) => back,
         Err(stop) => return Err(stop),
     };
-    let rule = told_at(alloc, book, edited_rule(book, &back))?;
-    Ok(one_done(alloc, back, rule_result(rule))?)
+    let rule = told_at(alloc, book, &edited_rule(book, &back))?;
+    Ok(one_done(alloc, back, ReplyBody::Rule(rule))?)
 }
 
 /// Carries the edit out. On a fault the book is as it was.

@@ -1,19 +1,19 @@
 // The style rules that edits made, as they are told.
-ghost use Rattle.std.specs.Prelude.{◌≡◌, ◌++◌, option_map, option_to_list, slice_get, IfOk, OnOk};
-ghost use Rattle.std.specs.List.{filter_map};
+ghost use Rattle.std.specs.Prelude.{◌≡◌, map, option_map, slice_get, IfOk};
 ghost use Rattle.sheet_reader.specs.Books.{IsEntry};
 ghost use Rattle.sheet_reader.specs.Sheets.{sheet_of};
 ghost use Rattle.css_agent.specs.RuleObjects.{told_rule};
-ghost use Rattle.css_agent.specs.Edits.{told_at, style_at};
+ghost use Rattle.css_agent.specs.Edits.{found_at, empty_rule, told_at};
 
 use crate::matched_styles::rule_at;
 use crate::rules::told_rule;
-use css_objects::{Rule, Style};
+use css_objects::{Listed, Rule, RuleSelectors, SheetOrigin, SourceRange, Style};
+use node_tree::Text;
 use sheet_reader::{SheetBook, SheetEntry};
 use std::alloc::{AllocError, Global};
 use style_edits::RulePlace;
 
-fn told_in(alloc: Global, entry: &SheetEntry, place: usize) -> Result<Option<Rule>, AllocError>
+fn found_in(alloc: Global, entry: &SheetEntry, place: usize) -> Result<Option<Rule>, AllocError>
     requires { IsEntry entry.now }
     ensures { IfOk result (λ o. o ≡ option_map (told_rule entry.now) (slice_get (sheet_of entry.now.text).rules place)) }
 {
@@ -24,48 +24,75 @@ fn told_in(alloc: Global, entry: &SheetEntry, place: usize) -> Result<Option<Rul
 }
 
 /// The style rule at that place, if it is there.
-pub(crate) fn told_at(
-    alloc: Global,
-    book: &SheetBook,
-    place: RulePlace,
-) -> Result<Option<Rule>, AllocError>
-    ensures { IfOk result (λ o. o ≡ told_at book.now place) }
+fn found_at(alloc: Global, book: &SheetBook, place: RulePlace) -> Result<Option<Rule>, AllocError>
+    ensures { IfOk result (λ o. o ≡ found_at book.now place) }
 {
     let Some(entry) = book.get(place.sheet) else {
         return Ok(None);
     };
-    told_in(alloc, entry, place.rule)
+    found_in(alloc, entry, place.rule)
 }
 
-fn style_at(alloc: Global, book: &SheetBook, place: &RulePlace) -> Result<Option<Style>, AllocError>
-    ensures { IfOk result (λ o. o ≡ style_at book.now place.now) }
+/// A rule that has nothing.
+fn empty_rule(alloc: Global, sheet: u64) -> Rule
+    ensures { result ≡ empty_rule sheet }
 {
-    let Some(rule) = told_at(alloc, book, *place)? else {
-        return Ok(None);
+    let selectors = RuleSelectors {
+        selectors: Listed::new(Vec::new(alloc)),
+        text: Text::new(String::new(alloc)),
     };
-    Ok(Some(rule.style))
-}
-
-fn push_style(found: &mut Vec<Style>, one: Option<Style>) -> Result<(), AllocError>
-    ensures { OnOk result (found.new.items ≡ found.old.items ++ option_to_list one) }
-{
-    if let Some(one) = one {
-        found.push(one)?;
+    let range = SourceRange {
+        start_line: 0,
+        start_column: 0,
+        end_line: 0,
+        end_column: 0,
+    };
+    let style = Style {
+        properties: Listed::new(Vec::new(alloc)),
+        text: Text::new(String::new(alloc)),
+        range: Some(range),
+        sheet: Some(sheet),
+    };
+    Rule {
+        origin: SheetOrigin::Regular,
+        selectors,
+        style,
+        sheet,
     }
-    Ok(())
 }
 
-/// The styles of the rules at these places.
+/// The style rule that an edit made.
+pub(crate) fn told_at(
+    alloc: Global,
+    book: &SheetBook,
+    place: &RulePlace,
+) -> Result<Rule, AllocError>
+    ensures { IfOk result (λ r. r ≡ told_at book.now place.now) }
+{
+    match found_at(alloc, book, *place)? {
+        Some(rule) => Ok(rule),
+        None => Ok(empty_rule(alloc, place.sheet)),
+    }
+}
+
+fn style_at(alloc: Global, book: &SheetBook, place: &RulePlace) -> Result<Style, AllocError>
+    ensures { IfOk result (λ s. s ≡ (told_at book.now place.now).style) }
+{
+    let rule = told_at(alloc, book, place)?;
+    Ok(rule.style)
+}
+
+/// The styles of the rules that edits made.
 pub(crate) fn styles_at(
     alloc: Global,
     book: &SheetBook,
     places: &[RulePlace],
 ) -> Result<Vec<Style>, AllocError>
-    ensures { IfOk result (λ v. v.items ≡ filter_map (style_at book.now) places.now) }
+    ensures { IfOk result (λ v. v.items ≡ map (λ p. (told_at book.now p).style) places.now) }
 {
-    let mut found = Vec::new(alloc);
+    let mut styles = Vec::new(alloc);
     for place in places {
-        push_style(&mut found, style_at(alloc, book, place)?)?;
+        styles.push(style_at(alloc, book, place)?)?;
     }
-    Ok(found)
+    Ok(styles)
 }

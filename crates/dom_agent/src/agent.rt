@@ -386,8 +386,6 @@ impl DomAgent {
     /// Opens each ancestor of the node that is not opened yet, from the top down, by one level; appends a frame for each.
     /// Gives the id of the node.
     pub fn push(&mut self, page: &Page, serial: u64, out: &mut Vec<u8>) -> Result<u64, AllocError>
-        requires live { IsSome (find_in serial page.now.tree) }
-        requires begun { opened_in self.old page.now.tree.row.serial ≡ true }
         requires room { self.old.next < 2 ^ 52 }
         ensures id { IfOk result (λ id. id ≡ id_in self.new serial) }
         ensures known { OnOk result

@@ -21,7 +21,7 @@ use Rattle.front_mirror.specs.declared.replies.Kept.{Kept}
 use Rattle.front_mirror.specs.declared.faults.FrontKind.TheVariants.{UnknownNode, IdTaken, UnknownSheet}
 use Rattle.front_mirror.specs.declared.faults.FrontKind.{FrontKind}
 use Rattle.front_mirror.specs.declared.faults.FrontFault.{FrontFault}
-use Rattle.front_mirror.specs.Front.{FrontValue, first_value, plain_ask, fetch_ask, ask_under, method_of, fetched_sheet, kept, unless_fetch, sheets_fetched, without, root_fault, replied, refused, told, halted, told_sheets, is_shown, ToldChange, told_change, change_fault, with_root, with_effect, with_body, with_reply, with_fault, with_tree, at_spot, with_change, with_news, with_message, take_frame, Folded, after_message, folded, outcome, fold_frames, fold, FrontState, first_state, after_bytes, unless_refused, after_take, after_ask, after_fetch}
+use Rattle.front_mirror.specs.Front.{FrontValue, first_value, plain_ask, fetch_ask, ask_under, method_of, fetched_sheet, kept, unless_fetch, sheets_fetched, without, root_fault, matched_told, with_matched, replied, refused, told, halted, told_sheets, is_shown, ToldChange, told_change, change_fault, with_root, with_effect, with_body, with_reply, with_fault, with_tree, at_spot, with_change, with_news, with_message, take_frame, Folded, after_message, folded, outcome, fold_frames, fold, FrontState, first_state, after_bytes, unless_refused, after_take, after_ask, after_fetch}
 use Rattle.front_mirror.specs.declared.sheets.KnownSheet.{KnownSheet}
 use Rattle.front_mirror.specs.Sheets.{new_sheet, has_sheet, marked_old, without_sheet}
 use Rattle.front_mirror.specs.Laws.{joined, IsFold}
@@ -155,7 +155,7 @@ with_effect-more v w ask id frame m effect.NothingElse waits e = replied-more v 
 with_body-more : (v w : FrontValue) (ask : Ask) (id : ℕ) (frame : List ℕ) (m : List ℕ) (body : Option ReplyBody) → method_of id v.asks ≡ Some m
     → with_body v id frame m body ≡ Ok w → with_body (joined v ask) id frame m body ≡ Ok (joined w ask)
 with_body-more v w ask id frame m None waits e = cc
-with_body-more v w ask id frame m (Some body) waits e = with_effect-more v w ask id frame m (effect_of m body) waits e
+with_body-more v w ask id frame m (Some body) waits e = with_effect-more (with_matched v (matched_told id body)) w ask id frame m (effect_of m body) waits e
 
 with_reply-more : (v w : FrontValue) (ask : Ask) (id : ℕ) (frame : List ℕ) (result : Data) (o : Option (List ℕ)) → method_of id v.asks ≡ o
     → with_reply v id frame result o ≡ Ok w → with_reply (joined v ask) id frame result (method_of id (v.asks ++ ask ∷ [])) ≡ Ok (joined w ask)

@@ -5,7 +5,6 @@ use Rattle.std.proofs.lemmas.Bool.{eqb-true}
 use Rattle.cdp_json.specs.Kinds.{is_counted}
 use Rattle.css_objects.specs.Sheets.{is_sheet}
 use Rattle.css_objects.specs.declared.sheets.SheetOrigin.{SheetOrigin}
-use Rattle.css_objects.specs.declared.sheets.SheetOrigin.TheVariants as origin
 use Rattle.cdp_messages.specs.Events.{sheet_added, sheet_changed, sheet_removed, fits_news}
 use Rattle.cdp_messages.specs.Views.{ShownSheet, sheet_number, AreSheets, text_units, sheet_header, shows_sheet, shown_text, sheets_without, sheets_with_text, is_in, is_distinct}
 use Rattle.front_mirror.specs.declared.sheets.KnownSheet.{KnownSheet}

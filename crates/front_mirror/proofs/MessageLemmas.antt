@@ -1,5 +1,5 @@
 -- What is known of a frame that is read, or that is not.
-use Rattle.std.proofs.Common.{◌≡◌, ℕ, List, Bool, true, false, cond, codes, bytes_eq, ◌&&◌, Option, Some, None, option_and_then, Result, Ok, Err, IsOk, Vec, refl, sym, ap, ◌∙◌}
+use Rattle.std.proofs.Common.{◌≡◌, ℕ, List, [], ◌∷◌, Bool, true, false, cond, codes, bytes_eq, ◌&&◌, Option, Some, None, option_and_then, Result, Ok, Err, IsOk, Vec, refl, sym, ap, ◌∙◌, append-nil}
 use Rattle.std.specs.Str.{IsUtf8, is_utf8}
 use Rattle.std.proofs.lemmas.Str.{IsUtf8-from_is_utf8}
 use Rattle.serde_json.specs.Read.{read}
@@ -23,9 +23,11 @@ use Rattle.cdp_messages.specs.Events.{attribute_modified, attribute_removed, ins
 use Rattle.cdp_messages.specs.Replies.{Message, reply, event, message_of, message_in, down_of, body_data, result_of, fits_body, fits_message}
 use Rattle.cdp_messages.proofs.Messages.{messages_are_spelled, results_are_read, results_are_spelled}
 use Rattle.front_mirror.specs.declared.faults.FrontKind.TheVariants.{NotMessage}
+use Rattle.css_objects.specs.declared.rules.Matched.{Matched}
+use Rattle.front_mirror.specs.declared.replies.MatchedReply.{MatchedReply}
 use Rattle.front_mirror.specs.declared.edits.NodeEdit.TheVariants as edit
 use Rattle.front_mirror.specs.Edits.{fits_edit, fits_effect}
-use Rattle.front_mirror.specs.Front.{FrontValue, method_of, root_fault, with_root, with_body, with_reply, with_message, take_frame}
+use Rattle.front_mirror.specs.Front.{FrontValue, method_of, root_fault, matched_told, with_matched, replied, with_root, with_effect, with_body, with_reply, with_message, take_frame}
 use Rattle.front_mirror.proofs.BoolLemmas.{and_left, both}
 
 -- a result that is read has the forms of one, and so has what it changes
@@ -100,9 +102,54 @@ pub text_refused : {A E : Type 0} (v : FrontValue) (bytes : List ℕ) (r : Resul
     → take_frame v bytes ≡ Err NotMessage
 text_refused v bytes r e is succeeds = ap (with_message v bytes) (no_text bytes (λ u. ok_err r e is (succeeds u)))
 
+-- a result without matched styles adds none
+pub none_matched : (v : FrontValue) → with_matched v [] ≡ v
+none_matched v = ap (λ (rs : List MatchedReply). record v { matched = rs }) (append-nil v.matched)
+
+untold : (id : ℕ) (b : ReplyBody) → ((m : Matched) → b ≡ body.Matched m → ⊥) → matched_told id b ≡ []
+untold id body.Nothing other = refl
+untold id (body.Root tree) other = refl
+untold id (body.Node tree) other = refl
+untold id (body.NodeId n) other = refl
+untold id (body.NodeIds ns) other = refl
+untold id (body.Attributes pairs) other = refl
+untold id (body.ClassNames names) other = refl
+untold id (body.SheetText text) other = refl
+untold id (body.Styles styles) other = refl
+untold id (body.Selectors selectors) other = refl
+untold id (body.Rule rule) other = refl
+untold id (body.Matched matched) other = absurd (other matched refl)
+
+-- What is read of a reply: the ask of its id waits and is of that method, which has this result.
+pub record IsRead (v : FrontValue) (id : ℕ) (d : Data) (method : List ℕ) (b : ReplyBody) : Type 0 where
+  pub waits : method_of id v.asks ≡ Some method
+  pub result : result_of method d ≡ Some b
+
+reply_read : (v : FrontValue) (id : ℕ) (frame : List ℕ) (d : Data) (method : List ℕ) (b : ReplyBody) → IsRead v id d method b
+    → with_reply v id frame d (method_of id v.asks) ≡ with_effect (with_matched v (matched_told id b)) id frame (effect_of method b)
+reply_read v id frame d method b has = ap (with_reply v id frame d) has.waits ∙ ap (with_body v id frame method) has.result
+
+-- a result of matched styles is kept
+pub matched_taken : (v w : FrontValue) (id : ℕ) (frame : List ℕ) (d : Data) (method : List ℕ) (b : ReplyBody) (m : Matched) → IsRead v id d method b → b ≡ body.Matched m
+    → w ≡ replied (with_matched v (record { ask = id; matched = m } ∷ [])) id frame true v.tree → with_reply v id frame d (method_of id v.asks) ≡ Ok w
+matched_taken v w id frame d method b m has is kept =
+    reply_read v id frame d method b has
+    ∙ ap (λ (x : ReplyBody). with_effect (with_matched v (matched_told id x)) id frame (effect_of method x)) is
+    ∙ ap Ok (sym kept)
+
+-- any other result has its effect alone
+pub other_taken : (v : FrontValue) (id : ℕ) (frame : List ℕ) (d : Data) (method : List ℕ) (b : ReplyBody) (x : Effect) → IsRead v id d method b
+    → ((m : Matched) → b ≡ body.Matched m → ⊥) → x ≡ effect_of method b → with_reply v id frame d (method_of id v.asks) ≡ with_effect v id frame x
+other_taken v id frame d method b x has other is =
+    reply_read v id frame d method b has
+    ∙ ap (λ (rs : List MatchedReply). with_effect (with_matched v rs) id frame (effect_of method b)) (untold id b other)
+    ∙ ap (λ (u : FrontValue). with_effect u id frame (effect_of method b)) (none_matched v)
+    ∙ ap (with_effect v id frame) (sym is)
+
 -- a document that an ask waits for
 pub document_taken : (v : FrontValue) (frame : List ℕ) (id : ℕ) (tree : Branch Told) (method : List ℕ) → down_of frame ≡ Some (reply id (body_data (body.Root tree))) → fits_tree true tree ≡ true
     → method_of id v.asks ≡ Some method → method ≡ codes "DOM.getDocument" → take_frame v frame ≡ with_root v id frame tree (root_fault tree)
 document_taken v frame id tree method told fits waits is =
     ap (with_message v frame) told ∙ ap (with_reply v id frame (body_data (body.Root tree))) (waits ∙ ap Some is)
     ∙ ap (with_body v id frame (codes "DOM.getDocument")) (results_are_read (codes "DOM.getDocument") (body.Root tree) refl fits)
+    ∙ ap (λ (u : FrontValue). with_root u id frame tree (root_fault tree)) (none_matched v)

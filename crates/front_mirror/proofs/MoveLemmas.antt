@@ -33,8 +33,8 @@ use Rattle.front_mirror.specs.declared.faults.FrontKind.{FrontKind}
 use Rattle.front_mirror.specs.declared.faults.FrontKind.TheVariants.{UnknownNode, IdTaken, UnknownSheet}
 use Rattle.front_mirror.specs.declared.sheets.KnownSheet.{KnownSheet}
 use Rattle.front_mirror.specs.Sheets.{new_sheet, has_sheet, marked_old, without_sheet}
-use Rattle.front_mirror.specs.Front.{FrontValue, fetched_sheet, sheets_fetched, without, replied, refused, told, told_sheets, with_sheet, halted, is_shown, with_root, with_effect, with_body, with_reply, with_fault, with_message, take_frame, after_message, folded, outcome}
-use Rattle.front_mirror.specs.Laws.{KnowsSheets, Has, Asks, is_quiet, IsAnswered, IsOfSheet, IsTextAsked, Waits, IsAwaited, without_all, asks_after, kept_fault, kept_after, kept_after_all, pauses_after, IsTaken, MoveGives, AreAwaited, asks_after_all, AreTaken, CourseGives, IsAnswer, InTurn, rests, tells, meets, TurnsAreAwaited}
+use Rattle.front_mirror.specs.Front.{FrontValue, fetched_sheet, sheets_fetched, without, matched_told, with_matched, replied, refused, told, told_sheets, with_sheet, halted, is_shown, with_root, with_effect, with_body, with_reply, with_fault, with_message, take_frame, after_message, folded, outcome}
+use Rattle.front_mirror.specs.Laws.{KnowsSheets, Has, Asks, is_quiet, IsAnswered, IsOfSheet, IsTextAsked, Waits, IsAwaited, without_all, asks_after, kept_fault, kept_after, kept_after_all, pauses_after, matched_after, IsTaken, MoveGives, AreAwaited, asks_after_all, AreTaken, CourseGives, IsAnswer, InTurn, rests, tells, meets, TurnsAreAwaited}
 use Rattle.front_mirror.proofs.ViewLemmas.{height-told, root_fault-told}
 use Rattle.front_mirror.proofs.FollowLemmas.{CanTellNews, changed_news, told_change_news, texts-told, shown_id}
 use Rattle.front_mirror.proofs.KnownSheets.{known-has, known-added, known-without, known-rewritten, known-fetched, apart_last, last_is_sheet, shown_is_sheet, shown_utf8, added_news_fit, changed_news_fit, removed_news_fit}
@@ -65,6 +65,7 @@ gives_change id c u w v before after moves same has =
       asks = refl;
       replies = same_nothing v.replies;
       pauses = same_nothing v.pauses;
+      matched = same_nothing v.matched;
       taken = refl;
     }
 
@@ -79,6 +80,7 @@ gives_clear w v is knows = record {
   asks = refl;
   replies = same_nothing v.replies;
   pauses = same_nothing v.pauses;
+  matched = same_nothing v.matched;
   taken = refl;
 }
 
@@ -111,6 +113,7 @@ gives_pause why u v before are has =
       asks = refl;
       replies = same_nothing v.replies;
       pauses = refl;
+      matched = same_nothing v.matched;
       taken = refl;
     }
 
@@ -118,7 +121,8 @@ gives_pause why u v before are has =
 
 -- a reply that is written is read as one of its method
 reply_taken : (v : FrontValue) (id : ℕ) (body : ReplyBody) (method : List ℕ) → is_counted id ≡ true → fits_body body ≡ true → BodyHasUtf8 body → body_height body ≤ 61
-    → Asks id method v.asks → answers method body ≡ true → take_frame v (reply_text id body) ≡ with_effect v id (reply_text id body) (effect_of method body)
+    → Asks id method v.asks → answers method body ≡ true
+    → take_frame v (reply_text id body) ≡ with_effect (with_matched v (matched_told id body)) id (reply_text id body) (effect_of method body)
 reply_taken v id body method counted fits texts levels waits is =
     ap (with_message v (reply_text id body)) (replies_are_read id body counted fits (replies_are_shallow id body levels) (replies_are_utf8 id body counted fits texts))
     ∙ ap (with_reply v id (reply_text id body) (body_data body)) waits
@@ -131,16 +135,18 @@ gives_root id b w v after is knows counted waits =
     let body = Root (told_branch 0 b) in
     let fits = shown_trees_fit b (and_left (suits_tree true b) true can.forms) in
     let levels : body_height body ≤ 61 = rw (height-told 0 (alone b)) can.view.levels in
+    let same = with_matched v [] in
     record {
-      after = replied v id (reply_text id body) true (alone b);
+      after = replied same id (reply_text id body) true (alone b);
       is_taken =
           reply_taken v id body (codes "DOM.getDocument") counted fits (texts-told 0 (alone b) can.texts) levels waits refl
-          ∙ ap (with_root v id (reply_text id body) (told_branch 0 b)) (root_fault-told b can.view)
-          ∙ ap (λ (tree : Nodes Seen). taken_well (replied v id (reply_text id body) true tree)) (seen-told 0 (alone b));
+          ∙ ap (with_root same id (reply_text id body) (told_branch 0 b)) (root_fault-told b can.view)
+          ∙ ap (λ (tree : Nodes Seen). taken_well (replied same id (reply_text id body) true tree)) (seen-told 0 (alone b));
       has = record { tree = is; sheets = knows };
       asks = refl;
       replies = refl;
       pauses = same_nothing v.pauses;
+      matched = refl;
       taken = refl;
     }
 
@@ -153,14 +159,15 @@ quiet_stays v id frame effect.NothingElse e = refl
 
 gives_reply : (id : ℕ) (body : ReplyBody) (w : View) (v : FrontValue) → IsPlainReply id body → IsAnswered id body v.asks → Has v w → IsTaken (move.replied id body) v w
 gives_reply id body w v plain is has = record {
-  after = replied v id (reply_text id body) true v.tree;
+  after = replied (with_matched v (matched_told id body)) id (reply_text id body) true v.tree;
   is_taken =
       reply_taken v id body is.method plain.id_fits plain.fits plain.texts plain.levels is.waits is.answers
-      ∙ quiet_stays v id (reply_text id body) (effect_of is.method body) is.quiet;
+      ∙ quiet_stays (with_matched v (matched_told id body)) id (reply_text id body) (effect_of is.method body) is.quiet;
   has = record { tree = has.tree; sheets = has.sheets };
   asks = refl;
   replies = refl;
   pauses = same_nothing v.pauses;
+  matched = refl;
   taken = refl;
 }
 
@@ -169,23 +176,25 @@ nothing_levels = omega arith
 
 gives_end : (id : ℕ) (w : View) (v : FrontValue) → none ≡ w.tree → w.sheets ≡ [] → is_counted id ≡ true → Asks id (codes "DOM.disable") v.asks → IsTaken (move.all_off id) v w
 gives_end id w v is bare counted waits = record {
-  after = record (replied v id (reply_text id Nothing) true none) { sheets = [] };
+  after = record (replied (with_matched v []) id (reply_text id Nothing) true none) { sheets = [] };
   is_taken = reply_taken v id Nothing (codes "DOM.disable") counted refl tt nothing_levels waits refl;
   has = record { tree = is; sheets = subst (KnowsSheets []) (sym bare) tt };
   asks = refl;
   replies = refl;
   pauses = same_nothing v.pauses;
+  matched = refl;
   taken = refl;
 }
 
 gives_sheets_end : (id : ℕ) (w : View) (v : FrontValue) → v.tree ≡ w.tree → w.sheets ≡ [] → is_counted id ≡ true → Asks id (codes "CSS.disable") v.asks → IsTaken (move.sheets_off id) v w
 gives_sheets_end id w v is bare counted waits = record {
-  after = record (replied v id (reply_text id Nothing) true v.tree) { sheets = [] };
+  after = record (replied (with_matched v []) id (reply_text id Nothing) true v.tree) { sheets = [] };
   is_taken = reply_taken v id Nothing (codes "CSS.disable") counted refl tt nothing_levels waits refl;
   has = record { tree = is; sheets = subst (KnowsSheets []) (sym bare) tt };
   asks = refl;
   replies = refl;
   pauses = same_nothing v.pauses;
+  matched = refl;
   taken = refl;
 }
 
@@ -200,6 +209,7 @@ gives_refusal r w v None no_id has fits waits = record {
   asks = sym (ap (λ (o : Option ℕ). without_all (option_to_list o) v.asks) no_id);
   replies = sym (ap (λ (o : Option ℕ). v.replies ++ kept_fault o v.asks (refused_text r)) no_id);
   pauses = same_nothing v.pauses;
+  matched = same_nothing v.matched;
   taken = refl;
 }
 gives_refusal r w v (Some id) has_id has fits waits = record {
@@ -212,6 +222,7 @@ gives_refusal r w v (Some id) has_id has fits waits = record {
   asks = sym (ap (λ (o : Option ℕ). without_all (option_to_list o) v.asks) has_id);
   replies = sym (ap (λ (o : Option ℕ). v.replies ++ kept_fault o v.asks (refused_text r)) has_id);
   pauses = same_nothing v.pauses;
+  matched = same_nothing v.matched;
   taken = refl;
 }
 
@@ -241,6 +252,7 @@ gives_added s u w v after is counted has =
       asks = refl;
       replies = same_nothing v.replies;
       pauses = same_nothing v.pauses;
+      matched = same_nothing v.matched;
       taken = refl;
     }
 
@@ -263,6 +275,7 @@ gives_dropped n u w v before is shown has =
       asks = refl;
       replies = same_nothing v.replies;
       pauses = same_nothing v.pauses;
+      matched = same_nothing v.matched;
       taken = refl;
     }
 
@@ -279,6 +292,7 @@ gives_rewritten n text u w v before is shown has =
       asks = refl;
       replies = same_nothing v.replies;
       pauses = same_nothing v.pauses;
+      matched = same_nothing v.matched;
       taken = refl;
     }
 
@@ -289,13 +303,14 @@ gives_text : (id n : ℕ) (text : List ℕ) (u : View) (v : FrontValue) → CanB
     → IsTextAsked id n v.asks → Has v u → IsTaken (move.texted id n text) v u
 gives_text id n text u v can shown counted asked has =
     let frame = reply_text id (SheetText text) in record {
-      after = record (replied v id frame true v.tree) { sheets = sheets_fetched (fetched_sheet id v.asks) text v.sheets };
+      after = record (replied (with_matched v []) id frame true v.tree) { sheets = sheets_fetched (fetched_sheet id v.asks) text v.sheets };
       is_taken =
           reply_taken v id (SheetText text) (codes "CSS.getStyleSheetText") counted refl (shown_utf8 n text u.sheets can.sheets shown) (text_levels text) asked.waits refl;
       has = record { tree = has.tree; sheets = known-fetched n (fetched_sheet id v.asks) text v.sheets u.sheets asked.of_sheet shown has.sheets };
       asks = refl;
       replies = refl;
       pauses = same_nothing v.pauses;
+      matched = refl;
       taken = refl;
     }
 
@@ -348,6 +363,7 @@ more_taken m ms u w v one rest = record {
       ∙ ap (λ (ks : List _). ks ++ kept_after_all ms (asks_after m v.asks)) one.replies
       ∙ append_assoc v.replies (kept_after m v.asks) (kept_after_all ms (asks_after m v.asks));
   pauses = rest.pauses ∙ ap (λ (ps : List _). ps ++ flat_map pauses_after ms) one.pauses ∙ append_assoc v.pauses (pauses_after m) (flat_map pauses_after ms);
+  matched = rest.matched ∙ ap (λ (rs : List _). rs ++ flat_map matched_after ms) one.matched ∙ append_assoc v.matched (matched_after m) (flat_map matched_after ms);
   taken = let a = one.taken in let b = rest.taken in omega arith;
 }
 
@@ -359,6 +375,7 @@ course_from [] u _ (ends _ can) v has waits = record {
   asks = refl;
   replies = same_nothing v.replies;
   pauses = same_nothing v.pauses;
+  matched = same_nothing v.matched;
   taken = omega arith;
 }
 course_from (m ∷ ms) u w (goes _ _ _ x _ can moves course) v has waits =

@@ -1,5 +1,5 @@
 -- What a mirror reads from its table.
-use Rattle.std.proofs.Common.{◌≡◌, ℕ, ◌+◌, ◌<◌, ◌≤◌, ◌==◌, ◌&&◌, ◌||◌, Bool, not, List, ◌++◌, length, slice_get, Option, Some, None, Result, Ok, Err, IfOk, OnOk, IfSome, IsSome, option_map, is_some, unwrap_or, refl, sym, ap, subst, ◌∙◌, rules, arith}
+use Rattle.std.proofs.Common.{◌≡◌, ℕ, ◌<◌, ◌≤◌, ◌==◌, ◌&&◌, ◌||◌, Bool, not, List, ◌++◌, length, slice_get, Option, Some, None, Result, Ok, Err, IfOk, OnOk, IfSome, IsSome, option_map, is_some, unwrap_or, refl, sym, ap, subst, ◌∙◌, rules, arith}
 use Rattle.std.specs.Borrow.{Bor}
 use Rattle.std.specs.Option.{option_copied}
 use Rattle.node_tree.specs.Nodes.{Nodes, Branch, tree_at, width, height}

@@ -6,9 +6,12 @@ use Rattle.node_tree.specs.Seen.{Seen, coded_seen}
 use Rattle.front_mirror.specs.contracts.faults.FrontKind as kind
 use Rattle.css_objects.specs.declared.sheets.SheetOrigin.{SheetOrigin}
 use Rattle.css_objects.specs.contracts.sheets.SheetOrigin as origin
+use Rattle.css_objects.specs.declared.rules.Matched.{Matched}
+use Rattle.css_objects.specs.contracts.rules.Matched as matched
 use Rattle.front_mirror.specs.declared.sheets.KnownSheet.{KnownSheet}
 use Rattle.front_mirror.specs.declared.replies.Ask.{Ask}
 use Rattle.front_mirror.specs.declared.replies.Kept.{Kept}
+use Rattle.front_mirror.specs.declared.replies.MatchedReply.{MatchedReply}
 use Rattle.front_mirror.specs.declared.pauses.SeenPause.{SeenPause}
 use Rattle.cdp_messages.specs.declared.command.WatchWord.{WatchWord}
 use Rattle.cdp_messages.specs.contracts.command.WatchWord as watch
@@ -46,6 +49,11 @@ coded_pause =
     (λ p. record { kind = p.0.0; node = p.0.1; target = p.1.0; insertion = p.1.1 })
     (λ _. refl)
 
+-- a reply that told matched styles by its ask and the styles
+abbrev pub coded_matched : Coded MatchedReply
+coded_matched =
+    code_by (ℕ × Matched) (coded× coded_ℕ matched.the_row.coded) (λ r. (r.ask, r.matched)) (λ p. record { ask = p.0; matched = p.1 }) (λ _. refl)
+
 -- a fault by its place and kind
 abbrev pub coded_fault : Coded FrontFault
 coded_fault = code_by (ℕ × FrontKind) (coded× coded_ℕ kind.the_row.coded) (λ f. (f.place, f.kind)) (λ p. record { place = p.0; kind = p.1 }) (λ _. refl)
@@ -53,10 +61,12 @@ coded_fault = code_by (ℕ × FrontKind) (coded× coded_ℕ kind.the_row.coded) 
 -- what a front shows, by its parts
 abbrev pub coded_value : Coded FrontValue
 coded_value =
-    code_by ((Nodes Seen × (List KnownSheet × List Ask)) × (List Kept × (List SeenPause × ℕ)))
-    (coded× (coded× (coded_nodes coded_seen) (coded× (coded_list coded_sheet) (coded_list coded_ask))) (coded× (coded_list coded_kept) (coded× (coded_list coded_pause) coded_ℕ)))
-    (λ v. ((v.tree, (v.sheets, v.asks)), (v.replies, (v.pauses, v.taken))))
-    (λ p. record { tree = p.0.0; sheets = p.0.1.0; asks = p.0.1.1; replies = p.1.0; pauses = p.1.1.0; taken = p.1.1.1 })
+    code_by ((Nodes Seen × (List KnownSheet × List Ask)) × ((List Kept × List SeenPause) × (List MatchedReply × ℕ)))
+    (coded×
+    (coded× (coded_nodes coded_seen) (coded× (coded_list coded_sheet) (coded_list coded_ask)))
+    (coded× (coded× (coded_list coded_kept) (coded_list coded_pause)) (coded× (coded_list coded_matched) coded_ℕ)))
+    (λ v. ((v.tree, (v.sheets, v.asks)), ((v.replies, v.pauses), (v.matched, v.taken))))
+    (λ p. record { tree = p.0.0; sheets = p.0.1.0; asks = p.0.1.1; replies = p.1.0.0; pauses = p.1.0.1; matched = p.1.1.0; taken = p.1.1.1 })
     (λ _. refl)
 
 -- a front by its parts

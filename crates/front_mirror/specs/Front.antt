@@ -3,6 +3,7 @@ use Rattle.std.specs.Prelude.{ℕ, ◌+◌, ◌-◌, ◌^◌, ◌==◌, Bool, tr
 use Rattle.serde_json.specs.Data.{Data}
 use Rattle.cdp_json.specs.Rows.{ends, and_need, object_of}
 use Rattle.css_objects.specs.Sheets.{sheet_kind}
+use Rattle.css_objects.specs.declared.rules.Matched.{Matched}
 use Rattle.node_tree.specs.Nodes.{Nodes, none, node, Branch, alone, height}
 use Rattle.node_tree.specs.Keys.{Spot, has, spot, put}
 use Rattle.node_tree.specs.Labels.{is_element, has_value}
@@ -10,6 +11,7 @@ use Rattle.node_tree.specs.Seen.{Seen, is_counted, is_opened, seen_id, seen_seri
 use Rattle.std.specs.List.{list_all}
 use Rattle.pipe_frames.specs.Frames.{frames_from, held_after}
 use Rattle.cdp_messages.specs.declared.down.ReplyBody.{ReplyBody}
+use Rattle.cdp_messages.specs.declared.down.ReplyBody.TheVariants as body
 use Rattle.cdp_messages.specs.declared.effects.Effect.{Effect}
 use Rattle.cdp_messages.specs.declared.effects.Effect.TheVariants as effect
 use Rattle.cdp_messages.specs.Effects.{effect_of}
@@ -21,6 +23,7 @@ use Rattle.cdp_messages.specs.Replies.{Message, reply, fault, event, down_of, re
 use Rattle.cdp_messages.specs.Events.{News, attribute_modified, attribute_removed, text_modified, count_updated, inserted, removed, set_children, document_updated, paused, sheet_added, sheet_changed, sheet_removed}
 use Rattle.front_mirror.specs.declared.replies.Ask.{Ask}
 use Rattle.front_mirror.specs.declared.replies.Kept.{Kept}
+use Rattle.front_mirror.specs.declared.replies.MatchedReply.{MatchedReply}
 use Rattle.front_mirror.specs.declared.pauses.SeenPause.{SeenPause}
 use Rattle.front_mirror.specs.declared.faults.FrontKind.{FrontKind}
 use Rattle.front_mirror.specs.declared.faults.FrontKind.TheVariants.{NotMessage, UnknownNode, NotChild, IdTaken, UnknownSheet, TooDeep}
@@ -33,18 +36,19 @@ use Rattle.front_mirror.specs.Sheets.{new_sheet, has_sheet, marked_old, with_fet
 use Rattle.front_mirror.specs.Shown.{told_id, told_serial}
 
 -- The tree of the mirror, none where it is empty; the sheets, in the order in which they came; the asks that wait for a reply, in the order in which they were sent; the
--- replies and the pauses that came, in their order; and how many messages were taken.
+-- replies, the pauses and the matched styles that came, in their order; and how many messages were taken.
 pub record FrontValue : Type 0 where
   pub tree : Nodes Seen
   pub sheets : List KnownSheet
   pub asks : List Ask
   pub replies : List Kept
   pub pauses : List SeenPause
+  pub matched : List MatchedReply
   pub taken : ℕ
 
 -- a front that has taken nothing, and waits for the replies to these asks
 abbrev pub first_value : List Ask → FrontValue
-first_value asks = record { tree = none; sheets = []; asks = asks; replies = []; pauses = []; taken = 0 }
+first_value asks = record { tree = none; sheets = []; asks = asks; replies = []; pauses = []; matched = []; taken = 0 }
 
 -- ---- asks
 
@@ -211,10 +215,29 @@ with_effect v id frame effect.AllOff = Ok (record (replied v id frame true none)
 with_effect v id frame effect.SheetsOff = Ok (record (replied v id frame true v.tree) { sheets = [] })
 with_effect v id frame effect.NothingElse = Ok (replied v id frame true v.tree)
 
--- after an Ok reply with this result; none is of the method that was asked
+-- the matched styles that a result tells, if it tells some, with the id of the ask that it answers
+abbrev pub matched_told : ℕ → ReplyBody → List MatchedReply
+matched_told id body.Nothing = []
+matched_told id (body.Root tree) = []
+matched_told id (body.Node tree) = []
+matched_told id (body.NodeId n) = []
+matched_told id (body.NodeIds ns) = []
+matched_told id (body.Attributes pairs) = []
+matched_told id (body.ClassNames names) = []
+matched_told id (body.SheetText text) = []
+matched_told id (body.Styles styles) = []
+matched_told id (body.Selectors selectors) = []
+matched_told id (body.Rule rule) = []
+matched_told id (body.Matched matched) = record { ask = id; matched = matched } ∷ []
+
+-- the front with these matched styles more
+abbrev pub with_matched : FrontValue → List MatchedReply → FrontValue
+with_matched v more = record v { matched = v.matched ++ more }
+
+-- after an Ok reply with this result, whose matched styles are kept; none is of the method that was asked
 abbrev pub with_body : FrontValue → ℕ → List ℕ → List ℕ → Option ReplyBody → Result FrontValue FrontKind
 with_body v id frame method None = Err NotMessage
-with_body v id frame method (Some body) = with_effect v id frame (effect_of method body)
+with_body v id frame method (Some body) = with_effect (with_matched v (matched_told id body)) id frame (effect_of method body)
 
 -- a reply to an ask of that method, if one waits
 abbrev pub with_reply : FrontValue → ℕ → List ℕ → Data → Option (List ℕ) → Result FrontValue FrontKind
@@ -323,6 +346,11 @@ fold_frames v frames = let end = folded v frames in outcome end.value end.fault
 -- that are whole, or the first fault.
 abbrev pub fold : List Ask → List ℕ → Result FrontValue FrontFault
 fold waiting down = fold_frames (first_value waiting) (frames_from [] down)
+
+-- the matched styles that the first of these replies to the ask of that id told
+abbrev pub matched_in : ℕ → List MatchedReply → Option Matched
+matched_in ask [] = None
+matched_in ask (r ∷ rs) = cond (r.ask == ask) (Some r.matched) (matched_in ask rs)
 
 -- ---- a front that runs
 

@@ -10,7 +10,15 @@ use Rattle.front_mirror.specs.Front.{FrontValue, Folded}
 
 -- what is known, as contracts see it
 abbrev pub value_of : Known → FrontValue
-value_of k = record { tree = k.mirror; sheets = k.sheets.items; asks = k.asks.items; replies = k.replies.items; pauses = k.pauses.items; taken = k.taken }
+value_of k = record {
+  tree = k.mirror;
+  sheets = k.sheets;
+  asks = k.asks.items;
+  replies = k.replies.items;
+  pauses = k.pauses.items;
+  matched = k.matched.items;
+  taken = k.taken;
+}
 
 -- Ok is the front after, a refusal leaves the front as it was, and want of memory says nothing.
 abbrev pub Takes : FrontValue → FrontValue → Result (Unit {0}) FrameErr → Result FrontValue FrontKind → Type 0

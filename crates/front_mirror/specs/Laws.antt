@@ -11,9 +11,10 @@ use Rattle.cdp_messages.specs.Laws.{answers}
 use Rattle.cdp_messages.specs.Views.{ShownSheet, View}
 use Rattle.front_mirror.specs.declared.replies.Ask.{Ask}
 use Rattle.front_mirror.specs.declared.replies.Kept.{Kept}
+use Rattle.front_mirror.specs.declared.replies.MatchedReply.{MatchedReply}
 use Rattle.front_mirror.specs.declared.pauses.SeenPause.{SeenPause}
 use Rattle.front_mirror.specs.declared.sheets.KnownSheet.{KnownSheet}
-use Rattle.front_mirror.specs.Front.{FrontValue, plain_ask, fetch_ask, method_of, fetched_sheet, without, kept, kept_reply, seen_pause, take_frame, outcome, fold_frames, fold, FrontState, first_state, after_take, after_ask, after_fetch}
+use Rattle.front_mirror.specs.Front.{FrontValue, plain_ask, fetch_ask, method_of, fetched_sheet, without, kept, kept_reply, matched_told, seen_pause, take_frame, outcome, fold_frames, fold, FrontState, first_state, after_take, after_ask, after_fetch}
 
 -- the front with one ask more that waits
 abbrev pub joined : FrontValue → Ask → FrontValue
@@ -180,8 +181,23 @@ pauses_after (all_off id) = []
 pauses_after (sheets_off id) = []
 pauses_after (failed r) = []
 
--- The message of the move is taken: the front has the view then, what the move answers waits no longer, and a reply or a
--- pause is kept.
+-- the matched styles that a front keeps of a move, if it tells some
+abbrev pub matched_after : Move → List MatchedReply
+matched_after (change id c) = []
+matched_after clear = []
+matched_after (met why) = []
+matched_after (added s) = []
+matched_after (dropped n) = []
+matched_after (rewritten n text) = []
+matched_after (root id b) = []
+matched_after (texted id n text) = []
+matched_after (replied id body) = matched_told id body
+matched_after (all_off id) = []
+matched_after (sheets_off id) = []
+matched_after (failed r) = []
+
+-- The message of the move is taken: the front has the view then, what the move answers waits no longer, and a reply, a
+-- pause or matched styles are kept.
 pub record IsTaken (m : Move) (v : FrontValue) (w : View) : Type 0 where
   pub after : FrontValue
   pub is_taken : take_frame v (move_text m) ≡ Ok after
@@ -189,6 +205,7 @@ pub record IsTaken (m : Move) (v : FrontValue) (w : View) : Type 0 where
   pub asks : after.asks ≡ asks_after m v.asks
   pub replies : after.replies ≡ v.replies ++ kept_after m v.asks
   pub pauses : after.pauses ≡ v.pauses ++ pauses_after m
+  pub matched : after.matched ≡ v.matched ++ matched_after m
   pub taken : after.taken ≡ v.taken + 1
 
 -- a front that has the view before a move has the view after it, once it took the message
@@ -220,6 +237,7 @@ pub record AreTaken (ms : List Move) (v : FrontValue) (w : View) : Type 0 where
   pub asks : after.asks ≡ asks_after_all ms v.asks
   pub replies : after.replies ≡ v.replies ++ kept_after_all ms v.asks
   pub pauses : after.pauses ≡ v.pauses ++ flat_map pauses_after ms
+  pub matched : after.matched ≡ v.matched ++ flat_map matched_after ms
   pub taken : after.taken ≡ v.taken + length ms
 
 -- the same of a course of moves

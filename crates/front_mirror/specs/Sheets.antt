@@ -1,5 +1,5 @@
 -- The sheets that a front was told of.
-use Rattle.std.specs.Prelude.{ℕ, ◌==◌, ◌||◌, ◌&&◌, Bool, true, false, not, cond, List, [], ◌∷◌, Option, Some, None, is_some}
+use Rattle.std.specs.Prelude.{◌≡◌, ℕ, ◌==◌, ◌||◌, ◌&&◌, Bool, true, false, not, cond, List, [], ◌∷◌, Some, None, is_some}
 use Rattle.css_objects.specs.declared.sheets.Header.{Header}
 use Rattle.front_mirror.specs.declared.sheets.KnownSheet.{KnownSheet}
 
@@ -46,3 +46,13 @@ has_fresh_text s = is_some s.text && not s.stale
 abbrev pub stale_of : List KnownSheet → List ℕ
 stale_of [] = []
 stale_of (s ∷ ss) = cond (has_fresh_text s) (stale_of ss) (s.number ∷ stale_of ss)
+
+-- a map's entries as sheets, in their order
+abbrev pub sheets_in : List (ℕ × KnownSheet) → List KnownSheet
+sheets_in [] = []
+sheets_in (p ∷ ps) = p.1 ∷ sheets_in ps
+
+-- each sheet of a map stands under its own number
+abbrev pub AreNumbered : List (ℕ × KnownSheet) → Type 0
+AreNumbered [] = Unit {0}
+AreNumbered (p ∷ ps) = (p.0 ≡ p.1.number) × AreNumbered ps

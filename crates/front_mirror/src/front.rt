@@ -1,8 +1,8 @@
-ghost use Rattle.std.specs.Prelude.{◌≡◌, ◌<◌, ◌^◌, ◌+◌, ◌↔◌, ℕ, [], length, slice_get, codes, IsTrue, IsErr, Some, None, Ok, Err, true, option_map, IfOk, OnOk, OnErr};
+ghost use Rattle.std.specs.Prelude.{◌≡◌, ◌<◌, ◌^◌, ◌+◌, ◌↔◌, ℕ, [], length, slice_get, codes, IsTrue, IsErr, Some, None, Ok, Err, true, option_map, option_copied, IfOk, OnOk, OnErr};
 ghost use Rattle.serde_json.specs.View.{view};
 ghost use Rattle.pipe_frames.specs.Frames.{framed};
 ghost use Rattle.cdp_messages.specs.Asked.{command_text, is_whole_where_there};
-ghost use Rattle.front_mirror.specs.Front.{FrontState, first_state, after_take, after_ask, after_fetch, fetch_params};
+ghost use Rattle.front_mirror.specs.Front.{FrontState, first_state, after_take, after_ask, after_fetch, fetch_params, matched_in};
 ghost use Rattle.front_mirror.specs.declared.sheets.KnownSheet.{KnownSheet};
 ghost use Rattle.front_mirror.specs.Sheets.{has_sheet, stale_of};
 
@@ -11,11 +11,10 @@ use crate::folding::fold_whole;
 use crate::known::Known;
 use crate::mirror::Mirror;
 use crate::pauses::SeenPause;
-use crate::replies::{Ask, Kept};
-use crate::sheets::{has_sheet, stale_of};
+use crate::replies::{Ask, Kept, matched_in};
 use cdp_json::object;
 use cdp_messages::write_command;
-use css_objects::{SheetOrigin, sheet_value};
+use css_objects::{Matched, SheetOrigin, sheet_value};
 use node_tree::Text;
 use pipe_frames::Splitter;
 use serde_json::Value;
@@ -140,7 +139,7 @@ impl Front {
         if self.is_dead {
             return Err(AllocError);
         }
-        stale_of(self.alloc, &self.known.sheets)
+        self.known.sheets.stale(self.alloc)
     }
 
     /// Makes the frame that fetches the text of a sheet (`CSS.getStyleSheetText`), with its zero byte, and waits for the
@@ -220,7 +219,7 @@ impl Front {
     pub fn knows_sheet(&self, number: u64) -> bool
         ensures { result ≡ has_sheet number self.now.value.sheets }
     {
-        has_sheet(&self.known.sheets, number)
+        self.known.sheets.has(number)
     }
 
     /// The number of the sheet at place `i`, counted from 0, where it comes from, and its text where it has one, which may be
@@ -232,7 +231,7 @@ impl Front {
         ensures text { option_map (λ (s : KnownSheet). s.text) (slice_get self.now.value.sheets i)
             ≡ Some (option_map (λ t. t.now) result.2) }
     {
-        let sheet = &self.known.sheets[i];
+        let sheet = self.known.sheets.at(i);
         let text = match &sheet.text {
             Some(text) => Some(text.as_str()),
             None => None,
@@ -252,5 +251,12 @@ impl Front {
         ensures { result.now ≡ self.now.value.pauses }
     {
         self.known.pauses.as_slice()
+    }
+
+    /// The matched styles that the Ok reply to that ask (`CSS.getMatchedStylesForNode`) told; `None` where no such reply came.
+    pub fn matched_reply(&self, ask: u64) -> Option<&Matched>
+        ensures { option_copied result ≡ matched_in ask self.now.value.matched }
+    {
+        matched_in(&self.known.matched, ask)
     }
 }

@@ -1,4 +1,4 @@
-ghost use Rattle.std.specs.Prelude.{◌≡◌, ◌+◌, [], ◌∷◌, ◌++◌, option_map, Some, None, Ok, true, IfOk, IfSome, OnOk};
+ghost use Rattle.std.specs.Prelude.{◌≡◌, ◌+◌, [], ◌∷◌, ◌++◌, option_map, Some, None, Ok, true, false, IfOk, IfSome, OnOk};
 ghost use Rattle.serde_json.specs.View.{view};
 ghost use Rattle.std.specs.List.{list_all};
 ghost use Rattle.node_tree.specs.Nodes.{none};
@@ -6,8 +6,8 @@ ghost use Rattle.cdp_messages.specs.NodeData.{fits_tree};
 ghost use Rattle.cdp_messages.specs.Moves.{paused_nodes};
 ghost use Rattle.cdp_messages.specs.Events.{news_of, fits_news};
 ghost use Rattle.front_mirror.specs.Known.{value_of, Takes};
-ghost use Rattle.front_mirror.specs.Front.{FrontValue, first_value, kept, method_of, fetched_sheet, sheets_fetched, replied, refused, told, with_root, with_effect, with_reply, with_fault, with_change, with_pause, with_added, with_sheet, told_sheets, with_news, take_frame, is_shown, halted, root_fault};
-ghost use Rattle.front_mirror.specs.Sheets.{new_sheet, marked_old, without_sheet};
+ghost use Rattle.front_mirror.specs.Front.{FrontValue, first_value, kept, method_of, fetched_sheet, sheets_fetched, replied, refused, told, with_root, with_effect, with_reply, with_fault, with_change, with_pause, with_matched, with_added, with_sheet, told_sheets, with_news, take_frame, is_shown, halted, root_fault};
+ghost use Rattle.front_mirror.specs.Sheets.{new_sheet, has_sheet, marked_old, without_sheet};
 ghost use Rattle.front_mirror.specs.Edits.{edit_told, fits_edit, fits_effect};
 
 use crate::asks::{fetched_sheet, method_of, take_ask};
@@ -15,12 +15,14 @@ use crate::edits::{NodeEdit, edit_fault};
 use crate::faults::FrontKind;
 use crate::mirror::Mirror;
 use crate::pauses::{SeenPause, seen_pause};
-use crate::replies::{Ask, Kept};
+use crate::replies::{Ask, Kept, MatchedReply};
 use crate::roots::root_fault;
-use crate::sheets::{KnownSheet, drop_sheet, has_sheet, keep_text, mark_old, new_sheet};
+use crate::sheets::{KnownSheets, new_sheet};
 use cdp_messages::{
-    Down, DownErr, Effect, Event, Header, NodeTree, PauseData, read_down, read_result, read_root,
+    Down, DownErr, Effect, Event, Header, NodeTree, PauseData, ReplyBody, read_down, read_result,
+    read_root,
 };
+use css_objects::Matched;
 use node_tree::Text;
 use serde_json::Value;
 use std::alloc::{AllocError, Global};
@@ -57,10 +59,11 @@ fn begins_document(text: &str) -> bool {
 pub(crate) struct Known {
     alloc: Global,
     pub(crate) mirror: Mirror,
-    pub(crate) sheets: Vec<KnownSheet>,
+    pub(crate) sheets: KnownSheets,
     pub(crate) asks: Vec<Ask>,
     pub(crate) replies: Vec<Kept>,
     pub(crate) pauses: Vec<SeenPause>,
+    pub(crate) matched: Vec<MatchedReply>,
     pub(crate) taken: u64,
 }
 
@@ -71,10 +74,11 @@ impl Known {
         Known {
             alloc,
             mirror: Mirror::new(alloc),
-            sheets: Vec::new(alloc),
+            sheets: KnownSheets::new(alloc),
             asks: Vec::new(alloc),
             replies: Vec::new(alloc),
             pauses: Vec::new(alloc),
+            matched: Vec::new(alloc),
             taken: 0,
         }
     }
@@ -138,13 +142,28 @@ impl Known {
             return Err(FrameErr::Refused(FrontKind::NotMessage));
         };
         match read_result(self.alloc, method, value) {
-            Ok(body) => {
-                let effect = Effect::of_reply(method, body);
-                self.take_effect(id, effect, frame)
-            }
+            Ok(body) => match body {
+                ReplyBody::Matched(matched) => {
+                    self.keep_matched(id, matched, frame)?;
+                    Ok(())
+                }
+                body => {
+                    let effect = Effect::of_reply(method, body);
+                    self.take_effect(id, effect, frame)
+                }
+            },
             Err(DownErr::NotMessage) => Err(FrameErr::Refused(FrontKind::NotMessage)),
             Err(DownErr::Memory) => Err(FrameErr::Memory),
         }
+    }
+
+    /// Keeps a reply to the ask of that id, which then waits no longer, and the matched styles that it tells.
+    fn keep_matched(&mut self, id: u64, matched: Matched, frame: Text) -> Result<(), AllocError>
+        ensures { OnOk result (value_of self.new ≡ replied
+            (with_matched (value_of self.old) (record { ask = id; matched = matched } ∷ [])) id frame true (value_of self.old).tree) }
+    {
+        self.matched.push(MatchedReply { ask: id, matched })?;
+        self.keep_reply(id, frame, true)
     }
 
     fn take_effect(&mut self, id: u64, effect: Effect, frame: Text) -> Result<(), FrameErr>
@@ -174,7 +193,7 @@ impl Known {
         let fetched = fetched_sheet(&self.asks, id);
         self.keep_reply(id, frame, true)?;
         if let Some(number) = fetched {
-            keep_text(&mut self.sheets, number, text);
+            self.sheets.keep_text(number, text);
         }
         Ok(())
     }
@@ -186,7 +205,7 @@ impl Known {
     {
         self.keep_reply(id, frame, true)?;
         self.mirror = Mirror::new(self.alloc);
-        self.sheets = Vec::new(self.alloc);
+        self.sheets = KnownSheets::new(self.alloc);
         Ok(())
     }
 
@@ -196,14 +215,14 @@ impl Known {
             (Ok (record (replied (value_of self.old) id frame true (value_of self.old).tree) { sheets = [] })) }
     {
         self.keep_reply(id, frame, true)?;
-        self.sheets = Vec::new(self.alloc);
+        self.sheets = KnownSheets::new(self.alloc);
         Ok(())
     }
 
     fn take_sheet(&mut self, header: Header) -> Result<(), FrameErr>
         ensures { Takes (value_of self.old) (value_of self.new) result (with_added (value_of self.old) header) }
     {
-        if has_sheet(&self.sheets, header.sheet) {
+        if self.sheets.has(header.sheet) {
             return Err(FrameErr::Refused(FrontKind::IdTaken));
         }
         self.keep_sheet(header)?;
@@ -212,11 +231,12 @@ impl Known {
 
     /// Keeps a new sheet, and counts the message.
     fn keep_sheet(&mut self, header: Header) -> Result<(), AllocError>
+        requires { has_sheet header.sheet (value_of self.old).sheets ≡ false }
         ensures { OnOk result (value_of self.new ≡ told_sheets (value_of self.old)
             ((value_of self.old).sheets ++ new_sheet header ∷ [])) }
     {
         let taken = self.taken.checked_add(1).ok_or(AllocError)?;
-        self.sheets.push(new_sheet(header))?;
+        self.sheets.put(new_sheet(header))?;
         self.taken = taken;
         Ok(())
     }
@@ -225,11 +245,11 @@ impl Known {
         ensures { Takes (value_of self.old) (value_of self.new) result
             (with_sheet (value_of self.old) number (marked_old number (value_of self.old).sheets)) }
     {
-        if !has_sheet(&self.sheets, number) {
+        if !self.sheets.has(number) {
             return Err(FrameErr::Refused(FrontKind::UnknownSheet));
         }
         self.taken = self.taken.checked_add(1).ok_or(AllocError)?;
-        mark_old(&mut self.sheets, number);
+        self.sheets.mark_old(number);
         Ok(())
     }
 
@@ -237,11 +257,11 @@ impl Known {
         ensures { Takes (value_of self.old) (value_of self.new) result
             (with_sheet (value_of self.old) number (without_sheet number (value_of self.old).sheets)) }
     {
-        if !has_sheet(&self.sheets, number) {
+        if !self.sheets.has(number) {
             return Err(FrameErr::Refused(FrontKind::UnknownSheet));
         }
         self.taken = self.taken.checked_add(1).ok_or(AllocError)?;
-        drop_sheet(&mut self.sheets, number);
+        self.sheets.remove(number);
         Ok(())
     }
 

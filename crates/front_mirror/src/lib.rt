@@ -34,4 +34,4 @@ pub use lines::write_node_line;
 pub use mirror::Mirror;
 pub use outline::write_outline;
 pub use pauses::SeenPause;
-pub use replies::{Ask, Kept};
+pub use replies::{Ask, Kept, MatchedReply};

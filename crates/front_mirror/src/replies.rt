@@ -1,3 +1,7 @@
+ghost use Rattle.std.specs.Prelude.{◌≡◌, option_copied};
+ghost use Rattle.front_mirror.specs.Front.{matched_in};
+
+use css_objects::Matched;
 use node_tree::Text;
 
 /// An ask that waits for its reply.
@@ -20,4 +24,24 @@ pub struct Kept {
     pub text: Text,
     /// Whether it is no error reply.
     pub good: bool,
+}
+
+/// A reply that told matched styles (`CSS.getMatchedStylesForNode`).
+#[derive(Drop, Debug)]
+pub struct MatchedReply {
+    /// The id of the ask that it answers.
+    pub ask: u64,
+    pub matched: Matched,
+}
+
+/// The matched styles that the first of the replies to the ask of that id told.
+pub(crate) fn matched_in(replies: &[MatchedReply], ask: u64) -> Option<&Matched>
+    ensures { option_copied result ≡ matched_in ask replies.now }
+{
+    for reply in replies {
+        if reply.ask == ask {
+            return Some(&reply.matched);
+        }
+    }
+    None
 }

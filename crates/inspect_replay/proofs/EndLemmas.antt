@@ -20,7 +20,7 @@ use Rattle.replay_script.specs.declared.forms.Ask.{Ask}
 use Rattle.replay_script.specs.Seen.{seen_ask}
 use Rattle.replay_script.specs.Forms.{AskForm}
 use Rattle.cdp_messages.specs.Asked.{command_text, is_whole_where_there}
-use Rattle.inspect_world.specs.Fits.{IsBare, IsNextTurn, HasLeft, FitsWith, Fits, most_sheets, most_fetches, replay}
+use Rattle.inspect_world.specs.Fits.{IsBare, HasLeft, FitsWith, Fits, most_sheets, most_fetches, replay}
 use Rattle.inspect_world.specs.Fetches.{front_in, fetched, fetched_if, all_fetched, stale_in}
 use Rattle.inspect_world.specs.FreshRuns.{front_fetcher, refreshes}
 use Rattle.inspect_world.specs.Scripts.{sends}
@@ -32,6 +32,7 @@ use Rattle.back_end.specs.declared.seat.Seat.{Seat}
 use Rattle.back_end.specs.declared.side.PageSide.{PageSide}
 use Rattle.back_end.specs.States.{State}
 use Rattle.back_end.specs.Steps.{Turn, frame_step, turn_step, step, turn}
+use Rattle.inspect_world.specs.RunStates.{RunState, run_step, run_turn}
 use Rattle.back_end.specs.Laws.{HasRoom, IsTurn}
 use Rattle.inspect_world.specs.Held.{Ends, InWorld}
 use Rattle.inspect_replay.specs.declared.ends.Ends.{Ends as ProgramEnds}
@@ -60,52 +61,52 @@ room-left seat side state stands left =
     }
 
 -- over an honest link the back end has room
-pub has-room : (up0 down0 up down : Pipe) (w : World State) (frames : List (List ℕ)) (e : Ends) → InWorld up0 down0 up down w frames e
+pub has-room : (up0 down0 up down : Pipe) (w : World RunState) (frames : List (List ℕ)) (e : Ends) → InWorld up0 down0 up down w frames e
     → (HasRoomLeft e.seat.desk e.side → false ≡ true) → ⊥
 has-room up0 down0 up down w frames e in_world none = let no : false ≡ true = none (world-room up0 down0 up down w frames e in_world) in absurd cc
 
 -- and so has the front end
-pub has-ids : (up0 down0 up down : Pipe) (w : World State) (frames : List (List ℕ)) (e : Ends) → InWorld up0 down0 up down w frames e
+pub has-ids : (up0 down0 up down : Pipe) (w : World RunState) (frames : List (List ℕ)) (e : Ends) → InWorld up0 down0 up down w frames e
     → w.spent.fetches ≤ most_fetches → ((e.front.next < 2 ^ 30) × (2 ^ 30 + e.front.fetches < 2 ^ 52) → false ≡ true) → ⊥
 has-ids up0 down0 up down w frames e in_world few none = let no : false ≡ true = none (world-ids up0 down0 up down w frames e in_world few) in absurd cc
 
 -- a frame is answered
-pub answered_in : (up0 down0 up down up1 down1 : Pipe) (w : World State) (frame : List ℕ) (frames : List (List ℕ)) (seat seat1 : Seat) (side side1 : PageSide) (e : Ends)
+pub answered_in : (up0 down0 up down up1 down1 : Pipe) (w : World RunState) (frame : List ℕ) (frames : List (List ℕ)) (seat seat1 : Seat) (side side1 : PageSide) (e : Ends)
     (old out bytes : List ℕ) (there : ℕ)
     → InWorld up0 down0 up down w (frame ∷ frames) (record e { seat = seat; side = side })
     → ((state : State) → StandsFor seat side state → StandsFor seat1 side1 (frame_step false frame state).state)
     → ((state : State) → StandsFor seat side state → out ≡ old ++ frames_of_moves (frame_step false frame state).moves)
     → old ≡ [] → bytes ≡ out
     → up1 ≡ up → (down1.sent ≡ down.sent ++ bytes) × (down1.given ≡ down.given) → there ≡ e.down_there + length out
-    → InWorld up0 down0 up1 down1 (answered step (frame ∷ []) w) frames (record e { seat = seat1; side = side1; down_there = there })
+    → InWorld up0 down0 up1 down1 (answered run_step (frame ∷ []) w) frames (record e { seat = seat1; side = side1; down_there = there })
 answered_in up0 down0 up down up1 down1 w frame frames seat seat1 side side1 e old out bytes there in_world stood said empty same_out same_up sent left =
-    let all : InWorld up0 down0 up down1 (answered step (frame ∷ []) w) frames (record e { seat = seat1; side = side1; down_there = there }) =
+    let all : InWorld up0 down0 up down1 (answered run_step (frame ∷ []) w) frames (record e { seat = seat1; side = side1; down_there = there }) =
     world-answered up0 down0 up down down1 w frame frames (record e { seat = seat; side = side }) seat1 side1 out there in_world
-    (stood w.state in_world.stands)
-    (said w.state in_world.stands ∙ ap (λ start. start ++ (step w.state frame).sent) empty)
+    (stood w.state.back in_world.stands)
+    (said w.state.back in_world.stands ∙ ap (λ start. start ++ (step w.state.back frame).sent) empty)
     (sent.0 ∙ ap (λ piece. down.sent ++ piece) same_out) sent.1 left in
-    subst (λ pipe. InWorld up0 down0 pipe down1 (answered step (frame ∷ []) w) frames (record e { seat = seat1; side = side1; down_there = there })) (sym same_up) all
+    subst (λ pipe. InWorld up0 down0 pipe down1 (answered run_step (frame ∷ []) w) frames (record e { seat = seat1; side = side1; down_there = there })) (sym same_up) all
 
 -- the script makes a step by itself
-pub turned_in : (up0 down0 up down up1 down1 : Pipe) (w : World State) (x : Turn) (whole : List (List ℕ)) (seat seat1 : Seat) (side side1 : PageSide) (e : Ends)
+pub turned_in : (up0 down0 up down up1 down1 : Pipe) (w : World RunState) (x : Turn) (whole : List (List ℕ)) (seat seat1 : Seat) (side side1 : PageSide) (e : Ends)
     (old out bytes : List ℕ) (there : ℕ)
     → InWorld up0 down0 up down w (whole ++ awaited w.up) (record e { seat = seat; side = side }) → whole ≡ [] → IsTurn x → HasLeft w.spent 1
     → ((state : State) → StandsFor seat side state → StandsFor seat1 side1 (turn_step x state).state)
     → ((state : State) → StandsFor seat side state → out ≡ old ++ frames_of_moves (turn_step x state).moves)
     → old ≡ [] → bytes ≡ out
     → up1 ≡ up → (down1.sent ≡ down.sent ++ bytes) × (down1.given ≡ down.given) → there ≡ e.down_there + length out
-    → InWorld up0 down0 up1 down1 (turned turn x w) (whole ++ awaited (turned turn x w).up) (record e { seat = seat1; side = side1; down_there = there })
+    → InWorld up0 down0 up1 down1 (turned run_turn x w) (whole ++ awaited (turned run_turn x w).up) (record e { seat = seat1; side = side1; down_there = there })
 turned_in up0 down0 up down up1 down1 w x whole seat seat1 side side1 e old out bytes there in_world none is_turn room stood said empty same_out same_up sent left =
     let start : InWorld up0 down0 up down w (awaited w.up) (record e { seat = seat; side = side }) =
     subst (λ frames. InWorld up0 down0 up down w (frames ++ awaited w.up) (record e { seat = seat; side = side })) none in_world in
-    let all : InWorld up0 down0 up down1 (turned turn x w) (awaited w.up) (record e { seat = seat1; side = side1; down_there = there }) =
+    let all : InWorld up0 down0 up down1 (turned run_turn x w) (awaited w.up) (record e { seat = seat1; side = side1; down_there = there }) =
     world-turned up0 down0 up down down1 w (record e { seat = seat; side = side }) x seat1 side1 out there start
     (record { is_turn = is_turn; few = room.turns })
-    (stood w.state in_world.stands)
-    (said w.state in_world.stands ∙ ap (λ start. start ++ (turn x w.state).sent) empty)
+    (stood w.state.back in_world.stands)
+    (said w.state.back in_world.stands ∙ ap (λ start. start ++ (turn x w.state.back).sent) empty)
     (sent.0 ∙ ap (λ piece. down.sent ++ piece) same_out) sent.1 left in
-    subst (λ pipe. InWorld up0 down0 pipe down1 (turned turn x w) (whole ++ awaited w.up) (record e { seat = seat1; side = side1; down_there = there })) (sym same_up)
-    (subst (λ frames. InWorld up0 down0 up down1 (turned turn x w) (frames ++ awaited w.up) (record e { seat = seat1; side = side1; down_there = there })) (sym none) all)
+    subst (λ pipe. InWorld up0 down0 pipe down1 (turned run_turn x w) (whole ++ awaited w.up) (record e { seat = seat1; side = side1; down_there = there })) (sym same_up)
+    (subst (λ frames. InWorld up0 down0 up down1 (turned run_turn x w) (frames ++ awaited w.up) (record e { seat = seat1; side = side1; down_there = there })) (sym none) all)
 
 -- ---- an ask is sent
 
@@ -130,7 +131,7 @@ frame-seen next ask frame method params session m p s is =
     ∙ ap (λ p'. framed (command_text next ask.method p' (option_map (λ (q : Bor Value). view q.now) session))) (refs-seen params ask.params p)
     ∙ ap (λ s'. framed (command_text next ask.method (option_map view ask.params) s')) (refs-seen session ask.session s)
 
-pub asked_in : (up0 down0 up down up1 down1 : Pipe) (w : World State) (e : Ends) (a : AskForm) (whole : List (List ℕ)) (frame bytes : List ℕ) (there : ℕ) (front1 : FrontState)
+pub asked_in : (up0 down0 up down up1 down1 : Pipe) (w : World RunState) (e : Ends) (a : AskForm) (whole : List (List ℕ)) (frame bytes : List ℕ) (there : ℕ) (front1 : FrontState)
     → CanSend a → HasLeft w.spent 1 → InWorld up0 down0 up down w (whole ++ awaited w.up) e → whole ≡ []
     → frame ≡ framed (command_text e.front.next a.method a.params a.session) → front1 ≡ after_ask e.front a.method
     → bytes ≡ frame → (up1.sent ≡ up.sent ++ bytes) × (up1.given ≡ up.given) → down1 ≡ down → there ≡ e.up_there + length frame
@@ -149,7 +150,7 @@ asked_in up0 down0 up down up1 down1 w e a whole frame bytes there front1 can fe
     (subst (λ f. InWorld up0 down0 up1 down (sends a w) (awaited (sends a w).up) (record e { front = f; up_there = there })) (sym front_is) all))
 
 -- a frame is sent that names no ask
-pub raw_in : (up0 down0 up down up1 down1 : Pipe) (w : World State) (e : Ends) (text : List ℕ) (whole : List (List ℕ)) (frame bytes : List ℕ) (there : ℕ)
+pub raw_in : (up0 down0 up down up1 down1 : Pipe) (w : World RunState) (e : Ends) (text : List ℕ) (whole : List (List ℕ)) (frame bytes : List ℕ) (there : ℕ)
     → IsText text → IsBare text → HasLeft w.spent 1 → InWorld up0 down0 up down w (whole ++ awaited w.up) e → whole ≡ []
     → frame ≡ framed text → bytes ≡ frame → (up1.sent ≡ up.sent ++ bytes) × (up1.given ≡ up.given) → down1 ≡ down → there ≡ e.up_there + length frame
     → InWorld up0 down0 up1 down1 (raw text w) (whole ++ awaited (raw text w).up) (record e { up_there = there })
@@ -163,7 +164,7 @@ raw_in up0 down0 up down up1 down1 w e text whole frame bytes there letters bare
     (subst (λ frames. InWorld up0 down0 up1 down (raw text w) (frames ++ awaited (raw text w).up) (record e { up_there = there })) (sym none) all)
 
 -- the text of a sheet is fetched
-pub fetched_in : (up0 down0 up down up1 down1 : Pipe) (w : World State) (e : Ends) (sheet : ℕ) (whole : List (List ℕ)) (frame bytes : List ℕ) (there : ℕ) (front1 : FrontState)
+pub fetched_in : (up0 down0 up down up1 down1 : Pipe) (w : World RunState) (e : Ends) (sheet : ℕ) (whole : List (List ℕ)) (frame bytes : List ℕ) (there : ℕ) (front1 : FrontState)
     → sheet < 2 ^ 64 → w.spent.fetches + 1 ≤ most_fetches → InWorld up0 down0 up down w (whole ++ awaited w.up) e → whole ≡ []
     → frame ≡ framed (front_fetcher.text e.front.fetches sheet) → front1 ≡ after_fetch e.front sheet
     → bytes ≡ frame → (up1.sent ≡ up.sent ++ bytes) × (up1.given ≡ up.given) → down1 ≡ down → there ≡ e.up_there + length frame
@@ -172,7 +173,7 @@ pub fetched_in : (up0 down0 up down up1 down1 : Pipe) (w : World State) (e : End
 fetched_in up0 down0 up down up1 down1 w e sheet whole frame bytes there front1 fits few in_world none frame_is front_is same_bytes sent same_down left =
     let count : e.front.fetches ≡ w.spent.fetches = ap (λ (f : FrontState). f.fetches) in_world.front_is in
     let text = front_fetcher.text w.spent.fetches sheet in
-    let after : World State = sent_up text one_fetch w in
+    let after : World RunState = sent_up text one_fetch w in
     let framed_is : frame ≡ framed text = frame_is ∙ ap (λ n. framed (front_fetcher.text n sheet)) count in
     let start : InWorld up0 down0 up down w (awaited w.up) e = subst (λ frames. InWorld up0 down0 up down w (frames ++ awaited w.up) e) none in_world in
     let all : InWorld up0 down0 up1 down after (awaited after.up) (record e { front = after_fetch e.front sheet; up_there = there }) =
@@ -195,7 +196,7 @@ came up0 now start n there max piece s waits is max_is front =
     front ∙ ap (take max) waits ∙ ap (λ m. take m s.flying) max_is ∙ take-min n there s.flying is
 
 -- bytes come up, and are cut into frames
-pub given_in : (up0 down0 up down up1 down1 : Pipe) (w : World State) (e : Ends) (n there max : ℕ) (piece : List ℕ) (s s1 : Frames)
+pub given_in : (up0 down0 up down up1 down1 : Pipe) (w : World RunState) (e : Ends) (n there max : ℕ) (piece : List ℕ) (s s1 : Frames)
     → InWorld up0 down0 up down w (s.whole ++ awaited w.up) e → s.whole ≡ [] → s.rest ≡ e.back_rest
     → max ≡ min n e.up_there → piece ≡ take max (waiting up)
     → (up1.sent ≡ up.sent) × (up1.given ≡ up.given ++ piece) → down1 ≡ down → there ≡ e.up_there - length piece
@@ -220,7 +221,7 @@ given_in up0 down0 up down up1 down1 w e n there max piece s s1 in_world none re
     )
 
 -- bytes come down
-pub delivered_in : (up0 down0 up down up1 down1 : Pipe) (w : World State) (frames : List (List ℕ)) (e : Ends) (n there max : ℕ) (piece : List ℕ) (front1 : FrontState)
+pub delivered_in : (up0 down0 up down up1 down1 : Pipe) (w : World RunState) (frames : List (List ℕ)) (e : Ends) (n there max : ℕ) (piece : List ℕ) (front1 : FrontState)
     → InWorld up0 down0 up down w frames e
     → max ≡ min n e.down_there → piece ≡ take max (waiting down)
     → (down1.sent ≡ down.sent) × (down1.given ≡ down.given ++ piece) → up1 ≡ up → there ≡ e.down_there - length piece
@@ -235,7 +236,7 @@ delivered_in up0 down0 up down up1 down1 w frames e n there max piece front1 in_
     (subst (λ front'. InWorld up0 down0 up down1 (delivered_down n w) frames (record e { front = front'; down_there = there })) (sym front_is) all)
 
 -- the front end is never at fault
-pub no_fault : (up0 down0 up down : Pipe) (w : World State) (frames : List (List ℕ)) (e : Ends) (n max : ℕ) (piece : List ℕ) (front1 : FrontState) (f : FrontFault)
+pub no_fault : (up0 down0 up down : Pipe) (w : World RunState) (frames : List (List ℕ)) (e : Ends) (n max : ℕ) (piece : List ℕ) (front1 : FrontState) (f : FrontFault)
     → InWorld up0 down0 up down w frames e
     → max ≡ min n e.down_there → piece ≡ take max (waiting down)
     → front1 ≡ after_take e.front piece → front1.fault ≡ Some f → ⊥
@@ -249,13 +250,13 @@ no_fault up0 down0 up down w frames e n max piece front1 f in_world max_is front
 -- ---- frames are answered one after the other
 
 -- while frames are answered: where the run is, and that it goes to where it would have gone
-pub record Answering (honest : Type 0) (up0 down0 up down : Pipe) (target : World State) (e : ProgramEnds) : Type 0 where
-  pub world : World State
+pub record Answering (honest : Type 0) (up0 down0 up down : Pipe) (target : World RunState) (e : ProgramEnds) : Type 0 where
+  pub world : World RunState
   pub so_far : InRunWith honest up0 down0 up down world e
-  pub goes : answered step e.splitter.whole world ≡ target
+  pub goes : answered run_step e.splitter.whole world ≡ target
 
 -- what the answer to the next frame makes of it
-pub answer_turn : {T : Type 0} (result : Result T Stop) (honest honest1 : Type 0) (up0 down0 up down up1 down1 : Pipe) (target : World State)
+pub answer_turn : {T : Type 0} (result : Result T Stop) (honest honest1 : Type 0) (up0 down0 up down up1 down1 : Pipe) (target : World RunState)
     (e e1 : ProgramEnds) (s : Frames) (frame : List ℕ)
     → Answering honest up0 down0 up down target e
     → e.splitter.whole ≡ frame ∷ s.whole → s.rest ≡ e.splitter.rest
@@ -267,74 +268,74 @@ answer_turn {T} result honest honest1 up0 down0 up down up1 down1 target e e1 s 
     subst (λ r. InWorld up0 down0 up down w (frame ∷ (s.whole ++ awaited w.up)) (record (ends_of e) { back_rest = r })) (sym rest)
     (subst (λ frames. InWorld up0 down0 up down w (frames ++ awaited w.up) (ends_of e)) whole going.so_far.in_world) in
     let both = answers up0 down0 w going.so_far.is_honest start in
-    let goes : answered step e1.splitter.whole (answered step (frame ∷ []) w) ≡ target =
-    ap (λ (f : Frames). answered step f.whole (answered step (frame ∷ []) w)) same
-    ∙ sym (answered-cons step frame s.whole w)
-    ∙ ap (λ frames. answered step frames w) (sym whole)
+    let goes : answered run_step e1.splitter.whole (answered run_step (frame ∷ []) w) ≡ target =
+    ap (λ (f : Frames). answered run_step f.whole (answered run_step (frame ∷ []) w)) same
+    ∙ sym (answered-cons run_step frame s.whole w)
+    ∙ ap (λ frames. answered run_step frames w) (sym whole)
     ∙ going.goes in
-    (both.0, on_ok result _ _ both.1 (λ run. record { world = answered step (frame ∷ []) w; so_far = run; goes = goes }))
+    (both.0, on_ok result _ _ both.1 (λ run. record { world = answered run_step (frame ∷ []) w; so_far = run; goes = goes }))
 
 -- bytes came up, and their frames are answered
-pub deliver_goes : {T : Type 0} (result : Result T Stop) (honest honest1 : Type 0) (up0 down0 up down up1 down1 : Pipe) (w : World State) (n : ℕ)
+pub deliver_goes : {T : Type 0} (result : Result T Stop) (honest honest1 : Type 0) (up0 down0 up down up1 down1 : Pipe) (w : World RunState) (n : ℕ)
     (e e1 : ProgramEnds)
     → InRunWith honest up0 down0 up down (given_up n w) e × (e.splitter.whole ≡ arriving n w.up)
     → AnswersAll (moment honest up down e) (moment honest1 up1 down1 e1) result
-    → GoesWell result × OnOk result (InRun honest1 up0 down0 up1 down1 (delivered_up step n w) e1)
+    → GoesWell result × OnOk result (InRun honest1 up0 down0 up1 down1 (delivered_up run_step n w) e1)
 deliver_goes result honest honest1 up0 down0 up down up1 down1 w n e e1 run answers =
-    subst (λ frames. GoesWell result × OnOk result (InRun honest1 up0 down0 up1 down1 (answered step frames (given_up n w)) e1)) run.1
+    subst (λ frames. GoesWell result × OnOk result (InRun honest1 up0 down0 up1 down1 (answered run_step frames (given_up n w)) e1)) run.1
     (answers up0 down0 (given_up n w) run.0)
 
 -- all of the up pipe was delivered, and then all of the down pipe
-pub settle_goes : {T : Type 0} (result : Result T Stop) (honest honest1 : Type 0) (up0 down0 up down up1 down1 : Pipe) (w : World State) (n : ℕ)
+pub settle_goes : {T : Type 0} (result : Result T Stop) (honest honest1 : Type 0) (up0 down0 up down up1 down1 : Pipe) (w : World RunState) (n : ℕ)
     (e e1 : ProgramEnds)
     → n ≡ length w.up.flying
-    → InRun honest up0 down0 up down (delivered_up step n w) e
+    → InRun honest up0 down0 up down (delivered_up run_step n w) e
     → Steps (moment honest up down e) (moment honest1 up1 down1 e1) result (λ v. delivered_down e.down_there v)
-    → GoesWell result × OnOk result (InRun honest1 up0 down0 up1 down1 (settled step w) e1)
+    → GoesWell result × OnOk result (InRun honest1 up0 down0 up1 down1 (settled run_step w) e1)
 settle_goes result honest honest1 up0 down0 up down up1 down1 w n e e1 all run steps =
-    let same : delivered_down e.down_there (delivered_up step n w) ≡ settled step w =
-    ap (λ m. delivered_down m (delivered_up step n w)) run.so_far.in_world.down_left
-    ∙ ap (λ m. delivered_down (length (delivered_up step m w).down.flying) (delivered_up step m w)) all in
-    subst (λ v. GoesWell result × OnOk result (InRun honest1 up0 down0 up1 down1 v e1)) same (steps up0 down0 (delivered_up step n w) run)
+    let same : delivered_down e.down_there (delivered_up run_step n w) ≡ settled run_step w =
+    ap (λ m. delivered_down m (delivered_up run_step n w)) run.so_far.in_world.down_left
+    ∙ ap (λ m. delivered_down (length (delivered_up run_step m w).down.flying) (delivered_up run_step m w)) all in
+    subst (λ v. GoesWell result × OnOk result (InRun honest1 up0 down0 up1 down1 v e1)) same (steps up0 down0 (delivered_up run_step n w) run)
 
 -- ---- the fetches of a settle
 
 -- the front end of the run is that of the ends
-pub run-front : (honest : Type 0) (up0 down0 up down : Pipe) (w : World State) (e : ProgramEnds) → InRun honest up0 down0 up down w e
+pub run-front : (honest : Type 0) (up0 down0 up down : Pipe) (w : World RunState) (e : ProgramEnds) → InRun honest up0 down0 up down w e
     → front_in replay (first_value []) w ≡ Ok e.front.value
 run-front honest up0 down0 up down w e run =
     run.so_far.in_world.is_fold ∙ ap (λ (f : FrontState). Ok f.value) (sym run.so_far.in_world.front_is)
 
 -- a sheet is fetched where the front end knows it
-fetched-is : (honest : Type 0) (up0 down0 up down : Pipe) (w : World State) (e : ProgramEnds) (number : ℕ) (known : Bool) → InRun honest up0 down0 up down w e
+fetched-is : (honest : Type 0) (up0 down0 up down : Pipe) (w : World RunState) (e : ProgramEnds) (number : ℕ) (known : Bool) → InRun honest up0 down0 up down w e
     → has_sheet number e.front.value.sheets ≡ known
     → fetched_if replay front_fetcher (front_in replay (first_value []) w) number w ≡ cond known (fetched replay front_fetcher number w) w
 fetched-is honest up0 down0 up down w e number known run is =
     ap (λ r. fetched_if replay front_fetcher r number w) (run-front honest up0 down0 up down w e run)
     ∙ ap (λ b. cond b (fetched replay front_fetcher number w) w) is
 
-pub fetch_known : {T : Type 0} (result : Result T Stop) (honest honest1 : Type 0) (up0 down0 up down up1 down1 : Pipe) (w : World State) (e e1 : ProgramEnds) (number : ℕ)
+pub fetch_known : {T : Type 0} (result : Result T Stop) (honest honest1 : Type 0) (up0 down0 up down up1 down1 : Pipe) (w : World RunState) (e e1 : ProgramEnds) (number : ℕ)
     → InRun honest up0 down0 up down w e → has_sheet number e.front.value.sheets ≡ true
     → GoesWell result × OnOk result (InRun honest1 up0 down0 up1 down1 (fetched replay front_fetcher number w) e1)
     → GoesWell result × OnOk result (InRun honest1 up0 down0 up1 down1 (fetched_if replay front_fetcher (front_in replay (first_value []) w) number w) e1)
 fetch_known result honest honest1 up0 down0 up down up1 down1 w e e1 number run is goes =
     subst (λ v. GoesWell result × OnOk result (InRun honest1 up0 down0 up1 down1 v e1)) (sym (fetched-is honest up0 down0 up down w e number true run is)) goes
 
-pub fetch_unknown : (honest : Type 0) (up0 down0 up down : Pipe) (w : World State) (e : ProgramEnds) (number : ℕ)
+pub fetch_unknown : (honest : Type 0) (up0 down0 up down : Pipe) (w : World RunState) (e : ProgramEnds) (number : ℕ)
     → InRun honest up0 down0 up down w e → has_sheet number e.front.value.sheets ≡ false
     → InRun honest up0 down0 up down (fetched_if replay front_fetcher (front_in replay (first_value []) w) number w) e
 fetch_unknown honest up0 down0 up down w e number run is =
     subst (λ v. InRun honest up0 down0 up down v e) (sym (fetched-is honest up0 down0 up down w e number false run is)) run
 
 -- while texts are fetched: where the run is, and that it goes to where it would have gone
-pub record Fetching (honest : Type 0) (up0 down0 up down : Pipe) (target : World State) (numbers : List ℕ) (e : ProgramEnds) : Type 0 where
-  pub world : World State
+pub record Fetching (honest : Type 0) (up0 down0 up down : Pipe) (target : World RunState) (numbers : List ℕ) (e : ProgramEnds) : Type 0 where
+  pub world : World RunState
   pub in_run : InRun honest up0 down0 up down world e
   pub few : world.spent.fetches + length numbers ≤ most_fetches
   pub goes : all_fetched replay front_fetcher (first_value []) numbers world ≡ target
 
 -- the next of them is fetched, or passed over
-next_fetched : {T : Type 0} (result : Result T Stop) (honest honest1 : Type 0) (up0 down0 up down up1 down1 : Pipe) (target : World State) (number : ℕ) (numbers : List ℕ)
+next_fetched : {T : Type 0} (result : Result T Stop) (honest honest1 : Type 0) (up0 down0 up down up1 down1 : Pipe) (target : World RunState) (number : ℕ) (numbers : List ℕ)
     (e e1 : ProgramEnds)
     → Fetching honest up0 down0 up down target (number ∷ numbers) e → FetchesOne (moment honest up down e) (moment honest1 up1 down1 e1) number result
     → GoesWell result × OnOk result (Fetching honest1 up0 down0 up1 down1 target numbers e1)
@@ -342,11 +343,11 @@ next_fetched result honest honest1 up0 down0 up down up1 down1 target number num
     let w = going.world in
     let few : w.spent.fetches + suc (length numbers) ≤ most_fetches = going.few in
     let both = fetches up0 down0 w (omega (arith, few)) going.in_run in
-    let after : World State = fetched_if replay front_fetcher (front_in replay (first_value []) w) number w in
+    let after : World RunState = fetched_if replay front_fetcher (front_in replay (first_value []) w) number w in
     let spent : after.spent.fetches ≤ w.spent.fetches + 1 = fetched-if-spends (first_value []) number w in
     (both.0, on_ok result _ _ both.1 (λ run. record { world = after; in_run = run; few = omega (arith, few, spent); goes = going.goes }))
 
-pub fetch_turn : {T : Type 0} (result : Result T Stop) (honest honest1 : Type 0) (up0 down0 up down up1 down1 : Pipe) (target : World State) (numbers : List ℕ) (i number : ℕ)
+pub fetch_turn : {T : Type 0} (result : Result T Stop) (honest honest1 : Type 0) (up0 down0 up down up1 down1 : Pipe) (target : World RunState) (numbers : List ℕ) (i number : ℕ)
     (e e1 : ProgramEnds) → i < length numbers → number ≡ get_or numbers i 0
     → Fetching honest up0 down0 up down target (drop i numbers) e → FetchesOne (moment honest up down e) (moment honest1 up1 down1 e1) number result
     → GoesWell result × OnOk result (Fetching honest1 up0 down0 up1 down1 target (drop (i + 1) numbers) e1)
@@ -356,19 +357,19 @@ fetch_turn result honest honest1 up0 down0 up down up1 down1 target numbers i nu
     (subst (λ ns. Fetching honest up0 down0 up down target ns e) split going) fetches
 
 -- no sheet is left
-pub fetch_end : (honest : Type 0) (up0 down0 up down : Pipe) (target : World State) (numbers : List ℕ) (e : ProgramEnds) → numbers ≡ []
+pub fetch_end : (honest : Type 0) (up0 down0 up down : Pipe) (target : World RunState) (numbers : List ℕ) (e : ProgramEnds) → numbers ≡ []
     → Fetching honest up0 down0 up down target numbers e → InRun honest up0 down0 up down target e
 fetch_end honest up0 down0 up down target numbers e none going =
     subst (λ w. InRun honest up0 down0 up down w e) (sym (ap (λ ns. all_fetched replay front_fetcher (first_value []) ns going.world) none) ∙ going.goes) going.in_run
 
 -- after all was delivered the texts that are old are fetched
-pub refresh_goes : {T : Type 0} (result : Result T Stop) (honest honest0 honest1 : Type 0) (up0 down0 up down up1 down1 up2 down2 : Pipe) (w : World State)
+pub refresh_goes : {T : Type 0} (result : Result T Stop) (honest honest0 honest1 : Type 0) (up0 down0 up down up1 down1 up2 down2 : Pipe) (w : World RunState)
     (e e1 e2 : ProgramEnds)
-    → HasLeft w.spent 0 → InRun honest up0 down0 up down w e → InRun honest0 up0 down0 up1 down1 (settled step w) e1
+    → HasLeft w.spent 0 → InRun honest up0 down0 up down w e → InRun honest0 up0 down0 up1 down1 (settled run_step w) e1
     → FetchesAll (moment honest0 up1 down1 e1) (moment honest1 up2 down2 e2) (stale_of e1.front.value.sheets) result
     → GoesWell result × OnOk result (InRun honest1 up0 down0 up2 down2 (refreshes front_fetcher w) e2)
 refresh_goes result honest honest0 honest1 up0 down0 up down up1 down1 up2 down2 w e e1 e2 left run run1 fetches =
-    let w1 = settled step w in
+    let w1 = settled run_step w in
     let front_is : front_in replay (first_value []) w1 ≡ Ok e1.front.value = run-front honest0 up0 down0 up1 down1 w1 e1 run1 in
     let fits : Fits w1 = subst (λ frames. FitsWith w1 (frames ++ awaited w1.up)) run1.none_whole run1.so_far.in_world.fits in
     let few : length (stale_of e1.front.value.sheets) ≤ most_sheets = few-then w e1.front.value fits front_is in

@@ -1,5 +1,5 @@
 -- The first line of a script loads a page.
-use Rattle.std.proofs.Common.{◌≡◌, ℕ, List, Bool, true, false, not, ◌&&◌, Option, Some, None, option_and_then, refl, sym, ◌∙◌, ap}
+use Rattle.std.proofs.Common.{◌≡◌, ℕ, List, true, false, not, ◌&&◌, Option, Some, None, option_and_then, sym, ◌∙◌, ap}
 use Rattle.serde_json.specs.Data.{Data}
 use Rattle.page_forms.specs.Pages.{LoadedPage, page_in}
 use Rattle.cdp_messages.specs.Asked.{json_of}

@@ -1,5 +1,5 @@
 -- What the calls on the link and on the ends keep over every link.
-use Rattle.std.proofs.Common.{◌≡◌, ◌+◌, ◌*◌, ◌≤◌, ℕ, suc, ◌<◌, ◌^◌, List, [], ◌∷◌, ◌++◌, length, drop, codes, Option, Some, None, true, false, refl, sym, ◌∙◌, ap, subst, arith, append_assoc, Result, Ok, Err}
+use Rattle.std.proofs.Common.{◌≡◌, is_some, ◌+◌, ◌*◌, ◌≤◌, ℕ, suc, ◌<◌, ◌^◌, List, [], ◌∷◌, ◌++◌, length, drop, codes, Option, Some, None, true, false, refl, sym, ◌∙◌, ap, subst, arith, append_assoc, Result, Ok, Err}
 use Rattle.std.proofs.lemmas.List.{drop_all}
 use Rattle.std.specs.Result.{OnOk, IsOk}
 use Rattle.std.specs.Io.KnownBytes.{Appends}
@@ -13,7 +13,7 @@ use Rattle.page_forms.specs.Pages.{LoadedPage, CanLoadPage}
 use Rattle.page_forms.specs.Sheets.{max_sheets}
 use Rattle.cdp_messages.specs.Moves.{frames_of_moves}
 use Rattle.cdp_messages.specs.Asked.{command_text}
-use Rattle.front_mirror.specs.Front.{FrontValue, FrontState, first_state, after_take, after_ask, after_fetch}
+use Rattle.front_mirror.specs.Front.{FrontState, first_state, after_take, after_ask, after_fetch}
 use Rattle.inspect_world.specs.FreshRuns.{front_fetcher}
 use Rattle.front_mirror.specs.Outline.{outline_text, seen_line}
 use Rattle.front_mirror.specs.declared.faults.FrontFault.{FrontFault}
@@ -23,11 +23,13 @@ use Rattle.back_end.specs.declared.seat.Seat.{Seat}
 use Rattle.back_end.specs.declared.side.PageSide.{PageSide}
 use Rattle.back_end.specs.States.{State, loaded_state}
 use Rattle.back_end.specs.Steps.{Turn, frame_step, turn_step, step, turn}
-use Rattle.back_end.specs.Laws.{IsTurn}
+use Rattle.back_end.specs.Laws.{most_ids, IsTurn}
 use Rattle.page_forms.specs.Texts.{PageHasTexts}
 use Rattle.inspect_world.specs.ScriptsFit.{CanSend}
 use Rattle.inspect_world.specs.Held.{Ends as HeldEnds}
-use Rattle.inspect_world.specs.Links.{Started, started, one_line_more, Follows, fold_of}
+use Rattle.std.specs.List.{All}
+use Rattle.front_mirror.specs.Front.{matched_in}
+use Rattle.inspect_world.specs.Links.{Started, started, one_line_more, knows_styles, came_styles, Follows, fold_of}
 use Rattle.inspect_world.specs.Fits.{ask_in}
 use Rattle.inspect_world.proofs.Scripts.{fit-first}
 use Rattle.inspect_world.proofs.LinkLemmas.{follows-fewer, front-full, seat-full, follows-told, follows-less, follows-start, follows-sends, follows-fetched, follows-raw, follows-given_up, follows-answered, follows-turned, follows-delivered_down, follows-refused, follows-fold, follows-replies}
@@ -39,7 +41,7 @@ use Rattle.inspect_replay.specs.declared.status.Status.TheVariants as status
 use Rattle.inspect_replay.specs.Says.{Phase, untouched, reading, underway, ended, anywhen, Lie, PartRose, Says, says, status_of}
 use Rattle.inspect_replay.specs.Answers.{InReadOnly, source_counts, IsInputStop}
 use Rattle.back_end.specs.Seats.{StandsFor, HasRoomLeft}
-use Rattle.inspect_replay.specs.Followed.{GivesNoMore, Passed, FoldsAt, fold_since, StatusFolds, StopFolds, EndsShown, AnswersInOrder, FollowsWith, FollowsRun, FollowsAnswer, PrintedSome}
+use Rattle.inspect_replay.specs.Followed.{AllCame, GivesNoMore, Passed, FoldsAt, fold_since, StatusFolds, StopFolds, EndsShown, AnswersInOrder, FollowsWith, FollowsRun, FollowsAnswer, PrintedSome}
 use Rattle.inspect_replay.specs.Prints.{IsRead, ReadsAt}
 use Rattle.inspect_replay.specs.Runs.{ends_of}
 use Rattle.inspect_replay.specs.Moments.{moment}
@@ -68,6 +70,20 @@ follows-good state0 up0 down0 up down waiting e f = subst IsOk (sym (follows-fol
 pub run-good : (state0 : Started) (up0 down0 up down : Pipe) (e : Ends) → FollowsRun state0 up0 down0 up down e → IsOk (fold_since up0 down0 up down).fold
 run-good state0 up0 down0 up down e run = follows-good state0 up0 down0 up down e.splitter.whole (ends_of e) run.so_far
 
+-- the matched styles that were shown came
+pub run-came : (state0 : Started) (up0 down0 up down : Pipe) (e : Ends) → FollowsRun state0 up0 down0 up down e → AllCame (fold_since up0 down0 up down) state0.shown
+run-came state0 up0 down0 up down e run =
+    let f = run.so_far in
+    let fold : (fold_since up0 down0 up down).fold ≡ Ok e.front.value = follows-fold state0 up0 down0 up down e.splitter.whole (ends_of e) f in
+    let value : f.value ≡ e.front.value = sym (ap (λ (s : FrontState). s.value) f.front_is) in
+    subst (λ r. All (λ ask. came_styles r ask ≡ true) state0.shown) (sym fold) (subst (λ v. All (λ ask. knows_styles v ask ≡ true) state0.shown) value f.styled)
+
+-- whether some came is what the front end has kept
+pub run-kept : (state0 : Started) (up0 down0 up down : Pipe) (e : Ends) (ask : ℕ) → FollowsRun state0 up0 down0 up down e
+    → came_styles (fold_since up0 down0 up down).fold ask ≡ is_some (matched_in ask e.front.value.matched)
+run-kept state0 up0 down0 up down e ask run =
+    ap (λ r. came_styles r ask) (follows-fold state0 up0 down0 up down e.splitter.whole (ends_of e) run.so_far)
+
 -- nothing was sent or given when a call stops
 pub same-stop : (stop : Stop) (state0 : Started) (up0 down0 up down up1 down1 : Pipe) (waiting : List (List ℕ)) (e : HeldEnds)
     → Follows state0 up0 down0 up down waiting e → GoesWell {T = Unit {0}} (Err stop) → up1 ≡ up → down1 ≡ down → StopFolds {T = Unit {0}} (Err stop) (fold_since up0 down0 up1 down1)
@@ -90,17 +106,17 @@ run-fewer state0 up0 down0 up down e run =
     record { so_far = follows-fewer state0 up0 down0 up down e.splitter.whole (ends_of e) run.so_far; none_whole = run.none_whole }
 
 -- the line that comes next is one of those that are left
-pub run-line : (state0 : State) (up0 down0 up down : Pipe) (e : Ends) (lines : List (List ℕ)) (line : List ℕ) (more : List (List ℕ)) → lines ≡ line ∷ more
-    → FollowsRun (started state0 (length lines)) up0 down0 up down e → FollowsRun (one_line_more (started state0 (length more))) up0 down0 up down e
-run-line state0 up0 down0 up down e lines line more is run =
+pub run-line : (state0 : State) (shown : List ℕ) (up0 down0 up down : Pipe) (e : Ends) (lines : List (List ℕ)) (line : List ℕ) (more : List (List ℕ)) → lines ≡ line ∷ more
+    → FollowsRun (started state0 (length lines) shown) up0 down0 up down e → FollowsRun (one_line_more (started state0 (length more) shown)) up0 down0 up down e
+run-line state0 shown up0 down0 up down e lines line more is run =
     let count : length lines ≡ suc (length more) = ap length is in
     let plus : length lines ≡ length more + 1 = omega (arith, count) in
-    subst (λ n. FollowsRun (started state0 n) up0 down0 up down e) plus run
+    subst (λ n. FollowsRun (started state0 n shown) up0 down0 up down e) plus run
 
 -- and then none is left
-pub run-last : (state0 : State) (up0 down0 up down : Pipe) (e : Ends) (lines : List (List ℕ)) → lines ≡ []
-    → FollowsRun (started state0 (length lines)) up0 down0 up down e → FollowsRun (started state0 0) up0 down0 up down e
-run-last state0 up0 down0 up down e lines none run = subst (λ (ls : List (List ℕ)). FollowsRun (started state0 (length ls)) up0 down0 up down e) none run
+pub run-last : (state0 : State) (shown : List ℕ) (up0 down0 up down : Pipe) (e : Ends) (lines : List (List ℕ)) → lines ≡ []
+    → FollowsRun (started state0 (length lines) shown) up0 down0 up down e → FollowsRun (started state0 0 shown) up0 down0 up down e
+run-last state0 shown up0 down0 up down e lines none run = subst (λ (ls : List (List ℕ)). FollowsRun (started state0 (length ls) shown) up0 down0 up down e) none run
 
 -- where the front end has no id left, the call stops
 pub front-stops : (state0 : Started) (up0 down0 up down : Pipe) (e : Ends) → FollowsRun state0 up0 down0 up down e
@@ -244,11 +260,13 @@ follow_end state0 up0 down0 up down e s f same none = (
 
 -- ---- what is told and printed
 
-pub told-run : (state0 : Started) (up0 down0 up down : Pipe) (e e1 : Ends) (n : ℕ) → e1 ≡ record e { told = n } → FollowsRun state0 up0 down0 up down e
-    → FollowsRun state0 up0 down0 up down e1
-told-run state0 up0 down0 up down e e1 n is run =
-    subst (λ x. FollowsRun state0 up0 down0 up down x) (sym is)
-    (record { so_far = follows-told state0 up0 down0 up down e.splitter.whole (ends_of e) n run.so_far; none_whole = run.none_whole })
+pub told-run : (state0 : Started) (up0 down0 up down : Pipe) (e e1 : Ends) (replies pauses : ℕ) → e1 ≡ record e { told = replies; told_pauses = pauses }
+    → FollowsRun state0 up0 down0 up down e → FollowsRun state0 up0 down0 up down e1
+told-run state0 up0 down0 up down e e1 replies pauses is run =
+    subst (λ x. FollowsRun state0 up0 down0 up down x) (sym is) (record {
+      so_far = follows-told state0 up0 down0 up down e.splitter.whole (ends_of e) (record { replies = replies; pauses = pauses }) run.so_far;
+      none_whole = run.none_whole;
+    })
 
 pub some-printed : {T : Type 0} (result : Result T Stop) (before after : Option (List ℕ)) (text : List ℕ) → OnOk result (Appends before after text) → OnOk result (PrintedSome before after)
 some-printed (Ok value) before after text printed = record { written = text; printed = printed }
@@ -265,7 +283,7 @@ more-printed before middle after a b = record { written = a.written ++ b.written
 pub closes-shown : (result : Result (Unit {0}) Stop) (state0 : Started) (up0 down0 up down : Pipe) (before after : Option (List ℕ)) (e : Ends) (tree : Nodes Seen)
     → FollowsRun state0 up0 down0 up down e → tree ≡ e.front.value.tree → GoesWell result
     → OnOk result (Appends before after (codes "# end" ++ 10 ∷ outline_text seen_line tree))
-    → OnOk result (EndsShown before after (fold_since up0 down0 up down) × AnswersInOrder up0 down0 up down × GivesNoMore up0 down0 up down) × StopFolds result (fold_since up0 down0 up down)
+    → OnOk result (EndsShown before after (fold_since up0 down0 up down) × AnswersInOrder up0 down0 up down × GivesNoMore up0 down0 up down × AllCame (fold_since up0 down0 up down) state0.shown) × StopFolds result (fold_since up0 down0 up down)
 closes-shown (Ok value) state0 up0 down0 up down before after e tree run shows never printed = (
   (
     record {
@@ -276,6 +294,7 @@ closes-shown (Ok value) state0 up0 down0 up down before after e tree run shows n
     },
     follows-replies state0 up0 down0 up down (ends_of e) (subst (λ frames. Follows state0 up0 down0 up down frames (ends_of e)) run.none_whole run.so_far),
     follows-less state0 up0 down0 up down e.splitter.whole (ends_of e) run.so_far,
+    run-came state0 up0 down0 up down e run,
   ),
   run-good state0 up0 down0 up down e run,
 )
@@ -296,20 +315,20 @@ ends-after before middle after passed some shown =
           (Appends-append before middle after some.written ((shown.written ++ head) ++ outline) some.printed shown.printed);
     }
 
-pub ends-shown : {T : Type 0} (result : Result T Stop) (before middle after : Option (List ℕ)) (up0 down0 up down : Pipe) → PrintedSome before middle
-    → OnOk result (EndsShown middle after (fold_since up0 down0 up down) × AnswersInOrder up0 down0 up down × GivesNoMore up0 down0 up down) → OnOk result (EndsShown before after (fold_since up0 down0 up down))
-ends-shown (Ok value) before middle after up0 down0 up down some both = ends-after before middle after (fold_since up0 down0 up down) some both.0
-ends-shown (Err stop) before middle after up0 down0 up down some both = tt
+pub ends-shown : {T : Type 0} (result : Result T Stop) (before middle after : Option (List ℕ)) (up0 down0 up down : Pipe) (shown : List ℕ) → PrintedSome before middle
+    → OnOk result (EndsShown middle after (fold_since up0 down0 up down) × AnswersInOrder up0 down0 up down × GivesNoMore up0 down0 up down × AllCame (fold_since up0 down0 up down) shown) → OnOk result (EndsShown before after (fold_since up0 down0 up down))
+ends-shown (Ok value) before middle after up0 down0 up down shown some both = ends-after before middle after (fold_since up0 down0 up down) some both.0
+ends-shown (Err stop) before middle after up0 down0 up down shown some both = tt
 
-pub in-order : {T : Type 0} (result : Result T Stop) (before after : Option (List ℕ)) (up0 down0 up down : Pipe)
-    → OnOk result (EndsShown before after (fold_since up0 down0 up down) × AnswersInOrder up0 down0 up down × GivesNoMore up0 down0 up down) → OnOk result (AnswersInOrder up0 down0 up down)
-in-order (Ok value) before after up0 down0 up down both = both.1
-in-order (Err stop) before after up0 down0 up down both = tt
+pub in-order : {T : Type 0} (result : Result T Stop) (before after : Option (List ℕ)) (up0 down0 up down : Pipe) (shown : List ℕ)
+    → OnOk result (EndsShown before after (fold_since up0 down0 up down) × AnswersInOrder up0 down0 up down × GivesNoMore up0 down0 up down × AllCame (fold_since up0 down0 up down) shown) → OnOk result (AnswersInOrder up0 down0 up down)
+in-order (Ok value) before after up0 down0 up down shown both = both.1
+in-order (Err stop) before after up0 down0 up down shown both = tt
 
-pub no-more : {T : Type 0} (result : Result T Stop) (before after : Option (List ℕ)) (up0 down0 up down : Pipe)
-    → OnOk result (EndsShown before after (fold_since up0 down0 up down) × AnswersInOrder up0 down0 up down × GivesNoMore up0 down0 up down) → OnOk result (GivesNoMore up0 down0 up down)
-no-more (Ok value) before after up0 down0 up down all = all.2
-no-more (Err stop) before after up0 down0 up down all = tt
+pub no-more : {T : Type 0} (result : Result T Stop) (before after : Option (List ℕ)) (up0 down0 up down : Pipe) (shown : List ℕ)
+    → OnOk result (EndsShown before after (fold_since up0 down0 up down) × AnswersInOrder up0 down0 up down × GivesNoMore up0 down0 up down × AllCame (fold_since up0 down0 up down) shown) → OnOk result (GivesNoMore up0 down0 up down)
+no-more (Ok value) before after up0 down0 up down shown all = all.2
+no-more (Err stop) before after up0 down0 up down shown all = tt
 
 -- ---- the start and the end
 
@@ -323,20 +342,20 @@ start-good up down =
     (subst (λ bytes. IsOk (fold_of [] bytes)) (sym (none down.given)) folds)
 
 pub run-first : (up down : Pipe) (page : LoadedPage) (lines : ℕ) (e : Ends) → CanLoadPage page → PageHasTexts page → lines ≤ 2 ^ 26 → IsNewSide e.seat e.side page
-    → e.splitter ≡ no_frames → e.front ≡ first_state → e.up_there ≡ 0 → e.down_there ≡ 0 → e.told ≡ 0
-    → FollowsRun (started (loaded_state page) lines) up down up down e
-run-first up down page lines e can texts few new splitter_is front_is up_none down_none told_none =
-    let start : Started = started (loaded_state page) lines in
-    let same : ends_of e ≡ first_ends e.seat e.side = ends-first e splitter_is front_is up_none down_none told_none in
+    → e.splitter ≡ no_frames → e.front ≡ first_state → e.up_there ≡ 0 → e.down_there ≡ 0 → e.told ≡ 0 → e.told_pauses ≡ 0
+    → FollowsRun (started (loaded_state page) lines []) up down up down e
+run-first up down page lines e can texts few new splitter_is front_is up_none down_none told_none pauses_none =
+    let start : Started = started (loaded_state page) lines [] in
+    let same : ends_of e ≡ first_ends e.seat e.side = ends-first e splitter_is front_is up_none down_none told_none pauses_none in
     let none : e.splitter.whole ≡ [] = ap (λ (f : Frames). f.whole) splitter_is in
     let fit = fit-first page can texts in
-    let drawn : length (loaded_state page).client.session.pushed + 0 * max_nodes ≤ 0 * max_nodes = fit.drawn in
+    let drawn : length (loaded_state page).client.session.pushed + 0 * most_ids ≤ 0 * most_ids = fit.drawn in
     let serials : (loaded_state page).side.page.next + 0 * (max_nodes + 1) ≤ (0 + 1) * (max_nodes + 1) = fit.serials in
     let numbers : (loaded_state page).side.next_sheet + 0 * max_sheets ≤ (0 + 1) * max_sheets + 1 = fit.numbers in
     record {
       so_far = subst (λ h. Follows start up down up down e.splitter.whole h) (sym same)
           (subst (λ frames. Follows start up down up down frames (first_ends e.seat e.side)) (sym none)
-          (follows-start up down start e.seat e.side (stands-first page e.seat e.side can texts new) few (omega (arith, drawn)) (omega (arith, serials)) (omega (arith, numbers))));
+          (follows-start up down start e.seat e.side refl (stands-first page e.seat e.side can texts new) few (omega (arith, drawn)) (omega (arith, serials)) (omega (arith, numbers))));
       none_whole = none;
     }
 

@@ -1,6 +1,9 @@
 pub mod EndLemmas
 pub mod FirstLine
 pub mod RunLemmas
+pub mod LinesRun
+pub mod LinesTell
+pub mod StylesLemmas
 pub mod FollowLemmas
 pub mod AnswerLemmas
 pub mod PageLemmas

@@ -1,23 +1,20 @@
 -- What came was read and answered by the end of the source, or until the call stopped.
-use Rattle.std.proofs.Common.{◌≡◌, ℕ, zero, suc, ◌+◌, ◌-◌, ◌^◌, ◌≤◌, ◌<◌, List, [], ◌∷◌, ◌++◌, length, take, drop, Option, Some, None, Result, Ok, Err, refl, sym, ◌∙◌, ap, subst, append_assoc, append-nil, length-append, arith}
-use Rattle.std.specs.Prelude.{⊤}
-use Rattle.std.specs.Io.KnownBytes.{Appends, Consumes, Keeps, IsAtEnd}
+use Rattle.std.proofs.Common.{◌≡◌, ℕ, zero, suc, ◌+◌, ◌^◌, ◌≤◌, List, [], ◌∷◌, ◌++◌, length, take, Option, Some, None, Result, Ok, Err, refl, sym, ◌∙◌, ap, subst, append_assoc, append-nil, length-append, arith}
+use Rattle.std.specs.Io.KnownBytes.{Appends, Consumes, IsAtEnd}
 use Rattle.pipe_frames.specs.Fault.{Rose}
 use Rattle.pipe_frames.specs.Whole.{ReadPart, WrotePart}
 use Rattle.pipe_frames.proofs.FaultLemmas.{Rose-before}
-use Rattle.pipe_frames.proofs.WholeLemmas.{Appends-nil, WrotePart-all, WrotePart-longer, WrotePart-none, Consumes-nil, Consumes-append}
+use Rattle.pipe_frames.proofs.WholeLemmas.{Appends-nil, WrotePart-longer, Consumes-nil, Consumes-append}
 use Rattle.inspect_replay.specs.declared.status.Status.{Status}
 use Rattle.inspect_replay.specs.declared.status.Status.TheVariants as status
 use Rattle.inspect_replay.specs.declared.stop.Stop.{Stop}
 use Rattle.inspect_replay.specs.declared.stop.Stop.TheVariants.{Line, TooLong, ReadFault, WriteFault, LinkFault, FrontRefused, NoRoom, Memory}
 use Rattle.std.specs.Result.{IsOk, IsErrAnd}
 use Rattle.std.proofs.lemmas.Result.{err_from_is_err_and}
-use Rattle.front_mirror.specs.declared.faults.FrontFault.{FrontFault}
-use Rattle.front_mirror.specs.Front.{FrontValue}
 use Rattle.inspect_replay.specs.Followed.{Passed, StatusFolds}
 use Rattle.inspect_replay.specs.Answers.{StatusRose}
-use Rattle.inspect_replay.specs.Says.{Counts, PartRose, status_of}
-use Rattle.inspect_replay.specs.Serving.{served, ServeCall, ServedRead, ServedAll, ServedLimit, ServeTook, IsServeStatus, ServeMoment, SoFar, with_more, Serves, PieceRead, PieceAnswered, PieceInPart, PieceServed, EndIsMet, ReadAnswered, PartAnswered, EndAnswered, LimitAnswered, FaultAnswered, HasServed, WriteRose, HasWriteCause, ServeRose, HasServeCause}
+use Rattle.inspect_replay.specs.Says.{Counts, status_of}
+use Rattle.inspect_replay.specs.Serving.{served, ServeCall, ServedRead, ServedAll, ServedLimit, ServeTook, IsServeStatus, ServeMoment, Serves, PieceAnswered, PieceInPart, PieceServed, EndIsMet, ReadAnswered, PartAnswered, EndAnswered, LimitAnswered, FaultAnswered, HasServed, WriteRose, ServeRose}
 use Rattle.inspect_replay.proofs.ServeLemmas.{answers_after, served-more}
 
 -- ---- the loop

@@ -1,11 +1,11 @@
 -- A service answers the frames that came, in whatever pieces they come.
-use Rattle.std.proofs.Common.{◌≡◌, ℕ, List, [], ◌∷◌, ◌++◌, length, true, false, Option, Some, None, Result, Ok, Err, refl, sym, ◌∙◌, ap, subst, append_assoc, append-nil, length-append, arith}
+use Rattle.std.proofs.Common.{◌≡◌, ℕ, List, [], ◌∷◌, ◌++◌, true, Option, None, Result, Ok, Err, refl, sym, ◌∙◌, ap, subst, append_assoc, append-nil, arith}
 use Rattle.std.specs.Result.{OnOk, IsErrAnd}
-use Rattle.std.specs.Io.KnownBytes.{Appends, Consumes, Keeps, IsAtEnd}
+use Rattle.std.specs.Io.KnownBytes.{Appends}
 use Rattle.pipe_frames.specs.Frames.{Frames, frames_of, continued, frames_from, held_after}
-use Rattle.pipe_frames.specs.Whole.{ReadPart, WrotePart}
+use Rattle.pipe_frames.specs.Whole.{WrotePart}
 use Rattle.pipe_frames.proofs.FrameLemmas.{frames_of-append}
-use Rattle.pipe_frames.proofs.WholeLemmas.{Appends-nil, Appends-append, WrotePart-all, WrotePart-longer, WrotePart-after, Consumes-nil, Consumes-append, Consumes-keeps}
+use Rattle.pipe_frames.proofs.WholeLemmas.{Appends-nil, Appends-append, WrotePart-all, WrotePart-longer, WrotePart-after}
 use Rattle.std.specs.Str.{IsUtf8}
 use Rattle.std.proofs.lemmas.List.Elements.{All-nil}
 use Rattle.page_forms.specs.declared.sheets.SheetForm.{SheetForm}
@@ -15,12 +15,10 @@ use Rattle.cdp_messages.specs.Moves.{frames_of_moves}
 use Rattle.back_end.specs.States.{State}
 use Rattle.back_end.specs.Steps.{Stepped, frame_step}
 use Rattle.back_end.specs.Seats.{StandsFor, first_page}
-use Rattle.back_end.specs.declared.seat.Seat.{Seat}
-use Rattle.back_end.specs.declared.side.PageSide.{PageSide}
 use Rattle.inspect_world.specs.World.{steps}
 use Rattle.inspect_replay.specs.declared.serve.Service.{Service}
 use Rattle.inspect_replay.specs.declared.stop.Stop.{Stop}
-use Rattle.inspect_replay.specs.Serving.{first_served, served_step, served_run, served, IsServing, ServeMoment, serve_moment, SoFar, with_more, Serves, Answered, AnswersFrames, PartServed, ServesOn}
+use Rattle.inspect_replay.specs.Serving.{first_served, served_step, served_run, served, IsServing, ServeMoment, serve_moment, SoFar, with_more, Serves, Answered, PartServed, ServesOn}
 use Rattle.inspect_replay.proofs.RunLemmas.{IsNewSide, stands-first}
 
 -- ---- steps on frames

@@ -1,5 +1,5 @@
 -- What holds of a run over every link, whatever bytes it gives.
-use Rattle.std.specs.Prelude.{◌≡◌, ◌≤◌, ◌^◌, ℕ, List, [], ◌∷◌, ◌++◌, length, map, codes, Option, Some, None, Result, Ok, Err, IsOk, OnOk, ⊤}
+use Rattle.std.specs.Prelude.{◌≡◌, ◌≤◌, ◌^◌, ℕ, List, [], ◌∷◌, ◌++◌, length, map, codes, All, Bool, true, Option, Some, None, Result, Ok, Err, IsOk, OnOk, ⊤}
 use Rattle.std.specs.Io.KnownBytes.{Appends}
 use Rattle.pipe_frames.specs.Pipe.{Pipe, sent_since, given_since}
 use Rattle.pipe_frames.specs.Frames.{frames_of}
@@ -7,12 +7,15 @@ use Rattle.front_mirror.specs.declared.faults.FrontFault.{FrontFault}
 use Rattle.front_mirror.specs.Front.{FrontValue}
 use Rattle.front_mirror.specs.Outline.{outline_text, seen_line}
 use Rattle.back_end.specs.States.{State}
-use Rattle.inspect_world.specs.Links.{Started, started, one_line_more, Follows, fold_of}
+use Rattle.replay_script.specs.Script.{numbered_or, styles_fault, first_refused}
+use Rattle.inspect_world.specs.Links.{Started, started, one_line_more, came_styles, Follows, fold_of}
 use Rattle.inspect_world.specs.ShownReplies.{ShownReply, replies_in, reply_id}
 use Rattle.inspect_replay.specs.declared.ends.Ends.{Ends}
 use Rattle.inspect_replay.specs.declared.status.Status.{Status}
 use Rattle.inspect_replay.specs.declared.stop.Stop.{Stop}
 use Rattle.inspect_replay.specs.Says.{Phase, untouched, reading, underway, ended, anywhen, Lie, refused, no_room, says, says_of}
+use Rattle.inspect_replay.specs.Answers.{AtEnd, RunTells}
+use Rattle.inspect_replay.specs.Prints.{NumberedLine}
 use Rattle.inspect_replay.specs.Moments.{Moment, Scene}
 use Rattle.inspect_replay.specs.Runs.{ends_of}
 
@@ -86,11 +89,30 @@ LineFollows old new result =
     (state0 : Started) (up0 down0 : Pipe) → FollowsRun (one_line_more state0) up0 down0 old.up old.down old.ends
     → OnOk result (FollowsRun state0 up0 down0 new.up new.down new.ends) × StopFolds result (fold_since up0 down0 new.up new.down)
 
--- and of one that carries out these lines
+-- these asks are among those whose matched styles came
+abbrev pub AllCame : Passed → List ℕ → Type 0
+AllCame passed asks = All (λ ask. came_styles passed.fold ask ≡ true) asks
+
+-- A line shows matched styles exactly where they came; what was shown before is there still.
+abbrev pub LineTells : {T : Type 0} → Moment → Moment → NumberedLine → Result T Stop → Type 0
+LineTells old new line result =
+    (state0 : Started) (up0 down0 : Pipe) → FollowsRun (one_line_more state0) up0 down0 old.up old.down old.ends
+    → RunTells result (numbered_or line.number (styles_fault (came_styles (fold_since up0 down0 new.up new.down).fold) line.form) None)
+    × AtEnd (says_of result).phase (AllCame (fold_since up0 down0 new.up new.down) state0.shown)
+
+-- The lines were carried out: while the matched styles of the asks that they show are there, none of them is refused.
+pub record LinesCarried (state0 : State) (up0 down0 : Pipe) (new : Moment) (lines : List (List ℕ)) : Type 0 where
+  pub shown : List ℕ
+  pub run : FollowsRun (started state0 0 shown) up0 down0 new.up new.down new.ends
+  pub none : (there : ℕ → Bool) → All (λ ask. there ask ≡ true) shown → first_refused there 2 lines ≡ None
+
+-- and of one that carries out these lines, the first of which has the number 2
 abbrev pub LinesFollow : {T : Type 0} → Moment → Moment → List (List ℕ) → Result T Stop → Type 0
 LinesFollow old new lines result =
-    (state0 : State) (up0 down0 : Pipe) → FollowsRun (started state0 (length lines)) up0 down0 old.up old.down old.ends
-    → OnOk result (FollowsRun (started state0 0) up0 down0 new.up new.down new.ends) × StopFolds result (fold_since up0 down0 new.up new.down)
+    (state0 : State) (up0 down0 : Pipe) → FollowsRun (started state0 (length lines) []) up0 down0 old.up old.down old.ends
+    → OnOk result (LinesCarried state0 up0 down0 new lines)
+    × StopFolds result (fold_since up0 down0 new.up new.down)
+    × RunTells result (first_refused (came_styles (fold_since up0 down0 new.up new.down).fold) 2 lines)
 
 -- the same of a call that leaves whole frames in the splitter
 abbrev pub KeepsFollowingWith : {T : Type 0} → Moment → Moment → Result T Stop → Type 0
@@ -120,5 +142,5 @@ abbrev pub ClosesShown : {T : Type 0} → Scene → Scene → Result T Stop → 
 ClosesShown old new result =
     (state0 : Started) (up0 down0 : Pipe) → FollowsRun state0 up0 down0 old.now.up old.now.down old.now.ends
     → OnOk result (EndsShown old.taken new.taken (fold_since up0 down0 new.now.up new.now.down) × AnswersInOrder up0 down0 new.now.up new.now.down
-    × GivesNoMore up0 down0 new.now.up new.now.down)
+    × GivesNoMore up0 down0 new.now.up new.now.down × AllCame (fold_since up0 down0 new.now.up new.now.down) state0.shown)
     × StopFolds result (fold_since up0 down0 new.now.up new.now.down)

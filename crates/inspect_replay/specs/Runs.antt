@@ -3,8 +3,7 @@ use Rattle.std.specs.Prelude.{◌≡◌, ◌≤◌, ◌+◌, ℕ, List, [], ◌�
 use Rattle.pipe_frames.specs.Pipe.{Pipe}
 use Rattle.inspect_world.specs.Stream.{arriving, awaited}
 use Rattle.inspect_world.specs.World.{World, one_fetch, sent_up, given_up, answered}
-use Rattle.back_end.specs.States.{State}
-use Rattle.back_end.specs.Steps.{step}
+use Rattle.inspect_world.specs.RunStates.{RunState, run_step}
 use Rattle.front_mirror.specs.Front.{first_value}
 use Rattle.inspect_world.specs.Fits.{HasLeft, IsPlainFrame, most_fetches, replay}
 use Rattle.inspect_world.specs.Fetches.{front_in, fetched, fetched_if, all_fetched}
@@ -24,59 +23,59 @@ ends_of e = record {
   front = e.front;
   up_there = e.up_there;
   down_there = e.down_there;
-  told = e.told;
+  told = record { replies = e.told; pauses = e.told_pauses };
 }
 
 -- Over an honest link the run, with the fetches of its settles, has come to the world w since the pipes were as `up0` and
 -- `down0`, with nothing left to give.
 -- The frames that the splitter holds came up whole, and are not yet answered.
-pub record InRunWith (honest : Type 0) (up0 down0 up down : Pipe) (w : World State) (e : Ends) : Type 0 where
+pub record InRunWith (honest : Type 0) (up0 down0 up down : Pipe) (w : World RunState) (e : Ends) : Type 0 where
   pub is_honest : honest
   pub in_world : InWorld up0 down0 up down w (e.splitter.whole ++ awaited w.up) (ends_of e)
 
 -- the same, where each frame that came up whole is answered
-pub record InRun (honest : Type 0) (up0 down0 up down : Pipe) (w : World State) (e : Ends) : Type 0 where
+pub record InRun (honest : Type 0) (up0 down0 up down : Pipe) (w : World RunState) (e : Ends) : Type 0 where
   pub so_far : InRunWith honest up0 down0 up down w e
   pub none_whole : e.splitter.whole ≡ []
 
 -- a call takes each run over an honest link to where the script takes it, and never stops at the front end
-abbrev pub Steps : {T : Type 0} → Moment → Moment → Result T Stop → (World State → World State) → Type 0
+abbrev pub Steps : {T : Type 0} → Moment → Moment → Result T Stop → (World RunState → World RunState) → Type 0
 Steps old new result f =
-    (up0 down0 : Pipe) (w : World State) → InRun old.honest up0 down0 old.up old.down w old.ends
+    (up0 down0 : Pipe) (w : World RunState) → InRun old.honest up0 down0 old.up old.down w old.ends
     → GoesWell result × OnOk result (InRun new.honest up0 down0 new.up new.down (f w) new.ends)
 
 -- the same of a call that sends a frame or makes a step of the script, while there is room for one
-abbrev pub Spends : {T : Type 0} → Moment → Moment → Result T Stop → (World State → World State) → Type 0
+abbrev pub Spends : {T : Type 0} → Moment → Moment → Result T Stop → (World RunState → World RunState) → Type 0
 Spends old new result f =
-    (up0 down0 : Pipe) (w : World State) → HasLeft w.spent 1 → InRun old.honest up0 down0 old.up old.down w old.ends
+    (up0 down0 : Pipe) (w : World RunState) → HasLeft w.spent 1 → InRun old.honest up0 down0 old.up old.down w old.ends
     → GoesWell result × OnOk result (InRun new.honest up0 down0 new.up new.down (f w) new.ends)
 
 -- the same of a call that answers the frames that came up whole
 abbrev pub AnswersAll : {T : Type 0} → Moment → Moment → Result T Stop → Type 0
 AnswersAll old new result =
-    (up0 down0 : Pipe) (w : World State) → InRunWith old.honest up0 down0 old.up old.down w old.ends
-    → GoesWell result × OnOk result (InRun new.honest up0 down0 new.up new.down (answered step old.ends.splitter.whole w) new.ends)
+    (up0 down0 : Pipe) (w : World RunState) → InRunWith old.honest up0 down0 old.up old.down w old.ends
+    → GoesWell result × OnOk result (InRun new.honest up0 down0 new.up new.down (answered run_step old.ends.splitter.whole w) new.ends)
 
 -- the same of a call that answers one frame, before those that the splitter holds
 abbrev pub AnswersOne : {T : Type 0} → Moment → Moment → List ℕ → Result T Stop → Type 0
 AnswersOne old new frame result =
-    (up0 down0 : Pipe) (w : World State) → old.honest
+    (up0 down0 : Pipe) (w : World RunState) → old.honest
     → InWorld up0 down0 old.up old.down w (frame ∷ (old.ends.splitter.whole ++ awaited w.up)) (ends_of old.ends)
-    → GoesWell result × OnOk result (InRunWith new.honest up0 down0 new.up new.down (answered step (frame ∷ []) w) new.ends)
+    → GoesWell result × OnOk result (InRunWith new.honest up0 down0 new.up new.down (answered run_step (frame ∷ []) w) new.ends)
 
 -- the same of a call that takes bytes that come up, and cuts them into frames
 abbrev pub TakesUp : {T : Type 0} → Moment → Moment → ℕ → Result T Stop → Type 0
 TakesUp old new n result =
-    (up0 down0 : Pipe) (w : World State) → InRun old.honest up0 down0 old.up old.down w old.ends
+    (up0 down0 : Pipe) (w : World RunState) → InRun old.honest up0 down0 old.up old.down w old.ends
     → GoesWell result
     × OnOk result (InRunWith new.honest up0 down0 new.up new.down (given_up n w) new.ends × (new.ends.splitter.whole ≡ arriving n w.up))
 
 -- ---- the fetches of a settle
 
 -- the same of a call that makes fetches, while there is room for so many
-abbrev pub SpendsFetches : {T : Type 0} → Moment → Moment → ℕ → Result T Stop → (World State → World State) → Type 0
+abbrev pub SpendsFetches : {T : Type 0} → Moment → Moment → ℕ → Result T Stop → (World RunState → World RunState) → Type 0
 SpendsFetches old new count result f =
-    (up0 down0 : Pipe) (w : World State) → w.spent.fetches + count ≤ most_fetches → InRun old.honest up0 down0 old.up old.down w old.ends
+    (up0 down0 : Pipe) (w : World RunState) → w.spent.fetches + count ≤ most_fetches → InRun old.honest up0 down0 old.up old.down w old.ends
     → GoesWell result × OnOk result (InRun new.honest up0 down0 new.up new.down (f w) new.ends)
 
 -- of one that sends the fetch of a sheet's text
@@ -101,15 +100,15 @@ FetchesAll old new numbers result =
 -- and of a settle with its fetches, while there is room for those of one settle
 abbrev pub Refreshes : {T : Type 0} → Moment → Moment → Result T Stop → Type 0
 Refreshes old new result =
-    (up0 down0 : Pipe) (w : World State) → HasLeft w.spent 0 → InRun old.honest up0 down0 old.up old.down w old.ends
+    (up0 down0 : Pipe) (w : World RunState) → HasLeft w.spent 0 → InRun old.honest up0 down0 old.up old.down w old.ends
     → GoesWell result × OnOk result (InRun new.honest up0 down0 new.up new.down (refreshes front_fetcher w) new.ends)
 
 -- ---- beside the run that the report tells
 
 -- The run that the report tells has come to w, and over an honest link the run with fetches to a world that goes together with
--- w; so many lines more may be carried out. As many replies were told in both.
-pub record InPlay (honest : Type 0) (up0 down0 up down : Pipe) (lines : ℕ) (w : World State) (e : Ends) : Type 0 where
-  pub fresh : World State
+-- w; so many lines more may be carried out. As many replies and pauses were told in both.
+pub record InPlay (honest : Type 0) (up0 down0 up down : Pipe) (lines : ℕ) (w : World RunState) (e : Ends) : Type 0 where
+  pub fresh : World RunState
   pub both : Together IsPlainFrame lines w fresh
   pub in_run : InRun honest up0 down0 up down fresh e
   pub told_is : fresh.told ≡ w.told

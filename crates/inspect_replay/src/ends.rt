@@ -2,7 +2,8 @@ ghost use Rattle.std.specs.Prelude.{◌≡◌, ◌+◌, [], true, false, length,
 ghost use Rattle.serde_json.specs.View.{view};
 ghost use Rattle.cdp_messages.specs.Asked.{is_whole_where_there};
 ghost use Rattle.node_binding.specs.Bindings.{empty_from};
-ghost use Rattle.front_mirror.specs.Front.{first_state};
+ghost use Rattle.dom_breakpoints.specs.Watched.{unwatched};
+ghost use Rattle.front_mirror.specs.Front.{first_state, matched_in};
 ghost use Rattle.front_mirror.specs.Sheets.{has_sheet, stale_of};
 ghost use Rattle.replay_script.specs.Seen.{seen_ask};
 ghost use Rattle.inspect_replay.specs.Stops.{HasStopCause};
@@ -11,7 +12,8 @@ ghost use Rattle.pipe_frames.specs.Frames.{IsText, framed};
 ghost use Rattle.page_tree.specs.Pages.{loaded};
 ghost use Rattle.page_forms.specs.Pages.{CanLoadPage, loaded_nodes, loaded_sheets, loaded_page};
 ghost use Rattle.back_end.specs.Sheets.{as_book, numbered_sheets};
-ghost use Rattle.back_end.specs.Steps.{acts, loads, step, turn};
+ghost use Rattle.back_end.specs.Steps.{acts, loads};
+ghost use Rattle.inspect_world.specs.RunStates.{run_step, run_turn};
 ghost use Rattle.back_end.specs.Plans.{act_fault};
 ghost use Rattle.back_end.specs.Laws.{IsTurn};
 ghost use Rattle.inspect_world.specs.World.{raw, turned};
@@ -25,13 +27,15 @@ ghost use Rattle.inspect_replay.specs.Followed.{KeepsFollowing, LineFollows, Kee
 use crate::pipes::{receive_down, receive_up, send_down, send_up};
 use crate::stop::Stop;
 use back_end::{Act, ActFault, PageForm, PageSide, Seat};
-use front_mirror::{Front, FrontErr, Kept, Mirror};
+use cdp_messages::Matched;
+use front_mirror::{Front, FrontErr, Kept, Mirror, SeenPause};
 use page_tree::Page;
 use pipe_frames::{Link, Splitter};
 use replay_script::Ask;
 use std::alloc::{AllocError, Global};
 
-/// The two ends of the link, how many bytes of each pipe were sent and not given, and how many of the replies were told.
+/// The two ends of the link, how many bytes of each pipe were sent and not given, and how many of the replies and of the
+/// pauses were told.
 #[derive(Drop)]
 pub(crate) struct Ends {
     pub(crate) alloc: Global,
@@ -42,6 +46,7 @@ pub(crate) struct Ends {
     pub(crate) up_there: u64,
     pub(crate) down_there: u64,
     pub(crate) told: usize,
+    pub(crate) told_pauses: usize,
 }
 
 // A text as it is sent.
@@ -63,11 +68,13 @@ impl Ends {
         ensures off { IfOk result (λ ends. ends.seat.desk.is_on ≡ false) }
         ensures css { IfOk result (λ ends. ends.seat.desk.css ≡ false) }
         ensures agent { IfOk result (λ ends. ends.seat.desk.agent ≡ empty_from 1) }
+        ensures watches { IfOk result (λ ends. ends.seat.desk.watches ≡ unwatched) }
         ensures splitter { IfOk result (λ ends. ends.splitter ≡ record { whole = []; rest = [] }) }
         ensures front { IfOk result (λ ends. ends.front ≡ first_state) }
         ensures up { IfOk result (λ ends. ends.up_there ≡ 0) }
         ensures down { IfOk result (λ ends. ends.down_there ≡ 0) }
         ensures told { IfOk result (λ ends. ends.told ≡ 0) }
+        ensures told_pauses { IfOk result (λ ends. ends.told_pauses ≡ 0) }
     {
         Ok(Ends {
             alloc,
@@ -78,6 +85,7 @@ impl Ends {
             up_there: 0,
             down_there: 0,
             told: 0,
+            told_pauses: 0,
         })
     }
 
@@ -110,10 +118,31 @@ impl Ends {
     }
 
     /// All replies that came are told.
-    pub(crate) fn tell_all(&mut self)
+    pub(crate) fn tell_replies(&mut self)
         ensures { self.new ≡ record self.old { told = length self.old.front.value.replies } }
     {
         self.told = self.front.replies().len();
+    }
+
+    /// The pauses that came, in their order.
+    pub(crate) fn pauses(&self) -> &[SeenPause]
+        ensures { result.now ≡ self.now.front.value.pauses }
+    {
+        self.front.pauses()
+    }
+
+    /// All pauses that came are told.
+    pub(crate) fn tell_pauses(&mut self)
+        ensures { self.new ≡ record self.old { told_pauses = length self.old.front.value.pauses } }
+    {
+        self.told_pauses = self.front.pauses().len();
+    }
+
+    /// The matched styles that the reply to the ask told, if it told some.
+    pub(crate) fn matched_reply(&self, ask: u64) -> Option<&Matched>
+        ensures { option_map (λ m. m.now) result ≡ matched_in ask self.now.front.value.matched }
+    {
+        self.front.matched_reply(ask)
     }
 
     /// The front end sends a command.
@@ -185,7 +214,7 @@ impl Ends {
         ensures follows { LineFollows (moment (L.honest link.old) (L.up link.old) (L.down link.old) self.old)
             (moment (L.honest link.new) (L.up link.new) (L.down link.new) self.new) result }
         ensures steps { Spends (moment (L.honest link.old) (L.up link.old) (L.down link.old) self.old)
-            (moment (L.honest link.new) (L.up link.new) (L.down link.new) self.new) result (λ w. turned turn (acts act) w) }
+            (moment (L.honest link.new) (L.up link.new) (L.down link.new) self.new) result (λ w. turned run_turn (acts act) w) }
     {
         if !self.seat.has_room(&self.side) {
             return Err(Stop::NoRoom);
@@ -212,7 +241,7 @@ impl Ends {
         ensures follows { LineFollows (moment (L.honest link.old) (L.up link.old) (L.down link.old) self.old)
             (moment (L.honest link.new) (L.up link.new) (L.down link.new) self.new) result }
         ensures steps { Spends (moment (L.honest link.old) (L.up link.old) (L.down link.old) self.old)
-            (moment (L.honest link.new) (L.up link.new) (L.down link.new) self.new) result (λ w. turned turn (loads (loaded_page form)) w) }
+            (moment (L.honest link.new) (L.up link.new) (L.down link.new) self.new) result (λ w. turned run_turn (loads (loaded_page form)) w) }
     {
         if !self.seat.has_room(&self.side) {
             return Err(Stop::NoRoom);
@@ -238,7 +267,7 @@ impl Ends {
         ensures follows { KeepsFollowing (moment (L.honest link.old) (L.up link.old) (L.down link.old) self.old)
             (moment (L.honest link.new) (L.up link.new) (L.down link.new) self.new) result }
         ensures steps { Steps (moment (L.honest link.old) (L.up link.old) (L.down link.old) self.old)
-            (moment (L.honest link.new) (L.up link.new) (L.down link.new) self.new) result (λ w. delivered_up step n w) }
+            (moment (L.honest link.new) (L.up link.new) (L.down link.new) self.new) result (λ w. delivered_up run_step n w) }
     {
         match self.take_up(link, n) {
             Ok(()) => self.answer_frames(link),
@@ -341,7 +370,7 @@ impl Ends {
         ensures follows { KeepsFollowing (moment (L.honest link.old) (L.up link.old) (L.down link.old) self.old)
             (moment (L.honest link.new) (L.up link.new) (L.down link.new) self.new) result }
         ensures steps { Steps (moment (L.honest link.old) (L.up link.old) (L.down link.old) self.old)
-            (moment (L.honest link.new) (L.up link.new) (L.down link.new) self.new) result (λ w. settled step w) }
+            (moment (L.honest link.new) (L.up link.new) (L.down link.new) self.new) result (λ w. settled run_step w) }
     {
         let up = self.up_there;
         match self.deliver_up(link, up) {

@@ -4,6 +4,7 @@
 
 mod ends;
 mod page_lines;
+mod pause_lines;
 mod pipes;
 mod program;
 mod run;
@@ -12,6 +13,7 @@ mod sheet_lines;
 mod show;
 mod status;
 mod stop;
+mod style_lines;
 mod words;
 
 pub use inspect_world::fits_law;

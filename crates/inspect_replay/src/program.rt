@@ -1,8 +1,9 @@
 ghost use Rattle.std.specs.Prelude.{◌≡◌, ◌≤◌, ◌+◌, ◌^◌, ◌↔◌, ◌||◌, ℕ, List, map, string_bytes, length, Some, [], false, true, IfOk, OnOk};
 ghost use Rattle.pipe_frames.specs.Pipe.{IsLevel};
 ghost use Rattle.pipe_frames.specs.Whole.{ReadPart};
-ghost use Rattle.replay_script.specs.Script.{script_fault};
-ghost use Rattle.inspect_world.specs.Scripts.{report};
+ghost use Rattle.replay_script.specs.Script.{script_refused};
+ghost use Rattle.inspect_world.specs.Links.{came_styles};
+ghost use Rattle.inspect_world.specs.Scripts.{report, report_refused};
 ghost use Rattle.inspect_replay.specs.Words.{is_replay, is_serve};
 ghost use Rattle.inspect_replay.specs.declared.status.Status.TheVariants.{Done, Usage};
 ghost use Rattle.inspect_replay.specs.Followed.{StatusFolds, EndsShown, AnswersInOrder, GivesNoMore, fold_since};
@@ -59,8 +60,16 @@ pub fn inspect<S: Source, K: Sink, L: Link>(
     ensures unread { result ≡ Usage → src.new ≡ src.old }
     ensures unwritten { result ≡ Usage → out.new ≡ out.old }
     ensures unlinked { result ≡ Usage → link.new ≡ link.old }
+    // over every link: a line is answered exactly where it is the first that is refused; that the matched styles of an ask did not
+    // come is said by what the fold of the bytes sent up and given down has kept at the end of the call
     ensures line { is_replay (map string_bytes words.now) ≡ true
-        → (input : List ℕ) → S.left src.old ≡ Some input → TellsLine result (script_fault input) }
+        → (input : List ℕ) → S.left src.old ≡ Some input
+        → TellsLine result
+        (script_refused (came_styles (fold_since (L.up link.old) (L.down link.old) (L.up link.new) (L.down link.new)).fold) input) }
+    // over an honest link that line is the first that the run of the script refuses, in which no front end takes part
+    ensures stops { L.honest link.old → IsLevel (L.up link.old) → IsLevel (L.down link.old)
+        → (input : List ℕ) → S.left src.old ≡ Some input → is_replay (map string_bytes words.now) ≡ true
+        → TellsLine result (report_refused input) }
     ensures limits { is_replay (map string_bytes words.now) ≡ true
         → (input : List ℕ) → S.left src.old ≡ Some input → FitsLimits result input }
     ensures whole { is_replay (map string_bytes words.now) ≡ true
@@ -113,7 +122,11 @@ fn replay<S: Source, K: Sink, L: Link>(
     ensures replies { result ≡ Done → AnswersInOrder (L.up link.old) (L.down link.old) (L.up link.new) (L.down link.new) }
     ensures less { result ≡ Done → GivesNoMore (L.up link.old) (L.down link.old) (L.up link.new) (L.down link.new) }
     ensures used { result ≡ Usage → ⊥ }
-    ensures line { (input : List ℕ) → S.left src.old ≡ Some input → TellsLine result (script_fault input) }
+    ensures line { (input : List ℕ) → S.left src.old ≡ Some input
+        → TellsLine result
+        (script_refused (came_styles (fold_since (L.up link.old) (L.down link.old) (L.up link.new) (L.down link.new)).fold) input) }
+    ensures stops { L.honest link.old → IsLevel (L.up link.old) → IsLevel (L.down link.old)
+        → (input : List ℕ) → S.left src.old ≡ Some input → TellsLine result (report_refused input) }
     ensures limits { (input : List ℕ) → S.left src.old ≡ Some input → FitsLimits result input }
     ensures whole { (input : List ℕ) → S.left src.old ≡ Some input → ReadsAll result (S.left src.new) }
     // reading stops as soon as more than 2^26 bytes came
@@ -147,7 +160,9 @@ fn run_input<K: Sink, L: Link>(alloc: Global, input: &[u8], out: &mut K, link: &
     ensures replies { result ≡ Done → AnswersInOrder (L.up link.old) (L.down link.old) (L.up link.new) (L.down link.new) }
     ensures less { result ≡ Done → GivesNoMore (L.up link.old) (L.down link.old) (L.up link.new) (L.down link.new) }
     ensures used { result ≡ Usage → ⊥ }
-    ensures line { TellsLine result (script_fault input.now) }
+    ensures line { TellsLine result
+        (script_refused (came_styles (fold_since (L.up link.old) (L.down link.old) (L.up link.new) (L.down link.new)).fold) input.now) }
+    ensures stops { L.honest link.old → IsLevel (L.up link.old) → IsLevel (L.down link.old) → TellsLine result (report_refused input.now) }
     ensures late { IsLate result }
     ensures nothing { WritesNothing result (K.taken out.old) (K.taken out.new) }
     ensures cause { StatusRose (record {

@@ -1,27 +1,31 @@
 ghost use Rattle.std.specs.Prelude.{ℕ, ◌≡◌, ◌≤◌, ◌^◌, ◌∷◌, [], length, option_map, Some, None, IfOk, OnOk, IfSome, IsNone};
 ghost use Rattle.pipe_frames.specs.Pipe.{IsLevel};
 ghost use Rattle.replay_script.specs.Faults.{line_fault};
-ghost use Rattle.replay_script.specs.Forms.{act, load, line_form, show_front, show_sheets, show_replies};
+ghost use Rattle.replay_script.specs.Forms.{act, load, line_form, show_front, show_sheets, show_replies, show_pauses, show_styles};
 ghost use Rattle.page_forms.specs.Pages.{CanLoadPage, loaded_page};
 ghost use Rattle.pipe_frames.specs.Frames.{IsText};
 ghost use Rattle.back_end.specs.Steps.{acts};
 ghost use Rattle.back_end.specs.Laws.{IsTurn};
 ghost use Rattle.inspect_world.specs.Fits.{IsBare};
-ghost use Rattle.replay_script.specs.Script.{first_bad, good_lines, script_fault};
+ghost use Rattle.replay_script.specs.Script.{first_bad, good_lines, first_refused, script_refused, styles_ask};
+ghost use Rattle.inspect_world.specs.Links.{came_styles};
 ghost use Rattle.replay_script.specs.Seen.{seen, seen_ask};
 ghost use Rattle.page_forms.specs.Texts.{PageHasTexts};
 ghost use Rattle.inspect_world.specs.ScriptsFit.{CanSend, IsLater};
 ghost use Rattle.inspect_world.specs.World as world;
-ghost use Rattle.inspect_world.specs.Scripts.{report, rest_text, loaded_world, sends};
+ghost use Rattle.inspect_world.specs.Scripts.{report, report_refused, rest_text, rest_refused, loaded_world, sends};
 ghost use Rattle.inspect_replay.specs.Runs.{Spends};
 ghost use Rattle.inspect_replay.specs.Stops.{HasStopCause, HasRunCause};
 ghost use Rattle.inspect_replay.specs.Answers.{RunTells, RunTook};
 ghost use Rattle.inspect_replay.specs.Moments.{moment, scene};
-ghost use Rattle.inspect_replay.specs.Followed.{KeepsFollowing, LineFollows, LinesFollow, PrintedSome, ClosesShown, StopFolds, fold_since, EndsShown, AnswersInOrder, GivesNoMore};
-ghost use Rattle.inspect_replay.specs.Prints.{CarriesOut, RunsLines, Closes, IsRead, line_of, load_of};
+ghost use Rattle.inspect_replay.specs.Followed.{KeepsFollowing, LineFollows, LineTells, LinesFollow, PrintedSome, ClosesShown, StopFolds, fold_since, EndsShown, AnswersInOrder, GivesNoMore};
+ghost use Rattle.inspect_replay.specs.Prints.{CarriesOut, CarriesLine, RunsLines, Closes, IsRead, line_of, load_of};
 
 use crate::ends::Ends;
-use crate::show::{print_fault, print_outline, print_page, print_replies, print_sheets};
+use crate::show::{
+    print_fault, print_matched, print_outline, print_page, print_pauses, print_replies,
+    print_sheets,
+};
 use crate::stop::Stop;
 use back_end::{Act, PageForm};
 use node_tree::Text;
@@ -73,7 +77,7 @@ fn show_replies<K: Sink, L: Link>(
     let told = ends.told.min(replies.len());
     match print_replies(alloc, replies.split_at(told).1, out) {
         Ok(()) => {
-            ends.tell_all();
+            ends.tell_replies();
             Ok(())
         }
         Err(stop) => Err(stop),
@@ -97,6 +101,61 @@ fn show_sheets<K: Sink, L: Link>(
 {
     match ends.settle(link) {
         Ok(()) => print_sheets(alloc, ends.front(), out),
+        Err(stop) => Err(stop),
+    }
+}
+
+/// Settles, and prints the pauses that came since the last time.
+fn show_pauses<K: Sink, L: Link>(
+    alloc: Global,
+    ends: &mut Ends,
+    out: &mut K,
+    link: &mut L,
+) -> Result<(), Stop>
+    ensures honest { L.honest link.old → L.honest link.new }
+    ensures cause { HasStopCause (K.faults out.old) (K.faults out.new) (L.faults link.old) (L.faults link.new) result }
+    ensures follows { KeepsFollowing (moment (L.honest link.old) (L.up link.old) (L.down link.old) ends.old)
+        (moment (L.honest link.new) (L.up link.new) (L.down link.new) ends.new) result }
+    ensures some { OnOk result (PrintedSome (K.taken out.old) (K.taken out.new)) }
+    ensures runs { (number : ℕ) → CarriesOut (scene (moment (L.honest link.old) (L.up link.old) (L.down link.old) ends.old) (K.taken out.old))
+        (scene (moment (L.honest link.new) (L.up link.new) (L.down link.new) ends.new) (K.taken out.new)) (line_of number show_pauses) result }
+{
+    match ends.settle(link) {
+        Ok(()) => {}
+        Err(stop) => return Err(stop),
+    }
+    let pauses = ends.pauses();
+    let told = ends.told_pauses.min(pauses.len());
+    match print_pauses(alloc, pauses.split_at(told).1, out) {
+        Ok(()) => {
+            ends.tell_pauses();
+            Ok(())
+        }
+        Err(stop) => Err(stop),
+    }
+}
+
+/// Settles, and prints the matched styles that the reply to the ask told. Where none told them, the line of that number is refused.
+fn show_styles<K: Sink, L: Link>(
+    alloc: Global,
+    number: u64,
+    ask: u64,
+    ends: &mut Ends,
+    out: &mut K,
+    link: &mut L,
+) -> Result<(), Stop>
+    ensures honest { L.honest link.old → L.honest link.new }
+    ensures cause { HasRunCause (K.faults out.old) (K.faults out.new) (L.faults link.old) (L.faults link.new) result }
+    ensures follows { KeepsFollowing (moment (L.honest link.old) (L.up link.old) (L.down link.old) ends.old)
+        (moment (L.honest link.new) (L.up link.new) (L.down link.new) ends.new) result }
+    ensures tells { LineTells (moment (L.honest link.old) (L.up link.old) (L.down link.old) ends.old)
+        (moment (L.honest link.new) (L.up link.new) (L.down link.new) ends.new) (line_of number (show_styles ask)) result }
+    ensures some { OnOk result (PrintedSome (K.taken out.old) (K.taken out.new)) }
+    ensures runs { CarriesLine (scene (moment (L.honest link.old) (L.up link.old) (L.down link.old) ends.old) (K.taken out.old))
+        (scene (moment (L.honest link.new) (L.up link.new) (L.down link.new) ends.new) (K.taken out.new)) (line_of number (show_styles ask)) result }
+{
+    match ends.settle(link) {
+        Ok(()) => print_matched(alloc, number, ask, ends.matched_reply(ask), out),
         Err(stop) => Err(stop),
     }
 }
@@ -152,8 +211,8 @@ fn carry_raw<L: Link>(ends: &mut Ends, link: &mut L, text: Text) -> Result<(), S
     ends.send_raw(link, text.as_str())
 }
 
-/// Carries out the line of that number after the first, and writes what it prints.
-fn carry_out<K: Sink, L: Link>(
+/// Carries out the line of that number after the first, and writes what it prints; it shows no matched styles.
+fn carry_plain<K: Sink, L: Link>(
     alloc: Global,
     number: u64,
     line: Line,
@@ -161,7 +220,8 @@ fn carry_out<K: Sink, L: Link>(
     out: &mut K,
     link: &mut L,
 ) -> Result<(), Stop>
-    requires { IsLater (seen line) }
+    requires later { IsLater (seen line) }
+    requires plain { styles_ask (seen line) ≡ None }
     ensures honest { L.honest link.old → L.honest link.new }
     ensures cause { HasStopCause (K.faults out.old) (K.faults out.new) (L.faults link.old) (L.faults link.new) result }
     ensures follows { LineFollows (moment (L.honest link.old) (L.up link.old) (L.down link.old) ends.old)
@@ -182,6 +242,34 @@ fn carry_out<K: Sink, L: Link>(
         Line::ShowPage => print_page(alloc, ends.page(), out),
         Line::ShowSheets => show_sheets(alloc, ends, out, link),
         Line::ShowReplies => show_replies(alloc, ends, out, link),
+        Line::ShowPauses => show_pauses(alloc, ends, out, link),
+        Line::ShowStyles(_) => unreachable!(),
+    }
+}
+
+/// Carries out the line of that number after the first, and writes what it prints. A line that shows what did not come is refused.
+fn carry_out<K: Sink, L: Link>(
+    alloc: Global,
+    number: u64,
+    line: Line,
+    ends: &mut Ends,
+    out: &mut K,
+    link: &mut L,
+) -> Result<(), Stop>
+    requires { IsLater (seen line) }
+    ensures honest { L.honest link.old → L.honest link.new }
+    ensures cause { HasRunCause (K.faults out.old) (K.faults out.new) (L.faults link.old) (L.faults link.new) result }
+    ensures follows { LineFollows (moment (L.honest link.old) (L.up link.old) (L.down link.old) ends.old)
+        (moment (L.honest link.new) (L.up link.new) (L.down link.new) ends.new) result }
+    ensures tells { LineTells (moment (L.honest link.old) (L.up link.old) (L.down link.old) ends.old)
+        (moment (L.honest link.new) (L.up link.new) (L.down link.new) ends.new) (line_of number (seen line)) result }
+    ensures some { OnOk result (PrintedSome (K.taken out.old) (K.taken out.new)) }
+    ensures runs { CarriesLine (scene (moment (L.honest link.old) (L.up link.old) (L.down link.old) ends.old) (K.taken out.old))
+        (scene (moment (L.honest link.new) (L.up link.new) (L.down link.new) ends.new) (K.taken out.new)) (line_of number (seen line)) result }
+{
+    match line.styles_ask() {
+        Some(ask) => show_styles(alloc, number, ask, ends, out, link),
+        None => carry_plain(alloc, number, line, ends, out, link),
     }
 }
 
@@ -194,7 +282,6 @@ fn run_lines<K: Sink, L: Link>(
     link: &mut L,
 ) -> Result<(), Stop>
     requires few { length lines ≤ 2 ^ 26 }
-    ensures tells { RunTells result (first_bad 2 lines.entry) }
     ensures honest { L.honest link.old → L.honest link.new }
     ensures cause { HasRunCause (K.faults out.old) (K.faults out.new) (L.faults link.old) (L.faults link.new) result }
     ensures follows { LinesFollow (moment (L.honest link.old) (L.up link.old) (L.down link.old) ends.old)
@@ -253,7 +340,9 @@ fn load_of(line: Line) -> Option<PageForm>
         | Line::ShowFront
         | Line::ShowPage
         | Line::ShowSheets
-        | Line::ShowReplies => None,
+        | Line::ShowReplies
+        | Line::ShowPauses
+        | Line::ShowStyles(_) => None,
     }
 }
 
@@ -302,7 +391,10 @@ fn run_loaded<K: Sink, L: Link>(
     requires can { CanLoadPage (loaded_page form) }
     requires texts { PageHasTexts (loaded_page form) }
     requires few { length lines ≤ 2 ^ 26 }
-    ensures tells { RunTells result (first_bad 2 lines.entry) }
+    ensures tells { RunTells result
+        (first_refused (came_styles (fold_since (L.up link.old) (L.down link.old) (L.up link.new) (L.down link.new)).fold) 2 lines.entry) }
+    ensures stops { L.honest link.old → IsLevel (L.up link.old) → IsLevel (L.down link.old)
+        → RunTells result (rest_refused (first_bad 2 lines.entry) (good_lines 2 lines.entry) (loaded_world (loaded_page form))) }
     ensures honest { L.honest link.old → L.honest link.new }
     ensures cause { HasRunCause (K.faults out.old) (K.faults out.new) (L.faults link.old) (L.faults link.new) result }
     ensures refused { StopFolds result (fold_since (L.up link.old) (L.down link.old) (L.up link.new) (L.down link.new)) }
@@ -328,7 +420,9 @@ pub(crate) fn run_script<K: Sink, L: Link>(
     link: &mut L,
 ) -> Result<(), Stop>
     requires few { length input.now ≤ 2 ^ 26 }
-    ensures tells { RunTells result (script_fault input.now) }
+    ensures tells { RunTells result
+        (script_refused (came_styles (fold_since (L.up link.old) (L.down link.old) (L.up link.new) (L.down link.new)).fold) input.now) }
+    ensures stops { L.honest link.old → IsLevel (L.up link.old) → IsLevel (L.down link.old) → RunTells result (report_refused input.now) }
     ensures honest { L.honest link.old → L.honest link.new }
     ensures cause { HasRunCause (K.faults out.old) (K.faults out.new) (L.faults link.old) (L.faults link.new) result }
     ensures refused { StopFolds result (fold_since (L.up link.old) (L.down link.old) (L.up link.new) (L.down link.new)) }

@@ -10,7 +10,7 @@ use serde_json::Value;
 use std::alloc::{AllocError, Global};
 
 /// The name of an origin.
-fn origin_word(origin: SheetOrigin) -> &'static str
+pub(crate) fn origin_word(origin: SheetOrigin) -> &'static str
     ensures { result.now ≡ origin_name origin }
 {
     match origin {
@@ -20,7 +20,7 @@ fn origin_word(origin: SheetOrigin) -> &'static str
 }
 
 /// Appends a text as a JSON string.
-fn write_quoted(alloc: Global, text: &str, out: &mut Vec<u8>) -> Result<(), AllocError>
+pub(crate) fn write_quoted(alloc: Global, text: &str, out: &mut Vec<u8>) -> Result<(), AllocError>
     ensures { OnOk result (out.new.items ≡ out.old.items ++ quoted text.now) }
 {
     let value = Value::String(String::from_str(alloc, text)?);

@@ -1,21 +1,30 @@
-ghost use Rattle.std.specs.Prelude.{◌≡◌, ◌++◌, ◌∷◌, map, codes, OnOk, OnErr, IfOk};
+ghost use Rattle.std.specs.Prelude.{◌≡◌, ◌++◌, ◌∷◌, map, codes, OnOk, OnErr, IfOk, option_map, is_some, None};
 ghost use Rattle.std.specs.Io.KnownBytes.{Appends};
 ghost use Rattle.pipe_frames.specs.Whole.{WrotePart};
 ghost use Rattle.front_mirror.specs.Outline.{outline_text, seen_line};
 ghost use Rattle.node_tree.specs.Nodes.{alone};
 ghost use Rattle.inspect_world.specs.ActTexts.{edit_fault_name, sheet_fault_name, act_fault_name, refused_line, act_text};
 ghost use Rattle.inspect_world.specs.SheetTexts.{known_lines};
-ghost use Rattle.inspect_world.specs.Scripts.{page_line};
+ghost use Rattle.inspect_world.specs.ShownPauses.{seen_pause_lines};
+ghost use Rattle.inspect_world.specs.StylesTexts.{styles_text};
+ghost use Rattle.replay_script.specs.Script.{numbered_or, styles_missing};
+ghost use Rattle.inspect_replay.specs.Answers.{RunTook, RunTells};
+ghost use Rattle.inspect_world.specs.Scripts.{page_line, styles_shown};
 ghost use Rattle.inspect_world.specs.ShownReplies.{told_of, told_line, told_lines};
-ghost use Rattle.inspect_replay.specs.Stops.{HasStopCause, GoesWell};
+ghost use Rattle.inspect_replay.specs.Stops.{HasStopCause, HasRunCause, GoesWell};
+ghost use Rattle.inspect_replay.specs.Followed.{PrintedSome};
 
 use crate::page_lines::page_text;
+use crate::pause_lines::pauses_text;
 use crate::sheet_lines::sheets_text;
 use crate::stop::Stop;
+use crate::style_lines::styles_text;
 use back_end::{ActFault, EditFault, SheetFault};
-use front_mirror::{Front, Kept, Mirror, write_outline};
+use cdp_messages::Matched;
+use front_mirror::{Front, Kept, Mirror, SeenPause, write_outline};
 use page_tree::Page;
 use pipe_frames::{OutErr, Sink, write_all};
+use replay_script::LineFault;
 use std::alloc::{AllocError, Global};
 
 /// Writes a heading and the outline of what the front end shows.
@@ -125,6 +134,70 @@ pub(crate) fn print_sheets<K: Sink>(alloc: Global, front: &Front, out: &mut K) -
         Ok(()) => Ok(()),
         Err(OutErr::Failed) => Err(Stop::WriteFault),
         Err(OutErr::Memory) => Err(Stop::Memory),
+    }
+}
+
+/// Writes the pauses.
+pub(crate) fn print_pauses<K: Sink>(
+    alloc: Global,
+    pauses: &[SeenPause],
+    out: &mut K,
+) -> Result<(), Stop>
+    ensures ok { OnOk result (Appends (K.taken out.old) (K.taken out.new)
+        (codes "# pauses" ++ 10 ∷ seen_pause_lines pauses.now)) }
+    ensures err { OnErr result (WrotePart (K.taken out.old) (K.taken out.new)
+        (codes "# pauses" ++ 10 ∷ seen_pause_lines pauses.now)) }
+    ensures never { GoesWell result }
+    ensures cause { HasStopCause (K.faults out.old) (K.faults out.new) 0 0 result }
+{
+    let text = pauses_text(alloc, pauses)?;
+    match write_all(out, &text) {
+        Ok(()) => Ok(()),
+        Err(OutErr::Failed) => Err(Stop::WriteFault),
+        Err(OutErr::Memory) => Err(Stop::Memory),
+    }
+}
+
+/// Writes the matched styles that the reply to the ask told.
+fn print_styles<K: Sink>(
+    alloc: Global,
+    ask: u64,
+    matched: &Matched,
+    out: &mut K,
+) -> Result<(), Stop>
+    ensures ok { OnOk result (Appends (K.taken out.old) (K.taken out.new) (styles_text ask matched.now)) }
+    ensures err { OnErr result (WrotePart (K.taken out.old) (K.taken out.new) (styles_text ask matched.now)) }
+    ensures never { GoesWell result }
+    ensures cause { HasStopCause (K.faults out.old) (K.faults out.new) 0 0 result }
+{
+    let text = styles_text(alloc, ask, matched)?;
+    match write_all(out, &text) {
+        Ok(()) => Ok(()),
+        Err(OutErr::Failed) => Err(Stop::WriteFault),
+        Err(OutErr::Memory) => Err(Stop::Memory),
+    }
+}
+
+/// The same for the line of that number, which is refused where no reply told them.
+pub(crate) fn print_matched<K: Sink>(
+    alloc: Global,
+    number: u64,
+    ask: u64,
+    matched: Option<&Matched>,
+    out: &mut K,
+) -> Result<(), Stop>
+    ensures took { RunTook result (K.taken out.old) (K.taken out.new) (styles_shown ask (option_map (λ m. m.now) matched.entry)) }
+    ensures tells { RunTells result (numbered_or number (styles_missing (is_some (option_map (λ m. m.now) matched.entry))) None) }
+    ensures some { OnOk result (PrintedSome (K.taken out.old) (K.taken out.new)) }
+    ensures never { GoesWell result }
+    ensures cause { HasRunCause (K.faults out.old) (K.faults out.new) 0 0 result }
+{
+    match matched {
+        Some(matched) => print_styles(alloc, ask, matched, out),
+        None => Err(Stop::Line {
+            number,
+            fault: LineFault::NoStyles,
+        }),
     }
 }
 

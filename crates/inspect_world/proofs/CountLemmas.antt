@@ -35,7 +35,7 @@ made-last (made x ∷ hs) h = let e = made-last hs h in omega (arith, e)
 
 -- ---- what is drawn
 
-pub more_ids : (before after n m : ℕ) → m ≡ n + 1 → before ≤ n * 100000 → after ≤ before + 100000 → after ≤ m * 100000
+pub more_ids : (before after n m : ℕ) → m ≡ n + 1 → before ≤ n * 500000 → after ≤ before + 500000 → after ≤ m * 500000
 more_ids before after n m one few more = omega (arith, one, few, more)
 
 pub more_serials : (before after n m : ℕ) → m ≡ n + 1 → before ≤ (n + 1) * 100001 → after ≤ before + 100001 → after ≤ (m + 1) * 100001
@@ -45,7 +45,7 @@ pub more_numbers : (before after n m : ℕ) → m ≡ n + 1 → before ≤ (n + 
 more_numbers before after n m one few more = omega (arith, one, few, more)
 
 -- fewer than 2^29 steps leave ids, serials and numbers of sheets
-pub ids-left : (pushed events : ℕ) → events < 2 ^ 29 → pushed ≤ events * 100000 → pushed + 1 < 2 ^ 50
+pub ids-left : (pushed events : ℕ) → events < 2 ^ 29 → pushed ≤ events * 500000 → pushed + 1 < 2 ^ 50
 ids-left pushed events few drawn = omega (arith, few, drawn)
 
 pub serials-left : (next events : ℕ) → events < 2 ^ 29 → next ≤ (events + 1) * 100001 → next < 2 ^ 50

@@ -12,12 +12,13 @@ use Rattle.front_mirror.specs.Front as front
 use Rattle.front_mirror.specs.Front.{FrontValue, FrontState, first_state, first_value, take_frame, Folded, after_message, fetch_ask, after_ask, after_fetch, after_take}
 use Rattle.replay_script.specs.Forms.{AskForm}
 use Rattle.inspect_world.specs.Stream.{Stream, sent, put, passed, held, arriving, awaited}
-use Rattle.inspect_world.specs.World.{World, Spent, one_ask, one_fetch, one_raw, steps, sent_up, raw, turned, answered, given_up, delivered_down}
+use Rattle.inspect_world.specs.World.{World, AlreadyTold, nothing_told, Spent, one_ask, one_fetch, one_raw, steps, sent_up, raw, turned, answered, given_up, delivered_down}
 use Rattle.inspect_world.specs.Fold.{folded, joined, then}
 use Rattle.back_end.specs.declared.seat.Seat.{Seat}
 use Rattle.back_end.specs.declared.side.PageSide.{PageSide}
 use Rattle.back_end.specs.States.{State, loaded_state}
 use Rattle.back_end.specs.Steps.{Turn, step, turn}
+use Rattle.inspect_world.specs.RunStates.{RunState, run_step, run_turn}
 use Rattle.back_end.specs.Laws.{HasRoom}
 use Rattle.back_end.specs.Seats.{StandsFor, HasRoomLeft}
 use Rattle.inspect_world.specs.Fits.{join, IsNext, next_raw, IsBare, IsNextTurn, replay, ask_in, ask_with, with_ask, most_asks, most_fetches, HasLeft, IsFit}
@@ -61,12 +62,12 @@ left-passed n there there' piece s is front after =
 -- ---- bytes go down
 
 -- what the front end makes of the bytes that come down in an honest run
-pub record Takes (front1 : FrontState) (w : World State) (n : ℕ) : Type 0 where
+pub record Takes (front1 : FrontState) (w : World RunState) (n : ℕ) : Type 0 where
   pub value : FrontValue
   pub front_is : front1 ≡ good_front value (held (passed n w.down)) (w.spent.asks + 1) w.spent.fetches
   pub is_fold : folded take_frame (joined join (first_value []) (frames_of (sent w.up)).whole) (frames_of (passed n w.down).given).whole ≡ Ok value
 
-takes : (up0 down0 up down : Pipe) (w : World State) (frames : List (List ℕ)) (e : Ends) (n : ℕ) (piece : List ℕ)
+takes : (up0 down0 up down : Pipe) (w : World RunState) (frames : List (List ℕ)) (e : Ends) (n : ℕ) (piece : List ℕ)
     → InWorld up0 down0 up down w frames e → piece ≡ take n w.down.flying → Takes (after_take e.front piece) w n
 takes up0 down0 up down w frames e n piece in_world front_part =
     let start = joined join (first_value []) (frames_of (sent w.up)).whole in
@@ -95,7 +96,7 @@ takes up0 down0 up down w frames e n piece in_world front_part =
     }
 
 -- bytes are delivered down
-pub world-delivered_down : (up0 down0 up down down1 : Pipe) (w : World State) (frames : List (List ℕ)) (e : Ends) (n there : ℕ) (piece : List ℕ)
+pub world-delivered_down : (up0 down0 up down down1 : Pipe) (w : World RunState) (frames : List (List ℕ)) (e : Ends) (n there : ℕ) (piece : List ℕ)
     → InWorld up0 down0 up down w frames e → piece ≡ take n w.down.flying
     → down1.sent ≡ down.sent → down1.given ≡ down.given ++ piece → there ≡ e.down_there - length piece
     → InWorld up0 down0 up down1 (delivered_down n w) frames (record e { front = after_take e.front piece; down_there = there })
@@ -124,7 +125,7 @@ world-delivered_down up0 down0 up down down1 w frames e n there piece in_world f
     }
 
 -- the front end meets no fault
-pub never-refuses : (up0 down0 up down : Pipe) (w : World State) (frames : List (List ℕ)) (e : Ends) (n : ℕ) (piece : List ℕ)
+pub never-refuses : (up0 down0 up down : Pipe) (w : World RunState) (frames : List (List ℕ)) (e : Ends) (n : ℕ) (piece : List ℕ)
     → InWorld up0 down0 up down w frames e → piece ≡ take n w.down.flying → (after_take e.front piece).fault ≡ None
 never-refuses up0 down0 up down w frames e n piece in_world front_part =
     ap (λ (state : FrontState). state.fault) (takes up0 down0 up down w frames e n piece in_world front_part).front_is
@@ -132,7 +133,7 @@ never-refuses up0 down0 up down w frames e n piece in_world front_part =
 -- ---- bytes go up
 
 -- a frame is sent
-pub world-sent_up : (up0 down0 up down up1 : Pipe) (w : World State) (e : Ends) (text : List ℕ) (more : Spent → Spent) (front1 : FrontState) (there : ℕ)
+pub world-sent_up : (up0 down0 up down up1 : Pipe) (w : World RunState) (e : Ends) (text : List ℕ) (more : Spent → Spent) (front1 : FrontState) (there : ℕ)
     → (in_world : InWorld up0 down0 up down w (awaited w.up) e) → IsText text → IsNext w.spent text (more w.spent)
     → front1 ≡ good_front (join in_world.value text) (held w.down) ((more w.spent).asks + 1) (more w.spent).fetches
     → up1.sent ≡ up.sent ++ framed text → up1.given ≡ up.given → there ≡ e.up_there + length (framed text)
@@ -161,7 +162,7 @@ world-sent_up up0 down0 up down up1 w e text more front1 there in_world letters 
     }
 
 -- the ask of a line is sent
-pub world-sent : (up0 down0 up down up1 : Pipe) (w : World State) (e : Ends) (a : AskForm) (text : List ℕ) (there : ℕ)
+pub world-sent : (up0 down0 up down up1 : Pipe) (w : World RunState) (e : Ends) (a : AskForm) (text : List ℕ) (there : ℕ)
     → InWorld up0 down0 up down w (awaited w.up) e → CanSend a → HasLeft w.spent 1
     → text ≡ command_text (w.spent.asks + 1) a.method a.params a.session
     → up1.sent ≡ up.sent ++ framed text → up1.given ≡ up.given → there ≡ e.up_there + length (framed text)
@@ -180,7 +181,7 @@ world-sent up0 down0 up down up1 w e a text there in_world can room text_is sent
     (sent_is ∙ ap (λ bytes. up.sent ++ framed bytes) text_is) given_is (left ∙ ap (λ bytes. e.up_there + length (framed bytes)) text_is)
 
 -- a frame is sent that names no ask
-pub world-raw : (up0 down0 up down up1 : Pipe) (w : World State) (e : Ends) (text : List ℕ) (there : ℕ)
+pub world-raw : (up0 down0 up down up1 : Pipe) (w : World RunState) (e : Ends) (text : List ℕ) (there : ℕ)
     → InWorld up0 down0 up down w (awaited w.up) e → IsText text → IsBare text → HasLeft w.spent 1
     → up1.sent ≡ up.sent ++ framed text → up1.given ≡ up.given → there ≡ e.up_there + length (framed text)
     → InWorld up0 down0 up1 down (raw text w) (awaited (raw text w).up) (record e { up_there = there })
@@ -190,7 +191,7 @@ world-raw up0 down0 up down up1 w e text there in_world letters bare room sent_i
     (in_world.front_is ∙ ap (λ value. good_front value (held w.down) (w.spent.asks + 1) w.spent.fetches) (sym joins)) sent_is given_is left
 
 -- the text of a sheet is fetched
-pub world-fetched : (up0 down0 up down up1 : Pipe) (w : World State) (e : Ends) (sheet there : ℕ)
+pub world-fetched : (up0 down0 up down up1 : Pipe) (w : World RunState) (e : Ends) (sheet there : ℕ)
     → InWorld up0 down0 up down w (awaited w.up) e → sheet < 2 ^ 64 → w.spent.fetches + 1 ≤ most_fetches
     → up1.sent ≡ up.sent ++ framed (front_fetcher.text w.spent.fetches sheet) → up1.given ≡ up.given
     → there ≡ e.up_there + length (framed (front_fetcher.text w.spent.fetches sheet))
@@ -207,7 +208,7 @@ world-fetched up0 down0 up down up1 w e sheet there in_world fits few sent_is gi
     sent_is given_is left
 
 -- bytes come up
-pub world-given_up : (up0 down0 up down up1 : Pipe) (w : World State) (e : Ends) (n there : ℕ) (piece rest : List ℕ)
+pub world-given_up : (up0 down0 up down up1 : Pipe) (w : World RunState) (e : Ends) (n there : ℕ) (piece rest : List ℕ)
     → InWorld up0 down0 up down w (awaited w.up) e → piece ≡ take n w.up.flying
     → up1.sent ≡ up.sent → up1.given ≡ up.given ++ piece → there ≡ e.up_there - length piece
     → rest ≡ held_after e.back_rest piece
@@ -232,56 +233,56 @@ world-given_up up0 down0 up down up1 w e n there piece rest in_world front_part 
 }
 
 -- what a step sends is put down
-down-put : (down0 down down1 : Pipe) (w : World State) (out bytes : List ℕ) → Carries down0 down w.down → out ≡ bytes
+down-put : (down0 down down1 : Pipe) (w : World RunState) (out bytes : List ℕ) → Carries down0 down w.down → out ≡ bytes
     → down1.sent ≡ down.sent ++ out → down1.given ≡ down.given → Carries down0 down1 (put bytes w.down)
 down-put down0 down down1 w out bytes carries is sent_is given_is =
     subst (λ piece. Carries down0 down1 (put piece w.down)) is (carries-put down0 down down1 out w.down carries sent_is given_is)
 
-left-put : (w : World State) (there left : ℕ) (out bytes : List ℕ) → left ≡ length w.down.flying → out ≡ bytes → there ≡ left + length out
+left-put : (w : World RunState) (there left : ℕ) (out bytes : List ℕ) → left ≡ length w.down.flying → out ≡ bytes → there ≡ left + length out
     → there ≡ length (w.down.flying ++ bytes)
 left-put w there left out bytes before is after =
     after ∙ ap (λ n. n + length out) before ∙ sym (length-append w.down.flying out) ∙ ap (λ piece. length (w.down.flying ++ piece)) is
 
 -- a frame that came up whole is answered
-pub world-answered : (up0 down0 up down down1 : Pipe) (w : World State) (frame : List ℕ) (frames : List (List ℕ)) (e : Ends)
+pub world-answered : (up0 down0 up down down1 : Pipe) (w : World RunState) (frame : List ℕ) (frames : List (List ℕ)) (e : Ends)
     → (seat : Seat) (side : PageSide) (out : List ℕ) (there : ℕ)
     → InWorld up0 down0 up down w (frame ∷ frames) e
-    → StandsFor seat side (step w.state frame).state → out ≡ (step w.state frame).sent
+    → StandsFor seat side (step w.state.back frame).state → out ≡ (step w.state.back frame).sent
     → down1.sent ≡ down.sent ++ out → down1.given ≡ down.given → there ≡ e.down_there + length out
-    → InWorld up0 down0 up down1 (answered step (frame ∷ []) w) frames (record e { seat = seat; side = side; down_there = there })
+    → InWorld up0 down0 up down1 (answered run_step (frame ∷ []) w) frames (record e { seat = seat; side = side; down_there = there })
 world-answered up0 down0 up down down1 w frame frames e seat side out there in_world stands out_is sent_is given_is left =
-    let all : out ≡ (steps step w.state (frame ∷ [])).sent = out_is ∙ sym (append-nil (step w.state frame).sent) in
+    let all : out ≡ (steps run_step w.state (frame ∷ [])).sent = out_is ∙ sym (append-nil (step w.state.back frame).sent) in
     record {
       up_is = in_world.up_is;
-      down_is = down-put down0 down down1 w out (steps step w.state (frame ∷ [])).sent in_world.down_is all sent_is given_is;
+      down_is = down-put down0 down down1 w out (steps run_step w.state (frame ∷ [])).sent in_world.down_is all sent_is given_is;
       stands = stands;
       back_is = in_world.back_is;
       value = in_world.value;
       front_is = in_world.front_is;
       is_fold = in_world.is_fold;
       up_left = in_world.up_left;
-      down_left = left-put w there e.down_there out (steps step w.state (frame ∷ [])).sent in_world.down_left all left;
+      down_left = left-put w there e.down_there out (steps run_step w.state (frame ∷ [])).sent in_world.down_left all left;
       told_is = in_world.told_is;
       fits = fits-answered_one replay IsNext IsNextTurn IsFit world_laws (first_value []) frame frames w in_world.fits;
     }
 
 -- the script makes a step by itself
-pub world-turned : (up0 down0 up down down1 : Pipe) (w : World State) (e : Ends) (x : Turn)
+pub world-turned : (up0 down0 up down down1 : Pipe) (w : World RunState) (e : Ends) (x : Turn)
     → (seat : Seat) (side : PageSide) (out : List ℕ) (there : ℕ)
     → InWorld up0 down0 up down w (awaited w.up) e → IsNextTurn w.spent x
-    → StandsFor seat side (turn x w.state).state → out ≡ (turn x w.state).sent
+    → StandsFor seat side (turn x w.state.back).state → out ≡ (turn x w.state.back).sent
     → down1.sent ≡ down.sent ++ out → down1.given ≡ down.given → there ≡ e.down_there + length out
-    → InWorld up0 down0 up down1 (turned turn x w) (awaited w.up) (record e { seat = seat; side = side; down_there = there })
+    → InWorld up0 down0 up down1 (turned run_turn x w) (awaited w.up) (record e { seat = seat; side = side; down_there = there })
 world-turned up0 down0 up down down1 w e x seat side out there in_world next stands out_is sent_is given_is left = record {
   up_is = in_world.up_is;
-  down_is = down-put down0 down down1 w out (turn x w.state).sent in_world.down_is out_is sent_is given_is;
+  down_is = down-put down0 down down1 w out (turn x w.state.back).sent in_world.down_is out_is sent_is given_is;
   stands = stands;
   back_is = in_world.back_is;
   value = in_world.value;
   front_is = in_world.front_is;
   is_fold = in_world.is_fold;
   up_left = in_world.up_left;
-  down_left = left-put w there e.down_there out (turn x w.state).sent in_world.down_left out_is left;
+  down_left = left-put w there e.down_there out (turn x w.state.back).sent in_world.down_left out_is left;
   told_is = in_world.told_is;
   fits = fits-turned replay IsNext IsNextTurn IsFit world_laws (first_value []) x w next in_world.fits;
 }
@@ -289,12 +290,12 @@ world-turned up0 down0 up down down1 w e x seat side out there in_world next sta
 -- ---- there is room
 
 -- at the back end
-pub world-room : (up0 down0 up down : Pipe) (w : World State) (frames : List (List ℕ)) (e : Ends) → InWorld up0 down0 up down w frames e
+pub world-room : (up0 down0 up down : Pipe) (w : World RunState) (frames : List (List ℕ)) (e : Ends) → InWorld up0 down0 up down w frames e
     → HasRoomLeft e.seat.desk e.side
 world-room up0 down0 up down w frames e in_world =
-    let room : HasRoom w.state = fit-room w.spent in_world.fits.front w.state frames in_world.fits.fit in
-    let next : e.seat.desk.agent.next ≡ length w.state.client.session.pushed + 1 = in_world.stands.stands.next_is in
-    let ids : length w.state.client.session.pushed + 1 < 2 ^ 50 = room.ids in
+    let room : HasRoom w.state.back = fit-room w.spent in_world.fits.front w.state frames in_world.fits.fit in
+    let next : e.seat.desk.agent.next ≡ length w.state.back.client.session.pushed + 1 = in_world.stands.stands.next_is in
+    let ids : length w.state.back.client.session.pushed + 1 < 2 ^ 50 = room.ids in
     record {
       ids = omega (arith, next, ids);
       serials = subst (λ (page : PageValue). page.next < 2 ^ 50) (sym in_world.stands.page_is) room.serials;
@@ -302,7 +303,7 @@ world-room up0 down0 up down w frames e in_world =
     }
 
 -- and at the front end
-pub world-ids : (up0 down0 up down : Pipe) (w : World State) (frames : List (List ℕ)) (e : Ends) → InWorld up0 down0 up down w frames e
+pub world-ids : (up0 down0 up down : Pipe) (w : World RunState) (frames : List (List ℕ)) (e : Ends) → InWorld up0 down0 up down w frames e
     → w.spent.fetches ≤ most_fetches → (e.front.next < 2 ^ 30) × (2 ^ 30 + e.front.fetches < 2 ^ 52)
 world-ids up0 down0 up down w frames e in_world few_fetches =
     let next : e.front.next ≡ w.spent.asks + 1 = ap (λ (f : FrontState). f.next) in_world.front_is in
@@ -312,8 +313,8 @@ world-ids up0 down0 up down w frames e in_world few_fetches =
 
 -- ---- the replies
 
--- how many of them were told says nothing of the link
-pub world-told : (up0 down0 up down : Pipe) (w : World State) (frames : List (List ℕ)) (e : Ends) (n : ℕ)
+-- what was told says nothing of the link
+pub world-told : (up0 down0 up down : Pipe) (w : World RunState) (frames : List (List ℕ)) (e : Ends) (n : AlreadyTold)
     → InWorld up0 down0 up down w frames e
     → InWorld up0 down0 up down (record { state = w.state; up = w.up; down = w.down; spent = w.spent; told = n }) frames (record e { told = n })
 world-told up0 down0 up down w frames e n in_world = record {
@@ -342,7 +343,7 @@ world-told up0 down0 up down w frames e n in_world = record {
 pub world-first : (up0 down0 : Pipe) (page : LoadedPage) (seat : Seat) (side : PageSide) → CanLoadPage page → PageHasTexts page
     → up0.given ≡ up0.sent → down0.given ≡ down0.sent → StandsFor seat side (loaded_state page)
     → InWorld up0 down0 up0 down0 (loaded_world page) []
-    (record { seat = seat; side = side; back_rest = []; front = first_state; up_there = 0; down_there = 0; told = 0 })
+    (record { seat = seat; side = side; back_rest = []; front = first_state; up_there = 0; down_there = 0; told = nothing_told })
 unfolding frames_of
 world-first up0 down0 page seat side can texts up_level down_level stands = record {
   up_is = carries-start up0 up_level;

@@ -18,20 +18,23 @@ use Rattle.cdp_messages.proofs.ZeroFree.{texts_have_no_zero}
 use Rattle.replay_script.specs.Forms.{AskForm, LineForm}
 use Rattle.page_forms.specs.Pages.{LoadedPage, CanLoadPage}
 use Rattle.page_forms.specs.Texts.{PageHasTexts}
-use Rattle.back_end.specs.Steps.{Step, asked_step, frame_step, step}
+use Rattle.back_end.specs.Steps.{Step, asked_step, frame_step}
+use Rattle.inspect_world.specs.RunStates.{RunState, ToldStyles, styles_asked, styles_answered, run_step}
+use Rattle.inspect_world.specs.ShownPauses.{pauses_in}
+use Rattle.inspect_world.proofs.Growing.{pauses-of}
 use Rattle.front_mirror.specs.declared.replies.Ask.{Ask}
 use Rattle.front_mirror.specs.declared.replies.Kept.{Kept}
 use Rattle.front_mirror.specs.Sheets.{has_sheet, with_fetched, stale_of}
 use Rattle.front_mirror.specs.declared.faults.FrontKind.{FrontKind}
-use Rattle.front_mirror.specs.Front.{FrontValue, first_value, fetch_ask, method_of, fetched_sheet, kept, unless_fetch, kept_reply, sheets_fetched, without, replied, with_body, with_reply, with_message, take_frame}
+use Rattle.front_mirror.specs.Front.{FrontValue, first_value, fetch_ask, method_of, fetched_sheet, kept, unless_fetch, kept_reply, sheets_fetched, without, replied, seen_pause, with_body, with_reply, with_message, take_frame}
 use Rattle.front_mirror.specs.Laws.{Has}
 use Rattle.back_end.specs.States.{State, IsState, sheets_shown, view_of}
 use Rattle.back_end.specs.Laws.{HasRoom}
 use Rattle.inspect_world.specs.Stream.{sent}
-use Rattle.inspect_world.specs.World.{World, Spent, settled}
+use Rattle.inspect_world.specs.World.{World, AlreadyTold, Spent, settled}
 use Rattle.inspect_world.specs.Fold.{folded, then}
 use Rattle.inspect_world.specs.Fetches.{front_in, fetched, fetched_if, all_fetched, stale_in, IsDue, GivesText, FetchLaws}
-use Rattle.inspect_world.specs.Fits.{join, with_ask, IsPlainFrame, most_asks, most_sheets, most_fetches, IsBare, IsNext, IsNextTurn, IsFit, replay, Fits}
+use Rattle.inspect_world.specs.Fits.{join, with_ask, IsPlainFrame, most_asks, most_sheets, most_fetches, kept_styles, IsBare, IsNext, IsNextTurn, IsFit, replay, Fits}
 use Rattle.inspect_world.specs.Scripts.{after_line, loaded_world}
 use Rattle.inspect_world.specs.ScriptsFit.{CanSend, IsLater}
 use Rattle.inspect_world.specs.ShownReplies.{told_of, replies_in}
@@ -52,8 +55,9 @@ use Rattle.inspect_world.proofs.FreshLemmas.{together-told, room-fetches, settle
 -- ---- which sheets are fetched
 
 -- a front end that fits knows the sheets that are shown, which are few
-few-stale : (n : Spent) (front : FrontValue) (state : State) (frames : List (List ℕ)) → IsFit n front state frames → length (stale_of front.sheets) ≤ most_sheets
-few-stale n front state frames fit =
+few-stale : (n : Spent) (front : FrontValue) (s : RunState) (frames : List (List ℕ)) → IsFit n front s frames → length (stale_of front.sheets) ≤ most_sheets
+few-stale n front s frames fit =
+    let state : State = s.back in
     let shown : length (sheets_shown state) ≤ 1000 = (shown-below state fit.is_state).few in
     let known : length front.sheets ≡ length (sheets_shown state) = known-length front.sheets (sheets_shown state) fit.has.sheets in
     let stale : length (stale_of front.sheets) ≤ length front.sheets = stale-few front.sheets in
@@ -76,10 +80,11 @@ not-off : (b : Bool) → (b ≡ false → ⊥) → b ≡ true
 not-off true never = refl
 not-off false never = absurd (never refl)
 
-due-shown : (n : Spent) (front : FrontValue) (state : State) (number : ℕ) (numbers : List ℕ) → IsDue IsFit front_fetcher most_fetches n front state number numbers
-    → IsShownSheet state number
-due-shown n front state number numbers due =
-    let room : HasRoom state = fit-room n front state [] due.fit in
+due-shown : (n : Spent) (front : FrontValue) (s : RunState) (number : ℕ) (numbers : List ℕ) → IsDue IsFit front_fetcher most_fetches n front s number numbers
+    → IsShownSheet s.back number
+due-shown n front s number numbers due =
+    let state : State = s.back in
+    let room : HasRoom state = fit-room n front s [] due.fit in
     let next : state.side.next_sheet < 2 ^ 50 = room.sheets in
     let has : HasText number (sheets_shown state) = stale-shown front.sheets (sheets_shown state) number numbers due.fit.has.sheets due.first in
     let on = shown-on state.client.css_on state.side.sheets number has.text has.is in
@@ -128,22 +133,23 @@ fetched-front v count number text asks counted utf8 =
     let sheet : fetched_sheet id v.asks ≡ Some number =
     ap (fetched_sheet id) asks ∙ ap (λ b. option_and_then (λ (a : Ask). a.sheet) (cond b (Some (fetch_ask count number)) None)) first in
     let gone : without id v.asks ≡ [] = ap (without id) asks ∙ ap (λ b. cond b [] (fetch_ask count number ∷ [])) first in
-    let after : FrontValue = record (replied v id frame true v.tree) { sheets = sheets_fetched (fetched_sheet id v.asks) text v.sheets } in
+    let after : FrontValue = record (replied v id frame true v.tree) { sheets = sheets_fetched (fetched_sheet id v.asks) text v.sheets; matched = v.matched ++ [] } in
     let kept : kept_reply id v.asks frame true ≡ [] = ap (λ o. unless_fetch o (kept (Some id) (method_of id v.asks) frame true)) sheet in (
       after,
       ap (with_message v frame) (replies_are_read id (SheetText text) counted refl (replies_are_shallow id (SheetText text) (omega arith)) (replies_are_utf8 id (SheetText text) counted refl utf8))
           ∙ ap (with_reply v id frame (body_data (SheetText text))) waits
           ∙ ap (with_body v id frame method) (results_are_read method (SheetText text) refl refl),
       ap (λ o. sheets_fetched o text v.sheets) sheet,
-      λ i. record { tree = v.tree; asks = gone i; replies = (ap (λ ks. v.replies ++ ks) kept ∙ append-nil v.replies) i; pauses = v.pauses },
+      λ i. record { tree = v.tree; asks = gone i; replies = (ap (λ ks. v.replies ++ ks) kept ∙ append-nil v.replies) i; pauses = v.pauses; matched = append-nil v.matched i },
     )
 
 -- the answer to a fetch that is due leaves the state, and gives the text
-gives-text : (n : Spent) (front after : FrontValue) (state : State) (number : ℕ) (numbers : List ℕ) → IsDue IsFit front_fetcher most_fetches n front state number numbers
-    → folded take_frame (join front (front_fetcher.text n.fetches number)) (frames_of (step state (front_fetcher.text n.fetches number)).sent).whole ≡ Ok after
-    → GivesText front_fetcher unstyled front after state (step state (front_fetcher.text n.fetches number)).state numbers
-gives-text n front after state number numbers due taken =
-    let s : IsShownSheet state number = due-shown n front state number numbers due in
+gives-text : (n : Spent) (front after : FrontValue) (run : RunState) (number : ℕ) (numbers : List ℕ) → IsDue IsFit front_fetcher most_fetches n front run number numbers
+    → folded take_frame (join front (front_fetcher.text n.fetches number)) (frames_of (run_step run (front_fetcher.text n.fetches number)).sent).whole ≡ Ok after
+    → GivesText front_fetcher unstyled front after run (run_step run (front_fetcher.text n.fetches number)).state numbers
+gives-text n front after run number numbers due taken =
+    let state : State = run.back in
+    let s : IsShownSheet state number = due-shown n front run number numbers due in
     let text = front_fetcher.text n.fetches number in
     let move = texted (2 ^ 30 + n.fetches) number s.text in
     let done : frame_step false text state ≡ record { state = state; moves = move ∷ [] } = fetch-step n number state due.left s in
@@ -154,14 +160,16 @@ gives-text n front after state number numbers due taken =
     let v = with_ask front (Some (fetch_ask n.fetches number)) in
     let asks : v.asks ≡ fetch_ask n.fetches number ∷ [] = ap (λ (asks : List Ask). asks ++ fetch_ask n.fetches number ∷ []) (sym due.fit.asks) in
     let f = fetched-front v n.fetches number s.text asks counted utf8 in
-    let frames : (frames_of (step state text).sent).whole ≡ move_text move ∷ [] =
+    let frames : (frames_of (run_step run text).sent).whole ≡ move_text move ∷ [] =
     ap (λ (d : Step). (frames_of (frames_of_moves d.moves)).whole) done ∙ ap (λ (fs : Frames). fs.whole) (frames_of-moves (move ∷ []) (texted-is-text (2 ^ 30 + n.fetches) number s.text counted, tt)) in
     let is : after ≡ f.0 =
-    ok-one (folded take_frame (join front text) (frames_of (step state text).sent).whole) after f.0 taken
-    (ap (λ u. folded take_frame u (frames_of (step state text).sent).whole) joins ∙ ap (folded take_frame v) frames ∙ ap (λ r. then r (λ (next : FrontValue). Ok next)) f.1) in
+    ok-one (folded take_frame (join front text) (frames_of (run_step run text).sent).whole) after f.0 taken
+    (ap (λ u. folded take_frame u (frames_of (run_step run text).sent).whole) joins ∙ ap (folded take_frame v) frames ∙ ap (λ r. then r (λ (next : FrontValue). Ok next)) f.1) in
     let apart : AreApart front.sheets = are-apart 1 state.side.next_sheet front.sheets (sheets_shown state) due.fit.has.sheets (shown-below state due.fit.is_state).numbers in
     record {
-      state_is = ap (λ (d : Step). d.state) done;
+      state_is =
+          let none : styles_answered text state ≡ [] = ap (λ r. styles_asked r state) (fetcher-asked n.fetches number due.left (omega (arith, s.high))) in
+          λ i. record { back = (done i).state; styles = (ap (λ ts. run.styles ++ ts) none ∙ append-nil run.styles) i };
       left = ap (λ (u : FrontValue). stale_of u.sheets) is ∙ ap stale_of f.2 ∙ stale-fetched front.sheets number numbers s.text apart due.first;
       same = ap unstyled is ∙ f.3 ∙ ap (λ (asks : List Ask). record (unstyled front) { asks = asks }) due.fit.asks;
     }
@@ -175,7 +183,7 @@ fetch_laws = record {
   few = few-stale;
   known = λ front number numbers first. stale-known front.sheets number numbers first;
   letters = λ n front state number numbers due. fetcher-text n.fetches number due.left;
-  next = λ n front state number numbers due. let s : IsShownSheet state number = due-shown n front state number numbers due in fetcher-next n number due.left (omega (arith, s.high));
+  next = λ n front state number numbers due. let s : IsShownSheet state.back number = due-shown n front state number numbers due in fetcher-next n number due.left (omega (arith, s.high));
   answer = gives-text;
 }
 
@@ -188,7 +196,7 @@ pub plain-bare : (text : List ℕ) → IsBare text → IsPlainFrame text
 plain-bare text bare = ap (option_and_then (λ (ask : Ask). ask.sheet)) bare.no_ask
 
 -- a front end that has sent no fetch has kept the replies that came down
-kept-all : (w : World State) (front : FrontValue) → All IsPlainFrame (frames_of (sent w.up)).whole
+kept-all : (w : World RunState) (front : FrontValue) → All IsPlainFrame (frames_of (sent w.up)).whole
     → front_in replay (first_value []) w ≡ Ok front → map told_of front.replies ≡ replies_in w.down.given
 kept-all w front all is = replies-of (frames_of (sent w.up)).whole (frames_of w.down.given).whole front all is
 
@@ -205,24 +213,27 @@ refreshed-all = refreshed-shows front_fetcher IsPlainFrame fetch_laws plain-sent
 
 -- ---- lines, in both runs
 
-pub play-line : (line : LineForm) (k : ℕ) (w v : World State) → IsLater line → Together IsPlainFrame (suc k) w v
+pub play-line : (line : LineForm) (k : ℕ) (w v : World RunState) → IsLater line → Together IsPlainFrame (suc k) w v
     → Together IsPlainFrame k (after_line line w) (fresh_line front_fetcher line v)
 play-line = together-line front_fetcher IsPlainFrame fetch_laws plain-sent plain-bare
 
 pub play-loaded : (page : LoadedPage) (k : ℕ) → CanLoadPage page → PageHasTexts page → k ≤ most_asks → Together IsPlainFrame k (loaded_world page) (loaded_world page)
 play-loaded = together-loaded front_fetcher IsPlainFrame fetch_laws plain-sent plain-bare
 
-pub play-told : (k : ℕ) (w v : World State) (n : ℕ) → Together IsPlainFrame k w v
+pub play-told : (k : ℕ) (w v : World RunState) (n : AlreadyTold) → Together IsPlainFrame k w v
     → Together IsPlainFrame k w (record { state = v.state; up = v.up; down = v.down; spent = v.spent; told = n })
 play-told = together-told front_fetcher IsPlainFrame fetch_laws plain-sent plain-bare
 
--- what a front end shows after a settle: what the client sees; and it has kept the replies that came in the run without fetches
-pub record ShownThen (w : World State) (front : FrontValue) : Type 0 where
-  pub has : Has front (view_of (settled step w).state)
+-- what a front end shows after a settle: what the client sees; and it has kept the replies and the pauses that came in the run without
+-- fetches, and the matched styles that the client was told
+pub record ShownThen (w : World RunState) (front : FrontValue) : Type 0 where
+  pub has : Has front (view_of (settled run_step w).state.back)
   pub fresh : stale_of front.sheets ≡ []
-  pub told : map told_of front.replies ≡ replies_in (settled step w).down.given
+  pub told : map told_of front.replies ≡ replies_in (settled run_step w).down.given
+  pub pauses : front.pauses ≡ map seen_pause (pauses_in (settled run_step w).down.given)
+  pub styles : map kept_styles front.matched ≡ (settled run_step w).state.styles
 
-pub shown-then : (k : ℕ) (w v : World State) (front : FrontValue) → Together IsPlainFrame k w v
+pub shown-then : (k : ℕ) (w v : World RunState) (front : FrontValue) → Together IsPlainFrame k w v
     → front_in replay (first_value []) (refreshes front_fetcher v) ≡ Ok front → ShownThen w front
 shown-then k w v front both is =
     let made : IsRefreshed replay IsNext IsNextTurn IsFit world_laws front_fetcher unstyled most_sheets most_fetches fetch_laws (first_value []) w v (refreshes front_fetcher v) =
@@ -233,19 +244,24 @@ shown-then k w v front both is =
     fit-rests replay IsNext IsNextTurn IsFit world_laws front_fetcher unstyled most_sheets most_fetches fetch_laws (first_value []) v1 front made.fits made.rests is in
     let same : made.agrees.fresh ≡ front = ok-one (front_in replay (first_value []) v1) made.agrees.fresh front made.agrees.fresh_is is in
     record {
-      has = subst (λ state. Has front (view_of state)) (sym made.agrees.state) fit.has;
+      has = subst (λ (s : RunState). Has front (view_of s.back)) (sym made.agrees.state) fit.has;
+      styles = fit.styles ∙ ap (λ (s : RunState). s.styles) (sym made.agrees.state);
+      pauses =
+          ap (λ (f : FrontValue). f.pauses) (sym same)
+          ∙ sym (ap (λ (u : Unstyled). u.pauses) made.agrees.same)
+          ∙ pauses-of (frames_of (sent (settled run_step w).up)).whole (frames_of (settled run_step w).down.given).whole made.agrees.plain made.agrees.plain_is;
       fresh = ap (λ (f : FrontValue). stale_of f.sheets) (sym same) ∙ made.none;
       told =
           ap (λ (f : FrontValue). map told_of f.replies) (sym same)
           ∙ sym (ap (λ (u : Unstyled). map told_of u.replies) made.agrees.same)
-          ∙ kept-all (settled step w) made.agrees.plain
+          ∙ kept-all (settled run_step w) made.agrees.plain
           (settled-plain front_fetcher IsPlainFrame fetch_laws plain-sent plain-bare w both.runs.plain) made.agrees.plain_is;
     }
 
 -- ---- fetches spend nothing but fetches, and tell no reply
 
 -- a sheet that is fetched, or passed over, spends one fetch at most
-pub fetched-if-spends : (start : FrontValue) (number : ℕ) (w : World State)
+pub fetched-if-spends : (start : FrontValue) (number : ℕ) (w : World RunState)
     → (fetched_if replay front_fetcher (front_in replay start w) number w).spent.fetches ≤ w.spent.fetches + 1
 fetched-if-spends start number w = at (front_in replay start w) where
   by : (known : Bool) → (cond known (fetched replay front_fetcher number w) w).spent.fetches ≤ w.spent.fetches + 1
@@ -256,7 +272,7 @@ fetched-if-spends start number w = at (front_in replay start w) where
   at (Ok front) = by (has_sheet number front.sheets)
   at (Err kind) = omega arith
 
-fetched-if-told : (start : FrontValue) (number : ℕ) (w : World State) → (fetched_if replay front_fetcher (front_in replay start w) number w).told ≡ w.told
+fetched-if-told : (start : FrontValue) (number : ℕ) (w : World RunState) → (fetched_if replay front_fetcher (front_in replay start w) number w).told ≡ w.told
 fetched-if-told start number w = at (front_in replay start w) where
   by : (known : Bool) → (cond known (fetched replay front_fetcher number w) w).told ≡ w.told
   by true = refl
@@ -266,19 +282,19 @@ fetched-if-told start number w = at (front_in replay start w) where
   at (Ok front) = by (has_sheet number front.sheets)
   at (Err kind) = refl
 
-all-fetched-told : (start : FrontValue) (numbers : List ℕ) (w : World State) → (all_fetched replay front_fetcher start numbers w).told ≡ w.told
+all-fetched-told : (start : FrontValue) (numbers : List ℕ) (w : World RunState) → (all_fetched replay front_fetcher start numbers w).told ≡ w.told
 all-fetched-told start [] w = refl
 all-fetched-told start (number ∷ numbers) w =
     all-fetched-told start numbers (fetched_if replay front_fetcher (front_in replay start w) number w) ∙ fetched-if-told start number w
 
-pub refreshed-told : (w : World State) → (refreshes front_fetcher w).told ≡ w.told
-refreshed-told w = all-fetched-told (first_value []) (stale_in front_fetcher (front_in replay (first_value []) (settled step w))) (settled step w)
+pub refreshed-told : (w : World RunState) → (refreshes front_fetcher w).told ≡ w.told
+refreshed-told w = all-fetched-told (first_value []) (stale_in front_fetcher (front_in replay (first_value []) (settled run_step w))) (settled run_step w)
 
 -- after a settle the sheets that the front end would fetch are few
-pub few-then : (w : World State) (front : FrontValue) → Fits (settled step w) → front_in replay (first_value []) (settled step w) ≡ Ok front
+pub few-then : (w : World RunState) (front : FrontValue) → Fits (settled run_step w) → front_in replay (first_value []) (settled run_step w) ≡ Ok front
     → length (stale_of front.sheets) ≤ most_sheets
 few-then w front fits is =
-    let w1 = settled step w in
+    let w1 = settled run_step w in
     let rests = settled-rests replay IsNext IsNextTurn IsFit world_laws front_fetcher unstyled most_sheets most_fetches fetch_laws (first_value []) w fits in
     few-stale w1.spent front w1.state []
     (fit-rests replay IsNext IsNextTurn IsFit world_laws front_fetcher unstyled most_sheets most_fetches fetch_laws (first_value []) w1 front fits rests is)

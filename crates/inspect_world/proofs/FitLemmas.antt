@@ -1,26 +1,32 @@
 -- The front end and the state of the page keep fitting: what a run needs of the messages.
-use Rattle.std.proofs.Common.{◌≡◌, ℕ, suc, ◌+◌, ◌*◌, ◌^◌, ◌<◌, ◌≤◌, List, [], ◌∷◌, ◌++◌, length, codes, Option, Some, None, option_and_then, false, refl, sym, ◌∙◌, ap, subst, Result, Ok, Err, arith, append-nil}
+use Rattle.std.proofs.Common.{◌≡◌, ℕ, suc, ◌+◌, ◌*◌, ◌^◌, ◌<◌, ◌≤◌, List, [], ◌∷◌, ◌++◌, length, map, codes, Option, Some, None, option_and_then, false, refl, sym, ◌∙◌, ap, subst, Result, Ok, Err, arith, append-nil}
+use Rattle.std.specs.List.{flat_map}
 use Rattle.std.specs.Option.{option_to_list}
+use Rattle.std.proofs.lemmas.List.{map-append}
 use Rattle.page_tree.specs.Forms.{max_nodes}
 use Rattle.page_forms.specs.Sheets.{max_sheets}
 use Rattle.pipe_frames.specs.Frames.{Frames}
 use Rattle.cdp_messages.specs.Asked.{asked, refusal}
 use Rattle.front_mirror.specs.declared.replies.Ask.{Ask}
+use Rattle.front_mirror.specs.declared.replies.MatchedReply.{MatchedReply}
 use Rattle.front_mirror.specs.declared.faults.FrontKind.{FrontKind}
 use Rattle.front_mirror.specs.Front.{FrontValue, fetch_ask, take_frame}
 use Rattle.cdp_messages.specs.Moves.{texted}
-use Rattle.front_mirror.specs.Laws.{Has, IsOfSheet, InTurn, rests, meets}
+use Rattle.front_mirror.specs.Laws.{Has, matched_after, IsOfSheet, InTurn, rests, meets}
 use Rattle.back_end.specs.States.{State, view_of}
-use Rattle.back_end.specs.Steps.{Step, Turn, frame_step, turn_step, as_bytes, step, turn}
-use Rattle.back_end.specs.Laws.{HasRoom, StepsWell, IsAnswered}
+use Rattle.back_end.specs.Steps.{Step, Turn, frame_step, turn_step}
+use Rattle.cdp_messages.specs.Moves.{frames_of_moves}
+use Rattle.inspect_world.specs.RunStates.{RunState, ToldStyles, styles_answered, run_step, run_turn}
+use Rattle.back_end.specs.Laws.{most_ids, HasRoom, StepsWell, IsAnswered}
 use Rattle.inspect_world.specs.World.{Spent, one_turn}
 use Rattle.inspect_world.specs.Fold.{folded, then, Laws, Leads}
-use Rattle.inspect_world.specs.Fits.{join, ask_in, ask_with, sheet_in, IsPlainFrame, drawing, with_ask, Sendable, is_ask, is_bare, AreSendable, asks_among, most_asks, IsNext, next_ask, next_fetch, next_raw, IsNextTurn, most_drawn, most_serials, most_numbers, IsFit, replay}
+use Rattle.inspect_world.specs.Fits.{join, ask_in, ask_with, sheet_in, IsPlainFrame, drawing, with_ask, Sendable, is_ask, is_bare, AreSendable, asks_among, most_asks, IsNext, next_ask, next_fetch, next_raw, IsNextTurn, most_drawn, most_serials, most_numbers, kept_styles, IsFit, replay}
 use Rattle.front_mirror.proofs.FoldLemmas.{take_frame-more}
 use Rattle.inspect_world.proofs.AskLemmas.{asks_among-append, sendable-last, draws-one, draws-none, drawing-last, drawing-fetch}
 use Rattle.inspect_world.proofs.Messages.{asked-ask, fetch-method}
 use Rattle.inspect_world.proofs.FetchTold.{FetchAnswered, not_told, is_told, fetch-answered}
 use Rattle.inspect_world.proofs.StepsTaken.{AreQuiet, course-quiet, Taken, taken, tells-all, by-asked, by-failed, by-refusal}
+use Rattle.inspect_world.proofs.StylesTold.{styles-told, quiet-styles}
 use Rattle.back_end.proofs.FrameLemmas.{frame-steps-well}
 use Rattle.back_end.proofs.StepLemmas.{turn-steps-well}
 use Rattle.back_end.proofs.AnswerLemmas.{turn-answers}
@@ -47,8 +53,8 @@ folded-join ask before after (frame ∷ frames) e =
 -- ---- how much is drawn
 
 -- one frame more may be answered
-one_more_ids : (all before after steps steps1 : ℕ) → after ≤ before + 1 → steps1 ≡ steps + 1 → all + before * 100000 ≤ steps * 100000
-    → all + after * 100000 ≤ steps1 * 100000
+one_more_ids : (all before after steps steps1 : ℕ) → after ≤ before + 1 → steps1 ≡ steps + 1 → all + before * 500000 ≤ steps * 500000
+    → all + after * 500000 ≤ steps1 * 500000
 one_more_ids all before after steps steps1 more step h = omega (arith, more, step, h)
 
 one_more_serials : (all before after steps steps1 : ℕ) → after ≤ before + 1 → steps1 ≡ steps + 1 → all + before * 100001 ≤ steps * 100001
@@ -60,7 +66,7 @@ one_more_numbers : (all before after steps steps1 : ℕ) → after ≤ before + 
 one_more_numbers all before after steps steps1 more step h = omega (arith, more, step, h)
 
 -- an answer draws no more than was kept for it
-answered_ids : (before after frames others all : ℕ) → frames ≡ 1 + others → after ≤ before + 100000 → before + frames * 100000 ≤ all → after + others * 100000 ≤ all
+answered_ids : (before after frames others all : ℕ) → frames ≡ 1 + others → after ≤ before + 500000 → before + frames * 500000 ≤ all → after + others * 500000 ≤ all
 answered_ids before after frames others all one few h = omega (arith, one, few, h)
 
 answered_serials : (before after frames others all : ℕ) → frames ≡ 1 + others → after ≤ before + 100001 → before + frames * 100001 ≤ all → after + others * 100001 ≤ all
@@ -70,7 +76,7 @@ answered_numbers : (before after frames others all : ℕ) → frames ≡ 1 + oth
 answered_numbers before after frames others all one few h = omega (arith, one, few, h)
 
 -- and that to a fetch draws nothing
-fetched_ids : (before after frames others all : ℕ) → frames ≡ 0 + others → after ≡ before → before + frames * 100000 ≤ all → after + others * 100000 ≤ all
+fetched_ids : (before after frames others all : ℕ) → frames ≡ 0 + others → after ≡ before → before + frames * 500000 ≤ all → after + others * 500000 ≤ all
 fetched_ids before after frames others all none same h = omega (arith, none, same, h)
 
 fetched_serials : (before after frames others all : ℕ) → frames ≡ 0 + others → after ≡ before → before + frames * 100001 ≤ all → after + others * 100001 ≤ all
@@ -80,8 +86,8 @@ fetched_numbers : (before after frames others all : ℕ) → frames ≡ 0 + othe
 fetched_numbers before after frames others all none same h = omega (arith, none, same, h)
 
 -- and the script's own step no more than one step may
-turned_ids : (before after others asks raws turns : ℕ) → after ≤ before + 100000 → before + others * 100000 ≤ (asks + raws + turns) * 100000
-    → after + others * 100000 ≤ (asks + raws + (turns + 1)) * 100000
+turned_ids : (before after others asks raws turns : ℕ) → after ≤ before + 500000 → before + others * 500000 ≤ (asks + raws + turns) * 500000
+    → after + others * 500000 ≤ (asks + raws + (turns + 1)) * 500000
 turned_ids before after others asks raws turns few h = omega (arith, few, h)
 
 turned_serials : (before after others asks raws turns : ℕ) → after ≤ before + 100001 → before + others * 100001 ≤ (asks + raws + turns + 1) * 100001
@@ -93,7 +99,7 @@ turned_numbers : (before after others asks raws turns : ℕ) → after ≤ befor
 turned_numbers before after others asks raws turns few h = omega (arith, few, h)
 
 -- a run is too short to use all ids, all serials and all numbers of sheets
-ids_left : (pushed others asks raws turns : ℕ) → asks ≤ 2 ^ 26 → raws ≤ 2 ^ 26 → turns ≤ 2 ^ 26 → pushed + others * 100000 ≤ (asks + raws + turns) * 100000 → pushed + 1 < 2 ^ 50
+ids_left : (pushed others asks raws turns : ℕ) → asks ≤ 2 ^ 26 → raws ≤ 2 ^ 26 → turns ≤ 2 ^ 26 → pushed + others * 500000 ≤ (asks + raws + turns) * 500000 → pushed + 1 < 2 ^ 50
 ids_left pushed others asks raws turns few few_raws few_turns h = omega (arith, few, few_raws, few_turns, h)
 
 serials_left : (next others asks raws turns : ℕ) → asks ≤ 2 ^ 26 → raws ≤ 2 ^ 26 → turns ≤ 2 ^ 26 → next + others * 100001 ≤ (asks + raws + turns + 1) * 100001 → next < 2 ^ 50
@@ -102,22 +108,23 @@ serials_left next others asks raws turns few few_raws few_turns h = omega (arith
 numbers_left : (next others asks raws turns : ℕ) → asks ≤ 2 ^ 26 → raws ≤ 2 ^ 26 → turns ≤ 2 ^ 26 → next + others * 1000 ≤ (asks + raws + turns + 1) * 1000 + 1 → next < 2 ^ 50
 numbers_left next others asks raws turns few few_raws few_turns h = omega (arith, few, few_raws, few_turns, h)
 
-pub fit-room : (n : Spent) (front : FrontValue) (state : State) (frames : List (List ℕ)) → IsFit n front state frames → HasRoom state
-fit-room n front state frames fit = record {
-  ids = ids_left (length state.client.session.pushed) (drawing frames) n.asks n.raws n.turns fit.few fit.few_raws fit.few_turns fit.drawn;
-  serials = serials_left state.side.page.next (drawing frames) n.asks n.raws n.turns fit.few fit.few_raws fit.few_turns fit.serials;
-  sheets = numbers_left state.side.next_sheet (drawing frames) n.asks n.raws n.turns fit.few fit.few_raws fit.few_turns fit.numbers;
+pub fit-room : (n : Spent) (front : FrontValue) (s : RunState) (frames : List (List ℕ)) → IsFit n front s frames → HasRoom s.back
+fit-room n front s frames fit = record {
+  ids = ids_left (length s.back.client.session.pushed) (drawing frames) n.asks n.raws n.turns fit.few fit.few_raws fit.few_turns fit.drawn;
+  serials = serials_left s.back.side.page.next (drawing frames) n.asks n.raws n.turns fit.few fit.few_raws fit.few_turns fit.serials;
+  sheets = numbers_left s.back.side.next_sheet (drawing frames) n.asks n.raws n.turns fit.few fit.few_raws fit.few_turns fit.numbers;
 }
 
 -- ---- a frame is sent
 
 -- a frame that is sent is the last of those that wait
-fit-asked : (n m : Spent) (text : List ℕ) (front : FrontValue) (state : State) (frames : List (List ℕ))
-    → IsNext n text m → IsFit n front state frames → IsFit m (join front text) state (frames ++ text ∷ [])
-fit-asked n _ text front state frames (next_ask method is few) fit =
+fit-asked : (n m : Spent) (text : List ℕ) (front : FrontValue) (s : RunState) (frames : List (List ℕ))
+    → IsNext n text m → IsFit n front s frames → IsFit m (join front text) s (frames ++ text ∷ [])
+fit-asked n _ text front s frames (next_ask method is few) fit =
     let joins : join front text ≡ with_ask front (Some (ask_with method (n.asks + 1))) = ap (with_ask front) is in
     record {
-      has = subst (λ v. Has v (view_of state)) (sym joins) (record { tree = fit.has.tree; sheets = fit.has.sheets });
+      has = subst (λ v. Has v (view_of s.back)) (sym joins) (record { tree = fit.has.tree; sheets = fit.has.sheets });
+      styles = ap (λ (v : FrontValue). map kept_styles v.matched) joins ∙ fit.styles;
       asks =
           asks_among-append frames (text ∷ [])
           ∙ ap (λ asks. asks ++ (option_to_list (ask_in text) ++ [])) fit.asks
@@ -128,16 +135,17 @@ fit-asked n _ text front state frames (next_ask method is few) fit =
       few = few;
       few_raws = fit.few_raws;
       few_turns = fit.few_turns;
-      drawn = one_more_ids (length state.client.session.pushed) (drawing frames) (drawing (frames ++ text ∷ [])) (n.asks + n.raws + n.turns) (n.asks + 1 + n.raws + n.turns) (drawing-last frames text) (omega arith) fit.drawn;
-      serials = one_more_serials state.side.page.next (drawing frames) (drawing (frames ++ text ∷ [])) (n.asks + n.raws + n.turns + 1) (n.asks + 1 + n.raws + n.turns + 1) (drawing-last frames text) (omega arith) fit.serials;
-      numbers = one_more_numbers state.side.next_sheet (drawing frames) (drawing (frames ++ text ∷ [])) (n.asks + n.raws + n.turns + 1) (n.asks + 1 + n.raws + n.turns + 1) (drawing-last frames text) (omega arith) fit.numbers;
+      drawn = one_more_ids (length s.back.client.session.pushed) (drawing frames) (drawing (frames ++ text ∷ [])) (n.asks + n.raws + n.turns) (n.asks + 1 + n.raws + n.turns) (drawing-last frames text) (omega arith) fit.drawn;
+      serials = one_more_serials s.back.side.page.next (drawing frames) (drawing (frames ++ text ∷ [])) (n.asks + n.raws + n.turns + 1) (n.asks + 1 + n.raws + n.turns + 1) (drawing-last frames text) (omega arith) fit.serials;
+      numbers = one_more_numbers s.back.side.next_sheet (drawing frames) (drawing (frames ++ text ∷ [])) (n.asks + n.raws + n.turns + 1) (n.asks + 1 + n.raws + n.turns + 1) (drawing-last frames text) (omega arith) fit.numbers;
     }
-fit-asked n _ text front state frames (next_fetch sheet is few) fit =
+fit-asked n _ text front s frames (next_fetch sheet is few) fit =
     let joins : join front text ≡ with_ask front (Some (fetch_ask n.fetches sheet)) = ap (with_ask front) is in
     let fetches : sheet_in text ≡ Some sheet = ap (option_and_then (λ (ask : Ask). ask.sheet)) is in
     let drawn : drawing (frames ++ text ∷ []) ≡ drawing frames = drawing-fetch frames text sheet fetches in
     record {
-      has = subst (λ v. Has v (view_of state)) (sym joins) (record { tree = fit.has.tree; sheets = fit.has.sheets });
+      has = subst (λ v. Has v (view_of s.back)) (sym joins) (record { tree = fit.has.tree; sheets = fit.has.sheets });
+      styles = ap (λ (v : FrontValue). map kept_styles v.matched) joins ∙ fit.styles;
       asks =
           asks_among-append frames (text ∷ [])
           ∙ ap (λ asks. asks ++ (option_to_list (ask_in text) ++ [])) fit.asks
@@ -148,14 +156,15 @@ fit-asked n _ text front state frames (next_fetch sheet is few) fit =
       few = fit.few;
       few_raws = fit.few_raws;
       few_turns = fit.few_turns;
-      drawn = subst (λ k. length state.client.session.pushed + k * max_nodes ≤ most_drawn n) (sym drawn) fit.drawn;
-      serials = subst (λ k. state.side.page.next + k * (max_nodes + 1) ≤ most_serials n) (sym drawn) fit.serials;
-      numbers = subst (λ k. state.side.next_sheet + k * max_sheets ≤ most_numbers n) (sym drawn) fit.numbers;
+      drawn = subst (λ k. length s.back.client.session.pushed + k * most_ids ≤ most_drawn n) (sym drawn) fit.drawn;
+      serials = subst (λ k. s.back.side.page.next + k * (max_nodes + 1) ≤ most_serials n) (sym drawn) fit.serials;
+      numbers = subst (λ k. s.back.side.next_sheet + k * max_sheets ≤ most_numbers n) (sym drawn) fit.numbers;
     }
-fit-asked n _ text front state frames (next_raw bare few) fit =
+fit-asked n _ text front s frames (next_raw bare few) fit =
     let joins : join front text ≡ front = ap (with_ask front) bare.no_ask in
     record {
-      has = subst (λ v. Has v (view_of state)) (sym joins) fit.has;
+      has = subst (λ v. Has v (view_of s.back)) (sym joins) fit.has;
+      styles = ap (λ (v : FrontValue). map kept_styles v.matched) joins ∙ fit.styles;
       asks =
           asks_among-append frames (text ∷ [])
           ∙ ap (λ asks. asks ++ (option_to_list (ask_in text) ++ [])) fit.asks
@@ -167,9 +176,9 @@ fit-asked n _ text front state frames (next_raw bare few) fit =
       few = fit.few;
       few_raws = few;
       few_turns = fit.few_turns;
-      drawn = one_more_ids (length state.client.session.pushed) (drawing frames) (drawing (frames ++ text ∷ [])) (n.asks + n.raws + n.turns) (n.asks + (n.raws + 1) + n.turns) (drawing-last frames text) (omega arith) fit.drawn;
-      serials = one_more_serials state.side.page.next (drawing frames) (drawing (frames ++ text ∷ [])) (n.asks + n.raws + n.turns + 1) (n.asks + (n.raws + 1) + n.turns + 1) (drawing-last frames text) (omega arith) fit.serials;
-      numbers = one_more_numbers state.side.next_sheet (drawing frames) (drawing (frames ++ text ∷ [])) (n.asks + n.raws + n.turns + 1) (n.asks + (n.raws + 1) + n.turns + 1) (drawing-last frames text) (omega arith) fit.numbers;
+      drawn = one_more_ids (length s.back.client.session.pushed) (drawing frames) (drawing (frames ++ text ∷ [])) (n.asks + n.raws + n.turns) (n.asks + (n.raws + 1) + n.turns) (drawing-last frames text) (omega arith) fit.drawn;
+      serials = one_more_serials s.back.side.page.next (drawing frames) (drawing (frames ++ text ∷ [])) (n.asks + n.raws + n.turns + 1) (n.asks + (n.raws + 1) + n.turns + 1) (drawing-last frames text) (omega arith) fit.serials;
+      numbers = one_more_numbers s.back.side.next_sheet (drawing frames) (drawing (frames ++ text ∷ [])) (n.asks + n.raws + n.turns + 1) (n.asks + (n.raws + 1) + n.turns + 1) (drawing-last frames text) (omega arith) fit.numbers;
     }
 
 -- ---- a step is made
@@ -179,21 +188,29 @@ record Enough (m : Spent) (state : State) (frames : List (List ℕ)) : Type 0 wh
   few : m.asks ≤ most_asks
   few_raws : m.raws ≤ most_asks
   few_turns : m.turns ≤ most_asks
-  drawn : length state.client.session.pushed + drawing frames * max_nodes ≤ most_drawn m
+  drawn : length state.client.session.pushed + drawing frames * most_ids ≤ most_drawn m
   serials : state.side.page.next + drawing frames * (max_nodes + 1) ≤ most_serials m
   numbers : state.side.next_sheet + drawing frames * max_sheets ≤ most_numbers m
 
--- the messages of a step take the front along
-leads-on : (n m : Spent) (before : State) (done : Step) (front : FrontValue) (frames more : List (List ℕ))
-    → IsFit n front before frames → StepsWell before done → InTurn done.moves front.asks (asks_among more) → AreSendable more → Enough m done.state more
-    → Leads take_frame (IsFit m) front (as_bytes done) more
-leads-on n m before done front frames more fit well in_turn sendable enough =
-    let t : Taken done front (asks_among more) = taken before done front (asks_among more) well.course fit.has in_turn in
+-- what is told of matched styles is kept
+kept-more : (v w : FrontValue) (styles told : List ToldStyles) (more : List MatchedReply) → map kept_styles v.matched ≡ styles → w.matched ≡ v.matched ++ more
+    → map kept_styles more ≡ told → map kept_styles w.matched ≡ styles ++ told
+kept-more v w styles told more kept after is =
+    ap (map kept_styles) after ∙ map-append kept_styles v.matched more ∙ ap (λ ts. ts ++ map kept_styles more) kept ∙ ap (λ ts. styles ++ ts) is
+
+-- the messages of a step, which tell these matched styles, take the front along
+leads-on : (n m : Spent) (s : RunState) (done : Step) (told after : List ToldStyles) (front : FrontValue) (frames more : List (List ℕ))
+    → IsFit n front s frames → StepsWell s.back done → InTurn done.moves front.asks (asks_among more) → AreSendable more → Enough m done.state more
+    → map kept_styles (flat_map matched_after done.moves) ≡ told → s.styles ++ told ≡ after
+    → Leads take_frame (IsFit m) front (record { state = record { back = done.state; styles = after }; sent = frames_of_moves done.moves }) more
+leads-on n m s done told after front frames more fit well in_turn sendable enough tells goes =
+    let t : Taken done front (asks_among more) = taken s.back done front (asks_among more) well.course fit.has in_turn in
     record {
       after = t.after;
       is_fold = ap (λ (fs : Frames). folded take_frame front fs.whole) t.frames_are ∙ t.is_fold;
       fit = record {
         has = t.has;
+        styles = kept-more front t.after s.styles told (flat_map matched_after done.moves) fit.styles t.matched tells ∙ goes;
         asks = sym t.asks;
         sendable = sendable;
         is_state = well.is_state;
@@ -215,21 +232,21 @@ first-asks frame frames asks o e is = ap (λ p. option_to_list p ++ asks_among f
 -- what a step on the first frame answers, and how much it draws
 record Answer (n : Spent) (state : State) (asks : List Ask) (frames : List (List ℕ)) (done : Step) : Type 0 where
   in_turn : InTurn done.moves asks (asks_among frames)
-  drawn : length done.state.client.session.pushed + drawing frames * max_nodes ≤ most_drawn n
+  drawn : length done.state.client.session.pushed + drawing frames * most_ids ≤ most_drawn n
   serials : done.state.side.page.next + drawing frames * (max_nodes + 1) ≤ most_serials n
   numbers : done.state.side.next_sheet + drawing frames * max_sheets ≤ most_numbers n
 
 -- the step on a frame that is no fetch
-answer-plain : (n : Spent) (frame : List ℕ) (front : FrontValue) (state : State) (frames : List (List ℕ)) (done : Step)
-    → IsFit n front state (frame ∷ frames) → StepsWell state done → IsPlainFrame frame → InTurn done.moves front.asks (asks_among frames)
-    → Answer n state front.asks frames done
-answer-plain n frame front state frames done fit well plain in_turn =
+answer-plain : (n : Spent) (frame : List ℕ) (front : FrontValue) (s : RunState) (frames : List (List ℕ)) (done : Step)
+    → IsFit n front s (frame ∷ frames) → StepsWell s.back done → IsPlainFrame frame → InTurn done.moves front.asks (asks_among frames)
+    → Answer n s.back front.asks frames done
+answer-plain n frame front s frames done fit well plain in_turn =
     let one : drawing (frame ∷ frames) ≡ 1 + drawing frames = draws-one frame frames plain in
     record {
       in_turn = in_turn;
-      drawn = answered_ids (length state.client.session.pushed) (length done.state.client.session.pushed) (drawing (frame ∷ frames)) (drawing frames) (most_drawn n) one well.ids fit.drawn;
-      serials = answered_serials state.side.page.next done.state.side.page.next (drawing (frame ∷ frames)) (drawing frames) (most_serials n) one well.serials fit.serials;
-      numbers = answered_numbers state.side.next_sheet done.state.side.next_sheet (drawing (frame ∷ frames)) (drawing frames) (most_numbers n) one well.sheets fit.numbers;
+      drawn = answered_ids (length s.back.client.session.pushed) (length done.state.client.session.pushed) (drawing (frame ∷ frames)) (drawing frames) (most_drawn n) one well.ids fit.drawn;
+      serials = answered_serials s.back.side.page.next done.state.side.page.next (drawing (frame ∷ frames)) (drawing frames) (most_serials n) one well.serials fit.serials;
+      numbers = answered_numbers s.back.side.next_sheet done.state.side.next_sheet (drawing (frame ∷ frames)) (drawing frames) (most_numbers n) one well.sheets fit.numbers;
     }
 
 -- the reply to a fetch answers the ask that it is
@@ -244,9 +261,10 @@ fetch-same id sheet state _ (not_told why) = refl
 fetch-same id sheet state _ (is_told text) = refl
 
 -- the step on a fetch
-answer-fetch : (n : Spent) (frame : List ℕ) (front : FrontValue) (state : State) (frames : List (List ℕ)) (ask : Ask) (sheet : ℕ)
-    → IsFit n front state (frame ∷ frames) → ask_in frame ≡ Some ask → ask.sheet ≡ Some sheet → Answer n state front.asks frames (frame_step false frame state)
-answer-fetch n frame front state frames ask sheet fit is fetches =
+answer-fetch : (n : Spent) (frame : List ℕ) (front : FrontValue) (s : RunState) (frames : List (List ℕ)) (ask : Ask) (sheet : ℕ)
+    → IsFit n front s (frame ∷ frames) → ask_in frame ≡ Some ask → ask.sheet ≡ Some sheet → Answer n s.back front.asks frames (frame_step false frame s.back)
+answer-fetch n frame front s frames ask sheet fit is fetches =
+    let state : State = s.back in
     let done : Step = frame_step false frame state in
     let answered : FetchAnswered ask.id sheet state done = fetch-answered frame ask sheet state is fetches in
     let same : done.state ≡ state = fetch-same ask.id sheet state done answered in
@@ -264,47 +282,49 @@ answer-fetch n frame front state frames ask sheet fit is fetches =
     }
 
 -- what a step on a frame sends takes the front along
-fit-answered : (n : Spent) (frame : List ℕ) (front : FrontValue) (state : State) (frames : List (List ℕ))
-    → IsFit n front state (frame ∷ frames) → Leads take_frame (IsFit n) front (step state frame) frames
-fit-answered n frame front state frames fit =
-    let well = frame-steps-well false state frame fit.is_state (fit-room n front state (frame ∷ frames) fit) in
+fit-answered : (n : Spent) (frame : List ℕ) (front : FrontValue) (s : RunState) (frames : List (List ℕ))
+    → IsFit n front s (frame ∷ frames) → Leads take_frame (IsFit n) front (run_step s frame) frames
+fit-answered n frame front s frames fit =
+    let state : State = s.back in
+    let well = frame-steps-well false state frame fit.is_state (fit-room n front s (frame ∷ frames) fit) in
     let done : Step = frame_step false frame state in
     let quiet : AreQuiet done.moves = course-quiet done.moves (view_of state) (view_of done.state) well.0.course in
     let answer : Answer n state front.asks frames done = by-sendable well.0 well.1 quiet fit.sendable.0 in
-    leads-on n n state done front (frame ∷ frames) frames fit well.0 answer.in_turn fit.sendable.1 (record {
+    leads-on n n s done (styles_answered frame state) (s.styles ++ styles_answered frame state) front (frame ∷ frames) frames fit well.0 answer.in_turn fit.sendable.1 (record {
       few = fit.few;
       few_raws = fit.few_raws;
       few_turns = fit.few_turns;
       drawn = answer.drawn;
       serials = answer.serials;
       numbers = answer.numbers;
-    })
+    }) (styles-told frame state well.1) refl
   where
-    by-sheet : (ask : Ask) (o : Option ℕ) → StepsWell state (frame_step false frame state) → IsAnswered (asked frame false) (frame_step false frame state).moves
-        → AreQuiet (frame_step false frame state).moves → ask_in frame ≡ Some ask → ask.sheet ≡ o → Answer n state front.asks frames (frame_step false frame state)
-    by-sheet ask (Some sheet) well answered quiet is fetches = answer-fetch n frame front state frames ask sheet fit is fetches
+    by-sheet : (ask : Ask) (o : Option ℕ) → StepsWell s.back (frame_step false frame s.back) → IsAnswered (asked frame false) (frame_step false frame s.back).moves
+        → AreQuiet (frame_step false frame s.back).moves → ask_in frame ≡ Some ask → ask.sheet ≡ o → Answer n s.back front.asks frames (frame_step false frame s.back)
+    by-sheet ask (Some sheet) well answered quiet is fetches = answer-fetch n frame front s frames ask sheet fit is fetches
     by-sheet ask None well answered quiet is plain =
-        let done : Step = frame_step false frame state in
-        answer-plain n frame front state frames done fit well (ap (option_and_then (λ (a : Ask). a.sheet)) is ∙ plain)
+        let done : Step = frame_step false frame s.back in
+        answer-plain n frame front s frames done fit well (ap (option_and_then (λ (a : Ask). a.sheet)) is ∙ plain)
         (subst (λ asks. InTurn done.moves asks (asks_among frames)) (first-asks frame frames front.asks (Some ask) fit.asks is)
         (by-asked ask (asks_among frames) done.moves (asked frame false) plain (asked-ask frame ask is) answered quiet))
 
-    by-sendable : StepsWell state (frame_step false frame state) → IsAnswered (asked frame false) (frame_step false frame state).moves
-        → AreQuiet (frame_step false frame state).moves → Sendable frame → Answer n state front.asks frames (frame_step false frame state)
+    by-sendable : StepsWell s.back (frame_step false frame s.back) → IsAnswered (asked frame false) (frame_step false frame s.back).moves
+        → AreQuiet (frame_step false frame s.back).moves → Sendable frame → Answer n s.back front.asks frames (frame_step false frame s.back)
     by-sendable well answered quiet (is_ask ask is) = by-sheet ask ask.sheet well answered quiet is refl
     by-sendable well answered quiet (is_bare bare) =
-        let done : Step = frame_step false frame state in
-        answer-plain n frame front state frames done fit well (ap (option_and_then (λ (a : Ask). a.sheet)) bare.no_ask)
+        let done : Step = frame_step false frame s.back in
+        answer-plain n frame front s frames done fit well (ap (option_and_then (λ (a : Ask). a.sheet)) bare.no_ask)
         (subst (λ asks. InTurn done.moves asks (asks_among frames)) (first-asks frame frames front.asks None fit.asks bare.no_ask)
         (by-refusal (asks_among frames) done.moves (refusal None bare.why) refl (subst (λ r. IsAnswered r done.moves) bare.refused answered)))
 
 -- and so does what the script's own step sends
-fit-turned : (n : Spent) (x : Turn) (front : FrontValue) (state : State) (frames : List (List ℕ))
-    → IsNextTurn n x → IsFit n front state frames → Leads take_frame (IsFit (one_turn n)) front (turn x state) frames
-fit-turned n x front state frames next fit =
-    let well : StepsWell state (turn_step x state) = turn-steps-well state x fit.is_state (fit-room n front state frames fit) next.is_turn in
+fit-turned : (n : Spent) (x : Turn) (front : FrontValue) (s : RunState) (frames : List (List ℕ))
+    → IsNextTurn n x → IsFit n front s frames → Leads take_frame (IsFit (one_turn n)) front (run_turn x s) frames
+fit-turned n x front s frames next fit =
+    let state : State = s.back in
+    let well : StepsWell state (turn_step x state) = turn-steps-well state x fit.is_state (fit-room n front s frames fit) next.is_turn in
     let done : Step = turn_step x state in
-    leads-on n (one_turn n) state done front frames frames fit well
+    leads-on n (one_turn n) s done [] s.styles front frames frames fit well
     (subst (λ asks. InTurn done.moves asks (asks_among frames)) fit.asks (tells-all done.moves (asks_among frames) (turn-answers x state))) fit.sendable (record {
       few = fit.few;
       few_raws = fit.few_raws;
@@ -312,7 +332,7 @@ fit-turned n x front state frames next fit =
       drawn = turned_ids (length state.client.session.pushed) (length done.state.client.session.pushed) (drawing frames) n.asks n.raws n.turns well.ids fit.drawn;
       serials = turned_serials state.side.page.next done.state.side.page.next (drawing frames) n.asks n.raws n.turns well.serials fit.serials;
       numbers = turned_numbers state.side.next_sheet done.state.side.next_sheet (drawing frames) n.asks n.raws n.turns well.sheets fit.numbers;
-    })
+    }) (ap (map kept_styles) (quiet-styles done.moves (turn-answers x state))) (append-nil s.styles)
 
 pub world_laws : Laws replay IsNext IsNextTurn IsFit
 world_laws = record { later = folded-join; asks = fit-asked; answers = fit-answered; turns = fit-turned }

@@ -6,18 +6,21 @@ use Rattle.page_forms.specs.Texts.{PageHasTexts}
 use Rattle.pipe_frames.specs.Frames.{IsText, frames_of}
 use Rattle.cdp_messages.specs.Asked.{command_text}
 use Rattle.replay_script.specs.Forms as forms
-use Rattle.replay_script.specs.Forms.{AskForm, LineForm, load, ask, up, down, settle, show_front, show_page, show_sheets, show_replies}
-use Rattle.front_mirror.specs.Front.{FrontValue, first_value, take_frame}
+use Rattle.replay_script.specs.Forms.{AskForm, LineForm, load, ask, up, down, settle, show_front, show_page, show_sheets, show_replies, show_pauses, show_styles}
+use Rattle.front_mirror.specs.Front.{FrontValue, first_value, take_frame, seen_pause}
 use Rattle.front_mirror.specs.Laws.{Has}
-use Rattle.back_end.specs.States.{State, loaded_state, view_of}
-use Rattle.back_end.specs.Steps.{Turn, acts, loads, step, turn}
+use Rattle.back_end.specs.States.{view_of}
+use Rattle.back_end.specs.Steps.{Turn, acts, loads}
+use Rattle.inspect_world.specs.RunStates.{RunState, run_start, run_step, run_turn}
+use Rattle.inspect_world.specs.ShownPauses.{pauses_in}
+use Rattle.inspect_world.proofs.Growing.{pauses-of}
 use Rattle.inspect_world.specs.Stream.{sent}
-use Rattle.inspect_world.specs.World.{World, Spent, one_ask, sent_up, turned, settled}
+use Rattle.inspect_world.specs.World.{World, AlreadyTold, Spent, one_ask, sent_up, turned, settled}
 use Rattle.inspect_world.specs.Fold.{folded, joined}
 use Rattle.inspect_world.specs.Fetches.{Fetcher, front_in, FetchLaws}
 use Rattle.inspect_world.specs.Agreement.{RunTogether}
-use Rattle.inspect_world.specs.Fits.{join, most_asks, most_sheets, most_fetches, HasLeft, IsBare, IsNext, next_raw, IsNextTurn, IsFit, replay}
-use Rattle.inspect_world.specs.Scripts.{sends, all_told, after_line, after_lines, loaded_world}
+use Rattle.inspect_world.specs.Fits.{join, most_asks, most_sheets, most_fetches, HasLeft, kept_styles, IsBare, IsNext, next_raw, IsNextTurn, IsFit, replay}
+use Rattle.inspect_world.specs.Scripts.{sends, telling, after_line, after_lines, loaded_world}
 use Rattle.inspect_world.specs.ScriptsFit.{CanSend, IsLater, AreLater}
 use Rattle.inspect_world.specs.ShownReplies.{told_of, replies_in}
 use Rattle.inspect_world.specs.FreshRuns.{refreshes, fresh_line, fresh_lines, Unstyled, unstyled, Together, FreshLinesFit, FreshInputsFit, RefreshedShows}
@@ -30,7 +33,7 @@ use Rattle.inspect_world.proofs.FetchLemmas.{IsRefreshed, refreshed-made, fit-re
 use Rattle.inspect_world.proofs.TogetherLemmas.{together-first, together-asked, together-raw, together-turned, together-delivered_up, together-delivered_down, together-settled}
 
 -- the asks of both runs are counted alike
-sent-alike : (a : AskForm) (w v : World State) → w.spent.asks ≡ v.spent.asks
+sent-alike : (a : AskForm) (w v : World RunState) → w.spent.asks ≡ v.spent.asks
     → sends a v ≡ sent_up (command_text (w.spent.asks + 1) a.method a.params a.session) one_ask v
 sent-alike a w v same = ap (λ n. sent_up (command_text (n + 1) a.method a.params a.session) one_ask v) (sym same)
 
@@ -43,12 +46,12 @@ module _ (fetcher : Fetcher FrontValue) (IsPlain : List ℕ → Type 0)
     (plain-sent : (id : ℕ) (a : AskForm) → CanSend a → id < 2 ^ 30 → IsPlain (command_text id a.method a.params a.session))
     (plain-bare : (text : List ℕ) → IsBare text → IsPlain text) where
   -- both runs of a script
-  abbrev pub BothRuns : World State → World State → Type 0
+  abbrev pub BothRuns : World RunState → World RunState → Type 0
   BothRuns w v = RunTogether replay IsFit (first_value []) unstyled IsPlain w v
 
   -- ---- a line
 
-  both-sent : (a : AskForm) (w v : World State) → CanSend a → HasLeft v.spent 1 → BothRuns w v → BothRuns (sends a w) (sends a v)
+  both-sent : (a : AskForm) (w v : World RunState) → CanSend a → HasLeft v.spent 1 → BothRuns w v → BothRuns (sends a w) (sends a v)
   both-sent a w v can left both =
       let few : w.spent.asks + 1 ≤ 2 ^ 26 = few-alike w.spent.asks v.spent.asks (2 ^ 26) both.agrees.asks left.asks in
       let small : w.spent.asks + 1 < 2 ^ 30 = omega (arith, few) in
@@ -60,28 +63,28 @@ module _ (fetcher : Fetcher FrontValue) (IsPlain : List ℕ → Type 0)
       (together-asked replay IsNext IsNextTurn IsFit world_laws fetcher unstyled most_sheets most_fetches fetching IsPlain (first_value []) text w v
       (IsText-sent (w.spent.asks + 1) a can (omega (arith, few))) (plain-sent (w.spent.asks + 1) a can small) (IsNext-sent w.spent a can few small) next1 both)
 
-  both-raw : (text : List ℕ) (w v : World State) → IsText text → IsBare text → HasLeft v.spent 1 → BothRuns w v → BothRuns (after_line (forms.raw text) w) (fresh_line fetcher (forms.raw text) v)
+  both-raw : (text : List ℕ) (w v : World RunState) → IsText text → IsBare text → HasLeft v.spent 1 → BothRuns w v → BothRuns (after_line (forms.raw text) w) (fresh_line fetcher (forms.raw text) v)
   both-raw text w v letters bare left both =
       together-raw replay IsNext IsNextTurn IsFit world_laws fetcher unstyled most_sheets most_fetches fetching IsPlain (first_value []) text w v letters
       (plain-bare text bare) (next_raw bare (few-alike w.spent.raws v.spent.raws most_asks both.agrees.raws left.raws)) (next_raw bare left.raws) both
 
-  both-turned : (x : Turn) (w v : World State) → IsNextTurn v.spent x → BothRuns w v → BothRuns (turned turn x w) (turned turn x v)
+  both-turned : (x : Turn) (w v : World RunState) → IsNextTurn v.spent x → BothRuns w v → BothRuns (turned run_turn x w) (turned run_turn x v)
   both-turned x w v next both =
       together-turned replay IsNext IsNextTurn IsFit world_laws fetcher unstyled most_sheets most_fetches fetching IsPlain (first_value []) x w v
       (record { is_turn = next.is_turn; few = few-alike w.spent.turns v.spent.turns most_asks both.agrees.turns next.few }) next both
 
   -- a settle, which fetches the texts of a page's sheets at most
-  pub room-fetches : (v : World State) (k : ℕ) → HasLeft v.spent k → v.spent.fetches + most_sheets ≤ most_fetches
+  pub room-fetches : (v : World RunState) (k : ℕ) → HasLeft v.spent k → v.spent.fetches + most_sheets ≤ most_fetches
   room-fetches v k left = let room : v.spent.fetches + (k + 1) * most_sheets ≤ most_fetches = left.fetches in omega (arith, room)
 
-  both-settled : (w v : World State) → HasLeft v.spent 1 → BothRuns w v → BothRuns (settled step w) (refreshes fetcher v)
+  both-settled : (w v : World RunState) → HasLeft v.spent 1 → BothRuns w v → BothRuns (settled run_step w) (refreshes fetcher v)
   both-settled w v left both =
       together-settled replay IsNext IsNextTurn IsFit world_laws fetcher unstyled most_sheets most_fetches fetching IsPlain (first_value []) w v
       (room-fetches v 1 left) both
 
-  -- how many replies were told says nothing of the streams
-  both-told : (w v : World State) → BothRuns w v → BothRuns (all_told w) (all_told v)
-  both-told w v both = record {
+  -- what was told says nothing of the streams
+  both-told : (w v : World RunState) (told told1 : AlreadyTold) → BothRuns w v → BothRuns (telling told w) (telling told1 v)
+  both-told w v told told1 both = record {
     fits = fits-told w _ both.fits;
     fits_fresh = fits-told v _ both.fits_fresh;
     agrees = record {
@@ -100,8 +103,8 @@ module _ (fetcher : Fetcher FrontValue) (IsPlain : List ℕ → Type 0)
     plain = both.plain;
   }
 
-  -- in the run with fetches it may be any number
-  pub together-told : (k : ℕ) (w v : World State) (n : ℕ) → Together IsPlain k w v
+  -- in the run with fetches it may be anything
+  pub together-told : (k : ℕ) (w v : World RunState) (n : AlreadyTold) → Together IsPlain k w v
       → Together IsPlain k w (record { state = v.state; up = v.up; down = v.down; spent = v.spent; told = n })
   together-told k w v n both = record {
     runs = record {
@@ -125,7 +128,7 @@ module _ (fetcher : Fetcher FrontValue) (IsPlain : List ℕ → Type 0)
     left = both.left;
   }
 
-  both-line : (line : LineForm) (w v : World State) → IsLater line → HasLeft v.spent 1 → BothRuns w v → BothRuns (after_line line w) (fresh_line fetcher line v)
+  both-line : (line : LineForm) (w v : World RunState) → IsLater line → HasLeft v.spent 1 → BothRuns w v → BothRuns (after_line line w) (fresh_line fetcher line v)
   both-line (load page) w v later left both = both-turned (loads page) w v (record { is_turn = later; few = left.turns }) both
   both-line (forms.act a) w v later left both = both-turned (acts a) w v (record { is_turn = later; few = left.turns }) both
   both-line (ask a) w v later left both = both-sent a w v later left both
@@ -138,12 +141,14 @@ module _ (fetcher : Fetcher FrontValue) (IsPlain : List ℕ → Type 0)
   both-line show_front w v later left both = both-settled w v left both
   both-line show_page w v later left both = both
   both-line show_sheets w v later left both = both-settled w v left both
-  both-line show_replies w v later left both = both-told (settled step w) (refreshes fetcher v) (both-settled w v left both)
+  both-line show_replies w v later left both = both-told (settled run_step w) (refreshes fetcher v) _ _ (both-settled w v left both)
+  both-line show_pauses w v later left both = both-told (settled run_step w) (refreshes fetcher v) _ _ (both-settled w v left both)
+  both-line (show_styles i) w v later left both = both-settled w v left both
 
   -- ---- what a line spends
 
   -- what a settle spends
-  settle-left : (w v : World State) (k : ℕ) → HasLeft v.spent (suc k) → BothRuns w v → HasLeft v.spent 1 → HasLeft (refreshes fetcher v).spent k
+  settle-left : (w v : World RunState) (k : ℕ) → HasLeft v.spent (suc k) → BothRuns w v → HasLeft v.spent 1 → HasLeft (refreshes fetcher v).spent k
   settle-left w v k left both one =
       let made : IsRefreshed replay IsNext IsNextTurn IsFit world_laws fetcher unstyled most_sheets most_fetches fetching (first_value []) w v (refreshes fetcher v) =
       refreshed-made replay IsNext IsNextTurn IsFit world_laws fetcher unstyled most_sheets most_fetches fetching (first_value []) w v
@@ -153,7 +158,7 @@ module _ (fetcher : Fetcher FrontValue) (IsPlain : List ℕ → Type 0)
       let turns : (refreshes fetcher v).spent.turns ≡ v.spent.turns = sym made.agrees.turns ∙ both.agrees.turns in
       spent-on k v.spent (refreshes fetcher v).spent (omega (arith, asks)) made.fetches (omega (arith, raws)) (omega (arith, turns)) left
 
-  line-left : (line : LineForm) (w v : World State) (k : ℕ) → HasLeft v.spent (suc k) → HasLeft v.spent 1 → BothRuns w v → HasLeft (fresh_line fetcher line v).spent k
+  line-left : (line : LineForm) (w v : World RunState) (k : ℕ) → HasLeft v.spent (suc k) → HasLeft v.spent 1 → BothRuns w v → HasLeft (fresh_line fetcher line v).spent k
   line-left (load page) w v k left one both = spent-on k v.spent (fresh_line fetcher (load page) v).spent (omega arith) (omega arith) (omega arith) (omega arith) left
   line-left (forms.act a) w v k left one both = spent-on k v.spent (fresh_line fetcher (forms.act a) v).spent (omega arith) (omega arith) (omega arith) (omega arith) left
   line-left (ask a) w v k left one both = spent-on k v.spent (fresh_line fetcher (ask a) v).spent (omega arith) (omega arith) (omega arith) (omega arith) left
@@ -165,6 +170,8 @@ module _ (fetcher : Fetcher FrontValue) (IsPlain : List ℕ → Type 0)
   line-left show_page w v k left one both = spent-on k v.spent v.spent (omega arith) (omega arith) (omega arith) (omega arith) left
   line-left show_sheets w v k left one both = settle-left w v k left both one
   line-left show_replies w v k left one both = settle-left w v k left both one
+  line-left show_pauses w v k left one both = settle-left w v k left both one
+  line-left (show_styles i) w v k left one both = settle-left w v k left both one
 
   -- room for so many lines is room for one
   one-left : (n : Spent) (k : ℕ) → HasLeft n (suc k) → HasLeft n 1
@@ -176,7 +183,7 @@ module _ (fetcher : Fetcher FrontValue) (IsPlain : List ℕ → Type 0)
       record { asks = omega (arith, ha); fetches = omega (arith, hf); raws = omega (arith, hr); turns = omega (arith, ht) }
 
   -- both runs are carried on by a line
-  pub together-line : (line : LineForm) (k : ℕ) (w v : World State) → IsLater line → Together IsPlain (suc k) w v
+  pub together-line : (line : LineForm) (k : ℕ) (w v : World RunState) → IsLater line → Together IsPlain (suc k) w v
       → Together IsPlain k (after_line line w) (fresh_line fetcher line v)
   together-line line k w v later both =
       let one = one-left v.spent k both.left in
@@ -184,7 +191,7 @@ module _ (fetcher : Fetcher FrontValue) (IsPlain : List ℕ → Type 0)
 
   -- ---- all lines
 
-  both-lines : (n : ℕ) (lines : List LineForm) (w v : World State) → AreLater lines → Together IsPlain (length lines) w v
+  both-lines : (n : ℕ) (lines : List LineForm) (w v : World RunState) → AreLater lines → Together IsPlain (length lines) w v
       → BothRuns (after_lines (take n lines) w) (fresh_lines fetcher (take n lines) v)
   both-lines zero lines w v later both = both.runs
   both-lines (suc n) [] w v later both = both.runs
@@ -195,7 +202,7 @@ module _ (fetcher : Fetcher FrontValue) (IsPlain : List ℕ → Type 0)
   pub together-loaded : (page : LoadedPage) (k : ℕ) → CanLoadPage page → PageHasTexts page → k ≤ most_asks → Together IsPlain k (loaded_world page) (loaded_world page)
   together-loaded page k can texts few = record {
     runs =
-        together-first replay IsNext IsNextTurn IsFit world_laws fetcher unstyled most_sheets most_fetches fetching IsPlain (first_value []) (loaded_state page)
+        together-first replay IsNext IsNextTurn IsFit world_laws fetcher unstyled most_sheets most_fetches fetching IsPlain (first_value []) (run_start page)
         (fit-first page can texts);
     left = left-first page k few;
   }
@@ -213,11 +220,11 @@ module _ (fetcher : Fetcher FrontValue) (IsPlain : List ℕ → Type 0)
   -- ---- after a settle
 
   -- the frames that were sent are the same after a settle
-  pub settled-plain : (w : World State) → All IsPlain (frames_of (sent w.up)).whole → All IsPlain (frames_of (sent (settled step w).up)).whole
+  pub settled-plain : (w : World RunState) → All IsPlain (frames_of (sent w.up)).whole → All IsPlain (frames_of (sent (settled run_step w).up)).whole
   settled-plain w all = subst (λ bytes. All IsPlain (frames_of bytes).whole) (sym (sent-passed (length w.up.flying) w.up)) all
 
   -- `kept`: a front end that has sent no fetch has kept the replies that came down
-  pub refreshed-shows : ((w : World State) (front : FrontValue) → All IsPlain (frames_of (sent w.up)).whole
+  pub refreshed-shows : ((w : World RunState) (front : FrontValue) → All IsPlain (frames_of (sent w.up)).whole
       → front_in replay (first_value []) w ≡ Ok front → map told_of front.replies ≡ replies_in w.down.given)
       → RefreshedShows fetcher IsPlain
   refreshed-shows kept w v both =
@@ -233,9 +240,12 @@ module _ (fetcher : Fetcher FrontValue) (IsPlain : List ℕ → Type 0)
         is_fold =
             ap (λ bytes. folded take_frame (joined join (first_value []) (frames_of bytes).whole) (frames_of v1.down.given).whole) (sym (sent-all v1.up made.rests.up.flying))
             ∙ made.agrees.fresh_is;
-        shows = subst (λ state. Has front (view_of state)) (sym made.agrees.state) fit.has;
+        shows = subst (λ (s : RunState). Has front (view_of s.back)) (sym made.agrees.state) fit.has;
         fresh = made.none;
-        told = sym (ap (λ (u : Unstyled). map told_of u.replies) made.agrees.same) ∙ kept (settled step w) made.agrees.plain (settled-plain w both.runs.plain) made.agrees.plain_is;
+        told = sym (ap (λ (u : Unstyled). map told_of u.replies) made.agrees.same) ∙ kept (settled run_step w) made.agrees.plain (settled-plain w both.runs.plain) made.agrees.plain_is;
+        pauses = sym (ap (λ (u : Unstyled). u.pauses) made.agrees.same)
+            ∙ pauses-of (frames_of (sent (settled run_step w).up)).whole (frames_of (settled run_step w).down.given).whole made.agrees.plain made.agrees.plain_is;
+        styles = fit.styles ∙ ap (λ (s : RunState). s.styles) (sym made.agrees.state);
         waits = sym fit.asks;
         whole = made.rests.down.held;
       }

@@ -1,5 +1,5 @@
 -- What the lines of an input are that is carried out: a load that a page may hold, and then lines that may come after it.
-use Rattle.std.proofs.Common.{◌≡◌, ℕ, suc, ◌+◌, ◌≤◌, cond, List, [], ◌∷◌, length, Bool, true, false, bytes_eq, codes, Option, Some, None, option_map, option_and_then, if◌then◌else◌, refl, sym, ◌∙◌, ap, subst, arith}
+use Rattle.std.proofs.Common.{◌≡◌, ◌⊎◌, inl, inr, ℕ, suc, ◌+◌, ◌≤◌, cond, List, [], ◌∷◌, length, Bool, true, false, bytes_eq, codes, Option, Some, None, option_map, option_and_then, if◌then◌else◌, refl, sym, ◌∙◌, ap, subst, arith}
 use Rattle.serde_json.specs.Data.{Data, null, boolean, number, string, array, object, Members, no_members, member, depth}
 use Rattle.serde_json.specs.Find.{as_str}
 use Rattle.serde_json.specs.Read.{read, max_depth}
@@ -21,7 +21,7 @@ use Rattle.std.specs.List.{onto_first}
 use Rattle.replay_script.specs.Lines.{is_line_feed, lines_of}
 use Rattle.replay_script.specs.Kinds.{line_kind_name, all_line_kinds, sole_member, sole, styles_in, kind_said}
 use Rattle.replay_script.specs.Forms as forms
-use Rattle.replay_script.specs.Forms.{LineForm, load, ask, up, down, settle, show_front, show_page, show_sheets, show_replies, ask_in, show_from, form_by, form_of, line_form}
+use Rattle.replay_script.specs.Forms.{LineForm, load, ask, up, down, settle, show_front, show_page, show_sheets, show_replies, show_pauses, show_styles, ask_in, show_from, form_by, form_of, line_form}
 use Rattle.std.specs.Option.{option_map_or}
 use Rattle.replay_script.specs.Faults.{is_no_frame, fault_of_data, line_fault}
 use Rattle.replay_script.specs.Script.{script_forms, good_lines}
@@ -60,19 +60,15 @@ within-sole (string s) p e = absurd cc
 within-sole (array ds) p e = absurd cc
 within-sole (object ms) p e = within-sole_member ms p e
 
-nothing : (form : LineForm) → ◌≡◌ {A = Option LineForm} None (Some form) → ⊥
-nothing form e = cc
-
--- what a line says that is carried out stands under its one property
-within-said : (styles : Option Data) (o : Option (List ℕ × Data)) (d : Data) (k : LineKind) (v : Data) (form : LineForm) → sole d ≡ o
-    → first_of (option_map (λ asked. (kind.Styles, asked)) styles) (option_and_then kind_said o) ≡ Some (k, v) → form_by k v ≡ Some form → Within v d
-within-said (Some asked) o d k v form is e f =
-    let same : (kind.Styles, asked) ≡ (k, v) = cc e in
-    let no : ◌≡◌ {A = Option LineForm} None (Some form) = subst (λ (t : LineKind × Data). form_by t.0 t.1 ≡ Some form) (sym same) f in absurd (nothing form no)
-within-said None o d k v form is e f =
+-- what a line says stands under its one property, but for a show of styles
+within-said : (styles : Option Data) (o : Option (List ℕ × Data)) (d : Data) (k : LineKind) (v : Data) → sole d ≡ o
+    → first_of (option_map (λ asked. (kind.Styles, asked)) styles) (option_and_then kind_said o) ≡ Some (k, v) → (k ≡ kind.Styles) ⊎ Within v d
+within-said (Some asked) o d k v is e =
+    let same : ◌≡◌ {A = LineKind × Data} (kind.Styles, asked) (k, v) = cc e in inl (sym (ap (λ (t : LineKind × Data). t.0) same))
+within-said None o d k v is e =
     let p = and_then_some kind_said o (k, v) e in
     let q = map_some (λ (name : LineKind). (name, p.0.1)) (named line_kind_name all_line_kinds p.0.0) (k, v) p.2 in
-    subst (λ (x : Data). Within x d) (ap (λ (t : LineKind × Data). t.1) q.2) (within-sole d p.0 (is ∙ p.1))
+    inr (subst (λ (x : Data). Within x d) (ap (λ (t : LineKind × Data). t.1) q.2) (within-sole d p.0 (is ∙ p.1)))
 
 -- ---- a line that is not refused
 
@@ -102,13 +98,17 @@ later_raw v form clear is =
     let p = map_some forms.raw (as_str v) form is in
     subst IsLater p.2 (raw_is_frame p.0 (sym (ap (λ o. option_map_or is_no_frame o false) p.1) ∙ clear.frame))
 
-later_show : (b c s d : Bool) (form : LineForm)
-    → (if b then Some show_front else if c then Some show_page else if s then Some show_sheets else if d then Some show_replies else None) ≡ Some form → IsLater form
-later_show true c s d form is = let same : show_front ≡ form = cc is in subst IsLater same tt
-later_show false true s d form is = let same : show_page ≡ form = cc is in subst IsLater same tt
-later_show false false true d form is = let same : show_sheets ≡ form = cc is in subst IsLater same tt
-later_show false false false true form is = let same : show_replies ≡ form = cc is in subst IsLater same tt
-later_show false false false false form is = absurd cc
+later_show : (b c s d p : Bool) (form : LineForm)
+    → (if b then Some show_front else if c then Some show_page else if s then Some show_sheets else if d then Some show_replies else if p then Some show_pauses else None) ≡ Some form → IsLater form
+later_show true c s d p form is = let same : show_front ≡ form = cc is in subst IsLater same tt
+later_show false true s d p form is = let same : show_page ≡ form = cc is in subst IsLater same tt
+later_show false false true d p form is = let same : show_sheets ≡ form = cc is in subst IsLater same tt
+later_show false false false true p form is = let same : show_replies ≡ form = cc is in subst IsLater same tt
+later_show false false false false true form is = let same : show_pauses ≡ form = cc is in subst IsLater same tt
+later_show false false false false false form is = absurd cc
+
+later_styles : (v : Data) (form : LineForm) → form_by kind.Styles v ≡ Some form → IsLater form
+later_styles v form is = let p = map_some show_styles (as_whole v) form is in subst IsLater p.2 tt
 
 later_by : (k : LineKind) (v : Data) (form : LineForm) → IsClear k v → IsPlainRead v → form_by k v ≡ Some form → IsLater form
 later_by kind.Load v form clear read is = later_load v form clear read is
@@ -120,9 +120,9 @@ later_by kind.Down v form clear read is = let p = map_some down (as_whole v) for
 later_by kind.Settle v form clear read is = let p = map_some (λ _. settle) (as_true v) form is in subst IsLater p.2 tt
 later_by kind.Show v form clear read is =
     let p = and_then_some show_from (as_str v) form is in
-    later_show (bytes_eq p.0 (codes "front")) (bytes_eq p.0 (codes "page")) (bytes_eq p.0 (codes "sheets")) (bytes_eq p.0 (codes "replies")) form p.2
+    later_show (bytes_eq p.0 (codes "front")) (bytes_eq p.0 (codes "page")) (bytes_eq p.0 (codes "sheets")) (bytes_eq p.0 (codes "replies")) (bytes_eq p.0 (codes "pauses")) form p.2
 later_by kind.Close v form clear read is = absurd cc
-later_by kind.Styles v form clear read is = absurd cc
+later_by kind.Styles v form clear read is = later_styles v form is
 
 -- a line that is read: plain but for floats, UTF-8, and not too deep
 pub record IsRead (d : Data) : Type 0 where
@@ -141,11 +141,14 @@ later_data : (nth : ℕ) (d : Data) (form : LineForm) → IsRead d → fault_of_
 later_data nth d form read e is =
     let good = line_good nth d e in
     let by : form_by good.kind good.value ≡ Some form = sym (ap (option_and_then (λ (s : LineKind × Data). form_by s.0 s.1)) good.is) ∙ is in
-    let within : Within good.value d = within-said (styles_in d) (sole d) d good.kind good.value form refl good.is by in
-    let levels : depth d ≤ max_depth = read.levels in
-    let deep : suc (depth good.value) ≤ depth d = within.deep in
-    later_by good.kind good.value form (is_clear good.kind good.value good.clear)
-    (record { plain = within.plain (read.plain good.whole); texts = within.texts read.texts; levels = omega (arith, levels, deep) }) by
+    by_kind good.kind good.value (is_clear good.kind good.value good.clear) good.whole by (within-said (styles_in d) (sole d) d good.kind good.value refl good.is)
+  where
+    by_kind : (k : LineKind) (v : Data) → IsClear k v → has_float d ≡ false → form_by k v ≡ Some form → (k ≡ kind.Styles) ⊎ Within v d → IsLater form
+    by_kind k v clear whole by (inl styles) = later_styles v form (sym (ap (λ at. form_by at v) styles) ∙ by)
+    by_kind k v clear whole by (inr within) =
+        let levels : depth d ≤ max_depth = read.levels in
+        let deep : suc (depth v) ≤ depth d = within.deep in
+        later_by k v form clear (record { plain = within.plain (read.plain whole); texts = within.texts read.texts; levels = omega (arith, levels, deep) }) by
 
 -- a line that is not refused may be carried out
 pub later_line : (nth : ℕ) (line : List ℕ) (form : LineForm) → line_fault nth line ≡ None → line_form line ≡ Some form → IsLater form

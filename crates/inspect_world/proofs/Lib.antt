@@ -8,9 +8,11 @@ pub mod KeepLemmas
 pub mod AskLemmas
 pub mod Pipes
 pub mod Replies
+pub mod Growing
 pub mod Messages
 pub mod PlainAsks
 pub mod MoveTexts
+pub mod StylesTold
 pub mod StepsTaken
 pub mod ShownSheets
 pub mod FetchTold

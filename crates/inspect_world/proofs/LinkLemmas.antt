@@ -1,6 +1,7 @@
 -- The ends follow every link, whatever bytes it gives.
-use Rattle.std.proofs.Common.{Option, ◌≡◌, refl, true, false, ℕ, ◌+◌, ◌*◌, ◌^◌, ◌<◌, ◌≤◌, List, [], ◌∷◌, ◌++◌, length, map, drop, Some, None, sym, ◌∙◌, ap, subst, append_assoc, append-nil, length-append, Result, Ok, Err, arith}
-use Rattle.std.specs.List.{flat_map}
+use Rattle.std.proofs.Common.{Option, ◌≡◌, is_some, refl, true, false, ℕ, ◌+◌, ◌*◌, ◌^◌, ◌<◌, ◌≤◌, List, [], ◌∷◌, ◌++◌, length, map, drop, Some, None, sym, ◌∙◌, ap, subst, append_assoc, append-nil, length-append, Result, Ok, Err, arith}
+use Rattle.std.specs.List.{flat_map, All}
+use Rattle.std.proofs.lemmas.List.Elements.{All-nil, All-weaker}
 use Rattle.std.specs.Option.{option_to_list}
 use Rattle.std.proofs.Math.Seq.{drop-append_seam}
 use Rattle.std.proofs.lemmas.List.{map-append}
@@ -24,14 +25,14 @@ use Rattle.back_end.specs.declared.seat.Seat.{Seat}
 use Rattle.back_end.specs.declared.side.PageSide.{PageSide}
 use Rattle.back_end.specs.States.{State, IsState, view_of}
 use Rattle.back_end.specs.Steps.{Step, Turn, Stepped, frame_step, turn_step, as_bytes, step, turn}
-use Rattle.back_end.specs.Laws.{HasRoom, StepsWell, IsAnswered, IsTurn, reply_ids}
+use Rattle.back_end.specs.Laws.{most_ids, HasRoom, StepsWell, IsAnswered, IsTurn, reply_ids}
 use Rattle.page_tree.specs.Forms.{max_nodes}
 use Rattle.page_forms.specs.Sheets.{max_sheets}
 use Rattle.page_tree.specs.Pages.{State as PageValue}
 use Rattle.back_end.specs.Seats.{StandsFor, HasRoomLeft}
 use Rattle.inspect_world.specs.Fits.{ask_in, ask_with, asks_among, most_asks}
 use Rattle.inspect_world.specs.Held.{Ends, good_front}
-use Rattle.inspect_world.specs.Links.{fold_of, Happening, came, made, step_of, happened, frames_among, made_among, Started, started, one_line_more, GoesOn, Follows}
+use Rattle.inspect_world.specs.Links.{fold_of, knows_styles, Happening, came, made, step_of, happened, frames_among, made_among, Started, started, one_line_more, GoesOn, Follows}
 use Rattle.inspect_world.specs.ScriptsFit.{CanSend}
 use Rattle.inspect_world.specs.FreshRuns.{front_fetcher}
 use Rattle.inspect_world.proofs.FetchForms.{fetch-text, sent-fetch}
@@ -43,7 +44,11 @@ use Rattle.back_end.proofs.AnswerLemmas.{turn-answers}
 use Rattle.inspect_world.proofs.Messages.{IsText-sent, ask_in-sent}
 use Rattle.inspect_world.proofs.PlainAsks.{ArePlain}
 use Rattle.inspect_world.proofs.Replies.{replies-folded, replies_among-append}
-use Rattle.inspect_world.proofs.StepsTaken.{course-quiet, Taken, taken, tells-all, meets-one, by-refusal, ids-kept}
+use Rattle.inspect_world.specs.World.{AlreadyTold, nothing_told}
+use Rattle.front_mirror.specs.declared.replies.MatchedReply.{MatchedReply}
+use Rattle.front_mirror.specs.Front.{matched_in}
+use Rattle.inspect_world.proofs.Growing.{grows-folded, styles-stay}
+use Rattle.inspect_world.proofs.StepsTaken.{folded-fold, course-quiet, Taken, taken, tells-all, meets-one, by-refusal, ids-kept}
 use Rattle.inspect_world.proofs.AskLemmas.{asks_among-append}
 use Rattle.inspect_world.proofs.Worlds.{whole-after, rest-after}
 use Rattle.inspect_world.proofs.CountLemmas.{events-counted, frames-few, made-last, more_ids, more_serials, more_numbers, is-full, ids-left, serials-left, numbers-left}
@@ -55,7 +60,7 @@ pub record Sends (state : State) (h : Happening) : Type 0 where
   pub texts : List (List ℕ)
   pub frames_are : frames_of (step_of h state).sent ≡ record { whole = texts; rest = [] }
   pub ids_are : map (λ (t : ShownReply). t.id) (replies_among texts) ≡ map reply_id (frames_among (h ∷ []))
-  pub ids : length (step_of h state).state.client.session.pushed ≤ length state.client.session.pushed + max_nodes
+  pub ids : length (step_of h state).state.client.session.pushed ≤ length state.client.session.pushed + most_ids
   pub serials : (step_of h state).state.side.page.next ≤ state.side.page.next + (max_nodes + 1)
   pub numbers : (step_of h state).state.side.next_sheet ≤ state.side.next_sheet + max_sheets
 
@@ -84,7 +89,7 @@ sends-moves state h done asks rest well is_step plain in_turn ids =
           ap (map (λ (x : ShownReply). x.id)) (sym among ∙ ap (map told_of) t.replies)
           ∙ ids-kept done.moves asks plain ∙ ids;
       ids =
-          subst (λ (d : Stepped State). length d.state.client.session.pushed ≤ length state.client.session.pushed + max_nodes) (sym is_step) well.ids;
+          subst (λ (d : Stepped State). length d.state.client.session.pushed ≤ length state.client.session.pushed + most_ids) (sym is_step) well.ids;
       serials = subst (λ (d : Stepped State). d.state.side.page.next ≤ state.side.page.next + (max_nodes + 1)) (sym is_step) well.serials;
       numbers = subst (λ (d : Stepped State). d.state.side.next_sheet ≤ state.side.next_sheet + max_sheets) (sym is_step) well.sheets;
     }
@@ -186,13 +191,13 @@ folds-sent sent_up more given_down v whole e =
 -- ---- the start
 
 -- a page was loaded, and both ends are new
-pub follows-start : (up0 down0 : Pipe) (state0 : Started) (seat : Seat) (side : PageSide) → StandsFor seat side state0.state
-    → state0.lines ≤ most_asks → length state0.state.client.session.pushed ≤ 0 * max_nodes → state0.state.side.page.next ≤ (0 + 1) * (max_nodes + 1)
+pub follows-start : (up0 down0 : Pipe) (state0 : Started) (seat : Seat) (side : PageSide) → state0.shown ≡ [] → StandsFor seat side state0.state
+    → state0.lines ≤ most_asks → length state0.state.client.session.pushed ≤ 0 * most_ids → state0.state.side.page.next ≤ (0 + 1) * (max_nodes + 1)
     → state0.state.side.next_sheet ≤ (0 + 1) * max_sheets + 1
     → Follows state0 up0 down0 up0 down0 []
-    (record { seat = seat; side = side; back_rest = []; front = first_state; up_there = 0; down_there = 0; told = 0 })
+    (record { seat = seat; side = side; back_rest = []; front = first_state; up_there = 0; down_there = 0; told = nothing_told })
 unfolding frames_of
-follows-start up0 down0 state0 seat side stands few ids serials numbers = record {
+follows-start up0 down0 state0 seat side none stands few ids serials numbers = record {
   sent_up = [];
   given_up = [];
   sent_down = [];
@@ -203,6 +208,7 @@ follows-start up0 down0 state0 seat side stands few ids serials numbers = record
   value = first_value [];
   front_is = refl;
   is_fold = refl;
+  styled = subst (All (λ ask. knows_styles (first_value []) ask ≡ true)) (sym none) (All-nil (λ ask. knows_styles (first_value []) ask ≡ true));
   events = [];
   frames_are = refl;
   back_is = refl;
@@ -235,6 +241,7 @@ follows-fewer state0 up0 down0 up down waiting e f = record {
   value = f.value;
   front_is = f.front_is;
   is_fold = f.is_fold;
+  styled = f.styled;
   events = f.events;
   frames_are = f.frames_are;
   back_is = f.back_is;
@@ -253,6 +260,47 @@ follows-fewer state0 up0 down0 up down waiting e f = record {
   few_numbers = f.few_numbers;
 }
 
+-- more matched styles were shown, which are there
+pub follows-showing : (state0 : Started) (shown : List ℕ) (up0 down0 up down : Pipe) (waiting : List (List ℕ)) (e : Ends)
+    → (f : Follows state0 up0 down0 up down waiting e) → All (λ ask. knows_styles f.value ask ≡ true) shown
+    → Follows (started state0.state state0.lines shown) up0 down0 up down waiting e
+follows-showing state0 shown up0 down0 up down waiting e f all = record {
+  sent_up = f.sent_up;
+  given_up = f.given_up;
+  sent_down = f.sent_down;
+  given_down = f.given_down;
+  up_is = f.up_is;
+  down_is = f.down_is;
+  up_whole = f.up_whole;
+  value = f.value;
+  front_is = f.front_is;
+  is_fold = f.is_fold;
+  styled = all;
+  events = f.events;
+  frames_are = f.frames_are;
+  back_is = f.back_is;
+  state = f.state;
+  side_is = f.side_is;
+  sent_is = f.sent_is;
+  replies_are = f.replies_are;
+  down_whole = f.down_whole;
+  stands = f.stands;
+  up_left = f.up_left;
+  down_left = f.down_left;
+  few_asked = f.few_asked;
+  few_made = f.few_made;
+  few_ids = f.few_ids;
+  few_serials = f.few_serials;
+  few_numbers = f.few_numbers;
+}
+
+-- matched styles that came are there for good
+stay-all : (v w : FrontValue) (frames : List (List ℕ)) (asks : List ℕ) → fold_frames v frames ≡ Ok w
+    → All (λ ask. knows_styles v ask ≡ true) asks → All (λ ask. knows_styles w ask ≡ true) asks
+stay-all v w frames asks e all =
+    All-weaker (λ ask. knows_styles v ask ≡ true) (λ ask. knows_styles w ask ≡ true)
+    (λ ask here. styles-stay v w _ ask (grows-folded frames v w (folded-fold frames v w e)) here) asks all
+
 module _ (state0 : Started) (up0 down0 : Pipe) where
   -- ---- bytes go up
 
@@ -260,11 +308,11 @@ module _ (state0 : Started) (up0 down0 : Pipe) where
   follows-sent : (up down up1 : Pipe) (waiting : List (List ℕ)) (e : Ends) (text : List ℕ) (value1 : FrontValue) (front1 : FrontState) (there : ℕ)
       → (f : Follows state0 up0 down0 up down waiting e) → there ≡ e.up_there + length (framed text) → IsText text
       → front1 ≡ good_front value1 (frames_of f.given_down).rest front1.next front1.fetches
-      → front1.next + front1.fetches ≤ e.front.next + e.front.fetches + 1
+      → front1.next + front1.fetches ≤ e.front.next + e.front.fetches + 1 → value1.matched ≡ f.value.matched
       → fold (asks_among (frames_of f.sent_up).whole ++ option_to_list (ask_in text)) f.given_down ≡ Ok value1
       → up1.sent ≡ up.sent ++ framed text → up1.given ≡ up.given
       → Follows state0 up0 down0 up1 down waiting (record e { front = front1; up_there = there })
-  follows-sent up down up1 waiting e text value1 front1 there f left letters front_is one folds sent_is given_is =
+  follows-sent up down up1 waiting e text value1 front1 there f left letters front_is one matched folds sent_is given_is =
       let frames : (frames_of (f.sent_up ++ framed text)).whole ≡ (frames_of f.sent_up).whole ++ text ∷ [] =
       whole-after f.sent_up (framed text) f.up_whole ∙ ap (λ (fs : Frames). (frames_of f.sent_up).whole ++ fs.whole) (frames_of-one text letters) in
       let asks : asks_among (frames_of (f.sent_up ++ framed text)).whole ≡ asks_among (frames_of f.sent_up).whole ++ option_to_list (ask_in text) =
@@ -281,6 +329,7 @@ module _ (state0 : Started) (up0 down0 : Pipe) where
         value = value1;
         front_is = front_is;
         is_fold = ap (λ waits. fold waits f.given_down) asks ∙ folds;
+        styled = subst (λ rs. All (λ ask. is_some (matched_in ask rs) ≡ true) state0.shown) (sym matched) f.styled;
         events = f.events;
         frames_are = f.frames_are;
         back_is = f.back_is;
@@ -314,7 +363,7 @@ module _ (state0 : Started) (up0 down0 : Pipe) where
   follows-asked up down up1 waiting e text method there f left letters is sent_is given_is =
       let ask = ask_with method e.front.next in
       follows-sent up down up1 waiting e text (front_laws.joined f.value ask) (after_ask e.front method) there f left letters
-      (ap (λ s. after_ask s method) f.front_is) (omega arith)
+      (ap (λ s. after_ask s method) f.front_is) (omega arith) refl
       (ap (λ o. fold (asks_among (frames_of f.sent_up).whole ++ option_to_list o) f.given_down) is
       ∙ fold-more (asks_among (frames_of f.sent_up).whole) ask f.given_down f.value f.is_fold)
       sent_is given_is
@@ -325,7 +374,7 @@ module _ (state0 : Started) (up0 down0 : Pipe) where
       → up1.sent ≡ up.sent ++ framed text → up1.given ≡ up.given
       → Follows state0 up0 down0 up1 down waiting (record e { up_there = there })
   follows-raw up down up1 waiting e text there f left letters none sent_is given_is =
-      follows-sent up down up1 waiting e text f.value e.front there f left letters f.front_is (omega arith)
+      follows-sent up down up1 waiting e text f.value e.front there f left letters f.front_is (omega arith) refl
       (ap (λ o. fold (asks_among (frames_of f.sent_up).whole ++ option_to_list o) f.given_down) none
       ∙ ap (λ asks. fold asks f.given_down) (append-nil (asks_among (frames_of f.sent_up).whole)) ∙ f.is_fold)
       sent_is given_is
@@ -342,7 +391,7 @@ module _ (state0 : Started) (up0 down0 : Pipe) where
       let small : 2 ^ 30 + e.front.fetches < 2 ^ 53 = omega (arith, room) in
       let is : ask_in text ≡ Some ask = sent-fetch e.front.fetches sheet small fits in
       follows-sent up down up1 waiting e text (front_laws.joined f.value ask) (after_fetch e.front sheet) there f left (fetch-text (2 ^ 30 + e.front.fetches) sheet small)
-      (ap (λ s. after_fetch s sheet) f.front_is) (omega arith)
+      (ap (λ s. after_fetch s sheet) f.front_is) (omega arith) refl
       (ap (λ o. fold (asks_among (frames_of f.sent_up).whole ++ option_to_list o) f.given_down) is
       ∙ fold-more (asks_among (frames_of f.sent_up).whole) ask f.given_down f.value f.is_fold)
       sent_is given_is
@@ -371,6 +420,7 @@ module _ (state0 : Started) (up0 down0 : Pipe) where
     value = f.value;
     front_is = f.front_is;
     is_fold = f.is_fold;
+    styled = f.styled;
     events = f.events;
     frames_are =
         ap (λ (fs : Frames). fs.whole) (frames_of-append f.given_up piece)
@@ -401,7 +451,7 @@ module _ (state0 : Started) (up0 down0 : Pipe) where
   -- a step is carried out, and what it sends is put down; `lines` is how many lines more there were before
   follows-step : (lines : ℕ) (up down down1 : Pipe) (h : Happening) (waits waiting : List (List ℕ)) (e : Ends) (seat : Seat) (side : PageSide) (out : List ℕ) (there : ℕ)
       → made_among (h ∷ []) + state0.lines ≤ lines
-      → (f : Follows (started state0.state lines) up0 down0 up down waits e) → waits ≡ frames_among (h ∷ []) ++ waiting → there ≡ e.down_there + length out
+      → (f : Follows (started state0.state lines state0.shown) up0 down0 up down waits e) → waits ≡ frames_among (h ∷ []) ++ waiting → there ≡ e.down_there + length out
       → Sends f.state h → StandsFor seat side (step_of h f.state).state
       → out ≡ (step_of h f.state).sent → down1.sent ≡ down.sent ++ out → down1.given ≡ down.given
       → Follows state0 up0 down0 up down1 waiting (record e { seat = seat; side = side; down_there = there })
@@ -422,6 +472,7 @@ module _ (state0 : Started) (up0 down0 : Pipe) where
         value = f.value;
         front_is = f.front_is;
         is_fold = f.is_fold;
+        styled = f.styled;
         events = f.events ++ h ∷ [];
         frames_are =
             f.frames_are ∙ ap (λ frames. frames_among f.events ++ frames) waits_are
@@ -519,6 +570,7 @@ module _ (state0 : Started) (up0 down0 : Pipe) where
             ∙ ap (λ n. good_front end.value (held_after (frames_of f.given_down).rest piece) (after_take e.front piece).next n) (sym fetches)
             ∙ ap (λ rest. good_front end.value rest (after_take e.front piece).next (after_take e.front piece).fetches) (sym (ap (λ (fs : Frames). fs.rest) (frames_of-append f.given_down piece)));
         is_fold = fold-down up down waiting e piece f ∙ ap (outcome end.value) none;
+        styled = stay-all f.value end.value (frames_from (frames_of f.given_down).rest piece) state0.shown (ap (outcome end.value) none) f.styled;
         events = f.events;
         frames_are = f.frames_are;
         back_is = f.back_is;
@@ -625,9 +677,9 @@ module _ (state0 : Started) (up0 down0 : Pipe) where
         sheets = subst (λ n. n < 2 ^ 50) (sym f.stands.next_is) (numbers-left f.state.side.next_sheet (length f.events) events f.few_numbers);
       }) in absurd cc)
 
-  -- ---- how many replies were told says nothing of the link
+  -- ---- what was told says nothing of the link
 
-  pub follows-told : (up down : Pipe) (waiting : List (List ℕ)) (e : Ends) (n : ℕ) → Follows state0 up0 down0 up down waiting e
+  pub follows-told : (up down : Pipe) (waiting : List (List ℕ)) (e : Ends) (n : AlreadyTold) → Follows state0 up0 down0 up down waiting e
       → Follows state0 up0 down0 up down waiting (record e { told = n })
   follows-told up down waiting e n f = record {
     sent_up = f.sent_up;
@@ -640,6 +692,7 @@ module _ (state0 : Started) (up0 down0 : Pipe) where
     value = f.value;
     front_is = f.front_is;
     is_fold = f.is_fold;
+    styled = f.styled;
     events = f.events;
     frames_are = f.frames_are;
     back_is = f.back_is;

@@ -22,7 +22,7 @@ use Rattle.front_mirror.specs.declared.faults.FrontKind.{FrontKind}
 use Rattle.front_mirror.specs.declared.faults.FrontKind.TheVariants.{NotMessage, UnknownNode, IdTaken, UnknownSheet}
 use Rattle.front_mirror.specs.declared.sheets.KnownSheet.{KnownSheet}
 use Rattle.front_mirror.specs.Sheets.{new_sheet, has_sheet, marked_old, without_sheet}
-use Rattle.front_mirror.specs.Front.{FrontValue, first_value, take_frame, method_of, without, kept, kept_reply, replied, refused, with_root, root_fault, with_effect, with_body, with_reply, with_fault, with_tree, ToldChange, told_change, at_spot, change_fault, with_change, halted, is_shown, told_sheets, with_news, with_message}
+use Rattle.front_mirror.specs.Front.{FrontValue, first_value, take_frame, method_of, without, kept, kept_reply, replied, refused, with_root, root_fault, matched_told, with_matched, with_effect, with_body, with_reply, with_fault, with_tree, ToldChange, told_change, at_spot, change_fault, with_change, halted, is_shown, told_sheets, with_news, with_message}
 use Rattle.inspect_world.specs.Fold.{folded, joined, then}
 use Rattle.inspect_world.specs.Fits.{join, with_ask, ask_in, IsPlainFrame}
 use Rattle.inspect_world.specs.ShownReplies.{ShownReply, told_of, told_by, replies_among}
@@ -77,7 +77,10 @@ keeps-effect v id frame effect.NothingElse w plain e = keeps-replied v id frame 
 keeps-body : (v : FrontValue) (id : ℕ) (frame method : List ℕ) (o : Option ReplyBody) (w : FrontValue) → ArePlain v.asks
     → with_body v id frame method o ≡ Ok w → Keeps v (record { id = Some id; text = frame } ∷ []) w
 keeps-body v id frame method None w plain e = refuses NotMessage w e
-keeps-body v id frame method (Some body) w plain e = keeps-effect v id frame (effect_of method body) w plain e
+keeps-body v id frame method (Some body) w plain e = keeps-more (keeps-effect (with_matched v (matched_told id body)) id frame (effect_of method body) w plain e)
+  where
+    keeps-more : {ts : List ShownReply} → Keeps (with_matched v (matched_told id body)) ts w → Keeps v ts w
+    keeps-more k = record { replies = k.replies; plain = k.plain }
 
 keeps-reply : (v : FrontValue) (id : ℕ) (frame : List ℕ) (result : Data) (o : Option (List ℕ)) (w : FrontValue) → ArePlain v.asks
     → with_reply v id frame result o ≡ Ok w → Keeps v (record { id = Some id; text = frame } ∷ []) w

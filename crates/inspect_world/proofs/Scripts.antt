@@ -18,13 +18,16 @@ use Rattle.cdp_messages.specs.Asked.{command_text}
 use Rattle.dom_agent.specs.Laws.{RowsHaveUtf8}
 use Rattle.front_mirror.specs.Front.{first_value, take_frame}
 use Rattle.replay_script.specs.Forms as forms
-use Rattle.replay_script.specs.Forms.{AskForm, LineForm, load, ask, up, down, settle, show_front, show_page, show_sheets, show_replies}
+use Rattle.replay_script.specs.Forms.{AskForm, LineForm, load, ask, up, down, settle, show_front, show_page, show_sheets, show_replies, show_pauses, show_styles}
 use Rattle.pipe_frames.specs.Frames.{IsText, frames_of}
 use Rattle.inspect_world.specs.Stream.{sent, held, awaited}
 use Rattle.inspect_world.specs.Fold.{folded, joined}
-use Rattle.inspect_world.specs.World.{World, Spent, nothing_spent, one_raw, raw, turned, delivered_up, settled}
+use Rattle.inspect_world.specs.World.{World, AlreadyTold, Spent, nothing_spent, one_raw, raw, turned, delivered_up, settled}
+use Rattle.back_end.proofs.WatchedLemmas.{none-set}
 use Rattle.back_end.specs.States.{State, nodes_in, loaded_state, IsState}
-use Rattle.back_end.specs.Steps.{Turn, acts, loads, step, turn}
+use Rattle.back_end.specs.Steps.{Turn, acts, loads}
+use Rattle.inspect_world.specs.RunStates.{RunState, run_start, run_step, run_turn}
+use Rattle.inspect_world.proofs.Growing.{pauses-of}
 use Rattle.inspect_world.specs.Fits.{join, asks_among, IsNext, next_raw, IsBare, IsNextTurn, HasLeft, most_asks, most_sheets, most_fetches, IsFit, replay, Fits}
 use Rattle.inspect_world.specs.Scripts.{sends, after_line, after_lines, loaded_world}
 use Rattle.page_forms.specs.Texts.{HaveTexts, SheetsHaveTexts, PageHasTexts}
@@ -83,12 +86,15 @@ IsState-first page can texts = record {
   session = IsSession-begun (nodes_in (loaded_state page));
   off = λ off. refl;
   css_off = λ off. refl;
-  no_more = record { watched = refl; marks = refl };
+  watched = λ kind serial here. none-set kind serial here;
+  none_watched = λ none. refl;
+  history = refl;
 }
 
-pub fit-first : (page : LoadedPage) → CanLoadPage page → PageHasTexts page → IsFit nothing_spent (first_value []) (loaded_state page) []
+pub fit-first : (page : LoadedPage) → CanLoadPage page → PageHasTexts page → IsFit nothing_spent (first_value []) (run_start page) []
 fit-first page can texts = record {
   has = record { tree = refl; sheets = tt };
+  styles = refl;
   asks = refl;
   sendable = tt;
   is_state = IsState-first page can texts;
@@ -102,30 +108,30 @@ fit-first page can texts = record {
 
 pub fits-loaded : (page : LoadedPage) → CanLoadPage page → PageHasTexts page → Fits (loaded_world page)
 fits-loaded page can texts =
-    fits-first replay IsNext IsNextTurn IsFit world_laws (first_value []) (loaded_state page) (fit-first page can texts)
+    fits-first replay IsNext IsNextTurn IsFit world_laws (first_value []) (run_start page) (fit-first page can texts)
 
 -- ---- a line
 
-pub fits-sent : (a : AskForm) (w : World State) → CanSend a → w.spent.asks + 1 ≤ 2 ^ 26 → Fits w → Fits (sends a w)
+pub fits-sent : (a : AskForm) (w : World RunState) → CanSend a → w.spent.asks + 1 ≤ 2 ^ 26 → Fits w → Fits (sends a w)
 fits-sent a w can few fits =
     let small : w.spent.asks + 1 < 2 ^ 30 = omega (arith, few) in
     fits-asked replay IsNext IsNextTurn IsFit world_laws (first_value []) (command_text (w.spent.asks + 1) a.method a.params a.session) w
     (IsText-sent (w.spent.asks + 1) a can (omega (arith, few))) (IsNext-sent w.spent a can few small) fits
 
--- how many replies were told says nothing of the streams
-pub fits-told : (w : World State) (n : ℕ) → Fits w → Fits (record { state = w.state; up = w.up; down = w.down; spent = w.spent; told = n })
+-- what was told says nothing of the streams
+pub fits-told : (w : World RunState) (n : AlreadyTold) → Fits w → Fits (record { state = w.state; up = w.up; down = w.down; spent = w.spent; told = n })
 fits-told w n fits = record { front = fits.front; is_fold = fits.is_fold; fit = fits.fit; up_whole = fits.up_whole; down_whole = fits.down_whole }
 
-settled-fits : (w : World State) → Fits w → Fits (settled step w)
+settled-fits : (w : World RunState) → Fits w → Fits (settled run_step w)
 settled-fits w fits = fits-settled replay IsNext IsNextTurn IsFit world_laws (first_value []) w fits
 
-turned-fits : (x : Turn) (w : World State) → IsNextTurn w.spent x → Fits w → Fits (turned turn x w)
+turned-fits : (x : Turn) (w : World RunState) → IsNextTurn w.spent x → Fits w → Fits (turned run_turn x w)
 turned-fits x w next fits = fits-turned replay IsNext IsNextTurn IsFit world_laws (first_value []) x w next fits
 
-raw-fits : (text : List ℕ) (w : World State) → IsText text → IsBare text → w.spent.raws + 1 ≤ most_asks → Fits w → Fits (raw text w)
+raw-fits : (text : List ℕ) (w : World RunState) → IsText text → IsBare text → w.spent.raws + 1 ≤ most_asks → Fits w → Fits (raw text w)
 raw-fits text w letters bare few fits = fits-sent_up replay IsNext IsNextTurn IsFit world_laws (first_value []) text one_raw w letters (next_raw bare few) fits
 
-pub fits-line : (line : LineForm) (w : World State) → IsLater line → HasLeft w.spent 1 → Fits w → Fits (after_line line w)
+pub fits-line : (line : LineForm) (w : World RunState) → IsLater line → HasLeft w.spent 1 → Fits w → Fits (after_line line w)
 fits-line (load page) w later left fits = turned-fits (loads page) w (record { is_turn = later; few = left.turns }) fits
 fits-line (forms.act a) w later left fits = turned-fits (acts a) w (record { is_turn = later; few = left.turns }) fits
 fits-line (ask a) w later left fits = fits-sent a w later left.asks fits
@@ -136,7 +142,9 @@ fits-line settle w later left fits = settled-fits w fits
 fits-line show_front w later left fits = settled-fits w fits
 fits-line show_page w later left fits = fits
 fits-line show_sheets w later left fits = settled-fits w fits
-fits-line show_replies w later left fits = fits-told (settled step w) _ (settled-fits w fits)
+fits-line show_replies w later left fits = fits-told (settled run_step w) _ (settled-fits w fits)
+fits-line show_pauses w later left fits = fits-told (settled run_step w) _ (settled-fits w fits)
+fits-line (show_styles k) w later left fits = settled-fits w fits
 
 -- one of these counts, where a line spends one at most
 left-count : (before after k : ℕ) → after ≤ before + 1 → before + suc k ≤ most_asks → after + k ≤ most_asks
@@ -156,7 +164,7 @@ spent-on k n m asks fetches raws turns left = record {
   turns = left-count n.turns m.turns k turns left.turns;
 }
 
-pub left-after : (line : LineForm) (k : ℕ) (w : World State) → HasLeft w.spent (suc k) → HasLeft (after_line line w).spent k
+pub left-after : (line : LineForm) (k : ℕ) (w : World RunState) → HasLeft w.spent (suc k) → HasLeft (after_line line w).spent k
 left-after (load page) k w left = spent-on k w.spent (after_line (load page) w).spent (omega arith) (omega arith) (omega arith) (omega arith) left
 left-after (forms.act a) k w left = spent-on k w.spent (after_line (forms.act a) w).spent (omega arith) (omega arith) (omega arith) (omega arith) left
 left-after (ask a) k w left = spent-on k w.spent (after_line (ask a) w).spent (omega arith) (omega arith) (omega arith) (omega arith) left
@@ -168,9 +176,11 @@ left-after show_front k w left = spent-on k w.spent (after_line show_front w).sp
 left-after show_page k w left = spent-on k w.spent (after_line show_page w).spent (omega arith) (omega arith) (omega arith) (omega arith) left
 left-after show_sheets k w left = spent-on k w.spent (after_line show_sheets w).spent (omega arith) (omega arith) (omega arith) (omega arith) left
 left-after show_replies k w left = spent-on k w.spent (after_line show_replies w).spent (omega arith) (omega arith) (omega arith) (omega arith) left
+left-after show_pauses k w left = spent-on k w.spent (after_line show_pauses w).spent (omega arith) (omega arith) (omega arith) (omega arith) left
+left-after (show_styles i) k w left = spent-on k w.spent (after_line (show_styles i) w).spent (omega arith) (omega arith) (omega arith) (omega arith) left
 
 -- one line of some
-pub left-one : (k : ℕ) (w : World State) → HasLeft w.spent (suc k) → HasLeft w.spent 1
+pub left-one : (k : ℕ) (w : World RunState) → HasLeft w.spent (suc k) → HasLeft w.spent 1
 left-one k w left =
     let ha : w.spent.asks + suc k ≤ most_asks = left.asks in
     let hf : w.spent.fetches + (suc k + 1) * most_sheets ≤ most_fetches = left.fetches in
@@ -178,7 +188,7 @@ left-one k w left =
     let ht : w.spent.turns + suc k ≤ most_asks = left.turns in
     record { asks = omega (arith, ha); fetches = omega (arith, hf); raws = omega (arith, hr); turns = omega (arith, ht) }
 
-fits-lines : (n : ℕ) (lines : List LineForm) (w : World State) → AreLater lines → HasLeft w.spent (length lines) → Fits w → Fits (after_lines (take n lines) w)
+fits-lines : (n : ℕ) (lines : List LineForm) (w : World RunState) → AreLater lines → HasLeft w.spent (length lines) → Fits w → Fits (after_lines (take n lines) w)
 fits-lines zero lines w later left fits = fits
 fits-lines (suc n) [] w later left fits = fits
 fits-lines (suc n) (line ∷ lines) w later left fits =
@@ -209,10 +219,10 @@ deliveries-fit w n fits = (
 
 pub settled-shows : SettledShows
 settled-shows w fits =
-    let w' = settled step w in
+    let w' = settled run_step w in
     let all : Fits w' = fits-settled replay IsNext IsNextTurn IsFit world_laws (first_value []) w fits in
     let up_none : w'.up.flying ≡ [] = given-all w.up in
-    let down_none : w'.down.flying ≡ [] = given-all (delivered_up step (length w.up.flying) w).down in
+    let down_none : w'.down.flying ≡ [] = given-all (delivered_up run_step (length w.up.flying) w).down in
     let up_held : held w'.up ≡ [] = ap (λ bytes. (frames_of bytes).rest) (sym (sent-all w'.up up_none)) ∙ all.up_whole in
     let awaits : awaited w'.up ≡ [] = awaited-none w'.up up_none up_held in
     let given_fold : folded take_frame (joined join (first_value []) (frames_of w'.up.given).whole) (frames_of w'.down.given).whole ≡ Ok all.front =
@@ -224,6 +234,8 @@ settled-shows w fits =
       is_fold = given_fold;
       shows = all.fit.has;
       told = λ plain. replies-of (frames_of w'.up.given).whole (frames_of w'.down.given).whole all.front plain given_fold;
+      pauses = pauses-of (frames_of w'.up.given).whole (frames_of w'.down.given).whole all.front given_fold;
+      styles = all.fit.styles;
       waits = sym all.fit.asks ∙ ap asks_among awaits;
       whole = ap (λ bytes. (frames_of bytes).rest) (sym (sent-all w'.down down_none)) ∙ all.down_whole;
     }

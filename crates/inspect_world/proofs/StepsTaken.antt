@@ -22,7 +22,7 @@ use Rattle.front_mirror.specs.declared.faults.FrontKind.{FrontKind}
 use Rattle.front_mirror.specs.declared.faults.FrontFault.{FrontFault}
 use Rattle.front_mirror.specs.Front as front
 use Rattle.front_mirror.specs.Front.{FrontValue, kept_reply, take_frame, after_message, outcome, fold_frames}
-use Rattle.front_mirror.specs.Laws.{Has, AreAwaited, asks_after, asks_after_all, AreTaken, kept_fault, kept_after, kept_after_all, is_quiet, InTurn, rests, tells, meets}
+use Rattle.front_mirror.specs.Laws.{Has, AreAwaited, asks_after, asks_after_all, AreTaken, matched_after, kept_fault, kept_after, kept_after_all, is_quiet, InTurn, rests, tells, meets}
 use Rattle.back_end.specs.States.{State, view_of}
 use Rattle.back_end.specs.Steps.{Step}
 use Rattle.back_end.specs.Laws.{reply_ids, MayAnswerAll, IsAnswered}
@@ -113,7 +113,7 @@ abbrev taken_well : FrontValue → Result FrontValue FrontKind
 taken_well v = Ok v
 
 -- a fold that meets no fault
-folded-fold : (frames : List (List ℕ)) (v w : FrontValue) → fold_frames v frames ≡ Ok w → folded take_frame v frames ≡ Ok w
+pub folded-fold : (frames : List (List ℕ)) (v w : FrontValue) → fold_frames v frames ≡ Ok w → folded take_frame v frames ≡ Ok w
 folded-fold [] v w e = let same : v ≡ w = cc in ap (λ (x : FrontValue). taken_well x) same
 folded-fold (frame ∷ frames) v w e =
     (elim (take_frame v frame) as (λ (r : Result FrontValue FrontKind).
@@ -206,7 +206,7 @@ by-refusal asks moves r none is = subst (λ ms. InTurn ms asks asks) (sym is) (t
 
 -- ---- the messages of a step
 
--- a front that has taken them: it has the view after the step, waits for what is left, and has kept the replies
+-- a front that has taken them: it has the view after the step, waits for what is left, and has kept the replies and the matched styles
 pub record Taken (done : Step) (v : FrontValue) (rest : List Ask) : Type 0 where
   pub texts : List (List ℕ)
   pub frames_are : frames_of (frames_of_moves done.moves) ≡ record { whole = texts; rest = [] }
@@ -215,6 +215,7 @@ pub record Taken (done : Step) (v : FrontValue) (rest : List Ask) : Type 0 where
   pub has : Has after (view_of done.state)
   pub asks : after.asks ≡ rest
   pub replies : after.replies ≡ v.replies ++ kept_after_all done.moves v.asks
+  pub matched : after.matched ≡ v.matched ++ flat_map matched_after done.moves
 
 pub taken : (before : State) (done : Step) (v : FrontValue) (rest : List Ask)
     → Course done.moves (view_of before) (view_of done.state) → Has v (view_of before) → InTurn done.moves v.asks rest → Taken done v rest
@@ -229,6 +230,7 @@ taken before done v rest course has turn =
       has = t.has;
       asks = t.asks ∙ p.1;
       replies = t.replies;
+      matched = t.matched;
     }
 
 -- the ids of the replies that are kept, where no ask is a fetch

@@ -16,17 +16,18 @@ use Rattle.cdp_messages.specs.Replies.{Message, reply, fault, event, down_of, re
 use Rattle.cdp_messages.specs.Told as told
 use Rattle.cdp_messages.specs.Told.{seen_nodes, seen_branch}
 use Rattle.front_mirror.specs.declared.replies.Ask.{Ask}
+use Rattle.front_mirror.specs.declared.replies.MatchedReply.{MatchedReply}
 use Rattle.front_mirror.specs.declared.faults.FrontKind.{FrontKind}
 use Rattle.front_mirror.specs.declared.faults.FrontKind.TheVariants.{NotMessage, UnknownNode, IdTaken, UnknownSheet}
 use Rattle.front_mirror.specs.declared.sheets.KnownSheet.{KnownSheet}
 use Rattle.front_mirror.specs.Sheets.{new_sheet, has_sheet, marked_old, without_sheet}
-use Rattle.front_mirror.specs.Front.{FrontValue, take_frame, method_of, with_root, root_fault, with_effect, with_body, with_reply, with_fault, with_tree, ToldChange, told_change, at_spot, change_fault, with_change, halted, is_shown, told_sheets, with_news, with_message}
+use Rattle.front_mirror.specs.Front.{FrontValue, take_frame, method_of, with_root, root_fault, matched_told, with_matched, with_effect, with_body, with_reply, with_fault, with_tree, ToldChange, told_change, at_spot, change_fault, with_change, halted, is_shown, told_sheets, with_news, with_message}
 use Rattle.inspect_world.specs.Fits.{ask_in, with_ask, join}
 use Rattle.inspect_world.specs.FreshRuns.{Unstyled, unstyled}
 
 -- the front with other sheets, and another count of messages
 abbrev restyled : FrontValue → List KnownSheet → ℕ → FrontValue
-restyled v sheets taken = record { tree = v.tree; sheets = sheets; asks = v.asks; replies = v.replies; pauses = v.pauses; taken = taken }
+restyled v sheets taken = record { tree = v.tree; sheets = sheets; asks = v.asks; replies = v.replies; pauses = v.pauses; matched = v.matched; taken = taken }
 
 -- two results that are taken
 both-ok : (x y v1 w1 : FrontValue) → unstyled x ≡ unstyled y → ◌≡◌ {A = Result FrontValue FrontKind} (Ok x) (Ok v1) → ◌≡◌ {A = Result FrontValue FrontKind} (Ok y) (Ok w1)
@@ -41,22 +42,23 @@ not-ok : {P : Type 0} (kind : FrontKind) (w : FrontValue) → ◌≡◌ {A = Res
 not-ok kind w e = absurd cc
 
 module _ (v : FrontValue) (ss : List KnownSheet) (t : ℕ) (v1 w1 : FrontValue) where
-  same-root : (id : ℕ) (frame : List ℕ) (root : Branch told.Told) (o : Option FrontKind) → with_root v id frame root o ≡ Ok v1 → with_root (restyled v ss t) id frame root o ≡ Ok w1
-      → unstyled v1 ≡ unstyled w1
-  same-root id frame root None e f = both-ok _ _ v1 w1 refl e f
-  same-root id frame root (Some kind) e f = not-ok kind v1 e
+  same-root : (id : ℕ) (frame : List ℕ) (found : List MatchedReply) (root : Branch told.Told) (o : Option FrontKind) → with_root (with_matched v found) id frame root o ≡ Ok v1
+      → with_root (with_matched (restyled v ss t) found) id frame root o ≡ Ok w1 → unstyled v1 ≡ unstyled w1
+  same-root id frame found root None e f = both-ok _ _ v1 w1 refl e f
+  same-root id frame found root (Some kind) e f = not-ok kind v1 e
 
-  same-effect : (id : ℕ) (frame : List ℕ) (x : Effect) → with_effect v id frame x ≡ Ok v1 → with_effect (restyled v ss t) id frame x ≡ Ok w1 → unstyled v1 ≡ unstyled w1
-  same-effect id frame (effect.Document tree) e f = same-root id frame tree (root_fault tree) e f
-  same-effect id frame (effect.SheetText text) e f = both-ok _ _ v1 w1 refl e f
-  same-effect id frame effect.AllOff e f = both-ok _ _ v1 w1 refl e f
-  same-effect id frame effect.SheetsOff e f = both-ok _ _ v1 w1 refl e f
-  same-effect id frame effect.NothingElse e f = both-ok _ _ v1 w1 refl e f
+  same-effect : (id : ℕ) (frame : List ℕ) (found : List MatchedReply) (x : Effect) → with_effect (with_matched v found) id frame x ≡ Ok v1
+      → with_effect (with_matched (restyled v ss t) found) id frame x ≡ Ok w1 → unstyled v1 ≡ unstyled w1
+  same-effect id frame found (effect.Document tree) e f = same-root id frame found tree (root_fault tree) e f
+  same-effect id frame found (effect.SheetText text) e f = both-ok _ _ v1 w1 refl e f
+  same-effect id frame found effect.AllOff e f = both-ok _ _ v1 w1 refl e f
+  same-effect id frame found effect.SheetsOff e f = both-ok _ _ v1 w1 refl e f
+  same-effect id frame found effect.NothingElse e f = both-ok _ _ v1 w1 refl e f
 
   same-body : (id : ℕ) (frame method : List ℕ) (o : Option ReplyBody) → with_body v id frame method o ≡ Ok v1 → with_body (restyled v ss t) id frame method o ≡ Ok w1
       → unstyled v1 ≡ unstyled w1
   same-body id frame method None e f = not-ok NotMessage v1 e
-  same-body id frame method (Some body) e f = same-effect id frame (effect_of method body) e f
+  same-body id frame method (Some body) e f = same-effect id frame (matched_told id body) (effect_of method body) e f
 
   same-reply : (id : ℕ) (frame : List ℕ) (result : Data) (o : Option (List ℕ)) → with_reply v id frame result o ≡ Ok v1 → with_reply (restyled v ss t) id frame result o ≡ Ok w1
       → unstyled v1 ≡ unstyled w1
@@ -121,12 +123,12 @@ module _ (v : FrontValue) (ss : List KnownSheet) (t : ℕ) (v1 w1 : FrontValue) 
 pub unstyled-takes : (v w v1 w1 : FrontValue) (frame : List ℕ) → unstyled v ≡ unstyled w → take_frame v frame ≡ Ok v1 → take_frame w frame ≡ Ok w1 → unstyled v1 ≡ unstyled w1
 unstyled-takes v w v1 w1 frame same e f =
     let is : restyled v w.sheets w.taken ≡ w =
-    λ i. record { tree = (same i).tree; sheets = w.sheets; asks = (same i).asks; replies = (same i).replies; pauses = (same i).pauses; taken = w.taken } in
+    λ i. record { tree = (same i).tree; sheets = w.sheets; asks = (same i).asks; replies = (same i).replies; pauses = (same i).pauses; matched = (same i).matched; taken = w.taken } in
     same-message v w.sheets w.taken v1 w1 frame (down_of frame) e (ap (λ x. take_frame x frame) is ∙ f)
 
 unstyled-with_ask : (v w : FrontValue) (o : Option Ask) → unstyled v ≡ unstyled w → unstyled (with_ask v o) ≡ unstyled (with_ask w o)
 unstyled-with_ask v w None same = same
-unstyled-with_ask v w (Some ask) same = ap (λ (u : Unstyled). record { tree = u.tree; asks = u.asks ++ ask ∷ []; replies = u.replies; pauses = u.pauses }) same
+unstyled-with_ask v w (Some ask) same = ap (λ (u : Unstyled). record { tree = u.tree; asks = u.asks ++ ask ∷ []; replies = u.replies; pauses = u.pauses; matched = u.matched }) same
 
 -- and so do those that send the same
 pub unstyled-joins : (v w : FrontValue) (frame : List ℕ) → unstyled v ≡ unstyled w → unstyled (join v frame) ≡ unstyled (join w frame)

@@ -1,5 +1,5 @@
 -- A front end that shows the state of the page, and waits for the answers that are to come.
-use Rattle.std.specs.Prelude.{⊤, ◌≡◌, ◌≤◌, ℕ, ◌+◌, ◌*◌, ◌^◌, List, [], ◌∷◌, ◌++◌, length, drop, Option, Some, None, is_some, option_and_then, codes, false, cond, nat_lt, bytes_eq, Err}
+use Rattle.std.specs.Prelude.{⊤, map, ◌≡◌, ◌≤◌, ℕ, ◌+◌, ◌*◌, ◌^◌, List, [], ◌∷◌, ◌++◌, length, drop, Option, Some, None, is_some, option_and_then, codes, false, cond, nat_lt, bytes_eq, Err}
 use Rattle.serde_json.specs.Data.{Data, Members}
 use Rattle.serde_json.specs.Find.{get_member, as_str, as_object}
 use Rattle.std.specs.Str.Parse.{digits_value}
@@ -15,9 +15,11 @@ use Rattle.front_mirror.specs.declared.faults.FrontKind.{FrontKind}
 use Rattle.front_mirror.specs.Front.{FrontValue, first_value, plain_ask, fetch_ask, take_frame}
 use Rattle.front_mirror.specs.Laws.{Has}
 use Rattle.inspect_world.specs.World.{World, Spent, one_ask, one_fetch, one_raw}
-use Rattle.back_end.specs.States.{State, IsState, view_of}
-use Rattle.back_end.specs.Steps.{Turn, step, turn}
-use Rattle.back_end.specs.Laws.{IsTurn}
+use Rattle.back_end.specs.States.{IsState, view_of}
+use Rattle.back_end.specs.Steps.{Turn}
+use Rattle.inspect_world.specs.RunStates.{RunState, ToldStyles, told_styles, run_step, run_turn}
+use Rattle.front_mirror.specs.declared.replies.MatchedReply.{MatchedReply}
+use Rattle.back_end.specs.Laws.{most_ids, IsTurn}
 use Rattle.inspect_world.specs.Fold.{Machine}
 use Rattle.inspect_world.specs.Fold as fold
 
@@ -134,9 +136,9 @@ pub record HasLeft (n : Spent) (lines : ℕ) : Type 0 where
 
 -- ---- fits
 
--- how many ids may have been drawn: a frame that is no fetch and a step of the script make at most all nodes of a page known
+-- how many ids may have been drawn: by a frame that is no fetch and by a step of the script, each as many as a step draws at most
 abbrev pub most_drawn : Spent → ℕ
-most_drawn n = (n.asks + n.raws + n.turns) * max_nodes
+most_drawn n = (n.asks + n.raws + n.turns) * most_ids
 
 -- how far the serials may have come: the load, a frame that is no fetch and a step of the script draw those of one page at most
 abbrev pub most_serials : Spent → ℕ
@@ -146,28 +148,33 @@ most_serials n = (n.asks + n.raws + n.turns + 1) * (max_nodes + 1)
 abbrev pub most_numbers : Spent → ℕ
 most_numbers n = (n.asks + n.raws + n.turns + 1) * max_sheets + 1
 
--- After n was spent the front shows exactly what the state's client sees, and waits for the asks among these frames alone.
--- Enough ids, serials and numbers of sheets are left for these answers.
-pub record IsFit (n : Spent) (v : FrontValue) (state : State) (frames : List (List ℕ)) : Type 0 where
-  pub has : Has v (view_of state)
+-- matched styles that a front end has kept
+abbrev pub kept_styles : MatchedReply → ToldStyles
+kept_styles r = told_styles r.ask r.matched
+
+-- After n was spent the front shows exactly what the state's client sees, has kept just the matched styles that it was told, and
+-- waits for the asks among these frames alone. Enough ids, serials and numbers of sheets are left for these answers.
+pub record IsFit (n : Spent) (v : FrontValue) (s : RunState) (frames : List (List ℕ)) : Type 0 where
+  pub has : Has v (view_of s.back)
+  pub styles : map kept_styles v.matched ≡ s.styles
   pub asks : asks_among frames ≡ v.asks
   pub sendable : AreSendable frames
-  pub is_state : IsState state
+  pub is_state : IsState s.back
   pub few : n.asks ≤ most_asks
   pub few_raws : n.raws ≤ most_asks
   pub few_turns : n.turns ≤ most_asks
-  pub drawn : length state.client.session.pushed + drawing frames * max_nodes ≤ most_drawn n
-  pub serials : state.side.page.next + drawing frames * (max_nodes + 1) ≤ most_serials n
-  pub numbers : state.side.next_sheet + drawing frames * max_sheets ≤ most_numbers n
+  pub drawn : length s.back.client.session.pushed + drawing frames * most_ids ≤ most_drawn n
+  pub serials : s.back.side.page.next + drawing frames * (max_nodes + 1) ≤ most_serials n
+  pub numbers : s.back.side.next_sheet + drawing frames * max_sheets ≤ most_numbers n
 
 -- how the run of a replay goes on
-abbrev pub replay : Machine State FrontValue FrontKind Turn
-replay = record { step = step; act = turn; take = take_frame; join = join }
+abbrev pub replay : Machine RunState FrontValue FrontKind Turn
+replay = record { step = run_step; act = run_turn; take = take_frame; join = join }
 
 -- the two whole streams of a run, folded, fit its state
-abbrev pub FitsWith : World State → List (List ℕ) → Type 0
+abbrev pub FitsWith : World RunState → List (List ℕ) → Type 0
 FitsWith w frames = fold.FitsWith take_frame join IsFit (first_value []) w frames
 
 -- the same, where all whole frames are answered
-abbrev pub Fits : World State → Type 0
+abbrev pub Fits : World RunState → Type 0
 Fits w = fold.Fits take_frame join IsFit (first_value []) w

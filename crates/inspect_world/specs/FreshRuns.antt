@@ -10,18 +10,20 @@ use Rattle.replay_script.specs.Script.{script_forms}
 use Rattle.front_mirror.specs.declared.replies.Ask.{Ask}
 use Rattle.front_mirror.specs.declared.replies.Kept.{Kept}
 use Rattle.front_mirror.specs.declared.pauses.SeenPause.{SeenPause}
-use Rattle.front_mirror.specs.Front.{FrontValue, first_value, fetch_params, take_frame}
+use Rattle.front_mirror.specs.declared.replies.MatchedReply.{MatchedReply}
+use Rattle.front_mirror.specs.Front.{FrontValue, first_value, fetch_params, take_frame, seen_pause}
 use Rattle.front_mirror.specs.Sheets.{has_sheet, stale_of}
 use Rattle.cdp_messages.specs.Asked.{command_text}
 use Rattle.front_mirror.specs.Laws.{Has}
-use Rattle.back_end.specs.States.{State, view_of}
-use Rattle.back_end.specs.Steps.{step}
+use Rattle.back_end.specs.States.{view_of}
+use Rattle.inspect_world.specs.RunStates.{RunState, run_step}
+use Rattle.inspect_world.specs.ShownPauses.{pauses_in}
 use Rattle.inspect_world.specs.Stream.{held}
 use Rattle.inspect_world.specs.World.{World, settled}
 use Rattle.inspect_world.specs.Fold.{folded, joined}
 use Rattle.inspect_world.specs.Fetches.{Fetcher, refreshed}
 use Rattle.inspect_world.specs.Agreement.{RunTogether}
-use Rattle.inspect_world.specs.Fits.{join, most_asks, HasLeft, IsFit, replay}
+use Rattle.inspect_world.specs.Fits.{join, most_asks, HasLeft, kept_styles, IsFit, replay}
 use Rattle.inspect_world.specs.ShownReplies.{told_of, replies_in}
 use Rattle.inspect_world.specs.Scripts.{after_line_by, after_lines_by, after_lines, loaded_world}
 use Rattle.inspect_world.specs.ScriptsFit.{AreLater}
@@ -37,15 +39,15 @@ front_fetcher = record {
 -- ---- the run with fetches
 
 -- a settle with its fetches
-abbrev pub refreshes : Fetcher FrontValue → World State → World State
+abbrev pub refreshes : Fetcher FrontValue → World RunState → World RunState
 refreshes fetcher w = refreshed replay fetcher (first_value []) w
 
 -- the run after a line
-abbrev pub fresh_line : Fetcher FrontValue → LineForm → World State → World State
+abbrev pub fresh_line : Fetcher FrontValue → LineForm → World RunState → World RunState
 fresh_line fetcher line w = after_line_by (refreshes fetcher) line w
 
 -- the run after some lines
-abbrev pub fresh_lines : Fetcher FrontValue → List LineForm → World State → World State
+abbrev pub fresh_lines : Fetcher FrontValue → List LineForm → World RunState → World RunState
 fresh_lines fetcher lines w = after_lines_by (refreshes fetcher) lines w
 
 -- ---- that both go together
@@ -56,13 +58,14 @@ pub record Unstyled : Type 0 where
   pub asks : List Ask
   pub replies : List Kept
   pub pauses : List SeenPause
+  pub matched : List MatchedReply
 
 -- the same of a front end
 abbrev pub unstyled : FrontValue → Unstyled
-unstyled v = record { tree = v.tree; asks = v.asks; replies = v.replies; pauses = v.pauses }
+unstyled v = record { tree = v.tree; asks = v.asks; replies = v.replies; pauses = v.pauses; matched = v.matched }
 
 -- w is the run that the report tells, and v the same with fetches; so many lines more may be carried out
-pub record Together (IsPlain : List ℕ → Type 0) (lines : ℕ) (w v : World State) : Type 0 where
+pub record Together (IsPlain : List ℕ → Type 0) (lines : ℕ) (w v : World RunState) : Type 0 where
   pub runs : RunTogether replay IsFit (first_value []) unstyled IsPlain w v
   pub left : HasLeft v.spent lines
 
@@ -82,17 +85,20 @@ FreshInputsFit fetcher IsPlain =
     (fresh_lines fetcher (take n lines) (loaded_world page))
 
 -- After a settle of both, the front end of the run with fetches shows exactly what the client sees, no text of a sheet is old,
--- and it has kept just the replies that came down in the run without; it waits for no reply, and holds no part of a frame.
-pub record ShowsFresh (fetcher : Fetcher FrontValue) (w v : World State) : Type 0 where
+-- and it has kept just the replies and the pauses that came down in the run without, and the matched styles that the client was
+-- told; it waits for no reply, and holds no part of a frame.
+pub record ShowsFresh (fetcher : Fetcher FrontValue) (w v : World RunState) : Type 0 where
   pub front : FrontValue
   pub is_fold : folded take_frame (joined join (first_value []) (frames_of v.up.given).whole) (frames_of v.down.given).whole ≡ Ok front
-  pub shows : Has front (view_of w.state)
+  pub shows : Has front (view_of w.state.back)
   pub fresh : fetcher.stale front ≡ []
   pub told : map told_of front.replies ≡ replies_in w.down.given
+  pub pauses : front.pauses ≡ map seen_pause (pauses_in w.down.given)
+  pub styles : map kept_styles front.matched ≡ w.state.styles
   pub waits : front.asks ≡ []
   pub whole : held v.down ≡ []
 
 -- once all that is on its way has come, and the texts that were old were fetched
 abbrev pub RefreshedShows : Fetcher FrontValue → (List ℕ → Type 0) → Type 0
 RefreshedShows fetcher IsPlain =
-    (w v : World State) → Together IsPlain 0 w v → ShowsFresh fetcher (settled step w) (refreshes fetcher v)
+    (w v : World RunState) → Together IsPlain 0 w v → ShowsFresh fetcher (settled run_step w) (refreshes fetcher v)

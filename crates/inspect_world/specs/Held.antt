@@ -4,17 +4,17 @@ use Rattle.pipe_frames.specs.Pipe.{Pipe}
 use Rattle.pipe_frames.specs.Frames.{frames_of}
 use Rattle.front_mirror.specs.Front.{FrontValue, FrontState, first_value, take_frame}
 use Rattle.inspect_world.specs.Stream.{sent, held}
-use Rattle.inspect_world.specs.World.{World}
+use Rattle.inspect_world.specs.World.{World, AlreadyTold}
+use Rattle.inspect_world.specs.RunStates.{RunState}
 use Rattle.inspect_world.specs.Fold.{folded, joined}
 use Rattle.inspect_world.specs.Carried.{Carries}
 use Rattle.back_end.specs.declared.seat.Seat.{Seat}
 use Rattle.back_end.specs.declared.side.PageSide.{PageSide}
-use Rattle.back_end.specs.States.{State}
 use Rattle.back_end.specs.Seats.{StandsFor}
 use Rattle.inspect_world.specs.Fits.{join, FitsWith}
 
 -- The client's seat and the page's side; what the back end has of a frame that is not whole; the front end; how many bytes of
--- each pipe were sent and not given; and how many of the replies were told.
+-- each pipe were sent and not given; and how many of the replies and of the pauses were told.
 pub record Ends : Type 0 where
   pub seat : Seat
   pub side : PageSide
@@ -22,7 +22,7 @@ pub record Ends : Type 0 where
   pub front : FrontState
   pub up_there : ℕ
   pub down_there : ℕ
-  pub told : ℕ
+  pub told : AlreadyTold
 
 -- a front end that has met no fault, by the id of its next ask and by how many fetches it has made
 abbrev pub good_front : FrontValue → List ℕ → ℕ → ℕ → FrontState
@@ -30,10 +30,10 @@ good_front value rest next fetches = record { value = value; rest = rest; fault 
 
 -- Since the pipes were as `up0` and `down0`, the link and the ends have come to where the run is, the fetches of its settles
 -- included; `frames` are whole at the back end and not yet answered, or on their way to it.
-pub record InWorld (up0 down0 up down : Pipe) (w : World State) (frames : List (List ℕ)) (e : Ends) : Type 0 where
+pub record InWorld (up0 down0 up down : Pipe) (w : World RunState) (frames : List (List ℕ)) (e : Ends) : Type 0 where
   pub up_is : Carries up0 up w.up
   pub down_is : Carries down0 down w.down
-  pub stands : StandsFor e.seat e.side w.state
+  pub stands : StandsFor e.seat e.side w.state.back
   pub back_is : e.back_rest ≡ held w.up
   pub value : FrontValue
   pub front_is : e.front ≡ good_front value (held w.down) (w.spent.asks + 1) w.spent.fetches

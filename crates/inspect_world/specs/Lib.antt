@@ -1,5 +1,6 @@
 pub mod Stream
 pub mod World
+pub mod RunStates
 pub mod Fold
 pub mod Fetches
 pub mod Agreement
@@ -8,8 +9,10 @@ pub mod Carried
 pub mod Fits
 pub mod Held
 pub mod ShownReplies
+pub mod ShownPauses
 pub mod ActTexts
 pub mod SheetTexts
+pub mod StylesTexts
 pub mod Scripts
 pub mod ScriptsFit
 pub mod FreshRuns

@@ -1,11 +1,12 @@
 -- What holds over every link, whatever bytes it gives.
-use Rattle.std.specs.Prelude.{◌≡◌, ◌≤◌, ℕ, ◌+◌, ◌*◌, List, [], ◌∷◌, ◌++◌, length, map, Result, Ok}
+use Rattle.std.specs.Prelude.{◌≡◌, ◌≤◌, ℕ, ◌+◌, ◌*◌, List, [], ◌∷◌, ◌++◌, length, map, All, Bool, true, false, is_some, Result, Ok, Err}
 use Rattle.pipe_frames.specs.Pipe.{Pipe}
 use Rattle.pipe_frames.specs.Frames.{frames_of}
 use Rattle.front_mirror.specs.declared.faults.FrontFault.{FrontFault}
-use Rattle.front_mirror.specs.Front.{FrontValue, fold}
+use Rattle.front_mirror.specs.Front.{FrontValue, matched_in, fold}
 use Rattle.back_end.specs.States.{State}
 use Rattle.back_end.specs.Steps.{Turn, Stepped, step, turn}
+use Rattle.back_end.specs.Laws.{most_ids}
 use Rattle.back_end.specs.Seats.{StandsFor}
 use Rattle.page_tree.specs.Forms.{max_nodes}
 use Rattle.page_forms.specs.Sheets.{max_sheets}
@@ -17,6 +18,15 @@ use Rattle.inspect_world.specs.ShownReplies.{ShownReply, replies_in, reply_id}
 -- A run stops at the first fault, so the asks that were sent by then are all that could wait.
 abbrev pub fold_of : (sent_up given_down : List ℕ) → Result FrontValue FrontFault
 fold_of sent_up given_down = fold (asks_among (frames_of sent_up).whole) given_down
+
+-- a reply told the front end the matched styles that this ask asks for
+abbrev pub knows_styles : FrontValue → ℕ → Bool
+knows_styles v ask = is_some (matched_in ask v.matched)
+
+-- the same of the front end that a fold comes to
+abbrev pub came_styles : Result FrontValue FrontFault → ℕ → Bool
+came_styles (Ok v) ask = knows_styles v ask
+came_styles (Err fault) ask = false
 
 -- ---- what comes to the back end
 
@@ -52,18 +62,20 @@ made_among (made x ∷ hs) = made_among hs + 1
 
 -- ---- the ends over a link
 
--- where a run began, and how many lines more it may carry out, each of which makes one step of the script at most
+-- where a run began; how many lines more it may carry out, each of which makes one step of the script at most; and the asks whose
+-- matched styles it has shown
 pub record Started : Type 0 where
   pub state : State
   pub lines : ℕ
+  pub shown : List ℕ
 
--- these together
-abbrev pub started : State → ℕ → Started
-started state lines = record { state = state; lines = lines }
+-- a run that has shown the matched styles of these asks
+abbrev pub started : State → ℕ → List ℕ → Started
+started state lines shown = record { state = state; lines = lines; shown = shown }
 
 -- one line more may be carried out
 abbrev pub one_line_more : Started → Started
-one_line_more start = started start.state (start.lines + 1)
+one_line_more start = started start.state (start.lines + 1) start.shown
 
 -- how a pipe goes on from an earlier moment
 pub record GoesOn (start now : Pipe) (sent given : List ℕ) : Type 0 where
@@ -73,7 +85,8 @@ pub record GoesOn (start now : Pipe) (sent given : List ℕ) : Type 0 where
 -- Since the pipes were as `up0` and `down0`, and the run began as `state0` says: the front end is the fold of what it sent and was
 -- given; the back end has carried out the frames that were given up, but for those that `waiting` holds whole, and between them
 -- the script's own steps, and has sent just what these steps send. What the ends count as sent and not given is just that.
--- Ids, serials and numbers of sheets were drawn for what was sent up and for the script's steps alone.
+-- Matched styles that were shown are there for good. Ids, serials and numbers of sheets were drawn for what was sent up and for the
+-- script's steps alone.
 pub record Follows (state0 : Started) (up0 down0 up down : Pipe) (waiting : List (List ℕ)) (e : Ends) : Type 0 where
   pub sent_up : List ℕ
   pub given_up : List ℕ
@@ -85,6 +98,7 @@ pub record Follows (state0 : Started) (up0 down0 up down : Pipe) (waiting : List
   pub value : FrontValue
   pub front_is : e.front ≡ good_front value (frames_of given_down).rest e.front.next e.front.fetches
   pub is_fold : fold_of sent_up given_down ≡ Ok value
+  pub styled : All (λ ask. knows_styles value ask ≡ true) state0.shown
   pub events : List Happening
   pub frames_are : (frames_of given_up).whole ≡ frames_among events ++ waiting
   pub back_is : e.back_rest ≡ (frames_of given_up).rest
@@ -98,6 +112,6 @@ pub record Follows (state0 : Started) (up0 down0 up down : Pipe) (waiting : List
   pub down_left : e.down_there + length given_down ≡ length sent_down
   pub few_asked : e.front.next + e.front.fetches ≤ length sent_up + 1
   pub few_made : made_among events + state0.lines ≤ most_asks
-  pub few_ids : length state.client.session.pushed ≤ length events * max_nodes
+  pub few_ids : length state.client.session.pushed ≤ length events * most_ids
   pub few_serials : state.side.page.next ≤ (length events + 1) * (max_nodes + 1)
   pub few_numbers : state.side.next_sheet ≤ (length events + 1) * max_sheets + 1

@@ -1,67 +1,83 @@
 -- A script carried out line by line, and what it prints.
-use Rattle.std.specs.Prelude.{ℕ, ◌+◌, List, [], ◌∷◌, ◌++◌, length, drop, codes, Option, Some, None}
+use Rattle.std.specs.Prelude.{ℕ, ◌+◌, Bool, List, [], ◌∷◌, ◌++◌, length, drop, codes, Option, Some, None, is_some}
 use Rattle.page_tree.specs.Pages.{Row}
 use Rattle.cdp_messages.specs.Asked.{command_text}
 use Rattle.front_mirror.specs.Outline.{outline_text, seen_line, node_line}
 use Rattle.replay_script.specs.declared.faults.LineFault.{LineFault}
 use Rattle.page_forms.specs.Pages.{LoadedPage}
 use Rattle.replay_script.specs.Forms as forms
-use Rattle.replay_script.specs.Forms.{AskForm, LineForm, load, ask, up, down, settle, show_front, show_page, show_sheets, show_replies}
-use Rattle.replay_script.specs.Script.{script_fault, script_forms}
-use Rattle.inspect_world.specs.World.{World, first_world, asked, raw, turned, delivered_up, delivered_down, settled}
+use Rattle.replay_script.specs.Forms.{AskForm, LineForm, load, ask, up, down, settle, show_front, show_page, show_sheets, show_replies, show_pauses, show_styles}
+use Rattle.node_tree.specs.Keys.{first_of}
+use Rattle.css_objects.specs.declared.rules.Matched.{Matched}
+use Rattle.cdp_messages.specs.declared.down.PauseData.{PauseData}
+use Rattle.replay_script.specs.Script.{numbered_or, unless_bad, styles_fault, script_fault, script_forms}
+use Rattle.inspect_world.specs.World.{World, AlreadyTold, first_world, asked, raw, turned, delivered_up, delivered_down, settled}
 use Rattle.inspect_world.specs.ShownReplies.{ShownReply, replies_in, told_lines}
 use Rattle.inspect_world.specs.ActTexts.{act_text}
 use Rattle.inspect_world.specs.SheetTexts.{sheet_lines}
-use Rattle.back_end.specs.States.{State, loaded_state, nodes_in, book_in, sheets_shown, view_of}
-use Rattle.back_end.specs.Steps.{acts, loads, step, turn}
+use Rattle.inspect_world.specs.ShownPauses.{pauses_in, pause_lines}
+use Rattle.inspect_world.specs.StylesTexts.{styles_text}
+use Rattle.inspect_world.specs.RunStates.{RunState, run_start, styles_under, run_step, run_turn}
+use Rattle.back_end.specs.States.{State, nodes_in, book_in, sheets_shown, view_of}
+use Rattle.back_end.specs.Steps.{acts, loads}
 use Rattle.back_end.specs.Plans.{act_fault}
 
 -- ---- what a line does
 
 -- the k-th ask is sent with the id k
-abbrev pub sends : AskForm → World State → World State
+abbrev pub sends : AskForm → World RunState → World RunState
 sends a w = asked (command_text (w.spent.asks + 1) a.method a.params a.session) w
 
+-- the run after something was told
+abbrev pub telling : AlreadyTold → World RunState → World RunState
+telling told w = record { state = w.state; up = w.up; down = w.down; spent = w.spent; told = told }
+
 -- the replies that came are told
-abbrev pub all_told : World State → World State
-all_told w = record { state = w.state; up = w.up; down = w.down; spent = w.spent; told = length (replies_in w.down.given) }
+abbrev pub replies_told : World RunState → World RunState
+replies_told w = telling (record { replies = length (replies_in w.down.given); pauses = w.told.pauses }) w
+
+-- the pauses that came are told
+abbrev pub pauses_told : World RunState → World RunState
+pauses_told w = telling (record { replies = w.told.replies; pauses = length (pauses_in w.down.given) }) w
 
 -- The run after a line, by what a settle does to a run; an act that is refused leaves the state as it is.
-abbrev pub after_line_by : (World State → World State) → LineForm → World State → World State
-after_line_by settles (load page) w = turned turn (loads page) w
-after_line_by settles (forms.act a) w = turned turn (acts a) w
+abbrev pub after_line_by : (World RunState → World RunState) → LineForm → World RunState → World RunState
+after_line_by settles (load page) w = turned run_turn (loads page) w
+after_line_by settles (forms.act a) w = turned run_turn (acts a) w
 after_line_by settles (ask a) w = sends a w
 after_line_by settles (forms.raw text) w = raw text w
-after_line_by settles (up n) w = delivered_up step n w
+after_line_by settles (up n) w = delivered_up run_step n w
 after_line_by settles (down n) w = delivered_down n w
 after_line_by settles settle w = settles w
 after_line_by settles show_front w = settles w
 after_line_by settles show_page w = w
 after_line_by settles show_sheets w = settles w
-after_line_by settles show_replies w = all_told (settles w)
+after_line_by settles show_replies w = replies_told (settles w)
+after_line_by settles show_pauses w = pauses_told (settles w)
+after_line_by settles (show_styles k) w = settles w
 
 -- the run after some lines
-abbrev pub after_lines_by : (World State → World State) → List LineForm → World State → World State
+abbrev pub after_lines_by : (World RunState → World RunState) → List LineForm → World RunState → World RunState
 after_lines_by settles [] w = w
 after_lines_by settles (line ∷ lines) w = after_lines_by settles lines (after_line_by settles line w)
 
 -- the run after a line, as the report tells it: a settle delivers all that is on its way
-abbrev pub after_line : LineForm → World State → World State
-after_line line w = after_line_by (settled step) line w
+abbrev pub after_line : LineForm → World RunState → World RunState
+after_line line w = after_line_by (settled run_step) line w
 
 -- the run after some lines, as the report tells it
-abbrev pub after_lines : List LineForm → World State → World State
-after_lines lines w = after_lines_by (settled step) lines w
+abbrev pub after_lines : List LineForm → World RunState → World RunState
+after_lines lines w = after_lines_by (settled run_step) lines w
 
 -- before the line after the load
-abbrev pub loaded_world : LoadedPage → World State
-loaded_world page = first_world (loaded_state page)
+abbrev pub loaded_world : LoadedPage → World RunState
+loaded_world page = first_world (run_start page)
 
 -- ---- what a line prints
 
 -- what the client sees of the page, as an outline
-abbrev pub outline_of : World State → List ℕ
-outline_of w = outline_text seen_line (view_of w.state).tree
+abbrev pub outline_of : World RunState → List ℕ
+outline_of w = outline_text seen_line (view_of w.state.back).tree
 
 -- the line of a node of the page, by its serial
 abbrev pub page_line : Row → List ℕ
@@ -72,46 +88,86 @@ abbrev pub page_outline : State → List ℕ
 page_outline state = outline_text page_line (nodes_in state)
 
 -- the sheets that the client sees
-abbrev pub sheets_of : World State → List ℕ
-sheets_of w = sheet_lines (sheets_shown w.state)
+abbrev pub sheets_of : World RunState → List ℕ
+sheets_of w = sheet_lines (sheets_shown w.state.back)
 
 -- the replies that came after so many others
-abbrev pub replies_after : ℕ → World State → List ShownReply
+abbrev pub replies_after : ℕ → World RunState → List ShownReply
 replies_after n w = drop n (replies_in w.down.given)
 
+-- the pauses that came after so many others
+abbrev pub pauses_after : ℕ → World RunState → List PauseData
+pauses_after n w = drop n (pauses_in w.down.given)
+
+-- the matched styles that answered the ask with that id, by the page as it was when the ask came to the back end
+abbrev pub styles_at : ℕ → World RunState → Option Matched
+styles_at k w = styles_under k w.state.styles
+
+-- matched styles answered it
+abbrev pub has_styles : World RunState → ℕ → Bool
+has_styles w k = is_some (styles_at k w)
+
+-- a show of matched styles prints nothing where there are none
+abbrev pub styles_shown : ℕ → Option Matched → List ℕ
+styles_shown k None = []
+styles_shown k (Some m) = styles_text k m
+
 -- what the line of that number prints
-abbrev pub line_text : ℕ → LineForm → World State → List ℕ
+abbrev pub line_text : ℕ → LineForm → World RunState → List ℕ
 line_text number (load page) w = []
-line_text number (forms.act a) w = act_text number (act_fault a w.state.side.page (book_in w.state))
+line_text number (forms.act a) w = act_text number (act_fault a w.state.back.side.page (book_in w.state.back))
 line_text number (ask a) w = []
 line_text number (forms.raw text) w = []
 line_text number (up n) w = []
 line_text number (down n) w = []
 line_text number settle w = []
-line_text number show_front w = codes "# front" ++ 10 ∷ outline_of (settled step w)
-line_text number show_page w = codes "# page" ++ 10 ∷ page_outline w.state
-line_text number show_sheets w = codes "# sheets" ++ 10 ∷ sheets_of (settled step w)
-line_text number show_replies w = codes "# replies" ++ 10 ∷ told_lines (replies_after w.told (settled step w))
+line_text number show_front w = codes "# front" ++ 10 ∷ outline_of (settled run_step w)
+line_text number show_page w = codes "# page" ++ 10 ∷ page_outline w.state.back
+line_text number show_sheets w = codes "# sheets" ++ 10 ∷ sheets_of (settled run_step w)
+line_text number show_replies w = codes "# replies" ++ 10 ∷ told_lines (replies_after w.told.replies (settled run_step w))
+line_text number show_pauses w = codes "# pauses" ++ 10 ∷ pause_lines (pauses_after w.told.pauses (settled run_step w))
+line_text number (show_styles k) w = styles_shown k (styles_at k (settled run_step w))
 
 -- what some lines print, the first of which has that number
-abbrev pub lines_text : ℕ → List LineForm → World State → List ℕ
+abbrev pub lines_text : ℕ → List LineForm → World RunState → List ℕ
 lines_text number [] w = []
 lines_text number (line ∷ lines) w = line_text number line w ++ lines_text (number + 1) lines (after_line line w)
 
 -- after the last line
-abbrev pub closing_text : World State → List ℕ
-closing_text w = codes "# end" ++ 10 ∷ outline_of (settled step w)
+abbrev pub closing_text : World RunState → List ℕ
+closing_text w = codes "# end" ++ 10 ∷ outline_of (settled run_step w)
 
 -- ---- the report of a script
 
+-- the fault of a line that shows what did not come
+abbrev pub lacking : LineForm → World RunState → Option LineFault
+lacking line w = styles_fault (has_styles (settled run_step w)) line
+
+-- the lines before the first that shows what did not come
+abbrev pub shown_lines : List LineForm → World RunState → List LineForm
+shown_lines [] w = []
+shown_lines (line ∷ lines) w = unless_bad (lacking line w) (line ∷ shown_lines lines (after_line line w))
+
+-- the number and the fault of that line, where the first of these has this number
+abbrev pub first_lacking : ℕ → List LineForm → World RunState → Option (ℕ × LineFault)
+first_lacking number [] w = None
+first_lacking number (line ∷ lines) w = numbered_or number (lacking line w) (first_lacking (number + 1) lines (after_line line w))
+
+-- the first line that is refused among those after the load: one that shows what did not come, or else the first that is refused
+-- by its form
+abbrev pub rest_refused : Option (ℕ × LineFault) → List LineForm → World RunState → Option (ℕ × LineFault)
+rest_refused bad lines w = first_of (first_lacking 2 lines w) bad
+
 -- nothing follows the lines before one that is refused
-abbrev pub closing_unless : Option (ℕ × LineFault) → World State → List ℕ
+abbrev pub closing_unless : Option (ℕ × LineFault) → World RunState → List ℕ
 closing_unless None w = closing_text w
 closing_unless (Some bad) w = []
 
--- what lines after the load print, and what follows them
-abbrev pub rest_text : Option (ℕ × LineFault) → List LineForm → World State → List ℕ
-rest_text bad lines w = lines_text 2 lines w ++ closing_unless bad (after_lines lines w)
+-- what lines after the load print, up to the first that is refused, and what follows them
+abbrev pub rest_text : Option (ℕ × LineFault) → List LineForm → World RunState → List ℕ
+rest_text bad lines w =
+    let good = shown_lines lines w in
+    lines_text 2 good w ++ closing_unless (rest_refused bad lines w) (after_lines good w)
 
 -- what the lines of a script print, by the first that is refused
 abbrev pub text_of : Option (ℕ × LineFault) → List LineForm → List ℕ
@@ -127,8 +183,31 @@ text_of bad (show_front ∷ lines) = []
 text_of bad (show_page ∷ lines) = []
 text_of bad (show_sheets ∷ lines) = []
 text_of bad (show_replies ∷ lines) = []
+text_of bad (show_pauses ∷ lines) = []
+text_of bad (show_styles k ∷ lines) = []
 
 -- What a replay of the input writes: what each line before the first that is refused prints, and after the last line, where
 -- none is refused, the closing outline. No front end takes part in it.
 abbrev pub report : List ℕ → List ℕ
 report input = text_of (script_fault input) (script_forms input)
+
+-- The first line that is refused, by the run of the script.
+abbrev pub refused_of : Option (ℕ × LineFault) → List LineForm → Option (ℕ × LineFault)
+refused_of bad [] = bad
+refused_of bad (load page ∷ lines) = rest_refused bad lines (loaded_world page)
+refused_of bad (forms.act a ∷ lines) = bad
+refused_of bad (ask a ∷ lines) = bad
+refused_of bad (forms.raw text ∷ lines) = bad
+refused_of bad (up n ∷ lines) = bad
+refused_of bad (down n ∷ lines) = bad
+refused_of bad (settle ∷ lines) = bad
+refused_of bad (show_front ∷ lines) = bad
+refused_of bad (show_page ∷ lines) = bad
+refused_of bad (show_sheets ∷ lines) = bad
+refused_of bad (show_replies ∷ lines) = bad
+refused_of bad (show_pauses ∷ lines) = bad
+refused_of bad (show_styles k ∷ lines) = bad
+
+-- the number and the fault of the first line of an input that is refused
+abbrev pub report_refused : List ℕ → Option (ℕ × LineFault)
+report_refused input = refused_of (script_fault input) (script_forms input)

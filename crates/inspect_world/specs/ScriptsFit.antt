@@ -7,7 +7,7 @@ use Rattle.cdp_json.specs.Plain.{is_plain}
 use Rattle.cdp_messages.specs.Asked.{command_value, command_text}
 use Rattle.cdp_messages.specs.Laws.{Shallow}
 use Rattle.replay_script.specs.Forms as forms
-use Rattle.replay_script.specs.Forms.{AskForm, LineForm, load, ask, up, down, settle, show_front, show_page, show_sheets, show_replies}
+use Rattle.replay_script.specs.Forms.{AskForm, LineForm, load, ask, up, down, settle, show_front, show_page, show_sheets, show_replies, show_pauses, show_styles}
 use Rattle.replay_script.specs.Script.{script_forms}
 use Rattle.pipe_frames.specs.Frames.{IsText, frames_of}
 use Rattle.front_mirror.specs.Front.{FrontValue, first_value, take_frame}
@@ -16,10 +16,13 @@ use Rattle.inspect_world.specs.Stream.{held}
 use Rattle.inspect_world.specs.World.{World, raw, turned, delivered_up, delivered_down, settled}
 use Rattle.inspect_world.specs.Fold.{folded, joined}
 use Rattle.page_forms.specs.Texts.{PageHasTexts}
-use Rattle.back_end.specs.States.{State, view_of}
-use Rattle.back_end.specs.Steps.{Turn, acts, loads, step, turn}
+use Rattle.back_end.specs.States.{view_of}
+use Rattle.back_end.specs.Steps.{Turn, acts, loads}
+use Rattle.inspect_world.specs.RunStates.{RunState, run_step, run_turn}
+use Rattle.inspect_world.specs.ShownPauses.{pauses_in}
+use Rattle.front_mirror.specs.Front.{seen_pause}
 use Rattle.back_end.specs.Laws.{IsTurn}
-use Rattle.inspect_world.specs.Fits.{join, most_asks, IsBare, IsPlainFrame, IsNextTurn, Fits}
+use Rattle.inspect_world.specs.Fits.{join, most_asks, IsBare, IsPlainFrame, IsNextTurn, kept_styles, Fits}
 use Rattle.inspect_world.specs.ShownReplies.{told_of, replies_in}
 use Rattle.inspect_world.specs.Scripts.{loaded_world, after_lines}
 
@@ -43,6 +46,8 @@ IsLater show_front = ⊤
 IsLater show_page = ⊤
 IsLater show_sheets = ⊤
 IsLater show_replies = ⊤
+IsLater show_pauses = ⊤
+IsLater (show_styles k) = ⊤
 
 -- lines that may come after the load
 abbrev pub AreLater : List LineForm → Type 0
@@ -65,27 +70,30 @@ InputsFit = (input : List ℕ) (page : LoadedPage) (lines : List LineForm) → s
 
 -- a frame that names no ask is sent, whatever is on its way
 abbrev pub BareFramesFit : Type 0
-BareFramesFit = (w : World State) (text : List ℕ) → IsText text → IsBare text → w.spent.raws + 1 ≤ most_asks → Fits w → Fits (raw text w)
+BareFramesFit = (w : World RunState) (text : List ℕ) → IsText text → IsBare text → w.spent.raws + 1 ≤ most_asks → Fits w → Fits (raw text w)
 
 -- the script makes a step by itself, whatever is on its way
 abbrev pub TurnsFit : Type 0
-TurnsFit = (w : World State) (x : Turn) → IsNextTurn w.spent x → Fits w → Fits (turned turn x w)
+TurnsFit = (w : World RunState) (x : Turn) → IsNextTurn w.spent x → Fits w → Fits (turned run_turn x w)
 
 -- bytes come in any pieces
 abbrev pub DeliveriesFit : Type 0
-DeliveriesFit = (w : World State) (n : ℕ) → Fits w → Fits (delivered_up step n w) × Fits (delivered_down n w)
+DeliveriesFit = (w : World RunState) (n : ℕ) → Fits w → Fits (delivered_up run_step n w) × Fits (delivered_down n w)
 
 -- A front end that has sent all that the up pipe has given, and has taken all that the down pipe has given, shows exactly what
--- the client sees of the page; it waits for no reply, and holds no part of a frame. Where no frame that it sent is a fetch, it
--- has kept just the replies that came down; replies to fetches are not kept.
-pub record ShowsAll (w : World State) : Type 0 where
+-- the client sees of the page; it waits for no reply, and holds no part of a frame. It has kept just the pauses that came down, and
+-- the matched styles that the client was told. Where no frame that it sent is a fetch, it has kept just the replies that came down;
+-- replies to fetches are not kept.
+pub record ShowsAll (w : World RunState) : Type 0 where
   pub front : FrontValue
   pub is_fold : folded take_frame (joined join (first_value []) (frames_of w.up.given).whole) (frames_of w.down.given).whole ≡ Ok front
-  pub shows : Has front (view_of w.state)
+  pub shows : Has front (view_of w.state.back)
   pub told : All IsPlainFrame (frames_of w.up.given).whole → map told_of front.replies ≡ replies_in w.down.given
+  pub pauses : front.pauses ≡ map seen_pause (pauses_in w.down.given)
+  pub styles : map kept_styles front.matched ≡ w.state.styles
   pub waits : front.asks ≡ []
   pub whole : held w.down ≡ []
 
 -- once all that is on its way has come
 abbrev pub SettledShows : Type 0
-SettledShows = (w : World State) → Fits w → ShowsAll (settled step w)
+SettledShows = (w : World RunState) → Fits w → ShowsAll (settled run_step w)

@@ -33,17 +33,26 @@ one_raw n = record { asks = n.asks; fetches = n.fetches; raws = n.raws + 1; turn
 abbrev pub one_turn : Spent → Spent
 one_turn n = record { asks = n.asks; fetches = n.fetches; raws = n.raws; turns = n.turns + 1 }
 
--- the state, the two streams, what was spent, and how many of the replies were told
+-- how many of the replies and of the pauses that came were told
+pub record AlreadyTold : Type 0 where
+  pub replies : ℕ
+  pub pauses : ℕ
+
+-- none yet
+abbrev pub nothing_told : AlreadyTold
+nothing_told = record { replies = 0; pauses = 0 }
+
+-- the state, the two streams, what was spent, and what was told
 pub record World (S : Type 0) : Type 0 where
   pub state : S
   pub up : Stream
   pub down : Stream
   pub spent : Spent
-  pub told : ℕ
+  pub told : AlreadyTold
 
 -- before anything was sent
 abbrev pub first_world : {S : Type 0} → S → World S
-first_world state = record { state = state; up = no_stream; down = no_stream; spent = nothing_spent; told = 0 }
+first_world state = record { state = state; up = no_stream; down = no_stream; spent = nothing_spent; told = nothing_told }
 
 -- the steps on frames, one after the other
 abbrev pub steps : {S : Type 0} → (S → List ℕ → Stepped S) → S → List (List ℕ) → Stepped S

@@ -272,8 +272,8 @@ impl Page {
         None
     }
 
-    /// The first fault of an edit.
-    pub(crate) fn fault(&self, edit: &TreeEdit) -> Option<EditFault>
+    /// The first fault of an edit, by number.
+    pub fn fault(&self, edit: &TreeEdit) -> Option<EditFault>
         ensures { result ≡ first_fault edit.now self.now.tree }
     {
         match edit {

@@ -37,7 +37,7 @@ use Rattle.replay_script.specs.declared.forms.Line.TheVariants as line
 use Rattle.replay_script.specs.declared.line_kinds.LineKind.{LineKind}
 use Rattle.replay_script.specs.declared.line_kinds.LineKind.TheVariants as kind
 use Rattle.replay_script.specs.Kinds.{line_kind_name, all_line_kinds, is_load, sole_member, sole, styles_in, kind_said, said}
-use Rattle.replay_script.specs.Forms.{AskForm, LineForm, load, act, ask, raw, up, down, settle, show_front, show_page, show_sheets, show_replies, AskParts, ask_kind, ask_from, ask_in, show_from, form_by, form_of, line_form}
+use Rattle.replay_script.specs.Forms.{AskForm, LineForm, load, act, ask, raw, up, down, settle, show_front, show_page, show_sheets, show_replies, show_pauses, show_styles, AskParts, ask_kind, ask_from, ask_in, show_from, form_by, form_of, line_form}
 use Rattle.replay_script.specs.Faults.{is_zero, is_whole_number, has_whole_id, is_no_frame, fault_of_data, line_fault}
 use Rattle.replay_script.specs.Seen.{seen, seen_ask, Refuses}
 use Rattle.replay_script.specs.Sound.{IsSoundLoad, IsSoundAct, CanSend, NamesNoAsk, IsSoundFrame, IsSound, FormsAreSound, FirstIsLoad, FitsPage, AreWhole}
@@ -189,12 +189,19 @@ raw_sound text e = let p = parts (list_any is_zero text) _ e in record { no_zero
 
 -- ---- a form by the kind of its line
 
-show_sound : (a b c d : Bool) (form : LineForm) → (if a then Some show_front else if b then Some show_page else if c then Some show_sheets else if d then Some show_replies else None) ≡ Some form → IsSound form
-show_sound true b c d form e = let same : ◌≡◌ {A = LineForm} show_front form = cc in subst IsSound same tt
-show_sound false true c d form e = let same : ◌≡◌ {A = LineForm} show_page form = cc in subst IsSound same tt
-show_sound false false true d form e = let same : ◌≡◌ {A = LineForm} show_sheets form = cc in subst IsSound same tt
-show_sound false false false true form e = let same : ◌≡◌ {A = LineForm} show_replies form = cc in subst IsSound same tt
-show_sound false false false false form e = absurd cc
+show_sound : (a b c d e : Bool) (form : LineForm)
+    → (if a then Some show_front else if b then Some show_page else if c then Some show_sheets else if d then Some show_replies else if e then Some show_pauses else None) ≡ Some form
+    → IsSound form
+show_sound true b c d e form is = let same : ◌≡◌ {A = LineForm} show_front form = cc in subst IsSound same tt
+show_sound false true c d e form is = let same : ◌≡◌ {A = LineForm} show_page form = cc in subst IsSound same tt
+show_sound false false true d e form is = let same : ◌≡◌ {A = LineForm} show_sheets form = cc in subst IsSound same tt
+show_sound false false false true e form is = let same : ◌≡◌ {A = LineForm} show_replies form = cc in subst IsSound same tt
+show_sound false false false false true form is = let same : ◌≡◌ {A = LineForm} show_pauses form = cc in subst IsSound same tt
+show_sound false false false false false form is = absurd cc
+
+-- a show of styles has no condition
+styles_sound : (v : Data) (form : LineForm) → form_by kind.Styles v ≡ Some form → IsSound form
+styles_sound v form e = let p = map_some show_styles (as_whole v) form e in subst IsSound p.2 tt
 
 form_sound : (k : LineKind) (v : Data) (form : LineForm) → IsRead v → IsClear k v → form_by k v ≡ Some form → IsSound form
 form_sound kind.Load v form r c e =
@@ -210,16 +217,16 @@ form_sound kind.Down v form r c e = let p = map_some down (as_whole v) form e in
 form_sound kind.Settle v form r c e = let p = map_some (λ _. settle) (as_true v) form e in subst IsSound p.2 tt
 form_sound kind.Show v form r c e =
     let p = and_then_some show_from (as_str v) form e in
-    show_sound (bytes_eq p.0 (codes "front")) (bytes_eq p.0 (codes "page")) (bytes_eq p.0 (codes "sheets")) (bytes_eq p.0 (codes "replies")) form p.2
+    show_sound (bytes_eq p.0 (codes "front")) (bytes_eq p.0 (codes "page")) (bytes_eq p.0 (codes "sheets")) (bytes_eq p.0 (codes "replies")) (bytes_eq p.0 (codes "pauses")) form p.2
 form_sound kind.Close v form r c e = absurd cc
-form_sound kind.Styles v form r c e = absurd cc
+form_sound kind.Styles v form r c e = styles_sound v form e
 
 -- ---- whole lines
 
 -- what a line says is the value of its one property, but for a show of styles
 said_value : (o : Option Data) (s : Option (List ℕ × Data)) (k : LineKind) (v : Data) → first_of (option_map (λ a. (kind.Styles, a)) o) (option_and_then kind_said s) ≡ Some (k, v)
-    → (form_by k v ≡ None) ⊎ ((p : List ℕ × Data) × (s ≡ Some p) × (p.1 ≡ v))
-said_value (Some a) s k v e = let same : ◌≡◌ {A = LineKind × Data} (kind.Styles, a) (k, v) = cc in inl (subst (λ (t : LineKind × Data). form_by t.0 t.1 ≡ None) same refl)
+    → (k ≡ kind.Styles) ⊎ ((p : List ℕ × Data) × (s ≡ Some p) × (p.1 ≡ v))
+said_value (Some a) s k v e = let same : ◌≡◌ {A = LineKind × Data} (kind.Styles, a) (k, v) = cc in inl (sym (ap (λ (t : LineKind × Data). t.0) same))
 said_value None s k v e =
     let p = and_then_some kind_said s (k, v) e in
     let q = map_some (λ found. (found, p.0.1)) (named line_kind_name all_line_kinds p.0.0) (k, v) p.2 in
@@ -231,11 +238,11 @@ read_within q d w r =
     let levels : depth d ≤ max_depth = r.levels in
     record { plain = w.plain r.plain; texts = w.texts r.texts; levels = omega (arith, deep, levels) }
 
-said_read : (d : Data) (k : LineKind) (v : Data) (form : LineForm) → IsRead d → said d ≡ Some (k, v) → form_by k v ≡ Some form → IsRead v
-said_read d k v form r is e = at (said_value (styles_in d) (sole d) k v is) where
-  at : (form_by k v ≡ None) ⊎ ((p : List ℕ × Data) × (sole d ≡ Some p) × (p.1 ≡ v)) → IsRead v
-  at (inl none) = let no : ◌≡◌ {A = Option LineForm} None (Some form) = sym none ∙ e in absurd cc
-  at (inr p) = subst IsRead p.2 (read_within p.0.1 d (within_object d p.0 p.1) r)
+said_read : (d : Data) (k : LineKind) (v : Data) → IsRead d → said d ≡ Some (k, v) → (k ≡ kind.Styles) ⊎ IsRead v
+said_read d k v r is = at (said_value (styles_in d) (sole d) k v is) where
+  at : (k ≡ kind.Styles) ⊎ ((p : List ℕ × Data) × (sole d ≡ Some p) × (p.1 ≡ v)) → (k ≡ kind.Styles) ⊎ IsRead v
+  at (inl styles) = inl styles
+  at (inr p) = inr (subst IsRead p.2 (read_within p.0.1 d (within_object d p.0 p.1) r))
 
 form_said : (d : Data) (k : LineKind) (v : Data) (form : LineForm) → said d ≡ Some (k, v) → form_of d ≡ Some form → form_by k v ≡ Some form
 form_said d k v form is e = sym (ap (option_and_then (λ s. form_by s.0 s.1)) is) ∙ e
@@ -245,8 +252,11 @@ data_sound : (n : ℕ) (text : List ℕ) (d : Data) (form : LineForm) → json_o
 data_sound n text d form is e f =
     let good = line_good n d e in
     let by = form_said d good.kind good.value form good.is f in
-    let read = said_read d good.kind good.value form (line_read text d is good.whole) good.is by in
-    form_sound good.kind good.value form read (is_clear good.kind good.value good.clear) by
+    by_kind good.kind good.value (is_clear good.kind good.value good.clear) by (said_read d good.kind good.value (line_read text d is good.whole) good.is)
+  where
+    by_kind : (k : LineKind) (v : Data) → IsClear k v → form_by k v ≡ Some form → (k ≡ kind.Styles) ⊎ IsRead v → IsSound form
+    by_kind k v clear by (inl styles) = styles_sound v form (sym (ap (λ at. form_by at v) styles) ∙ by)
+    by_kind k v clear by (inr read) = form_sound k v form read clear by
 
 pub forms_are_sound : FormsAreSound
 forms_are_sound n text form e f =
@@ -293,6 +303,8 @@ fits_line line.ShowFront s = tt
 fits_line line.ShowPage s = tt
 fits_line line.ShowSheets s = tt
 fits_line line.ShowReplies s = tt
+fits_line line.ShowPauses s = tt
+fits_line (line.ShowStyles k) s = tt
 
 whole_line : (read : Line) → IsSound (seen read) → AreWhole read
 whole_line (line.Load page) s = tt
@@ -306,6 +318,8 @@ whole_line line.ShowFront s = tt
 whole_line line.ShowPage s = tt
 whole_line line.ShowSheets s = tt
 whole_line line.ShowReplies s = tt
+whole_line line.ShowPauses s = tt
+whole_line (line.ShowStyles k) s = tt
 
 -- each line that is read has a form that is sound
 pub sound_ok : (n : ℕ) (text : List ℕ) (r : Result Line LineErr) → Refuses r (line_fault n text) → IfOk r (λ read. line_form text ≡ Some (seen read)) → IfOk r (λ read. IsSound (seen read))

@@ -22,7 +22,7 @@ use Rattle.replay_script.specs.declared.faults.LineFault.TheVariants.{NotJson, N
 
 -- what a show may tell besides
 abbrev pub is_later_word : List ℕ → Bool
-is_later_word word = bytes_eq word (codes "pauses") || bytes_eq word (codes "panels")
+is_later_word word = bytes_eq word (codes "panels")
 
 -- the value of a line of that kind is in a form that is not carried out yet
 abbrev pub is_later : LineKind → Data → Bool
@@ -35,7 +35,7 @@ is_later kind.Down v = false
 is_later kind.Settle v = false
 is_later kind.Show v = option_map_or is_later_word (as_str v) false
 is_later kind.Close v = is_some (as_whole v)
-is_later kind.Styles v = is_some (as_whole v)
+is_later kind.Styles v = false
 
 -- it has a form at all; each page has one, and its own faults come later
 abbrev pub has_form : LineKind → Data → Bool

@@ -36,6 +36,9 @@ pub data LineForm : Type 0 where
   show_page : LineForm
   show_sheets : LineForm
   show_replies : LineForm
+  show_pauses : LineForm
+  -- the matched styles that the reply to this ask told
+  show_styles : ℕ → LineForm
 
 -- ---- `{"ask":{"method":TEXT,"params":ANY,"sessionId":ANY}}`, where `params` and `sessionId` may be absent
 
@@ -64,6 +67,7 @@ show_from word =
     else if bytes_eq word (codes "page") then Some show_page
     else if bytes_eq word (codes "sheets") then Some show_sheets
     else if bytes_eq word (codes "replies") then Some show_replies
+    else if bytes_eq word (codes "pauses") then Some show_pauses
     else None
 
 -- ---- the form of a line, if it is carried out
@@ -79,7 +83,7 @@ form_by kind.Down v = option_map down (as_whole v)
 form_by kind.Settle v = option_map (λ _. settle) (as_true v)
 form_by kind.Show v = option_and_then show_from (as_str v)
 form_by kind.Close v = None
-form_by kind.Styles v = None
+form_by kind.Styles v = option_map show_styles (as_whole v)
 
 -- the form of a line by its JSON
 abbrev pub form_of : Data → Option LineForm

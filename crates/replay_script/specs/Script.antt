@@ -1,11 +1,13 @@
 -- The lines of a script up to the first that is refused.
-use Rattle.std.specs.Prelude.{◌≡◌, ℕ, ◌+◌, ◌-◌, ◌≤◌, map, take, MatchOption, List, [], ◌∷◌, ◌++◌, Option, Some, None}
+use Rattle.std.specs.Prelude.{◌≡◌, ℕ, ◌+◌, ◌-◌, ◌≤◌, map, take, MatchOption, List, [], ◌∷◌, ◌++◌, Bool, cond, Option, Some, None, option_and_then}
 use Rattle.std.specs.Option.{option_to_list}
 use Rattle.replay_script.specs.Lines.{lines_of}
-use Rattle.replay_script.specs.Forms.{LineForm, line_form}
+use Rattle.node_tree.specs.Keys.{first_of}
+use Rattle.replay_script.specs.Forms as forms
+use Rattle.replay_script.specs.Forms.{LineForm, AskForm, load, ask, up, down, settle, show_front, show_page, show_sheets, show_replies, show_pauses, show_styles, line_form}
 use Rattle.replay_script.specs.Faults.{line_fault}
 use Rattle.replay_script.specs.declared.faults.LineFault.{LineFault}
-use Rattle.replay_script.specs.declared.faults.LineFault.TheVariants.{NotLoad}
+use Rattle.replay_script.specs.declared.faults.LineFault.TheVariants.{NotLoad, NoStyles}
 
 -- the fault with its number, or the later one where there is none
 abbrev pub numbered_or : ℕ → Option LineFault → Option (ℕ × LineFault) → Option (ℕ × LineFault)
@@ -41,6 +43,50 @@ script_fault input = fault_of_lines (lines_of input)
 -- the forms of the lines before it
 abbrev pub script_forms : List ℕ → List LineForm
 script_forms input = good_lines 1 (lines_of input)
+
+-- ---- lines that show what did not come
+
+-- the ask whose matched styles a line shows
+abbrev pub styles_ask : LineForm → Option ℕ
+styles_ask (load page) = None
+styles_ask (forms.act a) = None
+styles_ask (ask a) = None
+styles_ask (forms.raw text) = None
+styles_ask (up n) = None
+styles_ask (down n) = None
+styles_ask settle = None
+styles_ask show_front = None
+styles_ask show_page = None
+styles_ask show_sheets = None
+styles_ask show_replies = None
+styles_ask show_pauses = None
+styles_ask (show_styles k) = Some k
+
+-- the fault of a show of matched styles, by whether a reply told them
+abbrev pub styles_missing : Bool → Option LineFault
+styles_missing came = cond came None (Some NoStyles)
+
+-- the same of any line; `came` says of which asks a reply told the matched styles
+abbrev pub styles_fault : (ℕ → Bool) → LineForm → Option LineFault
+styles_fault came line = option_and_then (λ k. styles_missing (came k)) (styles_ask line)
+
+-- the first fault of the line of that number: that of its form comes before
+abbrev pub fault_where : (ℕ → Bool) → ℕ → List ℕ → Option LineFault
+fault_where came number line = first_of (line_fault number line) (option_and_then (styles_fault came) (line_form line))
+
+-- the number and the fault of the first line that is refused, where the first of these has this number
+abbrev pub first_refused : (ℕ → Bool) → ℕ → List (List ℕ) → Option (ℕ × LineFault)
+first_refused came number [] = None
+first_refused came number (line ∷ more) = numbered_or number (fault_where came number line) (first_refused came (number + 1) more)
+
+-- an input without a line has no load
+abbrev pub refused_of_lines : (ℕ → Bool) → List (List ℕ) → Option (ℕ × LineFault)
+refused_of_lines came [] = Some (1, NotLoad)
+refused_of_lines came (line ∷ more) = first_refused came 1 (line ∷ more)
+
+-- the number and the fault of the first line of a script that is refused
+abbrev pub script_refused : (ℕ → Bool) → List ℕ → Option (ℕ × LineFault)
+script_refused came input = refused_of_lines came (lines_of input)
 
 -- ---- what these are, in other words
 

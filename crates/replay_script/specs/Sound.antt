@@ -13,7 +13,7 @@ use Rattle.cdp_messages.specs.Laws.{Shallow}
 use Rattle.cdp_messages.specs.declared.command.Why.{Why}
 use Rattle.replay_script.specs.declared.forms.Line.{Line}
 use Rattle.replay_script.specs.declared.forms.Line.TheVariants as line
-use Rattle.replay_script.specs.Forms.{AskForm, LineForm, load, act, ask, raw, up, down, settle, show_front, show_page, show_sheets, show_replies, line_form}
+use Rattle.replay_script.specs.Forms.{AskForm, LineForm, load, act, ask, raw, up, down, settle, show_front, show_page, show_sheets, show_replies, show_pauses, show_styles, line_form}
 use Rattle.replay_script.specs.Faults.{line_fault}
 
 -- ---- a load and an act
@@ -69,6 +69,8 @@ IsSound show_front = ⊤
 IsSound show_page = ⊤
 IsSound show_sheets = ⊤
 IsSound show_replies = ⊤
+IsSound show_pauses = ⊤
+IsSound (show_styles k) = ⊤
 
 -- each line that is not refused has such a form
 abbrev pub FormsAreSound : Type 0
@@ -95,6 +97,8 @@ FitsPage line.ShowFront = ⊤
 FitsPage line.ShowPage = ⊤
 FitsPage line.ShowSheets = ⊤
 FitsPage line.ShowReplies = ⊤
+FitsPage line.ShowPauses = ⊤
+FitsPage (line.ShowStyles k) = ⊤
 
 -- each number in the JSON of an ask is whole
 abbrev pub AreWhole : Line → Type 0
@@ -111,3 +115,5 @@ AreWhole line.ShowFront = ⊤
 AreWhole line.ShowPage = ⊤
 AreWhole line.ShowSheets = ⊤
 AreWhole line.ShowReplies = ⊤
+AreWhole line.ShowPauses = ⊤
+AreWhole (line.ShowStyles k) = ⊤

@@ -2,7 +2,8 @@
 ghost use Rattle.std.specs.Prelude.{◌≡◌, option_map, IfOk};
 ghost use Rattle.serde_json.specs.View.{view};
 ghost use Rattle.replay_script.specs.Forms.{ask_in};
-ghost use Rattle.replay_script.specs.Seen.{parts_form, seen_ask};
+ghost use Rattle.replay_script.specs.Script.{styles_ask};
+ghost use Rattle.replay_script.specs.Seen.{parts_form, seen, seen_ask};
 
 use cdp_json::Cursor;
 use node_tree::Text;
@@ -30,6 +31,32 @@ pub enum Line {
     ShowPage,
     ShowSheets,
     ShowReplies,
+    ShowPauses,
+    /// The matched styles that the reply to the ask of this number told.
+    ShowStyles(u64),
+}
+
+impl Line {
+    /// The ask whose matched styles the line shows.
+    pub fn styles_ask(&self) -> Option<u64>
+        ensures { result ≡ styles_ask (seen self.now) }
+    {
+        match self {
+            Line::ShowStyles(ask) => Some(*ask),
+            Line::Load(_)
+            | Line::Act(_)
+            | Line::Ask(_)
+            | Line::Raw(_)
+            | Line::Up(_)
+            | Line::Down(_)
+            | Line::Settle
+            | Line::ShowFront
+            | Line::ShowPage
+            | Line::ShowSheets
+            | Line::ShowReplies
+            | Line::ShowPauses => None,
+        }
+    }
 }
 
 /// A command that the front end is to send, of any method and with any parameters.

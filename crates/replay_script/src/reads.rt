@@ -97,7 +97,7 @@ fn read_settle(value: &Value) -> Result<Line, LineErr>
 fn is_later_word(word: &str) -> bool
     ensures { result ≡ is_later_word word.now }
 {
-    word == "pauses" || word == "panels"
+    word == "panels"
 }
 
 fn read_show(value: &Value) -> Result<Line, LineErr>
@@ -119,16 +119,28 @@ fn read_show(value: &Value) -> Result<Line, LineErr>
     if word == "replies" {
         return Ok(Line::ShowReplies);
     }
+    if word == "pauses" {
+        return Ok(Line::ShowPauses);
+    }
     if is_later_word(word) {
         return Err(LineErr::Fault(LineFault::NotBuilt));
     }
     Err(LineErr::Fault(LineFault::BadForm))
 }
 
-// The fault of a line whose value is a number, and that is not carried out yet.
-fn later_fault(value: &Value) -> LineFault
-    ensures close { fault_by kind.Close (view value.now) ≡ Some result }
-    ensures styles { fault_by kind.Styles (view value.now) ≡ Some result }
+fn read_styles(value: &Value) -> Result<Line, LineErr>
+    ensures fault { Refuses result (fault_by kind.Styles (view value.now)) }
+    ensures form { IfOk result (λ line. form_by kind.Styles (view value.now) ≡ Some (seen line)) }
+{
+    match whole_of(value) {
+        Some(ask) => Ok(Line::ShowStyles(ask)),
+        None => Err(LineErr::Fault(LineFault::BadForm)),
+    }
+}
+
+// The fault of a line that drops a panel, which is not carried out yet.
+fn close_fault(value: &Value) -> LineFault
+    ensures { fault_by kind.Close (view value.now) ≡ Some result }
 {
     match whole_of(value) {
         Some(_) => LineFault::NotBuilt,
@@ -149,7 +161,8 @@ fn read_by(alloc: Global, kind: LineKind, value: &Value) -> Result<Line, LineErr
         LineKind::Down => read_down(value),
         LineKind::Settle => read_settle(value),
         LineKind::Show => read_show(value),
-        LineKind::Close | LineKind::Styles => Err(LineErr::Fault(later_fault(value))),
+        LineKind::Close => Err(LineErr::Fault(close_fault(value))),
+        LineKind::Styles => read_styles(value),
     }
 }
 

@@ -1,6 +1,6 @@
 -- The lines of a node, and those of the children one after the other.
-use Rattle.std.proofs.Common.{◌≡◌, ◌+◌, ◌*◌, ◌<◌, ◌≤◌, ◌^◌, ◌++◌, ap, subst, sym, ◌∙◌, arith}
-use Rattle.node_tree.specs.Nodes.{width, from, node_count, branch_count}
+use Rattle.std.proofs.Common.{◌+◌, ◌*◌, ◌<◌, ◌^◌, ◌++◌, ap, subst, ◌∙◌, arith}
+use Rattle.node_tree.specs.Nodes.{width, node_count, branch_count}
 use Rattle.node_tree.proofs.NodeLemmas.{from-zero}
 use Rattle.page_tree.proofs.CursorLemmas.{from-end, child-smaller}
 use Rattle.front_mirror.specs.Outline.{lines_at}

@@ -1,53 +1,48 @@
 -- Each line is carried out in its turn.
 use Rattle.pipe_frames.proofs.WholeLemmas.{Appends-nil}
-use Rattle.std.proofs.Common.{◌≡◌, suc, refl, [], ◌∷◌, ◌∙◌, ap, arith, length, Ok, Err}
-use Rattle.replay_script.specs.Script.{first_bad, good_lines}
+use Rattle.std.proofs.Common.{◌≡◌, suc, refl, [], ◌∷◌, ap, arith, length}
 use Rattle.replay_script.specs.Seen.{seen}
-use Rattle.inspect_world.specs.Scripts.{lines_text, after_lines}
 use Rattle.inspect_world.specs.Links.{started}
-use Rattle.replay_script.proofs.ScriptLemmas.{first_bad-good}
 use Rattle.inspect_world.proofs.Inputs.{later_line}
-use Rattle.inspect_replay.proofs.RunLemmas.{run_turn, read-stops, lines-done, part-took, with_lines, no_counts}
+use Rattle.inspect_replay.specs.Moments.{moment}
 use Rattle.inspect_replay.specs.Followed.{fold_since}
-use Rattle.inspect_replay.proofs.FollowLemmas.{run-good, run-line, run-last, kept-run, more-printed, read-folds}
+use Rattle.inspect_replay.proofs.LinesRun.{run-on, run-stops, read-stops, lines-done, with_lines, run-later, whole_of}
+use Rattle.inspect_replay.proofs.LinesTell.{carried-first, carried-lines, carried-on, ok-lacks, line-stops, read-tells, carried-all, carried-tells}
+use Rattle.inspect_replay.proofs.FollowLemmas.{run-good, run-line, more-printed, read-folds}
 use Rattle.inspect_replay.proofs.run.run_lines.Goals as goal
 
 pub loop-text-init : goal.loop-text-init
 loop-text-init g c = (
-  refl,
   omega arith,
   omega arith,
   (λ h. h),
   omega arith,
   omega arith,
-  λ up0 down0 w play. record { world = w; in_play = play; so_far = []; wrote = Appends-nil (g.K.Sink.taken c.args.out.now); text = refl; worlds = refl },
-  λ state0 up0 down0 run. run,
+  λ up0 down0 w play. record { world = w; in_play = play; so_far = []; wrote = Appends-nil (g.K.Sink.taken c.args.out.now); text = refl; worlds = refl; refused = refl },
+  λ state0 up0 down0 run. carried-first state0 up0 down0 _ _ c.args.lines c.args.ends.now run,
   record { written = []; printed = Appends-nil (g.K.Sink.taken c.args.out.now) },
-)
-
-pub returns-in-Err-clause-runs : goal.returns-in-Err-clause-runs
-returns-in-Err-clause-runs g c = λ up0 down0 w play. (
-  tt,
-  read-stops c.in-Err.stop (g.L.Link.honest c.loop-text.link) up0 down0 (g.L.Link.up c.loop-text.link) (g.L.Link.down c.loop-text.link) (g.K.Sink.taken c.args.out.now) (g.K.Sink.taken c.loop-text.out)
-      (lines_text 2 (good_lines 2 c.args.lines) w) (after_lines (good_lines 2 c.args.lines) w) c.loop-text.number c.in-Some.text.now c.next_line.new.lines c.loop-text.ends
-      (with_lines _ up0 down0 _ _ _ _ _ _ c.loop-text.number c.loop-text.lines (c.in-Some.text.now ∷ c.next_line.new.lines) c.loop-text.ends c.in-Some.ensures.some (c.loop-text.invariant.6 up0 down0 w play)) c.in-Err.ensures.bad,
 )
 
 pub carry_out-carried-requires : goal.carry_out-carried-requires
 carry_out-carried-requires g c = later_line c.loop-text.number c.in-Some.text.now (seen c.in-Ok.line) c.in-Ok.ensures.good c.in-Ok.ensures.form
 
+pub returns-in-Err-clause-runs : goal.returns-in-Err-clause-runs
+returns-in-Err-clause-runs g c = λ up0 down0 w play.
+    let stops = read-stops c.in-Err.stop _ up0 down0 _ _ (g.K.Sink.taken c.args.out.now) (g.K.Sink.taken c.loop-text.out) (whole_of c.args.lines w) c.loop-text.number c.in-Some.text.now c.next_line.new.lines c.loop-text.ends
+    (with_lines _ up0 down0 _ _ _ _ _ c.loop-text.number c.loop-text.lines (c.in-Some.text.now ∷ c.next_line.new.lines) c.loop-text.ends c.in-Some.ensures.some (c.loop-text.invariant.5 up0 down0 w play)) c.in-Err.ensures.bad in
+    (tt, stops.0, stops.1)
+
 pub returns-in-Err-carried-clause-runs : goal.returns-in-Err-carried-clause-runs
 returns-in-Err-carried-clause-runs g c = λ up0 down0 w play.
     let more = c.next_line.new.lines in
-    let form = seen c.in-Ok.line in
-    let all = run_turn (Err c.in-Err-carried.stop) no_counts (g.L.Link.honest c.loop-text.link) (g.L.Link.honest c.carry_out-carried.new.link) up0 down0
-    (g.L.Link.up c.loop-text.link) (g.L.Link.down c.loop-text.link) (g.L.Link.up c.carry_out-carried.new.link) (g.L.Link.down c.carry_out-carried.new.link)
-    (g.K.Sink.taken c.args.out.now) (g.K.Sink.taken c.loop-text.out) (g.K.Sink.taken c.carry_out-carried.new.out)
-    (lines_text 2 (good_lines 2 c.args.lines) w) (after_lines (good_lines 2 c.args.lines) w) c.loop-text.number
-    c.in-Some.text.now more form c.loop-text.ends c.carry_out-carried.new.ends
-    (with_lines _ up0 down0 _ _ _ _ _ _ c.loop-text.number c.loop-text.lines (c.in-Some.text.now ∷ more) c.loop-text.ends c.in-Some.ensures.some (c.loop-text.invariant.6 up0 down0 w play))
-    c.in-Ok.ensures.good c.in-Ok.ensures.form (c.in-Err-carried.ensures {u = tt}).runs in
-    (tt, part-took c.in-Err-carried.stop _ _ _ _ _ _ _ (c.in-Err-carried.ensures {u = tt}).cause all.0 all.2)
+    let running = with_lines (g.L.Link.honest c.loop-text.link) up0 down0 (g.L.Link.up c.loop-text.link) (g.L.Link.down c.loop-text.link) (g.K.Sink.taken c.args.out.now) (g.K.Sink.taken c.loop-text.out) (whole_of c.args.lines w)
+    c.loop-text.number c.loop-text.lines (c.in-Some.text.now ∷ more) c.loop-text.ends c.in-Some.ensures.some (c.loop-text.invariant.5 up0 down0 w play) in
+    let carried = (c.in-Err-carried.ensures {u = tt}).runs up0 down0 (length more) running.world (run-later _ up0 down0 _ _ more running.world c.loop-text.ends running.in_play) in
+    let stops = run-stops (g.L.Link.honest c.loop-text.link) (g.L.Link.honest c.carry_out-carried.new.link) up0 down0 (g.L.Link.up c.loop-text.link) (g.L.Link.down c.loop-text.link)
+    (g.L.Link.up c.carry_out-carried.new.link) (g.L.Link.down c.carry_out-carried.new.link)
+    (g.K.Sink.taken c.args.out.now) (g.K.Sink.taken c.loop-text.out) (g.K.Sink.taken c.carry_out-carried.new.out) (whole_of c.args.lines w) c.loop-text.number c.in-Some.text.now more (seen c.in-Ok.line)
+    c.loop-text.ends c.carry_out-carried.new.ends running c.in-Ok.ensures.good c.in-Ok.ensures.form c.in-Err-carried.stop carried.1 carried.2 in
+    (tt, stops.0, stops.1)
 
 pub loop-text-preserved : goal.loop-text-preserved
 loop-text-preserved g c =
@@ -55,46 +50,64 @@ loop-text-preserved g c =
     let form = seen c.in-Ok.line in
     let count : length c.loop-text.lines ≡ suc (length more) = ap length c.in-Some.ensures.some in
     let carried = c.in-Ok-carried.ensures {u = c.in-Ok-carried.field-0} in (
-      c.loop-text.invariant.0 ∙ ap (first_bad c.loop-text.number) c.in-Some.ensures.some
-          ∙ first_bad-good c.loop-text.number c.in-Some.text.now more c.in-Ok.ensures.good,
-      omega (arith, c.loop-text.invariant.1),
-      omega (arith, c.loop-text.invariant.2, count),
-      (λ h. c.carry_out-carried.ensures.honest (c.loop-text.invariant.3 h)),
-      omega (arith, c.loop-text.invariant.4, carried.cause.sink_later),
-      omega (arith, c.loop-text.invariant.5, carried.cause.link_later),
+      omega (arith, c.loop-text.invariant.0),
+      omega (arith, c.loop-text.invariant.1, count),
+      (λ h. c.carry_out-carried.ensures.honest (c.loop-text.invariant.2 h)),
+      omega (arith, c.loop-text.invariant.3, carried.cause.sink_later),
+      omega (arith, c.loop-text.invariant.4, carried.cause.link_later),
       λ up0 down0 w play.
-          (run_turn (Ok c.in-Ok-carried.field-0) no_counts (g.L.Link.honest c.loop-text.link) (g.L.Link.honest c.carry_out-carried.new.link) up0 down0
+          run-on (g.L.Link.honest c.loop-text.link) (g.L.Link.honest c.carry_out-carried.new.link) up0 down0
           (g.L.Link.up c.loop-text.link) (g.L.Link.down c.loop-text.link) (g.L.Link.up c.carry_out-carried.new.link) (g.L.Link.down c.carry_out-carried.new.link)
-          (g.K.Sink.taken c.args.out.now) (g.K.Sink.taken c.loop-text.out) (g.K.Sink.taken c.carry_out-carried.new.out)
-          (lines_text 2 (good_lines 2 c.args.lines) w) (after_lines (good_lines 2 c.args.lines) w) c.loop-text.number
+          (g.K.Sink.taken c.args.out.now) (g.K.Sink.taken c.loop-text.out) (g.K.Sink.taken c.carry_out-carried.new.out) _ c.loop-text.number
           c.in-Some.text.now more form c.loop-text.ends c.carry_out-carried.new.ends
-          (with_lines _ up0 down0 _ _ _ _ _ _ c.loop-text.number c.loop-text.lines (c.in-Some.text.now ∷ more) c.loop-text.ends c.in-Some.ensures.some (c.loop-text.invariant.6 up0 down0 w play))
-          c.in-Ok.ensures.good c.in-Ok.ensures.form carried.runs).1,
-      λ state0 up0 down0 run. (carried.follows (started state0 (length more)) up0 down0
-          (run-line state0 up0 down0 _ _ c.loop-text.ends c.loop-text.lines c.in-Some.text.now more c.in-Some.ensures.some (c.loop-text.invariant.7 state0 up0 down0 run))).0,
-      more-printed _ (g.K.Sink.taken c.loop-text.out) _ c.loop-text.invariant.8 carried.some,
+          (with_lines _ up0 down0 _ _ _ _ _ c.loop-text.number c.loop-text.lines (c.in-Some.text.now ∷ more) c.loop-text.ends c.in-Some.ensures.some (c.loop-text.invariant.5 up0 down0 w play))
+          c.in-Ok.ensures.good c.in-Ok.ensures.form carried.runs,
+      λ state0 up0 down0 run.
+          let before = carried-lines state0 up0 down0 (g.L.Link.up c.loop-text.link) (g.L.Link.down c.loop-text.link) c.args.lines c.loop-text.number c.loop-text.lines (c.in-Some.text.now ∷ more) c.loop-text.ends
+          c.in-Some.ensures.some (c.loop-text.invariant.6 state0 up0 down0 run) in
+          let line = run-line state0 before.shown up0 down0 _ _ c.loop-text.ends (c.in-Some.text.now ∷ more) c.in-Some.text.now more refl before.run in
+          carried-on state0 up0 down0 _ _ (moment (g.L.Link.honest c.loop-text.link) (g.L.Link.up c.loop-text.link) (g.L.Link.down c.loop-text.link) c.loop-text.ends)
+          (moment (g.L.Link.honest c.carry_out-carried.new.link) (g.L.Link.up c.carry_out-carried.new.link) (g.L.Link.down c.carry_out-carried.new.link) c.carry_out-carried.new.ends)
+          c.args.lines c.loop-text.number c.in-Some.text.now more form before c.in-Ok.ensures.good c.in-Ok.ensures.form
+          (carried.follows (started state0 (length more) before.shown) up0 down0 line).0
+          (ok-lacks c.loop-text.number _ (carried.tells (started state0 (length more) before.shown) up0 down0 line).0),
+      more-printed _ (g.K.Sink.taken c.loop-text.out) _ c.loop-text.invariant.7 carried.some,
     )
 
 pub returns-clause-runs : goal.returns-clause-runs
 returns-clause-runs g c = λ up0 down0 w play.
     lines-done (g.L.Link.honest c.loop-text.link) up0 down0 (g.L.Link.up c.loop-text.link) (g.L.Link.down c.loop-text.link)
-    (g.K.Sink.taken c.args.out.now) (g.K.Sink.taken c.loop-text.out)
-    (lines_text 2 (good_lines 2 c.args.lines) w) (after_lines (good_lines 2 c.args.lines) w) c.loop-text.number c.loop-text.lines c.loop-text.ends
-    (c.loop-text.invariant.6 up0 down0 w play) ((c.in_default.ensures {u = tt}).none refl)
+    (g.K.Sink.taken c.args.out.now) (g.K.Sink.taken c.loop-text.out) _ c.loop-text.number c.loop-text.lines c.loop-text.ends
+    (c.loop-text.invariant.5 up0 down0 w play) ((c.in_default.ensures {u = tt}).none refl)
 
 pub returns-in-Err-clause-follows : goal.returns-in-Err-clause-follows
-returns-in-Err-clause-follows g c = λ state0 up0 down0 run. (
-  tt,
-  read-folds c.in-Err.stop c.loop-text.number _ (fold_since up0 down0 (g.L.Link.up c.loop-text.link) (g.L.Link.down c.loop-text.link)) c.in-Err.ensures.bad
-      (run-good (started state0 (length c.loop-text.lines)) up0 down0 (g.L.Link.up c.loop-text.link) (g.L.Link.down c.loop-text.link) c.loop-text.ends (c.loop-text.invariant.7 state0 up0 down0 run)),
-)
+returns-in-Err-clause-follows g c = λ state0 up0 down0 run.
+    let before = carried-lines state0 up0 down0 (g.L.Link.up c.loop-text.link) (g.L.Link.down c.loop-text.link) c.args.lines c.loop-text.number c.loop-text.lines (c.in-Some.text.now ∷ c.next_line.new.lines) c.loop-text.ends
+    c.in-Some.ensures.some (c.loop-text.invariant.6 state0 up0 down0 run) in (
+      tt,
+      read-folds c.in-Err.stop c.loop-text.number _ (fold_since up0 down0 (g.L.Link.up c.loop-text.link) (g.L.Link.down c.loop-text.link)) c.in-Err.ensures.bad
+          (run-good (started state0 (length (c.in-Some.text.now ∷ c.next_line.new.lines)) before.shown) up0 down0 (g.L.Link.up c.loop-text.link) (g.L.Link.down c.loop-text.link) c.loop-text.ends before.run),
+      read-tells c.in-Err.stop state0 up0 down0 _ _ c.args.lines c.loop-text.number c.in-Some.text.now c.next_line.new.lines c.loop-text.ends before c.in-Err.ensures.bad,
+    )
 
 pub returns-in-Err-carried-clause-follows : goal.returns-in-Err-carried-clause-follows
 returns-in-Err-carried-clause-follows g c = λ state0 up0 down0 run.
-    (c.in-Err-carried.ensures {u = tt}).follows (started state0 (length c.next_line.new.lines)) up0 down0
-    (run-line state0 up0 down0 _ _ c.loop-text.ends c.loop-text.lines c.in-Some.text.now c.next_line.new.lines c.in-Some.ensures.some (c.loop-text.invariant.7 state0 up0 down0 run))
+    let more = c.next_line.new.lines in
+    let before = carried-lines state0 up0 down0 (g.L.Link.up c.loop-text.link) (g.L.Link.down c.loop-text.link) c.args.lines c.loop-text.number c.loop-text.lines (c.in-Some.text.now ∷ more) c.loop-text.ends
+    c.in-Some.ensures.some (c.loop-text.invariant.6 state0 up0 down0 run) in
+    let line = run-line state0 before.shown up0 down0 _ _ c.loop-text.ends (c.in-Some.text.now ∷ more) c.in-Some.text.now more refl before.run in
+    let stops = c.in-Err-carried.ensures {u = tt} in (
+      tt,
+      (stops.follows (started state0 (length more) before.shown) up0 down0 line).1,
+      line-stops c.in-Err-carried.stop state0 up0 down0 _ _ (fold_since up0 down0 (g.L.Link.up c.carry_out-carried.new.link) (g.L.Link.down c.carry_out-carried.new.link)) c.args.lines c.loop-text.number
+          c.in-Some.text.now more (seen c.in-Ok.line) c.loop-text.ends before c.in-Ok.ensures.good c.in-Ok.ensures.form (stops.tells (started state0 (length more) before.shown) up0 down0 line),
+    )
 
 pub returns-clause-follows : goal.returns-clause-follows
 returns-clause-follows g c = λ state0 up0 down0 run.
-    kept-run {T = Unit {0}} (Ok tt) (started state0 0) up0 down0 (g.L.Link.up c.loop-text.link) (g.L.Link.down c.loop-text.link) c.loop-text.ends tt
-    (run-last state0 up0 down0 _ _ c.loop-text.ends c.loop-text.lines ((c.in_default.ensures {u = tt}).none refl) (c.loop-text.invariant.7 state0 up0 down0 run))
+    let new = moment (g.L.Link.honest c.loop-text.link) (g.L.Link.up c.loop-text.link) (g.L.Link.down c.loop-text.link) c.loop-text.ends in
+    let all = carried-all state0 up0 down0 new c.args.lines c.loop-text.number c.loop-text.lines ((c.in_default.ensures {u = tt}).none refl) (c.loop-text.invariant.6 state0 up0 down0 run) in (
+      all,
+      run-good (started state0 0 all.shown) up0 down0 (g.L.Link.up c.loop-text.link) (g.L.Link.down c.loop-text.link) c.loop-text.ends all.run,
+      carried-tells state0 up0 down0 new c.args.lines all,
+    )

@@ -2,8 +2,10 @@
 use Rattle.std.proofs.Common.{length}
 use Rattle.page_forms.specs.Pages.{loaded_page}
 use Rattle.replay_script.specs.Script.{first_bad, good_lines}
-use Rattle.inspect_world.specs.Scripts.{loaded_world, after_lines}
-use Rattle.inspect_replay.proofs.RunLemmas.{begins, play-begins, closed-took, closed-tells, closed-cause, stopped-took}
+use Rattle.inspect_world.specs.Scripts.{loaded_world, after_lines, shown_lines, rest_refused}
+use Rattle.inspect_replay.proofs.RunLemmas.{begins, play-begins}
+use Rattle.inspect_replay.proofs.LinesRun.{closed-took, closed-tells, closed-cause, stopped-took}
+use Rattle.inspect_replay.proofs.LinesTell.{closing-tells}
 use Rattle.back_end.specs.States.{loaded_state}
 use Rattle.inspect_world.specs.Links.{started}
 use Rattle.inspect_replay.proofs.FollowLemmas.{run-first, ends-shown, in-order, no-more}
@@ -15,13 +17,13 @@ returns-in-Ok-clause-took g c = λ honest up_level down_level.
     let w = loaded_world page in
     let first = c.in_ok-ends.ensures in
     let run = begins (g.L.Link.honest c.args.link.now) (g.L.Link.up c.args.link.now) (g.L.Link.down c.args.link.now) page c.in_ok-ends.ends honest c.requires.can c.requires.texts up_level down_level
-    (record { page_is = first.page; sheets_are = first.sheets; next_is = first.numbers; off = first.off; css = first.css; agent_is = first.agent })
-    first.splitter first.front first.up first.down first.told in
+    (record { page_is = first.page; sheets_are = first.sheets; next_is = first.numbers; off = first.off; css = first.css; agent_is = first.agent; watches_are = first.watches })
+    first.splitter first.front first.up first.down first.told first.told_pauses in
     let play = play-begins (g.L.Link.honest c.args.link.now) (g.L.Link.up c.args.link.now) (g.L.Link.down c.args.link.now) page (length c.args.lines) c.in_ok-ends.ends c.requires.can c.requires.texts c.requires.few run in
     let ran = (c.in-Ok.ensures {u = c.in-Ok.field-0}).runs (g.L.Link.up c.args.link.now) (g.L.Link.down c.args.link.now) w play in
-    let closes = c.close.ensures.runs (g.L.Link.up c.args.link.now) (g.L.Link.down c.args.link.now) (after_lines (good_lines 2 c.args.lines) w) ran.0 in
+    let closes = c.close.ensures.runs (g.L.Link.up c.args.link.now) (g.L.Link.down c.args.link.now) (after_lines (shown_lines (good_lines 2 c.args.lines) w) w) ran.0 in
     closed-took c.close.result _ _ _ _ (g.K.Sink.taken c.args.out.now) (g.K.Sink.taken c.run_lines.new.out) (g.K.Sink.taken c.close.new.out)
-    (first_bad 2 c.args.lines) (good_lines 2 c.args.lines) w (c.in-Ok.ensures {u = c.in-Ok.field-0}).tells c.close.ensures.cause closes.0 ran.1 closes.1
+    (first_bad 2 c.args.lines) (good_lines 2 c.args.lines) w ran.2 c.close.ensures.cause closes.0 ran.1 closes.1
 
 pub returns-clause-took : goal.returns-clause-took
 returns-clause-took g c = λ honest up_level down_level.
@@ -29,12 +31,12 @@ returns-clause-took g c = λ honest up_level down_level.
     let w = loaded_world page in
     let first = c.in_ok-ends.ensures in
     let run = begins (g.L.Link.honest c.args.link.now) (g.L.Link.up c.args.link.now) (g.L.Link.down c.args.link.now) page c.in_ok-ends.ends honest c.requires.can c.requires.texts up_level down_level
-    (record { page_is = first.page; sheets_are = first.sheets; next_is = first.numbers; off = first.off; css = first.css; agent_is = first.agent })
-    first.splitter first.front first.up first.down first.told in
+    (record { page_is = first.page; sheets_are = first.sheets; next_is = first.numbers; off = first.off; css = first.css; agent_is = first.agent; watches_are = first.watches })
+    first.splitter first.front first.up first.down first.told first.told_pauses in
     let play = play-begins (g.L.Link.honest c.args.link.now) (g.L.Link.up c.args.link.now) (g.L.Link.down c.args.link.now) page (length c.args.lines) c.in_ok-ends.ends c.requires.can c.requires.texts c.requires.few run in
     let ran = (c.in-Err.ensures {u = tt}).runs (g.L.Link.up c.args.link.now) (g.L.Link.down c.args.link.now) w play in
     stopped-took c.in-Err.stop (g.K.Sink.taken c.args.out.now) (g.K.Sink.taken c.run_lines.new.out)
-    (first_bad 2 c.args.lines) (good_lines 2 c.args.lines) w (c.in-Err.ensures {u = tt}).tells ran.1
+    (first_bad 2 c.args.lines) (good_lines 2 c.args.lines) w ran.2 ran.1
 
 pub returns-in-Ok-clause-refused : goal.returns-in-Ok-clause-refused
 returns-in-Ok-clause-refused g c =
@@ -43,10 +45,11 @@ returns-in-Ok-clause-refused g c =
     let page = loaded_page c.args.form in
     let first = c.in_ok-ends.ensures in
     let start = run-first up down page (length c.args.lines) c.in_ok-ends.ends c.requires.can c.requires.texts c.requires.few
-    (record { page_is = first.page; sheets_are = first.sheets; next_is = first.numbers; off = first.off; css = first.css; agent_is = first.agent })
-    first.splitter first.front first.up first.down first.told in
+    (record { page_is = first.page; sheets_are = first.sheets; next_is = first.numbers; off = first.off; css = first.css; agent_is = first.agent; watches_are = first.watches })
+    first.splitter first.front first.up first.down first.told first.told_pauses in
     let ran = c.in-Ok.ensures {u = c.in-Ok.field-0} in
-    let shown = c.close.ensures.shown (started (loaded_state page) 0) up down (ran.follows (loaded_state page) up down start).0 in
+    let carried = (ran.follows (loaded_state page) up down start).0 in
+    let shown = c.close.ensures.shown (started (loaded_state page) 0 carried.shown) up down carried.run in
     shown.1
 
 pub returns-in-Ok-clause-closes : goal.returns-in-Ok-clause-closes
@@ -56,12 +59,13 @@ returns-in-Ok-clause-closes g c =
     let page = loaded_page c.args.form in
     let first = c.in_ok-ends.ensures in
     let start = run-first up down page (length c.args.lines) c.in_ok-ends.ends c.requires.can c.requires.texts c.requires.few
-    (record { page_is = first.page; sheets_are = first.sheets; next_is = first.numbers; off = first.off; css = first.css; agent_is = first.agent })
-    first.splitter first.front first.up first.down first.told in
+    (record { page_is = first.page; sheets_are = first.sheets; next_is = first.numbers; off = first.off; css = first.css; agent_is = first.agent; watches_are = first.watches })
+    first.splitter first.front first.up first.down first.told first.told_pauses in
     let ran = c.in-Ok.ensures {u = c.in-Ok.field-0} in
-    let shown = c.close.ensures.shown (started (loaded_state page) 0) up down (ran.follows (loaded_state page) up down start).0 in
+    let carried = (ran.follows (loaded_state page) up down start).0 in
+    let shown = c.close.ensures.shown (started (loaded_state page) 0 carried.shown) up down carried.run in
     ends-shown c.close.result (g.K.Sink.taken c.args.out.now) (g.K.Sink.taken c.run_lines.new.out) (g.K.Sink.taken c.close.new.out)
-    (g.L.Link.up c.args.link.now) (g.L.Link.down c.args.link.now) (g.L.Link.up c.close.new.link) (g.L.Link.down c.close.new.link) ran.some shown.0
+    (g.L.Link.up c.args.link.now) (g.L.Link.down c.args.link.now) (g.L.Link.up c.close.new.link) (g.L.Link.down c.close.new.link) carried.shown ran.some shown.0
 
 pub returns-in-Ok-clause-replies : goal.returns-in-Ok-clause-replies
 returns-in-Ok-clause-replies g c =
@@ -70,12 +74,13 @@ returns-in-Ok-clause-replies g c =
     let page = loaded_page c.args.form in
     let first = c.in_ok-ends.ensures in
     let start = run-first up down page (length c.args.lines) c.in_ok-ends.ends c.requires.can c.requires.texts c.requires.few
-    (record { page_is = first.page; sheets_are = first.sheets; next_is = first.numbers; off = first.off; css = first.css; agent_is = first.agent })
-    first.splitter first.front first.up first.down first.told in
+    (record { page_is = first.page; sheets_are = first.sheets; next_is = first.numbers; off = first.off; css = first.css; agent_is = first.agent; watches_are = first.watches })
+    first.splitter first.front first.up first.down first.told first.told_pauses in
     let ran = c.in-Ok.ensures {u = c.in-Ok.field-0} in
-    let shown = c.close.ensures.shown (started (loaded_state page) 0) up down (ran.follows (loaded_state page) up down start).0 in
+    let carried = (ran.follows (loaded_state page) up down start).0 in
+    let shown = c.close.ensures.shown (started (loaded_state page) 0 carried.shown) up down carried.run in
     in-order c.close.result (g.K.Sink.taken c.run_lines.new.out) (g.K.Sink.taken c.close.new.out)
-    (g.L.Link.up c.args.link.now) (g.L.Link.down c.args.link.now) (g.L.Link.up c.close.new.link) (g.L.Link.down c.close.new.link) shown.0
+    (g.L.Link.up c.args.link.now) (g.L.Link.down c.args.link.now) (g.L.Link.up c.close.new.link) (g.L.Link.down c.close.new.link) carried.shown shown.0
 
 pub returns-in-Ok-clause-less : goal.returns-in-Ok-clause-less
 returns-in-Ok-clause-less g c =
@@ -84,12 +89,13 @@ returns-in-Ok-clause-less g c =
     let page = loaded_page c.args.form in
     let first = c.in_ok-ends.ensures in
     let start = run-first up down page (length c.args.lines) c.in_ok-ends.ends c.requires.can c.requires.texts c.requires.few
-    (record { page_is = first.page; sheets_are = first.sheets; next_is = first.numbers; off = first.off; css = first.css; agent_is = first.agent })
-    first.splitter first.front first.up first.down first.told in
+    (record { page_is = first.page; sheets_are = first.sheets; next_is = first.numbers; off = first.off; css = first.css; agent_is = first.agent; watches_are = first.watches })
+    first.splitter first.front first.up first.down first.told first.told_pauses in
     let ran = c.in-Ok.ensures {u = c.in-Ok.field-0} in
-    let shown = c.close.ensures.shown (started (loaded_state page) 0) up down (ran.follows (loaded_state page) up down start).0 in
+    let carried = (ran.follows (loaded_state page) up down start).0 in
+    let shown = c.close.ensures.shown (started (loaded_state page) 0 carried.shown) up down carried.run in
     no-more c.close.result (g.K.Sink.taken c.run_lines.new.out) (g.K.Sink.taken c.close.new.out)
-    (g.L.Link.up c.args.link.now) (g.L.Link.down c.args.link.now) (g.L.Link.up c.close.new.link) (g.L.Link.down c.close.new.link) shown.0
+    (g.L.Link.up c.args.link.now) (g.L.Link.down c.args.link.now) (g.L.Link.up c.close.new.link) (g.L.Link.down c.close.new.link) carried.shown shown.0
 
 pub returns-clause-refused : goal.returns-clause-refused
 returns-clause-refused g c =
@@ -98,13 +104,57 @@ returns-clause-refused g c =
     let page = loaded_page c.args.form in
     let first = c.in_ok-ends.ensures in
     let start = run-first up down page (length c.args.lines) c.in_ok-ends.ends c.requires.can c.requires.texts c.requires.few
-    (record { page_is = first.page; sheets_are = first.sheets; next_is = first.numbers; off = first.off; css = first.css; agent_is = first.agent })
-    first.splitter first.front first.up first.down first.told in
+    (record { page_is = first.page; sheets_are = first.sheets; next_is = first.numbers; off = first.off; css = first.css; agent_is = first.agent; watches_are = first.watches })
+    first.splitter first.front first.up first.down first.told first.told_pauses in
     ((c.in-Err.ensures {u = tt}).follows (loaded_state page) up down start).1
 
 pub returns-in-Ok-clause-tells : goal.returns-in-Ok-clause-tells
 returns-in-Ok-clause-tells g c =
-    closed-tells c.close.result _ _ _ _ (first_bad 2 c.args.lines) (c.in-Ok.ensures {u = c.in-Ok.field-0}).tells c.close.ensures.cause
+    let up = g.L.Link.up c.args.link.now in
+    let down = g.L.Link.down c.args.link.now in
+    let page = loaded_page c.args.form in
+    let first = c.in_ok-ends.ensures in
+    let start = run-first up down page (length c.args.lines) c.in_ok-ends.ends c.requires.can c.requires.texts c.requires.few
+    (record { page_is = first.page; sheets_are = first.sheets; next_is = first.numbers; off = first.off; css = first.css; agent_is = first.agent; watches_are = first.watches })
+    first.splitter first.front first.up first.down first.told first.told_pauses in
+    let ran = c.in-Ok.ensures {u = c.in-Ok.field-0} in
+    let carried = (ran.follows (loaded_state page) up down start).0 in
+    let shown = c.close.ensures.shown (started (loaded_state page) 0 carried.shown) up down carried.run in
+    closing-tells c.close.result _ _ _ _ (loaded_state page) up down _ _ _ _ _ c.args.lines carried c.close.ensures.cause shown.0
+
+pub returns-clause-tells : goal.returns-clause-tells
+returns-clause-tells g c =
+    let up = g.L.Link.up c.args.link.now in
+    let down = g.L.Link.down c.args.link.now in
+    let page = loaded_page c.args.form in
+    let first = c.in_ok-ends.ensures in
+    let start = run-first up down page (length c.args.lines) c.in_ok-ends.ends c.requires.can c.requires.texts c.requires.few
+    (record { page_is = first.page; sheets_are = first.sheets; next_is = first.numbers; off = first.off; css = first.css; agent_is = first.agent; watches_are = first.watches })
+    first.splitter first.front first.up first.down first.told first.told_pauses in
+    ((c.in-Err.ensures {u = tt}).follows (loaded_state page) up down start).2
+
+pub returns-in-Ok-clause-stops : goal.returns-in-Ok-clause-stops
+returns-in-Ok-clause-stops g c = λ honest up_level down_level.
+    let page = loaded_page c.args.form in
+    let w = loaded_world page in
+    let first = c.in_ok-ends.ensures in
+    let run = begins (g.L.Link.honest c.args.link.now) (g.L.Link.up c.args.link.now) (g.L.Link.down c.args.link.now) page c.in_ok-ends.ends honest c.requires.can c.requires.texts up_level down_level
+    (record { page_is = first.page; sheets_are = first.sheets; next_is = first.numbers; off = first.off; css = first.css; agent_is = first.agent; watches_are = first.watches })
+    first.splitter first.front first.up first.down first.told first.told_pauses in
+    let play = play-begins (g.L.Link.honest c.args.link.now) (g.L.Link.up c.args.link.now) (g.L.Link.down c.args.link.now) page (length c.args.lines) c.in_ok-ends.ends c.requires.can c.requires.texts c.requires.few run in
+    let ran = (c.in-Ok.ensures {u = c.in-Ok.field-0}).runs (g.L.Link.up c.args.link.now) (g.L.Link.down c.args.link.now) w play in
+    closed-tells c.close.result _ _ _ _ (rest_refused (first_bad 2 c.args.lines) (good_lines 2 c.args.lines) w) ran.2 c.close.ensures.cause
+
+pub returns-clause-stops : goal.returns-clause-stops
+returns-clause-stops g c = λ honest up_level down_level.
+    let page = loaded_page c.args.form in
+    let w = loaded_world page in
+    let first = c.in_ok-ends.ensures in
+    let run = begins (g.L.Link.honest c.args.link.now) (g.L.Link.up c.args.link.now) (g.L.Link.down c.args.link.now) page c.in_ok-ends.ends honest c.requires.can c.requires.texts up_level down_level
+    (record { page_is = first.page; sheets_are = first.sheets; next_is = first.numbers; off = first.off; css = first.css; agent_is = first.agent; watches_are = first.watches })
+    first.splitter first.front first.up first.down first.told first.told_pauses in
+    let play = play-begins (g.L.Link.honest c.args.link.now) (g.L.Link.up c.args.link.now) (g.L.Link.down c.args.link.now) page (length c.args.lines) c.in_ok-ends.ends c.requires.can c.requires.texts c.requires.few run in
+    ((c.in-Err.ensures {u = tt}).runs (g.L.Link.up c.args.link.now) (g.L.Link.down c.args.link.now) w play).2
 
 pub returns-in-Ok-clause-cause : goal.returns-in-Ok-clause-cause
 returns-in-Ok-clause-cause g c =

@@ -13,7 +13,7 @@ returns-in-Err-clause-runs g c = λ number.
 
 pub returns-in-Ok-print_replies-clause-runs : goal.returns-in-Ok-print_replies-clause-runs
 returns-in-Ok-print_replies-clause-runs g c = λ number.
-    let untold : Untold c.settle.new.self c.split_at.result.1.now = record {
+    let untold : Untold c.settle.new.self.told c.settle.new.self.front.value.replies c.split_at.result.1.now = record {
       all = c.replies-replies.result.now;
       all_is = c.replies-replies.ensures;
       count = c.min-told.result;
@@ -21,12 +21,12 @@ returns-in-Ok-print_replies-clause-runs g c = λ number.
       kept_is = c.split_at.ensures.back;
     } in
     replies-carried number (g.L.Link.honest c.args.link.now) (g.L.Link.honest c.settle.new.link) (g.L.Link.up c.args.link.now) (g.L.Link.down c.args.link.now) (g.L.Link.up c.settle.new.link) (g.L.Link.down c.settle.new.link)
-    (g.K.Sink.taken c.args.out.now) (g.K.Sink.taken c.print_replies.new.out) c.args.ends.now c.settle.new.self c.tell_all.new.self c.split_at.result.1.now
-    (λ up0 down0 w left run. (c.in-Ok.ensures.steps up0 down0 w left run).1) untold c.in-Ok-print_replies.ensures.ok c.tell_all.ensures
+    (g.K.Sink.taken c.args.out.now) (g.K.Sink.taken c.print_replies.new.out) c.args.ends.now c.settle.new.self c.tell_replies.new.self c.split_at.result.1.now
+    (λ up0 down0 w left run. (c.in-Ok.ensures.steps up0 down0 w left run).1) untold c.in-Ok-print_replies.ensures.ok c.tell_replies.ensures
 
 pub returns-in-Err-print_replies-clause-runs : goal.returns-in-Err-print_replies-clause-runs
 returns-in-Err-print_replies-clause-runs g c = λ number.
-    let untold : Untold c.settle.new.self c.split_at.result.1.now = record {
+    let untold : Untold c.settle.new.self.told c.settle.new.self.front.value.replies c.split_at.result.1.now = record {
       all = c.replies-replies.result.now;
       all_is = c.replies-replies.ensures;
       count = c.min-told.result;
@@ -39,8 +39,8 @@ returns-in-Err-print_replies-clause-runs g c = λ number.
 
 pub returns-in-Ok-print_replies-clause-follows : goal.returns-in-Ok-print_replies-clause-follows
 returns-in-Ok-print_replies-clause-follows g c = λ state0 up0 down0 run.
-    kept-run (Ok c.in-Ok-print_replies.field-0) state0 up0 down0 _ _ c.tell_all.new.self tt
-    (told-run state0 up0 down0 _ _ c.settle.new.self c.tell_all.new.self (length c.settle.new.self.front.value.replies) c.tell_all.ensures (c.in-Ok.ensures.follows state0 up0 down0 run).0)
+    kept-run (Ok c.in-Ok-print_replies.field-0) state0 up0 down0 _ _ c.tell_replies.new.self tt
+    (told-run state0 up0 down0 _ _ c.settle.new.self c.tell_replies.new.self (length c.settle.new.self.front.value.replies) c.settle.new.self.told_pauses c.tell_replies.ensures (c.in-Ok.ensures.follows state0 up0 down0 run).0)
 
 pub returns-in-Ok-print_replies-clause-some : goal.returns-in-Ok-print_replies-clause-some
 returns-in-Ok-print_replies-clause-some g c = some-printed (Ok c.in-Ok-print_replies.field-0) _ _ _ c.in-Ok-print_replies.ensures.ok

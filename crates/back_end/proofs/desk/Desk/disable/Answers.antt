@@ -10,5 +10,5 @@ returns-then-not-self-clause-sent c = λ state stands.
 
 pub returns-clause-stands : goal.returns-clause-stands
 returns-clause-stands c = λ state stands.
-    disabled-stands c.args.self.now (record { alloc = _; is_on = _; css = _; agent = _ }) c.args.side.now c.args.side.now state c.args.id stands
-    c.if-not-self.false refl refl refl (c.in_ok-switch.ensures {u = tt}).on c.reset.ensures
+    disabled-stands c.args.self.now (record { alloc = _; is_on = _; css = _; agent = _; watches = _ }) c.args.side.now c.args.side.now state c.args.id stands
+    c.if-not-self.false refl refl refl (c.in_ok-switch.ensures {u = tt}).on c.clear.ensures c.reset.ensures

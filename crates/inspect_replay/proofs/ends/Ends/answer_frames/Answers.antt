@@ -2,14 +2,14 @@
 use Rattle.std.proofs.Common.{◌∷◌, arith, refl, sym, ap, ◌∙◌, Err, Ok}
 use Rattle.pipe_frames.specs.Frames.{Frames}
 use Rattle.inspect_world.specs.World.{answered}
-use Rattle.back_end.specs.Steps.{step}
+use Rattle.inspect_world.specs.RunStates.{run_step}
 use Rattle.inspect_replay.proofs.EndLemmas.{answer_turn}
 use Rattle.inspect_replay.proofs.FollowLemmas.{follow_turn, follow_end}
 use Rattle.inspect_replay.proofs.ends.Ends.answer_frames.Goals as goal
 
 pub returns-in-Err-clause-steps : goal.returns-in-Err-clause-steps
 returns-in-Err-clause-steps g c = λ up0 down0 w run.
-    let both = answer_turn {T = Unit {0}} (Err c.in-Err.stop) (g.L.Link.honest c.loop-frame.link) (g.L.Link.honest c.answer.new.link) up0 down0 (g.L.Link.up c.loop-frame.link) (g.L.Link.down c.loop-frame.link) (g.L.Link.up c.answer.new.link) (g.L.Link.down c.answer.new.link) (answered step c.args.self.now.splitter.whole w) c.loop-frame.self c.answer.new.self c.next.new.self
+    let both = answer_turn {T = Unit {0}} (Err c.in-Err.stop) (g.L.Link.honest c.loop-frame.link) (g.L.Link.honest c.answer.new.link) up0 down0 (g.L.Link.up c.loop-frame.link) (g.L.Link.down c.loop-frame.link) (g.L.Link.up c.answer.new.link) (g.L.Link.down c.answer.new.link) (answered run_step c.args.self.now.splitter.whole w) c.loop-frame.self c.answer.new.self c.next.new.self
     c.deref.result.now (c.loop-frame.invariant.2 up0 down0 w run)
     (c.in-Some.ensures.first ∙ ap (λ f. f ∷ c.next.new.self.whole) (sym c.deref.ensures.value)) c.in-Some.ensures.rest
     c.in-Err.ensures.steps c.answer.ensures.same in
@@ -20,7 +20,7 @@ loop-frame-preserved g c = (
   λ h. c.answer.ensures.honest (c.loop-frame.invariant.0 h),
   omega (arith, c.loop-frame.invariant.1, c.answer.ensures.cause.link_later),
   λ up0 down0 w run.
-      let both = answer_turn (Ok c.in-Ok.field-0) _ _ up0 down0 (g.L.Link.up c.loop-frame.link) (g.L.Link.down c.loop-frame.link) (g.L.Link.up c.answer.new.link) (g.L.Link.down c.answer.new.link) (answered step c.args.self.now.splitter.whole w) c.loop-frame.self c.answer.new.self c.next.new.self
+      let both = answer_turn (Ok c.in-Ok.field-0) _ _ up0 down0 (g.L.Link.up c.loop-frame.link) (g.L.Link.down c.loop-frame.link) (g.L.Link.up c.answer.new.link) (g.L.Link.down c.answer.new.link) (answered run_step c.args.self.now.splitter.whole w) c.loop-frame.self c.answer.new.self c.next.new.self
       c.deref.result.now (c.loop-frame.invariant.2 up0 down0 w run)
       (c.in-Some.ensures.first ∙ ap (λ f. f ∷ c.next.new.self.whole) (sym c.deref.ensures.value)) c.in-Some.ensures.rest
       (c.in-Ok.ensures {u = c.in-Ok.field-0}).steps c.answer.ensures.same in

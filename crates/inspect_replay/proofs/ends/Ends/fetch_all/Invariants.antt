@@ -1,12 +1,12 @@
 -- The texts so far were fetched, and those that are left take the run to where all take it.
-use Rattle.std.proofs.Common.{◌≤◌, ◌+◌, ℕ, [], length, drop}
+use Rattle.std.proofs.Common.{◌≤◌, ◌+◌, [], length, drop}
 use Rattle.pipe_frames.specs.Pipe.{Pipe}
 use Rattle.front_mirror.specs.Front.{first_value}
 use Rattle.inspect_world.specs.World.{World}
 use Rattle.inspect_world.specs.Fetches.{all_fetched}
 use Rattle.inspect_world.specs.Fits.{most_fetches, replay}
 use Rattle.inspect_world.specs.FreshRuns.{front_fetcher}
-use Rattle.back_end.specs.States.{State}
+use Rattle.inspect_world.specs.RunStates.{RunState}
 use Rattle.inspect_world.specs.Links.{Started}
 use Rattle.inspect_replay.specs.Followed.{FollowsRun}
 use Rattle.inspect_replay.specs.Runs.{InRun}
@@ -17,7 +17,7 @@ abbrev pub invariant-loop-number : goal.invariant-loop-number
 invariant-loop-number g l =
     (g.L.Link.honest l.initial.link → g.L.Link.honest l.link)
     × (g.L.Link.faults l.initial.link ≤ g.L.Link.faults l.link)
-    × ((up0 down0 : Pipe) (w : World State) → w.spent.fetches + length l.numbers ≤ most_fetches
+    × ((up0 down0 : Pipe) (w : World RunState) → w.spent.fetches + length l.numbers ≤ most_fetches
     → InRun (g.L.Link.honest l.initial.link) up0 down0 (g.L.Link.up l.initial.link) (g.L.Link.down l.initial.link) w l.initial.self
     → Fetching (g.L.Link.honest l.link) up0 down0 (g.L.Link.up l.link) (g.L.Link.down l.link) (all_fetched replay front_fetcher (first_value []) l.numbers w)
     (drop l.number-index l.numbers) l.self)

@@ -12,5 +12,6 @@ returns c = record {
         off = c.new-2.ensures.off;
         css = c.new-2.ensures.css;
         agent_is = c.new-2.ensures.agent;
+        watches_are = c.new-2.ensures.watches;
       }) c.new-3.ensures;
 }

@@ -1,0 +1,162 @@
+-- What a seat does on a client's edit of sheets is the step of the state.
+use Rattle.std.proofs.Common.{◌≡◌, ℕ, ◌+◌, ◌^◌, ◌<◌, ◌==◌, Bool, true, false, cond, List, [], ◌∷◌, ◌++◌, All, Option, Some, None, Result, Ok, Err, refl, sym, ap, ◌∙◌, subst, arith}
+use Rattle.std.specs.List.{AllByRecursion}
+use Rattle.std.proofs.lemmas.Bool.Decides.{nat_tests}
+use Rattle.node_binding.specs.Bindings.{Stands}
+use Rattle.page_tree.specs.Pages.{State as PageValue}
+use Rattle.node_tree.specs.Nodes.{alone}
+use Rattle.sheet_reader.specs.declared.book.SheetEntry.{SheetEntry}
+use Rattle.sheet_reader.specs.Books.{IsStored, entry_of, changed}
+use Rattle.style_edits.specs.declared.faults.SheetErr.{SheetErr}
+use Rattle.style_edits.specs.declared.faults.SheetErr.TheVariants.{Fault}
+use Rattle.style_edits.specs.declared.faults.SheetFault.{SheetFault}
+use Rattle.style_edits.specs.Edits.{IfFault}
+use Rattle.style_edits.specs.declared.splice.Splice.{Splice}
+use Rattle.style_edits.specs.Splices.{spliced_entry, after_by, after_splice, after_splices}
+use Rattle.cdp_messages.specs.declared.command.Why.{Why}
+use Rattle.cdp_messages.specs.Moves.{Move, replied, frames_of_moves}
+use Rattle.css_agent.specs.declared.edits.CssEdit.{CssEdit}
+use Rattle.css_agent.specs.Edits.{CssDone, CssEdited, css_edited, css_splices, splice_moves, with_reply, edit_moves, edit_splices}
+use Rattle.css_agent.specs.EditLaws.{HasEditTexts}
+use Rattle.css_agent.proofs.DoneLemmas.{css-leads, stored-all}
+use Rattle.back_end.specs.declared.desk.Desk.{Desk}
+use Rattle.back_end.specs.declared.side.PageSide.{PageSide}
+use Rattle.back_end.specs.OwnMethods.{sheet_why}
+use Rattle.back_end.specs.Sheets.{AreBelow}
+use Rattle.back_end.specs.States.{Client, State, book_in}
+use Rattle.back_end.specs.Servers.{edits_sheets}
+use Rattle.back_end.specs.Steps.{Step, refusing, splice_steps, restyled_step, sheet_edit_step, command_step}
+use Rattle.back_end.specs.Seats.{DeskStandsFor, HasRoomLeft}
+use Rattle.back_end.proofs.SeatLemmas.{on-is}
+use Rattle.back_end.proofs.SheetSeats.{dom-on, css-taken}
+use Rattle.back_end.proofs.SpliceSteps.{edit-done, restyled, splices-told}
+
+-- ---- what was answered
+
+-- what an edit without a fault did
+record Did (book : List SheetEntry) (x : CssEdit) (new : List SheetEntry) : Type 0 where
+  done : CssDone
+  is : css_edited book x ≡ Ok done
+  leads : done.book ≡ new
+
+did : (book : List SheetEntry) (x : CssEdit) (new : List SheetEntry) (backs : List Splice) → edit_splices (css_edited book x) ≡ Ok (new, backs) → Did book x new
+did book x new backs h = at (css_edited book x) refl h where
+  at : (r : CssEdited) → css_edited book x ≡ r → edit_splices r ≡ Ok (new, backs) → Did book x new
+  at (Err f) e k = absurd cc
+  at (Ok d) e k =
+      let same : ◌≡◌ {A = List SheetEntry × List Splice} (d.book, d.backs) (new, backs) = cc in
+      record { done = d; is = e; leads = ap (λ (p : List SheetEntry × List Splice). p.0) same }
+
+-- what holds of a fault holds of the one that was answered
+pub in_fault : {A : Type 0} (result : Result A SheetErr) (f : SheetFault) (P : SheetFault → Type 0) → result ≡ Err (Fault f) → IfFault result P → P f
+in_fault {A = A} result f P is holds = subst (λ (r : Result A SheetErr). IfFault r P) is holds
+
+-- ---- numbers in code
+
+below-changed : (new : SheetEntry) (next : ℕ) (es : List SheetEntry) → AreBelow next es → AreBelow next (changed new es)
+below-changed new next [] all = tt
+below-changed new next (e ∷ es) all = at (new.id == e.id) refl (below-changed new next es all.1) where
+  own : (new.id == e.id) ≡ true → new.id ≡ e.id
+  own t = grind (arith, nat_tests)
+
+  at : (b : Bool) → (new.id == e.id) ≡ b → AreBelow next (changed new es) → AreBelow next (cond b (new ∷ es) (e ∷ changed new es))
+  at true t later = let is = own t in (omega (arith, is, all.0), all.1)
+  at false t later = (all.0, later)
+
+below-splice : (s : Splice) (next : ℕ) (es : List SheetEntry) → AreBelow next es → AreBelow next (after_splice s es)
+below-splice s next es all = at (entry_of s.sheet es) where
+  at : (o : Option SheetEntry) → AreBelow next (after_by s es o)
+  at None = all
+  at (Some e) = below-changed (spliced_entry s e) next es all
+
+below-splices : (ss : List Splice) (next : ℕ) (es : List SheetEntry) → AreBelow next es → AreBelow next (after_splices ss es)
+below-splices [] next es all = all
+below-splices (s ∷ ss) next es all = below-splices ss next (after_splice s es) (below-splice s next es all)
+
+-- the numbers are those of before
+pub edited-below : (x : CssEdit) (next : ℕ) (old new : List SheetEntry) (backs : List Splice) → edit_splices (css_edited old x) ≡ Ok (new, backs) → AreBelow next old → AreBelow next new
+edited-below x next old new backs h all =
+    let d = did old x new backs h in
+    let led = css-leads x old d.done d.is in
+    subst (λ (es : List SheetEntry). AreBelow next es) (sym led.there ∙ d.leads) (below-splices (css_splices old x) next old all)
+
+-- the number of each sheet of a book is below the last
+pub stored-below : (es : List SheetEntry) → All IsStored es → AreBelow (2 ^ 53) es
+stored-below es all = at es (stored-all es all) where
+  at : (es : List SheetEntry) → AllByRecursion IsStored es → AreBelow (2 ^ 53) es
+  at [] all = tt
+  at (e ∷ es) all = (all.0.entry.id, at es all.1)
+
+-- ---- the step
+
+-- what the command comes to, while both domains are on
+step-is : (d : Desk) (s : PageSide) (state : State) (id : ℕ) (x : CssEdit) → DeskStandsFor d s state → d.is_on ≡ true → d.css ≡ true
+    → command_step id (edits_sheets x) state ≡ sheet_edit_step id x state
+step-is d s state id x stands on css = on-is id (edits_sheets x) state (dom-on (edits_sheets x) d s state stands on) (css-taken (edits_sheets x) d s state stands css)
+
+edited-here : (s : PageSide) (book : List SheetEntry) (x : CssEdit) (r : CssEdited) → s.sheets.entries ≡ book → css_edited s.sheets.entries x ≡ r → css_edited book x ≡ r
+edited-here s book x r same is = ap (λ (es : List SheetEntry). css_edited es x) (sym same) ∙ is
+
+pub restyled-stands : (d : Desk) (s s1 : PageSide) (state : State) (id : ℕ) (x : CssEdit) (backs : List Splice) → DeskStandsFor d s state → HasRoomLeft d s → HasEditTexts x
+    → d.is_on ≡ true → d.css ≡ true → edit_splices (css_edited s.sheets.entries x) ≡ Ok (s1.sheets.entries, backs) → s1.page ≡ s.page → s1.sheets.next ≡ s.sheets.next
+    → DeskStandsFor d s1 (command_step id (edits_sheets x) state).state
+restyled-stands d s s1 state id x backs stands room texts on css h page_is next_is =
+    let made = did s.sheets.entries x s1.sheets.entries backs h in
+    let here : css_edited (book_in state) x ≡ Ok made.done = edited-here s (book_in state) x (Ok made.done) stands.sheets_are made.is in
+    let ss = css_splices (book_in state) x in
+    let low : state.side.next_sheet < 2 ^ 50 = subst (λ (n : ℕ). n < 2 ^ 50) stands.next_is room.sheets in
+    let done = edit-done x made.done state stands.is_state (omega (arith, low)) texts here in
+    let after = restyled ss state stands.is_state done.taken in
+    let own : DeskStandsFor d s1 (splice_steps ss state).state = record {
+      is_state = after.is_state;
+      page_is = page_is ∙ stands.page_is ∙ sym after.page;
+      sheets_are = sym made.leads ∙ done.leads ∙ sym after.book;
+      next_is = next_is ∙ stands.next_is ∙ sym after.next;
+      on_is = stands.on_is ∙ ap (λ (c : Client). c.dom_on) (sym after.client);
+      css_is = stands.css_is ∙ ap (λ (c : Client). c.css_on) (sym after.client);
+      stands = subst (λ (p : PageValue). Stands (alone p.tree) (splice_steps ss state).state.client.session d.agent) (sym after.page)
+          (subst (λ (c : Client). Stands (alone state.side.page.tree) c.session d.agent) (sym after.client) stands.stands);
+      watches_are = stands.watches_are ∙ ap (λ (c : Client). c.watched) (sym after.client);
+    } in
+    subst (λ (done : Step). DeskStandsFor d s1 done.state) (sym (step-is d s state id x stands on css ∙ ap (λ (r : CssEdited). restyled_step id r ss state) here)) own
+
+pub restyled-sent : (d : Desk) (s : PageSide) (state : State) (id : ℕ) (x : CssEdit) (new : List SheetEntry) (backs : List Splice) (before after : List ℕ)
+    → DeskStandsFor d s state → HasRoomLeft d s → HasEditTexts x → d.is_on ≡ true → d.css ≡ true → edit_splices (css_edited s.sheets.entries x) ≡ Ok (new, backs)
+    → after ≡ before ++ frames_of_moves (edit_moves id s.sheets.entries x) → after ≡ before ++ frames_of_moves (command_step id (edits_sheets x) state).moves
+restyled-sent d s state id x new backs before after stands room texts on css h sent =
+    let made = did s.sheets.entries x new backs h in
+    let here : css_edited (book_in state) x ≡ Ok made.done = edited-here s (book_in state) x (Ok made.done) stands.sheets_are made.is in
+    let ss = css_splices (book_in state) x in
+    let low : state.side.next_sheet < 2 ^ 50 = subst (λ (n : ℕ). n < 2 ^ 50) stands.next_is room.sheets in
+    let done = edit-done x made.done state stands.is_state (omega (arith, low)) texts here in
+    let told = splices-told ss state (sym stands.css_is ∙ css) done.taken in
+    sent
+    ∙ ap (λ (es : List SheetEntry). before ++ frames_of_moves (edit_moves id es x)) stands.sheets_are
+    ∙ ap (λ (r : CssEdited). before ++ frames_of_moves (with_reply id (splice_moves ss (book_in state)) r)) here
+    ∙ ap (λ (ms : List Move). before ++ frames_of_moves (ms ++ replied id made.done.body ∷ [])) (sym told)
+    ∙ ap (λ (done : Step). before ++ frames_of_moves done.moves) (sym (step-is d s state id x stands on css ∙ ap (λ (r : CssEdited). restyled_step id r ss state) here))
+
+-- ---- a fault
+
+fault-is : (d : Desk) (s : PageSide) (state : State) (id : ℕ) (x : CssEdit) (f : SheetFault) → DeskStandsFor d s state → d.is_on ≡ true → d.css ≡ true
+    → css_edited s.sheets.entries x ≡ Err f → command_step id (edits_sheets x) state ≡ refusing (Some id) (sheet_why f) state
+fault-is d s state id x f stands on css h =
+    step-is d s state id x stands on css
+    ∙ ap (λ (r : CssEdited). restyled_step id r (css_splices (book_in state) x) state) (edited-here s (book_in state) x (Err f) stands.sheets_are h)
+
+pub unrestyled-stands : (d : Desk) (s : PageSide) (state : State) (id : ℕ) (x : CssEdit) (f : SheetFault) → DeskStandsFor d s state → d.is_on ≡ true → d.css ≡ true
+    → css_edited s.sheets.entries x ≡ Err f → DeskStandsFor d s (command_step id (edits_sheets x) state).state
+unrestyled-stands d s state id x f stands on css h = subst (λ (done : Step). DeskStandsFor d s done.state) (sym (fault-is d s state id x f stands on css h)) stands
+
+pub unrestyled-sent : (d : Desk) (s : PageSide) (state : State) (id : ℕ) (x : CssEdit) (f : SheetFault) (before after : List ℕ) → DeskStandsFor d s state → d.is_on ≡ true → d.css ≡ true
+    → css_edited s.sheets.entries x ≡ Err f → after ≡ before ++ frames_of_moves (refusing (Some id) (sheet_why f) state).moves
+    → after ≡ before ++ frames_of_moves (command_step id (edits_sheets x) state).moves
+unrestyled-sent d s state id x f before after stands on css h sent =
+    sent ∙ ap (λ (done : Step). before ++ frames_of_moves done.moves) (sym (fault-is d s state id x f stands on css h))
+
+-- the refusal is written behind what was there before
+pub why-sent : (id : ℕ) (state : State) (why : Why) (f : SheetFault) (kept before after : List ℕ) → why ≡ sheet_why f → kept ≡ before
+    → after ≡ kept ++ frames_of_moves (refusing (Some id) why state).moves → after ≡ before ++ frames_of_moves (refusing (Some id) (sheet_why f) state).moves
+why-sent id state why f kept before after is same sent =
+    sent ∙ ap (λ (bs : List ℕ). bs ++ frames_of_moves (refusing (Some id) why state).moves) same
+    ∙ ap (λ (w : Why). before ++ frames_of_moves (refusing (Some id) w state).moves) is

@@ -1,0 +1,289 @@
+-- A client's edit of sheets: each splice leads to a state, the sheets after it are the book after it, and its moves lead on; and the
+-- command is answered once.
+use Rattle.std.proofs.Common.{◌≡◌, ℕ, ◌+◌, ◌^◌, ◌<◌, ◌≤◌, ◌==◌, Bool, true, false, cond, List, [], ◌∷◌, ◌++◌, length, take, drop, suc, Option, Some, Ok, Err, refl, sym, ap, ◌∙◌, subst, arith}
+use Rattle.std.specs.Prelude.{unwrap_or, option_map}
+use Rattle.std.specs.List.{flat_map}
+use Rattle.std.specs.Str.{IsUtf8}
+use Rattle.std.proofs.lemmas.Str.{IsUtf8-append, IsUtf8-take, IsUtf8-drop}
+use Rattle.cdp_json.specs.Kinds.{is_counted}
+use Rattle.page_tree.specs.Pages.{State as PageValue}
+use Rattle.sheet_reader.specs.declared.book.SheetEntry.{SheetEntry}
+use Rattle.sheet_reader.specs.Books.{entry_of, changed}
+use Rattle.style_edits.specs.declared.splice.Splice.{Splice}
+use Rattle.style_edits.specs.Splices.{spliced, with_text, after_by, after_splice, after_splices, TakesSplice}
+use Rattle.style_edits.proofs.BookForms.{entry_id}
+use Rattle.page_forms.specs.Sheets.{max_sheet_bytes}
+use Rattle.cdp_messages.specs.declared.effects.Effect.TheVariants.{NothingElse}
+use Rattle.cdp_messages.specs.Effects.{effect_of_method}
+use Rattle.cdp_messages.specs.Views.{ShownSheet, shows_sheet, sheets_with_text}
+use Rattle.cdp_messages.specs.Moves.{Move, rewritten, replied, failed}
+use Rattle.css_agent.specs.declared.edits.CssEdit.{CssEdit}
+use Rattle.css_agent.specs.declared.edits.CssEdit.TheVariants as edit
+use Rattle.css_agent.specs.Edits.{CssDone, CssEdited, css_edited, css_splices, splice_moves, text_under}
+use Rattle.css_agent.specs.EditLaws.{HasEditTexts, AllTake, IsDone, css_edit_name}
+use Rattle.css_agent.proofs.EditResults.{edits-done}
+use Rattle.css_agent.proofs.DoneLemmas.{all-stored}
+use Rattle.back_end.specs.OwnMethods.{sheet_why}
+use Rattle.back_end.specs.Sheets.{entry_of_sheet, as_book, AscendBetween, AreSheetTexts, AreSheetsBelow}
+use Rattle.back_end.specs.States.{Client, State, book_in, IsState}
+use Rattle.back_end.specs.Steps.{splice_step, splice_steps, restyled_step, sheet_edit_step}
+use Rattle.back_end.specs.Laws.{HasRoom, StepsWell, reply_ids, MayAnswerAll, TellTextOf}
+use Rattle.back_end.proofs.SheetLemmas.{same-test, own-test, can-tell-sheets, below-none, book-stored, entry-stands}
+use Rattle.back_end.proofs.SheetSteps.{change-course}
+use Rattle.back_end.proofs.TurnAnswers.{AreEvents, events-answer, events-may, events-text, may-append, texts-append, events-append}
+use Rattle.back_end.proofs.AnswerLemmas.{flat-append}
+use Rattle.back_end.proofs.WellSteps.{Well, HasNumbers, room-numbers, told-with, stays, stays-with, then-well, more, few-steps}
+
+-- ---- a sheet with another text
+
+-- the book of sheets of which one has another text
+record TextPut (n : ℕ) (text : List ℕ) (e : SheetEntry) (ss : List ShownSheet) : Type 0 where
+  book : changed (with_text e text) (as_book ss) ≡ as_book (sheets_with_text n text ss)
+  told : text_under n (as_book (sheets_with_text n text ss)) ≡ text
+
+text-put : (n : ℕ) (text : List ℕ) (ss : List ShownSheet) (e : SheetEntry) → entry_of n (as_book ss) ≡ Some e → TextPut n text e ss
+text-put n text [] e h = absurd cc
+text-put n text (s ∷ ss) e h = at (n == s.number) refl h (λ k. text-put n text ss e k) where
+  put : ShownSheet
+  put = record s { text = text }
+
+  text_in : Option SheetEntry → List ℕ
+  text_in o = unwrap_or (option_map (λ x. x.text) o) []
+
+  at : (b : Bool) → (n == s.number) ≡ b → cond b (Some (entry_of_sheet s)) (entry_of n (as_book ss)) ≡ Some e → (entry_of n (as_book ss) ≡ Some e → TextPut n text e ss)
+      → TextPut n text e (s ∷ ss)
+  at true t k later =
+      let same : entry_of_sheet s ≡ e = cc in
+      let test : (s.number == n) ≡ true = same-test s.number n ∙ t in
+      let is : sheets_with_text n text (s ∷ ss) ≡ put ∷ ss = ap (λ (b : Bool). cond b (put ∷ ss) (s ∷ sheets_with_text n text ss)) test in
+      let own : changed (with_text (entry_of_sheet s) text) (as_book (s ∷ ss)) ≡ as_book (put ∷ ss) =
+      ap (λ (b : Bool). cond b (entry_of_sheet put ∷ as_book ss) (entry_of_sheet s ∷ changed (entry_of_sheet put) (as_book ss))) (own-test s.number) in
+      record {
+        book = ap (λ (x : SheetEntry). changed (with_text x text) (as_book (s ∷ ss))) (sym same) ∙ own ∙ ap (λ (xs : List ShownSheet). as_book xs) (sym is);
+        told = ap (λ (xs : List ShownSheet). text_under n (as_book xs)) is ∙ ap (λ (b : Bool). text_in (cond b (Some (entry_of_sheet put)) (entry_of n (as_book ss)))) t;
+      }
+  at false t k later =
+      let test : (s.number == n) ≡ false = same-test s.number n ∙ t in
+      let rest = later k in
+      let id : e.id ≡ n = entry_id n (as_book ss) e k in
+      let is : sheets_with_text n text (s ∷ ss) ≡ s ∷ sheets_with_text n text ss = ap (λ (b : Bool). cond b (put ∷ ss) (s ∷ sheets_with_text n text ss)) test in
+      record {
+        book = ap (λ (m : ℕ). cond (m == s.number) (with_text e text ∷ as_book ss) (entry_of_sheet s ∷ changed (with_text e text) (as_book ss))) id
+            ∙ ap (λ (b : Bool). cond b (with_text e text ∷ as_book ss) (entry_of_sheet s ∷ changed (with_text e text) (as_book ss))) t
+            ∙ ap (λ (es : List SheetEntry). entry_of_sheet s ∷ es) rest.book
+            ∙ ap (λ (xs : List ShownSheet). as_book xs) (sym is);
+        told = ap (λ (xs : List ShownSheet). text_under n (as_book xs)) is
+            ∙ ap (λ (b : Bool). text_in (cond b (Some (entry_of_sheet s)) (entry_of n (as_book (sheets_with_text n text ss))))) t
+            ∙ rest.told;
+      }
+
+ascend-put : (n : ℕ) (text : List ℕ) (least next : ℕ) (ss : List ShownSheet) → AscendBetween least next ss → AscendBetween least next (sheets_with_text n text ss)
+ascend-put n text least next [] all = all
+ascend-put n text least next (s ∷ ss) all = at (s.number == n) (ascend-put n text (s.number + 1) next ss all.1) where
+  at : (b : Bool) → AscendBetween (s.number + 1) next (sheets_with_text n text ss) → AscendBetween least next (cond b (record s { text = text } ∷ ss) (s ∷ sheets_with_text n text ss))
+  at true later = (all.0, all.1)
+  at false later = (all.0, later)
+
+texts-put : (n : ℕ) (text : List ℕ) (ss : List ShownSheet) → IsUtf8 text → length text ≤ max_sheet_bytes → AreSheetTexts ss → AreSheetTexts (sheets_with_text n text ss)
+texts-put n text [] utf8 short all = tt
+texts-put n text (s ∷ ss) utf8 short all = at (s.number == n) (texts-put n text ss utf8 short all.2) where
+  at : (b : Bool) → AreSheetTexts (sheets_with_text n text ss) → AreSheetTexts (cond b (record s { text = text } ∷ ss) (s ∷ sheets_with_text n text ss))
+  at true later = (utf8, short, all.2)
+  at false later = (all.0, all.1, later)
+
+count-put : (n : ℕ) (text : List ℕ) (ss : List ShownSheet) → length (sheets_with_text n text ss) ≡ length ss
+count-put n text [] = refl
+count-put n text (s ∷ ss) = at (s.number == n) (count-put n text ss) where
+  at : (b : Bool) → length (sheets_with_text n text ss) ≡ length ss → length (cond b (record s { text = text } ∷ ss) (s ∷ sheets_with_text n text ss)) ≡ length (s ∷ ss)
+  at true later = refl
+  at false later = ap (λ m. suc m) later
+
+sheets-put : (next n : ℕ) (text : List ℕ) (ss : List ShownSheet) → IsUtf8 text → length text ≤ max_sheet_bytes → AreSheetsBelow next ss → AreSheetsBelow next (sheets_with_text n text ss)
+sheets-put next n text ss utf8 short is =
+    let count = count-put n text ss in
+    record { numbers = ascend-put n text 1 next ss is.numbers; few = omega (arith, count, is.few); texts = texts-put n text ss utf8 short is.texts }
+
+-- ---- one splice
+
+-- the text that the splice makes, which the sheet has from then on
+record Puts (s : Splice) (ss : List ShownSheet) : Type 0 where
+  book : after_splice s (as_book ss) ≡ as_book (sheets_with_text s.sheet (text_under s.sheet (after_splice s (as_book ss))) ss)
+  utf8 : IsUtf8 (text_under s.sheet (after_splice s (as_book ss)))
+  short : length (text_under s.sheet (after_splice s (as_book ss))) ≤ max_sheet_bytes
+  shows : shows_sheet s.sheet ss ≡ true
+
+splice-puts : (s : Splice) (ss : List ShownSheet) → TakesSplice s (as_book ss) → Puts s ss
+splice-puts s ss t =
+    let e = t.sheet in
+    let new : List ℕ = spliced e.text s.start s.end s.text in
+    let p = text-put s.sheet new ss e t.found in
+    let whole : after_splice s (as_book ss) ≡ as_book (sheets_with_text s.sheet new ss) = ap (λ (o : Option SheetEntry). after_by s (as_book ss) o) t.found ∙ p.book in
+    let text : text_under s.sheet (after_splice s (as_book ss)) ≡ new = ap (λ (es : List SheetEntry). text_under s.sheet es) whole ∙ p.told in
+    let front = IsUtf8-take e.text s.start t.stored.utf8 t.fits.is.front in
+    let behind = IsUtf8-append s.text (drop s.end e.text) t.text (IsUtf8-drop e.text s.end t.stored.utf8 t.fits.is.back) in
+    let utf8 : IsUtf8 new = IsUtf8-append (take s.start e.text) (s.text ++ drop s.end e.text) front behind in
+    record {
+      book = whole ∙ ap (λ (x : List ℕ). as_book (sheets_with_text s.sheet x ss)) (sym text);
+      utf8 = subst IsUtf8 (sym text) utf8;
+      short = subst (λ (x : List ℕ). length x ≤ max_sheet_bytes) (sym text) t.fits.short;
+      shows = (entry-stands s.sheet ss e t.found).shows;
+    }
+
+splice-below : (s : Splice) (state : State) → IsState state → TakesSplice s (book_in state) → AreSheetsBelow state.side.next_sheet (splice_step s state).state.side.sheets
+splice-below s state is t =
+    let p = splice-puts s state.side.sheets t in
+    sheets-put state.side.next_sheet s.sheet (text_under s.sheet (after_splice s (book_in state))) state.side.sheets p.utf8 p.short is.sheets
+
+pub splice-is : (s : Splice) (state : State) → IsState state → TakesSplice s (book_in state) → IsState (splice_step s state).state
+splice-is s state is t = record {
+  page = is.page;
+  texts = is.texts;
+  sheets = splice-below s state is t;
+  session = is.session;
+  off = is.off;
+  css_off = is.css_off;
+  watched = is.watched;
+  none_watched = is.none_watched;
+  history = is.history;
+}
+
+-- the sheets after a splice are the book after it
+splice-book : (s : Splice) (state : State) → TakesSplice s (book_in state) → after_splice s (book_in state) ≡ book_in (splice_step s state).state
+splice-book s state t = (splice-puts s state.side.sheets t).book
+
+splice-well : (s : Splice) (state : State) → IsState state → HasNumbers state → TakesSplice s (book_in state) → Well state (splice_step s state) 0 0 0
+splice-well s state is low t =
+    let p = splice-puts s state.side.sheets t in
+    let next = state.side.next_sheet in
+    let text = text_under s.sheet (after_splice s (book_in state)) in
+    let old = can-tell-sheets next state.side.sheets (omega (arith, low.sheets)) is.sheets in
+    let new = can-tell-sheets next (splice_step s state).state.side.sheets (omega (arith, low.sheets)) (splice-below s state is t) in
+    let nothing = can-tell-sheets next [] (omega (arith, low.sheets)) (below-none next state.side.sheets is.sheets) in
+    record {
+      is_state = splice-is s state is t;
+      course = change-course state.client.session state.side.page state.side.sheets (splice_step s state).state.side.sheets (rewritten s.sheet text) state.client.css_on
+          (λ sheets k. told-with state sheets is low k) old new nothing (λ tree. (refl, p.shows));
+      few_ids = omega arith;
+      few_serials = omega arith;
+      few_sheets = omega arith;
+    }
+
+-- ---- splices, one after the other
+
+-- each can be made where the ones before it led
+taken-on : (s : Splice) (ss : List Splice) (state : State) → AllTake (s ∷ ss) (book_in state) → AllTake ss (book_in (splice_step s state).state)
+taken-on s ss state all = subst (λ (book : List SheetEntry). AllTake ss book) (splice-book s state all.0) all.1
+
+-- what becomes of a state by splices
+pub record Restyled (ss : List Splice) (state : State) : Type 0 where
+  pub is_state : IsState (splice_steps ss state).state
+  pub client : (splice_steps ss state).state.client ≡ state.client
+  pub page : (splice_steps ss state).state.side.page ≡ state.side.page
+  pub next : (splice_steps ss state).state.side.next_sheet ≡ state.side.next_sheet
+  pub book : book_in (splice_steps ss state).state ≡ after_splices ss (book_in state)
+
+pub restyled : (ss : List Splice) (state : State) → IsState state → AllTake ss (book_in state) → Restyled ss state
+restyled [] state is all = record { is_state = is; client = refl; page = refl; next = refl; book = refl }
+restyled (s ∷ ss) state is all =
+    let later = restyled ss (splice_step s state).state (splice-is s state is all.0) (taken-on s ss state all) in
+    record {
+      is_state = later.is_state;
+      client = later.client;
+      page = later.page;
+      next = later.next;
+      book = later.book ∙ ap (λ (book : List SheetEntry). after_splices ss book) (sym (splice-book s state all.0));
+    }
+
+splices-well : (ss : List Splice) (state : State) → IsState state → HasNumbers state → AllTake ss (book_in state) → Well state (splice_steps ss state) 0 0 0
+splices-well [] state is low all = stays state is low
+splices-well (s ∷ ss) state is low all =
+    let next : HasNumbers (splice_step s state).state = record { ids = low.ids; serials = low.serials; sheets = low.sheets } in
+    then-well (splice-well s state is low all.0) (splices-well ss (splice_step s state).state (splice-is s state is all.0) next (taken-on s ss state all))
+
+splices-events : (ss : List Splice) (state : State) → AreEvents (splice_steps ss state).moves
+splices-events [] state = tt
+splices-events (s ∷ ss) state =
+    events-append (splice_step s state).moves (splice_steps ss (splice_step s state).state).moves (at state.client.css_on) (splices-events ss (splice_step s state).state)
+  where
+    at : (b : Bool) → AreEvents (cond b (rewritten s.sheet (text_under s.sheet (after_splice s (book_in state))) ∷ []) [])
+    at true = (tt, tt)
+    at false = tt
+
+-- while the domain CSS is on, they are told by the moves of these splices
+pub splices-told : (ss : List Splice) (state : State) → state.client.css_on ≡ true → AllTake ss (book_in state) → (splice_steps ss state).moves ≡ splice_moves ss (book_in state)
+splices-told [] state on all = refl
+splices-told (s ∷ ss) state on all =
+    let text = text_under s.sheet (after_splice s (book_in state)) in
+    let later = splices-told ss (splice_step s state).state on (taken-on s ss state all) in
+    ap (λ (b : Bool). cond b (rewritten s.sheet text ∷ []) [] ++ (splice_steps ss (splice_step s state).state).moves) on
+    ∙ ap (λ (ms : List Move). rewritten s.sheet text ∷ ms) (later ∙ ap (λ (book : List SheetEntry). splice_moves ss book) (sym (splice-book s state all.0)))
+
+-- ---- an edit
+
+pub edit-done : (x : CssEdit) (d : CssDone) (state : State) → IsState state → state.side.next_sheet ≤ 2 ^ 53 → HasEditTexts x → css_edited (book_in state) x ≡ Ok d
+    → IsDone (book_in state) x d
+edit-done x d state is low texts e = edits-done (book_in state) x d (all-stored (book_in state) (book-stored state.side.next_sheet state.side.sheets low is.sheets)) texts e
+
+pub sheet-edit-well : (id : ℕ) (x : CssEdit) (state : State) → IsState state → HasRoom state → HasEditTexts x → is_counted id ≡ true → StepsWell state (sheet_edit_step id x state)
+sheet-edit-well id x state is room texts small = few-steps (more (omega arith) (omega arith) (omega arith) (at (css_edited (book_in state) x) refl)) where
+  ss : List Splice
+  ss = css_splices (book_in state) x
+
+  low : HasNumbers state
+  low = room-numbers state room
+
+  at : (r : CssEdited) → css_edited (book_in state) x ≡ r → Well state (restyled_step id r ss state) 0 0 0
+  at (Err f) e = stays-with (failed (record { id = Some id; why = sheet_why f })) state is low (refl, small)
+  at (Ok d) e =
+      let done = edit-done x d state is (omega (arith, low.sheets)) texts e in
+      let after = restyled ss state is done.taken in
+      let next : HasNumbers (splice_steps ss state).state = record {
+        ids = subst (λ (c : Client). length c.session.pushed < 2 ^ 52) (sym after.client) low.ids;
+        serials = subst (λ (p : PageValue). p.next ≤ 2 ^ 52) (sym after.page) low.serials;
+        sheets = subst (λ (n : ℕ). n ≤ 2 ^ 52) (sym after.next) low.sheets;
+      } in
+      then-well (splices-well ss state is low done.taken) (stays-with (replied id d.body) (splice_steps ss state).state after.is_state next (refl, done.plain id small))
+
+-- it is answered once
+pub sheet-edit-once : (id : ℕ) (x : CssEdit) (state : State) → flat_map reply_ids (sheet_edit_step id x state).moves ≡ Some id ∷ []
+sheet-edit-once id x state = at (css_edited (book_in state) x) where
+  ss : List Splice
+  ss = css_splices (book_in state) x
+
+  quiet : flat_map reply_ids (splice_steps ss state).moves ≡ []
+  quiet = events-answer (splice_steps ss state).moves (splices-events ss state)
+
+  at : (r : CssEdited) → flat_map reply_ids (restyled_step id r ss state).moves ≡ Some id ∷ []
+  at (Err f) = refl
+  at (Ok d) = flat-append (splice_steps ss state).moves (replied id d.body ∷ []) quiet ∙ ap (λ ids. ids ++ Some id ∷ []) quiet
+
+plain-effect : (x : CssEdit) → effect_of_method (css_edit_name x) ≡ NothingElse
+plain-effect (edit.SetStyleTexts edits) = refl
+plain-effect (edit.SetRuleSelector sheet range selector) = refl
+plain-effect (edit.SetStyleSheetText sheet text) = refl
+plain-effect (edit.AddRule sheet rule_text location) = refl
+
+-- by a result of its method
+pub sheet-edit-may : (id : ℕ) (x : CssEdit) (state : State) → IsState state → HasRoom state → HasEditTexts x → MayAnswerAll (css_edit_name x) (sheet_edit_step id x state).moves
+sheet-edit-may id x state is room texts = at (css_edited (book_in state) x) refl where
+  ss : List Splice
+  ss = css_splices (book_in state) x
+
+  at : (r : CssEdited) → css_edited (book_in state) x ≡ r → MayAnswerAll (css_edit_name x) (restyled_step id r ss state).moves
+  at (Err f) e = (tt, tt)
+  at (Ok d) e =
+      let done = edit-done x d state is (omega (arith, room.sheets)) texts e in
+      may-append (css_edit_name x) (splice_steps ss state).moves (replied id d.body ∷ [])
+      (events-may (css_edit_name x) (splice_steps ss state).moves (splices-events ss state)) ((done.answers, plain-effect x), tt)
+
+-- and no text of a sheet is told
+pub sheet-edit-text : (id : ℕ) (x : CssEdit) (state : State) (sheet : Option ℕ) → TellTextOf sheet (sheet_edit_step id x state).moves
+sheet-edit-text id x state sheet = at (css_edited (book_in state) x) where
+  ss : List Splice
+  ss = css_splices (book_in state) x
+
+  at : (r : CssEdited) → TellTextOf sheet (restyled_step id r ss state).moves
+  at (Err f) = (tt, tt)
+  at (Ok d) =
+      texts-append sheet (splice_steps ss state).moves (replied id d.body ∷ [])
+      (events-text sheet (splice_steps ss state).moves (splices-events ss state)) (tt, tt)

@@ -1,0 +1,242 @@
+-- What a seat does on a client's edit of the tree is the step of the state.
+use Rattle.std.proofs.Common.{◌≡◌, ℕ, suc, ◌+◌, ◌^◌, ◌<◌, ◌≤◌, ◌&&◌, Bool, true, false, not, List, [], ◌∷◌, ◌++◌, Option, Some, None, Result, Ok, Err, refl, sym, ◌∙◌, ap, subst, append-nil, append_assoc, arith}
+use Rattle.std.specs.FinMap as map
+use Rattle.std.proofs.lemmas.List.Concat.{flat_map-append}
+use Rattle.std.specs.Prelude.{OnOk, is_some}
+use Rattle.node_tree.specs.Nodes.{none, Branch, alone, branch_count}
+use Rattle.node_tree.specs.Keys.{has, tally, tally_in}
+use Rattle.node_tree.proofs.KeyLemmas.{tally-at, has-there, tally_row}
+use Rattle.page_tree.specs.Pages.{Row, row_serial, State as PageValue, IsValid, node_at}
+use Rattle.page_tree.specs.Edits.{after, after_tree, drawn, form_at, numbered_branch, with_child, moved_before}
+use Rattle.page_tree.specs.EditFaults.{CanApply, edit_faults, is_live, is_live_or_0, move_fault, copy_fault}
+use Rattle.page_tree.specs.declared.edits.TreeEdit.{TreeEdit}
+use Rattle.page_tree.specs.declared.edits.TreeEdit.TheVariants.{Attach, Detach}
+use Rattle.page_tree.specs.declared.edit_faults.EditFault.{EditFault}
+use Rattle.page_tree.proofs.EditLemmas.{clear, changed, serial-live}
+use Rattle.page_tree.proofs.ChildLemmas.{inserted-before, tally-inserted}
+use Rattle.page_tree.proofs.FaultLemmas.{move_live}
+use Rattle.page_tree.proofs.InsertLemmas.{copy-leads}
+use Rattle.page_tree.proofs.MoveLemmas.{move-leads}
+use Rattle.cdp_messages.specs.declared.command.Why.{Why}
+use Rattle.cdp_messages.specs.Moves.{Move as Told, frames_of_moves, move_text}
+use Rattle.cdp_messages.specs.Answers.{ended}
+use Rattle.back_end.specs.declared.dom_edits.DomEdit.{DomEdit}
+use Rattle.back_end.specs.declared.dom_edits.NodeEdit.{NodeEdit}
+use Rattle.back_end.specs.declared.dom_edits.NodeEdit.TheVariants.{One, MoveNode, CopyNode}
+use Rattle.back_end.specs.declared.desk.Desk.{Desk}
+use Rattle.back_end.specs.declared.side.PageSide.{PageSide}
+use Rattle.back_end.specs.States.{State, nodes_in, IsState}
+use Rattle.back_end.specs.OwnMethods.{edit_why}
+use Rattle.back_end.specs.Plans.{node_edit_fault, node_edit_plan, node_put}
+use Rattle.back_end.specs.Servers.{edits_tree}
+use Rattle.back_end.specs.Steps.{Step, refusing, idle, with_page, edit_step, push_step, followed_by, serial_now, lowered, edit_named, plan_step, put_answer, unless_fault, node_edit_step, server_step, command_step}
+use Rattle.back_end.specs.Texts.{IsPlainEdit}
+use Rattle.dom_agent.specs.Laws.{RowsHaveUtf8}
+use Rattle.back_end.specs.Seats.{CanPushAny, DeskStandsFor}
+use Rattle.back_end.proofs.TextLemmas.{branch-texts, form-texts}
+use Rattle.back_end.proofs.PushSteps.{IsBegun, is-begun, begun-is, begun-known}
+use Rattle.back_end.proofs.TreeSteps.{begun-after, named-known}
+use Rattle.back_end.proofs.SheetSeats.{dom-on}
+use Rattle.back_end.proofs.SeatLemmas.{on-is}
+
+-- ---- a move
+
+pub moved-plan-stands : (d1 : Desk) (s1 : PageSide) (state : State) (serial parent before there : ℕ) (tree : Branch Row) (page : PageValue) → page ≡ state.side.page
+    → there ≡ moved_before serial parent before page.tree → tree ≡ node_at serial page.tree
+    → DeskStandsFor d1 s1 (edit_step (Attach parent there tree) (edit_step (Detach serial) state).state).state
+    → DeskStandsFor d1 s1 (plan_step (node_edit_plan (MoveNode serial parent before) state.side.page) state).state
+moved-plan-stands d1 s1 state serial parent before there tree page same there_is tree_is stands =
+    let first = (edit_step (Detach serial) state).state in
+    subst (λ (p : PageValue). DeskStandsFor d1 s1 (edit_step (Attach parent (moved_before serial parent before p.tree) (node_at serial p.tree)) first).state) same
+    (subst (λ b. DeskStandsFor d1 s1 (edit_step (Attach parent b (node_at serial page.tree)) first).state) there_is
+    (subst (λ t. DeskStandsFor d1 s1 (edit_step (Attach parent there t) first).state) tree_is stands))
+
+pub moved-plan-sent : (state : State) (serial parent before there : ℕ) (tree : Branch Row) (page : PageValue) (old middle new : List ℕ) → page ≡ state.side.page
+    → there ≡ moved_before serial parent before page.tree → tree ≡ node_at serial page.tree
+    → middle ≡ old ++ frames_of_moves (edit_step (Detach serial) state).moves
+    → new ≡ middle ++ frames_of_moves (edit_step (Attach parent there tree) (edit_step (Detach serial) state).state).moves
+    → new ≡ old ++ frames_of_moves (plan_step (node_edit_plan (MoveNode serial parent before) state.side.page) state).moves
+moved-plan-sent state serial parent before there tree page old middle new same there_is tree_is first second =
+    let one = (edit_step (Detach serial) state).moves in
+    let later : TreeEdit → List Told = λ e. (edit_step e (edit_step (Detach serial) state).state).moves in
+    let last = later (Attach parent (moved_before serial parent before state.side.page.tree) (node_at serial state.side.page.tree)) in
+    second
+    ∙ ap (λ b. middle ++ frames_of_moves (later (Attach parent b tree))) there_is
+    ∙ ap (λ t. middle ++ frames_of_moves (later (Attach parent (moved_before serial parent before page.tree) t))) tree_is
+    ∙ ap (λ (p : PageValue). middle ++ frames_of_moves (later (Attach parent (moved_before serial parent before p.tree) (node_at serial p.tree)))) same
+    ∙ ap (λ (m : List ℕ). m ++ frames_of_moves last) first
+    ∙ append_assoc old (frames_of_moves one) (frames_of_moves last)
+    ∙ ap (λ bs. old ++ bs) (sym (flat_map-append (λ (m : Told). ended (move_text m)) one last))
+    ∙ ap (λ ms. old ++ frames_of_moves (one ++ ms)) (sym (append-nil last))
+
+-- ---- a copy
+
+pub copied-can : (page drawn_page : PageValue) (serial parent before : ℕ) (tree : Branch Row) → IsValid page → copy_fault serial parent before page.tree ≡ None
+    → drawn_page ≡ drawn (form_at serial page.tree) page → tree ≡ numbered_branch page.next (form_at serial page.tree)
+    → CanApply drawn_page.next (Attach parent before tree) drawn_page.tree
+copied-can page drawn_page serial parent before tree valid fits drawn_is tree_is =
+    subst (λ (p : PageValue). CanApply p.next (Attach parent before tree) p.tree) (sym drawn_is)
+    (subst (λ t. CanApply (drawn (form_at serial page.tree) page).next (Attach parent before t) page.tree) (sym tree_is)
+    (copy-leads page serial parent before valid fits).taken.0)
+
+pub copied-texts : (d : Desk) (s : PageSide) (state : State) (serial : ℕ) (tree : Branch Row) → DeskStandsFor d s state → tree ≡ numbered_branch s.page.next (form_at serial s.page.tree)
+    → RowsHaveUtf8 (alone tree)
+copied-texts d s state serial tree stands is =
+    subst (λ t. RowsHaveUtf8 (alone t)) (sym (is ∙ ap (λ (p : PageValue). numbered_branch p.next (form_at serial p.tree)) stands.page_is))
+    (branch-texts state.side.page.next (form_at serial state.side.page.tree) (form-texts serial state.side.page.tree stands.is_state.texts))
+
+pub copied-stands : (d1 : Desk) (s1 : PageSide) (state : State) (serial parent before : ℕ) (tree : Branch Row) (page : PageValue) → page ≡ state.side.page
+    → tree ≡ numbered_branch page.next (form_at serial page.tree)
+    → DeskStandsFor d1 s1 (edit_step (Attach parent before tree) (with_page (drawn (form_at serial page.tree) state.side.page) state)).state
+    → DeskStandsFor d1 s1 (plan_step (node_edit_plan (CopyNode serial parent before) state.side.page) state).state
+copied-stands d1 s1 state serial parent before tree page same tree_is stands =
+    subst (λ (p : PageValue). DeskStandsFor d1 s1 (edit_step (Attach parent before (numbered_branch p.next (form_at serial p.tree))) (with_page (drawn (form_at serial p.tree) state.side.page) state)).state) same
+    (subst (λ t. DeskStandsFor d1 s1 (edit_step (Attach parent before t) (with_page (drawn (form_at serial page.tree) state.side.page) state)).state) tree_is stands)
+
+pub copied-sent : (state : State) (serial parent before : ℕ) (tree : Branch Row) (page : PageValue) (old new : List ℕ) → page ≡ state.side.page
+    → tree ≡ numbered_branch page.next (form_at serial page.tree)
+    → new ≡ old ++ frames_of_moves (edit_step (Attach parent before tree) (with_page (drawn (form_at serial page.tree) state.side.page) state)).moves
+    → new ≡ old ++ frames_of_moves (plan_step (node_edit_plan (CopyNode serial parent before) state.side.page) state).moves
+copied-sent state serial parent before tree page old new same tree_is sent =
+    let told : Branch Row → PageValue → List Told = λ t p. (edit_step (Attach parent before t) (with_page (drawn (form_at serial p.tree) state.side.page) state)).moves in
+    sent
+    ∙ ap (λ t. old ++ frames_of_moves (told t page)) tree_is
+    ∙ ap (λ (p : PageValue). old ++ frames_of_moves (told (numbered_branch p.next (form_at serial p.tree)) p)) same
+    ∙ ap (λ ms. old ++ frames_of_moves ms) (sym (append-nil (told (numbered_branch state.side.page.next (form_at serial state.side.page.tree)) state.side.page)))
+
+-- ---- the node that was put
+
+not-true : (b : Bool) → not b ≡ false → b ≡ true
+not-true true e = refl
+not-true false e = absurd cc
+
+first-both : (a b : Bool) → (a && b) ≡ true → a ≡ true
+first-both true b e = refl
+first-both false b e = absurd cc
+
+-- a tree that was attached is in the page
+attached-there : (next parent before : ℕ) (x tree : Branch Row) → CanApply next (Attach parent before x) tree → has row_serial x.row.serial (alone (after_tree (Attach parent before x) tree)) ≡ true
+attached-there next parent before x tree can =
+    let s = x.row.serial in
+    let tests = clear (edit_faults (Attach parent before x) tree) can.fits in
+    let live : is_live parent tree ≡ true = first-both (is_live parent tree) (is_live_or_0 before tree) (not-true _ tests.0) in
+    let e = changed parent (with_child before x) tree live in
+    let m = alone (after_tree (Attach parent before x) tree) in
+    let count : tally row_serial s m + tally_in row_serial s (node_at parent tree) ≡ tally row_serial s (alone tree) + tally_in row_serial s (with_child before x (node_at parent tree)) = tally-at row_serial s e.1 in
+    let put = tally-inserted {w = x} s (inserted-before before x (node_at parent tree).children) in
+    let own : 0 < tally row_serial s (alone x) = tally_row row_serial s x.row x.children none refl in
+    has-there row_serial s m (omega (arith, count, put, own))
+
+pub put-there : (state : State) (e : NodeEdit) → IsState state → node_edit_fault e state.side.page ≡ None → (serial : ℕ) → node_put e state.side.page ≡ Some serial
+    → has row_serial serial (nodes_in (plan_step (node_edit_plan e state.side.page) state).state) ≡ true
+put-there state (One e) is fits serial put = let no : ◌≡◌ {A = Option ℕ} None (Some serial) = put in absurd cc
+put-there state (MoveNode moved parent before) is fits serial put =
+    let page = state.side.page in
+    let same : moved ≡ serial = cc in
+    let x = node_at moved page.tree in
+    let own : x.row.serial ≡ serial = serial-live moved page.tree (move_live moved parent before page.tree fits).0 ∙ same in
+    let last = (after (Detach moved) page).tree in
+    subst (λ (k : ℕ). has row_serial k (alone (after_tree (Attach parent (moved_before moved parent before page.tree) x) last)) ≡ true) own
+    (attached-there (after (Detach moved) page).next parent (moved_before moved parent before page.tree) x last (move-leads page moved parent before is.page fits).1.0)
+put-there state (CopyNode copied parent before) is fits serial put =
+    let page = state.side.page in
+    let same : page.next ≡ serial = cc in
+    let form = form_at copied page.tree in
+    let x = numbered_branch page.next form in
+    subst (λ (k : ℕ). has row_serial k (alone (after_tree (Attach parent before x) page.tree)) ≡ true) same
+    (attached-there (drawn form page).next parent before x page.tree (copy-leads page copied parent before is.page fits).taken.0)
+
+-- it can become known
+pub can-push : (state : State) (e : NodeEdit) (put : Option ℕ) → IsState state → is_some state.client.session.opened ≡ true → node_edit_fault e state.side.page ≡ None → node_put e state.side.page ≡ put
+    → CanPushAny put (plan_step (node_edit_plan e state.side.page) state).state
+can-push state e None is begun fits h = tt
+can-push state e (Some serial) is begun fits h =
+    let plan = node_edit_plan e state.side.page in
+    record {
+      begun = begun-is (plan_step plan state).state.client.session (begun-after plan.edits (with_page plan.page state) (is-begun state.client.session begun));
+      there = put-there state e is fits serial h;
+    }
+
+-- ---- the answer
+
+-- the answer after a step is that from the state after it
+put-state : (id : ℕ) (put : Option ℕ) (done : Step) → (put_answer id put (idle done.state)).state ≡ (put_answer id put done).state
+put-state id None done = refl
+put-state id (Some serial) done = refl
+
+put-moves : (id : ℕ) (put : Option ℕ) (done : Step) → done.moves ++ (put_answer id put (idle done.state)).moves ≡ (put_answer id put done).moves
+put-moves id None done = refl
+put-moves id (Some serial) done = sym (append_assoc done.moves (push_step serial done.state).moves _)
+
+-- the fault at the desk is that of the state
+pub fault-here : (s : PageSide) (state : State) (e : NodeEdit) (o : Option EditFault) → s.page ≡ state.side.page → node_edit_fault e s.page ≡ o → node_edit_fault e state.side.page ≡ o
+fault-here s state e o same h = ap (λ (p : PageValue). node_edit_fault e p) (sym same) ∙ h
+
+pub put-answered-stands : (d1 : Desk) (s1 s : PageSide) (state : State) (id : ℕ) (e : NodeEdit) (put : Option ℕ) → s.page ≡ state.side.page → node_edit_fault e s.page ≡ None → put ≡ node_put e s.page
+    → DeskStandsFor d1 s1 (put_answer id put (idle (plan_step (node_edit_plan e state.side.page) state).state)).state → DeskStandsFor d1 s1 (node_edit_step id (Ok e) state).state
+put-answered-stands d1 s1 s state id e put same fits put_is stands =
+    let done : Step = plan_step (node_edit_plan e state.side.page) state in
+    let here : put ≡ node_put e state.side.page = put_is ∙ ap (λ (p : PageValue). node_put e p) same in
+    subst (λ o. DeskStandsFor d1 s1 (unless_fault id o e state).state) (sym (fault-here s state e None same fits))
+    (subst (λ o. DeskStandsFor d1 s1 (put_answer id o done).state) here
+    (subst (λ (z : State). DeskStandsFor d1 s1 z) (put-state id put done) stands))
+
+pub put-answered-sent : (s : PageSide) (state : State) (id : ℕ) (e : NodeEdit) (put : Option ℕ) (old middle new : List ℕ) → s.page ≡ state.side.page → node_edit_fault e s.page ≡ None → put ≡ node_put e s.page
+    → middle ≡ old ++ frames_of_moves (plan_step (node_edit_plan e state.side.page) state).moves
+    → new ≡ middle ++ frames_of_moves (put_answer id put (idle (plan_step (node_edit_plan e state.side.page) state).state)).moves
+    → new ≡ old ++ frames_of_moves (node_edit_step id (Ok e) state).moves
+put-answered-sent s state id e put old middle new same fits put_is first second =
+    let done : Step = plan_step (node_edit_plan e state.side.page) state in
+    let last = (put_answer id put (idle done.state)).moves in
+    let here : put ≡ node_put e state.side.page = put_is ∙ ap (λ (p : PageValue). node_put e p) same in
+    second
+    ∙ ap (λ (m : List ℕ). m ++ frames_of_moves last) first
+    ∙ append_assoc old (frames_of_moves done.moves) (frames_of_moves last)
+    ∙ ap (λ bs. old ++ bs) (sym (flat_map-append (λ (m : Told). ended (move_text m)) done.moves last))
+    ∙ ap (λ ms. old ++ frames_of_moves ms) (put-moves id put done)
+    ∙ ap (λ o. old ++ frames_of_moves (put_answer id o done).moves) here
+    ∙ ap (λ o. old ++ frames_of_moves (unless_fault id o e state).moves) (sym (fault-here s state e None same fits))
+
+-- one that the page refuses
+pub fault-stands : (d : Desk) (s : PageSide) (state : State) (id : ℕ) (e : NodeEdit) (f : EditFault) → DeskStandsFor d s state → node_edit_fault e s.page ≡ Some f
+    → DeskStandsFor d s (node_edit_step id (Ok e) state).state
+fault-stands d s state id e f stands fault =
+    subst (λ o. DeskStandsFor d s (unless_fault id o e state).state) (sym (fault-here s state e (Some f) stands.page_is fault)) stands
+
+pub fault-sent : (s : PageSide) (state : State) (id : ℕ) (e : NodeEdit) (f : EditFault) (old new : List ℕ) → s.page ≡ state.side.page → node_edit_fault e s.page ≡ Some f
+    → new ≡ old ++ frames_of_moves (refusing (Some id) (edit_why f) state).moves → new ≡ old ++ frames_of_moves (node_edit_step id (Ok e) state).moves
+fault-sent s state id e f old new same fault sent =
+    sent ∙ ap (λ o. old ++ frames_of_moves (unless_fault id o e state).moves) (sym (fault-here s state e (Some f) same fault))
+
+-- ---- the command
+
+-- the edit that is named at the desk is the state's
+pub named-here : (d : Desk) (s : PageSide) (state : State) (edit : DomEdit) (r : Result NodeEdit Why) → DeskStandsFor d s state → r ≡ edit_named (map.get d.agent.serials) (lowered edit)
+    → edit_named (serial_now state) (lowered edit) ≡ r
+named-here d s state edit r stands is = sym (is ∙ ap (λ (serials : ℕ → Option ℕ). edit_named serials (lowered edit)) (λ i id. stands.stands.serials_are id i))
+
+-- where one is named, something is opened
+pub named-begun : (state : State) (edit : DomEdit) (e : NodeEdit) → edit_named (serial_now state) (lowered edit) ≡ Ok e → is_some state.client.session.opened ≡ true
+named-begun state edit e h =
+    let k = named-known (serial_now state) (lowered edit) e h in
+    begun-is state.client.session (begun-known state.client.session state k.id k.serial k.is)
+
+pub edit-is : (d : Desk) (s : PageSide) (state : State) (id : ℕ) (edit : DomEdit) (r : Result NodeEdit Why) → DeskStandsFor d s state → d.is_on ≡ true → r ≡ edit_named (map.get d.agent.serials) (lowered edit)
+    → node_edit_step id r state ≡ command_step id (edits_tree edit) state
+edit-is d s state id edit r stands on is =
+    ap (λ x. node_edit_step id x state) (sym (named-here d s state edit r stands is))
+    ∙ sym (on-is id (edits_tree edit) state (dom-on (edits_tree edit) d s state stands on) refl)
+
+pub edited-stands : {T E : Type 0} (result : Result T E) (d d1 : Desk) (s s1 : PageSide) (state : State) (id : ℕ) (edit : DomEdit) (e : NodeEdit) → DeskStandsFor d s state → d.is_on ≡ true
+    → Ok e ≡ edit_named (map.get d.agent.serials) (lowered edit) → (is_some state.client.session.opened ≡ true → OnOk result (DeskStandsFor d1 s1 (node_edit_step id (Ok e) state).state))
+    → OnOk result (DeskStandsFor d1 s1 (command_step id (edits_tree edit) state).state)
+edited-stands result d d1 s s1 state id edit e stands on is done =
+    subst (λ (x : Step). OnOk result (DeskStandsFor d1 s1 x.state)) (edit-is d s state id edit (Ok e) stands on is)
+    (done (named-begun state edit e (named-here d s state edit (Ok e) stands is)))
+
+pub edited-sent : {T E : Type 0} (result : Result T E) (d : Desk) (s : PageSide) (state : State) (id : ℕ) (edit : DomEdit) (e : NodeEdit) (old new : List ℕ) → DeskStandsFor d s state → d.is_on ≡ true
+    → Ok e ≡ edit_named (map.get d.agent.serials) (lowered edit) → (is_some state.client.session.opened ≡ true → OnOk result (new ≡ old ++ frames_of_moves (node_edit_step id (Ok e) state).moves))
+    → OnOk result (new ≡ old ++ frames_of_moves (command_step id (edits_tree edit) state).moves)
+edited-sent result d s state id edit e old new stands on is done =
+    subst (λ (x : Step). OnOk result (new ≡ old ++ frames_of_moves x.moves)) (edit-is d s state id edit (Ok e) stands on is)
+    (done (named-begun state edit e (named-here d s state edit (Ok e) stands is)))

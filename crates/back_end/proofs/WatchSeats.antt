@@ -1,0 +1,50 @@
+-- A seat's answer to the two commands on watches is the step of the state.
+use Rattle.std.proofs.Common.{◌≡◌, ℕ, ◌++◌, List, true, false, not, ◌&&◌, Option, Some, None, sym, ◌∙◌, ap, subst}
+use Rattle.std.specs.FinMap as map
+use Rattle.node_binding.specs.Bindings.{Stands}
+use Rattle.cdp_messages.specs.declared.command.Why.TheVariants.{UnknownNode}
+use Rattle.cdp_messages.specs.Moves.{frames_of_moves}
+use Rattle.dom_breakpoints.specs.Watched.{Watched}
+use Rattle.back_end.specs.States.{State, nodes_in}
+use Rattle.back_end.specs.Servers.{Server}
+use Rattle.back_end.specs.Steps.{Step, refusing, serial_now, watch_step, server_step, command_step, needs_css}
+use Rattle.back_end.specs.declared.desk.Desk.{Desk}
+use Rattle.back_end.specs.declared.side.PageSide.{PageSide}
+use Rattle.back_end.specs.Seats.{DeskStandsFor}
+use Rattle.back_end.proofs.SeatLemmas.{on-is}
+use Rattle.back_end.proofs.SheetSeats.{dom-on}
+use Rattle.back_end.proofs.WatchSteps.{AddsOne, watches-are}
+
+-- what changes the watches of a node, as a server
+pub record Changes (server : Server) (change : ℕ → Watched → Watched) (node : ℕ) : Type 0 where
+  pub step : (id : ℕ) (state : State) → server_step id server state ≡ watch_step id change (serial_now state node) state
+  pub plain : needs_css server ≡ false
+  pub adds : AddsOne change
+
+module _ (d : Desk) (s : PageSide) (state : State) (id : ℕ) (server : Server) (change : ℕ → Watched → Watched) (node : ℕ) (changes : Changes server change node) (stands : DeskStandsFor d s state) where
+  step-is : (found : Option ℕ) → d.is_on ≡ true → found ≡ map.get d.agent.serials node → command_step id server state ≡ watch_step id change found state
+  step-is found was is =
+      on-is id server state (dom-on server d s state stands was) (ap (λ b. b && not state.client.css_on) changes.plain)
+      ∙ changes.step id state
+      ∙ ap (λ o. watch_step id change o state) (sym (is ∙ stands.stands.serials_are node))
+
+  pub unknown-stands : d.is_on ≡ true → None ≡ map.get d.agent.serials node → DeskStandsFor d s (command_step id server state).state
+  unknown-stands was is = subst (λ (done : Step). DeskStandsFor d s done.state) (sym (step-is None was is)) stands
+
+  pub unknown-sent : (old new : List ℕ) → d.is_on ≡ true → None ≡ map.get d.agent.serials node → new ≡ old ++ frames_of_moves (refusing (Some id) UnknownNode state).moves
+      → new ≡ old ++ frames_of_moves (command_step id server state).moves
+  unknown-sent old new was is sent = sent ∙ ap (λ (done : Step). old ++ frames_of_moves done.moves) (sym (step-is None was is))
+
+  pub changed-stands : (d1 : Desk) (serial : ℕ) → d.is_on ≡ true → Some serial ≡ map.get d.agent.serials node
+      → d1.is_on ≡ d.is_on → d1.css ≡ d.css → d1.watches ≡ change serial d.watches → d1.agent ≡ d.agent → DeskStandsFor d1 s (command_step id server state).state
+  changed-stands d1 serial was is on_is css_is watches_is agent_is =
+      subst (λ (done : Step). DeskStandsFor d1 s done.state) (sym (step-is (Some serial) was is)) (record {
+        is_state = watches-are change state node serial changes.adds (sym (is ∙ stands.stands.serials_are node)) stands.is_state;
+        page_is = stands.page_is;
+        sheets_are = stands.sheets_are;
+        next_is = stands.next_is;
+        on_is = on_is ∙ stands.on_is;
+        css_is = css_is ∙ stands.css_is;
+        watches_are = watches_is ∙ ap (change serial) stands.watches_are;
+        stands = subst (λ a. Stands (nodes_in state) state.client.session a) (sym agent_is) stands.stands;
+      })

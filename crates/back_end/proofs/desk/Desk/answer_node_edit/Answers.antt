@@ -1,0 +1,35 @@
+-- An edit that the page takes is carried out and answered; one that it does not is refused.
+use Rattle.std.proofs.Common.{◌≡◌, Option, Some, None, ◌++◌, sym, ap, ◌∙◌}
+use Rattle.page_tree.specs.Pages.{State as PageValue}
+use Rattle.cdp_messages.specs.Moves.{frames_of_moves}
+use Rattle.back_end.specs.Plans.{node_edit_fault, node_put}
+use Rattle.back_end.specs.Steps.{refusing}
+use Rattle.back_end.proofs.SeatLemmas.{on_ok}
+use Rattle.back_end.proofs.TreeSeats.{fault-here, can-push, put-answered-stands, put-answered-sent, fault-sent}
+use Rattle.back_end.proofs.desk.Desk.answer_node_edit.Goals as goal
+
+pub returns-in-Some-clause-sent : goal.returns-in-Some-clause-sent
+returns-in-Some-clause-sent c = λ state stands begun.
+    on_ok c.refuse.result _ _ (c.refuse.ensures state)
+    (λ sent. fault-sent c.args.side.now state c.args.id c.args.edit c.in-Some.fault c.args.out.now.items c.refuse.new.out.items stands.page_is
+    (ap (λ (p : PageValue). node_edit_fault c.args.edit p) (sym c.page.ensures) ∙ sym c.in-Some.ensures)
+    (sent ∙ ap (λ why. c.args.out.now.items ++ frames_of_moves (refusing (Some c.args.id) why state).moves) c.edit_why.ensures))
+
+pub returns-clause-stands : goal.returns-clause-stands
+returns-clause-stands c = λ state stands begun.
+    let fits : node_edit_fault c.args.edit c.args.side.now.page ≡ None = ap (λ (p : PageValue). node_edit_fault c.args.edit p) (sym c.page.ensures) ∙ sym c.in_default.ensures in
+    let put : node_put c.args.edit state.side.page ≡ c.in_ok-put.put = sym (c.in_ok-put.ensures.put ∙ ap (λ (p : PageValue). node_put c.args.edit p) stands.page_is) in
+    on_ok c.answer_put.result _ _
+    (c.answer_put.ensures.stands _ (c.in_ok-put.ensures.stands state stands)
+    (can-push state c.args.edit c.in_ok-put.put stands.is_state begun (fault-here c.args.side.now state c.args.edit None stands.page_is fits) put))
+    (put-answered-stands c.answer_put.new.self c.put.new.side c.args.side.now state c.args.id c.args.edit c.in_ok-put.put stands.page_is fits c.in_ok-put.ensures.put)
+
+pub returns-clause-sent : goal.returns-clause-sent
+returns-clause-sent c = λ state stands begun.
+    let fits : node_edit_fault c.args.edit c.args.side.now.page ≡ None = ap (λ (p : PageValue). node_edit_fault c.args.edit p) (sym c.page.ensures) ∙ sym c.in_default.ensures in
+    let put : node_put c.args.edit state.side.page ≡ c.in_ok-put.put = sym (c.in_ok-put.ensures.put ∙ ap (λ (p : PageValue). node_put c.args.edit p) stands.page_is) in
+    on_ok c.answer_put.result _ _
+    (c.answer_put.ensures.sent _ (c.in_ok-put.ensures.stands state stands)
+    (can-push state c.args.edit c.in_ok-put.put stands.is_state begun (fault-here c.args.side.now state c.args.edit None stands.page_is fits) put))
+    (put-answered-sent c.args.side.now state c.args.id c.args.edit c.in_ok-put.put c.args.out.now.items c.put.new.out.items c.answer_put.new.out.items stands.page_is fits c.in_ok-put.ensures.put
+    (c.in_ok-put.ensures.sent state stands))

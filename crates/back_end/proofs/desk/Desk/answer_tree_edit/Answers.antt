@@ -1,0 +1,39 @@
+-- A client's edit of the tree is refused while DOM is off, and where a node is not known.
+use Rattle.std.proofs.Common.{◌++◌, refl, sym, ap, subst, ◌∙◌, Ok, Err}
+use Rattle.cdp_messages.specs.Moves.{frames_of_moves}
+use Rattle.std.specs.FinMap as map
+use Rattle.back_end.specs.Servers.{edits_tree}
+use Rattle.back_end.specs.Texts.{HasTreeTexts}
+use Rattle.back_end.specs.Steps.{Step, edit_named}
+use Rattle.back_end.proofs.SeatLemmas.{on_ok}
+use Rattle.back_end.proofs.SheetSeats.{dom-off-sent}
+use Rattle.back_end.proofs.TreeSteps.{named-plain, lowered-texts}
+use Rattle.back_end.proofs.TreeSeats.{edit-is, edited-stands, edited-sent}
+use Rattle.back_end.proofs.desk.Desk.answer_tree_edit.Goals as goal
+
+pub returns-then-not-self-clause-sent : goal.returns-then-not-self-clause-sent
+returns-then-not-self-clause-sent c = λ state stands.
+    on_ok c.refuse.result _ _ (c.refuse.ensures state)
+    (dom-off-sent c.args.self.now c.args.side.now state c.args.id (edits_tree c.args.edit) c.args.out.now.items c.refuse.new.out.items refl stands c.if-not-self.true)
+
+pub answer_node_edit-requires-clause-plain : goal.answer_node_edit-requires-clause-plain
+answer_node_edit-requires-clause-plain c =
+    named-plain (map.get c.args.self.now.agent.serials) c.in_ok-edit.edit c.in-Ok.edit (subst HasTreeTexts (sym c.in_ok-edit.ensures) (lowered-texts c.args.edit c.requires.texts)) (sym c.in-Ok.ensures)
+
+pub returns-in-Ok-clause-stands : goal.returns-in-Ok-clause-stands
+returns-in-Ok-clause-stands c = λ state stands.
+    let named = c.in-Ok.ensures ∙ ap (edit_named (map.get c.args.self.now.agent.serials)) c.in_ok-edit.ensures in
+    edited-stands c.answer_node_edit.result c.args.self.now c.answer_node_edit.new.self c.args.side.now c.answer_node_edit.new.side state c.args.id c.args.edit c.in-Ok.edit stands c.if-not-self.false named
+    (c.answer_node_edit.ensures.stands state stands)
+
+pub returns-in-Ok-clause-sent : goal.returns-in-Ok-clause-sent
+returns-in-Ok-clause-sent c = λ state stands.
+    let named = c.in-Ok.ensures ∙ ap (edit_named (map.get c.args.self.now.agent.serials)) c.in_ok-edit.ensures in
+    edited-sent c.answer_node_edit.result c.args.self.now c.args.side.now state c.args.id c.args.edit c.in-Ok.edit c.args.out.now.items c.answer_node_edit.new.out.items stands c.if-not-self.false named
+    (c.answer_node_edit.ensures.sent state stands)
+
+pub returns-in-Err-clause-sent : goal.returns-in-Err-clause-sent
+returns-in-Err-clause-sent c = λ state stands.
+    let named = c.in-Err.ensures ∙ ap (edit_named (map.get c.args.self.now.agent.serials)) c.in_ok-edit.ensures in
+    on_ok c.refuse-in-Err.result _ _ (c.refuse-in-Err.ensures state)
+    (λ sent. sent ∙ ap (λ (done : Step). c.args.out.now.items ++ frames_of_moves done.moves) (edit-is c.args.self.now c.args.side.now state c.args.id c.args.edit (Err c.in-Err.why) stands c.if-not-self.false named))

@@ -1,0 +1,47 @@
+// A client's edits of sheets.
+ghost use Rattle.std.specs.Prelude.{◌≡◌, ◌++◌, OnOk};
+ghost use Rattle.cdp_messages.specs.Moves.{frames_of_moves};
+ghost use Rattle.css_agent.specs.EditLaws.{HasEditTexts};
+ghost use Rattle.back_end.specs.States.{State};
+ghost use Rattle.back_end.specs.Servers as server;
+ghost use Rattle.back_end.specs.Steps.{command_step};
+ghost use Rattle.back_end.specs.Seats.{DeskStandsFor, HasRoomLeft};
+
+use crate::desk::Desk;
+use crate::own::sheet_why;
+use crate::side::PageSide;
+use cdp_messages::Why;
+use css_agent::CssEdit;
+use std::alloc::AllocError;
+use style_edits::SheetErr;
+
+impl Desk {
+    /// A client's edit of sheets, which is refused while DOM or CSS is off.
+    pub(crate) fn answer_sheet_edit(
+        &mut self,
+        side: &mut PageSide,
+        id: u64,
+        edit: &CssEdit,
+        out: &mut Vec<u8>,
+    ) -> Result<(), AllocError>
+        requires texts { HasEditTexts edit.now }
+        requires room { HasRoomLeft self.old side.old }
+        ensures stands { (state : State) → DeskStandsFor self.old side.old state
+            → OnOk result (DeskStandsFor self.new side.new (command_step id (server.edits_sheets edit.now) state).state) }
+        ensures sent { (state : State) → DeskStandsFor self.old side.old state
+            → OnOk result (out.new.items ≡ out.old.items ++ frames_of_moves (command_step id (server.edits_sheets edit.now) state).moves) }
+    {
+        if !self.is_on {
+            return self.refuse(id, Why::DomOff, out);
+        }
+        if !self.css.is_on() {
+            return self.refuse(id, Why::CssOff, out);
+        }
+        match side.sheets.edit(&self.css, id, edit, out) {
+            Ok(_) => {}
+            Err(SheetErr::Fault(fault)) => return self.refuse(id, sheet_why(fault), out),
+            Err(SheetErr::Memory) => return Err(AllocError),
+        }
+        Ok(())
+    }
+}

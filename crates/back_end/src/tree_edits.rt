@@ -1,0 +1,195 @@
+// A client's edits of the tree.
+ghost use Rattle.std.specs.Prelude.{◌≡◌, ◌+◌, ◌<◌, ◌^◌, ◌++◌, true, None, Ok, is_some, IfOk, OnOk};
+ghost use Rattle.page_tree.specs.EditFaults.{move_fault, copy_fault};
+ghost use Rattle.cdp_messages.specs.Moves.{frames_of_moves};
+ghost use Rattle.back_end.specs.declared.dom_edits.NodeEdit.TheVariants.{MoveNode, CopyNode};
+ghost use Rattle.back_end.specs.States.{State};
+ghost use Rattle.back_end.specs.Plans.{node_edit_fault, node_edit_plan, node_put};
+ghost use Rattle.back_end.specs.Servers as server;
+ghost use Rattle.back_end.specs.Texts.{HasTreeTexts, IsPlainEdit};
+ghost use Rattle.back_end.specs.Steps.{command_step, idle, node_edit_step, plan_step, put_answer};
+ghost use Rattle.back_end.specs.Seats.{CanPushAny, DeskStandsFor, HasRoomLeft};
+
+use crate::desk::Desk;
+use crate::dom_edits::{DomEdit, NodeEdit};
+use crate::own::edit_why;
+use crate::side::PageSide;
+use cdp_messages::{ReplyBody, Why, write_reply};
+use page_tree::TreeEdit;
+use std::alloc::AllocError;
+
+impl Desk {
+    /// Moves a node with all below it, where the page takes that: it is taken out, and put into its new place.
+    fn put_moved(
+        &mut self,
+        side: &mut PageSide,
+        node: u64,
+        parent: u64,
+        before: u64,
+        out: &mut Vec<u8>,
+    ) -> Result<(), AllocError>
+        requires fits { move_fault node parent before side.old.page.tree ≡ None }
+        requires room { HasRoomLeft self.old side.old }
+        ensures few { OnOk result (self.new.agent.next < self.old.agent.next + 4) }
+        ensures stands { (state : State) → DeskStandsFor self.old side.old state
+            → OnOk result (DeskStandsFor self.new side.new (plan_step (node_edit_plan (MoveNode node parent before) state.side.page) state).state) }
+        ensures sent { (state : State) → DeskStandsFor self.old side.old state
+            → OnOk result (out.new.items ≡ out.old.items
+            ++ frames_of_moves (plan_step (node_edit_plan (MoveNode node parent before) state.side.page) state).moves) }
+    {
+        side.page.valid();
+        let place = side.page.moved_before(node, parent, before);
+        let back = self.apply(side, TreeEdit::Detach { node }, out)?;
+        let TreeEdit::Attach { tree, .. } = back else {
+            unreachable!()
+        };
+        let attach = TreeEdit::Attach {
+            parent,
+            before: place,
+            tree,
+        };
+        self.apply(side, attach, out)?;
+        Ok(())
+    }
+
+    /// Puts in a copy of a node with all below it, where the page takes that.
+    fn put_copy(
+        &mut self,
+        side: &mut PageSide,
+        node: u64,
+        parent: u64,
+        before: u64,
+        out: &mut Vec<u8>,
+    ) -> Result<(), AllocError>
+        requires fits { copy_fault node parent before side.old.page.tree ≡ None }
+        requires room { HasRoomLeft self.old side.old }
+        ensures few { OnOk result (self.new.agent.next < self.old.agent.next + 4) }
+        ensures stands { (state : State) → DeskStandsFor self.old side.old state
+            → OnOk result (DeskStandsFor self.new side.new (plan_step (node_edit_plan (CopyNode node parent before) state.side.page) state).state) }
+        ensures sent { (state : State) → DeskStandsFor self.old side.old state
+            → OnOk result (out.new.items ≡ out.old.items
+            ++ frames_of_moves (plan_step (node_edit_plan (CopyNode node parent before) state.side.page) state).moves) }
+    {
+        side.page.valid();
+        let tree = side.page.copy(node)?;
+        let attach = TreeEdit::Attach {
+            parent,
+            before,
+            tree,
+        };
+        self.apply(side, attach, out)?;
+        Ok(())
+    }
+
+    /// Carries out an edit that the page takes. Gives the serial of the node that was put.
+    fn put(
+        &mut self,
+        side: &mut PageSide,
+        edit: NodeEdit,
+        out: &mut Vec<u8>,
+    ) -> Result<Option<u64>, AllocError>
+        requires fits { node_edit_fault edit side.old.page ≡ None }
+        requires plain { IsPlainEdit edit }
+        requires room { HasRoomLeft self.old side.old }
+        ensures put { IfOk result (λ put. put ≡ node_put edit side.old.page) }
+        ensures few { OnOk result (self.new.agent.next < self.old.agent.next + 4) }
+        ensures stands { (state : State) → DeskStandsFor self.old side.old state
+            → OnOk result (DeskStandsFor self.new side.new (plan_step (node_edit_plan edit state.side.page) state).state) }
+        ensures sent { (state : State) → DeskStandsFor self.old side.old state
+            → OnOk result (out.new.items ≡ out.old.items ++ frames_of_moves (plan_step (node_edit_plan edit state.side.page) state).moves) }
+    {
+        match edit {
+            NodeEdit::One { edit } => {
+                self.apply(side, edit, out)?;
+                Ok(None)
+            }
+            NodeEdit::MoveNode {
+                node,
+                parent,
+                before,
+            } => {
+                self.put_moved(side, node, parent, before, out)?;
+                Ok(Some(node))
+            }
+            NodeEdit::CopyNode {
+                node,
+                parent,
+                before,
+            } => {
+                let copy = side.page.next_serial();
+                self.put_copy(side, node, parent, before, out)?;
+                Ok(Some(copy))
+            }
+        }
+    }
+
+    /// Replies with the id of the node that was put, which becomes known, or with the empty result.
+    fn answer_put(
+        &mut self,
+        side: &PageSide,
+        id: u64,
+        put: Option<u64>,
+        out: &mut Vec<u8>,
+    ) -> Result<(), AllocError>
+        requires ids { self.old.agent.next < 2 ^ 52 }
+        ensures stands { (state : State) → DeskStandsFor self.old side.now state → CanPushAny put state
+            → OnOk result (DeskStandsFor self.new side.now (put_answer id put (idle state)).state) }
+        ensures sent { (state : State) → DeskStandsFor self.old side.now state → CanPushAny put state
+            → OnOk result (out.new.items ≡ out.old.items ++ frames_of_moves (put_answer id put (idle state)).moves) }
+    {
+        match put {
+            Some(node) => {
+                let known = self.push(side, node, out)?;
+                write_reply(self.alloc, id, &ReplyBody::NodeId(known), out)
+            }
+            None => write_reply(self.alloc, id, &ReplyBody::Nothing, out),
+        }
+    }
+
+    /// Carries an edit out and answers it, or refuses it with the fault that the page finds.
+    fn answer_node_edit(
+        &mut self,
+        side: &mut PageSide,
+        id: u64,
+        edit: NodeEdit,
+        out: &mut Vec<u8>,
+    ) -> Result<(), AllocError>
+        requires plain { IsPlainEdit edit }
+        requires room { HasRoomLeft self.old side.old }
+        ensures stands { (state : State) → DeskStandsFor self.old side.old state → is_some state.client.session.opened ≡ true
+            → OnOk result (DeskStandsFor self.new side.new (node_edit_step id (Ok edit) state).state) }
+        ensures sent { (state : State) → DeskStandsFor self.old side.old state → is_some state.client.session.opened ≡ true
+            → OnOk result (out.new.items ≡ out.old.items ++ frames_of_moves (node_edit_step id (Ok edit) state).moves) }
+    {
+        if let Some(fault) = edit.fault(side.page()) {
+            return self.refuse(id, edit_why(fault), out);
+        }
+        let put = self.put(side, edit, out)?;
+        self.answer_put(side, id, put, out)
+    }
+
+    /// A client's edit of the tree, which is refused while DOM is off.
+    pub(crate) fn answer_tree_edit(
+        &mut self,
+        side: &mut PageSide,
+        id: u64,
+        edit: DomEdit,
+        out: &mut Vec<u8>,
+    ) -> Result<(), AllocError>
+        requires texts { HasTreeTexts edit }
+        requires room { HasRoomLeft self.old side.old }
+        ensures stands { (state : State) → DeskStandsFor self.old side.old state
+            → OnOk result (DeskStandsFor self.new side.new (command_step id (server.edits_tree edit) state).state) }
+        ensures sent { (state : State) → DeskStandsFor self.old side.old state
+            → OnOk result (out.new.items ≡ out.old.items ++ frames_of_moves (command_step id (server.edits_tree edit) state).moves) }
+    {
+        if !self.is_on {
+            return self.refuse(id, Why::DomOff, out);
+        }
+        let edit = edit.lowered(self.alloc)?;
+        match edit.named(&self.agent) {
+            Ok(edit) => self.answer_node_edit(side, id, edit, out),
+            Err(why) => self.refuse(id, why, out),
+        }
+    }
+}

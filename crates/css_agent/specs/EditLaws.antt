@@ -1,0 +1,104 @@
+-- What always holds of a client's edit of sheets that has no fault.
+use Rattle.std.specs.Prelude.{◌≡◌, ℕ, List, [], ◌∷◌, All, codes, length, Option, Some, true, Ok, ⊤}
+use Rattle.std.specs.Str.{IsUtf8}
+use Rattle.cdp_json.specs.Kinds.{is_counted}
+use Rattle.cdp_messages.specs.declared.command.Command.{Command}
+use Rattle.cdp_messages.specs.declared.down.ReplyBody.{ReplyBody}
+use Rattle.cdp_messages.specs.declared.down.ReplyBody.TheVariants as body
+use Rattle.cdp_messages.specs.declared.edits.TextEdit.{TextEdit}
+use Rattle.cdp_messages.specs.Asked.{method_name}
+use Rattle.cdp_messages.specs.Laws.{answers}
+use Rattle.cdp_messages.specs.Moves.{IsPlainReply}
+use Rattle.sheet_reader.specs.declared.book.SheetEntry.{SheetEntry}
+use Rattle.sheet_reader.specs.Books.{IsStored}
+use Rattle.style_edits.specs.declared.splice.Splice.{Splice}
+use Rattle.style_edits.specs.Splices.{after_splice, back_splice, after_splices, TakesSplice}
+use Rattle.css_agent.specs.declared.edits.CssEdit.{CssEdit}
+use Rattle.css_agent.specs.declared.edits.CssEdit.TheVariants as edit
+use Rattle.css_agent.specs.Edits.{css_edit_in, CssDone, css_edited, css_splices}
+
+-- ---- of the command
+
+-- the edit of a style rule's body has a text
+abbrev pub HasEditText : TextEdit → Type 0
+HasEditText x = IsUtf8 x.text
+
+-- the texts that the edit puts into sheets are UTF-8
+abbrev pub HasEditTexts : CssEdit → Type 0
+HasEditTexts (edit.SetStyleTexts edits) = All HasEditText edits
+HasEditTexts (edit.SetRuleSelector sheet range selector) = IsUtf8 selector
+HasEditTexts (edit.SetStyleSheetText sheet text) = IsUtf8 text
+HasEditTexts (edit.AddRule sheet rule_text location) = IsUtf8 rule_text
+
+-- its method's name
+abbrev pub css_edit_name : CssEdit → List ℕ
+css_edit_name (edit.SetStyleTexts edits) = codes "CSS.setStyleTexts"
+css_edit_name (edit.SetRuleSelector sheet range selector) = codes "CSS.setRuleSelector"
+css_edit_name (edit.SetStyleSheetText sheet text) = codes "CSS.setStyleSheetText"
+css_edit_name (edit.AddRule sheet rule_text location) = codes "CSS.addRule"
+
+-- how many edits it makes
+abbrev pub edit_count : CssEdit → ℕ
+edit_count (edit.SetStyleTexts edits) = length edits
+edit_count (edit.SetRuleSelector sheet range selector) = 1
+edit_count (edit.SetStyleSheetText sheet text) = 1
+edit_count (edit.AddRule sheet rule_text location) = 1
+
+-- ---- of its splices
+
+-- each can be made in the book that the earlier ones left
+abbrev pub AllTake : List Splice → List SheetEntry → Type 0
+AllTake [] book = ⊤
+AllTake (s ∷ ss) book = TakesSplice s book × AllTake ss (after_splice s book)
+
+-- the splices that lead back, each to the book that its splice was made in
+abbrev pub back_splices : List Splice → List SheetEntry → List Splice
+back_splices [] book = []
+back_splices (s ∷ ss) book = back_splice s book ∷ back_splices ss (after_splice s book)
+
+-- ---- of what is told
+
+-- a list of styles has so many
+abbrev pub TellsStyles : ℕ → ReplyBody → Type 0
+TellsStyles n body.Nothing = ⊤
+TellsStyles n (body.Root b) = ⊤
+TellsStyles n (body.Node b) = ⊤
+TellsStyles n (body.NodeId id) = ⊤
+TellsStyles n (body.NodeIds ids) = ⊤
+TellsStyles n (body.Attributes pairs) = ⊤
+TellsStyles n (body.ClassNames names) = ⊤
+TellsStyles n (body.SheetText text) = ⊤
+TellsStyles n (body.Styles styles) = length styles ≡ n
+TellsStyles n (body.Selectors selectors) = ⊤
+TellsStyles n (body.Rule rule) = ⊤
+TellsStyles n (body.Matched matched) = ⊤
+
+-- ---- of an edit
+
+-- what was done is what the edit's splices do, and is answered by a result of the edit's method that a message can spell
+pub record IsDone (book : List SheetEntry) (x : CssEdit) (d : CssDone) : Type 0 where
+  -- each splice can be made in the book that the earlier ones left
+  pub taken : AllTake (css_splices book x) book
+  -- the book after it is the book after these splices
+  pub leads : d.book ≡ after_splices (css_splices book x) book
+  -- each sheet of it is as a book has it
+  pub stored : All IsStored d.book
+  -- the splices that are answered lead back, each over its own splice
+  pub backs : d.backs ≡ back_splices (css_splices book x) book
+  -- there is one splice for each edit
+  pub each : length (css_splices book x) ≡ edit_count x
+  -- the result tells neither a document nor the text of a sheet, and a message can spell it
+  pub plain : (id : ℕ) → is_counted id ≡ true → IsPlainReply id d.body
+  -- it is a result of the edit's method
+  pub answers : answers (css_edit_name x) d.body ≡ true
+  -- and tells one style for each edit, where it tells styles
+  pub styles : TellsStyles (edit_count x) d.body
+
+-- so it is for each edit of a book whose sheets are as a book has them
+abbrev pub EditsAreDone : Type 0
+EditsAreDone =
+    (book : List SheetEntry) (x : CssEdit) (d : CssDone) → All IsStored book → HasEditTexts x → css_edited book x ≡ Ok d → IsDone book x d
+
+-- the edit that a command is has the command's method
+abbrev pub EditsAreNamed : Type 0
+EditsAreNamed = (c : Command) (x : CssEdit) → css_edit_in c ≡ Some x → method_name c ≡ css_edit_name x

@@ -1,0 +1,14 @@
+pub mod Cutting
+pub mod WordCuts
+pub mod SimpleAgain
+pub mod SelectorAgain
+pub mod SelectorTakes
+pub mod ListCuts
+pub mod RuleCuts
+pub mod BracketPairs
+pub mod ImportantCuts
+pub mod DeclarationCuts
+pub mod SaidLists
+pub mod BodyCuts
+pub mod PlaceCuts
+pub mod SheetCuts
