@@ -3,7 +3,7 @@ use Rattle.std.proofs.Common.{◌∷◌, arith, refl, sym, ap, ◌∙◌}
 use Rattle.pipe_frames.specs.Frames.{Frames}
 use Rattle.inspect_replay.specs.Serving.{serve_moment}
 use Rattle.inspect_replay.proofs.ServeLemmas.{one-answered, one-in-part, all-answered}
-use Rattle.inspect_replay.proofs.serve.Service.answer_whole.Goals as goal
+use Rattle.inspect_replay.proofs.service.Service.answer_whole.Goals as goal
 
 pub returns-in-Err-clause-answers : goal.returns-in-Err-clause-answers
 returns-in-Err-clause-answers g c = λ state stands.

@@ -1,6 +1,6 @@
 -- A new back end has the page of one document, and has answered nothing.
 use Rattle.inspect_replay.proofs.ServeLemmas.{starts-serving}
-use Rattle.inspect_replay.proofs.serve.Service.new.Goals as goal
+use Rattle.inspect_replay.proofs.service.Service.new.Goals as goal
 
 pub returns : goal.returns
 returns c = record {
@@ -13,5 +13,6 @@ returns c = record {
         css = c.new-2.ensures.css;
         agent_is = c.new-2.ensures.agent;
         watches_are = c.new-2.ensures.watches;
+        history_is = c.new-2.ensures.history;
       }) c.new-3.ensures;
 }

@@ -1,7 +1,7 @@
 -- The frames that became whole are answered.
 use Rattle.inspect_replay.specs.Serving.{serve_moment}
 use Rattle.inspect_replay.proofs.ServeLemmas.{has-taken, piece-ends, piece-lost}
-use Rattle.inspect_replay.proofs.serve.Service.take.Goals as goal
+use Rattle.inspect_replay.proofs.service.Service.take.Goals as goal
 
 pub returns-in-Ok-clause-takes : goal.returns-in-Ok-clause-takes
 returns-in-Ok-clause-takes g c = λ so_far serves.

@@ -4,7 +4,7 @@ use Rattle.std.proofs.lemmas.List.{length-take}
 use Rattle.inspect_replay.specs.Serving.{serve_moment}
 use Rattle.inspect_replay.proofs.ServeLemmas.{serves-nothing}
 use Rattle.inspect_replay.proofs.ServeEnds.{nothing-came, more-came, loop-ended, loop-full, loop-stopped}
-use Rattle.inspect_replay.proofs.serve.Service.serve_within.Goals as goal
+use Rattle.inspect_replay.proofs.service.Service.serve_within.Goals as goal
 
 pub loop-came-init : goal.loop-came-init
 loop-came-init g c = record {

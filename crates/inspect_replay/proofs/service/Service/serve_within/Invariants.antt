@@ -2,7 +2,7 @@
 use Rattle.std.proofs.Common.{◌-◌, ◌≤◌}
 use Rattle.inspect_replay.specs.Serving.{serve_moment}
 use Rattle.inspect_replay.proofs.ServeEnds.{ServedSoFar}
-use Rattle.inspect_replay.proofs.serve.Service.serve_within.Given as goal
+use Rattle.inspect_replay.proofs.service.Service.serve_within.Given as goal
 
 abbrev pub invariant-loop-came : goal.invariant-loop-came
 invariant-loop-came g l = record {

@@ -3,7 +3,7 @@ use Rattle.std.proofs.Common.{[], ◌∷◌}
 use Rattle.inspect_world.specs.World.{steps}
 use Rattle.inspect_replay.specs.Serving.{served_step, serve_moment}
 use Rattle.inspect_replay.proofs.ServeLemmas.{frame-answered, frame-in-part, frame-lost, unwritten}
-use Rattle.inspect_replay.proofs.serve.Service.answer.Goals as goal
+use Rattle.inspect_replay.proofs.service.Service.answer.Goals as goal
 
 pub returns-in-Ok-clause-answers : goal.returns-in-Ok-clause-answers
 returns-in-Ok-clause-answers g c = λ state stands.

@@ -4,7 +4,7 @@ use Rattle.back_end.specs.States.{State}
 use Rattle.back_end.specs.Seats.{StandsFor}
 use Rattle.inspect_replay.specs.Serving.{serve_moment}
 use Rattle.inspect_replay.proofs.ServeLemmas.{AnswersSoFar}
-use Rattle.inspect_replay.proofs.serve.Service.answer_whole.Given as goal
+use Rattle.inspect_replay.proofs.service.Service.answer_whole.Given as goal
 
 abbrev pub invariant-loop-frame : goal.invariant-loop-frame
 invariant-loop-frame g l = record {
