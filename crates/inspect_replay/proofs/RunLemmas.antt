@@ -216,11 +216,11 @@ after-ok (Err stop) p = tt
 -- a change of the page: what the page and its sheets say is refused is what the script's own state says
 page-is : (honest : Type 0) (up0 down0 up down : Pipe) (lines : ℕ) (w : World RunState) (e : Ends) → InPlay honest up0 down0 up down lines w e → e.side.page ≡ w.state.back.side.page
 page-is honest up0 down0 up down lines w e play =
-    play.in_run.so_far.in_world.stands.desk.page_is ∙ ap (λ (s : RunState). s.back.side.page) (sym play.both.runs.agrees.state)
+    play.in_run.so_far.in_world.stands.stands.page_is ∙ ap (λ (s : RunState). s.back.side.page) (sym play.both.runs.agrees.state)
 
 sheets-are : (honest : Type 0) (up0 down0 up down : Pipe) (lines : ℕ) (w : World RunState) (e : Ends) → InPlay honest up0 down0 up down lines w e → e.side.sheets.entries ≡ book_in w.state.back
 sheets-are honest up0 down0 up down lines w e play =
-    play.in_run.so_far.in_world.stands.desk.sheets_are ∙ ap (λ (s : RunState). book_in s.back) (sym play.both.runs.agrees.state)
+    play.in_run.so_far.in_world.stands.stands.sheets_are ∙ ap (λ (s : RunState). book_in s.back) (sym play.both.runs.agrees.state)
 
 pub act-carries : (result : Result (Unit {0}) Stop) (fault : Option ActFault) (honest honest1 : Type 0) (up down up1 down1 : Pipe) (taken taken1 : Option (List ℕ)) (e e1 : Ends)
     (number : ℕ) (a : Act)
@@ -569,7 +569,7 @@ pub stands-first : (page : LoadedPage) (seat : Seat) (side : PageSide) → CanLo
 stands-first page seat side can texts new =
     let is = IsState-first page can texts in
     record {
-      desk = record {
+      stands = record {
         now = is.now;
         page_is = new.page_is;
         sheets_are = new.sheets_are;
