@@ -584,7 +584,7 @@ stands-first page seat side can texts new =
 
 -- so it stands for some state
 pub seated-first : (page : LoadedPage) (seat : Seat) (side : PageSide) → CanLoadPage page → PageHasTexts page → IsNewSide seat side page → IsSeated seat side
-seated-first page seat side can texts new = λ alive. (loaded_state page, stands-first page seat side can texts new)
+seated-first page seat side can texts new = λ alive. ∣ (loaded_state page, stands-first page seat side can texts new) ∣₁
 
 nothing-awaited : (page : LoadedPage) → awaited (loaded_world page).up ≡ []
 unfolding frames_of
