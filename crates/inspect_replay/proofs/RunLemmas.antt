@@ -47,7 +47,8 @@ use Rattle.back_end.specs.Laws.{IsTurn}
 use Rattle.back_end.specs.Plans.{act_fault}
 use Rattle.back_end.proofs.SeatLemmas.{on_ok}
 use Rattle.dom_breakpoints.specs.Watched.{unwatched}
-use Rattle.back_end.specs.Seats.{StandsFor}
+use Rattle.back_end.specs.Seats.{StandsFor, IsSeated}
+use Rattle.undo_marks.specs.Marks.{no_marks}
 use Rattle.inspect_world.specs.Fits.{most_asks, most_sheets, most_fetches, HasLeft, IsPlainFrame}
 use Rattle.inspect_world.specs.FreshRuns.{front_fetcher, refreshes, fresh_line, Together}
 use Rattle.inspect_world.specs.ActTexts.{act_text}
@@ -215,11 +216,11 @@ after-ok (Err stop) p = tt
 -- a change of the page: what the page and its sheets say is refused is what the script's own state says
 page-is : (honest : Type 0) (up0 down0 up down : Pipe) (lines : ℕ) (w : World RunState) (e : Ends) → InPlay honest up0 down0 up down lines w e → e.side.page ≡ w.state.back.side.page
 page-is honest up0 down0 up down lines w e play =
-    play.in_run.so_far.in_world.stands.page_is ∙ ap (λ (s : RunState). s.back.side.page) (sym play.both.runs.agrees.state)
+    play.in_run.so_far.in_world.stands.stands.page_is ∙ ap (λ (s : RunState). s.back.side.page) (sym play.both.runs.agrees.state)
 
 sheets-are : (honest : Type 0) (up0 down0 up down : Pipe) (lines : ℕ) (w : World RunState) (e : Ends) → InPlay honest up0 down0 up down lines w e → e.side.sheets.entries ≡ book_in w.state.back
 sheets-are honest up0 down0 up down lines w e play =
-    play.in_run.so_far.in_world.stands.sheets_are ∙ ap (λ (s : RunState). book_in s.back) (sym play.both.runs.agrees.state)
+    play.in_run.so_far.in_world.stands.stands.sheets_are ∙ ap (λ (s : RunState). book_in s.back) (sym play.both.runs.agrees.state)
 
 pub act-carries : (result : Result (Unit {0}) Stop) (fault : Option ActFault) (honest honest1 : Type 0) (up down up1 down1 : Pipe) (taken taken1 : Option (List ℕ)) (e e1 : Ends)
     (number : ℕ) (a : Act)
@@ -561,19 +562,29 @@ pub record IsNewSide (seat : Seat) (side : PageSide) (page : LoadedPage) : Type 
   pub css : seat.desk.css ≡ false
   pub agent_is : seat.desk.agent ≡ empty_from 1
   pub watches_are : seat.desk.watches ≡ unwatched
+  pub history_is : seat.history ≡ no_marks
 
 -- the seat stands for it
 pub stands-first : (page : LoadedPage) (seat : Seat) (side : PageSide) → CanLoadPage page → PageHasTexts page → IsNewSide seat side page → StandsFor seat side (loaded_state page)
-stands-first page seat side can texts new = record {
-  is_state = IsState-first page can texts;
-  page_is = new.page_is;
-  sheets_are = new.sheets_are;
-  next_is = new.next_is;
-  on_is = new.off;
-  css_is = new.css;
-  watches_are = new.watches_are;
-  stands = subst (λ b. Stands (nodes_in (loaded_state page)) begun b) (sym new.agent_is) (Stands-begun (nodes_in (loaded_state page)));
-}
+stands-first page seat side can texts new =
+    let is = IsState-first page can texts in
+    record {
+      stands = record {
+        now = is.now;
+        page_is = new.page_is;
+        sheets_are = new.sheets_are;
+        next_is = new.next_is;
+        on_is = new.off;
+        css_is = new.css;
+        watches_are = new.watches_are;
+        stands = subst (λ b. Stands (nodes_in (loaded_state page)) begun b) (sym new.agent_is) (Stands-begun (nodes_in (loaded_state page)));
+      };
+      kept = record { edits = new.history_is; history = is.history };
+    }
+
+-- so it stands for some state
+pub seated-first : (page : LoadedPage) (seat : Seat) (side : PageSide) → CanLoadPage page → PageHasTexts page → IsNewSide seat side page → IsSeated seat side
+seated-first page seat side can texts new = λ alive. ∣ (loaded_state page, stands-first page seat side can texts new) ∣₁
 
 nothing-awaited : (page : LoadedPage) → awaited (loaded_world page).up ≡ []
 unfolding frames_of

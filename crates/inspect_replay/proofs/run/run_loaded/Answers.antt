@@ -17,7 +17,7 @@ returns-in-Ok-clause-took g c = λ honest up_level down_level.
     let w = loaded_world page in
     let first = c.in_ok-ends.ensures in
     let run = begins (g.L.Link.honest c.args.link.now) (g.L.Link.up c.args.link.now) (g.L.Link.down c.args.link.now) page c.in_ok-ends.ends honest c.requires.can c.requires.texts up_level down_level
-    (record { page_is = first.page; sheets_are = first.sheets; next_is = first.numbers; off = first.off; css = first.css; agent_is = first.agent; watches_are = first.watches })
+    (record { page_is = first.page; sheets_are = first.sheets; next_is = first.numbers; off = first.off; css = first.css; agent_is = first.agent; watches_are = first.watches; history_is = first.history })
     first.splitter first.front first.up first.down first.told first.told_pauses in
     let play = play-begins (g.L.Link.honest c.args.link.now) (g.L.Link.up c.args.link.now) (g.L.Link.down c.args.link.now) page (length c.args.lines) c.in_ok-ends.ends c.requires.can c.requires.texts c.requires.few run in
     let ran = (c.in-Ok.ensures {u = c.in-Ok.field-0}).runs (g.L.Link.up c.args.link.now) (g.L.Link.down c.args.link.now) w play in
@@ -31,7 +31,7 @@ returns-clause-took g c = λ honest up_level down_level.
     let w = loaded_world page in
     let first = c.in_ok-ends.ensures in
     let run = begins (g.L.Link.honest c.args.link.now) (g.L.Link.up c.args.link.now) (g.L.Link.down c.args.link.now) page c.in_ok-ends.ends honest c.requires.can c.requires.texts up_level down_level
-    (record { page_is = first.page; sheets_are = first.sheets; next_is = first.numbers; off = first.off; css = first.css; agent_is = first.agent; watches_are = first.watches })
+    (record { page_is = first.page; sheets_are = first.sheets; next_is = first.numbers; off = first.off; css = first.css; agent_is = first.agent; watches_are = first.watches; history_is = first.history })
     first.splitter first.front first.up first.down first.told first.told_pauses in
     let play = play-begins (g.L.Link.honest c.args.link.now) (g.L.Link.up c.args.link.now) (g.L.Link.down c.args.link.now) page (length c.args.lines) c.in_ok-ends.ends c.requires.can c.requires.texts c.requires.few run in
     let ran = (c.in-Err.ensures {u = tt}).runs (g.L.Link.up c.args.link.now) (g.L.Link.down c.args.link.now) w play in
@@ -45,7 +45,7 @@ returns-in-Ok-clause-refused g c =
     let page = loaded_page c.args.form in
     let first = c.in_ok-ends.ensures in
     let start = run-first up down page (length c.args.lines) c.in_ok-ends.ends c.requires.can c.requires.texts c.requires.few
-    (record { page_is = first.page; sheets_are = first.sheets; next_is = first.numbers; off = first.off; css = first.css; agent_is = first.agent; watches_are = first.watches })
+    (record { page_is = first.page; sheets_are = first.sheets; next_is = first.numbers; off = first.off; css = first.css; agent_is = first.agent; watches_are = first.watches; history_is = first.history })
     first.splitter first.front first.up first.down first.told first.told_pauses in
     let ran = c.in-Ok.ensures {u = c.in-Ok.field-0} in
     let carried = (ran.follows (loaded_state page) up down start).0 in
@@ -59,7 +59,7 @@ returns-in-Ok-clause-closes g c =
     let page = loaded_page c.args.form in
     let first = c.in_ok-ends.ensures in
     let start = run-first up down page (length c.args.lines) c.in_ok-ends.ends c.requires.can c.requires.texts c.requires.few
-    (record { page_is = first.page; sheets_are = first.sheets; next_is = first.numbers; off = first.off; css = first.css; agent_is = first.agent; watches_are = first.watches })
+    (record { page_is = first.page; sheets_are = first.sheets; next_is = first.numbers; off = first.off; css = first.css; agent_is = first.agent; watches_are = first.watches; history_is = first.history })
     first.splitter first.front first.up first.down first.told first.told_pauses in
     let ran = c.in-Ok.ensures {u = c.in-Ok.field-0} in
     let carried = (ran.follows (loaded_state page) up down start).0 in
@@ -74,7 +74,7 @@ returns-in-Ok-clause-replies g c =
     let page = loaded_page c.args.form in
     let first = c.in_ok-ends.ensures in
     let start = run-first up down page (length c.args.lines) c.in_ok-ends.ends c.requires.can c.requires.texts c.requires.few
-    (record { page_is = first.page; sheets_are = first.sheets; next_is = first.numbers; off = first.off; css = first.css; agent_is = first.agent; watches_are = first.watches })
+    (record { page_is = first.page; sheets_are = first.sheets; next_is = first.numbers; off = first.off; css = first.css; agent_is = first.agent; watches_are = first.watches; history_is = first.history })
     first.splitter first.front first.up first.down first.told first.told_pauses in
     let ran = c.in-Ok.ensures {u = c.in-Ok.field-0} in
     let carried = (ran.follows (loaded_state page) up down start).0 in
@@ -89,7 +89,7 @@ returns-in-Ok-clause-less g c =
     let page = loaded_page c.args.form in
     let first = c.in_ok-ends.ensures in
     let start = run-first up down page (length c.args.lines) c.in_ok-ends.ends c.requires.can c.requires.texts c.requires.few
-    (record { page_is = first.page; sheets_are = first.sheets; next_is = first.numbers; off = first.off; css = first.css; agent_is = first.agent; watches_are = first.watches })
+    (record { page_is = first.page; sheets_are = first.sheets; next_is = first.numbers; off = first.off; css = first.css; agent_is = first.agent; watches_are = first.watches; history_is = first.history })
     first.splitter first.front first.up first.down first.told first.told_pauses in
     let ran = c.in-Ok.ensures {u = c.in-Ok.field-0} in
     let carried = (ran.follows (loaded_state page) up down start).0 in
@@ -104,7 +104,7 @@ returns-clause-refused g c =
     let page = loaded_page c.args.form in
     let first = c.in_ok-ends.ensures in
     let start = run-first up down page (length c.args.lines) c.in_ok-ends.ends c.requires.can c.requires.texts c.requires.few
-    (record { page_is = first.page; sheets_are = first.sheets; next_is = first.numbers; off = first.off; css = first.css; agent_is = first.agent; watches_are = first.watches })
+    (record { page_is = first.page; sheets_are = first.sheets; next_is = first.numbers; off = first.off; css = first.css; agent_is = first.agent; watches_are = first.watches; history_is = first.history })
     first.splitter first.front first.up first.down first.told first.told_pauses in
     ((c.in-Err.ensures {u = tt}).follows (loaded_state page) up down start).1
 
@@ -115,7 +115,7 @@ returns-in-Ok-clause-tells g c =
     let page = loaded_page c.args.form in
     let first = c.in_ok-ends.ensures in
     let start = run-first up down page (length c.args.lines) c.in_ok-ends.ends c.requires.can c.requires.texts c.requires.few
-    (record { page_is = first.page; sheets_are = first.sheets; next_is = first.numbers; off = first.off; css = first.css; agent_is = first.agent; watches_are = first.watches })
+    (record { page_is = first.page; sheets_are = first.sheets; next_is = first.numbers; off = first.off; css = first.css; agent_is = first.agent; watches_are = first.watches; history_is = first.history })
     first.splitter first.front first.up first.down first.told first.told_pauses in
     let ran = c.in-Ok.ensures {u = c.in-Ok.field-0} in
     let carried = (ran.follows (loaded_state page) up down start).0 in
@@ -129,7 +129,7 @@ returns-clause-tells g c =
     let page = loaded_page c.args.form in
     let first = c.in_ok-ends.ensures in
     let start = run-first up down page (length c.args.lines) c.in_ok-ends.ends c.requires.can c.requires.texts c.requires.few
-    (record { page_is = first.page; sheets_are = first.sheets; next_is = first.numbers; off = first.off; css = first.css; agent_is = first.agent; watches_are = first.watches })
+    (record { page_is = first.page; sheets_are = first.sheets; next_is = first.numbers; off = first.off; css = first.css; agent_is = first.agent; watches_are = first.watches; history_is = first.history })
     first.splitter first.front first.up first.down first.told first.told_pauses in
     ((c.in-Err.ensures {u = tt}).follows (loaded_state page) up down start).2
 
@@ -139,7 +139,7 @@ returns-in-Ok-clause-stops g c = λ honest up_level down_level.
     let w = loaded_world page in
     let first = c.in_ok-ends.ensures in
     let run = begins (g.L.Link.honest c.args.link.now) (g.L.Link.up c.args.link.now) (g.L.Link.down c.args.link.now) page c.in_ok-ends.ends honest c.requires.can c.requires.texts up_level down_level
-    (record { page_is = first.page; sheets_are = first.sheets; next_is = first.numbers; off = first.off; css = first.css; agent_is = first.agent; watches_are = first.watches })
+    (record { page_is = first.page; sheets_are = first.sheets; next_is = first.numbers; off = first.off; css = first.css; agent_is = first.agent; watches_are = first.watches; history_is = first.history })
     first.splitter first.front first.up first.down first.told first.told_pauses in
     let play = play-begins (g.L.Link.honest c.args.link.now) (g.L.Link.up c.args.link.now) (g.L.Link.down c.args.link.now) page (length c.args.lines) c.in_ok-ends.ends c.requires.can c.requires.texts c.requires.few run in
     let ran = (c.in-Ok.ensures {u = c.in-Ok.field-0}).runs (g.L.Link.up c.args.link.now) (g.L.Link.down c.args.link.now) w play in
@@ -151,7 +151,7 @@ returns-clause-stops g c = λ honest up_level down_level.
     let w = loaded_world page in
     let first = c.in_ok-ends.ensures in
     let run = begins (g.L.Link.honest c.args.link.now) (g.L.Link.up c.args.link.now) (g.L.Link.down c.args.link.now) page c.in_ok-ends.ends honest c.requires.can c.requires.texts up_level down_level
-    (record { page_is = first.page; sheets_are = first.sheets; next_is = first.numbers; off = first.off; css = first.css; agent_is = first.agent; watches_are = first.watches })
+    (record { page_is = first.page; sheets_are = first.sheets; next_is = first.numbers; off = first.off; css = first.css; agent_is = first.agent; watches_are = first.watches; history_is = first.history })
     first.splitter first.front first.up first.down first.told first.told_pauses in
     let play = play-begins (g.L.Link.honest c.args.link.now) (g.L.Link.up c.args.link.now) (g.L.Link.down c.args.link.now) page (length c.args.lines) c.in_ok-ends.ends c.requires.can c.requires.texts c.requires.few run in
     ((c.in-Err.ensures {u = tt}).runs (g.L.Link.up c.args.link.now) (g.L.Link.down c.args.link.now) w play).2
