@@ -1,0 +1,6 @@
+//! Scratch.
+#![tactic(auto)]
+
+mod holder;
+
+pub use holder::nothing;
