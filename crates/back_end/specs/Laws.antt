@@ -1,5 +1,5 @@
 -- What holds of each step.
-use Rattle.std.specs.Prelude.{◌≡◌, ℕ, ◌+◌, ◌*◌, ◌^◌, ◌≤◌, ◌<◌, Bool, true, List, [], ◌∷◌, length, codes, ⊤, Option, Some, None, option_and_then, Result, Ok, Err}
+use Rattle.std.specs.Prelude.{◌≡◌, ℕ, ◌+◌, ◌*◌, ◌^◌, ◌≤◌, ◌<◌, Bool, true, List, [], ◌∷◌, length, codes, ⊤, Option, Some, None, IfSome, option_and_then, Result, Ok, Err}
 use Rattle.std.specs.List.{flat_map}
 use Rattle.page_tree.specs.Forms.{max_nodes}
 use Rattle.page_forms.specs.Acts.{IsInsertable}
@@ -15,31 +15,100 @@ use Rattle.cdp_messages.specs.declared.command.Command.{Command}
 use Rattle.css_agent.specs.declared.asks.CssAsk.{CssAsk}
 use Rattle.css_agent.specs.declared.asks.CssAsk.TheVariants as css
 use Rattle.css_agent.specs.Asks.{css_ask_in}
+use Rattle.css_agent.specs.declared.edits.CssEdit.{CssEdit}
+use Rattle.css_agent.specs.declared.edits.CssEdit.TheVariants as style
+use Rattle.undo_marks.specs.Marks.{entry_count, undone, redone}
+use Rattle.undo_marks.specs.Changes.{Change as Entry, AllTaken, page_undone, page_redone}
+use Rattle.undo_marks.specs.SavedEdits.{page_after, MeetsNoFault}
+use Rattle.undo_marks.specs.Saved.{Saved}
+use Rattle.undo_marks.specs.declared.inverse_lists.Inverse.{Inverse}
+use Rattle.undo_marks.specs.declared.inverse_lists.Inverse.TheVariants.{Tree, Sheet}
 use Rattle.page_forms.specs.Sheets.{max_sheets}
 use Rattle.page_forms.specs.Pages.{CanLoadPage}
-use Rattle.back_end.specs.States.{State, IsState, view_of}
-use Rattle.back_end.specs.Steps.{Step, Turn, acts, loads, frame_step, turn_step}
+use Rattle.back_end.specs.States.{State, IsState, view_of, saved_now}
+use Rattle.back_end.specs.Steps.{Step, Turn, acts, loads, frame_step, turn_step, undo_step, redo_step, undo_edits, redo_edits}
+use Rattle.back_end.specs.Servers.{Server, enables, disables, css_enables, css_disables, agent, css_agent, edits_tree, edits_sheets, ends_group, undoes, redoes, watches, unwatches, page_load, page_act, nobody, server_of}
 use Rattle.back_end.specs.Texts.{PageHasTexts, ActHasTexts}
 
--- ids, serials and numbers of sheets are left for a step
+-- ---- how many edits a history has
+
+-- one for an edit of the tree, none for a splice
+abbrev pub tree_edit : Inverse → ℕ
+tree_edit (Tree e) = 1
+tree_edit (Sheet s) = 0
+
+-- the edits of the tree in a group
+abbrev pub tree_edits_in : List (Entry Saved Inverse) → ℕ
+tree_edits_in [] = 0
+tree_edits_in (e ∷ es) = tree_edit e.edit + tree_edits_in es
+
+-- and in groups
+abbrev pub tree_edits_among : List (List (Entry Saved Inverse)) → ℕ
+tree_edits_among [] = 0
+tree_edits_among (g ∷ gs) = tree_edits_in g + tree_edits_among gs
+
+-- all edits of the tree that the history has
+abbrev pub tree_edits : State → ℕ
+tree_edits state = tree_edits_among state.client.marks.past + tree_edits_among state.client.marks.future
+
+-- all its edits
+abbrev pub edits_kept : State → ℕ
+edits_kept state = entry_count state.client.marks.past + entry_count state.client.marks.future
+
+-- how many edits a client's edit of sheets comes to at most
+abbrev pub most_splices : CssEdit → ℕ
+most_splices (style.SetStyleTexts edits) = length edits
+most_splices (style.SetRuleSelector sheet range selector) = 1
+most_splices (style.SetStyleSheetText sheet text) = 1
+most_splices (style.AddRule sheet rule_text location) = 1
+
+-- how many edits a command comes to at most, by who serves it
+abbrev pub most_edits : Server → ℕ
+most_edits enables = 0
+most_edits disables = 0
+most_edits css_enables = 0
+most_edits css_disables = 0
+most_edits (agent ask) = 0
+most_edits (css_agent ask) = 0
+most_edits (edits_tree edit) = 2
+most_edits (edits_sheets edit) = most_splices edit
+most_edits ends_group = 0
+most_edits undoes = 0
+most_edits redoes = 0
+most_edits (watches node kind) = 0
+most_edits (unwatches node kind) = 0
+most_edits (page_load params) = 0
+most_edits (page_act params) = 0
+most_edits nobody = 0
+
+-- how many a frame does
+abbrev pub edits_asked : Result Asked Refused → ℕ
+edits_asked (Ok a) = most_edits (server_of a.command)
+edits_asked (Err r) = 0
+
+-- ---- room
+
+-- ids, serials, numbers of sheets and places in the history are left for a step
 pub record HasRoom (state : State) : Type 0 where
   pub ids : length state.client.session.pushed + 1 < 2 ^ 50
   pub serials : state.side.page.next < 2 ^ 50
   pub sheets : state.side.next_sheet < 2 ^ 50
+  pub edits : edits_kept state < 2 ^ 30
 
--- ids that a step may draw: an edit by a script makes two nodes known before it, each with all that is beside it and above, and a
--- move is two edits
+-- Ids that a step may draw beside those of the nodes that an undo puts back: an edit by a script makes two nodes known before it, each
+-- with all that is beside it and above, and a move is two edits.
 abbrev pub most_ids : ℕ
 most_ids = 5 * max_nodes
 
 -- The state after a step is valid; the moves lead the view to the view of it; and a step draws few ids, few serials and few numbers
--- of sheets.
+-- of sheets, and keeps few edits of the tree: each of these may come to a new id when it is taken back or done again.
 pub record StepsWell (before : State) (done : Step) : Type 0 where
   pub is_state : IsState done.state
   pub course : Course done.moves (view_of before) (view_of done.state)
-  pub ids : length done.state.client.session.pushed ≤ length before.client.session.pushed + most_ids
+  pub ids : length done.state.client.session.pushed ≤ length before.client.session.pushed + (most_ids + tree_edits before)
   pub serials : done.state.side.page.next ≤ before.side.page.next + (max_nodes + 1)
   pub sheets : done.state.side.next_sheet ≤ before.side.next_sheet + max_sheets
+  pub trees : tree_edits done.state ≤ tree_edits before + 2
 
 -- a move that may answer a command of that method; an event answers none
 abbrev pub MayAnswer : List ℕ → Move → Type 0
@@ -113,11 +182,30 @@ IsAnswered (Ok a) moves =
     (flat_map reply_ids moves ≡ Some a.id ∷ []) × MayAnswerAll (method_name a.command) moves × TellTextOf (text_asked a.command) moves
 IsAnswered (Err r) moves = moves ≡ failed r ∷ []
 
+-- No more edits are kept than before and so many.
+abbrev pub KeepsAtMost : ℕ → State → State → Type 0
+KeepsAtMost more before after = edits_kept after ≤ edits_kept before + more
+
 -- the step on a frame, whether our own two methods are known or not
 abbrev pub FramesStepWell : Type 0
 FramesStepWell =
     (own : Bool) (state : State) (frame : List ℕ) → IsState state → HasRoom state
     → StepsWell state (frame_step own frame state) × IsAnswered (asked frame own) (frame_step own frame state).moves
+    × KeepsAtMost (edits_asked (asked frame own)) state (frame_step own frame state).state
+
+-- What an undo and a redo come to: the very tree and texts that were saved before the newest group, or after the group that was taken
+-- back last, and no edit on the way meets a fault or a limit; where there is no such group, nothing changes.
+pub record Restores (state : State) : Type 0 where
+  pub undone_page : (id : ℕ) → saved_now (undo_step id state).state ≡ page_undone state.client.marks.past (saved_now state)
+  pub undone_marks : (id : ℕ) → (undo_step id state).state.client.marks ≡ undone state.client.marks
+  pub undo_faultless : IfSome (undo_edits state.client.marks) (λ es. AllTaken page_after MeetsNoFault es (saved_now state))
+  pub redone_page : (id : ℕ) → saved_now (redo_step id state).state ≡ page_redone state.client.marks.future (saved_now state)
+  pub redone_marks : (id : ℕ) → (redo_step id state).state.client.marks ≡ redone state.client.marks
+  pub redo_faultless : IfSome (redo_edits state.client.marks) (λ es. AllTaken page_after MeetsNoFault es (saved_now state))
+
+-- of each state that can be
+abbrev pub UndoRestores : Type 0
+UndoRestores = (state : State) → IsState state → Restores state
 
 -- what a script may do: the page may be loaded, and new nodes have the form that an insert asks for; texts are UTF-8
 abbrev pub IsTurn : Turn → Type 0
@@ -128,4 +216,4 @@ IsTurn (loads page) = CanLoadPage page × PageHasTexts page
 abbrev pub TurnsStepWell : Type 0
 TurnsStepWell =
     (state : State) (x : Turn) → IsState state → HasRoom state → IsTurn x
-    → StepsWell state (turn_step x state) × (flat_map reply_ids (turn_step x state).moves ≡ [])
+    → StepsWell state (turn_step x state) × (flat_map reply_ids (turn_step x state).moves ≡ []) × KeepsAtMost 0 state (turn_step x state).state

@@ -9,15 +9,17 @@ use Rattle.dom_breakpoints.specs.declared.pauses.Pause.{Pause}
 use Rattle.dom_breakpoints.specs.Watched.{Watched, is_watched}
 use Rattle.page_forms.specs.declared.pages.PageForm.{PageForm}
 use Rattle.page_forms.specs.Pages.{LoadedPage, loaded_page}
-use Rattle.back_end.specs.States.{State, IsState, nodes_in, book_in}
+use Rattle.undo_marks.specs.Marks.{Marks, entry_count}
+use Rattle.undo_marks.specs.declared.inverse_lists.Inverse.{Inverse}
+use Rattle.back_end.specs.States.{State, HoldsNow, Keeps, nodes_in, book_in}
 use Rattle.back_end.specs.declared.desk.Desk.{Desk}
 use Rattle.back_end.specs.declared.seat.Seat.{Seat}
 use Rattle.back_end.specs.declared.side.PageSide.{PageSide}
 
 -- The page and its sheets are the state's, and each domain is on where it is on in the state; the binding has the session,
--- and the watches are the state's.
+-- and the watches are the state's. Of the history nothing is said.
 pub record DeskStandsFor (desk : Desk) (side : PageSide) (state : State) : Type 0 where
-  pub is_state : IsState state
+  pub now : HoldsNow state
   pub page_is : side.page ≡ state.side.page
   pub sheets_are : side.sheets.entries ≡ book_in state
   pub next_is : side.sheets.next ≡ state.side.next_sheet
@@ -26,15 +28,33 @@ pub record DeskStandsFor (desk : Desk) (side : PageSide) (state : State) : Type 
   pub stands : Stands (nodes_in state) state.client.session desk.agent
   pub watches_are : desk.watches ≡ state.client.watched
 
+-- the same with a history, which keeps the edits of the state's
+pub record BothStandFor (desk : Desk) (history : Marks Inverse) (side : PageSide) (state : State) : Type 0 where
+  pub desk : DeskStandsFor desk side state
+  pub kept : Keeps history state
+
 -- the same of a seat
 abbrev pub StandsFor : Seat → PageSide → State → Type 0
-StandsFor seat side state = DeskStandsFor seat.desk side state
+StandsFor seat side state = BothStandFor seat.desk seat.history side state
+
+-- a seat that is not dead stands for some state
+abbrev pub IsSeated : Seat → PageSide → Type 0
+IsSeated seat side = seat.is_dead ≡ false → (state : State) × StandsFor seat side state
 
 -- ids, serials and numbers of sheets are left for a step
-pub record HasRoomLeft (desk : Desk) (side : PageSide) : Type 0 where
+pub record HasNumbersLeft (desk : Desk) (side : PageSide) : Type 0 where
   pub ids : desk.agent.next < 2 ^ 50
   pub serials : side.page.next < 2 ^ 50
   pub sheets : side.sheets.next < 2 ^ 50
+
+-- how many edits a history has
+abbrev pub edits_in : Marks Inverse → ℕ
+edits_in history = entry_count history.past + entry_count history.future
+
+-- and places are left in its history
+pub record HasRoomLeft (seat : Seat) (side : PageSide) : Type 0 where
+  pub numbers : HasNumbersLeft seat.desk side
+  pub edits : edits_in seat.history < 2 ^ 30
 
 -- ---- nodes that become known
 

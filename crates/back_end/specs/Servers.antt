@@ -33,6 +33,10 @@ pub data Server : Type 0 where
   -- a client's edit of the tree, and one of the sheets
   edits_tree : DomEdit → Server
   edits_sheets : CssEdit → Server
+  -- `DOM.markUndoableState`, `DOM.undo` and `DOM.redo`
+  ends_group : Server
+  undoes : Server
+  redoes : Server
   -- `DOMDebugger.setDOMBreakpoint` and `DOMDebugger.removeDOMBreakpoint`, of the node with that id
   watches : ℕ → WatchWord → Server
   unwatches : ℕ → WatchWord → Server
@@ -65,9 +69,9 @@ part_of (SetNodeValue node value) = part.TreeEdits (tree.SetNodeValue node value
 part_of (RemoveNode node) = part.TreeEdits (tree.RemoveNode node)
 part_of (MoveTo node target before) = part.TreeEdits (tree.MoveTo node target before)
 part_of (CopyTo node target before) = part.TreeEdits (tree.CopyTo node target before)
-part_of MarkUndoableState = part.Others (dom_ask_in MarkUndoableState)
-part_of Undo = part.Others (dom_ask_in Undo)
-part_of Redo = part.Others (dom_ask_in Redo)
+part_of MarkUndoableState = part.EndsGroup
+part_of Undo = part.Undoes
+part_of Redo = part.Redoes
 part_of CssEnable = part.CssEnables
 part_of CssDisable = part.CssDisables
 part_of (GetMatchedStyles node) = part.Styles (css.GetMatchedStyles node)
@@ -93,6 +97,9 @@ by_part (part.Loads params) = page_load params
 by_part (part.Acts params) = page_act params
 by_part (part.TreeEdits edit) = edits_tree edit
 by_part (part.SheetEdits edit) = edits_sheets edit
+by_part part.EndsGroup = ends_group
+by_part part.Undoes = undoes
+by_part part.Redoes = redoes
 by_part (part.Watches node kind) = watches node kind
 by_part (part.Unwatches node kind) = unwatches node kind
 by_part (part.Others ask) = by_agent ask
@@ -111,6 +118,9 @@ HasServedTexts (agent ask) = ⊤
 HasServedTexts (css_agent ask) = ⊤
 HasServedTexts (edits_tree edit) = HasTreeTexts edit
 HasServedTexts (edits_sheets edit) = HasEditTexts edit
+HasServedTexts ends_group = ⊤
+HasServedTexts undoes = ⊤
+HasServedTexts redoes = ⊤
 HasServedTexts (watches node kind) = ⊤
 HasServedTexts (unwatches node kind) = ⊤
 HasServedTexts (page_load params) = HasUtf8 params

@@ -8,13 +8,15 @@ use Rattle.cdp_messages.specs.Views.{ShownSheet, View}
 use Rattle.dom_breakpoints.specs.declared.pauses.WatchKind.{WatchKind}
 use Rattle.dom_breakpoints.specs.Watched.{Watched, unwatched, is_watched}
 use Rattle.undo_marks.specs.Marks.{Marks, no_marks}
-use Rattle.undo_marks.specs.Changes.{Change as Entry}
+use Rattle.undo_marks.specs.Changes.{Change as Entry, KeptFor, IsHistory}
 use Rattle.undo_marks.specs.Saved.{Saved}
+use Rattle.undo_marks.specs.SavedEdits.{saved_of, page_after, way_back, TakesEdit}
 use Rattle.undo_marks.specs.declared.inverse_lists.Inverse.{Inverse}
 use Rattle.dom_agent.specs.Laws.{RowsHaveUtf8, view_of as seen_by}
 use Rattle.page_forms.specs.Pages.{LoadedPage}
 use Rattle.sheet_reader.specs.declared.book.SheetEntry.{SheetEntry}
 use Rattle.back_end.specs.Sheets.{as_book, numbered_sheets, AreSheetsBelow}
+use Rattle.back_end.specs.Texts.{KeptHasTexts}
 
 -- ---- states
 
@@ -77,10 +79,10 @@ loaded_state page = record { side = loaded_side 1 1 page; client = new_client }
 abbrev pub AreAmong : Watched → Nodes Row → Type 0
 AreAmong w n = (kind : WatchKind) (serial : ℕ) → is_watched kind w serial ≡ true → has row_serial serial n ≡ true
 
--- What always holds of a state: the page is valid and its texts are UTF-8, and so are its sheets; the session is one of this page;
--- while DOM is off, CSS is off and nothing is known; each watched node is one of the page, and where nothing is known none is
--- watched. No edit is kept so far.
-pub record IsState (state : State) : Type 0 where
+-- What holds of a state at each moment, in the midst of a command too: the page is valid and its texts are UTF-8, and so are its
+-- sheets; the session is one of this page; while DOM is off, CSS is off and nothing is known; each watched node is one of the page,
+-- and where nothing is known none is watched.
+pub record HoldsNow (state : State) : Type 0 where
   pub page : IsValid state.side.page
   pub texts : RowsHaveUtf8 (nodes_in state)
   pub sheets : AreSheetsBelow state.side.next_sheet state.side.sheets
@@ -89,4 +91,28 @@ pub record IsState (state : State) : Type 0 where
   pub css_off : state.client.dom_on ≡ false → state.client.css_on ≡ false
   pub watched : AreAmong state.client.watched (nodes_in state)
   pub none_watched : state.client.session.opened ≡ None → state.client.watched ≡ unwatched
-  pub history : state.client.marks ≡ no_marks
+
+-- ---- the history of a client's edits
+
+-- what a history saves of the page: its tree, and the numbers and texts of its sheets
+abbrev pub saved_now : State → Saved
+saved_now state = saved_of state.side.page.tree (book_in state)
+
+-- An edit, and a saved page on which it was made: a page of that next serial takes the edit, and all texts of both are UTF-8.
+pub record TakesWell (next : ℕ) (e : Inverse) (page : Saved) : Type 0 where
+  pub taken : TakesEdit next e page
+  pub texts : RowsHaveUtf8 (alone page.tree)
+  pub own : KeptHasTexts e
+
+-- The edits of the history lead through its saved pages to the page as it is, and those taken back on from there.
+abbrev pub HasHistory : State → Type 0
+HasHistory state = IsHistory page_after (TakesWell state.side.page.next) state.client.marks (saved_now state)
+
+-- These are the edits that are kept in place of the saved pages of the state's history.
+abbrev pub Keeps : Marks Inverse → State → Type 0
+Keeps kept state = KeptFor page_after way_back (TakesWell state.side.page.next) kept state.client.marks (saved_now state)
+
+-- What always holds of a state: what holds of it at each moment, and its history leads to it.
+pub record IsState (state : State) : Type 0 where
+  pub now : HoldsNow state
+  pub history : HasHistory state

@@ -1,6 +1,6 @@
 -- The steps of a state: on each frame that comes up, and those that a script makes itself. A step gives the state after it, and
 -- the moves by which the client's view comes to what it is then.
-use Rattle.std.specs.Prelude.{ℕ, ◌+◌, Bool, true, false, not, ◌&&◌, ◌||◌, cond, List, [], ◌∷◌, ◌++◌, map, Option, Some, None, unwrap_or, Result, Ok, Err}
+use Rattle.std.specs.Prelude.{ℕ, ◌+◌, Bool, true, false, not, ◌&&◌, ◌||◌, cond, List, [], ◌∷◌, ◌++◌, map, reverse, Option, Some, None, unwrap_or, option_map, Result, Ok, Err}
 use Rattle.std.specs.Char.{to_ascii_lowercase}
 use Rattle.node_tree.specs.Nodes.{Branch}
 use Rattle.node_tree.specs.Labels.{is_element}
@@ -14,7 +14,7 @@ use Rattle.page_forms.specs.declared.acts.Act.{Act}
 use Rattle.page_forms.specs.Pages.{LoadedPage}
 use Rattle.node_binding.specs.Sessions.{Session, ids_in, serial_at, reset}
 use Rattle.cdp_messages.specs.declared.command.Why.{Why}
-use Rattle.cdp_messages.specs.declared.command.Why.TheVariants.{NoMethod, DomOff, CssOff, UnknownNode, NotElement, NoSheet}
+use Rattle.cdp_messages.specs.declared.command.Why.TheVariants.{NoMethod, DomOff, CssOff, UnknownNode, NotElement, NoSheet, Crossed}
 use Rattle.cdp_messages.specs.declared.command.Asked.{Asked}
 use Rattle.cdp_messages.specs.declared.command.Refused.{Refused}
 use Rattle.cdp_messages.specs.declared.dom_ask.DomAsk.{DomAsk}
@@ -46,17 +46,22 @@ use Rattle.dom_breakpoints.specs.declared.pauses.WatchKind.TheVariants as watch
 use Rattle.dom_breakpoints.specs.declared.pauses.Pause.{Pause}
 use Rattle.dom_breakpoints.specs.Pauses.{pause_of}
 use Rattle.dom_breakpoints.specs.Watched.{Watched, unwatched, with_watch, without_watch, without_subtree}
-use Rattle.undo_marks.specs.Marks.{no_marks, crossed_over}
+use Rattle.undo_marks.specs.Marks.{Marks, no_marks, newest, edited, marked, crossed_over, undone, redone}
+use Rattle.undo_marks.specs.Changes.{Change as Entry, changes_on, backs_of}
+use Rattle.undo_marks.specs.Saved.{Saved}
+use Rattle.undo_marks.specs.SavedEdits.{page_after, way_back}
+use Rattle.undo_marks.specs.declared.inverse_lists.Inverse.{Inverse}
+use Rattle.undo_marks.specs.declared.inverse_lists.Inverse.TheVariants as kept
 use Rattle.back_end.specs.declared.faults.ActFault.{ActFault}
 use Rattle.back_end.specs.declared.dom_edits.DomEdit.{DomEdit}
 use Rattle.back_end.specs.declared.dom_edits.DomEdit.TheVariants as tree
 use Rattle.back_end.specs.declared.dom_edits.NodeEdit.{NodeEdit}
 use Rattle.back_end.specs.declared.dom_edits.NodeEdit.TheVariants.{One, MoveNode, CopyNode}
 use Rattle.back_end.specs.Sheets.{shown_sheet, SheetChange, leaves, comes}
-use Rattle.back_end.specs.States.{Side, Client, State, nodes_in, book_in, loaded_side}
+use Rattle.back_end.specs.States.{Side, Client, State, nodes_in, book_in, loaded_side, saved_now}
 use Rattle.back_end.specs.Plans.{Plan, node_edit_fault, node_edit_plan, node_put, Deed, edits, restyles, one_edit, edit_fault, act_fault, act_plan}
 use Rattle.back_end.specs.OwnMethods.{edit_why, sheet_why, load_asked, act_judged, act_asked}
-use Rattle.back_end.specs.Servers.{Server, enables, disables, css_enables, css_disables, agent, css_agent, edits_tree, edits_sheets, watches, unwatches, page_load, page_act, nobody, server_of}
+use Rattle.back_end.specs.Servers.{Server, enables, disables, css_enables, css_disables, agent, css_agent, edits_tree, edits_sheets, ends_group, undoes, redoes, watches, unwatches, page_load, page_act, nobody, server_of}
 
 -- what a step makes: the state after it, and what it tells the client
 pub record Step : Type 0 where
@@ -237,11 +242,62 @@ abbrev pub splice_steps : List Splice → State → Step
 splice_steps [] state = idle state
 splice_steps (s ∷ ss) state = followed_by (splice_step s state) (splice_steps ss)
 
+-- ---- the history of a client's edits
+
+-- the state with another history
+abbrev pub with_marks : Marks (Entry Saved Inverse) → State → State
+with_marks marks state = with_client (record state.client { marks = marks }) state
+
+-- The step by which a client made these edits, from that state on: each is kept with the pages before and after it, all as one edit.
+abbrev pub keeping : List Inverse → State → Step → Step
+keeping es before done = record {
+  state = with_marks (edited (changes_on page_after es (saved_now before)) before.client.marks) done.state;
+  moves = done.moves;
+}
+
+-- an edit out of a history: one of the tree, or a splice of a sheet's text
+abbrev pub kept_step : Inverse → State → Step
+kept_step (kept.Tree e) state = edit_step e state
+kept_step (kept.Sheet s) state = splice_step s state
+
+-- edits out of a history, one after the other
+abbrev pub kept_steps : List Inverse → State → Step
+kept_steps [] state = idle state
+kept_steps (e ∷ es) state = followed_by (kept_step e state) (kept_steps es)
+
+-- what takes the newest group back: of each entry the edit that leads back, the newest first
+abbrev pub undo_edits : Marks (Entry Saved Inverse) → Option (List Inverse)
+undo_edits m = option_map (λ g. reverse (backs_of way_back g)) (newest m.past)
+
+-- what does the group again that was taken back last: of each entry the edit, the oldest first
+abbrev pub redo_edits : Marks (Entry Saved Inverse) → Option (List Inverse)
+redo_edits m = option_map (λ g. map (λ e. e.edit) g) (newest m.future)
+
+-- These edits are carried out, and the history is this one then. Where there are none, nothing changes; but where a change that is
+-- not the client's has emptied the history, that is refused.
+abbrev pub taken_step : ℕ → Option (List Inverse) → Marks (Entry Saved Inverse) → State → Step
+taken_step id None marks state = cond state.client.marks.crossed (refusing (Some id) Crossed state) (answering id (idle state))
+taken_step id (Some es) marks state =
+    let done = kept_steps es state in
+    answering id (record { state = with_marks marks done.state; moves = done.moves })
+
+-- the newest group is taken back
+abbrev pub undo_step : ℕ → State → Step
+undo_step id state = taken_step id (undo_edits state.client.marks) (undone state.client.marks) state
+
+-- the group that was taken back last is done again
+abbrev pub redo_step : ℕ → State → Step
+redo_step id state = taken_step id (redo_edits state.client.marks) (redone state.client.marks) state
+
+-- the group that is going on is ended
+abbrev pub mark_step : ℕ → State → Step
+mark_step id state = answering id (idle (with_marks (marked state.client.marks) state))
+
 -- ---- what a script does
 
 -- a change that is not the client's empties the history
 abbrev pub with_crossed : State → State
-with_crossed state = with_client (record state.client { marks = crossed_over state.client.marks }) state
+with_crossed state = with_marks (crossed_over state.client.marks) state
 
 -- a step that is not the client's
 abbrev pub crossing : Step → Step
@@ -329,6 +385,9 @@ needs_on (agent ask) = ask_needs_on ask
 needs_on (css_agent ask) = true
 needs_on (edits_tree edit) = true
 needs_on (edits_sheets edit) = true
+needs_on ends_group = true
+needs_on undoes = true
+needs_on redoes = true
 needs_on (watches node word) = true
 needs_on (unwatches node word) = true
 needs_on (page_load params) = false
@@ -345,6 +404,9 @@ needs_css (agent ask) = false
 needs_css (css_agent ask) = true
 needs_css (edits_tree edit) = false
 needs_css (edits_sheets edit) = true
+needs_css ends_group = false
+needs_css undoes = false
+needs_css redoes = false
 needs_css (watches node word) = false
 needs_css (unwatches node word) = false
 needs_css (page_load params) = false
@@ -476,10 +538,14 @@ put_answer id (Some node) done =
 abbrev pub plan_step : Plan → State → Step
 plan_step plan state = edit_steps plan.edits (with_page plan.page state)
 
+-- the same by a client, whose edits are kept
+abbrev pub planned_by_client : Plan → State → Step
+planned_by_client plan state = keeping (map (λ e. kept.Tree e) plan.edits) state (plan_step plan state)
+
 -- the step of an edit; of one that the page refuses
 abbrev pub unless_fault : ℕ → Option EditFault → NodeEdit → State → Step
 unless_fault id (Some f) edit state = refusing (Some id) (edit_why f) state
-unless_fault id None edit state = put_answer id (node_put edit state.side.page) (plan_step (node_edit_plan edit state.side.page) state)
+unless_fault id None edit state = put_answer id (node_put edit state.side.page) (planned_by_client (node_edit_plan edit state.side.page) state)
 
 -- of one whose nodes are known
 abbrev pub node_edit_step : ℕ → Result NodeEdit Why → State → Step
@@ -495,7 +561,7 @@ tree_edit_step id edit state = node_edit_step id (edit_named (serial_now state) 
 -- the step of an edit that came to this
 abbrev pub restyled_step : ℕ → CssEdited → List Splice → State → Step
 restyled_step id (Err f) splices state = refusing (Some id) (sheet_why f) state
-restyled_step id (Ok done) splices state = replying id done.body (splice_steps splices state)
+restyled_step id (Ok done) splices state = replying id done.body (keeping (map (λ s. kept.Sheet s) splices) state (splice_steps splices state))
 
 -- the step of a client's edit of sheets
 abbrev pub sheet_edit_step : ℕ → CssEdit → State → Step
@@ -538,6 +604,9 @@ server_step id (agent ask) state = agent_step id ask state
 server_step id (css_agent ask) state = css_step id ask state
 server_step id (edits_tree edit) state = tree_edit_step id edit state
 server_step id (edits_sheets edit) state = sheet_edit_step id edit state
+server_step id ends_group state = mark_step id state
+server_step id undoes state = undo_step id state
+server_step id redoes state = redo_step id state
 server_step id (watches node word) state = watch_step id (with_watch (watch_kind word)) (serial_now state node) state
 server_step id (unwatches node word) state = watch_step id (without_watch (watch_kind word)) (serial_now state node) state
 server_step id (page_load params) state = own_step loads id (load_asked params) state

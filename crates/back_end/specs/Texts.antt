@@ -11,6 +11,8 @@ use Rattle.back_end.specs.declared.dom_edits.DomEdit.TheVariants as dom
 use Rattle.back_end.specs.declared.dom_edits.NodeEdit.{NodeEdit}
 use Rattle.back_end.specs.declared.dom_edits.NodeEdit.TheVariants.{One, MoveNode, CopyNode}
 use Rattle.dom_agent.specs.Laws.{RowsHaveUtf8}
+use Rattle.undo_marks.specs.declared.inverse_lists.Inverse.{Inverse}
+use Rattle.undo_marks.specs.declared.inverse_lists.Inverse.TheVariants.{Tree, Sheet}
 pub use Rattle.page_forms.specs.Texts.{HaveTexts, FormHasTexts, SheetsHaveTexts, PageHasTexts, ActHasTexts}
 
 -- the texts of an edit of the page are UTF-8
@@ -20,6 +22,11 @@ EditHasTexts (DropAttr serial name) = IsUtf8 name
 EditHasTexts (SetText serial value) = IsUtf8 value
 EditHasTexts (Attach parent before tree) = RowsHaveUtf8 (alone tree)
 EditHasTexts (Detach serial) = ⊤
+
+-- the texts of an edit out of a history are; a splice that a page takes has such a text
+abbrev pub KeptHasTexts : Inverse → Type 0
+KeptHasTexts (Tree e) = EditHasTexts e
+KeptHasTexts (Sheet s) = IsUtf8 s.text
 
 -- the texts of a client's edit of the tree are
 abbrev pub HasTreeTexts : DomEdit → Type 0

@@ -1,9 +1,15 @@
-// The law of steps, which makes no call.
-ghost use Rattle.back_end.specs.Laws.{FramesStepWell, TurnsStepWell};
+// The laws of steps, which make no call.
+ghost use Rattle.back_end.specs.Laws.{FramesStepWell, TurnsStepWell, UndoRestores};
 
-/// After each step the state is valid, its moves lead from what the client saw to what it sees then, a frame is answered once,
+/// After each step the state is valid, its history too, its moves lead from what the client saw to what it sees then, a frame is answered once,
 /// under its id and by what its method answers, and what a script does answers nothing.
 pub fn step_law()
     ensures frames { FramesStepWell }
     ensures turns { TurnsStepWell }
+{}
+
+/// An undo restores the very tree and texts from before the newest group that is kept, and a redo those after the group that was taken
+/// back last; no edit on the way meets a fault or a limit.
+pub fn undo_law()
+    ensures { UndoRestores }
 {}

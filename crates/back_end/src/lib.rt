@@ -20,7 +20,7 @@ mod styles;
 mod tree_edits;
 
 pub use faults::ActFault;
-pub use laws::step_law;
+pub use laws::{step_law, undo_law};
 pub use page_forms::{Act, ActErr, PageForm, SheetForm, read_act, read_page};
 pub use page_tree::EditFault;
 pub use seat::Seat;

@@ -43,11 +43,11 @@ module _ (next : ℕ) where
 
 -- ---- edits of pages
 
-edits_are_backs : (next : ℕ) → AreBacks page_after way_back (TakesEdit next)
+pub edits_are_backs : (next : ℕ) → AreBacks page_after way_back (TakesEdit next)
 edits_are_backs next =
     either_are_backs after_tree back_tree (TakesTree next) sheets_after splice_back TakesSheet (tree_are_backs next) sheets_are_backs
 
-taken_later : (next later : ℕ) → next ≤ later → (e : Inverse) (page : Saved) → TakesEdit next e page → TakesEdit later e page
+pub taken_later : (next later : ℕ) → next ≤ later → (e : Inverse) (page : Saved) → TakesEdit next e page → TakesEdit later e page
 taken_later next later h (Tree e) page t = record {
   valid = valid-whole (page_of later page.tree) (whole-later h (whole-valid (page_of next page.tree) t.valid));
   taken = can-later next later e page.tree h t.taken;
