@@ -1,4 +1,4 @@
--- How much a frame may ask to be kept.
+-- A frame that is no refusal has eight bytes at least, and asks for no more edits than it is long.
 use Rattle.std.proofs.Common.{◌≡◌, ℕ, zero, suc, ◌+◌, ◌≤◌, Bool, true, false, cond, List, [], ◌∷◌, length, codes, Option, Some, None, option_map, option_and_then, Result, Ok, Err, refl, sym, ap, ◌∙◌, subst, arith}
 use Rattle.std.specs.Prelude.{⊤}
 use Rattle.std.specs.Ordering.{nat_cmp, match_ordering}
@@ -31,8 +31,13 @@ use Rattle.cdp_messages.specs.Methods.{known_method}
 use Rattle.cdp_messages.specs.Refusals.{param_name}
 use Rattle.cdp_messages.specs.Parameters.{text_edit, place, needed, allowed, depth_fields, children_fields, path_field, serials_field, node_field, query_fields, describe_fields, attribute_fields, name_fields, value_fields, move_fields, sheet_field, edits_field, selector_fields, sheet_text_fields, rule_fields, watch_fields, reading, command_by}
 use Rattle.cdp_messages.specs.Asked.{json_of, of_method, command_for, unless_session, or_bad_request, params_of, command_of, method_in, command_in, refusal, asked_by, with_id, asked_in, asked_value, asked}
-use Rattle.scratch.specs.Sizes.{data_size, items_size, members_size, edits_of}
-use Rattle.scratch.proofs.FrameSizes.{read-long}
+use Rattle.back_end.specs.Servers.{server_of}
+use Rattle.back_end.specs.Laws.{most_edits, edits_asked}
+use Rattle.back_end.proofs.FrameSizes.{data_size, items_size, members_size, read-long}
+
+-- how many edits a command comes to at most
+abbrev pub edits_of : Command → ℕ
+edits_of c = most_edits (server_of c)
 
 -- ---- members
 
@@ -315,10 +320,16 @@ params-within ms None e = omega arith
 params-within ms (Some d) e = let h = member-size (codes "params") ms d e in omega arith
 
 -- a frame asks for no more edits to be kept than it is long
-pub edits-few : (own : Bool) (frame : List ℕ) (a : Asked) → asked frame own ≡ Ok a → edits_of a.command ≤ length frame
-edits-few own frame a e =
+command-few : (own : Bool) (frame : List ℕ) (a : Asked) → asked frame own ≡ Ok a → edits_of a.command ≤ length frame
+command-few own frame a e =
     let f = frame-of own frame a e in
     let size = frame-size own frame a f in
     let few = edits-params own f.method (get_member (codes "params") f.members) (get_member (codes "sessionId") f.members) a.command f.command_is in
     let within = params-within f.members (get_member (codes "params") f.members) refl in
     omega arith
+
+pub edits-few : (own : Bool) (frame : List ℕ) → edits_asked (asked frame own) ≤ length frame
+edits-few own frame = at (asked frame own) refl where
+  at : (r : Result Asked Refused) → asked frame own ≡ r → edits_asked r ≤ length frame
+  at (Ok a) e = command-few own frame a e
+  at (Err r) e = omega arith

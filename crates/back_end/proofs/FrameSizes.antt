@@ -1,4 +1,4 @@
--- A value is no larger than its text is long.
+-- How large JSON is, and that a value is no larger than its text is long.
 use Rattle.std.proofs.Common.{◌≡◌, ℕ, zero, suc, ◌+◌, ◌≤◌, Bool, true, false, cond, ◌==◌, List, [], ◌∷◌, length, Option, Some, None, option_map, option_and_then, refl, sym, ap, ◌∙◌, subst, arith}
 use Rattle.std.specs.Prelude.{⊤}
 use Rattle.std.specs.Ordering.{nat_cmp, match_ordering}
@@ -13,7 +13,26 @@ use Rattle.json.specs.Lex.{Place, fresh, after_value, after_comma, after_key, be
 use Rattle.json.specs.Json.{Json, array, object, Items, no_items, item, Members, no_members, member, Parse, parse_map, after_end_array, read_key, items_step, members_step, items, members, value_with, value, if_last}
 use Rattle.serde_json.specs.Data as kept
 use Rattle.serde_json.specs.Read.{of_json, of_items, of_members, number_of, max_depth, read}
-use Rattle.scratch.specs.Sizes.{data_size, items_size, members_size}
+
+-- ---- sizes
+
+-- one for each value and each bracket, and two for the name of a member and its colon
+abbrev mutual
+  pub data_size : kept.Data → ℕ
+  data_size kept.null = 1
+  data_size (kept.boolean b) = 1
+  data_size (kept.number n) = 1
+  data_size (kept.string s) = 1
+  data_size (kept.array ds) = 2 + items_size ds
+  data_size (kept.object ms) = 2 + members_size ms
+
+  pub items_size : kept.Items → ℕ
+  items_size kept.no_items = 0
+  items_size (kept.item d ds) = data_size d + items_size ds
+
+  pub members_size : kept.Members → ℕ
+  members_size kept.no_members = 0
+  members_size (kept.member k d ms) = 2 + (data_size d + members_size ms)
 
 -- ---- lexemes against bytes
 

@@ -1,2 +1,0 @@
-pub mod FrameSizes
-pub mod EditSizes

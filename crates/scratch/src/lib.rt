@@ -1,6 +1,0 @@
-//! Scratch.
-#![tactic(auto)]
-
-mod holder;
-
-pub use holder::nothing;
