@@ -34,7 +34,8 @@ use Rattle.inspect_world.specs.Stream.{sent}
 use Rattle.inspect_world.specs.World.{World, AlreadyTold, Spent, settled}
 use Rattle.inspect_world.specs.Fold.{folded, then}
 use Rattle.inspect_world.specs.Fetches.{front_in, fetched, fetched_if, all_fetched, stale_in, IsDue, GivesText, FetchLaws}
-use Rattle.inspect_world.specs.Fits.{join, with_ask, IsPlainFrame, most_asks, most_sheets, most_fetches, kept_styles, IsBare, IsNext, IsNextTurn, IsFit, replay, Fits}
+use Rattle.inspect_world.specs.Fits.{join, with_ask, IsPlainFrame, most_bytes, most_sheets, most_fetches, kept_styles, IsBare, IsNext, IsNextTurn, IsFit, replay, Fits}
+use Rattle.inspect_world.specs.Costs.{line_cost}
 use Rattle.inspect_world.specs.Scripts.{after_line, loaded_world}
 use Rattle.inspect_world.specs.ScriptsFit.{CanSend, IsLater}
 use Rattle.inspect_world.specs.ShownReplies.{told_of, replies_in}
@@ -213,11 +214,11 @@ refreshed-all = refreshed-shows front_fetcher IsPlainFrame fetch_laws plain-sent
 
 -- ---- lines, in both runs
 
-pub play-line : (line : LineForm) (k : ℕ) (w v : World RunState) → IsLater line → Together IsPlainFrame (suc k) w v
+pub play-line : (line : LineForm) (k : ℕ) (w v : World RunState) → IsLater line → Together IsPlainFrame (k + line_cost line) w v
     → Together IsPlainFrame k (after_line line w) (fresh_line front_fetcher line v)
 play-line = together-line front_fetcher IsPlainFrame fetch_laws plain-sent plain-bare
 
-pub play-loaded : (page : LoadedPage) (k : ℕ) → CanLoadPage page → PageHasTexts page → k ≤ most_asks → Together IsPlainFrame k (loaded_world page) (loaded_world page)
+pub play-loaded : (page : LoadedPage) (k : ℕ) → CanLoadPage page → PageHasTexts page → k ≤ most_bytes → Together IsPlainFrame k (loaded_world page) (loaded_world page)
 play-loaded = together-loaded front_fetcher IsPlainFrame fetch_laws plain-sent plain-bare
 
 pub play-told : (k : ℕ) (w v : World RunState) (n : AlreadyTold) → Together IsPlainFrame k w v
