@@ -70,8 +70,8 @@ pub commands-long : (hs : List Happening) → commands_among hs * 9 ≤ bytes_am
 commands-long [] = omega arith
 commands-long (came frame ∷ hs) = more (commands_among hs) (commands_in (asked frame false)) (bytes_among (frames_among hs)) (length frame + 1) (commands-long hs) (command-long frame (asked frame false) refl)
   where
-    more : (all one bytes more : ℕ) → all * 9 ≤ bytes → one * 9 ≤ more → (all + one) * 9 ≤ bytes + more
-    more all one bytes more e f = omega (arith, e, f)
+    more : (all one bytes frame_bytes : ℕ) → all * 9 ≤ bytes → one * 9 ≤ frame_bytes → (all + one) * 9 ≤ bytes + frame_bytes
+    more all one bytes frame_bytes e f = omega (arith, e, f)
 commands-long (made x ∷ hs) = commands-long hs
 
 pub commands-last : (hs : List Happening) (h : Happening) → commands_among (hs ++ h ∷ []) ≡ commands_among hs + commands_among (h ∷ [])
@@ -89,7 +89,7 @@ pub command-ids : (pushed trees pushed1 trees1 c m : ℕ) → pushed1 ≤ pushed
     → pushed + trees ≤ (c + m) * 500000 + (c * c + c) → pushed1 + trees1 ≤ (c + 1 + m) * 500000 + ((c + 1) * (c + 1) + (c + 1))
 command-ids pushed trees pushed1 trees1 c m few more kept h =
     let square : (c + 1) * (c + 1) ≡ c * c + c * 2 + 1 = grind arith in
-    by (c * c) ((c + 1) * (c + 1)) square
+    by (c * c) ((c + 1) * (c + 1)) square h
   where
     by : (s t : ℕ) → t ≡ s + c * 2 + 1 → pushed + trees ≤ (c + m) * 500000 + (s + c) → pushed1 + trees1 ≤ (c + 1 + m) * 500000 + (t + (c + 1))
     by s t e h = omega (arith, few, more, kept, e, h)
@@ -99,6 +99,15 @@ command-trees trees trees1 c more kept = omega (arith, more, kept)
 
 pub command-edits : (kept kept1 more bytes frame : ℕ) → kept1 ≤ kept + more → more ≤ frame → kept ≤ bytes → kept1 ≤ bytes + (frame + 1)
 command-edits kept kept1 more bytes frame step few h = omega (arith, step, few, h)
+
+pub count-bytes : (b n : ℕ) → b + (0 + (n + 1)) ≡ b + (n + 1)
+count-bytes b n = omega arith
+
+pub more-bytes : (kept b n : ℕ) → kept ≤ b → kept ≤ b + (n + 1)
+more-bytes kept b n few = omega (arith, few)
+
+pub no-more : (before after most : ℕ) → after ≤ before → before ≤ most → after ≤ most
+no-more before after most less few = omega (arith, less, few)
 
 -- a step of the script
 pub made-ids : (before after squares c m : ℕ) → after ≤ before + 500000 → before ≤ (c + m) * 500000 + squares → after ≤ (c + (m + 1)) * 500000 + squares

@@ -95,7 +95,7 @@ due-shown n front s number numbers due =
       text = has.text;
       shown = on.1;
       css = on.0;
-      dom = not-off state.client.dom_on (λ off. let no : true ≡ false = sym on.0 ∙ due.fit.is_state.css_off off in absurd cc);
+      dom = not-off state.client.dom_on (λ off. let no : true ≡ false = sym on.0 ∙ due.fit.is_state.now.css_off off in absurd cc);
       low = within.0;
       high = let below : number < state.side.next_sheet = within.1 in omega (arith, next, below);
     }
@@ -156,7 +156,7 @@ gives-text n front after run number numbers due taken =
     let done : frame_step false text state ≡ record { state = state; moves = move ∷ [] } = fetch-step n number state due.left s in
     let few : n.fetches + 1 ≤ most_fetches = due.left in
     let counted : is_counted (2 ^ 30 + n.fetches) ≡ true = lt-ltb (2 ^ 30 + n.fetches) (2 ^ 53) (omega (arith, few)) in
-    let utf8 : IsUtf8 s.text = shown-utf8 number s.text state.side.sheets due.fit.is_state.sheets.texts s.shown in
+    let utf8 : IsUtf8 s.text = shown-utf8 number s.text state.side.sheets due.fit.is_state.now.sheets.texts s.shown in
     let joins : join front text ≡ with_ask front (Some (fetch_ask n.fetches number)) = ap (with_ask front) (fetcher-asks n.fetches number due.left (omega (arith, s.high))) in
     let v = with_ask front (Some (fetch_ask n.fetches number)) in
     let asks : v.asks ≡ fetch_ask n.fetches number ∷ [] = ap (λ (asks : List Ask). asks ++ fetch_ask n.fetches number ∷ []) (sym due.fit.asks) in

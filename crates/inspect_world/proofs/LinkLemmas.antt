@@ -51,7 +51,7 @@ use Rattle.inspect_world.proofs.Growing.{grows-folded, styles-stay}
 use Rattle.inspect_world.proofs.StepsTaken.{folded-fold, course-quiet, Taken, taken, tells-all, meets-one, by-refusal, ids-kept}
 use Rattle.inspect_world.proofs.AskLemmas.{asks_among-append}
 use Rattle.inspect_world.proofs.Worlds.{whole-after, rest-after}
-use Rattle.inspect_world.proofs.CountLemmas.{events-counted, frames-few, frames-within, bytes-append, commands-long, commands-last, made-last, command-ids, command-trees, command-edits, made-ids, more_serials, more_numbers, is-full, ids-left, serials-left, numbers-left, few-edits}
+use Rattle.inspect_world.proofs.CountLemmas.{events-counted, frames-few, frames-within, bytes-append, commands-long, commands-last, made-last, command-ids, command-trees, command-edits, count-bytes, more-bytes, no-more, made-ids, more_serials, more_numbers, is-full, ids-left, serials-left, numbers-left, few-edits}
 use Rattle.inspect_world.proofs.TurnLemmas.{TurnKeeps, turn-keeps}
 use Rattle.inspect_world.proofs.SeatRoom.{has-room-left, seated-state}
 use Rattle.back_end.proofs.EditSizes.{edits-few}
@@ -79,16 +79,7 @@ knows-unread (s ∷ ss) = (record { number = refl; origin = refl; text = λ fres
 abbrev waiting_front : State → List Ask → FrontValue
 waiting_front state asks = record (first_value asks) { tree = (view_of state).tree; sheets = unread (view_of state).sheets }
 
--- the counts of what was drawn, one step more
-drew-more : (before after : State) (c m b dc dm db c1 m1 : ℕ) → c1 ≡ c + dc → m1 ≡ m + dm
-    → length after.client.session.pushed + tree_edits after ≤ (c1 + m1) * most_ids + (c1 * c1 + c1) → tree_edits after ≤ c1 * 2 → edits_kept after ≤ b + db
-    → Drew after (c + dc) (m + dm) (b + db)
-drew-more before after c m b dc dm db c1 m1 commands made ids trees edits =
-    subst (λ x. Drew after x (m + dm) (b + db)) commands (subst (λ y. Drew after c1 y (b + db)) made (record { ids = ids; trees = trees; edits = edits }))
-
-same-count : (c n : ℕ) → n ≡ 0 → c ≡ c + n
-same-count c n e = omega (arith, e)
-
+-- the same counts, written otherwise
 same-drew : (state : State) {c c1 m m1 b b1 : ℕ} → c1 ≡ c → m1 ≡ m → b1 ≡ b → Drew state c m b → Drew state c1 m1 b1
 same-drew state {c} {c1} {m} {m1} {b} {b1} p q r drew =
     subst (λ x. Drew state x m1 b1) (sym p) (subst (λ y. Drew state c y b1) (sym q) (subst (λ z. Drew state c m z) (sym r) drew))
@@ -113,6 +104,12 @@ sends-moves state h done asks rest well is_step plain in_turn ids drew =
       numbers = subst (λ (d : Stepped State). d.state.side.next_sheet ≤ state.side.next_sheet + max_sheets) (sym is_step) well.sheets;
     }
 
+count-one : (c n : ℕ) → n ≡ 1 → c + (0 + n) ≡ c + 1
+count-one c n e = omega (arith, e)
+
+count-none : (c n : ℕ) → n ≡ 0 → c + (0 + n) ≡ c
+count-none c n e = omega (arith, e)
+
 -- a command draws, and may keep edits
 command-drew : (state : State) (frame : List ℕ) (done : Step) (r : Result Asked Refused) → StepsWell state done → KeepsAtMost (edits_asked (asked frame false)) state done.state
     → commands_in r ≡ 1 → asked frame false ≡ r → (c m b : ℕ) → Drew state c m b
@@ -120,27 +117,30 @@ command-drew : (state : State) (frame : List ℕ) (done : Step) (r : Result Aske
 command-drew state frame done r well keeps command asks c m b before =
     let one : commands_in (asked frame false) ≡ 1 = ap commands_in asks ∙ command in
     let few : edits_asked (asked frame false) ≤ length frame = edits-few false frame in
-    drew-more state done.state c m b (commands_in (asked frame false)) 0 (length frame + 1) (c + 1) m
-    (ap (λ n. c + n) (sym one)) (omega arith)
-    (command-ids (length state.client.session.pushed) (tree_edits state) (length done.state.client.session.pushed) (tree_edits done.state) c m well.ids well.trees before.trees before.ids)
-    (command-trees (tree_edits state) (tree_edits done.state) c well.trees before.trees)
-    (command-edits (edits_kept state) (edits_kept done.state) (edits_asked (asked frame false)) b (length frame) keeps few before.edits)
+    same-drew done.state (count-one c (commands_in (asked frame false)) one) (count-none m 0 refl) (count-bytes b (length frame)) (record {
+      ids = command-ids (length state.client.session.pushed) (tree_edits state) (length done.state.client.session.pushed) (tree_edits done.state) c m well.ids well.trees before.trees before.ids;
+      trees = command-trees (tree_edits state) (tree_edits done.state) c well.trees before.trees;
+      edits = command-edits (edits_kept state) (edits_kept done.state) (edits_asked (asked frame false)) b (length frame) keeps few before.edits;
+    })
 
 -- a frame that is refused changes nothing
 refused-drew : (state : State) (frame : List ℕ) (done : Step) → done.state ≡ state → commands_in (asked frame false) ≡ 0 → (c m b : ℕ) → Drew state c m b
     → Drew done.state (c + commands_among (came frame ∷ [])) (m + made_among (came frame ∷ [])) (b + bytes_among (frames_among (came frame ∷ [])))
 refused-drew state frame done same none c m b before =
     subst (λ s. Drew s (c + commands_among (came frame ∷ [])) (m + made_among (came frame ∷ [])) (b + bytes_among (frames_among (came frame ∷ [])))) (sym same)
-    (drew-more state state c m b (commands_in (asked frame false)) 0 (length frame + 1) c m (same-count c (commands_in (asked frame false)) none) (omega arith) before.ids before.trees (omega (arith, before.edits)))
+    (same-drew state (count-none c (commands_in (asked frame false)) none) (count-none m 0 refl) (count-bytes b (length frame))
+    (record { ids = before.ids; trees = before.trees; edits = more-bytes (edits_kept state) b (length frame) before.edits }))
 
 -- a step of the script leaves no edit, or changes nothing
 made-drew : (state : State) (x : Turn) → StepsWell state (turn_step x state) → (c m b : ℕ) → Drew state c m b
     → Drew (turn_step x state).state (c + commands_among (made x ∷ [])) (m + made_among (made x ∷ [])) (b + bytes_among (frames_among (made x ∷ [])))
 made-drew state x well c m b before =
     let keeps : TurnKeeps state (turn_step x state).state = turn-keeps x state well in
-    drew-more state (turn_step x state).state c m b 0 1 0 c (m + 1) (omega arith) (omega arith)
-    (made-ids (length state.client.session.pushed + tree_edits state) (length (turn_step x state).state.client.session.pushed + tree_edits (turn_step x state).state) (c * c + c) c m keeps.ids before.ids)
-    (omega (arith, keeps.trees, before.trees)) (omega (arith, keeps.edits, before.edits))
+    same-drew (turn_step x state).state (count-none c 0 refl) (count-one m 1 refl) (count-none b 0 refl) (record {
+      ids = made-ids (length state.client.session.pushed + tree_edits state) (length (turn_step x state).state.client.session.pushed + tree_edits (turn_step x state).state) (c * c + c) c m keeps.ids before.ids;
+      trees = no-more (tree_edits state) (tree_edits (turn_step x state).state) (c * 2) keeps.trees before.trees;
+      edits = no-more (edits_kept state) (edits_kept (turn_step x state).state) b keeps.edits before.edits;
+    })
 
 sends-frame : (state : State) (frame : List ℕ) (done : Step) → frame_step false frame state ≡ done → StepsWell state done → (r : Result Asked Refused) → asked frame false ≡ r
     → IsAnswered r done.moves → KeepsAtMost (edits_asked (asked frame false)) state done.state → Sends state (came frame)

@@ -17,7 +17,7 @@ use Rattle.back_end.specs.Seats.{StandsFor, edits_in, HasRoomLeft}
 backs-count : (gs : List (List (Entry Saved Inverse))) → entry_count (map (backs_of way_back) gs) ≡ entry_count gs
 backs-count [] = refl
 backs-count (g ∷ gs) =
-    let one : length (backs_of way_back g) ≡ length g = length-map (λ (e : Entry Saved Inverse). way_back e.edit e.before) g in
+    let one : length (backs_of way_back g) ≡ length g = length-map g (λ (e : Entry Saved Inverse). way_back e.edit e.before) in
     let more : entry_count (map (backs_of way_back) gs) ≡ entry_count gs = backs-count gs in
     omega (arith, one, more)
 
@@ -25,7 +25,7 @@ again-count : (gs : List (List (Entry Saved Inverse))) → entry_count (map (aga
 again-count [] = refl
 again-count (g ∷ gs) =
     let one : length (again_of way_back g) ≡ length g =
-    length-reverse (map (λ (e : Entry Saved Inverse). e.edit) g) ∙ length-map (λ (e : Entry Saved Inverse). e.edit) g in
+    length-reverse (map (λ (e : Entry Saved Inverse). e.edit) g) ∙ length-map g (λ (e : Entry Saved Inverse). e.edit) in
     let more : entry_count (map (again_of way_back) gs) ≡ entry_count gs = again-count gs in
     omega (arith, one, more)
 
@@ -38,13 +38,13 @@ kept-count kept state keeps =
 -- a seat has the room that its state has
 pub has-room-left : (seat : Seat) (side : PageSide) (state : State) → StandsFor seat side state → HasRoom state → HasRoomLeft seat side
 has-room-left seat side state stands room =
-    let next : seat.desk.agent.next ≡ length state.client.session.pushed + 1 = stands.desk.stands.next_is in
+    let next : seat.desk.agent.next ≡ length state.client.session.pushed + 1 = stands.stands.stands.next_is in
     let ids : length state.client.session.pushed + 1 < 2 ^ 50 = room.ids in
     record {
       numbers = record {
         ids = omega (arith, next, ids);
-        serials = subst (λ (page : PageValue). page.next < 2 ^ 50) (sym stands.desk.page_is) room.serials;
-        sheets = subst (λ n. n < 2 ^ 50) (sym stands.desk.next_is) room.sheets;
+        serials = subst (λ (page : PageValue). page.next < 2 ^ 50) (sym stands.stands.page_is) room.serials;
+        sheets = subst (λ n. n < 2 ^ 50) (sym stands.stands.next_is) room.sheets;
       };
       edits = subst (λ n. n < 2 ^ 30) (sym (kept-count seat.history state stands.kept)) room.edits;
     }
@@ -52,15 +52,15 @@ has-room-left seat side state stands room =
 -- and the state has the room that the seat has
 pub room-of : (seat : Seat) (side : PageSide) (state : State) → StandsFor seat side state → HasRoomLeft seat side → HasRoom state
 room-of seat side state stands left =
-    let next : seat.desk.agent.next ≡ length state.client.session.pushed + 1 = stands.desk.stands.next_is in
+    let next : seat.desk.agent.next ≡ length state.client.session.pushed + 1 = stands.stands.stands.next_is in
     let ids : seat.desk.agent.next < 2 ^ 50 = left.numbers.ids in
     record {
       ids = omega (arith, next, ids);
-      serials = subst (λ (page : PageValue). page.next < 2 ^ 50) stands.desk.page_is left.numbers.serials;
-      sheets = subst (λ n. n < 2 ^ 50) stands.desk.next_is left.numbers.sheets;
+      serials = subst (λ (page : PageValue). page.next < 2 ^ 50) stands.stands.page_is left.numbers.serials;
+      sheets = subst (λ n. n < 2 ^ 50) stands.stands.next_is left.numbers.sheets;
       edits = subst (λ n. n < 2 ^ 30) (kept-count seat.history state stands.kept) left.edits;
     }
 
 -- the state that a seat stands for is one that can be
 pub seated-state : (seat : Seat) (side : PageSide) (state : State) → StandsFor seat side state → IsState state
-seated-state seat side state stands = record { now = stands.desk.now; history = stands.kept.history }
+seated-state seat side state stands = record { now = stands.stands.now; history = stands.kept.history }
