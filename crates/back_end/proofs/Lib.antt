@@ -27,3 +27,5 @@ pub mod SpliceSeats
 pub mod ScriptLemmas
 pub mod TreeSeats
 pub mod OwnSeats
+pub mod FrameSizes
+pub mod EditSizes

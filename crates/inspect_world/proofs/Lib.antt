@@ -16,13 +16,16 @@ pub mod StylesTold
 pub mod StepsTaken
 pub mod ShownSheets
 pub mod FetchTold
+pub mod TurnLemmas
 pub mod FitLemmas
 pub mod Scripts
+pub mod SeatRoom
 pub mod Ends
 pub mod CountLemmas
 pub mod LinkLemmas
 pub mod BareFrames
 pub mod SendForms
+pub mod LineSizes
 pub mod Inputs
 pub mod FreshLemmas
 pub mod UnstyledLemmas
