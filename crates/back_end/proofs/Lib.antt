@@ -27,3 +27,6 @@ pub mod SpliceSeats
 pub mod ScriptLemmas
 pub mod TreeSeats
 pub mod OwnSeats
+pub mod KeepSeats
+pub mod NoteSeats
+pub mod UndoSeats

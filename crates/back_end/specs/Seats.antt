@@ -1,5 +1,5 @@
 -- A seat with its side that stands for a state.
-use Rattle.std.specs.Prelude.{◌≡◌, ℕ, ◌<◌, ◌^◌, Bool, true, false, [], Option, Some, None, is_some, ⊤}
+use Rattle.std.specs.Prelude.{◌≡◌, ℕ, ◌+◌, ◌<◌, ◌^◌, Bool, true, false, [], Option, Some, None, is_some, ⊤}
 use Rattle.node_tree.specs.Nodes.{Nodes, none}
 use Rattle.node_tree.specs.Keys.{has}
 use Rattle.page_tree.specs.Pages.{Row, row_serial}
@@ -30,7 +30,7 @@ pub record DeskStandsFor (desk : Desk) (side : PageSide) (state : State) : Type 
 
 -- the same with a history, which keeps the edits of the state's
 pub record BothStandFor (desk : Desk) (history : Marks Inverse) (side : PageSide) (state : State) : Type 0 where
-  pub desk : DeskStandsFor desk side state
+  pub stands : DeskStandsFor desk side state
   pub kept : Keeps history state
 
 -- the same of a seat

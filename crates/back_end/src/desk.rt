@@ -137,7 +137,13 @@ impl Desk {
             SeatPart::Redoes => self.redo(history, side, id, out),
             SeatPart::Watches { node, kind } => self.watch(side, id, node, kind, out),
             SeatPart::Unwatches { node, kind } => self.unwatch(side, id, node, kind, out),
-            SeatPart::Loads { params } => self.answer_load(history, side, id, params.as_value(), out),
+            SeatPart::Loads { params } => self.answer_load(
+                history,
+                side,
+                id,
+                params.as_value(),
+                out,
+            ),
             SeatPart::Acts { params } => self.answer_act(history, side, id, params.as_value(), out),
             SeatPart::Others { ask } => self.answer_by_agent(side, id, ask, out),
         }

@@ -1,8 +1,8 @@
 // A client takes its edits back, and does them again.
-ghost use Rattle.std.specs.Prelude.{◌≡◌, ◌+◌, ◌<◌, ◌^◌, ◌++◌, IfOk, OnOk, length};
-ghost use Rattle.style_edits.specs.Splices.{FitsSplice, after_splice, back_splice};
+ghost use Rattle.std.specs.Prelude.{◌≡◌, ◌+◌, ◌<◌, ◌≤◌, ◌^◌, ◌++◌, map, length, IfOk, OnOk};
+ghost use Rattle.style_edits.specs.Splices.{after_splice, back_splice};
 ghost use Rattle.undo_marks.specs.Changes.{AllTaken, after_all, back_all};
-ghost use Rattle.undo_marks.specs.SavedEdits.{saved_of, page_after, way_back};
+ghost use Rattle.undo_marks.specs.SavedEdits.{saved_of, saved_sheet, page_after, way_back, TakesSheet};
 ghost use Rattle.cdp_messages.specs.Moves.{frames_of_moves};
 ghost use Rattle.back_end.specs.States.{State, TakesWell};
 ghost use Rattle.back_end.specs.Servers as server;
@@ -11,7 +11,7 @@ ghost use Rattle.back_end.specs.Seats.{BothStandFor, DeskStandsFor, HasNumbersLe
 
 use crate::desk::Desk;
 use crate::side::PageSide;
-use cdp_messages::{Event, ReplyBody, Why, write_event, write_reply};
+use cdp_messages::{Event, ReplyBody, Why, write_reply};
 use std::alloc::AllocError;
 use style_edits::Splice;
 use undo_marks::{History, Inverse, Popped};
@@ -40,17 +40,20 @@ impl Desk {
 
     /// Makes a splice out of a history, and tells it while CSS is on. Gives the splice that leads back.
     fn put_back(
-        &mut self,
+        &self,
         side: &mut PageSide,
         splice: Splice,
         out: &mut Vec<u8>,
     ) -> Result<Splice, AllocError>
-        requires fits { FitsSplice splice side.old.sheets.entries }
+        requires taken { TakesSheet splice (map saved_sheet side.old.sheets.entries) }
         ensures page { side.new.page ≡ side.old.page }
-        ensures agent { self.new.agent ≡ self.old.agent }
         ensures entries { OnOk result (side.new.sheets.entries ≡ after_splice splice side.old.sheets.entries) }
-        ensures next { OnOk result (side.new.sheets.next ≡ side.old.sheets.next) }
+        ensures numbers { OnOk result (side.new.sheets.next ≡ side.old.sheets.next) }
         ensures back { IfOk result (λ back. back ≡ back_splice splice side.old.sheets.entries) }
+        ensures stands { (state : State) → DeskStandsFor self.now side.old state
+            → OnOk result (DeskStandsFor self.now side.new (splice_step splice state).state) }
+        ensures sent { (state : State) → DeskStandsFor self.now side.old state
+            → OnOk result (out.new.items ≡ out.old.items ++ frames_of_moves (splice_step splice state).moves) }
     {
         let sheet = splice.sheet;
         let back = side.sheets.put_back(splice)?;
@@ -65,6 +68,20 @@ impl Desk {
         edit: Inverse,
         out: &mut Vec<u8>,
     ) -> Result<Inverse, AllocError>
+        requires taken { TakesWell side.old.page.next edit (saved_of side.old.page.tree side.old.sheets.entries) }
+        requires ids { self.old.agent.next < 2 ^ 51 }
+        requires serials { side.old.page.next < 2 ^ 51 }
+        requires sheets { side.old.sheets.next < 2 ^ 51 }
+        ensures few { OnOk result (self.new.agent.next < self.old.agent.next + 2) }
+        ensures saved { OnOk result (saved_of side.new.page.tree side.new.sheets.entries
+            ≡ page_after edit (saved_of side.old.page.tree side.old.sheets.entries)) }
+        ensures next { OnOk result (side.new.page.next ≡ side.old.page.next) }
+        ensures numbers { OnOk result (side.new.sheets.next ≡ side.old.sheets.next) }
+        ensures back { IfOk result (λ back. back ≡ way_back edit (saved_of side.old.page.tree side.old.sheets.entries)) }
+        ensures stands { (state : State) → DeskStandsFor self.old side.old state
+            → OnOk result (DeskStandsFor self.new side.new (kept_step edit state).state) }
+        ensures sent { (state : State) → DeskStandsFor self.old side.old state
+            → OnOk result (out.new.items ≡ out.old.items ++ frames_of_moves (kept_step edit state).moves) }
     {
         match edit {
             Inverse::Tree(edit) => {
@@ -85,6 +102,19 @@ impl Desk {
         edits: Vec<Inverse>,
         out: &mut Vec<u8>,
     ) -> Result<Vec<Inverse>, AllocError>
+        requires taken { AllTaken page_after (TakesWell side.old.page.next) edits.items (saved_of side.old.page.tree side.old.sheets.entries) }
+        requires ids { self.old.agent.next + length edits.items < 2 ^ 51 }
+        requires serials { side.old.page.next < 2 ^ 51 }
+        requires sheets { side.old.sheets.next < 2 ^ 51 }
+        ensures saved { OnOk result (saved_of side.new.page.tree side.new.sheets.entries
+            ≡ after_all page_after edits.items (saved_of side.old.page.tree side.old.sheets.entries)) }
+        ensures next { OnOk result (side.new.page.next ≡ side.old.page.next) }
+        ensures backs { IfOk result (λ backs. backs.items
+            ≡ back_all page_after way_back edits.items (saved_of side.old.page.tree side.old.sheets.entries)) }
+        ensures stands { (state : State) → DeskStandsFor self.old side.old state
+            → OnOk result (DeskStandsFor self.new side.new (kept_steps edits.items state).state) }
+        ensures sent { (state : State) → DeskStandsFor self.old side.old state
+            → OnOk result (out.new.items ≡ out.old.items ++ frames_of_moves (kept_steps edits.items state).moves) }
     {
         let mut backs = Vec::new(self.alloc);
         for edit in edits {
@@ -102,6 +132,13 @@ impl Desk {
         id: u64,
         out: &mut Vec<u8>,
     ) -> Result<(), AllocError>
+        requires room { HasNumbersLeft self.old side.old }
+        requires few { edits_in history.old < 2 ^ 30 }
+        requires standing { (state : State) × BothStandFor self.old history.old side.old state }
+        ensures stands { (state : State) → BothStandFor self.old history.old side.old state
+            → OnOk result (BothStandFor self.new history.new side.new (command_step id server.undoes state).state) }
+        ensures sent { (state : State) → BothStandFor self.old history.old side.old state
+            → OnOk result (out.new.items ≡ out.old.items ++ frames_of_moves (command_step id server.undoes state).moves) }
     {
         if !self.is_on {
             return self.refuse(id, Why::DomOff, out);
@@ -125,6 +162,13 @@ impl Desk {
         id: u64,
         out: &mut Vec<u8>,
     ) -> Result<(), AllocError>
+        requires room { HasNumbersLeft self.old side.old }
+        requires few { edits_in history.old < 2 ^ 30 }
+        requires standing { (state : State) × BothStandFor self.old history.old side.old state }
+        ensures stands { (state : State) → BothStandFor self.old history.old side.old state
+            → OnOk result (BothStandFor self.new history.new side.new (command_step id server.redoes state).state) }
+        ensures sent { (state : State) → BothStandFor self.old history.old side.old state
+            → OnOk result (out.new.items ≡ out.old.items ++ frames_of_moves (command_step id server.redoes state).moves) }
     {
         if !self.is_on {
             return self.refuse(id, Why::DomOff, out);
