@@ -1,6 +1,7 @@
 pub mod PartLemmas
 pub mod AskedLemmas
 pub mod TextLemmas
+pub mod HistoryLemmas
 pub mod SheetLemmas
 pub mod WellSteps
 pub mod WatchedLemmas
