@@ -32,3 +32,6 @@ pub mod SpliceSeats
 pub mod ScriptLemmas
 pub mod TreeSeats
 pub mod OwnSeats
+pub mod KeepSeats
+pub mod NoteSeats
+pub mod UndoSeats
