@@ -1,5 +1,5 @@
 -- A step that answers a command: it is well, few edits more are kept, and it is answered once, by what its method answers.
-use Rattle.std.proofs.Common.{◌≡◌, ℕ, ◌+◌, ◌≤◌, true, List, [], ◌∷◌, ◌++◌, Option, Some, refl, sym, ◌∙◌, ap, arith}
+use Rattle.std.proofs.Common.{◌≡◌, ℕ, true, List, [], ◌∷◌, ◌++◌, Option, Some, refl, ◌∙◌, ap, arith}
 use Rattle.std.specs.List.{flat_map}
 use Rattle.cdp_json.specs.Kinds.{is_counted}
 use Rattle.cdp_messages.specs.declared.command.Why.{Why}
@@ -10,7 +10,7 @@ use Rattle.back_end.specs.Steps.{Step, refusing, replying}
 use Rattle.back_end.specs.Laws.{HasRoom, StepsWell, KeepsAtMost, MayAnswer, MayAnswerAll, TellTextOf, reply_ids}
 use Rattle.back_end.proofs.TurnAnswers.{AreEvents, events-answer, events-may, events-text, may-append, texts-append}
 use Rattle.back_end.proofs.AnswerLemmas.{flat-append}
-use Rattle.back_end.proofs.WellSteps.{Well, room-numbers, stays-with, more}
+use Rattle.back_end.proofs.WellSteps.{room-numbers, stays-with, more}
 use Rattle.back_end.proofs.KeptSteps.{Recalls, recalls-same, steps-well}
 
 pub record Answered (method : List ℕ) (sheet : Option ℕ) (id most : ℕ) (before : State) (done : Step) : Type 0 where

@@ -41,7 +41,7 @@ use Rattle.back_end.specs.Texts.{HasTreeTexts}
 use Rattle.back_end.proofs.TreeSteps.{AsksFor, tree-edit-answered}
 use Rattle.back_end.specs.States.{State, nodes_in, book_in, sheets_shown, view_of, HoldsNow, HasHistory, IsState}
 use Rattle.back_end.specs.OwnMethods.{load_asked, act_asked}
-use Rattle.back_end.specs.Steps.{Step, with_client, refusing, client_reset, moves_come, Turn, acts, loads, turn_step, ask_needs_on, needs_on, needs_css, turns_on, client_served, agent_step, css_step, serial_now, watch_kind, watch_step, own_step, sheet_edit_step, server_step, command_step, asked_step, frame_step}
+use Rattle.back_end.specs.Steps.{Step, with_client, refusing, client_reset, moves_come, Turn, acts, loads, turn_step, ask_needs_on, needs_on, needs_css, turns_on, client_served, agent_step, css_step, serial_now, watch_kind, watch_step, own_step, sheet_edit_step, server_step, command_step, asked_step}
 use Rattle.back_end.specs.Servers.{Server, enables, disables, css_enables, css_disables, agent, css_agent, edits_tree, edits_sheets, ends_group, undoes, redoes, watches, unwatches, page_load, page_act, nobody, by_agent, server_of, HasServedTexts}
 use Rattle.back_end.specs.Laws.{reply_ids, MayAnswer, HasRoom, StepsWell, KeepsAtMost, most_splices, most_edits, edits_asked, MayAnswerAll, text_asked, TellTextOf, IsAnswered, IsTurn, FramesStepWell}
 use Rattle.back_end.proofs.AskedLemmas.{AskedFits, frame-fits}

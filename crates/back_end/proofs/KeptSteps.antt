@@ -1,13 +1,13 @@
 -- What becomes of the history by a step: it stays one, and few edits more are kept.
-use Rattle.std.proofs.Common.{◌≡◌, ℕ, ◌+◌, ◌^◌, ◌<◌, ◌≤◌, List, length, refl, sym, ap, ◌∙◌, subst, arith}
-use Rattle.undo_marks.specs.Marks.{Marks, no_marks, marked, undone, redone}
-use Rattle.undo_marks.specs.Changes.{Change as Entry, after_all, changes_on, back_all, AllTaken, IsHistory}
+use Rattle.std.proofs.Common.{◌≡◌, ℕ, ◌+◌, ◌≤◌, List, length, sym, ap, subst, arith}
+use Rattle.undo_marks.specs.Marks.{Marks, no_marks, marked}
+use Rattle.undo_marks.specs.Changes.{Change as Entry, after_all, changes_on, AllTaken, IsHistory}
 use Rattle.undo_marks.specs.Saved.{Saved}
-use Rattle.undo_marks.specs.SavedEdits.{page_after, way_back}
+use Rattle.undo_marks.specs.SavedEdits.{page_after}
 use Rattle.undo_marks.specs.declared.inverse_lists.Inverse.{Inverse}
-use Rattle.back_end.specs.States.{State, HoldsNow, saved_now, TakesWell, HasHistory, Keeps, IsState}
+use Rattle.back_end.specs.States.{State, saved_now, TakesWell, HasHistory}
 use Rattle.back_end.specs.Steps.{Step, with_marks, keeping, with_crossed}
-use Rattle.back_end.specs.Laws.{HasRoom, tree_edits, edits_kept, StepsWell, KeepsAtMost}
+use Rattle.back_end.specs.Laws.{HasRoom, tree_edits, edits_kept, StepsWell}
 use Rattle.back_end.proofs.HistoryLemmas.{kept_in, history-kept, keeps-same, keeps-edited, keeps-marked}
 use Rattle.back_end.proofs.GroupCounts.{trees_in, trees-few, trees_of, count_of, changes-trees, changes-length, edited-trees, edited-count}
 use Rattle.back_end.proofs.WellSteps.{Well, HasNumbers}

@@ -1,6 +1,6 @@
 -- A pause: its nodes become known, and then it is told; the step is well.
-use Rattle.std.proofs.Common.{◌≡◌, ℕ, ◌+◌, ◌^◌, ◌<◌, ◌≤◌, ◌==◌, Bool, true, false, not, cond, List, [], ◌∷◌, find, length, Option, Some, None, refl, sym, ◌∙◌, ap, subst, arith}
-use Rattle.std.specs.Prelude.{⊤, option_map}
+use Rattle.std.proofs.Common.{◌≡◌, ℕ, ◌+◌, ◌^◌, ◌<◌, ◌≤◌, ◌==◌, Bool, true, false, cond, List, [], ◌∷◌, find, length, Option, Some, None, refl, sym, ◌∙◌, ap, subst, arith}
+use Rattle.std.specs.Prelude.{option_map}
 use Rattle.std.proofs.lemmas.Bool.{eq-eqb, eqb-true, not-false}
 use Rattle.node_tree.specs.Nodes.{Nodes, none, node, Branch, alone}
 use Rattle.node_tree.specs.Keys.{first_of, has, tally}
@@ -29,7 +29,7 @@ use Rattle.dom_breakpoints.specs.declared.pauses.WatchKind.TheVariants.{Subtree,
 use Rattle.dom_breakpoints.specs.declared.pauses.Pause.{Pause}
 use Rattle.dom_breakpoints.specs.Pauses.{own_pause, subtree_pause, pause_of}
 use Rattle.dom_breakpoints.specs.Watched.{Watched, is_watched}
-use Rattle.back_end.specs.States.{State, Side, nodes_in, view_of, HoldsNow}
+use Rattle.back_end.specs.States.{State, nodes_in, view_of, HoldsNow}
 use Rattle.back_end.specs.Steps.{Step, push_step, push_steps, pause_data, id_now, met_step, followed_by, pause_step}
 use Rattle.back_end.specs.Seats.{IsPause, by_attribute, by_removal, by_subtree}
 use Rattle.back_end.proofs.WatchedLemmas.{none-set}

@@ -1,16 +1,15 @@
 -- A node becomes known, with all above it: the step is well, and what is opened stays opened.
-use Rattle.std.proofs.Common.{◌≡◌, ℕ, ◌+◌, ◌^◌, ◌<◌, ◌≤◌, Bool, true, false, cond, List, [], ◌∷◌, length, Option, Some, None, refl, sym, ◌∙◌, ap, subst, arith}
+use Rattle.std.proofs.Common.{◌≡◌, ℕ, ◌+◌, ◌≤◌, Bool, true, false, cond, length, Option, Some, None, refl, sym, ◌∙◌, ap, subst, arith}
 use Rattle.std.specs.Prelude.{is_some}
-use Rattle.node_tree.specs.Nodes.{Branch, node_count, alone}
-use Rattle.page_tree.specs.Pages.{State as PageValue, Row, node_at}
+use Rattle.node_tree.specs.Nodes.{node_count}
+use Rattle.page_tree.specs.Pages.{State as PageValue, node_at}
 use Rattle.page_tree.specs.declared.edits.TreeEdit.{TreeEdit}
 use Rattle.page_tree.specs.declared.edits.TreeEdit.TheVariants.{SetAttr, DropAttr, SetText, Attach, Detach}
-use Rattle.node_binding.specs.Sessions.{Session, IsSession, session_of, is_open, known_by, ids_in, serial_at}
+use Rattle.node_binding.specs.Sessions.{Session, IsSession, session_of, is_open, serial_at}
 use Rattle.node_binding.specs.Openings.{opened_without}
 use Rattle.node_binding.proofs.StartLemmas.{count-alone, distinct-alone}
-use Rattle.cdp_messages.specs.Moves.{Move}
 use Rattle.dom_agent.specs.Keepers.{session_keeper}
-use Rattle.dom_agent.specs.Requests.{Progress, Showing, pushing, pushed, opening_moves}
+use Rattle.dom_agent.specs.Requests.{Progress, pushing, pushed}
 use Rattle.dom_agent.specs.Edits.{Edited}
 use Rattle.dom_agent.specs.EditLaws.{session_edited}
 use Rattle.dom_agent.proofs.StepLemmas.{Goes, goes-pushed, goes-few}
@@ -19,7 +18,7 @@ use Rattle.dom_agent.proofs.OpeningsLemmas.{opened_all}
 use Rattle.dom_agent.proofs.KnownLemmas.{opened_after}
 use Rattle.dom_agent.proofs.TellableLemmas.{can_say}
 use Rattle.back_end.specs.States.{State, nodes_in, sheets_shown, HoldsNow}
-use Rattle.back_end.specs.Steps.{push_step, edit_step}
+use Rattle.back_end.specs.Steps.{push_step}
 use Rattle.back_end.proofs.WellSteps.{Well, HasNumbers, can-sheets, can-tell}
 
 -- something is opened

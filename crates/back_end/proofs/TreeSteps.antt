@@ -1,28 +1,26 @@
 -- A client's edit of the tree: its step is well, and answers its command once.
-use Rattle.std.proofs.Common.{◌≡◌, ℕ, ◌+◌, ◌^◌, ◌<◌, ◌≤◌, Bool, true, false, not, cond, nat_le, List, [], ◌∷◌, ◌++◌, length, map, Option, Some, None, Result, Ok, Err, refl, sym, ◌∙◌, ap, subst, arith, lt-ltb}
+use Rattle.std.proofs.Common.{◌≡◌, ℕ, ◌+◌, ◌^◌, ◌<◌, ◌≤◌, Bool, true, false, not, nat_le, List, [], ◌∷◌, length, map, Option, Some, None, Result, Ok, Err, refl, sym, ◌∙◌, ap, subst, arith, lt-ltb}
 use Rattle.std.specs.Prelude.{⊤}
-use Rattle.std.specs.Str.{IsUtf8}
 use Rattle.std.proofs.lemmas.Bool.{and_from, leb-true}
 use Rattle.std.proofs.lemmas.List.{length-map}
 use Rattle.std_alloc.proofs.string.Cased.{lowered as utf8-lowered}
 use Rattle.cdp_json.specs.Kinds.{is_counted}
 use Rattle.node_tree.specs.Nodes.{Branch, alone, branch_count}
 use Rattle.page_tree.specs.Pages.{Row, State as PageValue, IsValid}
-use Rattle.page_tree.specs.Edits.{after, drawn, form_at}
-use Rattle.page_tree.specs.EditFaults.{CanApply, CanApplyAll, IsReady, copy_faults, copy_fault}
+use Rattle.page_tree.specs.Edits.{after, form_at}
+use Rattle.page_tree.specs.EditFaults.{CanApplyAll, IsReady, copy_faults, copy_fault}
 use Rattle.page_tree.specs.declared.edits.TreeEdit.{TreeEdit}
 use Rattle.page_tree.specs.declared.edits.TreeEdit.TheVariants.{SetAttr, DropAttr, SetText, Detach}
 use Rattle.page_tree.specs.declared.edit_faults.EditFault.{EditFault}
 use Rattle.page_tree.proofs.EditLemmas.{valid-after, clear}
 use Rattle.page_tree.proofs.InsertLemmas.{next-stays, copy-leads}
 use Rattle.page_tree.proofs.MoveLemmas.{move-leads}
-use Rattle.node_binding.specs.Sessions.{Session, ids_in, serial_at}
+use Rattle.node_binding.specs.Sessions.{Session, ids_in}
 use Rattle.cdp_messages.specs.declared.command.Why.{Why}
 use Rattle.cdp_messages.specs.declared.command.Why.TheVariants.{UnknownNode}
 use Rattle.cdp_messages.specs.declared.down.ReplyBody.TheVariants.{Nothing, NodeId}
 use Rattle.cdp_messages.specs.Moves.{replied, Course}
 use Rattle.sheet_reader.specs.declared.book.SheetEntry.{SheetEntry}
-use Rattle.dom_agent.specs.Requests.{opening_moves}
 use Rattle.dom_agent.proofs.StepLemmas.{is_small, ids-below}
 use Rattle.back_end.specs.declared.dom_edits.DomEdit.{DomEdit}
 use Rattle.back_end.specs.declared.dom_edits.DomEdit.TheVariants as dom
@@ -42,7 +40,7 @@ use Rattle.back_end.specs.Texts.{EditHasTexts, HasTreeTexts, IsPlainEdit}
 use Rattle.back_end.specs.Laws.{HasRoom, MayAnswer}
 use Rattle.back_end.proofs.TextLemmas.{after-texts, node_at-texts, branch-texts, form-texts}
 use Rattle.back_end.proofs.WellSteps.{Well, HasNumbers, stays, stays-with, then-well, more, well-marked, well-answered}
-use Rattle.back_end.proofs.PushSteps.{IsBegun, begun-known, begun-edited, push-well, push-begun}
+use Rattle.back_end.proofs.PushSteps.{IsBegun, begun-known, begun-edited, push-well}
 use Rattle.back_end.proofs.StepLemmas.{edit-well, EditsHaveTexts, Planned, planned-edit, drawn-valid, with-page-is, same-view}
 use Rattle.back_end.proofs.TurnAnswers.{AreEvents, openings-events, events-append, edit-events}
 use Rattle.back_end.proofs.GroupCounts.{trees-in-length}

@@ -1,11 +1,8 @@
 -- An undo and a redo: each edit out of the history is made, the page is the saved one then, and the step is well.
-use Rattle.std.proofs.Common.{◌≡◌, ℕ, suc, ◌+◌, ◌^◌, ◌<◌, ◌≤◌, ◌==◌, Bool, true, false, cond, List, [], ◌∷◌, ◌++◌, length, map, Option, Some, None, refl, sym, ap, ◌∙◌, subst, arith}
+use Rattle.std.proofs.Common.{◌≡◌, ℕ, suc, ◌+◌, ◌^◌, ◌<◌, ◌≤◌, ◌==◌, Bool, true, false, cond, List, [], ◌∷◌, length, map, Option, Some, None, refl, sym, ap, ◌∙◌, subst, arith}
 use Rattle.std.specs.Prelude.{IfSome}
 use Rattle.std.specs.Str.{IsUtf8}
 use Rattle.cdp_json.specs.Kinds.{is_counted}
-use Rattle.page_tree.specs.Edits.{after}
-use Rattle.page_tree.specs.EditFaults.{CanApply}
-use Rattle.page_tree.specs.declared.edits.TreeEdit.{TreeEdit}
 use Rattle.page_tree.proofs.InsertLemmas.{next-stays}
 use Rattle.selectors.specs.Ranges.{IsRangeOf}
 use Rattle.sheet_reader.specs.Forms.{range}
@@ -13,7 +10,7 @@ use Rattle.sheet_reader.specs.Sheets.{sheet_of}
 use Rattle.sheet_reader.specs.declared.book.SheetEntry.{SheetEntry}
 use Rattle.sheet_reader.specs.Books.{entry_of}
 use Rattle.style_edits.specs.declared.splice.Splice.{Splice}
-use Rattle.style_edits.specs.Splices.{spliced, after_splice, TakesSplice}
+use Rattle.style_edits.specs.Splices.{spliced, TakesSplice}
 use Rattle.style_edits.proofs.BookForms.{entry_id}
 use Rattle.cdp_messages.specs.declared.down.ReplyBody.TheVariants.{Nothing}
 use Rattle.cdp_messages.specs.declared.command.Why.TheVariants.{Crossed}
@@ -22,18 +19,18 @@ use Rattle.cdp_messages.specs.Moves.{replied}
 use Rattle.undo_marks.specs.Marks.{Marks, handed_out, marked, taken_back, done_again, undone, redone}
 use Rattle.undo_marks.specs.Changes.{Change as Entry, after_all, AllTaken, page_undone, page_redone}
 use Rattle.undo_marks.specs.Saved.{SavedSheet, Saved}
-use Rattle.undo_marks.specs.SavedEdits.{saved_sheet, sheet_at, page_after, way_back, TakesSheet, MeetsNoFault}
+use Rattle.undo_marks.specs.SavedEdits.{saved_sheet, sheet_at, page_after, TakesSheet, MeetsNoFault}
 use Rattle.undo_marks.specs.declared.inverse_lists.Inverse.{Inverse}
 use Rattle.undo_marks.specs.declared.inverse_lists.Inverse.TheVariants.{Tree, Sheet}
 use Rattle.back_end.specs.Sheets.{entry_of_sheet, as_book}
-use Rattle.back_end.specs.States.{State, Client, book_in, saved_now, HoldsNow, TakesWell, HasHistory, Keeps, IsState}
-use Rattle.back_end.specs.Steps.{Step, with_marks, refusing, answering, idle, edit_step, splice_step, kept_step, kept_steps, undo_edits, redo_edits, taken_step, undo_step, redo_step, mark_step}
+use Rattle.back_end.specs.States.{State, saved_now, HoldsNow, TakesWell, HasHistory, IsState}
+use Rattle.back_end.specs.Steps.{Step, with_marks, refusing, answering, idle, kept_step, kept_steps, undo_edits, redo_edits, taken_step, undo_step, redo_step, mark_step}
 use Rattle.back_end.specs.Laws.{HasRoom, MayAnswer, UndoRestores}
 use Rattle.back_end.proofs.WellSteps.{Well, HasNumbers, room-numbers, stays, then-well, more, well-marked, well-answered}
 use Rattle.back_end.proofs.StepLemmas.{edit-is, edit-well}
 use Rattle.back_end.proofs.SpliceSteps.{splice-is, splice-well, splice-events, splice-saved}
 use Rattle.back_end.proofs.TurnAnswers.{AreEvents, events-append, edit-events}
-use Rattle.back_end.proofs.HistoryLemmas.{kept_in, history-kept, Undoes, Redoes, UndoesNothing, RedoesNothing, undo-hands, redo-hands, undo-hands-none, redo-hands-none}
+use Rattle.back_end.proofs.HistoryLemmas.{kept_in, history-kept, Undoes, Redoes, undo-hands, redo-hands, undo-hands-none, redo-hands-none}
 use Rattle.back_end.proofs.GroupCounts.{trees_in, trees-in-length, SameCounts, undone-counts, redone-counts, FewEdits, undo-few, redo-few, no-past, no-future}
 use Rattle.back_end.proofs.KeptSteps.{Recalls, recalls-same, recalls-marked, steps-well}
 use Rattle.back_end.proofs.AnsweredSteps.{Answered, reply-answered, refusal-answered}

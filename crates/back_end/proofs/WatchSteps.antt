@@ -1,17 +1,16 @@
 -- A watch is set, or taken away: the step is well.
-use Rattle.std.proofs.Common.{◌≡◌, ℕ, ◌+◌, ◌<◌, ◌≤◌, ◌==◌, Bool, true, false, not, ◌&&◌, ◌||◌, List, [], ◌∷◌, Option, Some, None, ◌⊎◌, inl, inr, ⊎_elim, refl, sym, ◌∙◌, ap, subst, arith}
+use Rattle.std.proofs.Common.{◌≡◌, ℕ, ◌<◌, ◌==◌, Bool, true, false, not, ◌||◌, [], Option, Some, None, ◌⊎◌, inl, inr, ⊎_elim, refl, sym, ◌∙◌, subst, arith}
 use Rattle.std.specs.FinSet as set
 use Rattle.std.specs.Ordering.{nat_cmp, eq_by_cmp}
 use Rattle.std.specs.Cmp.{nat_cmp_total, Equal-is}
 use Rattle.std.proofs.lemmas.Bool.{and_parts}
 use Rattle.cdp_json.specs.Kinds.{is_counted}
-use Rattle.node_tree.specs.Nodes.{Nodes, alone}
+use Rattle.node_tree.specs.Nodes.{Nodes}
 use Rattle.node_tree.specs.Keys.{has}
 use Rattle.node_tree.proofs.KeyLemmas.{has-there}
 use Rattle.page_tree.specs.Pages.{Row, row_serial}
 use Rattle.node_binding.specs.Counts.{times}
-use Rattle.node_binding.specs.Cuts.{known}
-use Rattle.node_binding.specs.Sessions.{Session, ids_in, known_by, serial_at}
+use Rattle.node_binding.specs.Sessions.{Session, ids_in, known_by}
 use Rattle.node_binding.proofs.Known.{known-tally}
 use Rattle.node_binding.proofs.PairLemmas.{find-there}
 use Rattle.cdp_messages.specs.declared.down.ReplyBody.TheVariants.{Nothing}
@@ -19,7 +18,7 @@ use Rattle.cdp_messages.specs.Moves.{replied, CanBeTold, ends, goes}
 use Rattle.dom_breakpoints.specs.declared.pauses.WatchKind.{WatchKind}
 use Rattle.dom_breakpoints.specs.declared.pauses.WatchKind.TheVariants.{Subtree, Attribute, Removed}
 use Rattle.dom_breakpoints.specs.Watched.{Serials, Watched, is_watched, with_watch, without_watch}
-use Rattle.back_end.specs.States.{State, nodes_in, view_of, HoldsNow, AreAmong}
+use Rattle.back_end.specs.States.{State, nodes_in, view_of, HoldsNow}
 use Rattle.back_end.specs.Steps.{with_client, serial_now, watch_step}
 use Rattle.back_end.proofs.PushSteps.{not-begun, begun-known}
 use Rattle.back_end.proofs.WellSteps.{Well, HasNumbers, told-view}
