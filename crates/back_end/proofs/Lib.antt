@@ -1,8 +1,11 @@
 pub mod PartLemmas
 pub mod AskedLemmas
 pub mod TextLemmas
+pub mod HistoryLemmas
 pub mod SheetLemmas
 pub mod WellSteps
+pub mod GroupCounts
+pub mod KeptSteps
 pub mod WatchedLemmas
 pub mod PushSteps
 pub mod WatchSteps
@@ -11,7 +14,9 @@ pub mod SheetSteps
 pub mod StepLemmas
 pub mod TurnAnswers
 pub mod AnswerLemmas
+pub mod AnsweredSteps
 pub mod SpliceSteps
+pub mod UndoSteps
 pub mod TreeSteps
 pub mod CssAnswers
 pub mod FrameLemmas
@@ -29,3 +34,6 @@ pub mod TreeSeats
 pub mod OwnSeats
 pub mod FrameSizes
 pub mod EditSizes
+pub mod KeepSeats
+pub mod NoteSeats
+pub mod UndoSeats

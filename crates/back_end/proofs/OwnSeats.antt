@@ -85,7 +85,7 @@ pub unread-sent : (state : State) (id : ℕ) (params : Data) (why : Why) (old ne
 unread-sent state id params why old new is sent = sent ∙ ap (λ (done : Step). old ++ frames_of_moves done.moves) (sym (judged-is state id params (Err why) is))
 
 -- the fault of an act is that which the state's page has
-fault-here : (d : Desk) (s : PageSide) (state : State) (act : Act) (o : Option ActFault) → DeskStandsFor d s state → o ≡ act_fault act s.page s.sheets.entries
+pub fault-here : (d : Desk) (s : PageSide) (state : State) (act : Act) (o : Option ActFault) → DeskStandsFor d s state → o ≡ act_fault act s.page s.sheets.entries
     → act_fault act state.side.page (book_in state) ≡ o
 fault-here d s state act o stands is =
     sym (is ∙ ap (λ (p : PageValue). act_fault act p s.sheets.entries) stands.page_is ∙ ap (act_fault act state.side.page) stands.sheets_are)

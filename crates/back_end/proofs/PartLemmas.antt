@@ -33,6 +33,9 @@ pub record IsOther (c : Command) : Type 0 where
   pub not_remove_breakpoint : (x : ℕ) → (y : WatchWord) → c ≡ RemoveBreakpoint x y → ⊥
   pub not_replay_load : (x : Data) → c ≡ ReplayLoad x → ⊥
   pub not_replay_act : (x : Data) → c ≡ ReplayAct x → ⊥
+  pub not_mark_undoable_state : c ≡ MarkUndoableState → ⊥
+  pub not_undo : c ≡ Undo → ⊥
+  pub not_redo : c ≡ Redo → ⊥
 
 pub others-part : (c : Command) → IsOther c → part.Others (dom_ask_in c) ≡ part_of c
 others-part (GetDocument x y) other = refl
@@ -43,9 +46,9 @@ others-part (QuerySelector x y) other = refl
 others-part (QuerySelectorAll x y) other = refl
 others-part (GetAttributes x) other = refl
 others-part (DescribeNode x y z v) other = refl
-others-part MarkUndoableState other = refl
-others-part Undo other = refl
-others-part Redo other = refl
+others-part MarkUndoableState other = absurd (other.not_mark_undoable_state refl)
+others-part Undo other = absurd (other.not_undo refl)
+others-part Redo other = absurd (other.not_redo refl)
 others-part DomEnable other = absurd (other.not_dom_enable refl)
 others-part DomDisable other = absurd (other.not_dom_disable refl)
 others-part (SetAttributeValue x y z) other = absurd (other.not_set_attribute_value x y z refl)

@@ -29,7 +29,7 @@ use Rattle.dom_breakpoints.specs.declared.pauses.WatchKind.TheVariants.{Subtree,
 use Rattle.dom_breakpoints.specs.declared.pauses.Pause.{Pause}
 use Rattle.dom_breakpoints.specs.Pauses.{pause_of}
 use Rattle.dom_breakpoints.specs.Watched.{Watched, is_watched}
-use Rattle.back_end.specs.States.{State, nodes_in, IsState}
+use Rattle.back_end.specs.States.{State, nodes_in, HoldsNow}
 use Rattle.back_end.specs.Steps.{push_step, id_now, pause_step, edit_step, pause_before, script_step}
 use Rattle.back_end.specs.declared.desk.Desk.{Desk}
 use Rattle.back_end.specs.declared.side.PageSide.{PageSide}
@@ -51,7 +51,7 @@ module _ (n : Nodes Row) (distinct : AreDistinct n) (document : Branch Row) (s :
       ∙ ids-openings ys p z.pushed z.since (IsSession-opened y.levels n y.node o pushed since distinct are.0 are.1 session) are.2 (omega (arith, still, h))
 
 -- the id of a known node stays when another one becomes known
-pub push-keeps-id : (serial : ℕ) (state : State) (begun : IsBegun state.client.session) (s : ℕ) → IsState state → 0 < times s (known begun.0 (nodes_in state))
+pub push-keeps-id : (serial : ℕ) (state : State) (begun : IsBegun state.client.session) (s : ℕ) → HoldsNow state → 0 < times s (known begun.0 (nodes_in state))
     → id_now state s ≡ id_now (push_step serial state).state s
 push-keeps-id serial state begun s is h =
     let page = state.side.page in
@@ -66,7 +66,7 @@ push-keeps-id serial state begun s is h =
 -- ---- what a seat can push
 
 -- a watched node of the state
-pub watched-can : (state : State) (kind : WatchKind) (s : ℕ) → IsState state → is_watched kind state.client.watched s ≡ true → CanPush s state
+pub watched-can : (state : State) (kind : WatchKind) (s : ℕ) → HoldsNow state → is_watched kind state.client.watched s ≡ true → CanPush s state
 watched-can state kind s is h = record { begun = ap (λ (o : Option (ℕ → Bool)). is_some o) (watched-begun state kind s is h).1; there = is.watched kind s h }
 
 -- after a push any node of the page
@@ -101,7 +101,7 @@ pub removal-sent : (state : State) (node id : ℕ) (old first new : List ℕ) �
 removal-sent state node id old first new id_is one two = own-sent state node id told_pause.Removed old first new id_is one two
 
 -- one by a subtree watch
-pub subtree-sent : (state : State) (node target id target_id : ℕ) (insertion : Bool) (old first second new : List ℕ) → IsState state → CanPush node state
+pub subtree-sent : (state : State) (node target id target_id : ℕ) (insertion : Bool) (old first second new : List ℕ) → HoldsNow state → CanPush node state
     → id ≡ id_now (push_step node state).state node → target_id ≡ id_now (push_step target (push_step node state).state).state target
     → first ≡ old ++ frames_of_moves (push_step node state).moves → second ≡ first ++ frames_of_moves (push_step target (push_step node state).state).moves
     → new ≡ second ++ frames_of_moves (met (told_pause.Subtree id target_id insertion) ∷ [])

@@ -12,7 +12,7 @@ use Rattle.dom_agent.specs.Keepers.{session_keeper, binding_keeper}
 use Rattle.dom_agent.specs.Requests.{Progress, pushed, opening_moves, frames_told}
 use Rattle.dom_agent.proofs.OutcomeLemmas.{containers-page}
 use Rattle.dom_agent.proofs.KeeperLemmas.{Alike, alike-pushed, pushed-id}
-use Rattle.back_end.specs.States.{State, nodes_in, IsState}
+use Rattle.back_end.specs.States.{State, nodes_in, HoldsNow}
 use Rattle.back_end.specs.Steps.{push_step, id_now}
 use Rattle.back_end.specs.declared.desk.Desk.{Desk}
 use Rattle.back_end.specs.declared.side.PageSide.{PageSide}
@@ -24,7 +24,7 @@ abbrev bound_push : ℕ → PageValue → Bound → Progress Bound
 bound_push serial page b = pushed (binding_keeper (alone page.tree)) page.tree serial b
 
 -- the binding comes to stand for the session after, and the same is told
-push-alike : (serial : ℕ) (state : State) (b : Bound) → IsState state → IsBegun state.client.session → Stands (nodes_in state) state.client.session b
+push-alike : (serial : ℕ) (state : State) (b : Bound) → HoldsNow state → IsBegun state.client.session → Stands (nodes_in state) state.client.session b
     → Alike (nodes_in state) (push_of serial state) (bound_push serial state.side.page b)
 push-alike serial state b is begun stands =
     let page = state.side.page in
@@ -36,7 +36,7 @@ push-alike serial state b is begun stands =
     (subst (λ (z : Session). IsSession n z) (sym same) is.session) (subst (λ (z : Session). Stands n z b) (sym same) stands))
 
 -- and the node has the same id
-push-same-id : (serial : ℕ) (state : State) (b : Bound) → IsState state → IsBegun state.client.session → Stands (nodes_in state) state.client.session b → has row_serial serial (nodes_in state) ≡ true
+push-same-id : (serial : ℕ) (state : State) (b : Bound) → HoldsNow state → IsBegun state.client.session → Stands (nodes_in state) state.client.session b → has row_serial serial (nodes_in state) ≡ true
     → id_in (bound_push serial state.side.page b).state serial ≡ ids_in (push_of serial state).state serial
 push-same-id serial state b is begun stands there =
     let page = state.side.page in
@@ -51,10 +51,10 @@ pub push-stands : (d d1 : Desk) (s : PageSide) (state : State) (serial : ℕ) (p
     → d1.is_on ≡ d.is_on → d1.css ≡ d.css → d1.watches ≡ d.watches → d1.agent ≡ (bound_push serial page d.agent).state → DeskStandsFor d1 s (push_step serial state).state
 push-stands d d1 s state serial page stands can page_is on_is css_is watches_is agent_is =
     let begun : IsBegun state.client.session = is-begun state.client.session can.begun in
-    let alike = push-alike serial state d.agent stands.is_state begun stands.stands in
+    let alike = push-alike serial state d.agent stands.now begun stands.stands in
     let same : d1.agent ≡ (bound_push serial state.side.page d.agent).state = agent_is ∙ ap (λ (p : PageValue). (bound_push serial p d.agent).state) (page_is ∙ stands.page_is) in
     record {
-      is_state = push-is serial state stands.is_state begun;
+      now = push-is serial state stands.now begun;
       page_is = stands.page_is;
       sheets_are = stands.sheets_are;
       next_is = stands.next_is;
@@ -68,7 +68,7 @@ pub push-sent : (d : Desk) (s : PageSide) (state : State) (serial : ℕ) (page :
     → new ≡ old ++ frames_told (bound_push serial page d.agent).shown → new ≡ old ++ frames_of_moves (push_step serial state).moves
 push-sent d s state serial page old new stands can page_is sent =
     let begun : IsBegun state.client.session = is-begun state.client.session can.begun in
-    let alike = push-alike serial state d.agent stands.is_state begun stands.stands in
+    let alike = push-alike serial state d.agent stands.now begun stands.stands in
     sent ∙ ap (λ (p : PageValue). old ++ frames_told (bound_push serial p d.agent).shown) (page_is ∙ stands.page_is)
     ∙ ap (λ xs. old ++ frames_told xs) alike.shown
 
@@ -78,5 +78,5 @@ pub push-gives : {E : Type 0} (result : Result ℕ E) (d : Desk) (s : PageSide) 
 push-gives (Ok id) d s state serial page b stands can page_is is known =
     let begun : IsBegun state.client.session = is-begun state.client.session can.begun in
     is ∙ ap (λ (x : Bound). id_in x serial) (known ∙ ap (λ (p : PageValue). (bound_push serial p d.agent).state) (page_is ∙ stands.page_is))
-    ∙ push-same-id serial state d.agent stands.is_state begun stands.stands can.there
+    ∙ push-same-id serial state d.agent stands.now begun stands.stands can.there
 push-gives (Err e) d s state serial page b stands can page_is is known = tt

@@ -33,7 +33,9 @@ use Rattle.back_end.specs.declared.desk.Desk.{Desk}
 use Rattle.back_end.specs.declared.side.PageSide.{PageSide}
 use Rattle.back_end.specs.Seats.{DeskStandsFor}
 use Rattle.back_end.proofs.WellSteps.{Well, HasNumbers}
-use Rattle.back_end.proofs.StepLemmas.{edit-well, crossed-is, with-page-is, drawn-valid}
+use Rattle.undo_marks.specs.Marks.{crossed_over}
+use Rattle.back_end.proofs.StepLemmas.{edit-well, with-page-is, drawn-valid}
+use Rattle.back_end.proofs.SeatLemmas.{marks-stands}
 
 -- ids that are left at the desk are left in the state
 ids-left : (n next most : ℕ) → next ≡ n + 1 → next < most → suc n < most + 1
@@ -58,10 +60,10 @@ edit-stands d d1 s s1 state e stands can texts ids serials sheets page_is sheets
     let low : s.page.next ≡ page.next = ap (λ (p : PageValue). p.next) same in
     let last : s.sheets.next ≡ state.side.next_sheet = stands.next_is in
     let numbers : HasNumbers state = record { ids = omega (arith, next, ids); serials = omega (arith, low, serials); sheets = omega (arith, last, sheets) } in
-    let well : Well state (edit_step e state) 1 0 0 = edit-well state e stands.is_state numbers (omega (arith, next, ids)) can_here texts in
-    let bound = edit_keeps_bound page e w d.agent stands.is_state.page can_here (record { session = stands.is_state.session; stands = stands.stands }) in
+    let well : Well state (edit_step e state) 1 0 0 = edit-well state e stands.now numbers (omega (arith, next, ids)) can_here texts in
+    let bound = edit_keeps_bound page e w d.agent stands.now.page can_here (record { session = stands.now.session; stands = stands.stands }) in
     record {
-      is_state = well.is_state;
+      now = well.is_state;
       page_is = page_is ∙ ap (after e) same;
       sheets_are = ap (λ (b : NumberedBook). b.entries) sheets_is ∙ stands.sheets_are;
       next_is = ap (λ (b : NumberedBook). b.next) sheets_is ∙ stands.next_is;
@@ -80,7 +82,7 @@ edit-sent d s state e old new stands can sent =
     let can_here : CanApply page.next e page.tree = subst (λ (p : PageValue). CanApply p.next e p.tree) same can in
     sent ∙ ap (λ (p : PageValue). old ++ frames_of_moves (binding_edited e p d.agent).moves) same
     ∙ ap (λ ms. old ++ frames_of_moves ms)
-    (same_edit_moves page e state.client.session d.agent stands.is_state.page can_here (record { session = stands.is_state.session; stands = stands.stands }))
+    (same_edit_moves page e state.client.session d.agent stands.now.page can_here (record { session = stands.now.session; stands = stands.stands }))
 
 -- the ids that an edit draws at a desk
 forgotten-next : (n : Nodes Row) (b : Bound) → (all_forgotten n b).next ≡ b.next
@@ -106,22 +108,13 @@ edit-few page e b b1 is = let few = bound-few page e b in let same : b1.next ≡
 
 -- at the end of a plan the history is crossed
 pub crossed-stands : (d : Desk) (s : PageSide) (state : State) → DeskStandsFor d s state → DeskStandsFor d s (with_crossed state)
-crossed-stands d s state stands = record {
-  is_state = crossed-is state stands.is_state;
-  page_is = stands.page_is;
-  sheets_are = stands.sheets_are;
-  next_is = stands.next_is;
-  on_is = stands.on_is;
-  css_is = stands.css_is;
-  watches_are = stands.watches_are;
-  stands = stands.stands;
-}
+crossed-stands d s state stands = marks-stands (crossed_over state.client.marks) d s state stands
 
 -- the page with drawn serials
 pub drawn-stands : (d : Desk) (s s1 : PageSide) (state : State) (page : PageValue) → DeskStandsFor d s state → s1.page ≡ page → s1.sheets ≡ s.sheets → IsValid page → page.tree ≡ state.side.page.tree
     → DeskStandsFor d s1 (with_page page state)
 drawn-stands d s s1 state page stands is sheets_is valid same = record {
-  is_state = with-page-is state page stands.is_state valid same;
+  now = with-page-is state page stands.now valid same;
   page_is = is;
   sheets_are = ap (λ (b : NumberedBook). b.entries) sheets_is ∙ stands.sheets_are;
   next_is = ap (λ (b : NumberedBook). b.next) sheets_is ∙ stands.next_is;
@@ -178,7 +171,7 @@ pub drawn-form : (d : Desk) (s s1 : PageSide) (state : State) (form : Branch Lab
     → DeskStandsFor d s1 (with_page (drawn form state.side.page) state)
 drawn-form d s s1 state form stands is sheets_is =
     let same : s1.page ≡ drawn form state.side.page = is ∙ ap (drawn form) stands.page_is in
-    drawn-stands d s s1 state (drawn form state.side.page) stands same sheets_is (drawn-valid form state.side.page stands.is_state.page) refl
+    drawn-stands d s s1 state (drawn form state.side.page) stands same sheets_is (drawn-valid form state.side.page stands.now.page) refl
 
 pub grown-stands : (d1 : Desk) (s1 : PageSide) (state : State) (parent before : ℕ) (form : Branch Label) (tree : Branch Row) (page : PageValue) → page ≡ state.side.page
     → insert_fault parent before form page.tree ≡ None → tree ≡ numbered_branch page.next form
@@ -230,7 +223,7 @@ pub moved-texts : (d : Desk) (s : PageSide) (state : State) (serial : ℕ) (tree
     → RowsHaveUtf8 (alone tree)
 moved-texts d s state serial tree stands is =
     subst (λ t. RowsHaveUtf8 (alone t)) (sym (is ∙ ap (λ (p : PageValue). node_at serial p.tree) stands.page_is))
-    (node_at-texts serial state.side.page.tree stands.is_state.texts)
+    (node_at-texts serial state.side.page.tree stands.now.texts)
 
 pub moved-stands : (d1 : Desk) (s1 : PageSide) (state : State) (serial parent before there : ℕ) (tree : Branch Row) (page : PageValue) → page ≡ state.side.page
     → move_fault serial parent before page.tree ≡ None → there ≡ moved_before serial parent before page.tree → tree ≡ node_at serial page.tree
@@ -290,7 +283,7 @@ in_none result P fault is = subst (λ r. OnOk r P) (sym is) tt
 pub stayed-stands : (d d1 : Desk) (s s1 : PageSide) (state : State) → d1.is_on ≡ d.is_on → d1.css ≡ d.css → d1.watches ≡ d.watches → d1.agent ≡ d.agent → s1.page ≡ s.page → s1.sheets ≡ s.sheets
     → DeskStandsFor d s state → DeskStandsFor d1 s1 state
 stayed-stands d d1 s s1 state on_is css_is watches_is agent_is page_is sheets_is stands = record {
-  is_state = stands.is_state;
+  now = stands.now;
   page_is = page_is ∙ stands.page_is;
   sheets_are = ap (λ (b : NumberedBook). b.entries) sheets_is ∙ stands.sheets_are;
   next_is = ap (λ (b : NumberedBook). b.next) sheets_is ∙ stands.next_is;

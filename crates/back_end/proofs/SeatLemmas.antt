@@ -15,10 +15,14 @@ use Rattle.dom_agent.specs.Requests.{Outcome, shows_root, served, refused, state
 use Rattle.dom_agent.proofs.OutcomeLemmas.{stays_session}
 use Rattle.dom_agent.proofs.KeeperLemmas.{stays_bound, same_moves}
 use Rattle.dom_breakpoints.specs.Watched.{unwatched}
+use Rattle.undo_marks.specs.Marks.{Marks}
+use Rattle.undo_marks.specs.Changes.{Change as Entry}
+use Rattle.undo_marks.specs.Saved.{Saved}
+use Rattle.undo_marks.specs.declared.inverse_lists.Inverse.{Inverse}
 use Rattle.back_end.specs.Sheets.{NumberedBook}
 use Rattle.back_end.specs.States.{Client, State, nodes_in}
 use Rattle.back_end.specs.Servers.{Server, enables, disables, agent}
-use Rattle.back_end.specs.Steps.{Step, refusing, ask_needs_on, needs_on, needs_css, turns_on, client_served, server_step, command_step}
+use Rattle.back_end.specs.Steps.{Step, refusing, with_marks, ask_needs_on, needs_on, needs_css, turns_on, client_served, server_step, command_step}
 use Rattle.back_end.specs.declared.desk.Desk.{Desk}
 use Rattle.back_end.specs.declared.side.PageSide.{PageSide}
 use Rattle.back_end.specs.Seats.{DeskStandsFor}
@@ -28,6 +32,30 @@ use Rattle.back_end.proofs.FrameLemmas.{enabled-is, disabled-is, off-after, unkn
 pub on_ok : {T E : Type 0} (result : Result T E) (P Q : Type 0) → OnOk result P → (P → Q) → OnOk result Q
 on_ok (Ok value) P Q p f = f p
 on_ok (Err fault) P Q p f = tt
+
+-- ---- a state with another history
+
+-- a desk knows nothing of the history
+pub marks-stands : (marks : Marks (Entry Saved Inverse)) (d : Desk) (s : PageSide) (state : State) → DeskStandsFor d s state → DeskStandsFor d s (with_marks marks state)
+marks-stands marks d s state stands = record {
+  now = record {
+    page = stands.now.page;
+    texts = stands.now.texts;
+    sheets = stands.now.sheets;
+    session = stands.now.session;
+    off = stands.now.off;
+    css_off = stands.now.css_off;
+    watched = stands.now.watched;
+    none_watched = stands.now.none_watched;
+  };
+  page_is = stands.page_is;
+  sheets_are = stands.sheets_are;
+  next_is = stands.next_is;
+  on_is = stands.on_is;
+  css_is = stands.css_is;
+  watches_are = stands.watches_are;
+  stands = stands.stands;
+}
 
 -- ---- a command that needs DOM on, or does not
 
@@ -105,11 +133,11 @@ asked-stands d d1 s s1 state id c page fits is_off stands same_side sheets_is sa
     let on : (ask_needs_on c && not state.client.dom_on) ≡ false = same-on c d.is_on state.client.dom_on false stands.on_is is_off in
     let o : Outcome Session = session_outcome state.side.page c w in
     let bound : Stands (nodes_in state) (state_after w o) (state_after d.agent (binding_outcome state.side.page c d.agent)) =
-    stays_bound state.side.page c w d.agent stands.is_state.page fits stands.is_state.session stands.stands in
+    stays_bound state.side.page c w d.agent stands.now.page fits stands.now.session stands.stands in
     let agent_now : state_after d.agent (binding_outcome state.side.page c d.agent) ≡ d1.agent =
     sym (agent_is ∙ ap (λ page. state_after d.agent (binding_outcome page c d.agent)) (same_page ∙ stands.page_is)) in
     subst (λ (done : Step). DeskStandsFor d1 s1 done.state) (sym (on-is id (agent c) state on refl)) (record {
-      is_state = served-is c o state stands.is_state (off-after c state stands.is_state on) (unknown-before state.side.page c w stands.is_state.page stands.is_state.session) (stays_session state.side.page c w stands.is_state.page fits stands.is_state.session);
+      now = served-is c o state stands.now (off-after c state stands.now on) (unknown-before state.side.page c w stands.now.page stands.now.session) (stays_session state.side.page c w stands.now.page fits stands.now.session);
       page_is = same_side ∙ stands.page_is;
       sheets_are = ap (λ (b : NumberedBook). b.entries) sheets_is ∙ stands.sheets_are;
       next_is = ap (λ (b : NumberedBook). b.next) sheets_is ∙ stands.next_is;
@@ -125,7 +153,7 @@ pub asked-sent : (d : Desk) (s : PageSide) (state : State) (id : ℕ) (c : DomAs
 asked-sent d s state id c page old new fits is_off stands same_page sent =
     let on : (ask_needs_on c && not state.client.dom_on) ≡ false = same-on c d.is_on state.client.dom_on false stands.on_is is_off in
     sent ∙ ap (λ page. old ++ answer id (binding_outcome page c d.agent)) (same_page ∙ stands.page_is)
-    ∙ ap (λ ms. old ++ frames_of_moves ms) (same_moves state.side.page c state.client.session d.agent id stands.is_state.page fits stands.is_state.session stands.stands)
+    ∙ ap (λ ms. old ++ frames_of_moves ms) (same_moves state.side.page c state.client.session d.agent id stands.now.page fits stands.now.session stands.stands)
     ∙ ap (λ (done : Step). old ++ frames_of_moves done.moves) (sym (on-is id (agent c) state on refl))
 
 -- an ask that is refused
@@ -146,7 +174,7 @@ refused-sent d s state id c old new is_off stands sent =
 pub enabled-stands : (d d1 : Desk) (s s1 : PageSide) (state : State) (id : ℕ) → DeskStandsFor d s state → s1.page ≡ s.page → s1.sheets ≡ s.sheets → d1.is_on ≡ true → d1.css ≡ d.css → d1.watches ≡ d.watches → d1.agent ≡ d.agent
     → DeskStandsFor d1 s1 (server_step id enables state).state
 enabled-stands d d1 s s1 state id stands same sheets_is on css_is watches_is agent_is = record {
-  is_state = enabled-is state stands.is_state;
+  now = enabled-is state stands.now;
   page_is = same ∙ stands.page_is;
   sheets_are = ap (λ (b : NumberedBook). b.entries) sheets_is ∙ stands.sheets_are;
   next_is = ap (λ (b : NumberedBook). b.next) sheets_is ∙ stands.next_is;
@@ -171,7 +199,7 @@ pub disabled-stands : (d d1 : Desk) (s s1 : PageSide) (state : State) (id : ℕ)
     → d1.css ≡ false → d1.watches ≡ unwatched → d1.agent ≡ cleared d.agent → DeskStandsFor d1 s1 (command_step id disables state).state
 disabled-stands d d1 s s1 state id stands was same sheets_is off css_off watches_is agent_is =
     subst (λ (done : Step). DeskStandsFor d1 s1 done.state) (sym (on-is id disables state (disable-on d.is_on state.client.dom_on stands.on_is was) refl)) (record {
-      is_state = disabled-is state stands.is_state;
+      now = disabled-is state stands.now;
       page_is = same ∙ stands.page_is;
       sheets_are = ap (λ (b : NumberedBook). b.entries) sheets_is ∙ stands.sheets_are;
       next_is = ap (λ (b : NumberedBook). b.next) sheets_is ∙ stands.next_is;

@@ -50,8 +50,9 @@ use Rattle.back_end.specs.Seats.{DeskStandsFor}
 use Rattle.back_end.specs.Texts.{PageHasTexts}
 use Rattle.back_end.proofs.SheetLemmas.{own-test, book-last, book-without, fits-beside, entry-stands}
 use Rattle.back_end.proofs.SheetSteps.{change-is, css-on-is, css-off-is}
-use Rattle.back_end.proofs.StepLemmas.{crossed-is, load-is}
-use Rattle.back_end.proofs.SeatLemmas.{off-is, css-off-is as css-refused-is, on-is}
+use Rattle.undo_marks.specs.Marks.{crossed_over}
+use Rattle.back_end.proofs.StepLemmas.{load-is}
+use Rattle.back_end.proofs.SeatLemmas.{marks-stands, off-is, css-off-is as css-refused-is, on-is}
 
 -- ---- frames of messages
 
@@ -139,7 +140,7 @@ pub css-enabled-stands : (d d1 : Desk) (s : PageSide) (state : State) (id : ℕ)
     → DeskStandsFor d1 s (command_step id css_enables state).state
 css-enabled-stands d d1 s state id stands was on_is css_is watches_is agent_is =
     subst (λ (done : Step). DeskStandsFor d1 s done.state) (sym (on-is id css_enables state (dom-on css_enables d s state stands was) refl)) (record {
-      is_state = css-on-is state stands.is_state (sym stands.on_is ∙ was);
+      now = css-on-is state stands.now (sym stands.on_is ∙ was);
       page_is = stands.page_is;
       sheets_are = stands.sheets_are;
       next_is = stands.next_is;
@@ -169,7 +170,7 @@ pub css-disabled-stands : (d d1 : Desk) (s : PageSide) (state : State) (id : ℕ
 css-disabled-stands d d1 s state id stands was css_was on_is css_is watches_is agent_is =
     subst (λ (done : Step). DeskStandsFor d1 s done.state)
     (sym (on-is id css_disables state (dom-on css_disables d s state stands was) (css-taken css_disables d s state stands css_was))) (record {
-      is_state = css-off-is state stands.is_state;
+      now = css-off-is state stands.now;
       page_is = stands.page_is;
       sheets_are = stands.sheets_are;
       next_is = stands.next_is;
@@ -270,7 +271,7 @@ pub came-stands : (d : Desk) (s s1 : PageSide) (state : State) (origin : Origin)
 came-stands d s s1 state origin text stands utf8 fits page_is sheets_is =
     let here : is_too_big text (book_in state) ≡ false = ap (is_too_big text) (sym stands.sheets_are) ∙ fits in
     record {
-      is_state = change-is (comes origin text) state stands.is_state (fits-beside text state.side.sheets utf8 here);
+      now = change-is (comes origin text) state stands.now (fits-beside text state.side.sheets utf8 here);
       page_is = page_is ∙ stands.page_is;
       sheets_are = ap (λ (b : NumberedBook). b.entries) sheets_is ∙ ap (λ (es : List SheetEntry). es ++ new_sheet s.sheets.next origin text ∷ []) stands.sheets_are
           ∙ ap (λ n. book_in state ++ new_sheet n origin text ∷ []) stands.next_is ∙ sym (book-last state.side.next_sheet origin text state.side.sheets);
@@ -313,7 +314,7 @@ left-stands d s s1 state number stands there page_is sheets_is = at (entry_of nu
   at : (o : Option SheetEntry) → entry_of number (book_in state) ≡ o → IsSome o → DeskStandsFor d s1 (sheet_step (leaves number) state).state
   at None e some = absurd cc
   at (Some x) e some = record {
-    is_state = change-is (leaves number) state stands.is_state (entry-stands number state.side.sheets x e).shows;
+    now = change-is (leaves number) state stands.now (entry-stands number state.side.sheets x e).shows;
     page_is = page_is ∙ stands.page_is;
     sheets_are = ap (λ (b : NumberedBook). b.entries) sheets_is ∙ ap (removed number) stands.sheets_are ∙ book-without number state.side.sheets;
     next_is = ap (λ (b : NumberedBook). b.next) sheets_is ∙ stands.next_is;
@@ -332,16 +333,7 @@ left-sent d s state number old new stands sent =
 -- ---- acts
 
 crossed : (d : Desk) (s : PageSide) (state : State) → DeskStandsFor d s state → DeskStandsFor d s (with_crossed state)
-crossed d s state stands = record {
-  is_state = crossed-is state stands.is_state;
-  page_is = stands.page_is;
-  sheets_are = stands.sheets_are;
-  next_is = stands.next_is;
-  on_is = stands.on_is;
-  css_is = stands.css_is;
-  watches_are = stands.watches_are;
-  stands = stands.stands;
-}
+crossed d s state stands = marks-stands (crossed_over state.client.marks) d s state stands
 
 -- one change, where there is no fault
 once-stands : (d : Desk) (s : PageSide) (state : State) (o : Option ActFault) (c : SheetChange) → o ≡ None → DeskStandsFor d s (sheet_step c state).state
@@ -496,12 +488,12 @@ pub load-stands : (d d1 : Desk) (s s1 : PageSide) (state : State) (page : Loaded
     → s1.page ≡ loaded s.page.next page.nodes → s1.sheets.entries ≡ as_book (numbered_sheets s.sheets.next page.sheets) → s1.sheets.next ≡ s.sheets.next + length page.sheets
     → d1.is_on ≡ d.is_on → d1.css ≡ d.css → d1.watches ≡ unwatched → d1.agent ≡ cleared d.agent → DeskStandsFor d1 s1 (load_step page state).state
 load-stands d d1 s s1 state page stands can texts page_is sheets_are next_is on_is css_is watches_is agent_is = record {
-  is_state = load-is state page stands.is_state can texts;
+  now = load-is state page stands.now can texts;
   page_is = page_is ∙ ap (λ (p : PageValue). loaded p.next page.nodes) stands.page_is;
   sheets_are = sheets_are ∙ ap (λ n. as_book (numbered_sheets n page.sheets)) stands.next_is;
   next_is = next_is ∙ ap (λ n. n + length page.sheets) stands.next_is;
   on_is = on_is ∙ stands.on_is;
-  css_is = css_is ∙ stands.css_is ∙ both-on state.client.css_on state.client.dom_on stands.is_state.css_off;
+  css_is = css_is ∙ stands.css_is ∙ both-on state.client.css_on state.client.dom_on stands.now.css_off;
   watches_are = watches_is;
   stands = subst (λ a. Stands (nodes_in (load_step page state).state) (reset state.client.session) a) (sym agent_is)
       (Stands-reset (nodes_in state) (nodes_in (load_step page state).state) state.client.session d.agent stands.stands);

@@ -26,7 +26,7 @@ use Rattle.back_end.specs.Sheets.{AreBelow}
 use Rattle.back_end.specs.States.{Client, State, book_in}
 use Rattle.back_end.specs.Servers.{edits_sheets}
 use Rattle.back_end.specs.Steps.{Step, refusing, splice_steps, restyled_step, sheet_edit_step, command_step}
-use Rattle.back_end.specs.Seats.{DeskStandsFor, HasRoomLeft}
+use Rattle.back_end.specs.Seats.{DeskStandsFor, HasNumbersLeft}
 use Rattle.back_end.proofs.SeatLemmas.{on-is}
 use Rattle.back_end.proofs.SheetSeats.{dom-on, css-taken}
 use Rattle.back_end.proofs.SpliceSteps.{edit-done, restyled, splices-told}
@@ -97,7 +97,7 @@ step-is d s state id x stands on css = on-is id (edits_sheets x) state (dom-on (
 edited-here : (s : PageSide) (book : List SheetEntry) (x : CssEdit) (r : CssEdited) → s.sheets.entries ≡ book → css_edited s.sheets.entries x ≡ r → css_edited book x ≡ r
 edited-here s book x r same is = ap (λ (es : List SheetEntry). css_edited es x) (sym same) ∙ is
 
-pub restyled-stands : (d : Desk) (s s1 : PageSide) (state : State) (id : ℕ) (x : CssEdit) (backs : List Splice) → DeskStandsFor d s state → HasRoomLeft d s → HasEditTexts x
+pub restyled-stands : (d : Desk) (s s1 : PageSide) (state : State) (id : ℕ) (x : CssEdit) (backs : List Splice) → DeskStandsFor d s state → HasNumbersLeft d s → HasEditTexts x
     → d.is_on ≡ true → d.css ≡ true → edit_splices (css_edited s.sheets.entries x) ≡ Ok (s1.sheets.entries, backs) → s1.page ≡ s.page → s1.sheets.next ≡ s.sheets.next
     → DeskStandsFor d s1 (command_step id (edits_sheets x) state).state
 restyled-stands d s s1 state id x backs stands room texts on css h page_is next_is =
@@ -105,10 +105,10 @@ restyled-stands d s s1 state id x backs stands room texts on css h page_is next_
     let here : css_edited (book_in state) x ≡ Ok made.done = edited-here s (book_in state) x (Ok made.done) stands.sheets_are made.is in
     let ss = css_splices (book_in state) x in
     let low : state.side.next_sheet < 2 ^ 50 = subst (λ (n : ℕ). n < 2 ^ 50) stands.next_is room.sheets in
-    let done = edit-done x made.done state stands.is_state (omega (arith, low)) texts here in
-    let after = restyled ss state stands.is_state done.taken in
+    let done = edit-done x made.done state stands.now (omega (arith, low)) texts here in
+    let after = restyled ss state stands.now done.taken in
     let own : DeskStandsFor d s1 (splice_steps ss state).state = record {
-      is_state = after.is_state;
+      now = after.is_state;
       page_is = page_is ∙ stands.page_is ∙ sym after.page;
       sheets_are = sym made.leads ∙ done.leads ∙ sym after.book;
       next_is = next_is ∙ stands.next_is ∙ sym after.next;
@@ -121,14 +121,14 @@ restyled-stands d s s1 state id x backs stands room texts on css h page_is next_
     subst (λ (done : Step). DeskStandsFor d s1 done.state) (sym (step-is d s state id x stands on css ∙ ap (λ (r : CssEdited). restyled_step id r ss state) here)) own
 
 pub restyled-sent : (d : Desk) (s : PageSide) (state : State) (id : ℕ) (x : CssEdit) (new : List SheetEntry) (backs : List Splice) (before after : List ℕ)
-    → DeskStandsFor d s state → HasRoomLeft d s → HasEditTexts x → d.is_on ≡ true → d.css ≡ true → edit_splices (css_edited s.sheets.entries x) ≡ Ok (new, backs)
+    → DeskStandsFor d s state → HasNumbersLeft d s → HasEditTexts x → d.is_on ≡ true → d.css ≡ true → edit_splices (css_edited s.sheets.entries x) ≡ Ok (new, backs)
     → after ≡ before ++ frames_of_moves (edit_moves id s.sheets.entries x) → after ≡ before ++ frames_of_moves (command_step id (edits_sheets x) state).moves
 restyled-sent d s state id x new backs before after stands room texts on css h sent =
     let made = did s.sheets.entries x new backs h in
     let here : css_edited (book_in state) x ≡ Ok made.done = edited-here s (book_in state) x (Ok made.done) stands.sheets_are made.is in
     let ss = css_splices (book_in state) x in
     let low : state.side.next_sheet < 2 ^ 50 = subst (λ (n : ℕ). n < 2 ^ 50) stands.next_is room.sheets in
-    let done = edit-done x made.done state stands.is_state (omega (arith, low)) texts here in
+    let done = edit-done x made.done state stands.now (omega (arith, low)) texts here in
     let told = splices-told ss state (sym stands.css_is ∙ css) done.taken in
     sent
     ∙ ap (λ (es : List SheetEntry). before ++ frames_of_moves (edit_moves id es x)) stands.sheets_are

@@ -25,7 +25,7 @@ use Rattle.back_end.specs.declared.dom_edits.NodeEdit.{NodeEdit}
 use Rattle.back_end.specs.declared.dom_edits.NodeEdit.TheVariants.{One, MoveNode, CopyNode}
 use Rattle.back_end.specs.declared.desk.Desk.{Desk}
 use Rattle.back_end.specs.declared.side.PageSide.{PageSide}
-use Rattle.back_end.specs.States.{State, nodes_in, IsState}
+use Rattle.back_end.specs.States.{State, nodes_in, HoldsNow}
 use Rattle.back_end.specs.OwnMethods.{edit_why}
 use Rattle.back_end.specs.Plans.{node_edit_fault, node_edit_plan, node_put}
 use Rattle.back_end.specs.Servers.{edits_tree}
@@ -83,7 +83,7 @@ pub copied-texts : (d : Desk) (s : PageSide) (state : State) (serial : ℕ) (tre
     → RowsHaveUtf8 (alone tree)
 copied-texts d s state serial tree stands is =
     subst (λ t. RowsHaveUtf8 (alone t)) (sym (is ∙ ap (λ (p : PageValue). numbered_branch p.next (form_at serial p.tree)) stands.page_is))
-    (branch-texts state.side.page.next (form_at serial state.side.page.tree) (form-texts serial state.side.page.tree stands.is_state.texts))
+    (branch-texts state.side.page.next (form_at serial state.side.page.tree) (form-texts serial state.side.page.tree stands.now.texts))
 
 pub copied-stands : (d1 : Desk) (s1 : PageSide) (state : State) (serial parent before : ℕ) (tree : Branch Row) (page : PageValue) → page ≡ state.side.page
     → tree ≡ numbered_branch page.next (form_at serial page.tree)
@@ -127,7 +127,7 @@ attached-there next parent before x tree can =
     let own : 0 < tally row_serial s (alone x) = tally_row row_serial s x.row x.children none refl in
     has-there row_serial s m (omega (arith, count, put, own))
 
-pub put-there : (state : State) (e : NodeEdit) → IsState state → node_edit_fault e state.side.page ≡ None → (serial : ℕ) → node_put e state.side.page ≡ Some serial
+pub put-there : (state : State) (e : NodeEdit) → HoldsNow state → node_edit_fault e state.side.page ≡ None → (serial : ℕ) → node_put e state.side.page ≡ Some serial
     → has row_serial serial (nodes_in (plan_step (node_edit_plan e state.side.page) state).state) ≡ true
 put-there state (One e) is fits serial put = let no : ◌≡◌ {A = Option ℕ} None (Some serial) = put in absurd cc
 put-there state (MoveNode moved parent before) is fits serial put =
@@ -147,7 +147,7 @@ put-there state (CopyNode copied parent before) is fits serial put =
     (attached-there (drawn form page).next parent before x page.tree (copy-leads page copied parent before is.page fits).taken.0)
 
 -- it can become known
-pub can-push : (state : State) (e : NodeEdit) (put : Option ℕ) → IsState state → is_some state.client.session.opened ≡ true → node_edit_fault e state.side.page ≡ None → node_put e state.side.page ≡ put
+pub can-push : (state : State) (e : NodeEdit) (put : Option ℕ) → HoldsNow state → is_some state.client.session.opened ≡ true → node_edit_fault e state.side.page ≡ None → node_put e state.side.page ≡ put
     → CanPushAny put (plan_step (node_edit_plan e state.side.page) state).state
 can-push state e None is begun fits h = tt
 can-push state e (Some serial) is begun fits h =

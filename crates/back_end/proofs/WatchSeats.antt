@@ -39,7 +39,7 @@ module _ (d : Desk) (s : PageSide) (state : State) (id : ℕ) (server : Server) 
       → d1.is_on ≡ d.is_on → d1.css ≡ d.css → d1.watches ≡ change serial d.watches → d1.agent ≡ d.agent → DeskStandsFor d1 s (command_step id server state).state
   changed-stands d1 serial was is on_is css_is watches_is agent_is =
       subst (λ (done : Step). DeskStandsFor d1 s done.state) (sym (step-is (Some serial) was is)) (record {
-        is_state = watches-are change state node serial changes.adds (sym (is ∙ stands.stands.serials_are node)) stands.is_state;
+        now = watches-are change state node serial changes.adds (sym (is ∙ stands.stands.serials_are node)) stands.now;
         page_is = stands.page_is;
         sheets_are = stands.sheets_are;
         next_is = stands.next_is;

@@ -5,7 +5,7 @@ ghost use Rattle.back_end.specs.States.{State};
 ghost use Rattle.back_end.specs.Servers as server;
 ghost use Rattle.back_end.specs.Steps.{command_step};
 ghost use Rattle.back_end.specs.Steps as steps;
-ghost use Rattle.back_end.specs.Seats.{DeskStandsFor, HasRoomLeft};
+ghost use Rattle.back_end.specs.Seats.{DeskStandsFor, HasNumbersLeft};
 
 use crate::desk::Desk;
 use crate::side::PageSide;

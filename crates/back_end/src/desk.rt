@@ -9,7 +9,7 @@ ghost use Rattle.back_end.specs.Servers.{by_agent, by_part, server_of, HasServed
 ghost use Rattle.back_end.specs.Servers as server;
 ghost use Rattle.back_end.specs.Steps.{ask_needs_on, command_step, frame_step, refusing, server_step};
 ghost use Rattle.back_end.specs.Steps as steps;
-ghost use Rattle.back_end.specs.Seats.{DeskStandsFor, HasRoomLeft};
+ghost use Rattle.back_end.specs.Seats.{BothStandFor, DeskStandsFor, HasNumbersLeft, edits_in};
 
 use crate::parts::SeatPart;
 use crate::side::PageSide;
@@ -20,6 +20,7 @@ use css_agent::CssAgent;
 use dom_agent::DomAgent;
 use dom_breakpoints::Watches;
 use std::alloc::{AllocError, Global};
+use undo_marks::History;
 
 /// What a seat works with: whether the domains DOM and CSS are on, and what the client knows of the page, and
 /// which nodes it watches.
@@ -83,19 +84,22 @@ impl Desk {
     /// Answers one frame.
     pub(crate) fn answer_frame(
         &mut self,
+        history: &mut History,
         side: &mut PageSide,
         frame: &[u8],
         own: bool,
         out: &mut Vec<u8>,
     ) -> Result<(), AllocError>
-        requires room { HasRoomLeft self.old side.old }
-        ensures stands { (state : State) → DeskStandsFor self.old side.old state
-            → OnOk result (DeskStandsFor self.new side.new (frame_step own frame.now state).state) }
-        ensures sent { (state : State) → DeskStandsFor self.old side.old state
+        requires room { HasNumbersLeft self.old side.old }
+        requires few { edits_in history.old < 2 ^ 30 }
+        requires standing { (state : State) × BothStandFor self.old history.old side.old state }
+        ensures stands { (state : State) → BothStandFor self.old history.old side.old state
+            → OnOk result (BothStandFor self.new history.new side.new (frame_step own frame.now state).state) }
+        ensures sent { (state : State) → BothStandFor self.old history.old side.old state
             → OnOk result (out.new.items ≡ out.old.items ++ frames_of_moves (frame_step own frame.now state).moves) }
     {
         match read_command(self.alloc, frame, own) {
-            Ok(asked) => self.answer(side, asked.id, asked.command, out),
+            Ok(asked) => self.answer(history, side, asked.id, asked.command, out),
             Err(ReadErr::Refused(refused)) => write_refused(self.alloc, &refused, out),
             Err(ReadErr::Memory) => Err(AllocError),
         }
@@ -104,6 +108,7 @@ impl Desk {
     /// Answers a command; one that nothing serves has an unknown method.
     fn answer(
         &mut self,
+        history: &mut History,
         side: &mut PageSide,
         id: u64,
         command: Command,
@@ -111,24 +116,35 @@ impl Desk {
     ) -> Result<(), AllocError>
         requires command { fits_command command ≡ true }
         requires texts { HasServedTexts (server_of command) }
-        requires room { HasRoomLeft self.old side.old }
-        ensures stands { (state : State) → DeskStandsFor self.old side.old state
-            → OnOk result (DeskStandsFor self.new side.new (command_step id (server_of command) state).state) }
-        ensures sent { (state : State) → DeskStandsFor self.old side.old state
+        requires room { HasNumbersLeft self.old side.old }
+        requires few { edits_in history.old < 2 ^ 30 }
+        requires standing { (state : State) × BothStandFor self.old history.old side.old state }
+        ensures stands { (state : State) → BothStandFor self.old history.old side.old state
+            → OnOk result (BothStandFor self.new history.new side.new (command_step id (server_of command) state).state) }
+        ensures sent { (state : State) → BothStandFor self.old history.old side.old state
             → OnOk result (out.new.items ≡ out.old.items ++ frames_of_moves (command_step id (server_of command) state).moves) }
     {
         match SeatPart::of_command(command) {
             SeatPart::Enables => self.enable(side, id, out),
-            SeatPart::Disables => self.disable(side, id, out),
+            SeatPart::Disables => self.disable(history, side, id, out),
             SeatPart::CssEnables => self.enable_css(side, id, out),
             SeatPart::CssDisables => self.disable_css(side, id, out),
             SeatPart::Styles { ask } => self.answer_styles(side, id, &ask, out),
-            SeatPart::TreeEdits { edit } => self.answer_tree_edit(side, id, edit, out),
-            SeatPart::SheetEdits { edit } => self.answer_sheet_edit(side, id, &edit, out),
+            SeatPart::TreeEdits { edit } => self.answer_tree_edit(history, side, id, edit, out),
+            SeatPart::SheetEdits { edit } => self.answer_sheet_edit(history, side, id, &edit, out),
+            SeatPart::EndsGroup => self.end_group(history, side, id, out),
+            SeatPart::Undoes => self.undo(history, side, id, out),
+            SeatPart::Redoes => self.redo(history, side, id, out),
             SeatPart::Watches { node, kind } => self.watch(side, id, node, kind, out),
             SeatPart::Unwatches { node, kind } => self.unwatch(side, id, node, kind, out),
-            SeatPart::Loads { params } => self.answer_load(side, id, params.as_value(), out),
-            SeatPart::Acts { params } => self.answer_act(side, id, params.as_value(), out),
+            SeatPart::Loads { params } => self.answer_load(
+                history,
+                side,
+                id,
+                params.as_value(),
+                out,
+            ),
+            SeatPart::Acts { params } => self.answer_act(history, side, id, params.as_value(), out),
             SeatPart::Others { ask } => self.answer_by_agent(side, id, ask, out),
         }
     }
@@ -142,7 +158,7 @@ impl Desk {
         out: &mut Vec<u8>,
     ) -> Result<(), AllocError>
         requires ask { IfSome ask (λ a. fits_ask a ≡ true) }
-        requires room { HasRoomLeft self.old side.old }
+        requires room { HasNumbersLeft self.old side.old }
         ensures stands { (state : State) → DeskStandsFor self.old side.old state
             → OnOk result (DeskStandsFor self.new side.new (command_step id (by_agent ask) state).state) }
         ensures sent { (state : State) → DeskStandsFor self.old side.old state
@@ -174,9 +190,15 @@ impl Desk {
     }
 
     /// `DOM.disable`, which is refused while DOM is off.
-    fn disable(&mut self, side: &mut PageSide, id: u64, out: &mut Vec<u8>) -> Result<(), AllocError>
-        ensures stands { (state : State) → DeskStandsFor self.old side.old state
-            → OnOk result (DeskStandsFor self.new side.new (command_step id server.disables state).state) }
+    fn disable(
+        &mut self,
+        history: &mut History,
+        side: &mut PageSide,
+        id: u64,
+        out: &mut Vec<u8>,
+    ) -> Result<(), AllocError>
+        ensures stands { (state : State) → BothStandFor self.old history.old side.old state
+            → OnOk result (BothStandFor self.new history.new side.new (command_step id server.disables state).state) }
         ensures sent { (state : State) → DeskStandsFor self.old side.old state
             → OnOk result (out.new.items ≡ out.old.items ++ frames_of_moves (command_step id server.disables state).moves) }
     {
@@ -188,6 +210,7 @@ impl Desk {
         self.is_on = false;
         self.agent.reset();
         self.watches.clear();
+        history.clear();
         Ok(())
     }
 
@@ -213,7 +236,7 @@ impl Desk {
         out: &mut Vec<u8>,
     ) -> Result<(), AllocError>
         requires ask { fits_ask ask.now ≡ true }
-        requires room { HasRoomLeft self.old side.old }
+        requires room { HasNumbersLeft self.old side.old }
         ensures stands { (state : State) → DeskStandsFor self.old side.old state
             → OnOk result (DeskStandsFor self.new side.new (command_step id (server.agent ask.now) state).state) }
         ensures sent { (state : State) → DeskStandsFor self.old side.old state

@@ -18,6 +18,8 @@ mod sheets;
 mod side;
 mod styles;
 mod tree_edits;
+mod trees;
+mod undoing;
 
 pub use faults::ActFault;
 pub use laws::{step_law, undo_law};

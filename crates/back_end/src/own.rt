@@ -11,7 +11,7 @@ ghost use Rattle.back_end.specs.Servers as server;
 ghost use Rattle.back_end.specs.States.{State};
 ghost use Rattle.back_end.specs.Steps.{command_step, judged_step};
 ghost use Rattle.back_end.specs.Texts.{PageHasTexts, ActHasTexts};
-ghost use Rattle.back_end.specs.Seats.{DeskStandsFor, HasRoomLeft};
+ghost use Rattle.back_end.specs.Seats.{BothStandFor, DeskStandsFor, HasNumbersLeft};
 
 use crate::desk::Desk;
 use crate::faults::ActFault;
@@ -23,6 +23,7 @@ use page_tree::{EditFault, LoadErr, LoadFault};
 use serde_json::Value;
 use std::alloc::{AllocError, Global};
 use style_edits::SheetFault;
+use undo_marks::History;
 
 /// What a load is refused with.
 fn load_why(fault: LoadFault) -> Why
@@ -120,21 +121,23 @@ impl Desk {
     /// `Replay.load`, which needs no domain on.
     pub(crate) fn answer_load(
         &mut self,
+        history: &mut History,
         side: &mut PageSide,
         id: u64,
         params: &Value,
         out: &mut Vec<u8>,
     ) -> Result<(), AllocError>
         requires texts { HasUtf8 (view params.now) }
-        requires room { HasRoomLeft self.old side.old }
-        ensures stands { (state : State) → DeskStandsFor self.old side.old state
-            → OnOk result (DeskStandsFor self.new side.new (command_step id (server.page_load (view params.now)) state).state) }
+        requires room { HasNumbersLeft self.old side.old }
+        ensures stands { (state : State) → BothStandFor self.old history.old side.old state
+            → OnOk result (BothStandFor self.new history.new side.new (command_step id (server.page_load (view params.now)) state).state) }
         ensures sent { (state : State) → DeskStandsFor self.old side.old state
             → OnOk result (out.new.items ≡ out.old.items ++ frames_of_moves (command_step id (server.page_load (view params.now)) state).moves) }
     {
         match asked_page(self.alloc, params) {
             Ok(page) => {
                 self.load(side, page, out)?;
+                history.clear();
                 write_reply(self.alloc, id, &ReplyBody::Nothing, out)
             }
             Err(CommandErr::Refused(why)) => self.refuse(id, why, out),
@@ -145,20 +148,21 @@ impl Desk {
     /// `Replay.act`, which needs no domain on. One that the page refuses changes nothing, and draws no serial.
     pub(crate) fn answer_act(
         &mut self,
+        history: &mut History,
         side: &mut PageSide,
         id: u64,
         params: &Value,
         out: &mut Vec<u8>,
     ) -> Result<(), AllocError>
         requires texts { HasUtf8 (view params.now) }
-        requires room { HasRoomLeft self.old side.old }
-        ensures stands { (state : State) → DeskStandsFor self.old side.old state
-            → OnOk result (DeskStandsFor self.new side.new (command_step id (server.page_act (view params.now)) state).state) }
+        requires room { HasNumbersLeft self.old side.old }
+        ensures stands { (state : State) → BothStandFor self.old history.old side.old state
+            → OnOk result (BothStandFor self.new history.new side.new (command_step id (server.page_act (view params.now)) state).state) }
         ensures sent { (state : State) → DeskStandsFor self.old side.old state
             → OnOk result (out.new.items ≡ out.old.items ++ frames_of_moves (command_step id (server.page_act (view params.now)) state).moves) }
     {
         match asked_act(self.alloc, params) {
-            Ok(act) => self.answer_changed(side, id, act, out),
+            Ok(act) => self.answer_changed(history, side, id, act, out),
             Err(CommandErr::Refused(why)) => self.refuse(id, why, out),
             Err(CommandErr::Memory) => Err(AllocError),
         }
@@ -167,6 +171,7 @@ impl Desk {
     /// Answers an act: it is carried out, or refused with the fault that the page finds.
     fn answer_changed(
         &mut self,
+        history: &mut History,
         side: &mut PageSide,
         id: u64,
         act: Act,
@@ -174,15 +179,16 @@ impl Desk {
     ) -> Result<(), AllocError>
         requires form { IsInsertable act }
         requires texts { ActHasTexts act }
-        requires room { HasRoomLeft self.old side.old }
-        ensures stands { (state : State) → DeskStandsFor self.old side.old state
-            → OnOk result (DeskStandsFor self.new side.new (judged_step id act state).state) }
+        requires room { HasNumbersLeft self.old side.old }
+        ensures stands { (state : State) → BothStandFor self.old history.old side.old state
+            → OnOk result (BothStandFor self.new history.new side.new (judged_step id act state).state) }
         ensures sent { (state : State) → DeskStandsFor self.old side.old state
             → OnOk result (out.new.items ≡ out.old.items ++ frames_of_moves (judged_step id act state).moves) }
     {
         if let Some(fault) = self.script(side, act, out)? {
             return self.refuse(id, act_why(fault), out);
         }
+        history.cross();
         write_reply(self.alloc, id, &ReplyBody::Nothing, out)
     }
 }

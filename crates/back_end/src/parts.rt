@@ -23,6 +23,12 @@ pub(crate) enum SeatPart {
     TreeEdits { edit: DomEdit },
     /// A client's edit of sheets.
     SheetEdits { edit: CssEdit },
+    /// `DOM.markUndoableState`
+    EndsGroup,
+    /// `DOM.undo`
+    Undoes,
+    /// `DOM.redo`
+    Redoes,
     /// `DOMDebugger.setDOMBreakpoint`
     Watches { node: u64, kind: WatchWord },
     /// `DOMDebugger.removeDOMBreakpoint`
@@ -54,6 +60,9 @@ impl SeatPart {
             Command::CollectClassNames { sheet } => SeatPart::Styles {
                 ask: CssAsk::CollectClassNames { sheet },
             },
+            Command::MarkUndoableState => SeatPart::EndsGroup,
+            Command::Undo => SeatPart::Undoes,
+            Command::Redo => SeatPart::Redoes,
             Command::SetBreakpoint { node, kind } => SeatPart::Watches { node, kind },
             Command::RemoveBreakpoint { node, kind } => SeatPart::Unwatches { node, kind },
             Command::ReplayLoad { params } => SeatPart::Loads { params },

@@ -9,7 +9,7 @@ ghost use Rattle.back_end.specs.States.{State};
 ghost use Rattle.back_end.specs.Plans.{edit_fault, act_fault};
 ghost use Rattle.back_end.specs.Steps.{act_step, edit_step, load_step, lone_step, watches_left};
 ghost use Rattle.back_end.specs.Texts.{PageHasTexts, FormHasTexts, ActHasTexts, EditHasTexts};
-ghost use Rattle.back_end.specs.Seats.{DeskStandsFor, HasRoomLeft};
+ghost use Rattle.back_end.specs.Seats.{DeskStandsFor, HasNumbersLeft};
 
 use crate::desk::Desk;
 use crate::faults::ActFault;
@@ -72,7 +72,7 @@ impl Desk {
     ) -> Result<Option<ActFault>, AllocError>
         requires ready { IsReady side.old.page.next edit side.old.page.tree }
         requires texts { EditHasTexts edit }
-        requires room { HasRoomLeft self.old side.old }
+        requires room { HasNumbersLeft self.old side.old }
         ensures fault { IfOk result (λ fault. fault ≡ edit_fault (first_fault edit side.old.page.tree)) }
         ensures stands { (state : State) → DeskStandsFor self.old side.old state
             → OnOk result (DeskStandsFor self.new side.new (lone_step edit state).state) }
@@ -97,7 +97,7 @@ impl Desk {
     ) -> Result<Option<ActFault>, AllocError>
         requires form { CanInsert form }
         requires texts { FormHasTexts form }
-        requires room { HasRoomLeft self.old side.old }
+        requires room { HasNumbersLeft self.old side.old }
         ensures fault { IfOk result (λ fault. fault ≡ edit_fault (insert_fault parent before form side.old.page.tree)) }
         ensures stands { (state : State) → DeskStandsFor self.old side.old state
             → OnOk result (DeskStandsFor self.new side.new (act_step (Act.Insert parent before form) state).state) }
@@ -127,7 +127,7 @@ impl Desk {
         before: u64,
         out: &mut Vec<u8>,
     ) -> Result<Option<ActFault>, AllocError>
-        requires room { HasRoomLeft self.old side.old }
+        requires room { HasNumbersLeft self.old side.old }
         ensures fault { IfOk result (λ fault. fault ≡ edit_fault (move_fault node parent before side.old.page.tree)) }
         ensures stands { (state : State) → DeskStandsFor self.old side.old state
             → OnOk result (DeskStandsFor self.new side.new (act_step (Act.Move node parent before) state).state) }
@@ -161,7 +161,7 @@ impl Desk {
     ) -> Result<Option<ActFault>, AllocError>
         requires form { IsInsertable act }
         requires texts { ActHasTexts act }
-        requires room { HasRoomLeft self.old side.old }
+        requires room { HasNumbersLeft self.old side.old }
         ensures fault { IfOk result (λ fault. fault ≡ act_fault act side.old.page side.old.sheets.entries) }
         ensures stands { (state : State) → DeskStandsFor self.old side.old state
             → OnOk result (DeskStandsFor self.new side.new (act_step act state).state) }
@@ -202,7 +202,7 @@ impl Desk {
     ) -> Result<(), AllocError>
         requires can { CanLoadPage (loaded_page form) }
         requires texts { PageHasTexts (loaded_page form) }
-        requires room { HasRoomLeft self.old side.old }
+        requires room { HasNumbersLeft self.old side.old }
         ensures stands { (state : State) → DeskStandsFor self.old side.old state
             → OnOk result (DeskStandsFor self.new side.new (load_step (loaded_page form) state).state) }
         ensures sent { (state : State) → DeskStandsFor self.old side.old state

@@ -1,4 +1,5 @@
 ghost use Rattle.std.specs.Prelude.{◌≡◌, ◌++◌, ◌↔◌, IsTrue, true, false, IfOk, OnOk, OnErr, IsErr};
+ghost use Rattle.undo_marks.specs.Marks.{no_marks};
 ghost use Rattle.node_binding.specs.Bindings.{empty_from};
 ghost use Rattle.dom_breakpoints.specs.Watched.{unwatched};
 ghost use Rattle.page_forms.specs.Acts.{IsInsertable};
@@ -8,21 +9,26 @@ ghost use Rattle.back_end.specs.States.{State};
 ghost use Rattle.back_end.specs.Plans.{act_fault};
 ghost use Rattle.back_end.specs.Steps.{act_step, frame_step, load_step};
 ghost use Rattle.back_end.specs.Texts.{PageHasTexts, ActHasTexts};
-ghost use Rattle.back_end.specs.Seats.{StandsFor, HasRoomLeft};
+ghost use Rattle.back_end.specs.Seats.{StandsFor, IsSeated, HasRoomLeft};
 
 use crate::desk::Desk;
 use crate::faults::ActFault;
 use crate::side::PageSide;
 use page_forms::{Act, PageForm};
 use std::alloc::{AllocError, Global};
+use undo_marks::History;
 
 /// The least number that is no id, no serial and no number of a sheet with room behind it for another step.
 const LIMIT: u64 = 1 << 50;
+
+/// The least number of edits of a history that has no place for another step.
+const MOST_EDITS: u64 = 1 << 30;
 
 /// A client's seat at the page's side. After want of memory it is dead: each later call that can answer want of memory does.
 #[derive(Drop)]
 pub struct Seat {
     pub(crate) desk: Desk,
+    pub(crate) history: History,
     pub(crate) is_dead: bool,
 }
 
@@ -33,21 +39,25 @@ impl Seat {
         ensures css { result.desk.css ≡ false }
         ensures agent { result.desk.agent ≡ empty_from 1 }
         ensures watches { result.desk.watches ≡ unwatched }
+        ensures history { result.history ≡ no_marks }
         ensures alive { result.is_dead ≡ false }
     {
         Seat {
             desk: Desk::new(alloc),
+            history: History::new(alloc),
             is_dead: false,
         }
     }
 
-    /// Whether the next id, the next serial and the next sheet's number are below 2^50, so that a step can draw what it needs.
+    /// Whether the next id, the next serial and the next sheet's number are below 2^50, so that a step can draw what it needs, and
+    /// fewer than 2^30 edits are kept, each of which may draw an id when it is taken back or done again.
     pub fn has_room(&self, side: &PageSide) -> bool
-        ensures { IsTrue result ↔ HasRoomLeft self.now.desk side.now }
+        ensures { IsTrue result ↔ HasRoomLeft self.now side.now }
     {
         self.desk.agent.next_id() < LIMIT
             && side.page.next_serial() < LIMIT
             && side.sheets.next_number() < LIMIT
+            && self.history.kept() < MOST_EDITS
     }
 
     /// Whether an earlier call answered want of memory.
@@ -66,7 +76,9 @@ impl Seat {
         own: bool,
         out: &mut Vec<u8>,
     ) -> Result<(), AllocError>
-        requires room { HasRoomLeft self.old.desk side.old }
+        requires room { HasRoomLeft self.old side.old }
+        requires seated { IsSeated self.old side.old }
+        ensures seated { IsSeated self.new side.new }
         ensures stands { (state : State) → StandsFor self.old side.old state
             → OnOk result (StandsFor self.new side.new (frame_step own frame.now state).state) }
         ensures sent { (state : State) → StandsFor self.old side.old state
@@ -79,7 +91,8 @@ impl Seat {
             return Err(AllocError);
         }
         self.is_dead = true;
-        self.desk.answer_frame(side, frame, own, out)?;
+        self.desk
+            .answer_frame(&mut self.history, side, frame, own, out)?;
         self.is_dead = false;
         Ok(())
     }
@@ -94,8 +107,9 @@ impl Seat {
     ) -> Result<Option<ActFault>, AllocError>
         requires form { IsInsertable act }
         requires texts { ActHasTexts act }
-        requires room { HasRoomLeft self.old.desk side.old }
+        requires room { HasRoomLeft self.old side.old }
         ensures fault { IfOk result (λ fault. fault ≡ act_fault act side.old.page side.old.sheets.entries) }
+        ensures seated { IsSeated self.old side.old → IsSeated self.new side.new }
         ensures stands { (state : State) → StandsFor self.old side.old state
             → OnOk result (StandsFor self.new side.new (act_step act state).state) }
         ensures sent { (state : State) → StandsFor self.old side.old state
@@ -108,9 +122,13 @@ impl Seat {
             return Err(AllocError);
         }
         self.is_dead = true;
-        let fault = self.desk.script(side, act, out)?;
+        if let Some(fault) = self.desk.script(side, act, out)? {
+            self.is_dead = false;
+            return Ok(Some(fault));
+        }
+        self.history.cross();
         self.is_dead = false;
-        Ok(fault)
+        Ok(None)
     }
 
     /// A script loads another page: a client whose DOM is on is told, by what is appended to `out`, and where its CSS is on too
@@ -123,7 +141,8 @@ impl Seat {
     ) -> Result<(), AllocError>
         requires can { CanLoadPage (loaded_page form) }
         requires texts { PageHasTexts (loaded_page form) }
-        requires room { HasRoomLeft self.old.desk side.old }
+        requires room { HasRoomLeft self.old side.old }
+        ensures seated { IsSeated self.old side.old → IsSeated self.new side.new }
         ensures stands { (state : State) → StandsFor self.old side.old state
             → OnOk result (StandsFor self.new side.new (load_step (loaded_page form) state).state) }
         ensures sent { (state : State) → StandsFor self.old side.old state
@@ -137,6 +156,7 @@ impl Seat {
         }
         self.is_dead = true;
         self.desk.load(side, form, out)?;
+        self.history.clear();
         self.is_dead = false;
         Ok(())
     }

@@ -1,11 +1,13 @@
 // A client's edits of sheets.
-ghost use Rattle.std.specs.Prelude.{◌≡◌, ◌++◌, OnOk};
+ghost use Rattle.std.specs.Prelude.{◌≡◌, ◌++◌, map, OnOk};
 ghost use Rattle.cdp_messages.specs.Moves.{frames_of_moves};
 ghost use Rattle.css_agent.specs.EditLaws.{HasEditTexts};
+ghost use Rattle.undo_marks.specs.Marks.{noted_singly};
+ghost use Rattle.undo_marks.specs.declared.inverse_lists.Inverse.TheVariants as kept;
 ghost use Rattle.back_end.specs.States.{State};
 ghost use Rattle.back_end.specs.Servers as server;
 ghost use Rattle.back_end.specs.Steps.{command_step};
-ghost use Rattle.back_end.specs.Seats.{DeskStandsFor, HasRoomLeft};
+ghost use Rattle.back_end.specs.Seats.{BothStandFor, DeskStandsFor, HasNumbersLeft};
 
 use crate::desk::Desk;
 use crate::own::sheet_why;
@@ -13,21 +15,33 @@ use crate::side::PageSide;
 use cdp_messages::Why;
 use css_agent::CssEdit;
 use std::alloc::AllocError;
-use style_edits::SheetErr;
+use style_edits::{SheetErr, Splice};
+use undo_marks::{History, Inverse};
+
+/// Notes a client's edits of sheets by the splices that lead back, each by itself.
+fn note_splices(history: &mut History, backs: Vec<Splice>) -> Result<(), AllocError>
+    ensures { OnOk result (history.new ≡ noted_singly (map (λ s. kept.Sheet s) backs.items) history.old) }
+{
+    for back in backs {
+        history.note(Inverse::Sheet(back))?;
+    }
+    Ok(())
+}
 
 impl Desk {
     /// A client's edit of sheets, which is refused while DOM or CSS is off.
     pub(crate) fn answer_sheet_edit(
         &mut self,
+        history: &mut History,
         side: &mut PageSide,
         id: u64,
         edit: &CssEdit,
         out: &mut Vec<u8>,
     ) -> Result<(), AllocError>
         requires texts { HasEditTexts edit.now }
-        requires room { HasRoomLeft self.old side.old }
-        ensures stands { (state : State) → DeskStandsFor self.old side.old state
-            → OnOk result (DeskStandsFor self.new side.new (command_step id (server.edits_sheets edit.now) state).state) }
+        requires room { HasNumbersLeft self.old side.old }
+        ensures stands { (state : State) → BothStandFor self.old history.old side.old state
+            → OnOk result (BothStandFor self.new history.new side.new (command_step id (server.edits_sheets edit.now) state).state) }
         ensures sent { (state : State) → DeskStandsFor self.old side.old state
             → OnOk result (out.new.items ≡ out.old.items ++ frames_of_moves (command_step id (server.edits_sheets edit.now) state).moves) }
     {
@@ -38,10 +52,9 @@ impl Desk {
             return self.refuse(id, Why::CssOff, out);
         }
         match side.sheets.edit(&self.css, id, edit, out) {
-            Ok(_) => {}
-            Err(SheetErr::Fault(fault)) => return self.refuse(id, sheet_why(fault), out),
-            Err(SheetErr::Memory) => return Err(AllocError),
+            Ok(backs) => note_splices(history, backs),
+            Err(SheetErr::Fault(fault)) => self.refuse(id, sheet_why(fault), out),
+            Err(SheetErr::Memory) => Err(AllocError),
         }
-        Ok(())
     }
 }

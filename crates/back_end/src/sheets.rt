@@ -5,6 +5,7 @@ ghost use Rattle.css_agent.specs.Edits.{css_edited, edit_moves, edit_splices};
 ghost use Rattle.sheet_reader.specs.Books.{entry_of, removed};
 ghost use Rattle.style_edits.specs.declared.faults.SheetFault.TheVariants.{NoSheet, TooBig};
 ghost use Rattle.style_edits.specs.Edits.{is_too_big, new_sheet, IfFault};
+ghost use Rattle.style_edits.specs.Splices.{FitsSplice, after_splice, back_splice};
 ghost use Rattle.back_end.specs.Sheets.{as_book, numbered_sheets};
 ghost use Rattle.page_forms.specs.Sheets.{can_hold_sheets, max_sheet_bytes};
 
@@ -13,7 +14,7 @@ use page_forms::SheetForm;
 use sheet_reader::{Origin, SheetBook};
 use std::alloc::{AllocError, Global};
 use std::marker::Model;
-use style_edits::{SheetErr, SheetFault, Splice, add_sheet, drop_sheet};
+use style_edits::{SheetErr, SheetFault, Splice, add_sheet, drop_sheet, put_back};
 
 /// The most sheets that a page has.
 const MOST_SHEETS: usize = 1000;
@@ -144,6 +145,16 @@ impl PageSheets {
             }
         };
         Ok(backs)
+    }
+
+    /// Makes a splice, and answers the one that leads back. On an error nothing has changed.
+    pub(crate) fn put_back(&mut self, splice: Splice) -> Result<Splice, AllocError>
+        requires fits { FitsSplice splice self.old.entries }
+        ensures done { OnOk result (self.new ≡ record { entries = after_splice splice self.old.entries; next = self.old.next }) }
+        ensures back { IfOk result (λ back. back ≡ back_splice splice self.old.entries) }
+        ensures unchanged { OnErr result (self.new ≡ self.old) }
+    {
+        put_back(&mut self.book, splice)
     }
 
     /// The sheets of a page that is loaded, with the numbers from this one on.

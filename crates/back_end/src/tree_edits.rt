@@ -1,27 +1,60 @@
 // A client's edits of the tree.
-ghost use Rattle.std.specs.Prelude.{◌≡◌, ◌+◌, ◌<◌, ◌^◌, ◌++◌, true, None, Ok, is_some, IfOk, OnOk};
-ghost use Rattle.page_tree.specs.EditFaults.{move_fault, copy_fault};
+ghost use Rattle.std.specs.Prelude.{◌≡◌, ◌+◌, ◌<◌, ◌^◌, ◌++◌, true, map, None, Ok, is_some, IfOk, OnOk};
+ghost use Rattle.page_tree.specs.Edits.{after, back_tree};
+ghost use Rattle.page_tree.specs.EditFaults.{CanApply, move_fault, copy_fault};
+ghost use Rattle.undo_marks.specs.Changes.{back_all};
+ghost use Rattle.undo_marks.specs.Marks.{noted, noted_singly};
+ghost use Rattle.undo_marks.specs.SavedEdits.{saved_of, page_after, way_back};
+ghost use Rattle.undo_marks.specs.declared.inverse_lists.Inverse.TheVariants as kept;
 ghost use Rattle.cdp_messages.specs.Moves.{frames_of_moves};
 ghost use Rattle.back_end.specs.declared.dom_edits.NodeEdit.TheVariants.{MoveNode, CopyNode};
 ghost use Rattle.back_end.specs.States.{State};
 ghost use Rattle.back_end.specs.Plans.{node_edit_fault, node_edit_plan, node_put};
 ghost use Rattle.back_end.specs.Servers as server;
-ghost use Rattle.back_end.specs.Texts.{HasTreeTexts, IsPlainEdit};
-ghost use Rattle.back_end.specs.Steps.{command_step, idle, node_edit_step, plan_step, put_answer};
-ghost use Rattle.back_end.specs.Seats.{CanPushAny, DeskStandsFor, HasRoomLeft};
+ghost use Rattle.back_end.specs.Texts.{EditHasTexts, HasTreeTexts, IsPlainEdit};
+ghost use Rattle.back_end.specs.Steps.{command_step, edit_step, idle, node_edit_step, plan_step, put_answer};
+ghost use Rattle.back_end.specs.Seats.{BothStandFor, CanPushAny, DeskStandsFor, HasNumbersLeft};
 
 use crate::desk::Desk;
 use crate::dom_edits::{DomEdit, NodeEdit};
 use crate::own::edit_why;
 use crate::side::PageSide;
+use crate::trees::copied_tree;
 use cdp_messages::{ReplyBody, Why, write_reply};
 use page_tree::TreeEdit;
 use std::alloc::AllocError;
+use undo_marks::{History, Inverse};
 
 impl Desk {
+    /// Carries out a client's edit that the page takes, tells it, and notes the edit that leads back.
+    fn apply_by_client(
+        &mut self,
+        history: &mut History,
+        side: &mut PageSide,
+        edit: TreeEdit,
+        out: &mut Vec<u8>,
+    ) -> Result<(), AllocError>
+        requires can { CanApply side.old.page.next edit side.old.page.tree }
+        requires ids { self.old.agent.next < 2 ^ 51 }
+        requires serials { side.old.page.next < 2 ^ 51 }
+        requires sheets { side.old.sheets.next < 2 ^ 51 }
+        ensures page { OnOk result (side.new.page ≡ after edit side.old.page) }
+        ensures kept { side.new.sheets ≡ side.old.sheets }
+        ensures few { OnOk result (self.new.agent.next < self.old.agent.next + 2) }
+        ensures noted { OnOk result (history.new ≡ noted (kept.Tree (back_tree edit side.old.page.tree)) history.old) }
+        ensures stands { (state : State) → DeskStandsFor self.old side.old state → EditHasTexts edit
+            → OnOk result (DeskStandsFor self.new side.new (edit_step edit state).state) }
+        ensures sent { (state : State) → DeskStandsFor self.old side.old state
+            → OnOk result (out.new.items ≡ out.old.items ++ frames_of_moves (edit_step edit state).moves) }
+    {
+        let back = self.apply(side, edit, out)?;
+        history.note(Inverse::Tree(back))
+    }
+
     /// Moves a node with all below it, where the page takes that: it is taken out, and put into its new place.
     fn put_moved(
         &mut self,
+        history: &mut History,
         side: &mut PageSide,
         node: u64,
         parent: u64,
@@ -29,8 +62,10 @@ impl Desk {
         out: &mut Vec<u8>,
     ) -> Result<(), AllocError>
         requires fits { move_fault node parent before side.old.page.tree ≡ None }
-        requires room { HasRoomLeft self.old side.old }
+        requires room { HasNumbersLeft self.old side.old }
         ensures few { OnOk result (self.new.agent.next < self.old.agent.next + 4) }
+        ensures noted { OnOk result (history.new ≡ noted_singly (back_all page_after way_back (map (λ e. kept.Tree e) (node_edit_plan (MoveNode node parent before) side.old.page).edits)
+            (saved_of side.old.page.tree side.old.sheets.entries)) history.old) }
         ensures stands { (state : State) → DeskStandsFor self.old side.old state
             → OnOk result (DeskStandsFor self.new side.new (plan_step (node_edit_plan (MoveNode node parent before) state.side.page) state).state) }
         ensures sent { (state : State) → DeskStandsFor self.old side.old state
@@ -39,22 +74,20 @@ impl Desk {
     {
         side.page.valid();
         let place = side.page.moved_before(node, parent, before);
-        let back = self.apply(side, TreeEdit::Detach { node }, out)?;
-        let TreeEdit::Attach { tree, .. } = back else {
-            unreachable!()
-        };
+        let tree = copied_tree(self.alloc, &side.page.node(node))?;
+        self.apply_by_client(history, side, TreeEdit::Detach { node }, out)?;
         let attach = TreeEdit::Attach {
             parent,
             before: place,
             tree,
         };
-        self.apply(side, attach, out)?;
-        Ok(())
+        self.apply_by_client(history, side, attach, out)
     }
 
     /// Puts in a copy of a node with all below it, where the page takes that.
     fn put_copy(
         &mut self,
+        history: &mut History,
         side: &mut PageSide,
         node: u64,
         parent: u64,
@@ -62,8 +95,10 @@ impl Desk {
         out: &mut Vec<u8>,
     ) -> Result<(), AllocError>
         requires fits { copy_fault node parent before side.old.page.tree ≡ None }
-        requires room { HasRoomLeft self.old side.old }
+        requires room { HasNumbersLeft self.old side.old }
         ensures few { OnOk result (self.new.agent.next < self.old.agent.next + 4) }
+        ensures noted { OnOk result (history.new ≡ noted_singly (back_all page_after way_back (map (λ e. kept.Tree e) (node_edit_plan (CopyNode node parent before) side.old.page).edits)
+            (saved_of side.old.page.tree side.old.sheets.entries)) history.old) }
         ensures stands { (state : State) → DeskStandsFor self.old side.old state
             → OnOk result (DeskStandsFor self.new side.new (plan_step (node_edit_plan (CopyNode node parent before) state.side.page) state).state) }
         ensures sent { (state : State) → DeskStandsFor self.old side.old state
@@ -77,22 +112,24 @@ impl Desk {
             before,
             tree,
         };
-        self.apply(side, attach, out)?;
-        Ok(())
+        self.apply_by_client(history, side, attach, out)
     }
 
     /// Carries out an edit that the page takes. Gives the serial of the node that was put.
     fn put(
         &mut self,
+        history: &mut History,
         side: &mut PageSide,
         edit: NodeEdit,
         out: &mut Vec<u8>,
     ) -> Result<Option<u64>, AllocError>
         requires fits { node_edit_fault edit side.old.page ≡ None }
         requires plain { IsPlainEdit edit }
-        requires room { HasRoomLeft self.old side.old }
+        requires room { HasNumbersLeft self.old side.old }
         ensures put { IfOk result (λ put. put ≡ node_put edit side.old.page) }
         ensures few { OnOk result (self.new.agent.next < self.old.agent.next + 4) }
+        ensures noted { OnOk result (history.new ≡ noted_singly (back_all page_after way_back (map (λ e. kept.Tree e) (node_edit_plan edit side.old.page).edits)
+            (saved_of side.old.page.tree side.old.sheets.entries)) history.old) }
         ensures stands { (state : State) → DeskStandsFor self.old side.old state
             → OnOk result (DeskStandsFor self.new side.new (plan_step (node_edit_plan edit state.side.page) state).state) }
         ensures sent { (state : State) → DeskStandsFor self.old side.old state
@@ -100,7 +137,7 @@ impl Desk {
     {
         match edit {
             NodeEdit::One { edit } => {
-                self.apply(side, edit, out)?;
+                self.apply_by_client(history, side, edit, out)?;
                 Ok(None)
             }
             NodeEdit::MoveNode {
@@ -108,7 +145,7 @@ impl Desk {
                 parent,
                 before,
             } => {
-                self.put_moved(side, node, parent, before, out)?;
+                self.put_moved(history, side, node, parent, before, out)?;
                 Ok(Some(node))
             }
             NodeEdit::CopyNode {
@@ -117,7 +154,7 @@ impl Desk {
                 before,
             } => {
                 let copy = side.page.next_serial();
-                self.put_copy(side, node, parent, before, out)?;
+                self.put_copy(history, side, node, parent, before, out)?;
                 Ok(Some(copy))
             }
         }
@@ -149,37 +186,39 @@ impl Desk {
     /// Carries an edit out and answers it, or refuses it with the fault that the page finds.
     fn answer_node_edit(
         &mut self,
+        history: &mut History,
         side: &mut PageSide,
         id: u64,
         edit: NodeEdit,
         out: &mut Vec<u8>,
     ) -> Result<(), AllocError>
         requires plain { IsPlainEdit edit }
-        requires room { HasRoomLeft self.old side.old }
-        ensures stands { (state : State) → DeskStandsFor self.old side.old state → is_some state.client.session.opened ≡ true
-            → OnOk result (DeskStandsFor self.new side.new (node_edit_step id (Ok edit) state).state) }
+        requires room { HasNumbersLeft self.old side.old }
+        ensures stands { (state : State) → BothStandFor self.old history.old side.old state → is_some state.client.session.opened ≡ true
+            → OnOk result (BothStandFor self.new history.new side.new (node_edit_step id (Ok edit) state).state) }
         ensures sent { (state : State) → DeskStandsFor self.old side.old state → is_some state.client.session.opened ≡ true
             → OnOk result (out.new.items ≡ out.old.items ++ frames_of_moves (node_edit_step id (Ok edit) state).moves) }
     {
         if let Some(fault) = edit.fault(side.page()) {
             return self.refuse(id, edit_why(fault), out);
         }
-        let put = self.put(side, edit, out)?;
+        let put = self.put(history, side, edit, out)?;
         self.answer_put(side, id, put, out)
     }
 
     /// A client's edit of the tree, which is refused while DOM is off.
     pub(crate) fn answer_tree_edit(
         &mut self,
+        history: &mut History,
         side: &mut PageSide,
         id: u64,
         edit: DomEdit,
         out: &mut Vec<u8>,
     ) -> Result<(), AllocError>
         requires texts { HasTreeTexts edit }
-        requires room { HasRoomLeft self.old side.old }
-        ensures stands { (state : State) → DeskStandsFor self.old side.old state
-            → OnOk result (DeskStandsFor self.new side.new (command_step id (server.edits_tree edit) state).state) }
+        requires room { HasNumbersLeft self.old side.old }
+        ensures stands { (state : State) → BothStandFor self.old history.old side.old state
+            → OnOk result (BothStandFor self.new history.new side.new (command_step id (server.edits_tree edit) state).state) }
         ensures sent { (state : State) → DeskStandsFor self.old side.old state
             → OnOk result (out.new.items ≡ out.old.items ++ frames_of_moves (command_step id (server.edits_tree edit) state).moves) }
     {
@@ -188,7 +227,7 @@ impl Desk {
         }
         let edit = edit.lowered(self.alloc)?;
         match edit.named(&self.agent) {
-            Ok(edit) => self.answer_node_edit(side, id, edit, out),
+            Ok(edit) => self.answer_node_edit(history, side, id, edit, out),
             Err(why) => self.refuse(id, why, out),
         }
     }

@@ -21,7 +21,7 @@ returns-clause-stands c = λ state stands begun.
     let put : node_put c.args.edit state.side.page ≡ c.in_ok-put.put = sym (c.in_ok-put.ensures.put ∙ ap (λ (p : PageValue). node_put c.args.edit p) stands.page_is) in
     on_ok c.answer_put.result _ _
     (c.answer_put.ensures.stands _ (c.in_ok-put.ensures.stands state stands)
-    (can-push state c.args.edit c.in_ok-put.put stands.is_state begun (fault-here c.args.side.now state c.args.edit None stands.page_is fits) put))
+    (can-push state c.args.edit c.in_ok-put.put stands.now begun (fault-here c.args.side.now state c.args.edit None stands.page_is fits) put))
     (put-answered-stands c.answer_put.new.self c.put.new.side c.args.side.now state c.args.id c.args.edit c.in_ok-put.put stands.page_is fits c.in_ok-put.ensures.put)
 
 pub returns-clause-sent : goal.returns-clause-sent
@@ -30,6 +30,6 @@ returns-clause-sent c = λ state stands begun.
     let put : node_put c.args.edit state.side.page ≡ c.in_ok-put.put = sym (c.in_ok-put.ensures.put ∙ ap (λ (p : PageValue). node_put c.args.edit p) stands.page_is) in
     on_ok c.answer_put.result _ _
     (c.answer_put.ensures.sent _ (c.in_ok-put.ensures.stands state stands)
-    (can-push state c.args.edit c.in_ok-put.put stands.is_state begun (fault-here c.args.side.now state c.args.edit None stands.page_is fits) put))
+    (can-push state c.args.edit c.in_ok-put.put stands.now begun (fault-here c.args.side.now state c.args.edit None stands.page_is fits) put))
     (put-answered-sent c.args.side.now state c.args.id c.args.edit c.in_ok-put.put c.args.out.now.items c.put.new.out.items c.answer_put.new.out.items stands.page_is fits c.in_ok-put.ensures.put
     (c.in_ok-put.ensures.sent state stands))

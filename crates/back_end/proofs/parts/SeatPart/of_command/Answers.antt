@@ -27,4 +27,7 @@ returns-in_default c = ap (λ ask. part.Others ask) c.of_command.ensures ∙ oth
   not_remove_breakpoint = c.in_default.not-RemoveBreakpoint;
   not_replay_load = c.in_default.not-ReplayLoad;
   not_replay_act = c.in_default.not-ReplayAct;
+  not_mark_undoable_state = c.in_default.not-MarkUndoableState;
+  not_undo = c.in_default.not-Undo;
+  not_redo = c.in_default.not-Redo;
 })

@@ -1,0 +1,234 @@
+-- The history of a client's edits: for each change of the state, the edits that are kept for it then.
+use Rattle.std.proofs.Common.{◌≡◌, ◌≤◌, ℕ, Bool, true, false, cond, bytes_eq, List, [], ◌∷◌, map, reverse, Option, Some, None, refl, sym, ap, ◌∙◌, subst}
+use Rattle.std.specs.Str.{IsUtf8}
+use Rattle.std.proofs.lemmas.List.{reverse-reverse}
+use Rattle.cdp_json.proofs.ReadTexts.{IfSome}
+use Rattle.node_tree.specs.Nodes.{Branch, alone}
+use Rattle.node_tree.specs.Labels.{Pair, value_of}
+use Rattle.page_tree.specs.Pages.{Row}
+use Rattle.page_tree.specs.Edits.{label_at, restored, back_tree}
+use Rattle.page_tree.specs.declared.edits.TreeEdit.{TreeEdit}
+use Rattle.page_tree.specs.declared.edits.TreeEdit.TheVariants.{SetAttr, DropAttr, SetText, Attach, Detach}
+use Rattle.cdp_messages.specs.Laws.{PairsHaveUtf8}
+use Rattle.dom_agent.specs.Laws.{RowsHaveUtf8}
+use Rattle.undo_marks.specs.Marks.{Marks, no_marks, handed_out, noted_singly, edited, marked, crossed_over, undone, redone, past_popped, future_popped, past_pushed, future_pushed}
+use Rattle.undo_marks.specs.Changes.{Change as Entry, page_undone, page_redone, after_all, changes_on, back_all, AllTaken, backs_of, again_of, kept_of, KeptFor, AreBacks, IsUndo, IsRedo, KeepsOn}
+use Rattle.undo_marks.specs.Saved.{Saved}
+use Rattle.undo_marks.specs.SavedEdits.{page_after, way_back}
+use Rattle.undo_marks.specs.declared.inverse_lists.Inverse.{Inverse}
+use Rattle.undo_marks.specs.declared.inverse_lists.Inverse.TheVariants.{Tree, Sheet}
+use Rattle.undo_marks.proofs.HistoryLemmas.{keeps_on, kept_grow}
+use Rattle.undo_marks.proofs.PageLemmas.{edits_are_backs, taken_later}
+use Rattle.back_end.specs.Texts.{EditHasTexts}
+use Rattle.back_end.specs.States.{State, saved_now, TakesWell, HasHistory, Keeps}
+use Rattle.back_end.specs.Steps.{Step, with_marks, keeping, with_crossed, undo_edits, redo_edits}
+use Rattle.back_end.proofs.TextLemmas.{node_at-texts, after-texts}
+
+-- ---- edits, and the edits that lead back
+
+value-texts : (name : List ℕ) (ps : List Pair) → PairsHaveUtf8 ps → IfSome IsUtf8 (value_of name ps)
+value-texts name [] us = tt
+value-texts name (p ∷ ps) us = at (bytes_eq p.0 name) (value-texts name ps us.2) where
+  at : (b : Bool) → IfSome IsUtf8 (value_of name ps) → IfSome IsUtf8 (cond b (Some p.1) (value_of name ps))
+  at true later = us.1
+  at false later = later
+
+restored-texts : (serial : ℕ) (name : List ℕ) (o : Option (List ℕ)) → IsUtf8 name → IfSome IsUtf8 o → EditHasTexts (restored serial name o)
+restored-texts serial name None has old = has
+restored-texts serial name (Some value) has old = (has, old)
+
+-- the texts of the edit that leads back are those of the tree before
+pub back-texts : (e : TreeEdit) (tree : Branch Row) → EditHasTexts e → RowsHaveUtf8 (alone tree) → EditHasTexts (back_tree e tree)
+back-texts (SetAttr serial name value) tree has us =
+    let node = node_at-texts serial tree us in
+    restored-texts serial name (value_of name (label_at serial tree).attributes) has.0 (value-texts name (label_at serial tree).attributes node.0.2)
+back-texts (DropAttr serial name) tree has us =
+    let node = node_at-texts serial tree us in
+    restored-texts serial name (value_of name (label_at serial tree).attributes) has (value-texts name (label_at serial tree).attributes node.0.2)
+back-texts (SetText serial value) tree has us = let node = node_at-texts serial tree us in node.0.1
+back-texts (Attach parent before w) tree has us = tt
+back-texts (Detach serial) tree has us = node_at-texts serial tree us
+
+taken-back : (next : ℕ) (e : Inverse) (page : Saved) → TakesWell next e page → TakesWell next (way_back e page) (page_after e page)
+taken-back next (Tree e) page t = record {
+  taken = (edits_are_backs next).takes_back (Tree e) page t.taken;
+  texts = after-texts e page.tree t.own t.texts;
+  own = back-texts e page.tree t.own t.texts;
+}
+taken-back next (Sheet s) page t =
+    let back = (edits_are_backs next).takes_back (Sheet s) page t.taken in
+    record { taken = back; texts = t.texts; own = back.text }
+
+pub backs-well : (next : ℕ) → AreBacks page_after way_back (TakesWell next)
+backs-well next = record {
+  takes_back = taken-back next;
+  leads_back = λ e page t. (edits_are_backs next).leads_back e page t.taken;
+  back_back = λ e page t. (edits_are_backs next).back_back e page t.taken;
+}
+
+pub keeps-on : (next : ℕ) → KeepsOn page_after way_back (TakesWell next)
+keeps-on next = keeps_on page_after way_back (TakesWell next) (backs-well next)
+
+-- what a page takes, it takes under a later next serial
+pub well-later : (next later : ℕ) → next ≤ later → (e : Inverse) (page : Saved) → TakesWell next e page → TakesWell later e page
+well-later next later h e page t = record { taken = taken_later next later h e page t.taken; texts = t.texts; own = t.own }
+
+-- ---- what is kept
+
+-- these edits are kept for this history, whose page this is
+abbrev pub KeepsFor : ℕ → Marks Inverse → Marks (Entry Saved Inverse) → Saved → Type 0
+KeepsFor next h m page = KeptFor page_after way_back (TakesWell next) h m page
+
+pub keeps-later : (next later : ℕ) (h : Marks Inverse) (m : Marks (Entry Saved Inverse)) (page : Saved) → next ≤ later → KeepsFor next h m page → KeepsFor later h m page
+keeps-later next later h m page low k = kept_grow page_after way_back (TakesWell next) (TakesWell later) (well-later next later low) h m page k
+
+-- what a valid state keeps
+abbrev pub kept_in : State → Marks Inverse
+kept_in state = kept_of way_back state.client.marks
+
+pub history-kept : (state : State) → HasHistory state → Keeps (kept_in state) state
+history-kept state h = record { edits = refl; history = h }
+
+-- the history and the page stay, and the next serial may go on
+pub keeps-same : (h : Marks Inverse) (before after : State) → Keeps h before → after.client.marks ≡ before.client.marks → saved_now after ≡ saved_now before
+    → before.side.page.next ≤ after.side.page.next → Keeps h after
+keeps-same h before after k marks saved low =
+    let next = after.side.page.next in
+    let m = before.client.marks in
+    let grown : KeepsFor next h m (saved_now before) = keeps-later before.side.page.next next h m (saved_now before) low k in
+    let here : KeepsFor next h m (saved_now after) = subst (λ (page : Saved). KeepsFor next h m page) (sym saved) grown in
+    subst (λ (x : Marks (Entry Saved Inverse)). KeepsFor next h x (saved_now after)) (sym marks) here
+
+-- a client's edits are noted by the edits that lead back
+pub keeps-edited : (h : Marks Inverse) (es : List Inverse) (state : State) (done : Step) → Keeps h state
+    → AllTaken page_after (TakesWell done.state.side.page.next) es (saved_now state) → saved_now done.state ≡ after_all page_after es (saved_now state)
+    → state.side.page.next ≤ done.state.side.page.next
+    → Keeps (noted_singly (back_all page_after way_back es (saved_now state)) h) (keeping es state done).state
+keeps-edited h es state done k taken saved low =
+    let next = done.state.side.page.next in
+    let m = state.client.marks in
+    let page = saved_now state in
+    let grown : KeepsFor next h m page = keeps-later state.side.page.next next h m page low k in
+    let backs = noted_singly (back_all page_after way_back es page) h in
+    let noted : KeepsFor next backs (edited (changes_on page_after es page) m) (after_all page_after es page) = ((keeps-on next).after_changes h m page grown).after_notes es taken in
+    subst (λ (p : Saved). KeepsFor next backs (edited (changes_on page_after es page) m) p) (sym saved) noted
+
+pub keeps-marked : (h : Marks Inverse) (state : State) → Keeps h state → Keeps (marked h) (with_marks (marked state.client.marks) state)
+keeps-marked h state k = ((keeps-on state.side.page.next).after_changes h state.client.marks (saved_now state) k).after_mark
+
+-- a change that is not the client's empties it, whatever the page is then
+pub keeps-crossed : (h : Marks Inverse) (before after : State) → Keeps h before → after.client.marks ≡ before.client.marks → Keeps (crossed_over h) (with_crossed after)
+keeps-crossed h before after k marks =
+    let next = before.side.page.next in
+    let crossed : KeepsFor next (crossed_over h) (crossed_over before.client.marks) (saved_now before) =
+    ((keeps-on next).after_changes h before.client.marks (saved_now before) k).after_cross (saved_now before) in
+    record {
+      edits = crossed.edits ∙ ap (λ (m : Marks (Entry Saved Inverse)). kept_of way_back (crossed_over m)) (sym marks);
+      history = record { past = tt; future = tt; going = λ t n. cc };
+    }
+
+-- nothing is kept after a load
+pub keeps-cleared : (state : State) → state.client.marks ≡ no_marks → Keeps no_marks state
+keeps-cleared state marks =
+    subst (λ (m : Marks (Entry Saved Inverse)). KeepsFor state.side.page.next no_marks m (saved_now state)) (sym marks)
+    ((keeps-on state.side.page.next).at_start (saved_now state))
+
+-- ---- undo and redo
+
+-- what is handed out of what is kept is what the state's undo carries out
+undo-out : (m : Marks (Entry Saved Inverse)) (past : List (List (Entry Saved Inverse))) (es : List Inverse) → handed_out (map (backs_of way_back) past) ≡ Some es
+    → undo_edits (record m { past = past }) ≡ Some es
+undo-out m [] es out = absurd cc
+undo-out m (g ∷ gs) es out = out
+
+undo-none : (m : Marks (Entry Saved Inverse)) (past : List (List (Entry Saved Inverse))) → handed_out (map (backs_of way_back) past) ≡ None → undo_edits (record m { past = past }) ≡ None
+undo-none m [] out = refl
+undo-none m (g ∷ gs) out = absurd cc
+
+redo-out : (m : Marks (Entry Saved Inverse)) (future : List (List (Entry Saved Inverse))) (es : List Inverse) → handed_out (map (again_of way_back) future) ≡ Some es
+    → redo_edits (record m { future = future }) ≡ Some es
+redo-out m [] es out = absurd cc
+redo-out m (g ∷ gs) es out =
+    let twice : reverse (reverse (map (λ (e : Entry Saved Inverse). e.edit) g)) ≡ map (λ (e : Entry Saved Inverse). e.edit) g = reverse-reverse (map (λ (e : Entry Saved Inverse). e.edit) g) in
+    let first : reverse (reverse (map (λ (e : Entry Saved Inverse). e.edit) g)) ≡ es = cc in
+    ap (λ (l : List Inverse). Some l) (sym twice ∙ first)
+
+redo-none : (m : Marks (Entry Saved Inverse)) (future : List (List (Entry Saved Inverse))) → handed_out (map (again_of way_back) future) ≡ None → redo_edits (record m { future = future }) ≡ None
+redo-none m [] out = refl
+redo-none m (g ∷ gs) out = absurd cc
+
+-- Edits that are handed out are those of the state's undo, and the page takes each; where they led, the history is kept on.
+pub record Undoes (h : Marks Inverse) (es : List Inverse) (state : State) : Type 0 where
+  pub edits : undo_edits state.client.marks ≡ Some es
+  pub taken : AllTaken page_after (TakesWell state.side.page.next) es (saved_now state)
+  pub ends : after_all page_after es (saved_now state) ≡ page_undone state.client.marks.past (saved_now state)
+  pub kept : (after : State) → saved_now after ≡ after_all page_after es (saved_now state) → state.side.page.next ≤ after.side.page.next
+      → Keeps (future_pushed (back_all page_after way_back es (saved_now state)) (past_popped h)) (with_marks (undone state.client.marks) after)
+
+pub record Redoes (h : Marks Inverse) (es : List Inverse) (state : State) : Type 0 where
+  pub edits : redo_edits state.client.marks ≡ Some es
+  pub taken : AllTaken page_after (TakesWell state.side.page.next) es (saved_now state)
+  pub ends : after_all page_after es (saved_now state) ≡ page_redone state.client.marks.future (saved_now state)
+  pub kept : (after : State) → saved_now after ≡ after_all page_after es (saved_now state) → state.side.page.next ≤ after.side.page.next
+      → Keeps (past_pushed (back_all page_after way_back es (saved_now state)) (future_popped h)) (with_marks (redone state.client.marks) after)
+
+pub undo-hands : (h : Marks Inverse) (es : List Inverse) (state : State) → Keeps h state → handed_out h.past ≡ Some es → Undoes h es state
+undo-hands h es state k out =
+    let next = state.side.page.next in
+    let m = state.client.marks in
+    let page = saved_now state in
+    let u : IsUndo page_after way_back (TakesWell next) es h m page = ((keeps-on next).after_changes h m page k).after_undo es out in
+    let kept_on = future_pushed (back_all page_after way_back es page) (past_popped h) in
+    record {
+      edits = undo-out m m.past es (ap (λ (x : Marks Inverse). handed_out x.past) (sym k.edits) ∙ out);
+      taken = u.taken;
+      ends = u.ends;
+      kept = λ after saved low.
+          let grown : KeepsFor after.side.page.next kept_on (undone m) (page_undone m.past page) = keeps-later next after.side.page.next kept_on (undone m) (page_undone m.past page) low u.kept_on in
+          subst (λ (p : Saved). KeepsFor after.side.page.next kept_on (undone m) p) (sym (saved ∙ u.ends)) grown;
+    }
+
+pub redo-hands : (h : Marks Inverse) (es : List Inverse) (state : State) → Keeps h state → handed_out h.future ≡ Some es → Redoes h es state
+redo-hands h es state k out =
+    let next = state.side.page.next in
+    let m = state.client.marks in
+    let page = saved_now state in
+    let u : IsRedo page_after way_back (TakesWell next) es h m page = ((keeps-on next).after_changes h m page k).after_redo es out in
+    let kept_on = past_pushed (back_all page_after way_back es page) (future_popped h) in
+    record {
+      edits = redo-out m m.future es (ap (λ (x : Marks Inverse). handed_out x.future) (sym k.edits) ∙ out);
+      taken = u.taken;
+      ends = u.ends;
+      kept = λ after saved low.
+          let grown : KeepsFor after.side.page.next kept_on (redone m) (page_redone m.future page) = keeps-later next after.side.page.next kept_on (redone m) (page_redone m.future page) low u.kept_on in
+          subst (λ (p : Saved). KeepsFor after.side.page.next kept_on (redone m) p) (sym (saved ∙ u.ends)) grown;
+    }
+
+-- Nothing is handed out: there is nothing that the state's undo carries out, and nothing changes.
+pub record UndoesNothing (h : Marks Inverse) (state : State) : Type 0 where
+  pub edits : undo_edits state.client.marks ≡ None
+  pub kept : Keeps (past_popped h) state
+  pub crossed : h.crossed ≡ state.client.marks.crossed
+
+pub record RedoesNothing (h : Marks Inverse) (state : State) : Type 0 where
+  pub edits : redo_edits state.client.marks ≡ None
+  pub kept : Keeps (future_popped h) state
+  pub crossed : h.crossed ≡ state.client.marks.crossed
+
+pub undo-hands-none : (h : Marks Inverse) (state : State) → Keeps h state → handed_out h.past ≡ None → UndoesNothing h state
+undo-hands-none h state k out =
+    let s = (keeps-on state.side.page.next).after_changes h state.client.marks (saved_now state) k in
+    record {
+      edits = undo-none state.client.marks state.client.marks.past (ap (λ (x : Marks Inverse). handed_out x.past) (sym k.edits) ∙ out);
+      kept = subst (λ (x : Marks Inverse). Keeps x state) (sym (s.at_no_past out).kept_stays) k;
+      crossed = s.flags.1;
+    }
+
+pub redo-hands-none : (h : Marks Inverse) (state : State) → Keeps h state → handed_out h.future ≡ None → RedoesNothing h state
+redo-hands-none h state k out =
+    let s = (keeps-on state.side.page.next).after_changes h state.client.marks (saved_now state) k in
+    record {
+      edits = redo-none state.client.marks state.client.marks.future (ap (λ (x : Marks Inverse). handed_out x.future) (sym k.edits) ∙ out);
+      kept = subst (λ (x : Marks Inverse). Keeps x state) (sym (s.at_no_future out).kept_stays) k;
+      crossed = s.flags.1;
+    }

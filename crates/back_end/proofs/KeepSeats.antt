@@ -1,0 +1,133 @@
+-- A desk and a history that stand for a state do so after each command, of what edits nothing, and of a script's changes.
+use Rattle.std.proofs.Common.{◌≡◌, ◌≤◌, ℕ, Bool, true, false, cond, not, ◌&&◌, List, [], ◌∷◌, Option, Some, None, refl, sym, ap, ◌∙◌, subst, arith}
+use Rattle.page_tree.specs.declared.edits.TreeEdit.{TreeEdit}
+use Rattle.node_binding.specs.Sessions.{Session}
+use Rattle.cdp_messages.specs.declared.command.Why.{Why}
+use Rattle.cdp_messages.specs.declared.command.Why.TheVariants.{DomOff, CssOff}
+use Rattle.cdp_messages.specs.declared.dom_ask.DomAsk.{DomAsk}
+use Rattle.dom_agent.specs.Requests.{Outcome, shows_root, served, refused}
+use Rattle.dom_agent.specs.Laws.{session_outcome}
+use Rattle.dom_breakpoints.specs.declared.pauses.Pause.{Pause}
+use Rattle.dom_breakpoints.specs.Pauses.{pause_of}
+use Rattle.dom_breakpoints.specs.Watched.{Watched}
+use Rattle.page_forms.specs.declared.acts.Act.{Act}
+use Rattle.page_forms.specs.Pages.{LoadedPage}
+use Rattle.undo_marks.specs.Marks.{Marks, no_marks, crossed_over}
+use Rattle.undo_marks.specs.Saved.{Saved}
+use Rattle.undo_marks.specs.SavedEdits.{saved_of}
+use Rattle.undo_marks.specs.declared.inverse_lists.Inverse.{Inverse}
+use Rattle.back_end.specs.declared.desk.Desk.{Desk}
+use Rattle.back_end.specs.declared.side.PageSide.{PageSide}
+use Rattle.back_end.specs.declared.faults.ActFault.{ActFault}
+use Rattle.back_end.specs.Sheets.{as_book, SheetChange}
+use Rattle.back_end.specs.States.{Side, Client, State, book_in, saved_now, Keeps}
+use Rattle.back_end.specs.Plans.{Deed, edits, restyles, act_fault, act_plan}
+use Rattle.back_end.specs.Servers.{Server, disables, agent, watches, unwatches}
+use Rattle.back_end.specs.Steps.{Step, refusing, with_page, client_served, push_step, push_steps, pause_step, pause_before, edit_step, script_step, script_steps, sheet_step, sheet_steps, deed_step, planned_step, act_step, load_step, watch_kind, watch_step, serial_now, needs_on, needs_css, server_step, command_step}
+use Rattle.dom_breakpoints.specs.Watched.{with_watch, without_watch}
+use Rattle.cdp_messages.specs.declared.command.WatchWord.{WatchWord}
+use Rattle.back_end.specs.Seats.{DeskStandsFor, BothStandFor}
+use Rattle.back_end.proofs.HistoryLemmas.{keeps-same, keeps-crossed, keeps-cleared}
+use Rattle.back_end.proofs.SeatLemmas.{on-is}
+use Rattle.back_end.proofs.SheetSeats.{dom-on}
+
+-- ---- steps that leave the history alone
+
+-- the page's side stays, and so does the history
+pub record Stays (before after : State) : Type 0 where
+  pub marks : after.client.marks ≡ before.client.marks
+  pub side : after.side ≡ before.side
+
+stayed : (state : State) → Stays state state
+stayed state = record { marks = refl; side = refl }
+
+-- what is kept for the state before is kept for the state after
+pub stays-kept : (h : Marks Inverse) (before after : State) → Stays before after → Keeps h before → Keeps h after
+stays-kept h before after stays k =
+    let same : after.side.page.next ≡ before.side.page.next = ap (λ (side : Side). side.page.next) stays.side in
+    keeps-same h before after k stays.marks (ap (λ (side : Side). saved_of side.page.tree (as_book side.sheets)) stays.side) (omega (arith, same))
+
+-- a command that may be refused before
+command-stays : (id : ℕ) (server : Server) (state : State) → Stays state (server_step id server state).state → Stays state (command_step id server state).state
+command-stays id server state stays = at (needs_on server && not state.client.dom_on) (needs_css server && not state.client.css_on) where
+  at : (a b : Bool) → Stays state (cond a (refusing (Some id) DomOff state) (cond b (refusing (Some id) CssOff state) (server_step id server state))).state
+  at true b = stayed state
+  at false true = stayed state
+  at false false = stays
+
+pub stays-both : (d d1 : Desk) (s s1 : PageSide) (h : Marks Inverse) (state : State) (id : ℕ) (server : Server) → Stays state (server_step id server state).state → BothStandFor d h s state
+    → DeskStandsFor d1 s1 (command_step id server state).state → BothStandFor d1 h s1 (command_step id server state).state
+stays-both d d1 s s1 h state id server stays both stands = record {
+  stands = stands;
+  kept = stays-kept h state (command_step id server state).state (command-stays id server state stays) both.kept;
+}
+
+pub agent-stays : (id : ℕ) (ask : DomAsk) (state : State) → Stays state (server_step id (agent ask) state).state
+agent-stays id ask state = record { marks = at (session_outcome state.side.page ask state.client.session); side = refl } where
+  at : (o : Outcome Session) → (client_served ask o state.client).marks ≡ state.client.marks
+  at (shows_root w b) = refl
+  at (served p body) = refl
+  at (refused why) = refl
+
+watch-stays : (id : ℕ) (change : ℕ → Watched → Watched) (found : Option ℕ) (state : State) → Stays state (watch_step id change found state).state
+watch-stays id change None state = stayed state
+watch-stays id change (Some node) state = record { marks = refl; side = refl }
+
+pub watches-stay : (id node : ℕ) (word : WatchWord) (state : State) → Stays state (server_step id (watches node word) state).state
+watches-stay id node word state = watch-stays id (with_watch (watch_kind word)) (serial_now state node) state
+
+pub unwatches-stay : (id node : ℕ) (word : WatchWord) (state : State) → Stays state (server_step id (unwatches node word) state).state
+unwatches-stay id node word state = watch-stays id (without_watch (watch_kind word)) (serial_now state node) state
+
+-- a step that is a refusal
+pub refused-both : (d : Desk) (h : Marks Inverse) (s : PageSide) (state : State) (done : Step) (id : Option ℕ) (why : Why) → done ≡ refusing id why state → BothStandFor d h s state
+    → BothStandFor d h s done.state
+refused-both d h s state done id why is both = subst (λ (x : Step). BothStandFor d h s x.state) (sym is) both
+
+-- ---- `DOM.disable`
+
+pub disabled-both : (d d1 : Desk) (s s1 : PageSide) (state : State) (id : ℕ) → DeskStandsFor d s state → d.is_on ≡ true → DeskStandsFor d1 s1 (command_step id disables state).state
+    → BothStandFor d1 no_marks s1 (command_step id disables state).state
+disabled-both d d1 s s1 state id before on stands = record {
+  stands = stands;
+  kept = keeps-cleared (command_step id disables state).state (ap (λ (done : Step). done.state.client.marks) (on-is id disables state (dom-on disables d s state before on) refl));
+}
+
+-- ---- a script's changes
+
+-- the history is as before them
+push-marks : (target : Option ℕ) (state : State) → (push_steps target state).state.client.marks ≡ state.client.marks
+push-marks None state = refl
+push-marks (Some serial) state = refl
+
+pause-marks : (p : Option Pause) (state : State) → (pause_step p state).state.client.marks ≡ state.client.marks
+pause-marks None state = refl
+pause-marks (Some p) state = push-marks p.target (push_step p.node state).state
+
+scripts-marks : (es : List TreeEdit) (state : State) → (script_steps es state).state.client.marks ≡ state.client.marks
+scripts-marks [] state = refl
+scripts-marks (e ∷ es) state = scripts-marks es (script_step e state).state ∙ pause-marks (pause_of state.client.watched state.side.page.tree e) state
+
+sheets-marks : (cs : List SheetChange) (state : State) → (sheet_steps cs state).state.client.marks ≡ state.client.marks
+sheets-marks [] state = refl
+sheets-marks (c ∷ cs) state = sheets-marks cs (sheet_step c state).state
+
+deed-kept : (h : Marks Inverse) (deed : Deed) (state : State) → Keeps h state → Keeps (crossed_over h) (deed_step deed state).state
+deed-kept h (edits plan) state k =
+    keeps-crossed h state (script_steps plan.edits (with_page plan.page state)).state k (scripts-marks plan.edits (with_page plan.page state))
+deed-kept h (restyles changes) state k = keeps-crossed h state (sheet_steps changes state).state k (sheets-marks changes state)
+
+-- an act that is carried out empties the history
+pub acted-kept : (h : Marks Inverse) (state : State) (act : Act) → act_fault act state.side.page (book_in state) ≡ None → Keeps h state → Keeps (crossed_over h) (act_step act state).state
+acted-kept h state act none k =
+    subst (λ (o : Option ActFault). Keeps (crossed_over h) (planned_step o (act_plan act state.side.page (book_in state)) state).state) (sym none)
+    (deed-kept h (act_plan act state.side.page (book_in state)) state k)
+
+-- one that is refused leaves it
+pub unacted-kept : (h : Marks Inverse) (state : State) (act : Act) (f : ActFault) → act_fault act state.side.page (book_in state) ≡ Some f → Keeps h state → Keeps h (act_step act state).state
+unacted-kept h state act f some k =
+    subst (λ (o : Option ActFault). Keeps h (planned_step o (act_plan act state.side.page (book_in state)) state).state) (sym some) k
+
+-- a load clears it
+pub loaded-kept : (page : LoadedPage) (state : State) → Keeps no_marks (load_step page state).state
+loaded-kept page state = keeps-cleared (load_step page state).state refl

@@ -1,0 +1,186 @@
+// A client takes its edits back, and does them again.
+ghost use Rattle.std.specs.Prelude.{◌≡◌, ◌+◌, ◌<◌, ◌≤◌, ◌^◌, ◌++◌, map, length, IfOk, OnOk};
+ghost use Rattle.style_edits.specs.Splices.{after_splice, back_splice};
+ghost use Rattle.undo_marks.specs.Changes.{AllTaken, after_all, back_all};
+ghost use Rattle.undo_marks.specs.SavedEdits.{saved_of, saved_sheet, page_after, way_back, TakesSheet};
+ghost use Rattle.cdp_messages.specs.Moves.{frames_of_moves};
+ghost use Rattle.back_end.specs.States.{State, TakesWell};
+ghost use Rattle.back_end.specs.Servers as server;
+ghost use Rattle.back_end.specs.Steps.{command_step, kept_step, kept_steps, splice_step};
+ghost use Rattle.back_end.specs.Seats.{BothStandFor, DeskStandsFor, HasNumbersLeft, edits_in};
+
+use crate::desk::Desk;
+use crate::side::PageSide;
+use cdp_messages::{Event, ReplyBody, Why, write_reply};
+use std::alloc::AllocError;
+use style_edits::Splice;
+use undo_marks::{History, Inverse, Popped};
+
+impl Desk {
+    /// `DOM.markUndoableState`, which is refused while DOM is off.
+    pub(crate) fn end_group(
+        &mut self,
+        history: &mut History,
+        side: &mut PageSide,
+        id: u64,
+        out: &mut Vec<u8>,
+    ) -> Result<(), AllocError>
+        ensures stands { (state : State) → BothStandFor self.old history.old side.old state
+            → OnOk result (BothStandFor self.new history.new side.new (command_step id server.ends_group state).state) }
+        ensures sent { (state : State) → DeskStandsFor self.old side.old state
+            → OnOk result (out.new.items ≡ out.old.items ++ frames_of_moves (command_step id server.ends_group state).moves) }
+    {
+        let _ = side;
+        if !self.is_on {
+            return self.refuse(id, Why::DomOff, out);
+        }
+        history.mark();
+        write_reply(self.alloc, id, &ReplyBody::Nothing, out)
+    }
+
+    /// Makes a splice out of a history, and tells it while CSS is on. Gives the splice that leads back.
+    fn put_back(
+        &self,
+        side: &mut PageSide,
+        splice: Splice,
+        out: &mut Vec<u8>,
+    ) -> Result<Splice, AllocError>
+        requires taken { TakesSheet splice (map saved_sheet side.old.sheets.entries) }
+        ensures page { side.new.page ≡ side.old.page }
+        ensures entries { OnOk result (side.new.sheets.entries ≡ after_splice splice side.old.sheets.entries) }
+        ensures numbers { OnOk result (side.new.sheets.next ≡ side.old.sheets.next) }
+        ensures back { IfOk result (λ back. back ≡ back_splice splice side.old.sheets.entries) }
+        ensures stands { (state : State) → DeskStandsFor self.now side.old state
+            → OnOk result (DeskStandsFor self.now side.new (splice_step splice state).state) }
+        ensures sent { (state : State) → DeskStandsFor self.now side.old state
+            → OnOk result (out.new.items ≡ out.old.items ++ frames_of_moves (splice_step splice state).moves) }
+    {
+        let sheet = splice.sheet;
+        let back = side.sheets.put_back(splice)?;
+        self.css.tell(&Event::StyleSheetChanged { sheet }, out)?;
+        Ok(back)
+    }
+
+    /// Carries out an edit out of a history, and tells it. Gives the edit that leads back.
+    fn apply_kept(
+        &mut self,
+        side: &mut PageSide,
+        edit: Inverse,
+        out: &mut Vec<u8>,
+    ) -> Result<Inverse, AllocError>
+        requires taken { TakesWell side.old.page.next edit (saved_of side.old.page.tree side.old.sheets.entries) }
+        requires ids { self.old.agent.next < 2 ^ 51 }
+        requires serials { side.old.page.next < 2 ^ 51 }
+        requires sheets { side.old.sheets.next < 2 ^ 51 }
+        ensures few { OnOk result (self.new.agent.next < self.old.agent.next + 2) }
+        ensures saved { OnOk result (saved_of side.new.page.tree side.new.sheets.entries
+            ≡ page_after edit (saved_of side.old.page.tree side.old.sheets.entries)) }
+        ensures next { OnOk result (side.new.page.next ≡ side.old.page.next) }
+        ensures numbers { OnOk result (side.new.sheets.next ≡ side.old.sheets.next) }
+        ensures back { IfOk result (λ back. back ≡ way_back edit (saved_of side.old.page.tree side.old.sheets.entries)) }
+        ensures stands { (state : State) → DeskStandsFor self.old side.old state
+            → OnOk result (DeskStandsFor self.new side.new (kept_step edit state).state) }
+        ensures sent { (state : State) → DeskStandsFor self.old side.old state
+            → OnOk result (out.new.items ≡ out.old.items ++ frames_of_moves (kept_step edit state).moves) }
+    {
+        match edit {
+            Inverse::Tree(edit) => {
+                let back = self.apply(side, edit, out)?;
+                Ok(Inverse::Tree(back))
+            }
+            Inverse::Sheet(splice) => {
+                let back = self.put_back(side, splice, out)?;
+                Ok(Inverse::Sheet(back))
+            }
+        }
+    }
+
+    /// Carries out edits out of a history, one after the other. Gives the edits that lead back, in the same order.
+    fn apply_all(
+        &mut self,
+        side: &mut PageSide,
+        edits: Vec<Inverse>,
+        out: &mut Vec<u8>,
+    ) -> Result<Vec<Inverse>, AllocError>
+        requires taken { AllTaken page_after (TakesWell side.old.page.next) edits.items (saved_of side.old.page.tree side.old.sheets.entries) }
+        requires ids { self.old.agent.next + length edits.items < 2 ^ 51 }
+        requires serials { side.old.page.next < 2 ^ 51 }
+        requires sheets { side.old.sheets.next < 2 ^ 51 }
+        ensures saved { OnOk result (saved_of side.new.page.tree side.new.sheets.entries
+            ≡ after_all page_after edits.items (saved_of side.old.page.tree side.old.sheets.entries)) }
+        ensures next { OnOk result (side.new.page.next ≡ side.old.page.next) }
+        ensures backs { IfOk result (λ backs. backs.items
+            ≡ back_all page_after way_back edits.items (saved_of side.old.page.tree side.old.sheets.entries)) }
+        ensures stands { (state : State) → DeskStandsFor self.old side.old state
+            → OnOk result (DeskStandsFor self.new side.new (kept_steps edits.items state).state) }
+        ensures sent { (state : State) → DeskStandsFor self.old side.old state
+            → OnOk result (out.new.items ≡ out.old.items ++ frames_of_moves (kept_steps edits.items state).moves) }
+    {
+        let mut backs = Vec::new(self.alloc);
+        for edit in edits {
+            let back = self.apply_kept(side, edit, out)?;
+            backs.push(back)?;
+        }
+        Ok(backs)
+    }
+
+    /// `DOM.undo`, which is refused while DOM is off, and where a change that is not the client's emptied the history.
+    pub(crate) fn undo(
+        &mut self,
+        history: &mut History,
+        side: &mut PageSide,
+        id: u64,
+        out: &mut Vec<u8>,
+    ) -> Result<(), AllocError>
+        requires room { HasNumbersLeft self.old side.old }
+        requires few { edits_in history.old < 2 ^ 30 }
+        requires standing { (state : State) × BothStandFor self.old history.old side.old state }
+        ensures stands { (state : State) → BothStandFor self.old history.old side.old state
+            → OnOk result (BothStandFor self.new history.new side.new (command_step id server.undoes state).state) }
+        ensures sent { (state : State) → BothStandFor self.old history.old side.old state
+            → OnOk result (out.new.items ≡ out.old.items ++ frames_of_moves (command_step id server.undoes state).moves) }
+    {
+        if !self.is_on {
+            return self.refuse(id, Why::DomOff, out);
+        }
+        match history.pop_undo() {
+            Popped::Group(edits) => {
+                let backs = self.apply_all(side, edits.into_vec(), out)?;
+                history.push_undone(backs)?;
+                write_reply(self.alloc, id, &ReplyBody::Nothing, out)
+            }
+            Popped::Nothing => write_reply(self.alloc, id, &ReplyBody::Nothing, out),
+            Popped::Crossed => self.refuse(id, Why::Crossed, out),
+        }
+    }
+
+    /// `DOM.redo`, which is refused as `DOM.undo` is.
+    pub(crate) fn redo(
+        &mut self,
+        history: &mut History,
+        side: &mut PageSide,
+        id: u64,
+        out: &mut Vec<u8>,
+    ) -> Result<(), AllocError>
+        requires room { HasNumbersLeft self.old side.old }
+        requires few { edits_in history.old < 2 ^ 30 }
+        requires standing { (state : State) × BothStandFor self.old history.old side.old state }
+        ensures stands { (state : State) → BothStandFor self.old history.old side.old state
+            → OnOk result (BothStandFor self.new history.new side.new (command_step id server.redoes state).state) }
+        ensures sent { (state : State) → BothStandFor self.old history.old side.old state
+            → OnOk result (out.new.items ≡ out.old.items ++ frames_of_moves (command_step id server.redoes state).moves) }
+    {
+        if !self.is_on {
+            return self.refuse(id, Why::DomOff, out);
+        }
+        match history.pop_redo() {
+            Popped::Group(edits) => {
+                let backs = self.apply_all(side, edits.into_vec(), out)?;
+                history.push_redone(backs)?;
+                write_reply(self.alloc, id, &ReplyBody::Nothing, out)
+            }
+            Popped::Nothing => write_reply(self.alloc, id, &ReplyBody::Nothing, out),
+            Popped::Crossed => self.refuse(id, Why::Crossed, out),
+        }
+    }
+}
