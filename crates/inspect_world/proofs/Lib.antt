@@ -32,3 +32,4 @@ pub mod UnstyledLemmas
 pub mod StaleLemmas
 pub mod FetchForms
 pub mod FetchesFit
+pub mod RestoreLemmas

@@ -21,7 +21,7 @@ use Rattle.back_end.specs.Steps.{Turn, acts, loads}
 use Rattle.inspect_world.specs.RunStates.{RunState, run_step, run_turn}
 use Rattle.inspect_world.specs.ShownPauses.{pauses_in}
 use Rattle.front_mirror.specs.Front.{seen_pause}
-use Rattle.back_end.specs.Laws.{IsTurn}
+use Rattle.back_end.specs.Laws.{IsTurn, Restores}
 use Rattle.inspect_world.specs.Fits.{join, most_bytes, most_frames, IsBare, IsPlainFrame, IsNextTurn, kept_styles, Fits}
 use Rattle.inspect_world.specs.ShownReplies.{told_of, replies_in}
 use Rattle.inspect_world.specs.Costs.{lines_cost}
@@ -68,6 +68,12 @@ LinesFit = (page : LoadedPage) (lines : List LineForm) → CanLoadPage page → 
 abbrev pub InputsFit : Type 0
 InputsFit = (input : List ℕ) (page : LoadedPage) (lines : List LineForm) → script_forms input ≡ load page ∷ lines → length input ≤ most_bytes
     → FitThroughout page lines
+
+-- With each input that a replay reads, and after any number of its lines: an undo restores the very tree and texts from before the
+-- newest group of a client's edits that is kept, and a redo those after the group that was taken back last; without a fault.
+abbrev pub UndoRestoresInRuns : Type 0
+UndoRestoresInRuns = (input : List ℕ) (page : LoadedPage) (lines : List LineForm) → script_forms input ≡ load page ∷ lines → length input ≤ most_bytes
+    → (n : ℕ) → Restores (after_lines (take n lines) (loaded_world page)).state.back
 
 -- a frame that names no ask is sent, whatever is on its way
 abbrev pub BareFramesFit : Type 0
