@@ -3,6 +3,7 @@ ghost use Rattle.serde_json.specs.View.{view};
 ghost use Rattle.cdp_messages.specs.Asked.{is_whole_where_there};
 ghost use Rattle.node_binding.specs.Bindings.{empty_from};
 ghost use Rattle.dom_breakpoints.specs.Watched.{unwatched};
+ghost use Rattle.undo_marks.specs.Marks.{no_marks};
 ghost use Rattle.front_mirror.specs.Front.{first_state, matched_in};
 ghost use Rattle.front_mirror.specs.Sheets.{has_sheet, stale_of};
 ghost use Rattle.replay_script.specs.Seen.{seen_ask};
@@ -18,6 +19,7 @@ ghost use Rattle.back_end.specs.Plans.{act_fault};
 ghost use Rattle.back_end.specs.Laws.{IsTurn};
 ghost use Rattle.inspect_world.specs.World.{raw, turned};
 ghost use Rattle.inspect_world.specs.Fits.{IsBare};
+ghost use Rattle.inspect_world.specs.Costs.{ask_cost, least_line};
 ghost use Rattle.inspect_world.specs.Scripts.{sends};
 ghost use Rattle.inspect_world.specs.ScriptsFit.{CanSend};
 ghost use Rattle.inspect_replay.specs.Runs.{Steps, Spends, TakesUp, AnswersAll, AnswersOne, SendsFetch, FetchesText, FetchesOne, FetchesAll, Refreshes};
@@ -69,6 +71,7 @@ impl Ends {
         ensures css { IfOk result (λ ends. ends.seat.desk.css ≡ false) }
         ensures agent { IfOk result (λ ends. ends.seat.desk.agent ≡ empty_from 1) }
         ensures watches { IfOk result (λ ends. ends.seat.desk.watches ≡ unwatched) }
+        ensures history { IfOk result (λ ends. ends.seat.history ≡ no_marks) }
         ensures splitter { IfOk result (λ ends. ends.splitter ≡ record { whole = []; rest = [] }) }
         ensures front { IfOk result (λ ends. ends.front ≡ first_state) }
         ensures up { IfOk result (λ ends. ends.up_there ≡ 0) }
@@ -154,7 +157,7 @@ impl Ends {
         ensures cause { HasStopCause 0 0 (L.faults link.old) (L.faults link.new) result }
         ensures follows { KeepsFollowing (moment (L.honest link.old) (L.up link.old) (L.down link.old) self.old)
             (moment (L.honest link.new) (L.up link.new) (L.down link.new) self.new) result }
-        ensures steps { Spends (moment (L.honest link.old) (L.up link.old) (L.down link.old) self.old)
+        ensures steps { Spends (ask_cost (seen_ask ask.now)) (moment (L.honest link.old) (L.up link.old) (L.down link.old) self.old)
             (moment (L.honest link.new) (L.up link.new) (L.down link.new) self.new) result (λ w. sends (seen_ask ask.now) w) }
     {
         if !self.front.has_room() {
@@ -185,7 +188,7 @@ impl Ends {
         ensures cause { HasStopCause 0 0 (L.faults link.old) (L.faults link.new) result }
         ensures follows { KeepsFollowing (moment (L.honest link.old) (L.up link.old) (L.down link.old) self.old)
             (moment (L.honest link.new) (L.up link.new) (L.down link.new) self.new) result }
-        ensures steps { Spends (moment (L.honest link.old) (L.up link.old) (L.down link.old) self.old)
+        ensures steps { Spends least_line (moment (L.honest link.old) (L.up link.old) (L.down link.old) self.old)
             (moment (L.honest link.new) (L.up link.new) (L.down link.new) self.new) result (λ w. raw text.now w) }
     {
         let frame = framed(self.alloc, text)?;
@@ -213,7 +216,7 @@ impl Ends {
         ensures cause { HasStopCause 0 0 (L.faults link.old) (L.faults link.new) result }
         ensures follows { LineFollows (moment (L.honest link.old) (L.up link.old) (L.down link.old) self.old)
             (moment (L.honest link.new) (L.up link.new) (L.down link.new) self.new) result }
-        ensures steps { Spends (moment (L.honest link.old) (L.up link.old) (L.down link.old) self.old)
+        ensures steps { Spends least_line (moment (L.honest link.old) (L.up link.old) (L.down link.old) self.old)
             (moment (L.honest link.new) (L.up link.new) (L.down link.new) self.new) result (λ w. turned run_turn (acts act) w) }
     {
         if !self.seat.has_room(&self.side) {
@@ -240,7 +243,7 @@ impl Ends {
         ensures cause { HasStopCause 0 0 (L.faults link.old) (L.faults link.new) result }
         ensures follows { LineFollows (moment (L.honest link.old) (L.up link.old) (L.down link.old) self.old)
             (moment (L.honest link.new) (L.up link.new) (L.down link.new) self.new) result }
-        ensures steps { Spends (moment (L.honest link.old) (L.up link.old) (L.down link.old) self.old)
+        ensures steps { Spends least_line (moment (L.honest link.old) (L.up link.old) (L.down link.old) self.old)
             (moment (L.honest link.new) (L.up link.new) (L.down link.new) self.new) result (λ w. turned run_turn (loads (loaded_page form)) w) }
     {
         if !self.seat.has_room(&self.side) {

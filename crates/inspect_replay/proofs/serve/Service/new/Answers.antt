@@ -13,5 +13,6 @@ returns c = record {
         css = c.new-2.ensures.css;
         agent_is = c.new-2.ensures.agent;
         watches_are = c.new-2.ensures.watches;
+        history_is = c.new-2.ensures.history;
       }) c.new-3.ensures;
 }
