@@ -3,6 +3,7 @@ ghost use Rattle.serde_json.specs.View.{view};
 ghost use Rattle.cdp_messages.specs.Asked.{is_whole_where_there};
 ghost use Rattle.node_binding.specs.Bindings.{empty_from};
 ghost use Rattle.dom_breakpoints.specs.Watched.{unwatched};
+ghost use Rattle.undo_marks.specs.Marks.{no_marks};
 ghost use Rattle.front_mirror.specs.Front.{first_state, matched_in};
 ghost use Rattle.front_mirror.specs.Sheets.{has_sheet, stale_of};
 ghost use Rattle.replay_script.specs.Seen.{seen_ask};
@@ -17,6 +18,7 @@ ghost use Rattle.back_end.specs.Plans.{act_fault};
 ghost use Rattle.back_end.specs.Laws.{IsTurn};
 ghost use Rattle.inspect_world.specs.World.{raw, turned};
 ghost use Rattle.inspect_world.specs.Fits.{IsBare};
+ghost use Rattle.inspect_world.specs.Costs.{ask_cost, least_line};
 ghost use Rattle.inspect_world.specs.Scripts.{sends};
 ghost use Rattle.inspect_world.specs.ScriptsFit.{CanSend};
 ghost use Rattle.back_end.specs.Seats.{IsSeated};
@@ -161,7 +163,7 @@ impl Ends {
         ensures cause { HasStopCause 0 0 (L.faults link.old) (L.faults link.new) result }
         ensures follows { KeepsFollowing (moment (L.honest link.old) (L.up link.old) (L.down link.old) self.old)
             (moment (L.honest link.new) (L.up link.new) (L.down link.new) self.new) result }
-        ensures steps { Spends (moment (L.honest link.old) (L.up link.old) (L.down link.old) self.old)
+        ensures steps { Spends (ask_cost (seen_ask ask.now)) (moment (L.honest link.old) (L.up link.old) (L.down link.old) self.old)
             (moment (L.honest link.new) (L.up link.new) (L.down link.new) self.new) result (λ w. sends (seen_ask ask.now) w) }
     {
         if !self.front.has_room() {
@@ -192,7 +194,7 @@ impl Ends {
         ensures cause { HasStopCause 0 0 (L.faults link.old) (L.faults link.new) result }
         ensures follows { KeepsFollowing (moment (L.honest link.old) (L.up link.old) (L.down link.old) self.old)
             (moment (L.honest link.new) (L.up link.new) (L.down link.new) self.new) result }
-        ensures steps { Spends (moment (L.honest link.old) (L.up link.old) (L.down link.old) self.old)
+        ensures steps { Spends least_line (moment (L.honest link.old) (L.up link.old) (L.down link.old) self.old)
             (moment (L.honest link.new) (L.up link.new) (L.down link.new) self.new) result (λ w. raw text.now w) }
     {
         let frame = framed(self.alloc, text)?;
@@ -220,7 +222,7 @@ impl Ends {
         ensures cause { HasStopCause 0 0 (L.faults link.old) (L.faults link.new) result }
         ensures follows { LineFollows (moment (L.honest link.old) (L.up link.old) (L.down link.old) self.old)
             (moment (L.honest link.new) (L.up link.new) (L.down link.new) self.new) result }
-        ensures steps { Spends (moment (L.honest link.old) (L.up link.old) (L.down link.old) self.old)
+        ensures steps { Spends least_line (moment (L.honest link.old) (L.up link.old) (L.down link.old) self.old)
             (moment (L.honest link.new) (L.up link.new) (L.down link.new) self.new) result (λ w. turned run_turn (acts act) w) }
     {
         if !self.seat.has_room(&self.side) {
@@ -247,7 +249,7 @@ impl Ends {
         ensures cause { HasStopCause 0 0 (L.faults link.old) (L.faults link.new) result }
         ensures follows { LineFollows (moment (L.honest link.old) (L.up link.old) (L.down link.old) self.old)
             (moment (L.honest link.new) (L.up link.new) (L.down link.new) self.new) result }
-        ensures steps { Spends (moment (L.honest link.old) (L.up link.old) (L.down link.old) self.old)
+        ensures steps { Spends least_line (moment (L.honest link.old) (L.up link.old) (L.down link.old) self.old)
             (moment (L.honest link.new) (L.up link.new) (L.down link.new) self.new) result (λ w. turned run_turn (loads (loaded_page form)) w) }
     {
         if !self.seat.has_room(&self.side) {

@@ -240,6 +240,22 @@ left-fewer n j k less left = record {
   edits = fewer-bytes n.edits j k less left.edits;
 }
 
+-- any line costs as much as a line does at least
+pub cost-least : (line : LineForm) → least_line ≤ line_cost line
+cost-least (load page) = omega arith
+cost-least (forms.act a) = omega arith
+cost-least (ask a) = omega arith
+cost-least (forms.raw text) = omega arith
+cost-least (up n) = omega arith
+cost-least (down n) = omega arith
+cost-least settle = omega arith
+cost-least show_front = omega arith
+cost-least show_page = omega arith
+cost-least show_sheets = omega arith
+cost-least show_replies = omega arith
+cost-least show_pauses = omega arith
+cost-least (show_styles k) = omega arith
+
 -- one line of some
 pub left-one : (n : Spent) (k cost : ℕ) → HasLeft n (k + cost) → HasLeft n cost
 left-one n k cost left = left-fewer n cost (k + cost) (omega arith) left

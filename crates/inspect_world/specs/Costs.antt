@@ -21,11 +21,15 @@ ask_edits a = edits_commanded (command_of false a.method a.params a.session)
 abbrev pub least_line : ℕ
 least_line = 4
 
--- A line has at least so many bytes: the parameters of an ask have one for each edit.
+-- that of an ask: its parameters have a byte for each edit
+abbrev pub ask_cost : AskForm → ℕ
+ask_cost a = least_line + ask_edits a
+
+-- A line has at least so many bytes.
 abbrev pub line_cost : LineForm → ℕ
 line_cost (load page) = least_line
 line_cost (forms.act a) = least_line
-line_cost (ask a) = least_line + ask_edits a
+line_cost (ask a) = ask_cost a
 line_cost (forms.raw text) = least_line
 line_cost (up n) = least_line
 line_cost (down n) = least_line
