@@ -1,4 +1,4 @@
-use Rattle.std.proofs.Common.{ap, ◌∙◌, map, ◌++◌, ◌∷◌, [], ◌≡◌, take, length, ◌-◌, arith}
+use Rattle.std.proofs.Common.{ap, ◌∙◌, map, take, ◌-◌, arith}
 use Rattle.std.proofs.lemmas.List.{map_push}
 use Rattle.pipe_frames.proofs.FrameLemmas.{frame_kept}
 use Rattle.pipe_frames.proofs.frames.Splitter.keep_frame.Goals as goal

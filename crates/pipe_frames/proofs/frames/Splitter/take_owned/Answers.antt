@@ -1,4 +1,4 @@
-use Rattle.std.proofs.Common.{◌≡◌, ◌<◌, ℕ, length, take, OnErr, Ok, Err, Result, rules}
+use Rattle.std.proofs.Common.{◌≡◌, ◌<◌, ℕ, length, take, OnErr, Ok, Err}
 use Rattle.pipe_frames.specs.Frames.{continued, IsFrame}
 use Rattle.pipe_frames.proofs.FrameLemmas.{frame_refused}
 use Rattle.pipe_frames.proofs.frames.Splitter.take_owned.Goals as goal
