@@ -362,7 +362,7 @@ impl Ends {
             Err(stop) => return Err(stop),
         };
         self.down_there = self.down_there.saturating_sub(piece.len() as u64);
-        match self.front.take(&piece) {
+        match self.front.take_owned(piece) {
             Ok(()) => Ok(()),
             Err(FrontErr::Fault(refused)) => Err(Stop::FrontRefused {
                 place: refused.place,
