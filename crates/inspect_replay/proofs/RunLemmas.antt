@@ -17,7 +17,6 @@ use Rattle.replay_script.specs.declared.faults.LineFault.{LineFault}
 use Rattle.page_forms.specs.Pages.{LoadedPage, CanLoadPage}
 use Rattle.page_tree.specs.Pages.{loaded}
 use Rattle.node_binding.specs.Bindings.{empty_from}
-use Rattle.undo_marks.specs.Marks.{no_marks}
 use Rattle.node_tree.specs.Nodes.{Nodes}
 use Rattle.node_tree.specs.Seen.{Seen}
 use Rattle.front_mirror.specs.declared.replies.Kept.{Kept}
