@@ -28,6 +28,8 @@ pub mod SpliceSeats
 pub mod ScriptLemmas
 pub mod TreeSeats
 pub mod OwnSeats
+pub mod TreeCopies
+pub mod OneProof
 pub mod KeepSeats
 pub mod NoteSeats
 pub mod UndoSeats
