@@ -37,9 +37,9 @@ pub record BothStandFor (desk : Desk) (history : Marks Inverse) (side : PageSide
 abbrev pub StandsFor : Seat → PageSide → State → Type 0
 StandsFor seat side state = BothStandFor seat.desk seat.history side state
 
--- a seat that is not dead stands for some state
+-- a seat that is not dead stands for some state, whichever
 abbrev pub IsSeated : Seat → PageSide → Type 0
-IsSeated seat side = seat.is_dead ≡ false → (state : State) × StandsFor seat side state
+IsSeated seat side = seat.is_dead ≡ false → ∥ (state : State) × StandsFor seat side state ∥₁
 
 -- ids, serials and numbers of sheets are left for a step
 pub record HasNumbersLeft (desk : Desk) (side : PageSide) : Type 0 where
