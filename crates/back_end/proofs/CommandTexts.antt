@@ -1,5 +1,5 @@
 -- The texts that a command's parameters give are UTF-8, where those of the frame are.
-use Rattle.std.proofs.Common.{◌≡◌, ℕ, List, [], ◌∷◌, Option, Some, None, option_and_then, Result, Ok, Err, Ordering, Less, Equal, Greater, nat_cmp}
+use Rattle.std.proofs.Common.{ℕ, List, Option, Some, None, option_and_then, Result, Ok, Err, Ordering, Less, Equal, Greater, nat_cmp}
 use Rattle.std.specs.Prelude.{⊤}
 use Rattle.std.specs.List.{All}
 use Rattle.std.specs.Str.{IsUtf8}
@@ -8,13 +8,12 @@ use Rattle.std.specs.Cmp.Lexicographic.{slice_cmp}
 use Rattle.std.proofs.lemmas.List.Elements.{All-nil, All-cons}
 use Rattle.serde_json.specs.Data.{Data, null, boolean, number, string, array, object, Items, no_items, item, Members, no_members, member}
 use Rattle.serde_json.specs.Find.{get_member, as_str, as_object, as_array}
-use Rattle.cdp_json.specs.Kinds.{Kind, whole, text, through, list_of, and_first, read_items}
-use Rattle.cdp_json.specs.Fields.{field_from, field_of}
-use Rattle.cdp_json.specs.Lookups.{then_ok, required, Lookups, no_lookups, with_later, look_for, value_of, object_with}
+use Rattle.cdp_json.specs.Kinds.{Kind, text, list_of, and_first, read_items}
+use Rattle.cdp_json.specs.Fields.{field_from}
+use Rattle.cdp_json.specs.Lookups.{then_ok, required, Lookups, no_lookups, with_later, look_for, value_of}
 use Rattle.cdp_json.specs.Plain.{HasUtf8, ItemsHaveUtf8, MembersHaveUtf8}
 use Rattle.cdp_json.proofs.ReadTexts.{IfSome}
 use Rattle.page_forms.proofs.NodeTexts.{array_utf8, object_utf8}
-use Rattle.cdp_messages.specs.declared.edits.TextEdit.{TextEdit}
 use Rattle.cdp_messages.specs.declared.command.Param.TheVariants as param
 use Rattle.cdp_messages.specs.Refusals.{param_name}
 use Rattle.cdp_messages.specs.Parameters.{edit_fields, edit_from, text_edit, place}

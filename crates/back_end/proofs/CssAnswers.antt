@@ -23,7 +23,7 @@ use Rattle.css_agent.specs.Asks.{sheet_named, if_sheet, answer_move}
 use Rattle.css_agent.specs.ClassNames.{class_names}
 use Rattle.css_agent.proofs.TellableStyles.{both, entry-stored, ValuesAre, NodesHaveValues, zipper-has, styles-told, class-names-utf8}
 use Rattle.dom_agent.specs.Laws.{RowsHaveUtf8}
-use Rattle.back_end.specs.States.{State, book_in, view_of, IsState}
+use Rattle.back_end.specs.States.{State, book_in, view_of, HoldsNow}
 use Rattle.back_end.specs.Steps.{element_named, node_answer, text_answer, css_answer, css_step}
 use Rattle.back_end.specs.Laws.{MayAnswer, MayAnswerAll, TellsTextOf, TellTextOf, text_asked, reply_ids}
 use Rattle.back_end.proofs.SheetLemmas.{book-stored, named-is}
@@ -52,10 +52,10 @@ any-texts (n ∷ ns) = any-texts ns
 names-fit : (names : List (List ℕ)) → class_names_result.fits names ≡ true
 names-fit names = both (any-texts names) refl
 
-stored : (state : State) → IsState state → HasNumbers state → AllByRecursion IsStored (book_in state)
+stored : (state : State) → HoldsNow state → HasNumbers state → AllByRecursion IsStored (book_in state)
 stored state is low = book-stored state.side.next_sheet state.side.sheets (omega (arith, low.sheets)) is.sheets
 
-styles-answer : (id : ℕ) (ask : CssAsk) (target : ℕ) (r : Result ℕ Why) (state : State) → ask ≡ css.GetMatchedStyles target → IsState state → HasNumbers state → is_counted id ≡ true
+styles-answer : (id : ℕ) (ask : CssAsk) (target : ℕ) (r : Result ℕ Why) (state : State) → ask ≡ css.GetMatchedStyles target → HoldsNow state → HasNumbers state → is_counted id ≡ true
     → Moves (node_answer id (css.GetMatchedStyles target) r state) (view_of state) (view_of state)
 styles-answer id ask target (Err why) state same is low small = (refl, small)
 styles-answer id ask target (Ok serial) state same is low small =
@@ -69,19 +69,19 @@ text-answer id sheet None state e on small = (refl, small)
 text-answer id sheet (Some x) state e on small =
     (refl, ap (λ (b : Bool). shown_text x.id (cond b state.side.sheets [])) on ∙ (named-is sheet state.side.sheets x e).text, small)
 
-names-answer : (id : ℕ) (sheet : List ℕ) (o : Option SheetEntry) (state : State) → sheet_named sheet (book_in state) ≡ o → IsState state → HasNumbers state → is_counted id ≡ true
+names-answer : (id : ℕ) (sheet : List ℕ) (o : Option SheetEntry) (state : State) → sheet_named sheet (book_in state) ≡ o → HoldsNow state → HasNumbers state → is_counted id ≡ true
     → Moves (answer_move id (if_sheet (λ e. ClassNames (class_names e.text)) o)) (view_of state) (view_of state)
 names-answer id sheet None state e is low small = (refl, small)
 names-answer id sheet (Some x) state e is low small =
     let own : IsStored x = entry-stored x.id (book_in state) x (stored state is low) (named-is sheet state.side.sheets x e).found in
     (refl, record { id_fits = small; plain = refl; fits = names-fit (class_names x.text); texts = class-names-utf8 x.text own.utf8; levels = omega arith })
 
-css-moves : (id : ℕ) (ask : CssAsk) (state : State) → IsState state → HasNumbers state → state.client.css_on ≡ true → is_counted id ≡ true → Moves (css_answer id ask state) (view_of state) (view_of state)
+css-moves : (id : ℕ) (ask : CssAsk) (state : State) → HoldsNow state → HasNumbers state → state.client.css_on ≡ true → is_counted id ≡ true → Moves (css_answer id ask state) (view_of state) (view_of state)
 css-moves id (css.GetMatchedStyles target) state is low on small = styles-answer id (css.GetMatchedStyles target) target (element_named target state) state refl is low small
 css-moves id (css.GetStyleSheetText sheet) state is low on small = text-answer id sheet (sheet_named sheet (book_in state)) state refl on small
 css-moves id (css.CollectClassNames sheet) state is low on small = names-answer id sheet (sheet_named sheet (book_in state)) state refl is low small
 
-pub css-well : (id : ℕ) (ask : CssAsk) (state : State) → IsState state → HasNumbers state → state.client.css_on ≡ true → is_counted id ≡ true → Well state (css_step id ask state) 0 0 0
+pub css-well : (id : ℕ) (ask : CssAsk) (state : State) → HoldsNow state → HasNumbers state → state.client.css_on ≡ true → is_counted id ≡ true → Well state (css_step id ask state) 0 0 0
 css-well id ask state is low on small = stays-with (css_answer id ask state) state is low (css-moves id ask state is low on small)
 
 -- ---- what it answers

@@ -39,11 +39,11 @@ use Rattle.back_end.specs.declared.dom_edits.DomEdit.{DomEdit}
 use Rattle.back_end.specs.declared.dom_edits.DomEdit.TheVariants as tree
 use Rattle.back_end.specs.Texts.{HasTreeTexts}
 use Rattle.back_end.proofs.TreeSteps.{AsksFor, tree-edit-answered}
-use Rattle.back_end.specs.States.{State, nodes_in, book_in, sheets_shown, view_of, IsState}
+use Rattle.back_end.specs.States.{State, nodes_in, book_in, sheets_shown, view_of, HoldsNow, HasHistory, IsState}
 use Rattle.back_end.specs.OwnMethods.{load_asked, act_asked}
-use Rattle.back_end.specs.Steps.{Step, with_client, refusing, client_reset, moves_come, Turn, acts, loads, turn_step, ask_needs_on, needs_on, needs_css, turns_on, client_served, agent_step, css_step, serial_now, watch_kind, watch_step, own_step, sheet_edit_step, server_step, command_step, asked_step, frame_step}
-use Rattle.back_end.specs.Servers.{Server, enables, disables, css_enables, css_disables, agent, css_agent, edits_tree, edits_sheets, watches, unwatches, page_load, page_act, nobody, by_agent, server_of, HasServedTexts}
-use Rattle.back_end.specs.Laws.{reply_ids, MayAnswer, HasRoom, StepsWell, MayAnswerAll, text_asked, TellTextOf, IsAnswered, IsTurn}
+use Rattle.back_end.specs.Steps.{Step, with_client, refusing, client_reset, moves_come, Turn, acts, loads, turn_step, ask_needs_on, needs_on, needs_css, turns_on, client_served, agent_step, css_step, serial_now, watch_kind, watch_step, own_step, sheet_edit_step, server_step, command_step, asked_step}
+use Rattle.back_end.specs.Servers.{Server, enables, disables, css_enables, css_disables, agent, css_agent, edits_tree, edits_sheets, ends_group, undoes, redoes, watches, unwatches, page_load, page_act, nobody, by_agent, server_of, HasServedTexts}
+use Rattle.back_end.specs.Laws.{reply_ids, MayAnswer, HasRoom, StepsWell, KeepsAtMost, most_splices, most_edits, edits_asked, MayAnswerAll, text_asked, TellTextOf, IsAnswered, IsTurn, FramesStepWell}
 use Rattle.back_end.proofs.AskedLemmas.{AskedFits, frame-fits}
 use Rattle.back_end.proofs.OwnTexts.{AskedTexts, frame-texts}
 use Rattle.back_end.proofs.OwnLemmas.{load-turn, act-turn, answering-well, answering-once}
@@ -51,11 +51,14 @@ use Rattle.back_end.proofs.TurnAnswers.{AreEvents, events-answer, events-may, ev
 use Rattle.back_end.proofs.AnswerLemmas.{flat-append, outcome-answers, outcome-may, outcome-text}
 use Rattle.back_end.proofs.CssAnswers.{css_command, css-well, css-once, css-may, css-text}
 use Rattle.back_end.proofs.SheetSteps.{css-on-well, css-off-well}
-use Rattle.back_end.proofs.SpliceSteps.{sheet-edit-well, sheet-edit-once, sheet-edit-may, sheet-edit-text}
+use Rattle.back_end.proofs.SpliceSteps.{sheet-edit-answered}
+use Rattle.back_end.proofs.UndoSteps.{undo-answered, redo-answered, mark-answered}
+use Rattle.back_end.proofs.AnsweredSteps.{Answered, refusal-answered}
+use Rattle.back_end.proofs.KeptSteps.{Recalls, recalls-same, recalls-none, steps-well}
 use Rattle.back_end.proofs.PushSteps.{session-is}
 use Rattle.back_end.proofs.WatchSteps.{AddsOne, with-adds, without-adds, watch-well}
 use Rattle.back_end.proofs.StepLemmas.{reset-is}
-use Rattle.back_end.proofs.WellSteps.{HasNumbers, room-numbers, can-tell, can-sheets, told-view, stays-with, few-steps, more}
+use Rattle.back_end.proofs.WellSteps.{Well, HasNumbers, room-numbers, can-tell, can-sheets, told-view, stays-with, more}
 
 -- ---- what the agent is asked
 
@@ -74,7 +77,7 @@ still-off true k = absurd cc
 still-off false k = refl
 
 -- where DOM is off after an ask that was carried out, nothing is known
-pub off-after : (c : DomAsk) (state : State) → IsState state → (ask_needs_on c && not state.client.dom_on) ≡ false → (state.client.dom_on || turns_on c) ≡ false
+pub off-after : (c : DomAsk) (state : State) → HoldsNow state → (ask_needs_on c && not state.client.dom_on) ≡ false → (state.client.dom_on || turns_on c) ≡ false
     → (state_after state.client.session (session_outcome state.side.page c state.client.session)).opened ≡ None
 off-after (ask.GetDocument depth pierce) state is h k = turns-off state.client.dom_on k
 off-after (ask.RequestChildNodes id depth pierce) state is h k = refuses-off state.client.dom_on h k
@@ -118,9 +121,9 @@ unknown-before page ask w valid session =
     shown-not o h = absurd cc
 
 -- the state after an ask, by what it came to
-pub served-is : (ask : DomAsk) (o : Outcome Session) (state : State) → IsState state → ((state.client.dom_on || turns_on ask) ≡ false → (state_after state.client.session o).opened ≡ None)
+pub served-is : (ask : DomAsk) (o : Outcome Session) (state : State) → HoldsNow state → ((state.client.dom_on || turns_on ask) ≡ false → (state_after state.client.session o).opened ≡ None)
     → ((state_after state.client.session o).opened ≡ None → state.client.session.opened ≡ None)
-    → IsSession (nodes_in state) (state_after state.client.session o) → IsState (with_client (client_served ask o state.client) state)
+    → IsSession (nodes_in state) (state_after state.client.session o) → HoldsNow (with_client (client_served ask o state.client) state)
 served-is ask (shows_root w b) state is off unknown session = record {
   page = is.page;
   texts = is.texts;
@@ -130,7 +133,6 @@ served-is ask (shows_root w b) state is off unknown session = record {
   css_off = λ h. is.css_off (was-off state.client.dom_on (turns_on ask) h);
   watched = is.watched;
   none_watched = λ h. is.none_watched (unknown h);
-  history = is.history;
 }
 served-is ask (served p body) state is off unknown session = record {
   page = is.page;
@@ -141,7 +143,6 @@ served-is ask (served p body) state is off unknown session = record {
   css_off = λ h. is.css_off (was-off state.client.dom_on (turns_on ask) h);
   watched = is.watched;
   none_watched = λ h. is.none_watched (unknown h);
-  history = is.history;
 }
 served-is ask (refused why) state is off unknown session = record {
   page = is.page;
@@ -152,7 +153,6 @@ served-is ask (refused why) state is off unknown session = record {
   css_off = is.css_off;
   watched = is.watched;
   none_watched = λ h. is.none_watched (unknown h);
-  history = is.history;
 }
 
 served-view : (ask : DomAsk) (o : Outcome Session) (state : State)
@@ -167,8 +167,8 @@ served-pushed ask (shows_root w b) state = refl
 served-pushed ask (served p body) state = refl
 served-pushed ask (refused why) state = refl
 
-agent-well : (id : ℕ) (ask : DomAsk) (state : State) → IsState state → HasRoom state → is_counted id ≡ true → fits_ask ask ≡ true
-    → (ask_needs_on ask && not state.client.dom_on) ≡ false → StepsWell state (agent_step id ask state)
+agent-well : (id : ℕ) (ask : DomAsk) (state : State) → HoldsNow state → HasRoom state → is_counted id ≡ true → fits_ask ask ≡ true
+    → (ask_needs_on ask && not state.client.dom_on) ≡ false → Well state (agent_step id ask state) 100000 0 0
 agent-well id ask state is room small fits on =
     let page = state.side.page in
     let w = state.client.session in
@@ -178,17 +178,22 @@ agent-well id ask state is room small fits on =
     let few : length (state_after w o).pushed ≤ length w.pushed + node_count (nodes_in state) = draws_few page ask w is.page fits is.session in
     let count : node_count (nodes_in state) ≤ 100000 = count-alone page is.page in
     record {
-      is_state = served-is ask o state is (off-after ask state is on) (unknown-before page ask w is.page is.session) (stays_session page ask w is.page fits is.session);
+      now = served-is ask o state is (off-after ask state is on) (unknown-before page ask w is.page is.session) (stays_session page ask w is.page fits is.session);
       course = subst (λ v. Course (moves_of id o) (view_of state) v) (served-view ask o state) (steps_are_moves page ask w id (sheets_shown state) is.page fits is.session can small (can-sheets state is low));
-      ids = omega (arith, few, count, served-pushed ask o state);
-      serials = omega arith;
-      sheets = omega arith;
+      few_ids = omega (arith, few, count, served-pushed ask o state);
+      few_serials = omega arith;
+      few_sheets = omega arith;
     }
+
+agent-recalls : (ask : DomAsk) (o : Outcome Session) (state : State) → HasHistory state → Recalls state (with_client (client_served ask o state.client) state) 0 0
+agent-recalls ask (shows_root w b) state history = recalls-same state _ history refl refl (omega arith)
+agent-recalls ask (served p body) state history = recalls-same state _ history refl refl (omega arith)
+agent-recalls ask (refused why) state history = recalls-same state _ history refl refl (omega arith)
 
 -- ---- the seat's own commands
 
 -- a command that changes nothing but whether DOM is on
-pub enabled-is : (state : State) → IsState state → IsState (with_client (record state.client { dom_on = true }) state)
+pub enabled-is : (state : State) → HoldsNow state → HoldsNow (with_client (record state.client { dom_on = true }) state)
 enabled-is state is = record {
   page = is.page;
   texts = is.texts;
@@ -198,65 +203,63 @@ enabled-is state is = record {
   css_off = λ h. absurd cc;
   watched = is.watched;
   none_watched = is.none_watched;
-  history = is.history;
 }
 
-enables-well : (id : ℕ) (state : State) → IsState state → HasRoom state → is_counted id ≡ true → StepsWell state (server_step id enables state)
+enables-well : (id : ℕ) (state : State) → HoldsNow state → HasRoom state → is_counted id ≡ true → Well state (server_step id enables state) 0 0 0
 enables-well id state is room small =
     let told : CanBeTold (view_of state) = told-view state is (room-numbers state room) in
     record {
-      is_state = enabled-is state is;
+      now = enabled-is state is;
       course = goes (replied id Nothing) [] (view_of state) (view_of state) (view_of state) told
           (refl, record { id_fits = small; plain = refl; fits = refl; texts = tt; levels = omega arith }) (ends (view_of state) told);
-      ids = omega arith;
-      serials = omega arith;
-      sheets = omega arith;
+      few_ids = omega arith;
+      few_serials = omega arith;
+      few_sheets = omega arith;
     }
 
-pub disabled-is : (state : State) → IsState state → IsState (with_client (client_reset false state.client) state)
+pub disabled-is : (state : State) → HoldsNow state → HoldsNow (with_client (client_reset false state.client) state)
 disabled-is state is = reset-is state state.side false is.page is.texts is.sheets
 
 and-false : (b : Bool) → (b && false) ≡ false
 and-false true = refl
 and-false false = refl
 
-disables-well : (id : ℕ) (state : State) → IsState state → HasRoom state → is_counted id ≡ true → StepsWell state (server_step id disables state)
+disables-well : (id : ℕ) (state : State) → HoldsNow state → HasRoom state → is_counted id ≡ true → Well state (server_step id disables state) 0 0 0
 disables-well id state is room small =
     let after : State = with_client (client_reset false state.client) state in
-    let done : IsState after = disabled-is state is in
+    let done : HoldsNow after = disabled-is state is in
     let told : CanBeTold (view_of state) = told-view state is (room-numbers state room) in
     let told_after : CanBeTold (view_of after) = told-view after done (record { ids = omega (arith, room.ids); serials = omega (arith, room.serials); sheets = omega (arith, room.sheets) }) in
     let unseen : view_of after ≡ record { tree = none; sheets = [] } =
     ap (λ (b : Bool). seen_by (reset state.client.session) state.side.page (cond b state.side.sheets [])) (and-false state.client.css_on) in
     record {
-      is_state = done;
+      now = done;
       course = goes (all_off id) [] (view_of state) (view_of after) (view_of after) told (unseen, small) (ends (view_of after) told_after);
-      ids = omega arith;
-      serials = omega arith;
-      sheets = omega arith;
+      few_ids = omega arith;
+      few_serials = omega arith;
+      few_sheets = omega arith;
     }
 
 -- a refusal changes nothing
-refusing-well : (r : Refused) (state : State) → IsState state → HasRoom state → holds_of_some is_counted r.id ≡ true → StepsWell state (record { state = state; moves = failed r ∷ [] })
+refusing-well : (r : Refused) (state : State) → IsState state → HasRoom state → holds_of_some is_counted r.id ≡ true
+    → StepsWell state (record { state = state; moves = failed r ∷ [] }) × KeepsAtMost 0 state state
 refusing-well r state is room small =
-    few-steps (more (omega arith) (omega arith) (omega arith) (stays-with (failed r) state is (room-numbers state room) (refl, small)))
+    let recalls : Recalls state state 0 0 = recalls-same state state is.history refl refl (omega arith) in
+    (steps-well {ids = 0} (omega arith) (omega arith) (more (omega arith) (omega arith) (omega arith) (stays-with (failed r) state is.now (room-numbers state room) (refl, small))) recalls, recalls.few_edits)
 
 -- ---- a command
 
--- what a step comes to: it is well, and answers the command of that id once
-record Serves (state : State) (done : Step) (id : ℕ) (c : Command) : Type 0 where
-  pub well : StepsWell state done
-  pub once : flat_map reply_ids done.moves ≡ Some id ∷ []
-  pub may : MayAnswerAll (method_name c) done.moves
-  pub texts : TellTextOf (text_asked c) done.moves
+-- what a step comes to: it is well, keeps at most so many edits more, and answers the command of that id once
+abbrev Serves : State → Step → ℕ → Command → ℕ → Type 0
+Serves state done id c most = Answered (method_name c) (text_asked c) id most state done
 
-serves-refusal : (id : ℕ) (why : Why) (c : Command) (state : State) → IsState state → HasRoom state → is_counted id ≡ true → Serves state (refusing (Some id) why state) id c
-serves-refusal id why c state is room small = record {
-  well = refusing-well (record { id = Some id; why = why }) state is room small;
-  once = refl;
-  may = (tt, tt);
-  texts = (tt, tt);
-}
+serves-refusal : (id : ℕ) (why : Why) (c : Command) (most : ℕ) (state : State) → IsState state → HasRoom state → is_counted id ≡ true → Serves state (refusing (Some id) why state) id c most
+serves-refusal id why c most state is room small = refusal-answered (method_name c) (text_asked c) id most why state is room small
+
+-- a step that keeps no edit
+serves-plain : {state : State} {done : Step} {id ids : ℕ} (c : Command) → ids ≤ 500000 → Well state done ids 100001 1000 → Recalls state done.state 0 0
+    → flat_map reply_ids done.moves ≡ Some id ∷ [] → MayAnswerAll (method_name c) done.moves → TellTextOf (text_asked c) done.moves → Serves state done id c 0
+serves-plain c low well recalls once may texts = record { well = steps-well (omega (arith, low)) (omega arith) well recalls; few = recalls.few_edits; once = once; may = may; texts = texts }
 
 -- a server that a replay has
 data IsServer (c : Command) : Server → Type 0 where
@@ -268,6 +271,9 @@ data IsServer (c : Command) : Server → Type 0 where
   is_css : (ask : CssAsk) → c ≡ css_command ask → IsServer c (css_agent ask)
   is_sheet_edit : (x : CssEdit) → method_name c ≡ css_edit_name x → HasEditTexts x → IsServer c (edits_sheets x)
   is_tree_edit : (edit : DomEdit) → AsksFor (method_name c) edit → HasTreeTexts edit → IsServer c (edits_tree edit)
+  is_ends_group : MayAnswer (method_name c) (replied 0 Nothing) → IsServer c ends_group
+  is_undoes : MayAnswer (method_name c) (replied 0 Nothing) → IsServer c undoes
+  is_redoes : MayAnswer (method_name c) (replied 0 Nothing) → IsServer c redoes
   is_watches : (node : ℕ) (word : WatchWord) → MayAnswer (method_name c) (replied 0 Nothing) → IsServer c (watches node word)
   is_unwatches : (node : ℕ) (word : WatchWord) → MayAnswer (method_name c) (replied 0 Nothing) → IsServer c (unwatches node word)
   is_load : (params : Data) → MayAnswer (method_name c) (replied 0 Nothing) → HasUtf8 params → IsServer c (page_load params)
@@ -276,39 +282,38 @@ data IsServer (c : Command) : Server → Type 0 where
 
 -- what one of our own two methods comes to
 serves-own : {A : Type 0} (turn_of : A → Turn) (id : ℕ) (r : Result A Why) (c : Command) (state : State) → ((a : A) → r ≡ Ok a → IsTurn (turn_of a))
-    → MayAnswer (method_name c) (replied 0 Nothing) → IsState state → HasRoom state → is_counted id ≡ true → Serves state (own_step turn_of id r state) id c
+    → MayAnswer (method_name c) (replied 0 Nothing) → IsState state → HasRoom state → is_counted id ≡ true → Serves state (own_step turn_of id r state) id c 0
 serves-own turn_of id (Ok a) c state can h is room small =
     let events = turn-events (turn_of a) state in
+    let done = answering-well id (turn_of a) state is room small (can a refl) in
     record {
-      well = answering-well id (turn_of a) state is room small (can a refl);
+      well = done.0;
+      few = done.1;
       once = answering-once id (turn_of a) state;
       may = may-append (method_name c) (turn_step (turn_of a) state).moves (replied id Nothing ∷ []) (events-may (method_name c) (turn_step (turn_of a) state).moves events) (h, tt);
       texts = texts-append (text_asked c) (turn_step (turn_of a) state).moves (replied id Nothing ∷ []) (events-text (text_asked c) (turn_step (turn_of a) state).moves events) (tt, tt);
     }
-serves-own turn_of id (Err why) c state can h is room small = serves-refusal id why c state is room small
+serves-own turn_of id (Err why) c state can h is room small = serves-refusal id why c 0 state is room small
 
 -- what a change of the watches of a node comes to, where the node is known
 serves-watch : (id : ℕ) (change : ℕ → Watched → Watched) (node : ℕ) (c : Command) (state : State) → AddsOne change → MayAnswer (method_name c) (replied 0 Nothing)
-    → IsState state → HasRoom state → is_counted id ≡ true → Serves state (watch_step id change (serial_now state node) state) id c
+    → IsState state → HasRoom state → is_counted id ≡ true → Serves state (watch_step id change (serial_now state node) state) id c 0
 serves-watch id change node c state adds h is room small = at (serial_now state node) refl where
-  at : (o : Option ℕ) → serial_now state node ≡ o → Serves state (watch_step id change o state) id c
-  at None e = serves-refusal id UnknownNode c state is room small
-  at (Some serial) e = record {
-    well = few-steps (more (omega arith) (omega arith) (omega arith) (watch-well id change state node serial adds e is (room-numbers state room) small));
-    once = refl;
-    may = (h, tt);
-    texts = (tt, tt);
-  }
+  at : (o : Option ℕ) → serial_now state node ≡ o → Serves state (watch_step id change o state) id c 0
+  at None e = serves-refusal id UnknownNode c 0 state is room small
+  at (Some serial) e =
+      serves-plain {ids = 0} c (omega arith) (more (omega arith) (omega arith) (omega arith) (watch-well id change state node serial adds e is.now (room-numbers state room) small))
+      (recalls-same state _ is.history refl refl (omega arith)) refl (h, tt) (tt, tt)
 
 -- a command is refused while a domain is off that it needs, and else carried out
-command-serves : (id : ℕ) (c : Command) (server : Server) (state : State) → IsState state → HasRoom state → is_counted id ≡ true
-    → ((needs_on server && not state.client.dom_on) ≡ false → (needs_css server && not state.client.css_on) ≡ false → Serves state (server_step id server state) id c)
-    → Serves state (command_step id server state) id c
-command-serves id c server state is room small goes_on = at (needs_on server && not state.client.dom_on) refl (needs_css server && not state.client.css_on) refl where
+command-serves : (id : ℕ) (c : Command) (server : Server) (most : ℕ) (state : State) → IsState state → HasRoom state → is_counted id ≡ true
+    → ((needs_on server && not state.client.dom_on) ≡ false → (needs_css server && not state.client.css_on) ≡ false → Serves state (server_step id server state) id c most)
+    → Serves state (command_step id server state) id c most
+command-serves id c server most state is room small goes_on = at (needs_on server && not state.client.dom_on) refl (needs_css server && not state.client.css_on) refl where
   at : (a : Bool) → (needs_on server && not state.client.dom_on) ≡ a → (b : Bool) → (needs_css server && not state.client.css_on) ≡ b
-      → Serves state (cond a (refusing (Some id) DomOff state) (cond b (refusing (Some id) CssOff state) (server_step id server state))) id c
-  at true e b f = serves-refusal id DomOff c state is room small
-  at false e true f = serves-refusal id CssOff c state is room small
+      → Serves state (cond a (refusing (Some id) DomOff state) (cond b (refusing (Some id) CssOff state) (server_step id server state))) id c most
+  at true e b f = serves-refusal id DomOff c most state is room small
+  at false e true f = serves-refusal id CssOff c most state is room small
   at false e false f = goes_on e f
 
 on-by : (b : Bool) → (true && not b) ≡ false → b ≡ true
@@ -329,60 +334,60 @@ on-events true sheets = tt
 on-events false sheets = come-are-events sheets
 
 serves : (id : ℕ) (c : Command) (server : Server) (state : State) → IsServer c server → IsState state → HasRoom state → is_counted id ≡ true
-    → Serves state (command_step id server state) id c
+    → Serves state (command_step id server state) id c (most_edits server)
 serves id c _ state (is_enables h) is room small =
-    command-serves id c enables state is room small (λ dom css. record { well = enables-well id state is room small; once = refl; may = (h, tt); texts = (tt, tt) })
+    command-serves id c enables 0 state is room small (λ dom css. serves-plain {ids = 0} c (omega arith) (more (omega arith) (omega arith) (omega arith) (enables-well id state is.now room small))
+    (recalls-same state _ is.history refl refl (omega arith)) refl (h, tt) (tt, tt))
 serves id c _ state (is_disables h) is room small =
-    command-serves id c disables state is room small (λ dom css. record { well = disables-well id state is room small; once = refl; may = (h, tt); texts = (tt, tt) })
+    command-serves id c disables 0 state is room small (λ dom css. serves-plain {ids = 0} c (omega arith) (more (omega arith) (omega arith) (omega arith) (disables-well id state is.now room small))
+    (recalls-none state _ refl) refl (h, tt) (tt, tt))
 serves id c _ state (is_css_enables h) is room small =
     let events = on-events state.client.css_on state.side.sheets in
     let first = cond state.client.css_on [] (moves_come state.side.sheets) in
-    command-serves id c css_enables state is room small (λ dom css. record {
-      well = few-steps (more (omega arith) (omega arith) (omega arith) (css-on-well id state is (room-numbers state room) (on-by state.client.dom_on dom) small));
-      once = css-once-on id state.client.css_on state.side.sheets;
-      may = may-append (method_name c) first (replied id Nothing ∷ []) (events-may (method_name c) first events) (h, tt);
-      texts = texts-append (text_asked c) first (replied id Nothing ∷ []) (events-text (text_asked c) first events) (tt, tt);
-    })
+    command-serves id c css_enables 0 state is room small (λ dom css. serves-plain {ids = 0} c (omega arith)
+    (more (omega arith) (omega arith) (omega arith) (css-on-well id state is.now (room-numbers state room) (on-by state.client.dom_on dom) small))
+    (recalls-same state _ is.history refl refl (omega arith))
+    (css-once-on id state.client.css_on state.side.sheets)
+    (may-append (method_name c) first (replied id Nothing ∷ []) (events-may (method_name c) first events) (h, tt))
+    (texts-append (text_asked c) first (replied id Nothing ∷ []) (events-text (text_asked c) first events) (tt, tt)))
 serves id c _ state (is_css_disables h) is room small =
-    command-serves id c css_disables state is room small (λ dom css. record {
-      well = few-steps (more (omega arith) (omega arith) (omega arith) (css-off-well id state is (room-numbers state room) small));
-      once = refl;
-      may = (h, tt);
-      texts = (tt, tt);
-    })
+    command-serves id c css_disables 0 state is room small (λ dom css. serves-plain {ids = 0} c (omega arith)
+    (more (omega arith) (omega arith) (omega arith) (css-off-well id state is.now (room-numbers state room) small))
+    (recalls-same state _ is.history refl refl (omega arith)) refl (h, tt) (tt, tt))
 serves id c _ state (is_agent ask h fits) is room small =
-    command-serves id c (agent ask) state is room small (λ dom css. record {
-      well = agent-well id ask state is room small fits dom;
-      once = outcome-answers id (session_outcome state.side.page ask state.client.session);
-      may = subst (λ method. MayAnswerAll method (agent_step id ask state).moves) (sym h)
-          (outcome-may id ask (session_outcome state.side.page ask state.client.session) (replies_answer state.side.page ask state.client.session is.page fits is.session));
-      texts = outcome-text (text_asked c) id (session_outcome state.side.page ask state.client.session);
-    })
+    command-serves id c (agent ask) 0 state is room small (λ dom css. serves-plain {ids = 100000} c (omega arith)
+    (more (omega arith) (omega arith) (omega arith) (agent-well id ask state is.now room small fits dom))
+    (agent-recalls ask (session_outcome state.side.page ask state.client.session) state is.history)
+    (outcome-answers id (session_outcome state.side.page ask state.client.session))
+    (subst (λ method. MayAnswerAll method (agent_step id ask state).moves) (sym h)
+    (outcome-may id ask (session_outcome state.side.page ask state.client.session) (replies_answer state.side.page ask state.client.session is.now.page fits is.now.session)))
+    (outcome-text (text_asked c) id (session_outcome state.side.page ask state.client.session)))
 serves id c _ state (is_css ask h) is room small =
-    command-serves id c (css_agent ask) state is room small (λ dom css. record {
-      well = few-steps (more (omega arith) (omega arith) (omega arith) (css-well id ask state is (room-numbers state room) (on-by state.client.css_on css) small));
-      once = css-once id ask state;
-      may = subst (λ d. MayAnswerAll (method_name d) (css_step id ask state).moves) (sym h) (css-may id ask state);
-      texts = subst (λ d. TellTextOf (text_asked d) (css_step id ask state).moves) (sym h) (css-text id ask state);
-    })
+    command-serves id c (css_agent ask) 0 state is room small (λ dom css. serves-plain {ids = 0} c (omega arith)
+    (more (omega arith) (omega arith) (omega arith) (css-well id ask state is.now (room-numbers state room) (on-by state.client.css_on css) small))
+    (recalls-same state state is.history refl refl (omega arith))
+    (css-once id ask state)
+    (subst (λ d. MayAnswerAll (method_name d) (css_step id ask state).moves) (sym h) (css-may id ask state))
+    (subst (λ d. TellTextOf (text_asked d) (css_step id ask state).moves) (sym h) (css-text id ask state)))
 serves id c _ state (is_sheet_edit x h u) is room small =
-    command-serves id c (edits_sheets x) state is room small (λ dom css. record {
-      well = sheet-edit-well id x state is room u small;
-      once = sheet-edit-once id x state;
-      may = subst (λ method. MayAnswerAll method (sheet_edit_step id x state).moves) (sym h) (sheet-edit-may id x state is room u);
-      texts = sheet-edit-text id x state (text_asked c);
-    })
+    command-serves id c (edits_sheets x) (most_splices x) state is room small (λ dom css.
+    subst (λ method. Answered method (text_asked c) id (most_splices x) state (sheet_edit_step id x state)) (sym h) (sheet-edit-answered id x state (text_asked c) is room u small))
 serves id c _ state (is_tree_edit edit asks texts) is room small =
-    let a = tree-edit-answered (method_name c) (text_asked c) id edit state texts asks is room small in
-    command-serves id c (edits_tree edit) state is room small (λ dom css. record { well = a.well; once = a.once; may = a.may; texts = a.texts })
+    command-serves id c (edits_tree edit) 2 state is room small (λ dom css. tree-edit-answered (method_name c) (text_asked c) id edit state texts asks is room small)
+serves id c _ state (is_ends_group h) is room small =
+    command-serves id c ends_group 0 state is room small (λ dom css. mark-answered (method_name c) (text_asked c) id state h is room small)
+serves id c _ state (is_undoes h) is room small =
+    command-serves id c undoes 0 state is room small (λ dom css. undo-answered (method_name c) (text_asked c) id state h is room small)
+serves id c _ state (is_redoes h) is room small =
+    command-serves id c redoes 0 state is room small (λ dom css. redo-answered (method_name c) (text_asked c) id state h is room small)
 serves id c _ state (is_watches node word h) is room small =
-    command-serves id c (watches node word) state is room small (λ dom css. serves-watch id (with_watch (watch_kind word)) node c state (with-adds (watch_kind word)) h is room small)
+    command-serves id c (watches node word) 0 state is room small (λ dom css. serves-watch id (with_watch (watch_kind word)) node c state (with-adds (watch_kind word)) h is room small)
 serves id c _ state (is_unwatches node word h) is room small =
-    command-serves id c (unwatches node word) state is room small (λ dom css. serves-watch id (without_watch (watch_kind word)) node c state (without-adds (watch_kind word)) h is room small)
+    command-serves id c (unwatches node word) 0 state is room small (λ dom css. serves-watch id (without_watch (watch_kind word)) node c state (without-adds (watch_kind word)) h is room small)
 serves id c _ state (is_load params h u) is room small = serves-own loads id (load_asked params) c state (λ page e. load-turn params page u e) h is room small
 serves id c _ state (is_act params h u) is room small =
     serves-own acts id (act_asked params state.side.page (book_in state)) c state (λ act e. act-turn params state.side.page (book_in state) act u e) h is room small
-serves id c _ state is_nobody is room small = serves-refusal id NoMethod c state is room small
+serves id c _ state is_nobody is room small = serves-refusal id NoMethod c 0 state is room small
 
 by-agent : (c : Command) → fits_command c ≡ true → IsServer c (by_agent (dom_ask_in c))
 by-agent c fits = at (dom_ask_in c) refl where
@@ -409,9 +414,9 @@ server-is (SetNodeValue node value) fits texts = is_tree_edit (tree.SetNodeValue
 server-is (RemoveNode node) fits texts = is_tree_edit (tree.RemoveNode node) (refl, refl) texts
 server-is (MoveTo node target before) fits texts = is_tree_edit (tree.MoveTo node target before) (λ id. (refl, refl)) texts
 server-is (CopyTo node target before) fits texts = is_tree_edit (tree.CopyTo node target before) (λ id. (refl, refl)) texts
-server-is MarkUndoableState fits texts = by-agent MarkUndoableState fits
-server-is Undo fits texts = by-agent Undo fits
-server-is Redo fits texts = by-agent Redo fits
+server-is MarkUndoableState fits texts = is_ends_group (refl, refl)
+server-is Undo fits texts = is_undoes (refl, refl)
+server-is Redo fits texts = is_redoes (refl, refl)
 server-is CssEnable fits texts = is_css_enables (refl, refl)
 server-is CssDisable fits texts = is_css_disables refl
 server-is (GetMatchedStyles node) fits texts = is_css (css.GetMatchedStyles node) refl
@@ -428,9 +433,8 @@ server-is (ReplayAct params) fits texts = is_act params (refl, refl) texts
 
 -- ---- a frame
 
-pub frame-steps-well : (own : Bool) (state : State) (frame : List ℕ) → IsState state → HasRoom state
-    → StepsWell state (frame_step own frame state) × IsAnswered (asked frame own) (frame_step own frame state).moves
+pub frame-steps-well : FramesStepWell
 frame-steps-well own state frame is room = at (asked frame own) (frame-fits own frame) (frame-texts own frame) where
-  at : (r : Result Asked Refused) → AskedFits r → AskedTexts r → StepsWell state (asked_step r state) × IsAnswered r (asked_step r state).moves
-  at (Ok a) fits texts = let s = serves a.id a.command (server_of a.command) state (server-is a.command fits.1 texts) is room fits.0 in (s.well, (s.once, s.may, s.texts))
-  at (Err r) fits texts = (refusing-well r state is room fits, refl)
+  at : (r : Result Asked Refused) → AskedFits r → AskedTexts r → StepsWell state (asked_step r state) × IsAnswered r (asked_step r state).moves × KeepsAtMost (edits_asked r) state (asked_step r state).state
+  at (Ok a) fits texts = let s = serves a.id a.command (server_of a.command) state (server-is a.command fits.1 texts) is room fits.0 in (s.well, (s.once, s.may, s.texts), s.few)
+  at (Err r) fits texts = let w = refusing-well r state is room fits in (w.0, refl, w.1)

@@ -5,21 +5,21 @@ use Rattle.std.proofs.lemmas.List.{reverse-reverse}
 use Rattle.cdp_json.proofs.ReadTexts.{IfSome}
 use Rattle.node_tree.specs.Nodes.{Branch, alone}
 use Rattle.node_tree.specs.Labels.{Pair, value_of}
-use Rattle.page_tree.specs.Pages.{Row, node_at}
+use Rattle.page_tree.specs.Pages.{Row}
 use Rattle.page_tree.specs.Edits.{label_at, restored, back_tree}
 use Rattle.page_tree.specs.declared.edits.TreeEdit.{TreeEdit}
 use Rattle.page_tree.specs.declared.edits.TreeEdit.TheVariants.{SetAttr, DropAttr, SetText, Attach, Detach}
 use Rattle.cdp_messages.specs.Laws.{PairsHaveUtf8}
 use Rattle.dom_agent.specs.Laws.{RowsHaveUtf8}
-use Rattle.undo_marks.specs.Marks.{Marks, no_marks, newest, handed_out, noted_singly, edited, marked, crossed_over, undone, redone, past_popped, future_popped, past_pushed, future_pushed}
-use Rattle.undo_marks.specs.Changes.{Change as Entry, page_undone, page_redone, after_all, changes_on, back_all, AllTaken, IsHistory, backs_of, again_of, kept_of, KeptFor, AreBacks, IsUndo, IsRedo, StaysKept, KeepsOn}
+use Rattle.undo_marks.specs.Marks.{Marks, no_marks, handed_out, noted_singly, edited, marked, crossed_over, undone, redone, past_popped, future_popped, past_pushed, future_pushed}
+use Rattle.undo_marks.specs.Changes.{Change as Entry, page_undone, page_redone, after_all, changes_on, back_all, AllTaken, backs_of, again_of, kept_of, KeptFor, AreBacks, IsUndo, IsRedo, KeepsOn}
 use Rattle.undo_marks.specs.Saved.{Saved}
-use Rattle.undo_marks.specs.SavedEdits.{page_after, way_back, TakesEdit}
+use Rattle.undo_marks.specs.SavedEdits.{page_after, way_back}
 use Rattle.undo_marks.specs.declared.inverse_lists.Inverse.{Inverse}
 use Rattle.undo_marks.specs.declared.inverse_lists.Inverse.TheVariants.{Tree, Sheet}
 use Rattle.undo_marks.proofs.HistoryLemmas.{keeps_on, kept_grow}
 use Rattle.undo_marks.proofs.PageLemmas.{edits_are_backs, taken_later}
-use Rattle.back_end.specs.Texts.{EditHasTexts, KeptHasTexts}
+use Rattle.back_end.specs.Texts.{EditHasTexts}
 use Rattle.back_end.specs.States.{State, saved_now, TakesWell, HasHistory, Keeps}
 use Rattle.back_end.specs.Steps.{Step, with_marks, keeping, with_crossed, undo_edits, redo_edits}
 use Rattle.back_end.proofs.TextLemmas.{node_at-texts, after-texts}

@@ -4,6 +4,8 @@ pub mod TextLemmas
 pub mod HistoryLemmas
 pub mod SheetLemmas
 pub mod WellSteps
+pub mod GroupCounts
+pub mod KeptSteps
 pub mod WatchedLemmas
 pub mod PushSteps
 pub mod WatchSteps
@@ -12,7 +14,9 @@ pub mod SheetSteps
 pub mod StepLemmas
 pub mod TurnAnswers
 pub mod AnswerLemmas
+pub mod AnsweredSteps
 pub mod SpliceSteps
+pub mod UndoSteps
 pub mod TreeSteps
 pub mod CssAnswers
 pub mod FrameLemmas

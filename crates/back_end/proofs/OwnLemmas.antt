@@ -24,9 +24,10 @@ use Rattle.back_end.specs.States.{State, IsState, view_of}
 use Rattle.back_end.specs.Plans.{act_fault}
 use Rattle.back_end.specs.OwnMethods.{load_why, act_why, unless_why, if_whole, load_form, load_asked, act_form, act_judged, act_asked}
 use Rattle.back_end.specs.Steps.{Turn, acts, loads, turn_step, answering}
-use Rattle.back_end.specs.Laws.{HasRoom, StepsWell, IsTurn, reply_ids}
+use Rattle.back_end.specs.Laws.{HasRoom, StepsWell, KeepsAtMost, IsTurn, reply_ids}
 use Rattle.back_end.proofs.AnswerLemmas.{flat-append, turn-answers}
-use Rattle.back_end.proofs.WellSteps.{told-view, after-numbers}
+use Rattle.back_end.proofs.WellSteps.{told-view}
+use Rattle.back_end.proofs.KeptSteps.{after-numbers}
 use Rattle.back_end.proofs.StepLemmas.{turn-steps-well}
 
 -- ---- what is found
@@ -79,19 +80,24 @@ act-turn params page book act u e = at (has_float params) e where
 
 -- ---- the step, and the reply
 
-pub answering-well : (id : ℕ) (x : Turn) (state : State) → IsState state → HasRoom state → is_counted id ≡ true → IsTurn x → StepsWell state (answering id (turn_step x state))
+pub answering-well : (id : ℕ) (x : Turn) (state : State) → IsState state → HasRoom state → is_counted id ≡ true → IsTurn x
+    → StepsWell state (answering id (turn_step x state)) × KeepsAtMost 0 state (answering id (turn_step x state)).state
 answering-well id x state is room small can =
-    let done : StepsWell state (turn_step x state) = turn-steps-well state x is room can in
+    let turn = turn-steps-well state x is room can in
+    let done : StepsWell state (turn_step x state) = turn.0 in
     let after : State = (turn_step x state).state in
-    let told : CanBeTold (view_of after) = told-view after done.is_state (after-numbers state (turn_step x state) room done) in
-    record {
-      is_state = done.is_state;
-      course = course-join done.course (goes (replied id Nothing) [] (view_of after) (view_of after) (view_of after) told
-          (refl, record { id_fits = small; plain = refl; fits = refl; texts = tt; levels = omega arith }) (ends (view_of after) told));
-      ids = done.ids;
-      serials = done.serials;
-      sheets = done.sheets;
-    }
+    let told : CanBeTold (view_of after) = told-view after done.is_state.now (after-numbers state (turn_step x state) room done) in (
+      record {
+        is_state = done.is_state;
+        course = course-join done.course (goes (replied id Nothing) [] (view_of after) (view_of after) (view_of after) told
+            (refl, record { id_fits = small; plain = refl; fits = refl; texts = tt; levels = omega arith }) (ends (view_of after) told));
+        ids = done.ids;
+        serials = done.serials;
+        sheets = done.sheets;
+        trees = done.trees;
+      },
+      turn.1,
+    )
 
 pub answering-once : (id : ℕ) (x : Turn) (state : State) → flat_map reply_ids (answering id (turn_step x state)).moves ≡ Some id ∷ []
 answering-once id x state =

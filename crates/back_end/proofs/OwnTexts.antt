@@ -1,11 +1,9 @@
 -- What our own two methods are given has UTF-8 texts, as each frame that is read has.
-use Rattle.std.proofs.Common.{◌≡◌, List, ℕ, Bool, true, false, cond, Option, Some, None, Result, Ok, Err, Ordering, Less, Equal, Greater, nat_cmp, refl, codes}
+use Rattle.std.proofs.Common.{◌≡◌, List, ℕ, Bool, true, false, cond, Option, Some, None, Result, Ok, Err, refl, codes}
 use Rattle.std.specs.Prelude.{⊤}
 use Rattle.std.specs.Str.{is_utf8}
-use Rattle.std.specs.Ordering.{match_ordering}
-use Rattle.std.specs.Cmp.Lexicographic.{slice_cmp}
 use Rattle.std.proofs.lemmas.Str.{IsUtf8-from_is_utf8}
-use Rattle.serde_json.specs.Data.{Data, Members, no_members, member}
+use Rattle.serde_json.specs.Data.{Data, Members}
 use Rattle.serde_json.specs.Find.{get_member, as_str, as_object}
 use Rattle.serde_json.specs.Read.{read}
 use Rattle.std.specs.List.{All}
@@ -32,7 +30,6 @@ use Rattle.cdp_messages.specs.declared.command.Param.{Param}
 use Rattle.cdp_messages.specs.declared.command.Param.TheVariants as param
 use Rattle.cdp_messages.specs.declared.command.Why.TheVariants.{BadParam}
 use Rattle.cdp_messages.specs.Refusals.{param_name}
-use Rattle.cdp_messages.specs.declared.edits.TextEdit.{TextEdit}
 use Rattle.css_objects.specs.declared.ranges.SourceRange.{SourceRange}
 use Rattle.css_agent.specs.EditLaws.{HasEditText}
 use Rattle.back_end.proofs.CommandTexts.{Any, reads-any, reads-text, reads-list, IfGiven, Gives, member-texts, gives-all, gives-field, reads-edit}

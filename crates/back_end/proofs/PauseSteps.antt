@@ -1,6 +1,6 @@
 -- A pause: its nodes become known, and then it is told; the step is well.
-use Rattle.std.proofs.Common.{◌≡◌, ℕ, ◌+◌, ◌^◌, ◌<◌, ◌≤◌, ◌==◌, Bool, true, false, not, cond, List, [], ◌∷◌, find, length, Option, Some, None, refl, sym, ◌∙◌, ap, subst, arith}
-use Rattle.std.specs.Prelude.{⊤, option_map}
+use Rattle.std.proofs.Common.{◌≡◌, ℕ, ◌+◌, ◌^◌, ◌<◌, ◌≤◌, ◌==◌, Bool, true, false, cond, List, [], ◌∷◌, find, length, Option, Some, None, refl, sym, ◌∙◌, ap, subst, arith}
+use Rattle.std.specs.Prelude.{option_map}
 use Rattle.std.proofs.lemmas.Bool.{eq-eqb, eqb-true, not-false}
 use Rattle.node_tree.specs.Nodes.{Nodes, none, node, Branch, alone}
 use Rattle.node_tree.specs.Keys.{first_of, has, tally}
@@ -29,7 +29,7 @@ use Rattle.dom_breakpoints.specs.declared.pauses.WatchKind.TheVariants.{Subtree,
 use Rattle.dom_breakpoints.specs.declared.pauses.Pause.{Pause}
 use Rattle.dom_breakpoints.specs.Pauses.{own_pause, subtree_pause, pause_of}
 use Rattle.dom_breakpoints.specs.Watched.{Watched, is_watched}
-use Rattle.back_end.specs.States.{State, Side, nodes_in, view_of, IsState}
+use Rattle.back_end.specs.States.{State, nodes_in, view_of, HoldsNow}
 use Rattle.back_end.specs.Steps.{Step, push_step, push_steps, pause_data, id_now, met_step, followed_by, pause_step}
 use Rattle.back_end.specs.Seats.{IsPause, by_attribute, by_removal, by_subtree}
 use Rattle.back_end.proofs.WatchedLemmas.{none-set}
@@ -81,7 +81,7 @@ edit-pause (Detach s) w next tree p can e =
     (subtree-pause w (alone tree) s false (ancestors_at s tree) p (live-there s tree live)) e
 
 -- where a node is watched, something is opened
-pub watched-begun : (state : State) (kind : WatchKind) (s : ℕ) → IsState state → is_watched kind state.client.watched s ≡ true → IsBegun state.client.session
+pub watched-begun : (state : State) (kind : WatchKind) (s : ℕ) → HoldsNow state → is_watched kind state.client.watched s ≡ true → IsBegun state.client.session
 watched-begun state kind s is h = at state.client.session.opened refl where
   at : (o : Option (ℕ → Bool)) → state.client.session.opened ≡ o → IsBegun state.client.session
   at (Some o) e = (o, e)
@@ -110,7 +110,7 @@ module _ (o : ℕ → Bool) (i : ℕ → ℕ) (s : ℕ) where
   seen-known n h = has-there seen_id (i s) (cut o i n) (omega (arith, h, known-seen n))
 
 -- a node that was pushed is known where at least as much is opened
-pub push-knows : (serial : ℕ) (state : State) (begun : IsBegun state.client.session) (q : ℕ → Bool) → IsState state → has row_serial serial (nodes_in state) ≡ true
+pub push-knows : (serial : ℕ) (state : State) (begun : IsBegun state.client.session) (q : ℕ → Bool) → HoldsNow state → has row_serial serial (nodes_in state) ≡ true
     → ((k : ℕ) → opened_by serial state begun.0 k ≡ true → q k ≡ true) → 0 < times serial (known q (nodes_in state))
 push-knows serial state begun q is there all =
     pushed-known begun.0 serial q (nodes_in state) begun.0 (containers-page state.side.page is.page) (distinct-alone state.side.page is.page) (λ k h. refl) all there
@@ -136,7 +136,7 @@ low-after ids low well few = record {
 }
 
 -- by a watch of the node itself
-own-pauses : (state : State) (p : Pause) → p.target ≡ None → IsState state → HasNumbers state → length state.client.session.pushed + 200000 < 2 ^ 52 → IsBegun state.client.session
+own-pauses : (state : State) (p : Pause) → p.target ≡ None → HoldsNow state → HasNumbers state → length state.client.session.pushed + 200000 < 2 ^ 52 → IsBegun state.client.session
     → has row_serial p.node (nodes_in state) ≡ true → paused_nodes (pause_data p.kind p (id_now (push_step p.node state).state)) ≡ id_now (push_step p.node state).state p.node ∷ []
     → Pauses state (followed_by (followed_by (push_step p.node state) (push_steps None)) (met_step p))
 own-pauses state p alone_is is low few begun there names =
@@ -148,12 +148,12 @@ own-pauses state p alone_is is low few begun there names =
     let shown : AreShown (paused_nodes (pause_data p.kind p (id_now after))) (view_of after).tree = subst (λ ids. AreShown ids (view_of after).tree) (sym names) (seen, tt) in
     record {
       well = more (omega arith) (omega arith) (omega arith)
-          (then-well (then-well first (stays after first.is_state next)) (stays-with (met (pause_data p.kind p (id_now after))) after first.is_state next (refl, shown)));
+          (then-well (then-well first (stays after first.now next)) (stays-with (met (pause_data p.kind p (id_now after))) after first.now next (refl, shown)));
       side = refl;
     }
 
 -- by a subtree watch
-subtree-pauses : (state : State) (s target : ℕ) (insertion : Bool) → IsState state → HasNumbers state → length state.client.session.pushed + 200000 < 2 ^ 52 → IsBegun state.client.session
+subtree-pauses : (state : State) (s target : ℕ) (insertion : Bool) → HoldsNow state → HasNumbers state → length state.client.session.pushed + 200000 < 2 ^ 52 → IsBegun state.client.session
     → has row_serial s (nodes_in state) ≡ true → has row_serial target (nodes_in state) ≡ true
     → Pauses state (pause_step (Some (record { kind = Subtree; node = s; target = Some target; insertion = insertion })) state)
 subtree-pauses state s target insertion is low few begun there aimed =
@@ -162,20 +162,20 @@ subtree-pauses state s target insertion is low few begun there aimed =
     let next : HasNumbers after = low-after 100000 low first (omega (arith, few)) in
     let begun_after : IsBegun after.client.session = (opened_by s state begun.0, push-opened s state begun) in
     let last = (push_step target after).state in
-    let second : Well after (push_step target after) 100000 0 0 = push-well target after first.is_state next begun_after in
+    let second : Well after (push_step target after) 100000 0 0 = push-well target after first.now next begun_after in
     let both : Well state (followed_by (push_step s state) (push_step target)) 200000 0 0 = more (omega arith) (omega arith) (omega arith) (then-well first second) in
     let low_last : HasNumbers last = low-after 200000 low both few in
     let begun_last : IsBegun last.client.session = (opened_by target after begun_after.0, push-opened target after begun_after) in
     let o : ℕ → Bool = begun_after.0 in
     let node_seen = shown-id last begun_last s (push-knows s state begun begun_last.0 is there (λ k h. opened_all-grows o (pushing o target (nodes_in state)) k h)) in
-    let target_seen = shown-id last begun_last target (push-knows target after begun_after begun_last.0 first.is_state aimed (λ k h. h)) in
+    let target_seen = shown-id last begun_last target (push-knows target after begun_after begun_last.0 first.now aimed (λ k h. h)) in
     let p : Pause = record { kind = Subtree; node = s; target = Some target; insertion = insertion } in
     record {
-      well = more (omega arith) (omega arith) (omega arith) (then-well both (stays-with (met (pause_data Subtree p (id_now last))) last both.is_state low_last (refl, (node_seen, (target_seen, tt)))));
+      well = more (omega arith) (omega arith) (omega arith) (then-well both (stays-with (met (pause_data Subtree p (id_now last))) last both.now low_last (refl, (node_seen, (target_seen, tt)))));
       side = refl;
     }
 
-pub pauses : (state : State) (p : Pause) → IsState state → HasNumbers state → length state.client.session.pushed + 200000 < 2 ^ 52 → IsPause state.client.watched (nodes_in state) p
+pub pauses : (state : State) (p : Pause) → HoldsNow state → HasNumbers state → length state.client.session.pushed + 200000 < 2 ^ 52 → IsPause state.client.watched (nodes_in state) p
     → Pauses state (pause_step (Some p) state)
 pauses state _ is low few (by_attribute s h) =
     own-pauses state (record { kind = Attribute; node = s; target = None; insertion = false }) refl is low few (watched-begun state Attribute s is h) (is.watched Attribute s h) refl
@@ -185,7 +185,7 @@ pauses state _ is low few (by_subtree s target insertion h aimed) =
     subtree-pauses state s target insertion is low few (watched-begun state Subtree s is h) (is.watched Subtree s h) aimed
 
 -- the pause before an edit, if it comes to one
-pub edit-pauses : (state : State) (e : TreeEdit) → IsState state → HasNumbers state → length state.client.session.pushed + 200000 < 2 ^ 52 → CanApply state.side.page.next e state.side.page.tree
+pub edit-pauses : (state : State) (e : TreeEdit) → HoldsNow state → HasNumbers state → length state.client.session.pushed + 200000 < 2 ^ 52 → CanApply state.side.page.next e state.side.page.tree
     → Pauses state (pause_step (pause_of state.client.watched state.side.page.tree e) state)
 edit-pauses state e is low few can = at (pause_of state.client.watched state.side.page.tree e) refl where
   at : (o : Option Pause) → pause_of state.client.watched state.side.page.tree e ≡ o → Pauses state (pause_step o state)

@@ -1,16 +1,15 @@
 -- A node becomes known, with all above it: the step is well, and what is opened stays opened.
-use Rattle.std.proofs.Common.{◌≡◌, ℕ, ◌+◌, ◌^◌, ◌<◌, ◌≤◌, Bool, true, false, cond, List, [], ◌∷◌, length, Option, Some, None, refl, sym, ◌∙◌, ap, subst, arith}
+use Rattle.std.proofs.Common.{◌≡◌, ℕ, ◌+◌, ◌≤◌, Bool, true, false, cond, length, Option, Some, None, refl, sym, ◌∙◌, ap, subst, arith}
 use Rattle.std.specs.Prelude.{is_some}
-use Rattle.node_tree.specs.Nodes.{Branch, node_count, alone}
-use Rattle.page_tree.specs.Pages.{State as PageValue, Row, node_at}
+use Rattle.node_tree.specs.Nodes.{node_count}
+use Rattle.page_tree.specs.Pages.{State as PageValue, node_at}
 use Rattle.page_tree.specs.declared.edits.TreeEdit.{TreeEdit}
 use Rattle.page_tree.specs.declared.edits.TreeEdit.TheVariants.{SetAttr, DropAttr, SetText, Attach, Detach}
-use Rattle.node_binding.specs.Sessions.{Session, IsSession, session_of, is_open, known_by, ids_in, serial_at}
+use Rattle.node_binding.specs.Sessions.{Session, IsSession, session_of, is_open, serial_at}
 use Rattle.node_binding.specs.Openings.{opened_without}
 use Rattle.node_binding.proofs.StartLemmas.{count-alone, distinct-alone}
-use Rattle.cdp_messages.specs.Moves.{Move}
 use Rattle.dom_agent.specs.Keepers.{session_keeper}
-use Rattle.dom_agent.specs.Requests.{Progress, Showing, pushing, pushed, opening_moves}
+use Rattle.dom_agent.specs.Requests.{Progress, pushing, pushed}
 use Rattle.dom_agent.specs.Edits.{Edited}
 use Rattle.dom_agent.specs.EditLaws.{session_edited}
 use Rattle.dom_agent.proofs.StepLemmas.{Goes, goes-pushed, goes-few}
@@ -18,8 +17,8 @@ use Rattle.dom_agent.proofs.OutcomeLemmas.{containers-page}
 use Rattle.dom_agent.proofs.OpeningsLemmas.{opened_all}
 use Rattle.dom_agent.proofs.KnownLemmas.{opened_after}
 use Rattle.dom_agent.proofs.TellableLemmas.{can_say}
-use Rattle.back_end.specs.States.{State, nodes_in, sheets_shown, IsState}
-use Rattle.back_end.specs.Steps.{push_step, edit_step}
+use Rattle.back_end.specs.States.{State, nodes_in, sheets_shown, HoldsNow}
+use Rattle.back_end.specs.Steps.{push_step}
 use Rattle.back_end.proofs.WellSteps.{Well, HasNumbers, can-sheets, can-tell}
 
 -- something is opened
@@ -71,7 +70,7 @@ begun-edited (Detach serial) page w h =
 
 -- ---- pushes
 
-pub push-goes : (serial : ℕ) (state : State) → IsState state → IsBegun state.client.session
+pub push-goes : (serial : ℕ) (state : State) → HoldsNow state → IsBegun state.client.session
     → Goes (nodes_in state) state.client.session (push_of serial state).state (push_of serial state).shown
 push-goes serial state is begun =
     let n = nodes_in state in
@@ -96,7 +95,7 @@ pub push-begun : (serial : ℕ) (state : State) → IsBegun state.client.session
 push-begun serial state begun = (opened_by serial state begun.0, push-opened serial state begun)
 
 -- the state after a push
-pub push-is : (serial : ℕ) (state : State) → IsState state → IsBegun state.client.session → IsState (push_step serial state).state
+pub push-is : (serial : ℕ) (state : State) → HoldsNow state → IsBegun state.client.session → HoldsNow (push_step serial state).state
 push-is serial state is begun = record {
   page = is.page;
   texts = is.texts;
@@ -106,10 +105,9 @@ push-is serial state is begun = record {
   css_off = is.css_off;
   watched = is.watched;
   none_watched = λ h. not-begun (push_of serial state).state (push-begun serial state begun) h;
-  history = is.history;
 }
 
-pub push-well : (serial : ℕ) (state : State) → IsState state → HasNumbers state → IsBegun state.client.session → Well state (push_step serial state) 100000 0 0
+pub push-well : (serial : ℕ) (state : State) → HoldsNow state → HasNumbers state → IsBegun state.client.session → Well state (push_step serial state) 100000 0 0
 push-well serial state is low begun =
     let page = state.side.page in
     let n = nodes_in state in
@@ -119,7 +117,7 @@ push-well serial state is low begun =
     let count : node_count n ≤ 100000 = count-alone page is.page in
     let few : length p.state.pushed ≤ length w.pushed + node_count n = goes-few n w p.state p.shown g in
     record {
-      is_state = push-is serial state is begun;
+      now = push-is serial state is begun;
       course = g.course (length w.pushed + node_count n) (sheets_shown state) (can_say page w (sheets_shown state) is.page (can-tell state is low) (can-sheets state is low)) few;
       few_ids = omega (arith, few, count);
       few_serials = omega arith;

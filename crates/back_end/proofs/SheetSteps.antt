@@ -14,7 +14,7 @@ use Rattle.dom_agent.specs.Laws.{CanTellSheets, view_of as seen_by}
 use Rattle.dom_agent.proofs.StepLemmas.{course-join}
 use Rattle.page_forms.specs.Sheets.{max_sheet_bytes}
 use Rattle.back_end.specs.Sheets.{SheetChange, leaves, comes, AreSheetsBelow}
-use Rattle.back_end.specs.States.{State, view_of, IsState}
+use Rattle.back_end.specs.States.{State, view_of, HoldsNow}
 use Rattle.back_end.specs.Steps.{with_client, side_changed, sheet_move, sheet_step, sheet_steps, moves_gone, moves_come, css_on_step, css_off_step}
 use Rattle.back_end.proofs.SheetLemmas.{own-test, can-tell-sheets, below-front, below-tail, below-none, texts-of-back, FitsBeside, sheets-come, sheets-leave}
 use Rattle.back_end.proofs.WellSteps.{Well, HasNumbers, told-with, told-view, stays, then-well, more}
@@ -76,7 +76,7 @@ page-kept : (c : SheetChange) (state : State) → (side_changed c state.side).pa
 page-kept (leaves n) state = refl
 page-kept (comes origin text) state = refl
 
-pub change-is : (c : SheetChange) (state : State) → IsState state → CanChange c state.side.sheets → IsState (sheet_step c state).state
+pub change-is : (c : SheetChange) (state : State) → HoldsNow state → CanChange c state.side.sheets → HoldsNow (sheet_step c state).state
 change-is (leaves n) state is can = record {
   page = is.page;
   texts = is.texts;
@@ -86,7 +86,6 @@ change-is (leaves n) state is can = record {
   css_off = is.css_off;
   watched = is.watched;
   none_watched = is.none_watched;
-  history = is.history;
 }
 change-is (comes origin text) state is can = record {
   page = is.page;
@@ -97,7 +96,6 @@ change-is (comes origin text) state is can = record {
   css_off = is.css_off;
   watched = is.watched;
   none_watched = is.none_watched;
-  history = is.history;
 }
 
 change-few : (c : SheetChange) (state : State) → (side_changed c state.side).next_sheet ≤ state.side.next_sheet + 1
@@ -112,7 +110,7 @@ change-course w page old new m true told can later nothing moves =
     goes m [] (seen_by w page old) (seen_by w page new) (seen_by w page new) (told old can) (moves _) (ends (seen_by w page new) (told new later))
 change-course w page old new m false told can later nothing moves = ends (seen_by w page []) (told [] nothing)
 
-pub change-well : (c : SheetChange) (state : State) → IsState state → HasNumbers state → state.side.next_sheet < 2 ^ 52 → CanChange c state.side.sheets → Well state (sheet_step c state) 0 0 1
+pub change-well : (c : SheetChange) (state : State) → HoldsNow state → HasNumbers state → state.side.next_sheet < 2 ^ 52 → CanChange c state.side.sheets → Well state (sheet_step c state) 0 0 1
 change-well c state is low room can =
     let few = change-few c state in
     let later : AreSheetsBelow (side_changed c state.side).next_sheet (side_changed c state.side).sheets = side-below c state is.sheets can in
@@ -124,7 +122,7 @@ change-well c state is low room can =
     change-course state.client.session state.side.page state.side.sheets (side_changed c state.side).sheets (sheet_move c state.side) state.client.css_on
     (λ sheets k. told-with state sheets is low k) old_can new_can nothing (λ tree. change-moves c state tree can) in
     record {
-      is_state = change-is c state is can;
+      now = change-is c state is can;
       course = subst (λ (page : PageValue). Course (cond state.client.css_on (sheet_move c state.side ∷ []) []) (view_of state)
           (seen_by state.client.session page (cond state.client.css_on (side_changed c state.side).sheets []))) (sym same) course;
       few_ids = omega arith;
@@ -142,7 +140,7 @@ CanChangeAll (c ∷ cs) state = CanChange c state.side.sheets × CanChangeAll cs
 ids-kept : (c : SheetChange) (state : State) → (sheet_step c state).state.client ≡ state.client
 ids-kept c state = refl
 
-pub changes-well : (cs : List SheetChange) (state : State) → IsState state → HasNumbers state → state.side.next_sheet + length cs < 2 ^ 52 → CanChangeAll cs state
+pub changes-well : (cs : List SheetChange) (state : State) → HoldsNow state → HasNumbers state → state.side.next_sheet + length cs < 2 ^ 52 → CanChangeAll cs state
     → Well state (sheet_steps cs state) 0 0 (length cs)
 changes-well [] state is low room can = stays state is low
 changes-well (c ∷ cs) state is low room can =
@@ -152,7 +150,7 @@ changes-well (c ∷ cs) state is low room can =
       serials = omega (arith, low.serials, first.few_serials);
       sheets = omega (arith, first.few_sheets, room);
     } in
-    more (omega arith) (omega arith) (omega arith) (then-well first (changes-well cs (sheet_step c state).state first.is_state next (omega (arith, first.few_sheets, room)) can.1))
+    more (omega arith) (omega arith) (omega arith) (then-well first (changes-well cs (sheet_step c state).state first.now next (omega (arith, first.few_sheets, room)) can.1))
 
 -- ---- a load
 
@@ -184,7 +182,7 @@ load-course w z page new_page old new next last false false told empty low lower
 
 -- ---- the domain comes on, and goes off
 
-pub css-on-is : (state : State) → IsState state → state.client.dom_on ≡ true → IsState (with_client (record state.client { css_on = true }) state)
+pub css-on-is : (state : State) → HoldsNow state → state.client.dom_on ≡ true → HoldsNow (with_client (record state.client { css_on = true }) state)
 css-on-is state is on = record {
   page = is.page;
   texts = is.texts;
@@ -194,7 +192,6 @@ css-on-is state is on = record {
   css_off = λ h. absurd (no (sym on ∙ h));
   watched = is.watched;
   none_watched = is.none_watched;
-  history = is.history;
 }
   where
     no : true ≡ false → ⊥
@@ -215,16 +212,16 @@ on-course w page sheets next id css told low is small = at css where
   at true = last
   at false = course-join (come-course _ next [] sheets told low is) last
 
-pub css-on-well : (id : ℕ) (state : State) → IsState state → HasNumbers state → state.client.dom_on ≡ true → is_counted id ≡ true → Well state (css_on_step id state) 0 0 0
+pub css-on-well : (id : ℕ) (state : State) → HoldsNow state → HasNumbers state → state.client.dom_on ≡ true → is_counted id ≡ true → Well state (css_on_step id state) 0 0 0
 css-on-well id state is low on small = record {
-  is_state = css-on-is state is on;
+  now = css-on-is state is on;
   course = on-course state.client.session state.side.page state.side.sheets state.side.next_sheet id state.client.css_on (λ ss k. told-with state ss is low k) (omega (arith, low.sheets)) is.sheets small;
   few_ids = omega arith;
   few_serials = omega arith;
   few_sheets = omega arith;
 }
 
-pub css-off-is : (state : State) → IsState state → IsState (with_client (record state.client { css_on = false }) state)
+pub css-off-is : (state : State) → HoldsNow state → HoldsNow (with_client (record state.client { css_on = false }) state)
 css-off-is state is = record {
   page = is.page;
   texts = is.texts;
@@ -234,15 +231,14 @@ css-off-is state is = record {
   css_off = λ h. refl;
   watched = is.watched;
   none_watched = is.none_watched;
-  history = is.history;
 }
 
-pub css-off-well : (id : ℕ) (state : State) → IsState state → HasNumbers state → is_counted id ≡ true → Well state (css_off_step id state) 0 0 0
+pub css-off-well : (id : ℕ) (state : State) → HoldsNow state → HasNumbers state → is_counted id ≡ true → Well state (css_off_step id state) 0 0 0
 css-off-well id state is low small =
     let after : State = with_client (record state.client { css_on = false }) state in
     let none_can = can-tell-sheets state.side.next_sheet [] (omega (arith, low.sheets)) (below-none state.side.next_sheet state.side.sheets is.sheets) in
     record {
-      is_state = css-off-is state is;
+      now = css-off-is state is;
       course = goes (sheets_off id) [] (view_of state) (view_of after) (view_of after) (told-view state is low) (refl, small) (ends (view_of after) (told-with state [] is low none_can));
       few_ids = omega arith;
       few_serials = omega arith;

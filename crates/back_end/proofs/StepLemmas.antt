@@ -46,18 +46,19 @@ use Rattle.undo_marks.specs.Marks.{crossed_over}
 use Rattle.back_end.specs.declared.faults.ActFault.{ActFault}
 use Rattle.back_end.specs.declared.faults.ActFault.TheVariants.{Sheet}
 use Rattle.back_end.specs.Sheets.{as_book, AreSheetsBelow}
-use Rattle.back_end.specs.States.{Side, Client, State, book_in, sheets_shown, view_of, loaded_side, AreAmong, IsState}
+use Rattle.back_end.specs.States.{Side, Client, State, book_in, sheets_shown, view_of, loaded_side, AreAmong, HoldsNow, HasHistory, IsState}
 use Rattle.back_end.specs.Plans.{Plan, Deed, edits, restyles, edit_fault, size_fault, drop_fault, replace_fault, dropping, replacing, act_fault, act_plan}
-use Rattle.back_end.specs.Steps.{Step, with_page, watched_after, edit_step, pause_step, script_step, script_steps, with_crossed, crossing, deed_step, planned_step, act_step, client_reset, load_step, Turn, acts, loads, turn_step}
+use Rattle.back_end.specs.Steps.{Step, with_page, watched_after, edit_step, pause_step, script_step, script_steps, with_crossed, crossing, deed_step, sheet_steps, planned_step, act_step, client_reset, load_step, Turn, acts, loads, turn_step}
 use Rattle.back_end.specs.Texts.{PageHasTexts, ActHasTexts, EditHasTexts}
-use Rattle.back_end.specs.Laws.{HasRoom, StepsWell, IsTurn}
+use Rattle.back_end.specs.Laws.{HasRoom, StepsWell, KeepsAtMost, IsTurn}
 use Rattle.back_end.proofs.TextLemmas.{node_at-texts, after-texts, numbered-texts, branch-texts}
 use Rattle.back_end.proofs.SheetLemmas.{ascend-order, sheets-loaded, sheets-few, book-without, named-is, fits-beside}
 use Rattle.back_end.proofs.SheetSteps.{CanChangeAll, changes-well, load-course}
 use Rattle.back_end.proofs.PushSteps.{not-begun, begun-edited}
 use Rattle.back_end.proofs.WatchedLemmas.{none-set, among-after}
 use Rattle.back_end.proofs.PauseSteps.{Pauses, edit-pauses}
-use Rattle.back_end.proofs.WellSteps.{Well, HasNumbers, room-numbers, can-sheets, can-tell, told-with, stays, then-well, more, few-steps}
+use Rattle.back_end.proofs.WellSteps.{Well, HasNumbers, room-numbers, can-sheets, can-tell, told-with, now-marked, stays, then-well, more}
+use Rattle.back_end.proofs.KeptSteps.{Recalls, recalls-same, recalls-none, recalls-crossed, steps-well}
 
 -- ---- one edit
 
@@ -97,29 +98,34 @@ unwatched-after (edit.SetText serial value) state h = h
 unwatched-after (edit.Attach parent before x) state h = h
 unwatched-after (edit.Detach serial) state h = ap (without_subtree serial state.side.page.tree) h ∙ none-left serial state.side.page.tree
 
-pub edit-well : (state : State) (e : TreeEdit) → IsState state → HasNumbers state → suc (length state.client.session.pushed) < 2 ^ 52
+-- what holds after an edit
+pub edit-is : (state : State) (e : TreeEdit) → HoldsNow state → CanApply state.side.page.next e state.side.page.tree → EditHasTexts e → HoldsNow (edit_step e state).state
+edit-is state e is can texts =
+    let page = state.side.page in
+    let w = state.client.session in
+    record {
+      page = valid-after page e is.page can;
+      texts = after-texts e page.tree texts is.texts;
+      sheets = is.sheets;
+      session = edit_keeps_session page e w is.page can is.session;
+      off = λ h. edited-off e page w (is.off h);
+      css_off = is.css_off;
+      watched = among-after e state is.page can is.watched;
+      none_watched = λ h. unwatched-after e state (is.none_watched (none-before e page w h));
+    }
+
+pub edit-well : (state : State) (e : TreeEdit) → HoldsNow state → HasNumbers state → suc (length state.client.session.pushed) < 2 ^ 52
     → CanApply state.side.page.next e state.side.page.tree → EditHasTexts e → Well state (edit_step e state) 1 0 0
 edit-well state e is low ids can texts =
     let page = state.side.page in
     let w = state.client.session in
-    let valid : IsValid (after e page) = valid-after page e is.page can in
     let next : (after e page).next ≡ page.next = next-stays page e can in
     let few : length (session_edited e page w).state.pushed ≤ length w.pushed + 1 = edit_draws_one page e w in
-    let has : RowsHaveUtf8 (alone (after e page).tree) = after-texts e page.tree texts is.texts in
-    let count : node_count (alone (after e page).tree) ≤ 100000 = count-alone (after e page) valid in
-    let later : CanTell (after e page) (session_edited e page w).state = record { serials = omega (arith, next, low.serials); ids = omega (arith, few, count, ids); texts = has } in
+    let done : HoldsNow (edit_step e state).state = edit-is state e is can texts in
+    let count : node_count (alone (after e page).tree) ≤ 100000 = count-alone (after e page) done.page in
+    let later : CanTell (after e page) (session_edited e page w).state = record { serials = omega (arith, next, low.serials); ids = omega (arith, few, count, ids); texts = done.texts } in
     record {
-      is_state = record {
-        page = valid;
-        texts = has;
-        sheets = is.sheets;
-        session = edit_keeps_session page e w is.page can is.session;
-        off = λ h. edited-off e page w (is.off h);
-        css_off = is.css_off;
-        watched = among-after e state is.page can is.watched;
-        none_watched = λ h. unwatched-after e state (is.none_watched (none-before e page w h));
-        history = is.history;
-      };
+      now = done;
       course = edits_are_moves page e w (sheets_shown state) is.page can is.session (can-tell state is low) later (can-sheets state is low);
       few_ids = few;
       few_serials = omega (arith, next);
@@ -134,7 +140,7 @@ EditsHaveTexts [] = ⊤
 EditsHaveTexts (e ∷ es) = EditHasTexts e × EditsHaveTexts es
 
 -- an edit by a script: a pause, where it comes to one, and then the edit
-script-well : (state : State) (e : TreeEdit) → IsState state → HasNumbers state → length state.client.session.pushed + 200001 < 2 ^ 52
+script-well : (state : State) (e : TreeEdit) → HoldsNow state → HasNumbers state → length state.client.session.pushed + 200001 < 2 ^ 52
     → CanApply state.side.page.next e state.side.page.tree → EditHasTexts e
     → Well state (script_step e state) 200001 0 0 × ((script_step e state).state.side.page ≡ after e state.side.page)
 script-well state e is low ids can texts =
@@ -147,11 +153,11 @@ script-well state e is low ids can texts =
       sheets = omega (arith, low.sheets, well.few_sheets);
     } in
     let still : CanApply paused.state.side.page.next e paused.state.side.page.tree = subst (λ (side : Side). CanApply side.page.next e side.page.tree) (sym p.side) can in (
-      more (omega arith) (omega arith) (omega arith) (then-well well (edit-well paused.state e well.is_state next (omega (arith, ids, well.few_ids)) still texts)),
+      more (omega arith) (omega arith) (omega arith) (then-well well (edit-well paused.state e well.now next (omega (arith, ids, well.few_ids)) still texts)),
       ap (λ (side : Side). after e side.page) p.side,
     )
 
-scripts-well : (es : List TreeEdit) (state : State) → IsState state → HasNumbers state → 200001 * length es + length state.client.session.pushed < 2 ^ 52
+scripts-well : (es : List TreeEdit) (state : State) → HoldsNow state → HasNumbers state → 200001 * length es + length state.client.session.pushed < 2 ^ 52
     → CanApplyAll es state.side.page → EditsHaveTexts es → Well state (script_steps es state) (200001 * length es) 0 0
 scripts-well [] state is low ids can texts = more (omega arith) (omega arith) (omega arith) (stays state is low)
 scripts-well (e ∷ es) state is low ids can texts =
@@ -164,7 +170,7 @@ scripts-well (e ∷ es) state is low ids can texts =
     } in
     let rest : CanApplyAll es (script_step e state).state.side.page = subst (CanApplyAll es) (sym one.1) can.1 in
     more (omega arith) (omega arith) (omega arith)
-    (then-well first (scripts-well es (script_step e state).state first.is_state next (omega (arith, ids, first.few_ids)) rest texts.1))
+    (then-well first (scripts-well es (script_step e state).state first.now next (omega (arith, ids, first.few_ids)) rest texts.1))
 
 -- ---- acts
 
@@ -182,17 +188,19 @@ drawn-valid form page valid = record {
 pub record Planned (state : State) (plan : Plan) : Type 0 where
   pub page : IsValid plan.page
   pub same : plan.page.tree ≡ state.side.page.tree
+  pub low : state.side.page.next ≤ plan.page.next
   pub serials : plan.page.next ≤ state.side.page.next + 100000
   pub taken : CanApplyAll plan.edits plan.page
   pub texts : EditsHaveTexts plan.edits
   pub short : length plan.edits ≤ 2
 
 -- an edit alone
-pub planned-edit : (state : State) (e : TreeEdit) → IsState state → CanApply state.side.page.next e state.side.page.tree → EditHasTexts e
+pub planned-edit : (state : State) (e : TreeEdit) → HoldsNow state → CanApply state.side.page.next e state.side.page.tree → EditHasTexts e
     → Planned state (record { page = state.side.page; edits = e ∷ [] })
 planned-edit state e is can texts = record {
   page = is.page;
   same = refl;
+  low = omega arith;
   serials = omega arith;
   taken = (can, tt);
   texts = (texts, tt);
@@ -241,7 +249,7 @@ replaces-can sheet text state (Some x) utf8 e fits =
     subst (λ (book : List SheetEntry). is_too_big text book ≡ false) (book-without x.id state.side.sheets) (fits-size text (removed x.id (book_in state)) fits) in
     (((named-is sheet state.side.sheets x e).shows, (fits-beside text (sheets_without x.id state.side.sheets) utf8 rest, tt)), omega arith)
 
-can-do : (state : State) (act : Act) → IsState state → IsInsertable act → ActHasTexts act → act_fault act state.side.page (book_in state) ≡ None
+can-do : (state : State) (act : Act) → HoldsNow state → IsInsertable act → ActHasTexts act → act_fault act state.side.page (book_in state) ≡ None
     → CanDo (act_plan act state.side.page (book_in state)) state
 can-do state (SetAttr serial name value) is can texts h = planned-edit state (edit.SetAttr serial name value) is (record { fits = unmapped _ h; ready = tt }) texts
 can-do state (DropAttr serial name) is can texts h = planned-edit state (edit.DropAttr serial name) is (record { fits = unmapped _ h; ready = tt }) texts
@@ -252,6 +260,7 @@ can-do state (Insert parent before form) is can texts h =
     record {
       page = drawn-valid form state.side.page is.page;
       same = refl;
+      low = omega arith;
       serials = omega (arith, few);
       taken = (insert-leads state.side.page parent before form is.page can fits).taken;
       texts = (branch-texts state.side.page.next form texts, tt);
@@ -261,6 +270,7 @@ can-do state (Remove serial) is can texts h = planned-edit state (edit.Detach se
 can-do state (Move serial parent before) is can texts h = record {
   page = is.page;
   same = refl;
+  low = omega arith;
   serials = omega arith;
   taken = move-leads state.side.page serial parent before is.page (unmapped _ h);
   texts = (tt, (node_at-texts serial state.side.page.tree is.texts, tt));
@@ -271,7 +281,7 @@ can-do state (DropSheet sheet) is can texts h = drops-can sheet state (sheet_nam
 can-do state (ReplaceSheet sheet text) is can texts h = replaces-can sheet text state (sheet_named sheet (book_in state)) texts.1 refl h
 
 -- a state with the plan's page
-pub with-page-is : (state : State) (page : PageValue) → IsState state → IsValid page → page.tree ≡ state.side.page.tree → IsState (with_page page state)
+pub with-page-is : (state : State) (page : PageValue) → HoldsNow state → IsValid page → page.tree ≡ state.side.page.tree → HoldsNow (with_page page state)
 with-page-is state page is valid same = record {
   page = valid;
   texts = subst (λ tree. RowsHaveUtf8 (alone tree)) (sym same) is.texts;
@@ -281,40 +291,29 @@ with-page-is state page is valid same = record {
   css_off = is.css_off;
   watched = subst (λ tree. AreAmong state.client.watched (alone tree)) (sym same) is.watched;
   none_watched = is.none_watched;
-  history = is.history;
 }
 
 -- the client sees the same where only the next serial is another
 pub same-view : (state : State) (page : PageValue) → page.tree ≡ state.side.page.tree → view_of (with_page page state) ≡ view_of state
 same-view state page same = ap (λ tree. seen_by state.client.session (record { tree = tree; next = 0 }) (sheets_shown state)) same
 
--- a history with nothing in it has nothing to lose
-pub crossed-is : (state : State) → IsState state → IsState (with_crossed state)
-crossed-is state is = record {
-  page = is.page;
-  texts = is.texts;
-  sheets = is.sheets;
-  session = is.session;
-  off = is.off;
-  css_off = is.css_off;
-  watched = is.watched;
-  none_watched = is.none_watched;
-  history = ap crossed_over is.history ∙ refl;
-}
+-- and where it is not the client's
+pub crossed-is : (state : State) → HoldsNow state → HoldsNow (with_crossed state)
+crossed-is state is = now-marked (crossed_over state.client.marks) state is
 
 -- a step that is not the client's is as well as the step itself
 crossing-well : {before : State} {done : Step} {ids serials sheets : ℕ} → Well before done ids serials sheets → Well before (crossing done) ids serials sheets
 crossing-well {done = done} well = record {
-  is_state = crossed-is done.state well.is_state;
+  now = crossed-is done.state well.now;
   course = well.course;
   few_ids = well.few_ids;
   few_serials = well.few_serials;
   few_sheets = well.few_sheets;
 }
 
-plan-well : (state : State) (plan : Plan) → IsState state → HasRoom state → Planned state plan → Well state (deed_step (edits plan) state) 400002 100000 1
+plan-well : (state : State) (plan : Plan) → HoldsNow state → HasRoom state → Planned state plan → Well state (deed_step (edits plan) state) 400002 100000 1
 plan-well state plan is room p =
-    let begun : IsState (with_page plan.page state) = with-page-is state plan.page is p.page p.same in
+    let begun : HoldsNow (with_page plan.page state) = with-page-is state plan.page is p.page p.same in
     let low : HasNumbers (with_page plan.page state) = record {
       ids = omega (arith, room.ids);
       serials = omega (arith, room.serials, p.serials);
@@ -324,20 +323,20 @@ plan-well state plan is room p =
     let done : Well (with_page plan.page state) steps (200001 * length plan.edits) 0 0 =
     scripts-well plan.edits (with_page plan.page state) begun low (omega (arith, room.ids, p.short)) p.taken p.texts in
     record {
-      is_state = crossed-is steps.state done.is_state;
+      now = crossed-is steps.state done.now;
       course = subst (λ v. Course steps.moves v (view_of steps.state)) (same-view state plan.page p.same) done.course;
       few_ids = omega (arith, done.few_ids, p.short);
       few_serials = omega (arith, done.few_serials, p.serials);
       few_sheets = omega (arith, done.few_sheets);
     }
 
-deed-well : (state : State) (deed : Deed) → IsState state → HasRoom state → CanDo deed state → Well state (deed_step deed state) 400002 100000 2
+deed-well : (state : State) (deed : Deed) → HoldsNow state → HasRoom state → CanDo deed state → Well state (deed_step deed state) 400002 100000 2
 deed-well state (edits plan) is room can = more (omega arith) (omega arith) (omega arith) (plan-well state plan is room can)
 deed-well state (restyles changes) is room can =
     more (omega arith) (omega arith) can.1
     (crossing-well (changes-well changes state is (room-numbers state room) (omega (arith, room.sheets, can.1)) can.0))
 
-act-well : (state : State) (act : Act) → IsState state → HasRoom state → IsInsertable act → ActHasTexts act → Well state (act_step act state) 400002 100000 2
+act-well : (state : State) (act : Act) → HoldsNow state → HasRoom state → IsInsertable act → ActHasTexts act → Well state (act_step act state) 400002 100000 2
 act-well state act is room can texts = at (act_fault act state.side.page (book_in state)) refl where
   at : (o : Option ActFault) → act_fault act state.side.page (book_in state) ≡ o → Well state (planned_step o (act_plan act state.side.page (book_in state)) state) 400002 100000 2
   at None h = deed-well state (act_plan act state.side.page (book_in state)) is room (can-do state act is can texts h)
@@ -351,7 +350,7 @@ and-false false = refl
 
 -- the client of a page that went
 pub reset-is : (state : State) (side : Side) (on : Bool) → IsValid side.page → RowsHaveUtf8 (alone side.page.tree) → AreSheetsBelow side.next_sheet side.sheets
-    → IsState (record { side = side; client = client_reset on state.client })
+    → HoldsNow (record { side = side; client = client_reset on state.client })
 reset-is state side on valid texts sheets = record {
   page = valid;
   texts = texts;
@@ -361,7 +360,6 @@ reset-is state side on valid texts sheets = record {
   css_off = λ h. ap (λ b. state.client.css_on && b) h ∙ and-false state.client.css_on;
   watched = λ kind serial h. none-set kind serial h;
   none_watched = λ h. refl;
-  history = refl;
 }
 
 -- where nothing is known, messages can tell any sheets
@@ -382,27 +380,27 @@ page-least page valid =
     let below = (whole-valid page valid).below page.tree.row.serial (tally_row row_serial page.tree.row.serial page.tree.row page.tree.children none refl) in
     omega (arith, below)
 
-next-least : (state : State) → IsState state → 1 ≤ state.side.page.next
+next-least : (state : State) → HoldsNow state → 1 ≤ state.side.page.next
 next-least state is = page-least state.side.page is.page
 
 pub loaded-is : (serial number : ℕ) (page : LoadedPage) (client : Client) → 1 ≤ serial → 1 ≤ number → CanLoadPage page → PageHasTexts page
-    → IsState (record { side = loaded_side serial number page; client = client_reset client.dom_on client })
+    → HoldsNow (record { side = loaded_side serial number page; client = client_reset client.dom_on client })
 loaded-is serial number page client least some can texts =
     reset-is (record { side = loaded_side serial number page; client = client }) (loaded_side serial number page) client.dom_on (loaded_valid serial page.nodes least can.nodes)
     ((IsUtf8-nil, IsUtf8-nil, tt), numbered-texts (serial + 1) page.nodes texts.nodes, tt) (sheets-loaded number page.sheets some can.sheets texts.sheets)
 
-pub load-is : (state : State) (page : LoadedPage) → IsState state → CanLoadPage page → PageHasTexts page → IsState (load_step page state).state
+pub load-is : (state : State) (page : LoadedPage) → HoldsNow state → CanLoadPage page → PageHasTexts page → HoldsNow (load_step page state).state
 load-is state page is can texts =
     loaded-is state.side.page.next state.side.next_sheet page state.client (next-least state is) (ascend-order 1 state.side.next_sheet state.side.sheets is.sheets.numbers) can texts
 
-load-well : (state : State) (page : LoadedPage) → IsState state → HasRoom state → CanLoadPage page → PageHasTexts page → Well state (load_step page state) 0 100001 1000
+load-well : (state : State) (page : LoadedPage) → HoldsNow state → HasRoom state → CanLoadPage page → PageHasTexts page → Well state (load_step page state) 0 100001 1000
 load-well state page is room can texts =
     let nodes : suc (node_count page.nodes) ≤ 100000 = can.nodes.room in
     let few = sheets-few page.sheets can.sheets in
-    let done : IsState (load_step page state).state = load-is state page is can texts in
+    let done : HoldsNow (load_step page state).state = load-is state page is can texts in
     let low = room-numbers state room in
     record {
-      is_state = done;
+      now = done;
       course = load-course state.client.session state.client.session state.side.page (load_step page state).state.side.page state.side.sheets (load_step page state).state.side.sheets
           state.side.next_sheet (load_step page state).state.side.next_sheet state.client.dom_on state.client.css_on
           (λ sheets k. told-with state sheets is low k) nothing-told (omega (arith, low.sheets)) (omega (arith, room.sheets, few)) is.sheets done.sheets is.off is.css_off;
@@ -413,6 +411,20 @@ load-well state page is room can texts =
 
 -- ---- the law of a script's own steps
 
-pub turn-steps-well : (state : State) (x : Turn) → IsState state → HasRoom state → IsTurn x → StepsWell state (turn_step x state)
-turn-steps-well state (acts act) is room can = few-steps (more (omega arith) (omega arith) (omega arith) (act-well state act is room can.0 can.1))
-turn-steps-well state (loads page) is room can = few-steps (more (omega arith) (omega arith) (omega arith) (load-well state page is room can.0 can.1))
+-- nothing that a script does is kept
+turn-recalls : (x : Turn) (state : State) → HasHistory state → Recalls state (turn_step x state).state 0 0
+turn-recalls (acts act) state history = at (act_fault act state.side.page (book_in state)) (act_plan act state.side.page (book_in state)) where
+  at : (o : Option ActFault) (deed : Deed) → Recalls state (planned_step o deed state).state 0 0
+  at None (edits plan) = recalls-crossed state (script_steps plan.edits (with_page plan.page state)).state
+  at None (restyles changes) = recalls-crossed state (sheet_steps changes state).state
+  at (Some f) deed = recalls-same state state history refl refl (omega arith)
+turn-recalls (loads page) state history = recalls-none state (load_step page state).state refl
+
+turn-well : (state : State) (x : Turn) → HoldsNow state → HasRoom state → IsTurn x → Well state (turn_step x state) 500000 100001 1000
+turn-well state (acts act) is room can = more (omega arith) (omega arith) (omega arith) (act-well state act is room can.0 can.1)
+turn-well state (loads page) is room can = more (omega arith) (omega arith) (omega arith) (load-well state page is room can.0 can.1)
+
+pub turn-steps-well : (state : State) (x : Turn) → IsState state → HasRoom state → IsTurn x → StepsWell state (turn_step x state) × KeepsAtMost 0 state (turn_step x state).state
+turn-steps-well state x is room can =
+    let recalls = turn-recalls x state is.history in
+    (steps-well {ids = 500000} (omega arith) (omega arith) (turn-well state x is.now room can) recalls, recalls.few_edits)

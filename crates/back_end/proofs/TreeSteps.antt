@@ -1,58 +1,65 @@
 -- A client's edit of the tree: its step is well, and answers its command once.
-use Rattle.std.proofs.Common.{◌≡◌, ℕ, ◌+◌, ◌^◌, ◌<◌, ◌≤◌, Bool, true, false, not, cond, nat_le, List, [], ◌∷◌, ◌++◌, length, Option, Some, None, Result, Ok, Err, refl, sym, ◌∙◌, ap, subst, arith, lt-ltb}
+use Rattle.std.proofs.Common.{◌≡◌, ℕ, ◌+◌, ◌^◌, ◌<◌, ◌≤◌, Bool, true, false, not, nat_le, List, [], ◌∷◌, length, map, Option, Some, None, Result, Ok, Err, refl, sym, ◌∙◌, ap, subst, arith, lt-ltb}
 use Rattle.std.specs.Prelude.{⊤}
-use Rattle.std.specs.List.{flat_map}
-use Rattle.std.specs.Str.{IsUtf8}
 use Rattle.std.proofs.lemmas.Bool.{and_from, leb-true}
+use Rattle.std.proofs.lemmas.List.{length-map}
 use Rattle.std_alloc.proofs.string.Cased.{lowered as utf8-lowered}
 use Rattle.cdp_json.specs.Kinds.{is_counted}
-use Rattle.node_tree.specs.Nodes.{Branch, branch_count}
-use Rattle.page_tree.specs.Pages.{Row, State as PageValue}
-use Rattle.page_tree.specs.Edits.{drawn, form_at}
-use Rattle.page_tree.specs.EditFaults.{CanApply, CanApplyAll, IsReady, copy_faults, copy_fault}
+use Rattle.node_tree.specs.Nodes.{Branch, alone, branch_count}
+use Rattle.page_tree.specs.Pages.{Row, State as PageValue, IsValid}
+use Rattle.page_tree.specs.Edits.{after, form_at}
+use Rattle.page_tree.specs.EditFaults.{CanApplyAll, IsReady, copy_faults, copy_fault}
 use Rattle.page_tree.specs.declared.edits.TreeEdit.{TreeEdit}
 use Rattle.page_tree.specs.declared.edits.TreeEdit.TheVariants.{SetAttr, DropAttr, SetText, Detach}
 use Rattle.page_tree.specs.declared.edit_faults.EditFault.{EditFault}
-use Rattle.page_tree.proofs.EditLemmas.{clear}
-use Rattle.page_tree.proofs.InsertLemmas.{copy-leads}
+use Rattle.page_tree.proofs.EditLemmas.{valid-after, clear}
+use Rattle.page_tree.proofs.InsertLemmas.{next-stays, copy-leads}
 use Rattle.page_tree.proofs.MoveLemmas.{move-leads}
-use Rattle.node_binding.specs.Sessions.{Session, ids_in, serial_at}
+use Rattle.node_binding.specs.Sessions.{Session, ids_in}
 use Rattle.cdp_messages.specs.declared.command.Why.{Why}
 use Rattle.cdp_messages.specs.declared.command.Why.TheVariants.{UnknownNode}
 use Rattle.cdp_messages.specs.declared.down.ReplyBody.TheVariants.{Nothing, NodeId}
-use Rattle.cdp_messages.specs.Moves.{Move, replied, failed, Course}
-use Rattle.dom_agent.specs.Requests.{opening_moves}
+use Rattle.cdp_messages.specs.Moves.{replied, Course}
+use Rattle.sheet_reader.specs.declared.book.SheetEntry.{SheetEntry}
 use Rattle.dom_agent.proofs.StepLemmas.{is_small, ids-below}
 use Rattle.back_end.specs.declared.dom_edits.DomEdit.{DomEdit}
 use Rattle.back_end.specs.declared.dom_edits.DomEdit.TheVariants as dom
 use Rattle.back_end.specs.declared.dom_edits.NodeEdit.{NodeEdit}
 use Rattle.back_end.specs.declared.dom_edits.NodeEdit.TheVariants.{One, MoveNode, CopyNode}
 use Rattle.back_end.specs.OwnMethods.{edit_why}
-use Rattle.back_end.specs.States.{State, nodes_in, view_of, IsState}
+use Rattle.dom_agent.specs.Laws.{RowsHaveUtf8}
+use Rattle.undo_marks.specs.Changes.{after_all, AllTaken}
+use Rattle.undo_marks.specs.Saved.{Saved}
+use Rattle.undo_marks.specs.SavedEdits.{saved_of, page_after}
+use Rattle.undo_marks.specs.declared.inverse_lists.Inverse.{Inverse}
+use Rattle.undo_marks.specs.declared.inverse_lists.Inverse.TheVariants.{Tree}
+use Rattle.back_end.specs.States.{State, nodes_in, book_in, view_of, HoldsNow, saved_now, TakesWell, IsState}
 use Rattle.back_end.specs.Plans.{Plan, node_edit_fault, node_edit_plan, node_put}
-use Rattle.back_end.specs.Steps.{Step, refusing, with_page, edit_step, edit_steps, push_step, followed_by, id_now, serial_now, of_node, put_node, before_by, lowered, edit_named, put_answer, plan_step, unless_fault, node_edit_step, tree_edit_step}
+use Rattle.back_end.specs.Steps.{Step, with_page, edit_step, edit_steps, push_step, followed_by, id_now, serial_now, of_node, put_node, before_by, lowered, edit_named, put_answer, plan_step, planned_by_client, unless_fault, node_edit_step, tree_edit_step}
 use Rattle.back_end.specs.Texts.{EditHasTexts, HasTreeTexts, IsPlainEdit}
-use Rattle.back_end.specs.Laws.{HasRoom, StepsWell, MayAnswer, MayAnswerAll, TellTextOf, reply_ids}
-use Rattle.back_end.proofs.TextLemmas.{node_at-texts, branch-texts, form-texts}
-use Rattle.back_end.proofs.WellSteps.{Well, HasNumbers, room-numbers, stays, stays-with, then-well, more}
-use Rattle.back_end.proofs.PushSteps.{IsBegun, begun-known, begun-edited, push-well, push-begun}
+use Rattle.back_end.specs.Laws.{HasRoom, MayAnswer}
+use Rattle.back_end.proofs.TextLemmas.{after-texts, node_at-texts, branch-texts, form-texts}
+use Rattle.back_end.proofs.WellSteps.{Well, HasNumbers, stays, stays-with, then-well, more, well-marked, well-answered}
+use Rattle.back_end.proofs.PushSteps.{IsBegun, begun-known, begun-edited, push-well}
 use Rattle.back_end.proofs.StepLemmas.{edit-well, EditsHaveTexts, Planned, planned-edit, drawn-valid, with-page-is, same-view}
-use Rattle.back_end.proofs.AnswerLemmas.{flat-append}
-use Rattle.back_end.proofs.TurnAnswers.{AreEvents, openings-events, events-append, events-answer, events-may, events-text, may-append, texts-append, edit-events}
+use Rattle.back_end.proofs.TurnAnswers.{AreEvents, openings-events, events-append, edit-events}
+use Rattle.back_end.proofs.GroupCounts.{trees-in-length}
+use Rattle.back_end.proofs.KeptSteps.{Recalls, recalls-edited, recalls-more, recalls-on, steps-well}
+use Rattle.back_end.proofs.AnsweredSteps.{Answered, reply-answered, refusal-answered}
 
 -- ---- edits, one after the other
 
 after-first : (state : State) (e : TreeEdit) → HasNumbers state → Well state (edit_step e state) 1 0 0 → 1 + length state.client.session.pushed < 2 ^ 52 → HasNumbers (edit_step e state).state
 after-first state e low first ids = record { ids = omega (arith, ids, first.few_ids); serials = omega (arith, low.serials, first.few_serials); sheets = omega (arith, low.sheets, first.few_sheets) }
 
-pub all-well : (es : List TreeEdit) (state : State) → IsState state → HasNumbers state → length es + length state.client.session.pushed < 2 ^ 52
+pub all-well : (es : List TreeEdit) (state : State) → HoldsNow state → HasNumbers state → length es + length state.client.session.pushed < 2 ^ 52
     → CanApplyAll es state.side.page → EditsHaveTexts es → Well state (edit_steps es state) (length es) 0 0
 all-well [] state is low ids can texts = stays state is low
 all-well (e ∷ es) state is low ids can texts =
     let first : Well state (edit_step e state) 1 0 0 = edit-well state e is low (omega (arith, ids)) can.0 texts.0 in
     let next : HasNumbers (edit_step e state).state = after-first state e low first (omega (arith, ids)) in
     more (omega arith) (omega arith) (omega arith)
-    (then-well first (all-well es (edit_step e state).state first.is_state next (omega (arith, ids, first.few_ids)) can.1 texts.1))
+    (then-well first (all-well es (edit_step e state).state first.now next (omega (arith, ids, first.few_ids)) can.1 texts.1))
 
 pub begun-after : (es : List TreeEdit) (state : State) → IsBegun state.client.session → IsBegun (edit_steps es state).state.client.session
 begun-after [] state begun = begun
@@ -165,11 +172,12 @@ copy-few serial parent before tree h =
     negated true e = refl
     negated false e = absurd cc
 
-pub node-edit-planned : (method : List ℕ) (state : State) (e : NodeEdit) → IsState state → IsNamed method e → node_edit_fault e state.side.page ≡ None → Planned state (node_edit_plan e state.side.page)
+pub node-edit-planned : (method : List ℕ) (state : State) (e : NodeEdit) → HoldsNow state → IsNamed method e → node_edit_fault e state.side.page ≡ None → Planned state (node_edit_plan e state.side.page)
 node-edit-planned method state (One e) is named fits = planned-edit state e is (record { fits = fits; ready = named.1 state.side.page.next state.side.page.tree }) named.0
 node-edit-planned method state (MoveNode serial parent before) is named fits = record {
   page = is.page;
   same = refl;
+  low = omega arith;
   serials = omega arith;
   taken = move-leads state.side.page serial parent before is.page fits;
   texts = (tt, (node_at-texts serial state.side.page.tree is.texts, tt));
@@ -180,15 +188,16 @@ node-edit-planned method state (CopyNode serial parent before) is named fits =
     record {
       page = drawn-valid (form_at serial state.side.page.tree) state.side.page is.page;
       same = refl;
+      low = omega arith;
       serials = omega (arith, few);
       taken = (copy-leads state.side.page serial parent before is.page fits).taken;
       texts = (branch-texts state.side.page.next (form_at serial state.side.page.tree) (form-texts serial state.side.page.tree is.texts), tt);
       short = omega arith;
     }
 
-pub plan-page-well : (state : State) (plan : Plan) → IsState state → HasRoom state → Planned state plan → Well state (plan_step plan state) 2 100000 0
+pub plan-page-well : (state : State) (plan : Plan) → HoldsNow state → HasRoom state → Planned state plan → Well state (plan_step plan state) 2 100000 0
 plan-page-well state plan is room p =
-    let begun : IsState (with_page plan.page state) = with-page-is state plan.page is p.page p.same in
+    let begun : HoldsNow (with_page plan.page state) = with-page-is state plan.page is p.page p.same in
     let low : HasNumbers (with_page plan.page state) = record {
       ids = omega (arith, room.ids);
       serials = omega (arith, room.serials, p.serials);
@@ -196,12 +205,57 @@ plan-page-well state plan is room p =
     } in
     let done : Well (with_page plan.page state) (plan_step plan state) (length plan.edits) 0 0 = all-well plan.edits (with_page plan.page state) begun low (omega (arith, room.ids, p.short)) p.taken p.texts in
     record {
-      is_state = done.is_state;
+      now = done.now;
       course = subst (λ v. Course (plan_step plan state).moves v (view_of (plan_step plan state).state)) (same-view state plan.page p.same) done.course;
       few_ids = omega (arith, done.few_ids, p.short);
       few_serials = omega (arith, done.few_serials, p.serials);
       few_sheets = omega (arith, done.few_sheets);
     }
+
+-- ---- edits are kept
+
+-- edits of the tree as they are kept
+abbrev pub trees_kept : List TreeEdit → List Inverse
+trees_kept es = map (λ e. Tree e) es
+
+pub trees-saved : (es : List TreeEdit) (state : State) → saved_now (edit_steps es state).state ≡ after_all page_after (trees_kept es) (saved_now state)
+trees-saved [] state = refl
+trees-saved (e ∷ es) state = trees-saved es (edit_step e state).state
+
+pub trees-next : (es : List TreeEdit) (state : State) → CanApplyAll es state.side.page → (edit_steps es state).state.side.page.next ≡ state.side.page.next
+trees-next [] state can = refl
+trees-next (e ∷ es) state can = trees-next es (edit_step e state).state can.1 ∙ next-stays state.side.page e can.0
+
+-- each is taken by the saved page
+pub trees-taken : (es : List TreeEdit) (page : PageValue) (book : List SheetEntry) → IsValid page → RowsHaveUtf8 (alone page.tree) → CanApplyAll es page → EditsHaveTexts es
+    → AllTaken page_after (TakesWell page.next) (trees_kept es) (saved_of page.tree book)
+trees-taken [] page book valid texts can has = tt
+trees-taken (e ∷ es) page book valid texts can has =
+    let rest : AllTaken page_after (TakesWell (after e page).next) (trees_kept es) (saved_of (after e page).tree book) =
+    trees-taken es (after e page) book (valid-after page e valid can.0) (after-texts e page.tree has.0 texts) can.1 has.1 in (
+      record { taken = record { valid = valid; taken = can.0 }; texts = texts; own = has.0 },
+      subst (λ (n : ℕ). AllTaken page_after (TakesWell n) (trees_kept es) (saved_of (after e page).tree book)) (next-stays page e can.0) rest,
+    )
+
+-- the history is kept on
+pub plan-recalls : (state : State) (plan : Plan) → IsState state → Planned state plan → Recalls state (planned_by_client plan state).state 2 2
+plan-recalls state plan is p =
+    let es = plan.edits in
+    let first : State = with_page plan.page state in
+    let done : Step = plan_step plan state in
+    let next : done.state.side.page.next ≡ plan.page.next = trees-next es first p.taken in
+    let begun : HoldsNow first = with-page-is state plan.page is.now p.page p.same in
+    let page : saved_now first ≡ saved_now state = λ i. record { tree = p.same i; sheets = (saved_now state).sheets } in
+    let there : AllTaken page_after (TakesWell plan.page.next) (trees_kept es) (saved_now first) = trees-taken es plan.page (book_in state) p.page begun.texts p.taken p.texts in
+    let here : AllTaken page_after (TakesWell plan.page.next) (trees_kept es) (saved_now state) =
+    subst (λ (s : Saved). AllTaken page_after (TakesWell plan.page.next) (trees_kept es) s) page there in
+    let taken : AllTaken page_after (TakesWell done.state.side.page.next) (trees_kept es) (saved_now state) =
+    subst (λ (n : ℕ). AllTaken page_after (TakesWell n) (trees_kept es) (saved_now state)) (sym next) here in
+    let saved : saved_now done.state ≡ after_all page_after (trees_kept es) (saved_now state) =
+    trees-saved es first ∙ ap (λ (s : Saved). after_all page_after (trees_kept es) s) page in
+    let count = length-map es (λ (e : TreeEdit). Tree e) in
+    recalls-more (omega (arith, trees-in-length (trees_kept es), count, p.short)) (omega (arith, count, p.short))
+    (recalls-edited (trees_kept es) state done is.history taken saved (omega (arith, next, p.low)))
 
 -- ---- the answer
 
@@ -215,17 +269,15 @@ numbers-after room most well = record {
 answer-well : (id : ℕ) (put : Option ℕ) (before : State) (done : Step) → HasRoom before → IsBegun done.state.client.session → is_counted id ≡ true → Well before done 2 100000 0
     → Well before (put_answer id put done) 100002 100000 0
 answer-well id None before done room begun small well =
-    more (omega arith) (omega arith) (omega arith)
-    (then-well well (stays-with (replied id Nothing) done.state well.is_state (numbers-after room (omega arith) well)
-    (refl, record { id_fits = small; plain = refl; fits = refl; texts = tt; levels = omega arith })))
+    more (omega arith) (omega arith) (omega arith) (well-answered id small (numbers-after room (omega arith) well) well)
 answer-well id (Some serial) before done room begun small well =
-    let pushed : Well done.state (push_step serial done.state) 100000 0 0 = push-well serial done.state well.is_state (numbers-after room (omega arith) well) begun in
+    let pushed : Well done.state (push_step serial done.state) 100000 0 0 = push-well serial done.state well.now (numbers-after room (omega arith) well) begun in
     let shown : Well before (followed_by done (push_step serial)) 100002 100000 0 = then-well well pushed in
     let low : HasNumbers (push_step serial done.state).state = numbers-after room (omega arith) shown in
     let w : Session = (push_step serial done.state).state.client.session in
-    let below : ids_in w serial ≤ length w.pushed = ids-below (nodes_in (push_step serial done.state).state) w serial shown.is_state.session in
+    let below : ids_in w serial ≤ length w.pushed = ids-below (nodes_in (push_step serial done.state).state) w serial shown.now.session in
     more (omega arith) (omega arith) (omega arith)
-    (then-well shown (stays-with (replied id (NodeId (ids_in w serial))) (push_step serial done.state).state shown.is_state low (
+    (then-well shown (stays-with (replied id (NodeId (ids_in w serial))) (push_step serial done.state).state shown.now low (
       refl,
       record {
         id_fits = small;
@@ -238,30 +290,6 @@ answer-well id (Some serial) before done room begun small well =
 
 -- ---- the step
 
--- a step that is well, and answers a command of that method and id
-pub record Answered (method : List ℕ) (sheet : Option ℕ) (id : ℕ) (before : State) (done : Step) : Type 0 where
-  pub well : StepsWell before done
-  pub once : flat_map reply_ids done.moves ≡ Some id ∷ []
-  pub may : MayAnswerAll method done.moves
-  pub texts : TellTextOf sheet done.moves
-
--- events, and then a reply
-once-last : (id : ℕ) (ms : List Move) (m : Move) → AreEvents ms → reply_ids m ≡ Some id ∷ [] → flat_map reply_ids (ms ++ m ∷ []) ≡ Some id ∷ []
-once-last id ms m are is =
-    let quiet : flat_map reply_ids ms ≡ [] = events-answer ms are in
-    let own : flat_map reply_ids (m ∷ []) ≡ Some id ∷ [] = ap (λ ids. ids ++ []) is in
-    flat-append ms (m ∷ []) quiet ∙ ap (λ ids. ids ++ flat_map reply_ids (m ∷ [])) quiet ∙ own
-
-pub refusal-answered : (method : List ℕ) (sheet : Option ℕ) (id : ℕ) (why : Why) (state : State) → IsState state → HasRoom state → is_counted id ≡ true → Answered method sheet id state (refusing (Some id) why state)
-refusal-answered method sheet id why state is room small =
-    let well = stays-with (failed (record { id = Some id; why = why })) state is (room-numbers state room) (refl, small) in
-    record {
-      well = record { is_state = well.is_state; course = well.course; ids = omega (arith, well.few_ids); serials = omega (arith, well.few_serials); sheets = omega (arith, well.few_sheets) };
-      once = refl;
-      may = (tt, tt);
-      texts = (tt, tt);
-    }
-
 -- the method may be answered so
 abbrev MayPut : List ℕ → Option ℕ → Type 0
 MayPut method None = MayAnswer method (replied 0 Nothing)
@@ -272,40 +300,39 @@ may-put method (One e) page named = named.2
 may-put method (MoveNode node parent before) page named = named
 may-put method (CopyNode node parent before) page named = named
 
+-- the history is that of the edit, whatever becomes known behind it
+put-recalls : (id : ℕ) (put : Option ℕ) (before : State) (done : Step) → Recalls before done.state 2 2 → Recalls before (put_answer id put done).state 2 2
+put-recalls id None before done recalls = recalls
+put-recalls id (Some serial) before done recalls = recalls-on (push_step serial done.state).state recalls refl refl (omega arith)
+
 answer-answered : (method : List ℕ) (sheet : Option ℕ) (id : ℕ) (put : Option ℕ) (before : State) (done : Step) → MayPut method put → AreEvents done.moves → Well before (put_answer id put done) 100002 100000 0
-    → Answered method sheet id before (put_answer id put done)
-answer-answered method sheet id None before done can are well = record {
-  well = record { is_state = well.is_state; course = well.course; ids = omega (arith, well.few_ids); serials = omega (arith, well.few_serials); sheets = omega (arith, well.few_sheets) };
-  once = once-last id done.moves (replied id Nothing) are refl;
-  may = may-append method done.moves (replied id Nothing ∷ []) (events-may method done.moves are) (can, tt);
-  texts = texts-append sheet done.moves (replied id Nothing ∷ []) (events-text sheet done.moves are) (tt, tt);
-}
-answer-answered method sheet id (Some serial) before done can are well =
+    → Recalls before (put_answer id put done).state 2 2 → Answered method sheet id 2 before (put_answer id put done)
+answer-answered method sheet id None before done can are well recalls =
+    reply-answered method sheet id 2 Nothing before done can are (steps-well {ids = 100002} (omega arith) (omega arith) (more (omega arith) (omega arith) (omega arith) well) recalls) recalls.few_edits
+answer-answered method sheet id (Some serial) before done can are well recalls =
     let shown : Step = followed_by done (push_step serial) in
     let events : AreEvents shown.moves = events-append done.moves (push_step serial done.state).moves are (openings-events _) in
-    record {
-      well = record { is_state = well.is_state; course = well.course; ids = omega (arith, well.few_ids); serials = omega (arith, well.few_serials); sheets = omega (arith, well.few_sheets) };
-      once = once-last id shown.moves (replied id (NodeId (id_now shown.state serial))) events refl;
-      may = may-append method shown.moves (replied id (NodeId (id_now shown.state serial)) ∷ []) (events-may method shown.moves events) (can (id_now shown.state serial), tt);
-      texts = texts-append sheet shown.moves (replied id (NodeId (id_now shown.state serial)) ∷ []) (events-text sheet shown.moves events) (tt, tt);
-    }
+    reply-answered method sheet id 2 (NodeId (id_now shown.state serial)) before shown (can (id_now shown.state serial)) events
+    (steps-well {ids = 100002} (omega arith) (omega arith) (more (omega arith) (omega arith) (omega arith) well) recalls) recalls.few_edits
 
 unless-answered : (method : List ℕ) (sheet : Option ℕ) (id : ℕ) (fault : Option EditFault) (e : NodeEdit) (state : State) → node_edit_fault e state.side.page ≡ fault → IsNamed method e → IsBegun state.client.session
-    → IsState state → HasRoom state → is_counted id ≡ true → Answered method sheet id state (unless_fault id fault e state)
-unless-answered method sheet id (Some f) e state fits named begun is room small = refusal-answered method sheet id (edit_why f) state is room small
+    → IsState state → HasRoom state → is_counted id ≡ true → Answered method sheet id 2 state (unless_fault id fault e state)
+unless-answered method sheet id (Some f) e state fits named begun is room small = refusal-answered method sheet id 2 (edit_why f) state is room small
 unless-answered method sheet id None e state fits named begun is room small =
     let page = state.side.page in
     let plan : Plan = node_edit_plan e page in
-    let done : Step = plan_step plan state in
-    let well : Well state done 2 100000 0 = plan-page-well state plan is room (node-edit-planned method state e is named fits) in
+    let p : Planned state plan = node-edit-planned method state e is.now named fits in
+    let done : Step = planned_by_client plan state in
+    let well : Well state done 2 100000 0 = well-marked done.state.client.marks (plan-page-well state plan is.now room p) in
     answer-answered method sheet id (node_put e page) state done (may-put method e page named) (all-events plan.edits (with_page plan.page state))
     (answer-well id (node_put e page) state done room (begun-after plan.edits (with_page plan.page state) begun) small well)
+    (put-recalls id (node_put e page) state done (plan-recalls state plan is p))
 
 pub tree-edit-answered : (method : List ℕ) (sheet : Option ℕ) (id : ℕ) (edit : DomEdit) (state : State) → HasTreeTexts edit → AsksFor method edit → IsState state → HasRoom state → is_counted id ≡ true
-    → Answered method sheet id state (tree_edit_step id edit state)
+    → Answered method sheet id 2 state (tree_edit_step id edit state)
 tree-edit-answered method sheet id edit state texts asks is room small = at (edit_named (serial_now state) (lowered edit)) refl where
-  at : (r : Result NodeEdit Why) → edit_named (serial_now state) (lowered edit) ≡ r → Answered method sheet id state (node_edit_step id r state)
-  at (Err why) h = refusal-answered method sheet id why state is room small
+  at : (r : Result NodeEdit Why) → edit_named (serial_now state) (lowered edit) ≡ r → Answered method sheet id 2 state (node_edit_step id r state)
+  at (Err why) h = refusal-answered method sheet id 2 why state is room small
   at (Ok e) h =
       let named = named-is method (serial_now state) (lowered edit) e (lowered-texts edit texts) (lowered-asks method edit asks) h in
       unless-answered method sheet id (node_edit_fault e state.side.page) e state refl named.0

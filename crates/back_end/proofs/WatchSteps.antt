@@ -1,17 +1,16 @@
 -- A watch is set, or taken away: the step is well.
-use Rattle.std.proofs.Common.{◌≡◌, ℕ, ◌+◌, ◌<◌, ◌≤◌, ◌==◌, Bool, true, false, not, ◌&&◌, ◌||◌, List, [], ◌∷◌, Option, Some, None, ◌⊎◌, inl, inr, ⊎_elim, refl, sym, ◌∙◌, ap, subst, arith}
+use Rattle.std.proofs.Common.{◌≡◌, ℕ, ◌<◌, ◌==◌, Bool, true, false, not, ◌||◌, [], Option, Some, None, ◌⊎◌, inl, inr, ⊎_elim, refl, sym, ◌∙◌, subst, arith}
 use Rattle.std.specs.FinSet as set
 use Rattle.std.specs.Ordering.{nat_cmp, eq_by_cmp}
 use Rattle.std.specs.Cmp.{nat_cmp_total, Equal-is}
 use Rattle.std.proofs.lemmas.Bool.{and_parts}
 use Rattle.cdp_json.specs.Kinds.{is_counted}
-use Rattle.node_tree.specs.Nodes.{Nodes, alone}
+use Rattle.node_tree.specs.Nodes.{Nodes}
 use Rattle.node_tree.specs.Keys.{has}
 use Rattle.node_tree.proofs.KeyLemmas.{has-there}
 use Rattle.page_tree.specs.Pages.{Row, row_serial}
 use Rattle.node_binding.specs.Counts.{times}
-use Rattle.node_binding.specs.Cuts.{known}
-use Rattle.node_binding.specs.Sessions.{Session, ids_in, known_by, serial_at}
+use Rattle.node_binding.specs.Sessions.{Session, ids_in, known_by}
 use Rattle.node_binding.proofs.Known.{known-tally}
 use Rattle.node_binding.proofs.PairLemmas.{find-there}
 use Rattle.cdp_messages.specs.declared.down.ReplyBody.TheVariants.{Nothing}
@@ -19,7 +18,7 @@ use Rattle.cdp_messages.specs.Moves.{replied, CanBeTold, ends, goes}
 use Rattle.dom_breakpoints.specs.declared.pauses.WatchKind.{WatchKind}
 use Rattle.dom_breakpoints.specs.declared.pauses.WatchKind.TheVariants.{Subtree, Attribute, Removed}
 use Rattle.dom_breakpoints.specs.Watched.{Serials, Watched, is_watched, with_watch, without_watch}
-use Rattle.back_end.specs.States.{State, nodes_in, view_of, IsState, AreAmong}
+use Rattle.back_end.specs.States.{State, nodes_in, view_of, HoldsNow}
 use Rattle.back_end.specs.Steps.{with_client, serial_now, watch_step}
 use Rattle.back_end.proofs.PushSteps.{not-begun, begun-known}
 use Rattle.back_end.proofs.WellSteps.{Well, HasNumbers, told-view}
@@ -83,8 +82,8 @@ known-there state id serial h =
 abbrev pub with_watches : Watched → State → State
 with_watches watched state = with_client (record state.client { watched = watched }) state
 
-pub watches-are : (change : ℕ → Watched → Watched) (state : State) (id serial : ℕ) → AddsOne change → serial_now state id ≡ Some serial → IsState state
-    → IsState (with_watches (change serial state.client.watched) state)
+pub watches-are : (change : ℕ → Watched → Watched) (state : State) (id serial : ℕ) → AddsOne change → serial_now state id ≡ Some serial → HoldsNow state
+    → HoldsNow (with_watches (change serial state.client.watched) state)
 watches-are change state id serial adds h is = record {
   page = is.page;
   texts = is.texts;
@@ -96,15 +95,14 @@ watches-are change state id serial adds h is = record {
       ⊎_elim (λ same. subst (λ (k : ℕ). has row_serial k (nodes_in state) ≡ true) (sym same) (known-there state id serial h)) (λ was. is.watched kind s was)
       (adds kind serial s state.client.watched e);
   none_watched = λ e. not-begun state.client.session (begun-known state.client.session state id serial h) e;
-  history = is.history;
 }
 
 pub watch-well : (id : ℕ) (change : ℕ → Watched → Watched) (state : State) (node serial : ℕ) → AddsOne change → serial_now state node ≡ Some serial
-    → IsState state → HasNumbers state → is_counted id ≡ true → Well state (watch_step id change (Some serial) state) 0 0 0
+    → HoldsNow state → HasNumbers state → is_counted id ≡ true → Well state (watch_step id change (Some serial) state) 0 0 0
 watch-well id change state node serial adds h is low small =
     let told : CanBeTold (view_of state) = told-view state is low in
     record {
-      is_state = watches-are change state node serial adds h is;
+      now = watches-are change state node serial adds h is;
       course = goes (replied id Nothing) [] (view_of state) (view_of state) (view_of state) told
           (refl, record { id_fits = small; plain = refl; fits = refl; texts = tt; levels = omega arith }) (ends (view_of state) told);
       few_ids = omega arith;

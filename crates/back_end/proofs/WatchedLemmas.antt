@@ -1,5 +1,5 @@
 -- Watched nodes stay nodes of the page: after an edit each watch that is left is of a node that is still there.
-use Rattle.std.proofs.Common.{◌≡◌, ℕ, zero, suc, ◌+◌, ◌<◌, ◌≤◌, Bool, true, false, not, ◌&&◌, cond, Option, Some, None, refl, sym, ◌∙◌, ap, subst, arith}
+use Rattle.std.proofs.Common.{◌≡◌, ℕ, zero, suc, ◌+◌, ◌≤◌, Bool, true, false, not, ◌&&◌, refl, sym, ◌∙◌, ap, arith}
 use Rattle.std.specs.FinSet as set
 use Rattle.std.specs.Ordering.{nat_cmp}
 use Rattle.std.proofs.lemmas.Bool.{and_parts, not-false}
@@ -7,7 +7,7 @@ use Rattle.node_tree.specs.Nodes.{Nodes, Branch, alone}
 use Rattle.node_tree.specs.Keys.{has, tally, tally_in}
 use Rattle.node_tree.specs.Labels.{Label}
 use Rattle.node_tree.proofs.KeyLemmas.{tally-at, has-there}
-use Rattle.page_tree.specs.Pages.{Row, row_serial, State as PageValue, IsValid, node_at, parent_at}
+use Rattle.page_tree.specs.Pages.{Row, row_serial, IsValid, node_at, parent_at}
 use Rattle.page_tree.specs.Edits.{after, relabelled, with_attribute, without_attribute, with_value, with_child, without_child, changed_at, children_at}
 use Rattle.page_tree.specs.EditFaults.{is_live, CanApply, edit_faults}
 use Rattle.page_tree.specs.declared.edits.TreeEdit.{TreeEdit}

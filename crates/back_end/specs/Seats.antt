@@ -39,7 +39,7 @@ StandsFor seat side state = BothStandFor seat.desk seat.history side state
 
 -- a seat that is not dead stands for some state, whichever
 abbrev pub IsSeated : Seat → PageSide → Type 0
-IsSeated seat side = seat.is_dead ≡ false → ∥ (state : State) × StandsFor seat side state ∥₁
+IsSeated seat side = seat.is_dead ≡ false → ∥ ((state : State) × StandsFor seat side state) ∥₁
 
 -- ids, serials and numbers of sheets are left for a step
 pub record HasNumbersLeft (desk : Desk) (side : PageSide) : Type 0 where

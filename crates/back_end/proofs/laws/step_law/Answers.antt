@@ -7,4 +7,4 @@ pub returns-clause-frames : goal.returns-clause-frames
 returns-clause-frames c = frame-steps-well
 
 pub returns-clause-turns : goal.returns-clause-turns
-returns-clause-turns c = λ state x is room can. (turn-steps-well state x is room can, turn-answers x state)
+returns-clause-turns c = λ state x is room can. let turn = turn-steps-well state x is room can in (turn.0, turn-answers x state, turn.1)
