@@ -147,12 +147,15 @@ css-off-both d h s state id server needs both on was =
 
 -- ---- `DOM.disable`
 
-pub disabled-both : (d d1 : Desk) (s s1 : PageSide) (state : State) (id : ℕ) → DeskStandsFor d s state → d.is_on ≡ true → DeskStandsFor d1 s1 (command_step id disables state).state
-    → BothStandFor d1 no_marks s1 (command_step id disables state).state
-disabled-both d d1 s s1 state id before on stands = record {
-  stands = stands;
-  kept = keeps-cleared (command_step id disables state).state (ap (λ (done : Step). done.state.client.marks) (on-is id disables state (dom-on disables d s state before on) refl));
-}
+pub disabled-both : (d d1 : Desk) (h1 : Marks Inverse) (s s1 : PageSide) (state : State) (id : ℕ) → DeskStandsFor d s state → d.is_on ≡ true → h1 ≡ no_marks → DeskStandsFor d1 s1 (command_step id disables state).state
+    → BothStandFor d1 h1 s1 (command_step id disables state).state
+disabled-both d d1 h1 s s1 state id before on none stands =
+    let after = (command_step id disables state).state in
+    record {
+      stands = stands;
+      kept = subst (λ (h : Marks Inverse). Keeps h after) (sym none)
+          (keeps-cleared after (ap (λ (done : Step). done.state.client.marks) (on-is id disables state (dom-on disables d s state before on) refl)));
+    }
 
 -- ---- a script's changes
 

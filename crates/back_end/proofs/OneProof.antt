@@ -5,13 +5,13 @@ use Rattle.std.specs.Str.{IsCharBoundary}
 use Rattle.std.proofs.Math.Logic.{∥∥₁_map, ∥∥₁_elim}
 use Rattle.std.proofs.Props.{props}
 use Rattle.node_tree.specs.Nodes.{Branch, map_branch}
-use Rattle.page_tree.specs.Pages.{Row, row_label}
-use Rattle.page_tree.specs.EditFaults.{CanInsert, CanAttach, IsReady, CanApply, first_fault, times_in}
+use Rattle.page_tree.specs.Pages.{Row, row_label, times_in}
+use Rattle.page_tree.specs.EditFaults.{CanInsert, CanAttach, IsReady, CanApply, first_fault}
 use Rattle.page_tree.specs.declared.edits.TreeEdit.{TreeEdit}
 use Rattle.page_tree.specs.declared.edits.TreeEdit.TheVariants.{SetAttr, DropAttr, SetText, Attach, Detach}
 use Rattle.page_tree.specs.declared.edit_faults.EditFault.{EditFault}
 use Rattle.selectors.specs.Ranges.{IsRangeOf}
-use Rattle.css_tokens.specs.declared.ranges.Range.{Range}
+use Rattle.css_tokens.specs.declared.token.Range.{Range}
 use Rattle.sheet_reader.specs.Forms.{range}
 use Rattle.sheet_reader.specs.declared.book.SheetEntry.{SheetEntry}
 use Rattle.sheet_reader.specs.Books.{entry_of}

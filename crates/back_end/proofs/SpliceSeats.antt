@@ -31,6 +31,7 @@ use Rattle.back_end.specs.Seats.{DeskStandsFor, BothStandFor, HasNumbersLeft}
 use Rattle.undo_marks.specs.Marks.{Marks, noted_singly}
 use Rattle.undo_marks.specs.declared.inverse_lists.Inverse.{Inverse}
 use Rattle.undo_marks.specs.declared.inverse_lists.Inverse.TheVariants.{Sheet}
+use Rattle.back_end.proofs.ScriptLemmas.{stayed-stands}
 use Rattle.back_end.proofs.NoteSeats.{restyled-kept}
 use Rattle.back_end.proofs.SeatLemmas.{marks-stands, on-is}
 use Rattle.back_end.proofs.SheetSeats.{dom-on, css-taken}
@@ -165,9 +166,11 @@ fault-is d s state id x f stands on css h =
     step-is d s state id x stands on css
     ∙ ap (λ (r : CssEdited). restyled_step id r (css_splices (book_in state) x) state) (edited-here s (book_in state) x (Err f) stands.sheets_are h)
 
-pub unrestyled-stands : (d : Desk) (s : PageSide) (state : State) (id : ℕ) (x : CssEdit) (f : SheetFault) → DeskStandsFor d s state → d.is_on ≡ true → d.css ≡ true
-    → css_edited s.sheets.entries x ≡ Err f → DeskStandsFor d s (command_step id (edits_sheets x) state).state
-unrestyled-stands d s state id x f stands on css h = subst (λ (done : Step). DeskStandsFor d s done.state) (sym (fault-is d s state id x f stands on css h)) stands
+pub unrestyled-both : (d : Desk) (h : Marks Inverse) (s s1 : PageSide) (state : State) (id : ℕ) (x : CssEdit) (f : SheetFault) → BothStandFor d h s state → d.is_on ≡ true → d.css ≡ true
+    → css_edited s.sheets.entries x ≡ Err f → s1.page ≡ s.page → s1.sheets ≡ s.sheets → BothStandFor d h s1 (command_step id (edits_sheets x) state).state
+unrestyled-both d h s s1 state id x f both on css is page_is sheets_is =
+    subst (λ (done : Step). BothStandFor d h s1 done.state) (sym (fault-is d s state id x f both.stands on css is))
+    (record { stands = stayed-stands d d s s1 state refl refl refl refl page_is sheets_is both.stands; kept = both.kept })
 
 pub unrestyled-sent : (d : Desk) (s : PageSide) (state : State) (id : ℕ) (x : CssEdit) (f : SheetFault) (before after : List ℕ) → DeskStandsFor d s state → d.is_on ≡ true → d.css ≡ true
     → css_edited s.sheets.entries x ≡ Err f → after ≡ before ++ frames_of_moves (refusing (Some id) (sheet_why f) state).moves

@@ -70,7 +70,7 @@ pub record Way (all rest : List Inverse) (d0 d : Desk) (s0 s : PageSide) (backs 
   pub saved : after_all page_after rest (saved_at s) ≡ after_all page_after all (saved_at s0)
   pub steps : (state : State) → DeskStandsFor d0 s0 state → TakesAll s0 all → Reached all rest d s old out state
 
-pub way-start : (all : List Inverse) (d : Desk) (s : PageSide) (out : List ℕ) → ∥ TakesAll s all ∥₁ → Way all all d d s s [] out out
+way-start : (all : List Inverse) (d : Desk) (s : PageSide) (out : List ℕ) → ∥ TakesAll s all ∥₁ → Way all all d d s s [] out out
 way-start all d s out taken = record {
   ids = omega arith;
   next = refl;
@@ -80,6 +80,10 @@ way-start all d s out taken = record {
   saved = refl;
   steps = λ state stands takes. record { mid = state; told = []; stands = stands; taken = takes; whole = refl; sent = sym (append-nil out) };
 }
+
+pub way-begin : (all rest backs : List Inverse) (d : Desk) (s : PageSide) (out : List ℕ) → rest ≡ all → backs ≡ [] → ∥ TakesAll s all ∥₁ → Way all rest d d s s backs out out
+way-begin all rest backs d s out rest_is empty taken =
+    subst (λ (l : List Inverse). Way all l d d s s backs out out) (sym rest_is) (subst (λ (l : List Inverse). Way all all d d s s l out out) (sym empty) (way-start all d s out taken))
 
 frames-append : (ms ks : List Move) → frames_of_moves (ms ++ ks) ≡ frames_of_moves ms ++ frames_of_moves ks
 frames-append ms ks = flat_map-append (λ (m : Move). ended (move_text m)) ms ks
@@ -265,13 +269,13 @@ taken-here d s state es stands taken =
     subst (λ (n : ℕ). AllTaken page_after (TakesWell n) es (saved_at s)) next
     (subst (λ (p : Saved). AllTaken page_after (TakesWell state.side.page.next) es p) (sym (here-saved d s state stands)) taken)
 
-pub undo-taken : (d : Desk) (h : Marks Inverse) (s : PageSide) (es : List Inverse) → handed_out h.past ≡ Some es → ∥ (state : State) × BothStandFor d h s state ∥₁ → ∥ TakesAll s es ∥₁
+pub undo-taken : (d : Desk) (h : Marks Inverse) (s : PageSide) (es : List Inverse) → handed_out h.past ≡ Some es → ∥ ((state : State) × BothStandFor d h s state) ∥₁ → ∥ TakesAll s es ∥₁
 undo-taken d h s es out standing =
-    ∥∥₁_map standing (λ (x : (state : State) × BothStandFor d h s state). taken-here d s x.0 es x.1.stands (undo-hands h es x.0 x.1.kept out).taken)
+    ∥∥₁_map standing (λ (x : ((state : State) × BothStandFor d h s state)). taken-here d s x.0 es x.1.stands (undo-hands h es x.0 x.1.kept out).taken)
 
-pub redo-taken : (d : Desk) (h : Marks Inverse) (s : PageSide) (es : List Inverse) → handed_out h.future ≡ Some es → ∥ (state : State) × BothStandFor d h s state ∥₁ → ∥ TakesAll s es ∥₁
+pub redo-taken : (d : Desk) (h : Marks Inverse) (s : PageSide) (es : List Inverse) → handed_out h.future ≡ Some es → ∥ ((state : State) × BothStandFor d h s state) ∥₁ → ∥ TakesAll s es ∥₁
 redo-taken d h s es out standing =
-    ∥∥₁_map standing (λ (x : (state : State) × BothStandFor d h s state). taken-here d s x.0 es x.1.stands (redo-hands h es x.0 x.1.kept out).taken)
+    ∥∥₁_map standing (λ (x : ((state : State) × BothStandFor d h s state)). taken-here d s x.0 es x.1.stands (redo-hands h es x.0 x.1.kept out).taken)
 
 -- the same for a state that is known
 pub undo-takes : (d : Desk) (h : Marks Inverse) (s : PageSide) (state : State) (es : List Inverse) → handed_out h.past ≡ Some es → BothStandFor d h s state → TakesAll s es

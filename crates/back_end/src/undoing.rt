@@ -137,7 +137,7 @@ impl Desk {
     ) -> Result<(), AllocError>
         requires room { HasNumbersLeft self.old side.old }
         requires few { edits_in history.old < 2 ^ 30 }
-        requires standing { ∥ (state : State) × BothStandFor self.old history.old side.old state ∥₁ }
+        requires standing { ∥ ((state : State) × BothStandFor self.old history.old side.old state) ∥₁ }
         ensures stands { (state : State) → BothStandFor self.old history.old side.old state
             → OnOk result (BothStandFor self.new history.new side.new (command_step id server.undoes state).state) }
         ensures sent { (state : State) → BothStandFor self.old history.old side.old state
@@ -167,7 +167,7 @@ impl Desk {
     ) -> Result<(), AllocError>
         requires room { HasNumbersLeft self.old side.old }
         requires few { edits_in history.old < 2 ^ 30 }
-        requires standing { ∥ (state : State) × BothStandFor self.old history.old side.old state ∥₁ }
+        requires standing { ∥ ((state : State) × BothStandFor self.old history.old side.old state) ∥₁ }
         ensures stands { (state : State) → BothStandFor self.old history.old side.old state
             → OnOk result (BothStandFor self.new history.new side.new (command_step id server.redoes state).state) }
         ensures sent { (state : State) → BothStandFor self.old history.old side.old state

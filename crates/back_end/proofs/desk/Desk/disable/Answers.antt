@@ -1,10 +1,6 @@
 -- `DOM.disable` is carried out, or refused while DOM is off.
-use Rattle.std.proofs.Common.{refl, subst, sym}
-use Rattle.undo_marks.specs.Marks.{Marks}
-use Rattle.undo_marks.specs.declared.inverse_lists.Inverse.{Inverse}
+use Rattle.std.proofs.Common.{refl}
 use Rattle.back_end.specs.Servers.{disables}
-use Rattle.back_end.specs.Steps.{command_step}
-use Rattle.back_end.specs.Seats.{BothStandFor}
 use Rattle.back_end.proofs.SeatLemmas.{on_ok, disabled-stands, off-sent}
 use Rattle.back_end.proofs.ScriptLemmas.{in_any}
 use Rattle.back_end.proofs.KeepSeats.{off-both, disabled-both}
@@ -21,7 +17,6 @@ returns-then-not-self-clause-sent c = λ state stands.
 
 pub returns-clause-stands : goal.returns-clause-stands
 returns-clause-stands c = λ state both.
-    let now = disabled-stands c.args.self.now (record { alloc = _; is_on = _; css = _; agent = _; watches = _ }) c.args.side.now c.args.side.now state c.args.id both.stands
-    c.if-not-self.false refl refl refl (c.in_ok-switch.ensures {u = tt}).on c.clear.ensures c.reset.ensures in
-    subst (λ (h : Marks Inverse). BothStandFor _ h c.args.side.now (command_step c.args.id disables state).state) (sym c.clear-2.ensures)
-    (disabled-both c.args.self.now _ c.args.side.now c.args.side.now state c.args.id both.stands c.if-not-self.false now)
+    disabled-both c.args.self.now (record { alloc = _; is_on = _; css = _; agent = _; watches = _ }) c.clear-2.new.self c.args.side.now c.args.side.now state c.args.id both.stands c.if-not-self.false c.clear-2.ensures
+    (disabled-stands c.args.self.now (record { alloc = _; is_on = _; css = _; agent = _; watches = _ }) c.args.side.now c.args.side.now state c.args.id both.stands
+    c.if-not-self.false refl refl refl (c.in_ok-switch.ensures {u = tt}).on c.clear.ensures c.reset.ensures)
