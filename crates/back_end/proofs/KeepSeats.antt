@@ -1,10 +1,13 @@
 -- A desk and a history that stand for a state do so after each command, of what edits nothing, and of a script's changes.
-use Rattle.std.proofs.Common.{◌≡◌, ◌≤◌, ℕ, Bool, true, false, cond, not, ◌&&◌, List, [], ◌∷◌, Option, Some, None, refl, sym, ap, ◌∙◌, subst, arith}
+use Rattle.std.proofs.Common.{◌≡◌, ◌≤◌, ℕ, Bool, true, false, cond, not, ◌&&◌, List, [], ◌∷◌, ◌++◌, Option, Some, None, Result, refl, sym, ap, ◌∙◌, subst, arith}
 use Rattle.page_tree.specs.declared.edits.TreeEdit.{TreeEdit}
 use Rattle.node_binding.specs.Sessions.{Session}
 use Rattle.cdp_messages.specs.declared.command.Why.{Why}
 use Rattle.cdp_messages.specs.declared.command.Why.TheVariants.{DomOff, CssOff}
 use Rattle.cdp_messages.specs.declared.dom_ask.DomAsk.{DomAsk}
+use Rattle.cdp_messages.specs.Moves.{frames_of_moves}
+use Rattle.css_agent.specs.declared.asks.CssAsk.{CssAsk}
+use Rattle.std.specs.Result.{OnOk}
 use Rattle.dom_agent.specs.Requests.{Outcome, shows_root, served, refused}
 use Rattle.dom_agent.specs.Laws.{session_outcome}
 use Rattle.dom_breakpoints.specs.declared.pauses.Pause.{Pause}
@@ -22,13 +25,15 @@ use Rattle.back_end.specs.declared.faults.ActFault.{ActFault}
 use Rattle.back_end.specs.Sheets.{as_book, SheetChange}
 use Rattle.back_end.specs.States.{Side, Client, State, book_in, saved_now, Keeps}
 use Rattle.back_end.specs.Plans.{Deed, edits, restyles, act_fault, act_plan}
-use Rattle.back_end.specs.Servers.{Server, disables, agent, watches, unwatches}
+use Rattle.back_end.specs.Servers.{Server, disables, agent, watches, unwatches, by_agent, by_part}
+use Rattle.back_end.specs.declared.parts.SeatPart.{SeatPart}
+use Rattle.back_end.specs.declared.parts.SeatPart.TheVariants as part
 use Rattle.back_end.specs.Steps.{Step, refusing, with_page, client_served, push_step, push_steps, pause_step, pause_before, edit_step, script_step, script_steps, sheet_step, sheet_steps, deed_step, planned_step, act_step, load_step, watch_kind, watch_step, serial_now, needs_on, needs_css, server_step, command_step}
 use Rattle.dom_breakpoints.specs.Watched.{with_watch, without_watch}
 use Rattle.cdp_messages.specs.declared.command.WatchWord.{WatchWord}
 use Rattle.back_end.specs.Seats.{DeskStandsFor, BothStandFor}
 use Rattle.back_end.proofs.HistoryLemmas.{keeps-same, keeps-crossed, keeps-cleared}
-use Rattle.back_end.proofs.SeatLemmas.{on-is}
+use Rattle.back_end.proofs.SeatLemmas.{on_ok, off-is, css-off-is, on-is}
 use Rattle.back_end.proofs.SheetSeats.{dom-on}
 
 -- ---- steps that leave the history alone
@@ -55,14 +60,14 @@ command-stays id server state stays = at (needs_on server && not state.client.do
   at false true = stayed state
   at false false = stays
 
-pub stays-both : (d d1 : Desk) (s s1 : PageSide) (h : Marks Inverse) (state : State) (id : ℕ) (server : Server) → Stays state (server_step id server state).state → BothStandFor d h s state
+stays-both : (d d1 : Desk) (s s1 : PageSide) (h : Marks Inverse) (state : State) (id : ℕ) (server : Server) → Stays state (server_step id server state).state → BothStandFor d h s state
     → DeskStandsFor d1 s1 (command_step id server state).state → BothStandFor d1 h s1 (command_step id server state).state
 stays-both d d1 s s1 h state id server stays both stands = record {
   stands = stands;
   kept = stays-kept h state (command_step id server state).state (command-stays id server state stays) both.kept;
 }
 
-pub agent-stays : (id : ℕ) (ask : DomAsk) (state : State) → Stays state (server_step id (agent ask) state).state
+agent-stays : (id : ℕ) (ask : DomAsk) (state : State) → Stays state (server_step id (agent ask) state).state
 agent-stays id ask state = record { marks = at (session_outcome state.side.page ask state.client.session); side = refl } where
   at : (o : Outcome Session) → (client_served ask o state.client).marks ≡ state.client.marks
   at (shows_root w b) = refl
@@ -73,25 +78,84 @@ watch-stays : (id : ℕ) (change : ℕ → Watched → Watched) (found : Option 
 watch-stays id change None state = stayed state
 watch-stays id change (Some node) state = record { marks = refl; side = refl }
 
-pub watches-stay : (id node : ℕ) (word : WatchWord) (state : State) → Stays state (server_step id (watches node word) state).state
+watches-stay : (id node : ℕ) (word : WatchWord) (state : State) → Stays state (server_step id (watches node word) state).state
 watches-stay id node word state = watch-stays id (with_watch (watch_kind word)) (serial_now state node) state
 
-pub unwatches-stay : (id node : ℕ) (word : WatchWord) (state : State) → Stays state (server_step id (unwatches node word) state).state
+unwatches-stay : (id node : ℕ) (word : WatchWord) (state : State) → Stays state (server_step id (unwatches node word) state).state
 unwatches-stay id node word state = watch-stays id (without_watch (watch_kind word)) (serial_now state node) state
 
+others-stay : (id : ℕ) (ask : Option DomAsk) (state : State) → Stays state (server_step id (by_agent ask) state).state
+others-stay id None state = stayed state
+others-stay id (Some ask) state = agent-stays id ask state
+
+-- what a part of the seat does that leaves the history alone
+abbrev pub LeavesAlone : SeatPart → Type 0
+LeavesAlone p = (id : ℕ) (state : State) → Stays state (server_step id (by_part p) state).state
+
+pub enables-alone : LeavesAlone part.Enables
+enables-alone id state = record { marks = refl; side = refl }
+
+pub css-enables-alone : LeavesAlone part.CssEnables
+css-enables-alone id state = record { marks = refl; side = refl }
+
+pub css-disables-alone : LeavesAlone part.CssDisables
+css-disables-alone id state = record { marks = refl; side = refl }
+
+pub styles-alone : (ask : CssAsk) → LeavesAlone (part.Styles ask)
+styles-alone ask id state = stayed state
+
+pub watches-alone : (node : ℕ) (word : WatchWord) → LeavesAlone (part.Watches node word)
+watches-alone node word id state = watches-stay id node word state
+
+pub unwatches-alone : (node : ℕ) (word : WatchWord) → LeavesAlone (part.Unwatches node word)
+unwatches-alone node word id state = unwatches-stay id node word state
+
+pub others-alone : (ask : Option DomAsk) → LeavesAlone (part.Others ask)
+others-alone ask id state = others-stay id ask state
+
+pub plain-both : {T E : Type 0} (result : Result T E) (d d1 : Desk) (s s1 : PageSide) (h : Marks Inverse) (state : State) (id : ℕ) (p q : SeatPart) → p ≡ q → LeavesAlone p → BothStandFor d h s state
+    → OnOk result (DeskStandsFor d1 s1 (command_step id (by_part p) state).state) → OnOk result (BothStandFor d1 h s1 (command_step id (by_part q) state).state)
+plain-both result d d1 s s1 h state id p q is alone both done =
+    subst (λ (x : SeatPart). OnOk result (BothStandFor d1 h s1 (command_step id (by_part x) state).state)) is
+    (on_ok result _ _ done (stays-both d d1 s s1 h state id (by_part p) (alone id state) both))
+
+pub part-both : {T E : Type 0} (result : Result T E) (d1 : Desk) (s1 : PageSide) (h1 : Marks Inverse) (state : State) (id : ℕ) (p q : SeatPart) → p ≡ q
+    → OnOk result (BothStandFor d1 h1 s1 (command_step id (by_part p) state).state) → OnOk result (BothStandFor d1 h1 s1 (command_step id (by_part q) state).state)
+part-both result d1 s1 h1 state id p q is done = subst (λ (x : SeatPart). OnOk result (BothStandFor d1 h1 s1 (command_step id (by_part x) state).state)) is done
+
+pub part-sent : {T E : Type 0} (result : Result T E) (state : State) (id : ℕ) (p q : SeatPart) (old new : List ℕ) → p ≡ q
+    → OnOk result (new ≡ old ++ frames_of_moves (command_step id (by_part p) state).moves) → OnOk result (new ≡ old ++ frames_of_moves (command_step id (by_part q) state).moves)
+part-sent result state id p q old new is done = subst (λ (x : SeatPart). OnOk result (new ≡ old ++ frames_of_moves (command_step id (by_part x) state).moves)) is done
+
 -- a step that is a refusal
-pub refused-both : (d : Desk) (h : Marks Inverse) (s : PageSide) (state : State) (done : Step) (id : Option ℕ) (why : Why) → done ≡ refusing id why state → BothStandFor d h s state
+refused-both : (d : Desk) (h : Marks Inverse) (s : PageSide) (state : State) (done : Step) (id : Option ℕ) (why : Why) → done ≡ refusing id why state → BothStandFor d h s state
     → BothStandFor d h s done.state
 refused-both d h s state done id why is both = subst (λ (x : Step). BothStandFor d h s x.state) (sym is) both
 
+-- one since DOM is off, and one since CSS is
+pub off-both : (d : Desk) (h : Marks Inverse) (s : PageSide) (state : State) (id : ℕ) (server : Server) → needs_on server ≡ true → BothStandFor d h s state → d.is_on ≡ false
+    → BothStandFor d h s (command_step id server state).state
+off-both d h s state id server needs both was =
+    let off : (needs_on server && not state.client.dom_on) ≡ true = ap (λ a. a && not state.client.dom_on) needs ∙ ap (λ b. not b) (sym both.stands.on_is ∙ was) in
+    refused-both d h s state (command_step id server state) (Some id) DomOff (off-is id server state off) both
+
+pub css-off-both : (d : Desk) (h : Marks Inverse) (s : PageSide) (state : State) (id : ℕ) (server : Server) → needs_css server ≡ true → BothStandFor d h s state → d.is_on ≡ true → d.css ≡ false
+    → BothStandFor d h s (command_step id server state).state
+css-off-both d h s state id server needs both on was =
+    let off : (needs_css server && not state.client.css_on) ≡ true = ap (λ a. a && not state.client.css_on) needs ∙ ap (λ b. not b) (sym both.stands.css_is ∙ was) in
+    refused-both d h s state (command_step id server state) (Some id) CssOff (css-off-is id server state (dom-on server d s state both.stands on) off) both
+
 -- ---- `DOM.disable`
 
-pub disabled-both : (d d1 : Desk) (s s1 : PageSide) (state : State) (id : ℕ) → DeskStandsFor d s state → d.is_on ≡ true → DeskStandsFor d1 s1 (command_step id disables state).state
-    → BothStandFor d1 no_marks s1 (command_step id disables state).state
-disabled-both d d1 s s1 state id before on stands = record {
-  stands = stands;
-  kept = keeps-cleared (command_step id disables state).state (ap (λ (done : Step). done.state.client.marks) (on-is id disables state (dom-on disables d s state before on) refl));
-}
+pub disabled-both : (d d1 : Desk) (h1 : Marks Inverse) (s s1 : PageSide) (state : State) (id : ℕ) → DeskStandsFor d s state → d.is_on ≡ true → h1 ≡ no_marks → DeskStandsFor d1 s1 (command_step id disables state).state
+    → BothStandFor d1 h1 s1 (command_step id disables state).state
+disabled-both d d1 h1 s s1 state id before on none stands =
+    let after = (command_step id disables state).state in
+    record {
+      stands = stands;
+      kept = subst (λ (h : Marks Inverse). Keeps h after) (sym none)
+          (keeps-cleared after (ap (λ (done : Step). done.state.client.marks) (on-is id disables state (dom-on disables d s state before on) refl)));
+    }
 
 -- ---- a script's changes
 

@@ -34,6 +34,8 @@ pub mod TreeSeats
 pub mod OwnSeats
 pub mod FrameSizes
 pub mod EditSizes
+pub mod TreeCopies
+pub mod OneProof
 pub mod KeepSeats
 pub mod NoteSeats
 pub mod UndoSeats

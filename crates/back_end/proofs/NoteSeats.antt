@@ -13,7 +13,7 @@ use Rattle.page_tree.proofs.InsertLemmas.{next-stays, copy-leads}
 use Rattle.page_tree.proofs.MoveLemmas.{move-leads}
 use Rattle.sheet_reader.specs.declared.book.SheetEntry.{SheetEntry}
 use Rattle.style_edits.specs.declared.splice.Splice.{Splice}
-use Rattle.style_edits.specs.Splices.{after_splice, after_splices}
+use Rattle.style_edits.specs.Splices.{after_splice, back_splice, after_splices}
 use Rattle.cdp_messages.specs.Moves.{frames_of_moves}
 use Rattle.css_agent.specs.declared.edits.CssEdit.{CssEdit}
 use Rattle.css_agent.specs.Edits.{CssDone, CssEdited, css_edited, css_splices, edit_splices}
@@ -43,7 +43,6 @@ use Rattle.back_end.proofs.StepLemmas.{EditsHaveTexts, drawn-valid}
 use Rattle.back_end.proofs.HistoryLemmas.{keeps-same, keeps-edited}
 use Rattle.back_end.proofs.SpliceSteps.{edit-done, restyled}
 use Rattle.back_end.proofs.SeatLemmas.{marks-stands}
-use Rattle.back_end.proofs.KeepSeats.{refused-both}
 use Rattle.back_end.proofs.TreeSeats.{fault-here}
 
 -- ---- edits of the tree
@@ -179,8 +178,8 @@ backs-saved : (ss : List Splice) (tree : Branch Row) (book : List SheetEntry) �
 backs-saved [] tree book = refl
 backs-saved (s ∷ ss) tree book =
     ap (λ (x : Splice). Sheet x ∷ back_all page_after way_back (sheets ss) (page_after (Sheet s) (saved_of tree book))) (back-saved s book)
-    ∙ ap (λ (page : Saved). Sheet _ ∷ back_all page_after way_back (sheets ss) page) (after-book s tree book)
-    ∙ ap (λ (l : List Inverse). Sheet _ ∷ l) (backs-saved ss tree (after_splice s book))
+    ∙ ap (λ (page : Saved). Sheet (back_splice s book) ∷ back_all page_after way_back (sheets ss) page) (after-book s tree book)
+    ∙ ap (λ (l : List Inverse). Sheet (back_splice s book) ∷ l) (backs-saved ss tree (after_splice s book))
 
 afters-saved : (ss : List Splice) (tree : Branch Row) (book : List SheetEntry) → after_all page_after (sheets ss) (saved_of tree book) ≡ saved_of tree (after_splices ss book)
 afters-saved [] tree book = refl

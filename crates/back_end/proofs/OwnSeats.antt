@@ -15,12 +15,15 @@ use Rattle.cdp_messages.specs.Answers.{Commands, ended}
 use Rattle.cdp_messages.specs.Moves.{Move, replied, frames_of_moves, move_text}
 use Rattle.cdp_messages.specs.Replies.{reply_text}
 use Rattle.back_end.specs.declared.faults.ActFault.{ActFault}
-use Rattle.back_end.specs.States.{State, book_in}
+use Rattle.back_end.specs.States.{State, book_in, Keeps}
 use Rattle.back_end.specs.Plans.{act_fault, act_plan}
 use Rattle.back_end.specs.OwnMethods.{act_why, unless_why, load_asked, act_read, act_judged, Finds}
 use Rattle.back_end.specs.Steps.{Step, acts, loads, planned_step, act_step, load_step, refusing, answering, own_step, judged_step, command_step}
 use Rattle.back_end.specs.Servers.{page_load, page_act}
-use Rattle.back_end.specs.Seats.{DeskStandsFor}
+use Rattle.back_end.specs.Seats.{DeskStandsFor, BothStandFor}
+use Rattle.undo_marks.specs.Marks.{Marks, no_marks, crossed_over}
+use Rattle.undo_marks.specs.declared.inverse_lists.Inverse.{Inverse}
+use Rattle.back_end.proofs.KeepSeats.{acted-kept, unacted-kept, loaded-kept}
 use Rattle.back_end.specs.declared.desk.Desk.{Desk}
 use Rattle.back_end.specs.declared.side.PageSide.{PageSide}
 
@@ -61,6 +64,17 @@ unloaded-stands d s state id params why is stands = subst (λ r. DeskStandsFor d
 pub unloaded-sent : (state : State) (id : ℕ) (params : Data) (why : Why) (old new : List ℕ) → load_asked params ≡ Err why
     → new ≡ old ++ frames_of_moves (refusing (Some id) why state).moves → new ≡ old ++ frames_of_moves (command_step id (page_load params) state).moves
 unloaded-sent state id params why old new is sent = sent ∙ ap (λ r. old ++ frames_of_moves (own_step loads id r state).moves) (sym is)
+
+-- a desk and a history that stand for the state after a load
+pub loaded-both : (d : Desk) (h : Marks Inverse) (s : PageSide) (state : State) (id : ℕ) (params : Data) (page : LoadedPage) → load_asked params ≡ Ok page → h ≡ no_marks
+    → DeskStandsFor d s (load_step page state).state → BothStandFor d h s (command_step id (page_load params) state).state
+loaded-both d h s state id params page is none stands =
+    subst (λ (r : Result LoadedPage Why). BothStandFor d h s (own_step loads id r state).state) (sym is)
+    (record { stands = stands; kept = subst (λ (x : Marks Inverse). Keeps x (load_step page state).state) (sym none) (loaded-kept page state) })
+
+pub unloaded-both : (d : Desk) (h : Marks Inverse) (s : PageSide) (state : State) (id : ℕ) (params : Data) (why : Why) → load_asked params ≡ Err why
+    → BothStandFor d h s state → BothStandFor d h s (command_step id (page_load params) state).state
+unloaded-both d h s state id params why is both = subst (λ (r : Result LoadedPage Why). BothStandFor d h s (own_step loads id r state).state) (sym is) both
 
 -- ---- an act
 
@@ -130,3 +144,51 @@ faulty-sent d s state id act f why old middle new before some why_is first last 
     last ∙ ap (λ w. middle ++ frames_of_moves (refusing (Some id) w state).moves) why_is
     ∙ ap (λ bs. bs ++ frames_of_moves (refusing (Some id) (act_why f) state).moves) same
     ∙ ap (λ (done : Step). old ++ frames_of_moves done.moves) (sym (faulty-is state id act f here))
+
+-- ---- with the history
+
+pub changed-both : (d : Desk) (h : Marks Inverse) (s : PageSide) (state : State) (id : ℕ) (params : Data) (act : Act) → act_read params ≡ Ok act
+    → BothStandFor d h s (judged_step id act state).state → BothStandFor d h s (command_step id (page_act params) state).state
+changed-both d h s state id params act is both = subst (λ (done : Step). BothStandFor d h s done.state) (sym (judged-is state id params (Ok act) is)) both
+
+pub unread-both : (d : Desk) (h : Marks Inverse) (s : PageSide) (state : State) (id : ℕ) (params : Data) (why : Why) → act_read params ≡ Err why
+    → BothStandFor d h s state → BothStandFor d h s (command_step id (page_act params) state).state
+unread-both d h s state id params why is both = subst (λ (done : Step). BothStandFor d h s done.state) (sym (judged-is state id params (Err why) is)) both
+
+pub taken-both : (d d1 : Desk) (h h1 : Marks Inverse) (s s1 : PageSide) (state : State) (id : ℕ) (act : Act) → BothStandFor d h s state → None ≡ act_fault act s.page s.sheets.entries → h1 ≡ crossed_over h
+    → DeskStandsFor d1 s1 (act_step act state).state → BothStandFor d1 h1 s1 (judged_step id act state).state
+taken-both d d1 h h1 s s1 state id act both none crossed stands =
+    let here : act_fault act state.side.page (book_in state) ≡ None = fault-here d s state act None both.stands none in
+    subst (λ (done : Step). BothStandFor d1 h1 s1 done.state) (sym (taken-is state id act here))
+    (record { stands = stands; kept = subst (λ (x : Marks Inverse). Keeps x (act_step act state).state) (sym crossed) (acted-kept h state act here both.kept) })
+
+pub faulty-both : (d d1 : Desk) (h : Marks Inverse) (s s1 : PageSide) (state : State) (id : ℕ) (act : Act) (f : ActFault) → BothStandFor d h s state → Some f ≡ act_fault act s.page s.sheets.entries
+    → DeskStandsFor d1 s1 (act_step act state).state → BothStandFor d1 h s1 (judged_step id act state).state
+faulty-both d d1 h s s1 state id act f both some stands =
+    let here : act_fault act state.side.page (book_in state) ≡ Some f = fault-here d s state act (Some f) both.stands some in
+    record {
+      stands = faulty-stands d d1 s s1 state id act f both.stands some stands;
+      kept = subst (λ (done : Step). Keeps h done.state) (sym (faulty-is state id act f here)) both.kept;
+    }
+
+-- what a script does
+pub acted-both : (d d1 : Desk) (h h1 : Marks Inverse) (s s1 : PageSide) (state : State) (act : Act) → BothStandFor d h s state → None ≡ act_fault act s.page s.sheets.entries → h1 ≡ crossed_over h
+    → DeskStandsFor d1 s1 (act_step act state).state → BothStandFor d1 h1 s1 (act_step act state).state
+acted-both d d1 h h1 s s1 state act both none crossed stands = record {
+  stands = stands;
+  kept = subst (λ (x : Marks Inverse). Keeps x (act_step act state).state) (sym crossed) (acted-kept h state act (fault-here d s state act None both.stands none) both.kept);
+}
+
+pub unacted-both : (d d1 : Desk) (h : Marks Inverse) (s s1 : PageSide) (state : State) (act : Act) (f : ActFault) → BothStandFor d h s state → Some f ≡ act_fault act s.page s.sheets.entries
+    → DeskStandsFor d1 s1 (act_step act state).state → BothStandFor d1 h s1 (act_step act state).state
+unacted-both d d1 h s s1 state act f both some stands = record {
+  stands = stands;
+  kept = unacted-kept h state act f (fault-here d s state act (Some f) both.stands some) both.kept;
+}
+
+pub load-both : (d : Desk) (h : Marks Inverse) (s : PageSide) (state : State) (page : LoadedPage) → h ≡ no_marks → DeskStandsFor d s (load_step page state).state
+    → BothStandFor d h s (load_step page state).state
+load-both d h s state page none stands = record {
+  stands = stands;
+  kept = subst (λ (x : Marks Inverse). Keeps x (load_step page state).state) (sym none) (loaded-kept page state);
+}

@@ -63,7 +63,7 @@ edit-stands d d1 s s1 state e stands can texts ids serials sheets page_is sheets
     let well : Well state (edit_step e state) 1 0 0 = edit-well state e stands.now numbers (omega (arith, next, ids)) can_here texts in
     let bound = edit_keeps_bound page e w d.agent stands.now.page can_here (record { session = stands.now.session; stands = stands.stands }) in
     record {
-      now = well.is_state;
+      now = well.now;
       page_is = page_is ∙ ap (after e) same;
       sheets_are = ap (λ (b : NumberedBook). b.entries) sheets_is ∙ stands.sheets_are;
       next_is = ap (λ (b : NumberedBook). b.next) sheets_is ∙ stands.next_is;

@@ -1,6 +1,7 @@
 -- What a seat does on a client's edit of sheets is the step of the state.
-use Rattle.std.proofs.Common.{◌≡◌, ℕ, ◌+◌, ◌^◌, ◌<◌, ◌==◌, Bool, true, false, cond, List, [], ◌∷◌, ◌++◌, All, Option, Some, None, Result, Ok, Err, refl, sym, ap, ◌∙◌, subst, arith}
+use Rattle.std.proofs.Common.{◌≡◌, ℕ, ◌+◌, ◌^◌, ◌<◌, ◌==◌, Bool, true, false, cond, List, [], ◌∷◌, ◌++◌, map, All, Option, Some, None, Result, Ok, Err, refl, sym, ap, ◌∙◌, subst, arith}
 use Rattle.std.specs.List.{AllByRecursion}
+use Rattle.std.specs.Result.{OnOk, OnErr}
 use Rattle.std.proofs.lemmas.Bool.Decides.{nat_tests}
 use Rattle.node_binding.specs.Bindings.{Stands}
 use Rattle.page_tree.specs.Pages.{State as PageValue}
@@ -25,27 +26,38 @@ use Rattle.back_end.specs.OwnMethods.{sheet_why}
 use Rattle.back_end.specs.Sheets.{AreBelow}
 use Rattle.back_end.specs.States.{Client, State, book_in}
 use Rattle.back_end.specs.Servers.{edits_sheets}
-use Rattle.back_end.specs.Steps.{Step, refusing, splice_steps, restyled_step, sheet_edit_step, command_step}
-use Rattle.back_end.specs.Seats.{DeskStandsFor, HasNumbersLeft}
-use Rattle.back_end.proofs.SeatLemmas.{on-is}
+use Rattle.back_end.specs.Steps.{Step, refusing, keeping, splice_steps, restyled_step, sheet_edit_step, command_step}
+use Rattle.back_end.specs.Seats.{DeskStandsFor, BothStandFor, HasNumbersLeft}
+use Rattle.undo_marks.specs.Marks.{Marks, noted_singly}
+use Rattle.undo_marks.specs.declared.inverse_lists.Inverse.{Inverse}
+use Rattle.undo_marks.specs.declared.inverse_lists.Inverse.TheVariants.{Sheet}
+use Rattle.back_end.proofs.ScriptLemmas.{stayed-stands}
+use Rattle.back_end.proofs.NoteSeats.{restyled-kept}
+use Rattle.back_end.proofs.SeatLemmas.{marks-stands, on-is}
 use Rattle.back_end.proofs.SheetSeats.{dom-on, css-taken}
 use Rattle.back_end.proofs.SpliceSteps.{edit-done, restyled, splices-told}
 
 -- ---- what was answered
 
 -- what an edit without a fault did
-record Did (book : List SheetEntry) (x : CssEdit) (new : List SheetEntry) : Type 0 where
+record Did (book : List SheetEntry) (x : CssEdit) (new : List SheetEntry) (backs : List Splice) : Type 0 where
   done : CssDone
   is : css_edited book x ≡ Ok done
   leads : done.book ≡ new
+  answers : done.backs ≡ backs
 
-did : (book : List SheetEntry) (x : CssEdit) (new : List SheetEntry) (backs : List Splice) → edit_splices (css_edited book x) ≡ Ok (new, backs) → Did book x new
+did : (book : List SheetEntry) (x : CssEdit) (new : List SheetEntry) (backs : List Splice) → edit_splices (css_edited book x) ≡ Ok (new, backs) → Did book x new backs
 did book x new backs h = at (css_edited book x) refl h where
-  at : (r : CssEdited) → css_edited book x ≡ r → edit_splices r ≡ Ok (new, backs) → Did book x new
+  at : (r : CssEdited) → css_edited book x ≡ r → edit_splices r ≡ Ok (new, backs) → Did book x new backs
   at (Err f) e k = absurd cc
   at (Ok d) e k =
       let same : ◌≡◌ {A = List SheetEntry × List Splice} (d.book, d.backs) (new, backs) = cc in
-      record { done = d; is = e; leads = ap (λ (p : List SheetEntry × List Splice). p.0) same }
+      record {
+        done = d;
+        is = e;
+        leads = ap (λ (p : List SheetEntry × List Splice). p.0) same;
+        answers = ap (λ (p : List SheetEntry × List Splice). p.1) same;
+      }
 
 -- what holds of a fault holds of the one that was answered
 pub in_fault : {A : Type 0} (result : Result A SheetErr) (f : SheetFault) (P : SheetFault → Type 0) → result ≡ Err (Fault f) → IfFault result P → P f
@@ -73,6 +85,12 @@ below-splices : (ss : List Splice) (next : ℕ) (es : List SheetEntry) → AreBe
 below-splices [] next es all = all
 below-splices (s ∷ ss) next es all = below-splices ss next (after_splice s es) (below-splice s next es all)
 
+-- by one splice, or none
+pub put-below : {T E : Type 0} (result : Result T E) (x : Splice) (next : ℕ) (old new : List SheetEntry) → (0 < next) × AreBelow next old
+    → OnOk result (new ≡ after_splice x old) → OnErr result (new ≡ old) → (0 < next) × AreBelow next new
+put-below (Ok value) x next old new is done kept = (is.0, subst (λ (es : List SheetEntry). AreBelow next es) (sym done) (below-splice x next old is.1))
+put-below (Err fault) x next old new is done kept = (is.0, subst (λ (es : List SheetEntry). AreBelow next es) (sym kept) is.1)
+
 -- the numbers are those of before
 pub edited-below : (x : CssEdit) (next : ℕ) (old new : List SheetEntry) (backs : List Splice) → edit_splices (css_edited old x) ≡ Ok (new, backs) → AreBelow next old → AreBelow next new
 edited-below x next old new backs h all =
@@ -97,18 +115,19 @@ step-is d s state id x stands on css = on-is id (edits_sheets x) state (dom-on (
 edited-here : (s : PageSide) (book : List SheetEntry) (x : CssEdit) (r : CssEdited) → s.sheets.entries ≡ book → css_edited s.sheets.entries x ≡ r → css_edited book x ≡ r
 edited-here s book x r same is = ap (λ (es : List SheetEntry). css_edited es x) (sym same) ∙ is
 
-pub restyled-stands : (d : Desk) (s s1 : PageSide) (state : State) (id : ℕ) (x : CssEdit) (backs : List Splice) → DeskStandsFor d s state → HasNumbersLeft d s → HasEditTexts x
+pub restyled-both : (d : Desk) (h h1 : Marks Inverse) (s s1 : PageSide) (state : State) (id : ℕ) (x : CssEdit) (backs : List Splice) → BothStandFor d h s state → HasNumbersLeft d s → HasEditTexts x
     → d.is_on ≡ true → d.css ≡ true → edit_splices (css_edited s.sheets.entries x) ≡ Ok (s1.sheets.entries, backs) → s1.page ≡ s.page → s1.sheets.next ≡ s.sheets.next
-    → DeskStandsFor d s1 (command_step id (edits_sheets x) state).state
-restyled-stands d s s1 state id x backs stands room texts on css h page_is next_is =
-    let made = did s.sheets.entries x s1.sheets.entries backs h in
+    → h1 ≡ noted_singly (map (λ s. Sheet s) backs) h → BothStandFor d h1 s1 (command_step id (edits_sheets x) state).state
+restyled-both d h h1 s s1 state id x backs both room texts on css edited page_is next_is noted =
+    let stands = both.stands in
+    let made = did s.sheets.entries x s1.sheets.entries backs edited in
     let here : css_edited (book_in state) x ≡ Ok made.done = edited-here s (book_in state) x (Ok made.done) stands.sheets_are made.is in
     let ss = css_splices (book_in state) x in
     let low : state.side.next_sheet < 2 ^ 50 = subst (λ (n : ℕ). n < 2 ^ 50) stands.next_is room.sheets in
     let done = edit-done x made.done state stands.now (omega (arith, low)) texts here in
     let after = restyled ss state stands.now done.taken in
     let own : DeskStandsFor d s1 (splice_steps ss state).state = record {
-      now = after.is_state;
+      now = after.now;
       page_is = page_is ∙ stands.page_is ∙ sym after.page;
       sheets_are = sym made.leads ∙ done.leads ∙ sym after.book;
       next_is = next_is ∙ stands.next_is ∙ sym after.next;
@@ -118,7 +137,10 @@ restyled-stands d s s1 state id x backs stands room texts on css h page_is next_
           (subst (λ (c : Client). Stands (alone state.side.page.tree) c.session d.agent) (sym after.client) stands.stands);
       watches_are = stands.watches_are ∙ ap (λ (c : Client). c.watched) (sym after.client);
     } in
-    subst (λ (done : Step). DeskStandsFor d s1 done.state) (sym (step-is d s state id x stands on css ∙ ap (λ (r : CssEdited). restyled_step id r ss state) here)) own
+    let kept = restyled-kept h h1 state ss backs both.kept stands.now done.taken (sym made.answers ∙ done.backs) noted in
+    let all = keeping (map (λ s. Sheet s) ss) state (splice_steps ss state) in
+    subst (λ (x : Step). BothStandFor d h1 s1 x.state) (sym (step-is d s state id x stands on css ∙ ap (λ (r : CssEdited). restyled_step id r ss state) here))
+    (record { stands = marks-stands all.state.client.marks d s1 (splice_steps ss state).state own; kept = kept })
 
 pub restyled-sent : (d : Desk) (s : PageSide) (state : State) (id : ℕ) (x : CssEdit) (new : List SheetEntry) (backs : List Splice) (before after : List ℕ)
     → DeskStandsFor d s state → HasNumbersLeft d s → HasEditTexts x → d.is_on ≡ true → d.css ≡ true → edit_splices (css_edited s.sheets.entries x) ≡ Ok (new, backs)
@@ -144,9 +166,11 @@ fault-is d s state id x f stands on css h =
     step-is d s state id x stands on css
     ∙ ap (λ (r : CssEdited). restyled_step id r (css_splices (book_in state) x) state) (edited-here s (book_in state) x (Err f) stands.sheets_are h)
 
-pub unrestyled-stands : (d : Desk) (s : PageSide) (state : State) (id : ℕ) (x : CssEdit) (f : SheetFault) → DeskStandsFor d s state → d.is_on ≡ true → d.css ≡ true
-    → css_edited s.sheets.entries x ≡ Err f → DeskStandsFor d s (command_step id (edits_sheets x) state).state
-unrestyled-stands d s state id x f stands on css h = subst (λ (done : Step). DeskStandsFor d s done.state) (sym (fault-is d s state id x f stands on css h)) stands
+pub unrestyled-both : (d : Desk) (h : Marks Inverse) (s s1 : PageSide) (state : State) (id : ℕ) (x : CssEdit) (f : SheetFault) → BothStandFor d h s state → d.is_on ≡ true → d.css ≡ true
+    → css_edited s.sheets.entries x ≡ Err f → s1.page ≡ s.page → s1.sheets ≡ s.sheets → BothStandFor d h s1 (command_step id (edits_sheets x) state).state
+unrestyled-both d h s s1 state id x f both on css is page_is sheets_is =
+    subst (λ (done : Step). BothStandFor d h s1 done.state) (sym (fault-is d s state id x f both.stands on css is))
+    (record { stands = stayed-stands d d s s1 state refl refl refl refl page_is sheets_is both.stands; kept = both.kept })
 
 pub unrestyled-sent : (d : Desk) (s : PageSide) (state : State) (id : ℕ) (x : CssEdit) (f : SheetFault) (before after : List ℕ) → DeskStandsFor d s state → d.is_on ≡ true → d.css ≡ true
     → css_edited s.sheets.entries x ≡ Err f → after ≡ before ++ frames_of_moves (refusing (Some id) (sheet_why f) state).moves

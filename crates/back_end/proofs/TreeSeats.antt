@@ -1,13 +1,19 @@
 -- What a seat does on a client's edit of the tree is the step of the state.
-use Rattle.std.proofs.Common.{◌≡◌, ℕ, suc, ◌+◌, ◌^◌, ◌<◌, ◌≤◌, ◌&&◌, Bool, true, false, not, List, [], ◌∷◌, ◌++◌, Option, Some, None, Result, Ok, Err, refl, sym, ◌∙◌, ap, subst, append-nil, append_assoc, arith}
+use Rattle.std.proofs.Common.{◌≡◌, map as mapped, ℕ, suc, ◌+◌, ◌^◌, ◌<◌, ◌≤◌, ◌&&◌, Bool, true, false, not, List, [], ◌∷◌, ◌++◌, Option, Some, None, Result, Ok, Err, refl, sym, ◌∙◌, ap, subst, append-nil, append_assoc, arith}
 use Rattle.std.specs.FinMap as map
 use Rattle.std.proofs.lemmas.List.Concat.{flat_map-append}
-use Rattle.std.specs.Prelude.{OnOk, is_some}
+use Rattle.std.specs.Prelude.{OnOk, IsSome, is_some}
 use Rattle.node_tree.specs.Nodes.{none, Branch, alone, branch_count}
 use Rattle.node_tree.specs.Keys.{has, tally, tally_in}
 use Rattle.node_tree.proofs.KeyLemmas.{tally-at, has-there, tally_row}
-use Rattle.page_tree.specs.Pages.{Row, row_serial, State as PageValue, IsValid, node_at}
-use Rattle.page_tree.specs.Edits.{after, after_tree, drawn, form_at, numbered_branch, with_child, moved_before}
+use Rattle.page_tree.specs.Pages.{Row, row_serial, State as PageValue, IsValid, find_in, node_at}
+use Rattle.sheet_reader.specs.declared.book.SheetEntry.{SheetEntry}
+use Rattle.undo_marks.specs.Marks.{Marks, noted, noted_singly}
+use Rattle.undo_marks.specs.Changes.{back_all}
+use Rattle.undo_marks.specs.SavedEdits.{saved_of, page_after, way_back}
+use Rattle.undo_marks.specs.declared.inverse_lists.Inverse.{Inverse}
+use Rattle.undo_marks.specs.declared.inverse_lists.Inverse.TheVariants.{Tree}
+use Rattle.page_tree.specs.Edits.{after, back_tree, after_tree, drawn, form_at, numbered_branch, with_child, moved_before}
 use Rattle.page_tree.specs.EditFaults.{CanApply, edit_faults, is_live, is_live_or_0, move_fault, copy_fault}
 use Rattle.page_tree.specs.declared.edits.TreeEdit.{TreeEdit}
 use Rattle.page_tree.specs.declared.edits.TreeEdit.TheVariants.{Attach, Detach}
@@ -29,10 +35,10 @@ use Rattle.back_end.specs.States.{State, nodes_in, HoldsNow}
 use Rattle.back_end.specs.OwnMethods.{edit_why}
 use Rattle.back_end.specs.Plans.{node_edit_fault, node_edit_plan, node_put}
 use Rattle.back_end.specs.Servers.{edits_tree}
-use Rattle.back_end.specs.Steps.{Step, refusing, idle, with_page, edit_step, push_step, followed_by, serial_now, lowered, edit_named, plan_step, put_answer, unless_fault, node_edit_step, server_step, command_step}
+use Rattle.back_end.specs.Steps.{Step, refusing, idle, with_page, edit_step, push_step, followed_by, serial_now, lowered, edit_named, keeping, plan_step, planned_by_client, put_answer, unless_fault, node_edit_step, server_step, command_step}
 use Rattle.back_end.specs.Texts.{IsPlainEdit}
 use Rattle.dom_agent.specs.Laws.{RowsHaveUtf8}
-use Rattle.back_end.specs.Seats.{CanPushAny, DeskStandsFor}
+use Rattle.back_end.specs.Seats.{CanPushAny, DeskStandsFor, BothStandFor}
 use Rattle.back_end.proofs.TextLemmas.{branch-texts, form-texts}
 use Rattle.back_end.proofs.PushSteps.{IsBegun, is-begun, begun-is, begun-known}
 use Rattle.back_end.proofs.TreeSteps.{begun-after, named-known}
@@ -69,7 +75,23 @@ moved-plan-sent state serial parent before there tree page old middle new same t
     ∙ ap (λ bs. old ++ bs) (sym (flat_map-append (λ (m : Told). ended (move_text m)) one last))
     ∙ ap (λ ms. old ++ frames_of_moves (one ++ ms)) (sym (append-nil last))
 
+-- both edits are noted by what leads back
+pub moved-noted : (h h1 h2 : Marks Inverse) (page : PageValue) (book : List SheetEntry) (serial parent before : ℕ) (tree : Branch Row) → tree ≡ node_at serial page.tree
+    → h1 ≡ noted (Tree (back_tree (Detach serial) page.tree)) h → h2 ≡ noted (Tree (Detach tree.row.serial)) h1
+    → h2 ≡ noted_singly (back_all page_after way_back (mapped (λ e. Tree e) (node_edit_plan (MoveNode serial parent before) page).edits) (saved_of page.tree book)) h
+moved-noted h h1 h2 page book serial parent before tree is first second =
+    second ∙ ap (λ (t : Branch Row). noted (Tree (Detach t.row.serial)) h1) is ∙ ap (λ (m : Marks Inverse). noted (Tree (Detach (node_at serial page.tree).row.serial)) m) first
+
+-- the node that is to be moved is there
+pub moved-there : (serial parent before : ℕ) (tree : Branch Row) → move_fault serial parent before tree ≡ None → IsSome (find_in serial tree)
+moved-there serial parent before tree fits = (move_live serial parent before tree fits).0
+
 -- ---- a copy
+
+pub copied-noted : (h h1 : Marks Inverse) (page : PageValue) (book : List SheetEntry) (serial parent before : ℕ) (tree : Branch Row) → tree ≡ numbered_branch page.next (form_at serial page.tree)
+    → h1 ≡ noted (Tree (Detach tree.row.serial)) h
+    → h1 ≡ noted_singly (back_all page_after way_back (mapped (λ e. Tree e) (node_edit_plan (CopyNode serial parent before) page).edits) (saved_of page.tree book)) h
+copied-noted h h1 page book serial parent before tree is first = first ∙ ap (λ (t : Branch Row). noted (Tree (Detach t.row.serial)) h) is
 
 pub copied-can : (page drawn_page : PageValue) (serial parent before : ℕ) (tree : Branch Row) → IsValid page → copy_fault serial parent before page.tree ≡ None
     → drawn_page ≡ drawn (form_at serial page.tree) page → tree ≡ numbered_branch page.next (form_at serial page.tree)
@@ -172,21 +194,18 @@ put-moves id (Some serial) done = sym (append_assoc done.moves (push_step serial
 pub fault-here : (s : PageSide) (state : State) (e : NodeEdit) (o : Option EditFault) → s.page ≡ state.side.page → node_edit_fault e s.page ≡ o → node_edit_fault e state.side.page ≡ o
 fault-here s state e o same h = ap (λ (p : PageValue). node_edit_fault e p) (sym same) ∙ h
 
-pub put-answered-stands : (d1 : Desk) (s1 s : PageSide) (state : State) (id : ℕ) (e : NodeEdit) (put : Option ℕ) → s.page ≡ state.side.page → node_edit_fault e s.page ≡ None → put ≡ node_put e s.page
-    → DeskStandsFor d1 s1 (put_answer id put (idle (plan_step (node_edit_plan e state.side.page) state).state)).state → DeskStandsFor d1 s1 (node_edit_step id (Ok e) state).state
-put-answered-stands d1 s1 s state id e put same fits put_is stands =
-    let done : Step = plan_step (node_edit_plan e state.side.page) state in
-    let here : put ≡ node_put e state.side.page = put_is ∙ ap (λ (p : PageValue). node_put e p) same in
-    subst (λ o. DeskStandsFor d1 s1 (unless_fault id o e state).state) (sym (fault-here s state e None same fits))
-    (subst (λ o. DeskStandsFor d1 s1 (put_answer id o done).state) here
-    (subst (λ (z : State). DeskStandsFor d1 s1 z) (put-state id put done) stands))
+-- what is kept of an edit is not told
+kept-moves : (id : ℕ) (put : Option ℕ) (es : List Inverse) (state : State) (done : Step) → (put_answer id put done).moves ≡ (put_answer id put (keeping es state done)).moves
+kept-moves id None es state done = refl
+kept-moves id (Some serial) es state done = refl
 
 pub put-answered-sent : (s : PageSide) (state : State) (id : ℕ) (e : NodeEdit) (put : Option ℕ) (old middle new : List ℕ) → s.page ≡ state.side.page → node_edit_fault e s.page ≡ None → put ≡ node_put e s.page
     → middle ≡ old ++ frames_of_moves (plan_step (node_edit_plan e state.side.page) state).moves
     → new ≡ middle ++ frames_of_moves (put_answer id put (idle (plan_step (node_edit_plan e state.side.page) state).state)).moves
     → new ≡ old ++ frames_of_moves (node_edit_step id (Ok e) state).moves
 put-answered-sent s state id e put old middle new same fits put_is first second =
-    let done : Step = plan_step (node_edit_plan e state.side.page) state in
+    let plan = node_edit_plan e state.side.page in
+    let done : Step = plan_step plan state in
     let last = (put_answer id put (idle done.state)).moves in
     let here : put ≡ node_put e state.side.page = put_is ∙ ap (λ (p : PageValue). node_put e p) same in
     second
@@ -194,14 +213,15 @@ put-answered-sent s state id e put old middle new same fits put_is first second 
     ∙ append_assoc old (frames_of_moves done.moves) (frames_of_moves last)
     ∙ ap (λ bs. old ++ bs) (sym (flat_map-append (λ (m : Told). ended (move_text m)) done.moves last))
     ∙ ap (λ ms. old ++ frames_of_moves ms) (put-moves id put done)
-    ∙ ap (λ o. old ++ frames_of_moves (put_answer id o done).moves) here
+    ∙ ap (λ ms. old ++ frames_of_moves ms) (kept-moves id put (mapped (λ e. Tree e) plan.edits) state done)
+    ∙ ap (λ o. old ++ frames_of_moves (put_answer id o (planned_by_client plan state)).moves) here
     ∙ ap (λ o. old ++ frames_of_moves (unless_fault id o e state).moves) (sym (fault-here s state e None same fits))
 
 -- one that the page refuses
-pub fault-stands : (d : Desk) (s : PageSide) (state : State) (id : ℕ) (e : NodeEdit) (f : EditFault) → DeskStandsFor d s state → node_edit_fault e s.page ≡ Some f
-    → DeskStandsFor d s (node_edit_step id (Ok e) state).state
-fault-stands d s state id e f stands fault =
-    subst (λ o. DeskStandsFor d s (unless_fault id o e state).state) (sym (fault-here s state e (Some f) stands.page_is fault)) stands
+pub fault-both : (d : Desk) (h : Marks Inverse) (s : PageSide) (state : State) (id : ℕ) (e : NodeEdit) (f : EditFault) → BothStandFor d h s state → node_edit_fault e s.page ≡ Some f
+    → BothStandFor d h s (node_edit_step id (Ok e) state).state
+fault-both d h s state id e f both fault =
+    subst (λ o. BothStandFor d h s (unless_fault id o e state).state) (sym (fault-here s state e (Some f) both.stands.page_is fault)) both
 
 pub fault-sent : (s : PageSide) (state : State) (id : ℕ) (e : NodeEdit) (f : EditFault) (old new : List ℕ) → s.page ≡ state.side.page → node_edit_fault e s.page ≡ Some f
     → new ≡ old ++ frames_of_moves (refusing (Some id) (edit_why f) state).moves → new ≡ old ++ frames_of_moves (node_edit_step id (Ok e) state).moves
@@ -227,12 +247,18 @@ edit-is d s state id edit r stands on is =
     ap (λ x. node_edit_step id x state) (sym (named-here d s state edit r stands is))
     ∙ sym (on-is id (edits_tree edit) state (dom-on (edits_tree edit) d s state stands on) refl)
 
-pub edited-stands : {T E : Type 0} (result : Result T E) (d d1 : Desk) (s s1 : PageSide) (state : State) (id : ℕ) (edit : DomEdit) (e : NodeEdit) → DeskStandsFor d s state → d.is_on ≡ true
-    → Ok e ≡ edit_named (map.get d.agent.serials) (lowered edit) → (is_some state.client.session.opened ≡ true → OnOk result (DeskStandsFor d1 s1 (node_edit_step id (Ok e) state).state))
-    → OnOk result (DeskStandsFor d1 s1 (command_step id (edits_tree edit) state).state)
-edited-stands result d d1 s s1 state id edit e stands on is done =
-    subst (λ (x : Step). OnOk result (DeskStandsFor d1 s1 x.state)) (edit-is d s state id edit (Ok e) stands on is)
+pub named-both : {T E : Type 0} (result : Result T E) (d d1 : Desk) (h h1 : Marks Inverse) (s s1 : PageSide) (state : State) (id : ℕ) (edit : DomEdit) (e : NodeEdit) → DeskStandsFor d s state → d.is_on ≡ true
+    → Ok e ≡ edit_named (map.get d.agent.serials) (lowered edit) → (is_some state.client.session.opened ≡ true → OnOk result (BothStandFor d1 h1 s1 (node_edit_step id (Ok e) state).state))
+    → OnOk result (BothStandFor d1 h1 s1 (command_step id (edits_tree edit) state).state)
+named-both result d d1 h h1 s s1 state id edit e stands on is done =
+    subst (λ (x : Step). OnOk result (BothStandFor d1 h1 s1 x.state)) (edit-is d s state id edit (Ok e) stands on is)
     (done (named-begun state edit e (named-here d s state edit (Ok e) stands is)))
+
+-- one that names no node
+pub unnamed-both : (d : Desk) (h : Marks Inverse) (s : PageSide) (state : State) (id : ℕ) (edit : DomEdit) (why : Why) → BothStandFor d h s state → d.is_on ≡ true
+    → Err why ≡ edit_named (map.get d.agent.serials) (lowered edit) → BothStandFor d h s (command_step id (edits_tree edit) state).state
+unnamed-both d h s state id edit why both on is =
+    subst (λ (x : Step). BothStandFor d h s x.state) (edit-is d s state id edit (Err why) both.stands on is) both
 
 pub edited-sent : {T E : Type 0} (result : Result T E) (d : Desk) (s : PageSide) (state : State) (id : ℕ) (edit : DomEdit) (e : NodeEdit) (old new : List ℕ) → DeskStandsFor d s state → d.is_on ≡ true
     → Ok e ≡ edit_named (map.get d.agent.serials) (lowered edit) → (is_some state.client.session.opened ≡ true → OnOk result (new ≡ old ++ frames_of_moves (node_edit_step id (Ok e) state).moves))

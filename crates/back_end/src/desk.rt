@@ -92,7 +92,7 @@ impl Desk {
     ) -> Result<(), AllocError>
         requires room { HasNumbersLeft self.old side.old }
         requires few { edits_in history.old < 2 ^ 30 }
-        requires standing { (state : State) × BothStandFor self.old history.old side.old state }
+        requires standing { ∥ ((state : State) × BothStandFor self.old history.old side.old state) ∥₁ }
         ensures stands { (state : State) → BothStandFor self.old history.old side.old state
             → OnOk result (BothStandFor self.new history.new side.new (frame_step own frame.now state).state) }
         ensures sent { (state : State) → BothStandFor self.old history.old side.old state
@@ -118,7 +118,7 @@ impl Desk {
         requires texts { HasServedTexts (server_of command) }
         requires room { HasNumbersLeft self.old side.old }
         requires few { edits_in history.old < 2 ^ 30 }
-        requires standing { (state : State) × BothStandFor self.old history.old side.old state }
+        requires standing { ∥ ((state : State) × BothStandFor self.old history.old side.old state) ∥₁ }
         ensures stands { (state : State) → BothStandFor self.old history.old side.old state
             → OnOk result (BothStandFor self.new history.new side.new (command_step id (server_of command) state).state) }
         ensures sent { (state : State) → BothStandFor self.old history.old side.old state

@@ -1,6 +1,6 @@
 // A client takes its edits back, and does them again.
 ghost use Rattle.std.specs.Prelude.{◌≡◌, ◌+◌, ◌<◌, ◌≤◌, ◌^◌, ◌++◌, map, length, IfOk, OnOk};
-ghost use Rattle.style_edits.specs.Splices.{after_splice, back_splice};
+ghost use Rattle.style_edits.specs.Splices.{FitsSplice, after_splice, back_splice};
 ghost use Rattle.undo_marks.specs.Changes.{AllTaken, after_all, back_all};
 ghost use Rattle.undo_marks.specs.SavedEdits.{saved_of, saved_sheet, page_after, way_back, TakesSheet};
 ghost use Rattle.cdp_messages.specs.Moves.{frames_of_moves};
@@ -45,12 +45,12 @@ impl Desk {
         splice: Splice,
         out: &mut Vec<u8>,
     ) -> Result<Splice, AllocError>
-        requires taken { TakesSheet splice (map saved_sheet side.old.sheets.entries) }
+        requires fits { FitsSplice splice side.old.sheets.entries }
         ensures page { side.new.page ≡ side.old.page }
         ensures entries { OnOk result (side.new.sheets.entries ≡ after_splice splice side.old.sheets.entries) }
         ensures numbers { OnOk result (side.new.sheets.next ≡ side.old.sheets.next) }
         ensures back { IfOk result (λ back. back ≡ back_splice splice side.old.sheets.entries) }
-        ensures stands { (state : State) → DeskStandsFor self.now side.old state
+        ensures stands { (state : State) → DeskStandsFor self.now side.old state → TakesSheet splice (map saved_sheet side.old.sheets.entries)
             → OnOk result (DeskStandsFor self.now side.new (splice_step splice state).state) }
         ensures sent { (state : State) → DeskStandsFor self.now side.old state
             → OnOk result (out.new.items ≡ out.old.items ++ frames_of_moves (splice_step splice state).moves) }
@@ -68,7 +68,7 @@ impl Desk {
         edit: Inverse,
         out: &mut Vec<u8>,
     ) -> Result<Inverse, AllocError>
-        requires taken { TakesWell side.old.page.next edit (saved_of side.old.page.tree side.old.sheets.entries) }
+        requires taken { ∥ TakesWell side.old.page.next edit (saved_of side.old.page.tree side.old.sheets.entries) ∥₁ }
         requires ids { self.old.agent.next < 2 ^ 51 }
         requires serials { side.old.page.next < 2 ^ 51 }
         requires sheets { side.old.sheets.next < 2 ^ 51 }
@@ -79,6 +79,7 @@ impl Desk {
         ensures numbers { OnOk result (side.new.sheets.next ≡ side.old.sheets.next) }
         ensures back { IfOk result (λ back. back ≡ way_back edit (saved_of side.old.page.tree side.old.sheets.entries)) }
         ensures stands { (state : State) → DeskStandsFor self.old side.old state
+            → TakesWell side.old.page.next edit (saved_of side.old.page.tree side.old.sheets.entries)
             → OnOk result (DeskStandsFor self.new side.new (kept_step edit state).state) }
         ensures sent { (state : State) → DeskStandsFor self.old side.old state
             → OnOk result (out.new.items ≡ out.old.items ++ frames_of_moves (kept_step edit state).moves) }
@@ -102,7 +103,7 @@ impl Desk {
         edits: Vec<Inverse>,
         out: &mut Vec<u8>,
     ) -> Result<Vec<Inverse>, AllocError>
-        requires taken { AllTaken page_after (TakesWell side.old.page.next) edits.items (saved_of side.old.page.tree side.old.sheets.entries) }
+        requires taken { ∥ AllTaken page_after (TakesWell side.old.page.next) edits.items (saved_of side.old.page.tree side.old.sheets.entries) ∥₁ }
         requires ids { self.old.agent.next + length edits.items < 2 ^ 51 }
         requires serials { side.old.page.next < 2 ^ 51 }
         requires sheets { side.old.sheets.next < 2 ^ 51 }
@@ -112,8 +113,10 @@ impl Desk {
         ensures backs { IfOk result (λ backs. backs.items
             ≡ back_all page_after way_back edits.items (saved_of side.old.page.tree side.old.sheets.entries)) }
         ensures stands { (state : State) → DeskStandsFor self.old side.old state
+            → AllTaken page_after (TakesWell side.old.page.next) edits.items (saved_of side.old.page.tree side.old.sheets.entries)
             → OnOk result (DeskStandsFor self.new side.new (kept_steps edits.items state).state) }
         ensures sent { (state : State) → DeskStandsFor self.old side.old state
+            → AllTaken page_after (TakesWell side.old.page.next) edits.items (saved_of side.old.page.tree side.old.sheets.entries)
             → OnOk result (out.new.items ≡ out.old.items ++ frames_of_moves (kept_steps edits.items state).moves) }
     {
         let mut backs = Vec::new(self.alloc);
@@ -134,7 +137,7 @@ impl Desk {
     ) -> Result<(), AllocError>
         requires room { HasNumbersLeft self.old side.old }
         requires few { edits_in history.old < 2 ^ 30 }
-        requires standing { (state : State) × BothStandFor self.old history.old side.old state }
+        requires standing { ∥ ((state : State) × BothStandFor self.old history.old side.old state) ∥₁ }
         ensures stands { (state : State) → BothStandFor self.old history.old side.old state
             → OnOk result (BothStandFor self.new history.new side.new (command_step id server.undoes state).state) }
         ensures sent { (state : State) → BothStandFor self.old history.old side.old state
@@ -164,7 +167,7 @@ impl Desk {
     ) -> Result<(), AllocError>
         requires room { HasNumbersLeft self.old side.old }
         requires few { edits_in history.old < 2 ^ 30 }
-        requires standing { (state : State) × BothStandFor self.old history.old side.old state }
+        requires standing { ∥ ((state : State) × BothStandFor self.old history.old side.old state) ∥₁ }
         ensures stands { (state : State) → BothStandFor self.old history.old side.old state
             → OnOk result (BothStandFor self.new history.new side.new (command_step id server.redoes state).state) }
         ensures sent { (state : State) → BothStandFor self.old history.old side.old state

@@ -2,13 +2,13 @@
 use Rattle.serde_json.specs.View.{view}
 use Rattle.back_end.proofs.SeatLemmas.{on_ok}
 use Rattle.back_end.proofs.ScriptLemmas.{in_any}
-use Rattle.back_end.proofs.OwnSeats.{commands-why, changed-stands, changed-sent, unread-stands, unread-sent}
+use Rattle.back_end.proofs.OwnSeats.{commands-why, changed-both, changed-sent, unread-both, unread-sent}
 use Rattle.back_end.proofs.desk.Desk.answer_act.Goals as goal
 
 pub returns-in-Ok-clause-stands : goal.returns-in-Ok-clause-stands
-returns-in-Ok-clause-stands c = λ state stands.
-    on_ok c.answer_changed.result _ _ (c.answer_changed.ensures.stands state stands)
-    (λ done. changed-stands _ _ state c.args.id (view c.args.params.now) c.in-Ok.act c.in-Ok.ensures.finds done)
+returns-in-Ok-clause-stands c = λ state both.
+    on_ok c.answer_changed.result _ _ (c.answer_changed.ensures.stands state both)
+    (λ done. changed-both _ _ _ state c.args.id (view c.args.params.now) c.in-Ok.act c.in-Ok.ensures.finds done)
 
 pub returns-in-Ok-clause-sent : goal.returns-in-Ok-clause-sent
 returns-in-Ok-clause-sent c = λ state stands.
@@ -16,8 +16,8 @@ returns-in-Ok-clause-sent c = λ state stands.
     (λ sent. changed-sent state c.args.id (view c.args.params.now) c.in-Ok.act c.args.out.now.items _ c.in-Ok.ensures.finds sent)
 
 pub returns-in-Err-Refused-clause-stands : goal.returns-in-Err-Refused-clause-stands
-returns-in-Err-Refused-clause-stands c = λ state stands.
-    in_any c.refuse.result _ (unread-stands _ _ state c.args.id (view c.args.params.now) c.in-Err-Refused.why (commands-why c.in-Err-Refused.field-0 c.in-Err-Refused.why _ c.in-Err-Refused.field-0-is c.in-Err-Refused.ensures.finds) stands)
+returns-in-Err-Refused-clause-stands c = λ state both.
+    in_any c.refuse.result _ (unread-both _ _ _ state c.args.id (view c.args.params.now) c.in-Err-Refused.why (commands-why c.in-Err-Refused.field-0 c.in-Err-Refused.why _ c.in-Err-Refused.field-0-is c.in-Err-Refused.ensures.finds) both)
 
 pub returns-in-Err-Refused-clause-sent : goal.returns-in-Err-Refused-clause-sent
 returns-in-Err-Refused-clause-sent c = λ state stands.

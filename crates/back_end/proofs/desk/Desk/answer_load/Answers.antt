@@ -3,8 +3,14 @@ use Rattle.serde_json.specs.View.{view}
 use Rattle.page_forms.specs.Pages.{loaded_page}
 use Rattle.back_end.proofs.SeatLemmas.{on_ok}
 use Rattle.back_end.proofs.ScriptLemmas.{in_any}
-use Rattle.back_end.proofs.OwnSeats.{finds-why, loaded-sent, unloaded-stands, unloaded-sent}
+use Rattle.back_end.proofs.OwnSeats.{finds-why, loaded-sent, loaded-both, unloaded-both, unloaded-sent}
 use Rattle.back_end.proofs.desk.Desk.answer_load.Goals as goal
+
+pub returns-in_ok-load-in-Ok-clause-stands : goal.returns-in_ok-load-in-Ok-clause-stands
+returns-in_ok-load-in-Ok-clause-stands c = λ state both.
+    in_any c.write_reply.result _
+    (loaded-both c.load.new.self c.clear.new.self c.load.new.side state c.args.id (view c.args.params.now) (loaded_page c.in-Ok.page) c.in-Ok.ensures.finds c.clear.ensures
+    (c.in_ok-load-in-Ok.ensures.stands state both.stands))
 
 pub returns-in_ok-load-in-Ok-clause-sent : goal.returns-in_ok-load-in-Ok-clause-sent
 returns-in_ok-load-in-Ok-clause-sent c = λ state stands.
@@ -13,8 +19,8 @@ returns-in_ok-load-in-Ok-clause-sent c = λ state stands.
     (c.in_ok-load-in-Ok.ensures.sent state stands) sent)
 
 pub returns-in-Err-Refused-clause-stands : goal.returns-in-Err-Refused-clause-stands
-returns-in-Err-Refused-clause-stands c = λ state stands.
-    in_any c.refuse.result _ (unloaded-stands _ _ state c.args.id (view c.args.params.now) c.in-Err-Refused.why (finds-why loaded_page c.in-Err-Refused.field-0 c.in-Err-Refused.why _ c.in-Err-Refused.field-0-is c.in-Err-Refused.ensures.finds) stands)
+returns-in-Err-Refused-clause-stands c = λ state both.
+    in_any c.refuse.result _ (unloaded-both _ _ _ state c.args.id (view c.args.params.now) c.in-Err-Refused.why (finds-why loaded_page c.in-Err-Refused.field-0 c.in-Err-Refused.why _ c.in-Err-Refused.field-0-is c.in-Err-Refused.ensures.finds) both)
 
 pub returns-in-Err-Refused-clause-sent : goal.returns-in-Err-Refused-clause-sent
 returns-in-Err-Refused-clause-sent c = λ state stands.

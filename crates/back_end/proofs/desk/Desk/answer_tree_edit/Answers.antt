@@ -8,8 +8,14 @@ use Rattle.back_end.specs.Steps.{Step, edit_named}
 use Rattle.back_end.proofs.SeatLemmas.{on_ok}
 use Rattle.back_end.proofs.SheetSeats.{dom-off-sent}
 use Rattle.back_end.proofs.TreeSteps.{named-plain, lowered-texts}
-use Rattle.back_end.proofs.TreeSeats.{edit-is, edited-stands, edited-sent}
+use Rattle.back_end.proofs.ScriptLemmas.{in_any}
+use Rattle.back_end.proofs.KeepSeats.{off-both}
+use Rattle.back_end.proofs.TreeSeats.{edit-is, named-both, unnamed-both, edited-sent}
 use Rattle.back_end.proofs.desk.Desk.answer_tree_edit.Goals as goal
+
+pub returns-then-not-self-clause-stands : goal.returns-then-not-self-clause-stands
+returns-then-not-self-clause-stands c = λ state both.
+    in_any c.refuse.result _ (off-both c.args.self.now c.args.history.now c.args.side.now state c.args.id (edits_tree c.args.edit) refl both c.if-not-self.true)
 
 pub returns-then-not-self-clause-sent : goal.returns-then-not-self-clause-sent
 returns-then-not-self-clause-sent c = λ state stands.
@@ -21,16 +27,21 @@ answer_node_edit-requires-clause-plain c =
     named-plain (map.get c.args.self.now.agent.serials) c.in_ok-edit.edit c.in-Ok.edit (subst HasTreeTexts (sym c.in_ok-edit.ensures) (lowered-texts c.args.edit c.requires.texts)) (sym c.in-Ok.ensures)
 
 pub returns-in-Ok-clause-stands : goal.returns-in-Ok-clause-stands
-returns-in-Ok-clause-stands c = λ state stands.
+returns-in-Ok-clause-stands c = λ state both.
     let named = c.in-Ok.ensures ∙ ap (edit_named (map.get c.args.self.now.agent.serials)) c.in_ok-edit.ensures in
-    edited-stands c.answer_node_edit.result c.args.self.now c.answer_node_edit.new.self c.args.side.now c.answer_node_edit.new.side state c.args.id c.args.edit c.in-Ok.edit stands c.if-not-self.false named
-    (c.answer_node_edit.ensures.stands state stands)
+    named-both c.answer_node_edit.result c.args.self.now c.answer_node_edit.new.self c.args.history.now c.answer_node_edit.new.history c.args.side.now c.answer_node_edit.new.side state c.args.id c.args.edit c.in-Ok.edit
+    both.stands c.if-not-self.false named (c.answer_node_edit.ensures.stands state both)
 
 pub returns-in-Ok-clause-sent : goal.returns-in-Ok-clause-sent
 returns-in-Ok-clause-sent c = λ state stands.
     let named = c.in-Ok.ensures ∙ ap (edit_named (map.get c.args.self.now.agent.serials)) c.in_ok-edit.ensures in
     edited-sent c.answer_node_edit.result c.args.self.now c.args.side.now state c.args.id c.args.edit c.in-Ok.edit c.args.out.now.items c.answer_node_edit.new.out.items stands c.if-not-self.false named
     (c.answer_node_edit.ensures.sent state stands)
+
+pub returns-in-Err-clause-stands : goal.returns-in-Err-clause-stands
+returns-in-Err-clause-stands c = λ state both.
+    let named = c.in-Err.ensures ∙ ap (edit_named (map.get c.args.self.now.agent.serials)) c.in_ok-edit.ensures in
+    in_any c.refuse-in-Err.result _ (unnamed-both c.args.self.now c.args.history.now c.args.side.now state c.args.id c.args.edit c.in-Err.why both c.if-not-self.false named)
 
 pub returns-in-Err-clause-sent : goal.returns-in-Err-clause-sent
 returns-in-Err-clause-sent c = λ state stands.
