@@ -383,7 +383,7 @@ fit-turned : (n : Spent) (x : Turn) (front : FrontValue) (s : RunState) (frames 
     → IsNextTurn n x → IsFit n front s frames → Leads take_frame (IsFit (one_turn n)) front (run_turn x s) frames
 fit-turned n x front s frames next fit =
     let state : State = s.back in
-    let well : StepsWell state (turn_step x state) = turn-steps-well state x fit.is_state (fit-room n front s frames fit) next.is_turn in
+    let well : StepsWell state (turn_step x state) = (turn-steps-well state x fit.is_state (fit-room n front s frames fit) next.is_turn).0 in
     let done : Step = turn_step x state in
     let keeps : TurnKeeps state done.state = turn-keeps x state well in
     leads-on n (one_turn n) s done [] s.styles front frames frames fit well

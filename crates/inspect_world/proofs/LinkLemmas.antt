@@ -171,7 +171,7 @@ frame-sends state frame is room =
 pub turn-sends : (state : State) (x : Turn) → IsState state → HasRoom state → IsTurn x → Sends state (made x)
 turn-sends state x is room is_turn =
     let none = turn-answers x state in
-    let well = turn-steps-well state x is room is_turn in
+    let well = (turn-steps-well state x is room is_turn).0 in
     sends-moves state (made x) (turn_step x state) [] [] well refl tt (tells-all (turn_step x state).moves [] none) none (made-drew state x well)
 
 -- ---- one happening more

@@ -74,7 +74,8 @@ pub record Together (IsPlain : List ℕ → Type 0) (bytes : ℕ) (w v : World R
 -- the fetches fit the state, and both runs agree.
 abbrev pub FreshLinesFit : Fetcher FrontValue → (List ℕ → Type 0) → Type 0
 FreshLinesFit fetcher IsPlain =
-    (page : LoadedPage) (lines : List LineForm) → CanLoadPage page → PageHasTexts page → AreLater lines → lines_cost lines ≤ most_bytes → (n : ℕ)
+    (page : LoadedPage) (lines : List LineForm) → CanLoadPage page → PageHasTexts page → AreLater lines → lines_cost lines ≤ most_bytes
+    → (n : ℕ)
     → RunTogether replay IsFit (first_value []) unstyled IsPlain (after_lines (take n lines) (loaded_world page))
     (fresh_lines fetcher (take n lines) (loaded_world page))
 

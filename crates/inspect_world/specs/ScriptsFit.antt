@@ -61,23 +61,24 @@ FitThroughout page lines = (n : ℕ) → Fits (after_lines (take n lines) (loade
 
 -- with any page and any lines that a script can have
 abbrev pub LinesFit : Type 0
-LinesFit = (page : LoadedPage) (lines : List LineForm) → CanLoadPage page → PageHasTexts page → AreLater lines → lines_cost lines ≤ most_bytes
-    → FitThroughout page lines
+LinesFit = (page : LoadedPage) (lines : List LineForm) → CanLoadPage page → PageHasTexts page → AreLater lines
+    → lines_cost lines ≤ most_bytes → FitThroughout page lines
 
 -- with each input that a replay reads
 abbrev pub InputsFit : Type 0
-InputsFit = (input : List ℕ) (page : LoadedPage) (lines : List LineForm) → script_forms input ≡ load page ∷ lines → length input ≤ most_bytes
-    → FitThroughout page lines
+InputsFit = (input : List ℕ) (page : LoadedPage) (lines : List LineForm) → script_forms input ≡ load page ∷ lines
+    → length input ≤ most_bytes → FitThroughout page lines
 
 -- With each input that a replay reads, and after any number of its lines: an undo restores the very tree and texts from before the
 -- newest group of a client's edits that is kept, and a redo those after the group that was taken back last; without a fault.
 abbrev pub UndoRestoresInRuns : Type 0
-UndoRestoresInRuns = (input : List ℕ) (page : LoadedPage) (lines : List LineForm) → script_forms input ≡ load page ∷ lines → length input ≤ most_bytes
-    → (n : ℕ) → Restores (after_lines (take n lines) (loaded_world page)).state.back
+UndoRestoresInRuns = (input : List ℕ) (page : LoadedPage) (lines : List LineForm) → script_forms input ≡ load page ∷ lines
+    → length input ≤ most_bytes → (n : ℕ) → Restores (after_lines (take n lines) (loaded_world page)).state.back
 
 -- a frame that names no ask is sent, whatever is on its way
 abbrev pub BareFramesFit : Type 0
-BareFramesFit = (w : World RunState) (text : List ℕ) → IsText text → IsBare text → w.spent.asks + w.spent.raws + 1 ≤ most_frames → Fits w → Fits (raw text w)
+BareFramesFit = (w : World RunState) (text : List ℕ) → IsText text → IsBare text → w.spent.asks + w.spent.raws + 1 ≤ most_frames
+    → Fits w → Fits (raw text w)
 
 -- the script makes a step by itself, whatever is on its way
 abbrev pub TurnsFit : Type 0
