@@ -248,11 +248,13 @@ follow_turn result state0 up0 down0 up down up1 down1 e e1 s frame f whole rest 
     (subst (λ frames. Follows state0 up0 down0 up down frames (ends_of e)) whole f))
 
 -- no frame is left
-pub follow_end : (state0 : Started) (up0 down0 up down : Pipe) (e : Ends) (s : Frames) → FollowsWith state0 up0 down0 up down e → s ≡ e.splitter → s.whole ≡ []
-    → FollowsRun state0 up0 down0 up down (record e { splitter = s }) × IsOk (fold_since up0 down0 up down).fold
-follow_end state0 up0 down0 up down e s f same none = (
+pub follow_end : (state0 : Started) (up0 down0 up down : Pipe) (e e1 : Ends) → FollowsWith state0 up0 down0 up down e → e1.splitter ≡ e.splitter → e1.splitter.whole ≡ []
+    → ((rest : List ℕ) → record (ends_of e) { back_rest = rest } ≡ record (ends_of e1) { back_rest = rest })
+    → FollowsRun state0 up0 down0 up down e1 × IsOk (fold_since up0 down0 up down).fold
+follow_end state0 up0 down0 up down e e1 f same none ends = (
   record {
-    so_far = subst (λ (x : Frames). FollowsWith state0 up0 down0 up down (record e { splitter = x })) (sym same) f;
+    so_far = subst (Follows state0 up0 down0 up down e1.splitter.whole) (ends e1.splitter.rest)
+        (subst (λ (x : Frames). Follows state0 up0 down0 up down x.whole (record (ends_of e) { back_rest = x.rest })) (sym same) f);
     none_whole = none;
   },
   follows-good state0 up0 down0 up down e.splitter.whole (ends_of e) f,

@@ -62,10 +62,10 @@ none-held : (frames_of []).rest ≡ []
 unfolding frames_of
 none-held = refl
 
-nothing-loaded : CanLoadPage (first_page None)
+pub nothing-loaded : CanLoadPage (first_page None)
 nothing-loaded = record { nodes = record { formed = refl; named = refl; levels = omega arith; room = omega arith }; sheets = refl }
 
-no-texts : PageHasTexts (first_page None)
+pub no-texts : PageHasTexts (first_page None)
 no-texts = record { nodes = tt; sheets = All-nil (λ (sheet : SheetForm). IsUtf8 sheet.text) }
 
 pub starts-serving : (service : Service) → IsNewSide service.seat service.side (first_page None) → service.splitter ≡ record { whole = []; rest = [] } → IsServing service []

@@ -42,5 +42,5 @@ returns-in-Err-clause-follows g c = λ state0 up0 down0 f.
 pub returns-clause-follows : goal.returns-clause-follows
 returns-clause-follows g c = λ state0 up0 down0 f.
     let last = c.in_default.ensures {u = tt} in
-    follow_end state0 up0 down0 (g.L.Link.up c.loop-frame.link) (g.L.Link.down c.loop-frame.link) c.loop-frame.self c.next.new.self
-    (c.loop-frame.invariant.3 state0 up0 down0 f) last.unchanged (ap (λ (s : Frames). s.whole) last.unchanged ∙ last.none.0 refl)
+    follow_end state0 up0 down0 (g.L.Link.up c.loop-frame.link) (g.L.Link.down c.loop-frame.link) c.loop-frame.self _
+    (c.loop-frame.invariant.3 state0 up0 down0 f) last.unchanged (ap (λ (s : Frames). s.whole) last.unchanged ∙ last.none.0 refl) (λ rest. refl)

@@ -4,4 +4,15 @@ use Rattle.inspect_replay.proofs.RunLemmas.{seated-first}
 use Rattle.inspect_replay.proofs.ends.Ends.new.Goals as goal
 
 pub invariant_of-result : goal.invariant_of-result
-invariant_of-result c = record { seated = seated-first (loaded_page c.args.form) _ _ c.requires.can c.requires.texts _ }
+invariant_of-result c = record {
+  seated = seated-first (loaded_page c.args.form) c.new-2.result c.in_ok-new.field-0 c.requires.can c.requires.texts (record {
+    page_is = (c.in_ok-new.ensures {u = tt}).page;
+    sheets_are = (c.in_ok-new.ensures {u = tt}).sheets;
+    next_is = (c.in_ok-new.ensures {u = tt}).next;
+    off = c.new-2.ensures.off;
+    css = c.new-2.ensures.css;
+    agent_is = c.new-2.ensures.agent;
+    watches_are = c.new-2.ensures.watches;
+    history_is = c.new-2.ensures.history;
+  });
+}
