@@ -32,6 +32,8 @@ pub mod SpliceSeats
 pub mod ScriptLemmas
 pub mod TreeSeats
 pub mod OwnSeats
+pub mod FrameSizes
+pub mod EditSizes
 pub mod TreeCopies
 pub mod OneProof
 pub mod KeepSeats

@@ -38,7 +38,7 @@ fn described_trees(
 ) -> Result<Vec<NodeTree>, AllocError>
     ensures { IfOk result (λ told. nodes_of told.items ≡ told_nodes 0 (shown_to no_ids levels children.now)) }
 {
-    let mut told = Vec::new(alloc);
+    let mut told = Vec::with_capacity(alloc, children.len())?;
     for i in 0..children.len() {
         let child = children.at(i);
         let tree = described_tree(alloc, &child, levels)?;

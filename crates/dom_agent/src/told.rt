@@ -93,7 +93,7 @@ pub(crate) fn told_trees(
     ensures { IfOk result (λ told. nodes_of told.items
         ≡ told_nodes parent (cut (opened_in binding.now) (id_in binding.now) children.now)) }
 {
-    let mut told = Vec::new(alloc);
+    let mut told = Vec::with_capacity(alloc, children.len())?;
     for i in 0..children.len() {
         let child = children.at(i);
         let tree = told_tree(alloc, binding, &child, parent)?;

@@ -201,6 +201,37 @@ impl Front {
         }
     }
 
+    /// The same of a piece that is handed over: one that is a whole frame is not copied.
+    pub fn take_owned(&mut self, piece: Vec<u8>) -> Result<(), FrontErr>
+        ensures ok { OnOk result (self.new ≡ after_take self.old piece.items) }
+        ensures well { OnOk result (self.new.fault ≡ None) }
+        ensures fault { (f : FrontFault) → result ≡ Err (FrontErr.Fault f) → self.new ≡ after_take self.old piece.items }
+        ensures kept { (f : FrontFault) → result ≡ Err (FrontErr.Fault f) → self.new.fault ≡ Some f }
+        ensures memory { result ≡ Err FrontErr.Memory → self.new.dead ≡ true }
+        ensures dead { self.old.dead ≡ true → result ≡ Err FrontErr.Memory }
+    {
+        if self.is_dead {
+            return Err(FrontErr::Memory);
+        }
+        if let Some(fault) = self.fault {
+            return Err(FrontErr::Fault(fault));
+        }
+        self.is_dead = true;
+        self.splitter.take_owned(piece)?;
+        match fold_whole(&mut self.known, &mut self.splitter) {
+            Ok(()) => {
+                self.is_dead = false;
+                Ok(())
+            }
+            Err(FrontErr::Fault(fault)) => {
+                self.fault = Some(fault);
+                self.is_dead = false;
+                Err(FrontErr::Fault(fault))
+            }
+            Err(FrontErr::Memory) => Err(FrontErr::Memory),
+        }
+    }
+
     /// What the front end shows.
     pub fn mirror(&self) -> &Mirror
         ensures { result.now ≡ self.now.value.tree }

@@ -1,6 +1,6 @@
-ghost use Rattle.std.specs.Prelude.{◌≡◌, ℕ, ◌++◌, OnOk, IfOk, string_bytes, decimal};
-ghost use Rattle.std.specs.List.{flat_map};
-ghost use Rattle.front_mirror.specs.Outline.{indent, quoted, attribute_text, label_text, unshown_text, node_line};
+ghost use Rattle.std.specs.Prelude.{◌≡◌, ℕ, ◌++◌, OnOk, IfOk, string_bytes, decimal, true};
+ghost use Rattle.std.specs.List.{flat_map, list_all};
+ghost use Rattle.front_mirror.specs.Outline.{is_plain_byte, indent, quoted, attribute_text, label_text, unshown_text, node_line};
 
 use node_tree::{Attributes, Kind};
 use serde_json::Value;
@@ -17,17 +17,40 @@ pub(crate) fn write_indent(level: usize, out: &mut Vec<u8>) -> Result<(), AllocE
     Ok(())
 }
 
-fn write_decimal(alloc: Global, number: u64, out: &mut Vec<u8>) -> Result<(), AllocError>
+fn write_decimal(number: u64, out: &mut Vec<u8>) -> Result<(), AllocError>
     ensures { OnOk result (out.new.items ≡ out.old.items ++ decimal number) }
 {
-    let digits = number.to_string(alloc)?;
-    out.extend_from_slice(digits.as_bytes())?;
+    let mut buffer = itoa::Buffer::new();
+    out.extend_from_slice(buffer.format(number).as_bytes())?;
+    Ok(())
+}
+
+/// Whether a text stands in a JSON string as it is.
+fn is_plain(text: &[u8]) -> bool
+    ensures { result ≡ list_all is_plain_byte text.now }
+{
+    text.iter()
+        .all(|byte| *byte >= 32 && *byte != b'"' && *byte != b'\\')
+}
+
+/// Appends a text that needs no escape.
+#[tactic(auto, using(crate::proofs::OutlineLemmas::quoted_plain))]
+fn write_plain(text: &str, out: &mut Vec<u8>) -> Result<(), AllocError>
+    requires { list_all is_plain_byte text.now ≡ true }
+    ensures { OnOk result (out.new.items ≡ out.old.items ++ quoted text.now) }
+{
+    out.push(b'"')?;
+    out.extend_from_slice(text.as_bytes())?;
+    out.push(b'"')?;
     Ok(())
 }
 
 fn write_quoted(alloc: Global, text: &str, out: &mut Vec<u8>) -> Result<(), AllocError>
     ensures { OnOk result (out.new.items ≡ out.old.items ++ quoted text.now) }
 {
+    if is_plain(text.as_bytes()) {
+        return write_plain(text, out);
+    }
     let value = Value::String(String::from_str(alloc, text)?);
     let bytes = value.to_vec(alloc)?;
     out.extend_from_slice(&bytes)?;
@@ -84,14 +107,14 @@ fn write_label(
     Ok(())
 }
 
-fn write_unshown(alloc: Global, unshown: u64, out: &mut Vec<u8>) -> Result<(), AllocError>
+fn write_unshown(unshown: u64, out: &mut Vec<u8>) -> Result<(), AllocError>
     ensures { OnOk result (out.new.items ≡ out.old.items ++ unshown_text unshown) }
 {
     if unshown == 0 {
         return Ok(());
     }
     out.extend_from_slice(b" +")?;
-    write_decimal(alloc, unshown, out)
+    write_decimal(unshown, out)
 }
 
 /// Appends the line of one node, without indent and line feed: its number, its label, and ` +n` where `unshown` children,
@@ -109,8 +132,8 @@ pub fn write_node_line(
     ensures { OnOk result (out.new.items ≡ out.old.items
         ++ node_line number (record { kind = kind; name = name.now; value = value.now; attributes = attributes.now }) unshown) }
 {
-    write_decimal(alloc, number, out)?;
+    write_decimal(number, out)?;
     out.extend_from_slice(b" ")?;
     write_label(alloc, kind, name, value, attributes, out)?;
-    write_unshown(alloc, unshown, out)
+    write_unshown(unshown, out)
 }

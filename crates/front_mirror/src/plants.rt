@@ -27,7 +27,7 @@ fn below_of(node: &NodeTree) -> Below
 pub(crate) fn ids_of(alloc: Global, trees: &[NodeTree]) -> Result<IdList, AllocError>
     ensures { IfOk result (λ ids. ids ≡ root_ids (shown trees.now)) }
 {
-    let mut ids = IdList::new(alloc);
+    let mut ids = IdList::with_room(alloc, trees.len())?;
     for tree in trees {
         ids.push(tree.id)?;
     }

@@ -1,4 +1,4 @@
-ghost use Rattle.std.specs.Prelude.{◌≡◌, ◌<◌, ◌≤◌, ◌==◌, ◌||◌, true, ℕ, List, [], ◌∷◌, ◌++◌, length, Some, OnOk, slice_get};
+ghost use Rattle.std.specs.Prelude.{◌≡◌, ◌<◌, ◌≤◌, ◌==◌, ◌||◌, true, ℕ, List, [], ◌∷◌, ◌++◌, length, Some, IfOk, OnOk, slice_get};
 ghost use Rattle.std.specs.List.{insert};
 ghost use Rattle.cdp_messages.specs.Views.{is_in};
 ghost use Rattle.node_tree.specs.Nodes.{Nodes};
@@ -33,6 +33,15 @@ impl IdList {
         IdList {
             ids: Vec::new(alloc),
         }
+    }
+
+    /// No ids, with room for so many.
+    pub(crate) fn with_room(alloc: Global, count: usize) -> Result<IdList, AllocError>
+        ensures { IfOk result (λ ids. ids ≡ []) }
+    {
+        Ok(IdList {
+            ids: Vec::with_capacity(alloc, count)?,
+        })
     }
 
     pub(crate) fn as_slice(&self) -> &[u64]

@@ -20,6 +20,7 @@ use Rattle.replay_script.specs.declared.forms.Ask.{Ask}
 use Rattle.replay_script.specs.Seen.{seen_ask}
 use Rattle.replay_script.specs.Forms.{AskForm}
 use Rattle.cdp_messages.specs.Asked.{command_text, is_whole_where_there}
+use Rattle.inspect_world.specs.Costs.{ask_cost, least_line}
 use Rattle.inspect_world.specs.Fits.{IsBare, HasLeft, FitsWith, Fits, most_sheets, most_fetches, replay}
 use Rattle.inspect_world.specs.Fetches.{front_in, fetched, fetched_if, all_fetched, stale_in}
 use Rattle.inspect_world.specs.FreshRuns.{front_fetcher, refreshes}
@@ -33,7 +34,7 @@ use Rattle.back_end.specs.declared.side.PageSide.{PageSide}
 use Rattle.back_end.specs.States.{State}
 use Rattle.back_end.specs.Steps.{Turn, frame_step, turn_step, step, turn}
 use Rattle.inspect_world.specs.RunStates.{RunState, run_step, run_turn}
-use Rattle.back_end.specs.Laws.{HasRoom, IsTurn}
+use Rattle.back_end.specs.Laws.{IsTurn}
 use Rattle.inspect_world.specs.Held.{Ends, InWorld}
 use Rattle.inspect_replay.specs.declared.ends.Ends.{Ends as ProgramEnds}
 use Rattle.inspect_replay.specs.declared.stop.Stop.{Stop}
@@ -44,25 +45,15 @@ use Rattle.inspect_replay.specs.Stops.{GoesWell}
 use Rattle.back_end.proofs.SeatLemmas.{on_ok}
 use Rattle.inspect_world.proofs.Worlds.{answered-cons}
 use Rattle.inspect_world.proofs.Pipes.{waiting-is}
+use Rattle.inspect_world.proofs.Scripts.{turn-left}
 use Rattle.inspect_world.proofs.FetchesFit.{fetched-if-spends, few-then}
 use Rattle.inspect_world.proofs.Ends.{world-room, world-ids, world-sent, world-fetched, world-raw, world-turned, world-answered, world-given_up, world-delivered_down, never-refuses}
 
 -- ---- a step is made
 
--- what a seat with room says of the state that it stands for
-pub room-left : (seat : Seat) (side : PageSide) (state : State) → StandsFor seat side state → HasRoomLeft seat.desk side → HasRoom state
-room-left seat side state stands left =
-    let next : seat.desk.agent.next ≡ length state.client.session.pushed + 1 = stands.stands.next_is in
-    let few : seat.desk.agent.next < 2 ^ 50 = left.ids in
-    record {
-      ids = omega (arith, next, few);
-      serials = subst (λ page. page.next < 2 ^ 50) stands.page_is left.serials;
-      sheets = subst (λ n. n < 2 ^ 50) stands.next_is left.sheets;
-    }
-
 -- over an honest link the back end has room
 pub has-room : (up0 down0 up down : Pipe) (w : World RunState) (frames : List (List ℕ)) (e : Ends) → InWorld up0 down0 up down w frames e
-    → (HasRoomLeft e.seat.desk e.side → false ≡ true) → ⊥
+    → (HasRoomLeft e.seat e.side → false ≡ true) → ⊥
 has-room up0 down0 up down w frames e in_world none = let no : false ≡ true = none (world-room up0 down0 up down w frames e in_world) in absurd cc
 
 -- and so has the front end
@@ -90,7 +81,7 @@ answered_in up0 down0 up down up1 down1 w frame frames seat seat1 side side1 e o
 -- the script makes a step by itself
 pub turned_in : (up0 down0 up down up1 down1 : Pipe) (w : World RunState) (x : Turn) (whole : List (List ℕ)) (seat seat1 : Seat) (side side1 : PageSide) (e : Ends)
     (old out bytes : List ℕ) (there : ℕ)
-    → InWorld up0 down0 up down w (whole ++ awaited w.up) (record e { seat = seat; side = side }) → whole ≡ [] → IsTurn x → HasLeft w.spent 1
+    → InWorld up0 down0 up down w (whole ++ awaited w.up) (record e { seat = seat; side = side }) → whole ≡ [] → IsTurn x → HasLeft w.spent least_line
     → ((state : State) → StandsFor seat side state → StandsFor seat1 side1 (turn_step x state).state)
     → ((state : State) → StandsFor seat side state → out ≡ old ++ frames_of_moves (turn_step x state).moves)
     → old ≡ [] → bytes ≡ out
@@ -101,7 +92,7 @@ turned_in up0 down0 up down up1 down1 w x whole seat seat1 side side1 e old out 
     subst (λ frames. InWorld up0 down0 up down w (frames ++ awaited w.up) (record e { seat = seat; side = side })) none in_world in
     let all : InWorld up0 down0 up down1 (turned run_turn x w) (awaited w.up) (record e { seat = seat1; side = side1; down_there = there }) =
     world-turned up0 down0 up down down1 w (record e { seat = seat; side = side }) x seat1 side1 out there start
-    (record { is_turn = is_turn; few = room.turns })
+    (record { is_turn = is_turn; few = turn-left w.spent room })
     (stood w.state.back in_world.stands)
     (said w.state.back in_world.stands ∙ ap (λ start. start ++ (turn x w.state.back).sent) empty)
     (sent.0 ∙ ap (λ piece. down.sent ++ piece) same_out) sent.1 left in
@@ -132,7 +123,7 @@ frame-seen next ask frame method params session m p s is =
     ∙ ap (λ s'. framed (command_text next ask.method (option_map view ask.params) s')) (refs-seen session ask.session s)
 
 pub asked_in : (up0 down0 up down up1 down1 : Pipe) (w : World RunState) (e : Ends) (a : AskForm) (whole : List (List ℕ)) (frame bytes : List ℕ) (there : ℕ) (front1 : FrontState)
-    → CanSend a → HasLeft w.spent 1 → InWorld up0 down0 up down w (whole ++ awaited w.up) e → whole ≡ []
+    → CanSend a → HasLeft w.spent (ask_cost a) → InWorld up0 down0 up down w (whole ++ awaited w.up) e → whole ≡ []
     → frame ≡ framed (command_text e.front.next a.method a.params a.session) → front1 ≡ after_ask e.front a.method
     → bytes ≡ frame → (up1.sent ≡ up.sent ++ bytes) × (up1.given ≡ up.given) → down1 ≡ down → there ≡ e.up_there + length frame
     → InWorld up0 down0 up1 down1 (sends a w) (whole ++ awaited (sends a w).up) (record e { front = front1; up_there = there })
@@ -151,7 +142,7 @@ asked_in up0 down0 up down up1 down1 w e a whole frame bytes there front1 can fe
 
 -- a frame is sent that names no ask
 pub raw_in : (up0 down0 up down up1 down1 : Pipe) (w : World RunState) (e : Ends) (text : List ℕ) (whole : List (List ℕ)) (frame bytes : List ℕ) (there : ℕ)
-    → IsText text → IsBare text → HasLeft w.spent 1 → InWorld up0 down0 up down w (whole ++ awaited w.up) e → whole ≡ []
+    → IsText text → IsBare text → HasLeft w.spent least_line → InWorld up0 down0 up down w (whole ++ awaited w.up) e → whole ≡ []
     → frame ≡ framed text → bytes ≡ frame → (up1.sent ≡ up.sent ++ bytes) × (up1.given ≡ up.given) → down1 ≡ down → there ≡ e.up_there + length frame
     → InWorld up0 down0 up1 down1 (raw text w) (whole ++ awaited (raw text w).up) (record e { up_there = there })
 raw_in up0 down0 up down up1 down1 w e text whole frame bytes there letters bare room in_world none frame_is same_bytes sent same_down left =

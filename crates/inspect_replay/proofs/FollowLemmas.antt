@@ -23,13 +23,13 @@ use Rattle.back_end.specs.declared.seat.Seat.{Seat}
 use Rattle.back_end.specs.declared.side.PageSide.{PageSide}
 use Rattle.back_end.specs.States.{State, loaded_state}
 use Rattle.back_end.specs.Steps.{Turn, frame_step, turn_step, step, turn}
-use Rattle.back_end.specs.Laws.{most_ids, IsTurn}
+use Rattle.back_end.specs.Laws.{IsTurn}
 use Rattle.page_forms.specs.Texts.{PageHasTexts}
 use Rattle.inspect_world.specs.ScriptsFit.{CanSend}
 use Rattle.inspect_world.specs.Held.{Ends as HeldEnds}
 use Rattle.std.specs.List.{All}
 use Rattle.front_mirror.specs.Front.{matched_in}
-use Rattle.inspect_world.specs.Links.{Started, started, one_line_more, knows_styles, came_styles, Follows, fold_of}
+use Rattle.inspect_world.specs.Links.{Started, started, one_line_more, knows_styles, came_styles, Drew, Follows, fold_of}
 use Rattle.inspect_world.specs.Fits.{ask_in}
 use Rattle.inspect_world.proofs.Scripts.{fit-first}
 use Rattle.inspect_world.proofs.LinkLemmas.{follows-fewer, front-full, seat-full, follows-told, follows-less, follows-start, follows-sends, follows-fetched, follows-raw, follows-given_up, follows-answered, follows-turned, follows-delivered_down, follows-refused, follows-fold, follows-replies}
@@ -46,7 +46,7 @@ use Rattle.inspect_replay.specs.Prints.{IsRead, ReadsAt}
 use Rattle.inspect_replay.specs.Runs.{ends_of}
 use Rattle.inspect_replay.specs.Moments.{moment}
 use Rattle.inspect_replay.specs.Stops.{GoesWell}
-use Rattle.inspect_replay.proofs.EndLemmas.{room-left}
+use Rattle.inspect_world.proofs.SeatRoom.{room-of}
 use Rattle.inspect_replay.proofs.RunLemmas.{no_frames, first_ends, ends-first, IsNewSide, stands-first}
 
 -- ---- stops
@@ -126,7 +126,7 @@ front-stops state0 up0 down0 up down e run none =
 
 -- or the back end
 pub seat-stops : (state0 : Started) (up0 down0 up down : Pipe) (waiting : List (List ℕ)) (e : HeldEnds) → Follows state0 up0 down0 up down waiting e
-    → (HasRoomLeft e.seat.desk e.side → false ≡ true) → StopFolds {T = Unit {0}} (Err NoRoom) (fold_since up0 down0 up down)
+    → (HasRoomLeft e.seat e.side → false ≡ true) → StopFolds {T = Unit {0}} (Err NoRoom) (fold_since up0 down0 up down)
 seat-stops state0 up0 down0 up down waiting e f none =
     (follows-good state0 up0 down0 up down waiting e f, seat-full state0 up0 down0 up down waiting e f none)
 
@@ -185,7 +185,7 @@ given-follows state0 up0 down0 up down up1 down1 e s s1 piece bytes there f left
 pub answered-follows : (state0 : Started) (up0 down0 up down up1 down1 : Pipe) (frame : List ℕ) (frames : List (List ℕ)) (seat seat1 : Seat) (side side1 : PageSide) (e : HeldEnds)
     (old out bytes : List ℕ) (there : ℕ)
     → Follows state0 up0 down0 up down (frame ∷ frames) (record e { seat = seat; side = side }) → there ≡ e.down_there + length out
-    → HasRoomLeft seat.desk side
+    → HasRoomLeft seat side
     → ((state : State) → StandsFor seat side state → StandsFor seat1 side1 (frame_step false frame state).state)
     → ((state : State) → StandsFor seat side state → out ≡ old ++ frames_of_moves (frame_step false frame state).moves)
     → old ≡ [] → bytes ≡ out → up1 ≡ up → (down1.sent ≡ down.sent ++ bytes) × (down1.given ≡ down.given)
@@ -193,7 +193,7 @@ pub answered-follows : (state0 : Started) (up0 down0 up down up1 down1 : Pipe) (
 answered-follows state0 up0 down0 up down up1 down1 frame frames seat seat1 side side1 e old out bytes there f left room stood said empty same_out same_up sent =
     let all : Follows state0 up0 down0 up down1 frames (record e { seat = seat1; side = side1; down_there = there }) =
     follows-answered state0 up0 down0 up down down1 frame frames (record e { seat = seat; side = side }) seat1 side1 out there f left
-    (room-left seat side f.state f.stands room) (stood f.state f.stands)
+    (room-of seat side f.state f.stands room) (stood f.state f.stands)
     (said f.state f.stands ∙ ap (λ start. start ++ (step f.state frame).sent) empty)
     (sent.0 ∙ ap (λ piece. down.sent ++ piece) same_out) sent.1 in
     subst (λ pipe. Follows state0 up0 down0 pipe down1 frames (record e { seat = seat1; side = side1; down_there = there })) (sym same_up) all
@@ -202,7 +202,7 @@ answered-follows state0 up0 down0 up down up1 down1 frame frames seat seat1 side
 pub turned-follows : (state0 : Started) (up0 down0 up down up1 down1 : Pipe) (x : Turn) (waiting : List (List ℕ)) (seat seat1 : Seat) (side side1 : PageSide) (e : HeldEnds)
     (old out bytes : List ℕ) (there : ℕ)
     → Follows (one_line_more state0) up0 down0 up down waiting (record e { seat = seat; side = side }) → there ≡ e.down_there + length out
-    → HasRoomLeft seat.desk side → IsTurn x
+    → HasRoomLeft seat side → IsTurn x
     → ((state : State) → StandsFor seat side state → StandsFor seat1 side1 (turn_step x state).state)
     → ((state : State) → StandsFor seat side state → out ≡ old ++ frames_of_moves (turn_step x state).moves)
     → old ≡ [] → bytes ≡ out → up1 ≡ up → (down1.sent ≡ down.sent ++ bytes) × (down1.given ≡ down.given)
@@ -210,7 +210,7 @@ pub turned-follows : (state0 : Started) (up0 down0 up down up1 down1 : Pipe) (x 
 turned-follows state0 up0 down0 up down up1 down1 x waiting seat seat1 side side1 e old out bytes there f left room is_turn stood said empty same_out same_up sent =
     let all : Follows state0 up0 down0 up down1 waiting (record e { seat = seat1; side = side1; down_there = there }) =
     follows-turned state0 up0 down0 up down down1 x waiting (record e { seat = seat; side = side }) seat1 side1 out there f left
-    (room-left seat side f.state f.stands room) is_turn (stood f.state f.stands)
+    (room-of seat side f.state f.stands room) is_turn (stood f.state f.stands)
     (said f.state f.stands ∙ ap (λ start. start ++ (turn x f.state).sent) empty)
     (sent.0 ∙ ap (λ piece. down.sent ++ piece) same_out) sent.1 in
     subst (λ pipe. Follows state0 up0 down0 pipe down1 waiting (record e { seat = seat1; side = side1; down_there = there })) (sym same_up) all
@@ -349,13 +349,13 @@ run-first up down page lines e can texts few new splitter_is front_is up_none do
     let same : ends_of e ≡ first_ends e.seat e.side = ends-first e splitter_is front_is up_none down_none told_none pauses_none in
     let none : e.splitter.whole ≡ [] = ap (λ (f : Frames). f.whole) splitter_is in
     let fit = fit-first page can texts in
-    let drawn : length (loaded_state page).client.session.pushed + 0 * most_ids ≤ 0 * most_ids = fit.drawn in
+    let drew : Drew (loaded_state page) 0 0 0 = record { ids = omega arith; trees = omega arith; edits = omega arith } in
     let serials : (loaded_state page).side.page.next + 0 * (max_nodes + 1) ≤ (0 + 1) * (max_nodes + 1) = fit.serials in
     let numbers : (loaded_state page).side.next_sheet + 0 * max_sheets ≤ (0 + 1) * max_sheets + 1 = fit.numbers in
     record {
       so_far = subst (λ h. Follows start up down up down e.splitter.whole h) (sym same)
           (subst (λ frames. Follows start up down up down frames (first_ends e.seat e.side)) (sym none)
-          (follows-start up down start e.seat e.side refl (stands-first page e.seat e.side can texts new) few (omega (arith, drawn)) (omega (arith, serials)) (omega (arith, numbers))));
+          (follows-start up down start e.seat e.side refl (stands-first page e.seat e.side can texts new) few drew (omega (arith, serials)) (omega (arith, numbers))));
       none_whole = none;
     }
 

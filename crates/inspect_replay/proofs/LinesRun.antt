@@ -19,7 +19,10 @@ use Rattle.replay_script.specs.declared.faults.LineFault.TheVariants.{NotLoad}
 use Rattle.replay_script.proofs.ScriptLemmas.{first_bad-good, first_bad-bad, good_lines-good, good_lines-bad}
 use Rattle.inspect_world.specs.World.{World, settled}
 use Rattle.inspect_world.specs.RunStates.{RunState, run_step}
+use Rattle.inspect_world.specs.Costs.{line_cost, line_bytes}
 use Rattle.inspect_world.specs.Scripts.{after_line, after_lines, line_text, lines_text, closing_text, closing_unless, rest_text, styles_at, has_styles, styles_shown, lacking, shown_lines, first_lacking, rest_refused, refused_of, report_refused}
+use Rattle.inspect_world.proofs.LineSizes.{line-long}
+use Rattle.inspect_world.proofs.Scripts.{left-fewer}
 use Rattle.inspect_replay.specs.declared.ends.Ends.{Ends}
 use Rattle.inspect_replay.specs.declared.stop.Stop.{Stop}
 use Rattle.inspect_replay.specs.declared.stop.Stop.TheVariants.{Line, TooLong, ReadFault, WriteFault, LinkFault, FrontRefused, NoRoom, Memory}
@@ -120,7 +123,7 @@ pub record Whole : Type 0 where
 -- where a run of lines is: the world, what was printed so far, and that the lines left do the rest
 pub record Running (honest : Type 0) (up0 down0 up down : Pipe) (taken0 taken : Option (List ℕ)) (all : Whole) (number : ℕ) (lines : List (List ℕ)) (e : Ends) : Type 0 where
   pub world : World RunState
-  pub in_play : InPlay honest up0 down0 up down (length lines) world e
+  pub in_play : InPlay honest up0 down0 up down (line_bytes lines) world e
   pub so_far : List ℕ
   pub wrote : Appends taken0 taken so_far
   pub text : all.text ≡ so_far ++ lines_text number (shown_lines (good_lines number lines) world) world
@@ -141,12 +144,21 @@ pub with_lines : (honest : Type 0) (up0 down0 up down : Pipe) (taken0 taken : Op
 with_lines honest up0 down0 up down taken0 taken all number lines lines1 e same running =
     subst (λ ls. Running honest up0 down0 up down taken0 taken all number ls e) same running
 
--- the line that comes next is one of those that are left
-pub run-later : (honest : Type 0) (up0 down0 up down : Pipe) (more : List (List ℕ)) (w : World RunState) (e : Ends) → InPlay honest up0 down0 up down (suc (length more)) w e
-    → InPlay honest up0 down0 up down (length more + 1) w e
-run-later honest up0 down0 up down more w e play =
-    let plus : suc (length more) ≡ length more + 1 = omega arith in
-    subst (λ k. InPlay honest up0 down0 up down k w e) plus play
+-- room for more bytes is room for fewer
+play-fewer : (honest : Type 0) (up0 down0 up down : Pipe) (j k : ℕ) (w : World RunState) (e : Ends) → j ≤ k → InPlay honest up0 down0 up down k w e → InPlay honest up0 down0 up down j w e
+play-fewer honest up0 down0 up down j k w e less play = record {
+  fresh = play.fresh;
+  both = record { runs = play.both.runs; left = left-fewer play.fresh.spent j k less play.both.left };
+  in_run = play.in_run;
+  told_is = play.told_is;
+}
+
+-- the line that comes next is one of those that are left, and has the bytes that it costs
+pub run-later : (honest : Type 0) (up0 down0 up down : Pipe) (line : List ℕ) (more : List (List ℕ)) (form : LineForm) (w : World RunState) (e : Ends) → line_form line ≡ Some form
+    → InPlay honest up0 down0 up down (line_bytes (line ∷ more)) w e → InPlay honest up0 down0 up down (line_bytes more + line_cost form) w e
+run-later honest up0 down0 up down line more form w e is play =
+    let long : line_cost form ≤ length line = line-long line form is in
+    play-fewer honest up0 down0 up down (line_bytes more + line_cost form) (line_bytes more + length line) w e (omega (arith, long)) play
 
 -- what comes of a line, by whether it lacks something
 record ThisLine (all : Whole) (number : ℕ) (form : LineForm) (later : List LineForm) (bad : Option (ℕ × LineFault)) (w : World RunState) (so_far : List ℕ) : Type 0 where
@@ -174,9 +186,8 @@ pub run-on : (honest honest1 : Type 0) (up0 down0 up down up1 down1 : Pipe) (tak
     → Running honest1 up0 down0 up1 down1 taken0 taken1 all (number + 1) more e1
 run-on honest honest1 up0 down0 up down up1 down1 taken0 taken taken1 all number line more form e e1 running good is carries =
     let w = running.world in
-    let plus : suc (length more) ≡ length more + 1 = omega arith in
     let l : ThisLine all number form (good_lines (number + 1) more) (first_bad (number + 1) more) w running.so_far = at-line honest up0 down0 up down taken0 taken all number line more form e running good is in
-    let c = carries up0 down0 (length more) w (subst (λ k. InPlay honest up0 down0 up down k w e) plus running.in_play) in
+    let c = carries up0 down0 (line_bytes more) w (run-later honest up0 down0 up down line more form w e is running.in_play) in
     let whole : lacking form w ≡ None = no-number number (lacking form w) c.2 in
     let later = good_lines (number + 1) more in
     let w1 = after_line form w in
@@ -273,7 +284,7 @@ pub lines-done : (honest : Type 0) (up0 down0 up down : Pipe) (taken0 taken : Op
 lines-done honest up0 down0 up down taken0 taken all number lines e running none =
     let forms : good_lines number lines ≡ [] = ap (good_lines number) none in (
       subst (λ v. InPlay honest up0 down0 up down 0 v e) (sym (running.worlds ∙ ap (λ fs. after_lines (shown_lines fs running.world) running.world) forms))
-          (subst (λ (ls : List (List ℕ)). InPlay honest up0 down0 up down (length ls) running.world e) none running.in_play),
+          (subst (λ (ls : List (List ℕ)). InPlay honest up0 down0 up down (line_bytes ls) running.world e) none running.in_play),
       subst (λ t. Appends taken0 taken t) (sym (running.text ∙ nothing-left running.so_far number running.world (good_lines number lines) forms)) running.wrote,
       running.refused ∙ ap (λ (ls : List (List ℕ)). first_of (first_lacking number (good_lines number ls) running.world) (first_bad number ls)) none,
     )

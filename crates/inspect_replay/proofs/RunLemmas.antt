@@ -47,8 +47,10 @@ use Rattle.back_end.specs.Laws.{IsTurn}
 use Rattle.back_end.specs.Plans.{act_fault}
 use Rattle.back_end.proofs.SeatLemmas.{on_ok}
 use Rattle.dom_breakpoints.specs.Watched.{unwatched}
-use Rattle.back_end.specs.Seats.{StandsFor}
-use Rattle.inspect_world.specs.Fits.{most_asks, most_sheets, most_fetches, HasLeft, IsPlainFrame}
+use Rattle.back_end.specs.Seats.{StandsFor, IsSeated}
+use Rattle.undo_marks.specs.Marks.{no_marks}
+use Rattle.inspect_world.specs.Costs.{least_line, line_cost, line_bytes}
+use Rattle.inspect_world.specs.Fits.{most_bytes, HasLeft, IsPlainFrame}
 use Rattle.inspect_world.specs.FreshRuns.{front_fetcher, refreshes, fresh_line, Together}
 use Rattle.inspect_world.specs.ActTexts.{act_text}
 use Rattle.inspect_world.specs.Scripts.{page_line, after_line, line_text, rest_refused, refused_of, report_refused, closing_text, rest_text, text_of, report, loaded_world}
@@ -65,13 +67,13 @@ use Rattle.inspect_replay.specs.Stops.{AmidRun, two_counts, HasStopCause, GoesWe
 use Rattle.inspect_replay.specs.Answers.{Absent, AtEnd, InRunOnly, TookAt, RunTells, RunTook, Prints}
 use Rattle.inspect_replay.specs.Prints.{CarriesOut, NumberedLine, line_of, Closes}
 use Rattle.replay_script.proofs.ScriptLemmas.{first_bad-good, good_lines-good}
-use Rattle.inspect_world.proofs.Scripts.{IsState-first, left-one}
+use Rattle.inspect_world.proofs.Scripts.{IsState-first, left-one, left-fewer, cost-least}
 use Rattle.front_mirror.specs.declared.sheets.KnownSheet.{KnownSheet}
 use Rattle.inspect_world.specs.SheetTexts.{sheet_lines, known_lines}
 use Rattle.inspect_world.proofs.ShownSheets.{fresh-lines}
 use Rattle.inspect_world.proofs.FetchesFit.{ShownThen, play-line, play-loaded, play-told, shown-then, refreshed-told}
 use Rattle.inspect_replay.proofs.EndLemmas.{run-front}
-use Rattle.inspect_world.proofs.Inputs.{input-script, Script, length-lines_of}
+use Rattle.inspect_world.proofs.Inputs.{input-script, Script, length-lines_of, bytes-lines_of}
 use Rattle.inspect_world.proofs.Ends.{world-first, world-told}
 
 -- a splitter that has taken nothing
@@ -118,30 +120,23 @@ part-tells stop sink0 sink1 link0 link1 bad cause =
 
 -- ---- one line
 
--- room for so many lines is room for none
+-- room for lines of so many bytes is room for none
 pub left-none : (n : Spent) (k : ℕ) → HasLeft n k → HasLeft n 0
-left-none n k left =
-    let ha : n.asks + k ≤ most_asks = left.asks in
-    let hf : n.fetches + (k + 1) * most_sheets ≤ most_fetches = left.fetches in
-    let hr : n.raws + k ≤ most_asks = left.raws in
-    let ht : n.turns + k ≤ most_asks = left.turns in
-    record { asks = omega (arith, ha); fetches = omega (arith, hf); raws = omega (arith, hr); turns = omega (arith, ht) }
+left-none n k left = left-fewer n 0 k (omega arith) left
 
 -- a call that takes the run with fetches over a line takes both runs over it
 pub plays : {T : Type 0} (result : Result T Stop) (honest honest1 : Type 0) (up down up1 down1 : Pipe) (e e1 : Ends) (f : World RunState → World RunState) (line : LineForm)
     → IsLater line → ((v : World RunState) → f v ≡ fresh_line front_fetcher line v) → ((v : World RunState) → (fresh_line front_fetcher line v).told ≡ v.told)
-    → ((w : World RunState) → (after_line line w).told ≡ w.told) → Spends (moment honest up down e) (moment honest1 up1 down1 e1) result f
-    → (up0 down0 : Pipe) (more : ℕ) (w : World RunState) → InPlay honest up0 down0 up down (more + 1) w e
+    → ((w : World RunState) → (after_line line w).told ≡ w.told) → Spends (line_cost line) (moment honest up down e) (moment honest1 up1 down1 e1) result f
+    → (up0 down0 : Pipe) (more : ℕ) (w : World RunState) → InPlay honest up0 down0 up down (more + line_cost line) w e
     → GoesWell result × OnOk result (InPlay honest1 up0 down0 up1 down1 more (after_line line w) e1)
 plays result honest honest1 up down up1 down1 e e1 f line later goes told told1 spends = λ up0 down0 more w play.
     let v : World RunState = play.fresh in
-    let plus : more + 1 ≡ suc more = omega arith in
-    let together : Together IsPlainFrame (suc more) w v = subst (λ k. Together IsPlainFrame k w v) plus play.both in
-    let both = spends up0 down0 v (left-one more v together.left) play.in_run in (
+    let both = spends up0 down0 v (left-one v.spent more (line_cost line) play.both.left) play.in_run in (
       both.0,
       on_ok result _ _ both.1 (λ run. record {
         fresh = fresh_line front_fetcher line v;
-        both = play-line line more w v later together;
+        both = play-line line more w v later play.both;
         in_run = subst (λ x. InRun honest1 up0 down0 up1 down1 x e1) (goes v) run;
         told_is = told v ∙ play.told_is ∙ sym (told1 w);
       }),
@@ -152,7 +147,7 @@ pub spend-carries : (result : Result (Unit {0}) Stop) (honest honest1 : Type 0) 
     (f : World RunState → World RunState) (number : ℕ) (move form : LineForm) → IsLater move
     → ((v : World RunState) → f v ≡ fresh_line front_fetcher move v) → ((v : World RunState) → (fresh_line front_fetcher move v).told ≡ v.told)
     → ((w : World RunState) → (after_line move w).told ≡ w.told)
-    → ((w : World RunState) → [] ≡ line_text number move w) → form ≡ move → Spends (moment honest up down e) (moment honest1 up1 down1 e1) result f
+    → ((w : World RunState) → [] ≡ line_text number move w) → form ≡ move → Spends (line_cost move) (moment honest up down e) (moment honest1 up1 down1 e1) result f
     → CarriesOut (scene (moment honest up down e) taken) (scene (moment honest1 up1 down1 e1) taken) (line_of number form) result
 spend-carries result honest honest1 up down up1 down1 taken e e1 f number move form later goes told told1 silent is spends =
     subst (λ line. CarriesOut (scene (moment honest up down e) taken) (scene (moment honest1 up1 down1 e1) taken) (line_of number line) result) (sym is)
@@ -174,15 +169,15 @@ move-carries result honest honest1 up down up1 down1 taken e e1 f number move fo
 
 -- a settle with its fetches may be a line's
 pub settles-spend : {T : Type 0} (result : Result T Stop) (honest honest1 : Type 0) (up down up1 down1 : Pipe) (e e1 : Ends)
-    → Refreshes (moment honest up down e) (moment honest1 up1 down1 e1) result → Spends (moment honest up down e) (moment honest1 up1 down1 e1) result (refreshes front_fetcher)
-settles-spend result honest honest1 up down up1 down1 e e1 settles = λ up0 down0 w few run. settles up0 down0 w (left-none w.spent 1 few) run
+    → Refreshes (moment honest up down e) (moment honest1 up1 down1 e1) result → Spends least_line (moment honest up down e) (moment honest1 up1 down1 e1) result (refreshes front_fetcher)
+settles-spend result honest honest1 up down up1 down1 e e1 settles = λ up0 down0 w few run. settles up0 down0 w (left-none w.spent least_line few) run
 
 -- a text that is sent is the line's
 pub raw-spends : (result : Result (Unit {0}) Stop) (honest honest1 : Type 0) (up down up1 down1 : Pipe) (e e1 : Ends) (text text1 : List ℕ) → text1 ≡ text
-    → Spends (moment honest up down e) (moment honest1 up1 down1 e1) result (λ w. raw text1 w)
-    → Spends (moment honest up down e) (moment honest1 up1 down1 e1) result (λ w. raw text w)
+    → Spends least_line (moment honest up down e) (moment honest1 up1 down1 e1) result (λ w. raw text1 w)
+    → Spends least_line (moment honest up down e) (moment honest1 up1 down1 e1) result (λ w. raw text w)
 raw-spends result honest honest1 up down up1 down1 e e1 text text1 is spends =
-    subst (λ t. Spends (moment honest up down e) (moment honest1 up1 down1 e1) result (λ w. raw t w)) is spends
+    subst (λ t. Spends least_line (moment honest up down e) (moment honest1 up1 down1 e1) result (λ w. raw t w)) is spends
 
 -- the same of equal lines
 pub same-carries : (result : Result (Unit {0}) Stop) (honest honest1 : Type 0) (up down up1 down1 : Pipe) (taken taken1 : Option (List ℕ)) (e e1 : Ends) (number : ℕ) (line form : LineForm)
@@ -215,23 +210,23 @@ after-ok (Err stop) p = tt
 -- a change of the page: what the page and its sheets say is refused is what the script's own state says
 page-is : (honest : Type 0) (up0 down0 up down : Pipe) (lines : ℕ) (w : World RunState) (e : Ends) → InPlay honest up0 down0 up down lines w e → e.side.page ≡ w.state.back.side.page
 page-is honest up0 down0 up down lines w e play =
-    play.in_run.so_far.in_world.stands.page_is ∙ ap (λ (s : RunState). s.back.side.page) (sym play.both.runs.agrees.state)
+    play.in_run.so_far.in_world.stands.stands.page_is ∙ ap (λ (s : RunState). s.back.side.page) (sym play.both.runs.agrees.state)
 
 sheets-are : (honest : Type 0) (up0 down0 up down : Pipe) (lines : ℕ) (w : World RunState) (e : Ends) → InPlay honest up0 down0 up down lines w e → e.side.sheets.entries ≡ book_in w.state.back
 sheets-are honest up0 down0 up down lines w e play =
-    play.in_run.so_far.in_world.stands.sheets_are ∙ ap (λ (s : RunState). book_in s.back) (sym play.both.runs.agrees.state)
+    play.in_run.so_far.in_world.stands.stands.sheets_are ∙ ap (λ (s : RunState). book_in s.back) (sym play.both.runs.agrees.state)
 
 pub act-carries : (result : Result (Unit {0}) Stop) (fault : Option ActFault) (honest honest1 : Type 0) (up down up1 down1 : Pipe) (taken taken1 : Option (List ℕ)) (e e1 : Ends)
     (number : ℕ) (a : Act)
-    → Spends {T = Option ActFault} (moment honest up down e) (moment honest1 up1 down1 e1) (Ok fault) (λ w. turned run_turn (acts a) w)
+    → Spends {T = Option ActFault} least_line (moment honest up down e) (moment honest1 up1 down1 e1) (Ok fault) (λ w. turned run_turn (acts a) w)
     → IsTurn (acts a) → fault ≡ act_fault a e.side.page e.side.sheets.entries → GoesWell result
     → OnOk result (Appends taken taken1 (act_text number fault)) → OnErr result (WrotePart taken taken1 (act_text number fault))
     → CarriesOut (scene (moment honest up down e) taken) (scene (moment honest1 up1 down1 e1) taken1) (line_of number (forms_of.act a)) result
 act-carries result fault honest honest1 up down up1 down1 taken taken1 e e1 number a spends later is never ok err = λ up0 down0 more w play.
     let both = plays {T = Option ActFault} (Ok fault) honest honest1 up down up1 down1 e e1 (λ v. turned run_turn (acts a) v) (forms_of.act a) later (λ v. refl) (λ v. refl) (λ v. refl) spends up0 down0 more w play in
     let says_same : fault ≡ act_fault a w.state.back.side.page (book_in w.state.back) =
-    is ∙ ap (λ page. act_fault a page e.side.sheets.entries) (page-is honest up0 down0 up down (more + 1) w e play)
-    ∙ ap (act_fault a w.state.back.side.page) (sheets-are honest up0 down0 up down (more + 1) w e play) in (
+    is ∙ ap (λ page. act_fault a page e.side.sheets.entries) (page-is honest up0 down0 up down (more + least_line) w e play)
+    ∙ ap (act_fault a w.state.back.side.page) (sheets-are honest up0 down0 up down (more + least_line) w e play) in (
       never,
       after-ok result both.1,
       prints-same result taken taken1 (act_text number fault) (act_text number (act_fault a w.state.back.side.page (book_in w.state.back))) (ap (act_text number) says_same) ok err,
@@ -239,12 +234,12 @@ act-carries result fault honest honest1 up down up1 down1 taken taken1 e e1 numb
 
 -- or it was not made
 pub act-stops : (stop : Stop) (honest honest1 : Type 0) (up down up1 down1 : Pipe) (taken : Option (List ℕ)) (e e1 : Ends) (line : NumberedLine) (f : World RunState → World RunState)
-    → Spends {T = Option ActFault} (moment honest up down e) (moment honest1 up1 down1 e1) (Err stop) f
+    → Spends {T = Option ActFault} least_line (moment honest up down e) (moment honest1 up1 down1 e1) (Err stop) f
     → CarriesOut {T = Unit {0}} (scene (moment honest up down e) taken) (scene (moment honest1 up1 down1 e1) taken) line (Err stop)
 act-stops stop honest honest1 up down up1 down1 taken e e1 line f spends = λ up0 down0 more w play.
-    let plus : more + 1 ≡ suc more = omega arith in
-    let left : HasLeft play.fresh.spent (suc more) = subst (λ k. HasLeft play.fresh.spent k) plus play.both.left in
-    ((spends up0 down0 play.fresh (left-one more play.fresh left) play.in_run).0, tt, record { part = []; rest = line_text line.number line.form w; whole = refl; wrote = Appends-nil taken })
+    let cost : least_line ≤ line_cost line.form = cost-least line.form in
+    let left : HasLeft play.fresh.spent least_line = left-fewer play.fresh.spent least_line (more + line_cost line.form) (omega (arith, cost)) play.both.left in
+    ((spends up0 down0 play.fresh left play.in_run).0, tt, record { part = []; rest = line_text line.number line.form w; whole = refl; wrote = Appends-nil taken })
 
 -- the page itself is printed
 pub page-carries : (result : Result (Unit {0}) Stop) (honest : Type 0) (up down : Pipe) (taken taken1 : Option (List ℕ)) (e : Ends) (number : ℕ) (page : PageValue)
@@ -253,7 +248,7 @@ pub page-carries : (result : Result (Unit {0}) Stop) (honest : Type 0) (up down 
     → OnErr result (WrotePart taken taken1 (codes "# page" ++ 10 ∷ outline_text page_line (alone page.tree)))
     → CarriesOut (scene (moment honest up down e) taken) (scene (moment honest up down e) taken1) (line_of number show_page) result
 page-carries result honest up down taken taken1 e number page is never ok err = λ up0 down0 more w play.
-    let same : page ≡ w.state.back.side.page = is ∙ page-is honest up0 down0 up down (more + 1) w e play in
+    let same : page ≡ w.state.back.side.page = is ∙ page-is honest up0 down0 up down (more + least_line) w e play in
     let still = plays {T = Unit {0}} (Ok tt) honest honest up down up down e e (λ v. v) show_page tt (λ v. refl) (λ v. refl) (λ v. refl) (λ up0 down0 v few run. (tt, run)) up0 down0 more w play in (
       never,
       after-ok result still.1,
@@ -270,11 +265,11 @@ pub show-carries : (result : Result (Unit {0}) Stop) (honest honest1 : Type 0) (
     → CarriesOut (scene (moment honest up down e) taken) (scene (moment honest1 up1 down1 e1) taken1) (line_of number show_front) result
 show-carries result honest honest1 up down up1 down1 taken taken1 e e1 number tree settles same never ok err = λ up0 down0 more w play.
     let v : World RunState = play.fresh in
-    let after : InRun honest1 up0 down0 up1 down1 (refreshes front_fetcher v) e1 = settles up0 down0 v (left-none v.spent (more + 1) play.both.left) play.in_run in
-    let shown : ShownThen w e1.front.value = shown-settled honest1 up0 down0 up1 down1 (more + 1) w v e1 play.both after in
+    let after : InRun honest1 up0 down0 up1 down1 (refreshes front_fetcher v) e1 = settles up0 down0 v (left-none v.spent (more + least_line) play.both.left) play.in_run in
+    let shown : ShownThen w e1.front.value = shown-settled honest1 up0 down0 up1 down1 (more + least_line) w v e1 play.both after in
     let shows : tree ≡ (view_of (settled run_step w).state.back).tree = same ∙ shown.has.tree in
     let both = plays {T = Unit {0}} (Ok tt) honest honest1 up down up1 down1 e e1 (refreshes front_fetcher) show_front tt (λ v. refl) refreshed-told (λ v. refl)
-    (λ up0 down0 v few run. (tt, settles up0 down0 v (left-none v.spent 1 few) run)) up0 down0 more w play in (
+    (λ up0 down0 v few run. (tt, settles up0 down0 v (left-none v.spent least_line few) run)) up0 down0 more w play in (
       never,
       after-ok result both.1,
       prints-same result taken taken1 (codes "# front" ++ 10 ∷ outline_text seen_line tree) (codes "# front" ++ 10 ∷ outline_text seen_line (view_of (settled run_step w).state.back).tree)
@@ -290,12 +285,12 @@ pub sheets-carries : (result : Result (Unit {0}) Stop) (honest honest1 : Type 0)
     → CarriesOut (scene (moment honest up down e) taken) (scene (moment honest1 up1 down1 e1) taken1) (line_of number show_sheets) result
 sheets-carries result honest honest1 up down up1 down1 taken taken1 e e1 number sheets settles same never ok err = λ up0 down0 more w play.
     let v : World RunState = play.fresh in
-    let after : InRun honest1 up0 down0 up1 down1 (refreshes front_fetcher v) e1 = settles up0 down0 v (left-none v.spent (more + 1) play.both.left) play.in_run in
-    let shown : ShownThen w e1.front.value = shown-settled honest1 up0 down0 up1 down1 (more + 1) w v e1 play.both after in
+    let after : InRun honest1 up0 down0 up1 down1 (refreshes front_fetcher v) e1 = settles up0 down0 v (left-none v.spent (more + least_line) play.both.left) play.in_run in
+    let shown : ShownThen w e1.front.value = shown-settled honest1 up0 down0 up1 down1 (more + least_line) w v e1 play.both after in
     let shows : known_lines sheets ≡ sheet_lines (sheets_shown (settled run_step w).state.back) =
     ap known_lines same ∙ fresh-lines e1.front.value.sheets (sheets_shown (settled run_step w).state.back) shown.has.sheets shown.fresh in
     let both = plays {T = Unit {0}} (Ok tt) honest honest1 up down up1 down1 e e1 (refreshes front_fetcher) show_sheets tt (λ v. refl) refreshed-told (λ v. refl)
-    (λ up0 down0 v few run. (tt, settles up0 down0 v (left-none v.spent 1 few) run)) up0 down0 more w play in (
+    (λ up0 down0 v few run. (tt, settles up0 down0 v (left-none v.spent least_line few) run)) up0 down0 more w play in (
       never,
       after-ok result both.1,
       prints-same result taken taken1 (codes "# sheets" ++ 10 ∷ known_lines sheets) (codes "# sheets" ++ 10 ∷ sheet_lines (sheets_shown (settled run_step w).state.back))
@@ -307,7 +302,7 @@ pub show-stops : (stop : Stop) (honest honest1 : Type 0) (up down up1 down1 : Pi
     → ((up0 down0 : Pipe) (w : World RunState) → HasLeft w.spent 0 → InRun honest up0 down0 up down w e → GoesWell {T = Unit {0}} (Err stop))
     → CarriesOut {T = Unit {0}} (scene (moment honest up down e) taken) (scene (moment honest1 up1 down1 e1) taken) line (Err stop)
 show-stops stop honest honest1 up down up1 down1 taken e e1 line never = λ up0 down0 more w play.
-    (never up0 down0 play.fresh (left-none play.fresh.spent (more + 1) play.both.left) play.in_run, tt, record { part = []; rest = line_text line.number line.form w; whole = refl; wrote = Appends-nil taken })
+    (never up0 down0 play.fresh (left-none play.fresh.spent (more + line_cost line.form) play.both.left) play.in_run, tt, record { part = []; rest = line_text line.number line.form w; whole = refl; wrote = Appends-nil taken })
 
 -- ---- the replies and the pauses
 
@@ -371,13 +366,13 @@ record BeforeTold (honest1 : Type 0) (up0 down0 up1 down1 : Pipe) (w v : World R
   told : (ends_of e1).told ≡ w.told
 
 before-told : (honest honest1 : Type 0) (up0 down0 up down up1 down1 : Pipe) (more : ℕ) (w : World RunState) (e e1 : Ends)
-    → SettlesTo honest honest1 up down up1 down1 e e1 → (play : InPlay honest up0 down0 up down (more + 1) w e) → BeforeTold honest1 up0 down0 up1 down1 w play.fresh e1
+    → SettlesTo honest honest1 up down up1 down1 e e1 → (play : InPlay honest up0 down0 up down (more + least_line) w e) → BeforeTold honest1 up0 down0 up1 down1 w play.fresh e1
 before-told honest honest1 up0 down0 up down up1 down1 more w e e1 settles play =
     let v : World RunState = play.fresh in
-    let after : InRun honest1 up0 down0 up1 down1 (refreshes front_fetcher v) e1 = settles up0 down0 v (left-none v.spent (more + 1) play.both.left) play.in_run in
+    let after : InRun honest1 up0 down0 up1 down1 (refreshes front_fetcher v) e1 = settles up0 down0 v (left-none v.spent (more + least_line) play.both.left) play.in_run in
     record {
       after = after;
-      shown = shown-settled honest1 up0 down0 up1 down1 (more + 1) w v e1 play.both after;
+      shown = shown-settled honest1 up0 down0 up1 down1 (more + least_line) w v e1 play.both after;
       told = after.so_far.in_world.told_is ∙ refreshed-told v ∙ play.told_is;
     }
 
@@ -388,14 +383,13 @@ told_to n v = record { state = v.state; up = v.up; down = v.down; spent = v.spen
 -- what was printed counts as told, in both runs alike
 told-play : (line : LineForm) (honest1 : Type 0) (up0 down0 up1 down1 : Pipe) (more : ℕ) (w v : World RunState) (e1 e2 : Ends) (n : AlreadyTold)
     → IsLater line → fresh_line front_fetcher line v ≡ told_to (fresh_line front_fetcher line v).told (refreshes front_fetcher v)
-    → Together IsPlainFrame (more + 1) w v → InRun honest1 up0 down0 up1 down1 (refreshes front_fetcher v) e1
+    → Together IsPlainFrame (more + line_cost line) w v → InRun honest1 up0 down0 up1 down1 (refreshes front_fetcher v) e1
     → ends_of e2 ≡ record (ends_of e1) { told = n } → e2.splitter ≡ e1.splitter → n ≡ (after_line line w).told
     → InPlay honest1 up0 down0 up1 down1 more (after_line line w) e2
 told-play line honest1 up0 down0 up1 down1 more w v e1 e2 n later is both after told same counts =
-    let plus : more + 1 ≡ suc more = omega arith in
     let v1 = refreshes front_fetcher v in
     let together : Together IsPlainFrame more (after_line line w) (told_to (fresh_line front_fetcher line v).told v1) =
-    subst (Together IsPlainFrame more (after_line line w)) is (play-line line more w v later (subst (λ k. Together IsPlainFrame k w v) plus both)) in
+    subst (Together IsPlainFrame more (after_line line w)) is (play-line line more w v later both) in
     let whole : e1.splitter.whole ≡ e2.splitter.whole = ap (λ (f : Frames). f.whole) (sym same) in
     record {
       fresh = told_to n v1;
@@ -534,6 +528,13 @@ few-lines input first more limit lines few =
     let count : length (lines_of input) ≡ suc (length more) = ap length lines in
     omega (arith, all, count, few)
 
+-- nor in them
+pub few-bytes : (input first : List ℕ) (more : List (List ℕ)) (limit : ℕ) → lines_of input ≡ first ∷ more → length input ≤ limit → line_bytes more ≤ limit
+few-bytes input first more limit lines few =
+    let all : line_bytes (lines_of input) ≤ length input = bytes-lines_of input in
+    let count : line_bytes (lines_of input) ≡ line_bytes more + length first = ap line_bytes lines in
+    omega (arith, all, count, few)
+
 -- ---- the start
 
 -- the ends of a page that was just loaded
@@ -561,19 +562,29 @@ pub record IsNewSide (seat : Seat) (side : PageSide) (page : LoadedPage) : Type 
   pub css : seat.desk.css ≡ false
   pub agent_is : seat.desk.agent ≡ empty_from 1
   pub watches_are : seat.desk.watches ≡ unwatched
+  pub history_is : seat.history ≡ no_marks
 
 -- the seat stands for it
 pub stands-first : (page : LoadedPage) (seat : Seat) (side : PageSide) → CanLoadPage page → PageHasTexts page → IsNewSide seat side page → StandsFor seat side (loaded_state page)
-stands-first page seat side can texts new = record {
-  is_state = IsState-first page can texts;
-  page_is = new.page_is;
-  sheets_are = new.sheets_are;
-  next_is = new.next_is;
-  on_is = new.off;
-  css_is = new.css;
-  watches_are = new.watches_are;
-  stands = subst (λ b. Stands (nodes_in (loaded_state page)) begun b) (sym new.agent_is) (Stands-begun (nodes_in (loaded_state page)));
-}
+stands-first page seat side can texts new =
+    let is = IsState-first page can texts in
+    record {
+      stands = record {
+        now = is.now;
+        page_is = new.page_is;
+        sheets_are = new.sheets_are;
+        next_is = new.next_is;
+        on_is = new.off;
+        css_is = new.css;
+        watches_are = new.watches_are;
+        stands = subst (λ b. Stands (nodes_in (loaded_state page)) begun b) (sym new.agent_is) (Stands-begun (nodes_in (loaded_state page)));
+      };
+      kept = record { edits = new.history_is; history = is.history };
+    }
+
+-- so it stands for some state
+pub seated-first : (page : LoadedPage) (seat : Seat) (side : PageSide) → CanLoadPage page → PageHasTexts page → IsNewSide seat side page → IsSeated seat side
+seated-first page seat side can texts new = λ alive. ∣ (loaded_state page, stands-first page seat side can texts new) ∣₁
 
 nothing-awaited : (page : LoadedPage) → awaited (loaded_world page).up ≡ []
 unfolding frames_of
@@ -597,8 +608,8 @@ begins honest up down page e is_honest can texts up_level down_level new splitte
       none_whole = none;
     }
 
--- so both runs begin, with room for so many lines
-pub play-begins : (honest : Type 0) (up down : Pipe) (page : LoadedPage) (lines : ℕ) (e : Ends) → CanLoadPage page → PageHasTexts page → lines ≤ most_asks
+-- so both runs begin, with room for lines of so many bytes
+pub play-begins : (honest : Type 0) (up down : Pipe) (page : LoadedPage) (lines : ℕ) (e : Ends) → CanLoadPage page → PageHasTexts page → lines ≤ most_bytes
     → InRun honest up down up down (loaded_world page) e → InPlay honest up down up down lines (loaded_world page) e
 play-begins honest up down page lines e can texts few run =
     record { fresh = loaded_world page; both = play-loaded page lines can texts few; in_run = run; told_is = refl }

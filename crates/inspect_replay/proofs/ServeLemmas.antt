@@ -16,7 +16,7 @@ use Rattle.back_end.specs.States.{State}
 use Rattle.back_end.specs.Steps.{Stepped, frame_step}
 use Rattle.back_end.specs.Seats.{StandsFor, first_page}
 use Rattle.inspect_world.specs.World.{steps}
-use Rattle.inspect_replay.specs.declared.serve.Service.{Service}
+use Rattle.inspect_replay.specs.declared.service.Service.{Service}
 use Rattle.inspect_replay.specs.declared.stop.Stop.{Stop}
 use Rattle.inspect_replay.specs.Serving.{first_served, served_step, served_run, served, IsServing, ServeMoment, serve_moment, SoFar, with_more, Serves, Answered, PartServed, ServesOn}
 use Rattle.inspect_replay.proofs.RunLemmas.{IsNewSide, stands-first}

@@ -11,6 +11,7 @@ use Rattle.replay_script.specs.Forms.{show_styles}
 use Rattle.replay_script.specs.Script.{numbered_or, styles_missing, styles_fault}
 use Rattle.inspect_world.specs.World.{World, settled}
 use Rattle.inspect_world.specs.RunStates.{RunState, styles_under, run_step}
+use Rattle.inspect_world.specs.Costs.{least_line}
 use Rattle.inspect_world.specs.Fits.{kept_styles}
 use Rattle.inspect_world.specs.FreshRuns.{front_fetcher, refreshes}
 use Rattle.inspect_world.specs.Scripts.{styles_at, styles_shown}
@@ -69,11 +70,11 @@ pub styles-carry : (result : Result (Unit {0}) Stop) (number ask : ℕ) (found :
     → CarriesLine (scene (moment honest up down e) taken) (scene (moment honest1 up1 down1 e1) taken1) (line_of number (show_styles ask)) result
 styles-carry result number ask found honest honest1 up down up1 down1 taken taken1 e e1 settles is took tells = λ up0 down0 more w play.
     let v : World RunState = play.fresh in
-    let after : InRun honest1 up0 down0 up1 down1 (refreshes front_fetcher v) e1 = settles up0 down0 v (left-none v.spent (more + 1) play.both.left) play.in_run in
-    let shown : ShownThen w e1.front.value = shown-settled honest1 up0 down0 up1 down1 (more + 1) w v e1 play.both after in
+    let after : InRun honest1 up0 down0 up1 down1 (refreshes front_fetcher v) e1 = settles up0 down0 v (left-none v.spent (more + least_line) play.both.left) play.in_run in
+    let shown : ShownThen w e1.front.value = shown-settled honest1 up0 down0 up1 down1 (more + least_line) w v e1 play.both after in
     let same : found ≡ styles_at ask (settled run_step w) = is ∙ shown-styles w e1 ask shown in
     let both = plays {T = Unit {0}} (Ok tt) honest honest1 up down up1 down1 e e1 (refreshes front_fetcher) (show_styles ask) tt (λ v. refl) refreshed-told (λ v. refl)
-    (λ up0 down0 v few run. (tt, settles up0 down0 v (left-none v.spent 1 few) run)) up0 down0 more w play in (
+    (λ up0 down0 v few run. (tt, settles up0 down0 v (left-none v.spent least_line few) run)) up0 down0 more w play in (
       after-ok result both.1,
       subst (λ o. RunTook result taken taken1 (styles_shown ask o)) same took,
       subst (λ o. RunTells result (numbered_or number (styles_missing (is_some o)) None)) same tells,

@@ -1,5 +1,5 @@
 -- What the parts of a run over an honest link take it to, and print.
-use Rattle.std.specs.Prelude.{◌≡◌, ◌+◌, ℕ, List, length, Option, Some, None, Result, Ok, Err, OnOk, ⊤}
+use Rattle.std.specs.Prelude.{◌≡◌, ◌+◌, ℕ, List, Option, Some, None, Result, Ok, Err, OnOk, ⊤}
 use Rattle.pipe_frames.specs.Pipe.{Pipe}
 use Rattle.page_forms.specs.Pages.{LoadedPage}
 use Rattle.replay_script.specs.Forms.{LineForm, load, ask, show_front, show_page, show_sheets, show_replies, show_pauses, show_styles}
@@ -8,6 +8,7 @@ use Rattle.replay_script.specs.declared.faults.LineFault.{LineFault}
 use Rattle.replay_script.specs.Script.{numbered_or, first_bad, good_lines}
 use Rattle.inspect_world.specs.World.{World}
 use Rattle.inspect_world.specs.RunStates.{RunState}
+use Rattle.inspect_world.specs.Costs.{line_cost, line_bytes}
 use Rattle.inspect_world.specs.Scripts.{after_line, after_lines, line_text, lines_text, closing_text, lacking, shown_lines, rest_refused}
 use Rattle.inspect_replay.specs.declared.stop.Stop.{Stop}
 use Rattle.inspect_replay.specs.Says.{Phase, untouched, reading, underway, ended, anywhen, says, status_of}
@@ -28,7 +29,7 @@ line_of number form = record { number = number; form = form }
 -- a line is carried out, and prints what it prints
 abbrev pub CarriesOut : {T : Type 0} → Scene → Scene → NumberedLine → Result T Stop → Type 0
 CarriesOut old new line result =
-    (up0 down0 : Pipe) (more : ℕ) (w : World RunState) → InPlay old.now.honest up0 down0 old.now.up old.now.down (more + 1) w old.now.ends
+    (up0 down0 : Pipe) (more : ℕ) (w : World RunState) → InPlay old.now.honest up0 down0 old.now.up old.now.down (more + line_cost line.form) w old.now.ends
     → GoesWell result
     × OnOk result (InPlay new.now.honest up0 down0 new.now.up new.now.down more (after_line line.form w) new.now.ends)
     × Prints result old.taken new.taken (line_text line.number line.form w)
@@ -36,7 +37,7 @@ CarriesOut old new line result =
 -- the same of any line: one that shows what did not come is refused, and nothing is printed of it
 abbrev pub CarriesLine : {T : Type 0} → Scene → Scene → NumberedLine → Result T Stop → Type 0
 CarriesLine old new line result =
-    (up0 down0 : Pipe) (more : ℕ) (w : World RunState) → InPlay old.now.honest up0 down0 old.now.up old.now.down (more + 1) w old.now.ends
+    (up0 down0 : Pipe) (more : ℕ) (w : World RunState) → InPlay old.now.honest up0 down0 old.now.up old.now.down (more + line_cost line.form) w old.now.ends
     → OnOk result (InPlay new.now.honest up0 down0 new.now.up new.now.down more (after_line line.form w) new.now.ends)
     × RunTook result old.taken new.taken (line_text line.number line.form w)
     × RunTells result (numbered_or line.number (lacking line.form w) None)
@@ -44,7 +45,7 @@ CarriesLine old new line result =
 -- the lines after the load are carried out, up to the first that is refused
 abbrev pub RunsLines : {T : Type 0} → Scene → Scene → List (List ℕ) → Result T Stop → Type 0
 RunsLines old new lines result =
-    (up0 down0 : Pipe) (w : World RunState) → InPlay old.now.honest up0 down0 old.now.up old.now.down (length lines) w old.now.ends
+    (up0 down0 : Pipe) (w : World RunState) → InPlay old.now.honest up0 down0 old.now.up old.now.down (line_bytes lines) w old.now.ends
     → OnOk result (InPlay new.now.honest up0 down0 new.now.up new.now.down 0
     (after_lines (shown_lines (good_lines 2 lines) w) w) new.now.ends)
     × RunTook result old.taken new.taken (lines_text 2 (shown_lines (good_lines 2 lines) w) w)

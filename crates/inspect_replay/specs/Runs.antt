@@ -44,10 +44,10 @@ Steps old new result f =
     (up0 down0 : Pipe) (w : World RunState) → InRun old.honest up0 down0 old.up old.down w old.ends
     → GoesWell result × OnOk result (InRun new.honest up0 down0 new.up new.down (f w) new.ends)
 
--- the same of a call that sends a frame or makes a step of the script, while there is room for one
-abbrev pub Spends : {T : Type 0} → Moment → Moment → Result T Stop → (World RunState → World RunState) → Type 0
-Spends old new result f =
-    (up0 down0 : Pipe) (w : World RunState) → HasLeft w.spent 1 → InRun old.honest up0 down0 old.up old.down w old.ends
+-- the same of a call that sends a frame or makes a step of the script, while there is room for a line of so many bytes
+abbrev pub Spends : {T : Type 0} → ℕ → Moment → Moment → Result T Stop → (World RunState → World RunState) → Type 0
+Spends bytes old new result f =
+    (up0 down0 : Pipe) (w : World RunState) → HasLeft w.spent bytes → InRun old.honest up0 down0 old.up old.down w old.ends
     → GoesWell result × OnOk result (InRun new.honest up0 down0 new.up new.down (f w) new.ends)
 
 -- the same of a call that answers the frames that came up whole
@@ -106,9 +106,9 @@ Refreshes old new result =
 -- ---- beside the run that the report tells
 
 -- The run that the report tells has come to w, and over an honest link the run with fetches to a world that goes together with
--- w; so many lines more may be carried out. As many replies and pauses were told in both.
-pub record InPlay (honest : Type 0) (up0 down0 up down : Pipe) (lines : ℕ) (w : World RunState) (e : Ends) : Type 0 where
+-- w; lines of so many bytes more may be carried out. As many replies and pauses were told in both.
+pub record InPlay (honest : Type 0) (up0 down0 up down : Pipe) (bytes : ℕ) (w : World RunState) (e : Ends) : Type 0 where
   pub fresh : World RunState
-  pub both : Together IsPlainFrame lines w fresh
+  pub both : Together IsPlainFrame bytes w fresh
   pub in_run : InRun honest up0 down0 up down fresh e
   pub told_is : fresh.told ≡ w.told

@@ -8,7 +8,7 @@ use Rattle.back_end.specs.States.{State, loaded_state}
 use Rattle.back_end.specs.Steps.{Stepped, as_bytes, frame_step}
 use Rattle.back_end.specs.Seats.{StandsFor, first_page}
 use Rattle.inspect_world.specs.World.{steps}
-use Rattle.inspect_replay.specs.declared.serve.Service.{Service}
+use Rattle.inspect_replay.specs.declared.service.Service.{Service}
 use Rattle.inspect_replay.specs.Says.{Counts}
 use Rattle.inspect_replay.specs.declared.status.Status.{Status}
 use Rattle.inspect_replay.specs.declared.status.Status.TheVariants as status

@@ -3,10 +3,10 @@ ghost use Rattle.serde_json.specs.View.{view};
 ghost use Rattle.cdp_messages.specs.Asked.{is_whole_where_there};
 ghost use Rattle.node_binding.specs.Bindings.{empty_from};
 ghost use Rattle.dom_breakpoints.specs.Watched.{unwatched};
+ghost use Rattle.undo_marks.specs.Marks.{no_marks};
 ghost use Rattle.front_mirror.specs.Front.{first_state, matched_in};
 ghost use Rattle.front_mirror.specs.Sheets.{has_sheet, stale_of};
 ghost use Rattle.replay_script.specs.Seen.{seen_ask};
-ghost use Rattle.inspect_replay.specs.Stops.{HasStopCause};
 ghost use Rattle.inspect_world.specs.World.{delivered_up, delivered_down, settled};
 ghost use Rattle.pipe_frames.specs.Frames.{IsText, framed};
 ghost use Rattle.page_tree.specs.Pages.{loaded};
@@ -18,11 +18,12 @@ ghost use Rattle.back_end.specs.Plans.{act_fault};
 ghost use Rattle.back_end.specs.Laws.{IsTurn};
 ghost use Rattle.inspect_world.specs.World.{raw, turned};
 ghost use Rattle.inspect_world.specs.Fits.{IsBare};
+ghost use Rattle.inspect_world.specs.Costs.{ask_cost, least_line};
 ghost use Rattle.inspect_world.specs.Scripts.{sends};
 ghost use Rattle.inspect_world.specs.ScriptsFit.{CanSend};
-ghost use Rattle.inspect_replay.specs.Runs.{Steps, Spends, TakesUp, AnswersAll, AnswersOne, SendsFetch, FetchesText, FetchesOne, FetchesAll, Refreshes};
-ghost use Rattle.inspect_replay.specs.Moments.{moment};
-ghost use Rattle.inspect_replay.specs.Followed.{KeepsFollowing, LineFollows, KeepsFollowingWith, FollowsAnswers, FollowsAnswer};
+ghost use Rattle.back_end.specs.Seats.{IsSeated};
+ghost use Rattle.page_forms.specs.Texts.{PageHasTexts};
+ghost use Rattle.undo_marks.specs.Marks.{no_marks};
 
 use crate::pipes::{receive_down, receive_up, send_down, send_up};
 use crate::stop::Stop;
@@ -35,7 +36,7 @@ use replay_script::Ask;
 use std::alloc::{AllocError, Global};
 
 /// The two ends of the link, how many bytes of each pipe were sent and not given, and how many of the replies and of the
-/// pauses were told.
+/// pauses were told. The seat stands for the page's side, as long as it is not dead.
 #[derive(Drop)]
 pub(crate) struct Ends {
     pub(crate) alloc: Global,
@@ -47,6 +48,7 @@ pub(crate) struct Ends {
     pub(crate) down_there: u64,
     pub(crate) told: usize,
     pub(crate) told_pauses: usize,
+    ghost seated: { IsSeated seat side },
 }
 
 // A text as it is sent.
@@ -59,9 +61,15 @@ fn framed(alloc: Global, text: &str) -> Result<Vec<u8>, AllocError>
 }
 
 impl Ends {
+    ghost use Rattle.inspect_replay.specs.Stops.{HasStopCause};
+    ghost use Rattle.inspect_replay.specs.Runs.{Steps, Spends, TakesUp, AnswersAll, AnswersOne, SendsFetch, FetchesText, FetchesOne, FetchesAll, Refreshes};
+    ghost use Rattle.inspect_replay.specs.Moments.{moment};
+    ghost use Rattle.inspect_replay.specs.Followed.{KeepsFollowing, LineFollows, KeepsFollowingWith, FollowsAnswers, FollowsAnswer};
+
     /// Both ends of a page that is loaded, with serials and numbers of sheets from 1 on.
     pub(crate) fn new(alloc: Global, form: PageForm) -> Result<Ends, AllocError>
         requires can { CanLoadPage (loaded_page form) }
+        requires texts { PageHasTexts (loaded_page form) }
         ensures page { IfOk result (λ ends. ends.side.page ≡ loaded 1 (loaded_nodes form)) }
         ensures sheets { IfOk result (λ ends. ends.side.sheets.entries ≡ as_book (numbered_sheets 1 (loaded_sheets form))) }
         ensures numbers { IfOk result (λ ends. ends.side.sheets.next ≡ 1 + length (loaded_sheets form)) }
@@ -69,6 +77,7 @@ impl Ends {
         ensures css { IfOk result (λ ends. ends.seat.desk.css ≡ false) }
         ensures agent { IfOk result (λ ends. ends.seat.desk.agent ≡ empty_from 1) }
         ensures watches { IfOk result (λ ends. ends.seat.desk.watches ≡ unwatched) }
+        ensures history { IfOk result (λ ends. ends.seat.history ≡ no_marks) }
         ensures splitter { IfOk result (λ ends. ends.splitter ≡ record { whole = []; rest = [] }) }
         ensures front { IfOk result (λ ends. ends.front ≡ first_state) }
         ensures up { IfOk result (λ ends. ends.up_there ≡ 0) }
@@ -154,7 +163,7 @@ impl Ends {
         ensures cause { HasStopCause 0 0 (L.faults link.old) (L.faults link.new) result }
         ensures follows { KeepsFollowing (moment (L.honest link.old) (L.up link.old) (L.down link.old) self.old)
             (moment (L.honest link.new) (L.up link.new) (L.down link.new) self.new) result }
-        ensures steps { Spends (moment (L.honest link.old) (L.up link.old) (L.down link.old) self.old)
+        ensures steps { Spends (ask_cost (seen_ask ask.now)) (moment (L.honest link.old) (L.up link.old) (L.down link.old) self.old)
             (moment (L.honest link.new) (L.up link.new) (L.down link.new) self.new) result (λ w. sends (seen_ask ask.now) w) }
     {
         if !self.front.has_room() {
@@ -185,7 +194,7 @@ impl Ends {
         ensures cause { HasStopCause 0 0 (L.faults link.old) (L.faults link.new) result }
         ensures follows { KeepsFollowing (moment (L.honest link.old) (L.up link.old) (L.down link.old) self.old)
             (moment (L.honest link.new) (L.up link.new) (L.down link.new) self.new) result }
-        ensures steps { Spends (moment (L.honest link.old) (L.up link.old) (L.down link.old) self.old)
+        ensures steps { Spends least_line (moment (L.honest link.old) (L.up link.old) (L.down link.old) self.old)
             (moment (L.honest link.new) (L.up link.new) (L.down link.new) self.new) result (λ w. raw text.now w) }
     {
         let frame = framed(self.alloc, text)?;
@@ -213,7 +222,7 @@ impl Ends {
         ensures cause { HasStopCause 0 0 (L.faults link.old) (L.faults link.new) result }
         ensures follows { LineFollows (moment (L.honest link.old) (L.up link.old) (L.down link.old) self.old)
             (moment (L.honest link.new) (L.up link.new) (L.down link.new) self.new) result }
-        ensures steps { Spends (moment (L.honest link.old) (L.up link.old) (L.down link.old) self.old)
+        ensures steps { Spends least_line (moment (L.honest link.old) (L.up link.old) (L.down link.old) self.old)
             (moment (L.honest link.new) (L.up link.new) (L.down link.new) self.new) result (λ w. turned run_turn (acts act) w) }
     {
         if !self.seat.has_room(&self.side) {
@@ -240,7 +249,7 @@ impl Ends {
         ensures cause { HasStopCause 0 0 (L.faults link.old) (L.faults link.new) result }
         ensures follows { LineFollows (moment (L.honest link.old) (L.up link.old) (L.down link.old) self.old)
             (moment (L.honest link.new) (L.up link.new) (L.down link.new) self.new) result }
-        ensures steps { Spends (moment (L.honest link.old) (L.up link.old) (L.down link.old) self.old)
+        ensures steps { Spends least_line (moment (L.honest link.old) (L.up link.old) (L.down link.old) self.old)
             (moment (L.honest link.new) (L.up link.new) (L.down link.new) self.new) result (λ w. turned run_turn (loads (loaded_page form)) w) }
     {
         if !self.seat.has_room(&self.side) {
@@ -353,7 +362,7 @@ impl Ends {
             Err(stop) => return Err(stop),
         };
         self.down_there = self.down_there.saturating_sub(piece.len() as u64);
-        match self.front.take(&piece) {
+        match self.front.take_owned(piece) {
             Ok(()) => Ok(()),
             Err(FrontErr::Fault(refused)) => Err(Stop::FrontRefused {
                 place: refused.place,

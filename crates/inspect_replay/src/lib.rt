@@ -9,6 +9,7 @@ mod pipes;
 mod program;
 mod run;
 mod serve;
+mod service;
 mod sheet_lines;
 mod show;
 mod status;

@@ -4,6 +4,7 @@ ghost use Rattle.pipe_frames.specs.Whole.{ReadPart};
 ghost use Rattle.replay_script.specs.Script.{script_refused};
 ghost use Rattle.inspect_world.specs.Links.{came_styles};
 ghost use Rattle.inspect_world.specs.Scripts.{report, report_refused};
+ghost use Rattle.inspect_world.specs.ScriptsFit.{UndoRestoresInRuns};
 ghost use Rattle.inspect_replay.specs.Words.{is_replay, is_serve};
 ghost use Rattle.inspect_replay.specs.declared.status.Status.TheVariants.{Done, Usage};
 ghost use Rattle.inspect_replay.specs.Followed.{StatusFolds, EndsShown, AnswersInOrder, GivesNoMore, fold_since};
@@ -16,6 +17,7 @@ use crate::serve::serve;
 use crate::status::Status;
 use crate::stop::Stop;
 use crate::words::{is_replay, is_serve};
+use inspect_world::fits_law;
 use pipe_frames::{Link, ReadErr, Sink, Source, read_all};
 use replay_script::has_long_line;
 use std::alloc::Global;
@@ -43,6 +45,8 @@ pub fn inspect<S: Source, K: Sink, L: Link>(
     ensures report { L.honest link.old → IsLevel (L.up link.old) → IsLevel (L.down link.old)
         → (input : List ℕ) → S.left src.old ≡ Some input → is_replay (map string_bytes words.now) ≡ true
         → Took result (K.taken out.old) (K.taken out.new) (report input) }
+    // its half on undo: at each moment of the run that is reported, an undo leads to the very tree and texts that were saved
+    ensures restores { UndoRestoresInRuns }
     // over an honest link no message is refused, and there is always room, whatever the source tells of its bytes
     ensures sound { L.honest link.old → IsLevel (L.up link.old) → IsLevel (L.down link.old) → IsHonest result }
     // over every link: a message is refused exactly where the fold of the bytes sent up and given down refuses it; and no room
@@ -97,6 +101,8 @@ pub fn inspect<S: Source, K: Sink, L: Link>(
     ensures serve_status { is_serve (map string_bytes words.now) ≡ true → IsServeStatus result }
     ensures serve_unlinked { is_serve (map string_bytes words.now) ≡ true → link.new ≡ link.old }
 {
+    // Called for the proof alone: the law is what `restores` says.
+    fits_law();
     if is_replay(words) {
         return replay(alloc, src, out, link);
     }

@@ -13,6 +13,7 @@ ghost use Rattle.replay_script.specs.Seen.{seen, seen_ask};
 ghost use Rattle.page_forms.specs.Texts.{PageHasTexts};
 ghost use Rattle.inspect_world.specs.ScriptsFit.{CanSend, IsLater};
 ghost use Rattle.inspect_world.specs.World as world;
+ghost use Rattle.inspect_world.specs.Costs.{ask_cost, least_line, line_bytes};
 ghost use Rattle.inspect_world.specs.Scripts.{report, report_refused, rest_text, rest_refused, loaded_world, sends};
 ghost use Rattle.inspect_replay.specs.Runs.{Spends};
 ghost use Rattle.inspect_replay.specs.Stops.{HasStopCause, HasRunCause};
@@ -191,7 +192,7 @@ fn carry_ask<L: Link>(ends: &mut Ends, link: &mut L, sent: Ask) -> Result<(), St
     ensures cause { HasStopCause 0 0 (L.faults link.old) (L.faults link.new) result }
     ensures follows { KeepsFollowing (moment (L.honest link.old) (L.up link.old) (L.down link.old) ends.old)
         (moment (L.honest link.new) (L.up link.new) (L.down link.new) ends.new) result }
-    ensures steps { Spends (moment (L.honest link.old) (L.up link.old) (L.down link.old) ends.old)
+    ensures steps { Spends (ask_cost (seen_ask sent)) (moment (L.honest link.old) (L.up link.old) (L.down link.old) ends.old)
         (moment (L.honest link.new) (L.up link.new) (L.down link.new) ends.new) result (λ w. sends (seen_ask sent) w) }
 {
     ends.ask(link, &sent)
@@ -205,7 +206,7 @@ fn carry_raw<L: Link>(ends: &mut Ends, link: &mut L, text: Text) -> Result<(), S
     ensures cause { HasStopCause 0 0 (L.faults link.old) (L.faults link.new) result }
     ensures follows { KeepsFollowing (moment (L.honest link.old) (L.up link.old) (L.down link.old) ends.old)
         (moment (L.honest link.new) (L.up link.new) (L.down link.new) ends.new) result }
-    ensures steps { Spends (moment (L.honest link.old) (L.up link.old) (L.down link.old) ends.old)
+    ensures steps { Spends least_line (moment (L.honest link.old) (L.up link.old) (L.down link.old) ends.old)
         (moment (L.honest link.new) (L.up link.new) (L.down link.new) ends.new) result (λ w. world.raw text w) }
 {
     ends.send_raw(link, text.as_str())
@@ -391,6 +392,7 @@ fn run_loaded<K: Sink, L: Link>(
     requires can { CanLoadPage (loaded_page form) }
     requires texts { PageHasTexts (loaded_page form) }
     requires few { length lines ≤ 2 ^ 26 }
+    requires short { line_bytes lines ≤ 2 ^ 26 }
     ensures tells { RunTells result
         (first_refused (came_styles (fold_since (L.up link.old) (L.down link.old) (L.up link.new) (L.down link.new)).fold) 2 lines.entry) }
     ensures stops { L.honest link.old → IsLevel (L.up link.old) → IsLevel (L.down link.old)

@@ -4,154 +4,21 @@ ghost use Rattle.std.specs.Io.KnownBytes.{Consumes, IsAtEnd, Keeps};
 ghost use Rattle.pipe_frames.specs.Fault.{Rose};
 ghost use Rattle.pipe_frames.specs.Whole.{ReadPart};
 ghost use Rattle.inspect_replay.specs.Answers.{StatusRose};
-ghost use Rattle.inspect_replay.specs.Serving.{IsServing, SoFar, Serves, IsServeStatus, AnswersFrames, TakesPiece, ServeTook, HasServed, HasServeCause, HasWriteCause, PieceServed, EndIsMet, serve_moment};
+ghost use Rattle.inspect_replay.specs.Serving.{IsServeStatus, ServeTook, HasServed, HasServeCause, EndIsMet};
 ghost use Rattle.inspect_replay.specs.declared.stop.Stop.TheVariants.{ReadFault, Memory};
 
-use crate::program::{INPUT_LIMIT, status_of};
+use crate::program::status_of;
+use crate::service::Service;
 use crate::status::Status;
 use crate::stop::Stop;
-use back_end::{PageSide, Seat};
-use pipe_frames::{OutErr, Sink, Source, Splitter, write_all};
+use pipe_frames::{Sink, Source};
 use std::alloc::{AllocError, Global};
 
 /// How many bytes a read asks for at most.
 const PIECE: usize = 65536;
 
-/// A back end with one client, and what came of a frame that is not whole.
-#[derive(Drop)]
-pub(crate) struct Service {
-    pub(crate) alloc: Global,
-    pub(crate) side: PageSide,
-    pub(crate) seat: Seat,
-    pub(crate) splitter: Splitter,
-}
-
-impl Service {
-    /// The back end of a page of one document without children, which has the serial 1.
-    fn new(alloc: Global) -> Result<Service, AllocError>
-        ensures first { IfOk result (λ service. IsServing service []) }
-    {
-        let side = PageSide::new(alloc, None)?;
-        Ok(Service {
-            alloc,
-            side,
-            seat: Seat::new(alloc),
-            splitter: Splitter::new(alloc),
-        })
-    }
-
-    /// Answers one frame: the answer is written before the call ends.
-    fn answer<K: Sink>(&mut self, frame: &[u8], out: &mut K) -> Result<(), Stop>
-        ensures same { self.new.splitter ≡ self.old.splitter }
-        ensures answers { AnswersFrames (serve_moment self.old (K.taken out.old)) (serve_moment self.new (K.taken out.new)) (frame.now ∷ []) result }
-        ensures cause { HasWriteCause (K.faults out.old) (K.faults out.new) result }
-    {
-        if !self.seat.has_room(&self.side) {
-            return Err(Stop::Memory);
-        }
-        let mut message = Vec::new(self.alloc);
-        self.seat
-            .take_message(&mut self.side, frame, true, &mut message)?;
-        match write_all(out, &message) {
-            Ok(()) => Ok(()),
-            Err(OutErr::Failed) => Err(Stop::WriteFault),
-            Err(OutErr::Memory) => Err(Stop::Memory),
-        }
-    }
-
-    /// Answers the frames that are whole, one after the other.
-    fn answer_whole<K: Sink>(&mut self, out: &mut K) -> Result<(), Stop>
-        ensures none { OnOk result (self.new.splitter ≡ record { whole = []; rest = self.old.splitter.rest }) }
-        ensures answers { AnswersFrames (serve_moment self.old (K.taken out.old)) (serve_moment self.new (K.taken out.new)) self.old.splitter.whole result }
-        ensures cause { HasWriteCause (K.faults out.old) (K.faults out.new) result }
-    {
-        while let Some(frame) = self.splitter.next() {
-            match self.answer(&frame, out) {
-                Ok(()) => {}
-                Err(stop) => return Err(stop),
-            }
-        }
-        Ok(())
-    }
-
-    /// Takes the next bytes of the client.
-    fn take<K: Sink>(&mut self, piece: &[u8], out: &mut K) -> Result<(), Stop>
-        ensures takes { TakesPiece (serve_moment self.old (K.taken out.old)) (serve_moment self.new (K.taken out.new)) piece.now result }
-        ensures cause { HasWriteCause (K.faults out.old) (K.faults out.new) result }
-    {
-        match self.splitter.take(piece) {
-            Ok(()) => self.answer_whole(out),
-            Err(_) => Err(Stop::Memory),
-        }
-    }
-
-    /// Reads once, and answers what came. 0 is the end.
-    fn serve_piece<S: Source, K: Sink>(
-        &mut self,
-        src: &mut S,
-        buf: &mut [u8],
-        out: &mut K,
-    ) -> Result<usize, Stop>
-        requires { 0 < length buf.old }
-        ensures served { (so_far : SoFar) → Serves so_far (serve_moment self.old (K.taken out.old))
-            → PieceServed so_far (serve_moment self.new (K.taken out.new)) (record { before = S.left src.old; after = S.left src.new; most = length buf.new }) result }
-        ensures cause { HasServeCause (record {
-          source_before = S.faults src.old;
-          source_after = S.faults src.new;
-          sink_before = K.faults out.old;
-          sink_after = K.faults out.new;
-          link_before = 0;
-          link_after = 0;
-        }) result }
-    {
-        match read_piece(src, buf) {
-            Ok(count) => match self.take(&buf[..count], out) {
-                Ok(()) => Ok(count),
-                Err(stop) => Err(stop),
-            },
-            Err(stop) => Err(stop),
-        }
-    }
-
-    /// Serves until the source ends, or has given as many bytes as an input may have. What came is answered before more is read.
-    fn serve_within<S: Source, K: Sink>(
-        &mut self,
-        src: &mut S,
-        buf: &mut [u8],
-        out: &mut K,
-    ) -> Result<(), Stop>
-        requires first { IsServing self.old [] }
-        requires room { 0 < length buf.old }
-        ensures served { HasServed (record {
-          left_before = S.left src.old;
-          left_after = S.left src.new;
-          taken_before = K.taken out.old;
-          taken_after = K.taken out.new;
-        }) result }
-        ensures cause { HasServeCause (record {
-          source_before = S.faults src.old;
-          source_after = S.faults src.new;
-          sink_before = K.faults out.old;
-          sink_after = K.faults out.new;
-          link_before = 0;
-          link_after = 0;
-        }) result }
-    {
-        let mut came = 0;
-        while came < INPUT_LIMIT {
-            let room = buf.len().min(INPUT_LIMIT - came);
-            match self.serve_piece(src, &mut buf[..room], out) {
-                Ok(0) => return Ok(()),
-                Ok(count) => came += count,
-                Err(stop) => return Err(stop),
-            }
-        }
-        end_of_input(src, &mut buf[..1])
-    }
-}
-
 /// Reads once. 0 is the end.
-fn read_piece<S: Source>(src: &mut S, buf: &mut [u8]) -> Result<usize, Stop>
+pub(crate) fn read_piece<S: Source>(src: &mut S, buf: &mut [u8]) -> Result<usize, Stop>
     requires { 0 < length buf.old }
     ensures bound { IfOk result (λ n. n ≤ length buf.new) }
     ensures bytes { IfOk result (λ n. Consumes (S.left src.old) (S.left src.new) (take n buf.new)) }
@@ -168,7 +35,7 @@ fn read_piece<S: Source>(src: &mut S, buf: &mut [u8]) -> Result<usize, Stop>
 }
 
 /// Reads once more, where as much came as an input may have: one byte of more is too much.
-fn end_of_input<S: Source>(src: &mut S, buf: &mut [u8]) -> Result<(), Stop>
+pub(crate) fn end_of_input<S: Source>(src: &mut S, buf: &mut [u8]) -> Result<(), Stop>
     requires { length buf.old ≡ 1 }
     ensures met { EndIsMet (S.left src.old) (S.left src.new) result }
     ensures cause { HasServeCause (record {

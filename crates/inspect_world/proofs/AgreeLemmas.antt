@@ -93,16 +93,17 @@ module _ {S F E X A : Type 0} (machine : Machine S F E X) (IsNext : Spent → Li
 
   -- a frame is sent that is no fetch
   pub agrees-sent_up : (start : F) (text : List ℕ) (more : Spent → Spent) (w v : World S) → IsText text
-      → (more w.spent).asks ≡ (more v.spent).asks → (more w.spent).raws ≡ (more v.spent).raws → (more w.spent).turns ≡ (more v.spent).turns
+      → (more w.spent).asks ≡ (more v.spent).asks → (more w.spent).raws ≡ (more v.spent).raws → (more w.spent).turns ≡ (more v.spent).turns → (more w.spent).edits ≡ (more v.spent).edits
       → Fits machine.take machine.join Fit start w → Fits machine.take machine.join Fit start v
       → RunsAgree machine start seen w v → RunsAgree machine start seen (sent_up text more w) (sent_up text more v)
-  agrees-sent_up start text more w v letters asks raws turns fits fits1 agrees = record {
+  agrees-sent_up start text more w v letters asks raws turns edits fits fits1 agrees = record {
     state = agrees.state;
     up = like-put (framed text) w.up v.up agrees.up;
     down = agrees.down;
     asks = asks;
     raws = raws;
     turns = turns;
+    edits = edits;
     plain = machine.join agrees.plain text;
     fresh = machine.join agrees.fresh text;
     plain_is = front-sent_up start text more w agrees.plain letters fits agrees.plain_is;
@@ -111,31 +112,32 @@ module _ {S F E X A : Type 0} (machine : Machine S F E X) (IsNext : Spent → Li
   }
 
   -- an ask is sent
-  pub agrees-asked : (start : F) (text : List ℕ) (w v : World S) → IsText text
+  pub agrees-asked : (start : F) (text : List ℕ) (more : ℕ) (w v : World S) → IsText text
       → Fits machine.take machine.join Fit start w → Fits machine.take machine.join Fit start v
-      → RunsAgree machine start seen w v → RunsAgree machine start seen (sent_up text one_ask w) (sent_up text one_ask v)
-  agrees-asked start text w v letters fits fits1 agrees =
-      agrees-sent_up start text one_ask w v letters (ap (λ n. n + 1) agrees.asks) agrees.raws agrees.turns fits fits1 agrees
+      → RunsAgree machine start seen w v → RunsAgree machine start seen (sent_up text (one_ask more) w) (sent_up text (one_ask more) v)
+  agrees-asked start text more w v letters fits fits1 agrees =
+      agrees-sent_up start text (one_ask more) w v letters (ap (λ n. n + 1) agrees.asks) agrees.raws agrees.turns (ap (λ n. n + more) agrees.edits) fits fits1 agrees
 
   -- a frame is sent that is no ask
   pub agrees-raw : (start : F) (text : List ℕ) (w v : World S) → IsText text
       → Fits machine.take machine.join Fit start w → Fits machine.take machine.join Fit start v
       → RunsAgree machine start seen w v → RunsAgree machine start seen (sent_up text one_raw w) (sent_up text one_raw v)
   agrees-raw start text w v letters fits fits1 agrees =
-      agrees-sent_up start text one_raw w v letters agrees.asks (ap (λ n. n + 1) agrees.raws) agrees.turns fits fits1 agrees
+      agrees-sent_up start text one_raw w v letters agrees.asks (ap (λ n. n + 1) agrees.raws) agrees.turns agrees.edits fits fits1 agrees
 
   -- what a step sends is put down in both
   agrees-put : (start : F) (stepped stepped1 : Stepped S) (n n1 : Spent) (w v : World S) → stepped ≡ stepped1
-      → n.asks ≡ n1.asks → n.raws ≡ n1.raws → n.turns ≡ n1.turns → RunsAgree machine start seen w v
+      → n.asks ≡ n1.asks → n.raws ≡ n1.raws → n.turns ≡ n1.turns → n.edits ≡ n1.edits → RunsAgree machine start seen w v
       → RunsAgree machine start seen (record { state = stepped.state; up = w.up; down = put stepped.sent w.down; spent = n; told = w.told })
       (record { state = stepped1.state; up = v.up; down = put stepped1.sent v.down; spent = n1; told = v.told })
-  agrees-put start stepped stepped1 n n1 w v is asks raws turns agrees = record {
+  agrees-put start stepped stepped1 n n1 w v is asks raws turns edits agrees = record {
     state = ap (λ (s : Stepped S). s.state) is;
     up = agrees.up;
     down = subst (λ (s : Stepped S). IsLike (put stepped.sent w.down) (put s.sent v.down)) is (like-put stepped.sent w.down v.down agrees.down);
     asks = asks;
     raws = raws;
     turns = turns;
+    edits = edits;
     plain = agrees.plain;
     fresh = agrees.fresh;
     plain_is = agrees.plain_is;
@@ -148,7 +150,7 @@ module _ {S F E X A : Type 0} (machine : Machine S F E X) (IsNext : Spent → Li
       → RunsAgree machine start seen w v → RunsAgree machine start seen (turned machine.act x w) (turned machine.act x v)
   agrees-turned start x w v agrees =
       agrees-put start (machine.act x w.state) (machine.act x v.state) (one_turn w.spent) (one_turn v.spent) w v (ap (machine.act x) agrees.state)
-      agrees.asks agrees.raws (ap (λ n. n + 1) agrees.turns) agrees
+      agrees.asks agrees.raws (ap (λ n. n + 1) agrees.turns) agrees.edits agrees
 
   -- bytes are given up
   agrees-given_up : (start : F) (n : ℕ) (w v : World S) → RunsAgree machine start seen w v → RunsAgree machine start seen (given_up n w) (given_up n v)
@@ -159,6 +161,7 @@ module _ {S F E X A : Type 0} (machine : Machine S F E X) (IsNext : Spent → Li
     asks = agrees.asks;
     raws = agrees.raws;
     turns = agrees.turns;
+    edits = agrees.edits;
     plain = agrees.plain;
     fresh = agrees.fresh;
     plain_is = ap (λ bytes. folded machine.take (joined machine.join start (frames_of bytes).whole) (frames_of w.down.given).whole) (sent-passed n w.up) ∙ agrees.plain_is;
@@ -171,7 +174,7 @@ module _ {S F E X A : Type 0} (machine : Machine S F E X) (IsNext : Spent → Li
   agrees-delivered_up start n w v agrees =
       agrees-put start (steps machine.step w.state (arriving n w.up)) (steps machine.step v.state (arriving n v.up)) w.spent v.spent (given_up n w) (given_up n v)
       (ap (λ state. steps machine.step state (arriving n w.up)) agrees.state ∙ ap (steps machine.step v.state) (like-arriving n w.up v.up agrees.up))
-      agrees.asks agrees.raws agrees.turns (agrees-given_up start n w v agrees)
+      agrees.asks agrees.raws agrees.turns agrees.edits (agrees-given_up start n w v agrees)
 
   pub agrees-delivered_down : (start : F) (n : ℕ) (w v : World S)
       → Fits machine.take machine.join Fit start w → Fits machine.take machine.join Fit start v
@@ -186,6 +189,7 @@ module _ {S F E X A : Type 0} (machine : Machine S F E X) (IsNext : Spent → Li
         asks = agrees.asks;
         raws = agrees.raws;
         turns = agrees.turns;
+        edits = agrees.edits;
         plain = p.after;
         fresh = q.after;
         plain_is = p.is_front;

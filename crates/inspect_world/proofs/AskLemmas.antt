@@ -1,7 +1,7 @@
 -- The asks that stand in frames.
 use Rattle.std.proofs.Common.{◌≡◌, ◌≤◌, ℕ, ◌+◌, Bool, true, false, cond, List, [], ◌∷◌, ◌++◌, Option, Some, None, is_some, refl, sym, ◌∙◌, ap, append_assoc, arith}
 use Rattle.std.specs.Option.{option_to_list}
-use Rattle.inspect_world.specs.Fits.{ask_in, sheet_in, IsPlainFrame, drawing, Sendable, AreSendable, asks_among}
+use Rattle.inspect_world.specs.Fits.{ask_in, sheet_in, IsPlainFrame, edits_in, drawing, asking, Sendable, AreSendable, asks_among}
 
 pub asks_among-append : (first second : List (List ℕ)) → asks_among (first ++ second) ≡ asks_among first ++ asks_among second
 asks_among-append [] second = refl
@@ -42,6 +42,38 @@ drawing-last frames frame = at (is_some (sheet_in frame)) (drawing (frames ++ fr
 -- and a fetch more is none
 pub drawing-fetch : (frames : List (List ℕ)) (frame : List ℕ) (sheet : ℕ) → sheet_in frame ≡ Some sheet → drawing (frames ++ frame ∷ []) ≡ drawing frames
 drawing-fetch frames frame sheet fetches = at (drawing (frames ++ frame ∷ [])) (drawing frames) (drawing (frame ∷ [])) (drawing-append frames (frame ∷ [])) (draws-none frame [] sheet fetches)
+  where
+    at : (all before one : ℕ) → all ≡ before + one → one ≡ 0 + 0 → all ≡ before
+    at all before one e f = omega (arith, e, f)
+
+-- ---- edits that frames ask for
+
+-- those of a frame that is no fetch count
+pub asks-edits : (frame : List ℕ) (frames : List (List ℕ)) → IsPlainFrame frame → asking (frame ∷ frames) ≡ edits_in frame + asking frames
+asks-edits frame frames plain = ap (λ (sheet : Option ℕ). cond (is_some sheet) 0 (edits_in frame) + asking frames) plain
+
+-- and a fetch has none
+pub asks-none : (frame : List ℕ) (frames : List (List ℕ)) (sheet : ℕ) → sheet_in frame ≡ Some sheet → asking (frame ∷ frames) ≡ 0 + asking frames
+asks-none frame frames sheet fetches = ap (λ (found : Option ℕ). cond (is_some found) 0 (edits_in frame) + asking frames) fetches
+
+asking-append : (first second : List (List ℕ)) → asking (first ++ second) ≡ asking first + asking second
+asking-append [] second = omega arith
+asking-append (frame ∷ first) second = more (cond (is_some (sheet_in frame)) 0 (edits_in frame)) (asking (first ++ second)) (asking first) (asking second) (asking-append first second)
+  where
+    more : (one both left right : ℕ) → both ≡ left + right → one + both ≡ one + left + right
+    more one both left right e = omega (arith, e)
+
+-- one frame more asks for its edits more at most
+pub asking-last : (frames : List (List ℕ)) (frame : List ℕ) → asking (frames ++ frame ∷ []) ≤ asking frames + edits_in frame
+asking-last frames frame = at (is_some (sheet_in frame)) (asking (frames ++ frame ∷ [])) (asking frames) (edits_in frame) (asking-append frames (frame ∷ []))
+  where
+    at : (fetches : Bool) (all before one : ℕ) → all ≡ before + (cond fetches 0 one + 0) → all ≤ before + one
+    at true all before one e = omega (arith, e)
+    at false all before one e = omega (arith, e)
+
+-- and a fetch more for none
+pub asking-fetch : (frames : List (List ℕ)) (frame : List ℕ) (sheet : ℕ) → sheet_in frame ≡ Some sheet → asking (frames ++ frame ∷ []) ≡ asking frames
+asking-fetch frames frame sheet fetches = at (asking (frames ++ frame ∷ [])) (asking frames) (asking (frame ∷ [])) (asking-append frames (frame ∷ [])) (asks-none frame [] sheet fetches)
   where
     at : (all before one : ℕ) → all ≡ before + one → one ≡ 0 + 0 → all ≡ before
     at all before one e f = omega (arith, e, f)

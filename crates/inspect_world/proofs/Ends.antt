@@ -2,7 +2,6 @@
 use Rattle.std.proofs.Common.{◌≡◌, refl, false, ℕ, ◌+◌, ◌-◌, ◌^◌, ◌<◌, ◌≤◌, List, [], ◌∷◌, ◌++◌, length, take, drop, Some, None, sym, ◌∙◌, ap, subst, append_assoc, append-nil, Result, Ok, Err, arith, length-append}
 use Rattle.std.proofs.lemmas.List.{take-append-drop}
 use Rattle.page_forms.specs.Pages.{LoadedPage, CanLoadPage}
-use Rattle.page_tree.specs.Pages.{State as PageValue}
 use Rattle.pipe_frames.specs.Pipe.{Pipe}
 use Rattle.pipe_frames.specs.Frames.{IsText, framed, frames_of, held_after}
 use Rattle.pipe_frames.proofs.FrameLemmas.{frames_of-one}
@@ -10,7 +9,7 @@ use Rattle.cdp_messages.specs.Asked.{command_text}
 use Rattle.front_mirror.specs.declared.faults.FrontKind.{FrontKind}
 use Rattle.front_mirror.specs.Front as front
 use Rattle.front_mirror.specs.Front.{FrontValue, FrontState, first_state, first_value, take_frame, Folded, after_message, fetch_ask, after_ask, after_fetch, after_take}
-use Rattle.replay_script.specs.Forms.{AskForm}
+use Rattle.replay_script.specs.Forms.{AskForm, ask}
 use Rattle.inspect_world.specs.Stream.{Stream, sent, put, passed, held, arriving, awaited}
 use Rattle.inspect_world.specs.World.{World, AlreadyTold, nothing_told, Spent, one_ask, one_fetch, one_raw, steps, sent_up, raw, turned, answered, given_up, delivered_down}
 use Rattle.inspect_world.specs.Fold.{folded, joined, then}
@@ -21,7 +20,8 @@ use Rattle.back_end.specs.Steps.{Turn, step, turn}
 use Rattle.inspect_world.specs.RunStates.{RunState, run_step, run_turn}
 use Rattle.back_end.specs.Laws.{HasRoom}
 use Rattle.back_end.specs.Seats.{StandsFor, HasRoomLeft}
-use Rattle.inspect_world.specs.Fits.{join, IsNext, next_raw, IsBare, IsNextTurn, replay, ask_in, ask_with, with_ask, most_asks, most_fetches, HasLeft, IsFit}
+use Rattle.inspect_world.specs.Costs.{ask_edits, least_line, line_cost}
+use Rattle.inspect_world.specs.Fits.{join, IsNext, next_raw, IsBare, IsNextTurn, replay, ask_in, ask_with, with_ask, most_frames, most_fetches, HasLeft, IsFit}
 use Rattle.inspect_world.specs.FreshRuns.{front_fetcher}
 use Rattle.inspect_world.specs.Scripts.{sends, loaded_world}
 use Rattle.page_forms.specs.Texts.{PageHasTexts}
@@ -33,7 +33,8 @@ use Rattle.inspect_world.proofs.Worlds.{whole-after, fits-sent_up, fits-turned, 
 use Rattle.inspect_world.proofs.FitLemmas.{world_laws, fit-room}
 use Rattle.inspect_world.proofs.Messages.{IsText-sent, ask_in-sent, IsNext-sent}
 use Rattle.inspect_world.proofs.FetchForms.{fetcher-text, fetcher-asks, fetcher-next}
-use Rattle.inspect_world.proofs.Scripts.{fits-loaded}
+use Rattle.inspect_world.proofs.Scripts.{frame-left, edits-left, fits-loaded}
+use Rattle.inspect_world.proofs.SeatRoom.{has-room-left}
 use Rattle.inspect_world.proofs.Folds.{Halves, folded-append, folded-halves, folded-rest, joined-append}
 use Rattle.inspect_world.proofs.Pipes.{carries-start, carries-put, carries-get}
 
@@ -163,31 +164,31 @@ world-sent_up up0 down0 up down up1 w e text more front1 there in_world letters 
 
 -- the ask of a line is sent
 pub world-sent : (up0 down0 up down up1 : Pipe) (w : World RunState) (e : Ends) (a : AskForm) (text : List ℕ) (there : ℕ)
-    → InWorld up0 down0 up down w (awaited w.up) e → CanSend a → HasLeft w.spent 1
+    → InWorld up0 down0 up down w (awaited w.up) e → CanSend a → HasLeft w.spent (line_cost (ask a))
     → text ≡ command_text (w.spent.asks + 1) a.method a.params a.session
     → up1.sent ≡ up.sent ++ framed text → up1.given ≡ up.given → there ≡ e.up_there + length (framed text)
     → InWorld up0 down0 up1 down (sends a w) (awaited (sends a w).up)
     (record e { front = after_ask e.front a.method; up_there = there })
 world-sent up0 down0 up down up1 w e a text there in_world can room text_is sent_is given_is left =
-    let few : w.spent.asks + 1 ≤ 2 ^ 26 = room.asks in
+    let few : w.spent.asks + w.spent.raws + 1 ≤ most_frames = frame-left w.spent (ask_edits a) room in
     let small : w.spent.asks + 1 < 2 ^ 30 = omega (arith, few) in
     let sends_text = command_text (w.spent.asks + 1) a.method a.params a.session in
     let is : ask_in sends_text ≡ Some (ask_with a.method (w.spent.asks + 1)) = ask_in-sent (w.spent.asks + 1) a can small in
     let joins : join in_world.value sends_text ≡ with_ask in_world.value (Some (ask_with a.method (w.spent.asks + 1))) = ap (with_ask in_world.value) is in
-    world-sent_up up0 down0 up down up1 w e sends_text one_ask (after_ask e.front a.method) there in_world
-    (IsText-sent (w.spent.asks + 1) a can (omega (arith, few))) (IsNext-sent w.spent a can few small)
+    world-sent_up up0 down0 up down up1 w e sends_text (one_ask (ask_edits a)) (after_ask e.front a.method) there in_world
+    (IsText-sent (w.spent.asks + 1) a can (omega (arith, few))) (IsNext-sent w.spent a can few (edits-left w.spent (ask_edits a) room) small)
     (ap (λ front. after_ask front a.method) in_world.front_is
     ∙ ap (λ value. good_front value (held w.down) (w.spent.asks + 1 + 1) w.spent.fetches) (sym joins))
     (sent_is ∙ ap (λ bytes. up.sent ++ framed bytes) text_is) given_is (left ∙ ap (λ bytes. e.up_there + length (framed bytes)) text_is)
 
 -- a frame is sent that names no ask
 pub world-raw : (up0 down0 up down up1 : Pipe) (w : World RunState) (e : Ends) (text : List ℕ) (there : ℕ)
-    → InWorld up0 down0 up down w (awaited w.up) e → IsText text → IsBare text → HasLeft w.spent 1
+    → InWorld up0 down0 up down w (awaited w.up) e → IsText text → IsBare text → HasLeft w.spent least_line
     → up1.sent ≡ up.sent ++ framed text → up1.given ≡ up.given → there ≡ e.up_there + length (framed text)
     → InWorld up0 down0 up1 down (raw text w) (awaited (raw text w).up) (record e { up_there = there })
 world-raw up0 down0 up down up1 w e text there in_world letters bare room sent_is given_is left =
     let joins : join in_world.value text ≡ in_world.value = ap (with_ask in_world.value) bare.no_ask in
-    world-sent_up up0 down0 up down up1 w e text one_raw e.front there in_world letters (next_raw bare room.raws)
+    world-sent_up up0 down0 up down up1 w e text one_raw e.front there in_world letters (next_raw bare (frame-left w.spent 0 room))
     (in_world.front_is ∙ ap (λ value. good_front value (held w.down) (w.spent.asks + 1) w.spent.fetches) (sym joins)) sent_is given_is left
 
 -- the text of a sheet is fetched
@@ -291,16 +292,10 @@ world-turned up0 down0 up down down1 w e x seat side out there in_world next sta
 
 -- at the back end
 pub world-room : (up0 down0 up down : Pipe) (w : World RunState) (frames : List (List ℕ)) (e : Ends) → InWorld up0 down0 up down w frames e
-    → HasRoomLeft e.seat.desk e.side
+    → HasRoomLeft e.seat e.side
 world-room up0 down0 up down w frames e in_world =
     let room : HasRoom w.state.back = fit-room w.spent in_world.fits.front w.state frames in_world.fits.fit in
-    let next : e.seat.desk.agent.next ≡ length w.state.back.client.session.pushed + 1 = in_world.stands.stands.next_is in
-    let ids : length w.state.back.client.session.pushed + 1 < 2 ^ 50 = room.ids in
-    record {
-      ids = omega (arith, next, ids);
-      serials = subst (λ (page : PageValue). page.next < 2 ^ 50) (sym in_world.stands.page_is) room.serials;
-      sheets = subst (λ n. n < 2 ^ 50) (sym in_world.stands.next_is) room.sheets;
-    }
+    has-room-left e.seat e.side w.state.back in_world.stands room
 
 -- and at the front end
 pub world-ids : (up0 down0 up down : Pipe) (w : World RunState) (frames : List (List ℕ)) (e : Ends) → InWorld up0 down0 up down w frames e
@@ -308,7 +303,7 @@ pub world-ids : (up0 down0 up down : Pipe) (w : World RunState) (frames : List (
 world-ids up0 down0 up down w frames e in_world few_fetches =
     let next : e.front.next ≡ w.spent.asks + 1 = ap (λ (f : FrontState). f.next) in_world.front_is in
     let fetches : e.front.fetches ≡ w.spent.fetches = ap (λ (f : FrontState). f.fetches) in_world.front_is in
-    let few : w.spent.asks ≤ most_asks = in_world.fits.fit.few in
+    let few : w.spent.asks + w.spent.raws ≤ most_frames = in_world.fits.fit.few in
     (omega (arith, next, few), omega (arith, fetches, few_fetches))
 
 -- ---- the replies

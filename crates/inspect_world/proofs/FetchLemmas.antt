@@ -115,6 +115,7 @@ module _ {S F E X A : Type 0} (machine : Machine S F E X) (IsNext : Spent → Li
           asks = agrees.asks;
           raws = agrees.raws;
           turns = agrees.turns;
+          edits = agrees.edits;
           plain = agrees.plain;
           fresh = fits2.front;
           plain_is = agrees.plain_is;

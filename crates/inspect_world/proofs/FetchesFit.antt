@@ -34,7 +34,8 @@ use Rattle.inspect_world.specs.Stream.{sent}
 use Rattle.inspect_world.specs.World.{World, AlreadyTold, Spent, settled}
 use Rattle.inspect_world.specs.Fold.{folded, then}
 use Rattle.inspect_world.specs.Fetches.{front_in, fetched, fetched_if, all_fetched, stale_in, IsDue, GivesText, FetchLaws}
-use Rattle.inspect_world.specs.Fits.{join, with_ask, IsPlainFrame, most_asks, most_sheets, most_fetches, kept_styles, IsBare, IsNext, IsNextTurn, IsFit, replay, Fits}
+use Rattle.inspect_world.specs.Fits.{join, with_ask, IsPlainFrame, most_bytes, most_sheets, most_fetches, kept_styles, IsBare, IsNext, IsNextTurn, IsFit, replay, Fits}
+use Rattle.inspect_world.specs.Costs.{line_cost}
 use Rattle.inspect_world.specs.Scripts.{after_line, loaded_world}
 use Rattle.inspect_world.specs.ScriptsFit.{CanSend, IsLater}
 use Rattle.inspect_world.specs.ShownReplies.{told_of, replies_in}
@@ -94,7 +95,7 @@ due-shown n front s number numbers due =
       text = has.text;
       shown = on.1;
       css = on.0;
-      dom = not-off state.client.dom_on (λ off. let no : true ≡ false = sym on.0 ∙ due.fit.is_state.css_off off in absurd cc);
+      dom = not-off state.client.dom_on (λ off. let no : true ≡ false = sym on.0 ∙ due.fit.is_state.now.css_off off in absurd cc);
       low = within.0;
       high = let below : number < state.side.next_sheet = within.1 in omega (arith, next, below);
     }
@@ -155,7 +156,7 @@ gives-text n front after run number numbers due taken =
     let done : frame_step false text state ≡ record { state = state; moves = move ∷ [] } = fetch-step n number state due.left s in
     let few : n.fetches + 1 ≤ most_fetches = due.left in
     let counted : is_counted (2 ^ 30 + n.fetches) ≡ true = lt-ltb (2 ^ 30 + n.fetches) (2 ^ 53) (omega (arith, few)) in
-    let utf8 : IsUtf8 s.text = shown-utf8 number s.text state.side.sheets due.fit.is_state.sheets.texts s.shown in
+    let utf8 : IsUtf8 s.text = shown-utf8 number s.text state.side.sheets due.fit.is_state.now.sheets.texts s.shown in
     let joins : join front text ≡ with_ask front (Some (fetch_ask n.fetches number)) = ap (with_ask front) (fetcher-asks n.fetches number due.left (omega (arith, s.high))) in
     let v = with_ask front (Some (fetch_ask n.fetches number)) in
     let asks : v.asks ≡ fetch_ask n.fetches number ∷ [] = ap (λ (asks : List Ask). asks ++ fetch_ask n.fetches number ∷ []) (sym due.fit.asks) in
@@ -213,11 +214,11 @@ refreshed-all = refreshed-shows front_fetcher IsPlainFrame fetch_laws plain-sent
 
 -- ---- lines, in both runs
 
-pub play-line : (line : LineForm) (k : ℕ) (w v : World RunState) → IsLater line → Together IsPlainFrame (suc k) w v
+pub play-line : (line : LineForm) (k : ℕ) (w v : World RunState) → IsLater line → Together IsPlainFrame (k + line_cost line) w v
     → Together IsPlainFrame k (after_line line w) (fresh_line front_fetcher line v)
 play-line = together-line front_fetcher IsPlainFrame fetch_laws plain-sent plain-bare
 
-pub play-loaded : (page : LoadedPage) (k : ℕ) → CanLoadPage page → PageHasTexts page → k ≤ most_asks → Together IsPlainFrame k (loaded_world page) (loaded_world page)
+pub play-loaded : (page : LoadedPage) (k : ℕ) → CanLoadPage page → PageHasTexts page → k ≤ most_bytes → Together IsPlainFrame k (loaded_world page) (loaded_world page)
 play-loaded = together-loaded front_fetcher IsPlainFrame fetch_laws plain-sent plain-bare
 
 pub play-told : (k : ℕ) (w v : World RunState) (n : AlreadyTold) → Together IsPlainFrame k w v

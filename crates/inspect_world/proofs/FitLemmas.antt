@@ -17,12 +17,13 @@ use Rattle.back_end.specs.States.{State, view_of}
 use Rattle.back_end.specs.Steps.{Step, Turn, frame_step, turn_step}
 use Rattle.cdp_messages.specs.Moves.{frames_of_moves}
 use Rattle.inspect_world.specs.RunStates.{RunState, ToldStyles, styles_answered, run_step, run_turn}
-use Rattle.back_end.specs.Laws.{most_ids, HasRoom, StepsWell, IsAnswered}
+use Rattle.back_end.specs.Laws.{most_ids, tree_edits, edits_kept, edits_asked, KeepsAtMost, HasRoom, StepsWell, IsAnswered}
 use Rattle.inspect_world.specs.World.{Spent, one_turn}
 use Rattle.inspect_world.specs.Fold.{folded, then, Laws, Leads}
-use Rattle.inspect_world.specs.Fits.{join, ask_in, ask_with, sheet_in, IsPlainFrame, drawing, with_ask, Sendable, is_ask, is_bare, AreSendable, asks_among, most_asks, IsNext, next_ask, next_fetch, next_raw, IsNextTurn, most_drawn, most_serials, most_numbers, kept_styles, IsFit, replay}
+use Rattle.inspect_world.specs.Fits.{join, ask_in, ask_with, sheet_in, IsPlainFrame, edits_in, drawing, asking, with_ask, Sendable, is_ask, is_bare, AreSendable, asks_among, most_bytes, most_frames, most_trees, IsNext, next_ask, next_fetch, next_raw, IsNextTurn, most_drawn, most_serials, most_numbers, kept_styles, IsFit, replay}
 use Rattle.front_mirror.proofs.FoldLemmas.{take_frame-more}
-use Rattle.inspect_world.proofs.AskLemmas.{asks_among-append, sendable-last, draws-one, draws-none, drawing-last, drawing-fetch}
+use Rattle.inspect_world.proofs.AskLemmas.{asks_among-append, sendable-last, draws-one, draws-none, drawing-last, drawing-fetch, asks-edits, asks-none, asking-last, asking-fetch}
+use Rattle.inspect_world.proofs.TurnLemmas.{TurnKeeps, turn-keeps}
 use Rattle.inspect_world.proofs.Messages.{asked-ask, fetch-method}
 use Rattle.inspect_world.proofs.FetchTold.{FetchAnswered, not_told, is_told, fetch-answered}
 use Rattle.inspect_world.proofs.StepsTaken.{AreQuiet, course-quiet, Taken, taken, tells-all, by-asked, by-failed, by-refusal}
@@ -53,9 +54,18 @@ folded-join ask before after (frame ∷ frames) e =
 -- ---- how much is drawn
 
 -- one frame more may be answered
-one_more_ids : (all before after steps steps1 : ℕ) → after ≤ before + 1 → steps1 ≡ steps + 1 → all + before * 500000 ≤ steps * 500000
-    → all + after * 500000 ≤ steps1 * 500000
-one_more_ids all before after steps steps1 more step h = omega (arith, more, step, h)
+one_more_ids : (all before after sent sent1 turns : ℕ) → after ≤ before + 1 → sent1 ≡ sent + 1 → all + before * 34054432 ≤ sent * 34054432 + turns * 500000
+    → all + after * 34054432 ≤ sent1 * 34054432 + turns * 500000
+one_more_ids all before after sent sent1 turns more step h = omega (arith, more, step, h)
+
+one_more_trees : (all before after sent sent1 : ℕ) → after ≤ before + 1 → sent1 ≡ sent + 1 → all + before * 2 ≤ sent * 2 → all + after * 2 ≤ sent1 * 2
+one_more_trees all before after sent sent1 more step h = omega (arith, more, step, h)
+
+one_more_edits : (kept before after one more edits : ℕ) → after ≤ before + one → one ≤ more → kept + before ≤ edits → kept + after ≤ edits + more
+one_more_edits kept before after one more edits step few h = omega (arith, step, few, h)
+
+no_more_edits : (kept before after one edits : ℕ) → after ≤ before + one → one ≡ 0 → kept + before ≤ edits → kept + after ≤ edits
+no_more_edits kept before after one edits step none h = omega (arith, step, none, h)
 
 one_more_serials : (all before after steps steps1 : ℕ) → after ≤ before + 1 → steps1 ≡ steps + 1 → all + before * 100001 ≤ steps * 100001
     → all + after * 100001 ≤ steps1 * 100001
@@ -66,8 +76,15 @@ one_more_numbers : (all before after steps steps1 : ℕ) → after ≤ before + 
 one_more_numbers all before after steps steps1 more step h = omega (arith, more, step, h)
 
 -- an answer draws no more than was kept for it
-answered_ids : (before after frames others all : ℕ) → frames ≡ 1 + others → after ≤ before + 500000 → before + frames * 500000 ≤ all → after + others * 500000 ≤ all
-answered_ids before after frames others all one few h = omega (arith, one, few, h)
+answered_ids : (before after trees trees1 frames others sent all : ℕ) → frames ≡ 1 + others → after ≤ before + (500000 + trees) → trees1 ≤ trees + 2
+    → trees + frames * 2 ≤ sent * 2 → sent ≤ 2 ^ 24 → before + trees + frames * 34054432 ≤ all → after + trees1 + others * 34054432 ≤ all
+answered_ids before after trees trees1 frames others sent all one few more kept most h = omega (arith, one, few, more, kept, most, h)
+
+answered_trees : (trees trees1 frames others all : ℕ) → frames ≡ 1 + others → trees1 ≤ trees + 2 → trees + frames * 2 ≤ all → trees1 + others * 2 ≤ all
+answered_trees trees trees1 frames others all one more h = omega (arith, one, more, h)
+
+answered_edits : (kept kept1 frames others one all : ℕ) → frames ≡ one + others → kept1 ≤ kept + one → kept + frames ≤ all → kept1 + others ≤ all
+answered_edits kept kept1 frames others one all is more h = omega (arith, is, more, h)
 
 answered_serials : (before after frames others all : ℕ) → frames ≡ 1 + others → after ≤ before + 100001 → before + frames * 100001 ≤ all → after + others * 100001 ≤ all
 answered_serials before after frames others all one few h = omega (arith, one, few, h)
@@ -76,8 +93,14 @@ answered_numbers : (before after frames others all : ℕ) → frames ≡ 1 + oth
 answered_numbers before after frames others all one few h = omega (arith, one, few, h)
 
 -- and that to a fetch draws nothing
-fetched_ids : (before after frames others all : ℕ) → frames ≡ 0 + others → after ≡ before → before + frames * 500000 ≤ all → after + others * 500000 ≤ all
+fetched_ids : (before after frames others all : ℕ) → frames ≡ 0 + others → after ≡ before → before + frames * 34054432 ≤ all → after + others * 34054432 ≤ all
 fetched_ids before after frames others all none same h = omega (arith, none, same, h)
+
+fetched_trees : (before after frames others all : ℕ) → frames ≡ 0 + others → after ≡ before → before + frames * 2 ≤ all → after + others * 2 ≤ all
+fetched_trees before after frames others all none same h = omega (arith, none, same, h)
+
+fetched_edits : (before after frames others all : ℕ) → frames ≡ 0 + others → after ≡ before → before + frames ≤ all → after + others ≤ all
+fetched_edits before after frames others all none same h = omega (arith, none, same, h)
 
 fetched_serials : (before after frames others all : ℕ) → frames ≡ 0 + others → after ≡ before → before + frames * 100001 ≤ all → after + others * 100001 ≤ all
 fetched_serials before after frames others all none same h = omega (arith, none, same, h)
@@ -86,9 +109,12 @@ fetched_numbers : (before after frames others all : ℕ) → frames ≡ 0 + othe
 fetched_numbers before after frames others all none same h = omega (arith, none, same, h)
 
 -- and the script's own step no more than one step may
-turned_ids : (before after others asks raws turns : ℕ) → after ≤ before + 500000 → before + others * 500000 ≤ (asks + raws + turns) * 500000
-    → after + others * 500000 ≤ (asks + raws + (turns + 1)) * 500000
-turned_ids before after others asks raws turns few h = omega (arith, few, h)
+turned_ids : (before after others sent turns : ℕ) → after ≤ before + 500000 → before + others * 34054432 ≤ sent * 34054432 + turns * 500000
+    → after + others * 34054432 ≤ sent * 34054432 + (turns + 1) * 500000
+turned_ids before after others sent turns few h = omega (arith, few, h)
+
+turned_less : (before after others all : ℕ) → after ≤ before → before + others ≤ all → after + others ≤ all
+turned_less before after others all less h = omega (arith, less, h)
 
 turned_serials : (before after others asks raws turns : ℕ) → after ≤ before + 100001 → before + others * 100001 ≤ (asks + raws + turns + 1) * 100001
     → after + others * 100001 ≤ (asks + raws + (turns + 1) + 1) * 100001
@@ -98,29 +124,41 @@ turned_numbers : (before after others asks raws turns : ℕ) → after ≤ befor
     → after + others * 1000 ≤ (asks + raws + (turns + 1) + 1) * 1000 + 1
 turned_numbers before after others asks raws turns few h = omega (arith, few, h)
 
--- a run is too short to use all ids, all serials and all numbers of sheets
-ids_left : (pushed others asks raws turns : ℕ) → asks ≤ 2 ^ 26 → raws ≤ 2 ^ 26 → turns ≤ 2 ^ 26 → pushed + others * 500000 ≤ (asks + raws + turns) * 500000 → pushed + 1 < 2 ^ 50
-ids_left pushed others asks raws turns few few_raws few_turns h = omega (arith, few, few_raws, few_turns, h)
+-- a run is too short to use all ids, all serials, all numbers of sheets and all places in the history
+ids_left : (pushed trees others sent turns : ℕ) → sent ≤ 2 ^ 24 → turns ≤ 2 ^ 26 → pushed + trees + others * 34054432 ≤ sent * 34054432 + turns * 500000 → pushed + 1 < 2 ^ 50
+ids_left pushed trees others sent turns few few_turns h = omega (arith, few, few_turns, h)
 
-serials_left : (next others asks raws turns : ℕ) → asks ≤ 2 ^ 26 → raws ≤ 2 ^ 26 → turns ≤ 2 ^ 26 → next + others * 100001 ≤ (asks + raws + turns + 1) * 100001 → next < 2 ^ 50
-serials_left next others asks raws turns few few_raws few_turns h = omega (arith, few, few_raws, few_turns, h)
+serials_left : (next others sent turns : ℕ) → sent ≤ 2 ^ 24 → turns ≤ 2 ^ 26 → next + others * 100001 ≤ (sent + turns + 1) * 100001 → next < 2 ^ 50
+serials_left next others sent turns few few_turns h = omega (arith, few, few_turns, h)
 
-numbers_left : (next others asks raws turns : ℕ) → asks ≤ 2 ^ 26 → raws ≤ 2 ^ 26 → turns ≤ 2 ^ 26 → next + others * 1000 ≤ (asks + raws + turns + 1) * 1000 + 1 → next < 2 ^ 50
-numbers_left next others asks raws turns few few_raws few_turns h = omega (arith, few, few_raws, few_turns, h)
+numbers_left : (next others sent turns : ℕ) → sent ≤ 2 ^ 24 → turns ≤ 2 ^ 26 → next + others * 1000 ≤ (sent + turns + 1) * 1000 + 1 → next < 2 ^ 50
+numbers_left next others sent turns few few_turns h = omega (arith, few, few_turns, h)
+
+edits_left : (kept others edits : ℕ) → edits ≤ 2 ^ 26 → kept + others ≤ edits → kept < 2 ^ 30
+edits_left kept others edits few h = omega (arith, few, h)
 
 pub fit-room : (n : Spent) (front : FrontValue) (s : RunState) (frames : List (List ℕ)) → IsFit n front s frames → HasRoom s.back
 fit-room n front s frames fit = record {
-  ids = ids_left (length s.back.client.session.pushed) (drawing frames) n.asks n.raws n.turns fit.few fit.few_raws fit.few_turns fit.drawn;
-  serials = serials_left s.back.side.page.next (drawing frames) n.asks n.raws n.turns fit.few fit.few_raws fit.few_turns fit.serials;
-  sheets = numbers_left s.back.side.next_sheet (drawing frames) n.asks n.raws n.turns fit.few fit.few_raws fit.few_turns fit.numbers;
+  ids = ids_left (length s.back.client.session.pushed) (tree_edits s.back) (drawing frames) (n.asks + n.raws) n.turns fit.few fit.few_turns fit.drawn;
+  serials = serials_left s.back.side.page.next (drawing frames) (n.asks + n.raws) n.turns fit.few fit.few_turns fit.serials;
+  sheets = numbers_left s.back.side.next_sheet (drawing frames) (n.asks + n.raws) n.turns fit.few fit.few_turns fit.numbers;
+  edits = edits_left (edits_kept s.back) (asking frames) n.edits fit.few_edits fit.edits;
 }
 
 -- ---- a frame is sent
 
+-- how many edits a frame comes to
+edits_in-is : (frame : List ℕ) → edits_in frame ≡ edits_asked (asked frame false)
+unfolding edits_in
+edits_in-is frame = refl
+
+more-frames : (asks raws sent : ℕ) → sent ≡ asks + raws + 1 → asks + raws + 1 ≤ most_frames → sent ≤ most_frames
+more-frames asks raws sent is few = omega (arith, is, few)
+
 -- a frame that is sent is the last of those that wait
 fit-asked : (n m : Spent) (text : List ℕ) (front : FrontValue) (s : RunState) (frames : List (List ℕ))
     → IsNext n text m → IsFit n front s frames → IsFit m (join front text) s (frames ++ text ∷ [])
-fit-asked n _ text front s frames (next_ask method is few) fit =
+fit-asked n _ text front s frames (next_ask method edits is asks few few_edits) fit =
     let joins : join front text ≡ with_ask front (Some (ask_with method (n.asks + 1))) = ap (with_ask front) is in
     record {
       has = subst (λ v. Has v (view_of s.back)) (sym joins) (record { tree = fit.has.tree; sheets = fit.has.sheets });
@@ -132,10 +170,12 @@ fit-asked n _ text front s frames (next_ask method is few) fit =
           ∙ ap (λ (v : FrontValue). v.asks) (sym joins);
       sendable = sendable-last frames text fit.sendable (is_ask (ask_with method (n.asks + 1)) is);
       is_state = fit.is_state;
-      few = few;
-      few_raws = fit.few_raws;
+      few = more-frames n.asks n.raws (n.asks + 1 + n.raws) (omega arith) few;
       few_turns = fit.few_turns;
-      drawn = one_more_ids (length s.back.client.session.pushed) (drawing frames) (drawing (frames ++ text ∷ [])) (n.asks + n.raws + n.turns) (n.asks + 1 + n.raws + n.turns) (drawing-last frames text) (omega arith) fit.drawn;
+      few_edits = few_edits;
+      drawn = one_more_ids (length s.back.client.session.pushed + tree_edits s.back) (drawing frames) (drawing (frames ++ text ∷ [])) (n.asks + n.raws) (n.asks + 1 + n.raws) n.turns (drawing-last frames text) (omega arith) fit.drawn;
+      trees = one_more_trees (tree_edits s.back) (drawing frames) (drawing (frames ++ text ∷ [])) (n.asks + n.raws) (n.asks + 1 + n.raws) (drawing-last frames text) (omega arith) fit.trees;
+      edits = one_more_edits (edits_kept s.back) (asking frames) (asking (frames ++ text ∷ [])) (edits_in text) edits n.edits (asking-last frames text) asks fit.edits;
       serials = one_more_serials s.back.side.page.next (drawing frames) (drawing (frames ++ text ∷ [])) (n.asks + n.raws + n.turns + 1) (n.asks + 1 + n.raws + n.turns + 1) (drawing-last frames text) (omega arith) fit.serials;
       numbers = one_more_numbers s.back.side.next_sheet (drawing frames) (drawing (frames ++ text ∷ [])) (n.asks + n.raws + n.turns + 1) (n.asks + 1 + n.raws + n.turns + 1) (drawing-last frames text) (omega arith) fit.numbers;
     }
@@ -154,9 +194,11 @@ fit-asked n _ text front s frames (next_fetch sheet is few) fit =
       sendable = sendable-last frames text fit.sendable (is_ask (fetch_ask n.fetches sheet) is);
       is_state = fit.is_state;
       few = fit.few;
-      few_raws = fit.few_raws;
       few_turns = fit.few_turns;
-      drawn = subst (λ k. length s.back.client.session.pushed + k * most_ids ≤ most_drawn n) (sym drawn) fit.drawn;
+      few_edits = fit.few_edits;
+      drawn = subst (λ k. length s.back.client.session.pushed + tree_edits s.back + k * (most_ids + most_trees) ≤ most_drawn n) (sym drawn) fit.drawn;
+      trees = subst (λ k. tree_edits s.back + k * 2 ≤ (n.asks + n.raws) * 2) (sym drawn) fit.trees;
+      edits = subst (λ k. edits_kept s.back + k ≤ n.edits) (sym (asking-fetch frames text sheet fetches)) fit.edits;
       serials = subst (λ k. s.back.side.page.next + k * (max_nodes + 1) ≤ most_serials n) (sym drawn) fit.serials;
       numbers = subst (λ k. s.back.side.next_sheet + k * max_sheets ≤ most_numbers n) (sym drawn) fit.numbers;
     }
@@ -173,10 +215,12 @@ fit-asked n _ text front s frames (next_raw bare few) fit =
           ∙ ap (λ (v : FrontValue). v.asks) (sym joins);
       sendable = sendable-last frames text fit.sendable (is_bare bare);
       is_state = fit.is_state;
-      few = fit.few;
-      few_raws = few;
+      few = more-frames n.asks n.raws (n.asks + (n.raws + 1)) (omega arith) few;
       few_turns = fit.few_turns;
-      drawn = one_more_ids (length s.back.client.session.pushed) (drawing frames) (drawing (frames ++ text ∷ [])) (n.asks + n.raws + n.turns) (n.asks + (n.raws + 1) + n.turns) (drawing-last frames text) (omega arith) fit.drawn;
+      few_edits = fit.few_edits;
+      drawn = one_more_ids (length s.back.client.session.pushed + tree_edits s.back) (drawing frames) (drawing (frames ++ text ∷ [])) (n.asks + n.raws) (n.asks + (n.raws + 1)) n.turns (drawing-last frames text) (omega arith) fit.drawn;
+      trees = one_more_trees (tree_edits s.back) (drawing frames) (drawing (frames ++ text ∷ [])) (n.asks + n.raws) (n.asks + (n.raws + 1)) (drawing-last frames text) (omega arith) fit.trees;
+      edits = no_more_edits (edits_kept s.back) (asking frames) (asking (frames ++ text ∷ [])) (edits_in text) n.edits (asking-last frames text) (edits_in-is text ∙ ap edits_asked bare.refused) fit.edits;
       serials = one_more_serials s.back.side.page.next (drawing frames) (drawing (frames ++ text ∷ [])) (n.asks + n.raws + n.turns + 1) (n.asks + (n.raws + 1) + n.turns + 1) (drawing-last frames text) (omega arith) fit.serials;
       numbers = one_more_numbers s.back.side.next_sheet (drawing frames) (drawing (frames ++ text ∷ [])) (n.asks + n.raws + n.turns + 1) (n.asks + (n.raws + 1) + n.turns + 1) (drawing-last frames text) (omega arith) fit.numbers;
     }
@@ -185,10 +229,12 @@ fit-asked n _ text front s frames (next_raw bare few) fit =
 
 -- what was spent, and how much of ids and serials may be drawn after a step
 record Enough (m : Spent) (state : State) (frames : List (List ℕ)) : Type 0 where
-  few : m.asks ≤ most_asks
-  few_raws : m.raws ≤ most_asks
-  few_turns : m.turns ≤ most_asks
-  drawn : length state.client.session.pushed + drawing frames * most_ids ≤ most_drawn m
+  few : m.asks + m.raws ≤ most_frames
+  few_turns : m.turns ≤ most_bytes
+  few_edits : m.edits ≤ most_bytes
+  drawn : length state.client.session.pushed + tree_edits state + drawing frames * (most_ids + most_trees) ≤ most_drawn m
+  trees : tree_edits state + drawing frames * 2 ≤ (m.asks + m.raws) * 2
+  edits : edits_kept state + asking frames ≤ m.edits
   serials : state.side.page.next + drawing frames * (max_nodes + 1) ≤ most_serials m
   numbers : state.side.next_sheet + drawing frames * max_sheets ≤ most_numbers m
 
@@ -215,9 +261,11 @@ leads-on n m s done told after front frames more fit well in_turn sendable enoug
         sendable = sendable;
         is_state = well.is_state;
         few = enough.few;
-        few_raws = enough.few_raws;
         few_turns = enough.few_turns;
+        few_edits = enough.few_edits;
         drawn = enough.drawn;
+        trees = enough.trees;
+        edits = enough.edits;
         serials = enough.serials;
         numbers = enough.numbers;
       };
@@ -232,19 +280,25 @@ first-asks frame frames asks o e is = ap (λ p. option_to_list p ++ asks_among f
 -- what a step on the first frame answers, and how much it draws
 record Answer (n : Spent) (state : State) (asks : List Ask) (frames : List (List ℕ)) (done : Step) : Type 0 where
   in_turn : InTurn done.moves asks (asks_among frames)
-  drawn : length done.state.client.session.pushed + drawing frames * most_ids ≤ most_drawn n
+  drawn : length done.state.client.session.pushed + tree_edits done.state + drawing frames * (most_ids + most_trees) ≤ most_drawn n
+  trees : tree_edits done.state + drawing frames * 2 ≤ (n.asks + n.raws) * 2
+  edits : edits_kept done.state + asking frames ≤ n.edits
   serials : done.state.side.page.next + drawing frames * (max_nodes + 1) ≤ most_serials n
   numbers : done.state.side.next_sheet + drawing frames * max_sheets ≤ most_numbers n
 
 -- the step on a frame that is no fetch
 answer-plain : (n : Spent) (frame : List ℕ) (front : FrontValue) (s : RunState) (frames : List (List ℕ)) (done : Step)
-    → IsFit n front s (frame ∷ frames) → StepsWell s.back done → IsPlainFrame frame → InTurn done.moves front.asks (asks_among frames)
+    → IsFit n front s (frame ∷ frames) → StepsWell s.back done → KeepsAtMost (edits_asked (asked frame false)) s.back done.state
+    → IsPlainFrame frame → InTurn done.moves front.asks (asks_among frames)
     → Answer n s.back front.asks frames done
-answer-plain n frame front s frames done fit well plain in_turn =
+answer-plain n frame front s frames done fit well keeps plain in_turn =
     let one : drawing (frame ∷ frames) ≡ 1 + drawing frames = draws-one frame frames plain in
     record {
       in_turn = in_turn;
-      drawn = answered_ids (length s.back.client.session.pushed) (length done.state.client.session.pushed) (drawing (frame ∷ frames)) (drawing frames) (most_drawn n) one well.ids fit.drawn;
+      drawn = answered_ids (length s.back.client.session.pushed) (length done.state.client.session.pushed) (tree_edits s.back) (tree_edits done.state) (drawing (frame ∷ frames)) (drawing frames) (n.asks + n.raws) (most_drawn n) one well.ids well.trees
+          fit.trees fit.few fit.drawn;
+      trees = answered_trees (tree_edits s.back) (tree_edits done.state) (drawing (frame ∷ frames)) (drawing frames) ((n.asks + n.raws) * 2) one well.trees fit.trees;
+      edits = answered_edits (edits_kept s.back) (edits_kept done.state) (asking (frame ∷ frames)) (asking frames) (edits_asked (asked frame false)) n.edits (asks-edits frame frames plain ∙ ap (λ k. k + asking frames) (edits_in-is frame)) keeps fit.edits;
       serials = answered_serials s.back.side.page.next done.state.side.page.next (drawing (frame ∷ frames)) (drawing frames) (most_serials n) one well.serials fit.serials;
       numbers = answered_numbers s.back.side.next_sheet done.state.side.next_sheet (drawing (frame ∷ frames)) (drawing frames) (most_numbers n) one well.sheets fit.numbers;
     }
@@ -268,13 +322,16 @@ answer-fetch n frame front s frames ask sheet fit is fetches =
     let done : Step = frame_step false frame state in
     let answered : FetchAnswered ask.id sheet state done = fetch-answered frame ask sheet state is fetches in
     let same : done.state ≡ state = fetch-same ask.id sheet state done answered in
-    let none : drawing (frame ∷ frames) ≡ 0 + drawing frames = draws-none frame frames sheet (ap (option_and_then (λ (a : Ask). a.sheet)) is ∙ fetches) in
+    let sheet_is : sheet_in frame ≡ Some sheet = ap (option_and_then (λ (a : Ask). a.sheet)) is ∙ fetches in
+    let none : drawing (frame ∷ frames) ≡ 0 + drawing frames = draws-none frame frames sheet sheet_is in
     record {
       in_turn =
           subst (λ asks. InTurn done.moves asks (asks_among frames)) (first-asks frame frames front.asks (Some ask) fit.asks is)
           (fetch-turn ask (asks_among frames) sheet state done fetches (fetch-method frame ask sheet is fetches) answered);
-      drawn = fetched_ids (length state.client.session.pushed) (length done.state.client.session.pushed) (drawing (frame ∷ frames)) (drawing frames) (most_drawn n) none
-          (ap (λ (s : State). length s.client.session.pushed) same) fit.drawn;
+      drawn = fetched_ids (length state.client.session.pushed + tree_edits state) (length done.state.client.session.pushed + tree_edits done.state) (drawing (frame ∷ frames)) (drawing frames) (most_drawn n) none
+          (ap (λ (s : State). length s.client.session.pushed + tree_edits s) same) fit.drawn;
+      trees = fetched_trees (tree_edits state) (tree_edits done.state) (drawing (frame ∷ frames)) (drawing frames) ((n.asks + n.raws) * 2) none (ap tree_edits same) fit.trees;
+      edits = fetched_edits (edits_kept state) (edits_kept done.state) (asking (frame ∷ frames)) (asking frames) n.edits (asks-none frame frames sheet sheet_is) (ap edits_kept same) fit.edits;
       serials = fetched_serials state.side.page.next done.state.side.page.next (drawing (frame ∷ frames)) (drawing frames) (most_serials n) none
           (ap (λ (s : State). s.side.page.next) same) fit.serials;
       numbers = fetched_numbers state.side.next_sheet done.state.side.next_sheet (drawing (frame ∷ frames)) (drawing frames) (most_numbers n) none
@@ -289,31 +346,35 @@ fit-answered n frame front s frames fit =
     let well = frame-steps-well false state frame fit.is_state (fit-room n front s (frame ∷ frames) fit) in
     let done : Step = frame_step false frame state in
     let quiet : AreQuiet done.moves = course-quiet done.moves (view_of state) (view_of done.state) well.0.course in
-    let answer : Answer n state front.asks frames done = by-sendable well.0 well.1 quiet fit.sendable.0 in
+    let answer : Answer n state front.asks frames done = by-sendable well.0 well.1 well.2 quiet fit.sendable.0 in
     leads-on n n s done (styles_answered frame state) (s.styles ++ styles_answered frame state) front (frame ∷ frames) frames fit well.0 answer.in_turn fit.sendable.1 (record {
       few = fit.few;
-      few_raws = fit.few_raws;
       few_turns = fit.few_turns;
+      few_edits = fit.few_edits;
       drawn = answer.drawn;
+      trees = answer.trees;
+      edits = answer.edits;
       serials = answer.serials;
       numbers = answer.numbers;
     }) (styles-told frame state well.1) refl
   where
     by-sheet : (ask : Ask) (o : Option ℕ) → StepsWell s.back (frame_step false frame s.back) → IsAnswered (asked frame false) (frame_step false frame s.back).moves
+        → KeepsAtMost (edits_asked (asked frame false)) s.back (frame_step false frame s.back).state
         → AreQuiet (frame_step false frame s.back).moves → ask_in frame ≡ Some ask → ask.sheet ≡ o → Answer n s.back front.asks frames (frame_step false frame s.back)
-    by-sheet ask (Some sheet) well answered quiet is fetches = answer-fetch n frame front s frames ask sheet fit is fetches
-    by-sheet ask None well answered quiet is plain =
+    by-sheet ask (Some sheet) well answered keeps quiet is fetches = answer-fetch n frame front s frames ask sheet fit is fetches
+    by-sheet ask None well answered keeps quiet is plain =
         let done : Step = frame_step false frame s.back in
-        answer-plain n frame front s frames done fit well (ap (option_and_then (λ (a : Ask). a.sheet)) is ∙ plain)
+        answer-plain n frame front s frames done fit well keeps (ap (option_and_then (λ (a : Ask). a.sheet)) is ∙ plain)
         (subst (λ asks. InTurn done.moves asks (asks_among frames)) (first-asks frame frames front.asks (Some ask) fit.asks is)
         (by-asked ask (asks_among frames) done.moves (asked frame false) plain (asked-ask frame ask is) answered quiet))
 
     by-sendable : StepsWell s.back (frame_step false frame s.back) → IsAnswered (asked frame false) (frame_step false frame s.back).moves
+        → KeepsAtMost (edits_asked (asked frame false)) s.back (frame_step false frame s.back).state
         → AreQuiet (frame_step false frame s.back).moves → Sendable frame → Answer n s.back front.asks frames (frame_step false frame s.back)
-    by-sendable well answered quiet (is_ask ask is) = by-sheet ask ask.sheet well answered quiet is refl
-    by-sendable well answered quiet (is_bare bare) =
+    by-sendable well answered keeps quiet (is_ask ask is) = by-sheet ask ask.sheet well answered keeps quiet is refl
+    by-sendable well answered keeps quiet (is_bare bare) =
         let done : Step = frame_step false frame s.back in
-        answer-plain n frame front s frames done fit well (ap (option_and_then (λ (a : Ask). a.sheet)) bare.no_ask)
+        answer-plain n frame front s frames done fit well keeps (ap (option_and_then (λ (a : Ask). a.sheet)) bare.no_ask)
         (subst (λ asks. InTurn done.moves asks (asks_among frames)) (first-asks frame frames front.asks None fit.asks bare.no_ask)
         (by-refusal (asks_among frames) done.moves (refusal None bare.why) refl (subst (λ r. IsAnswered r done.moves) bare.refused answered)))
 
@@ -322,14 +383,17 @@ fit-turned : (n : Spent) (x : Turn) (front : FrontValue) (s : RunState) (frames 
     → IsNextTurn n x → IsFit n front s frames → Leads take_frame (IsFit (one_turn n)) front (run_turn x s) frames
 fit-turned n x front s frames next fit =
     let state : State = s.back in
-    let well : StepsWell state (turn_step x state) = turn-steps-well state x fit.is_state (fit-room n front s frames fit) next.is_turn in
+    let well : StepsWell state (turn_step x state) = (turn-steps-well state x fit.is_state (fit-room n front s frames fit) next.is_turn).0 in
     let done : Step = turn_step x state in
+    let keeps : TurnKeeps state done.state = turn-keeps x state well in
     leads-on n (one_turn n) s done [] s.styles front frames frames fit well
     (subst (λ asks. InTurn done.moves asks (asks_among frames)) fit.asks (tells-all done.moves (asks_among frames) (turn-answers x state))) fit.sendable (record {
       few = fit.few;
-      few_raws = fit.few_raws;
       few_turns = next.few;
-      drawn = turned_ids (length state.client.session.pushed) (length done.state.client.session.pushed) (drawing frames) n.asks n.raws n.turns well.ids fit.drawn;
+      few_edits = fit.few_edits;
+      drawn = turned_ids (length state.client.session.pushed + tree_edits state) (length done.state.client.session.pushed + tree_edits done.state) (drawing frames) (n.asks + n.raws) n.turns keeps.ids fit.drawn;
+      trees = turned_less (tree_edits state) (tree_edits done.state) (drawing frames * 2) ((n.asks + n.raws) * 2) keeps.trees fit.trees;
+      edits = turned_less (edits_kept state) (edits_kept done.state) (asking frames) n.edits keeps.edits fit.edits;
       serials = turned_serials state.side.page.next done.state.side.page.next (drawing frames) n.asks n.raws n.turns well.serials fit.serials;
       numbers = turned_numbers state.side.next_sheet done.state.side.next_sheet (drawing frames) n.asks n.raws n.turns well.sheets fit.numbers;
     }) (ap (map kept_styles) (quiet-styles done.moves (turn-answers x state))) (append-nil s.styles)

@@ -1,5 +1,5 @@
 -- The run of a script with the fetches of its settles goes together with the run that the report tells, line by line.
-use Rattle.std.proofs.Common.{◌≡◌, ℕ, zero, suc, ◌+◌, ◌*◌, ◌^◌, ◌<◌, ◌≤◌, List, [], ◌∷◌, length, take, map, Ok, sym, ◌∙◌, ap, subst, arith}
+use Rattle.std.proofs.Common.{◌≡◌, ℕ, zero, suc, ◌+◌, ◌*◌, ◌^◌, ◌<◌, ◌≤◌, List, [], ◌∷◌, length, take, map, Ok, refl, sym, ◌∙◌, ap, subst, arith}
 use Rattle.std.specs.List.{All}
 use Rattle.page_forms.specs.Pages.{LoadedPage, CanLoadPage}
 use Rattle.page_forms.specs.Texts.{PageHasTexts}
@@ -16,10 +16,11 @@ use Rattle.inspect_world.specs.ShownPauses.{pauses_in}
 use Rattle.inspect_world.proofs.Growing.{pauses-of}
 use Rattle.inspect_world.specs.Stream.{sent}
 use Rattle.inspect_world.specs.World.{World, AlreadyTold, Spent, one_ask, sent_up, turned, settled}
+use Rattle.inspect_world.specs.Costs.{ask_edits, least_line, line_cost, lines_cost}
 use Rattle.inspect_world.specs.Fold.{folded, joined}
 use Rattle.inspect_world.specs.Fetches.{Fetcher, front_in, FetchLaws}
 use Rattle.inspect_world.specs.Agreement.{RunTogether}
-use Rattle.inspect_world.specs.Fits.{join, most_asks, most_sheets, most_fetches, HasLeft, kept_styles, IsBare, IsNext, next_raw, IsNextTurn, IsFit, replay}
+use Rattle.inspect_world.specs.Fits.{join, most_bytes, most_frames, most_sheets, most_fetches, HasLeft, kept_styles, IsBare, IsNext, next_raw, IsNextTurn, IsFit, replay}
 use Rattle.inspect_world.specs.Scripts.{sends, telling, after_line, after_lines, loaded_world}
 use Rattle.inspect_world.specs.ScriptsFit.{CanSend, IsLater, AreLater}
 use Rattle.inspect_world.specs.ShownReplies.{told_of, replies_in}
@@ -27,19 +28,22 @@ use Rattle.inspect_world.specs.FreshRuns.{refreshes, fresh_line, fresh_lines, Un
 use Rattle.inspect_world.proofs.Frames.{sent-all, sent-passed}
 use Rattle.inspect_world.proofs.FitLemmas.{world_laws}
 use Rattle.inspect_world.proofs.Messages.{IsText-sent, IsNext-sent}
-use Rattle.inspect_world.proofs.Scripts.{fit-first, fits-told, left-first, spent-on}
+use Rattle.inspect_world.proofs.Scripts.{fit-first, fits-told, frame-left, edits-left, turn-left, Spends, spends-nothing, spends-ask, spends-raw, spends-turn, left-first, left-one, spent-on}
 use Rattle.inspect_world.proofs.Inputs.{input-script, Script}
 use Rattle.inspect_world.proofs.FetchLemmas.{IsRefreshed, refreshed-made, fit-rests}
 use Rattle.inspect_world.proofs.TogetherLemmas.{together-first, together-asked, together-raw, together-turned, together-delivered_up, together-delivered_down, together-settled}
 
 -- the asks of both runs are counted alike
 sent-alike : (a : AskForm) (w v : World RunState) → w.spent.asks ≡ v.spent.asks
-    → sends a v ≡ sent_up (command_text (w.spent.asks + 1) a.method a.params a.session) one_ask v
-sent-alike a w v same = ap (λ n. sent_up (command_text (n + 1) a.method a.params a.session) one_ask v) (sym same)
+    → sends a v ≡ sent_up (command_text (w.spent.asks + 1) a.method a.params a.session) (one_ask (ask_edits a)) v
+sent-alike a w v same = ap (λ n. sent_up (command_text (n + 1) a.method a.params a.session) (one_ask (ask_edits a)) v) (sym same)
 
 -- a count of the one run is that of the other
-few-alike : (n m most : ℕ) → n ≡ m → m + 1 ≤ most → n + 1 ≤ most
-few-alike n m most same few = omega (arith, same, few)
+few-alike : (n m more most : ℕ) → n ≡ m → m + more ≤ most → n + more ≤ most
+few-alike n m more most same few = omega (arith, same, few)
+
+frames-alike : (asks asks1 raws raws1 most : ℕ) → asks ≡ asks1 → raws ≡ raws1 → asks1 + raws1 + 1 ≤ most → asks + raws + 1 ≤ most
+frames-alike asks asks1 raws raws1 most same same_raws few = omega (arith, same, same_raws, few)
 
 module _ (fetcher : Fetcher FrontValue) (IsPlain : List ℕ → Type 0)
     (fetching : FetchLaws replay IsNext IsFit fetcher unstyled most_sheets most_fetches)
@@ -51,36 +55,42 @@ module _ (fetcher : Fetcher FrontValue) (IsPlain : List ℕ → Type 0)
 
   -- ---- a line
 
-  both-sent : (a : AskForm) (w v : World RunState) → CanSend a → HasLeft v.spent 1 → BothRuns w v → BothRuns (sends a w) (sends a v)
+  both-sent : (a : AskForm) (w v : World RunState) → CanSend a → HasLeft v.spent (line_cost (ask a)) → BothRuns w v → BothRuns (sends a w) (sends a v)
   both-sent a w v can left both =
-      let few : w.spent.asks + 1 ≤ 2 ^ 26 = few-alike w.spent.asks v.spent.asks (2 ^ 26) both.agrees.asks left.asks in
+      let frame : v.spent.asks + v.spent.raws + 1 ≤ most_frames = frame-left v.spent (ask_edits a) left in
+      let edits : v.spent.edits + ask_edits a ≤ most_bytes = edits-left v.spent (ask_edits a) left in
+      let few : w.spent.asks + w.spent.raws + 1 ≤ most_frames =
+      frames-alike w.spent.asks v.spent.asks w.spent.raws v.spent.raws most_frames both.agrees.asks both.agrees.raws frame in
+      let few_edits : w.spent.edits + ask_edits a ≤ most_bytes = few-alike w.spent.edits v.spent.edits (ask_edits a) most_bytes both.agrees.edits edits in
       let small : w.spent.asks + 1 < 2 ^ 30 = omega (arith, few) in
       let text = command_text (w.spent.asks + 1) a.method a.params a.session in
-      let next1 : IsNext v.spent text (one_ask v.spent) =
-      subst (λ k. IsNext v.spent (command_text (k + 1) a.method a.params a.session) (one_ask v.spent)) (sym both.agrees.asks)
-      (IsNext-sent v.spent a can left.asks (subst (λ k. k + 1 < 2 ^ 30) both.agrees.asks small)) in
+      let next1 : IsNext v.spent text (one_ask (ask_edits a) v.spent) =
+      subst (λ k. IsNext v.spent (command_text (k + 1) a.method a.params a.session) (one_ask (ask_edits a) v.spent)) (sym both.agrees.asks)
+      (IsNext-sent v.spent a can frame edits (subst (λ k. k + 1 < 2 ^ 30) both.agrees.asks small)) in
       subst (λ u. BothRuns (sends a w) u) (sym (sent-alike a w v both.agrees.asks))
-      (together-asked replay IsNext IsNextTurn IsFit world_laws fetcher unstyled most_sheets most_fetches fetching IsPlain (first_value []) text w v
-      (IsText-sent (w.spent.asks + 1) a can (omega (arith, few))) (plain-sent (w.spent.asks + 1) a can small) (IsNext-sent w.spent a can few small) next1 both)
+      (together-asked replay IsNext IsNextTurn IsFit world_laws fetcher unstyled most_sheets most_fetches fetching IsPlain (first_value []) text (ask_edits a) w v
+      (IsText-sent (w.spent.asks + 1) a can (omega (arith, few))) (plain-sent (w.spent.asks + 1) a can small) (IsNext-sent w.spent a can few few_edits small) next1 both)
 
-  both-raw : (text : List ℕ) (w v : World RunState) → IsText text → IsBare text → HasLeft v.spent 1 → BothRuns w v → BothRuns (after_line (forms.raw text) w) (fresh_line fetcher (forms.raw text) v)
+  both-raw : (text : List ℕ) (w v : World RunState) → IsText text → IsBare text → HasLeft v.spent least_line → BothRuns w v → BothRuns (after_line (forms.raw text) w) (fresh_line fetcher (forms.raw text) v)
   both-raw text w v letters bare left both =
       together-raw replay IsNext IsNextTurn IsFit world_laws fetcher unstyled most_sheets most_fetches fetching IsPlain (first_value []) text w v letters
-      (plain-bare text bare) (next_raw bare (few-alike w.spent.raws v.spent.raws most_asks both.agrees.raws left.raws)) (next_raw bare left.raws) both
+      (plain-bare text bare)
+      (next_raw bare (frames-alike w.spent.asks v.spent.asks w.spent.raws v.spent.raws most_frames both.agrees.asks both.agrees.raws (frame-left v.spent 0 left)))
+      (next_raw bare (frame-left v.spent 0 left)) both
 
   both-turned : (x : Turn) (w v : World RunState) → IsNextTurn v.spent x → BothRuns w v → BothRuns (turned run_turn x w) (turned run_turn x v)
   both-turned x w v next both =
       together-turned replay IsNext IsNextTurn IsFit world_laws fetcher unstyled most_sheets most_fetches fetching IsPlain (first_value []) x w v
-      (record { is_turn = next.is_turn; few = few-alike w.spent.turns v.spent.turns most_asks both.agrees.turns next.few }) next both
+      (record { is_turn = next.is_turn; few = few-alike w.spent.turns v.spent.turns 1 most_bytes both.agrees.turns next.few }) next both
 
   -- a settle, which fetches the texts of a page's sheets at most
   pub room-fetches : (v : World RunState) (k : ℕ) → HasLeft v.spent k → v.spent.fetches + most_sheets ≤ most_fetches
   room-fetches v k left = let room : v.spent.fetches + (k + 1) * most_sheets ≤ most_fetches = left.fetches in omega (arith, room)
 
-  both-settled : (w v : World RunState) → HasLeft v.spent 1 → BothRuns w v → BothRuns (settled run_step w) (refreshes fetcher v)
+  both-settled : (w v : World RunState) → HasLeft v.spent least_line → BothRuns w v → BothRuns (settled run_step w) (refreshes fetcher v)
   both-settled w v left both =
       together-settled replay IsNext IsNextTurn IsFit world_laws fetcher unstyled most_sheets most_fetches fetching IsPlain (first_value []) w v
-      (room-fetches v 1 left) both
+      (room-fetches v least_line left) both
 
   -- what was told says nothing of the streams
   both-told : (w v : World RunState) (told told1 : AlreadyTold) → BothRuns w v → BothRuns (telling told w) (telling told1 v)
@@ -94,6 +104,7 @@ module _ (fetcher : Fetcher FrontValue) (IsPlain : List ℕ → Type 0)
       asks = both.agrees.asks;
       raws = both.agrees.raws;
       turns = both.agrees.turns;
+      edits = both.agrees.edits;
       plain = both.agrees.plain;
       fresh = both.agrees.fresh;
       plain_is = both.agrees.plain_is;
@@ -117,6 +128,7 @@ module _ (fetcher : Fetcher FrontValue) (IsPlain : List ℕ → Type 0)
         asks = both.runs.agrees.asks;
         raws = both.runs.agrees.raws;
         turns = both.runs.agrees.turns;
+        edits = both.runs.agrees.edits;
         plain = both.runs.agrees.plain;
         fresh = both.runs.agrees.fresh;
         plain_is = both.runs.agrees.plain_is;
@@ -128,9 +140,9 @@ module _ (fetcher : Fetcher FrontValue) (IsPlain : List ℕ → Type 0)
     left = both.left;
   }
 
-  both-line : (line : LineForm) (w v : World RunState) → IsLater line → HasLeft v.spent 1 → BothRuns w v → BothRuns (after_line line w) (fresh_line fetcher line v)
-  both-line (load page) w v later left both = both-turned (loads page) w v (record { is_turn = later; few = left.turns }) both
-  both-line (forms.act a) w v later left both = both-turned (acts a) w v (record { is_turn = later; few = left.turns }) both
+  both-line : (line : LineForm) (w v : World RunState) → IsLater line → HasLeft v.spent (line_cost line) → BothRuns w v → BothRuns (after_line line w) (fresh_line fetcher line v)
+  both-line (load page) w v later left both = both-turned (loads page) w v (record { is_turn = later; few = turn-left v.spent left }) both
+  both-line (forms.act a) w v later left both = both-turned (acts a) w v (record { is_turn = later; few = turn-left v.spent left }) both
   both-line (ask a) w v later left both = both-sent a w v later left both
   both-line (forms.raw text) w v later left both = both-raw text w v later.0 later.1 left both
   both-line (up n) w v later left both =
@@ -148,58 +160,50 @@ module _ (fetcher : Fetcher FrontValue) (IsPlain : List ℕ → Type 0)
   -- ---- what a line spends
 
   -- what a settle spends
-  settle-left : (w v : World RunState) (k : ℕ) → HasLeft v.spent (suc k) → BothRuns w v → HasLeft v.spent 1 → HasLeft (refreshes fetcher v).spent k
-  settle-left w v k left both one =
+  settle-spends : (w v : World RunState) → BothRuns w v → HasLeft v.spent least_line → Spends v.spent (refreshes fetcher v).spent least_line
+  settle-spends w v both one =
       let made : IsRefreshed replay IsNext IsNextTurn IsFit world_laws fetcher unstyled most_sheets most_fetches fetching (first_value []) w v (refreshes fetcher v) =
       refreshed-made replay IsNext IsNextTurn IsFit world_laws fetcher unstyled most_sheets most_fetches fetching (first_value []) w v
-      both.fits both.fits_fresh both.agrees (room-fetches v 1 one) in
-      let asks : (refreshes fetcher v).spent.asks ≡ v.spent.asks = sym made.agrees.asks ∙ both.agrees.asks in
-      let raws : (refreshes fetcher v).spent.raws ≡ v.spent.raws = sym made.agrees.raws ∙ both.agrees.raws in
-      let turns : (refreshes fetcher v).spent.turns ≡ v.spent.turns = sym made.agrees.turns ∙ both.agrees.turns in
-      spent-on k v.spent (refreshes fetcher v).spent (omega (arith, asks)) made.fetches (omega (arith, raws)) (omega (arith, turns)) left
+      both.fits both.fits_fresh both.agrees (room-fetches v least_line one) in
+      spends-nothing v.spent (refreshes fetcher v).spent (sym made.agrees.asks ∙ both.agrees.asks) (sym made.agrees.raws ∙ both.agrees.raws)
+      (sym made.agrees.turns ∙ both.agrees.turns) (sym made.agrees.edits ∙ both.agrees.edits) made.fetches
 
-  line-left : (line : LineForm) (w v : World RunState) (k : ℕ) → HasLeft v.spent (suc k) → HasLeft v.spent 1 → BothRuns w v → HasLeft (fresh_line fetcher line v).spent k
-  line-left (load page) w v k left one both = spent-on k v.spent (fresh_line fetcher (load page) v).spent (omega arith) (omega arith) (omega arith) (omega arith) left
-  line-left (forms.act a) w v k left one both = spent-on k v.spent (fresh_line fetcher (forms.act a) v).spent (omega arith) (omega arith) (omega arith) (omega arith) left
-  line-left (ask a) w v k left one both = spent-on k v.spent (fresh_line fetcher (ask a) v).spent (omega arith) (omega arith) (omega arith) (omega arith) left
-  line-left (forms.raw text) w v k left one both = spent-on k v.spent (fresh_line fetcher (forms.raw text) v).spent (omega arith) (omega arith) (omega arith) (omega arith) left
-  line-left (up n) w v k left one both = spent-on k v.spent (fresh_line fetcher (up n) v).spent (omega arith) (omega arith) (omega arith) (omega arith) left
-  line-left (down n) w v k left one both = spent-on k v.spent (fresh_line fetcher (down n) v).spent (omega arith) (omega arith) (omega arith) (omega arith) left
-  line-left settle w v k left one both = settle-left w v k left both one
-  line-left show_front w v k left one both = settle-left w v k left both one
-  line-left show_page w v k left one both = spent-on k v.spent v.spent (omega arith) (omega arith) (omega arith) (omega arith) left
-  line-left show_sheets w v k left one both = settle-left w v k left both one
-  line-left show_replies w v k left one both = settle-left w v k left both one
-  line-left show_pauses w v k left one both = settle-left w v k left both one
-  line-left (show_styles i) w v k left one both = settle-left w v k left both one
-
-  -- room for so many lines is room for one
-  one-left : (n : Spent) (k : ℕ) → HasLeft n (suc k) → HasLeft n 1
-  one-left n k left =
-      let ha : n.asks + suc k ≤ most_asks = left.asks in
-      let hf : n.fetches + (suc k + 1) * most_sheets ≤ most_fetches = left.fetches in
-      let hr : n.raws + suc k ≤ most_asks = left.raws in
-      let ht : n.turns + suc k ≤ most_asks = left.turns in
-      record { asks = omega (arith, ha); fetches = omega (arith, hf); raws = omega (arith, hr); turns = omega (arith, ht) }
+  line-spends : (line : LineForm) (w v : World RunState) → HasLeft v.spent (line_cost line) → BothRuns w v → Spends v.spent (fresh_line fetcher line v).spent (line_cost line)
+  line-spends (load page) w v one both = spends-turn (loads page) v
+  line-spends (forms.act a) w v one both = spends-turn (acts a) v
+  line-spends (ask a) w v one both = spends-ask a v
+  line-spends (forms.raw text) w v one both = spends-raw text v
+  line-spends (up n) w v one both = spends-nothing v.spent v.spent refl refl refl refl (omega arith)
+  line-spends (down n) w v one both = spends-nothing v.spent v.spent refl refl refl refl (omega arith)
+  line-spends settle w v one both = settle-spends w v both one
+  line-spends show_front w v one both = settle-spends w v both one
+  line-spends show_page w v one both = spends-nothing v.spent v.spent refl refl refl refl (omega arith)
+  line-spends show_sheets w v one both = settle-spends w v both one
+  line-spends show_replies w v one both = settle-spends w v both one
+  line-spends show_pauses w v one both = settle-spends w v both one
+  line-spends (show_styles i) w v one both = settle-spends w v both one
 
   -- both runs are carried on by a line
-  pub together-line : (line : LineForm) (k : ℕ) (w v : World RunState) → IsLater line → Together IsPlain (suc k) w v
+  pub together-line : (line : LineForm) (k : ℕ) (w v : World RunState) → IsLater line → Together IsPlain (k + line_cost line) w v
       → Together IsPlain k (after_line line w) (fresh_line fetcher line v)
   together-line line k w v later both =
-      let one = one-left v.spent k both.left in
-      record { runs = both-line line w v later one both.runs; left = line-left line w v k both.left one both.runs }
+      let one : HasLeft v.spent (line_cost line) = left-one v.spent k (line_cost line) both.left in
+      record {
+        runs = both-line line w v later one both.runs;
+        left = spent-on k (line_cost line) v.spent (fresh_line fetcher line v).spent (line-spends line w v one both.runs) both.left;
+      }
 
   -- ---- all lines
 
-  both-lines : (n : ℕ) (lines : List LineForm) (w v : World RunState) → AreLater lines → Together IsPlain (length lines) w v
+  both-lines : (n : ℕ) (lines : List LineForm) (w v : World RunState) → AreLater lines → Together IsPlain (lines_cost lines) w v
       → BothRuns (after_lines (take n lines) w) (fresh_lines fetcher (take n lines) v)
   both-lines zero lines w v later both = both.runs
   both-lines (suc n) [] w v later both = both.runs
   both-lines (suc n) (line ∷ lines) w v later both =
-      both-lines n lines (after_line line w) (fresh_line fetcher line v) later.1 (together-line line (length lines) w v later.0 both)
+      both-lines n lines (after_line line w) (fresh_line fetcher line v) later.1 (together-line line (lines_cost lines) w v later.0 both)
 
   -- both runs begin with the load
-  pub together-loaded : (page : LoadedPage) (k : ℕ) → CanLoadPage page → PageHasTexts page → k ≤ most_asks → Together IsPlain k (loaded_world page) (loaded_world page)
+  pub together-loaded : (page : LoadedPage) (k : ℕ) → CanLoadPage page → PageHasTexts page → k ≤ most_bytes → Together IsPlain k (loaded_world page) (loaded_world page)
   together-loaded page k can texts few = record {
     runs =
         together-first replay IsNext IsNextTurn IsFit world_laws fetcher unstyled most_sheets most_fetches fetching IsPlain (first_value []) (run_start page)
@@ -209,12 +213,12 @@ module _ (fetcher : Fetcher FrontValue) (IsPlain : List ℕ → Type 0)
 
   pub fresh-lines-fit : FreshLinesFit fetcher IsPlain
   fresh-lines-fit page lines can texts later few n =
-      both-lines n lines (loaded_world page) (loaded_world page) later (together-loaded page (length lines) can texts few)
+      both-lines n lines (loaded_world page) (loaded_world page) later (together-loaded page (lines_cost lines) can texts few)
 
   pub fresh-inputs-fit : FreshInputsFit fetcher IsPlain
   fresh-inputs-fit input page lines is few n =
       let script : Script page lines (length input) = input-script input page lines is in
-      let a : length lines ≤ length input = script.rest.few in
+      let a : lines_cost lines ≤ length input = script.rest.few in
       fresh-lines-fit page lines script.can script.texts script.rest.later (omega (arith, a, few)) n
 
   -- ---- after a settle

@@ -26,6 +26,7 @@ use Rattle.std.specs.Option.{option_map_or}
 use Rattle.replay_script.specs.Faults.{is_no_frame, fault_of_data, line_fault}
 use Rattle.replay_script.specs.Script.{script_forms, good_lines}
 use Rattle.page_forms.specs.Texts.{PageHasTexts}
+use Rattle.inspect_world.specs.Costs.{line_cost, lines_cost, line_bytes}
 use Rattle.inspect_world.specs.ScriptsFit.{IsLater, AreLater, InputsFit}
 use Rattle.replay_script.proofs.FaultLemmas.{line_form-good, line_good, is_clear, IsClear, json_good}
 use Rattle.replay_script.proofs.ScriptLemmas.{good_lines-good, good_lines-bad}
@@ -34,6 +35,7 @@ use Rattle.inspect_world.proofs.SendForms.{can_send}
 use Rattle.inspect_world.proofs.BareFrames.{raw_is_frame}
 use Rattle.cdp_json.proofs.Options.{both_parts, and_then_some, map_some}
 use Rattle.cdp_json.proofs.ReadTexts.{IfSome, read_utf8}
+use Rattle.inspect_world.proofs.LineSizes.{line-long}
 use Rattle.inspect_world.proofs.Scripts.{lines-fit}
 
 -- ---- the value of a line
@@ -161,23 +163,23 @@ later_line nth line form e is =
 -- the forms of lines that are carried out after the load
 pub record Later (forms : List LineForm) (most : ℕ) : Type 0 where
   pub later : AreLater forms
-  pub few : length forms ≤ most
+  pub few : lines_cost forms ≤ most
 
-later_cons : (form : LineForm) (forms : List LineForm) (most : ℕ) → IsLater form → Later forms most → Later (form ∷ forms) (suc most)
-later_cons form forms most is rest = record { later = (is, rest.later); few = let h : length forms ≤ most = rest.few in omega arith }
+later_cons : (form : LineForm) (forms : List LineForm) (line most : ℕ) → IsLater form → line_cost form ≤ line → Later forms most → Later (form ∷ forms) (most + line)
+later_cons form forms line most is cost rest = record { later = (is, rest.later); few = let h : lines_cost forms ≤ most = rest.few in omega (arith, h, cost) }
 
-later_lines : (nth : ℕ) (lines : List (List ℕ)) → Later (good_lines nth lines) (length lines)
+later_lines : (nth : ℕ) (lines : List (List ℕ)) → Later (good_lines nth lines) (line_bytes lines)
 later_lines nth [] = record { later = tt; few = omega arith }
 later_lines nth (line ∷ more) =
-    (elim (line_fault nth line) as (λ f. line_fault nth line ≡ f → Later (good_lines nth (line ∷ more)) (suc (length more))) [
+    (elim (line_fault nth line) as (λ f. line_fault nth line ≡ f → Later (good_lines nth (line ∷ more)) (line_bytes more + length line)) [
       | None ↦ λ e.
           let form = line_form-good nth line e in
-          subst (λ forms. Later forms (suc (length more))) (sym (good_lines-good nth line more form.0 e form.1))
-          (later_cons form.0 (good_lines (nth + 1) more) (length more)
-          (later_line nth line form.0 e form.1)
+          subst (λ forms. Later forms (line_bytes more + length line)) (sym (good_lines-good nth line more form.0 e form.1))
+          (later_cons form.0 (good_lines (nth + 1) more) (length line) (line_bytes more)
+          (later_line nth line form.0 e form.1) (line-long line form.0 form.1)
           (later_lines (nth + 1) more))
       | Some fault ↦ λ e.
-          subst (λ forms. Later forms (suc (length more))) (sym (good_lines-bad nth line more fault e)) (record { later = tt; few = omega arith })
+          subst (λ forms. Later forms (line_bytes more + length line)) (sym (good_lines-bad nth line more fault e)) (record { later = tt; few = omega arith })
     ]) refl
 
 -- a script whose first line is a load
@@ -186,23 +188,23 @@ pub record Script (page : LoadedPage) (forms : List LineForm) (most : ℕ) : Typ
   pub texts : PageHasTexts page
   pub rest : Later forms most
 
-script_of : (lines : List (List ℕ)) (page : LoadedPage) (forms : List LineForm) → good_lines 1 lines ≡ load page ∷ forms → Script page forms (length lines)
+script_of : (lines : List (List ℕ)) (page : LoadedPage) (forms : List LineForm) → good_lines 1 lines ≡ load page ∷ forms → Script page forms (line_bytes lines)
 script_of [] page forms is = let no : ◌≡◌ {A = List LineForm} [] (load page ∷ forms) = is in absurd cc
 script_of (line ∷ more) page forms is =
-    (elim (line_fault 1 line) as (λ f. line_fault 1 line ≡ f → Script page forms (suc (length more))) [
+    (elim (line_fault 1 line) as (λ f. line_fault 1 line ≡ f → Script page forms (line_bytes more + length line)) [
       | None ↦ λ e.
           let form = line_form-good 1 line e in
           let later = good_lines (1 + 1) more in
           let all : ◌≡◌ {A = List LineForm} (form.0 ∷ later) (load page ∷ forms) = sym (good_lines-good 1 line more form.0 e form.1) ∙ is in
           let head : form.0 ≡ load page = cc all in
           let tail : later ≡ forms = cc all in
-          let rest : Later later (length more) = later_lines 2 more in
-          let same : Later forms (length more) = subst (λ fs. Later fs (length more)) tail rest in
+          let rest : Later later (line_bytes more) = later_lines 2 more in
+          let same : Later forms (line_bytes more) = subst (λ fs. Later fs (line_bytes more)) tail rest in
           let first : IsLater (load page) = later_line 1 line (load page) e (form.1 ∙ ap Some head) in
           record {
             can = first.0;
             texts = first.1;
-            rest = record { later = same.later; few = let h : length forms ≤ length more = same.few in omega arith };
+            rest = record { later = same.later; few = let h : lines_cost forms ≤ line_bytes more = same.few in omega arith };
           }
       | Some fault ↦ λ e.
           let no : ◌≡◌ {A = List LineForm} [] (load page ∷ forms) = sym (good_lines-bad 1 line more fault e) ∙ is in absurd cc
@@ -221,16 +223,29 @@ pub length-lines_of : (input : List ℕ) → length (lines_of input) ≤ length 
 length-lines_of [] = omega arith
 length-lines_of (b ∷ more) = length-cut (is_line_feed b) b (lines_of more) (length more) (length-lines_of more)
 
+-- and no more in them
+bytes-onto_first : (b : ℕ) (lines : List (List ℕ)) (n : ℕ) → line_bytes lines ≤ n → line_bytes (onto_first b lines) ≤ suc n
+bytes-onto_first b [] n h = omega arith
+bytes-onto_first b (line ∷ lines) n h = omega (arith, h)
+
+bytes-cut : (cuts : Bool) (b : ℕ) (lines : List (List ℕ)) (n : ℕ) → line_bytes lines ≤ n → line_bytes (if cuts then [] ∷ lines else onto_first b lines) ≤ suc n
+bytes-cut true b lines n h = omega (arith, h)
+bytes-cut false b lines n h = bytes-onto_first b lines n h
+
+pub bytes-lines_of : (input : List ℕ) → line_bytes (lines_of input) ≤ length input
+bytes-lines_of [] = omega arith
+bytes-lines_of (b ∷ more) = bytes-cut (is_line_feed b) b (lines_of more) (length more) (bytes-lines_of more)
+
 -- what the lines of an input are that is carried out
 pub input-script : (input : List ℕ) (page : LoadedPage) (lines : List LineForm) → script_forms input ≡ load page ∷ lines → Script page lines (length input)
 input-script input page lines is =
-    let script : Script page lines (length (lines_of input)) = script_of (lines_of input) page lines is in
-    let a : length lines ≤ length (lines_of input) = script.rest.few in
-    let b : length (lines_of input) ≤ length input = length-lines_of input in
+    let script : Script page lines (line_bytes (lines_of input)) = script_of (lines_of input) page lines is in
+    let a : lines_cost lines ≤ line_bytes (lines_of input) = script.rest.few in
+    let b : line_bytes (lines_of input) ≤ length input = bytes-lines_of input in
     record { can = script.can; texts = script.texts; rest = record { later = script.rest.later; few = omega (arith, a, b) } }
 
 pub inputs-fit : InputsFit
 inputs-fit input page lines is few =
     let script : Script page lines (length input) = input-script input page lines is in
-    let a : length lines ≤ length input = script.rest.few in
+    let a : lines_cost lines ≤ length input = script.rest.few in
     lines-fit page lines script.can script.texts script.rest.later (omega (arith, a, few))

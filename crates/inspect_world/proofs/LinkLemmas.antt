@@ -24,15 +24,15 @@ use Rattle.replay_script.specs.Forms.{AskForm}
 use Rattle.back_end.specs.declared.seat.Seat.{Seat}
 use Rattle.back_end.specs.declared.side.PageSide.{PageSide}
 use Rattle.back_end.specs.States.{State, IsState, view_of}
-use Rattle.back_end.specs.Steps.{Step, Turn, Stepped, frame_step, turn_step, as_bytes, step, turn}
-use Rattle.back_end.specs.Laws.{most_ids, HasRoom, StepsWell, IsAnswered, IsTurn, reply_ids}
+use Rattle.back_end.specs.Steps.{Step, Turn, Stepped, asked_step, frame_step, turn_step, as_bytes, step, turn}
+use Rattle.back_end.specs.Laws.{most_ids, tree_edits, edits_kept, edits_asked, KeepsAtMost, HasRoom, StepsWell, IsAnswered, IsTurn, reply_ids}
 use Rattle.page_tree.specs.Forms.{max_nodes}
 use Rattle.page_forms.specs.Sheets.{max_sheets}
 use Rattle.page_tree.specs.Pages.{State as PageValue}
 use Rattle.back_end.specs.Seats.{StandsFor, HasRoomLeft}
-use Rattle.inspect_world.specs.Fits.{ask_in, ask_with, asks_among, most_asks}
+use Rattle.inspect_world.specs.Fits.{ask_in, ask_with, asks_among, most_bytes}
 use Rattle.inspect_world.specs.Held.{Ends, good_front}
-use Rattle.inspect_world.specs.Links.{fold_of, knows_styles, Happening, came, made, step_of, happened, frames_among, made_among, Started, started, one_line_more, GoesOn, Follows}
+use Rattle.inspect_world.specs.Links.{fold_of, knows_styles, Happening, came, made, step_of, happened, frames_among, made_among, commands_in, commands_among, bytes_among, Drew, Started, started, one_line_more, GoesOn, Follows}
 use Rattle.inspect_world.specs.ScriptsFit.{CanSend}
 use Rattle.inspect_world.specs.FreshRuns.{front_fetcher}
 use Rattle.inspect_world.proofs.FetchForms.{fetch-text, sent-fetch}
@@ -51,7 +51,10 @@ use Rattle.inspect_world.proofs.Growing.{grows-folded, styles-stay}
 use Rattle.inspect_world.proofs.StepsTaken.{folded-fold, course-quiet, Taken, taken, tells-all, meets-one, by-refusal, ids-kept}
 use Rattle.inspect_world.proofs.AskLemmas.{asks_among-append}
 use Rattle.inspect_world.proofs.Worlds.{whole-after, rest-after}
-use Rattle.inspect_world.proofs.CountLemmas.{events-counted, frames-few, made-last, more_ids, more_serials, more_numbers, is-full, ids-left, serials-left, numbers-left}
+use Rattle.inspect_world.proofs.CountLemmas.{events-counted, frames-few, frames-within, bytes-append, commands-long, commands-last, made-last, command-ids, command-trees, command-edits, count-bytes, more-bytes, no-more, made-ids, more_serials, more_numbers, is-full, ids-left, serials-left, numbers-left, few-edits}
+use Rattle.inspect_world.proofs.TurnLemmas.{TurnKeeps, turn-keeps}
+use Rattle.inspect_world.proofs.SeatRoom.{has-room-left, seated-state}
+use Rattle.back_end.proofs.EditSizes.{edits-few}
 
 -- ---- what a step sends
 
@@ -60,7 +63,7 @@ pub record Sends (state : State) (h : Happening) : Type 0 where
   pub texts : List (List ℕ)
   pub frames_are : frames_of (step_of h state).sent ≡ record { whole = texts; rest = [] }
   pub ids_are : map (λ (t : ShownReply). t.id) (replies_among texts) ≡ map reply_id (frames_among (h ∷ []))
-  pub ids : length (step_of h state).state.client.session.pushed ≤ length state.client.session.pushed + most_ids
+  pub drew : (c m b : ℕ) → Drew state c m b → Drew (step_of h state).state (c + commands_among (h ∷ [])) (m + made_among (h ∷ [])) (b + bytes_among (frames_among (h ∷ [])))
   pub serials : (step_of h state).state.side.page.next ≤ state.side.page.next + (max_nodes + 1)
   pub numbers : (step_of h state).state.side.next_sheet ≤ state.side.next_sheet + max_sheets
 
@@ -76,10 +79,17 @@ knows-unread (s ∷ ss) = (record { number = refl; origin = refl; text = λ fres
 abbrev waiting_front : State → List Ask → FrontValue
 waiting_front state asks = record (first_value asks) { tree = (view_of state).tree; sheets = unread (view_of state).sheets }
 
+-- the same counts, written otherwise
+same-drew : (state : State) {c c1 m m1 b b1 : ℕ} → c1 ≡ c → m1 ≡ m → b1 ≡ b → Drew state c m b → Drew state c1 m1 b1
+same-drew state {c} {c1} {m} {m1} {b} {b1} p q r drew =
+    subst (λ x. Drew state x m1 b1) (sym p) (subst (λ y. Drew state c y b1) (sym q) (subst (λ z. Drew state c m z) (sym r) drew))
+
 -- what the moves of a step send
 sends-moves : (state : State) (h : Happening) (done : Step) (asks rest : List Ask) → StepsWell state done → step_of h state ≡ as_bytes done
-    → ArePlain asks → InTurn done.moves asks rest → flat_map reply_ids done.moves ≡ map reply_id (frames_among (h ∷ [])) → Sends state h
-sends-moves state h done asks rest well is_step plain in_turn ids =
+    → ArePlain asks → InTurn done.moves asks rest → flat_map reply_ids done.moves ≡ map reply_id (frames_among (h ∷ []))
+    → ((c m b : ℕ) → Drew state c m b → Drew done.state (c + commands_among (h ∷ [])) (m + made_among (h ∷ [])) (b + bytes_among (frames_among (h ∷ []))))
+    → Sends state h
+sends-moves state h done asks rest well is_step plain in_turn ids drew =
     let t : Taken done (waiting_front state asks) rest = taken state done (waiting_front state asks) rest well.course (record { tree = refl; sheets = knows-unread (view_of state).sheets }) in_turn in
     let among : map told_of t.after.replies ≡ replies_among t.texts = replies-folded t.texts (waiting_front state asks) t.after plain t.is_fold in
     record {
@@ -88,39 +98,81 @@ sends-moves state h done asks rest well is_step plain in_turn ids =
       ids_are =
           ap (map (λ (x : ShownReply). x.id)) (sym among ∙ ap (map told_of) t.replies)
           ∙ ids-kept done.moves asks plain ∙ ids;
-      ids =
-          subst (λ (d : Stepped State). length d.state.client.session.pushed ≤ length state.client.session.pushed + most_ids) (sym is_step) well.ids;
+      drew = λ c m b before.
+          subst (λ (d : Stepped State). Drew d.state (c + commands_among (h ∷ [])) (m + made_among (h ∷ [])) (b + bytes_among (frames_among (h ∷ [])))) (sym is_step) (drew c m b before);
       serials = subst (λ (d : Stepped State). d.state.side.page.next ≤ state.side.page.next + (max_nodes + 1)) (sym is_step) well.serials;
       numbers = subst (λ (d : Stepped State). d.state.side.next_sheet ≤ state.side.next_sheet + max_sheets) (sym is_step) well.sheets;
     }
 
--- a frame that came
+count-one : (c n : ℕ) → n ≡ 1 → c + (0 + n) ≡ c + 1
+count-one c n e = omega (arith, e)
+
+count-none : (c n : ℕ) → n ≡ 0 → c + (0 + n) ≡ c
+count-none c n e = omega (arith, e)
+
+-- a command draws, and may keep edits
+command-drew : (state : State) (frame : List ℕ) (done : Step) (r : Result Asked Refused) → StepsWell state done → KeepsAtMost (edits_asked (asked frame false)) state done.state
+    → commands_in r ≡ 1 → asked frame false ≡ r → (c m b : ℕ) → Drew state c m b
+    → Drew done.state (c + commands_among (came frame ∷ [])) (m + made_among (came frame ∷ [])) (b + bytes_among (frames_among (came frame ∷ [])))
+command-drew state frame done r well keeps command asks c m b before =
+    let one : commands_in (asked frame false) ≡ 1 = ap commands_in asks ∙ command in
+    let few : edits_asked (asked frame false) ≤ length frame = edits-few false frame in
+    same-drew done.state (count-one c (commands_in (asked frame false)) one) (count-none m 0 refl) (count-bytes b (length frame)) (record {
+      ids = command-ids (length state.client.session.pushed) (tree_edits state) (length done.state.client.session.pushed) (tree_edits done.state) c m well.ids well.trees before.trees before.ids;
+      trees = command-trees (tree_edits state) (tree_edits done.state) c well.trees before.trees;
+      edits = command-edits (edits_kept state) (edits_kept done.state) (edits_asked (asked frame false)) b (length frame) keeps few before.edits;
+    })
+
+-- a frame that is refused changes nothing
+refused-drew : (state : State) (frame : List ℕ) (done : Step) → done.state ≡ state → commands_in (asked frame false) ≡ 0 → (c m b : ℕ) → Drew state c m b
+    → Drew done.state (c + commands_among (came frame ∷ [])) (m + made_among (came frame ∷ [])) (b + bytes_among (frames_among (came frame ∷ [])))
+refused-drew state frame done same none c m b before =
+    subst (λ s. Drew s (c + commands_among (came frame ∷ [])) (m + made_among (came frame ∷ [])) (b + bytes_among (frames_among (came frame ∷ [])))) (sym same)
+    (same-drew state (count-none c (commands_in (asked frame false)) none) (count-none m 0 refl) (count-bytes b (length frame))
+    (record { ids = before.ids; trees = before.trees; edits = more-bytes (edits_kept state) b (length frame) before.edits }))
+
+-- a step of the script leaves no edit, or changes nothing
+made-drew : (state : State) (x : Turn) → StepsWell state (turn_step x state) → (c m b : ℕ) → Drew state c m b
+    → Drew (turn_step x state).state (c + commands_among (made x ∷ [])) (m + made_among (made x ∷ [])) (b + bytes_among (frames_among (made x ∷ [])))
+made-drew state x well c m b before =
+    let keeps : TurnKeeps state (turn_step x state).state = turn-keeps x state well in
+    same-drew (turn_step x state).state (count-none c 0 refl) (count-one m 1 refl) (count-none b 0 refl) (record {
+      ids = made-ids (length state.client.session.pushed + tree_edits state) (length (turn_step x state).state.client.session.pushed + tree_edits (turn_step x state).state) (c * c + c) c m keeps.ids before.ids;
+      trees = no-more (tree_edits state) (tree_edits (turn_step x state).state) (c * 2) keeps.trees before.trees;
+      edits = no-more (edits_kept state) (edits_kept (turn_step x state).state) b keeps.edits before.edits;
+    })
+
 sends-frame : (state : State) (frame : List ℕ) (done : Step) → frame_step false frame state ≡ done → StepsWell state done → (r : Result Asked Refused) → asked frame false ≡ r
-    → IsAnswered r done.moves → Sends state (came frame)
-sends-frame state frame done is well (Ok a) asks answered =
+    → IsAnswered r done.moves → KeepsAtMost (edits_asked (asked frame false)) state done.state → Sends state (came frame)
+sends-frame state frame done is well (Ok a) asks answered keeps =
     sends-moves state (came frame) done (ask_with (method_name a.command) a.id ∷ []) [] well (ap as_bytes is) (refl, tt)
     (meets-one done.moves (method_name a.command) a.id [] answered.0 answered.1 (course-quiet done.moves (view_of state) (view_of done.state) well.course))
     (answered.0 ∙ ap (λ o. id_asked o ∷ []) (sym asks))
-sends-frame state frame done is well (Err r) asks answered = at r.id refl where
+    (command-drew state frame done (Ok a) well keeps refl asks)
+sends-frame state frame done is well (Err r) asks answered keeps = at r.id refl where
+  drew : (c m b : ℕ) → Drew state c m b → Drew done.state (c + commands_among (came frame ∷ [])) (m + made_among (came frame ∷ [])) (b + bytes_among (frames_among (came frame ∷ [])))
+  drew = refused-drew state frame done (sym (ap (λ (d : Step). d.state) is) ∙ ap (λ x. (asked_step x state).state) asks) (ap commands_in asks)
+
   ids : flat_map reply_ids done.moves ≡ reply_id frame ∷ []
   ids = ap (flat_map reply_ids) answered ∙ ap (λ o. id_asked o ∷ []) (sym asks)
 
   at : (o : Option ℕ) → r.id ≡ o → Sends state (came frame)
-  at None none = sends-moves state (came frame) done [] [] well (ap as_bytes is) tt (by-refusal [] done.moves r none answered) ids
+  at None none = sends-moves state (came frame) done [] [] well (ap as_bytes is) tt (by-refusal [] done.moves r none answered) ids drew
   at (Some id) some =
       sends-moves state (came frame) done (ask_with [] id ∷ []) [] well (ap as_bytes is) (refl, tt)
-      (subst (λ ms. InTurn ms (ask_with [] id ∷ []) []) (sym answered) (meets (failed r) [] (ask_with [] id) [] [] some (rests []))) ids
+      (subst (λ ms. InTurn ms (ask_with [] id ∷ []) []) (sym answered) (meets (failed r) [] (ask_with [] id) [] [] some (rests []))) ids drew
 
 pub frame-sends : (state : State) (frame : List ℕ) → IsState state → HasRoom state → Sends state (came frame)
 frame-sends state frame is room =
     let well = frame-steps-well false state frame is room in
-    sends-frame state frame (frame_step false frame state) refl well.0 (asked frame false) refl well.1
+    sends-frame state frame (frame_step false frame state) refl well.0 (asked frame false) refl well.1 well.2
 
 -- a step that the script made
 pub turn-sends : (state : State) (x : Turn) → IsState state → HasRoom state → IsTurn x → Sends state (made x)
 turn-sends state x is room is_turn =
     let none = turn-answers x state in
-    sends-moves state (made x) (turn_step x state) [] [] (turn-steps-well state x is room is_turn) refl tt (tells-all (turn_step x state).moves [] none) none
+    let well = (turn-steps-well state x is room is_turn).0 in
+    sends-moves state (made x) (turn_step x state) [] [] well refl tt (tells-all (turn_step x state).moves [] none) none (made-drew state x well)
 
 -- ---- one happening more
 
@@ -192,12 +244,12 @@ folds-sent sent_up more given_down v whole e =
 
 -- a page was loaded, and both ends are new
 pub follows-start : (up0 down0 : Pipe) (state0 : Started) (seat : Seat) (side : PageSide) → state0.shown ≡ [] → StandsFor seat side state0.state
-    → state0.lines ≤ most_asks → length state0.state.client.session.pushed ≤ 0 * most_ids → state0.state.side.page.next ≤ (0 + 1) * (max_nodes + 1)
+    → state0.lines ≤ most_bytes → Drew state0.state 0 0 0 → state0.state.side.page.next ≤ (0 + 1) * (max_nodes + 1)
     → state0.state.side.next_sheet ≤ (0 + 1) * max_sheets + 1
     → Follows state0 up0 down0 up0 down0 []
     (record { seat = seat; side = side; back_rest = []; front = first_state; up_there = 0; down_there = 0; told = nothing_told })
 unfolding frames_of
-follows-start up0 down0 state0 seat side none stands few ids serials numbers = record {
+follows-start up0 down0 state0 seat side none stands few drew serials numbers = record {
   sent_up = [];
   given_up = [];
   sent_down = [];
@@ -222,7 +274,7 @@ follows-start up0 down0 state0 seat side none stands few ids serials numbers = r
   down_left = refl;
   few_asked = omega arith;
   few_made = omega (arith, few);
-  few_ids = ids;
+  drew = drew;
   few_serials = serials;
   few_numbers = numbers;
 }
@@ -254,8 +306,8 @@ follows-fewer state0 up0 down0 up down waiting e f = record {
   up_left = f.up_left;
   down_left = f.down_left;
   few_asked = f.few_asked;
-  few_made = let few : made_among f.events + (state0.lines + 1) ≤ most_asks = f.few_made in omega (arith, few);
-  few_ids = f.few_ids;
+  few_made = let few : made_among f.events + (state0.lines + 1) ≤ most_bytes = f.few_made in omega (arith, few);
+  drew = f.drew;
   few_serials = f.few_serials;
   few_numbers = f.few_numbers;
 }
@@ -289,7 +341,7 @@ follows-showing state0 shown up0 down0 up down waiting e f all = record {
   down_left = f.down_left;
   few_asked = f.few_asked;
   few_made = f.few_made;
-  few_ids = f.few_ids;
+  drew = f.drew;
   few_serials = f.few_serials;
   few_numbers = f.few_numbers;
 }
@@ -350,7 +402,7 @@ module _ (state0 : Started) (up0 down0 : Pipe) where
             let before : e.front.next + e.front.fetches ≤ length f.sent_up + 1 = f.few_asked in
             omega (arith, more, zero, before, one);
         few_made = f.few_made;
-        few_ids = f.few_ids;
+        drew = f.drew;
         few_serials = f.few_serials;
         few_numbers = f.few_numbers;
       }
@@ -441,7 +493,7 @@ module _ (state0 : Started) (up0 down0 : Pipe) where
     down_left = f.down_left;
     few_asked = f.few_asked;
     few_made = f.few_made;
-    few_ids = f.few_ids;
+    drew = f.drew;
     few_serials = f.few_serials;
     few_numbers = f.few_numbers;
   }
@@ -502,10 +554,15 @@ module _ (state0 : Started) (up0 down0 : Pipe) where
             omega (arith, longer, before, left);
         few_asked = f.few_asked;
         few_made =
-            let before : made_among f.events + lines ≤ most_asks = f.few_made in
+            let before : made_among f.events + lines ≤ most_bytes = f.few_made in
             let last : made_among (f.events ++ h ∷ []) ≡ made_among f.events + made_among (h ∷ []) = made-last f.events h in
             omega (arith, before, last, room);
-        few_ids = more_ids (length f.state.client.session.pushed) (length (step_of h f.state).state.client.session.pushed) (length f.events) (length (f.events ++ h ∷ [])) events f.few_ids s.ids;
+        drew =
+            let commands : commands_among (f.events ++ h ∷ []) ≡ commands_among f.events + commands_among (h ∷ []) = commands-last f.events h in
+            let made_last : made_among (f.events ++ h ∷ []) ≡ made_among f.events + made_among (h ∷ []) = made-last f.events h in
+            let bytes : bytes_among (frames_among (f.events ++ h ∷ [])) ≡ bytes_among (frames_among f.events) + bytes_among (frames_among (h ∷ [])) =
+            ap bytes_among (frames-last f.events h) ∙ bytes-append (frames_among f.events) (frames_among (h ∷ [])) in
+            same-drew (step_of h f.state).state commands made_last bytes (s.drew (commands_among f.events) (made_among f.events) (bytes_among (frames_among f.events)) f.drew);
         few_serials = more_serials f.state.side.page.next (step_of h f.state).state.side.page.next (length f.events) (length (f.events ++ h ∷ [])) events f.few_serials s.serials;
         few_numbers = more_numbers f.state.side.next_sheet (step_of h f.state).state.side.next_sheet (length f.events) (length (f.events ++ h ∷ [])) events f.few_numbers s.numbers;
       }
@@ -518,7 +575,7 @@ module _ (state0 : Started) (up0 down0 : Pipe) where
       → Follows state0 up0 down0 up down1 frames (record e { seat = seat; side = side; down_there = there })
   follows-answered up down down1 frame frames e seat side out there f left room stands out_is sent_is given_is =
       follows-step state0.lines up down down1 (came frame) (frame ∷ frames) frames e seat side out there (omega arith) f refl left
-      (frame-sends f.state frame f.stands.is_state room) stands out_is sent_is given_is
+      (frame-sends f.state frame (seated-state e.seat e.side f.state f.stands) room) stands out_is sent_is given_is
 
   -- the script makes a step by itself
   pub follows-turned : (up down down1 : Pipe) (x : Turn) (waiting : List (List ℕ)) (e : Ends) (seat : Seat) (side : PageSide) (out : List ℕ) (there : ℕ)
@@ -528,7 +585,7 @@ module _ (state0 : Started) (up0 down0 : Pipe) where
       → Follows state0 up0 down0 up down1 waiting (record e { seat = seat; side = side; down_there = there })
   follows-turned up down down1 x waiting e seat side out there f left room is_turn stands out_is sent_is given_is =
       follows-step (state0.lines + 1) up down down1 (made x) waiting waiting e seat side out there (omega arith) f refl left
-      (turn-sends f.state x f.stands.is_state room is_turn) stands out_is sent_is given_is
+      (turn-sends f.state x (seated-state e.seat e.side f.state f.stands) room is_turn) stands out_is sent_is given_is
 
   -- ---- bytes go down
 
@@ -589,7 +646,7 @@ module _ (state0 : Started) (up0 down0 : Pipe) where
             let before : e.front.next + e.front.fetches ≤ length f.sent_up + 1 = f.few_asked in
             omega (arith, before, next, fetches);
         few_made = f.few_made;
-        few_ids = f.few_ids;
+        drew = f.drew;
         few_serials = f.few_serials;
         few_numbers = f.few_numbers;
       }
@@ -659,23 +716,29 @@ module _ (state0 : Started) (up0 down0 : Pipe) where
 
   -- and where the back end has none
   pub seat-full : (up down : Pipe) (waiting : List (List ℕ)) (e : Ends) → Follows state0 up0 down0 up down waiting e
-      → (HasRoomLeft e.seat.desk e.side → false ≡ true) → 2 ^ 28 ≤ length (sent_since up0 up)
+      → (HasRoomLeft e.seat e.side → false ≡ true) → 2 ^ 28 ≤ length (sent_since up0 up)
   seat-full up down waiting e f none =
       let sent : length (sent_since up0 up) ≡ length f.sent_up = ap length (sent_since-is up0 up f.sent_up f.given_up f.up_is) in
       let left : e.up_there + length f.given_up ≡ length f.sent_up = f.up_left in
-      let few : made_among f.events + state0.lines ≤ most_asks = f.few_made in
+      let few : made_among f.events + state0.lines ≤ most_bytes = f.few_made in
       let counted : length f.events ≡ length (frames_among f.events) + made_among f.events = events-counted f.events in
       let whole : length (frames_of f.given_up).whole ≤ length f.given_up = frames-few f.given_up in
       let all : length (frames_of f.given_up).whole ≡ length (frames_among f.events) + length waiting =
       ap length f.frames_are ∙ length-append (frames_among f.events) waiting in
-      let next : e.seat.desk.agent.next ≡ length f.state.client.session.pushed + 1 = f.stands.stands.next_is in
+      let long : commands_among f.events * 9 ≤ bytes_among (frames_among f.events) = commands-long f.events in
+      let within : bytes_among (frames_of f.given_up).whole ≤ length f.given_up = frames-within f.given_up in
+      let bytes : bytes_among (frames_of f.given_up).whole ≡ bytes_among (frames_among f.events) + bytes_among waiting =
+      ap bytes_among f.frames_are ∙ bytes-append (frames_among f.events) waiting in
       is-full (length (sent_since up0 up)) (λ less.
       let events : length f.events < 2 ^ 29 = omega (arith, sent, left, few, counted, whole, all, less) in
-      let no : false ≡ true = none (record {
-        ids = subst (λ n. n < 2 ^ 50) (sym next) (ids-left (length f.state.client.session.pushed) (length f.events) events f.few_ids);
-        serials = subst (λ (page : PageValue). page.next < 2 ^ 50) (sym f.stands.page_is) (serials-left f.state.side.page.next (length f.events) events f.few_serials);
-        sheets = subst (λ n. n < 2 ^ 50) (sym f.stands.next_is) (numbers-left f.state.side.next_sheet (length f.events) events f.few_numbers);
-      }) in absurd cc)
+      let given : bytes_among (frames_among f.events) < 2 ^ 28 = omega (arith, sent, left, within, bytes, less) in
+      let few_made : made_among f.events ≤ 2 ^ 26 = omega (arith, few) in
+      let no : false ≡ true = none (has-room-left e.seat e.side f.state f.stands (record {
+        ids = ids-left (length f.state.client.session.pushed) (tree_edits f.state) (commands_among f.events) (made_among f.events) (bytes_among (frames_among f.events)) long given few_made f.drew.ids;
+        serials = serials-left f.state.side.page.next (length f.events) events f.few_serials;
+        sheets = numbers-left f.state.side.next_sheet (length f.events) events f.few_numbers;
+        edits = few-edits (edits_kept f.state) (bytes_among (frames_among f.events)) given f.drew.edits;
+      })) in absurd cc)
 
   -- ---- what was told says nothing of the link
 
@@ -706,7 +769,7 @@ module _ (state0 : Started) (up0 down0 : Pipe) where
     down_left = f.down_left;
     few_asked = f.few_asked;
     few_made = f.few_made;
-    few_ids = f.few_ids;
+    drew = f.drew;
     few_serials = f.few_serials;
     few_numbers = f.few_numbers;
   }

@@ -14,15 +14,17 @@ use Rattle.cdp_messages.specs.declared.command.Why.{Why}
 use Rattle.cdp_messages.specs.declared.command.Refused.{Refused}
 use Rattle.cdp_messages.specs.Asked.{json_of, command_of, method_in, command_in, asked_by, with_id, asked_in, asked_value, asked, command_value, command_text, method_name, fits_command}
 use Rattle.cdp_json.specs.Lookups.{then_ok}
+use Rattle.back_end.specs.Laws.{edits_asked}
 use Rattle.front_mirror.specs.declared.replies.Ask.{Ask}
 use Rattle.replay_script.specs.Forms.{AskForm}
 use Rattle.inspect_world.specs.World.{Spent, one_ask}
-use Rattle.inspect_world.specs.Fits.{sheet_named, sheet_asked, ask_by, ask_of, ask_in, ask_with, most_asks, IsNext, next_ask}
+use Rattle.inspect_world.specs.Costs.{edits_commanded, ask_edits}
+use Rattle.inspect_world.specs.Fits.{sheet_named, sheet_asked, ask_by, ask_of, ask_in, ask_with, edits_in, most_bytes, most_frames, IsNext, next_ask}
 use Rattle.inspect_world.specs.ScriptsFit.{CanSend}
 use Rattle.cdp_json.proofs.Options.{and_then_some}
 use Rattle.back_end.proofs.AskedLemmas.{whole-is}
 use Rattle.cdp_messages.proofs.Messages.{json_of-compact_text}
-use Rattle.cdp_messages.proofs.Commands.{ask_plain, commands_are_named}
+use Rattle.cdp_messages.proofs.Commands.{ask_plain, asks_are_asked, commands_are_named}
 use Rattle.cdp_messages.proofs.ZeroFree.{texts_have_no_zero}
 
 -- ---- an ask that is sent
@@ -49,9 +51,22 @@ ask_in-sent id a can small =
     ap (λ o. option_and_then ask_of (option_and_then as_object o)) (json_of-compact_text d (sent_plain id a can low) (can.shallow id) (can.texts id c))
     ∙ value_ask_in id a.method a.params a.session c (lt-ltb id (2 ^ 30) small)
 
-pub IsNext-sent : (n : Spent) (a : AskForm) → CanSend a → n.asks + 1 ≤ most_asks → n.asks + 1 < 2 ^ 30
-    → IsNext n (command_text (n.asks + 1) a.method a.params a.session) (one_ask n)
-IsNext-sent n a can few small = next_ask a.method (ask_in-sent (n.asks + 1) a can small) few
+-- a command comes to no more edits than its ask
+edits-by : (id : ℕ) (r : Result Command Why) → edits_asked (asked_by id r) ≤ edits_commanded r
+edits-by id (Ok c) = omega arith
+edits-by id (Err why) = omega arith
+
+edits-sent : (id : ℕ) (a : AskForm) → CanSend a → is_counted id ≡ true → edits_in (command_text id a.method a.params a.session) ≤ ask_edits a
+unfolding edits_in ask_edits
+edits-sent id a can counted =
+    subst (λ r. edits_asked r ≤ edits_commanded (command_of false a.method a.params a.session))
+    (sym (asks_are_asked false id a.method a.params a.session counted can.params can.session (can.shallow id) (can.texts id counted)))
+    (edits-by id (command_of false a.method a.params a.session))
+
+pub IsNext-sent : (n : Spent) (a : AskForm) → CanSend a → n.asks + n.raws + 1 ≤ most_frames → n.edits + ask_edits a ≤ most_bytes → n.asks + 1 < 2 ^ 30
+    → IsNext n (command_text (n.asks + 1) a.method a.params a.session) (one_ask (ask_edits a) n)
+IsNext-sent n a can few few_edits small =
+    next_ask a.method (ask_edits a) (ask_in-sent (n.asks + 1) a can small) (edits-sent (n.asks + 1) a can (lt-ltb (n.asks + 1) (2 ^ 53) (omega (arith, small)))) few few_edits
 
 -- ---- what the back end reads in an ask
 

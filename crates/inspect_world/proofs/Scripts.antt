@@ -24,11 +24,12 @@ use Rattle.inspect_world.specs.Stream.{sent, held, awaited}
 use Rattle.inspect_world.specs.Fold.{folded, joined}
 use Rattle.inspect_world.specs.World.{World, AlreadyTold, Spent, nothing_spent, one_raw, raw, turned, delivered_up, settled}
 use Rattle.back_end.proofs.WatchedLemmas.{none-set}
-use Rattle.back_end.specs.States.{State, nodes_in, loaded_state, IsState}
+use Rattle.back_end.specs.States.{State, nodes_in, loaded_state, HoldsNow, IsState}
 use Rattle.back_end.specs.Steps.{Turn, acts, loads}
 use Rattle.inspect_world.specs.RunStates.{RunState, run_start, run_step, run_turn}
 use Rattle.inspect_world.proofs.Growing.{pauses-of}
-use Rattle.inspect_world.specs.Fits.{join, asks_among, IsNext, next_raw, IsBare, IsNextTurn, HasLeft, most_asks, most_sheets, most_fetches, IsFit, replay, Fits}
+use Rattle.inspect_world.specs.Fits.{join, asks_among, IsNext, next_raw, IsBare, IsNextTurn, HasLeft, most_bytes, most_frames, most_sheets, most_fetches, IsFit, replay, Fits}
+use Rattle.inspect_world.specs.Costs.{ask_edits, least_line, line_cost, lines_cost}
 use Rattle.inspect_world.specs.Scripts.{sends, after_line, after_lines, loaded_world}
 use Rattle.page_forms.specs.Texts.{HaveTexts, SheetsHaveTexts, PageHasTexts}
 use Rattle.inspect_world.specs.ScriptsFit.{CanSend, IsLater, AreLater, LinesFit, BareFramesFit, TurnsFit, DeliveriesFit, SettledShows}
@@ -78,8 +79,8 @@ texts-numbered : (first : ℕ) (n : Nodes Label) → HaveTexts n → RowsHaveUtf
 texts-numbered first none texts = tt
 texts-numbered first (node l c t) texts = (texts.0, texts-numbered (first + 1) c texts.1, texts-numbered (first + 1 + node_count c) t texts.2)
 
-pub IsState-first : (page : LoadedPage) → CanLoadPage page → PageHasTexts page → IsState (loaded_state page)
-IsState-first page can texts = record {
+holds-first : (page : LoadedPage) → CanLoadPage page → PageHasTexts page → HoldsNow (loaded_state page)
+holds-first page can texts = record {
   page = loaded_valid 1 page.nodes (omega arith) can.nodes;
   texts = ((IsUtf8-nil, IsUtf8-nil, tt), texts-numbered 2 page.nodes texts.nodes, tt);
   sheets = sheets-first page.sheets can.sheets texts.sheets;
@@ -88,7 +89,13 @@ IsState-first page can texts = record {
   css_off = λ off. refl;
   watched = λ kind serial here. none-set kind serial here;
   none_watched = λ none. refl;
-  history = refl;
+}
+
+-- nothing was done so far
+pub IsState-first : (page : LoadedPage) → CanLoadPage page → PageHasTexts page → IsState (loaded_state page)
+IsState-first page can texts = record {
+  now = holds-first page can texts;
+  history = record { past = tt; future = tt; going = λ going. let no : false ≡ true = going in absurd cc };
 }
 
 pub fit-first : (page : LoadedPage) → CanLoadPage page → PageHasTexts page → IsFit nothing_spent (first_value []) (run_start page) []
@@ -99,9 +106,11 @@ fit-first page can texts = record {
   sendable = tt;
   is_state = IsState-first page can texts;
   few = omega arith;
-  few_raws = omega arith;
   few_turns = omega arith;
+  few_edits = omega arith;
   drawn = omega arith;
+  trees = omega arith;
+  edits = omega arith;
   serials = let room : suc (node_count page.nodes) ≤ 100000 = can.nodes.room in omega (arith, room);
   numbers = let few : length page.sheets ≤ 1000 = few-sheets page.sheets can.sheets in omega (arith, few);
 }
@@ -112,11 +121,11 @@ fits-loaded page can texts =
 
 -- ---- a line
 
-pub fits-sent : (a : AskForm) (w : World RunState) → CanSend a → w.spent.asks + 1 ≤ 2 ^ 26 → Fits w → Fits (sends a w)
-fits-sent a w can few fits =
+pub fits-sent : (a : AskForm) (w : World RunState) → CanSend a → w.spent.asks + w.spent.raws + 1 ≤ most_frames → w.spent.edits + ask_edits a ≤ most_bytes → Fits w → Fits (sends a w)
+fits-sent a w can few few_edits fits =
     let small : w.spent.asks + 1 < 2 ^ 30 = omega (arith, few) in
-    fits-asked replay IsNext IsNextTurn IsFit world_laws (first_value []) (command_text (w.spent.asks + 1) a.method a.params a.session) w
-    (IsText-sent (w.spent.asks + 1) a can (omega (arith, few))) (IsNext-sent w.spent a can few small) fits
+    fits-asked replay IsNext IsNextTurn IsFit world_laws (first_value []) (command_text (w.spent.asks + 1) a.method a.params a.session) (ask_edits a) w
+    (IsText-sent (w.spent.asks + 1) a can (omega (arith, few))) (IsNext-sent w.spent a can few few_edits small) fits
 
 -- what was told says nothing of the streams
 pub fits-told : (w : World RunState) (n : AlreadyTold) → Fits w → Fits (record { state = w.state; up = w.up; down = w.down; spent = w.spent; told = n })
@@ -128,14 +137,24 @@ settled-fits w fits = fits-settled replay IsNext IsNextTurn IsFit world_laws (fi
 turned-fits : (x : Turn) (w : World RunState) → IsNextTurn w.spent x → Fits w → Fits (turned run_turn x w)
 turned-fits x w next fits = fits-turned replay IsNext IsNextTurn IsFit world_laws (first_value []) x w next fits
 
-raw-fits : (text : List ℕ) (w : World RunState) → IsText text → IsBare text → w.spent.raws + 1 ≤ most_asks → Fits w → Fits (raw text w)
+raw-fits : (text : List ℕ) (w : World RunState) → IsText text → IsBare text → w.spent.asks + w.spent.raws + 1 ≤ most_frames → Fits w → Fits (raw text w)
 raw-fits text w letters bare few fits = fits-sent_up replay IsNext IsNextTurn IsFit world_laws (first_value []) text one_raw w letters (next_raw bare few) fits
 
-pub fits-line : (line : LineForm) (w : World RunState) → IsLater line → HasLeft w.spent 1 → Fits w → Fits (after_line line w)
-fits-line (load page) w later left fits = turned-fits (loads page) w (record { is_turn = later; few = left.turns }) fits
-fits-line (forms.act a) w later left fits = turned-fits (acts a) w (record { is_turn = later; few = left.turns }) fits
-fits-line (ask a) w later left fits = fits-sent a w later left.asks fits
-fits-line (forms.raw text) w later left fits = raw-fits text w later.0 later.1 left.raws fits
+-- room for a line is room for a frame, for the edits of an ask and for a step of the script
+pub frame-left : (n : Spent) (more : ℕ) → HasLeft n (least_line + more) → n.asks + n.raws + 1 ≤ most_frames
+frame-left n more left = let room : (n.asks + n.raws) * 4 + (least_line + more) ≤ most_bytes = left.frames in omega (arith, room)
+
+pub edits-left : (n : Spent) (more : ℕ) → HasLeft n (least_line + more) → n.edits + more ≤ most_bytes
+edits-left n more left = let room : n.edits + (least_line + more) ≤ most_bytes = left.edits in omega (arith, room)
+
+pub turn-left : (n : Spent) → HasLeft n least_line → n.turns + 1 ≤ most_bytes
+turn-left n left = let room : n.turns + least_line ≤ most_bytes = left.turns in omega (arith, room)
+
+pub fits-line : (line : LineForm) (w : World RunState) → IsLater line → HasLeft w.spent (line_cost line) → Fits w → Fits (after_line line w)
+fits-line (load page) w later left fits = turned-fits (loads page) w (record { is_turn = later; few = turn-left w.spent left }) fits
+fits-line (forms.act a) w later left fits = turned-fits (acts a) w (record { is_turn = later; few = turn-left w.spent left }) fits
+fits-line (ask a) w later left fits = fits-sent a w later (frame-left w.spent (ask_edits a) left) (edits-left w.spent (ask_edits a) left) fits
+fits-line (forms.raw text) w later left fits = raw-fits text w later.0 later.1 (frame-left w.spent 0 left) fits
 fits-line (up n) w later left fits = fits-delivered_up replay IsNext IsNextTurn IsFit world_laws (first_value []) n w fits
 fits-line (down n) w later left fits = fits-delivered_down replay IsNext IsNextTurn IsFit world_laws (first_value []) n w fits
 fits-line settle w later left fits = settled-fits w fits
@@ -146,60 +165,113 @@ fits-line show_replies w later left fits = fits-told (settled run_step w) _ (set
 fits-line show_pauses w later left fits = fits-told (settled run_step w) _ (settled-fits w fits)
 fits-line (show_styles k) w later left fits = settled-fits w fits
 
--- one of these counts, where a line spends one at most
-left-count : (before after k : ℕ) → after ≤ before + 1 → before + suc k ≤ most_asks → after + k ≤ most_asks
-left-count before after k more left = omega (arith, more, left)
+-- what a line of so many bytes spends at most
+pub record Spends (n m : Spent) (cost : ℕ) : Type 0 where
+  pub frames : (m.asks + m.raws) * 4 ≤ (n.asks + n.raws) * 4 + cost
+  pub fetches : m.fetches ≤ n.fetches + most_sheets
+  pub turns : m.turns ≤ n.turns + 1
+  pub edits : m.edits ≤ n.edits + cost
+  pub some : 1 ≤ cost
 
--- and of fetches a page's sheets at most
-left-fetches : (before after k : ℕ) → after ≤ before + most_sheets → before + (suc k + 1) * most_sheets ≤ most_fetches → after + (k + 1) * most_sheets ≤ most_fetches
-left-fetches before after k more left = omega (arith, more, left)
+left-bytes : (before after k cost : ℕ) → after ≤ before + cost → before + (k + cost) ≤ most_bytes → after + k ≤ most_bytes
+left-bytes before after k cost more left = omega (arith, more, left)
+
+left-turns : (before after k cost : ℕ) → after ≤ before + 1 → 1 ≤ cost → before + (k + cost) ≤ most_bytes → after + k ≤ most_bytes
+left-turns before after k cost more some left = omega (arith, more, some, left)
+
+-- of fetches a page's sheets at most
+left-fetches : (before after k cost : ℕ) → after ≤ before + most_sheets → 1 ≤ cost → before + (k + cost + 1) * most_sheets ≤ most_fetches → after + (k + 1) * most_sheets ≤ most_fetches
+left-fetches before after k cost more some left = omega (arith, more, some, left)
 
 -- a line spends no more
-pub spent-on : (k : ℕ) (n m : Spent) → m.asks ≤ n.asks + 1 → m.fetches ≤ n.fetches + most_sheets → m.raws ≤ n.raws + 1 → m.turns ≤ n.turns + 1
-    → HasLeft n (suc k) → HasLeft m k
-spent-on k n m asks fetches raws turns left = record {
-  asks = left-count n.asks m.asks k asks left.asks;
-  fetches = left-fetches n.fetches m.fetches k fetches left.fetches;
-  raws = left-count n.raws m.raws k raws left.raws;
-  turns = left-count n.turns m.turns k turns left.turns;
+pub spent-on : (k cost : ℕ) (n m : Spent) → Spends n m cost → HasLeft n (k + cost) → HasLeft m k
+spent-on k cost n m spends left = record {
+  frames = left-bytes ((n.asks + n.raws) * 4) ((m.asks + m.raws) * 4) k cost spends.frames left.frames;
+  fetches = left-fetches n.fetches m.fetches k cost spends.fetches spends.some left.fetches;
+  turns = left-turns n.turns m.turns k cost spends.turns spends.some left.turns;
+  edits = left-bytes n.edits m.edits k cost spends.edits left.edits;
 }
 
-pub left-after : (line : LineForm) (k : ℕ) (w : World RunState) → HasLeft w.spent (suc k) → HasLeft (after_line line w).spent k
-left-after (load page) k w left = spent-on k w.spent (after_line (load page) w).spent (omega arith) (omega arith) (omega arith) (omega arith) left
-left-after (forms.act a) k w left = spent-on k w.spent (after_line (forms.act a) w).spent (omega arith) (omega arith) (omega arith) (omega arith) left
-left-after (ask a) k w left = spent-on k w.spent (after_line (ask a) w).spent (omega arith) (omega arith) (omega arith) (omega arith) left
-left-after (forms.raw text) k w left = spent-on k w.spent (after_line (forms.raw text) w).spent (omega arith) (omega arith) (omega arith) (omega arith) left
-left-after (up n) k w left = spent-on k w.spent (after_line (up n) w).spent (omega arith) (omega arith) (omega arith) (omega arith) left
-left-after (down n) k w left = spent-on k w.spent (after_line (down n) w).spent (omega arith) (omega arith) (omega arith) (omega arith) left
-left-after settle k w left = spent-on k w.spent (after_line settle w).spent (omega arith) (omega arith) (omega arith) (omega arith) left
-left-after show_front k w left = spent-on k w.spent (after_line show_front w).spent (omega arith) (omega arith) (omega arith) (omega arith) left
-left-after show_page k w left = spent-on k w.spent (after_line show_page w).spent (omega arith) (omega arith) (omega arith) (omega arith) left
-left-after show_sheets k w left = spent-on k w.spent (after_line show_sheets w).spent (omega arith) (omega arith) (omega arith) (omega arith) left
-left-after show_replies k w left = spent-on k w.spent (after_line show_replies w).spent (omega arith) (omega arith) (omega arith) (omega arith) left
-left-after show_pauses k w left = spent-on k w.spent (after_line show_pauses w).spent (omega arith) (omega arith) (omega arith) (omega arith) left
-left-after (show_styles i) k w left = spent-on k w.spent (after_line (show_styles i) w).spent (omega arith) (omega arith) (omega arith) (omega arith) left
+-- lines that spend nothing, but for fetches
+pub spends-nothing : (n m : Spent) → m.asks ≡ n.asks → m.raws ≡ n.raws → m.turns ≡ n.turns → m.edits ≡ n.edits → m.fetches ≤ n.fetches + most_sheets → Spends n m least_line
+spends-nothing n m asks raws turns edits fetches =
+    record { frames = omega (arith, asks, raws); fetches = fetches; turns = omega (arith, turns); edits = omega (arith, edits); some = omega arith }
+
+-- and those that send a frame, or make a step
+pub spends-ask : (a : AskForm) (w : World RunState) → Spends w.spent (sends a w).spent (line_cost (ask a))
+spends-ask a w = record { frames = omega arith; fetches = omega arith; turns = omega arith; edits = omega arith; some = omega arith }
+
+pub spends-raw : (text : List ℕ) (w : World RunState) → Spends w.spent (raw text w).spent least_line
+spends-raw text w = record { frames = omega arith; fetches = omega arith; turns = omega arith; edits = omega arith; some = omega arith }
+
+pub spends-turn : (x : Turn) (w : World RunState) → Spends w.spent (turned run_turn x w).spent least_line
+spends-turn x w = record { frames = omega arith; fetches = omega arith; turns = omega arith; edits = omega arith; some = omega arith }
+
+spends-line : (line : LineForm) (w : World RunState) → Spends w.spent (after_line line w).spent (line_cost line)
+spends-line (load page) w = spends-turn (loads page) w
+spends-line (forms.act a) w = spends-turn (acts a) w
+spends-line (ask a) w = spends-ask a w
+spends-line (forms.raw text) w = spends-raw text w
+spends-line (up n) w = spends-nothing w.spent w.spent refl refl refl refl (omega arith)
+spends-line (down n) w = spends-nothing w.spent w.spent refl refl refl refl (omega arith)
+spends-line settle w = spends-nothing w.spent w.spent refl refl refl refl (omega arith)
+spends-line show_front w = spends-nothing w.spent w.spent refl refl refl refl (omega arith)
+spends-line show_page w = spends-nothing w.spent w.spent refl refl refl refl (omega arith)
+spends-line show_sheets w = spends-nothing w.spent w.spent refl refl refl refl (omega arith)
+spends-line show_replies w = spends-nothing w.spent w.spent refl refl refl refl (omega arith)
+spends-line show_pauses w = spends-nothing w.spent w.spent refl refl refl refl (omega arith)
+spends-line (show_styles k) w = spends-nothing w.spent w.spent refl refl refl refl (omega arith)
+
+pub left-after : (line : LineForm) (k : ℕ) (w : World RunState) → HasLeft w.spent (k + line_cost line) → HasLeft (after_line line w).spent k
+left-after line k w left = spent-on k (line_cost line) w.spent (after_line line w).spent (spends-line line w) left
+
+-- room for more bytes is room for fewer
+fewer-bytes : (before j k : ℕ) → j ≤ k → before + k ≤ most_bytes → before + j ≤ most_bytes
+fewer-bytes before j k less left = omega (arith, less, left)
+
+fewer-fetches : (before j k : ℕ) → j ≤ k → before + (k + 1) * most_sheets ≤ most_fetches → before + (j + 1) * most_sheets ≤ most_fetches
+fewer-fetches before j k less left = omega (arith, less, left)
+
+pub left-fewer : (n : Spent) (j k : ℕ) → j ≤ k → HasLeft n k → HasLeft n j
+left-fewer n j k less left = record {
+  frames = fewer-bytes ((n.asks + n.raws) * 4) j k less left.frames;
+  fetches = fewer-fetches n.fetches j k less left.fetches;
+  turns = fewer-bytes n.turns j k less left.turns;
+  edits = fewer-bytes n.edits j k less left.edits;
+}
+
+-- any line costs as much as a line does at least
+pub cost-least : (line : LineForm) → least_line ≤ line_cost line
+cost-least (load page) = omega arith
+cost-least (forms.act a) = omega arith
+cost-least (ask a) = omega arith
+cost-least (forms.raw text) = omega arith
+cost-least (up n) = omega arith
+cost-least (down n) = omega arith
+cost-least settle = omega arith
+cost-least show_front = omega arith
+cost-least show_page = omega arith
+cost-least show_sheets = omega arith
+cost-least show_replies = omega arith
+cost-least show_pauses = omega arith
+cost-least (show_styles k) = omega arith
 
 -- one line of some
-pub left-one : (k : ℕ) (w : World RunState) → HasLeft w.spent (suc k) → HasLeft w.spent 1
-left-one k w left =
-    let ha : w.spent.asks + suc k ≤ most_asks = left.asks in
-    let hf : w.spent.fetches + (suc k + 1) * most_sheets ≤ most_fetches = left.fetches in
-    let hr : w.spent.raws + suc k ≤ most_asks = left.raws in
-    let ht : w.spent.turns + suc k ≤ most_asks = left.turns in
-    record { asks = omega (arith, ha); fetches = omega (arith, hf); raws = omega (arith, hr); turns = omega (arith, ht) }
+pub left-one : (n : Spent) (k cost : ℕ) → HasLeft n (k + cost) → HasLeft n cost
+left-one n k cost left = left-fewer n cost (k + cost) (omega arith) left
 
-fits-lines : (n : ℕ) (lines : List LineForm) (w : World RunState) → AreLater lines → HasLeft w.spent (length lines) → Fits w → Fits (after_lines (take n lines) w)
+fits-lines : (n : ℕ) (lines : List LineForm) (w : World RunState) → AreLater lines → HasLeft w.spent (lines_cost lines) → Fits w → Fits (after_lines (take n lines) w)
 fits-lines zero lines w later left fits = fits
 fits-lines (suc n) [] w later left fits = fits
 fits-lines (suc n) (line ∷ lines) w later left fits =
-    fits-lines n lines (after_line line w) later.1 (left-after line (length lines) w left) (fits-line line w later.0 (left-one (length lines) w left) fits)
+    fits-lines n lines (after_line line w) later.1 (left-after line (lines_cost lines) w left) (fits-line line w later.0 (left-one w.spent (lines_cost lines) (line_cost line) left) fits)
 
 -- nothing was spent at the start
-pub left-first : (page : LoadedPage) (k : ℕ) → k ≤ most_asks → HasLeft (loaded_world page).spent k
-left-first page k few = record { asks = omega (arith, few); fetches = omega (arith, few); raws = omega (arith, few); turns = omega (arith, few) }
+pub left-first : (page : LoadedPage) (k : ℕ) → k ≤ most_bytes → HasLeft (loaded_world page).spent k
+left-first page k few = record { frames = omega (arith, few); fetches = omega (arith, few); turns = omega (arith, few); edits = omega (arith, few) }
 
 pub lines-fit : LinesFit
-lines-fit page lines can texts later few n = fits-lines n lines (loaded_world page) later (left-first page (length lines) few) (fits-loaded page can texts)
+lines-fit page lines can texts later few n = fits-lines n lines (loaded_world page) later (left-first page (lines_cost lines) few) (fits-loaded page can texts)
 
 -- ---- frames that name no ask
 

@@ -15,13 +15,13 @@ use Rattle.inspect_world.specs.ScriptsFit.{CanSend}
 use Rattle.cdp_messages.proofs.Commands.{ask_plain}
 use Rattle.cdp_json.proofs.Options.{both_parts, map_some}
 
-ask_lawful : LawfulKind ask_kind
+pub ask_lawful : LawfulKind ask_kind
 ask_lawful =
     object_lawful (and_need_lawful (codes "method") text_lawful
     (and_may_lawful (codes "params") anything_lawful (and_may_lawful (codes "sessionId") anything_lawful ends_lawful refl) refl) refl)
 
 -- an ask as its line spells it
-abbrev spelled : List ℕ → Option Data → Option Data → Data
+abbrev pub spelled : List ℕ → Option Data → Option Data → Data
 spelled m params session = ask_kind.spell (m, (params, (session, tt)))
 
 -- the parameters and the session of an ask whose object is plain

@@ -27,7 +27,7 @@ shown-by true next ss below = below
 shown-by false next ss below = record { numbers = ascends 1 next ss below.numbers; few = omega arith; texts = tt }
 
 pub shown-below : (state : State) → IsState state → AreSheetsBelow state.side.next_sheet (sheets_shown state)
-shown-below state is = shown-by state.client.css_on state.side.next_sheet state.side.sheets is.sheets
+shown-below state is = shown-by state.client.css_on state.side.next_sheet state.side.sheets is.now.sheets
 
 -- ---- what a front end knows
 

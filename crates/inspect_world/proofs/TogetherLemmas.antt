@@ -33,6 +33,7 @@ module _ {S F E X A : Type 0} (machine : Machine S F E X) (IsNext : Spent → Li
           asks = refl;
           raws = refl;
           turns = refl;
+          edits = refl;
           plain = start;
           fresh = start;
           plain_is = refl;
@@ -50,14 +51,14 @@ module _ {S F E X A : Type 0} (machine : Machine S F E X) (IsNext : Spent → Li
       (All-append IsPlain (frames_of (sent w.up)).whole (text ∷ []) all (All-cons IsPlain text [] one (All-nil IsPlain)))
 
   -- an ask is sent
-  pub together-asked : (start : F) (text : List ℕ) (w v : World S) → IsText text → IsPlain text
-      → IsNext w.spent text (one_ask w.spent) → IsNext v.spent text (one_ask v.spent)
-      → RunTogether machine Fit start seen IsPlain w v → RunTogether machine Fit start seen IsPlain (asked text w) (asked text v)
-  together-asked start text w v letters one next next1 both = record {
-    fits = fits-sent_up machine IsNext IsTurn Fit laws start text one_ask w letters next both.fits;
-    fits_fresh = fits-sent_up machine IsNext IsTurn Fit laws start text one_ask v letters next1 both.fits_fresh;
-    agrees = agrees-asked machine IsNext IsTurn Fit laws fetcher seen sheets most fetching start text w v letters both.fits both.fits_fresh both.agrees;
-    plain = plain-framed text w one_ask letters both.fits.up_whole one both.plain;
+  pub together-asked : (start : F) (text : List ℕ) (edits : ℕ) (w v : World S) → IsText text → IsPlain text
+      → IsNext w.spent text (one_ask edits w.spent) → IsNext v.spent text (one_ask edits v.spent)
+      → RunTogether machine Fit start seen IsPlain w v → RunTogether machine Fit start seen IsPlain (asked edits text w) (asked edits text v)
+  together-asked start text edits w v letters one next next1 both = record {
+    fits = fits-sent_up machine IsNext IsTurn Fit laws start text (one_ask edits) w letters next both.fits;
+    fits_fresh = fits-sent_up machine IsNext IsTurn Fit laws start text (one_ask edits) v letters next1 both.fits_fresh;
+    agrees = agrees-asked machine IsNext IsTurn Fit laws fetcher seen sheets most fetching start text edits w v letters both.fits both.fits_fresh both.agrees;
+    plain = plain-framed text w (one_ask edits) letters both.fits.up_whole one both.plain;
   }
 
   -- a frame is sent that is no ask

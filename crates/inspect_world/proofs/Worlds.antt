@@ -79,9 +79,9 @@ module _ {S F E X : Type 0} (machine : Machine S F E X) (IsNext : Spent → List
       }
 
   -- an ask is sent
-  pub fits-asked : (start : F) (ask : List ℕ) (w : World S) → IsText ask → IsNext w.spent ask (one_ask w.spent)
-      → Fits machine.take machine.join Fit start w → Fits machine.take machine.join Fit start (asked ask w)
-  fits-asked start ask w letters is_ask fits = fits-sent_up start ask one_ask w letters is_ask fits
+  pub fits-asked : (start : F) (ask : List ℕ) (edits : ℕ) (w : World S) → IsText ask → IsNext w.spent ask (one_ask edits w.spent)
+      → Fits machine.take machine.join Fit start w → Fits machine.take machine.join Fit start (asked edits ask w)
+  fits-asked start ask edits w letters is_ask fits = fits-sent_up start ask (one_ask edits) w letters is_ask fits
 
   -- bytes are given up: the frames that become whole are the first that wait
   pub fits-given_up : (start : F) (n : ℕ) (w : World S) → Fits machine.take machine.join Fit start w

@@ -30,6 +30,7 @@ pub record RunsAgree {S F E X A : Type 0} (machine : Machine S F E X) (start : F
   pub asks : w.spent.asks ≡ v.spent.asks
   pub raws : w.spent.raws ≡ v.spent.raws
   pub turns : w.spent.turns ≡ v.spent.turns
+  pub edits : w.spent.edits ≡ v.spent.edits
   pub plain : F
   pub fresh : F
   pub plain_is : front_in machine start w ≡ Ok plain

@@ -19,7 +19,7 @@ use Rattle.back_end.specs.States.{IsState, view_of}
 use Rattle.back_end.specs.Steps.{Turn}
 use Rattle.inspect_world.specs.RunStates.{RunState, ToldStyles, told_styles, run_step, run_turn}
 use Rattle.front_mirror.specs.declared.replies.MatchedReply.{MatchedReply}
-use Rattle.back_end.specs.Laws.{most_ids, IsTurn}
+use Rattle.back_end.specs.Laws.{most_ids, tree_edits, edits_kept, edits_asked, IsTurn}
 use Rattle.inspect_world.specs.Fold.{Machine}
 use Rattle.inspect_world.specs.Fold as fold
 
@@ -69,9 +69,17 @@ join v frame = with_ask v (ask_in frame)
 
 -- ---- what may be sent and done
 
--- how many asks, other frames and steps by itself a script can come to at most: one for each byte of its input
-abbrev pub most_asks : ℕ
-most_asks = 2 ^ 26
+-- how many bytes a script has at most
+abbrev pub most_bytes : ℕ
+most_bytes = 2 ^ 26
+
+-- how many asks and other frames it can come to at most: each is a line of four bytes at least
+abbrev pub most_frames : ℕ
+most_frames = 2 ^ 24
+
+-- how many edits of the tree a history has at most: each frame comes to two
+abbrev pub most_trees : ℕ
+most_trees = 2 ^ 25
 
 -- how many sheets a page has at most
 abbrev pub most_sheets : ℕ
@@ -79,7 +87,7 @@ most_sheets = max_sheets
 
 -- how many fetches a script can come to at most: in each settle, and in the closing one, one for each sheet of a page
 abbrev pub most_fetches : ℕ
-most_fetches = (most_asks + 1) * most_sheets
+most_fetches = (most_bytes + 1) * most_sheets
 
 -- a frame that names no ask, and to which the back end answers with an error reply without an id
 pub record IsBare (frame : List ℕ) : Type 0 where
@@ -100,6 +108,10 @@ sheet_in frame = option_and_then (λ (ask : Ask). ask.sheet) (ask_in frame)
 abbrev pub IsPlainFrame : List ℕ → Type 0
 IsPlainFrame frame = sheet_in frame ≡ None
 
+-- how many edits a frame comes to at most
+unfoldable pub edits_in : List ℕ → ℕ
+edits_in frame = edits_asked (asked frame false)
+
 -- how many of these frames are no fetches: those alone may draw ids and serials
 abbrev pub drawing : List (List ℕ) → ℕ
 drawing [] = 0
@@ -110,6 +122,11 @@ abbrev pub AreSendable : List (List ℕ) → Type 0
 AreSendable [] = ⊤
 AreSendable (frame ∷ frames) = Sendable frame × AreSendable frames
 
+-- how many edits these frames ask for, but for fetches
+abbrev pub asking : List (List ℕ) → ℕ
+asking [] = 0
+asking (frame ∷ frames) = cond (is_some (sheet_in frame)) 0 (edits_in frame) + asking frames
+
 -- the asks that stand in frames
 abbrev pub asks_among : List (List ℕ) → List Ask
 asks_among [] = []
@@ -117,28 +134,30 @@ asks_among (frame ∷ frames) = option_to_list (ask_in frame) ++ asks_among fram
 
 -- After n the text may be sent, as the next ask, as the next fetch or as a bare frame, and m is then spent.
 pub data IsNext (n : Spent) (text : List ℕ) : Spent → Type 0 where
-  next_ask : (method : List ℕ) → ask_in text ≡ Some (ask_with method (n.asks + 1)) → n.asks + 1 ≤ most_asks → IsNext n text (one_ask n)
+  next_ask : (method : List ℕ) (edits : ℕ) → ask_in text ≡ Some (ask_with method (n.asks + 1)) → edits_in text ≤ edits
+      → n.asks + n.raws + 1 ≤ most_frames → n.edits + edits ≤ most_bytes → IsNext n text (one_ask edits n)
   next_fetch : (sheet : ℕ) → ask_in text ≡ Some (fetch_ask n.fetches sheet) → n.fetches + 1 ≤ most_fetches → IsNext n text (one_fetch n)
-  next_raw : IsBare text → n.raws + 1 ≤ most_asks → IsNext n text (one_raw n)
+  next_raw : IsBare text → n.asks + n.raws + 1 ≤ most_frames → IsNext n text (one_raw n)
 
 -- after n the script may make this step by itself
 pub record IsNextTurn (n : Spent) (x : Turn) : Type 0 where
   pub is_turn : IsTurn x
-  pub few : n.turns + 1 ≤ most_asks
+  pub few : n.turns + 1 ≤ most_bytes
 
--- So many lines more may be carried out, each of which sends a frame, makes a step of the script or fetches the texts of a page
--- at most; and after them the texts may be fetched once more.
-pub record HasLeft (n : Spent) (lines : ℕ) : Type 0 where
-  pub asks : n.asks + lines ≤ most_asks
-  pub fetches : n.fetches + (lines + 1) * most_sheets ≤ most_fetches
-  pub raws : n.raws + lines ≤ most_asks
-  pub turns : n.turns + lines ≤ most_asks
+-- Lines of so many bytes more may be carried out. Each line of four bytes sends a frame, makes a step of the script or fetches the
+-- texts of a page at most, and each byte may come to an edit; and after them the texts may be fetched once more.
+pub record HasLeft (n : Spent) (bytes : ℕ) : Type 0 where
+  pub frames : (n.asks + n.raws) * 4 + bytes ≤ most_bytes
+  pub fetches : n.fetches + (bytes + 1) * most_sheets ≤ most_fetches
+  pub turns : n.turns + bytes ≤ most_bytes
+  pub edits : n.edits + bytes ≤ most_bytes
 
 -- ---- fits
 
--- how many ids may have been drawn: by a frame that is no fetch and by a step of the script, each as many as a step draws at most
+-- How many ids may have been drawn, with those that an undo of all edits of the tree would draw: by a frame that is no fetch as many
+-- as the history has such edits at most, and by it and by a step of the script as many as any step draws at most.
 abbrev pub most_drawn : Spent → ℕ
-most_drawn n = (n.asks + n.raws + n.turns) * most_ids
+most_drawn n = (n.asks + n.raws) * (most_ids + most_trees) + n.turns * most_ids
 
 -- how far the serials may have come: the load, a frame that is no fetch and a step of the script draw those of one page at most
 abbrev pub most_serials : Spent → ℕ
@@ -153,17 +172,20 @@ abbrev pub kept_styles : MatchedReply → ToldStyles
 kept_styles r = told_styles r.ask r.matched
 
 -- After n was spent the front shows exactly what the state's client sees, has kept just the matched styles that it was told, and
--- waits for the asks among these frames alone. Enough ids, serials and numbers of sheets are left for these answers.
+-- waits for the asks among these frames alone. Enough ids, serials, numbers of sheets and places in the history are left for these
+-- answers.
 pub record IsFit (n : Spent) (v : FrontValue) (s : RunState) (frames : List (List ℕ)) : Type 0 where
   pub has : Has v (view_of s.back)
   pub styles : map kept_styles v.matched ≡ s.styles
   pub asks : asks_among frames ≡ v.asks
   pub sendable : AreSendable frames
   pub is_state : IsState s.back
-  pub few : n.asks ≤ most_asks
-  pub few_raws : n.raws ≤ most_asks
-  pub few_turns : n.turns ≤ most_asks
-  pub drawn : length s.back.client.session.pushed + drawing frames * most_ids ≤ most_drawn n
+  pub few : n.asks + n.raws ≤ most_frames
+  pub few_turns : n.turns ≤ most_bytes
+  pub few_edits : n.edits ≤ most_bytes
+  pub drawn : length s.back.client.session.pushed + tree_edits s.back + drawing frames * (most_ids + most_trees) ≤ most_drawn n
+  pub trees : tree_edits s.back + drawing frames * 2 ≤ (n.asks + n.raws) * 2
+  pub edits : edits_kept s.back + asking frames ≤ n.edits
   pub serials : s.back.side.page.next + drawing frames * (max_nodes + 1) ≤ most_serials n
   pub numbers : s.back.side.next_sheet + drawing frames * max_sheets ≤ most_numbers n
 

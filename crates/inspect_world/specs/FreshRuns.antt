@@ -23,8 +23,9 @@ use Rattle.inspect_world.specs.World.{World, settled}
 use Rattle.inspect_world.specs.Fold.{folded, joined}
 use Rattle.inspect_world.specs.Fetches.{Fetcher, refreshed}
 use Rattle.inspect_world.specs.Agreement.{RunTogether}
-use Rattle.inspect_world.specs.Fits.{join, most_asks, HasLeft, kept_styles, IsFit, replay}
+use Rattle.inspect_world.specs.Fits.{join, most_bytes, HasLeft, kept_styles, IsFit, replay}
 use Rattle.inspect_world.specs.ShownReplies.{told_of, replies_in}
+use Rattle.inspect_world.specs.Costs.{lines_cost}
 use Rattle.inspect_world.specs.Scripts.{after_line_by, after_lines_by, after_lines, loaded_world}
 use Rattle.inspect_world.specs.ScriptsFit.{AreLater}
 
@@ -64,23 +65,24 @@ pub record Unstyled : Type 0 where
 abbrev pub unstyled : FrontValue → Unstyled
 unstyled v = record { tree = v.tree; asks = v.asks; replies = v.replies; pauses = v.pauses; matched = v.matched }
 
--- w is the run that the report tells, and v the same with fetches; so many lines more may be carried out
-pub record Together (IsPlain : List ℕ → Type 0) (lines : ℕ) (w v : World RunState) : Type 0 where
+-- w is the run that the report tells, and v the same with fetches; lines of so many bytes more may be carried out
+pub record Together (IsPlain : List ℕ → Type 0) (bytes : ℕ) (w v : World RunState) : Type 0 where
   pub runs : RunTogether replay IsFit (first_value []) unstyled IsPlain w v
-  pub left : HasLeft v.spent lines
+  pub left : HasLeft v.spent bytes
 
--- With any page and any lines, as many as a script can have, and after any number of these lines: the two whole streams with
+-- With any page and any lines that a script can have, and after any number of these lines: the two whole streams with
 -- the fetches fit the state, and both runs agree.
 abbrev pub FreshLinesFit : Fetcher FrontValue → (List ℕ → Type 0) → Type 0
 FreshLinesFit fetcher IsPlain =
-    (page : LoadedPage) (lines : List LineForm) → CanLoadPage page → PageHasTexts page → AreLater lines → length lines ≤ most_asks → (n : ℕ)
+    (page : LoadedPage) (lines : List LineForm) → CanLoadPage page → PageHasTexts page → AreLater lines → lines_cost lines ≤ most_bytes
+    → (n : ℕ)
     → RunTogether replay IsFit (first_value []) unstyled IsPlain (after_lines (take n lines) (loaded_world page))
     (fresh_lines fetcher (take n lines) (loaded_world page))
 
 -- with each input that a replay reads
 abbrev pub FreshInputsFit : Fetcher FrontValue → (List ℕ → Type 0) → Type 0
 FreshInputsFit fetcher IsPlain =
-    (input : List ℕ) (page : LoadedPage) (lines : List LineForm) → script_forms input ≡ load page ∷ lines → length input ≤ most_asks
+    (input : List ℕ) (page : LoadedPage) (lines : List LineForm) → script_forms input ≡ load page ∷ lines → length input ≤ most_bytes
     → (n : ℕ) → RunTogether replay IsFit (first_value []) unstyled IsPlain (after_lines (take n lines) (loaded_world page))
     (fresh_lines fetcher (take n lines) (loaded_world page))
 

@@ -2,15 +2,18 @@
 use Rattle.std.specs.Prelude.{◌≡◌, ◌≤◌, ℕ, ◌+◌, ◌*◌, List, [], ◌∷◌, ◌++◌, length, map, All, Bool, true, false, is_some, Result, Ok, Err}
 use Rattle.pipe_frames.specs.Pipe.{Pipe}
 use Rattle.pipe_frames.specs.Frames.{frames_of}
+use Rattle.cdp_messages.specs.declared.command.Asked.{Asked}
+use Rattle.cdp_messages.specs.declared.command.Refused.{Refused}
+use Rattle.cdp_messages.specs.Asked.{asked}
 use Rattle.front_mirror.specs.declared.faults.FrontFault.{FrontFault}
 use Rattle.front_mirror.specs.Front.{FrontValue, matched_in, fold}
 use Rattle.back_end.specs.States.{State}
 use Rattle.back_end.specs.Steps.{Turn, Stepped, step, turn}
-use Rattle.back_end.specs.Laws.{most_ids}
+use Rattle.back_end.specs.Laws.{most_ids, tree_edits, edits_kept}
 use Rattle.back_end.specs.Seats.{StandsFor}
 use Rattle.page_tree.specs.Forms.{max_nodes}
 use Rattle.page_forms.specs.Sheets.{max_sheets}
-use Rattle.inspect_world.specs.Fits.{most_asks, asks_among}
+use Rattle.inspect_world.specs.Fits.{most_bytes, asks_among}
 use Rattle.inspect_world.specs.Held.{Ends, good_front}
 use Rattle.inspect_world.specs.ShownReplies.{ShownReply, replies_in, reply_id}
 
@@ -60,6 +63,32 @@ made_among [] = 0
 made_among (came frame ∷ hs) = made_among hs
 made_among (made x ∷ hs) = made_among hs + 1
 
+-- ---- how much the steps draw
+
+-- a frame that is a command may draw; one that is refused changes nothing
+abbrev pub commands_in : Result Asked Refused → ℕ
+commands_in (Ok a) = 1
+commands_in (Err r) = 0
+
+-- how many of the frames that came up are commands
+abbrev pub commands_among : List Happening → ℕ
+commands_among [] = 0
+commands_among (came frame ∷ hs) = commands_among hs + commands_in (asked frame false)
+commands_among (made x ∷ hs) = commands_among hs
+
+-- the bytes of frames, each with its zero
+abbrev pub bytes_among : List (List ℕ) → ℕ
+bytes_among [] = 0
+bytes_among (frame ∷ frames) = bytes_among frames + (length frame + 1)
+
+-- How much was drawn by so many commands and steps of the script, and by frames of so many bytes: each command keeps two edits of the
+-- tree at most, and draws no more ids beside those of any step than there were such edits; a step of the script leaves no edit, or
+-- changes nothing. Each byte may come to one edit.
+pub record Drew (state : State) (commands made bytes : ℕ) : Type 0 where
+  pub ids : length state.client.session.pushed + tree_edits state ≤ (commands + made) * most_ids + (commands * commands + commands)
+  pub trees : tree_edits state ≤ commands * 2
+  pub edits : edits_kept state ≤ bytes
+
 -- ---- the ends over a link
 
 -- where a run began; how many lines more it may carry out, each of which makes one step of the script at most; and the asks whose
@@ -86,7 +115,7 @@ pub record GoesOn (start now : Pipe) (sent given : List ℕ) : Type 0 where
 -- given; the back end has carried out the frames that were given up, but for those that `waiting` holds whole, and between them
 -- the script's own steps, and has sent just what these steps send. What the ends count as sent and not given is just that.
 -- Matched styles that were shown are there for good. Ids, serials and numbers of sheets were drawn for what was sent up and for the
--- script's steps alone.
+-- script's steps alone, and edits kept for what was sent up.
 pub record Follows (state0 : Started) (up0 down0 up down : Pipe) (waiting : List (List ℕ)) (e : Ends) : Type 0 where
   pub sent_up : List ℕ
   pub given_up : List ℕ
@@ -111,7 +140,7 @@ pub record Follows (state0 : Started) (up0 down0 up down : Pipe) (waiting : List
   pub up_left : e.up_there + length given_up ≡ length sent_up
   pub down_left : e.down_there + length given_down ≡ length sent_down
   pub few_asked : e.front.next + e.front.fetches ≤ length sent_up + 1
-  pub few_made : made_among events + state0.lines ≤ most_asks
-  pub few_ids : length state.client.session.pushed ≤ length events * most_ids
+  pub few_made : made_among events + state0.lines ≤ most_bytes
+  pub drew : Drew state (commands_among events) (made_among events) (bytes_among (frames_among events))
   pub few_serials : state.side.page.next ≤ (length events + 1) * (max_nodes + 1)
   pub few_numbers : state.side.next_sheet ≤ (length events + 1) * max_sheets + 1

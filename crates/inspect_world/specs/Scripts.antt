@@ -11,6 +11,7 @@ use Rattle.node_tree.specs.Keys.{first_of}
 use Rattle.css_objects.specs.declared.rules.Matched.{Matched}
 use Rattle.cdp_messages.specs.declared.down.PauseData.{PauseData}
 use Rattle.replay_script.specs.Script.{numbered_or, unless_bad, styles_fault, script_fault, script_forms}
+use Rattle.inspect_world.specs.Costs.{ask_edits}
 use Rattle.inspect_world.specs.World.{World, AlreadyTold, first_world, asked, raw, turned, delivered_up, delivered_down, settled}
 use Rattle.inspect_world.specs.ShownReplies.{ShownReply, replies_in, told_lines}
 use Rattle.inspect_world.specs.ActTexts.{act_text}
@@ -26,7 +27,7 @@ use Rattle.back_end.specs.Plans.{act_fault}
 
 -- the k-th ask is sent with the id k
 abbrev pub sends : AskForm → World RunState → World RunState
-sends a w = asked (command_text (w.spent.asks + 1) a.method a.params a.session) w
+sends a w = asked (ask_edits a) (command_text (w.spent.asks + 1) a.method a.params a.session) w
 
 -- the run after something was told
 abbrev pub telling : AlreadyTold → World RunState → World RunState

@@ -21,9 +21,10 @@ use Rattle.back_end.specs.Steps.{Turn, acts, loads}
 use Rattle.inspect_world.specs.RunStates.{RunState, run_step, run_turn}
 use Rattle.inspect_world.specs.ShownPauses.{pauses_in}
 use Rattle.front_mirror.specs.Front.{seen_pause}
-use Rattle.back_end.specs.Laws.{IsTurn}
-use Rattle.inspect_world.specs.Fits.{join, most_asks, IsBare, IsPlainFrame, IsNextTurn, kept_styles, Fits}
+use Rattle.back_end.specs.Laws.{IsTurn, Restores}
+use Rattle.inspect_world.specs.Fits.{join, most_bytes, most_frames, IsBare, IsPlainFrame, IsNextTurn, kept_styles, Fits}
 use Rattle.inspect_world.specs.ShownReplies.{told_of, replies_in}
+use Rattle.inspect_world.specs.Costs.{lines_cost}
 use Rattle.inspect_world.specs.Scripts.{loaded_world, after_lines}
 
 -- The ask's parameters and session are JSON that is written and read again as it is: plain, UTF-8, and not too deep.
@@ -58,19 +59,26 @@ AreLater (line ∷ lines) = IsLater line × AreLater lines
 abbrev pub FitThroughout : LoadedPage → List LineForm → Type 0
 FitThroughout page lines = (n : ℕ) → Fits (after_lines (take n lines) (loaded_world page))
 
--- with any page and any lines, as many as a script can have
+-- with any page and any lines that a script can have
 abbrev pub LinesFit : Type 0
-LinesFit = (page : LoadedPage) (lines : List LineForm) → CanLoadPage page → PageHasTexts page → AreLater lines → length lines ≤ most_asks
-    → FitThroughout page lines
+LinesFit = (page : LoadedPage) (lines : List LineForm) → CanLoadPage page → PageHasTexts page → AreLater lines
+    → lines_cost lines ≤ most_bytes → FitThroughout page lines
 
 -- with each input that a replay reads
 abbrev pub InputsFit : Type 0
-InputsFit = (input : List ℕ) (page : LoadedPage) (lines : List LineForm) → script_forms input ≡ load page ∷ lines → length input ≤ most_asks
-    → FitThroughout page lines
+InputsFit = (input : List ℕ) (page : LoadedPage) (lines : List LineForm) → script_forms input ≡ load page ∷ lines
+    → length input ≤ most_bytes → FitThroughout page lines
+
+-- With each input that a replay reads, and after any number of its lines: an undo restores the very tree and texts from before the
+-- newest group of a client's edits that is kept, and a redo those after the group that was taken back last; without a fault.
+abbrev pub UndoRestoresInRuns : Type 0
+UndoRestoresInRuns = (input : List ℕ) (page : LoadedPage) (lines : List LineForm) → script_forms input ≡ load page ∷ lines
+    → length input ≤ most_bytes → (n : ℕ) → Restores (after_lines (take n lines) (loaded_world page)).state.back
 
 -- a frame that names no ask is sent, whatever is on its way
 abbrev pub BareFramesFit : Type 0
-BareFramesFit = (w : World RunState) (text : List ℕ) → IsText text → IsBare text → w.spent.raws + 1 ≤ most_asks → Fits w → Fits (raw text w)
+BareFramesFit = (w : World RunState) (text : List ℕ) → IsText text → IsBare text → w.spent.asks + w.spent.raws + 1 ≤ most_frames
+    → Fits w → Fits (raw text w)
 
 -- the script makes a step by itself, whatever is on its way
 abbrev pub TurnsFit : Type 0

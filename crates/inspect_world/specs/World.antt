@@ -5,33 +5,34 @@ use Rattle.pipe_frames.specs.Frames.{framed}
 use Rattle.back_end.specs.Steps.{Stepped}
 use Rattle.inspect_world.specs.Stream.{Stream, no_stream, put, passed, arriving}
 
--- What a run has spent: how many asks, how many fetches and how many other frames the front end has sent, and how many steps
--- the script itself has made.
+-- What a run has spent: how many asks, how many fetches and how many other frames the front end has sent, how many steps the
+-- script itself has made, and how many edits the asks may have come to.
 pub record Spent : Type 0 where
   pub asks : ℕ
   pub fetches : ℕ
   pub raws : ℕ
   pub turns : ℕ
+  pub edits : ℕ
 
 -- nothing yet
 abbrev pub nothing_spent : Spent
-nothing_spent = record { asks = 0; fetches = 0; raws = 0; turns = 0 }
+nothing_spent = record { asks = 0; fetches = 0; raws = 0; turns = 0; edits = 0 }
 
--- one ask more
-abbrev pub one_ask : Spent → Spent
-one_ask n = record { asks = n.asks + 1; fetches = n.fetches; raws = n.raws; turns = n.turns }
+-- one ask more, which may come to so many edits
+abbrev pub one_ask : ℕ → Spent → Spent
+one_ask edits n = record { asks = n.asks + 1; fetches = n.fetches; raws = n.raws; turns = n.turns; edits = n.edits + edits }
 
 -- one fetch more
 abbrev pub one_fetch : Spent → Spent
-one_fetch n = record { asks = n.asks; fetches = n.fetches + 1; raws = n.raws; turns = n.turns }
+one_fetch n = record { asks = n.asks; fetches = n.fetches + 1; raws = n.raws; turns = n.turns; edits = n.edits }
 
 -- one other frame more
 abbrev pub one_raw : Spent → Spent
-one_raw n = record { asks = n.asks; fetches = n.fetches; raws = n.raws + 1; turns = n.turns }
+one_raw n = record { asks = n.asks; fetches = n.fetches; raws = n.raws + 1; turns = n.turns; edits = n.edits }
 
 -- one step of the script more
 abbrev pub one_turn : Spent → Spent
-one_turn n = record { asks = n.asks; fetches = n.fetches; raws = n.raws; turns = n.turns + 1 }
+one_turn n = record { asks = n.asks; fetches = n.fetches; raws = n.raws; turns = n.turns + 1; edits = n.edits }
 
 -- how many of the replies and of the pauses that came were told
 pub record AlreadyTold : Type 0 where
@@ -66,9 +67,9 @@ steps step state (frame ∷ frames) =
 abbrev pub sent_up : {S : Type 0} → List ℕ → (Spent → Spent) → World S → World S
 sent_up text more w = record { state = w.state; up = put (framed text) w.up; down = w.down; spent = more w.spent; told = w.told }
 
--- the front end sends an ask
-abbrev pub asked : {S : Type 0} → List ℕ → World S → World S
-asked text w = sent_up text one_ask w
+-- the front end sends an ask, which may come to so many edits
+abbrev pub asked : {S : Type 0} → ℕ → List ℕ → World S → World S
+asked edits text w = sent_up text (one_ask edits) w
 
 -- the front end sends a frame that is no ask
 abbrev pub raw : {S : Type 0} → List ℕ → World S → World S

@@ -1,14 +1,15 @@
 // The law of the run, which makes no call.
 ghost use Rattle.inspect_world.specs.Fits.{IsPlainFrame};
 ghost use Rattle.inspect_world.specs.FreshRuns.{front_fetcher, FreshLinesFit, FreshInputsFit, RefreshedShows};
-ghost use Rattle.inspect_world.specs.ScriptsFit.{LinesFit, InputsFit, BareFramesFit, TurnsFit, DeliveriesFit, SettledShows};
+ghost use Rattle.inspect_world.specs.ScriptsFit.{LinesFit, InputsFit, UndoRestoresInRuns, BareFramesFit, TurnsFit, DeliveriesFit, SettledShows};
 
 /// While the lines of a script are carried out, the bytes that the ends have sent, folded whole, meet no fault at the front
 /// end, and give exactly what the client sees of the page. The same holds with the fetches of the settles and their replies
-/// put into the streams, and then no text of a sheet is old after a settle.
+/// put into the streams, and then no text of a sheet is old after a settle. An undo restores what was saved.
 pub fn fits_law()
     ensures lines { LinesFit }
     ensures inputs { InputsFit }
+    ensures restores { UndoRestoresInRuns }
     ensures bare_frames { BareFramesFit }
     ensures turns { TurnsFit }
     ensures deliveries { DeliveriesFit }

@@ -2,9 +2,9 @@
 use Rattle.std.proofs.Common.{◌≡◌, ◌≢◌, ℕ, ◌+◌, ◌-◌, ◌<◌, List, [], ◌∷◌, ◌++◌, length, take, get_or, refl, sym, ◌∙◌, ap, inl, inr, append_assoc, append-nil, arith, length-append}
 use Rattle.std.proofs.lemmas.Bool.{cases_eq, ne_eqb}
 use Rattle.std.proofs.lemmas.List.Elements.{All-nil, All-cons, All-head, All-tail}
-use Rattle.std.proofs.lemmas.List.{take_more}
+use Rattle.std.proofs.lemmas.List.{take_more, take_at}
 use Rattle.std.specs.List.{All, flat_map}
-use Rattle.pipe_frames.specs.Frames.{Frames, IsText, framed, bytes_of, Splits, lengthened, put_front, frames_of, frames_from, held_after, continued, with_frame, IsCounted}
+use Rattle.pipe_frames.specs.Frames.{Frames, IsText, framed, bytes_of, IsFrame, Splits, lengthened, put_front, frames_of, frames_from, held_after, continued, with_frame, IsCounted}
 
 abbrev IsLetter : ℕ → Type 0
 IsLetter byte = byte ≢ 0
@@ -219,6 +219,28 @@ IsText-held_after rest bytes = (Splits-frames_of (rest ++ bytes)).partial
 pub ended : (old new : List (List ℕ)) (rest left : List ℕ) → IsText rest → new ≡ old ++ rest ∷ [] → left ≡ []
     → record { whole = new; rest = left } ≡ continued (record { whole = old; rest = rest }) (0 ∷ [])
 ended old new rest left letters whole none = rw (whole, none) (sym (continued-zero old rest letters))
+
+-- the text of a piece that is one frame is what stands before its last byte
+frame-text : (piece : List ℕ) (frame : IsFrame piece) → take (length piece - 1) piece ≡ frame.text
+frame-text piece frame =
+    ap (λ bytes. take (length bytes - 1) bytes) frame.is
+    ∙ ap (λ n. take n (framed frame.text)) (grind (arith, length-append))
+    ∙ take_at frame.text (0 ∷ []) (length frame.text) refl
+
+-- a piece that is one frame comes after whole frames
+pub frame_kept : (whole after : List (List ℕ)) (rest piece text : List ℕ) → rest ≡ [] → IsFrame piece
+    → text ≡ take (length piece - 1) piece → after ≡ whole ++ text ∷ []
+    → record { whole = after; rest = rest } ≡ continued (record { whole = whole; rest = rest }) piece
+frame_kept whole after rest piece text none frame taken is =
+    rw (none, is, taken, frame-text piece frame)
+    (sym (ap (λ bytes. continued (record { whole = whole; rest = [] }) bytes) frame.is
+    ∙ continued-framed whole [] frame.text frame.letters))
+
+-- of a frame no byte may be there
+pub frame_refused : (old new : Frames) (piece : List ℕ) → IsFrame piece → new ≡ old → IsText old.rest
+    → (n : ℕ) × (n < length piece) × (new ≡ continued old (take n piece))
+frame_refused old new piece frame same letters =
+    (0, rw frame.is (grind (arith, length-append)), same ∙ sym (continued-nil old letters))
 
 -- one byte more of a piece
 pub continued-more : (frames : Frames) (piece : List ℕ) (index default : ℕ) → index < length piece

@@ -15,6 +15,12 @@ IsText bytes = All (λ byte. byte ≢ 0) bytes
 abbrev pub framed : List ℕ → List ℕ
 framed text = text ++ 0 ∷ []
 
+-- the bytes are one text, as it is sent
+pub record IsFrame (bytes : List ℕ) : Type 0 where
+  pub text : List ℕ
+  pub letters : IsText text
+  pub is : bytes ≡ framed text
+
 -- the bytes that these frames are cut from
 abbrev pub bytes_of : Frames → List ℕ
 bytes_of frames = flat_map framed frames.whole ++ frames.rest

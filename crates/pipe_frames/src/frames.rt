@@ -1,5 +1,5 @@
-ghost use Rattle.std.specs.Prelude.{◌≡◌, ◌≢◌, ◌<◌, ◌↔◌, ℕ, List, [], ◌∷◌, ◌++◌, length, take, IsNone, IfSome, IfNone, OnOk, OnErr};
-ghost use Rattle.pipe_frames.specs.Frames.{Frames, IsText, Splits, frames_of, bytes_of, continued, framed, with_frame};
+ghost use Rattle.std.specs.Prelude.{◌≡◌, ◌≢◌, ◌<◌, ◌↔◌, ℕ, List, [], ◌∷◌, ◌++◌, length, take, true, IsNone, IfSome, IfNone, OnOk, OnErr};
+ghost use Rattle.pipe_frames.specs.Frames.{Frames, IsText, IsFrame, Splits, frames_of, bytes_of, continued, framed, with_frame};
 
 use std::alloc::{AllocError, Global};
 use std::collections::VecDeque;
@@ -49,6 +49,35 @@ impl Splitter {
         for byte in piece {
             self.take_byte(*byte)?;
         }
+        Ok(())
+    }
+
+    /// The same of a piece that is handed over: where it is one whole frame, and nothing is held before it, it is kept as it is
+    /// and not copied.
+    pub fn take_owned(&mut self, piece: Vec<u8>) -> Result<(), AllocError>
+        ensures ok { OnOk result (self.new ≡ continued self.old piece.items) }
+        ensures err { OnErr result ((n : ℕ) × (n < length piece.items) × (self.new ≡ continued self.old (take n piece.items))) }
+    {
+        if self.rest.is_empty() && is_frame(&piece) {
+            self.keep_frame(piece)
+        } else {
+            self.take(&piece)
+        }
+    }
+
+    // A piece that is one whole frame comes where nothing is held before it.
+    fn keep_frame(&mut self, mut piece: Vec<u8>) -> Result<(), AllocError>
+        requires alone { self.old.rest ≡ [] }
+        requires frame { IsFrame piece.items }
+        ensures ok { OnOk result (self.new ≡ continued self.old piece.items) }
+        ensures err { OnErr result (self.new ≡ self.old) }
+    {
+        let held = self.held.checked_add(piece.len()).ok_or(AllocError)?;
+        let _zero = piece.pop();
+        if let Err(_) = self.whole.push_back(piece) {
+            return Err(AllocError);
+        }
+        self.held = held;
         Ok(())
     }
 
@@ -107,6 +136,16 @@ impl Splitter {
         ensures { result ≡ length (bytes_of self.now) }
     {
         self.held
+    }
+}
+
+// Whether a piece is a text with one zero byte behind it, and nothing else.
+fn is_frame(piece: &[u8]) -> bool
+    ensures { result ≡ true → IsFrame piece.now }
+{
+    match piece.split_last() {
+        Some((last, text)) => *last == 0 && !text.contains(&0),
+        None => false,
     }
 }
 

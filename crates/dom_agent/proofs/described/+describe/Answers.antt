@@ -17,7 +17,7 @@ described_tree-returns t c =
 
 pub described_trees-loop-i-init : goal.described_trees-loop-i-init
 described_trees-loop-i-init t c =
-    ap (λ l. beside (nodes_of l) (told_nodes 0 (shown_to no_ids c.args.levels (from 0 c.args.children.now)))) c.new-told.ensures.items
+    ap (λ l. beside (nodes_of l) (told_nodes 0 (shown_to no_ids c.args.levels (from 0 c.args.children.now)))) c.in_ok-told.ensures.items
     ∙ ap (λ n. told_nodes 0 (shown_to no_ids c.args.levels n)) (from-zero c.args.children.now)
 
 pub described_trees-described_tree-requires : goal.described_trees-described_tree-requires

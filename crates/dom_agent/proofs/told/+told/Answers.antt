@@ -19,7 +19,7 @@ told_tree-returns t c =
 pub told_trees-loop-i-init : goal.told_trees-loop-i-init
 told_trees-loop-i-init t c =
     let b = c.args.binding.now in
-    ap (λ l. beside (nodes_of l) (told_nodes c.args.parent (cut (opened_in b) (id_in b) (from 0 c.args.children.now)))) c.new-told.ensures.items
+    ap (λ l. beside (nodes_of l) (told_nodes c.args.parent (cut (opened_in b) (id_in b) (from 0 c.args.children.now)))) c.in_ok-told.ensures.items
     ∙ ap (λ n. told_nodes c.args.parent (cut (opened_in b) (id_in b) n)) (from-zero c.args.children.now)
 
 pub told_trees-told_tree-requires : goal.told_trees-told_tree-requires

@@ -2,6 +2,7 @@
 use Rattle.pipe_frames.proofs.WholeLemmas.{Appends-nil}
 use Rattle.std.proofs.Common.{◌≡◌, suc, refl, [], ◌∷◌, ap, arith, length}
 use Rattle.replay_script.specs.Seen.{seen}
+use Rattle.inspect_world.specs.Costs.{line_bytes}
 use Rattle.inspect_world.specs.Links.{started}
 use Rattle.inspect_world.proofs.Inputs.{later_line}
 use Rattle.inspect_replay.specs.Moments.{moment}
@@ -37,7 +38,7 @@ returns-in-Err-carried-clause-runs g c = λ up0 down0 w play.
     let more = c.next_line.new.lines in
     let running = with_lines (g.L.Link.honest c.loop-text.link) up0 down0 (g.L.Link.up c.loop-text.link) (g.L.Link.down c.loop-text.link) (g.K.Sink.taken c.args.out.now) (g.K.Sink.taken c.loop-text.out) (whole_of c.args.lines w)
     c.loop-text.number c.loop-text.lines (c.in-Some.text.now ∷ more) c.loop-text.ends c.in-Some.ensures.some (c.loop-text.invariant.5 up0 down0 w play) in
-    let carried = (c.in-Err-carried.ensures {u = tt}).runs up0 down0 (length more) running.world (run-later _ up0 down0 _ _ more running.world c.loop-text.ends running.in_play) in
+    let carried = (c.in-Err-carried.ensures {u = tt}).runs up0 down0 (line_bytes more) running.world (run-later _ up0 down0 _ _ c.in-Some.text.now more (seen c.in-Ok.line) running.world c.loop-text.ends c.in-Ok.ensures.form running.in_play) in
     let stops = run-stops (g.L.Link.honest c.loop-text.link) (g.L.Link.honest c.carry_out-carried.new.link) up0 down0 (g.L.Link.up c.loop-text.link) (g.L.Link.down c.loop-text.link)
     (g.L.Link.up c.carry_out-carried.new.link) (g.L.Link.down c.carry_out-carried.new.link)
     (g.K.Sink.taken c.args.out.now) (g.K.Sink.taken c.loop-text.out) (g.K.Sink.taken c.carry_out-carried.new.out) (whole_of c.args.lines w) c.loop-text.number c.in-Some.text.now more (seen c.in-Ok.line)

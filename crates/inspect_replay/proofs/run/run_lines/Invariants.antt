@@ -1,6 +1,7 @@
 -- The lines so far were good, and the run has come to where they take it.
 use Rattle.std.proofs.Common.{◌≤◌, ◌+◌, [], length}
 use Rattle.pipe_frames.specs.Pipe.{Pipe}
+use Rattle.inspect_world.specs.Costs.{line_bytes}
 use Rattle.inspect_world.specs.World.{World}
 use Rattle.inspect_world.specs.RunStates.{RunState}
 use Rattle.back_end.specs.States.{State}
@@ -19,7 +20,7 @@ invariant-loop-text g l =
     × (g.K.Sink.faults l.initial.out ≤ g.K.Sink.faults l.out)
     × (g.L.Link.faults l.initial.link ≤ g.L.Link.faults l.link)
     × ((up0 down0 : Pipe) (w : World RunState)
-    → InPlay (g.L.Link.honest l.initial.link) up0 down0 (g.L.Link.up l.initial.link) (g.L.Link.down l.initial.link) (length l.initial.lines) w l.initial.ends
+    → InPlay (g.L.Link.honest l.initial.link) up0 down0 (g.L.Link.up l.initial.link) (g.L.Link.down l.initial.link) (line_bytes l.initial.lines) w l.initial.ends
     → Running (g.L.Link.honest l.link) up0 down0 (g.L.Link.up l.link) (g.L.Link.down l.link) (g.K.Sink.taken l.initial.out) (g.K.Sink.taken l.out)
     (whole_of l.initial.lines w) l.number l.lines l.ends)
     × ((state0 : State) (up0 down0 : Pipe) → FollowsRun (started state0 (length l.initial.lines) []) up0 down0 (g.L.Link.up l.initial.link) (g.L.Link.down l.initial.link) l.initial.ends

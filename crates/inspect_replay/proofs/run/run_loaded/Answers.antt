@@ -2,6 +2,7 @@
 use Rattle.std.proofs.Common.{length}
 use Rattle.page_forms.specs.Pages.{loaded_page}
 use Rattle.replay_script.specs.Script.{first_bad, good_lines}
+use Rattle.inspect_world.specs.Costs.{line_bytes}
 use Rattle.inspect_world.specs.Scripts.{loaded_world, after_lines, shown_lines, rest_refused}
 use Rattle.inspect_replay.proofs.RunLemmas.{begins, play-begins}
 use Rattle.inspect_replay.proofs.LinesRun.{closed-took, closed-tells, closed-cause, stopped-took}
@@ -17,9 +18,9 @@ returns-in-Ok-clause-took g c = λ honest up_level down_level.
     let w = loaded_world page in
     let first = c.in_ok-ends.ensures in
     let run = begins (g.L.Link.honest c.args.link.now) (g.L.Link.up c.args.link.now) (g.L.Link.down c.args.link.now) page c.in_ok-ends.ends honest c.requires.can c.requires.texts up_level down_level
-    (record { page_is = first.page; sheets_are = first.sheets; next_is = first.numbers; off = first.off; css = first.css; agent_is = first.agent; watches_are = first.watches })
+    (record { page_is = first.page; sheets_are = first.sheets; next_is = first.numbers; off = first.off; css = first.css; agent_is = first.agent; watches_are = first.watches; history_is = first.history })
     first.splitter first.front first.up first.down first.told first.told_pauses in
-    let play = play-begins (g.L.Link.honest c.args.link.now) (g.L.Link.up c.args.link.now) (g.L.Link.down c.args.link.now) page (length c.args.lines) c.in_ok-ends.ends c.requires.can c.requires.texts c.requires.few run in
+    let play = play-begins (g.L.Link.honest c.args.link.now) (g.L.Link.up c.args.link.now) (g.L.Link.down c.args.link.now) page (line_bytes c.args.lines) c.in_ok-ends.ends c.requires.can c.requires.texts c.requires.short run in
     let ran = (c.in-Ok.ensures {u = c.in-Ok.field-0}).runs (g.L.Link.up c.args.link.now) (g.L.Link.down c.args.link.now) w play in
     let closes = c.close.ensures.runs (g.L.Link.up c.args.link.now) (g.L.Link.down c.args.link.now) (after_lines (shown_lines (good_lines 2 c.args.lines) w) w) ran.0 in
     closed-took c.close.result _ _ _ _ (g.K.Sink.taken c.args.out.now) (g.K.Sink.taken c.run_lines.new.out) (g.K.Sink.taken c.close.new.out)
@@ -31,9 +32,9 @@ returns-clause-took g c = λ honest up_level down_level.
     let w = loaded_world page in
     let first = c.in_ok-ends.ensures in
     let run = begins (g.L.Link.honest c.args.link.now) (g.L.Link.up c.args.link.now) (g.L.Link.down c.args.link.now) page c.in_ok-ends.ends honest c.requires.can c.requires.texts up_level down_level
-    (record { page_is = first.page; sheets_are = first.sheets; next_is = first.numbers; off = first.off; css = first.css; agent_is = first.agent; watches_are = first.watches })
+    (record { page_is = first.page; sheets_are = first.sheets; next_is = first.numbers; off = first.off; css = first.css; agent_is = first.agent; watches_are = first.watches; history_is = first.history })
     first.splitter first.front first.up first.down first.told first.told_pauses in
-    let play = play-begins (g.L.Link.honest c.args.link.now) (g.L.Link.up c.args.link.now) (g.L.Link.down c.args.link.now) page (length c.args.lines) c.in_ok-ends.ends c.requires.can c.requires.texts c.requires.few run in
+    let play = play-begins (g.L.Link.honest c.args.link.now) (g.L.Link.up c.args.link.now) (g.L.Link.down c.args.link.now) page (line_bytes c.args.lines) c.in_ok-ends.ends c.requires.can c.requires.texts c.requires.short run in
     let ran = (c.in-Err.ensures {u = tt}).runs (g.L.Link.up c.args.link.now) (g.L.Link.down c.args.link.now) w play in
     stopped-took c.in-Err.stop (g.K.Sink.taken c.args.out.now) (g.K.Sink.taken c.run_lines.new.out)
     (first_bad 2 c.args.lines) (good_lines 2 c.args.lines) w ran.2 ran.1
@@ -45,7 +46,7 @@ returns-in-Ok-clause-refused g c =
     let page = loaded_page c.args.form in
     let first = c.in_ok-ends.ensures in
     let start = run-first up down page (length c.args.lines) c.in_ok-ends.ends c.requires.can c.requires.texts c.requires.few
-    (record { page_is = first.page; sheets_are = first.sheets; next_is = first.numbers; off = first.off; css = first.css; agent_is = first.agent; watches_are = first.watches })
+    (record { page_is = first.page; sheets_are = first.sheets; next_is = first.numbers; off = first.off; css = first.css; agent_is = first.agent; watches_are = first.watches; history_is = first.history })
     first.splitter first.front first.up first.down first.told first.told_pauses in
     let ran = c.in-Ok.ensures {u = c.in-Ok.field-0} in
     let carried = (ran.follows (loaded_state page) up down start).0 in
@@ -59,7 +60,7 @@ returns-in-Ok-clause-closes g c =
     let page = loaded_page c.args.form in
     let first = c.in_ok-ends.ensures in
     let start = run-first up down page (length c.args.lines) c.in_ok-ends.ends c.requires.can c.requires.texts c.requires.few
-    (record { page_is = first.page; sheets_are = first.sheets; next_is = first.numbers; off = first.off; css = first.css; agent_is = first.agent; watches_are = first.watches })
+    (record { page_is = first.page; sheets_are = first.sheets; next_is = first.numbers; off = first.off; css = first.css; agent_is = first.agent; watches_are = first.watches; history_is = first.history })
     first.splitter first.front first.up first.down first.told first.told_pauses in
     let ran = c.in-Ok.ensures {u = c.in-Ok.field-0} in
     let carried = (ran.follows (loaded_state page) up down start).0 in
@@ -74,7 +75,7 @@ returns-in-Ok-clause-replies g c =
     let page = loaded_page c.args.form in
     let first = c.in_ok-ends.ensures in
     let start = run-first up down page (length c.args.lines) c.in_ok-ends.ends c.requires.can c.requires.texts c.requires.few
-    (record { page_is = first.page; sheets_are = first.sheets; next_is = first.numbers; off = first.off; css = first.css; agent_is = first.agent; watches_are = first.watches })
+    (record { page_is = first.page; sheets_are = first.sheets; next_is = first.numbers; off = first.off; css = first.css; agent_is = first.agent; watches_are = first.watches; history_is = first.history })
     first.splitter first.front first.up first.down first.told first.told_pauses in
     let ran = c.in-Ok.ensures {u = c.in-Ok.field-0} in
     let carried = (ran.follows (loaded_state page) up down start).0 in
@@ -89,7 +90,7 @@ returns-in-Ok-clause-less g c =
     let page = loaded_page c.args.form in
     let first = c.in_ok-ends.ensures in
     let start = run-first up down page (length c.args.lines) c.in_ok-ends.ends c.requires.can c.requires.texts c.requires.few
-    (record { page_is = first.page; sheets_are = first.sheets; next_is = first.numbers; off = first.off; css = first.css; agent_is = first.agent; watches_are = first.watches })
+    (record { page_is = first.page; sheets_are = first.sheets; next_is = first.numbers; off = first.off; css = first.css; agent_is = first.agent; watches_are = first.watches; history_is = first.history })
     first.splitter first.front first.up first.down first.told first.told_pauses in
     let ran = c.in-Ok.ensures {u = c.in-Ok.field-0} in
     let carried = (ran.follows (loaded_state page) up down start).0 in
@@ -104,7 +105,7 @@ returns-clause-refused g c =
     let page = loaded_page c.args.form in
     let first = c.in_ok-ends.ensures in
     let start = run-first up down page (length c.args.lines) c.in_ok-ends.ends c.requires.can c.requires.texts c.requires.few
-    (record { page_is = first.page; sheets_are = first.sheets; next_is = first.numbers; off = first.off; css = first.css; agent_is = first.agent; watches_are = first.watches })
+    (record { page_is = first.page; sheets_are = first.sheets; next_is = first.numbers; off = first.off; css = first.css; agent_is = first.agent; watches_are = first.watches; history_is = first.history })
     first.splitter first.front first.up first.down first.told first.told_pauses in
     ((c.in-Err.ensures {u = tt}).follows (loaded_state page) up down start).1
 
@@ -115,7 +116,7 @@ returns-in-Ok-clause-tells g c =
     let page = loaded_page c.args.form in
     let first = c.in_ok-ends.ensures in
     let start = run-first up down page (length c.args.lines) c.in_ok-ends.ends c.requires.can c.requires.texts c.requires.few
-    (record { page_is = first.page; sheets_are = first.sheets; next_is = first.numbers; off = first.off; css = first.css; agent_is = first.agent; watches_are = first.watches })
+    (record { page_is = first.page; sheets_are = first.sheets; next_is = first.numbers; off = first.off; css = first.css; agent_is = first.agent; watches_are = first.watches; history_is = first.history })
     first.splitter first.front first.up first.down first.told first.told_pauses in
     let ran = c.in-Ok.ensures {u = c.in-Ok.field-0} in
     let carried = (ran.follows (loaded_state page) up down start).0 in
@@ -129,7 +130,7 @@ returns-clause-tells g c =
     let page = loaded_page c.args.form in
     let first = c.in_ok-ends.ensures in
     let start = run-first up down page (length c.args.lines) c.in_ok-ends.ends c.requires.can c.requires.texts c.requires.few
-    (record { page_is = first.page; sheets_are = first.sheets; next_is = first.numbers; off = first.off; css = first.css; agent_is = first.agent; watches_are = first.watches })
+    (record { page_is = first.page; sheets_are = first.sheets; next_is = first.numbers; off = first.off; css = first.css; agent_is = first.agent; watches_are = first.watches; history_is = first.history })
     first.splitter first.front first.up first.down first.told first.told_pauses in
     ((c.in-Err.ensures {u = tt}).follows (loaded_state page) up down start).2
 
@@ -139,9 +140,9 @@ returns-in-Ok-clause-stops g c = λ honest up_level down_level.
     let w = loaded_world page in
     let first = c.in_ok-ends.ensures in
     let run = begins (g.L.Link.honest c.args.link.now) (g.L.Link.up c.args.link.now) (g.L.Link.down c.args.link.now) page c.in_ok-ends.ends honest c.requires.can c.requires.texts up_level down_level
-    (record { page_is = first.page; sheets_are = first.sheets; next_is = first.numbers; off = first.off; css = first.css; agent_is = first.agent; watches_are = first.watches })
+    (record { page_is = first.page; sheets_are = first.sheets; next_is = first.numbers; off = first.off; css = first.css; agent_is = first.agent; watches_are = first.watches; history_is = first.history })
     first.splitter first.front first.up first.down first.told first.told_pauses in
-    let play = play-begins (g.L.Link.honest c.args.link.now) (g.L.Link.up c.args.link.now) (g.L.Link.down c.args.link.now) page (length c.args.lines) c.in_ok-ends.ends c.requires.can c.requires.texts c.requires.few run in
+    let play = play-begins (g.L.Link.honest c.args.link.now) (g.L.Link.up c.args.link.now) (g.L.Link.down c.args.link.now) page (line_bytes c.args.lines) c.in_ok-ends.ends c.requires.can c.requires.texts c.requires.short run in
     let ran = (c.in-Ok.ensures {u = c.in-Ok.field-0}).runs (g.L.Link.up c.args.link.now) (g.L.Link.down c.args.link.now) w play in
     closed-tells c.close.result _ _ _ _ (rest_refused (first_bad 2 c.args.lines) (good_lines 2 c.args.lines) w) ran.2 c.close.ensures.cause
 
@@ -151,9 +152,9 @@ returns-clause-stops g c = λ honest up_level down_level.
     let w = loaded_world page in
     let first = c.in_ok-ends.ensures in
     let run = begins (g.L.Link.honest c.args.link.now) (g.L.Link.up c.args.link.now) (g.L.Link.down c.args.link.now) page c.in_ok-ends.ends honest c.requires.can c.requires.texts up_level down_level
-    (record { page_is = first.page; sheets_are = first.sheets; next_is = first.numbers; off = first.off; css = first.css; agent_is = first.agent; watches_are = first.watches })
+    (record { page_is = first.page; sheets_are = first.sheets; next_is = first.numbers; off = first.off; css = first.css; agent_is = first.agent; watches_are = first.watches; history_is = first.history })
     first.splitter first.front first.up first.down first.told first.told_pauses in
-    let play = play-begins (g.L.Link.honest c.args.link.now) (g.L.Link.up c.args.link.now) (g.L.Link.down c.args.link.now) page (length c.args.lines) c.in_ok-ends.ends c.requires.can c.requires.texts c.requires.few run in
+    let play = play-begins (g.L.Link.honest c.args.link.now) (g.L.Link.up c.args.link.now) (g.L.Link.down c.args.link.now) page (line_bytes c.args.lines) c.in_ok-ends.ends c.requires.can c.requires.texts c.requires.short run in
     ((c.in-Err.ensures {u = tt}).runs (g.L.Link.up c.args.link.now) (g.L.Link.down c.args.link.now) w play).2
 
 pub returns-in-Ok-clause-cause : goal.returns-in-Ok-clause-cause

@@ -5,7 +5,7 @@ use Rattle.replay_script.specs.Forms.{load, line_form}
 use Rattle.replay_script.specs.Lines.{lines_of}
 use Rattle.inspect_world.specs.Links.{came_styles}
 use Rattle.inspect_replay.specs.Answers.{RunTells, RunTook}
-use Rattle.inspect_replay.proofs.RunLemmas.{script-loads, report-loads, refused-loads, script-refused, few-lines}
+use Rattle.inspect_replay.proofs.RunLemmas.{script-loads, report-loads, refused-loads, script-refused, few-lines, few-bytes}
 use Rattle.inspect_replay.proofs.LinesRun.{unread-tells, unread-stops, no-lines-tell, no-lines-stop}
 use Rattle.inspect_replay.specs.Followed.{fold_since}
 use Rattle.inspect_replay.proofs.FollowLemmas.{start-good, read-folds}
@@ -28,6 +28,10 @@ run_loaded-requires-clause-texts g c =
 pub run_loaded-requires-clause-few : goal.run_loaded-requires-clause-few
 run_loaded-requires-clause-few g c =
     few-lines c.args.input.now c.in-Some.first.now c.next_line.new.lines (2 ^ 26) (sym c.new-lines.ensures ∙ c.in-Some.ensures.some) c.requires.few
+
+pub run_loaded-requires-clause-short : goal.run_loaded-requires-clause-short
+run_loaded-requires-clause-short g c =
+    few-bytes c.args.input.now c.in-Some.first.now c.next_line.new.lines (2 ^ 26) (sym c.new-lines.ensures ∙ c.in-Some.ensures.some) c.requires.few
 
 pub returns-in-Ok-clause-took : goal.returns-in-Ok-clause-took
 returns-in-Ok-clause-took g c = λ honest up_level down_level.

@@ -2,7 +2,9 @@
 use Rattle.std.proofs.Common.{◌≡◌, ◌≤◌, ◌+◌, ◌*◌, length, arith, ap, ◌∙◌, refl, Ok}
 use Rattle.front_mirror.specs.Front.{after_ask}
 use Rattle.replay_script.specs.Seen.{seen_ask}
+use Rattle.inspect_world.specs.Costs.{ask_cost}
 use Rattle.inspect_world.specs.Fits.{most_sheets, most_fetches}
+use Rattle.inspect_world.proofs.Scripts.{left-fewer}
 use Rattle.inspect_replay.specs.Runs.{ends_of}
 use Rattle.inspect_replay.proofs.EndLemmas.{asked_in, frame-seen, has-ids}
 use Rattle.inspect_replay.proofs.FollowLemmas.{asked-follows, kept-run, front-stops}
@@ -44,7 +46,7 @@ returns-in-Ok-clause-follows g c = λ state0 up0 down0 run.
 
 pub returns-then-not-has_room-clause-steps : goal.returns-then-not-has_room-clause-steps
 returns-then-not-has_room-clause-steps g c = λ up0 down0 w few run.
-    let fetches : w.spent.fetches + (1 + 1) * most_sheets ≤ most_fetches = few.fetches in
+    let fetches : w.spent.fetches + (0 + 1) * most_sheets ≤ most_fetches = (left-fewer w.spent 0 (ask_cost (seen_ask c.args.ask.now)) (omega arith) few).fetches in
     (has-ids up0 down0 _ _ w _ (ends_of c.args.self.now) run.so_far.in_world (omega (arith, fetches)) c.if-not-has_room.ensures.1, tt)
 
 pub returns-then-not-has_room-clause-follows : goal.returns-then-not-has_room-clause-follows
