@@ -1,5 +1,5 @@
 -- A desk and a history that stand for a state do so after each command, of what edits nothing, and of a script's changes.
-use Rattle.std.proofs.Common.{◌≡◌, ◌≤◌, ℕ, Bool, true, false, cond, not, ◌&&◌, List, [], ◌∷◌, ◌++◌, Option, Some, None, Result, refl, sym, ap, ◌∙◌, subst, arith}
+use Rattle.std.proofs.Common.{◌≡◌, ℕ, Bool, true, false, cond, not, ◌&&◌, List, [], ◌∷◌, ◌++◌, Option, Some, None, Result, refl, sym, ap, ◌∙◌, subst, arith}
 use Rattle.page_tree.specs.declared.edits.TreeEdit.{TreeEdit}
 use Rattle.node_binding.specs.Sessions.{Session}
 use Rattle.cdp_messages.specs.declared.command.Why.{Why}
@@ -16,19 +16,18 @@ use Rattle.dom_breakpoints.specs.Watched.{Watched}
 use Rattle.page_forms.specs.declared.acts.Act.{Act}
 use Rattle.page_forms.specs.Pages.{LoadedPage}
 use Rattle.undo_marks.specs.Marks.{Marks, no_marks, crossed_over}
-use Rattle.undo_marks.specs.Saved.{Saved}
 use Rattle.undo_marks.specs.SavedEdits.{saved_of}
 use Rattle.undo_marks.specs.declared.inverse_lists.Inverse.{Inverse}
 use Rattle.back_end.specs.declared.desk.Desk.{Desk}
 use Rattle.back_end.specs.declared.side.PageSide.{PageSide}
 use Rattle.back_end.specs.declared.faults.ActFault.{ActFault}
 use Rattle.back_end.specs.Sheets.{as_book, SheetChange}
-use Rattle.back_end.specs.States.{Side, Client, State, book_in, saved_now, Keeps}
+use Rattle.back_end.specs.States.{Side, State, book_in, Keeps}
 use Rattle.back_end.specs.Plans.{Deed, edits, restyles, act_fault, act_plan}
 use Rattle.back_end.specs.Servers.{Server, disables, agent, watches, unwatches, by_agent, by_part}
 use Rattle.back_end.specs.declared.parts.SeatPart.{SeatPart}
 use Rattle.back_end.specs.declared.parts.SeatPart.TheVariants as part
-use Rattle.back_end.specs.Steps.{Step, refusing, with_page, client_served, push_step, push_steps, pause_step, pause_before, edit_step, script_step, script_steps, sheet_step, sheet_steps, deed_step, planned_step, act_step, load_step, watch_kind, watch_step, serial_now, needs_on, needs_css, server_step, command_step}
+use Rattle.back_end.specs.Steps.{Step, refusing, with_page, client_served, push_step, push_steps, pause_step, script_step, script_steps, sheet_step, sheet_steps, deed_step, planned_step, act_step, load_step, watch_kind, watch_step, serial_now, needs_on, needs_css, server_step, command_step}
 use Rattle.dom_breakpoints.specs.Watched.{with_watch, without_watch}
 use Rattle.cdp_messages.specs.declared.command.WatchWord.{WatchWord}
 use Rattle.back_end.specs.Seats.{DeskStandsFor, BothStandFor}

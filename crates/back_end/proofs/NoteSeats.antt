@@ -1,12 +1,10 @@
 -- A client's edits are noted by the edits that lead back, and these are kept for the state after them.
-use Rattle.std.proofs.Common.{◌≡◌, ◌≤◌, ℕ, ◌+◌, ◌^◌, ◌<◌, Bool, true, List, [], ◌∷◌, ◌++◌, map, Option, Some, None, Result, Ok, Err, refl, sym, ap, ◌∙◌, subst, arith}
-use Rattle.std.specs.Prelude.{is_some}
+use Rattle.std.proofs.Common.{◌≡◌, ◌≤◌, ℕ, List, [], ◌∷◌, map, Option, Some, None, Ok, refl, sym, ap, ◌∙◌, subst, arith}
 use Rattle.node_tree.specs.Nodes.{Branch, alone}
 use Rattle.page_tree.specs.Pages.{Row, State as PageValue, IsValid}
-use Rattle.page_tree.specs.Edits.{after, back_tree, drawn, form_at, numbered_branch, moved_before}
-use Rattle.page_tree.specs.EditFaults.{CanApply, CanApplyAll, IsReady}
+use Rattle.page_tree.specs.Edits.{after, form_at}
+use Rattle.page_tree.specs.EditFaults.{CanApplyAll}
 use Rattle.page_tree.specs.declared.edits.TreeEdit.{TreeEdit}
-use Rattle.page_tree.specs.declared.edits.TreeEdit.TheVariants.{Attach, Detach}
 use Rattle.page_tree.specs.declared.edit_faults.EditFault.{EditFault}
 use Rattle.page_tree.proofs.EditLemmas.{valid-after}
 use Rattle.page_tree.proofs.InsertLemmas.{next-stays, copy-leads}
@@ -14,36 +12,30 @@ use Rattle.page_tree.proofs.MoveLemmas.{move-leads}
 use Rattle.sheet_reader.specs.declared.book.SheetEntry.{SheetEntry}
 use Rattle.style_edits.specs.declared.splice.Splice.{Splice}
 use Rattle.style_edits.specs.Splices.{after_splice, back_splice, after_splices}
-use Rattle.cdp_messages.specs.Moves.{frames_of_moves}
-use Rattle.css_agent.specs.declared.edits.CssEdit.{CssEdit}
-use Rattle.css_agent.specs.Edits.{CssDone, CssEdited, css_edited, css_splices, edit_splices}
-use Rattle.css_agent.specs.EditLaws.{HasEditTexts, AllTake, back_splices}
+use Rattle.css_agent.specs.EditLaws.{AllTake, back_splices}
 use Rattle.dom_agent.specs.Laws.{RowsHaveUtf8}
 use Rattle.undo_marks.specs.Marks.{Marks, noted_singly}
 use Rattle.undo_marks.specs.Changes.{after_all, back_all, AllTaken}
-use Rattle.undo_marks.specs.Saved.{Saved, SavedSheet}
-use Rattle.undo_marks.specs.SavedEdits.{saved_sheet, saved_of, page_after, way_back, sheets_after, splice_back}
+use Rattle.undo_marks.specs.Saved.{Saved}
+use Rattle.undo_marks.specs.SavedEdits.{saved_of, page_after, way_back}
 use Rattle.undo_marks.specs.declared.inverse_lists.Inverse.{Inverse}
 use Rattle.undo_marks.specs.declared.inverse_lists.Inverse.TheVariants.{Tree, Sheet}
 use Rattle.undo_marks.proofs.SheetLemmas.{after-saved, back-saved, taken-saved}
 use Rattle.back_end.specs.declared.desk.Desk.{Desk}
 use Rattle.back_end.specs.declared.side.PageSide.{PageSide}
-use Rattle.back_end.specs.declared.dom_edits.DomEdit.{DomEdit}
 use Rattle.back_end.specs.declared.dom_edits.NodeEdit.{NodeEdit}
 use Rattle.back_end.specs.declared.dom_edits.NodeEdit.TheVariants.{One, MoveNode, CopyNode}
-use Rattle.back_end.specs.OwnMethods.{edit_why}
 use Rattle.back_end.specs.Plans.{Plan, node_edit_fault, node_edit_plan, node_put}
-use Rattle.back_end.specs.Servers.{edits_tree, edits_sheets}
-use Rattle.back_end.specs.States.{Side, Client, State, nodes_in, book_in, HoldsNow, TakesWell, saved_now, Keeps}
-use Rattle.back_end.specs.Steps.{Step, idle, with_page, with_marks, keeping, edit_step, edit_steps, splice_steps, plan_step, planned_by_client, put_answer, unless_fault, node_edit_step, lowered, edit_named, restyled_step, command_step}
-use Rattle.back_end.specs.Texts.{EditHasTexts, IsPlainEdit}
-use Rattle.back_end.specs.Seats.{DeskStandsFor, BothStandFor, HasNumbersLeft}
+use Rattle.back_end.specs.States.{State, nodes_in, book_in, HoldsNow, TakesWell, saved_now, Keeps}
+use Rattle.back_end.specs.Steps.{Step, idle, with_page, with_marks, keeping, edit_step, edit_steps, splice_steps, plan_step, planned_by_client, put_answer, unless_fault, node_edit_step}
+use Rattle.back_end.specs.Texts.{IsPlainEdit}
+use Rattle.back_end.specs.Seats.{DeskStandsFor, BothStandFor}
 use Rattle.back_end.proofs.TextLemmas.{node_at-texts, branch-texts, form-texts, after-texts}
 use Rattle.back_end.proofs.StepLemmas.{EditsHaveTexts, drawn-valid}
 use Rattle.back_end.proofs.HistoryLemmas.{keeps-same, keeps-edited}
-use Rattle.back_end.proofs.SpliceSteps.{edit-done, restyled}
+use Rattle.back_end.proofs.SpliceSteps.{restyled}
 use Rattle.back_end.proofs.SeatLemmas.{marks-stands}
-use Rattle.back_end.proofs.TreeSeats.{fault-here}
+use Rattle.back_end.proofs.TreeSeats.{fault-here, put-state}
 
 -- ---- edits of the tree
 
@@ -156,14 +148,10 @@ edited-both d d1 h h1 s s1 state id e put both plain fits put_is noted stands =
     let kept : Keeps h1 (planned_by_client plan state).state = subst (λ (x : Marks Inverse). Keeps x (planned_by_client plan state).state) (sym last) (planned-kept h state e both.kept both.stands.now plain none) in
     let desk : DeskStandsFor d1 s1 (put_answer id put (planned_by_client plan state)).state =
     subst (λ (z : State). DeskStandsFor d1 s1 z) (put-marks id put es state done)
-    (marks-stands (planned_by_client plan state).state.client.marks d1 s1 (put_answer id put done).state (subst (λ (z : State). DeskStandsFor d1 s1 z) (idle-put id put done) stands)) in
+    (marks-stands (planned_by_client plan state).state.client.marks d1 s1 (put_answer id put done).state (subst (λ (z : State). DeskStandsFor d1 s1 z) (put-state id put done) stands)) in
     subst (λ (o : Option EditFault). BothStandFor d1 h1 s1 (unless_fault id o e state).state) (sym none)
     (subst (λ (o : Option ℕ). BothStandFor d1 h1 s1 (put_answer id o (planned_by_client plan state)).state) here
     (record { stands = desk; kept = put-kept h1 id put (planned_by_client plan state) kept }))
-  where
-    idle-put : (id : ℕ) (put : Option ℕ) (done : Step) → (put_answer id put (idle done.state)).state ≡ (put_answer id put done).state
-    idle-put id None done = refl
-    idle-put id (Some serial) done = refl
 
 -- ---- edits of sheets
 

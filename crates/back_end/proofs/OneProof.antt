@@ -1,5 +1,5 @@
 -- Facts that have one proof at most, and so hold where it is known only that there is a proof.
-use Rattle.std.proofs.Common.{◌≡◌, ℕ, ◌<◌, ◌≤◌, ◌^◌, Bool, true, List, length, Option, Some, None, refl, ap}
+use Rattle.std.proofs.Common.{◌≡◌, ℕ, ◌<◌, ◌≤◌, ◌^◌, true, List, length, Option, Some, None, refl, ap}
 use Rattle.std.specs.Prelude.{is_none, IsSomeAnd}
 use Rattle.std.specs.Str.{IsCharBoundary}
 use Rattle.std.proofs.Math.Logic.{∥∥₁_map, ∥∥₁_elim}

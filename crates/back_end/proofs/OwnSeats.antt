@@ -46,20 +46,12 @@ commands-why {T} e why found is finds = subst (λ x. Commands {T = T} (Err x) fo
 
 -- ---- a load
 
-pub loaded-stands : (d : Desk) (s : PageSide) (state : State) (id : ℕ) (params : Data) (page : LoadedPage) → load_asked params ≡ Ok page
-    → DeskStandsFor d s (load_step page state).state → DeskStandsFor d s (command_step id (page_load params) state).state
-loaded-stands d s state id params page is stands = subst (λ r. DeskStandsFor d s (own_step loads id r state).state) (sym is) stands
-
 pub loaded-sent : (state : State) (id : ℕ) (params : Data) (page : LoadedPage) (old middle new : List ℕ) → load_asked params ≡ Ok page
     → middle ≡ old ++ frames_of_moves (load_step page state).moves → new ≡ middle ++ ended (reply_text id Nothing)
     → new ≡ old ++ frames_of_moves (command_step id (page_load params) state).moves
 loaded-sent state id params page old middle new is first last =
     answered-sent id (load_step page state).moves old middle new first last
     ∙ ap (λ r. old ++ frames_of_moves (own_step loads id r state).moves) (sym is)
-
-pub unloaded-stands : (d : Desk) (s : PageSide) (state : State) (id : ℕ) (params : Data) (why : Why) → load_asked params ≡ Err why
-    → DeskStandsFor d s state → DeskStandsFor d s (command_step id (page_load params) state).state
-unloaded-stands d s state id params why is stands = subst (λ r. DeskStandsFor d s (own_step loads id r state).state) (sym is) stands
 
 pub unloaded-sent : (state : State) (id : ℕ) (params : Data) (why : Why) (old new : List ℕ) → load_asked params ≡ Err why
     → new ≡ old ++ frames_of_moves (refusing (Some id) why state).moves → new ≡ old ++ frames_of_moves (command_step id (page_load params) state).moves
@@ -82,17 +74,9 @@ unloaded-both d h s state id params why is both = subst (λ (r : Result LoadedPa
 judged-is : (state : State) (id : ℕ) (params : Data) (r : Result Act Why) → act_read params ≡ r → command_step id (page_act params) state ≡ own_step acts id (then_ok r (act_judged state.side.page (book_in state))) state
 judged-is state id params r is = ap (λ found. own_step acts id (then_ok found (act_judged state.side.page (book_in state))) state) is
 
-pub changed-stands : (d : Desk) (s : PageSide) (state : State) (id : ℕ) (params : Data) (act : Act) → act_read params ≡ Ok act
-    → DeskStandsFor d s (judged_step id act state).state → DeskStandsFor d s (command_step id (page_act params) state).state
-changed-stands d s state id params act is stands = subst (λ (done : Step). DeskStandsFor d s done.state) (sym (judged-is state id params (Ok act) is)) stands
-
 pub changed-sent : (state : State) (id : ℕ) (params : Data) (act : Act) (old new : List ℕ) → act_read params ≡ Ok act
     → new ≡ old ++ frames_of_moves (judged_step id act state).moves → new ≡ old ++ frames_of_moves (command_step id (page_act params) state).moves
 changed-sent state id params act old new is sent = sent ∙ ap (λ (done : Step). old ++ frames_of_moves done.moves) (sym (judged-is state id params (Ok act) is))
-
-pub unread-stands : (d : Desk) (s : PageSide) (state : State) (id : ℕ) (params : Data) (why : Why) → act_read params ≡ Err why
-    → DeskStandsFor d s state → DeskStandsFor d s (command_step id (page_act params) state).state
-unread-stands d s state id params why is stands = subst (λ (done : Step). DeskStandsFor d s done.state) (sym (judged-is state id params (Err why) is)) stands
 
 pub unread-sent : (state : State) (id : ℕ) (params : Data) (why : Why) (old new : List ℕ) → act_read params ≡ Err why
     → new ≡ old ++ frames_of_moves (refusing (Some id) why state).moves → new ≡ old ++ frames_of_moves (command_step id (page_act params) state).moves
@@ -107,11 +91,6 @@ fault-here d s state act o stands is =
 -- what the page takes is carried out
 taken-is : (state : State) (id : ℕ) (act : Act) → act_fault act state.side.page (book_in state) ≡ None → judged_step id act state ≡ answering id (act_step act state)
 taken-is state id act none = ap (λ o. own_step acts id (unless_why (option_map act_why o) act) state) none
-
-pub taken-stands : (d d1 : Desk) (s s1 : PageSide) (state : State) (id : ℕ) (act : Act) → DeskStandsFor d s state → None ≡ act_fault act s.page s.sheets.entries
-    → DeskStandsFor d1 s1 (act_step act state).state → DeskStandsFor d1 s1 (judged_step id act state).state
-taken-stands d d1 s s1 state id act before none stands =
-    subst (λ (done : Step). DeskStandsFor d1 s1 done.state) (sym (taken-is state id act (fault-here d s state act None before none))) stands
 
 pub taken-sent : (d : Desk) (s : PageSide) (state : State) (id : ℕ) (act : Act) (old middle new : List ℕ) → DeskStandsFor d s state → None ≡ act_fault act s.page s.sheets.entries
     → middle ≡ old ++ frames_of_moves (act_step act state).moves → new ≡ middle ++ ended (reply_text id Nothing)

@@ -1,8 +1,8 @@
 -- A pause that a seat tells is the step of the state.
-use Rattle.std.proofs.Common.{◌≡◌, ℕ, ◌+◌, ◌<◌, ◌≤◌, Bool, true, false, List, [], ◌∷◌, ◌++◌, Option, Some, None, Result, Ok, Err, refl, sym, ◌∙◌, ap, subst, append-nil, append_assoc, arith}
-use Rattle.std.specs.Prelude.{OnOk, IfOk, is_some}
+use Rattle.std.proofs.Common.{◌≡◌, ℕ, ◌+◌, ◌<◌, Bool, true, List, [], ◌∷◌, ◌++◌, Option, Some, None, refl, sym, ◌∙◌, ap, subst, append-nil, append_assoc, arith}
+use Rattle.std.specs.Prelude.{is_some}
 use Rattle.std.proofs.lemmas.List.Concat.{flat_map-append}
-use Rattle.node_tree.specs.Nodes.{Nodes, Branch, alone}
+use Rattle.node_tree.specs.Nodes.{Nodes, Branch}
 use Rattle.node_tree.specs.Keys.{has}
 use Rattle.page_tree.specs.Pages.{Row, row_serial, State as PageValue}
 use Rattle.page_tree.specs.EditFaults.{CanApply}

@@ -1,5 +1,5 @@
 -- A node that becomes known at a desk is the step of the state.
-use Rattle.std.proofs.Common.{◌≡◌, ℕ, Bool, true, List, ◌++◌, Option, Some, None, Result, Ok, Err, refl, sym, ◌∙◌, ap, subst}
+use Rattle.std.proofs.Common.{◌≡◌, ℕ, true, List, ◌++◌, Result, Ok, Err, sym, ◌∙◌, ap, subst}
 use Rattle.std.specs.Prelude.{OnOk, IfOk}
 use Rattle.node_tree.specs.Nodes.{alone}
 use Rattle.node_tree.specs.Keys.{has}
@@ -9,7 +9,7 @@ use Rattle.node_binding.specs.Sessions.{Session, IsSession, session_of, ids_in}
 use Rattle.node_binding.proofs.StartLemmas.{distinct-alone}
 use Rattle.cdp_messages.specs.Moves.{frames_of_moves}
 use Rattle.dom_agent.specs.Keepers.{session_keeper, binding_keeper}
-use Rattle.dom_agent.specs.Requests.{Progress, pushed, opening_moves, frames_told}
+use Rattle.dom_agent.specs.Requests.{Progress, pushed, frames_told}
 use Rattle.dom_agent.proofs.OutcomeLemmas.{containers-page}
 use Rattle.dom_agent.proofs.KeeperLemmas.{Alike, alike-pushed, pushed-id}
 use Rattle.back_end.specs.States.{State, nodes_in, HoldsNow}

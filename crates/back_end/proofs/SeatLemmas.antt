@@ -214,10 +214,6 @@ pub disabled-sent : (d : Desk) (s : PageSide) (state : State) (id : ℕ) (old mi
 disabled-sent d s state id old middle new stands was sent more =
     more ∙ append-nil middle ∙ sent ∙ ap (λ (done : Step). old ++ frames_of_moves done.moves) (sym (on-is id disables state (disable-on d.is_on state.client.dom_on stands.on_is was) refl))
 
-pub off-stands : (d : Desk) (s : PageSide) (state : State) (id : ℕ) → DeskStandsFor d s state → d.is_on ≡ false → DeskStandsFor d s (command_step id disables state).state
-off-stands d s state id stands was =
-    subst (λ (done : Step). DeskStandsFor d s done.state) (sym (off-is id disables state (disable-off d.is_on state.client.dom_on stands.on_is was))) stands
-
 pub off-sent : (d : Desk) (s : PageSide) (state : State) (id : ℕ) (old new : List ℕ) → DeskStandsFor d s state → d.is_on ≡ false
     → new ≡ old ++ frames_of_moves (refusing (Some id) DomOff state).moves → new ≡ old ++ frames_of_moves (command_step id disables state).moves
 off-sent d s state id old new stands was sent =

@@ -361,10 +361,10 @@ small-is : (text : List ℕ) (es : List SheetEntry) → is_too_big text es ≡ f
 small-is text es e = ap (λ (b : Bool). cond b (Some (Sheet TooBig)) None) e
 
 -- a sheet is added
-pub added-stands : (d : Desk) (s s1 : PageSide) (state : State) (origin : Origin) (text : List ℕ) → DeskStandsFor d s state → is_too_big text s.sheets.entries ≡ false
-    → DeskStandsFor d s1 (sheet_step (comes origin text) state).state → DeskStandsFor d s1 (act_step (act.AddSheet origin text) state).state
-added-stands d s s1 state origin text before fits stands =
-    once-stands d s1 state (size_fault text (book_in state)) (comes origin text) (small-is text (book_in state) (ap (is_too_big text) (sym before.sheets_are) ∙ fits)) stands
+pub added-stands : (d d1 : Desk) (s s1 : PageSide) (state : State) (origin : Origin) (text : List ℕ) → DeskStandsFor d s state → is_too_big text s.sheets.entries ≡ false
+    → DeskStandsFor d1 s1 (sheet_step (comes origin text) state).state → DeskStandsFor d1 s1 (act_step (act.AddSheet origin text) state).state
+added-stands d d1 s s1 state origin text before fits stands =
+    once-stands d1 s1 state (size_fault text (book_in state)) (comes origin text) (small-is text (book_in state) (ap (is_too_big text) (sym before.sheets_are) ∙ fits)) stands
 
 pub added-sent : (d : Desk) (s : PageSide) (state : State) (origin : Origin) (text old new : List ℕ) → DeskStandsFor d s state → is_too_big text s.sheets.entries ≡ false
     → new ≡ old ++ frames_of_moves (sheet_step (comes origin text) state).moves → new ≡ old ++ frames_of_moves (act_step (act.AddSheet origin text) state).moves

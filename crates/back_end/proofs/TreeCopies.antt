@@ -1,6 +1,6 @@
 -- Copies of trees: those so far, and those that are left.
 use Rattle.std.proofs.Common.{◌≡◌, ℕ, ◌+◌, ◌<◌, List, [], ◌∷◌, ◌++◌, Some, sym, ap, ◌∙◌}
-use Rattle.node_tree.specs.Nodes.{Nodes, none, node, Branch, nodes_of, from, tree_at, width, beside}
+use Rattle.node_tree.specs.Nodes.{Nodes, none, Branch, nodes_of, from, tree_at, width, beside}
 use Rattle.node_tree.proofs.NodeLemmas.{from-zero, beside-none, beside_assoc, nodes_of-append}
 use Rattle.page_tree.specs.Pages.{Row}
 use Rattle.page_tree.proofs.CursorLemmas.{from-next}

@@ -1,9 +1,9 @@
 -- What a seat does on a client's edit of the tree is the step of the state.
-use Rattle.std.proofs.Common.{◌≡◌, map as mapped, ℕ, suc, ◌+◌, ◌^◌, ◌<◌, ◌≤◌, ◌&&◌, Bool, true, false, not, List, [], ◌∷◌, ◌++◌, Option, Some, None, Result, Ok, Err, refl, sym, ◌∙◌, ap, subst, append-nil, append_assoc, arith}
+use Rattle.std.proofs.Common.{◌≡◌, map as mapped, ℕ, ◌+◌, ◌<◌, ◌&&◌, Bool, true, false, not, List, ◌++◌, Option, Some, None, Result, Ok, Err, refl, sym, ◌∙◌, ap, subst, append-nil, append_assoc, arith}
 use Rattle.std.specs.FinMap as map
 use Rattle.std.proofs.lemmas.List.Concat.{flat_map-append}
 use Rattle.std.specs.Prelude.{OnOk, IsSome, is_some}
-use Rattle.node_tree.specs.Nodes.{none, Branch, alone, branch_count}
+use Rattle.node_tree.specs.Nodes.{none, Branch, alone}
 use Rattle.node_tree.specs.Keys.{has, tally, tally_in}
 use Rattle.node_tree.proofs.KeyLemmas.{tally-at, has-there, tally_row}
 use Rattle.page_tree.specs.Pages.{Row, row_serial, State as PageValue, IsValid, find_in, node_at}
@@ -35,12 +35,11 @@ use Rattle.back_end.specs.States.{State, nodes_in, HoldsNow}
 use Rattle.back_end.specs.OwnMethods.{edit_why}
 use Rattle.back_end.specs.Plans.{node_edit_fault, node_edit_plan, node_put}
 use Rattle.back_end.specs.Servers.{edits_tree}
-use Rattle.back_end.specs.Steps.{Step, refusing, idle, with_page, edit_step, push_step, followed_by, serial_now, lowered, edit_named, keeping, plan_step, planned_by_client, put_answer, unless_fault, node_edit_step, server_step, command_step}
-use Rattle.back_end.specs.Texts.{IsPlainEdit}
+use Rattle.back_end.specs.Steps.{Step, refusing, idle, with_page, edit_step, push_step, serial_now, lowered, edit_named, keeping, plan_step, planned_by_client, put_answer, unless_fault, node_edit_step, command_step}
 use Rattle.dom_agent.specs.Laws.{RowsHaveUtf8}
 use Rattle.back_end.specs.Seats.{CanPushAny, DeskStandsFor, BothStandFor}
 use Rattle.back_end.proofs.TextLemmas.{branch-texts, form-texts}
-use Rattle.back_end.proofs.PushSteps.{IsBegun, is-begun, begun-is, begun-known}
+use Rattle.back_end.proofs.PushSteps.{is-begun, begun-is, begun-known}
 use Rattle.back_end.proofs.TreeSteps.{begun-after, named-known}
 use Rattle.back_end.proofs.SheetSeats.{dom-on}
 use Rattle.back_end.proofs.SeatLemmas.{on-is}
@@ -182,7 +181,7 @@ can-push state e (Some serial) is begun fits h =
 -- ---- the answer
 
 -- the answer after a step is that from the state after it
-put-state : (id : ℕ) (put : Option ℕ) (done : Step) → (put_answer id put (idle done.state)).state ≡ (put_answer id put done).state
+pub put-state : (id : ℕ) (put : Option ℕ) (done : Step) → (put_answer id put (idle done.state)).state ≡ (put_answer id put done).state
 put-state id None done = refl
 put-state id (Some serial) done = refl
 

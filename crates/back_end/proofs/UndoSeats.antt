@@ -31,7 +31,7 @@ use Rattle.back_end.specs.declared.side.PageSide.{PageSide}
 use Rattle.back_end.specs.Sheets.{NumberedBook}
 use Rattle.back_end.specs.States.{State, book_in, TakesWell, saved_now, Keeps}
 use Rattle.back_end.specs.Servers.{Server, ends_group, undoes, redoes}
-use Rattle.back_end.specs.Steps.{Step, telling, idle, refusing, answering, with_marks, kept_step, kept_steps, splice_step, splice_steps, undo_edits, redo_edits, taken_step, needs_on, needs_css, server_step, command_step}
+use Rattle.back_end.specs.Steps.{Step, telling, idle, refusing, answering, with_marks, kept_step, kept_steps, splice_step, undo_edits, redo_edits, taken_step, needs_on, needs_css, server_step, command_step}
 use Rattle.back_end.specs.Seats.{DeskStandsFor, BothStandFor}
 use Rattle.back_end.proofs.HistoryLemmas.{keeps-marked, undo-hands, redo-hands, undo-hands-none, redo-hands-none}
 use Rattle.back_end.proofs.SpliceSteps.{restyled}

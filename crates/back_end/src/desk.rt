@@ -181,7 +181,8 @@ impl Desk {
     fn enable(&mut self, side: &mut PageSide, id: u64, out: &mut Vec<u8>) -> Result<(), AllocError>
         ensures stands { (state : State) → DeskStandsFor self.old side.old state
             → OnOk result (DeskStandsFor self.new side.new (server_step id server.enables state).state) }
-        ensures sent { (state : State) → OnOk result (out.new.items ≡ out.old.items ++ frames_of_moves (server_step id server.enables state).moves) }
+        ensures sent { (state : State)
+            → OnOk result (out.new.items ≡ out.old.items ++ frames_of_moves (server_step id server.enables state).moves) }
     {
         let _ = side;
         write_reply(self.alloc, id, &ReplyBody::Nothing, out)?;

@@ -132,7 +132,8 @@ impl Desk {
         ensures stands { (state : State) → BothStandFor self.old history.old side.old state
             → OnOk result (BothStandFor self.new history.new side.new (command_step id (server.page_load (view params.now)) state).state) }
         ensures sent { (state : State) → DeskStandsFor self.old side.old state
-            → OnOk result (out.new.items ≡ out.old.items ++ frames_of_moves (command_step id (server.page_load (view params.now)) state).moves) }
+            → OnOk result (out.new.items ≡ out.old.items
+            ++ frames_of_moves (command_step id (server.page_load (view params.now)) state).moves) }
     {
         match asked_page(self.alloc, params) {
             Ok(page) => {
@@ -159,7 +160,8 @@ impl Desk {
         ensures stands { (state : State) → BothStandFor self.old history.old side.old state
             → OnOk result (BothStandFor self.new history.new side.new (command_step id (server.page_act (view params.now)) state).state) }
         ensures sent { (state : State) → DeskStandsFor self.old side.old state
-            → OnOk result (out.new.items ≡ out.old.items ++ frames_of_moves (command_step id (server.page_act (view params.now)) state).moves) }
+            → OnOk result (out.new.items ≡ out.old.items
+            ++ frames_of_moves (command_step id (server.page_act (view params.now)) state).moves) }
     {
         match asked_act(self.alloc, params) {
             Ok(act) => self.answer_changed(history, side, id, act, out),

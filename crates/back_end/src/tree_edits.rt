@@ -64,10 +64,12 @@ impl Desk {
         requires fits { move_fault node parent before side.old.page.tree ≡ None }
         requires room { HasNumbersLeft self.old side.old }
         ensures few { OnOk result (self.new.agent.next < self.old.agent.next + 4) }
-        ensures noted { OnOk result (history.new ≡ noted_singly (back_all page_after way_back (map (λ e. kept.Tree e) (node_edit_plan (MoveNode node parent before) side.old.page).edits)
+        ensures noted { OnOk result (history.new ≡ noted_singly (back_all page_after way_back
+            (map (λ e. kept.Tree e) (node_edit_plan (MoveNode node parent before) side.old.page).edits)
             (saved_of side.old.page.tree side.old.sheets.entries)) history.old) }
         ensures stands { (state : State) → DeskStandsFor self.old side.old state
-            → OnOk result (DeskStandsFor self.new side.new (plan_step (node_edit_plan (MoveNode node parent before) state.side.page) state).state) }
+            → OnOk result (DeskStandsFor self.new side.new
+            (plan_step (node_edit_plan (MoveNode node parent before) state.side.page) state).state) }
         ensures sent { (state : State) → DeskStandsFor self.old side.old state
             → OnOk result (out.new.items ≡ out.old.items
             ++ frames_of_moves (plan_step (node_edit_plan (MoveNode node parent before) state.side.page) state).moves) }
@@ -97,10 +99,12 @@ impl Desk {
         requires fits { copy_fault node parent before side.old.page.tree ≡ None }
         requires room { HasNumbersLeft self.old side.old }
         ensures few { OnOk result (self.new.agent.next < self.old.agent.next + 4) }
-        ensures noted { OnOk result (history.new ≡ noted_singly (back_all page_after way_back (map (λ e. kept.Tree e) (node_edit_plan (CopyNode node parent before) side.old.page).edits)
+        ensures noted { OnOk result (history.new ≡ noted_singly (back_all page_after way_back
+            (map (λ e. kept.Tree e) (node_edit_plan (CopyNode node parent before) side.old.page).edits)
             (saved_of side.old.page.tree side.old.sheets.entries)) history.old) }
         ensures stands { (state : State) → DeskStandsFor self.old side.old state
-            → OnOk result (DeskStandsFor self.new side.new (plan_step (node_edit_plan (CopyNode node parent before) state.side.page) state).state) }
+            → OnOk result (DeskStandsFor self.new side.new
+            (plan_step (node_edit_plan (CopyNode node parent before) state.side.page) state).state) }
         ensures sent { (state : State) → DeskStandsFor self.old side.old state
             → OnOk result (out.new.items ≡ out.old.items
             ++ frames_of_moves (plan_step (node_edit_plan (CopyNode node parent before) state.side.page) state).moves) }
@@ -128,7 +132,8 @@ impl Desk {
         requires room { HasNumbersLeft self.old side.old }
         ensures put { IfOk result (λ put. put ≡ node_put edit side.old.page) }
         ensures few { OnOk result (self.new.agent.next < self.old.agent.next + 4) }
-        ensures noted { OnOk result (history.new ≡ noted_singly (back_all page_after way_back (map (λ e. kept.Tree e) (node_edit_plan edit side.old.page).edits)
+        ensures noted { OnOk result (history.new ≡ noted_singly (back_all page_after way_back
+            (map (λ e. kept.Tree e) (node_edit_plan edit side.old.page).edits)
             (saved_of side.old.page.tree side.old.sheets.entries)) history.old) }
         ensures stands { (state : State) → DeskStandsFor self.old side.old state
             → OnOk result (DeskStandsFor self.new side.new (plan_step (node_edit_plan edit state.side.page) state).state) }

@@ -50,7 +50,8 @@ impl Desk {
         ensures entries { OnOk result (side.new.sheets.entries ≡ after_splice splice side.old.sheets.entries) }
         ensures numbers { OnOk result (side.new.sheets.next ≡ side.old.sheets.next) }
         ensures back { IfOk result (λ back. back ≡ back_splice splice side.old.sheets.entries) }
-        ensures stands { (state : State) → DeskStandsFor self.now side.old state → TakesSheet splice (map saved_sheet side.old.sheets.entries)
+        ensures stands { (state : State) → DeskStandsFor self.now side.old state
+            → TakesSheet splice (map saved_sheet side.old.sheets.entries)
             → OnOk result (DeskStandsFor self.now side.new (splice_step splice state).state) }
         ensures sent { (state : State) → DeskStandsFor self.now side.old state
             → OnOk result (out.new.items ≡ out.old.items ++ frames_of_moves (splice_step splice state).moves) }
@@ -103,7 +104,8 @@ impl Desk {
         edits: Vec<Inverse>,
         out: &mut Vec<u8>,
     ) -> Result<Vec<Inverse>, AllocError>
-        requires taken { ∥ AllTaken page_after (TakesWell side.old.page.next) edits.items (saved_of side.old.page.tree side.old.sheets.entries) ∥₁ }
+        requires taken { ∥ AllTaken page_after (TakesWell side.old.page.next) edits.items
+            (saved_of side.old.page.tree side.old.sheets.entries) ∥₁ }
         requires ids { self.old.agent.next + length edits.items < 2 ^ 51 }
         requires serials { side.old.page.next < 2 ^ 51 }
         requires sheets { side.old.sheets.next < 2 ^ 51 }

@@ -1,5 +1,6 @@
 -- Each part of the seat answers its commands; where it leaves the history alone, what is kept is kept on.
-use Rattle.std.proofs.Common.{sym, ◌∙◌}
+use Rattle.std.proofs.Common.{sym, ap, ◌∙◌}
+use Rattle.serde_json.specs.View.{view}
 use Rattle.back_end.specs.declared.parts.SeatPart.TheVariants as part
 use Rattle.back_end.specs.Servers.{part_of}
 use Rattle.back_end.proofs.AskedLemmas.{others-fit}
@@ -122,16 +123,16 @@ returns-in-Redoes-clause-sent c = λ state both.
 
 pub returns-in-Loads-clause-stands : goal.returns-in-Loads-clause-stands
 returns-in-Loads-clause-stands c = λ state both.
-    part-both c.answer_load.result c.answer_load.new.self c.answer_load.new.side c.answer_load.new.history state c.args.id (part.Loads (view c.as_value.result.now)) (part_of c.args.command) (sym c.in-Loads.is ∙ c.of_command.ensures) (c.answer_load.ensures.stands state both)
+    part-both c.answer_load.result c.answer_load.new.self c.answer_load.new.side c.answer_load.new.history state c.args.id (part.Loads (view c.as_value.result.now)) (part_of c.args.command) (ap (λ params. part.Loads params) c.as_value.ensures ∙ sym c.in-Loads.is ∙ c.of_command.ensures) (c.answer_load.ensures.stands state both)
 
 pub returns-in-Loads-clause-sent : goal.returns-in-Loads-clause-sent
 returns-in-Loads-clause-sent c = λ state both.
-    part-sent c.answer_load.result state c.args.id (part.Loads (view c.as_value.result.now)) (part_of c.args.command) c.args.out.now.items c.answer_load.new.out.items (sym c.in-Loads.is ∙ c.of_command.ensures) (c.answer_load.ensures.sent state both.stands)
+    part-sent c.answer_load.result state c.args.id (part.Loads (view c.as_value.result.now)) (part_of c.args.command) c.args.out.now.items c.answer_load.new.out.items (ap (λ params. part.Loads params) c.as_value.ensures ∙ sym c.in-Loads.is ∙ c.of_command.ensures) (c.answer_load.ensures.sent state both.stands)
 
 pub returns-in-Acts-clause-stands : goal.returns-in-Acts-clause-stands
 returns-in-Acts-clause-stands c = λ state both.
-    part-both c.answer_act.result c.answer_act.new.self c.answer_act.new.side c.answer_act.new.history state c.args.id (part.Acts (view c.as_value-in-Acts.result.now)) (part_of c.args.command) (sym c.in-Acts.is ∙ c.of_command.ensures) (c.answer_act.ensures.stands state both)
+    part-both c.answer_act.result c.answer_act.new.self c.answer_act.new.side c.answer_act.new.history state c.args.id (part.Acts (view c.as_value-in-Acts.result.now)) (part_of c.args.command) (ap (λ params. part.Acts params) c.as_value-in-Acts.ensures ∙ sym c.in-Acts.is ∙ c.of_command.ensures) (c.answer_act.ensures.stands state both)
 
 pub returns-in-Acts-clause-sent : goal.returns-in-Acts-clause-sent
 returns-in-Acts-clause-sent c = λ state both.
-    part-sent c.answer_act.result state c.args.id (part.Acts (view c.as_value-in-Acts.result.now)) (part_of c.args.command) c.args.out.now.items c.answer_act.new.out.items (sym c.in-Acts.is ∙ c.of_command.ensures) (c.answer_act.ensures.sent state both.stands)
+    part-sent c.answer_act.result state c.args.id (part.Acts (view c.as_value-in-Acts.result.now)) (part_of c.args.command) c.args.out.now.items c.answer_act.new.out.items (ap (λ params. part.Acts params) c.as_value-in-Acts.ensures ∙ sym c.in-Acts.is ∙ c.of_command.ensures) (c.answer_act.ensures.sent state both.stands)

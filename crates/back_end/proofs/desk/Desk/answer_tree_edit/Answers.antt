@@ -1,5 +1,5 @@
 -- A client's edit of the tree is refused while DOM is off, and where a node is not known.
-use Rattle.std.proofs.Common.{◌++◌, refl, sym, ap, subst, ◌∙◌, Ok, Err}
+use Rattle.std.proofs.Common.{◌++◌, refl, sym, ap, subst, ◌∙◌, Err}
 use Rattle.cdp_messages.specs.Moves.{frames_of_moves}
 use Rattle.std.specs.FinMap as map
 use Rattle.back_end.specs.Servers.{edits_tree}

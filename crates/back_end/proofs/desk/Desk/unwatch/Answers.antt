@@ -8,7 +8,7 @@ use Rattle.back_end.proofs.SeatLemmas.{on_ok}
 use Rattle.back_end.proofs.ScriptLemmas.{in_any}
 use Rattle.back_end.proofs.SheetSeats.{dom-off-sent}
 use Rattle.back_end.proofs.WatchSteps.{without-adds}
-use Rattle.back_end.proofs.WatchSeats.{Changes, unknown-stands, unknown-sent, changed-stands}
+use Rattle.back_end.proofs.WatchSeats.{Changes, unknown-sent, changed-stands}
 use Rattle.back_end.proofs.desk.Desk.unwatch.Goals as goal
 
 changes : (node : ℕ) (word : WatchWord) → Changes (unwatches node word) (without_watch (watch_kind word)) node
