@@ -1,5 +1,5 @@
 -- The asks that stand in frames.
-use Rattle.std.proofs.Common.{◌≡◌, ◌≤◌, ℕ, ◌+◌, Bool, true, false, cond, List, [], ◌∷◌, ◌++◌, Option, Some, None, is_some, refl, sym, ◌∙◌, ap, append_assoc, arith}
+use Rattle.std.proofs.Common.{◌≡◌, ◌≤◌, ℕ, ◌+◌, Bool, true, false, cond, List, [], ◌∷◌, ◌++◌, Option, Some, is_some, refl, sym, ◌∙◌, ap, append_assoc, arith}
 use Rattle.std.specs.Option.{option_to_list}
 use Rattle.inspect_world.specs.Fits.{ask_in, sheet_in, IsPlainFrame, edits_in, drawing, asking, Sendable, AreSendable, asks_among}
 

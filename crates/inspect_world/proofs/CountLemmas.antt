@@ -1,7 +1,7 @@
 -- How many frames bytes hold at most, and how much steps draw at most.
 use Rattle.std.proofs.Common.{◌≡◌, ◌==◌, if◌then◌else◌, ℕ, suc, ◌+◌, ◌*◌, ◌^◌, ◌<◌, ◌≤◌, Bool, true, false, List, [], ◌∷◌, ◌++◌, length, refl, inl, inr, Result, Ok, Err, mul-le-mul, arith}
 use Rattle.std.proofs.lemmas.Bool.{cases_lt}
-use Rattle.pipe_frames.specs.Frames.{Frames, frames_of, lengthened, put_front}
+use Rattle.pipe_frames.specs.Frames.{Frames, frames_of, lengthened}
 use Rattle.cdp_messages.specs.declared.command.Asked.{Asked}
 use Rattle.cdp_messages.specs.declared.command.Refused.{Refused}
 use Rattle.cdp_messages.specs.Asked.{asked}

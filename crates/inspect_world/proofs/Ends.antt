@@ -15,7 +15,7 @@ use Rattle.inspect_world.specs.World.{World, AlreadyTold, nothing_told, Spent, o
 use Rattle.inspect_world.specs.Fold.{folded, joined, then}
 use Rattle.back_end.specs.declared.seat.Seat.{Seat}
 use Rattle.back_end.specs.declared.side.PageSide.{PageSide}
-use Rattle.back_end.specs.States.{State, loaded_state}
+use Rattle.back_end.specs.States.{loaded_state}
 use Rattle.back_end.specs.Steps.{Turn, step, turn}
 use Rattle.inspect_world.specs.RunStates.{RunState, run_step, run_turn}
 use Rattle.back_end.specs.Laws.{HasRoom}

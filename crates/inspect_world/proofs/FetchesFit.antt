@@ -1,5 +1,5 @@
 -- What the fetches of a settle need of this protocol.
-use Rattle.std.proofs.Common.{◌≡◌, ℕ, suc, ◌+◌, ◌==◌, ◌^◌, ◌<◌, ◌≤◌, Bool, true, false, ◌&&◌, cond, nat_lt, List, [], ◌∷◌, ◌++◌, length, map, codes, Option, Some, None, option_map, option_and_then, Result, Ok, Err, refl, sym, ◌∙◌, ap, subst, arith, append-nil, lt-ltb}
+use Rattle.std.proofs.Common.{◌≡◌, ℕ, ◌+◌, ◌==◌, ◌^◌, ◌<◌, ◌≤◌, Bool, true, false, ◌&&◌, cond, nat_lt, List, [], ◌∷◌, ◌++◌, length, map, codes, Some, None, option_map, option_and_then, Result, Ok, Err, refl, sym, ◌∙◌, ap, subst, arith, append-nil, lt-ltb}
 use Rattle.std.specs.List.{All}
 use Rattle.std.specs.Str.{IsUtf8}
 use Rattle.std.proofs.lemmas.Bool.{eq-eqb}
@@ -19,16 +19,15 @@ use Rattle.replay_script.specs.Forms.{AskForm, LineForm}
 use Rattle.page_forms.specs.Pages.{LoadedPage, CanLoadPage}
 use Rattle.page_forms.specs.Texts.{PageHasTexts}
 use Rattle.back_end.specs.Steps.{Step, asked_step, frame_step}
-use Rattle.inspect_world.specs.RunStates.{RunState, ToldStyles, styles_asked, styles_answered, run_step}
+use Rattle.inspect_world.specs.RunStates.{RunState, styles_asked, styles_answered, run_step}
 use Rattle.inspect_world.specs.ShownPauses.{pauses_in}
 use Rattle.inspect_world.proofs.Growing.{pauses-of}
 use Rattle.front_mirror.specs.declared.replies.Ask.{Ask}
-use Rattle.front_mirror.specs.declared.replies.Kept.{Kept}
 use Rattle.front_mirror.specs.Sheets.{has_sheet, with_fetched, stale_of}
 use Rattle.front_mirror.specs.declared.faults.FrontKind.{FrontKind}
 use Rattle.front_mirror.specs.Front.{FrontValue, first_value, fetch_ask, method_of, fetched_sheet, kept, unless_fetch, kept_reply, sheets_fetched, without, replied, seen_pause, with_body, with_reply, with_message, take_frame}
 use Rattle.front_mirror.specs.Laws.{Has}
-use Rattle.back_end.specs.States.{State, IsState, sheets_shown, view_of}
+use Rattle.back_end.specs.States.{State, sheets_shown, view_of}
 use Rattle.back_end.specs.Laws.{HasRoom}
 use Rattle.inspect_world.specs.Stream.{sent}
 use Rattle.inspect_world.specs.World.{World, AlreadyTold, Spent, settled}

@@ -7,20 +7,19 @@ use Rattle.pipe_frames.specs.Frames.{IsText, frames_of}
 use Rattle.cdp_messages.specs.Asked.{command_text}
 use Rattle.replay_script.specs.Forms as forms
 use Rattle.replay_script.specs.Forms.{AskForm, LineForm, load, ask, up, down, settle, show_front, show_page, show_sheets, show_replies, show_pauses, show_styles}
-use Rattle.front_mirror.specs.Front.{FrontValue, first_value, take_frame, seen_pause}
+use Rattle.front_mirror.specs.Front.{FrontValue, first_value, take_frame}
 use Rattle.front_mirror.specs.Laws.{Has}
 use Rattle.back_end.specs.States.{view_of}
 use Rattle.back_end.specs.Steps.{Turn, acts, loads}
 use Rattle.inspect_world.specs.RunStates.{RunState, run_start, run_step, run_turn}
-use Rattle.inspect_world.specs.ShownPauses.{pauses_in}
 use Rattle.inspect_world.proofs.Growing.{pauses-of}
 use Rattle.inspect_world.specs.Stream.{sent}
-use Rattle.inspect_world.specs.World.{World, AlreadyTold, Spent, one_ask, sent_up, turned, settled}
+use Rattle.inspect_world.specs.World.{World, AlreadyTold, one_ask, sent_up, turned, settled}
 use Rattle.inspect_world.specs.Costs.{ask_edits, least_line, line_cost, lines_cost}
 use Rattle.inspect_world.specs.Fold.{folded, joined}
 use Rattle.inspect_world.specs.Fetches.{Fetcher, front_in, FetchLaws}
 use Rattle.inspect_world.specs.Agreement.{RunTogether}
-use Rattle.inspect_world.specs.Fits.{join, most_bytes, most_frames, most_sheets, most_fetches, HasLeft, kept_styles, IsBare, IsNext, next_raw, IsNextTurn, IsFit, replay}
+use Rattle.inspect_world.specs.Fits.{join, most_bytes, most_frames, most_sheets, most_fetches, HasLeft, IsBare, IsNext, next_raw, IsNextTurn, IsFit, replay}
 use Rattle.inspect_world.specs.Scripts.{sends, telling, after_line, after_lines, loaded_world}
 use Rattle.inspect_world.specs.ScriptsFit.{CanSend, IsLater, AreLater}
 use Rattle.inspect_world.specs.ShownReplies.{told_of, replies_in}

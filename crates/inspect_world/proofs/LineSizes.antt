@@ -1,8 +1,8 @@
 -- A line that is carried out is as long as what it says costs.
-use Rattle.std.proofs.Common.{◌≡◌, ◌⊎◌, inl, inr, ℕ, ◌+◌, ◌≤◌, Bool, true, false, cond, List, [], ◌∷◌, length, bytes_eq, codes, Option, Some, None, option_map, option_and_then, if◌then◌else◌, Result, Ok, Err, refl, sym, ◌∙◌, ap, subst, arith}
+use Rattle.std.proofs.Common.{◌≡◌, ℕ, ◌+◌, ◌≤◌, Bool, true, false, cond, List, length, bytes_eq, codes, Option, Some, None, option_map, option_and_then, if◌then◌else◌, Result, Ok, Err, refl, ap, subst, arith}
 use Rattle.std.specs.Str.{is_utf8}
-use Rattle.serde_json.specs.Data.{Data, null, boolean, number, string, array, object, Members, no_members, member}
-use Rattle.serde_json.specs.Find.{as_str, as_object}
+use Rattle.serde_json.specs.Data.{Data, null, boolean, number, string, array, object, no_members, member}
+use Rattle.serde_json.specs.Find.{as_str}
 use Rattle.serde_json.specs.Read.{read}
 use Rattle.cdp_json.specs.Kinds.{as_whole, as_true, named}
 use Rattle.cdp_json.proofs.Options.{and_then_some, map_some}
@@ -14,12 +14,12 @@ use Rattle.page_forms.specs.Pages.{page_in}
 use Rattle.node_tree.specs.Keys.{first_of}
 use Rattle.replay_script.specs.declared.line_kinds.LineKind.{LineKind}
 use Rattle.replay_script.specs.declared.line_kinds.LineKind.TheVariants as kind
-use Rattle.replay_script.specs.Kinds.{line_kind_name, all_line_kinds, sole_member, sole, styles_in, kind_said, said}
+use Rattle.replay_script.specs.Kinds.{line_kind_name, all_line_kinds, sole, styles_in, kind_said}
 use Rattle.replay_script.specs.Forms as forms
 use Rattle.replay_script.specs.Forms.{AskForm, AskParts, LineForm, load, ask, up, down, settle, show_front, show_page, show_sheets, show_replies, show_pauses, show_styles, ask_kind, ask_from, ask_in, show_from, form_by, form_of, line_form}
-use Rattle.back_end.proofs.FrameSizes.{data_size, members_size, read-long}
+use Rattle.back_end.proofs.FrameSizes.{data_size, read-long}
 use Rattle.back_end.proofs.EditSizes.{params_size, edits-params}
-use Rattle.inspect_world.specs.Costs.{edits_commanded, ask_edits, least_line, line_cost}
+use Rattle.inspect_world.specs.Costs.{edits_commanded, ask_edits, line_cost}
 use Rattle.inspect_world.proofs.SendForms.{ask_lawful, spelled}
 
 -- ---- an ask

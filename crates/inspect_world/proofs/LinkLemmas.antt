@@ -25,10 +25,9 @@ use Rattle.back_end.specs.declared.seat.Seat.{Seat}
 use Rattle.back_end.specs.declared.side.PageSide.{PageSide}
 use Rattle.back_end.specs.States.{State, IsState, view_of}
 use Rattle.back_end.specs.Steps.{Step, Turn, Stepped, asked_step, frame_step, turn_step, as_bytes, step, turn}
-use Rattle.back_end.specs.Laws.{most_ids, tree_edits, edits_kept, edits_asked, KeepsAtMost, HasRoom, StepsWell, IsAnswered, IsTurn, reply_ids}
+use Rattle.back_end.specs.Laws.{tree_edits, edits_kept, edits_asked, KeepsAtMost, HasRoom, StepsWell, IsAnswered, IsTurn, reply_ids}
 use Rattle.page_tree.specs.Forms.{max_nodes}
 use Rattle.page_forms.specs.Sheets.{max_sheets}
-use Rattle.page_tree.specs.Pages.{State as PageValue}
 use Rattle.back_end.specs.Seats.{StandsFor, HasRoomLeft}
 use Rattle.inspect_world.specs.Fits.{ask_in, ask_with, asks_among, most_bytes}
 use Rattle.inspect_world.specs.Held.{Ends, good_front}
@@ -45,7 +44,6 @@ use Rattle.inspect_world.proofs.Messages.{IsText-sent, ask_in-sent}
 use Rattle.inspect_world.proofs.PlainAsks.{ArePlain}
 use Rattle.inspect_world.proofs.Replies.{replies-folded, replies_among-append}
 use Rattle.inspect_world.specs.World.{AlreadyTold, nothing_told}
-use Rattle.front_mirror.specs.declared.replies.MatchedReply.{MatchedReply}
 use Rattle.front_mirror.specs.Front.{matched_in}
 use Rattle.inspect_world.proofs.Growing.{grows-folded, styles-stay}
 use Rattle.inspect_world.proofs.StepsTaken.{folded-fold, course-quiet, Taken, taken, tells-all, meets-one, by-refusal, ids-kept}

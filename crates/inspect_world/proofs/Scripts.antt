@@ -24,7 +24,7 @@ use Rattle.inspect_world.specs.Stream.{sent, held, awaited}
 use Rattle.inspect_world.specs.Fold.{folded, joined}
 use Rattle.inspect_world.specs.World.{World, AlreadyTold, Spent, nothing_spent, one_raw, raw, turned, delivered_up, settled}
 use Rattle.back_end.proofs.WatchedLemmas.{none-set}
-use Rattle.back_end.specs.States.{State, nodes_in, loaded_state, HoldsNow, IsState}
+use Rattle.back_end.specs.States.{nodes_in, loaded_state, HoldsNow, IsState}
 use Rattle.back_end.specs.Steps.{Turn, acts, loads}
 use Rattle.inspect_world.specs.RunStates.{RunState, run_start, run_step, run_turn}
 use Rattle.inspect_world.proofs.Growing.{pauses-of}
