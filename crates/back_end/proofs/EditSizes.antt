@@ -1,6 +1,5 @@
 -- A frame that is no refusal has eight bytes at least, and asks for no more edits than it is long.
-use Rattle.std.proofs.Common.{◌≡◌, ℕ, zero, suc, ◌+◌, ◌≤◌, Bool, true, false, cond, List, [], ◌∷◌, length, codes, Option, Some, None, option_map, option_and_then, Result, Ok, Err, refl, sym, ap, ◌∙◌, subst, arith}
-use Rattle.std.specs.Prelude.{⊤}
+use Rattle.std.proofs.Common.{◌≡◌, ℕ, suc, ◌+◌, ◌≤◌, Bool, true, false, cond, List, [], ◌∷◌, length, codes, Option, Some, None, Result, Ok, Err, refl, sym, ap, ◌∙◌, subst, arith}
 use Rattle.std.specs.Ordering.{nat_cmp, match_ordering}
 use Rattle.std.specs.declared.cmp.Ordering.{Ordering}
 use Rattle.std.specs.declared.cmp.Ordering.TheVariants.{Less, Equal, Greater}
@@ -14,7 +13,7 @@ use Rattle.cdp_json.specs.Kinds.{Kind, whole, text, as_whole, list_of, and_first
 use Rattle.cdp_json.specs.declared.fields.Field.{Field}
 use Rattle.cdp_json.specs.declared.fields.Field.TheVariants.{Is, Missing, WrongKind}
 use Rattle.cdp_json.specs.Fields.{field_if, field_from, field_of}
-use Rattle.cdp_json.specs.Lookups.{then_ok, required, Lookups, no_lookups, with_later, look_for}
+use Rattle.cdp_json.specs.Lookups.{then_ok, required, Lookups, no_lookups, with_later}
 use Rattle.cdp_json.proofs.Options.{and_then_some}
 use Rattle.cdp_messages.specs.declared.command.Command.{Command}
 use Rattle.cdp_messages.specs.declared.command.Command.TheVariants.{DomEnable, DomDisable, GetDocument, RequestChildNodes, PushByPath, PushBySerials, QuerySelector, QuerySelectorAll, GetAttributes, DescribeNode, SetAttributeValue, RemoveAttribute, SetNodeValue, RemoveNode, MoveTo, CopyTo, MarkUndoableState, Undo, Redo, CssEnable, CssDisable, GetMatchedStyles, GetStyleSheetText, CollectClassNames, SetStyleTexts, SetRuleSelector, SetStyleSheetText, AddRule, SetBreakpoint, RemoveBreakpoint, ReplayLoad, ReplayAct}
@@ -26,11 +25,10 @@ use Rattle.cdp_messages.specs.declared.command.Asked.{Asked}
 use Rattle.cdp_messages.specs.declared.command.Refused.{Refused}
 use Rattle.cdp_messages.specs.declared.method.Method.{Method}
 use Rattle.cdp_messages.specs.declared.method.Method.TheVariants as method
-use Rattle.cdp_messages.specs.declared.edits.TextEdit.{TextEdit}
 use Rattle.cdp_messages.specs.Methods.{known_method}
 use Rattle.cdp_messages.specs.Refusals.{param_name}
-use Rattle.cdp_messages.specs.Parameters.{text_edit, place, needed, allowed, depth_fields, children_fields, path_field, serials_field, node_field, query_fields, describe_fields, attribute_fields, name_fields, value_fields, move_fields, sheet_field, edits_field, selector_fields, sheet_text_fields, rule_fields, watch_fields, reading, command_by}
-use Rattle.cdp_messages.specs.Asked.{json_of, of_method, command_for, unless_session, or_bad_request, params_of, command_of, method_in, command_in, refusal, asked_by, with_id, asked_in, asked_value, asked}
+use Rattle.cdp_messages.specs.Parameters.{text_edit, place, needed, allowed, depth_fields, children_fields, path_field, serials_field, node_field, query_fields, describe_fields, sheet_field, edits_field, watch_fields, reading, command_by}
+use Rattle.cdp_messages.specs.Asked.{json_of, of_method, command_for, unless_session, or_bad_request, params_of, command_of, method_in, command_in, asked_by, with_id, asked_in, asked_value, asked}
 use Rattle.back_end.specs.Servers.{server_of}
 use Rattle.back_end.specs.Laws.{most_edits, edits_asked}
 use Rattle.back_end.proofs.FrameSizes.{data_size, items_size, members_size, read-long}
