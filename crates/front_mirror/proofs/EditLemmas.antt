@@ -11,7 +11,7 @@ use Rattle.node_tree.specs.Keys.{Spot, tally, tally_in, find, spot, put, At, her
 use Rattle.node_tree.specs.Seen.{Seen, Hold, leaf, counted, opened, is_opened, is_counted, seen_id, seen_serial}
 use Rattle.node_tree.proofs.KeyLemmas.{tally-at, height-at, height_above-at}
 use Rattle.node_tree.proofs.ChangeLemmas.{at-old}
-use Rattle.front_mirror.proofs.PairLemmas.{is_ascending-placed, names-placed, names-without, ascending-without}
+use Rattle.node_tree.proofs.PairLemmas.{is_ascending-placed, names-placed, names-without, ascending-without}
 use Rattle.cdp_messages.specs.Told.{seen_nodes}
 use Rattle.cdp_messages.specs.NodeData.{fits_nodes}
 use Rattle.cdp_messages.specs.Moves.{Change, shows, inserts, removes, counts, sets, drops, says, changed, suits_change, has_tree, put_after, without_tree, has_named_attribute}

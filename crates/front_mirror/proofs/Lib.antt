@@ -5,8 +5,6 @@ pub mod DistinctLemmas
 pub mod ViewLemmas
 pub mod SpotLemmas
 pub mod ApartLemmas
-pub mod PairLemmas
-pub mod SearchedLemmas
 pub mod InsertedLemmas
 pub mod EditLemmas
 pub mod MessageLemmas

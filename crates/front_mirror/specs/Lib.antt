@@ -6,7 +6,6 @@ pub mod Edits
 pub mod Codes
 pub mod Known
 pub mod Laws
-pub mod Searches
 pub mod IdLists
 pub mod Tables
 pub mod TableEdits

@@ -3,7 +3,6 @@
 #![tactic(auto)]
 
 mod asks;
-mod attribute_changes;
 mod changes;
 mod checks;
 mod edits;

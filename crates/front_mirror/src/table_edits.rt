@@ -8,10 +8,9 @@ ghost use Rattle.front_mirror.specs.declared.slots.Below.TheVariants.{Opened};
 ghost use Rattle.front_mirror.specs.IdLists.{id_after, without_id};
 ghost use Rattle.front_mirror.specs.Tables.{slots_in, ids_in, Turned, Puts, IsListed, without_slots};
 
-use crate::attribute_changes::{drop_attribute, set_attribute};
 use crate::slots::{Below, IdList, Slot};
 use crate::table::Table;
-use node_tree::Text;
+use node_tree::{Text, drop_attribute, set_attribute};
 use std::alloc::AllocError;
 
 impl Table {

@@ -2,3 +2,5 @@ pub mod KeyLemmas
 pub mod NodeLemmas
 pub mod ArenaLemmas
 pub mod ChangeLemmas
+pub mod PairLemmas
+pub mod SearchedLemmas

@@ -2,10 +2,12 @@
 //! and what a node of a document has beside its place, its kind, name, value and attributes.
 #![tactic(auto)]
 
+mod attribute_edits;
 mod attribute_lists;
 mod names;
 mod texts;
 
+pub use attribute_edits::{drop_attribute, set_attribute};
 pub use attribute_lists::Attributes;
 pub use names::{is_attribute_name, is_element_name};
 pub use texts::Text;

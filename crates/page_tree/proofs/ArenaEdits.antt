@@ -23,7 +23,7 @@ use Rattle.page_tree.proofs.PlaceLemmas.{located, tree_is, rebuilt, looks, Under
 use Rattle.page_tree.proofs.TurnLemmas.{Seat, seat, next_keeps, page_relabelled, page_grafted, page_cut}
 use Rattle.page_tree.proofs.HangLemmas.{branch_same}
 use Rattle.page_tree.proofs.ChildLemmas.{inserted-taken}
-use Rattle.page_tree.proofs.FormedLemmas.{left}
+use Rattle.node_tree.proofs.PairLemmas.{left}
 use Rattle.page_tree.proofs.WholeLemmas.{whole-valid}
 use Rattle.page_tree.proofs.EditLemmas.{fits-live, ascending-element, clear, changed, serial-live, parted, valid-after}
 
@@ -168,13 +168,6 @@ module _ (a b : Arena) (root next : ℕ) (page : IsPage a root next) (p : State)
   drop_ascends serial key name can key_is slot at =
       let tests = clear (edit_faults (DropAttr serial name) (tree_of a root)) (can_here (DropAttr serial name) can).fits in
       ascends serial key slot (not-false _ tests.0) (not-false _ tests.1.0) key_is at
-
-  pub drop_has : (serial key : ℕ) (name : List ℕ) → CanApply p.next (DropAttr serial name) p.tree → keys_in a serial ≡ Some key → (slot : Slot) → slots_in a key ≡ Some slot → IsSome (value_of name slot.attributes)
-  drop_has serial key name can key_is slot at =
-      let tests = clear (edit_faults (DropAttr serial name) (tree_of a root)) (can_here (DropAttr serial name) can).fits in
-      let has = not-false _ tests.1.1.1.0 in
-      let s = seat a root next page serial slot (ap (λ (o : Option ℕ). option_and_then (slots_in a) o) key_is ∙ at) in
-      ap (λ (r : Row). is_some (value_of name r.label.attributes)) s.row_is ∙ has
 
   -- ---- a tree more
 

@@ -15,8 +15,8 @@ use Rattle.page_tree.specs.EditFaults.{is_live, kind_at, may_hold, CanAttach, Ca
 use Rattle.page_tree.specs.EditLaws.{LeadsBack, BackLaw}
 use Rattle.page_tree.specs.declared.edits.TreeEdit.{TreeEdit}
 use Rattle.page_tree.specs.declared.edits.TreeEdit.TheVariants.{SetAttr, DropAttr, SetText, Attach, Detach}
-use Rattle.page_tree.proofs.FormedLemmas.{both, left}
-use Rattle.page_tree.proofs.PairLemmas.{value-placed, value-without, set_set, set_drop, drop_set}
+use Rattle.node_tree.proofs.PairLemmas.{both, left}
+use Rattle.node_tree.proofs.PairLemmas.{value-placed, value-without, set_set, set_drop, drop_set}
 use Rattle.page_tree.proofs.ChildLemmas.{Inserted, tally-inserted, count-inserted, height-inserted, inserted-taken, child-put, take-put, put-take, next-put_among, next-put_last, next-among, among-tally}
 use Rattle.page_tree.proofs.WholeLemmas.{Sound, Whole, whole-later, whole-valid, formed-sound, inserted-sound}
 use Rattle.page_tree.proofs.EditLemmas.{clear, unfaulted, changed, serial-live, live-tally, level-changed, ascending-element, parted, fits-live, whole-after}

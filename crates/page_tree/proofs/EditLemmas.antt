@@ -19,9 +19,7 @@ use Rattle.page_tree.specs.EditFaults.{is_live, kind_at, may_hold, CanAttach, Ca
 use Rattle.page_tree.specs.EditLaws.{AfterLaw}
 use Rattle.page_tree.specs.declared.edits.TreeEdit.{TreeEdit}
 use Rattle.page_tree.specs.declared.edits.TreeEdit.TheVariants.{SetAttr, DropAttr, SetText, Attach, Detach}
-use Rattle.page_tree.proofs.FormedLemmas.{both, left, right}
-use Rattle.page_tree.proofs.PairLemmas.{names-placed, names-without, ascending-without}
-use Rattle.page_tree.proofs.FormedLemmas.{is_ascending-placed}
+use Rattle.node_tree.proofs.PairLemmas.{both, left, right, is_ascending-placed, names-placed, names-without, ascending-without}
 use Rattle.page_tree.proofs.ChildLemmas.{Inserted, tally-inserted, count-inserted, height-inserted, inserted-before, inserted-taken}
 use Rattle.page_tree.proofs.WholeLemmas.{Fits, Sound, Whole, Owes, AreNew, whole-at, whole-later, whole-valid, valid-whole, sound-there, sound-formed, sound-inserted, inserted-sound}
 

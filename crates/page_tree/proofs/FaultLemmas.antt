@@ -17,7 +17,7 @@ use Rattle.page_tree.specs.Arenas.{page_slots, slots_in, slot_of, is_numbered, p
 use Rattle.page_tree.specs.declared.slots.Slot.{Slot}
 use Rattle.page_tree.specs.declared.arenas.Arena.{Arena}
 use Rattle.page_tree.proofs.TurnLemmas.{seat, next_keeps, numbered_is}
-use Rattle.page_tree.proofs.FormedLemmas.{left, right}
+use Rattle.node_tree.proofs.PairLemmas.{left, right}
 use Rattle.page_tree.proofs.EditLemmas.{clear}
 use Rattle.page_tree.proofs.AncestorLemmas.{StepUp, within_line}
 

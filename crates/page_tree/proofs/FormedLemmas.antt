@@ -11,6 +11,7 @@ use Rattle.serde_json.specs.Data.{Data, null, boolean, number, string, array, ob
 use Rattle.serde_json.specs.Find.{get, as_str, as_array}
 use Rattle.serde_json.specs.Events.{members_len}
 use Rattle.node_tree.specs.Nodes.{Nodes, none, node, Branch, alone}
+use Rattle.node_tree.proofs.PairLemmas.{both, left, right, is_ascending-placed}
 use Rattle.node_tree.specs.Labels.{Pair, Label, is_formed_label, is_ascending, is_below, is_before, holds}
 use Rattle.node_tree.specs.Keys.{first_of}
 use Rattle.node_tree.specs.declared.Kind.TheVariants.{Element, Text, Comment, Doctype}
@@ -19,46 +20,7 @@ use Rattle.page_tree.specs.Loads.{placed, is_taken, in_order, attributes_of, att
 use Rattle.page_tree.specs.declared.faults.LoadFault.{LoadFault}
 use Rattle.page_tree.specs.declared.faults.LoadFault.TheVariants.{TooDeep, TooMany, BadName}
 
--- ---- tests
-
-pub both : (a b : Bool) → a ≡ true → b ≡ true → (a && b) ≡ true
-both true b e f = f
-both false b e f = absurd (cc)
-
-pub left : (a b : Bool) → (a && b) ≡ true → a ≡ true
-left true b e = refl
-left false b e = e
-
-pub right : (a b : Bool) → (a && b) ≡ true → b ≡ true
-right true b e = e
-right false b e = absurd (cc)
-
 -- ---- attributes are in order
-
-is_below-placed_at : (o : Ordering) (name : List ℕ) (p q : Pair) (qs : List Pair) → is_before name p.0 ≡ true → is_before name q.0 ≡ true → is_below name (match_ordering o (p ∷ q ∷ qs) ((q.0, p.1) ∷ qs) (q ∷ placed p qs)) ≡ true
-is_below-placed_at Less name p q qs e f = e
-is_below-placed_at Equal name p q qs e f = f
-is_below-placed_at Greater name p q qs e f = f
-
-is_below-placed : (name : List ℕ) (p : Pair) (qs : List Pair) → is_before name p.0 ≡ true → is_below name qs ≡ true → is_below name (placed p qs) ≡ true
-is_below-placed name p [] e f = e
-is_below-placed name p (q ∷ qs) e f = is_below-placed_at (slice_cmp nat_cmp p.0 q.0) name p q qs e f
-
-is_ascending-placed_at : (o : Ordering) (p q : Pair) (qs : List Pair) → slice_cmp nat_cmp p.0 q.0 ≡ o → is_below q.0 qs ≡ true → is_ascending qs ≡ true → is_ascending (placed p qs) ≡ true
-    → is_ascending (match_ordering o (p ∷ q ∷ qs) ((q.0, p.1) ∷ qs) (q ∷ placed p qs)) ≡ true
-is_ascending-placed_at Less p q qs is below rest placed_rest = both _ _ (ap is_lt is) (both _ _ below rest)
-is_ascending-placed_at Equal p q qs is below rest placed_rest = both _ _ below rest
-is_ascending-placed_at Greater p q qs is below rest placed_rest =
-    let before_p : is_before q.0 p.0 ≡ true = ap is_lt (nat_list_cmp_total.antisymm q.0 p.0 ∙ ap ordering_reverse is) in
-    both _ _ (is_below-placed q.0 p qs before_p below) placed_rest
-
--- pairs that ascend still do with one more in its place
-pub is_ascending-placed : (p : Pair) (qs : List Pair) → is_ascending qs ≡ true → is_ascending (placed p qs) ≡ true
-is_ascending-placed p [] h = refl
-is_ascending-placed p (q ∷ qs) h =
-    let below = left (is_below q.0 qs) (is_ascending qs) h in
-    let rest = right (is_below q.0 qs) (is_ascending qs) h in
-    is_ascending-placed_at (slice_cmp nat_cmp p.0 q.0) p q qs refl below rest (is_ascending-placed p qs rest)
 
 in_order_step : (b : Bool) (p : Pair) (ordered qs : List Pair) (rest : Option (List Pair)) → is_ascending ordered ≡ true → cond b None rest ≡ Some qs → (is_ascending (placed p ordered) ≡ true → rest ≡ Some qs → is_ascending qs ≡ true) → is_ascending qs ≡ true
 in_order_step true p ordered qs rest h e after = absurd (cc)

@@ -11,7 +11,7 @@ use Rattle.page_tree.specs.Edits.{after, greatest_serial, numbered_branch, form_
 use Rattle.page_tree.specs.EditFaults.{is_live, is_live_or_0, CanInsert, CanAttach, CanApply, attach_faults, edit_faults, copy_faults}
 use Rattle.page_tree.specs.EditLaws.{NextLaw, InsertLaw, CopyLaw}
 use Rattle.page_tree.specs.declared.edits.TreeEdit.TheVariants.{SetAttr, DropAttr, SetText, Attach, Detach}
-use Rattle.page_tree.proofs.FormedLemmas.{both}
+use Rattle.node_tree.proofs.PairLemmas.{both}
 use Rattle.page_tree.proofs.NumberLemmas.{map_rows-numbered, tally-numbered_once, tally-numbered_below, tally-numbered_above}
 use Rattle.page_tree.proofs.WholeLemmas.{whole-valid}
 use Rattle.page_tree.proofs.EditLemmas.{clear, unfaulted}

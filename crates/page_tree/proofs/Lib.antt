@@ -8,7 +8,6 @@ pub mod ZipperLemmas
 pub mod SiblingLemmas
 pub mod CursorLemmas
 pub mod EditLemmas
-pub mod PairLemmas
 pub mod ChildLemmas
 pub mod WholeLemmas
 pub mod BackLemmas
@@ -19,7 +18,6 @@ pub mod EditRows
 pub mod RelationLemmas
 pub mod TurnLemmas
 pub mod ArenaEdits
-pub mod SearchedLemmas
 pub mod HangLemmas
 pub mod WalkLemmas
 pub mod CountLemmas

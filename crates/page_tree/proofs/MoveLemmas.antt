@@ -13,7 +13,7 @@ use Rattle.page_tree.specs.Edits.{without_child, taken_out, changed_at, label_at
 use Rattle.page_tree.specs.EditFaults.{is_live, is_live_or_0, is_place, kind_at, may_hold, CanApply, edit_faults, move_faults, move_fault}
 use Rattle.page_tree.specs.EditLaws.{MoveLaw}
 use Rattle.page_tree.specs.declared.edits.TreeEdit.TheVariants.{Attach, Detach}
-use Rattle.page_tree.proofs.FormedLemmas.{both, right}
+use Rattle.node_tree.proofs.PairLemmas.{both, right}
 use Rattle.page_tree.proofs.ChildLemmas.{Inserted, front, behind, tally-inserted, count-inserted, inserted-taken, next-among, among-tally}
 use Rattle.page_tree.proofs.WholeLemmas.{Whole, whole-valid}
 use Rattle.page_tree.proofs.EditLemmas.{clear, unfaulted, changed, found-live, serial-live, live-tally}

@@ -12,7 +12,7 @@ use Rattle.node_tree.proofs.ChangeLemmas.{count-at}
 use Rattle.page_tree.specs.Forms.{max_level, max_nodes, may_stand, is_bare, are_formed, are_named}
 use Rattle.page_tree.specs.Pages.{Row, row_serial, row_label, State, IsValid}
 use Rattle.page_tree.specs.EditFaults.{may_hold}
-use Rattle.page_tree.proofs.FormedLemmas.{both, left, right}
+use Rattle.node_tree.proofs.PairLemmas.{both, left, right}
 use Rattle.page_tree.proofs.ChildLemmas.{Inserted, front, behind}
 
 -- a node of that kind may stand under one of the other, or under none

@@ -10,4 +10,3 @@ pub mod Edits
 pub mod EditFaults
 pub mod EditLaws
 pub mod Ancestors
-pub mod Searches

@@ -8,10 +8,9 @@ ghost use Rattle.page_tree.specs.Arenas.{slots_in, Filed, Fresh, Grown, Turned, 
 ghost use Rattle.page_tree.specs.declared.slots.Slot.{Slot};
 
 use crate::arenas::{Arena, list_serials};
-use crate::attribute_edits::{drop_attribute, set_attribute};
 use crate::slots::Keys;
 use crate::trees::Tree;
-use node_tree::Text;
+use node_tree::{Text, drop_attribute, set_attribute};
 use std::alloc::{AllocError, Global};
 use std::{mem, slice};
 
@@ -94,14 +93,13 @@ impl Arena {
 
     /// Takes an attribute of a slot away, and gives its value.
     pub fn drop_attr(&mut self, key: usize, name: &str) -> Option<Text>
-        requires ascending { (slot : Slot) → slots_in self.old key ≡ Some slot → is_ascending slot.attributes ≡ true }
-        requires there { (slot : Slot) → slots_in self.old key ≡ Some slot → IsSome (value_of name.now slot.attributes) }
+        requires { (slot : Slot) → slots_in self.old key ≡ Some slot → is_ascending slot.attributes ≡ true }
         ensures keys { self.new.keys ≡ self.old.keys }
         ensures slots { Turned self.old self.new key (λ slot. record slot { attributes = pairs_without name.now slot.attributes }) }
         ensures was { (slot : Slot) → slots_in self.old key ≡ Some slot → result ≡ value_of name.now slot.attributes }
     {
         match self.slots.get_mut(key) {
-            Some(slot) => Some(drop_attribute(&mut slot.attributes, name)),
+            Some(slot) => drop_attribute(&mut slot.attributes, name),
             None => None,
         }
     }

@@ -2,7 +2,6 @@
 #![tactic(auto)]
 
 mod arenas;
-mod attribute_edits;
 mod attributes;
 mod cursors;
 mod edit_faults;

@@ -1,4 +1,5 @@
 pub mod WordForms
+pub mod WordTurns
 pub mod PartForms
 pub mod ListForms
 pub mod ShiftForms

@@ -19,5 +19,6 @@ pub use read::{read_list, read_selectors};
 pub use selector::{
     AttrOp, Compound, Joint, NthKind, SelErr, Selector, SelectorList, Simple, Test,
 };
+pub use values::{lower_of, value_of};
 pub use weight::{Spec, specificity};
-pub use words::{Word, WordKind, Words, all_words};
+pub use words::{Word, WordKind, Words, all_words, range_of, words_among};

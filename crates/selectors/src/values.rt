@@ -12,7 +12,8 @@ use crate::words::{Word, WordKind, Words};
 use css_tokens::unescape;
 use std::alloc::{AllocError, Global};
 
-pub(crate) fn value_of(alloc: Global, text: &str, word: Word) -> Result<String, AllocError>
+/// A name's value, escapes read.
+pub fn value_of(alloc: Global, text: &str, word: Word) -> Result<String, AllocError>
     requires { IsWordOf text.now word }
     ensures { IfOk result (λ v. string_bytes v ≡ value_of text.now word) }
 {
@@ -40,8 +41,8 @@ pub(crate) fn string_of(alloc: Global, text: &str, word: Word) -> Result<String,
     unescape(alloc, &text[word.start + 1..word.end])
 }
 
-/// The name of a pseudo-class or a pseudo-element, in lower case.
-pub(crate) fn lower_of(alloc: Global, text: &str, word: Word) -> Result<String, AllocError>
+/// A name's value in ASCII lower case.
+pub fn lower_of(alloc: Global, text: &str, word: Word) -> Result<String, AllocError>
     requires { IsWordOf text.now word }
     ensures { IfOk result (λ v. string_bytes v ≡ lower_of text.now word) }
 {

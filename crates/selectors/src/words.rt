@@ -1,8 +1,8 @@
 //! The words of a text: its pieces but white space and comments.
 
-ghost use Rattle.std.specs.Prelude.{◌≡◌, ◌≤◌, IfSome, IfNone, IfOk, length, option_map};
+ghost use Rattle.std.specs.Prelude.{◌≡◌, ◌≤◌, All, IfSome, IfNone, IfOk, false, length, option_map};
 ghost use Rattle.std.specs.List.{AllByRecursion, prefix_len};
-ghost use Rattle.selectors.specs.Words.{word_kind, word_of, passed, words_of, IsWordOf, reading, next_word, head, is_mark, is_no_comma, before_comma, from_comma};
+ghost use Rattle.selectors.specs.Words.{word_kind, word_of, passed, words_of, words_after, IsWordOf, reading, next_word, head, is_mark, is_no_comma, before_comma, from_comma};
 ghost use Rattle.css_tokens.specs.Marks.{IsPieceOf};
 ghost use Rattle.selectors.specs.Reading.{is_tight, first_is, range_of, is_over};
 
@@ -124,6 +124,41 @@ pub fn all_words(alloc: Global, text: &str) -> Result<Vec<Word>, AllocError>
     Ok(words)
 }
 
+/// The words among some pieces of a text, in order.
+pub fn words_among(
+    alloc: Global,
+    text: &str,
+    pieces: &[Token],
+) -> Result<Vec<Word>, AllocError>
+    requires { All (IsPieceOf text.now) pieces.now }
+    ensures words { IfOk result (λ v. v.items ≡ words_after text.now false pieces.now) }
+    ensures each { IfOk result (λ v. AllByRecursion (IsWordOf text.now) v.items) }
+{
+    let mut words = Vec::new(alloc);
+    let mut spaced = false;
+    for piece in pieces {
+        if let Some(after) = passed(piece.kind, spaced) {
+            spaced = after;
+            continue;
+        }
+        words.push(word_at(text, *piece, spaced))?;
+        spaced = false;
+    }
+    Ok(words)
+}
+
+/// From the first to the last word.
+pub fn range_of(words: &[Word]) -> Option<Range>
+    ensures { result ≡ range_of words.now }
+{
+    let first = words.first()?;
+    let last = words.last()?;
+    Some(Range {
+        start: first.start,
+        end: last.end,
+    })
+}
+
 /// How many words stand before the first comma.
 fn comma_place(words: &[Word]) -> usize
     ensures value { result ≡ prefix_len is_no_comma words.now }
@@ -222,12 +257,7 @@ impl<'a> Words<'a> {
     pub fn range(&self) -> Option<Range>
         ensures { result ≡ range_of self.now.words }
     {
-        let first = self.words.first()?;
-        let last = self.words.last()?;
-        Some(Range {
-            start: first.start,
-            end: last.end,
-        })
+        range_of(self.words)
     }
 
     /// Takes the words up to the first comma, which stays.

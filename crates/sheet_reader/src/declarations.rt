@@ -11,10 +11,9 @@ ghost use Rattle.sheet_reader.specs.Declarations.{names_important, is_important,
 use crate::brackets::{Nesting, Stop, nesting_of, until};
 use crate::parts::{Part, at_rule_at, behind, part_len};
 use crate::sheet::Property;
-use crate::words::{lower_of, range_of, value_of, words_among};
 use css_tokens::{Range, Token, TokenKind, all_tokens};
 use node_tree::Text;
-use selectors::{Word, WordKind};
+use selectors::{Word, WordKind, lower_of, range_of, value_of, words_among};
 use std::alloc::{AllocError, Global};
 
 /// What a body has one behind the other.

@@ -16,7 +16,6 @@ mod places;
 mod rules;
 mod sealing;
 mod sheet;
-mod words;
 
 pub use book::{Origin, SheetBook, SheetEntry};
 pub use declarations::read_style;

@@ -12,9 +12,8 @@ use crate::declarations::read_body;
 use crate::lists::{Places, Properties, StyleRules};
 use crate::parts::{Ending, Part, behind, part_at, part_len};
 use crate::sheet::{Sheet, StyleRule};
-use crate::words::{range_of, words_among};
 use css_tokens::{Range, Token, TokenKind, all_tokens};
-use selectors::{SelErr, Words, read_list};
+use selectors::{SelErr, Words, range_of, read_list, words_among};
 use std::alloc::{AllocError, Global};
 
 /// Where a body ends that this piece closes: before it, or at the text's end.

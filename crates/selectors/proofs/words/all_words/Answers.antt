@@ -1,32 +1,8 @@
-use Rattle.std.proofs.Common.{◌≡◌, ◌++◌, ◌∷◌, [], ℕ, List, Bool, false, Some, None, sym, ap, subst, ◌∙◌, append_assoc, append-nil}
+use Rattle.std.proofs.Common.{sym, subst}
 use Rattle.std.specs.List.{AllByRecursion}
-use Rattle.css_tokens.specs.declared.token.Token.{Token}
-use Rattle.selectors.specs.declared.words.Word.{Word}
-use Rattle.selectors.specs.Words.{words_after, word_of, passed, IsWordOf}
-use Rattle.selectors.proofs.WordForms.{passes, is_word}
+use Rattle.selectors.specs.Words.{IsWordOf}
+use Rattle.selectors.proofs.WordTurns.{skip, add, all_push, ended}
 use Rattle.selectors.proofs.words.all_words.Goals as goal
-
-skip : (text : List ℕ) (spaced after : Bool) (t : Token) (left new : List Token) (words total : List Word)
-    → left ≡ t ∷ new → passed t.kind spaced ≡ Some after → words ++ words_after text spaced left ≡ total → words ++ words_after text after new ≡ total
-skip text spaced after t left new words total first e so_far =
-    ap (λ (ws : List Word). words ++ ws) (sym (ap (λ (ts : List Token). words_after text spaced ts) first ∙ passes text spaced after t new e)) ∙ so_far
-
-add : (text : List ℕ) (spaced : Bool) (t : Token) (left new : List Token) (words pushed total : List Word) (w : Word)
-    → left ≡ t ∷ new → passed t.kind spaced ≡ None → pushed ≡ words ++ w ∷ [] → w ≡ word_of text spaced t → words ++ words_after text spaced left ≡ total → pushed ++ words_after text false new ≡ total
-add text spaced t left new words pushed total w first e is_pushed value so_far =
-    ap (λ (ws : List Word). ws ++ words_after text false new) is_pushed
-    ∙ append_assoc words (w ∷ []) (words_after text false new)
-    ∙ ap (λ (v : Word). words ++ v ∷ words_after text false new) value
-    ∙ ap (λ (ws : List Word). words ++ ws) (sym (ap (λ (ts : List Token). words_after text spaced ts) first ∙ is_word text spaced t new e))
-    ∙ so_far
-
-all_push : (P : Word → Type 0) (xs : List Word) (x : Word) → AllByRecursion P xs → P x → AllByRecursion P (xs ++ x ∷ [])
-all_push P [] x all p = (p, tt)
-all_push P (y ∷ ys) x all p = (all.0, all_push P ys x all.1 p)
-
-ended : (text : List ℕ) (spaced : Bool) (left : List Token) (words total : List Word) → left ≡ [] → words ++ words_after text spaced left ≡ total → words ≡ total
-unfolding words_after
-ended text spaced left words total e so_far = sym (append-nil words) ∙ ap (λ (ts : List Token). words ++ words_after text spaced ts) (sym e) ∙ so_far
 
 pub loop-token-preserved-in-Some-passed : goal.loop-token-preserved-in-Some-passed
 loop-token-preserved-in-Some-passed c = record {

@@ -2,17 +2,14 @@
 use Rattle.std.proofs.Common.{refl, sym, ap, ◌∙◌}
 use Rattle.node_tree.specs.Labels.{Label, value_of}
 use Rattle.page_tree.proofs.ArenaSteps.{filed_turned}
-use Rattle.page_tree.proofs.ArenaEdits.{drop_there, drop_ascends, drop_has, attr_dropped, label_here}
+use Rattle.page_tree.proofs.ArenaEdits.{drop_there, drop_ascends, attr_dropped, label_here}
 use Rattle.page_tree.proofs.pages.Page.drop_attr.Goals as goal
 
 pub unreachable-requires : goal.unreachable-requires
 unreachable-requires c = drop_there c.self.inside.arena c.self.inside.arena c.self.inside.root c.self.inside.next c.self.invariant c.args.self.now c.self.view_is c.args.serial c.args.name.now c.requires (sym c.key.ensures ∙ c.in_default.is)
 
-pub drop_attr-requires-clause-ascending : goal.drop_attr-requires-clause-ascending
-drop_attr-requires-clause-ascending c = drop_ascends c.self.inside.arena c.self.inside.arena c.self.inside.root c.self.inside.next c.self.invariant c.args.self.now c.self.view_is c.args.serial c.in-Some.key c.args.name.now c.requires (sym c.key.ensures ∙ c.in-Some.is)
-
-pub drop_attr-requires-clause-there : goal.drop_attr-requires-clause-there
-drop_attr-requires-clause-there c = drop_has c.self.inside.arena c.self.inside.arena c.self.inside.root c.self.inside.next c.self.invariant c.args.self.now c.self.view_is c.args.serial c.in-Some.key c.args.name.now c.requires (sym c.key.ensures ∙ c.in-Some.is)
+pub drop_attr-requires : goal.drop_attr-requires
+drop_attr-requires c = drop_ascends c.self.inside.arena c.self.inside.arena c.self.inside.root c.self.inside.next c.self.invariant c.args.self.now c.self.view_is c.args.serial c.in-Some.key c.args.name.now c.requires (sym c.key.ensures ∙ c.in-Some.is)
 
 pub invariant_of-self : goal.invariant_of-self
 invariant_of-self c =

@@ -1,8 +1,8 @@
 -- The attribute is there and gets another value, or comes into its place.
 use Rattle.std.proofs.Common.{Some, sym, ap, ◌∙◌}
-use Rattle.page_tree.specs.Searches.{search_name}
-use Rattle.page_tree.proofs.SearchedLemmas.{searched_ok, searched_err, get-within}
-use Rattle.page_tree.proofs.attribute_edits.set_attribute.Goals as goal
+use Rattle.node_tree.specs.Searches.{search_name}
+use Rattle.node_tree.proofs.SearchedLemmas.{searched_ok, searched_err, get-within}
+use Rattle.node_tree.proofs.attribute_edits.set_attribute.Goals as goal
 
 pub set_value-requires : goal.set_value-requires
 set_value-requires c = let (was, at, put, value, without) = searched_ok c.args.name c.args.value c.args.attributes.now c.in-Ok.i (ap (λ n. search_name n c.args.attributes.now) (sym c.as_str.ensures) ∙ sym c.search_name.ensures ∙ c.in-Ok.is) in get-within c.args.attributes.now c.in-Ok.i was at

@@ -1,9 +1,9 @@
 -- The attribute is there, and goes; or none is.
 use Rattle.std.proofs.Common.{◌≡◌, [], Some, sym, ap, ◌∙◌}
 use Rattle.node_tree.specs.Labels.{Pair}
-use Rattle.front_mirror.proofs.PairLemmas.{without-absent}
-use Rattle.front_mirror.proofs.SearchedLemmas.{searched_ok, searched_err, get-within}
-use Rattle.front_mirror.proofs.attribute_changes.drop_attribute.Goals as goal
+use Rattle.node_tree.proofs.PairLemmas.{without-absent}
+use Rattle.node_tree.proofs.SearchedLemmas.{searched_ok, searched_err, get-within}
+use Rattle.node_tree.proofs.attribute_edits.drop_attribute.Goals as goal
 
 pub remove-name-requires : goal.remove-name-requires
 remove-name-requires c = let (was, at, put, value, without) = searched_ok c.args.name.now [] c.args.attributes.now c.in-Ok.i (sym c.search_name.ensures ∙ c.in-Ok.is) in get-within c.args.attributes.now c.in-Ok.i was at

@@ -1,5 +1,5 @@
 -- An attribute set and dropped, and set back.
-use Rattle.std.proofs.Common.{◌≡◌, ℕ, List, [], ◌∷◌, Option, Some, None, Bool, true, false, cond, bytes_eq, nat_cmp, is_eq, Ordering, Less, Equal, Greater, subst, refl, sym, ap, ◌∙◌}
+use Rattle.std.proofs.Common.{◌≡◌, ℕ, List, [], ◌∷◌, Option, Some, None, Bool, true, false, cond, bytes_eq, nat_cmp, is_eq, ◌&&◌, Ordering, Less, Equal, Greater, subst, refl, sym, ap, ◌∙◌}
 use Rattle.std.specs.List.{list_all}
 use Rattle.std.specs.Ordering.{match_ordering, is_lt, ordering_reverse}
 use Rattle.std.specs.Cmp.Lexicographic.{slice_cmp}
@@ -7,9 +7,21 @@ use Rattle.std.proofs.lemmas.Cmp.{nat_list_cmp_total}
 use Rattle.std.proofs.lemmas.Map.Text.{is_eq-slice_cmp}
 use Rattle.std.proofs.lemmas.Slice.Eq.{bytes_eq-Decides}
 use Rattle.node_tree.specs.Labels.{Pair, is_ascending, is_below, is_before, value_of}
-use Rattle.page_tree.specs.Loads.{placed}
-use Rattle.page_tree.specs.Edits.{pairs_without}
-use Rattle.page_tree.proofs.FormedLemmas.{both, left, right}
+use Rattle.node_tree.specs.LabelChanges.{placed, pairs_without}
+
+-- ---- tests
+
+pub both : (a b : Bool) → a ≡ true → b ≡ true → (a && b) ≡ true
+both true b e f = f
+both false b e f = absurd (cc)
+
+pub left : (a b : Bool) → (a && b) ≡ true → a ≡ true
+left true b e = refl
+left false b e = e
+
+pub right : (a b : Bool) → (a && b) ≡ true → b ≡ true
+right true b e = e
+right false b e = absurd (cc)
 
 -- ---- names in order
 
@@ -42,6 +54,33 @@ pub value-below : (n : List ℕ) (ps : List Pair) → is_below n ps ≡ true →
 value-below n [] e h = refl
 value-below n (p ∷ ps) e h =
     rw (same_name n p.0 Less (lt_less _ e)) (value-below n ps (below_trans n p.0 ps e (left _ _ h)) (right (is_below p.0 ps) (is_ascending ps) h))
+
+-- ---- attributes are in order
+
+is_below-placed_at : (o : Ordering) (name : List ℕ) (p q : Pair) (qs : List Pair) → is_before name p.0 ≡ true → is_before name q.0 ≡ true → is_below name (match_ordering o (p ∷ q ∷ qs) ((q.0, p.1) ∷ qs) (q ∷ placed p qs)) ≡ true
+is_below-placed_at Less name p q qs e f = e
+is_below-placed_at Equal name p q qs e f = f
+is_below-placed_at Greater name p q qs e f = f
+
+is_below-placed : (name : List ℕ) (p : Pair) (qs : List Pair) → is_before name p.0 ≡ true → is_below name qs ≡ true → is_below name (placed p qs) ≡ true
+is_below-placed name p [] e f = e
+is_below-placed name p (q ∷ qs) e f = is_below-placed_at (slice_cmp nat_cmp p.0 q.0) name p q qs e f
+
+is_ascending-placed_at : (o : Ordering) (p q : Pair) (qs : List Pair) → slice_cmp nat_cmp p.0 q.0 ≡ o → is_below q.0 qs ≡ true → is_ascending qs ≡ true → is_ascending (placed p qs) ≡ true
+    → is_ascending (match_ordering o (p ∷ q ∷ qs) ((q.0, p.1) ∷ qs) (q ∷ placed p qs)) ≡ true
+is_ascending-placed_at Less p q qs is below rest placed_rest = both _ _ (ap is_lt is) (both _ _ below rest)
+is_ascending-placed_at Equal p q qs is below rest placed_rest = both _ _ below rest
+is_ascending-placed_at Greater p q qs is below rest placed_rest =
+    let before_p : is_before q.0 p.0 ≡ true = ap is_lt (nat_list_cmp_total.antisymm q.0 p.0 ∙ ap ordering_reverse is) in
+    both _ _ (is_below-placed q.0 p qs before_p below) placed_rest
+
+-- pairs that ascend still do with one more in its place
+pub is_ascending-placed : (p : Pair) (qs : List Pair) → is_ascending qs ≡ true → is_ascending (placed p qs) ≡ true
+is_ascending-placed p [] h = refl
+is_ascending-placed p (q ∷ qs) h =
+    let below = left (is_below q.0 qs) (is_ascending qs) h in
+    let rest = right (is_below q.0 qs) (is_ascending qs) h in
+    is_ascending-placed_at (slice_cmp nat_cmp p.0 q.0) p q qs refl below rest (is_ascending-placed p qs rest)
 
 -- ---- an attribute set
 
@@ -177,3 +216,15 @@ module _ (n v : List ℕ) where
       let below = left (is_below q.0 qs) (is_ascending qs) h in
       let rest = right (is_below q.0 qs) (is_ascending qs) h in
       drop_set_at (bytes_eq q.0 n) q qs refl e below rest (λ f. drop_set qs f rest)
+
+-- ---- a name that is not there
+
+module _ (n : List ℕ) where
+  without-absent_at : (b : Bool) (q : Pair) (qs rest : List Pair) → cond b (Some q.1) (value_of n qs) ≡ None → (value_of n qs ≡ None → rest ≡ qs) → cond b qs (q ∷ rest) ≡ q ∷ qs
+  without-absent_at true q qs rest e after = absurd (cc)
+  without-absent_at false q qs rest e after = ap (◌∷◌ q) (after e)
+
+  -- nothing goes
+  pub without-absent : (qs : List Pair) → value_of n qs ≡ None → pairs_without n qs ≡ qs
+  without-absent [] e = refl
+  without-absent (q ∷ qs) e = without-absent_at (bytes_eq q.0 n) q qs (pairs_without n qs) e (without-absent qs)

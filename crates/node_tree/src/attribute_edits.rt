@@ -1,10 +1,11 @@
 // Attributes set and dropped, in a list that ascends by the names' bytes.
 ghost use Rattle.std.specs.Prelude.{◌≡◌, true, IfOk, OnOk, OnErr};
 ghost use Rattle.node_tree.specs.Labels.{value_of, is_ascending};
-ghost use Rattle.cdp_messages.specs.LabelChanges.{placed, pairs_without};
-ghost use Rattle.front_mirror.specs.Searches.{search_name};
+ghost use Rattle.node_tree.specs.LabelChanges.{placed, pairs_without};
+ghost use Rattle.node_tree.specs.Searches.{search_name};
 
-use node_tree::{Attributes, Text};
+use crate::attribute_lists::Attributes;
+use crate::texts::Text;
 use std::alloc::AllocError;
 use std::cmp::Ordering;
 
@@ -23,8 +24,8 @@ fn search_name(attributes: &Attributes, name: &str) -> Result<usize, usize>
     Err(attributes.len())
 }
 
-/// Sets the attribute of that name, or adds it in its place, and gives the old value.
-pub(crate) fn set_attribute(
+/// Sets the attribute of that name, or adds it in its place, and gives the old value. After want of memory the list is as before.
+pub fn set_attribute(
     attributes: &mut Attributes,
     name: Text,
     value: Text,
@@ -44,7 +45,7 @@ pub(crate) fn set_attribute(
 }
 
 /// Takes the attribute of that name away, and gives its value. Where there is none, nothing changes.
-pub(crate) fn drop_attribute(attributes: &mut Attributes, name: &str) -> Option<Text>
+pub fn drop_attribute(attributes: &mut Attributes, name: &str) -> Option<Text>
     requires { is_ascending attributes.old ≡ true }
     ensures rest { attributes.new ≡ pairs_without name.now attributes.old }
     ensures was { result ≡ value_of name.now attributes.old }

@@ -1,7 +1,7 @@
 use Rattle.std.proofs.Common.{◌≡◌, ◌++◌, drop, false}
 use Rattle.std.specs.List.{AllByRecursion}
 use Rattle.selectors.specs.Words.{words_after, IsWordOf}
-use Rattle.sheet_reader.proofs.words.words_among.Given as goal
+use Rattle.selectors.proofs.words.words_among.Given as goal
 
 abbrev pub invariant-loop-piece : goal.invariant-loop-piece
 invariant-loop-piece l = record {

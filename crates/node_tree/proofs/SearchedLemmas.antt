@@ -4,9 +4,9 @@ use Rattle.std.specs.List.{insert, remove}
 use Rattle.std.specs.Ordering.{match_ordering, is_lt}
 use Rattle.std.specs.Cmp.Lexicographic.{slice_cmp}
 use Rattle.node_tree.specs.Labels.{Pair, is_ascending, is_below, value_of}
-use Rattle.cdp_messages.specs.LabelChanges.{placed, pairs_without}
-use Rattle.front_mirror.specs.Searches.{shifted, further, search_name}
-use Rattle.front_mirror.proofs.PairLemmas.{right, same_name, value-below}
+use Rattle.node_tree.specs.LabelChanges.{placed, pairs_without}
+use Rattle.node_tree.specs.Searches.{shifted, further, search_name}
+use Rattle.node_tree.proofs.PairLemmas.{right, same_name, value-below}
 
 pub drop-get : {A : Type 0} (ks : List A) (i : ℕ) (k : A) → slice_get ks i ≡ Some k → drop i ks ≡ k ∷ drop (suc i) ks
 drop-get [] i k e = absurd (cc)
