@@ -23,6 +23,9 @@ use std::alloc::{AllocError, Global};
 // The deepest that nodes may stand: JSON that nests deeper is not read.
 const LEVELS: u64 = 61;
 
+// The most children for which there is room before the first is read: their number is what the other end says.
+const MOST_ROOM: u64 = 256;
+
 fn take_begin_object(reader: &mut Reader<'_>) -> Result<(), DownErr>
     ensures { OnOk result (reader.old ≡ begin_object ∷ reader.new) }
 {
@@ -328,6 +331,13 @@ fn node_with(
     Ok(tree)
 }
 
+// For how many children room is made before the first is read.
+fn room_for(count: Option<u64>) -> usize
+    ensures { result ≤ 256 }
+{
+    count.unwrap_or(0).min(MOST_ROOM) as usize
+}
+
 // A node with at most so many levels, at the top or below it.
 #[cycle(scan_node)]
 fn scan_node(
@@ -347,7 +357,8 @@ fn scan_node(
     let attributes = attributes_ahead(alloc, reader)?;
     let serial = take_whole(reader)?;
     let ahead = count_ahead(reader)?;
-    let children = children_ahead(alloc, reader, levels - 1, ahead.1)?;
+    let room = room_for(ahead.0);
+    let children = children_ahead(alloc, reader, levels - 1, ahead.1, room)?;
     let behind = take_behind(reader)?;
     let parts = parts_of(attributes, serial, ahead.0, &behind);
     let tree = node_with(alloc, parts, children, top)?;
@@ -361,6 +372,7 @@ fn children_ahead(
     reader: &mut Reader<'_>,
     levels: u64,
     shown: bool,
+    room: usize,
 ) -> Result<Option<Vec<NodeTree>>, DownErr>
     ensures read { IfOk result (λ children. key (next_name shown) ∷ reader.old
         ≡ field_tokens (codes "children") (option_map array (items_shown children))
@@ -369,7 +381,7 @@ fn children_ahead(
     ensures shallow { IfOk result (λ children. height (shown_children children) ≤ levels) }
 {
     if shown {
-        let trees = scan_nodes(alloc, reader, levels)?;
+        let trees = scan_nodes(alloc, reader, levels, room)?;
         take_key(reader, "localName")?;
         Ok(Some(trees))
     } else {
@@ -379,14 +391,19 @@ fn children_ahead(
 
 // Nodes below the top, each with at most so many levels.
 #[cycle(scan_node)]
-fn scan_nodes(alloc: Global, reader: &mut Reader<'_>, levels: u64) -> Result<Vec<NodeTree>, DownErr>
+fn scan_nodes(
+    alloc: Global,
+    reader: &mut Reader<'_>,
+    levels: u64,
+    room: usize,
+) -> Result<Vec<NodeTree>, DownErr>
     ensures read { IfOk result (λ trees. reader.old
         ≡ data_tokens (array (tree_items (nodes_of trees.items))) ++ reader.new) }
     ensures fits { IfOk result (λ trees. fits_nodes (nodes_of trees.items) ≡ true) }
     ensures shallow { IfOk result (λ trees. height (nodes_of trees.items) ≤ levels) }
 {
     take_begin_array(reader)?;
-    let mut trees = Vec::new(alloc);
+    let mut trees = Vec::with_capacity(alloc, room)?;
     'trees: while !reader.take_end_array() {
         let tree = scan_node(alloc, reader, levels, false)?;
         trees.push(tree)?;

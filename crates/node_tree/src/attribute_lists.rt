@@ -7,6 +7,16 @@ use std::alloc::{AllocError, Global};
 use std::marker::Model;
 use std::mem;
 
+// Room for one pair in an empty list: most lists have no more, and a push alone makes room for four.
+fn make_room(pairs: &mut Vec<(Text, Text)>) -> Result<(), AllocError>
+    ensures { pairs.new.items ≡ pairs.old.items }
+{
+    if pairs.is_empty() {
+        pairs.reserve_exact(1)?;
+    }
+    Ok(())
+}
+
 /// A list of attributes, each a name and a value, which contracts see as the list of the pairs of their bytes.
 #[derive(Drop, Debug)]
 pub struct Attributes {
@@ -85,11 +95,11 @@ impl Attributes {
         ensures ok { OnOk result (self.new ≡ self.old ++ (name, value) ∷ []) }
         ensures err { OnErr result (self.new ≡ self.old) }
     {
+        make_room(&mut self.pairs)?;
         self.pairs.push((name, value))?;
         Ok(())
     }
 
-    /// A copy of the attributes.
     /// Puts an attribute before the one at place `i`, or last.
     pub fn insert(&mut self, i: usize, name: Text, value: Text) -> Result<(), AllocError>
         requires { i ≤ length self.old }
@@ -123,7 +133,7 @@ impl Attributes {
     pub fn try_clone(&self, alloc: Global) -> Result<Attributes, AllocError>
         ensures { IfOk result (λ copy. copy ≡ self.now) }
     {
-        let mut pairs = Vec::new(alloc);
+        let mut pairs = Vec::with_capacity(alloc, self.pairs.len())?;
         for pair in &self.pairs {
             pairs.push((pair.0.try_clone()?, pair.1.try_clone()?))?;
         }

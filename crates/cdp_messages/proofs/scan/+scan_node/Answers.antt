@@ -16,9 +16,9 @@ scan_node-returns-clause-read t c =
 
 pub scan_nodes-trees-init : goal.scan_nodes-trees-init
 scan_nodes-trees-init t c = record {
-  read = none_yet branch_tokens c.args.reader.now _ c.new-trees.result.items c.new-trees.ensures.items c.in_ok-take_begin_array.ensures;
-  fits = ap (λ (l : List (Branch Told)). fits_nodes (nodes_of l)) c.new-trees.ensures.items;
-  shallow = subst (λ (l : List (Branch Told)). height (nodes_of l) ≤ c.args.levels) (sym c.new-trees.ensures.items) (omega arith);
+  read = none_yet branch_tokens c.args.reader.now _ c.in_ok-trees.trees.items c.in_ok-trees.ensures.items c.in_ok-take_begin_array.ensures;
+  fits = ap (λ (l : List (Branch Told)). fits_nodes (nodes_of l)) c.in_ok-trees.ensures.items;
+  shallow = subst (λ (l : List (Branch Told)). height (nodes_of l) ≤ c.args.levels) (sym c.in_ok-trees.ensures.items) (omega arith);
 }
 
 pub scan_nodes-trees-preserved : goal.scan_nodes-trees-preserved
