@@ -11,7 +11,8 @@ use Rattle.cdp_messages.specs.declared.command.CommandErr.{CommandErr}
 use Rattle.cdp_messages.specs.declared.command.CommandErr.TheVariants as command_err
 use Rattle.cdp_messages.specs.declared.command.Why.{Why}
 use Rattle.cdp_messages.specs.declared.down.ReplyBody.TheVariants.{Nothing}
-use Rattle.cdp_messages.specs.Answers.{Commands, ended}
+use Rattle.cdp_messages.specs.Answers.{Commands}
+use Rattle.pipe_frames.specs.Frames.{framed}
 use Rattle.cdp_messages.specs.Moves.{Move, replied, frames_of_moves, move_text}
 use Rattle.cdp_messages.specs.Replies.{reply_text}
 use Rattle.back_end.specs.declared.faults.ActFault.{ActFault}
@@ -28,13 +29,13 @@ use Rattle.back_end.specs.declared.desk.Desk.{Desk}
 use Rattle.back_end.specs.declared.side.PageSide.{PageSide}
 
 -- the reply comes after what a step tells
-pub answered-sent : (id : ℕ) (ms : List Move) (old middle new : List ℕ) → middle ≡ old ++ frames_of_moves ms → new ≡ middle ++ ended (reply_text id Nothing)
+pub answered-sent : (id : ℕ) (ms : List Move) (old middle new : List ℕ) → middle ≡ old ++ frames_of_moves ms → new ≡ middle ++ framed (reply_text id Nothing)
     → new ≡ old ++ frames_of_moves (ms ++ replied id Nothing ∷ [])
 answered-sent id ms old middle new first last =
-    last ∙ ap (λ bs. middle ++ bs) (sym (append-nil (ended (reply_text id Nothing))))
+    last ∙ ap (λ bs. middle ++ bs) (sym (append-nil (framed (reply_text id Nothing))))
     ∙ ap (λ bs. bs ++ frames_of_moves (replied id Nothing ∷ [])) first
     ∙ append_assoc old (frames_of_moves ms) (frames_of_moves (replied id Nothing ∷ []))
-    ∙ ap (λ bs. old ++ bs) (sym (flat_map-append (λ (m : Move). ended (move_text m)) ms (replied id Nothing ∷ [])))
+    ∙ ap (λ bs. old ++ bs) (sym (flat_map-append (λ (m : Move). framed (move_text m)) ms (replied id Nothing ∷ [])))
 
 -- ---- a refusal that a reader found
 
@@ -47,7 +48,7 @@ commands-why {T} e why found is finds = subst (λ x. Commands {T = T} (Err x) fo
 -- ---- a load
 
 pub loaded-sent : (state : State) (id : ℕ) (params : Data) (page : LoadedPage) (old middle new : List ℕ) → load_asked params ≡ Ok page
-    → middle ≡ old ++ frames_of_moves (load_step page state).moves → new ≡ middle ++ ended (reply_text id Nothing)
+    → middle ≡ old ++ frames_of_moves (load_step page state).moves → new ≡ middle ++ framed (reply_text id Nothing)
     → new ≡ old ++ frames_of_moves (command_step id (page_load params) state).moves
 loaded-sent state id params page old middle new is first last =
     answered-sent id (load_step page state).moves old middle new first last
@@ -93,7 +94,7 @@ taken-is : (state : State) (id : ℕ) (act : Act) → act_fault act state.side.p
 taken-is state id act none = ap (λ o. own_step acts id (unless_why (option_map act_why o) act) state) none
 
 pub taken-sent : (d : Desk) (s : PageSide) (state : State) (id : ℕ) (act : Act) (old middle new : List ℕ) → DeskStandsFor d s state → None ≡ act_fault act s.page s.sheets.entries
-    → middle ≡ old ++ frames_of_moves (act_step act state).moves → new ≡ middle ++ ended (reply_text id Nothing)
+    → middle ≡ old ++ frames_of_moves (act_step act state).moves → new ≡ middle ++ framed (reply_text id Nothing)
     → new ≡ old ++ frames_of_moves (judged_step id act state).moves
 taken-sent d s state id act old middle new before none first last =
     answered-sent id (act_step act state).moves old middle new first last

@@ -18,7 +18,7 @@ use Rattle.node_binding.proofs.OpeningLemmas.{AreDistinct}
 use Rattle.node_binding.proofs.StartLemmas.{distinct-alone}
 use Rattle.cdp_messages.specs.declared.down.PauseData.{PauseData}
 use Rattle.cdp_messages.specs.declared.down.PauseData.TheVariants as told_pause
-use Rattle.cdp_messages.specs.Answers.{ended}
+use Rattle.pipe_frames.specs.Frames.{framed}
 use Rattle.cdp_messages.specs.Moves.{Move, met, frames_of_moves, move_text}
 use Rattle.dom_agent.specs.Keepers.{session_keeper}
 use Rattle.dom_agent.specs.Requests.{Opening, pushing, all_opened, pushed}
@@ -79,7 +79,7 @@ after-can serial s state can there =
 frames-joined : (old first new : List ℕ) (ms ks : List Move) → first ≡ old ++ frames_of_moves ms → new ≡ first ++ frames_of_moves ks → new ≡ old ++ frames_of_moves (ms ++ ks)
 frames-joined old first new ms ks one two =
     two ∙ ap (λ (bs : List ℕ). bs ++ frames_of_moves ks) one ∙ append_assoc old (frames_of_moves ms) (frames_of_moves ks)
-    ∙ ap (λ bs. old ++ bs) (sym (flat_map-append (λ (m : Move). ended (move_text m)) ms ks))
+    ∙ ap (λ bs. old ++ bs) (sym (flat_map-append (λ (m : Move). framed (move_text m)) ms ks))
 
 -- a pause by a watch of the node itself
 own-sent : (state : State) (node id : ℕ) (data_of : ℕ → PauseData) (old first new : List ℕ) → id ≡ id_now (push_step node state).state node

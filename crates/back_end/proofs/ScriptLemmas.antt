@@ -18,7 +18,7 @@ use Rattle.node_binding.specs.Bindings.{Bound, Stands, with_bound, forgotten, al
 use Rattle.dom_agent.specs.Edits.{Edited, OnFault}
 use Rattle.std.specs.Result.{OnOk}
 use Rattle.cdp_messages.specs.Moves.{Move as Told, frames_of_moves, move_text}
-use Rattle.cdp_messages.specs.Answers.{ended}
+use Rattle.pipe_frames.specs.Frames.{framed}
 use Rattle.dom_agent.specs.EditLaws.{session_edited, binding_edited}
 use Rattle.dom_agent.proofs.EditKeepers.{edit_keeps_bound, same_edit_moves}
 use Rattle.dom_breakpoints.specs.Watched.{Watched}
@@ -256,7 +256,7 @@ moved-sent state serial parent before there tree page old middle new same fits t
     ∙ ap (λ t. middle ++ frames_of_moves (later (Attach parent (moved_before serial parent before state.side.page.tree) t))) tree_here
     ∙ ap (λ (m : List ℕ). m ++ frames_of_moves last) first
     ∙ append_assoc old (frames_of_moves one) (frames_of_moves last)
-    ∙ ap (λ bs. old ++ bs) (sym (flat_map-append (λ (m : Told). ended (move_text m)) one last))
+    ∙ ap (λ bs. old ++ bs) (sym (flat_map-append (λ (m : Told). framed (move_text m)) one last))
     ∙ ap (λ ms. old ++ frames_of_moves (one ++ ms)) (sym (append-nil last))
     ∙ ap (λ o. old ++ frames_of_moves (planned_step o (act_plan (Move serial parent before) state.side.page (book_in state)) state).moves) (sym (ap edit_fault here))
 

@@ -23,7 +23,7 @@ use Rattle.page_forms.specs.declared.acts.Act.TheVariants as act
 use Rattle.cdp_messages.specs.declared.command.Why.{Why}
 use Rattle.cdp_messages.specs.declared.command.Why.TheVariants.{DomOff, CssOff, NotElement}
 use Rattle.cdp_messages.specs.declared.down.ReplyBody.TheVariants.{Nothing, SheetText}
-use Rattle.cdp_messages.specs.Answers.{ended}
+use Rattle.pipe_frames.specs.Frames.{framed}
 use Rattle.cdp_messages.specs.Events.{News, sheet_added, sheet_removed}
 use Rattle.cdp_messages.specs.Replies.{Message, event, event_text, reply_text}
 use Rattle.cdp_messages.specs.Views.{ShownSheet, sheet_header}
@@ -68,7 +68,7 @@ pub come-frames : (ss : List ShownSheet) → message_frames (map added_message (
 come-frames [] = refl
 come-frames (s ∷ ss) =
     ap (λ h. message_frame (event (sheet_added h)) ++ message_frames (map added_message (as_book ss))) (header-is s)
-    ∙ ap (λ (bs : List ℕ). ended (move_text (added s)) ++ bs) (come-frames ss)
+    ∙ ap (λ (bs : List ℕ). framed (move_text (added s)) ++ bs) (come-frames ss)
 
 -- each sheet goes
 pub gone-frames : (ss : List ShownSheet) → map (λ e. dropped e.id) (as_book ss) ≡ moves_gone ss
@@ -89,7 +89,7 @@ comes-anew true ss = come-frames ss
 comes-anew false ss = refl
 
 frames-append : (ms ks : List Move) → frames_of_moves (ms ++ ks) ≡ frames_of_moves ms ++ frames_of_moves ks
-frames-append ms ks = flat_map-append (λ (m : Move). ended (move_text m)) ms ks
+frames-append ms ks = flat_map-append (λ (m : Move). framed (move_text m)) ms ks
 
 -- ---- commands that are refused
 
@@ -151,7 +151,7 @@ css-enabled-stands d d1 s state id stands was on_is css_is watches_is agent_is =
     })
 
 pub css-enabled-sent : (d : Desk) (s : PageSide) (state : State) (id : ℕ) (book : List SheetEntry) (old middle new : List ℕ) → DeskStandsFor d s state → d.is_on ≡ true → book ≡ s.sheets.entries
-    → middle ≡ old ++ message_frames (turn_messages d.css true book) → new ≡ middle ++ ended (reply_text id Nothing)
+    → middle ≡ old ++ message_frames (turn_messages d.css true book) → new ≡ middle ++ framed (reply_text id Nothing)
     → new ≡ old ++ frames_of_moves (command_step id css_enables state).moves
 css-enabled-sent d s state id book old middle new stands was book_is first last =
     let ms = cond state.client.css_on [] (moves_come state.side.sheets) in
@@ -159,7 +159,7 @@ css-enabled-sent d s state id book old middle new stands was book_is first last 
     first ∙ ap (λ (b : List SheetEntry). old ++ message_frames (turn_messages d.css true b)) (book_is ∙ stands.sheets_are)
     ∙ ap (λ (b : Bool). old ++ message_frames (turn_messages b true (book_in state))) stands.css_is
     ∙ ap (λ (bs : List ℕ). old ++ bs) (comes-on state.client.css_on state.side.sheets) in
-    last ∙ ap (λ bs. middle ++ bs) (sym (append-nil (ended (reply_text id Nothing))))
+    last ∙ ap (λ bs. middle ++ bs) (sym (append-nil (framed (reply_text id Nothing))))
     ∙ ap (λ bs. bs ++ frames_of_moves (replied id Nothing ∷ [])) same
     ∙ append_assoc old (frames_of_moves ms) (frames_of_moves (replied id Nothing ∷ []))
     ∙ ap (λ bs. old ++ bs) (sym (frames-append ms (replied id Nothing ∷ [])))
@@ -181,9 +181,9 @@ css-disabled-stands d d1 s state id stands was css_was on_is css_is watches_is a
     })
 
 pub css-disabled-sent : (d : Desk) (s : PageSide) (state : State) (id : ℕ) (old middle new : List ℕ) → DeskStandsFor d s state → d.is_on ≡ true → d.css ≡ true
-    → middle ≡ old ++ ended (reply_text id Nothing) → new ≡ middle ++ [] → new ≡ old ++ frames_of_moves (command_step id css_disables state).moves
+    → middle ≡ old ++ framed (reply_text id Nothing) → new ≡ middle ++ [] → new ≡ old ++ frames_of_moves (command_step id css_disables state).moves
 css-disabled-sent d s state id old middle new stands was css_was first last =
-    last ∙ append-nil middle ∙ first ∙ ap (λ bs. old ++ bs) (sym (append-nil (ended (reply_text id Nothing))))
+    last ∙ append-nil middle ∙ first ∙ ap (λ bs. old ++ bs) (sym (append-nil (framed (reply_text id Nothing))))
     ∙ ap (λ (done : Step). old ++ frames_of_moves done.moves)
     (sym (on-is id css_disables state (dom-on css_disables d s state stands was) (css-taken css_disables d s state stands css_was)))
 
@@ -538,12 +538,12 @@ load-sent d s state page old_book new_book out first second last stands old_is n
 -- ---- sheets that go, in code
 
 -- the sheet at a place goes, and those behind it are left
-pub gone-turn : (book : List SheetEntry) (i : ℕ) (e : SheetEntry) (before after : List ℕ) → slice_get book i ≡ Some e → after ≡ before ++ ended (event_text (sheet_removed e.id))
+pub gone-turn : (book : List SheetEntry) (i : ℕ) (e : SheetEntry) (before after : List ℕ) → slice_get book i ≡ Some e → after ≡ before ++ framed (event_text (sheet_removed e.id))
     → after ++ frames_of_moves (map (λ e. dropped e.id) (drop (i + 1) book)) ≡ before ++ frames_of_moves (map (λ e. dropped e.id) (drop i book))
 gone-turn book i e before after at sent =
     let rest = frames_of_moves (map (λ e. dropped e.id) (drop (i + 1) book)) in
     ap (λ (bs : List ℕ). bs ++ rest) sent
-    ∙ append_assoc before (ended (event_text (sheet_removed e.id))) rest
+    ∙ append_assoc before (framed (event_text (sheet_removed e.id))) rest
     ∙ sym (ap (λ (l : List SheetEntry). before ++ frames_of_moves (map (λ e. dropped e.id) l)) (drop-at book i e at))
 
 -- ---- the node that an ask names, in code

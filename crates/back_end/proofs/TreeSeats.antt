@@ -25,7 +25,7 @@ use Rattle.page_tree.proofs.InsertLemmas.{copy-leads}
 use Rattle.page_tree.proofs.MoveLemmas.{move-leads}
 use Rattle.cdp_messages.specs.declared.command.Why.{Why}
 use Rattle.cdp_messages.specs.Moves.{Move as Told, frames_of_moves, move_text}
-use Rattle.cdp_messages.specs.Answers.{ended}
+use Rattle.pipe_frames.specs.Frames.{framed}
 use Rattle.back_end.specs.declared.dom_edits.DomEdit.{DomEdit}
 use Rattle.back_end.specs.declared.dom_edits.NodeEdit.{NodeEdit}
 use Rattle.back_end.specs.declared.dom_edits.NodeEdit.TheVariants.{One, MoveNode, CopyNode}
@@ -71,7 +71,7 @@ moved-plan-sent state serial parent before there tree page old middle new same t
     ∙ ap (λ (p : PageValue). middle ++ frames_of_moves (later (Attach parent (moved_before serial parent before p.tree) (node_at serial p.tree)))) same
     ∙ ap (λ (m : List ℕ). m ++ frames_of_moves last) first
     ∙ append_assoc old (frames_of_moves one) (frames_of_moves last)
-    ∙ ap (λ bs. old ++ bs) (sym (flat_map-append (λ (m : Told). ended (move_text m)) one last))
+    ∙ ap (λ bs. old ++ bs) (sym (flat_map-append (λ (m : Told). framed (move_text m)) one last))
     ∙ ap (λ ms. old ++ frames_of_moves (one ++ ms)) (sym (append-nil last))
 
 -- both edits are noted by what leads back
@@ -210,7 +210,7 @@ put-answered-sent s state id e put old middle new same fits put_is first second 
     second
     ∙ ap (λ (m : List ℕ). m ++ frames_of_moves last) first
     ∙ append_assoc old (frames_of_moves done.moves) (frames_of_moves last)
-    ∙ ap (λ bs. old ++ bs) (sym (flat_map-append (λ (m : Told). ended (move_text m)) done.moves last))
+    ∙ ap (λ bs. old ++ bs) (sym (flat_map-append (λ (m : Told). framed (move_text m)) done.moves last))
     ∙ ap (λ ms. old ++ frames_of_moves ms) (put-moves id put done)
     ∙ ap (λ ms. old ++ frames_of_moves ms) (kept-moves id put (mapped (λ e. Tree e) plan.edits) state done)
     ∙ ap (λ o. old ++ frames_of_moves (put_answer id o (planned_by_client plan state)).moves) here

@@ -13,7 +13,7 @@ use Rattle.style_edits.specs.declared.splice.Splice.{Splice}
 use Rattle.style_edits.specs.Splices.{FitsSplice, TakesSplice, after_splice, back_splice}
 use Rattle.cdp_messages.specs.declared.command.Why.TheVariants.{Crossed}
 use Rattle.cdp_messages.specs.declared.down.ReplyBody.TheVariants.{Nothing}
-use Rattle.cdp_messages.specs.Answers.{ended}
+use Rattle.pipe_frames.specs.Frames.{framed}
 use Rattle.cdp_messages.specs.Events.{sheet_changed}
 use Rattle.cdp_messages.specs.Replies.{reply_text}
 use Rattle.cdp_messages.specs.Moves.{Move, rewritten, frames_of_moves, move_text}
@@ -86,7 +86,7 @@ way-begin all rest backs d s out rest_is empty taken =
     subst (λ (l : List Inverse). Way all l d d s s backs out out) (sym rest_is) (subst (λ (l : List Inverse). Way all all d d s s l out out) (sym empty) (way-start all d s out taken))
 
 frames-append : (ms ks : List Move) → frames_of_moves (ms ++ ks) ≡ frames_of_moves ms ++ frames_of_moves ks
-frames-append ms ks = flat_map-append (λ (m : Move). ended (move_text m)) ms ks
+frames-append ms ks = flat_map-append (λ (m : Move). framed (move_text m)) ms ks
 
 -- what one edit of the loop came to
 pub record Turned (e back : Inverse) (d d1 : Desk) (s s1 : PageSide) (out new : List ℕ) : Type 0 where
@@ -321,9 +321,9 @@ module _ (d : Desk) (s : PageSide) (state : State) (id : ℕ) (server : Server) 
   nothing-both : (h : Marks Inverse) → out ≡ None → state.client.marks.crossed ≡ false → Keeps h state → BothStandFor d h s (command_step id server state).state
   nothing-both h none free k = subst (λ (done : Step). BothStandFor d h s done.state) (sym (nothing none free)) (record { stands = before; kept = k })
 
-  nothing-sent : (old new : List ℕ) → out ≡ None → state.client.marks.crossed ≡ false → new ≡ old ++ ended (reply_text id Nothing) → new ≡ old ++ frames_of_moves (command_step id server state).moves
+  nothing-sent : (old new : List ℕ) → out ≡ None → state.client.marks.crossed ≡ false → new ≡ old ++ framed (reply_text id Nothing) → new ≡ old ++ frames_of_moves (command_step id server state).moves
   nothing-sent old new none free sent =
-      sent ∙ ap (λ bs. old ++ bs) (sym (append-nil (ended (reply_text id Nothing)))) ∙ ap (λ (done : Step). old ++ frames_of_moves done.moves) (sym (nothing none free))
+      sent ∙ ap (λ bs. old ++ bs) (sym (append-nil (framed (reply_text id Nothing)))) ∙ ap (λ (done : Step). old ++ frames_of_moves done.moves) (sym (nothing none free))
 
   emptied-both : (h : Marks Inverse) → out ≡ None → state.client.marks.crossed ≡ true → Keeps h state → BothStandFor d h s (command_step id server state).state
   emptied-both h none crossed k = subst (λ (done : Step). BothStandFor d h s done.state) (sym (emptied none crossed)) (record { stands = before; kept = k })
@@ -339,7 +339,7 @@ module _ (d : Desk) (s : PageSide) (state : State) (id : ℕ) (server : Server) 
       (record { stands = marks-stands marks d1 s1 (kept_steps es state).state stands; kept = k })
 
   carried-sent : (es : List Inverse) (old middle new : List ℕ) → out ≡ Some es → middle ≡ old ++ frames_of_moves (kept_steps es state).moves
-      → new ≡ middle ++ ended (reply_text id Nothing) → new ≡ old ++ frames_of_moves (command_step id server state).moves
+      → new ≡ middle ++ framed (reply_text id Nothing) → new ≡ old ++ frames_of_moves (command_step id server state).moves
   carried-sent es old middle new some first last =
       answered-sent id (kept_steps es state).moves old middle new first last ∙ ap (λ (done : Step). old ++ frames_of_moves done.moves) (sym (carried es some))
 
@@ -384,12 +384,12 @@ redone-both d d1 h h1 s s1 state id es backs both on out stands saved next backs
     (u.kept after (led-saved d d1 s s1 state es both.stands stands saved next) (led-next d d1 s s1 state es both.stands stands saved next)))
 
 pub undone-sent : (d : Desk) (h : Marks Inverse) (s : PageSide) (state : State) (id : ℕ) (es : List Inverse) (old middle new : List ℕ) → BothStandFor d h s state → d.is_on ≡ true → handed_out h.past ≡ Some es
-    → middle ≡ old ++ frames_of_moves (kept_steps es state).moves → new ≡ middle ++ ended (reply_text id Nothing) → new ≡ old ++ frames_of_moves (command_step id undoes state).moves
+    → middle ≡ old ++ frames_of_moves (kept_steps es state).moves → new ≡ middle ++ framed (reply_text id Nothing) → new ≡ old ++ frames_of_moves (command_step id undoes state).moves
 undone-sent d h s state id es old middle new both on out first last =
     carried-sent d s state id undoes (Some es) (undone state.client.marks) both.stands on (undo-is (Some es) state (undo-hands h es state both.kept out).edits) es old middle new refl first last
 
 pub redone-sent : (d : Desk) (h : Marks Inverse) (s : PageSide) (state : State) (id : ℕ) (es : List Inverse) (old middle new : List ℕ) → BothStandFor d h s state → d.is_on ≡ true → handed_out h.future ≡ Some es
-    → middle ≡ old ++ frames_of_moves (kept_steps es state).moves → new ≡ middle ++ ended (reply_text id Nothing) → new ≡ old ++ frames_of_moves (command_step id redoes state).moves
+    → middle ≡ old ++ frames_of_moves (kept_steps es state).moves → new ≡ middle ++ framed (reply_text id Nothing) → new ≡ old ++ frames_of_moves (command_step id redoes state).moves
 redone-sent d h s state id es old middle new both on out first last =
     carried-sent d s state id redoes (Some es) (redone state.client.marks) both.stands on (redo-is (Some es) state (redo-hands h es state both.kept out).edits) es old middle new refl first last
 
@@ -401,7 +401,7 @@ module _ (d : Desk) (h h1 : Marks Inverse) (s : PageSide) (state : State) (id : 
         let u = undo-hands-none h state both.kept out in
         nothing-both d s state id undoes None (undone state.client.marks) both.stands on (undo-is None state u.edits) h1 refl (sym u.crossed ∙ free) (subst (λ (x : Marks Inverse). Keeps x state) (sym is) u.kept)
 
-    pub unundone-sent : h.crossed ≡ false → (old new : List ℕ) → new ≡ old ++ ended (reply_text id Nothing) → new ≡ old ++ frames_of_moves (command_step id undoes state).moves
+    pub unundone-sent : h.crossed ≡ false → (old new : List ℕ) → new ≡ old ++ framed (reply_text id Nothing) → new ≡ old ++ frames_of_moves (command_step id undoes state).moves
     unundone-sent free old new sent =
         let u = undo-hands-none h state both.kept out in
         nothing-sent d s state id undoes None (undone state.client.marks) both.stands on (undo-is None state u.edits) old new refl (sym u.crossed ∙ free) sent
@@ -423,7 +423,7 @@ module _ (d : Desk) (h h1 : Marks Inverse) (s : PageSide) (state : State) (id : 
         let u = redo-hands-none h state both.kept out in
         nothing-both d s state id redoes None (redone state.client.marks) both.stands on (redo-is None state u.edits) h1 refl (sym u.crossed ∙ free) (subst (λ (x : Marks Inverse). Keeps x state) (sym is) u.kept)
 
-    pub unredone-sent : h.crossed ≡ false → (old new : List ℕ) → new ≡ old ++ ended (reply_text id Nothing) → new ≡ old ++ frames_of_moves (command_step id redoes state).moves
+    pub unredone-sent : h.crossed ≡ false → (old new : List ℕ) → new ≡ old ++ framed (reply_text id Nothing) → new ≡ old ++ frames_of_moves (command_step id redoes state).moves
     unredone-sent free old new sent =
         let u = redo-hands-none h state both.kept out in
         nothing-sent d s state id redoes None (redone state.client.marks) both.stands on (redo-is None state u.edits) old new refl (sym u.crossed ∙ free) sent
@@ -449,8 +449,8 @@ marked-both d h h1 s state id both on is =
       kept = subst (λ (x : Marks Inverse). Keeps x (with_marks marks state)) (sym is) (keeps-marked h state both.kept);
     })
 
-pub marked-sent : (d : Desk) (s : PageSide) (state : State) (id : ℕ) (old new : List ℕ) → DeskStandsFor d s state → d.is_on ≡ true → new ≡ old ++ ended (reply_text id Nothing)
+pub marked-sent : (d : Desk) (s : PageSide) (state : State) (id : ℕ) (old new : List ℕ) → DeskStandsFor d s state → d.is_on ≡ true → new ≡ old ++ framed (reply_text id Nothing)
     → new ≡ old ++ frames_of_moves (command_step id ends_group state).moves
 marked-sent d s state id old new stands on sent =
-    sent ∙ ap (λ bs. old ++ bs) (sym (append-nil (ended (reply_text id Nothing))))
+    sent ∙ ap (λ bs. old ++ bs) (sym (append-nil (framed (reply_text id Nothing))))
     ∙ ap (λ (done : Step). old ++ frames_of_moves done.moves) (sym (on-is id ends_group state (dom-on ends_group d s state stands on) refl))

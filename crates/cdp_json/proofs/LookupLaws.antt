@@ -7,7 +7,8 @@ use Rattle.std.specs.Ordering.{match_ordering, ordering_reverse, is_lt}
 use Rattle.serde_json.specs.Data.{Data, Members, no_members, member, put}
 use Rattle.serde_json.specs.Find.{get_member}
 use Rattle.serde_json.proofs.Views.{get_member-put, get_member-put_other}
-use Rattle.cdp_json.specs.Plain.{is_before, starts_after, is_plain, members_are_plain}
+use Rattle.cdp_json.specs.Plain.{starts_after, is_plain, members_are_plain}
+use Rattle.node_tree.specs.Labels.{is_before}
 use Rattle.cdp_json.specs.Kinds.{Kind, passes, holds_of_some, any_object}
 use Rattle.cdp_json.specs.Fields.{field_from, field_if}
 use Rattle.cdp_json.specs.Lookups.{then_ok, optional, required, Lookups, no_lookups, with_later, look_for, may_look_for, value_of, object_with, is_none_of}

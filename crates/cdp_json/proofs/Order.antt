@@ -4,7 +4,7 @@ use Rattle.std.proofs.lemmas.Cmp.{nat_list_cmp_total}
 use Rattle.std.specs.Cmp.Lexicographic.{slice_cmp}
 use Rattle.std.specs.Ordering.{is_lt, ordering_reverse}
 use Rattle.serde_json.specs.Data.{Data, Members, no_members, member, put}
-use Rattle.cdp_json.specs.Plain.{is_before}
+use Rattle.node_tree.specs.Labels.{is_before}
 use Rattle.cdp_json.specs.Rows.{maybe_member, Written, members_of}
 use Rattle.cdp_json.specs.Lawful.{is_before_all}
 use Rattle.cdp_json.specs.Writes.{names_ascend, put_some, put_all}

@@ -16,7 +16,8 @@ use Rattle.serde_json.specs.Read.{number_of, of_json, of_items, of_members, max_
 use Rattle.serde_json.specs.Written.{number_text, outline, items_outline, members_outline, has_float, items_have_float, members_have_float, comma_if, compact_text, items_text, members_text}
 use Rattle.serde_json.proofs.Numbers.{number_of-decimal, number_of-negative}
 use Rattle.serde_json.proofs.Texts.{print-outline}
-use Rattle.cdp_json.specs.Plain.{is_before, starts_after, number_is_plain, is_plain, items_are_plain, members_are_plain, HasUtf8, ItemsHaveUtf8, MembersHaveUtf8, ReadsBack, KeepsUtf8}
+use Rattle.cdp_json.specs.Plain.{starts_after, number_is_plain, is_plain, items_are_plain, members_are_plain, HasUtf8, ItemsHaveUtf8, MembersHaveUtf8, ReadsBack, KeepsUtf8}
+use Rattle.node_tree.specs.Labels.{is_before}
 use Rattle.cdp_json.proofs.Options.{both, both_parts}
 use Rattle.cdp_json.proofs.Order.{joined, joined-assoc, joined_none, before_through, all_before, put_last}
 

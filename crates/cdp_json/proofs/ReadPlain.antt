@@ -16,7 +16,8 @@ use Rattle.serde_json.specs.Data.{Num, unsigned, negative, float, Data, Items, M
 use Rattle.serde_json.specs.Find.{is_float}
 use Rattle.serde_json.specs.Read.{is_integer, number_from, number_of, of_json, of_items, of_members, max_depth, read}
 use Rattle.serde_json.specs.Written.{has_float, items_have_float, members_have_float}
-use Rattle.cdp_json.specs.Plain.{is_before, starts_after, number_is_plain, is_plain, items_are_plain, members_are_plain}
+use Rattle.cdp_json.specs.Plain.{starts_after, number_is_plain, is_plain, items_are_plain, members_are_plain}
+use Rattle.node_tree.specs.Labels.{is_before}
 use Rattle.cdp_json.proofs.Options.{both, both_parts}
 use Rattle.cdp_json.proofs.ReadTexts.{IfSome, map_keeps, then_keeps}
 

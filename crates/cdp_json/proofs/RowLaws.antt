@@ -6,7 +6,8 @@ use Rattle.std.specs.Cmp.Lexicographic.{slice_cmp}
 use Rattle.std.specs.Ordering.{is_lt}
 use Rattle.std.specs.Prelude.{if◌then◌else◌, is_some, ⊤}
 use Rattle.serde_json.specs.Data.{Data, object, Members, no_members, member}
-use Rattle.cdp_json.specs.Plain.{is_before, starts_after, is_plain, members_are_plain}
+use Rattle.cdp_json.specs.Plain.{starts_after, is_plain, members_are_plain}
+use Rattle.node_tree.specs.Labels.{is_before}
 use Rattle.cdp_json.specs.Kinds.{Kind, passes, holds_of_some, only_true, any_object}
 use Rattle.cdp_json.specs.Rows.{Row, beside, first_at, after_first, need, some_beside, may_from, may, is_there, may_true, is_done, maybe_member, members_of, unit_if, ends, and_then, both_loose, and_need, and_may, and_true, object_of}
 use Rattle.cdp_json.specs.Lawful.{LawfulKind, LawfulRow, is_before_all}

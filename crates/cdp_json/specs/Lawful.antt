@@ -1,7 +1,8 @@
 -- That a description spells and reads the same: nothing more is read, and what was spelled is read again.
 use Rattle.std.specs.Prelude.{◌≡◌, ℕ, List, [], ◌∷◌, Bool, true, ◌&&◌, Some}
 use Rattle.serde_json.specs.Data.{Data, Members}
-use Rattle.cdp_json.specs.Plain.{is_before, starts_after, is_plain, members_are_plain}
+use Rattle.cdp_json.specs.Plain.{starts_after, is_plain, members_are_plain}
+use Rattle.node_tree.specs.Labels.{is_before}
 use Rattle.cdp_json.specs.Kinds.{Kind, passes}
 use Rattle.cdp_json.specs.Rows.{Row, members_of}
 

@@ -5,10 +5,7 @@ use Rattle.std.specs.Cmp.Lexicographic.{slice_cmp}
 use Rattle.serde_json.specs.Data.{Num, unsigned, negative, float, Data, null, boolean, number, string, array, object, Items, no_items, item, Members, no_members, member, depth}
 use Rattle.serde_json.specs.Read.{read, max_depth}
 use Rattle.serde_json.specs.Written.{compact_text}
-
--- the name k comes before the name l
-abbrev pub is_before : List ℕ → List ℕ → Bool
-is_before k l = is_lt (slice_cmp nat_cmp k l)
+use Rattle.node_tree.specs.Labels.{is_before}
 
 -- the first member, if any, has a name after k
 abbrev pub starts_after : List ℕ → Members → Bool

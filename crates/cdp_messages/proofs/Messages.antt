@@ -34,7 +34,8 @@ use Rattle.cdp_messages.specs.declared.node_rules.Manner.TheVariants.{Pushed, De
 use Rattle.cdp_messages.specs.NodeData.{fits_tree, fits_described_tree}
 use Rattle.cdp_messages.specs.Asked.{json_of, request}
 use Rattle.cdp_messages.specs.Events.{is_object, news_in}
-use Rattle.cdp_messages.specs.Replies.{Message, reply, fault, event, reply_kind, error_kind, fault_kind, reply_from, fault_from, or_else, message_data, fits_message, message_in, body_data, fits_body, form_of_body, result_by, result_of_method, result_of, refusal_message}
+use Rattle.cdp_messages.specs.Replies.{Message, reply, fault, event, reply_kind, error_kind, fault_kind, reply_from, fault_from, message_data, fits_message, message_in, body_data, fits_body, form_of_body, result_by, result_of_method, result_of, refusal_message}
+use Rattle.node_tree.specs.Keys.{first_of}
 use Rattle.cdp_messages.specs.Methods.{method_named}
 use Rattle.cdp_messages.specs.Results.{nothing_kind, root_kind, node_kind, id_kind, ids_kind, are_attributes, attributes_kind, result_form, first_field, all_forms, is_form}
 use Rattle.cdp_messages.specs.NodeObject.{flat}
@@ -79,19 +80,19 @@ ids_lawful = object_lawful (and_need_lawful _ (list_lawful whole_lawful) ends_la
 pub message_again : (m : Message) → fits_message m ≡ true → message_in (message_data m) ≡ Some m
 message_again (reply id result) f =
     let d = message_data (reply id result) in
-    ap (λ o. or_else (option_map reply_from o) (or_else (option_map fault_from (fault_kind.reads d)) (option_map event (news_in d)))) (reply_lawful.again (id, (result, tt)) f)
+    ap (λ o. first_of (option_map reply_from o) (first_of (option_map fault_from (fault_kind.reads d)) (option_map event (news_in d)))) (reply_lawful.again (id, (result, tt)) f)
 message_again (fault id code said) f =
-    ap (λ o. or_else (option_map fault_from o) (option_map event (news_in (message_data (fault id code said))))) (fault_lawful.again ((code, (said, tt)), (id, tt)) f)
+    ap (λ o. first_of (option_map fault_from o) (option_map event (news_in (message_data (fault id code said))))) (fault_lawful.again ((code, (said, tt)), (id, tt)) f)
 message_again (event n) f = ap (option_map event) (news_again n f)
 
-or_else_some : {A : Type 0} (o p : Option A) (x : A) → or_else o p ≡ Some x → (o ≡ Some x) ⊎ (p ≡ Some x)
+or_else_some : {A : Type 0} (o p : Option A) (x : A) → first_of o p ≡ Some x → (o ≡ Some x) ⊎ (p ≡ Some x)
 or_else_some None p x e = inr e
 or_else_some (Some y) p x e = inl e
 
 abbrev IsSpelled : Data → Message → Type 0
 IsSpelled d m = (message_data m ≡ d) × (fits_message m ≡ true)
 
-other_spelled : (d : Data) (m : Message) → or_else (option_map fault_from (fault_kind.reads d)) (option_map event (news_in d)) ≡ Some m → IsSpelled d m
+other_spelled : (d : Data) (m : Message) → first_of (option_map fault_from (fault_kind.reads d)) (option_map event (news_in d)) ≡ Some m → IsSpelled d m
 other_spelled d m e = elim (or_else_some (option_map fault_from (fault_kind.reads d)) (option_map event (news_in d)) m e) as (λ _. IsSpelled d m) [
   | inl r ↦
       let p = map_some fault_from (fault_kind.reads d) m r in
@@ -103,7 +104,7 @@ other_spelled d m e = elim (or_else_some (option_map fault_from (fault_kind.read
 
 pub messages_are_spelled : MessagesAreSpelled
 messages_are_spelled d m e =
-    elim (or_else_some (option_map reply_from (reply_kind.reads d)) (or_else (option_map fault_from (fault_kind.reads d)) (option_map event (news_in d))) m e) as (λ _. IsSpelled d m) [
+    elim (or_else_some (option_map reply_from (reply_kind.reads d)) (first_of (option_map fault_from (fault_kind.reads d)) (option_map event (news_in d))) m e) as (λ _. IsSpelled d m) [
       | inl r ↦
           let p = map_some reply_from (reply_kind.reads d) m r in
           subst (IsSpelled d) p.2 (reply_lawful.takes d p.0 p.1)

@@ -4,7 +4,7 @@ use Rattle.serde_json.specs.View.{items_view}
 use Rattle.serde_json.specs.declared.value.Value.{Value}
 use Rattle.serde_json.specs.Data.{Data, Members}
 use Rattle.cdp_json.specs.Rows.{beside, first_at, after_first, need}
-use Rattle.cdp_messages.specs.Events.{is_no_items}
+use Rattle.css_objects.specs.Styles.{has_none}
 
 read_at : {A B : Type 0} (f : A → Option B) (x : A) (rest after : Members) (r : Option A) → Some (beside rest x) ≡ option_map (beside after) r
     → option_map (beside after) (option_and_then f r) ≡ option_map (beside rest) (f x)
@@ -23,6 +23,6 @@ pub need_through : {A B : Type 0} (reads : Data → Option A) (f : A → Option 
 need_through reads f name ms x rest e = sym (found_at reads f x rest (after_first ms) (first_at name ms) e)
 
 -- a list that is not empty
-pub some_items : (vs : List Value) → 1 ≤ length vs → false ≡ is_no_items (items_view vs)
+pub some_items : (vs : List Value) → 1 ≤ length vs → false ≡ has_none (items_view vs)
 some_items [] h = let no : ⊥ = omega (arith, h) in absurd no
 some_items (v ∷ vs) h = refl

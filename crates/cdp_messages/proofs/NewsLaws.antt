@@ -16,7 +16,8 @@ use Rattle.cdp_messages.specs.declared.down.PauseData.{PauseData}
 use Rattle.cdp_messages.specs.declared.down.PauseData.TheVariants as pause
 use Rattle.cdp_messages.specs.declared.event_names.EventName.{EventName}
 use Rattle.cdp_messages.specs.declared.event_names.EventName.TheVariants as name
-use Rattle.cdp_messages.specs.Events.{News, attribute_modified, attribute_removed, text_modified, count_updated, inserted, removed, set_children, document_updated, sheet_added, sheet_changed, sheet_removed, paused, event_name, all_events, event_named, is_unopened, node_id, attribute_name, modified_kind, dropped_kind, data_kind, count_kind, inserted_kind, removed_kind, children_kind, added_kind, sheet_id_kind, empty_kind, watch_name, all_watches, watch, pause_fields, pause_by, pause_from, pause_kind, is_no_items, empty_list, paused_kind, NewsForm, news_form_of, news_form, envelope, news_data, fits_news, news_by, news_of_name, news_inside, news_in}
+use Rattle.cdp_messages.specs.Events.{News, attribute_modified, attribute_removed, text_modified, count_updated, inserted, removed, set_children, document_updated, sheet_added, sheet_changed, sheet_removed, paused, event_name, all_events, event_named, is_unopened, node_id, attribute_name, modified_kind, dropped_kind, data_kind, count_kind, inserted_kind, removed_kind, children_kind, added_kind, sheet_id_kind, empty_kind, watch_name, all_watches, watch, pause_fields, pause_by, pause_from, pause_kind, paused_kind, NewsForm, news_form_of, news_form, envelope, news_data, fits_news, news_by, news_of_name, news_inside, news_in}
+use Rattle.css_objects.specs.Styles.{empty_list, has_none}
 use Rattle.cdp_messages.proofs.Options.{and_then_some, map_some}
 use Rattle.cdp_messages.proofs.NodeTrees.{nodes_lawful, tree_lawful}
 
@@ -90,12 +91,12 @@ pause_lawful =
     through_lawful pause_fields pause_from (λ f x e. pause_only f.1.1.1.0 f.0 f.1.1.0 f.1.0 x e) pause_back
     (object_lawful (and_may_lawful _ flag_lawful (and_need_lawful _ node_id_lawful (and_may_lawful _ node_id_lawful (and_need_lawful _ watch_lawful ends_lawful refl) refl) refl) refl))
 
-no_items_only : (ds : Items) (x : ⊤) → unit_if (is_no_items ds) ≡ Some x → no_items ≡ ds
+no_items_only : (ds : Items) (x : ⊤) → unit_if (has_none ds) ≡ Some x → no_items ≡ ds
 no_items_only no_items x e = refl
 no_items_only (item d ds) x e = absurd cc
 
 empty_list_lawful : LawfulKind empty_list
-empty_list_lawful = through_lawful (λ _. no_items) (λ ds. unit_if (is_no_items ds)) no_items_only (λ x. refl) any_items_lawful
+empty_list_lawful = through_lawful (λ _. no_items) (λ ds. unit_if (has_none ds)) no_items_only (λ x. refl) any_items_lawful
 
 paused_lawful : LawfulKind paused_kind
 paused_lawful = object_lawful (and_need_lawful _ empty_list_lawful (and_need_lawful _ pause_lawful (and_need_lawful _ (only_text_lawful _) ends_lawful refl) refl) refl)

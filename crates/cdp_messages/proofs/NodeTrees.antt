@@ -7,14 +7,14 @@ use Rattle.cdp_json.specs.Plain.{is_plain, items_are_plain}
 use Rattle.cdp_json.specs.Kinds.{passes, holds_of_some, is_counted, any_items}
 use Rattle.cdp_json.specs.Lawful.{LawfulKind}
 use Rattle.cdp_json.specs.Rows.{members_of}
-use Rattle.node_tree.specs.Nodes.{Nodes, none, node, Branch, width}
+use Rattle.node_tree.specs.Nodes.{Nodes, none, node, Branch, width, is_no_node}
 use Rattle.node_tree.specs.Seen.{is_opened}
 use Rattle.node_tree.specs.Labels.{holds}
 use Rattle.cdp_messages.specs.declared.node_rules.Manner.{Manner}
 use Rattle.cdp_messages.specs.declared.node_rules.Manner.TheVariants.{Pushed, Described}
 use Rattle.cdp_messages.specs.Told.{Told, hold_of}
 use Rattle.cdp_messages.specs.NodeObject.{NodeObject, Fields, attribute_list, node_type, agrees, node_row, fields_of, node_fields, node_data, object_for, told_in, children_in, only_if, row_fits, fits_told, is_counted_row, tells, node_object}
-use Rattle.cdp_messages.specs.NodeData.{tree_items, tree_data, is_none, fits_below, nodes_fit, fits_nodes, tree_fits, fits_tree, over, before, tree_of, children_of, trees_in, trees_of}
+use Rattle.cdp_messages.specs.NodeData.{tree_items, tree_data, fits_below, nodes_fit, fits_nodes, tree_fits, fits_tree, over, before, tree_of, children_of, trees_in, trees_of}
 use Rattle.cdp_messages.specs.Events.{nodes_kind, tree_kind}
 use Rattle.cdp_messages.specs.Results.{document_kind, described_kind}
 use Rattle.cdp_messages.proofs.Options.{both, both_parts}
@@ -49,7 +49,7 @@ items_len-tree_items none = refl
 items_len-tree_items (node r c t) = ap suc (items_len-tree_items t)
 
 -- the children that a row shows
-shown_again : (m : Manner) (opened : Bool) (c : Nodes Told) → cond opened true (is_none c) ≡ true → trees_of m (tree_items c) ≡ Some c → trees_of_some m (only_if opened (tree_items c)) ≡ Some c
+shown_again : (m : Manner) (opened : Bool) (c : Nodes Told) → cond opened true (is_no_node c) ≡ true → trees_of m (tree_items c) ≡ Some c → trees_of_some m (only_if opened (tree_items c)) ≡ Some c
 shown_again m true c b e = e
 shown_again m false none b e = refl
 shown_again m false (node r c t) b e = absurd cc
@@ -166,11 +166,11 @@ counted_told x f =
     let p9 = both_parts (holds_of_some is_counted x.parent) _ p8.1 in
     both (both (both p5.0 p1.0) (counted_or_zero x.count p2.0)) (counted_or_zero x.parent p9.0)
 
-no_items_none : (n : Nodes Told) → tree_items n ≡ no_items → is_none n ≡ true
+no_items_none : (n : Nodes Told) → tree_items n ≡ no_items → is_no_node n ≡ true
 no_items_none none e = refl
 no_items_none (node r c t) e = absurd cc
 
-hidden_below : (o : Option Items) (container : Bool) (count : ℕ) (n : Nodes Told) → o ≡ None → is_none n ≡ true → cond (is_opened (hold_of (is_some o) container count)) true (is_none n) ≡ true
+hidden_below : (o : Option Items) (container : Bool) (count : ℕ) (n : Nodes Told) → o ≡ None → is_no_node n ≡ true → cond (is_opened (hold_of (is_some o) container count)) true (is_no_node n) ≡ true
 hidden_below None true count n is e = e
 hidden_below None false count n is e = e
 hidden_below (Some ds) container count n is e = absurd cc

@@ -3,11 +3,11 @@ use Rattle.std.proofs.Common.{◌≡◌, ℕ, suc, ◌==◌, ◌<◌, Bool, true
 use Rattle.std.proofs.lemmas.Bool.{ne_eqb, eqb-false}
 use Rattle.cdp_json.specs.Kinds.{is_counted}
 use Rattle.node_tree.specs.Labels.{is_document, holds, is_formed_label, is_named_label}
-use Rattle.node_tree.specs.Nodes.{Nodes, none, node, width}
+use Rattle.node_tree.specs.Nodes.{Nodes, none, node, width, is_no_node}
 use Rattle.node_tree.specs.Seen.{Hold, leaf, counted, opened, Seen, is_opened}
 use Rattle.cdp_messages.specs.Told.{count_in, told_nodes}
 use Rattle.cdp_messages.specs.NodeObject.{same, fits_hold, fits_row}
-use Rattle.cdp_messages.specs.NodeData.{is_none, fits_nodes}
+use Rattle.cdp_messages.specs.NodeData.{fits_nodes}
 use Rattle.cdp_messages.specs.Tellable.{suits_hold, suits_row, suits_below, suits_nodes}
 use Rattle.cdp_messages.specs.Laws.{ShownTreesFit, ShownChildrenFit}
 use Rattle.cdp_messages.proofs.Options.{both, both_parts}
@@ -27,7 +27,7 @@ told_hold leaf container c w e s = both s refl
 told_hold (counted n) container c w e s = both s (equal_itself n)
 told_hold opened container c w e s = both s (ap (λ x. width c == x) (sym e) ∙ equal_itself (width c))
 
-told_below : (h : Hold) (p : ℕ) (c : Nodes Seen) → cond (is_opened h) true (is_none c) ≡ true → cond (is_opened h) true (is_none (told_nodes p c)) ≡ true
+told_below : (h : Hold) (p : ℕ) (c : Nodes Seen) → cond (is_opened h) true (is_no_node c) ≡ true → cond (is_opened h) true (is_no_node (told_nodes p c)) ≡ true
 told_below leaf p none e = refl
 told_below leaf p (node r c t) e = absurd cc
 told_below (counted n) p none e = refl

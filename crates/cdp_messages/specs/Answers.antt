@@ -28,6 +28,3 @@ Gives f (Ok t) r = r ≡ Some (f t)
 Gives f (Err NotMessage) r = r ≡ None
 Gives f (Err Memory) r = ⊤
 
--- a text as it is sent: with one zero byte after it
-abbrev pub ended : List ℕ → List ℕ
-ended text = text ++ 0 ∷ []

@@ -22,6 +22,7 @@ use Rattle.cdp_messages.specs.declared.event_names.EventName.TheVariants as name
 use Rattle.cdp_messages.specs.declared.node_rules.Manner.TheVariants.{Pushed}
 use Rattle.cdp_messages.specs.Told.{Told}
 use Rattle.cdp_messages.specs.NodeData.{tree_data, tree_of, tree_items, trees_in, fits_tree, fits_nodes}
+use Rattle.css_objects.specs.Styles.{empty_list}
 
 -- what an event tells
 pub data News : Type 0 where
@@ -213,15 +214,6 @@ abbrev pub pause_kind : Kind PauseData
 pause_kind =
     through (object_of (and_may (codes "insertion") flag (and_need (codes "nodeId") node_id (and_may (codes "targetNodeId") node_id (and_need (codes "type") watch ends)))))
     pause_fields pause_from
-
--- the list has no items
-abbrev pub is_no_items : Items → Bool
-is_no_items no_items = true
-is_no_items (item d ds) = false
-
--- the empty list
-abbrev pub empty_list : Kind ⊤
-empty_list = through any_items (λ _. no_items) (λ ds. unit_if (is_no_items ds))
 
 -- of `Debugger.paused`
 abbrev pub paused_kind : Kind (⊤ × (PauseData × (⊤ × ⊤)))

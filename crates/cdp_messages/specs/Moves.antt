@@ -4,7 +4,7 @@ use Rattle.std.specs.List.{flat_map}
 use Rattle.std.specs.Option.{option_to_list}
 use Rattle.cdp_json.specs.Kinds.{is_counted, holds_of_some}
 use Rattle.serde_json.specs.Written.{compact_text}
-use Rattle.node_tree.specs.Nodes.{Nodes, none, node, Branch, alone}
+use Rattle.node_tree.specs.Nodes.{Nodes, none, node, Branch, alone, is_no_node}
 use Rattle.node_tree.specs.Keys.{At, has}
 use Rattle.node_tree.specs.Labels.{Label, is_element, has_value}
 use Rattle.node_tree.specs.Names.{is_attribute_name}
@@ -16,8 +16,7 @@ use Rattle.cdp_messages.specs.declared.down.ReplyBody.TheVariants.{Nothing, Root
 use Rattle.cdp_messages.specs.declared.down.PauseData.{PauseData}
 use Rattle.cdp_messages.specs.declared.down.PauseData.TheVariants as pause
 use Rattle.cdp_messages.specs.Events.{News, attribute_modified, attribute_removed, text_modified, count_updated, inserted, removed, set_children, document_updated, paused, sheet_added, sheet_changed, sheet_removed}
-use Rattle.cdp_messages.specs.Answers.{ended}
-use Rattle.cdp_messages.specs.NodeData.{is_none}
+use Rattle.pipe_frames.specs.Frames.{framed}
 use Rattle.cdp_messages.specs.Tellable.{suits_tree}
 use Rattle.cdp_messages.specs.Told.{told_nodes, told_branch}
 use Rattle.cdp_messages.specs.Replies.{Message, reply, event, message_data, refusal_message, body_data, fits_body}
@@ -146,7 +145,7 @@ move_text m = compact_text (message_data (message_of m))
 
 -- the frames of moves, one after the other
 abbrev pub frames_of_moves : List Move → List ℕ
-frames_of_moves ms = flat_map (λ m. ended (move_text m)) ms
+frames_of_moves ms = flat_map (λ m. framed (move_text m)) ms
 
 -- ---- which views messages can tell
 
@@ -158,7 +157,7 @@ SeenHaveUtf8 (node r c t) = LabelHasUtf8 r.label × SeenHaveUtf8 c × SeenHaveUt
 -- it is empty, or one tree whose root is a document, and all of it suits a message
 abbrev pub suits_view : Nodes Seen → Bool
 suits_view none = true
-suits_view (node r c t) = suits_tree true (record { row = r; children = c }) && is_none t
+suits_view (node r c t) = suits_tree true (record { row = r; children = c }) && is_no_node t
 
 -- a tree all of which messages can tell: its rows have the forms of a message, and their texts are UTF-8
 pub record IsTellable (v : Nodes Seen) : Type 0 where

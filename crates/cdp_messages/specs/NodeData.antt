@@ -1,7 +1,7 @@
 -- A tree of nodes as JSON, and read from it.
 use Rattle.std.specs.Prelude.{codes, Bool, true, false, ◌&&◌, cond, Option, Some, None, option_map, bytes_eq}
 use Rattle.serde_json.specs.Data.{Data, null, boolean, number, string, array, object, Items, no_items, item, Members, no_members, member}
-use Rattle.node_tree.specs.Nodes.{Nodes, none, node, Branch, width}
+use Rattle.node_tree.specs.Nodes.{Nodes, none, node, Branch, width, is_no_node}
 use Rattle.node_tree.specs.Seen.{is_opened}
 use Rattle.cdp_messages.specs.declared.node_rules.Manner.{Manner}
 use Rattle.cdp_messages.specs.declared.node_rules.Manner.TheVariants.{Pushed, Described}
@@ -21,14 +21,9 @@ tree_data b = node_data b.row (tree_items b.children)
 
 -- ---- which trees are written: each row fits, and what is not opened has no children here
 
--- there is no node
-abbrev pub is_none : {R : Type 0} → Nodes R → Bool
-is_none none = true
-is_none (node r c t) = false
-
 -- these children may stand under the row
 abbrev pub fits_below : Told → Nodes Told → Bool
-fits_below r c = cond (is_opened r.seen.hold) true (is_none c)
+fits_below r c = cond (is_opened r.seen.hold) true (is_no_node c)
 
 -- nodes below the top, told in this manner, each in its place
 abbrev pub nodes_fit : Manner → Nodes Told → Bool

@@ -22,6 +22,7 @@ use Rattle.cdp_messages.specs.Refusals.{code_of, text_of}
 use Rattle.cdp_messages.specs.Asked.{json_of}
 use Rattle.cdp_messages.specs.Events.{is_object, News, news_of, news_data, fits_news, news_in}
 use Rattle.cdp_messages.specs.Results.{nothing_kind, root_kind, node_kind, id_kind, ids_kind, are_attributes, attributes_kind, result_form}
+use Rattle.node_tree.specs.Keys.{first_of}
 
 -- ---- messages
 
@@ -85,14 +86,9 @@ reply_from p = reply p.0 p.1.0
 abbrev pub fault_from : (ℤ × (List ℕ × ⊤)) × (Option ℕ × ⊤) → Message
 fault_from p = fault p.1.0 p.0.0 p.0.1.0
 
--- the one, and else the other
-abbrev pub or_else : {A : Type 0} → Option A → Option A → Option A
-or_else None o = o
-or_else (Some x) o = Some x
-
 -- the message that a value spells
 abbrev pub message_in : Data → Option Message
-message_in d = or_else (option_map reply_from (reply_kind.reads d)) (or_else (option_map fault_from (fault_kind.reads d)) (option_map event (news_in d)))
+message_in d = first_of (option_map reply_from (reply_kind.reads d)) (first_of (option_map fault_from (fault_kind.reads d)) (option_map event (news_in d)))
 
 -- the message that these bytes are
 abbrev pub down_of : List ℕ → Option Message

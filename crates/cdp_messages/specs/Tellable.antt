@@ -2,11 +2,10 @@
 use Rattle.std.specs.Prelude.{ℕ, Bool, true, false, not, ◌&&◌, cond, nat_lt}
 use Rattle.cdp_json.specs.Kinds.{is_counted}
 use Rattle.node_tree.specs.Labels.{is_document, holds, is_formed_label, is_named_label}
-use Rattle.node_tree.specs.Nodes.{Nodes, none, node, Branch}
+use Rattle.node_tree.specs.Nodes.{Nodes, none, node, Branch, is_no_node}
 use Rattle.node_tree.specs.Seen.{Hold, leaf, counted, opened, Seen, is_opened}
 use Rattle.cdp_messages.specs.Told.{count_in}
 use Rattle.cdp_messages.specs.NodeObject.{same}
-use Rattle.cdp_messages.specs.NodeData.{is_none}
 
 -- containers alone have children
 abbrev pub suits_hold : Hold → Bool → Bool
@@ -22,7 +21,7 @@ suits_row top r count =
 
 -- what is not opened shows no children
 abbrev pub suits_below : Seen → Nodes Seen → Bool
-suits_below r c = cond (is_opened r.hold) true (is_none c)
+suits_below r c = cond (is_opened r.hold) true (is_no_node c)
 
 -- shown nodes that are no document, each in its place
 abbrev pub suits_nodes : Nodes Seen → Bool

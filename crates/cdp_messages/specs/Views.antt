@@ -5,7 +5,7 @@ use Rattle.std.specs.Str.{IsUtf8}
 use Rattle.css_objects.specs.declared.sheets.Header.{Header}
 use Rattle.css_objects.specs.declared.sheets.SheetOrigin.{SheetOrigin}
 use Rattle.css_objects.specs.Sheets.{is_sheet}
-use Rattle.node_tree.specs.Nodes.{Nodes, none, node, height}
+use Rattle.node_tree.specs.Nodes.{Nodes, none, node, height, is_no_node}
 use Rattle.node_tree.specs.Labels.{is_document, is_formed_label, is_named_label}
 use Rattle.node_tree.specs.Keys.{tally}
 use Rattle.node_tree.specs.Seen.{Seen, is_opened, seen_id, seen_serial}
@@ -14,15 +14,10 @@ use Rattle.node_tree.specs.Seen.{Seen, is_opened, seen_id, seen_serial}
 abbrev pub most_levels : ℕ
 most_levels = 61
 
--- no tree stands here
-abbrev pub is_empty : {R : Type 0} → Nodes R → Bool
-is_empty none = true
-is_empty (node r c t) = false
-
 -- children stand below opened nodes alone
 abbrev pub is_bare : Nodes Seen → Bool
 is_bare none = true
-is_bare (node r c t) = (is_opened r.hold || is_empty c) && is_bare c && is_bare t
+is_bare (node r c t) = (is_opened r.hold || is_no_node c) && is_bare c && is_bare t
 
 -- Ids and serials are distinct, no id is 0, no node stands above the level limit, and children stand below opened nodes
 -- alone. The empty view is one.
@@ -41,7 +36,7 @@ has_formed_labels (node r c t) = is_formed_label r.label && is_named_label r.lab
 -- it is empty, or one tree whose root is a document
 abbrev pub is_document_tree : Nodes Seen → Bool
 is_document_tree none = true
-is_document_tree (node r c t) = is_document r.label.kind && is_empty t
+is_document_tree (node r c t) = is_document r.label.kind && is_no_node t
 
 -- what every mirror is, whatever bytes it came from
 pub record IsMirror (v : Nodes Seen) : Type 0 where

@@ -8,7 +8,8 @@ ghost use Rattle.cdp_json.specs.Rows.{beside, need, may};
 ghost use Rattle.css_objects.specs.Sheets.{header_kind, sheet_kind};
 ghost use Rattle.cdp_messages.specs.Answers.{Gives};
 ghost use Rattle.cdp_messages.specs.declared.event_names.EventName.TheVariants as event_name;
-ghost use Rattle.cdp_messages.specs.Events.{news_of, node_id, attribute_name, bare_kind, watch, pause_by, pause_kind, is_no_items, empty_list, sheet_id_kind, envelope, envelope_seen, children_fields, children_seen, inserted_fields, inserted_seen, news_by, news_from, news_in};
+ghost use Rattle.cdp_messages.specs.Events.{news_of, node_id, attribute_name, bare_kind, watch, pause_by, pause_kind, sheet_id_kind, envelope, envelope_seen, children_fields, children_seen, inserted_fields, inserted_seen, news_by, news_from, news_in};
+ghost use Rattle.css_objects.specs.Styles.{empty_list, has_none};
 
 use crate::command::WatchWord;
 use crate::down::{DownErr, Event, PauseData};
@@ -346,7 +347,7 @@ fn pause_field(fields: &mut Cursor<'_>) -> Option<PauseData>
 }
 
 fn has_none(items: &[Value]) -> bool
-    ensures { result ≡ is_no_items (items_view items.now) }
+    ensures { result ≡ has_none (items_view items.now) }
 {
     match items {
         [] => true,

@@ -5,7 +5,7 @@ ghost use Rattle.serde_json.specs.View.{view};
 ghost use Rattle.serde_json.specs.Written.{compact_text};
 ghost use Rattle.cdp_json.specs.Kinds.{text};
 ghost use Rattle.node_tree.specs.Nodes.{nodes_of};
-ghost use Rattle.cdp_messages.specs.Answers.{ended};
+ghost use Rattle.pipe_frames.specs.Frames.{framed};
 ghost use Rattle.cdp_messages.specs.Events.{news_of, set_children, inserted, watch as watched, event_name, envelope, modified_kind, dropped_kind, data_kind, count_kind, inserted_kind, removed_kind, children_kind, added_kind, sheet_id_kind, pause_kind, paused_kind, news_data};
 ghost use Rattle.cdp_messages.specs.Replies.{event_text};
 ghost use Rattle.cdp_messages.specs.Tokens.{data_tokens, field_tokens};
@@ -213,7 +213,7 @@ fn append_children(
     out: &mut Vec<u8>,
 ) -> Result<(), AllocError>
     ensures ok { OnOk result (out.new.items ≡ out.old.items
-        ++ ended (event_text (set_children parent (nodes_of nodes.now.items)))) }
+        ++ framed (event_text (set_children parent (nodes_of nodes.now.items)))) }
     ensures utf8 { OnOk result (IsUtf8 (event_text (set_children parent (nodes_of nodes.now.items)))) }
     ensures err { OnErr result (out.new.items ≡ out.old.items) }
 {
@@ -268,7 +268,7 @@ fn append_inserted(
     out: &mut Vec<u8>,
 ) -> Result<(), AllocError>
     ensures ok { OnOk result (out.new.items ≡ out.old.items
-        ++ ended (event_text (inserted parent previous node.now))) }
+        ++ framed (event_text (inserted parent previous node.now))) }
     ensures utf8 { OnOk result (IsUtf8 (event_text (inserted parent previous node.now))) }
     ensures err { OnErr result (out.new.items ≡ out.old.items) }
 {
@@ -366,7 +366,7 @@ fn event_form(alloc: Global, event: &Event) -> Result<EventForm<'_>, AllocError>
 
 /// Appends an event as one frame, with its zero byte.
 pub fn write_event(alloc: Global, event: &Event, out: &mut Vec<u8>) -> Result<(), AllocError>
-    ensures ok { OnOk result (out.new.items ≡ out.old.items ++ ended (event_text (news_of event.now))) }
+    ensures ok { OnOk result (out.new.items ≡ out.old.items ++ framed (event_text (news_of event.now))) }
     ensures utf8 { OnOk result (IsUtf8 (event_text (news_of event.now))) }
     ensures err { OnErr result (out.new.items ≡ out.old.items) }
 {

@@ -6,7 +6,8 @@ ghost use Rattle.cdp_json.specs.Left.{left};
 ghost use Rattle.cdp_json.specs.Rows.{beside, need};
 ghost use Rattle.cdp_messages.specs.Answers.{Gives};
 ghost use Rattle.cdp_messages.specs.Events.{news_in};
-ghost use Rattle.cdp_messages.specs.Replies.{message_of, event, reply_kind, error_kind, error_seen, fault_kind, fault_from, or_else, message_in, down_of};
+ghost use Rattle.cdp_messages.specs.Replies.{message_of, event, reply_kind, error_kind, error_seen, fault_kind, fault_from, message_in, down_of};
+ghost use Rattle.node_tree.specs.Keys.{first_of};
 
 use crate::down::{Down, DownErr};
 use crate::event_read::event_of;
@@ -81,7 +82,7 @@ fn fault_of(alloc: Global, value: &Value) -> Result<Down, DownErr>
 
 // A message that is no reply.
 fn fault_or_event(alloc: Global, value: &Value) -> Result<Down, DownErr>
-    ensures { Gives message_of result (or_else (option_map fault_from (fault_kind.reads (view value.now)))
+    ensures { Gives message_of result (first_of (option_map fault_from (fault_kind.reads (view value.now)))
         (option_map event (news_in (view value.now)))) }
 {
     match fault_of(alloc, value) {

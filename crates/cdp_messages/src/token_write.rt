@@ -2,7 +2,7 @@
 ghost use Rattle.std.specs.Prelude.{◌≡◌, ◌++◌, [], length, Some, IsOk, IsUtf8, OnOk, OnErr};
 ghost use Rattle.json.specs.Print.{print};
 ghost use Rattle.cdp_json.specs.Kinds.{whole, text};
-ghost use Rattle.cdp_messages.specs.Answers.{ended};
+ghost use Rattle.pipe_frames.specs.Frames.{framed};
 ghost use Rattle.cdp_messages.specs.Tokens.{field_tokens};
 
 use json::Writer;
@@ -47,7 +47,7 @@ pub(crate) fn end_frame(
 ) -> Result<(), AllocError>
     requires { start ≡ length writer.before }
     ensures whole { OnOk result (IsOk written) }
-    ensures ok { OnOk result (out.new.items ≡ writer.before ++ ended (print writer.tokens)) }
+    ensures ok { OnOk result (out.new.items ≡ writer.before ++ framed (print writer.tokens)) }
     ensures utf8 { OnOk result (IsUtf8 (print writer.tokens)) }
     ensures err { OnErr result (out.new.items ≡ writer.before) }
 {

@@ -5,7 +5,7 @@ ghost use Rattle.serde_json.specs.Written.{compact_text, has_float};
 ghost use Rattle.cdp_messages.specs.Refusals.{param_name, code_of, said_first, said_of_param, text_of};
 ghost use Rattle.cdp_messages.specs.Asked.{command_value, command_text, is_whole_where_there};
 ghost use Rattle.cdp_messages.specs.Replies.{error_kind, fault, message_data, refused_text};
-ghost use Rattle.cdp_messages.specs.Answers.{ended};
+ghost use Rattle.pipe_frames.specs.Frames.{framed};
 
 use crate::command::{Param, Refused, Why};
 use cdp_json::object;
@@ -15,7 +15,7 @@ use std::alloc::{AllocError, Global};
 // Appends the text of a value and a zero byte.
 pub(crate) fn append(alloc: Global, value: &Value, out: &mut Vec<u8>) -> Result<(), AllocError>
     requires { has_float (view value.now) ≡ false }
-    ensures ok { OnOk result (out.new.items ≡ out.old.items ++ ended (compact_text (view value.now))) }
+    ensures ok { OnOk result (out.new.items ≡ out.old.items ++ framed (compact_text (view value.now))) }
     ensures utf8 { OnOk result (IsUtf8 (compact_text (view value.now))) }
     ensures err { OnErr result (out.new.items ≡ out.old.items) }
 {
@@ -67,7 +67,7 @@ pub fn write_command(
 ) -> Result<(), AllocError>
     requires params { IsTrue (is_whole_where_there (option_map (λ p. view p.now) params)) }
     requires session { IsTrue (is_whole_where_there (option_map (λ s. view s.now) session)) }
-    ensures ok { OnOk result (out.new.items ≡ out.old.items ++ ended (command_text id method.now
+    ensures ok { OnOk result (out.new.items ≡ out.old.items ++ framed (command_text id method.now
         (option_map (λ p. view p.now) params.entry) (option_map (λ s. view s.now) session.entry))) }
     ensures err { OnErr result (out.new.items ≡ out.old.items) }
 {
@@ -247,7 +247,7 @@ fn fault_value(alloc: Global, id: Option<u64>, code: i64, text: String) -> Resul
 
 /// Appends a refusal as one frame, with its zero byte.
 pub fn write_refused(alloc: Global, refused: &Refused, out: &mut Vec<u8>) -> Result<(), AllocError>
-    ensures ok { OnOk result (out.new.items ≡ out.old.items ++ ended (refused_text refused.now)) }
+    ensures ok { OnOk result (out.new.items ≡ out.old.items ++ framed (refused_text refused.now)) }
     ensures utf8 { OnOk result (IsUtf8 (refused_text refused.now)) }
     ensures err { OnErr result (out.new.items ≡ out.old.items) }
 {

@@ -7,7 +7,7 @@ use Rattle.sheet_reader.specs.declared.book.SheetEntry.{SheetEntry}
 use Rattle.sheet_reader.specs.Books.{entry_of}
 use Rattle.style_edits.specs.declared.splice.Splice.{Splice}
 use Rattle.style_edits.specs.Splices.{after_splice, back_by, back_splice}
-use Rattle.cdp_messages.specs.Answers.{ended}
+use Rattle.pipe_frames.specs.Frames.{framed}
 use Rattle.cdp_messages.specs.Events.{sheet_changed}
 use Rattle.cdp_messages.specs.Moves.{Move, replied, move_text, frames_of_moves}
 use Rattle.cdp_messages.specs.Replies.{event}
@@ -51,7 +51,7 @@ edit_told x book d id front done =
     append_assoc front (message_frames (map changed_message d.backs)) own
     ∙ ap (λ (bs : List Splice). front ++ (message_frames (map changed_message bs) ++ own)) (css-leads x book d done).back
     ∙ ap (λ (xs : List ℕ). front ++ (xs ++ own)) (sym (splices-told ss book))
-    ∙ ap (λ (xs : List ℕ). front ++ xs) (sym (flat_map-append (λ (m : Move). ended (move_text m)) (splice_moves ss book) (replied id d.body ∷ [])))
+    ∙ ap (λ (xs : List ℕ). front ++ xs) (sym (flat_map-append (λ (m : Move). framed (move_text m)) (splice_moves ss book) (replied id d.body ∷ [])))
     ∙ sym (ap (λ (o : CssEdited). front ++ frames_of_moves (with_reply id (splice_moves ss book) o)) done)
 
 -- one more is made, of that at a place

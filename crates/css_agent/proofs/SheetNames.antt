@@ -11,7 +11,7 @@ use Rattle.css_tokens.specs.Pieces.{pieces, IsCutAt}
 use Rattle.selectors.specs.declared.words.Word.{Word}
 use Rattle.selectors.specs.Words.{reading, passed, word_of, words_by, words_after, is_mark}
 use Rattle.selectors.specs.Forms.{SelectorForm, ◌>>=◌}
-use Rattle.selectors.specs.Reading.{value_of, range_of, segments, put_first, selector_of, selectors_in, put_before, list_of}
+use Rattle.selectors.specs.Reading.{value_of, range_of, segments, put_first, selector_of, selectors_in, put_before, list_of, is_over}
 use Rattle.selectors.specs.Ranges.{AreTiles}
 use Rattle.selectors.proofs.Choices.{none_some, some_is, passed_test, failed_test, bind_some}
 use Rattle.selectors.proofs.RangeForms.{tiles_whole}
@@ -19,7 +19,7 @@ use Rattle.sheet_reader.specs.declared.sheet.Property.{Property}
 use Rattle.sheet_reader.specs.Forms.{range, RuleForm}
 use Rattle.sheet_reader.specs.Parts.{PartForm, passed as passed_part, at_rule, qualified, text_end, semicolon, block, part_pieces, parts}
 use Rattle.sheet_reader.specs.Declarations as body
-use Rattle.sheet_reader.specs.Declarations.{ItemForm, items_after, item_pieces, is_custom, is_no_word, is_important, plain_value, name_by, property, property_by, declared_by, declared_in, declaration_of, holds_bad, item_property, properties_in, declarations, style_of}
+use Rattle.sheet_reader.specs.Declarations.{ItemForm, items_after, item_pieces, is_custom, is_important, plain_value, name_by, property, property_by, declared_by, declared_in, declaration_of, holds_bad, item_property, properties_in, declarations, style_of}
 use Rattle.sheet_reader.specs.Sheets.{body_end, style_rule, rule_of, rules_in, sheet_of}
 use Rattle.sheet_reader.specs.Grammar.{AreParts, AreItems}
 use Rattle.sheet_reader.proofs.ItemForms.{items_spelled}
@@ -111,7 +111,7 @@ words-named text (name ∷ colon ∷ value) whole p utf8 cut e =
     let plain = plain_value important value in
     let own = name_by (value_of text name) in
     let a = passed_test (is_mark 58 colon.kind) (property_by own colon important plain whole) p e in
-    let b = failed_test (is_no_word plain && not (is_custom own)) (Some (property own colon important plain whole)) p a.1 in
+    let b = failed_test (is_over plain && not (is_custom own)) (Some (property own colon important plain whole)) p a.1 in
     let same = some_is {A = Property} (property own colon important plain whole) p b.1 in
     subst PropertyNamed same (name-utf8 (value_of text name) (value-utf8 text name utf8 cut.0))
 

@@ -10,7 +10,7 @@ use Rattle.sheet_reader.specs.declared.book.Origin.TheVariants.{UserAgent, Regul
 use Rattle.sheet_reader.specs.declared.book.SheetEntry.{SheetEntry}
 use Rattle.sheet_reader.specs.Positions.{units_at}
 use Rattle.style_edits.specs.declared.splice.Splice.{Splice}
-use Rattle.cdp_messages.specs.Answers.{ended}
+use Rattle.pipe_frames.specs.Frames.{framed}
 use Rattle.cdp_messages.specs.Events.{News, sheet_added, sheet_changed}
 use Rattle.cdp_messages.specs.Replies.{Message, event, message_data}
 
@@ -45,7 +45,7 @@ event_messages on news = cond on (event news ∷ []) []
 
 -- the text of a message as one frame, with its zero byte
 abbrev pub message_frame : Message → List ℕ
-message_frame m = ended (compact_text (message_data m))
+message_frame m = framed (compact_text (message_data m))
 
 -- the frames of messages, one after the other
 abbrev pub message_frames : List Message → List ℕ

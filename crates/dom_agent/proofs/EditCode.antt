@@ -23,7 +23,7 @@ use Rattle.page_tree.proofs.EditLemmas.{serial-live, whole-after, valid-after}
 use Rattle.page_tree.proofs.BackLemmas.{turned-live}
 use Rattle.node_binding.proofs.StartLemmas.{distinct-alone}
 use Rattle.node_binding.specs.Bindings.{Bound, opened_in, id_in, with_bound}
-use Rattle.cdp_messages.specs.Answers.{ended}
+use Rattle.pipe_frames.specs.Frames.{framed}
 use Rattle.cdp_messages.specs.Events.{News, inserted}
 use Rattle.cdp_messages.specs.Told.{Told, told_branch, hold_of}
 use Rattle.cdp_messages.specs.Moves.{inserts, removes, counts, Move, change, change_news, move_text, frames_of_moves}
@@ -61,7 +61,7 @@ module _ (ids : ℕ → ℕ) (n : Nodes Row) (k : ℕ) (x : Branch Row) (serial 
   prior_turn other = sym (ap (λ b. cond {A = ℕ} b p (id_before ids (ids x.row.serial) serial (from (k + 1) n))) other) ∙ here
 
 pub prior_end : (ids : ℕ → ℕ) (left : Nodes Row) (serial p q : ℕ) → left ≡ none → id_before ids p serial left ≡ q → p ≡ q
-prior_end ids left serial p q ended was = sym (ap (id_before ids p serial) ended) ∙ was
+prior_end ids left serial p q framed was = sym (ap (id_before ids p serial) framed) ∙ was
 
 -- ---- a node as an event tells it that has come
 
@@ -139,12 +139,12 @@ module _ (n : Nodes Row) (b : Bound) (parent : ℕ) (x : Branch Row) (kids : Nod
   came_open is = ap (λ v. cond v (record { state = with_bound x.row.serial b; moves = insertion of_binding parent x kids (with_bound x.row.serial b) ∷ [] }) (record { state = b; moves = told_count of_binding parent kids b })) is
 
 pub inserted_sent : (n : Nodes Row) (b b2 : Bound) (parent serial : ℕ) (x y : Branch Row) (kids kids2 : Nodes Row) (text out out2 : List ℕ) → y ≡ x → kids2 ≡ kids → serial ≡ y.row.serial → b2 ≡ with_bound serial b → opened_in b parent ≡ true
-    → text ≡ move_text (insertion (binding_keeper n) parent y kids2 b2) → out2 ≡ out ++ (ended text ++ []) → out2 ≡ out ++ frames_of_moves (child_came (binding_keeper n) parent x kids b).moves
+    → text ≡ move_text (insertion (binding_keeper n) parent y kids2 b2) → out2 ≡ out ++ (framed text ++ []) → out2 ≡ out ++ frames_of_moves (child_came (binding_keeper n) parent x kids b).moves
 inserted_sent n b b2 parent serial x y kids kids2 text out out2 node_is kids_are serial_is bound is told sent =
     let after_is : b2 ≡ with_bound x.row.serial b = bound ∙ ap (λ (s : ℕ). with_bound s b) serial_is ∙ ap (λ (t : Branch Row). with_bound t.row.serial b) node_is in
     let moves : ◌≡◌ {A = List Move} (insertion (binding_keeper n) parent y kids2 b2 ∷ []) (child_came (binding_keeper n) parent x kids b).moves =
     (λ k. insertion (binding_keeper n) parent (node_is k) (kids_are k) (after_is k) ∷ []) ∙ sym (ap (λ (d : Edited Bound). d.moves) (came_open n b parent x kids is)) in
-    sent ∙ ap (λ t. out ++ (ended t ++ [])) told ∙ ap (λ ms. out ++ frames_of_moves ms) moves
+    sent ∙ ap (λ t. out ++ (framed t ++ [])) told ∙ ap (λ ms. out ++ frames_of_moves ms) moves
 
 module _ (page : State) (valid : IsValid page) (parent before : ℕ) (x : Branch Row) (fits : first_fault (Attach parent before x) page.tree ≡ None) (ready : CanAttach page.next x page.tree)
     (page2 : State) (after_is : page2 ≡ after (Attach parent before x) page) where

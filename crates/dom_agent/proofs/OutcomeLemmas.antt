@@ -2,11 +2,11 @@
 use Rattle.std.proofs.Common.{◌≡◌, ℕ, zero, suc, ℤ, pos, negsuc, ◌+◌, ◌<◌, ◌≤◌, ◌^◌, ◌==◌, Bool, true, false, ◌&&◌, ◌||◌, cond, List, length, length-append, Option, Some, None, unwrap_or, Result, Ok, Err, refl, sym, ap, subst, ◌∙◌, arith, lt-ltb}
 use Rattle.std.proofs.lemmas.Bool.{and_parts, and_from}
 use Rattle.std.specs.Prelude.{⊤}
-use Rattle.node_tree.specs.Nodes.{Nodes, none, node, Branch, alone, node_count, map_rows}
+use Rattle.node_tree.specs.Nodes.{Nodes, none, node, Branch, alone, node_count, map_rows, is_no_node}
 use Rattle.node_tree.specs.Keys.{has, find}
 use Rattle.node_tree.specs.Labels.{is_element, holds, is_formed_label}
 use Rattle.node_tree.proofs.KeyLemmas.{found_key}
-use Rattle.page_tree.specs.Forms.{is_bare, may_stand, are_formed}
+use Rattle.page_tree.specs.Forms.{may_stand, are_formed}
 use Rattle.page_tree.specs.Pages.{Row, State, IsValid, row_serial, row_label}
 use Rattle.node_binding.specs.Counts.{times}
 use Rattle.node_binding.specs.Cuts.{known}
@@ -70,7 +70,7 @@ either_ask P document others (DescribeNode id serial depth pierce) = others (Des
 
 -- ---- pages
 
-holds_above : (h : Bool) (c : Nodes Row) → (h || is_bare (map_rows row_label c)) ≡ true → (s : ℕ) → has row_serial s c ≡ true → h ≡ true
+holds_above : (h : Bool) (c : Nodes Row) → (h || is_no_node (map_rows row_label c)) ≡ true → (s : ℕ) → has row_serial s c ≡ true → h ≡ true
 holds_above true c e s there = refl
 holds_above false none e s there = cc
 holds_above false (node r c t) e s there = cc
@@ -78,9 +78,9 @@ holds_above false (node r c t) e s there = cc
 containers-formed : (top : Bool) (n : Nodes Row) → are_formed top (map_rows row_label n) ≡ true → AreContainers n
 containers-formed top none e = tt
 containers-formed top (node r c t) e =
-    let p4 = and_parts (is_formed_label r.label && may_stand top r.label.kind && (holds r.label.kind || is_bare (map_rows row_label c)) && are_formed false (map_rows row_label c)) (are_formed top (map_rows row_label t)) e in
-    let p3 = and_parts (is_formed_label r.label && may_stand top r.label.kind && (holds r.label.kind || is_bare (map_rows row_label c))) (are_formed false (map_rows row_label c)) p4.0 in
-    let p2 = and_parts (is_formed_label r.label && may_stand top r.label.kind) (holds r.label.kind || is_bare (map_rows row_label c)) p3.0 in
+    let p4 = and_parts (is_formed_label r.label && may_stand top r.label.kind && (holds r.label.kind || is_no_node (map_rows row_label c)) && are_formed false (map_rows row_label c)) (are_formed top (map_rows row_label t)) e in
+    let p3 = and_parts (is_formed_label r.label && may_stand top r.label.kind && (holds r.label.kind || is_no_node (map_rows row_label c))) (are_formed false (map_rows row_label c)) p4.0 in
+    let p2 = and_parts (is_formed_label r.label && may_stand top r.label.kind) (holds r.label.kind || is_no_node (map_rows row_label c)) p3.0 in
     (holds_above (holds r.label.kind) c p2.1, containers-formed false c p3.1, containers-formed top t p4.1)
 
 pub containers-page : (page : State) → IsValid page → AreContainers (alone page.tree)

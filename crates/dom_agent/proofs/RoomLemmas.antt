@@ -4,11 +4,11 @@ use Rattle.std.proofs.Math.Nat.{mul-le-mul_left}
 use Rattle.std.proofs.lemmas.List.Elements.{All-nil, All-cons, All-head, All-tail, All-append}
 use Rattle.std.proofs.lemmas.List.Sums.{sum_by-cons, sum_by-append}
 use Rattle.std.specs.List.{filter}
-use Rattle.node_tree.specs.Nodes.{Nodes, none, node, Branch, alone, node_count, map_rows}
+use Rattle.node_tree.specs.Nodes.{Nodes, none, node, Branch, alone, node_count, map_rows, is_no_node}
 use Rattle.node_tree.specs.Labels.{holds, is_formed_label}
 use Rattle.node_tree.specs.Keys.{has}
 use Rattle.node_tree.specs.declared.Kind.{Kind}
-use Rattle.page_tree.specs.Forms.{are_formed, is_bare, may_stand}
+use Rattle.page_tree.specs.Forms.{are_formed, may_stand}
 use Rattle.page_tree.specs.Pages.{Row, row_serial, row_label, State, IsValid}
 use Rattle.node_binding.specs.Openings.{less, is_spent}
 use Rattle.node_binding.proofs.StartLemmas.{count-alone, root_holds}
@@ -69,14 +69,14 @@ or_false : (b : Bool) → (b || false) ≡ true → b ≡ true
 or_false true h = refl
 or_false false h = h
 
-holds_above : (k : Kind) (s : ℕ) (c : Nodes Row) → (holds k || is_bare (map_rows row_label c)) ≡ true → has row_serial s c ≡ true → holds k ≡ true
+holds_above : (k : Kind) (s : ℕ) (c : Nodes Row) → (holds k || is_no_node (map_rows row_label c)) ≡ true → has row_serial s c ≡ true → holds k ≡ true
 holds_above k s none formed there = cc
 holds_above k s (node r c t) formed there = or_false (holds k) formed
 
 ancestors_containers : (top : Bool) (s : ℕ) (n : Nodes Row) → are_formed top (map_rows row_label n) ≡ true → All IsContainer (ancestors s n)
 ancestors_containers top s none formed = All-nil IsContainer
 ancestors_containers top s (node r c t) formed =
-    let parts = last_three (is_formed_label r.label) (may_stand top r.label.kind) (holds r.label.kind || is_bare (map_rows row_label c)) (are_formed false (map_rows row_label c)) (are_formed top (map_rows row_label t)) formed in
+    let parts = last_three (is_formed_label r.label) (may_stand top r.label.kind) (holds r.label.kind || is_no_node (map_rows row_label c)) (are_formed false (map_rows row_label c)) (are_formed top (map_rows row_label t)) formed in
     let x : Branch Row = record { row = r; children = c } in
     choice (has row_serial s c) x (ancestors s c) (ancestors s t) (holds_above r.label.kind s c parts.0) (ancestors_containers false s c parts.1) (ancestors_containers top s t parts.2)
   where

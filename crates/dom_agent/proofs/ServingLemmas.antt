@@ -6,7 +6,7 @@ use Rattle.node_tree.specs.Nodes.{Nodes, Branch, node_count}
 use Rattle.page_tree.specs.Pages.{Row}
 use Rattle.node_binding.specs.Bindings.{Bound, opened_down}
 use Rattle.node_binding.proofs.OpenDownLemmas.{opened_down-next}
-use Rattle.cdp_messages.specs.Answers.{ended}
+use Rattle.pipe_frames.specs.Frames.{framed}
 use Rattle.cdp_messages.specs.Moves.{move_text}
 use Rattle.dom_agent.specs.Keepers.{binding_keeper}
 use Rattle.dom_agent.specs.Requests.{Opening, Showing, told_of, all_opened, opening_move, frames_told}
@@ -28,7 +28,7 @@ opens_start os b out containers room = record { state = λ n d. refl; frames = �
 
 -- the frame of the first, and then those of the others
 pub frames-cons : (x : Showing) (xs : List Showing) → frames_told (x ∷ xs) ≡ frames_told (x ∷ []) ++ frames_told xs
-frames-cons x xs = ap (λ l. l ++ frames_told xs) (sym (append-nil (ended (move_text (opening_move x)))))
+frames-cons x xs = ap (λ l. l ++ frames_told xs) (sym (append-nil (framed (move_text (opening_move x)))))
 
 -- one opening more
 opened_next : (x : Opening) (xs : List Opening) (b b1 : Bound) (out out1 : List ℕ) (all : List Opening) (begin : Bound) (sent : List ℕ) → b1 ≡ opened_down x.levels x.node b → ((n : Nodes Row) (d : Branch Row) → out1 ≡ out ++ frames_told (told_of (binding_keeper n) d x.node b1 ∷ [])) → Opens (x ∷ xs) b out all begin sent → Opens xs b1 out1 all begin sent
@@ -61,4 +61,4 @@ module _ (os : List held.Opening) (i : ℕ) (x : held.Opening) (b : Bound) (out 
   opens_turn b1 out1 opened told = opened_next (opening_of x) (map opening_of (drop (i + 1) os)) b b1 out out1 all begin sent opened told parted
 
 pub opens_end : (os : List held.Opening) (i : ℕ) (b : Bound) (out : List ℕ) (all : List Opening) (begin : Bound) (sent : List ℕ) → drop i os ≡ [] → Opens (map opening_of (drop i os)) b out all begin sent → Opens [] b out all begin sent
-opens_end os i b out all begin sent ended was = subst (λ l. Opens (map opening_of l) b out all begin sent) ended was
+opens_end os i b out all begin sent framed was = subst (λ l. Opens (map opening_of l) b out all begin sent) framed was

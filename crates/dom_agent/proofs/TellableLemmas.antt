@@ -5,7 +5,7 @@ use Rattle.std.proofs.lemmas.Bool.{and_parts, and_from}
 use Rattle.node_tree.specs.declared.Kind.{Kind}
 use Rattle.node_tree.specs.declared.Kind.TheVariants.{Document, Element, Text, Comment, Doctype}
 use Rattle.node_tree.specs.Names.{is_element_name, is_attribute_name}
-use Rattle.node_tree.specs.Nodes.{Nodes, none, node, alone, width, height, node_count, map_rows}
+use Rattle.node_tree.specs.Nodes.{Nodes, none, node, alone, width, height, node_count, map_rows, is_no_node}
 use Rattle.node_tree.specs.Keys.{tally}
 use Rattle.node_tree.specs.Labels.{Pair, is_document, is_element, holds, has_name, is_empty as is_nothing, is_ascending, is_formed_label, is_named_label}
 use Rattle.node_tree.specs.Seen.{Hold, Seen, leaf, counted, opened, is_opened}
@@ -19,11 +19,10 @@ use Rattle.node_binding.proofs.Places.{times-is_in, first}
 use Rattle.node_binding.proofs.StartLemmas.{count-alone, distinct-alone}
 use Rattle.node_binding.proofs.OpeningLemmas.{self_times}
 use Rattle.node_binding.proofs.SessionLemmas.{times-known, known_below, view-ids, view-serials, view-above, height-view}
-use Rattle.cdp_messages.specs.NodeData.{is_none}
 use Rattle.cdp_messages.specs.NodeObject.{same}
 use Rattle.cdp_messages.specs.Told.{count_in}
 use Rattle.cdp_messages.specs.Tellable.{suits_hold, suits_row, suits_nodes}
-use Rattle.cdp_messages.specs.Views.{ShownSheet, IsView, is_empty, is_bare}
+use Rattle.cdp_messages.specs.Views.{ShownSheet, IsView, is_bare}
 use Rattle.cdp_messages.specs.Moves.{SeenHaveUtf8, suits_view, IsTellable}
 use Rattle.dom_agent.specs.Laws.{RowsHaveUtf8, CanTell, CanTellSheets}
 use Rattle.dom_agent.proofs.StepLemmas.{CanSay, ids-below}
@@ -47,7 +46,7 @@ count_small true true w kids e = omega arith
 count_small true false w kids e = omega arith
 count_small false o w kids e = omega arith
 
-below_suits : (container o : Bool) (w : ℕ) (kids : Nodes Seen) → cond (is_opened (hold_as container o w)) true (is_none (kids_as container o kids)) ≡ true
+below_suits : (container o : Bool) (w : ℕ) (kids : Nodes Seen) → cond (is_opened (hold_as container o w)) true (is_no_node (kids_as container o kids)) ≡ true
 below_suits true true w kids = refl
 below_suits true false w kids = refl
 below_suits false o w kids = refl
@@ -189,7 +188,7 @@ module _ (o : ℕ → Bool) (i : ℕ → ℕ) (small : (s : ℕ) → i s < 2 ^ 5
   cut_utf8 (node r c t) u = (u.0, shown_utf8 (opens o r) (cut o i c) (λ _. cut_utf8 c u.1), cut_utf8 t u.2)
 
 -- a cut shows children below opened nodes alone
-bare_below : (container o : Bool) (w : ℕ) (c : Nodes Seen) → is_bare c ≡ true → ((is_opened (hold_as container o w) || is_empty (kids_as container o c)) && is_bare (kids_as container o c)) ≡ true
+bare_below : (container o : Bool) (w : ℕ) (c : Nodes Seen) → is_bare c ≡ true → ((is_opened (hold_as container o w) || is_no_node (kids_as container o c)) && is_bare (kids_as container o c)) ≡ true
 bare_below true true w c e = e
 bare_below true false w c e = refl
 bare_below false o w c e = refl

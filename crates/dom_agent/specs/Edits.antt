@@ -12,7 +12,7 @@ use Rattle.page_tree.specs.declared.edits.TreeEdit.TheVariants.{SetAttr, DropAtt
 use Rattle.page_tree.specs.declared.edit_faults.EditErr.{EditErr}
 use Rattle.page_tree.specs.declared.edit_faults.EditErr.TheVariants.{Fault, Memory}
 use Rattle.cdp_messages.specs.declared.down.Event.{Event}
-use Rattle.cdp_messages.specs.Answers.{ended}
+use Rattle.pipe_frames.specs.Frames.{framed}
 use Rattle.cdp_messages.specs.Events.{news_of}
 use Rattle.cdp_messages.specs.Replies.{event_text}
 use Rattle.cdp_messages.specs.Moves.{Change, inserts, removes, counts, sets, drops, says, Move, change}
@@ -76,7 +76,7 @@ module _ {S : Type 0} (k : Keeper S) where
 
 -- an event as it is written, if there is one
 abbrev pub event_frames : Option Event → List ℕ
-event_frames e = flat_map (λ x. ended (event_text (news_of x))) (option_to_list e)
+event_frames e = flat_map (λ x. framed (event_text (news_of x))) (option_to_list e)
 
 -- a fact where a fault is answered
 abbrev pub OnFault : {T : Type 0} → Result T EditErr → Type 0 → Type 0

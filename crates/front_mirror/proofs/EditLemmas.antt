@@ -3,11 +3,11 @@ use Rattle.std.proofs.Common.{◌≡◌, ℕ, suc, ◌+◌, ◌-◌, ◌<◌, �
 use Rattle.std.specs.List.{list_all}
 use Rattle.node_tree.specs.declared.Kind.{Kind}
 use Rattle.node_tree.specs.declared.Kind.TheVariants as kind
-use Rattle.node_tree.specs.Nodes.{Nodes, none, node, Branch, alone, height}
+use Rattle.node_tree.specs.Nodes.{Nodes, none, node, Branch, alone, height, is_no_node}
 use Rattle.node_tree.specs.Names.{is_attribute_name}
 use Rattle.node_tree.specs.Labels.{Pair, Label, is_document, is_element, has_value, is_ascending, is_formed_label, is_named_label}
 use Rattle.cdp_messages.specs.LabelChanges.{placed, pairs_without, with_attribute, without_attribute, with_value}
-use Rattle.node_tree.specs.Keys.{Spot, tally, tally_in, find, spot, put, At, here, within, past}
+use Rattle.node_tree.specs.Keys.{Spot, tally, tally_in, find, spot, put, At, here, within, past, first_true}
 use Rattle.node_tree.specs.Seen.{Seen, Hold, leaf, counted, opened, is_opened, is_counted, seen_id, seen_serial}
 use Rattle.node_tree.proofs.KeyLemmas.{tally-at, height-at, height_above-at}
 use Rattle.node_tree.proofs.ChangeLemmas.{at-old}
@@ -15,12 +15,12 @@ use Rattle.node_tree.proofs.PairLemmas.{is_ascending-placed, names-placed, names
 use Rattle.cdp_messages.specs.Told.{seen_nodes}
 use Rattle.cdp_messages.specs.NodeData.{fits_nodes}
 use Rattle.cdp_messages.specs.Moves.{Change, shows, inserts, removes, counts, sets, drops, says, changed, suits_change, has_tree, put_after, without_tree, has_named_attribute}
-use Rattle.cdp_messages.specs.Views.{IsMirror, most_levels, is_empty, is_bare, has_formed_labels, is_document_tree}
+use Rattle.cdp_messages.specs.Views.{IsMirror, most_levels, is_bare, has_formed_labels, is_document_tree}
 use Rattle.front_mirror.specs.declared.faults.FrontKind.{FrontKind}
 use Rattle.front_mirror.specs.declared.edits.NodeEdit.{NodeEdit}
 use Rattle.front_mirror.specs.declared.edits.NodeEdit.TheVariants as edit
 use Rattle.front_mirror.specs.Shown.{known_at, no_node}
-use Rattle.front_mirror.specs.Front.{FrontValue, ToldChange, first_true, is_kin, is_unique, is_fresh, takes_change, knows_named, stands_low, change_fault, told, with_tree, at_spot}
+use Rattle.front_mirror.specs.Front.{FrontValue, ToldChange, is_kin, is_unique, is_fresh, takes_change, knows_named, stands_low, change_fault, told, with_tree, at_spot}
 use Rattle.front_mirror.specs.Edits.{edit_nodes, edit_change, edit_told, fits_edit, is_ready, spot_fault, with_changed}
 use Rattle.front_mirror.proofs.ToldLemmas.{height-seen}
 use Rattle.front_mirror.proofs.ViewLemmas.{clear_three, shows_nodes}
@@ -56,7 +56,7 @@ edit_kept v t wrong tree taken judged clear is one_more =
 
 -- the test of one node by its row and its children, for trees that are bare and for formed labels
 abbrev pub is_bare_node : Seen → Nodes Seen → Bool
-is_bare_node r c = is_opened r.hold || is_empty c
+is_bare_node r c = is_opened r.hold || is_no_node c
 
 abbrev pub has_formed_label : Seen → Nodes Seen → Bool
 has_formed_label r c = is_formed_label r.label && is_named_label r.label
@@ -127,13 +127,13 @@ counted_empty leaf e c h = cc
 counted_empty (counted n) e c h = h
 counted_empty opened e c h = cc
 
-pub empty_none : {R : Type 0} (n : Nodes R) → is_empty n ≡ true → n ≡ none
+pub empty_none : {R : Type 0} (n : Nodes R) → is_no_node n ≡ true → n ≡ none
 empty_none none e = refl
 empty_none (node r c t) e = cc
 
 -- a node whose children are only counted has none
 pub counted_none : (b : Branch Seen) → is_counted b.row.hold ≡ true → (is_bare_node b.row b.children && is_bare b.children) ≡ true → b.children ≡ none
-counted_none b c e = empty_none b.children (counted_empty b.row.hold (is_empty b.children) c (and_left (is_bare_node b.row b.children) (is_bare b.children) e))
+counted_none b c e = empty_none b.children (counted_empty b.row.hold (is_no_node b.children) c (and_left (is_bare_node b.row b.children) (is_bare b.children) e))
 
 or_here : (a b : Bool) → a ≡ true → (a || b) ≡ true
 or_here true b e = refl
@@ -222,7 +222,7 @@ module _ (b : Branch Seen) (sound : Sound b) where
     serials = same_tally seen_serial b (record b.row { hold = counted n }) refl;
     levels = omega arith;
     sound = record {
-      bare = both (ap is_empty (counted_none b s sound.bare)) below_bare;
+      bare = both (ap is_no_node (counted_none b s sound.bare)) below_bare;
       labels = sound.labels;
     };
     kind = refl;
@@ -255,7 +255,7 @@ label_same : (r : Seen) (old new : Branch Seen) (depth : ℕ) (c m : Nodes Seen)
 label_same r old new depth c m e = refl
 
 module _ {old new : Branch Seen} where
-  there-at : {depth : ℕ} {n m : Nodes Seen} → At old new depth n m → is_empty n ≡ false
+  there-at : {depth : ℕ} {n m : Nodes Seen} → At old new depth n m → is_no_node n ≡ false
   there-at (here t) = refl
   there-at (within depth r c m t e) = refl
   there-at (past depth r c t m e) = refl
@@ -264,7 +264,7 @@ module _ {old new : Branch Seen} where
   document-at (here t) d same = rw same d
   document-at (within depth r c m t e) d same = d
   document-at (past depth r c t m e) d same =
-      let gone : is_empty t ≡ true = and_right (is_document r.label.kind) (is_empty t) d in
+      let gone : is_no_node t ≡ true = and_right (is_document r.label.kind) (is_no_node t) d in
       let there = there-at e in
       absurd (cc)
 

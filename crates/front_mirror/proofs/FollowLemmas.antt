@@ -8,17 +8,17 @@ use Rattle.std.proofs.lemmas.Bool.{eq-eqb, eqb-true}
 use Rattle.std.proofs.lemmas.Str.{IsUtf8-from_ascii}
 use Rattle.std.proofs.lemmas.Bool.{leb-true}
 use Rattle.cdp_json.specs.Kinds.{is_counted}
-use Rattle.node_tree.specs.Nodes.{Nodes, none, node, Branch, alone, height}
+use Rattle.node_tree.specs.Nodes.{Nodes, none, node, Branch, alone, height, is_no_node}
 use Rattle.node_tree.specs.Names.{is_delimiter, is_upper_case, is_attribute_byte, is_attribute_name}
 use Rattle.node_tree.specs.Labels.{Pair, is_document, holds, is_formed_label, is_named_label}
-use Rattle.node_tree.specs.Keys.{tally, tally_in, find, spot, put, At, here, within, past}
+use Rattle.node_tree.specs.Keys.{tally, tally_in, find, spot, put, At, here, within, past, first_true}
 use Rattle.node_tree.specs.Seen.{Seen, Hold, opened, is_opened, seen_id, seen_serial}
 use Rattle.node_tree.proofs.KeyLemmas.{tally-at, height_above-at, spot-at, put-at, has-there, has-find, at-put, found_key}
 use Rattle.node_tree.proofs.ChangeLemmas.{at-back}
 use Rattle.cdp_messages.specs.LabelChanges.{placed}
 use Rattle.cdp_messages.specs.Told.{count_in, seen_nodes, seen_branch, told_nodes, told_branch, seen-told}
 use Rattle.cdp_messages.specs.NodeObject.{same}
-use Rattle.cdp_messages.specs.NodeData.{is_none, fits_tree}
+use Rattle.cdp_messages.specs.NodeData.{fits_tree}
 use Rattle.cdp_messages.specs.Events.{News, fits_news}
 use Rattle.cdp_messages.specs.Tellable.{suits_hold, suits_row, suits_below, suits_nodes, suits_tree}
 use Rattle.cdp_messages.specs.Laws.{PairsHaveUtf8, NodesHaveUtf8, NewsHaveUtf8, news_height}
@@ -27,7 +27,7 @@ use Rattle.cdp_messages.specs.Views.{IsView, most_levels, is_bare}
 use Rattle.cdp_messages.proofs.TellableLaws.{fits-told_nodes, shown_children_fit}
 use Rattle.front_mirror.specs.declared.faults.FrontKind.{FrontKind}
 use Rattle.front_mirror.specs.declared.faults.FrontKind.TheVariants.{UnknownNode, NotChild, IdTaken, TooDeep}
-use Rattle.front_mirror.specs.Front.{FrontValue, ToldChange, told_change, first_true, is_kin, is_unique, is_fresh, takes_change, knows_named, is_shown, stands_low, change_fault, told, with_tree, at_spot, with_change, with_news}
+use Rattle.front_mirror.specs.Front.{FrontValue, ToldChange, told_change, is_kin, is_unique, is_fresh, takes_change, knows_named, is_shown, stands_low, change_fault, told, with_tree, at_spot, with_change, with_news}
 use Rattle.front_mirror.proofs.ViewLemmas.{is_kin-told, height-told}
 use Rattle.front_mirror.proofs.ApartLemmas.{Once, new_once}
 use Rattle.front_mirror.proofs.EditLemmas.{added, bare-at, counted_none, is_bare_node}
@@ -226,17 +226,17 @@ suited_nodes-at (within depth r c m t e) s =
 suited_nodes-at (past depth r c t m e) s =
     suited_nodes-at e (and_right (suits_row false r (count_in r.hold c) && suits_below r c && suits_nodes c) (suits_nodes t) s)
 
-none-at : {old new : Branch Seen} {depth : ℕ} {n m : Nodes Seen} → At old new depth n m → is_none n ≡ false
+none-at : {old new : Branch Seen} {depth : ℕ} {n m : Nodes Seen} → At old new depth n m → is_no_node n ≡ false
 none-at (here t) = refl
 none-at (within depth r c m t e) = refl
 none-at (past depth r c t m e) = refl
 
 pub suited-at : {old new : Branch Seen} {depth : ℕ} {n m : Nodes Seen} → At old new depth n m → suits_view n ≡ true → Suited old
-suited-at (here t) s = record { top = true; suits = and_left _ (is_none t) s }
+suited-at (here t) s = record { top = true; suits = and_left _ (is_no_node t) s }
 suited-at (within depth r c m t e) s =
-    suited_nodes-at e (and_right (suits_row true r (count_in r.hold c) && suits_below r c) (suits_nodes c) (and_left _ (is_none t) s))
+    suited_nodes-at e (and_right (suits_row true r (count_in r.hold c) && suits_below r c) (suits_nodes c) (and_left _ (is_no_node t) s))
 suited-at (past depth r c t m e) s =
-    let gone = and_right (suits_row true r (count_in r.hold c) && suits_below r c && suits_nodes c) (is_none t) s in
+    let gone = and_right (suits_row true r (count_in r.hold c) && suits_below r c && suits_nodes c) (is_no_node t) s in
     let there = none-at e in
     absurd (cc)
 

@@ -1,16 +1,16 @@
 -- A document that comes, and the view that it shows.
 use Rattle.std.proofs.Common.{◌≡◌, ◌≢◌, ℕ, ◌+◌, ◌≤◌, ◌==◌, nat_eq, nat_lt, nat_le, Bool, true, false, not, cond, ◌&&◌, ◌||◌, List, [], ◌∷◌, ◌++◌, None, refl, sym, ap, ◌∙◌, inl, inr, arith}
 use Rattle.std.proofs.lemmas.Bool.{cases_eq, ne_eqb}
-use Rattle.node_tree.specs.Nodes.{Nodes, none, node, Branch, alone, height, width}
-use Rattle.node_tree.specs.Keys.{tally}
+use Rattle.node_tree.specs.Nodes.{Nodes, none, node, Branch, alone, height, width, is_no_node}
+use Rattle.node_tree.specs.Keys.{tally, first_true}
 use Rattle.node_tree.specs.Labels.{is_document, is_formed_label, is_named_label}
 use Rattle.node_tree.specs.Seen.{Seen, is_opened, seen_id, seen_serial}
 use Rattle.cdp_messages.specs.Told.{Told, seen_nodes, told_nodes, told_branch}
 use Rattle.cdp_messages.specs.NodeObject.{fits_row, fits_place, is_counted_row, same, fits_hold}
-use Rattle.cdp_messages.specs.NodeData.{is_none, fits_below, fits_nodes, fits_tree}
+use Rattle.cdp_messages.specs.NodeData.{fits_below, fits_nodes, fits_tree}
 use Rattle.front_mirror.specs.Shown.{told_id, told_serial}
-use Rattle.cdp_messages.specs.Views.{IsView, IsMirror, most_levels, is_empty, is_bare, has_formed_labels, keys, is_in, is_distinct}
-use Rattle.front_mirror.specs.Front.{is_kin, is_unique, first_true, root_fault}
+use Rattle.cdp_messages.specs.Views.{IsView, IsMirror, most_levels, is_bare, has_formed_labels, keys, is_in, is_distinct}
+use Rattle.front_mirror.specs.Front.{is_kin, is_unique, root_fault}
 use Rattle.cdp_messages.proofs.NodeTrees.{fitting_parts, tree_parts}
 use Rattle.front_mirror.proofs.DistinctLemmas.{absent_and}
 use Rattle.front_mirror.proofs.ToldLemmas.{height-seen, keys-seen}
@@ -119,7 +119,7 @@ placed_row top w r fits =
       document = same_is _ _ d;
     }
 
-below_or : (b : Bool) (c : Nodes Told) → cond b true (is_none c) ≡ true → (b || is_empty (seen_nodes c)) ≡ true
+below_or : (b : Bool) (c : Nodes Told) → cond b true (is_no_node c) ≡ true → (b || is_no_node (seen_nodes c)) ≡ true
 below_or true c e = refl
 below_or false none e = refl
 below_or false (node r c t) e = cc

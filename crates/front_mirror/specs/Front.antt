@@ -5,7 +5,7 @@ use Rattle.cdp_json.specs.Rows.{ends, and_need, object_of}
 use Rattle.css_objects.specs.Sheets.{sheet_kind}
 use Rattle.css_objects.specs.declared.rules.Matched.{Matched}
 use Rattle.node_tree.specs.Nodes.{Nodes, none, node, Branch, alone, height}
-use Rattle.node_tree.specs.Keys.{Spot, has, spot, put}
+use Rattle.node_tree.specs.Keys.{Spot, has, spot, put, first_true}
 use Rattle.node_tree.specs.Labels.{is_element, has_value}
 use Rattle.node_tree.specs.Seen.{Seen, is_counted, is_opened, seen_id, seen_serial}
 use Rattle.std.specs.List.{list_all}
@@ -92,11 +92,6 @@ is_kin parent (node r c t) = (r.parent == parent) && is_kin r.seen.id c && is_ki
 -- no id and no serial comes twice
 abbrev pub is_unique : Nodes Told → Bool
 is_unique n = is_distinct (keys told_id n) && is_distinct (keys told_serial n)
-
--- the first that holds, if any does
-abbrev pub first_true : {A : Type 0} → List (A × Bool) → Option A
-first_true [] = None
-first_true (x ∷ xs) = cond x.1 (Some x.0) (first_true xs)
 
 -- what is wrong with the root of a document, the first by number
 abbrev pub root_fault : Branch Told → Option FrontKind

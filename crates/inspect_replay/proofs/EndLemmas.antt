@@ -25,7 +25,7 @@ use Rattle.inspect_world.specs.Fits.{IsBare, HasLeft, FitsWith, Fits, most_sheet
 use Rattle.inspect_world.specs.Fetches.{front_in, fetched, fetched_if, all_fetched, stale_in}
 use Rattle.inspect_world.specs.FreshRuns.{front_fetcher, refreshes}
 use Rattle.inspect_world.specs.Scripts.{sends}
-use Rattle.inspect_world.specs.ScriptsFit.{CanSend}
+use Rattle.replay_script.specs.Sound.{CanSend}
 use Rattle.inspect_world.specs.Stream.{Stream, passed, arriving, awaited}
 use Rattle.inspect_world.specs.World.{World, one_fetch, sent_up, raw, turned, answered, given_up, delivered_up, delivered_down, settled}
 use Rattle.cdp_messages.specs.Moves.{frames_of_moves}

@@ -25,7 +25,7 @@ use Rattle.back_end.specs.States.{State, loaded_state}
 use Rattle.back_end.specs.Steps.{Turn, frame_step, turn_step, step, turn}
 use Rattle.back_end.specs.Laws.{IsTurn}
 use Rattle.page_forms.specs.Texts.{PageHasTexts}
-use Rattle.inspect_world.specs.ScriptsFit.{CanSend}
+use Rattle.replay_script.specs.Sound.{CanSend}
 use Rattle.inspect_world.specs.Held.{Ends as HeldEnds}
 use Rattle.std.specs.List.{All}
 use Rattle.front_mirror.specs.Front.{matched_in}

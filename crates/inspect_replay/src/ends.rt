@@ -20,7 +20,7 @@ ghost use Rattle.inspect_world.specs.World.{raw, turned};
 ghost use Rattle.inspect_world.specs.Fits.{IsBare};
 ghost use Rattle.inspect_world.specs.Costs.{ask_cost, least_line};
 ghost use Rattle.inspect_world.specs.Scripts.{sends};
-ghost use Rattle.inspect_world.specs.ScriptsFit.{CanSend};
+ghost use Rattle.replay_script.specs.Sound.{CanSend};
 ghost use Rattle.back_end.specs.Seats.{IsSeated};
 ghost use Rattle.page_forms.specs.Texts.{PageHasTexts};
 ghost use Rattle.undo_marks.specs.Marks.{no_marks};

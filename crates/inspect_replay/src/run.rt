@@ -11,7 +11,8 @@ ghost use Rattle.replay_script.specs.Script.{first_bad, good_lines, first_refuse
 ghost use Rattle.inspect_world.specs.Links.{came_styles};
 ghost use Rattle.replay_script.specs.Seen.{seen, seen_ask};
 ghost use Rattle.page_forms.specs.Texts.{PageHasTexts};
-ghost use Rattle.inspect_world.specs.ScriptsFit.{CanSend, IsLater};
+ghost use Rattle.inspect_world.specs.ScriptsFit.{IsLater};
+ghost use Rattle.replay_script.specs.Sound.{CanSend};
 ghost use Rattle.inspect_world.specs.World as world;
 ghost use Rattle.inspect_world.specs.Costs.{ask_cost, least_line, line_bytes};
 ghost use Rattle.inspect_world.specs.Scripts.{report, report_refused, rest_text, rest_refused, loaded_world, sends};

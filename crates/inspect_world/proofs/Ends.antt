@@ -25,7 +25,7 @@ use Rattle.inspect_world.specs.Fits.{join, IsNext, next_raw, IsBare, IsNextTurn,
 use Rattle.inspect_world.specs.FreshRuns.{front_fetcher}
 use Rattle.inspect_world.specs.Scripts.{sends, loaded_world}
 use Rattle.page_forms.specs.Texts.{PageHasTexts}
-use Rattle.inspect_world.specs.ScriptsFit.{CanSend}
+use Rattle.replay_script.specs.Sound.{CanSend}
 use Rattle.inspect_world.specs.Held.{Ends, good_front, InWorld}
 use Rattle.inspect_world.specs.Carried.{Carries}
 use Rattle.inspect_world.proofs.Frames.{sent-passed, awaited-passed, whole-sent, whole-given, rest-given}

@@ -36,7 +36,8 @@ use Rattle.inspect_world.specs.Fetches.{front_in, fetched, fetched_if, all_fetch
 use Rattle.inspect_world.specs.Fits.{join, with_ask, IsPlainFrame, most_bytes, most_sheets, most_fetches, kept_styles, IsBare, IsNext, IsNextTurn, IsFit, replay, Fits}
 use Rattle.inspect_world.specs.Costs.{line_cost}
 use Rattle.inspect_world.specs.Scripts.{after_line, loaded_world}
-use Rattle.inspect_world.specs.ScriptsFit.{CanSend, IsLater}
+use Rattle.inspect_world.specs.ScriptsFit.{IsLater}
+use Rattle.replay_script.specs.Sound.{CanSend}
 use Rattle.inspect_world.specs.ShownReplies.{told_of, replies_in}
 use Rattle.inspect_world.specs.FreshRuns.{front_fetcher, refreshes, fresh_line, Unstyled, unstyled, Together, FreshLinesFit, FreshInputsFit, RefreshedShows}
 use Rattle.inspect_world.proofs.FitLemmas.{fit-room, world_laws}

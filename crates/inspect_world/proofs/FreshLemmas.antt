@@ -21,7 +21,8 @@ use Rattle.inspect_world.specs.Fetches.{Fetcher, front_in, FetchLaws}
 use Rattle.inspect_world.specs.Agreement.{RunTogether}
 use Rattle.inspect_world.specs.Fits.{join, most_bytes, most_frames, most_sheets, most_fetches, HasLeft, IsBare, IsNext, next_raw, IsNextTurn, IsFit, replay}
 use Rattle.inspect_world.specs.Scripts.{sends, telling, after_line, after_lines, loaded_world}
-use Rattle.inspect_world.specs.ScriptsFit.{CanSend, IsLater, AreLater}
+use Rattle.inspect_world.specs.ScriptsFit.{IsLater, AreLater}
+use Rattle.replay_script.specs.Sound.{CanSend}
 use Rattle.inspect_world.specs.ShownReplies.{told_of, replies_in}
 use Rattle.inspect_world.specs.FreshRuns.{refreshes, fresh_line, fresh_lines, Unstyled, unstyled, Together, FreshLinesFit, FreshInputsFit, RefreshedShows}
 use Rattle.inspect_world.proofs.Frames.{sent-all, sent-passed}

@@ -32,7 +32,7 @@ use Rattle.back_end.specs.Seats.{StandsFor, HasRoomLeft}
 use Rattle.inspect_world.specs.Fits.{ask_in, ask_with, asks_among, most_bytes}
 use Rattle.inspect_world.specs.Held.{Ends, good_front}
 use Rattle.inspect_world.specs.Links.{fold_of, knows_styles, Happening, came, made, step_of, happened, frames_among, made_among, commands_in, commands_among, bytes_among, Drew, Started, started, one_line_more, GoesOn, Follows}
-use Rattle.inspect_world.specs.ScriptsFit.{CanSend}
+use Rattle.replay_script.specs.Sound.{CanSend}
 use Rattle.inspect_world.specs.FreshRuns.{front_fetcher}
 use Rattle.inspect_world.proofs.FetchForms.{fetch-text, sent-fetch}
 use Rattle.inspect_world.specs.ShownReplies.{ShownReply, told_of, replies_among, replies_in, id_asked, reply_id}

@@ -20,7 +20,7 @@ use Rattle.replay_script.specs.Forms.{AskForm}
 use Rattle.inspect_world.specs.World.{Spent, one_ask}
 use Rattle.inspect_world.specs.Costs.{edits_commanded, ask_edits}
 use Rattle.inspect_world.specs.Fits.{sheet_named, sheet_asked, ask_by, ask_of, ask_in, ask_with, edits_in, most_bytes, most_frames, IsNext, next_ask}
-use Rattle.inspect_world.specs.ScriptsFit.{CanSend}
+use Rattle.replay_script.specs.Sound.{CanSend}
 use Rattle.cdp_json.proofs.Options.{and_then_some}
 use Rattle.back_end.proofs.AskedLemmas.{whole-is}
 use Rattle.cdp_messages.proofs.Messages.{json_of-compact_text}

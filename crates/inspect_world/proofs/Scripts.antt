@@ -32,7 +32,8 @@ use Rattle.inspect_world.specs.Fits.{join, asks_among, IsNext, next_raw, IsBare,
 use Rattle.inspect_world.specs.Costs.{ask_edits, least_line, line_cost, lines_cost}
 use Rattle.inspect_world.specs.Scripts.{sends, after_line, after_lines, loaded_world}
 use Rattle.page_forms.specs.Texts.{HaveTexts, SheetsHaveTexts, PageHasTexts}
-use Rattle.inspect_world.specs.ScriptsFit.{CanSend, IsLater, AreLater, LinesFit, BareFramesFit, TurnsFit, DeliveriesFit, SettledShows}
+use Rattle.inspect_world.specs.ScriptsFit.{IsLater, AreLater, LinesFit, BareFramesFit, TurnsFit, DeliveriesFit, SettledShows}
+use Rattle.replay_script.specs.Sound.{CanSend}
 use Rattle.inspect_world.proofs.Messages.{IsText-sent, IsNext-sent}
 use Rattle.inspect_world.proofs.Frames.{given-all, sent-all, awaited-none}
 use Rattle.inspect_world.proofs.Replies.{replies-of}

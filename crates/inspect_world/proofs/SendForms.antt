@@ -11,7 +11,7 @@ use Rattle.cdp_json.proofs.ReadBack.{IsUtf8-compact_text}
 use Rattle.cdp_json.proofs.RowLaws.{ends_lawful, and_need_lawful, and_may_lawful, object_lawful}
 use Rattle.cdp_messages.specs.Asked.{command_value}
 use Rattle.replay_script.specs.Forms.{AskForm, AskParts, ask_kind, ask_from, ask_in}
-use Rattle.inspect_world.specs.ScriptsFit.{CanSend}
+use Rattle.replay_script.specs.Sound.{CanSend}
 use Rattle.cdp_messages.proofs.Commands.{ask_plain}
 use Rattle.cdp_json.proofs.Options.{both_parts, map_some}
 

@@ -26,13 +26,7 @@ use Rattle.inspect_world.specs.Fits.{join, most_bytes, most_frames, IsBare, IsPl
 use Rattle.inspect_world.specs.ShownReplies.{told_of, replies_in}
 use Rattle.inspect_world.specs.Costs.{lines_cost}
 use Rattle.inspect_world.specs.Scripts.{loaded_world, after_lines}
-
--- The ask's parameters and session are JSON that is written and read again as it is: plain, UTF-8, and not too deep.
-pub record CanSend (a : AskForm) : Type 0 where
-  pub params : holds_of_some is_plain a.params ≡ true
-  pub session : holds_of_some is_plain a.session ≡ true
-  pub shallow : (id : ℕ) → Shallow (command_value id a.method a.params a.session)
-  pub texts : (id : ℕ) → is_counted id ≡ true → IsUtf8 (command_text id a.method a.params a.session)
+use Rattle.replay_script.specs.Sound.{CanSend}
 
 -- a line that may come after the load
 abbrev pub IsLater : LineForm → Type 0

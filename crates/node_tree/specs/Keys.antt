@@ -1,11 +1,16 @@
 -- Nodes by a number of their rows, their key, as a serial or an id; and one node changed.
-use Rattle.std.specs.Prelude.{ℕ, suc, ◌+◌, ◌==◌, Bool, false, ◌||◌, cond, Option, Some, None}
+use Rattle.std.specs.Prelude.{ℕ, suc, ◌+◌, ◌==◌, List, [], ◌∷◌, Bool, false, ◌||◌, cond, Option, Some, None}
 use Rattle.node_tree.specs.Nodes.{Nodes, none, node, Branch, alone}
 
 -- the first that is there
 abbrev pub first_of : {A : Type 0} → Option A → Option A → Option A
 first_of None o = o
 first_of (Some x) o = Some x
+
+-- the first whose test holds
+abbrev pub first_true : {A : Type 0} → List (A × Bool) → Option A
+first_true [] = None
+first_true (x ∷ xs) = cond x.1 (Some x.0) (first_true xs)
 
 -- a node with what is below it, and its level
 pub record Spot (R : Type 0) : Type 0 where

@@ -1,5 +1,5 @@
 -- Ordered trees, by first child and next sibling, with a row of any type at each node.
-use Rattle.std.specs.Prelude.{◌≡◌, ℕ, zero, suc, ◌+◌, ◌≤◌, max, List, [], ◌∷◌, Option, Some, None, refl}
+use Rattle.std.specs.Prelude.{◌≡◌, ℕ, zero, suc, ◌+◌, ◌≤◌, max, List, [], ◌∷◌, Bool, true, false, Option, Some, None, refl}
 use Rattle.std.proofs.Common.{arith}
 use denote.Param.Weighed.{most}
 use Rattle.std.specs.Coded.{Coded, code_by, coded×, coded_list, coded_option}
@@ -22,6 +22,11 @@ nodes_of (b ∷ bs) = node b.row b.children (nodes_of bs)
 -- one tree alone
 abbrev pub alone : {R : Type 0} → Branch R → Nodes R
 alone b = node b.row b.children none
+
+-- there is no node
+abbrev pub is_no_node : {R : Type 0} → Nodes R → Bool
+is_no_node none = true
+is_no_node (node r c t) = false
 
 -- the trees of the first, and then those of the second
 abbrev pub beside : {R : Type 0} → Nodes R → Nodes R → Nodes R

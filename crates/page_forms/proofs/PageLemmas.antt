@@ -13,7 +13,8 @@ use Rattle.cdp_json.proofs.ReadTexts.{IfSome, map_keeps, then_keeps}
 use Rattle.cdp_json.proofs.Options.{and_then_some}
 use Rattle.node_tree.specs.Nodes.{Nodes}
 use Rattle.node_tree.specs.Labels.{Label}
-use Rattle.page_tree.specs.Loads.{nodes_in, first_true, are_low, are_few}
+use Rattle.page_tree.specs.Loads.{nodes_in, are_low, are_few}
+use Rattle.node_tree.specs.Keys.{first_true}
 use Rattle.page_tree.specs.Forms.{are_named}
 use Rattle.page_tree.proofs.FormedLemmas.{can_load}
 use Rattle.page_tree.specs.declared.faults.LoadFault.{LoadFault}

@@ -6,7 +6,8 @@ use Rattle.cdp_json.specs.Rows.{Row, ends, and_need, and_may, object_of}
 use Rattle.node_tree.specs.Nodes.{Nodes, nodes_of}
 use Rattle.node_tree.specs.Labels.{Label}
 use Rattle.page_tree.specs.Forms.{CanLoad, are_named}
-use Rattle.page_tree.specs.Loads.{nodes_in, first_true, are_low, are_few}
+use Rattle.page_tree.specs.Loads.{nodes_in, are_low, are_few}
+use Rattle.node_tree.specs.Keys.{first_true}
 use Rattle.page_tree.specs.declared.faults.LoadFault.{LoadFault}
 use Rattle.page_tree.specs.declared.faults.LoadFault.TheVariants.{BadForm, TooDeep, TooMany, BadName}
 use Rattle.page_tree.specs.declared.faults.LoadErr.{LoadErr}

@@ -5,7 +5,7 @@ use Rattle.std.proofs.lemmas.Bool.{not-false, leb-true}
 use Rattle.node_tree.specs.Nodes.{Nodes, Branch, alone, node_count, branch_count, height, map_branch}
 use Rattle.node_tree.specs.Names.{is_attribute_name}
 use Rattle.node_tree.specs.Labels.{Pair, Label, is_document, is_doctype, is_element, has_value, is_ascending, is_formed_label, is_named_label}
-use Rattle.node_tree.specs.Keys.{tally, tally_in, find, At}
+use Rattle.node_tree.specs.Keys.{tally, tally_in, find, At, first_true}
 use Rattle.node_tree.proofs.NodeLemmas.{node_count-map_rows, height-map_rows}
 use Rattle.node_tree.proofs.KeyLemmas.{height_above-at, found_key, find-stands, has-find, has-there}
 use Rattle.node_tree.proofs.ChangeLemmas.{at-old, at-put_root, level-at, child_of, held}
@@ -13,7 +13,7 @@ use Rattle.node_tree.specs.declared.Kind.{Kind}
 use Rattle.node_tree.specs.declared.Kind.TheVariants.{Document}
 use Rattle.page_tree.specs.Forms.{max_level, max_nodes, are_formed, are_named}
 use Rattle.page_tree.specs.Pages.{Row, row_serial, row_label, find_in, node_at, parent_at, level_at}
-use Rattle.page_tree.specs.Loads.{placed, first_true}
+use Rattle.page_tree.specs.Loads.{placed}
 use Rattle.page_tree.specs.Edits.{pairs_without, with_attribute, without_attribute, with_value, relabelled, with_child, without_child, taken_out, changed_at, after_tree, after, next_after, label_at, children_at}
 use Rattle.page_tree.specs.EditFaults.{is_live, kind_at, may_hold, CanAttach, CanApply, edit_faults}
 use Rattle.page_tree.specs.EditLaws.{AfterLaw}

@@ -10,13 +10,13 @@ use Rattle.std.proofs.lemmas.Bool.{leb-true, ne_eqb}
 use Rattle.serde_json.specs.Data.{Data, null, boolean, number, string, array, object, Items, no_items, item, Members, no_members, member}
 use Rattle.serde_json.specs.Find.{get, as_str, as_array}
 use Rattle.serde_json.specs.Events.{members_len}
-use Rattle.node_tree.specs.Nodes.{Nodes, none, node, Branch, alone}
+use Rattle.node_tree.specs.Nodes.{Nodes, none, node, Branch, alone, is_no_node}
 use Rattle.node_tree.proofs.PairLemmas.{both, left, right, is_ascending-placed}
 use Rattle.node_tree.specs.Labels.{Pair, Label, is_formed_label, is_ascending, is_below, is_before, holds}
-use Rattle.node_tree.specs.Keys.{first_of}
+use Rattle.node_tree.specs.Keys.{first_of, first_true}
 use Rattle.node_tree.specs.declared.Kind.TheVariants.{Element, Text, Comment, Doctype}
-use Rattle.page_tree.specs.Forms.{may_stand, is_bare, are_formed, CanLoad}
-use Rattle.page_tree.specs.Loads.{placed, is_taken, in_order, attributes_of, attributes_at, pairs_of, labelled, text_alone, element_name, element_label, label_of, branch_of, before, form_of, forms_of, below_of, list_of, nodes_in, first_true, limit_faults}
+use Rattle.page_tree.specs.Forms.{may_stand, are_formed, CanLoad}
+use Rattle.page_tree.specs.Loads.{placed, is_taken, in_order, attributes_of, attributes_at, pairs_of, labelled, text_alone, element_name, element_label, label_of, branch_of, before, form_of, forms_of, below_of, list_of, nodes_in, limit_faults}
 use Rattle.page_tree.specs.declared.faults.LoadFault.{LoadFault}
 use Rattle.page_tree.specs.declared.faults.LoadFault.TheVariants.{TooDeep, TooMany, BadName}
 
@@ -100,9 +100,9 @@ bare_below key (member k v (member l w ms)) text other e =
 
 -- ---- nodes
 
-bare_if : (k : Bool) (n c : Nodes Label) → c ≡ n → n ≡ none → (k || is_bare c) ≡ true
+bare_if : (k : Bool) (n c : Nodes Label) → c ≡ n → n ≡ none → (k || is_no_node c) ≡ true
 bare_if true n c e f = refl
-bare_if false n c e f = ap is_bare (e ∙ f)
+bare_if false n c e f = ap is_no_node (e ∙ f)
 
 formed_node : (top : Bool) (ms : Members) (b : Branch Label) (lab : Option Label) (n : Option (Nodes Label)) → ((l : Label) → lab ≡ Some l → IsLabel top (object ms) l) → n ≡ below_of ms → ((m : Nodes Label) → n ≡ Some m → are_formed false m ≡ true)
     → branch_of lab n ≡ Some b → are_formed top (alone b) ≡ true
@@ -111,7 +111,7 @@ formed_node top ms b (Some l) None h is_n below e = absurd (cc)
 formed_node top ms b (Some l) (Some c) h is_n below e =
     let same : ◌≡◌ {A = Branch Label} (record { row = l; children = c }) b = cc in
     let fit = h l refl in
-    let bare : (holds l.kind || is_bare c) ≡ true = elim fit.single [ inl is ↦ rw is refl | inr (key, text, other, alone_is) ↦ let none_is : Some c ≡ Some none = is_n ∙ bare_below key ms text other alone_is in bare_if (holds l.kind) c c refl (cc) ] in
+    let bare : (holds l.kind || is_no_node c) ≡ true = elim fit.single [ inl is ↦ rw is refl | inr (key, text, other, alone_is) ↦ let none_is : Some c ≡ Some none = is_n ∙ bare_below key ms text other alone_is in bare_if (holds l.kind) c c refl (cc) ] in
     subst (λ (x : Branch Label). are_formed top (alone x) ≡ true) same (both _ _ (both _ _ (both _ _ (both _ _ fit.formed fit.stands) bare) (below c refl)) refl)
 
 formed_beside : (top : Bool) (b : Option (Branch Label)) (t : Option (Nodes Label)) (n : Nodes Label) → ((x : Branch Label) → b ≡ Some x → are_formed top (alone x) ≡ true) → ((m : Nodes Label) → t ≡ Some m → are_formed top m ≡ true)

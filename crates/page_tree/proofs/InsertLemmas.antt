@@ -3,10 +3,9 @@ use Rattle.std.proofs.Common.{◌≡◌, ◌⊎◌, ℕ, zero, suc, ◌+◌, ◌
 use Rattle.std.proofs.lemmas.Bool.{not-false, not_from_true, cases_lt}
 use Rattle.node_tree.specs.Nodes.{Nodes, none, node, Branch, alone, node_count, branch_count, map_branch}
 use Rattle.node_tree.specs.Labels.{Label}
-use Rattle.node_tree.specs.Keys.{tally}
+use Rattle.node_tree.specs.Keys.{tally, first_true}
 use Rattle.node_tree.proofs.KeyLemmas.{tally_row, tally_below}
 use Rattle.page_tree.specs.Pages.{Row, row_serial, row_label, State, numbered, times_in, IsValid}
-use Rattle.page_tree.specs.Loads.{first_true}
 use Rattle.page_tree.specs.Edits.{after, greatest_serial, numbered_branch, form_at}
 use Rattle.page_tree.specs.EditFaults.{is_live, is_live_or_0, CanInsert, CanAttach, CanApply, attach_faults, edit_faults, copy_faults}
 use Rattle.page_tree.specs.EditLaws.{NextLaw, InsertLaw, CopyLaw}

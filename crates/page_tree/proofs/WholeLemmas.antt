@@ -1,7 +1,7 @@
 -- A valid page as a property of each node, and what one changed node leaves of it.
 use Rattle.std.proofs.Common.{◌≡◌, ◌⊎◌, ℕ, zero, suc, ◌+◌, ◌<◌, ◌≤◌, List, [], ◌∷◌, Bool, true, false, not, ◌&&◌, ◌||◌, Option, Some, None, inl, inr, subst, refl, sym, arith}
 use Rattle.std.proofs.lemmas.Bool.{not-true}
-use Rattle.node_tree.specs.Nodes.{Nodes, none, node, Branch, alone, node_count, branch_count, height, map_rows}
+use Rattle.node_tree.specs.Nodes.{Nodes, none, node, Branch, alone, node_count, branch_count, height, map_rows, is_no_node}
 use Rattle.node_tree.specs.Labels.{Pair, Label, is_document, is_doctype, holds, is_formed_label, is_named_label}
 use Rattle.node_tree.specs.Keys.{tally, tally_in, At, here, within, past}
 use Rattle.node_tree.specs.declared.Kind.{Kind}
@@ -9,7 +9,7 @@ use Rattle.node_tree.specs.declared.Kind.TheVariants.{Document, Element, Text, C
 use Rattle.node_tree.proofs.NodeLemmas.{node_count-map_rows, height-map_rows}
 use Rattle.node_tree.proofs.KeyLemmas.{tally-at, height-at}
 use Rattle.node_tree.proofs.ChangeLemmas.{count-at}
-use Rattle.page_tree.specs.Forms.{max_level, max_nodes, may_stand, is_bare, are_formed, are_named}
+use Rattle.page_tree.specs.Forms.{max_level, max_nodes, may_stand, are_formed, are_named}
 use Rattle.page_tree.specs.Pages.{Row, row_serial, row_label, State, IsValid}
 use Rattle.page_tree.specs.EditFaults.{may_hold}
 use Rattle.node_tree.proofs.PairLemmas.{both, left, right}
@@ -48,22 +48,22 @@ stand_parts top false false p e f = absurd (cc)
 labels : Nodes Row → Nodes Label
 labels = map_rows row_label
 
-pub sound-formed : (above : Kind) (n : Nodes Row) → are_formed (is_document above) (map_rows row_label n) ≡ true → are_named (map_rows row_label n) ≡ true → (holds above || is_bare (map_rows row_label n)) ≡ true → Sound (Some above) n
+pub sound-formed : (above : Kind) (n : Nodes Row) → are_formed (is_document above) (map_rows row_label n) ≡ true → are_named (map_rows row_label n) ≡ true → (holds above || is_no_node (map_rows row_label n)) ≡ true → Sound (Some above) n
 sound-formed above none e f g = tt
 sound-formed above (node r c t) e f g =
-    let e0 = left (is_formed_label r.label && may_stand (is_document above) r.label.kind && (holds r.label.kind || is_bare (map_rows row_label c)) && are_formed false (map_rows row_label c)) (are_formed (is_document above) (map_rows row_label t)) e in
-    let rest = right (is_formed_label r.label && may_stand (is_document above) r.label.kind && (holds r.label.kind || is_bare (map_rows row_label c)) && are_formed false (map_rows row_label c)) (are_formed (is_document above) (map_rows row_label t)) e in
-    let below = right (is_formed_label r.label && may_stand (is_document above) r.label.kind && (holds r.label.kind || is_bare (map_rows row_label c))) (are_formed false (map_rows row_label c)) e0 in
-    let e1 = left (is_formed_label r.label && may_stand (is_document above) r.label.kind && (holds r.label.kind || is_bare (map_rows row_label c))) (are_formed false (map_rows row_label c)) e0 in
-    let bare = right (is_formed_label r.label && may_stand (is_document above) r.label.kind) (holds r.label.kind || is_bare (map_rows row_label c)) e1 in
-    let e2 = left (is_formed_label r.label && may_stand (is_document above) r.label.kind) (holds r.label.kind || is_bare (map_rows row_label c)) e1 in
+    let e0 = left (is_formed_label r.label && may_stand (is_document above) r.label.kind && (holds r.label.kind || is_no_node (map_rows row_label c)) && are_formed false (map_rows row_label c)) (are_formed (is_document above) (map_rows row_label t)) e in
+    let rest = right (is_formed_label r.label && may_stand (is_document above) r.label.kind && (holds r.label.kind || is_no_node (map_rows row_label c)) && are_formed false (map_rows row_label c)) (are_formed (is_document above) (map_rows row_label t)) e in
+    let below = right (is_formed_label r.label && may_stand (is_document above) r.label.kind && (holds r.label.kind || is_no_node (map_rows row_label c))) (are_formed false (map_rows row_label c)) e0 in
+    let e1 = left (is_formed_label r.label && may_stand (is_document above) r.label.kind && (holds r.label.kind || is_no_node (map_rows row_label c))) (are_formed false (map_rows row_label c)) e0 in
+    let bare = right (is_formed_label r.label && may_stand (is_document above) r.label.kind) (holds r.label.kind || is_no_node (map_rows row_label c)) e1 in
+    let e2 = left (is_formed_label r.label && may_stand (is_document above) r.label.kind) (holds r.label.kind || is_no_node (map_rows row_label c)) e1 in
     let formed = left (is_formed_label r.label) (may_stand (is_document above) r.label.kind) e2 in
     let stands = right (is_formed_label r.label) (may_stand (is_document above) r.label.kind) e2 in
     let f0 = left (is_named_label r.label && are_named (map_rows row_label c)) (are_named (map_rows row_label t)) f in
     let not_document : is_document r.label.kind ≡ false = not-true _ (left (not (is_document r.label.kind)) _ stands) in (
       record { formed = formed; named = left _ _ f0; stands = stand_parts (is_document above) (is_document r.label.kind) (holds above) (is_doctype r.label.kind) stands g },
       sound-formed r.label.kind c (subst (λ (b : Bool). are_formed b (map_rows row_label c) ≡ true) (sym not_document) below) (right (is_named_label r.label) (are_named (map_rows row_label c)) f0) bare,
-      sound-formed above t rest (right (is_named_label r.label && are_named (map_rows row_label c)) (are_named (map_rows row_label t)) f) (holds_still (holds above) (is_bare (map_rows row_label t)) g),
+      sound-formed above t rest (right (is_named_label r.label && are_named (map_rows row_label c)) (are_named (map_rows row_label t)) f) (holds_still (holds above) (is_no_node (map_rows row_label t)) g),
     )
   where
     holds_still : (h b : Bool) → (h || false) ≡ true → (h || b) ≡ true
@@ -74,7 +74,7 @@ sound-formed above (node r c t) e f g =
 pub record Formed (above : Kind) (n : Nodes Label) : Type 0 where
   pub formed : are_formed (is_document above) n ≡ true
   pub named : are_named n ≡ true
-  pub holder : (holds above || is_bare n) ≡ true
+  pub holder : (holds above || is_no_node n) ≡ true
 
 stand_whole : (top d h p : Bool) → (not d && (h && (top || not p))) ≡ true → ((not d && (top || not p)) ≡ true) × (h ≡ true)
 stand_whole top true h p e = absurd (cc)

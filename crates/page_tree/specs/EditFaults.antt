@@ -6,7 +6,7 @@ use Rattle.node_tree.specs.Labels.{Label, value_of, holds, has_value, is_documen
 use Rattle.node_tree.specs.declared.Kind.{Kind}
 use Rattle.page_tree.specs.Forms.{max_level, max_nodes, are_formed, are_named}
 use Rattle.page_tree.specs.Pages.{Row, row_label, State, find_in, node_at, level_at, times_in}
-use Rattle.page_tree.specs.Loads.{first_true}
+use Rattle.node_tree.specs.Keys.{first_true}
 use Rattle.page_tree.specs.Edits.{label_at, children_at, is_among, form_at, moved_before, after}
 use Rattle.page_tree.specs.declared.edits.TreeEdit.{TreeEdit}
 use Rattle.page_tree.specs.declared.edits.TreeEdit.TheVariants.{SetAttr, DropAttr, SetText, Attach, Detach}

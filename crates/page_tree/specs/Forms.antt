@@ -1,6 +1,6 @@
 -- Which nodes may make up a page.
 use Rattle.std.specs.Prelude.{◌≡◌, ℕ, suc, ◌≤◌, Bool, true, false, not, ◌&&◌, ◌||◌}
-use Rattle.node_tree.specs.Nodes.{Nodes, none, node, node_count, height}
+use Rattle.node_tree.specs.Nodes.{Nodes, none, node, node_count, height, is_no_node}
 use Rattle.node_tree.specs.Labels.{Label, is_document, is_doctype, holds, is_formed_label, is_named_label}
 use Rattle.node_tree.specs.declared.Kind.{Kind}
 
@@ -17,16 +17,11 @@ max_nodes = 100000
 abbrev pub may_stand : Bool → Kind → Bool
 may_stand top kind = not (is_document kind) && (top || not (is_doctype kind))
 
--- there is no node
-abbrev pub is_bare : Nodes Label → Bool
-is_bare none = true
-is_bare (node l c t) = false
-
 -- What stands at each node and below it, but for the forms of names, levels and counts; `top` says that the trees stand
 -- right below the document.
 abbrev pub are_formed : Bool → Nodes Label → Bool
 are_formed top none = true
-are_formed top (node l c t) = is_formed_label l && may_stand top l.kind && (holds l.kind || is_bare c) && are_formed false c && are_formed top t
+are_formed top (node l c t) = is_formed_label l && may_stand top l.kind && (holds l.kind || is_no_node c) && are_formed false c && are_formed top t
 
 -- all names have their forms
 abbrev pub are_named : Nodes Label → Bool

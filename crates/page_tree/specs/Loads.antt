@@ -8,7 +8,7 @@ use Rattle.serde_json.specs.Events.{members_len}
 use Rattle.node_tree.specs.Nodes.{Nodes, none, node, Branch, nodes_of, node_count, height}
 use Rattle.node_tree.specs.Labels.{Pair, Label}
 pub use Rattle.node_tree.specs.LabelChanges.{placed}
-use Rattle.node_tree.specs.Keys.{first_of}
+use Rattle.node_tree.specs.Keys.{first_of, first_true}
 use Rattle.node_tree.specs.declared.Kind.{Kind}
 use Rattle.node_tree.specs.declared.Kind.TheVariants.{Element, Text, Comment, Doctype}
 use Rattle.page_tree.specs.Forms.{max_level, max_nodes, are_named}
@@ -134,11 +134,6 @@ abbrev pub children_in : Data → Option Items
 children_in d = option_and_then (λ _. option_map_or as_array (get (codes "c") d) (Some no_items)) (as_object d)
 
 -- ---- faults
-
--- the first whose test holds
-abbrev pub first_true : {F : Type 0} → List (F × Bool) → Option F
-first_true [] = None
-first_true (x ∷ xs) = cond x.1 (Some x.0) (first_true xs)
 
 -- below a document, no node is on a level beyond the highest
 abbrev pub are_low : Nodes Label → Bool

@@ -5,7 +5,8 @@ ghost use Rattle.node_tree.specs.Labels.{has_name, is_named_label};
 ghost use Rattle.node_tree.specs.Names.{is_element_name, is_attribute_name};
 ghost use Rattle.page_tree.specs.Forms.{are_named};
 ghost use Rattle.page_tree.specs.Rooms.{room_after};
-ghost use Rattle.page_tree.specs.Loads.{are_few, first_true, limit_faults};
+ghost use Rattle.page_tree.specs.Loads.{are_few, limit_faults};
+ghost use Rattle.node_tree.specs.Keys.{first_true};
 
 use crate::faults::LoadFault;
 use crate::forms::NodeForm;

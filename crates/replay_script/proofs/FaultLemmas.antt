@@ -6,8 +6,7 @@ use Rattle.std.proofs.lemmas.Str.{IsUtf8-from_is_utf8, is_utf8-from_IsUtf8}
 use Rattle.serde_json.specs.Data.{Data}
 use Rattle.serde_json.specs.Read.{read}
 use Rattle.serde_json.specs.Written.{has_float}
-use Rattle.node_tree.specs.Keys.{first_of}
-use Rattle.page_tree.specs.Loads.{first_true}
+use Rattle.node_tree.specs.Keys.{first_of, first_true}
 use Rattle.page_tree.specs.declared.faults.LoadFault.{LoadFault}
 use Rattle.page_forms.specs.Pages.{LoadedPage, page_in, first_page_fault, page_fault}
 use Rattle.cdp_messages.specs.Asked.{json_of}

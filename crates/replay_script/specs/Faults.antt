@@ -6,8 +6,7 @@ use Rattle.serde_json.specs.Data.{Data}
 use Rattle.serde_json.specs.Find.{get, as_number, as_str}
 use Rattle.serde_json.specs.Written.{has_float}
 use Rattle.cdp_json.specs.Kinds.{as_whole}
-use Rattle.node_tree.specs.Keys.{first_of}
-use Rattle.page_tree.specs.Loads.{first_true}
+use Rattle.node_tree.specs.Keys.{first_of, first_true}
 use Rattle.page_tree.specs.declared.faults.LoadFault.{LoadFault}
 use Rattle.page_forms.specs.Pages.{page_fault}
 use Rattle.cdp_messages.specs.Asked.{json_of}

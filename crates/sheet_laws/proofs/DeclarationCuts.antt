@@ -8,13 +8,13 @@ use Rattle.css_tokens.specs.declared.token.TokenKind.TheVariants as tokens
 use Rattle.selectors.specs.declared.words.Word.{Word}
 use Rattle.selectors.specs.Words.{word_of, words_after, is_mark}
 use Rattle.selectors.specs.Forms.{◌>>=◌}
-use Rattle.selectors.specs.Reading.{value_of, range_by, range_of}
+use Rattle.selectors.specs.Reading.{value_of, range_by, range_of, is_over}
 use Rattle.selectors.proofs.Choices.{none_some, some_is, bind_some, passed_test, failed_test}
 use Rattle.sheet_reader.specs.declared.sheet.Property.{Property}
 use Rattle.sheet_reader.specs.Forms.{range}
 use Rattle.sheet_reader.specs.Lone.{is_blank_kind, is_blank_piece}
 use Rattle.sheet_reader.specs.Brackets.{nesting}
-use Rattle.sheet_reader.specs.Declarations.{is_bad_kind, is_stray_nesting, holds_bad, is_custom, name_by, is_important, plain_value, value_range, is_no_word, property, property_by, declared_by, declared_in, declaration_of}
+use Rattle.sheet_reader.specs.Declarations.{is_bad_kind, is_stray_nesting, holds_bad, is_custom, name_by, is_important, plain_value, value_range, property, property_by, declared_by, declared_in, declaration_of}
 use Rattle.sheet_laws.specs.Solids.{AreBlank, Covers}
 use Rattle.sheet_laws.specs.Values.{AreMatched, IsValueRange, some_value, no_value, IsDeclaration}
 use Rattle.sheet_laws.proofs.WordCuts.{solid_first, blank_words, words_blank, word_stands, stands_among, covers_words, words_cover, has_last, get_last}
@@ -64,7 +64,7 @@ spans_value text plain colon w end = by (range_of (words_after text false plain)
 
 -- ---- what the grammar declares, is read
 
-kept_by : (name : List ℕ) (ws : List Word) → (ws ≡ [] → is_custom name ≡ true) → (is_no_word ws && not (is_custom name)) ≡ false
+kept_by : (name : List ℕ) (ws : List Word) → (ws ≡ [] → is_custom name ≡ true) → (is_over ws && not (is_custom name)) ≡ false
 kept_by name [] some = ap not (some refl)
 kept_by name (w ∷ ws) some = refl
 
@@ -99,8 +99,8 @@ declaration_reads text ts p d =
 
 -- ---- what is read, the grammar declares
 
-custom_by : (name : List ℕ) (ws : List Word) → (is_no_word ws && not (is_custom name)) ≡ false → ws ≡ [] → is_custom name ≡ true
-custom_by name ws kept none = by (is_custom name) (sym (ap (λ (vs : List Word). is_no_word vs && not (is_custom name)) none) ∙ kept)
+custom_by : (name : List ℕ) (ws : List Word) → (is_over ws && not (is_custom name)) ≡ false → ws ≡ [] → is_custom name ≡ true
+custom_by name ws kept none = by (is_custom name) (sym (ap (λ (vs : List Word). is_over vs && not (is_custom name)) none) ∙ kept)
   where
     by : (b : Bool) → not b ≡ false → b ≡ true
     by true e = refl
@@ -116,7 +116,7 @@ declared_from text t ts p whole (colon ∷ value) ident bad covers words e =
     let a = passed_test (is_mark 58 colon.kind) (property_by name colon (is_important text value) (plain_value (is_important text value) value) whole) p e in
     let i = importance_found text c.behind (is_important text value) (ap (is_important text) c.rest) in
     let plain_is : plain_value (is_important text value) value ≡ words_after text false i.plain = ap (plain_value (is_important text value)) (sym c.rest) ∙ i.rest in
-    let b = failed_test (is_no_word (plain_value (is_important text value) value) && not (is_custom name)) (some_property (property name colon (is_important text value) (plain_value (is_important text value) value) whole)) p a.1 in
+    let b = failed_test (is_over (plain_value (is_important text value) value) && not (is_custom name)) (some_property (property name colon (is_important text value) (plain_value (is_important text value) value) whole)) p a.1 in
     let same = some_is {A = Property} (property name colon (is_important text value) (plain_value (is_important text value) value) whole) p b.1 in
     let both = or_none (list_any (λ u. is_bad_kind u.kind) (t ∷ ts)) (is_stray_nesting (nesting (t ∷ ts))) bad in
     let span = spans_value text i.plain c.t colon (ap (λ (w : Word). w.end) c.word) in

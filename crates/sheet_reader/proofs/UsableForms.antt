@@ -12,14 +12,14 @@ use Rattle.css_tokens.specs.Pieces.{pieces}
 use Rattle.selectors.specs.declared.words.Word.{Word}
 use Rattle.selectors.specs.Words.{reading, words_after, is_mark}
 use Rattle.selectors.specs.Forms.{SelectorForm, ◌>>=◌}
-use Rattle.selectors.specs.Reading.{value_of, range_of, list_of}
+use Rattle.selectors.specs.Reading.{value_of, range_of, list_of, is_over}
 use Rattle.selectors.specs.Ranges.{IsRangeOf, AreBetween, AreTiles}
 use Rattle.selectors.proofs.Choices.{none_some, some_is, bind_some, passed_test, failed_test}
 use Rattle.selectors.proofs.RangeForms.{tiles_whole, tiles_order, tiles_cut, tiles_edge, between_order, between_from, range_at, AreWords, words_between, Spans, range_spans, list_between}
 use Rattle.sheet_reader.specs.declared.sheet.Property.{Property}
 use Rattle.sheet_reader.specs.Forms.{range, RuleForm}
 use Rattle.sheet_reader.specs.Parts.{EndingForm, text_end, semicolon, block, PartForm, passed, at_rule, qualified, ending_pieces, part_pieces, parts}
-use Rattle.sheet_reader.specs.Declarations.{ItemForm, item_pieces, item_property, items_after, is_custom, is_important, plain_value, name_by, value_range, is_no_word, property, property_by, declared_by, declared_in, declaration_of, holds_bad, properties_in, declarations, style_of}
+use Rattle.sheet_reader.specs.Declarations.{ItemForm, item_pieces, item_property, items_after, is_custom, is_important, plain_value, name_by, value_range, property, property_by, declared_by, declared_in, declaration_of, holds_bad, properties_in, declarations, style_of}
 use Rattle.sheet_reader.specs.Declarations as body
 use Rattle.sheet_reader.specs.Sheets.{body_end, style_rule, rule_by, rule_of, is_closed_comment, passed_place, ending_place, place_of, rules_in, places_in, sheet_of}
 use Rattle.sheet_reader.specs.Grammar.{IsEnding, at_text_end, at_semicolon, in_block, in_open_block, BeginsQualified, IsPart, passed_part, at_rule_part, qualified_part, AreParts, AreItems}
@@ -67,7 +67,7 @@ declared_words text from to (name ∷ colon ∷ value) whole p e s =
     let plain = plain_value important value in
     let spelled = name_by (value_of text name) in
     let a = passed_test (is_mark 58 colon.kind) (property_by spelled colon important plain whole) p e in
-    let b = failed_test (is_no_word plain && not (is_custom spelled)) (Some (property spelled colon important plain whole)) p a.1 in
+    let b = failed_test (is_over plain && not (is_custom spelled)) (Some (property spelled colon important plain whole)) p a.1 in
     let same = some_is {A = Property} (property spelled colon important plain whole) p b.1 in
     let w = s.words in
     let v = valued text whole.end colon plain w.2.1.back (words_plain text colon.end whole.end important value w.2.2) in

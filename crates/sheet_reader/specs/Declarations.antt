@@ -13,7 +13,7 @@ use Rattle.selectors.specs.declared.words.Word.{Word}
 use Rattle.selectors.specs.declared.words.WordKind.{WordKind}
 use Rattle.selectors.specs.declared.words.WordKind.TheVariants.{Ident}
 use Rattle.selectors.specs.Words.{words_after, is_mark}
-use Rattle.selectors.specs.Reading.{value_of, lower_of, range_of}
+use Rattle.selectors.specs.Reading.{value_of, lower_of, range_of, is_over}
 use Rattle.selectors.specs.Forms.{◌>>=◌}
 use Rattle.sheet_reader.specs.declared.sheet.Property.{Property}
 use Rattle.sheet_reader.specs.declared.brackets.Nesting.{Nesting}
@@ -106,11 +106,6 @@ abbrev pub value_range : Word → Option Range → Range
 value_range colon (Some r) = r
 value_range colon None = range colon.end colon.end
 
--- the value has no words
-abbrev pub is_no_word : List Word → Bool
-is_no_word [] = true
-is_no_word (w ∷ ws) = false
-
 -- the declaration with this name, the range of this value, this importance and this range as a whole
 abbrev pub property : List ℕ → Word → Bool → List Word → Range → Property
 property name colon important value whole = record { name = name; value = value_range colon (range_of value); important = important; whole = whole }
@@ -118,7 +113,7 @@ property name colon important value whole = record { name = name; value = value_
 -- a value that is empty is none, unless the name begins with `--`
 abbrev pub property_by : List ℕ → Word → Bool → List Word → Range → Option Property
 property_by name colon important value whole =
-    if is_no_word value && not (is_custom name) then None else Some (property name colon important value whole)
+    if is_over value && not (is_custom name) then None else Some (property name colon important value whole)
 
 -- an ident, a colon and a value
 abbrev pub declared_by : List ℕ → List Word → Range → Option Property

@@ -7,7 +7,8 @@ use Rattle.serde_json.specs.Data.{Items}
 use Rattle.serde_json.specs.View.{view, items_view}
 use Rattle.serde_json.specs.declared.value.Value.{Value}
 use Rattle.page_tree.specs.declared.forms.NodeForm.{NodeForm}
-use Rattle.page_tree.specs.Loads.{forms_of, first_true, limit_faults}
+use Rattle.page_tree.specs.Loads.{forms_of, limit_faults}
+use Rattle.node_tree.specs.Keys.{first_true}
 use Rattle.page_tree.proofs.FormedLemmas.{can_load}
 use Rattle.page_tree.proofs.loads.read_nodes.Goals as goal
 

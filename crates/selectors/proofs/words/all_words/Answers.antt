@@ -1,4 +1,4 @@
-use Rattle.std.proofs.Common.{sym, subst}
+use Rattle.std.proofs.Common.{sym, subst, ◌∙◌}
 use Rattle.std.specs.List.{AllByRecursion}
 use Rattle.selectors.specs.Words.{IsWordOf}
 use Rattle.selectors.proofs.WordTurns.{skip, add, all_push, ended}
