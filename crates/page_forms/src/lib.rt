@@ -3,11 +3,16 @@
 
 mod acts;
 mod laws;
+mod node_scan;
+mod page_scan;
 mod pages;
 mod sheet_acts;
 mod sheets;
+mod tokens;
 
 pub use acts::{Act, ActErr, read_act};
 pub use laws::texts_law;
+pub use page_scan::scan_page;
 pub use pages::{PageForm, read_page};
 pub use sheets::SheetForm;
+pub use tokens::ScanErr;

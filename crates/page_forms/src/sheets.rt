@@ -26,7 +26,8 @@ pub struct SheetForm {
     pub text: Text,
 }
 
-fn origin_in(word: &str) -> Option<Origin>
+/// Whose sheets the word says.
+pub(crate) fn origin_in(word: &str) -> Option<Origin>
     ensures { result ≡ named origin_word all_origins word.now }
 {
     match word {

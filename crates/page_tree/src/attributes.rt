@@ -12,7 +12,7 @@ use std::collections::BTreeMap;
 fn read_pairs(alloc: Global, values: &[Value]) -> Result<Option<Vec<(Text, Text)>>, AllocError>
     ensures { IfOk result (λ pairs. option_map (λ v. v.items) pairs ≡ pairs_of (items_view values.now)) }
 {
-    let mut pairs = Vec::new(alloc);
+    let mut pairs = Vec::with_capacity(alloc, values.len() / 2)?;
     let mut rest = values;
     while let Some((name, others)) = rest.split_first() {
         let Some((value, others)) = others.split_first() else {
@@ -52,11 +52,24 @@ fn list_entries(
 ) -> Result<Vec<(Text, Text)>, AllocError>
     ensures { IfOk result (λ pairs. pairs.items ≡ shown entries.entries) }
 {
-    let mut pairs = Vec::new(alloc);
+    let mut pairs = Vec::with_capacity(alloc, entries.len())?;
     for (name, value) in entries {
         pairs.push((Text::new(name), value))?;
     }
     Ok(pairs)
+}
+
+/// The pairs as attributes, in ascending order of the names' bytes; none where a name is there twice.
+pub fn order_pairs(
+    alloc: Global,
+    pairs: Vec<(Text, Text)>,
+) -> Result<Option<Attributes>, AllocError>
+    ensures { IfOk result (λ attributes. attributes ≡ in_order [] pairs.items) }
+{
+    let Some(entries) = gather(alloc, pairs)? else {
+        return Ok(None);
+    };
+    Ok(Some(Attributes::from_pairs(list_entries(alloc, entries)?)))
 }
 
 /// The attributes that a list spells, in ascending order of the names' bytes.
@@ -69,8 +82,5 @@ pub fn read_attributes(alloc: Global, v: &Value) -> Result<Option<Attributes>, A
     let Some(pairs) = read_pairs(alloc, values)? else {
         return Ok(None);
     };
-    let Some(entries) = gather(alloc, pairs)? else {
-        return Ok(None);
-    };
-    Ok(Some(Attributes::from_pairs(list_entries(alloc, entries)?)))
+    order_pairs(alloc, pairs)
 }

@@ -24,12 +24,14 @@ mod tree_limits;
 mod trees;
 mod walks;
 
+pub use attributes::order_pairs;
 pub use cursors::{Children, Node};
 pub use edit_faults::{EditErr, EditFault};
 pub use edit_laws::{after_law, back_law, copy_law, insert_law, move_law};
 pub use edits::TreeEdit;
 pub use faults::{LoadErr, LoadFault};
 pub use forms::NodeForm;
+pub use limits::limit_fault;
 pub use loads::{read_node, read_nodes};
 pub use node_refs::NodeRef;
 pub use node_tree::{Attributes, Kind, Text};

@@ -6,3 +6,4 @@ pub mod Script
 pub mod Seen
 pub mod Sound
 pub mod Names
+pub mod Loads

@@ -5,6 +5,7 @@ mod faults;
 mod forms;
 mod line_kinds;
 mod lines;
+mod load_scan;
 mod raw_texts;
 mod reads;
 mod script;

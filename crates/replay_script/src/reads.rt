@@ -11,10 +11,11 @@ ghost use Rattle.replay_script.specs.Sound.{IsSound, FitsPage, AreWhole};
 use crate::faults::{LineErr, LineFault};
 use crate::forms::{Line, ask_in};
 use crate::line_kinds::{LineKind, said};
+use crate::load_scan::scan_load;
 use crate::raw_texts::{is_no_frame, json_of};
 use cdp_json::{all_whole, flag_of, whole_of};
 use node_tree::Text;
-use page_forms::{ActErr, read_act, read_page};
+use page_forms::{ActErr, ScanErr, read_act, read_page};
 use page_tree::LoadErr;
 use serde_json::Value;
 use std::alloc::Global;
@@ -194,13 +195,24 @@ fn read_value(alloc: Global, number: u64, line: &Value) -> Result<Line, LineErr>
     read_by(alloc, kind, value)
 }
 
-fn read_form(alloc: Global, number: u64, line: &[u8]) -> Result<Line, LineErr>
+fn read_json(alloc: Global, number: u64, line: &[u8]) -> Result<Line, LineErr>
     ensures fault { Refuses result (line_fault number line.now) }
     ensures form { IfOk result (λ read. line_form line.now ≡ Some (seen read)) }
 {
     match json_of(alloc, line)? {
         Some(value) => read_value(alloc, number, &value),
         None => Err(LineErr::Fault(LineFault::NotJson)),
+    }
+}
+
+fn read_form(alloc: Global, number: u64, line: &[u8]) -> Result<Line, LineErr>
+    ensures fault { Refuses result (line_fault number line.now) }
+    ensures form { IfOk result (λ read. line_form line.now ≡ Some (seen read)) }
+{
+    match scan_load(alloc, line) {
+        Ok(page) => Ok(Line::Load(page)),
+        Err(ScanErr::OtherForm) => read_json(alloc, number, line),
+        Err(ScanErr::Memory) => Err(LineErr::Memory),
     }
 }
 
