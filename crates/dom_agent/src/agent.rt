@@ -24,7 +24,7 @@ use crate::paths::node_at_path;
 use crate::pushes::{open_above, push_all};
 use crate::queries::{Query, QueryErr, read_query};
 use crate::serving::open_all;
-use crate::told::told_tree;
+use crate::told::tell_root;
 use cdp_messages::{DomAsk, Numbers, Refused, ReplyBody, Why, write_refused, write_reply};
 use node_binding::{Binding, find_in, levels_of};
 use page_tree::{EditErr, Kind, Node, Page, TreeEdit};
@@ -120,8 +120,7 @@ impl DomAgent {
             ++ answer id (binding_outcome page.now (GetDocument depth None) self.old)) }
     {
         self.binding.start(page, depth.unwrap_or(1))?;
-        let document = told_tree(self.alloc, &self.binding, &page.root(), 0)?;
-        write_reply(self.alloc, id, &ReplyBody::Root(document), out)?;
+        tell_root(self.alloc, &self.binding, &page.root(), id, out)?;
         Ok(())
     }
 

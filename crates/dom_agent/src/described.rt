@@ -1,15 +1,51 @@
 //! Nodes that are described alone.
 
-ghost use Rattle.std.specs.Prelude.{◌≡◌, IfOk};
-ghost use Rattle.node_tree.specs.Nodes.{nodes_of};
-ghost use Rattle.cdp_messages.specs.Told.{told_nodes};
+ghost use Rattle.std.specs.Prelude.{◌≡◌, cond, is_some, IfOk};
+ghost use Rattle.node_tree.specs.Nodes.{nodes_of, width};
+ghost use Rattle.node_tree.specs.Labels.{holds};
+ghost use Rattle.cdp_messages.specs.Told.{told_nodes, hold_of, shown_children};
 ghost use Rattle.dom_agent.specs.Described.{no_ids, shown_to, described};
 
-use crate::told::told_node;
+use crate::told::count_of;
 use cdp_messages::NodeTree;
 use node_binding::{is_reached, less};
-use page_tree::{Children, Node};
+use page_tree::{Children, Node, Text};
 use std::alloc::{AllocError, Global};
+
+/// One node of the page with the children that are shown of it, if they are.
+fn told_node(
+    alloc: Global,
+    node: &Node,
+    id: u64,
+    parent: u64,
+    children: Option<Vec<NodeTree>>,
+) -> Result<NodeTree, AllocError>
+    ensures { IfOk result (λ t. t ≡ record {
+      row = record {
+        parent = parent;
+        count = cond (holds node.now.row.label.kind) (width node.now.children) 0;
+        seen = record {
+          id = id;
+          serial = node.now.row.serial;
+          label = node.now.row.label;
+          hold = hold_of (is_some children) (holds node.now.row.label.kind) (cond (holds node.now.row.label.kind) (width node.now.children) 0);
+        };
+      };
+      children = shown_children children;
+    }) }
+{
+    Ok(NodeTree {
+        id,
+        serial: node.serial(),
+        parent,
+        kind: node.kind(),
+        name: Text::copied(alloc, node.name())?,
+        value: Text::copied(alloc, node.value())?,
+        attributes: node.attributes().try_clone(alloc)?,
+        count: count_of(node),
+        children,
+    })
+}
 
 /// A node of the page as it is described alone, with what is below it to so many levels; `None` stands for all.
 #[cycle(describe)]
