@@ -58,6 +58,7 @@ fn put_name(held: &mut String, kind: Kind, name: &str) -> Result<(), AllocError>
     }
 }
 
+// Puts a name in ASCII upper case.
 fn push_upper_case(held: &mut String, name: &str) -> Result<(), AllocError>
     requires { string_bytes held.old ≡ [] }
     ensures { OnOk result (string_bytes held.new ≡ str_to_ascii_uppercase name.now) }

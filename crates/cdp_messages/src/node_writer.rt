@@ -30,6 +30,7 @@ pub enum NodeMessage {
     Inserted { parent: u64, previous: u64 },
 }
 
+// A reply up to the one member of its result.
 fn write_reply_opening(out: &mut Writer, id: u64, name: &str) -> Result<(), AllocError>
     ensures ok { OnOk result (out.new.tokens ≡ out.old.tokens ++ reply_opening id name.now) }
     ensures before { out.new.before ≡ out.old.before }
@@ -42,6 +43,7 @@ fn write_reply_opening(out: &mut Writer, id: u64, name: &str) -> Result<(), Allo
     Ok(())
 }
 
+// An event up to the first of its parameters, which is the nodes.
 fn write_event_opening(out: &mut Writer, event: EventName, name: &str) -> Result<(), AllocError>
     ensures ok { OnOk result (out.new.tokens ≡ out.old.tokens ++ event_opening (event_name event) name.now) }
     ensures before { out.new.before ≡ out.old.before }
@@ -54,6 +56,7 @@ fn write_event_opening(out: &mut Writer, event: EventName, name: &str) -> Result
     Ok(())
 }
 
+// All that stands before the nodes.
 fn write_opening(out: &mut Writer, message: NodeMessage) -> Result<(), AllocError>
     ensures ok { OnOk result (out.new.tokens ≡ out.old.tokens ++ opening_tokens message) }
     ensures before { out.new.before ≡ out.old.before }
@@ -71,7 +74,7 @@ fn write_opening(out: &mut Writer, message: NodeMessage) -> Result<(), AllocErro
     }
 }
 
-// What stands behind the nodes among the parameters of an event; nothing of a reply.
+// What stands behind the nodes among the parameters of an event; a reply has nothing there.
 fn write_fields_behind(out: &mut Writer, message: NodeMessage) -> Result<(), AllocError>
     ensures ok { OnOk result (out.new.tokens ≡ out.old.tokens ++ fields_behind message) }
     ensures before { out.new.before ≡ out.old.before }
@@ -86,6 +89,7 @@ fn write_fields_behind(out: &mut Writer, message: NodeMessage) -> Result<(), All
     }
 }
 
+// All that stands behind the nodes.
 fn write_closing(out: &mut Writer, message: NodeMessage) -> Result<(), AllocError>
     ensures ok { OnOk result (out.new.tokens ≡ out.old.tokens ++ closing_tokens message) }
     ensures before { out.new.before ≡ out.old.before }

@@ -50,6 +50,7 @@ fn write_nodes(out: &mut NodeWriter, trees: &Vec<NodeTree>) -> Result<(), AllocE
     Ok(())
 }
 
+// The message with this tree as its node.
 fn write_tree_message(
     out: &mut NodeWriter,
     message: NodeMessage,
@@ -65,6 +66,7 @@ fn write_tree_message(
     Ok(())
 }
 
+// The message with these trees as its nodes.
 fn write_trees_message(
     out: &mut NodeWriter,
     message: NodeMessage,

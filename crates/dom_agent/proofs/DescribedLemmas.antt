@@ -1,9 +1,9 @@
 -- A node that is described is one that a message can tell.
-use Rattle.std.proofs.Common.{◌≡◌, ℕ, suc, ◌+◌, ◌<◌, ◌≤◌, ◌^◌, ◌==◌, Bool, true, false, not, ◌&&◌, ◌||◌, cond, max, Option, Some, None, ◌⊎◌, ⊎_elim, refl, sym, ap, subst, ◌∙◌, arith, lt-ltb}
+use Rattle.std.proofs.Common.{◌≡◌, ℕ, suc, ◌+◌, ◌<◌, ◌≤◌, ◌^◌, Bool, true, false, not, ◌&&◌, ◌||◌, cond, Option, Some, ⊎_elim, refl, sym, subst, arith, lt-ltb}
 use Rattle.std.specs.Prelude.{⊤}
 use Rattle.std.proofs.lemmas.Bool.{and_parts, and_from, eq-eqb}
 use Rattle.node_tree.specs.Nodes.{Nodes, none, node, Branch, alone, width, height, node_count, map_rows}
-use Rattle.node_tree.specs.Keys.{find, tally}
+use Rattle.node_tree.specs.Keys.{find}
 use Rattle.node_tree.specs.Names.{is_element_name}
 use Rattle.node_tree.specs.Labels.{Label, is_document, is_element, holds, has_name, is_empty, is_ascending, is_formed_label, is_named_label}
 use Rattle.node_tree.specs.Seen.{Hold, Seen, leaf, counted, opened, is_opened}
@@ -25,8 +25,8 @@ use Rattle.cdp_messages.specs.Told.{Told, count_in, told_nodes}
 use Rattle.dom_agent.specs.Described.{shows_children, row_to, shown_to, kids_to, no_ids, described}
 use Rattle.dom_agent.specs.Laws.{RowsHaveUtf8, CanTell}
 use Rattle.dom_agent.proofs.StepLemmas.{CanSpell}
-use Rattle.dom_agent.proofs.ToldLemmas.{width-shown_to}
-use Rattle.dom_agent.proofs.TellableLemmas.{Fitting, fitting_row, fitting_later, formed_parts, no_document, named_parts, serials_there, document_named_label, tall}
+use Rattle.dom_agent.proofs.WritingLemmas.{width-shown_to}
+use Rattle.dom_agent.proofs.TellableLemmas.{Fitting, fitting_row, fitting_later, formed_parts, named_parts, serials_there, document_named_label, tall}
 
 -- ---- what a message can tell of a page
 

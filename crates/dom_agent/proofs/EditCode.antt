@@ -1,16 +1,14 @@
 -- What the code of an edit comes to.
-use Rattle.std.proofs.Common.{◌≡◌, ℕ, suc, ◌+◌, ◌-◌, ◌<◌, ◌≤◌, ◌==◌, Bool, true, false, cond, List, [], ◌∷◌, ◌++◌, Option, Some, None, IsSome, is_some, unwrap_or, Result, Ok, Err, refl, sym, ap, subst, ◌∙◌, arith}
+use Rattle.std.proofs.Common.{◌≡◌, ℕ, suc, ◌+◌, ◌-◌, ◌<◌, ◌≤◌, ◌==◌, true, false, cond, List, [], ◌∷◌, ◌++◌, Option, Some, None, IsSome, is_some, unwrap_or, Result, Ok, Err, refl, sym, ap, subst, ◌∙◌, arith}
 use Rattle.std.proofs.lemmas.Bool.{eq-eqb}
 use Rattle.std.specs.Result.{OnOk, IfOk, IsOkAnd}
 use Rattle.std.specs.declared.alloc.AllocError.{AllocError}
 use Rattle.std.specs.FinMap as map
-use Rattle.node_tree.specs.Nodes.{Nodes, none, node, Branch, alone, from, tree_at, width}
-use Rattle.node_tree.specs.Labels.{holds}
-use Rattle.node_tree.specs.Seen.{leaf, counted}
+use Rattle.node_tree.specs.Nodes.{Nodes, none, Branch, alone, from, tree_at, width}
 use Rattle.node_tree.proofs.KeyLemmas.{Stands, find-stands, stands-below}
 use Rattle.node_tree.proofs.ChangeLemmas.{at-new}
 use Rattle.page_tree.specs.Pages.{Row, State, IsValid, row_serial, find_in, node_at, parent_at}
-use Rattle.page_tree.specs.Edits.{after, after_tree, with_child, taken_out, children_at}
+use Rattle.page_tree.specs.Edits.{after, after_tree, with_child, children_at}
 use Rattle.page_tree.specs.EditFaults.{CanApply, CanAttach, first_fault}
 use Rattle.page_tree.specs.declared.edits.TreeEdit.{TreeEdit}
 use Rattle.page_tree.specs.declared.edits.TreeEdit.TheVariants.{Attach, Detach}
@@ -24,9 +22,7 @@ use Rattle.page_tree.proofs.BackLemmas.{turned-live}
 use Rattle.node_binding.proofs.StartLemmas.{distinct-alone}
 use Rattle.node_binding.specs.Bindings.{Bound, opened_in, id_in, with_bound}
 use Rattle.cdp_messages.specs.Answers.{ended}
-use Rattle.cdp_messages.specs.Events.{News, inserted}
-use Rattle.cdp_messages.specs.Told.{Told, told_branch, hold_of}
-use Rattle.cdp_messages.specs.Moves.{inserts, removes, counts, Move, change, change_news, move_text, frames_of_moves}
+use Rattle.cdp_messages.specs.Moves.{inserts, removes, counts, Move, change, frames_of_moves}
 use Rattle.dom_agent.specs.Keepers.{Keeper, binding_keeper}
 use Rattle.dom_agent.specs.Edits.{Edited, id_before, unopened, told_count, insertion, child_came, edited, event_frames}
 use Rattle.dom_agent.specs.EditLaws.{binding_edited}

@@ -1,5 +1,5 @@
 -- Nodes that are written straight from the page, as a message tells what is shown of them.
-use Rattle.std.proofs.Common.{◌≡◌, ℕ, suc, ◌+◌, ◌<◌, Bool, true, false, cond, List, [], ◌∷◌, ◌++◌, Option, Some, None, append_assoc, append-nil, refl, sym, ap, ◌∙◌}
+use Rattle.std.proofs.Common.{◌≡◌, ℕ, suc, ◌+◌, ◌<◌, Bool, true, false, not, ◌&&◌, cond, List, [], ◌∷◌, ◌++◌, Option, Some, append_assoc, append-nil, refl, sym, ap, ◌∙◌}
 use Rattle.std.specs.Prelude.{codes, option_map}
 use Rattle.json.specs.Token.{Token, begin_array, end_array, key}
 use Rattle.json.specs.Tree.{items_tokens}
@@ -12,17 +12,23 @@ use Rattle.node_tree.proofs.NodeLemmas.{from-zero}
 use Rattle.page_tree.specs.Pages.{Row}
 use Rattle.page_tree.proofs.CursorLemmas.{from-next}
 use Rattle.node_binding.specs.Cuts.{opens, cut}
+use Rattle.node_binding.specs.Openings.{less, is_spent}
 use Rattle.cdp_messages.specs.Told.{Told, told_nodes, told_branch, hold_of}
 use Rattle.cdp_messages.specs.NodeObject.{only_if}
 use Rattle.cdp_messages.specs.NodeData.{tree_items, tree_data}
 use Rattle.cdp_messages.specs.Tokens.{data_tokens, field_tokens, head_tokens, tail_tokens}
 use Rattle.cdp_messages.proofs.TokenLists.{after, node_tokens}
+use Rattle.dom_agent.specs.Described.{shows_children, shown_to, no_ids, described}
 use Rattle.dom_agent.specs.Requests.{shown}
 use Rattle.dom_agent.specs.Edits.{unopened}
 
 width-cut : (o : ℕ → Bool) (i : ℕ → ℕ) (n : Nodes Row) → width (cut o i n) ≡ width n
 width-cut o i none = refl
 width-cut o i (node r c t) = ap suc (width-cut o i t)
+
+pub width-shown_to : (i : ℕ → ℕ) (levels : Option ℕ) (n : Nodes Row) → width (shown_to i levels n) ≡ width n
+width-shown_to i levels none = refl
+width-shown_to i levels (node r c t) = ap suc (width-shown_to i levels t)
 
 -- nodes below the one of that id, as a message tells them
 abbrev pub nodes_data : ℕ → Nodes Seen → Data
@@ -86,6 +92,30 @@ shown_written o i parent b id r old {t1 = t1} id_is row_is e1 e2 e3 =
     ∙ ap (λ (x : ℕ). old ++ (head_tokens (plain_row x parent b) ++ (kids x ++ tail_tokens (plain_row x parent b)))) id_is
     ∙ ap (λ ts. old ++ ts) (node_told parent (i b.row.serial) b.row (width b.children) (cut o i b.children) (holds b.row.label.kind) (o b.row.serial) (width-cut o i b.children))
 
+module _ (r : Row) (w : ℕ) (kids : Nodes Seen) (same : width kids ≡ w) where
+  -- a node that is described, which may have children, or not, with levels left, or not
+  abbrev described_now : Bool → Bool → Branch Told
+  described_now container left =
+      told_branch 0
+      (record { row = record { id = 0; serial = r.serial; label = r.label; hold = cond container (cond (container && left) opened (counted w)) leaf }; children = cond (container && left) kids none })
+
+  described_told : (container left : Bool)
+      → head_tokens (row_with 0 0 r w kids (cond {A = ℕ} container w 0))
+      ++ (field_tokens (codes "children") (only_if (container && left) (nodes_data 0 kids)) ++ tail_tokens (row_with 0 0 r w kids (cond {A = ℕ} container w 0)))
+      ≡ data_tokens (tree_data (described_now container left))
+  described_told true left = node_told 0 0 r w kids true left same
+  described_told false left = node_told 0 0 r w kids false left same
+
+pub described_written : (levels : Option ℕ) (b : Branch Row) (r : Told) (old : List Token) {t1 t2 new : List Token} → r ≡ plain_row 0 0 b → t1 ≡ old ++ head_tokens r
+    → t2 ≡ t1 ++ field_tokens (codes "children") (only_if (shows_children levels b.row) (nodes_data 0 (shown_to no_ids (less levels) b.children))) → new ≡ t2 ++ tail_tokens r
+    → new ≡ old ++ data_tokens (tree_data (described levels b))
+described_written levels b r old {t1 = t1} row_is e1 e2 e3 =
+    let kids : List Token = field_tokens (codes "children") (only_if (shows_children levels b.row) (nodes_data 0 (shown_to no_ids (less levels) b.children))) in
+    after old (head_tokens r) (kids ++ tail_tokens r) e1 (after t1 kids (tail_tokens r) e2 e3)
+    ∙ ap (λ (x : Told). old ++ (head_tokens x ++ (kids ++ tail_tokens x))) row_is
+    ∙ ap (λ ts. old ++ ts)
+    (described_told b.row (width b.children) (shown_to no_ids (less levels) b.children) (width-shown_to no_ids (less levels) b.children) (holds b.row.label.kind) (not (is_spent levels)))
+
 pub unopened_written : (parent id : ℕ) (b : Branch Row) (r : Told) (old : List Token) {t1 new : List Token} → r ≡ plain_row id parent b → t1 ≡ old ++ head_tokens r → new ≡ t1 ++ tail_tokens r
     → new ≡ old ++ data_tokens (tree_data (told_branch parent (unopened id b)))
 unopened_written parent id b r old row_is e1 e2 =
@@ -108,24 +138,26 @@ children_written false d old e e1 e2 = cc
 abbrev pub left_tokens : ℕ → Nodes Seen → List Token
 left_tokens id kids = items_tokens (items_outline (tree_items (told_nodes id kids)))
 
-module _ (o : ℕ → Bool) (i : ℕ → ℕ) (parent : ℕ) (n : Nodes Row) where
+-- The walk over the children n, of which a client sees `see n`.
+module _ (see : Nodes Row → Nodes Seen) (parent : ℕ) (n : Nodes Row) where
   -- what was written, with what is left from a place on
   abbrev pub with_left : List Token → ℕ → List Token
-  with_left now k = now ++ left_tokens parent (cut o i (from k n))
+  with_left now k = now ++ left_tokens parent (see (from k n))
 
-  pub left_start : (old : List Token) {now : List Token} → now ≡ old ++ begin_array ∷ [] → with_left now 0 ≡ old ++ data_tokens (nodes_data parent (cut o i n))
+  pub left_start : (old : List Token) {now : List Token} → now ≡ old ++ begin_array ∷ [] → with_left now 0 ≡ old ++ data_tokens (nodes_data parent (see n))
   left_start old begun =
       ap (λ ts. with_left ts 0) begun
-      ∙ append_assoc old (begin_array ∷ []) (left_tokens parent (cut o i (from 0 n)))
-      ∙ ap (λ (m : Nodes Row). old ++ (begin_array ∷ left_tokens parent (cut o i m))) (from-zero n)
+      ∙ append_assoc old (begin_array ∷ []) (left_tokens parent (see (from 0 n)))
+      ∙ ap (λ (m : Nodes Row). old ++ (begin_array ∷ left_tokens parent (see m))) (from-zero n)
 
-  pub left_turn : (k : ℕ) (x : Branch Row) (now next all : List Token) → k < width n → tree_at k n ≡ Some x → next ≡ now ++ data_tokens (tree_data (told_branch parent (shown o i x))) → with_left now k ≡ all
+  pub left_turn : (one : Branch Seen) (k : ℕ) (x : Branch Row) (now next all : List Token) → k < width n → tree_at k n ≡ Some x
+      → see (node x.row x.children (from (k + 1) n)) ≡ node one.row one.children (see (from (k + 1) n)) → next ≡ now ++ data_tokens (tree_data (told_branch parent one)) → with_left now k ≡ all
       → with_left next (k + 1) ≡ all
-  left_turn k x now next all inside at wrote was =
+  left_turn one k x now next all inside at first wrote was =
       ap (λ ts. with_left ts (k + 1)) wrote
-      ∙ append_assoc now (data_tokens (tree_data (told_branch parent (shown o i x)))) (left_tokens parent (cut o i (from (k + 1) n)))
-      ∙ ap (λ (m : Nodes Row). now ++ left_tokens parent (cut o i m)) (sym (from-next n k x inside at))
+      ∙ append_assoc now (data_tokens (tree_data (told_branch parent one))) (left_tokens parent (see (from (k + 1) n)))
+      ∙ ap (λ (m : Nodes Seen). now ++ left_tokens parent m) (sym (ap see (from-next n k x inside at) ∙ first))
       ∙ was
 
-  pub left_end : (k : ℕ) (now last all : List Token) → from k n ≡ none → last ≡ now ++ end_array ∷ [] → with_left now k ≡ all → last ≡ all
-  left_end k now last all ended closed was = closed ∙ ap (λ (m : Nodes Row). now ++ left_tokens parent (cut o i m)) (sym ended) ∙ was
+  pub left_end : (k : ℕ) (now last all : List Token) → see none ≡ none → from k n ≡ none → last ≡ now ++ end_array ∷ [] → with_left now k ≡ all → last ≡ all
+  left_end k now last all nothing ended closed was = closed ∙ ap (λ (m : Nodes Seen). now ++ left_tokens parent m) (sym (ap see ended ∙ nothing)) ∙ was

@@ -17,7 +17,7 @@ ghost use Rattle.dom_agent.specs.Laws.{binding_outcome};
 ghost use Rattle.dom_agent.specs.Edits.{OnFault};
 ghost use Rattle.dom_agent.specs.EditLaws.{binding_edited};
 
-use crate::described::described_tree;
+use crate::described::tell_described;
 use crate::edits::{apply_and_tell, attach, attribute_dropped, attribute_set, detach, text_set};
 use crate::openings::request_node;
 use crate::paths::node_at_path;
@@ -378,8 +378,7 @@ impl DomAgent {
         let Some(found) = self.named_node(page, node, serial) else {
             return refuse(self.alloc, id, Why::UnknownNode, out);
         };
-        let described = described_tree(self.alloc, &found, levels_asked(depth))?;
-        reply(self.alloc, id, &ReplyBody::Node(described), out)
+        tell_described(self.alloc, &found, levels_asked(depth), id, out)
     }
 
     /// Opens each ancestor of the node that is not opened yet, from the top down, by one level; appends a frame for each.

@@ -22,7 +22,7 @@ use page_tree::{Children, Node};
 use std::alloc::{AllocError, Global};
 
 /// The number of its children, 0 for what can have none.
-pub(crate) fn count_of(node: &Node) -> u64
+fn count_of(node: &Node) -> u64
     ensures { result ≡ cond (holds node.now.row.label.kind) (width node.now.children) 0 }
 {
     if !is_container(node.kind()) {
@@ -31,6 +31,7 @@ pub(crate) fn count_of(node: &Node) -> u64
     node.len() as u64
 }
 
+/// Whether the children of the node are shown.
 fn is_opened(binding: &Binding, node: &Node) -> bool
     ensures { result ≡ opens (opened_in binding.now) node.now.row }
 {
@@ -39,7 +40,8 @@ fn is_opened(binding: &Binding, node: &Node) -> bool
 
 // ---- a node
 
-fn node_row<'a>(node: &Node<'a>, id: u64, parent: u64) -> NodeRow<'a>
+/// A node of that id with what is known of it alone, as a child of the node with the id `parent`.
+pub(crate) fn node_row<'a>(node: &Node<'a>, id: u64, parent: u64) -> NodeRow<'a>
     ensures { told_by result ≡ record {
       parent = parent;
       count = cond (holds node.now.row.label.kind) (width node.now.children) 0;
@@ -139,6 +141,7 @@ fn write_unopened(out: &mut NodeWriter, node: &Node, id: u64, parent: u64) -> Re
 
 // ---- messages
 
+/// The reply of that id, whose result is the document.
 fn write_root(
     out: &mut NodeWriter,
     binding: &Binding,
@@ -171,6 +174,7 @@ pub(crate) fn tell_root(
     writer.finish(written, out)
 }
 
+/// The event that tells the children of the node of the id `parent`.
 fn write_shows(
     out: &mut NodeWriter,
     binding: &Binding,
@@ -203,6 +207,7 @@ pub(crate) fn tell_shows(
     writer.finish(written, out)
 }
 
+/// The event that the node of the id `parent` has got this node as a child.
 fn write_inserted(
     out: &mut NodeWriter,
     node: &Node,

@@ -1,4 +1,4 @@
-use Rattle.std.proofs.Common.{◌≡◌, ◌++◌, ◌+◌, ◌*◌, ◌<◌, unwrap_or, sym, ap, subst, ◌∙◌, arith}
+use Rattle.std.proofs.Common.{◌≡◌, ◌++◌, ◌+◌, ◌*◌, ◌<◌, unwrap_or, refl, sym, ap, subst, ◌∙◌, arith}
 use Rattle.node_tree.specs.Nodes.{Nodes, width, node_count, branch_count}
 use Rattle.page_tree.specs.Pages.{Row}
 use Rattle.page_tree.proofs.CursorLemmas.{from-end, child-smaller}
@@ -6,6 +6,7 @@ use Rattle.node_binding.specs.Cuts.{opens, cut}
 use Rattle.node_binding.specs.Bindings.{opened_in, id_in}
 use Rattle.cdp_messages.specs.Tokens.{data_tokens}
 use Rattle.cdp_messages.specs.NodeWrites.{told_by}
+use Rattle.dom_agent.specs.Requests.{shown}
 use Rattle.dom_agent.proofs.WritingLemmas.{nodes_data, shown_written, children_hidden, children_written, left_start, left_turn, left_end}
 use Rattle.dom_agent.proofs.told.+write_shown.Goals as goal
 
@@ -30,7 +31,7 @@ write_opened-returns-clause-ok t c =
 pub write_children-loop-i-init : goal.write_children-loop-i-init
 write_children-loop-i-init t c =
     let b = c.args.binding.now in
-    record { tokens = left_start (opened_in b) (id_in b) c.args.parent c.args.children.now c.args.out.now.tokens c.in_ok-begin_nodes.ensures.ok; before = c.in_ok-begin_nodes.ensures.before }
+    record { tokens = left_start (cut (opened_in b) (id_in b)) c.args.parent c.args.children.now c.args.out.now.tokens c.in_ok-begin_nodes.ensures.ok; before = c.in_ok-begin_nodes.ensures.before }
 
 pub write_children-write_shown-requires : goal.write_children-write_shown-requires
 write_children-write_shown-requires t c =
@@ -43,7 +44,7 @@ write_children-loop-i-preserved t c =
     let b = c.args.binding.now in
     let inside : c.loop-i.i < width c.args.children.now = omega (arith, c.loop-i-test.true, c.len-i-end.ensures) in
     record {
-      tokens = left_turn (opened_in b) (id_in b) c.args.parent c.args.children.now c.loop-i.i c.at-child.result c.loop-i.out.tokens c.write_shown.new.out.tokens _ inside c.at-child.ensures c.in_ok-write_shown.ensures.ok
+      tokens = left_turn (cut (opened_in b) (id_in b)) c.args.parent c.args.children.now (shown (opened_in b) (id_in b) c.at-child.result) c.loop-i.i c.at-child.result c.loop-i.out.tokens c.write_shown.new.out.tokens _ inside c.at-child.ensures refl c.in_ok-write_shown.ensures.ok
           c.loop-i.invariant.tokens;
       before = c.in_ok-write_shown.ensures.before ∙ c.loop-i.invariant.before;
     }
@@ -51,5 +52,5 @@ write_children-loop-i-preserved t c =
 pub write_children-returns-clause-ok : goal.write_children-returns-clause-ok
 write_children-returns-clause-ok t c =
     let b = c.args.binding.now in
-    left_end (opened_in b) (id_in b) c.args.parent c.args.children.now c.loop-i.i c.loop-i.out.tokens c.end_nodes.new.self.tokens _
+    left_end (cut (opened_in b) (id_in b)) c.args.parent c.args.children.now c.loop-i.i c.loop-i.out.tokens c.end_nodes.new.self.tokens _ refl
     (from-end c.args.children.now c.loop-i.i (omega (arith, c.loop-i-test.false, c.len-i-end.ensures))) c.in_ok-end_nodes.ensures.ok c.loop-i.invariant.tokens
