@@ -14,7 +14,7 @@ pub mod TellableLaws
 pub mod TextsUtf8
 mod ScannedNodes
 mod ScannedTokens
-mod TokenLists
+pub mod TokenLists
 mod TreesRead
 mod Written
 pub mod ZeroFree

@@ -15,13 +15,17 @@ use Rattle.cdp_json.specs.Kinds.{whole, text}
 use Rattle.cdp_json.specs.Rows.{maybe_member}
 use Rattle.node_tree.specs.Labels.{Pair, Label, is_element, holds}
 use Rattle.node_tree.specs.Nodes.{Branch, nodes_of}
-use Rattle.pipe_frames.specs.Frames.{framed}
+use Rattle.node_tree.specs.Seen.{is_opened}
+use Rattle.cdp_messages.specs.Answers.{ended}
 use Rattle.cdp_messages.specs.Told.{Told, told_tree}
-use Rattle.cdp_messages.specs.NodeObject.{flat, attribute_list, type_number, node_name, local_name, only_if, node_members, node_fields, object_with}
+use Rattle.cdp_messages.specs.NodeObject.{flat, attribute_list, type_number, node_name, local_name, only_if, node_data, node_members, node_fields, object_with}
 use Rattle.cdp_messages.specs.NodeData.{tree_items, tree_data}
-use Rattle.cdp_messages.specs.Events.{envelope}
-use Rattle.cdp_messages.specs.Replies.{reply, message_data}
+use Rattle.cdp_messages.specs.Events.{event_name}
 use Rattle.cdp_messages.specs.Tokens.{data_tokens, field_tokens, head_tokens, tail_tokens}
+use Rattle.cdp_messages.specs.NodeWrites.{unshown, message_with, reply_opening, event_opening, opening_tokens, fields_behind, closing_tokens}
+use Rattle.cdp_messages.specs.declared.event_names.EventName.TheVariants.{ChildNodeInserted, SetChildNodes}
+use Rattle.cdp_messages.specs.declared.node_writer.NodeMessage.{NodeMessage}
+use Rattle.cdp_messages.specs.declared.node_writer.NodeMessage.TheVariants.{Root, Node, Children, Inserted}
 use Rattle.cdp_messages.proofs.Written.{written_items, tree_written}
 
 -- ---- one call after another
@@ -104,25 +108,33 @@ object_tokens a s c k l i n t v p =
 row_tokens : (r : Told) (k : Option Items) → data_tokens (node_fields.spell (object_with r k)) ≡ head_tokens r ++ (field_tokens (codes "children") (option_map array k) ++ tail_tokens r)
 row_tokens r k = object_tokens _ _ _ _ _ _ _ _ _ _
 
+-- the same of a told row, over the items of its children
+pub node_tokens : (r : Told) (ds : Items) → data_tokens (node_data r ds) ≡ head_tokens r ++ (field_tokens (codes "children") (option_map array (only_if (is_opened r.seen.hold) ds)) ++ tail_tokens r)
+node_tokens r ds = row_tokens r (only_if (is_opened r.seen.hold) ds)
+
 pub tree_tokens : (parent count id serial : ℕ) (label : Label) (o : Option (Vec (Branch Told) Global)) (b : Branch Told) → told_tree parent count id serial label o ≡ b
     → head_tokens b.row ++ (field_tokens (codes "children") (option_map array (option_map written_items o)) ++ tail_tokens b.row) ≡ data_tokens (tree_data b)
 tree_tokens parent count id serial label o b e =
     sym (row_tokens b.row (option_map written_items o)) ∙ ap data_tokens (tree_written parent count id serial label o b (option_map written_items o) e refl)
 
 -- a node whose children are written, and one whose children are not shown
-pub shown_written : (parent count id serial : ℕ) (label : Label) (o : Option (Vec (Branch Told) Global)) (ts : Vec (Branch Told) Global) (b : Branch Told) (old : List Token) {t1 t2 t3 new : List Token}
-    → told_tree parent count id serial label o ≡ b → o ≡ Some ts → t1 ≡ old ++ head_tokens b.row → t2 ≡ t1 ++ key (codes "children") ∷ []
-    → t3 ≡ t2 ++ data_tokens (array (tree_items (nodes_of ts.items))) → new ≡ t3 ++ tail_tokens b.row → new ≡ old ++ data_tokens (tree_data b)
-shown_written parent count id serial label o ts b old {t1 = t1} {t2 = t2} told is e1 e2 e3 e4 =
+pub shown_written : (parent count id serial : ℕ) (label : Label) (o : Option (Vec (Branch Told) Global)) (ts : Vec (Branch Told) Global) (b : Branch Told) (r : Told) (old : List Token) {t1 t2 t3 new : List Token}
+    → told_tree parent count id serial label o ≡ b → o ≡ Some ts → r ≡ unshown b.row → t1 ≡ old ++ head_tokens r → t2 ≡ t1 ++ key (codes "children") ∷ []
+    → t3 ≡ t2 ++ data_tokens (array (tree_items (nodes_of ts.items))) → new ≡ t3 ++ tail_tokens r → new ≡ old ++ data_tokens (tree_data b)
+shown_written parent count id serial label o ts b r old {t1 = t1} {t2 = t2} {t3 = t3} {new = new} told is same head e2 e3 tail =
+    let e1 : t1 ≡ old ++ head_tokens b.row = head ∙ ap (λ x. old ++ head_tokens x) same in
+    let e4 : new ≡ t3 ++ tail_tokens b.row = tail ∙ ap (λ x. t3 ++ tail_tokens x) same in
     let written = tree_tokens parent count id serial label (Some ts) b (subst (λ x. told_tree parent count id serial label x ≡ b) is told) in
     after old (head_tokens b.row) (field_tokens (codes "children") (Some (array (tree_items (nodes_of ts.items)))) ++ tail_tokens b.row) e1
     (after t1 (key (codes "children") ∷ []) (data_tokens (array (tree_items (nodes_of ts.items))) ++ tail_tokens b.row) e2
     (after t2 (data_tokens (array (tree_items (nodes_of ts.items)))) (tail_tokens b.row) e3 e4))
     ∙ ap (λ xs. old ++ xs) written
 
-pub hidden_written : (parent count id serial : ℕ) (label : Label) (o : Option (Vec (Branch Told) Global)) (b : Branch Told) (old : List Token) {t1 new : List Token}
-    → told_tree parent count id serial label o ≡ b → o ≡ None → t1 ≡ old ++ head_tokens b.row → new ≡ t1 ++ tail_tokens b.row → new ≡ old ++ data_tokens (tree_data b)
-hidden_written parent count id serial label o b old told is e1 e2 =
+pub hidden_written : (parent count id serial : ℕ) (label : Label) (o : Option (Vec (Branch Told) Global)) (b : Branch Told) (r : Told) (old : List Token) {t1 new : List Token}
+    → told_tree parent count id serial label o ≡ b → o ≡ None → r ≡ unshown b.row → t1 ≡ old ++ head_tokens r → new ≡ t1 ++ tail_tokens r → new ≡ old ++ data_tokens (tree_data b)
+hidden_written parent count id serial label o b r old {t1 = t1} {new = new} told is same head tail =
+    let e1 : t1 ≡ old ++ head_tokens b.row = head ∙ ap (λ x. old ++ head_tokens x) same in
+    let e2 : new ≡ t1 ++ tail_tokens b.row = tail ∙ ap (λ x. t1 ++ tail_tokens x) same in
     let written = tree_tokens parent count id serial label None b (subst (λ x. told_tree parent count id serial label x ≡ b) is told) in
     after old (head_tokens b.row) (tail_tokens b.row) e1 e2 ∙ ap (λ xs. old ++ xs) written
 
@@ -151,19 +163,19 @@ items_turn f start now next xs x i below at step so =
 
 items_end : {A : Type 0} (f : A → List Token) (old start now last : List Token) (xs : List A) (i : ℕ) → length xs ≤ i → start ≡ old ++ begin_array ∷ []
     → now ≡ start ++ flat_map f (take i xs) → last ≡ now ++ end_array ∷ [] → last ≡ old ++ (begin_array ∷ (flat_map f xs ++ end_array ∷ []))
-items_end f old start now last xs i all begun so framed =
-    after old (begin_array ∷ []) _ begun (after start (flat_map f xs) (end_array ∷ []) (so ∙ ap (λ ys. start ++ flat_map f ys) (take_all i xs all)) framed)
+items_end f old start now last xs i all begun so ended =
+    after old (begin_array ∷ []) _ begun (after start (flat_map f xs) (end_array ∷ []) (so ∙ ap (λ ys. start ++ flat_map f ys) (take_all i xs all)) ended)
 
 pub pairs_end : (old start now last : List Token) (ps qs : List Pair) (i : ℕ) → length ps ≤ i → ps ≡ qs → start ≡ old ++ begin_array ∷ []
     → now ≡ start ++ flat_map pair_tokens (take i ps) → last ≡ now ++ end_array ∷ [] → last ≡ old ++ data_tokens (attribute_list.spell qs)
-pairs_end old start now last ps qs i all same begun so framed =
-    items_end pair_tokens old start now last ps i all begun so framed
+pairs_end old start now last ps qs i all same begun so ended =
+    items_end pair_tokens old start now last ps i all begun so ended
     ∙ ap (λ ts. old ++ (begin_array ∷ ts)) (sym (pairs_tokens ps)) ∙ ap (λ rs. old ++ data_tokens (attribute_list.spell rs)) same
 
 pub branches_end : (old start now last : List Token) (bs cs : List (Branch Told)) (i : ℕ) → length bs ≤ i → bs ≡ cs → start ≡ old ++ begin_array ∷ []
     → now ≡ start ++ flat_map branch_tokens (take i bs) → last ≡ now ++ end_array ∷ [] → last ≡ old ++ data_tokens (array (tree_items (nodes_of cs)))
-branches_end old start now last bs cs i all same begun so framed =
-    items_end branch_tokens old start now last bs i all begun so framed
+branches_end old start now last bs cs i all same begun so ended =
+    items_end branch_tokens old start now last bs i all begun so ended
     ∙ ap (λ ts. old ++ (begin_array ∷ ts)) (sym (branches_tokens bs)) ∙ ap (λ ds. old ++ data_tokens (array (tree_items (nodes_of ds)))) same
 
 -- ---- a frame
@@ -172,8 +184,8 @@ text_is : (ts : List Token) {us : List Token} (d : Data) → us ≡ [] → ts �
 text_is ts d none e = ap print (e ∙ ap (λ us. us ++ data_tokens d) none) ∙ print-outline d
 
 pub frame_is : {E : Type 0} (written result : Result (Unit {0}) E) (old before now : List ℕ) (us ts : List Token) (d : Data) → us ≡ [] → OnOk written (ts ≡ us ++ data_tokens d) → OnOk result (IsOk written)
-    → before ≡ old → OnOk result (now ≡ before ++ framed (print ts)) → OnOk result (now ≡ old ++ framed (compact_text d))
-frame_is (Ok u) (Ok w) old before now us ts d begun e done b n = n ∙ ap₂ (λ xs ys. xs ++ framed ys) b (text_is ts d begun e)
+    → before ≡ old → OnOk result (now ≡ before ++ ended (print ts)) → OnOk result (now ≡ old ++ ended (compact_text d))
+frame_is (Ok u) (Ok w) old before now us ts d begun e done b n = n ∙ ap₂ (λ xs ys. xs ++ ended ys) b (text_is ts d begun e)
 frame_is (Ok u) (Err x) old before now us ts d begun e done b n = tt
 frame_is (Err x) (Ok w) old before now us ts d begun e done b n = absurd cc
 frame_is (Err x) (Err y) old before now us ts d begun e done b n = tt
@@ -185,32 +197,47 @@ frame_utf8 (Ok u) (Err x) us ts d begun e done b = tt
 frame_utf8 (Err x) (Ok w) us ts d begun e done b = absurd cc
 frame_utf8 (Err x) (Err y) us ts d begun e done b = tt
 
+-- a frame that was written behind what it begins with
+pub frame_sent : {E : Type 0} (written result : Result (Unit {0}) E) (old before now : List ℕ) (us ts : List Token) (d : Data) → us ≡ [] → OnOk written (ts ≡ us ++ data_tokens d) → before ≡ old
+    → (OnOk written (ts ≡ data_tokens d) → OnOk result (now ≡ before ++ ended (compact_text d))) → OnOk result (now ≡ old ++ ended (compact_text d))
+frame_sent (Err x) result old before now us ts d begun e b done = subst (λ (l : List ℕ). OnOk result (now ≡ l ++ ended (compact_text d))) b (done tt)
+frame_sent (Ok u) result old before now us ts d begun e b done =
+    subst (λ (l : List ℕ). OnOk result (now ≡ l ++ ended (compact_text d))) b (done (e ∙ ap (λ xs. xs ++ data_tokens d) begun))
+
+pub sent_utf8 : {E : Type 0} (written result : Result (Unit {0}) E) (us ts : List Token) (d : Data) → us ≡ [] → OnOk written (ts ≡ us ++ data_tokens d)
+    → (OnOk written (ts ≡ data_tokens d) → OnOk result (IsUtf8 (compact_text d))) → OnOk result (IsUtf8 (compact_text d))
+sent_utf8 (Err x) result us ts d begun e done = done tt
+sent_utf8 (Ok u) result us ts d begun e done = done (e ∙ ap (λ xs. xs ++ data_tokens d) begun)
+
 -- ---- messages with nodes, after each of the calls that write them
 
--- a reply with an object that was written before
-pub reply_written : (old : List Token) (id : ℕ) (d : Data) {t1 t2 t3 t4 new : List Token} → t1 ≡ old ++ begin_object ∷ [] → t2 ≡ t1 ++ field_tokens (codes "id") (Some (whole.spell id))
-    → t3 ≡ t2 ++ key (codes "result") ∷ [] → t4 ≡ t3 ++ data_tokens d → new ≡ t4 ++ end_object ∷ [] → new ≡ old ++ data_tokens (message_data (reply id d))
-reply_written old id d {t1 = t1} {t2 = t2} {t3 = t3} e1 e2 e3 e4 e5 =
-    after old (begin_object ∷ []) (field_tokens (codes "id") (Some (whole.spell id)) ++ (key (codes "result") ∷ (data_tokens d ++ end_object ∷ []))) e1
-    (after t1 (field_tokens (codes "id") (Some (whole.spell id))) (key (codes "result") ∷ (data_tokens d ++ end_object ∷ [])) e2
-    (after t2 (key (codes "result") ∷ []) (data_tokens d ++ end_object ∷ []) e3 (after t3 (data_tokens d) (end_object ∷ []) e4 e5)))
+-- a reply up to the one member of its result
+pub reply_opened : (old : List Token) (id : ℕ) (name : List ℕ) {t1 t2 t3 t4 new : List Token} → t1 ≡ old ++ begin_object ∷ [] → t2 ≡ t1 ++ field_tokens (codes "id") (Some (whole.spell id))
+    → t3 ≡ t2 ++ key (codes "result") ∷ [] → t4 ≡ t3 ++ begin_object ∷ [] → new ≡ t4 ++ key name ∷ [] → new ≡ old ++ reply_opening id name
+reply_opened old id name e1 e2 e3 e4 e5 = rw (e5, e4, e3, e2, e1) (simp append_assoc)
 
--- an event with parameters that were written before
-pub event_written : (old : List Token) (name : List ℕ) (d : Data) {t1 t2 new : List Token} → t1 ≡ old ++ begin_object ∷ (field_tokens (codes "method") (Some (text.spell name)) ++ key (codes "params") ∷ [])
-    → t2 ≡ t1 ++ data_tokens d → new ≡ t2 ++ end_object ∷ [] → new ≡ old ++ data_tokens (envelope.spell (name, (d, tt)))
-event_written old name d {t1 = t1} e1 e2 e3 =
-    after old (begin_object ∷ (field_tokens (codes "method") (Some (text.spell name)) ++ key (codes "params") ∷ [])) (data_tokens d ++ end_object ∷ []) e1
-    (after t1 (data_tokens d) (end_object ∷ []) e2 e3)
+-- an event up to the first of its parameters
+pub event_opened : (old : List Token) (method name : List ℕ) {shown : List ℕ} {t1 t2 t3 t4 new : List Token} → shown ≡ method → t1 ≡ old ++ begin_object ∷ []
+    → t2 ≡ t1 ++ field_tokens (codes "method") (Some (text.spell shown)) → t3 ≡ t2 ++ key (codes "params") ∷ [] → t4 ≡ t3 ++ begin_object ∷ [] → new ≡ t4 ++ key name ∷ []
+    → new ≡ old ++ event_opening method name
+event_opened old method name is e1 e2 e3 e4 e5 = rw (e5, e4, e3, e2, e1, is) (simp append_assoc)
 
--- what was written of a value that is known by another name
-pub said : {E : Type 0} (r : Result (Unit {0}) E) (old now : List ℕ) {d e : Data} → d ≡ e → OnOk r (now ≡ old ++ framed (compact_text d)) → OnOk r (now ≡ old ++ framed (compact_text e))
-said r old now is done = subst (λ x. OnOk r (now ≡ old ++ framed (compact_text x))) is done
+-- a message behind its nodes
+pub message_closed : (old : List Token) (m : NodeMessage) {t1 t2 new : List Token} → t1 ≡ old ++ fields_behind m → t2 ≡ t1 ++ end_object ∷ [] → new ≡ t2 ++ end_object ∷ [] → new ≡ old ++ closing_tokens m
+message_closed old m e1 e2 e3 = rw (e3, e2, e1) (simp append_assoc)
 
-pub said_utf8 : {E : Type 0} (r : Result (Unit {0}) E) {d e : Data} → d ≡ e → OnOk r (IsUtf8 (compact_text d)) → OnOk r (IsUtf8 (compact_text e))
-said_utf8 r is done = subst (λ x. OnOk r (IsUtf8 (compact_text x))) is done
+-- the parts of a message
+message_tokens : (m : NodeMessage) (d : Data) → opening_tokens m ++ (data_tokens d ++ closing_tokens m) ≡ data_tokens (message_with m d)
+message_tokens (Root id) d = ap (λ ts. reply_opening id (codes "root") ++ ts) (sym (append_assoc (data_tokens d) (end_object ∷ []) (end_object ∷ [])))
+message_tokens (Node id) d = ap (λ ts. reply_opening id (codes "node") ++ ts) (sym (append_assoc (data_tokens d) (end_object ∷ []) (end_object ∷ [])))
+message_tokens (Children parent) d =
+    ap (λ ts. event_opening (event_name SetChildNodes) (codes "nodes") ++ ts) (sym (append_assoc (data_tokens d) (field_tokens (codes "parentId") (Some (whole.spell parent)) ++ end_object ∷ []) (end_object ∷ [])))
+message_tokens (Inserted parent previous) d =
+    ap (λ ts. event_opening (event_name ChildNodeInserted) (codes "node") ++ ts)
+    (sym (append_assoc (data_tokens d) (field_tokens (codes "parentNodeId") (Some (whole.spell parent)) ++ (field_tokens (codes "previousNodeId") (Some (whole.spell previous)) ++ end_object ∷ [])) (end_object ∷ [])))
 
--- an event of a method, up to its parameters
-pub method_written : (old : List Token) (name : List ℕ) {shown : List ℕ} {t1 t2 new : List Token} → shown ≡ name → t1 ≡ old ++ begin_object ∷ []
-    → t2 ≡ t1 ++ field_tokens (codes "method") (Some (text.spell shown)) → new ≡ t2 ++ key (codes "params") ∷ []
-    → new ≡ old ++ begin_object ∷ (field_tokens (codes "method") (Some (text.spell name)) ++ key (codes "params") ∷ [])
-method_written old name is e1 e2 e3 = rw (e3, e2, e1, is) (simp append_assoc)
+-- a message whose nodes were written between its opening and its closing
+pub message_written : (old : List Token) (m : NodeMessage) (d : Data) {t1 t2 new : List Token} → t1 ≡ old ++ opening_tokens m → t2 ≡ t1 ++ data_tokens d → new ≡ t2 ++ closing_tokens m
+    → new ≡ old ++ data_tokens (message_with m d)
+message_written old m d {t1 = t1} e1 e2 e3 =
+    after old (opening_tokens m) (data_tokens d ++ closing_tokens m) e1 (after t1 (data_tokens d) (closing_tokens m) e2 e3) ∙ ap (λ ts. old ++ ts) (message_tokens m d)

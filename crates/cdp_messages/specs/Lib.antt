@@ -3,6 +3,7 @@ pub mod NodeObject
 pub mod NodeData
 pub mod Tokens
 pub mod Forms
+pub mod NodeWrites
 pub mod Raw
 pub mod JsonCode
 pub mod Methods

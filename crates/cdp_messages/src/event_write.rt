@@ -1,26 +1,20 @@
 // Writing what the back end tells unasked.
-ghost use Rattle.std.specs.Prelude.{◌≡◌, ◌++◌, [], ◌∷◌, Some, codes, IfOk, OnOk, OnErr, IsUtf8, false};
-ghost use Rattle.json.specs.Token.{begin_object, key};
+ghost use Rattle.std.specs.Prelude.{◌≡◌, ◌++◌, IfOk, OnOk, OnErr, IsUtf8, false};
 ghost use Rattle.serde_json.specs.View.{view};
-ghost use Rattle.serde_json.specs.Written.{compact_text};
-ghost use Rattle.cdp_json.specs.Kinds.{text};
-ghost use Rattle.node_tree.specs.Nodes.{nodes_of};
-ghost use Rattle.pipe_frames.specs.Frames.{framed};
-ghost use Rattle.cdp_messages.specs.Events.{news_of, set_children, inserted, watch as watched, event_name, envelope, modified_kind, dropped_kind, data_kind, count_kind, inserted_kind, removed_kind, children_kind, added_kind, sheet_id_kind, pause_kind, paused_kind, news_data};
+ghost use Rattle.cdp_messages.specs.Answers.{ended};
+ghost use Rattle.cdp_messages.specs.Events.{news_of, watch as watched, event_name, envelope, modified_kind, dropped_kind, data_kind, count_kind, removed_kind, added_kind, sheet_id_kind, pause_kind, paused_kind, news_data};
 ghost use Rattle.cdp_messages.specs.Replies.{event_text};
-ghost use Rattle.cdp_messages.specs.Tokens.{data_tokens, field_tokens};
 ghost use Rattle.cdp_messages.specs.Forms.{event_said};
 
 use crate::command::WatchWord;
 use crate::down::{Event, PauseData};
 use crate::event_names::EventName;
-use crate::node_write::{write_node, write_nodes};
-use crate::token_write::{begin_frame, end_frame, text_field, whole_field};
+use crate::node_writer::NodeMessage;
 use crate::tree::NodeTree;
+use crate::tree_write::{append_tree, append_trees};
 use crate::write::append;
 use cdp_json::object;
 use css_objects::{Header, header_value, sheet_value};
-use json::Writer;
 use node_tree::Text;
 use serde_json::{Map, Value};
 use std::alloc::{AllocError, Global};
@@ -158,125 +152,6 @@ fn envelope_value(alloc: Global, name: EventName, params: Value) -> Result<Value
     object(alloc, fields)
 }
 
-// An event of that method, up to its parameters.
-fn write_method(out: &mut Writer, name: EventName) -> Result<(), AllocError>
-    ensures ok { OnOk result (out.new.tokens ≡ out.old.tokens
-        ++ begin_object ∷ (field_tokens (codes "method") (Some (text.spell (event_name name)))
-        ++ key (codes "params") ∷ [])) }
-    ensures before { out.new.before ≡ out.old.before }
-{
-    out.begin_object()?;
-    text_field(out, "method", name.as_str())?;
-    out.key("params")?;
-    Ok(())
-}
-
-// The parameters of `DOM.setChildNodes`.
-fn write_children(
-    alloc: Global,
-    out: &mut Writer,
-    parent: u64,
-    nodes: &Vec<NodeTree>,
-) -> Result<(), AllocError>
-    ensures ok { OnOk result (out.new.tokens ≡ out.old.tokens
-        ++ data_tokens (children_kind.spell (nodes_of nodes.now.items, (parent, tt)))) }
-    ensures before { out.new.before ≡ out.old.before }
-{
-    out.begin_object()?;
-    out.key("nodes")?;
-    write_nodes(alloc, out, nodes)?;
-    whole_field(out, "parentId", parent)?;
-    out.end_object()?;
-    Ok(())
-}
-
-fn write_children_event(
-    alloc: Global,
-    out: &mut Writer,
-    parent: u64,
-    nodes: &Vec<NodeTree>,
-) -> Result<(), AllocError>
-    ensures ok { OnOk result (out.new.tokens ≡ out.old.tokens
-        ++ data_tokens (news_data (set_children parent (nodes_of nodes.now.items)))) }
-    ensures before { out.new.before ≡ out.old.before }
-{
-    write_method(out, EventName::SetChildNodes)?;
-    write_children(alloc, out, parent, nodes)?;
-    out.end_object()?;
-    Ok(())
-}
-
-fn append_children(
-    alloc: Global,
-    parent: u64,
-    nodes: &Vec<NodeTree>,
-    out: &mut Vec<u8>,
-) -> Result<(), AllocError>
-    ensures ok { OnOk result (out.new.items ≡ out.old.items
-        ++ framed (event_text (set_children parent (nodes_of nodes.now.items)))) }
-    ensures utf8 { OnOk result (IsUtf8 (event_text (set_children parent (nodes_of nodes.now.items)))) }
-    ensures err { OnErr result (out.new.items ≡ out.old.items) }
-{
-    let (mut writer, start) = begin_frame(alloc, out);
-    let written = write_children_event(alloc, &mut writer, parent, nodes);
-    end_frame(writer, start, written, out)
-}
-
-// The parameters of `DOM.childNodeInserted`.
-fn write_inserted(
-    alloc: Global,
-    out: &mut Writer,
-    parent: u64,
-    previous: u64,
-    node: &NodeTree,
-) -> Result<(), AllocError>
-    ensures ok { OnOk result (out.new.tokens ≡ out.old.tokens
-        ++ data_tokens (inserted_kind.spell (node.now, (parent, (previous, tt))))) }
-    ensures before { out.new.before ≡ out.old.before }
-{
-    out.begin_object()?;
-    out.key("node")?;
-    write_node(alloc, out, node)?;
-    whole_field(out, "parentNodeId", parent)?;
-    whole_field(out, "previousNodeId", previous)?;
-    out.end_object()?;
-    Ok(())
-}
-
-fn write_inserted_event(
-    alloc: Global,
-    out: &mut Writer,
-    parent: u64,
-    previous: u64,
-    node: &NodeTree,
-) -> Result<(), AllocError>
-    ensures ok { OnOk result (out.new.tokens ≡ out.old.tokens
-        ++ data_tokens (news_data (inserted parent previous node.now))) }
-    ensures before { out.new.before ≡ out.old.before }
-{
-    write_method(out, EventName::ChildNodeInserted)?;
-    write_inserted(alloc, out, parent, previous, node)?;
-    out.end_object()?;
-    Ok(())
-}
-
-fn append_inserted(
-    alloc: Global,
-    parent: u64,
-    previous: u64,
-    node: &NodeTree,
-    out: &mut Vec<u8>,
-) -> Result<(), AllocError>
-    ensures ok { OnOk result (out.new.items ≡ out.old.items
-        ++ framed (event_text (inserted parent previous node.now))) }
-    ensures utf8 { OnOk result (IsUtf8 (event_text (inserted parent previous node.now))) }
-    ensures err { OnErr result (out.new.items ≡ out.old.items) }
-{
-    let (mut writer, start) = begin_frame(alloc, out);
-    let written = write_inserted_event(alloc, &mut writer, parent, previous, node);
-    end_frame(writer, start, written, out)
-}
-
 // An event as it is to be written.
 #[derive(Drop)]
 pub(crate) enum EventForm<'a> {
@@ -366,7 +241,7 @@ fn event_form(alloc: Global, event: &Event) -> Result<EventForm<'_>, AllocError>
 
 /// Appends an event as one frame, with its zero byte.
 pub fn write_event(alloc: Global, event: &Event, out: &mut Vec<u8>) -> Result<(), AllocError>
-    ensures ok { OnOk result (out.new.items ≡ out.old.items ++ framed (event_text (news_of event.now))) }
+    ensures ok { OnOk result (out.new.items ≡ out.old.items ++ ended (event_text (news_of event.now))) }
     ensures utf8 { OnOk result (IsUtf8 (event_text (news_of event.now))) }
     ensures err { OnErr result (out.new.items ≡ out.old.items) }
 {
@@ -380,7 +255,9 @@ pub fn write_event(alloc: Global, event: &Event, out: &mut Vec<u8>) -> Result<()
             parent,
             previous,
             node,
-        } => append_inserted(alloc, parent, previous, node, out),
-        EventForm::Children { parent, nodes } => append_children(alloc, parent, nodes, out),
+        } => append_tree(alloc, NodeMessage::Inserted { parent, previous }, node, out),
+        EventForm::Children { parent, nodes } => {
+            append_trees(alloc, NodeMessage::Children { parent }, nodes, out)
+        }
     }
 }

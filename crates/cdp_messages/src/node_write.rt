@@ -1,16 +1,14 @@
-// A tree of nodes as the tokens of its text, with no JSON values in between.
-ghost use Rattle.std.specs.Prelude.{◌≡◌, ◌++◌, IfOk, OnOk, nat_lt, codes, option_map, string_bytes, Some};
+// A node's object as the tokens of its text, with no JSON values in between.
+ghost use Rattle.std.specs.Prelude.{◌≡◌, ◌++◌, [], IfOk, OnOk, nat_lt, codes, option_map, string_bytes, Some};
 ghost use Rattle.std.specs.Str.{str_to_ascii_uppercase};
 ghost use Rattle.cdp_json.specs.Kinds.{whole, text};
 ghost use Rattle.node_tree.specs.Labels.{is_element, holds};
-ghost use Rattle.node_tree.specs.Nodes.{nodes_of};
 ghost use Rattle.cdp_messages.specs.NodeObject.{attribute_list, node_type, type_number, name_shown, local_name_of, only_if};
-ghost use Rattle.cdp_messages.specs.NodeData.{tree_data};
-ghost use Rattle.cdp_messages.specs.Events.{nodes_kind};
 ghost use Rattle.cdp_messages.specs.Tokens.{data_tokens, field_tokens, head_tokens, tail_tokens};
+ghost use Rattle.cdp_messages.specs.NodeWrites.{told_by};
 
+use crate::node_row::NodeRow;
 use crate::token_write::{text_field, whole_field};
-use crate::tree::NodeTree;
 use json::Writer;
 use node_tree::{Attributes, Kind};
 use std::alloc::{AllocError, Global};
@@ -46,25 +44,37 @@ fn type_number(kind: Kind) -> u64
     }
 }
 
-fn upper_case(alloc: Global, name: &str) -> Result<String, AllocError>
-    ensures { IfOk result (λ text. string_bytes text ≡ str_to_ascii_uppercase name.now) }
+// Puts what is shown as the name of a node of that kind and name in the place of what `held` has.
+fn put_name(held: &mut String, kind: Kind, name: &str) -> Result<(), AllocError>
+    ensures { OnOk result (string_bytes held.new ≡ name_shown kind name.now) }
 {
-    let mut text = String::from_str(alloc, name)?;
-    text.make_ascii_uppercase();
-    Ok(text)
+    held.clear();
+    match kind {
+        Kind::Document => held.push_str("#document"),
+        Kind::Element => push_upper_case(held, name),
+        Kind::Text => held.push_str("#text"),
+        Kind::Comment => held.push_str("#comment"),
+        Kind::Doctype => held.push_str(name),
+    }
+}
+
+// Puts a name in ASCII upper case.
+fn push_upper_case(held: &mut String, name: &str) -> Result<(), AllocError>
+    requires { string_bytes held.old ≡ [] }
+    ensures { OnOk result (string_bytes held.new ≡ str_to_ascii_uppercase name.now) }
+{
+    held.push_str(name)?;
+    held.make_ascii_uppercase();
+    Ok(())
 }
 
 // What is shown as the name of a node of that kind and name.
 pub(crate) fn node_name(alloc: Global, kind: Kind, name: &str) -> Result<String, AllocError>
     ensures { IfOk result (λ text. string_bytes text ≡ name_shown kind name.now) }
 {
-    match kind {
-        Kind::Document => String::from_str(alloc, "#document"),
-        Kind::Element => upper_case(alloc, name),
-        Kind::Text => String::from_str(alloc, "#text"),
-        Kind::Comment => String::from_str(alloc, "#comment"),
-        Kind::Doctype => String::from_str(alloc, name),
-    }
+    let mut shown = String::new(alloc);
+    put_name(&mut shown, kind, name)?;
+    Ok(shown)
 }
 
 // The local name of a node of that kind and name.
@@ -127,81 +137,43 @@ fn parent_field(out: &mut Writer, parent: u64) -> Result<(), AllocError>
     }
 }
 
-// The name that is shown of a node.
-fn name_field(alloc: Global, out: &mut Writer, kind: Kind, name: &str) -> Result<(), AllocError>
+// The name that is shown of a node; `held` is room for it.
+fn name_field(out: &mut Writer, held: &mut String, kind: Kind, name: &str) -> Result<(), AllocError>
     ensures ok { OnOk result (out.new.tokens ≡ out.old.tokens ++ field_tokens (codes "nodeName")
         (Some (text.spell (name_shown kind name.now)))) }
     ensures before { out.new.before ≡ out.old.before }
 {
-    let shown = node_name(alloc, kind, name)?;
-    text_field(out, "nodeName", shown.as_str())
+    put_name(held, kind, name)?;
+    text_field(out, "nodeName", held.as_str())
 }
 
-// A node's object, up to its children.
-fn write_head(out: &mut Writer, tree: &NodeTree) -> Result<(), AllocError>
-    ensures ok { OnOk result (out.new.tokens ≡ out.old.tokens ++ head_tokens tree.now.row) }
+/// A node's object, up to its children.
+pub(crate) fn write_head(out: &mut Writer, row: &NodeRow) -> Result<(), AllocError>
+    ensures ok { OnOk result (out.new.tokens ≡ out.old.tokens ++ head_tokens (told_by row.now)) }
     ensures before { out.new.before ≡ out.old.before }
 {
     out.begin_object()?;
-    attributes_field(out, tree.kind, &tree.attributes)?;
-    whole_field(out, "backendNodeId", tree.serial)?;
-    count_field(out, tree.kind, tree.count)?;
+    attributes_field(out, row.kind, row.attributes)?;
+    whole_field(out, "backendNodeId", row.serial)?;
+    count_field(out, row.kind, row.count)?;
     Ok(())
 }
 
-// A node's object, behind its children.
-fn write_tail(alloc: Global, out: &mut Writer, tree: &NodeTree) -> Result<(), AllocError>
-    ensures ok { OnOk result (out.new.tokens ≡ out.old.tokens ++ tail_tokens tree.now.row) }
-    ensures before { out.new.before ≡ out.old.before }
-{
-    let name = tree.name.as_str();
-    text_field(out, "localName", local_name(tree.kind, name))?;
-    whole_field(out, "nodeId", tree.id)?;
-    name_field(alloc, out, tree.kind, name)?;
-    whole_field(out, "nodeType", type_number(tree.kind))?;
-    text_field(out, "nodeValue", tree.value.as_str())?;
-    parent_field(out, tree.parent)?;
-    out.end_object()?;
-    Ok(())
-}
-
-/// A node with all that is shown below it.
-#[cycle(write_node)]
-pub(crate) fn write_node(alloc: Global, out: &mut Writer, tree: &NodeTree) -> Result<(), AllocError>
-    ensures ok { OnOk result (out.new.tokens ≡ out.old.tokens ++ data_tokens (tree_data tree.now)) }
-    ensures before { out.new.before ≡ out.old.before }
-{
-    match &tree.children {
-        Some(trees) => {
-            write_head(out, tree)?;
-            out.key("children")?;
-            write_nodes(alloc, out, trees)?;
-            write_tail(alloc, out, tree)?;
-            Ok(())
-        }
-        None => {
-            write_head(out, tree)?;
-            write_tail(alloc, out, tree)?;
-            Ok(())
-        }
-    }
-}
-
-/// Nodes side by side, as an array.
-#[cycle(write_node)]
-pub(crate) fn write_nodes(
-    alloc: Global,
+/// A node's object, behind its children; `held` is room for a name.
+pub(crate) fn write_tail(
     out: &mut Writer,
-    trees: &Vec<NodeTree>,
+    held: &mut String,
+    row: &NodeRow,
 ) -> Result<(), AllocError>
-    ensures ok { OnOk result (out.new.tokens ≡ out.old.tokens
-        ++ data_tokens (nodes_kind.spell (nodes_of trees.now.items))) }
+    ensures ok { OnOk result (out.new.tokens ≡ out.old.tokens ++ tail_tokens (told_by row.now)) }
     ensures before { out.new.before ≡ out.old.before }
 {
-    out.begin_array()?;
-    for tree in trees {
-        write_node(alloc, out, tree)?;
-    }
-    out.end_array()?;
+    text_field(out, "localName", local_name(row.kind, row.name))?;
+    whole_field(out, "nodeId", row.id)?;
+    name_field(out, held, row.kind, row.name)?;
+    whole_field(out, "nodeType", type_number(row.kind))?;
+    text_field(out, "nodeValue", row.value)?;
+    parent_field(out, row.parent)?;
+    out.end_object()?;
     Ok(())
 }

@@ -1,28 +1,25 @@
 // Writing replies.
 ghost use Rattle.std.specs.Prelude.{◌≡◌, ◌++◌, map, IfOk, OnOk, OnErr, IsUtf8, false};
-ghost use Rattle.serde_json.specs.Data.{string, object as object_data, no_members, member};
+ghost use Rattle.serde_json.specs.Data.{string};
 ghost use Rattle.serde_json.specs.View.{view, items_of};
 ghost use Rattle.serde_json.specs.Written.{compact_text, has_float};
 ghost use Rattle.cdp_messages.specs.NodeObject.{attribute_list};
-ghost use Rattle.cdp_messages.specs.NodeData.{tree_data};
 ghost use Rattle.cdp_messages.specs.Results.{id_kind, ids_kind, attributes_kind};
 ghost use Rattle.cdp_messages.specs.Replies.{reply, message_data, body_data, reply_text};
-ghost use Rattle.pipe_frames.specs.Frames.{framed};
-ghost use Rattle.cdp_messages.specs.Tokens.{data_tokens};
+ghost use Rattle.cdp_messages.specs.Answers.{ended};
 ghost use Rattle.cdp_messages.specs.Forms.{body_said};
 
 use crate::down::ReplyBody;
-use crate::node_write::write_node;
+use crate::node_writer::NodeMessage;
 use crate::numbers::Numbers;
-use crate::token_write::{begin_frame, end_frame, whole_field};
 use crate::tree::NodeTree;
+use crate::tree_write::append_tree;
 use crate::write::append;
 use cdp_json::{object, whole_list};
 use css_objects::{
     class_names_value, matched_value, new_rule_value, new_selectors_value, sheet_text_value,
     styles_value,
 };
-use json::Writer;
 use node_tree::Attributes;
 use serde_json::{Map, Value};
 use std::alloc::{AllocError, Global};
@@ -61,63 +58,6 @@ fn id_value(alloc: Global, id: u64) -> Result<Value, AllocError>
 {
     let fields = vec![in alloc; ("nodeId", Some(Value::from(id)))]?;
     object(alloc, fields)
-}
-
-// A reply whose result is one node, under this name.
-fn write_node_reply(
-    alloc: Global,
-    out: &mut Writer,
-    id: u64,
-    name: &str,
-    tree: &NodeTree,
-) -> Result<(), AllocError>
-    ensures ok { OnOk result (out.new.tokens ≡ out.old.tokens
-        ++ data_tokens (message_data (reply id (object_data (member name.now (tree_data tree.now) no_members))))) }
-    ensures before { out.new.before ≡ out.old.before }
-{
-    out.begin_object()?;
-    whole_field(out, "id", id)?;
-    out.key("result")?;
-    write_node_object(alloc, out, name, tree)?;
-    out.end_object()?;
-    Ok(())
-}
-
-// An object with one node, under this name.
-fn write_node_object(
-    alloc: Global,
-    out: &mut Writer,
-    name: &str,
-    tree: &NodeTree,
-) -> Result<(), AllocError>
-    ensures ok { OnOk result (out.new.tokens ≡ out.old.tokens
-        ++ data_tokens (object_data (member name.now (tree_data tree.now) no_members))) }
-    ensures before { out.new.before ≡ out.old.before }
-{
-    out.begin_object()?;
-    out.key(name)?;
-    write_node(alloc, out, tree)?;
-    out.end_object()?;
-    Ok(())
-}
-
-// Appends a reply whose result is one node, under this name.
-fn append_node_reply(
-    alloc: Global,
-    id: u64,
-    name: &str,
-    tree: &NodeTree,
-    out: &mut Vec<u8>,
-) -> Result<(), AllocError>
-    ensures ok { OnOk result (out.new.items ≡ out.old.items ++ framed (compact_text
-        (message_data (reply id (object_data (member name.now (tree_data tree.now) no_members)))))) }
-    ensures utf8 { OnOk result (IsUtf8 (compact_text
-        (message_data (reply id (object_data (member name.now (tree_data tree.now) no_members)))))) }
-    ensures err { OnErr result (out.new.items ≡ out.old.items) }
-{
-    let (mut writer, start) = begin_frame(alloc, out);
-    let written = write_node_reply(alloc, &mut writer, id, name, tree);
-    end_frame(writer, start, written, out)
 }
 
 // A result as it is to be written.
@@ -165,7 +105,7 @@ fn reply_value(alloc: Global, id: u64, body: Value) -> Result<Value, AllocError>
 fn append_reply(alloc: Global, id: u64, body: Value, out: &mut Vec<u8>) -> Result<(), AllocError>
     requires { has_float (message_data (reply id (view body))) ≡ false }
     ensures ok { OnOk result (out.new.items ≡ out.old.items
-        ++ framed (compact_text (message_data (reply id (view body))))) }
+        ++ ended (compact_text (message_data (reply id (view body))))) }
     ensures utf8 { OnOk result (IsUtf8 (compact_text (message_data (reply id (view body))))) }
     ensures err { OnErr result (out.new.items ≡ out.old.items) }
 {
@@ -180,7 +120,7 @@ pub fn write_reply(
     body: &ReplyBody,
     out: &mut Vec<u8>,
 ) -> Result<(), AllocError>
-    ensures ok { OnOk result (out.new.items ≡ out.old.items ++ framed (reply_text id body.now)) }
+    ensures ok { OnOk result (out.new.items ≡ out.old.items ++ ended (reply_text id body.now)) }
     ensures utf8 { OnOk result (IsUtf8 (reply_text id body.now)) }
     ensures err { OnErr result (out.new.items ≡ out.old.items) }
 {
@@ -190,7 +130,7 @@ pub fn write_reply(
     };
     match form {
         BodyForm::Plain(value) => append_reply(alloc, id, value, out),
-        BodyForm::Root(tree) => append_node_reply(alloc, id, "root", tree, out),
-        BodyForm::Node(tree) => append_node_reply(alloc, id, "node", tree, out),
+        BodyForm::Root(tree) => append_tree(alloc, NodeMessage::Root { id }, tree, out),
+        BodyForm::Node(tree) => append_tree(alloc, NodeMessage::Node { id }, tree, out),
     }
 }

@@ -1,9 +1,9 @@
 -- A node that is described is one that a message can tell.
-use Rattle.std.proofs.Common.{◌≡◌, ℕ, suc, ◌+◌, ◌<◌, ◌≤◌, ◌^◌, ◌==◌, Bool, true, false, not, ◌&&◌, ◌||◌, cond, max, Option, Some, None, ◌⊎◌, ⊎_elim, refl, sym, ap, subst, ◌∙◌, arith, lt-ltb}
+use Rattle.std.proofs.Common.{◌≡◌, ℕ, suc, ◌+◌, ◌<◌, ◌≤◌, ◌^◌, Bool, true, false, not, ◌&&◌, ◌||◌, cond, Option, Some, ⊎_elim, refl, sym, subst, arith, lt-ltb}
 use Rattle.std.specs.Prelude.{⊤}
 use Rattle.std.proofs.lemmas.Bool.{and_parts, and_from, eq-eqb}
-use Rattle.node_tree.specs.Nodes.{Nodes, none, node, Branch, alone, width, height, node_count, map_rows, is_no_node}
-use Rattle.node_tree.specs.Keys.{find, tally}
+use Rattle.node_tree.specs.Nodes.{Nodes, none, node, Branch, alone, width, height, node_count, map_rows}
+use Rattle.node_tree.specs.Keys.{find}
 use Rattle.node_tree.specs.Names.{is_element_name}
 use Rattle.node_tree.specs.Labels.{Label, is_document, is_element, holds, has_name, is_empty, is_ascending, is_formed_label, is_named_label}
 use Rattle.node_tree.specs.Seen.{Hold, Seen, leaf, counted, opened, is_opened}
@@ -20,13 +20,13 @@ use Rattle.cdp_messages.specs.Laws.{LabelHasUtf8, NodesHaveUtf8}
 use Rattle.cdp_messages.specs.Results.{are_attributes}
 use Rattle.cdp_messages.proofs.TellableLaws.{width-told_nodes}
 use Rattle.cdp_messages.specs.NodeObject.{is_counted_row, fits_hold, fits_described}
-use Rattle.cdp_messages.specs.NodeData.{fits_described_nodes, fits_described_tree}
+use Rattle.cdp_messages.specs.NodeData.{is_none, fits_described_nodes, fits_described_tree}
 use Rattle.cdp_messages.specs.Told.{Told, count_in, told_nodes}
 use Rattle.dom_agent.specs.Described.{shows_children, row_to, shown_to, kids_to, no_ids, described}
 use Rattle.dom_agent.specs.Laws.{RowsHaveUtf8, CanTell}
 use Rattle.dom_agent.proofs.StepLemmas.{CanSpell}
-use Rattle.dom_agent.proofs.ToldLemmas.{width-shown_to}
-use Rattle.dom_agent.proofs.TellableLemmas.{Fitting, fitting_row, fitting_later, formed_parts, no_document, named_parts, serials_there, document_named_label, tall}
+use Rattle.dom_agent.proofs.WritingLemmas.{width-shown_to}
+use Rattle.dom_agent.proofs.TellableLemmas.{Fitting, fitting_row, fitting_later, formed_parts, named_parts, serials_there, document_named_label, tall}
 
 -- ---- what a message can tell of a page
 
@@ -137,7 +137,7 @@ count_few true true w kids e = omega arith
 count_few true false w kids e = omega arith
 count_few false left w kids e = omega arith
 
-below_fits : (container left : Bool) (w : ℕ) (kids : Nodes Seen) → cond (is_opened (hold_for container left w)) true (is_no_node (told_nodes 0 (cond (container && left) kids none))) ≡ true
+below_fits : (container left : Bool) (w : ℕ) (kids : Nodes Seen) → cond (is_opened (hold_for container left w)) true (is_none (told_nodes 0 (cond (container && left) kids none))) ≡ true
 below_fits true true w kids = refl
 below_fits true false w kids = refl
 below_fits false left w kids = refl

@@ -1,16 +1,14 @@
 -- What the code of an edit comes to.
-use Rattle.std.proofs.Common.{◌≡◌, ℕ, suc, ◌+◌, ◌-◌, ◌<◌, ◌≤◌, ◌==◌, Bool, true, false, cond, List, [], ◌∷◌, ◌++◌, Option, Some, None, IsSome, is_some, unwrap_or, Result, Ok, Err, refl, sym, ap, subst, ◌∙◌, arith}
+use Rattle.std.proofs.Common.{◌≡◌, ℕ, suc, ◌+◌, ◌-◌, ◌<◌, ◌≤◌, ◌==◌, true, false, cond, List, [], ◌∷◌, ◌++◌, Option, Some, None, IsSome, is_some, unwrap_or, Result, Ok, Err, refl, sym, ap, subst, ◌∙◌, arith}
 use Rattle.std.proofs.lemmas.Bool.{eq-eqb}
 use Rattle.std.specs.Result.{OnOk, IfOk, IsOkAnd}
 use Rattle.std.specs.declared.alloc.AllocError.{AllocError}
 use Rattle.std.specs.FinMap as map
-use Rattle.node_tree.specs.Nodes.{Nodes, none, node, Branch, alone, from, tree_at, width}
-use Rattle.node_tree.specs.Labels.{holds}
-use Rattle.node_tree.specs.Seen.{leaf, counted}
+use Rattle.node_tree.specs.Nodes.{Nodes, none, Branch, alone, from, tree_at, width}
 use Rattle.node_tree.proofs.KeyLemmas.{Stands, find-stands, stands-below}
 use Rattle.node_tree.proofs.ChangeLemmas.{at-new}
 use Rattle.page_tree.specs.Pages.{Row, State, IsValid, row_serial, find_in, node_at, parent_at}
-use Rattle.page_tree.specs.Edits.{after, after_tree, with_child, taken_out, children_at}
+use Rattle.page_tree.specs.Edits.{after, after_tree, with_child, children_at}
 use Rattle.page_tree.specs.EditFaults.{CanApply, CanAttach, first_fault}
 use Rattle.page_tree.specs.declared.edits.TreeEdit.{TreeEdit}
 use Rattle.page_tree.specs.declared.edits.TreeEdit.TheVariants.{Attach, Detach}
@@ -23,10 +21,8 @@ use Rattle.page_tree.proofs.EditLemmas.{serial-live, whole-after, valid-after}
 use Rattle.page_tree.proofs.BackLemmas.{turned-live}
 use Rattle.node_binding.proofs.StartLemmas.{distinct-alone}
 use Rattle.node_binding.specs.Bindings.{Bound, opened_in, id_in, with_bound}
-use Rattle.pipe_frames.specs.Frames.{framed}
-use Rattle.cdp_messages.specs.Events.{News, inserted}
-use Rattle.cdp_messages.specs.Told.{Told, told_branch, hold_of}
-use Rattle.cdp_messages.specs.Moves.{inserts, removes, counts, Move, change, change_news, move_text, frames_of_moves}
+use Rattle.cdp_messages.specs.Answers.{ended}
+use Rattle.cdp_messages.specs.Moves.{inserts, removes, counts, Move, change, frames_of_moves}
 use Rattle.dom_agent.specs.Keepers.{Keeper, binding_keeper}
 use Rattle.dom_agent.specs.Edits.{Edited, id_before, unopened, told_count, insertion, child_came, edited, event_frames}
 use Rattle.dom_agent.specs.EditLaws.{binding_edited}
@@ -61,36 +57,15 @@ module _ (ids : ℕ → ℕ) (n : Nodes Row) (k : ℕ) (x : Branch Row) (serial 
   prior_turn other = sym (ap (λ b. cond {A = ℕ} b p (id_before ids (ids x.row.serial) serial (from (k + 1) n))) other) ∙ here
 
 pub prior_end : (ids : ℕ → ℕ) (left : Nodes Row) (serial p q : ℕ) → left ≡ none → id_before ids p serial left ≡ q → p ≡ q
-prior_end ids left serial p q framed was = sym (ap (id_before ids p serial) framed) ∙ was
+prior_end ids left serial p q ended was = sym (ap (id_before ids p serial) ended) ∙ was
 
--- ---- a node as an event tells it that has come
+-- ---- a node that has come, as an event tells it
 
-abbrev told_shut : ℕ → ℕ → Branch Row → Branch Told
-told_shut parent id x = record {
-  row = record {
-    parent = parent;
-    count = cond {A = ℕ} (holds x.row.label.kind) (width x.children) 0;
-    seen = record { id = id; serial = x.row.serial; label = x.row.label; hold = hold_of false (holds x.row.label.kind) (cond {A = ℕ} (holds x.row.label.kind) (width x.children) 0) };
-  };
-  children = none;
-}
-
-told_unopened : (parent id : ℕ) (x : Branch Row) → told_shut parent id x ≡ told_branch parent (unopened id x)
-told_unopened parent id x = by (holds x.row.label.kind)
-  where
-    by : (h : Bool)
-        → ◌≡◌ {A = Branch Told} (record {
-          row = record { parent = parent; count = cond {A = ℕ} h (width x.children) 0; seen = record { id = id; serial = x.row.serial; label = x.row.label; hold = hold_of false h (cond {A = ℕ} h (width x.children) 0) } };
-          children = none;
-        }) (told_branch parent (record { row = record { id = id; serial = x.row.serial; label = x.row.label; hold = cond h (counted (width x.children)) leaf }; children = none }))
-    by true = refl
-    by false = refl
-
-pub inserted_news : (b : Bound) (parent above id previous : ℕ) (x : Branch Row) (kids : Nodes Row) (t : Branch Told) → above ≡ id_in b parent → id ≡ id_in b x.row.serial → previous ≡ id_before (id_in b) 0 x.row.serial kids → t ≡ told_shut above id x
-    → inserted above previous t ≡ change_news (id_in b parent) (inserts (id_before (id_in b) 0 x.row.serial kids) (unopened (id_in b x.row.serial) x))
-inserted_news b parent above id previous x kids t above_is id_is previous_is told =
-    ap (inserted above previous) (told ∙ told_unopened above id x)
-    ∙ (λ k. inserted (above_is k) (previous_is k) (told_branch (above_is k) (unopened (id_is k) x)))
+pub came_sent : {E : Type 0} (r : Result (Unit {0}) E) (b : Bound) (parent above id previous : ℕ) (x : Branch Row) (kids : Nodes Row) (out out2 : List ℕ) → above ≡ id_in b parent → id ≡ id_in b x.row.serial
+    → previous ≡ id_before (id_in b) 0 x.row.serial kids → OnOk r (out2 ≡ out ++ frames_of_moves (change above (inserts previous (unopened id x)) ∷ []))
+    → (n : Nodes Row) → OnOk r (out2 ≡ out ++ frames_of_moves (insertion (binding_keeper n) parent x kids b ∷ []))
+came_sent r b parent above id previous x kids out out2 above_is id_is previous_is sent n =
+    subst (λ (m : Move). OnOk r (out2 ≡ out ++ frames_of_moves (m ∷ []))) (λ k. change (above_is k) (inserts (previous_is k) (unopened (id_is k) x))) sent
 
 -- ---- a node that goes
 
@@ -138,13 +113,13 @@ module _ (n : Nodes Row) (b : Bound) (parent : ℕ) (x : Branch Row) (kids : Nod
   pub came_open : opened_in b parent ≡ true → child_came of_binding parent x kids b ≡ record { state = with_bound x.row.serial b; moves = insertion of_binding parent x kids (with_bound x.row.serial b) ∷ [] }
   came_open is = ap (λ v. cond v (record { state = with_bound x.row.serial b; moves = insertion of_binding parent x kids (with_bound x.row.serial b) ∷ [] }) (record { state = b; moves = told_count of_binding parent kids b })) is
 
-pub inserted_sent : (n : Nodes Row) (b b2 : Bound) (parent serial : ℕ) (x y : Branch Row) (kids kids2 : Nodes Row) (text out out2 : List ℕ) → y ≡ x → kids2 ≡ kids → serial ≡ y.row.serial → b2 ≡ with_bound serial b → opened_in b parent ≡ true
-    → text ≡ move_text (insertion (binding_keeper n) parent y kids2 b2) → out2 ≡ out ++ (framed text ++ []) → out2 ≡ out ++ frames_of_moves (child_came (binding_keeper n) parent x kids b).moves
-inserted_sent n b b2 parent serial x y kids kids2 text out out2 node_is kids_are serial_is bound is told sent =
+pub inserted_sent : (n : Nodes Row) (b b2 : Bound) (parent serial : ℕ) (x y : Branch Row) (kids kids2 : Nodes Row) (out out2 : List ℕ) → y ≡ x → kids2 ≡ kids → serial ≡ y.row.serial → b2 ≡ with_bound serial b → opened_in b parent ≡ true
+    → out2 ≡ out ++ frames_of_moves (insertion (binding_keeper n) parent y kids2 b2 ∷ []) → out2 ≡ out ++ frames_of_moves (child_came (binding_keeper n) parent x kids b).moves
+inserted_sent n b b2 parent serial x y kids kids2 out out2 node_is kids_are serial_is bound is sent =
     let after_is : b2 ≡ with_bound x.row.serial b = bound ∙ ap (λ (s : ℕ). with_bound s b) serial_is ∙ ap (λ (t : Branch Row). with_bound t.row.serial b) node_is in
     let moves : ◌≡◌ {A = List Move} (insertion (binding_keeper n) parent y kids2 b2 ∷ []) (child_came (binding_keeper n) parent x kids b).moves =
     (λ k. insertion (binding_keeper n) parent (node_is k) (kids_are k) (after_is k) ∷ []) ∙ sym (ap (λ (d : Edited Bound). d.moves) (came_open n b parent x kids is)) in
-    sent ∙ ap (λ t. out ++ (framed t ++ [])) told ∙ ap (λ ms. out ++ frames_of_moves ms) moves
+    sent ∙ ap (λ ms. out ++ frames_of_moves ms) moves
 
 module _ (page : State) (valid : IsValid page) (parent before : ℕ) (x : Branch Row) (fits : first_fault (Attach parent before x) page.tree ≡ None) (ready : CanAttach page.next x page.tree)
     (page2 : State) (after_is : page2 ≡ after (Attach parent before x) page) where

@@ -6,7 +6,7 @@ pub mod KeeperLemmas
 pub mod TellableLemmas
 pub mod DescribedLemmas
 pub mod MoveLemmas
-pub mod ToldLemmas
+pub mod WritingLemmas
 pub mod FrameLemmas
 pub mod OpeningLemmas
 pub mod ServingLemmas

@@ -1,7 +1,7 @@
 -- What the events of a request show.
 use Rattle.std.specs.Prelude.{◌≡◌, ℕ, ℤ, ◌-◌, Bool, true, false, List, [], Option, Some, None}
 use Rattle.std.specs.List.{All}
-use Rattle.node_tree.specs.Nodes.{Nodes, Branch, alone}
+use Rattle.node_tree.specs.Nodes.{Branch, alone}
 use Rattle.node_tree.specs.Labels.{holds}
 use Rattle.page_tree.specs.Pages.{Row, State, IsValid}
 use Rattle.node_binding.specs.Openings.{less}

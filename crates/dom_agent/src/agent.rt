@@ -17,14 +17,14 @@ ghost use Rattle.dom_agent.specs.Laws.{binding_outcome};
 ghost use Rattle.dom_agent.specs.Edits.{OnFault};
 ghost use Rattle.dom_agent.specs.EditLaws.{binding_edited};
 
-use crate::described::described_tree;
+use crate::described::tell_described;
 use crate::edits::{apply_and_tell, attach, attribute_dropped, attribute_set, detach, text_set};
 use crate::openings::request_node;
 use crate::paths::node_at_path;
 use crate::pushes::{open_above, push_all};
 use crate::queries::{Query, QueryErr, read_query};
 use crate::serving::open_all;
-use crate::told::told_tree;
+use crate::told::tell_root;
 use cdp_messages::{DomAsk, Numbers, Refused, ReplyBody, Why, write_refused, write_reply};
 use node_binding::{Binding, find_in, levels_of};
 use page_tree::{EditErr, Kind, Node, Page, TreeEdit};
@@ -120,8 +120,7 @@ impl DomAgent {
             ++ answer id (binding_outcome page.now (GetDocument depth None) self.old)) }
     {
         self.binding.start(page, depth.unwrap_or(1))?;
-        let document = told_tree(self.alloc, &self.binding, &page.root(), 0)?;
-        write_reply(self.alloc, id, &ReplyBody::Root(document), out)?;
+        tell_root(self.alloc, &self.binding, &page.root(), id, out)?;
         Ok(())
     }
 
@@ -379,8 +378,7 @@ impl DomAgent {
         let Some(found) = self.named_node(page, node, serial) else {
             return refuse(self.alloc, id, Why::UnknownNode, out);
         };
-        let described = described_tree(self.alloc, &found, levels_asked(depth))?;
-        reply(self.alloc, id, &ReplyBody::Node(described), out)
+        tell_described(self.alloc, &found, levels_asked(depth), id, out)
     }
 
     /// Opens each ancestor of the node that is not opened yet, from the top down, by one level; appends a frame for each.

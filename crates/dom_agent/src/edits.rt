@@ -6,13 +6,11 @@ ghost use Rattle.page_tree.specs.Edits.{after, after_tree, back_tree, children_a
 ghost use Rattle.page_tree.specs.EditFaults.{first_fault, CanAttach, IsReady, Refuses};
 ghost use Rattle.page_tree.specs.declared.edits.TreeEdit.TheVariants.{SetAttr, DropAttr, SetText, Attach, Detach};
 ghost use Rattle.node_binding.specs.Bindings.{id_in};
-ghost use Rattle.cdp_messages.specs.Events.{news_of};
-ghost use Rattle.cdp_messages.specs.Replies.{event_text};
-ghost use Rattle.cdp_messages.specs.Moves.{sets, drops, says, move_text, frames_of_moves};
+ghost use Rattle.cdp_messages.specs.Moves.{sets, drops, says, frames_of_moves};
 ghost use Rattle.dom_agent.specs.Keepers.{binding_keeper};
 ghost use Rattle.dom_agent.specs.Edits.{id_before, told_where_known, told_count, insertion, child_came, child_gone, edited, event_frames, OnFault};
 
-use crate::told::told_node;
+use crate::told::tell_inserted;
 use cdp_messages::{Event, write_event};
 use node_binding::Binding;
 use page_tree::{Children, EditErr, EditFault, Kind, Node, Page, Text, Tree, TreeEdit};
@@ -136,25 +134,22 @@ fn id_before(binding: &Binding, children: &Children, serial: u64) -> u64
     previous
 }
 
-fn child_inserted(
+/// Appends the event that tells the child of an opened parent.
+fn tell_came(
     alloc: Global,
     binding: &Binding,
     parent: u64,
     node: &Node,
     children: &Children,
-) -> Result<Event, AllocError>
-    ensures { (n : Nodes Row) → IfOk result (λ event. event_text (news_of event)
-        ≡ move_text (insertion (binding_keeper n) parent node.now children.now binding.now)) }
+    out: &mut Vec<u8>,
+) -> Result<(), AllocError>
+    ensures { (n : Nodes Row) → OnOk result (out.new.items ≡ out.old.items
+        ++ frames_of_moves (insertion (binding_keeper n) parent node.now children.now binding.now ∷ [])) }
 {
     let above = binding.id_of(parent).unwrap_or(0);
     let id = binding.id_of(node.serial()).unwrap_or(0);
     let previous = id_before(binding, children, node.serial());
-    let told = told_node(alloc, node, id, above, None)?;
-    Ok(Event::ChildNodeInserted {
-        parent: above,
-        previous,
-        node: told,
-    })
+    tell_inserted(alloc, node, id, above, previous, out)
 }
 
 /// What the coming of a child of `parent` is to the client: below an opened parent it becomes known.
@@ -182,8 +177,7 @@ fn tell_child(
     let node = page.node(serial);
     let children = page.node(parent).children();
     binding.bind_child(page, node.serial())?;
-    let event = child_inserted(alloc, binding, parent, &node, &children)?;
-    tell(alloc, Some(event), out)?;
+    tell_came(alloc, binding, parent, &node, &children, out)?;
     Ok(())
 }
 

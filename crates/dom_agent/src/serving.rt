@@ -6,8 +6,7 @@ ghost use Rattle.dom_agent.specs.Requests.{told_of, all_opened, frames_told};
 ghost use Rattle.dom_agent.specs.Openings.{opening_of, IsOfContainer};
 
 use crate::openings::Opening;
-use crate::told::told_trees;
-use cdp_messages::{Event, write_event};
+use crate::told::tell_shows;
 use node_binding::Binding;
 use page_tree::Node;
 use std::alloc::{AllocError, Global};
@@ -23,9 +22,7 @@ fn tell_children(
         ≡ out.old.items ++ frames_told (told_of (binding_keeper n) document node.now binding.now ∷ [])) }
 {
     let parent = binding.id_of(node.serial()).unwrap_or(0);
-    let nodes = told_trees(alloc, binding, &node.children(), parent)?;
-    write_event(alloc, &Event::SetChildNodes { parent, nodes }, out)?;
-    Ok(())
+    tell_shows(alloc, binding, &node.children(), parent, out)
 }
 
 /// Opens one after the other, and appends for each the event that tells it.

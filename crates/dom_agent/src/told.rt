@@ -1,14 +1,24 @@
-ghost use Rattle.std.specs.Prelude.{◌≡◌, cond, is_some, IfOk};
-ghost use Rattle.node_tree.specs.Nodes.{nodes_of, width};
+//! Nodes of the page, cut to what is known of them, in messages that are written straight from the page.
+
+ghost use Rattle.std.specs.Prelude.{◌≡◌, ◌++◌, [], ◌∷◌, codes, false, cond, OnOk};
+ghost use Rattle.serde_json.specs.Data.{array};
+ghost use Rattle.node_tree.specs.Nodes.{width};
 ghost use Rattle.node_tree.specs.Labels.{holds};
 ghost use Rattle.node_binding.specs.Cuts.{opens, cut};
-ghost use Rattle.cdp_messages.specs.Told.{told_nodes, told_branch, hold_of, shown_children};
 ghost use Rattle.node_binding.specs.Bindings.{opened_in, id_in};
+ghost use Rattle.cdp_messages.specs.Told.{told_nodes, told_branch, hold_of};
+ghost use Rattle.cdp_messages.specs.NodeObject.{only_if};
+ghost use Rattle.cdp_messages.specs.NodeData.{tree_items, tree_data};
+ghost use Rattle.cdp_messages.specs.Tokens.{data_tokens, field_tokens};
+ghost use Rattle.cdp_messages.specs.NodeWrites.{told_by, message_with};
+ghost use Rattle.cdp_messages.specs.Moves.{shows, inserts, change, root, frames_of_moves};
+ghost use Rattle.cdp_messages.specs.declared.node_writer.NodeMessage.TheVariants as message;
 ghost use Rattle.dom_agent.specs.Requests.{shown};
+ghost use Rattle.dom_agent.specs.Edits.{unopened};
 
-use cdp_messages::NodeTree;
+use cdp_messages::{NodeMessage, NodeRow, NodeWriter};
 use node_binding::{Binding, is_container};
-use page_tree::{Children, Node, Text};
+use page_tree::{Children, Node};
 use std::alloc::{AllocError, Global};
 
 /// The number of its children, 0 for what can have none.
@@ -21,83 +31,214 @@ fn count_of(node: &Node) -> u64
     node.len() as u64
 }
 
-/// One node of the page with the children that are shown of it, if they are.
-pub(crate) fn told_node(
-    alloc: Global,
-    node: &Node,
-    id: u64,
-    parent: u64,
-    children: Option<Vec<NodeTree>>,
-) -> Result<NodeTree, AllocError>
-    ensures { IfOk result (λ t. t ≡ record {
-      row = record {
-        parent = parent;
-        count = cond (holds node.now.row.label.kind) (width node.now.children) 0;
-        seen = record {
-          id = id;
-          serial = node.now.row.serial;
-          label = node.now.row.label;
-          hold = hold_of (is_some children) (holds node.now.row.label.kind) (cond (holds node.now.row.label.kind) (width node.now.children) 0);
-        };
-      };
-      children = shown_children children;
-    }) }
-{
-    Ok(NodeTree {
-        id,
-        serial: node.serial(),
-        parent,
-        kind: node.kind(),
-        name: Text::copied(alloc, node.name())?,
-        value: Text::copied(alloc, node.value())?,
-        attributes: node.attributes().try_clone(alloc)?,
-        count: count_of(node),
-        children,
-    })
-}
-
+/// Whether the children of the node are shown.
 fn is_opened(binding: &Binding, node: &Node) -> bool
     ensures { result ≡ opens (opened_in binding.now) node.now.row }
 {
     is_container(node.kind()) && binding.is_opened(node.serial())
 }
 
-/// A tree of the page, cut to what is known of it, as a child of the node with the id `parent`.
-#[cycle(told)]
-pub(crate) fn told_tree(
-    alloc: Global,
+// ---- a node
+
+/// A node of that id with what is known of it alone, as a child of the node with the id `parent`.
+pub(crate) fn node_row<'a>(node: &Node<'a>, id: u64, parent: u64) -> NodeRow<'a>
+    ensures { told_by result ≡ record {
+      parent = parent;
+      count = cond (holds node.now.row.label.kind) (width node.now.children) 0;
+      seen = record {
+        id = id;
+        serial = node.now.row.serial;
+        label = node.now.row.label;
+        hold = hold_of false (holds node.now.row.label.kind) (cond (holds node.now.row.label.kind) (width node.now.children) 0);
+      };
+    } }
+{
+    NodeRow {
+        id,
+        serial: node.serial(),
+        parent,
+        kind: node.kind(),
+        name: node.name(),
+        value: node.value(),
+        attributes: node.attributes(),
+        count: count_of(node),
+    }
+}
+
+/// A node as it is shown, as a child of the node with the id `parent`.
+#[cycle(write_shown)]
+fn write_shown(
+    out: &mut NodeWriter,
     binding: &Binding,
     node: &Node,
     parent: u64,
-) -> Result<NodeTree, AllocError>
-    ensures { IfOk result
-        (λ told. told ≡ told_branch parent (shown (opened_in binding.now) (id_in binding.now) node.now)) }
+) -> Result<(), AllocError>
+    ensures ok { OnOk result (out.new.tokens ≡ out.old.tokens
+        ++ data_tokens (tree_data (told_branch parent (shown (opened_in binding.now) (id_in binding.now) node.now)))) }
+    ensures before { out.new.before ≡ out.old.before }
 {
     let id = binding.id_of(node.serial()).unwrap_or(0);
-    if !is_opened(binding, node) {
-        return told_node(alloc, node, id, parent, None);
-    }
-    let children = told_trees(alloc, binding, &node.children(), id)?;
-    let told = told_node(alloc, node, id, parent, Some(children))?;
-    Ok(told)
+    let row = node_row(node, id, parent);
+    out.head(&row)?;
+    write_opened(out, binding, node, id)?;
+    out.tail(&row)?;
+    Ok(())
 }
 
-/// The same of the children of a node.
-#[cycle(told)]
-pub(crate) fn told_trees(
+/// The children of a node of that id, where it is opened.
+#[cycle(write_shown)]
+fn write_opened(
+    out: &mut NodeWriter,
+    binding: &Binding,
+    node: &Node,
+    id: u64,
+) -> Result<(), AllocError>
+    ensures ok { OnOk result (out.new.tokens ≡ out.old.tokens
+        ++ field_tokens (codes "children") (only_if (opens (opened_in binding.now) node.now.row)
+        (array (tree_items (told_nodes id (cut (opened_in binding.now) (id_in binding.now) node.now.children)))))) }
+    ensures before { out.new.before ≡ out.old.before }
+{
+    if !is_opened(binding, node) {
+        return Ok(());
+    }
+    out.children()?;
+    write_children(out, binding, &node.children(), id)?;
+    Ok(())
+}
+
+/// The children of the node of the id `parent`.
+#[cycle(write_shown)]
+fn write_children(
+    out: &mut NodeWriter,
+    binding: &Binding,
+    children: &Children,
+    parent: u64,
+) -> Result<(), AllocError>
+    ensures ok { OnOk result (out.new.tokens ≡ out.old.tokens
+        ++ data_tokens (array (tree_items (told_nodes parent (cut (opened_in binding.now) (id_in binding.now) children.now))))) }
+    ensures before { out.new.before ≡ out.old.before }
+{
+    out.begin_nodes()?;
+    for i in 0..children.len() {
+        let child = children.at(i);
+        write_shown(out, binding, &child, parent)?;
+    }
+    out.end_nodes()?;
+    Ok(())
+}
+
+/// A node of which nothing is shown below it.
+fn write_unopened(out: &mut NodeWriter, node: &Node, id: u64, parent: u64) -> Result<(), AllocError>
+    ensures ok { OnOk result (out.new.tokens ≡ out.old.tokens
+        ++ data_tokens (tree_data (told_branch parent (unopened id node.now)))) }
+    ensures before { out.new.before ≡ out.old.before }
+{
+    let row = node_row(node, id, parent);
+    out.head(&row)?;
+    out.tail(&row)?;
+    Ok(())
+}
+
+// ---- messages
+
+/// The reply of that id, whose result is the document.
+fn write_root(
+    out: &mut NodeWriter,
+    binding: &Binding,
+    document: &Node,
+    id: u64,
+) -> Result<(), AllocError>
+    ensures ok { OnOk result (out.new.tokens ≡ out.old.tokens ++ data_tokens
+        (message_with (message.Root id) (tree_data (told_branch 0 (shown (opened_in binding.now) (id_in binding.now) document.now))))) }
+    ensures before { out.new.before ≡ out.old.before }
+{
+    out.open(NodeMessage::Root { id })?;
+    write_shown(out, binding, document, 0)?;
+    out.close(NodeMessage::Root { id })?;
+    Ok(())
+}
+
+/// Appends the reply of that id, whose result is the document.
+pub(crate) fn tell_root(
+    alloc: Global,
+    binding: &Binding,
+    document: &Node,
+    id: u64,
+    out: &mut Vec<u8>,
+) -> Result<(), AllocError>
+    ensures { OnOk result (out.new.items ≡ out.old.items
+        ++ frames_of_moves (root id (shown (opened_in binding.now) (id_in binding.now) document.now) ∷ [])) }
+{
+    let mut writer = NodeWriter::new(alloc, out);
+    let written = write_root(&mut writer, binding, document, id);
+    writer.finish(written, out)
+}
+
+/// The event that tells the children of the node of the id `parent`.
+fn write_shows(
+    out: &mut NodeWriter,
+    binding: &Binding,
+    children: &Children,
+    parent: u64,
+) -> Result<(), AllocError>
+    ensures ok { OnOk result (out.new.tokens ≡ out.old.tokens ++ data_tokens (message_with (message.Children parent)
+        (array (tree_items (told_nodes parent (cut (opened_in binding.now) (id_in binding.now) children.now)))))) }
+    ensures before { out.new.before ≡ out.old.before }
+{
+    out.open(NodeMessage::Children { parent })?;
+    write_children(out, binding, children, parent)?;
+    out.close(NodeMessage::Children { parent })?;
+    Ok(())
+}
+
+/// Appends the event that tells the children of the node of the id `parent`.
+pub(crate) fn tell_shows(
     alloc: Global,
     binding: &Binding,
     children: &Children,
     parent: u64,
-) -> Result<Vec<NodeTree>, AllocError>
-    ensures { IfOk result (λ told. nodes_of told.items
-        ≡ told_nodes parent (cut (opened_in binding.now) (id_in binding.now) children.now)) }
+    out: &mut Vec<u8>,
+) -> Result<(), AllocError>
+    ensures { OnOk result (out.new.items ≡ out.old.items
+        ++ frames_of_moves (change parent (shows (cut (opened_in binding.now) (id_in binding.now) children.now)) ∷ [])) }
 {
-    let mut told = Vec::with_capacity(alloc, children.len())?;
-    for i in 0..children.len() {
-        let child = children.at(i);
-        let tree = told_tree(alloc, binding, &child, parent)?;
-        told.push(tree)?;
-    }
-    Ok(told)
+    let mut writer = NodeWriter::new(alloc, out);
+    let written = write_shows(&mut writer, binding, children, parent);
+    writer.finish(written, out)
+}
+
+/// The event that the node of the id `parent` has got this node as a child.
+fn write_inserted(
+    out: &mut NodeWriter,
+    node: &Node,
+    id: u64,
+    parent: u64,
+    previous: u64,
+) -> Result<(), AllocError>
+    ensures ok { OnOk result (out.new.tokens ≡ out.old.tokens ++ data_tokens
+        (message_with (message.Inserted parent previous) (tree_data (told_branch parent (unopened id node.now))))) }
+    ensures before { out.new.before ≡ out.old.before }
+{
+    out.open(NodeMessage::Inserted { parent, previous })?;
+    write_unopened(out, node, id, parent)?;
+    out.close(NodeMessage::Inserted { parent, previous })?;
+    Ok(())
+}
+
+/// Appends the event that the node of the id `parent` has got this node of the id `id` as a child, unopened, behind its child
+/// of the id `previous`.
+pub(crate) fn tell_inserted(
+    alloc: Global,
+    node: &Node,
+    id: u64,
+    parent: u64,
+    previous: u64,
+    out: &mut Vec<u8>,
+) -> Result<(), AllocError>
+    ensures { OnOk result (out.new.items ≡ out.old.items
+        ++ frames_of_moves (change parent (inserts previous (unopened id node.now)) ∷ [])) }
+{
+    let mut writer = NodeWriter::new(alloc, out);
+    let written = write_inserted(&mut writer, node, id, parent, previous);
+    writer.finish(written, out)
 }

@@ -1,6 +1,6 @@
-use Rattle.std.proofs.Common.{◌≡◌, ◌++◌, List, [], ◌∷◌, refl, sym, ap, ◌∙◌, append-nil, append_assoc}
-use Rattle.json.specs.Token.{begin_array, string}
-use Rattle.cdp_messages.proofs.TokenLists.{after, pair_tokens, items_turn, pairs_end}
+use Rattle.std.proofs.Common.{◌≡◌, ◌++◌, [], ◌∷◌, refl, ◌∙◌, append_assoc}
+use Rattle.json.specs.Token.{begin_array}
+use Rattle.cdp_messages.proofs.TokenLists.{pair_tokens, items_turn, pairs_end}
 use Rattle.cdp_messages.proofs.node_write.write_attributes.Goals as goal
 
 pub loop-pair-preserved : goal.loop-pair-preserved

@@ -1,4 +1,4 @@
-use Rattle.std.proofs.Common.{◌≡◌, List, [], ◌∷◌, ◌++◌, take}
+use Rattle.std.proofs.Common.{◌≡◌, [], ◌∷◌, ◌++◌, take}
 use Rattle.std.specs.Prelude.{flat_map}
 use Rattle.json.specs.Token.{begin_array}
 use Rattle.cdp_messages.proofs.TokenLists.{pair_tokens}

@@ -19,6 +19,6 @@ returns-then-not-is_opened-clause-sent c =
 pub returns-clause-sent : goal.returns-clause-sent
 returns-clause-sent c =
     let tree = c.args.page.now.tree in
-    λ n. inserted_sent n c.args.binding.now c.bind_child.new.self c.args.parent c.serial.result (node_at c.args.serial tree) c.node-node.result (children_at c.args.parent tree) c.children-children.result _ c.args.out.now.items _
+    λ n. inserted_sent n c.args.binding.now c.bind_child.new.self c.args.parent c.serial.result (node_at c.args.serial tree) c.node-node.result (children_at c.args.parent tree) c.children-children.result c.args.out.now.items _
     c.node-node.ensures (c.children-children.ensures ∙ ap (λ (b : Branch Row). b.children) c.node.ensures) c.serial.ensures c.in_ok-bind_child.ensures.known (sym (c.if-not-is_opened.ensures {u = tt}))
-    (c.in_ok-event.ensures n) (c.in_ok-tell-2.ensures {u = tt})
+    (c.in_ok-tell_came.ensures n)
