@@ -203,7 +203,7 @@ on_ok (Err e) P Q f p = p
 pub remove_files : (a b d : Table) (id : ℕ) (slot : Slot) → IsListed a → slots_in a id ≡ Some slot → Puts (slots_in a) (slots_in b) id None → b.ids ≡ a.ids → d.slots ≡ b.slots
     → Puts (ids_in b) (ids_in d) slot.serial None → IsListed d
 remove_files a b d id slot files at gone ids_are slots_are gone_id =
-    let slots_same : (j : ℕ) → slots_in d j ≡ slots_in b j = λ j. ap (λ m. map.get nat_cmp m j) slots_are in
+    let slots_same : (j : ℕ) → slots_in d j ≡ slots_in b j = λ j. ap (λ m. slots_in (record d { slots = m }) j) slots_are in
     let ids_same : (y : ℕ) → ids_in b y ≡ ids_in a y = λ y. ap (λ m. map.get nat_cmp m y) ids_are in
     files-remove by_serial (slots_in a) (slots_in d) (ids_in a) (ids_in d) slot.serial id files (files.filed id slot at) (slots_same id ∙ gone.at)
     (λ j other. slots_same j ∙ gone.others j other) gone_id.at (λ y other. gone_id.others y other ∙ ids_same y)

@@ -1,5 +1,5 @@
 -- The mirror as a table: a slot for each known node under its id, and the id of each serial.
-use Rattle.std.specs.Prelude.{◌≡◌, ◌≢◌, ℕ, zero, suc, ◌<◌, ◌==◌, cond, List, [], ◌∷◌, Option, Some, None, option_and_then}
+use Rattle.std.specs.Prelude.{◌≡◌, ◌≢◌, ℕ, zero, suc, ◌<◌, ◌==◌, cond, List, [], ◌∷◌, Option, Some, None, option_map, option_and_then}
 use Rattle.std.specs.Option.{option_map_or}
 use Rattle.std.specs.Ordering.{nat_cmp}
 use Rattle.std.specs.BTreeMap as map
@@ -45,7 +45,7 @@ by_serial = record { row = slot_row; number = seen_serial; parent = λ s. s.pare
 
 -- the slot of an id
 abbrev pub slots_in : Table → ℕ → Option Slot
-slots_in t = map.get nat_cmp t.slots
+slots_in t k = option_map (λ slot. slot.value) (map.get nat_cmp t.slots k)
 
 -- the id of a serial
 abbrev pub ids_in : Table → ℕ → Option ℕ

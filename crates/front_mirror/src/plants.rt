@@ -77,7 +77,7 @@ impl Table {
     {
         let id = tree.id;
         let (slot, trees) = slot_of(alloc, tree, above)?;
-        self.put(slot)?;
+        self.put(alloc, slot)?;
         self.plant_all(alloc, trees, Some(id))
     }
 

@@ -9,7 +9,7 @@ use std::collections::BTreeMap;
 /// The known nodes in slots, each under its id, and the id of each serial.
 #[derive(Drop)]
 pub(crate) struct Table {
-    pub(crate) slots: BTreeMap<u64, Slot>,
+    pub(crate) slots: BTreeMap<u64, Box<Slot>>,
     pub(crate) ids: BTreeMap<u64, u64>,
 }
 
@@ -29,7 +29,10 @@ impl Table {
     pub(crate) fn get(&self, id: u64) -> Option<&Slot>
         ensures { option_copied result ≡ slots_in self.now id }
     {
-        self.slots.get(&id)
+        let Some(slot) = self.slots.get(&id) else {
+            return None;
+        };
+        Some(&**slot)
     }
 
     /// The id of a serial.
@@ -57,12 +60,13 @@ impl Table {
     }
 
     /// Puts a node into its slot.
-    pub(crate) fn put(&mut self, slot: Slot) -> Result<(), AllocError>
+    pub(crate) fn put(&mut self, alloc: Global, slot: Slot) -> Result<(), AllocError>
         ensures slots { OnOk result (Puts (slots_in self.old) (slots_in self.new) slot.id (Some slot)) }
         ensures ids { OnOk result (Puts (ids_in self.old) (ids_in self.new) slot.serial (Some slot.id)) }
     {
-        self.ids.insert(slot.serial, slot.id)?;
-        self.slots.insert(slot.id, slot)?;
+        let id = slot.id;
+        self.ids.insert(slot.serial, id)?;
+        self.slots.insert(id, Box::new(alloc, slot)?)?;
         Ok(())
     }
 }

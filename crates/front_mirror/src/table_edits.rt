@@ -102,7 +102,10 @@ impl Table {
         ensures slots { Puts (slots_in self.old) (slots_in self.new) id None }
         ensures was { result ≡ slots_in self.old id }
     {
-        self.slots.remove(&id)
+        match self.slots.remove(&id) {
+            Some(slot) => Some(Box::into_inner(slot)),
+            None => None,
+        }
     }
 
     fn drop_serial(&mut self, serial: u64)
