@@ -16,7 +16,7 @@ use Rattle.cdp_json.specs.Rows.{maybe_member}
 use Rattle.node_tree.specs.Labels.{Pair, Label, is_element, holds}
 use Rattle.node_tree.specs.Nodes.{Branch, nodes_of}
 use Rattle.node_tree.specs.Seen.{is_opened}
-use Rattle.cdp_messages.specs.Answers.{ended}
+use Rattle.pipe_frames.specs.Frames.{framed}
 use Rattle.cdp_messages.specs.Told.{Told, told_tree}
 use Rattle.cdp_messages.specs.NodeObject.{flat, attribute_list, type_number, node_name, local_name, only_if, node_data, node_members, node_fields, object_with}
 use Rattle.cdp_messages.specs.NodeData.{tree_items, tree_data}
@@ -163,19 +163,19 @@ items_turn f start now next xs x i below at step so =
 
 items_end : {A : Type 0} (f : A → List Token) (old start now last : List Token) (xs : List A) (i : ℕ) → length xs ≤ i → start ≡ old ++ begin_array ∷ []
     → now ≡ start ++ flat_map f (take i xs) → last ≡ now ++ end_array ∷ [] → last ≡ old ++ (begin_array ∷ (flat_map f xs ++ end_array ∷ []))
-items_end f old start now last xs i all begun so ended =
-    after old (begin_array ∷ []) _ begun (after start (flat_map f xs) (end_array ∷ []) (so ∙ ap (λ ys. start ++ flat_map f ys) (take_all i xs all)) ended)
+items_end f old start now last xs i all begun so framed =
+    after old (begin_array ∷ []) _ begun (after start (flat_map f xs) (end_array ∷ []) (so ∙ ap (λ ys. start ++ flat_map f ys) (take_all i xs all)) framed)
 
 pub pairs_end : (old start now last : List Token) (ps qs : List Pair) (i : ℕ) → length ps ≤ i → ps ≡ qs → start ≡ old ++ begin_array ∷ []
     → now ≡ start ++ flat_map pair_tokens (take i ps) → last ≡ now ++ end_array ∷ [] → last ≡ old ++ data_tokens (attribute_list.spell qs)
-pairs_end old start now last ps qs i all same begun so ended =
-    items_end pair_tokens old start now last ps i all begun so ended
+pairs_end old start now last ps qs i all same begun so framed =
+    items_end pair_tokens old start now last ps i all begun so framed
     ∙ ap (λ ts. old ++ (begin_array ∷ ts)) (sym (pairs_tokens ps)) ∙ ap (λ rs. old ++ data_tokens (attribute_list.spell rs)) same
 
 pub branches_end : (old start now last : List Token) (bs cs : List (Branch Told)) (i : ℕ) → length bs ≤ i → bs ≡ cs → start ≡ old ++ begin_array ∷ []
     → now ≡ start ++ flat_map branch_tokens (take i bs) → last ≡ now ++ end_array ∷ [] → last ≡ old ++ data_tokens (array (tree_items (nodes_of cs)))
-branches_end old start now last bs cs i all same begun so ended =
-    items_end branch_tokens old start now last bs i all begun so ended
+branches_end old start now last bs cs i all same begun so framed =
+    items_end branch_tokens old start now last bs i all begun so framed
     ∙ ap (λ ts. old ++ (begin_array ∷ ts)) (sym (branches_tokens bs)) ∙ ap (λ ds. old ++ data_tokens (array (tree_items (nodes_of ds)))) same
 
 -- ---- a frame
@@ -184,8 +184,8 @@ text_is : (ts : List Token) {us : List Token} (d : Data) → us ≡ [] → ts �
 text_is ts d none e = ap print (e ∙ ap (λ us. us ++ data_tokens d) none) ∙ print-outline d
 
 pub frame_is : {E : Type 0} (written result : Result (Unit {0}) E) (old before now : List ℕ) (us ts : List Token) (d : Data) → us ≡ [] → OnOk written (ts ≡ us ++ data_tokens d) → OnOk result (IsOk written)
-    → before ≡ old → OnOk result (now ≡ before ++ ended (print ts)) → OnOk result (now ≡ old ++ ended (compact_text d))
-frame_is (Ok u) (Ok w) old before now us ts d begun e done b n = n ∙ ap₂ (λ xs ys. xs ++ ended ys) b (text_is ts d begun e)
+    → before ≡ old → OnOk result (now ≡ before ++ framed (print ts)) → OnOk result (now ≡ old ++ framed (compact_text d))
+frame_is (Ok u) (Ok w) old before now us ts d begun e done b n = n ∙ ap₂ (λ xs ys. xs ++ framed ys) b (text_is ts d begun e)
 frame_is (Ok u) (Err x) old before now us ts d begun e done b n = tt
 frame_is (Err x) (Ok w) old before now us ts d begun e done b n = absurd cc
 frame_is (Err x) (Err y) old before now us ts d begun e done b n = tt
@@ -199,10 +199,10 @@ frame_utf8 (Err x) (Err y) us ts d begun e done b = tt
 
 -- a frame that was written behind what it begins with
 pub frame_sent : {E : Type 0} (written result : Result (Unit {0}) E) (old before now : List ℕ) (us ts : List Token) (d : Data) → us ≡ [] → OnOk written (ts ≡ us ++ data_tokens d) → before ≡ old
-    → (OnOk written (ts ≡ data_tokens d) → OnOk result (now ≡ before ++ ended (compact_text d))) → OnOk result (now ≡ old ++ ended (compact_text d))
-frame_sent (Err x) result old before now us ts d begun e b done = subst (λ (l : List ℕ). OnOk result (now ≡ l ++ ended (compact_text d))) b (done tt)
+    → (OnOk written (ts ≡ data_tokens d) → OnOk result (now ≡ before ++ framed (compact_text d))) → OnOk result (now ≡ old ++ framed (compact_text d))
+frame_sent (Err x) result old before now us ts d begun e b done = subst (λ (l : List ℕ). OnOk result (now ≡ l ++ framed (compact_text d))) b (done tt)
 frame_sent (Ok u) result old before now us ts d begun e b done =
-    subst (λ (l : List ℕ). OnOk result (now ≡ l ++ ended (compact_text d))) b (done (e ∙ ap (λ xs. xs ++ data_tokens d) begun))
+    subst (λ (l : List ℕ). OnOk result (now ≡ l ++ framed (compact_text d))) b (done (e ∙ ap (λ xs. xs ++ data_tokens d) begun))
 
 pub sent_utf8 : {E : Type 0} (written result : Result (Unit {0}) E) (us ts : List Token) (d : Data) → us ≡ [] → OnOk written (ts ≡ us ++ data_tokens d)
     → (OnOk written (ts ≡ data_tokens d) → OnOk result (IsUtf8 (compact_text d))) → OnOk result (IsUtf8 (compact_text d))

@@ -1,7 +1,7 @@
 // Writing what the back end tells unasked.
 ghost use Rattle.std.specs.Prelude.{◌≡◌, ◌++◌, IfOk, OnOk, OnErr, IsUtf8, false};
 ghost use Rattle.serde_json.specs.View.{view};
-ghost use Rattle.cdp_messages.specs.Answers.{ended};
+ghost use Rattle.pipe_frames.specs.Frames.{framed};
 ghost use Rattle.cdp_messages.specs.Events.{news_of, watch as watched, event_name, envelope, modified_kind, dropped_kind, data_kind, count_kind, removed_kind, added_kind, sheet_id_kind, pause_kind, paused_kind, news_data};
 ghost use Rattle.cdp_messages.specs.Replies.{event_text};
 ghost use Rattle.cdp_messages.specs.Forms.{event_said};
@@ -241,7 +241,7 @@ fn event_form(alloc: Global, event: &Event) -> Result<EventForm<'_>, AllocError>
 
 /// Appends an event as one frame, with its zero byte.
 pub fn write_event(alloc: Global, event: &Event, out: &mut Vec<u8>) -> Result<(), AllocError>
-    ensures ok { OnOk result (out.new.items ≡ out.old.items ++ ended (event_text (news_of event.now))) }
+    ensures ok { OnOk result (out.new.items ≡ out.old.items ++ framed (event_text (news_of event.now))) }
     ensures utf8 { OnOk result (IsUtf8 (event_text (news_of event.now))) }
     ensures err { OnErr result (out.new.items ≡ out.old.items) }
 {

@@ -4,7 +4,7 @@ ghost use Rattle.json.specs.Token.{begin_array, end_array, key};
 ghost use Rattle.serde_json.specs.Data.{Data};
 ghost use Rattle.serde_json.specs.Written.{compact_text};
 ghost use Rattle.cdp_messages.specs.Events.{event_name};
-ghost use Rattle.cdp_messages.specs.Answers.{ended};
+ghost use Rattle.pipe_frames.specs.Frames.{framed};
 ghost use Rattle.cdp_messages.specs.Tokens.{data_tokens, head_tokens, tail_tokens};
 ghost use Rattle.cdp_messages.specs.NodeWrites.{told_by, reply_opening, event_opening, opening_tokens, fields_behind, closing_tokens};
 
@@ -205,7 +205,7 @@ impl NodeWriter {
         out: &mut Vec<u8>,
     ) -> Result<(), AllocError>
         ensures ok { (d : Data) → OnOk written (self.tokens ≡ data_tokens d)
-            → OnOk result (out.new.items ≡ self.before ++ ended (compact_text d)) }
+            → OnOk result (out.new.items ≡ self.before ++ framed (compact_text d)) }
         ensures utf8 { (d : Data) → OnOk written (self.tokens ≡ data_tokens d)
             → OnOk result (IsUtf8 (compact_text d)) }
         ensures err { OnErr result (out.new.items ≡ self.before) }

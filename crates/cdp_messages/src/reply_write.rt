@@ -6,7 +6,7 @@ ghost use Rattle.serde_json.specs.Written.{compact_text, has_float};
 ghost use Rattle.cdp_messages.specs.NodeObject.{attribute_list};
 ghost use Rattle.cdp_messages.specs.Results.{id_kind, ids_kind, attributes_kind};
 ghost use Rattle.cdp_messages.specs.Replies.{reply, message_data, body_data, reply_text};
-ghost use Rattle.cdp_messages.specs.Answers.{ended};
+ghost use Rattle.pipe_frames.specs.Frames.{framed};
 ghost use Rattle.cdp_messages.specs.Forms.{body_said};
 
 use crate::down::ReplyBody;
@@ -105,7 +105,7 @@ fn reply_value(alloc: Global, id: u64, body: Value) -> Result<Value, AllocError>
 fn append_reply(alloc: Global, id: u64, body: Value, out: &mut Vec<u8>) -> Result<(), AllocError>
     requires { has_float (message_data (reply id (view body))) ≡ false }
     ensures ok { OnOk result (out.new.items ≡ out.old.items
-        ++ ended (compact_text (message_data (reply id (view body))))) }
+        ++ framed (compact_text (message_data (reply id (view body))))) }
     ensures utf8 { OnOk result (IsUtf8 (compact_text (message_data (reply id (view body))))) }
     ensures err { OnErr result (out.new.items ≡ out.old.items) }
 {
@@ -120,7 +120,7 @@ pub fn write_reply(
     body: &ReplyBody,
     out: &mut Vec<u8>,
 ) -> Result<(), AllocError>
-    ensures ok { OnOk result (out.new.items ≡ out.old.items ++ ended (reply_text id body.now)) }
+    ensures ok { OnOk result (out.new.items ≡ out.old.items ++ framed (reply_text id body.now)) }
     ensures utf8 { OnOk result (IsUtf8 (reply_text id body.now)) }
     ensures err { OnErr result (out.new.items ≡ out.old.items) }
 {

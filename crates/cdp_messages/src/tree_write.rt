@@ -4,7 +4,7 @@ ghost use Rattle.serde_json.specs.Written.{compact_text};
 ghost use Rattle.node_tree.specs.Nodes.{nodes_of};
 ghost use Rattle.cdp_messages.specs.NodeData.{tree_data};
 ghost use Rattle.cdp_messages.specs.Events.{nodes_kind};
-ghost use Rattle.cdp_messages.specs.Answers.{ended};
+ghost use Rattle.pipe_frames.specs.Frames.{framed};
 ghost use Rattle.cdp_messages.specs.Tokens.{data_tokens};
 ghost use Rattle.cdp_messages.specs.NodeWrites.{message_with};
 
@@ -90,7 +90,7 @@ pub(crate) fn append_tree(
     out: &mut Vec<u8>,
 ) -> Result<(), AllocError>
     ensures ok { OnOk result (out.new.items ≡ out.old.items
-        ++ ended (compact_text (message_with message (tree_data tree.now)))) }
+        ++ framed (compact_text (message_with message (tree_data tree.now)))) }
     ensures utf8 { OnOk result (IsUtf8 (compact_text (message_with message (tree_data tree.now)))) }
     ensures err { OnErr result (out.new.items ≡ out.old.items) }
 {
@@ -107,7 +107,7 @@ pub(crate) fn append_trees(
     out: &mut Vec<u8>,
 ) -> Result<(), AllocError>
     ensures ok { OnOk result (out.new.items ≡ out.old.items
-        ++ ended (compact_text (message_with message (nodes_kind.spell (nodes_of trees.now.items))))) }
+        ++ framed (compact_text (message_with message (nodes_kind.spell (nodes_of trees.now.items))))) }
     ensures utf8 { OnOk result (IsUtf8 (compact_text
         (message_with message (nodes_kind.spell (nodes_of trees.now.items))))) }
     ensures err { OnErr result (out.new.items ≡ out.old.items) }

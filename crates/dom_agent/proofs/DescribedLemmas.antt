@@ -2,7 +2,7 @@
 use Rattle.std.proofs.Common.{◌≡◌, ℕ, suc, ◌+◌, ◌<◌, ◌≤◌, ◌^◌, Bool, true, false, not, ◌&&◌, ◌||◌, cond, Option, Some, ⊎_elim, refl, sym, subst, arith, lt-ltb}
 use Rattle.std.specs.Prelude.{⊤}
 use Rattle.std.proofs.lemmas.Bool.{and_parts, and_from, eq-eqb}
-use Rattle.node_tree.specs.Nodes.{Nodes, none, node, Branch, alone, width, height, node_count, map_rows}
+use Rattle.node_tree.specs.Nodes.{Nodes, none, node, Branch, alone, width, height, node_count, map_rows, is_no_node}
 use Rattle.node_tree.specs.Keys.{find}
 use Rattle.node_tree.specs.Names.{is_element_name}
 use Rattle.node_tree.specs.Labels.{Label, is_document, is_element, holds, has_name, is_empty, is_ascending, is_formed_label, is_named_label}
@@ -20,7 +20,7 @@ use Rattle.cdp_messages.specs.Laws.{LabelHasUtf8, NodesHaveUtf8}
 use Rattle.cdp_messages.specs.Results.{are_attributes}
 use Rattle.cdp_messages.proofs.TellableLaws.{width-told_nodes}
 use Rattle.cdp_messages.specs.NodeObject.{is_counted_row, fits_hold, fits_described}
-use Rattle.cdp_messages.specs.NodeData.{is_none, fits_described_nodes, fits_described_tree}
+use Rattle.cdp_messages.specs.NodeData.{fits_described_nodes, fits_described_tree}
 use Rattle.cdp_messages.specs.Told.{Told, count_in, told_nodes}
 use Rattle.dom_agent.specs.Described.{shows_children, row_to, shown_to, kids_to, no_ids, described}
 use Rattle.dom_agent.specs.Laws.{RowsHaveUtf8, CanTell}
@@ -137,7 +137,7 @@ count_few true true w kids e = omega arith
 count_few true false w kids e = omega arith
 count_few false left w kids e = omega arith
 
-below_fits : (container left : Bool) (w : ℕ) (kids : Nodes Seen) → cond (is_opened (hold_for container left w)) true (is_none (told_nodes 0 (cond (container && left) kids none))) ≡ true
+below_fits : (container left : Bool) (w : ℕ) (kids : Nodes Seen) → cond (is_opened (hold_for container left w)) true (is_no_node (told_nodes 0 (cond (container && left) kids none))) ≡ true
 below_fits true true w kids = refl
 below_fits true false w kids = refl
 below_fits false left w kids = refl

@@ -21,7 +21,7 @@ use Rattle.page_tree.proofs.EditLemmas.{serial-live, whole-after, valid-after}
 use Rattle.page_tree.proofs.BackLemmas.{turned-live}
 use Rattle.node_binding.proofs.StartLemmas.{distinct-alone}
 use Rattle.node_binding.specs.Bindings.{Bound, opened_in, id_in, with_bound}
-use Rattle.cdp_messages.specs.Answers.{ended}
+use Rattle.pipe_frames.specs.Frames.{framed}
 use Rattle.cdp_messages.specs.Moves.{inserts, removes, counts, Move, change, frames_of_moves}
 use Rattle.dom_agent.specs.Keepers.{Keeper, binding_keeper}
 use Rattle.dom_agent.specs.Edits.{Edited, id_before, unopened, told_count, insertion, child_came, edited, event_frames}
@@ -57,7 +57,7 @@ module _ (ids : ℕ → ℕ) (n : Nodes Row) (k : ℕ) (x : Branch Row) (serial 
   prior_turn other = sym (ap (λ b. cond {A = ℕ} b p (id_before ids (ids x.row.serial) serial (from (k + 1) n))) other) ∙ here
 
 pub prior_end : (ids : ℕ → ℕ) (left : Nodes Row) (serial p q : ℕ) → left ≡ none → id_before ids p serial left ≡ q → p ≡ q
-prior_end ids left serial p q ended was = sym (ap (id_before ids p serial) ended) ∙ was
+prior_end ids left serial p q framed was = sym (ap (id_before ids p serial) framed) ∙ was
 
 -- ---- a node that has come, as an event tells it
 

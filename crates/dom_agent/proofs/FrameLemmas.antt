@@ -9,7 +9,7 @@ use Rattle.page_tree.specs.Pages.{Row}
 use Rattle.node_binding.specs.Cuts.{cut}
 use Rattle.node_binding.specs.Bindings.{Bound, opened_in, id_in}
 use Rattle.cdp_messages.specs.declared.down.ReplyBody.{ReplyBody}
-use Rattle.cdp_messages.specs.Answers.{ended}
+use Rattle.pipe_frames.specs.Frames.{framed}
 use Rattle.cdp_messages.specs.Tokens.{data_tokens}
 use Rattle.cdp_messages.specs.Moves.{Move, change, shows, replied, move_text, frames_of_moves}
 use Rattle.cdp_messages.proofs.TokenLists.{frame_sent}
@@ -17,16 +17,16 @@ use Rattle.dom_agent.specs.Keepers.{binding_keeper}
 use Rattle.dom_agent.specs.Requests.{Showing, told_of, opening_moves, frames_told}
 
 -- one move
-pub move_sent : (m : Move) (out out2 : List ℕ) → out2 ≡ out ++ ended (move_text m) → out2 ≡ out ++ frames_of_moves (m ∷ [])
-move_sent m out out2 sent = sent ∙ ap (λ l. out ++ l) (sym (append-nil (ended (move_text m))))
+pub move_sent : (m : Move) (out out2 : List ℕ) → out2 ≡ out ++ framed (move_text m) → out2 ≡ out ++ frames_of_moves (m ∷ [])
+move_sent m out out2 sent = sent ∙ ap (λ l. out ++ l) (sym (append-nil (framed (move_text m))))
 
 -- one move whose message was written token by token
 pub move_written : {E : Type 0} (written result : Result (Unit {0}) E) (old before now : List ℕ) (us ts : List Token) (d : Data) (m : Move) → compact_text d ≡ move_text m → us ≡ [] → OnOk written (ts ≡ us ++ data_tokens d) → before ≡ old
-    → (OnOk written (ts ≡ data_tokens d) → OnOk result (now ≡ before ++ ended (compact_text d))) → OnOk result (now ≡ old ++ frames_of_moves (m ∷ []))
+    → (OnOk written (ts ≡ data_tokens d) → OnOk result (now ≡ before ++ framed (compact_text d))) → OnOk result (now ≡ old ++ frames_of_moves (m ∷ []))
 move_written written result old before now us ts d m same begun wrote kept done = by result (frame_sent written result old before now us ts d begun wrote kept done)
   where
-    by : {E : Type 0} (r : Result (Unit {0}) E) → OnOk r (now ≡ old ++ ended (compact_text d)) → OnOk r (now ≡ old ++ frames_of_moves (m ∷ []))
-    by (Ok u) sent = move_sent m old now (sent ∙ ap (λ t. old ++ ended t) same)
+    by : {E : Type 0} (r : Result (Unit {0}) E) → OnOk r (now ≡ old ++ framed (compact_text d)) → OnOk r (now ≡ old ++ frames_of_moves (m ∷ []))
+    by (Ok u) sent = move_sent m old now (sent ∙ ap (λ t. old ++ framed t) same)
     by (Err e) sent = tt
 
 -- the children of an opened node
@@ -41,4 +41,4 @@ served_sent xs id body out out1 out2 first reply =
     reply
     ∙ ap (λ l. l ++ frames_of_moves (replied id body ∷ [])) first
     ∙ append_assoc out (frames_told xs) (frames_of_moves (replied id body ∷ []))
-    ∙ ap (λ l. out ++ l) (sym (flat_map-append (λ m. ended (move_text m)) (opening_moves xs) (replied id body ∷ [])))
+    ∙ ap (λ l. out ++ l) (sym (flat_map-append (λ m. framed (move_text m)) (opening_moves xs) (replied id body ∷ [])))

@@ -9,8 +9,7 @@ use Rattle.serde_json.specs.Data as datum
 use Rattle.serde_json.specs.Data.{Data, put}
 use Rattle.serde_json.specs.Read.{read, of_json, max_depth}
 use Rattle.serde_json.specs.Written.{has_float}
-use Rattle.node_tree.specs.Keys.{first_of}
-use Rattle.page_tree.specs.Loads.{first_true}
+use Rattle.node_tree.specs.Keys.{first_of, first_true}
 use Rattle.page_forms.specs.Pages.{LoadedPage, page_in, first_page_fault}
 use Rattle.page_forms.specs.PageForms.{page_form}
 use Rattle.page_forms.specs.Spelt.{ValueForm, Spells}
