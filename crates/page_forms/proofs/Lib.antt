@@ -2,3 +2,5 @@ pub mod NodeTexts
 pub mod FieldTexts
 pub mod PageLemmas
 pub mod ActLemmas
+pub mod SpeltLists
+pub mod SpeltObjects

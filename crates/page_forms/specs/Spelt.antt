@@ -1,9 +1,9 @@
 -- What the tokens of a text spell.
-use Rattle.std.specs.Prelude.{◌≡◌, ℕ, ◌≤◌, List, ◌∷◌, ◌++◌, Bool, false, Option, Some}
+use Rattle.std.specs.Prelude.{◌≡◌, ℕ, ◌≤◌, List, ◌∷◌, ◌++◌, false, Option, Some}
 use Rattle.json.specs.Token.{Token, begin_array, key}
 use Rattle.json.specs.Json.{Json, Items}
 use Rattle.json.specs.Tree.{json_tokens, items_tokens, depth, items_depth}
-use Rattle.serde_json.specs.Data as data
+use Rattle.serde_json.specs.Data as datum
 use Rattle.serde_json.specs.Data.{Data}
 use Rattle.serde_json.specs.Read.{of_json, of_items}
 use Rattle.serde_json.specs.Written.{has_float, items_have_float}
@@ -16,7 +16,7 @@ pub record ValueForm (A : Type 0) : Type 0 where
 -- the same of the items of a list
 pub record ListForm (A : Type 0) : Type 0 where
   pub levels : ℕ
-  pub reads : data.Items → Option A
+  pub reads : datum.Items → Option A
 
 -- a list in a field of that name, and what it means that there is no such field
 pub record FieldForm (A : Type 0) : Type 0 where
@@ -37,7 +37,7 @@ pub record Spells {A : Type 0} (form : ValueForm A) (old : List Token) (x : A) (
 -- the same of the items of a list, and the bracket behind them
 pub record SpellsItems {A : Type 0} (form : ListForm A) (old : List Token) (x : A) (new : List Token) : Type 0 where
   pub json : Items
-  pub items : data.Items
+  pub items : datum.Items
   pub tokens : old ≡ items_tokens json ++ new
   pub means : of_items json ≡ Some items
   pub shallow : items_depth json ≤ form.levels

@@ -7,7 +7,9 @@ ghost use Rattle.page_tree.specs.Loads.{labelled, form_of};
 ghost use Rattle.page_forms.specs.Spelt.{Spells, SpellsItems, SpellsField};
 ghost use Rattle.page_forms.specs.NodeForms.{leaf, text_field, text_data, element_tokens, next_token, pairs_form, attributes_form, attribute_field, node_form, nodes_form, child_field};
 
-use crate::tokens::{ScanErr, take_any_key, take_begin_array, take_begin_object, take_end_object, take_text};
+use crate::tokens::{
+    ScanErr, take_any_key, take_begin_array, take_begin_object, take_end_object, take_text,
+};
 use json::{Reader, Token};
 use page_tree::{Attributes, Kind, NodeForm, Text, order_pairs};
 use std::alloc::{AllocError, Global};

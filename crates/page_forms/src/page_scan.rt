@@ -1,5 +1,5 @@
 // A page out of the tokens that usually spell it.
-ghost use Rattle.std.specs.Prelude.{◌≡◌, ◌∷◌, Some, None, IfOk, IfSome};
+ghost use Rattle.std.specs.Prelude.{◌≡◌, ◌∷◌, true, Some, None, IfOk};
 ghost use Rattle.json.specs.Token.{key, end_object};
 ghost use Rattle.page_forms.specs.Spelt.{Spells, SpellsItems, SpellsField};
 ghost use Rattle.page_forms.specs.PageForms.{sheet_value, sheets_form, sheet_field, page_form};
@@ -8,7 +8,9 @@ ghost use Rattle.page_forms.specs.Pages.{first_page_fault, loaded_page};
 use crate::node_scan::scan_nodes;
 use crate::pages::PageForm;
 use crate::sheets::{SheetForm, can_hold_sheets, origin_in};
-use crate::tokens::{ScanErr, take_begin_array, take_begin_object, take_end_object, take_key, take_text};
+use crate::tokens::{
+    ScanErr, take_begin_array, take_begin_object, take_end_object, take_key, take_text,
+};
 use json::{Reader, Token};
 use node_tree::Text;
 use page_tree::limit_fault;

@@ -3,7 +3,7 @@ ghost use Rattle.std.specs.Prelude.{◌≡◌, ◌∷◌, IfOk, OnOk};
 ghost use Rattle.json.specs.Token.{begin_object, end_object, begin_array, key, string};
 
 use json::{Reader, Token};
-use std::alloc::AllocError;
+use std::alloc::{AllocError, AllocFailed};
 use thiserror::Error;
 
 /// Why a page is not read off its tokens.
@@ -23,6 +23,17 @@ impl From<AllocError> for ScanErr {
     ghost from_gives = { λ _ e. e ≡ Memory };
 
     fn from(_: AllocError) -> ScanErr {
+        ScanErr::Memory
+    }
+}
+
+impl<T: Drop> From<AllocFailed<T>> for ScanErr {
+    ghost use Rattle.std.specs.Prelude.{◌≡◌};
+    ghost use Rattle.page_forms.specs.declared.tokens.ScanErr.TheVariants.{Memory};
+
+    ghost from_gives = { λ _ e. e ≡ Memory };
+
+    fn from(_: AllocFailed<T>) -> ScanErr {
         ScanErr::Memory
     }
 }

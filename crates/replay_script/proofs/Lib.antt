@@ -2,3 +2,4 @@ pub mod LineLemmas
 pub mod FaultLemmas
 pub mod SoundLemmas
 pub mod ScriptLemmas
+pub mod LoadLemmas
