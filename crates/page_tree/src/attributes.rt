@@ -87,11 +87,12 @@ fn ascend(pairs: &[(Text, Text)]) -> bool
 /// The pairs as attributes, in ascending order of the names' bytes; none where a name is there twice.
 pub fn order_pairs(
     alloc: Global,
-    pairs: Vec<(Text, Text)>,
+    mut pairs: Vec<(Text, Text)>,
 ) -> Result<Option<Attributes>, AllocError>
     ensures { IfOk result (λ attributes. attributes ≡ in_order [] pairs.items) }
 {
     if ascend(&pairs) {
+        pairs.shrink_to_fit();
         return Ok(Some(Attributes::from_pairs(pairs)));
     }
     let Some(entries) = gather(alloc, pairs)? else {
