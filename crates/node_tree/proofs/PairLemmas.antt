@@ -34,7 +34,7 @@ lt_less Less e = refl
 lt_less Equal e = absurd (cc)
 lt_less Greater e = absurd (cc)
 
-before_trans : (a b c : List ℕ) → is_before a b ≡ true → is_before b c ≡ true → is_before a c ≡ true
+pub before_trans : (a b c : List ℕ) → is_before a b ≡ true → is_before b c ≡ true → is_before a c ≡ true
 before_trans a b c e f = ap is_lt (nat_list_cmp_total.trans a b c (lt_less _ e) (lt_less _ f))
 
 equal_name : (n : List ℕ) → bytes_eq n n ≡ true

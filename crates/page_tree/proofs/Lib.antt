@@ -23,3 +23,4 @@ pub mod WalkLemmas
 pub mod CountLemmas
 pub mod FaultLemmas
 pub mod SeatLemmas
+pub mod OrderLemmas

@@ -1,5 +1,6 @@
 ghost use Rattle.std.specs.Prelude.{◌≡◌, [], ◌++◌, map, string_bytes, option_map, IfOk, OnOk};
 ghost use Rattle.serde_json.specs.View.{view, items_view};
+ghost use Rattle.node_tree.specs.Labels.{is_below, is_ascending};
 ghost use Rattle.page_tree.specs.Loads.{pairs_of, in_order, attributes_of};
 ghost use Rattle.page_tree.specs.Entries.{shown};
 
@@ -59,13 +60,41 @@ fn list_entries(
     Ok(pairs)
 }
 
+// The name comes before that of the first pair, by bytes.
+fn is_below(name: &str, pairs: &[(Text, Text)]) -> bool
+    ensures { result ≡ is_below name.now pairs.now }
+{
+    match pairs.first() {
+        Some(first) => name < first.0.as_str(),
+        None => true,
+    }
+}
+
+// Each name comes before the next one, by bytes.
+fn ascend(pairs: &[(Text, Text)]) -> bool
+    ensures { result ≡ is_ascending pairs.now }
+{
+    let mut rest = pairs;
+    while let Some((first, others)) = rest.split_first() {
+        if !is_below(first.0.as_str(), others) {
+            return false;
+        }
+        rest = others;
+    }
+    true
+}
+
 /// The pairs as attributes, in ascending order of the names' bytes; none where a name is there twice.
 pub fn order_pairs(
     alloc: Global,
-    pairs: Vec<(Text, Text)>,
+    mut pairs: Vec<(Text, Text)>,
 ) -> Result<Option<Attributes>, AllocError>
     ensures { IfOk result (λ attributes. attributes ≡ in_order [] pairs.items) }
 {
+    if ascend(&pairs) {
+        pairs.shrink_to_fit();
+        return Ok(Some(Attributes::from_pairs(pairs)));
+    }
     let Some(entries) = gather(alloc, pairs)? else {
         return Ok(None);
     };

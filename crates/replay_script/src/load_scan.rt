@@ -10,11 +10,6 @@ use json::{Reader, Scratch, Token};
 use page_forms::{PageForm, ScanErr, scan_page};
 use std::alloc::Global;
 
-// How a load begins that has its usual form.
-fn begins_load(line: &[u8]) -> bool {
-    line.starts_with(b"{\"load\":")
-}
-
 fn opens_load(reader: &mut Reader<'_>) -> bool
     ensures { result ≡ true → reader.old ≡ begin_object ∷ (key (codes "load") ∷ reader.new) }
 {
@@ -56,7 +51,7 @@ fn scan_tokens(alloc: Global, reader: &mut Reader<'_>) -> Result<PageForm, ScanE
 pub(crate) fn scan_load(alloc: Global, line: &[u8]) -> Result<PageForm, ScanErr>
     ensures { IfOk result (λ page. Loads line.now (loaded_page page)) }
 {
-    if !begins_load(line) {
+    if !line.starts_with(b"{\"load\":") {
         return Err(ScanErr::OtherForm);
     }
     let Ok(text) = str::from_utf8(line) else {
