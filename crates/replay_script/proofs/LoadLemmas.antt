@@ -9,10 +9,7 @@ use Rattle.serde_json.specs.Data as datum
 use Rattle.serde_json.specs.Data.{Data, put}
 use Rattle.serde_json.specs.Read.{read, of_json, max_depth}
 use Rattle.serde_json.specs.Written.{has_float}
-<<<<<<< HEAD
 use Rattle.node_tree.specs.Keys.{first_of, first_true}
-=======
->>>>>>> 90648b884b7959a35c6530a8413a73dcb5dc9b7e
 use Rattle.page_forms.specs.Pages.{LoadedPage, page_in, first_page_fault}
 use Rattle.page_forms.specs.PageForms.{page_form}
 use Rattle.page_forms.specs.Spelt.{ValueForm, Spells}
