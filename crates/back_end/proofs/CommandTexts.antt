@@ -10,13 +10,13 @@ use Rattle.serde_json.specs.Data.{Data, null, boolean, number, string, array, ob
 use Rattle.serde_json.specs.Find.{get_member, as_str, as_object, as_array}
 use Rattle.cdp_json.specs.Kinds.{Kind, text, list_of, and_first, read_items}
 use Rattle.cdp_json.specs.Fields.{field_from}
-use Rattle.cdp_json.specs.Lookups.{then_ok, required, Lookups, no_lookups, with_later, look_for, value_of}
+use Rattle.cdp_json.specs.Lookups.{then_ok, required, Lookups, no_lookups, with_later, look_for, ok_value}
 use Rattle.cdp_json.specs.Plain.{HasUtf8, ItemsHaveUtf8, MembersHaveUtf8}
 use Rattle.cdp_json.proofs.ReadTexts.{IfSome}
 use Rattle.page_forms.proofs.NodeTexts.{array_utf8, object_utf8}
 use Rattle.cdp_messages.specs.declared.command.Param.TheVariants as param
 use Rattle.cdp_messages.specs.Refusals.{param_name}
-use Rattle.cdp_messages.specs.Parameters.{edit_fields, edit_from, text_edit, place}
+use Rattle.cdp_messages.specs.Parameters.{edit_fields, edit_from, text_edit, range_parameter}
 use Rattle.css_objects.specs.declared.ranges.SourceRange.{SourceRange}
 use Rattle.css_agent.specs.EditLaws.{HasEditText}
 
@@ -107,17 +107,17 @@ EditTexts x = IsUtf8 x.0 × (Any x.1.0 × (IsUtf8 x.1.1.0 × Any x.1.1.1))
 
 edit-gives : Gives edit_fields EditTexts
 edit-gives =
-    gives-field (param_name param.StyleSheetId) tt text (look_for (param_name param.Range) tt place (look_for (param_name param.Text) tt text no_lookups)) IsUtf8
+    gives-field (param_name param.StyleSheetId) tt text (look_for (param_name param.Range) tt range_parameter (look_for (param_name param.Text) tt text no_lookups)) IsUtf8
     (λ (x : SourceRange × (List ℕ × ⊤)). Any x.0 × (IsUtf8 x.1.0 × Any x.1.1)) reads-text
-    (gives-field (param_name param.Range) tt place (look_for (param_name param.Text) tt text no_lookups) Any (λ (x : List ℕ × ⊤). IsUtf8 x.0 × Any x.1) (reads-any place.reads)
+    (gives-field (param_name param.Range) tt range_parameter (look_for (param_name param.Text) tt text no_lookups) Any (λ (x : List ℕ × ⊤). IsUtf8 x.0 × Any x.1) (reads-any range_parameter.reads)
     (gives-field (param_name param.Text) tt text no_lookups IsUtf8 Any reads-text (gives-all ⊤)))
 
 pub reads-edit : Reads text_edit.reads HasEditText
 reads-edit d u = at (as_object d) (object_utf8 d u) where
-  made : (r : Result (List ℕ × (SourceRange × (List ℕ × ⊤))) ⊤) → IfGiven EditTexts r → IfSome HasEditText (option_and_then edit_from (value_of r))
+  made : (r : Result (List ℕ × (SourceRange × (List ℕ × ⊤))) ⊤) → IfGiven EditTexts r → IfSome HasEditText (option_and_then edit_from (ok_value r))
   made (Ok x) g = g.1.1.0
   made (Err e) g = tt
 
-  at : (o : Option Members) → IfSome MembersHaveUtf8 o → IfSome HasEditText (option_and_then edit_from (option_and_then (λ ms. value_of (edit_fields.gets ms)) o))
+  at : (o : Option Members) → IfSome MembersHaveUtf8 o → IfSome HasEditText (option_and_then edit_from (option_and_then (λ ms. ok_value (edit_fields.gets ms)) o))
   at None v = tt
   at (Some ms) v = made (edit_fields.gets ms) (edit-gives ms v)

@@ -4,7 +4,7 @@ use Rattle.std.specs.List.{flat_map, list_all, AllByRecursion}
 use Rattle.cdp_json.specs.Kinds.{is_counted, text}
 use Rattle.node_tree.specs.Nodes.{Nodes, none, node, alone}
 use Rattle.node_tree.specs.Labels.{Pair}
-use Rattle.page_tree.specs.Pages.{Row}
+use Rattle.page_tree.specs.Pages.{PageRow}
 use Rattle.page_tree.specs.Zippers.{zipper_at}
 use Rattle.sheet_reader.specs.declared.book.SheetEntry.{SheetEntry}
 use Rattle.sheet_reader.specs.Books.{IsStored}
@@ -41,7 +41,7 @@ values-are : (ps : List Pair) → PairsHaveUtf8 ps → ValuesAre ps
 values-are [] texts = tt
 values-are (p ∷ ps) texts = (texts.1, values-are ps texts.2)
 
-rows-have : (n : Nodes Row) → RowsHaveUtf8 n → NodesHaveValues n
+rows-have : (n : Nodes PageRow) → RowsHaveUtf8 n → NodesHaveValues n
 rows-have none texts = tt
 rows-have (node r c t) texts = (values-are r.label.attributes texts.0.2, rows-have c texts.1, rows-have t texts.2)
 

@@ -27,7 +27,7 @@ use Rattle.cdp_messages.specs.declared.method.Method.{Method}
 use Rattle.cdp_messages.specs.declared.method.Method.TheVariants as method
 use Rattle.cdp_messages.specs.Methods.{known_method}
 use Rattle.cdp_messages.specs.Refusals.{param_name}
-use Rattle.cdp_messages.specs.Parameters.{text_edit, place, needed, allowed, depth_fields, children_fields, path_field, serials_field, node_field, query_fields, describe_fields, sheet_field, edits_field, watch_fields, reading, command_by}
+use Rattle.cdp_messages.specs.Parameters.{text_edit, range_parameter, needed, allowed, depth_fields, children_fields, path_field, serials_field, node_field, query_fields, describe_fields, sheet_field, edits_field, watch_fields, reads_with, command_by}
 use Rattle.cdp_messages.specs.Asked.{json_of, of_method, command_for, unless_session, or_bad_request, params_of, command_of, method_in, command_in, asked_by, with_id, asked_in, asked_value, asked}
 use Rattle.back_end.specs.Servers.{server_of}
 use Rattle.back_end.specs.Laws.{most_edits, edits_asked}
@@ -154,7 +154,7 @@ edits-two p k later makes ms c few is =
 
 -- one that keeps none
 edits-none : {T : Type 0} (fields : Lookups Why T) (makes : T → Command) (ms : Members) (c : Command)
-    → ((x : T) → edits_of (makes x) ≤ 0) → reading fields makes ms ≡ Ok c → edits_of c ≤ members_size ms
+    → ((x : T) → edits_of (makes x) ≤ 0) → reads_with fields makes ms ≡ Ok c → edits_of c ≤ members_size ms
 edits-none fields makes ms c none is =
     let all = then-is (fields.gets ms) (λ x. Ok (makes x)) c is in
     let made : makes all.0 ≡ c = cc in
@@ -165,7 +165,7 @@ edits-none fields makes ms c none is =
 edits-bare : (made c : Command) (ms : Members) → edits_of made ≤ 0 → ◌≡◌ {A = Result Command Why} (Ok made) (Ok c) → edits_of c ≤ members_size ms
 edits-bare made c ms none is = let same : made ≡ c = cc in let zero = subst (λ e. edits_of e ≤ 0) same none in omega arith
 
-edits-texts : (ms : Members) (c : Command) → reading edits_field (λ x. SetStyleTexts x.0) ms ≡ Ok c → edits_of c ≤ members_size ms
+edits-texts : (ms : Members) (c : Command) → reads_with edits_field (λ x. SetStyleTexts x.0) ms ≡ Ok c → edits_of c ≤ members_size ms
 edits-texts ms c is =
     let all = needs-one param.Edits (list_of text_edit) no_lookups (λ x. SetStyleTexts x.0) ms c is in
     let size = member-size (param_name param.Edits) ms all.0 all.2 in
@@ -202,9 +202,9 @@ edits-by method.GetMatchedStyles ms c is = edits-none node_field (λ x. GetMatch
 edits-by method.GetStyleSheetText ms c is = edits-none sheet_field (λ x. GetStyleSheetText x.0) ms c (λ x. omega arith) is
 edits-by method.CollectClassNames ms c is = edits-none sheet_field (λ x. CollectClassNames x.0) ms c (λ x. omega arith) is
 edits-by method.SetStyleTexts ms c is = edits-texts ms c is
-edits-by method.SetRuleSelector ms c is = edits-two param.StyleSheetId text (needed param.Range place (needed param.Selector text no_lookups)) (λ x. SetRuleSelector x.0 x.1.0 x.1.1.0) ms c (λ x. omega arith) is
+edits-by method.SetRuleSelector ms c is = edits-two param.StyleSheetId text (needed param.Range range_parameter (needed param.Selector text no_lookups)) (λ x. SetRuleSelector x.0 x.1.0 x.1.1.0) ms c (λ x. omega arith) is
 edits-by method.SetStyleSheetText ms c is = edits-two param.StyleSheetId text (needed param.Text text no_lookups) (λ x. SetStyleSheetText x.0 x.1.0) ms c (λ x. omega arith) is
-edits-by method.AddRule ms c is = edits-two param.StyleSheetId text (needed param.RuleText text (needed param.Location place no_lookups)) (λ x. AddRule x.0 x.1.0 x.1.1.0) ms c (λ x. omega arith) is
+edits-by method.AddRule ms c is = edits-two param.StyleSheetId text (needed param.RuleText text (needed param.Location range_parameter no_lookups)) (λ x. AddRule x.0 x.1.0 x.1.1.0) ms c (λ x. omega arith) is
 edits-by method.SetBreakpoint ms c is = edits-none watch_fields (λ x. SetBreakpoint x.0 x.1.0) ms c (λ x. omega arith) is
 edits-by method.RemoveBreakpoint ms c is = edits-none watch_fields (λ x. RemoveBreakpoint x.0 x.1.0) ms c (λ x. omega arith) is
 edits-by method.ReplayLoad ms c is = edits-bare (ReplayLoad (object ms)) c ms (omega arith) is

@@ -5,7 +5,7 @@ use Rattle.serde_json.specs.Data.{Data}
 use Rattle.cdp_json.specs.Kinds.{is_counted, holds_of_some}
 use Rattle.cdp_json.specs.Plain.{HasUtf8}
 use Rattle.node_tree.specs.Nodes.{none, node_count, alone}
-use Rattle.page_tree.specs.Pages.{State as PageValue, IsValid}
+use Rattle.page_tree.specs.Pages.{PageValue, IsValid}
 use Rattle.node_binding.specs.Sessions.{Session, IsSession, is_open, reset}
 use Rattle.node_binding.proofs.StartLemmas.{count-alone}
 use Rattle.cdp_messages.specs.declared.command.Command.{Command}
@@ -28,7 +28,7 @@ use Rattle.css_agent.specs.declared.asks.CssAsk.TheVariants as css
 use Rattle.css_agent.specs.declared.edits.CssEdit.{CssEdit}
 use Rattle.css_agent.specs.declared.edits.CssEdit.TheVariants as style
 use Rattle.css_agent.specs.EditLaws.{HasEditTexts, css_edit_name}
-use Rattle.dom_agent.specs.Laws.{session_outcome, CanTell, view_of as seen_by}
+use Rattle.dom_agent.specs.Laws.{session_outcome, CanTell, session_view as seen_by}
 use Rattle.dom_agent.specs.Keepers.{session_keeper}
 use Rattle.dom_agent.specs.Requests.{Outcome, shows_root, served, refused, named_node, state_after, moves_of}
 use Rattle.dom_agent.proofs.RepliedLemmas.{description-keeps}
@@ -39,7 +39,7 @@ use Rattle.back_end.specs.declared.dom_edits.DomEdit.{DomEdit}
 use Rattle.back_end.specs.declared.dom_edits.DomEdit.TheVariants as tree
 use Rattle.back_end.specs.Texts.{HasTreeTexts}
 use Rattle.back_end.proofs.TreeSteps.{AsksFor, tree-edit-answered}
-use Rattle.back_end.specs.States.{State, nodes_in, book_in, sheets_shown, view_of, HoldsNow, HasHistory, IsState}
+use Rattle.back_end.specs.States.{State, page_nodes, book_in, sheets_shown, view_of, HoldsNow, HasHistory, IsState}
 use Rattle.back_end.specs.OwnMethods.{load_asked, act_asked}
 use Rattle.back_end.specs.Steps.{Step, with_client, refusing, client_reset, moves_come, Turn, acts, loads, turn_step, ask_needs_on, needs_on, needs_css, turns_on, client_served, agent_step, css_step, serial_now, watch_kind, watch_step, own_step, sheet_edit_step, server_step, command_step, asked_step}
 use Rattle.back_end.specs.Servers.{Server, enables, disables, css_enables, css_disables, agent, css_agent, edits_tree, edits_sheets, ends_group, undoes, redoes, watches, unwatches, page_load, page_act, nobody, by_agent, server_of, HasServedTexts}
@@ -88,7 +88,7 @@ off-after (ask.QuerySelectorAll id text) state is h k = refuses-off state.client
 off-after (ask.GetAttributes id) state is h k = refuses-off state.client.dom_on h k
 off-after (ask.DescribeNode id serial depth pierce) state is h k =
     let w : Session = state.client.session in
-    ap (λ (z : Session). z.opened) (description-keeps (session_keeper (nodes_in state)) state.side.page.tree depth (named_node (session_keeper (nodes_in state)) state.side.page.tree w id serial) w)
+    ap (λ (z : Session). z.opened) (description-keeps (session_keeper (page_nodes state)) state.side.page.tree depth (named_node (session_keeper (page_nodes state)) state.side.page.tree w id serial) w)
     ∙ is.off (still-off state.client.dom_on k)
 
 -- where an ask that was carried out leaves DOM off, it was off
@@ -123,7 +123,7 @@ unknown-before page ask w valid session =
 -- the state after an ask, by what it came to
 pub served-is : (ask : DomAsk) (o : Outcome Session) (state : State) → HoldsNow state → ((state.client.dom_on || turns_on ask) ≡ false → (state_after state.client.session o).opened ≡ None)
     → ((state_after state.client.session o).opened ≡ None → state.client.session.opened ≡ None)
-    → IsSession (nodes_in state) (state_after state.client.session o) → HoldsNow (with_client (client_served ask o state.client) state)
+    → IsSession (page_nodes state) (state_after state.client.session o) → HoldsNow (with_client (client_served ask o state.client) state)
 served-is ask (shows_root w b) state is off unknown session = record {
   page = is.page;
   texts = is.texts;
@@ -175,8 +175,8 @@ agent-well id ask state is room small fits on =
     let o : Outcome Session = session_outcome page ask w in
     let low : HasNumbers state = room-numbers state room in
     let can : CanTell page w = can-tell state is low in
-    let few : length (state_after w o).pushed ≤ length w.pushed + node_count (nodes_in state) = draws_few page ask w is.page fits is.session in
-    let count : node_count (nodes_in state) ≤ 100000 = count-alone page is.page in
+    let few : length (state_after w o).pushed ≤ length w.pushed + node_count (page_nodes state) = draws_few page ask w is.page fits is.session in
+    let count : node_count (page_nodes state) ≤ 100000 = count-alone page is.page in
     record {
       now = served-is ask o state is (off-after ask state is on) (unknown-before page ask w is.page is.session) (stays_session page ask w is.page fits is.session);
       course = subst (λ v. Course (moves_of id o) (view_of state) v) (served-view ask o state) (steps_are_moves page ask w id (sheets_shown state) is.page fits is.session can small (can-sheets state is low));

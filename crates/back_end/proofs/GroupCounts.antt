@@ -2,7 +2,7 @@
 use Rattle.std.proofs.Common.{◌≡◌, ℕ, ◌+◌, ◌≤◌, Bool, true, false, cond, List, [], ◌∷◌, ◌++◌, length, map, reverse, Option, Some, None, refl, sym, ap, ◌∙◌, subst, length-append, arith}
 use Rattle.std.proofs.lemmas.List.{reverse-append, length-reverse, length-map}
 use Rattle.undo_marks.specs.Marks.{Marks, entry_count, onto_newest, edited, undone, redone}
-use Rattle.undo_marks.specs.Changes.{Change as Entry, changes_on, backs_of}
+use Rattle.undo_marks.specs.Changes.{HistoryEntry as Entry, changes_on, backs_of}
 use Rattle.undo_marks.specs.Saved.{Saved}
 use Rattle.undo_marks.specs.SavedEdits.{page_after, way_back}
 use Rattle.undo_marks.specs.declared.inverse_lists.Inverse.{Inverse}

@@ -5,14 +5,14 @@ use Rattle.std.proofs.lemmas.List.{reverse-reverse}
 use Rattle.cdp_json.proofs.ReadTexts.{IfSome}
 use Rattle.node_tree.specs.Nodes.{Branch, alone}
 use Rattle.node_tree.specs.Labels.{Pair, value_of}
-use Rattle.page_tree.specs.Pages.{Row}
+use Rattle.page_tree.specs.Pages.{PageRow}
 use Rattle.page_tree.specs.Edits.{label_at, restored, back_tree}
 use Rattle.page_tree.specs.declared.edits.TreeEdit.{TreeEdit}
 use Rattle.page_tree.specs.declared.edits.TreeEdit.TheVariants.{SetAttr, DropAttr, SetText, Attach, Detach}
 use Rattle.cdp_messages.specs.Laws.{PairsHaveUtf8}
 use Rattle.dom_agent.specs.Laws.{RowsHaveUtf8}
 use Rattle.undo_marks.specs.Marks.{Marks, no_marks, handed_out, noted_singly, edited, marked, crossed_over, undone, redone, past_popped, future_popped, past_pushed, future_pushed}
-use Rattle.undo_marks.specs.Changes.{Change as Entry, page_undone, page_redone, after_all, changes_on, back_all, AllTaken, backs_of, again_of, kept_of, KeptFor, AreBacks, IsUndo, IsRedo, KeepsOn}
+use Rattle.undo_marks.specs.Changes.{HistoryEntry as Entry, page_undone, page_redone, after_all, changes_on, back_all, AllTaken, backs_of, again_of, kept_of, KeptFor, AreBacks, IsUndo, IsRedo, KeepsOn}
 use Rattle.undo_marks.specs.Saved.{Saved}
 use Rattle.undo_marks.specs.SavedEdits.{page_after, way_back}
 use Rattle.undo_marks.specs.declared.inverse_lists.Inverse.{Inverse}
@@ -38,7 +38,7 @@ restored-texts serial name None has old = has
 restored-texts serial name (Some value) has old = (has, old)
 
 -- the texts of the edit that leads back are those of the tree before
-pub back-texts : (e : TreeEdit) (tree : Branch Row) → EditHasTexts e → RowsHaveUtf8 (alone tree) → EditHasTexts (back_tree e tree)
+pub back-texts : (e : TreeEdit) (tree : Branch PageRow) → EditHasTexts e → RowsHaveUtf8 (alone tree) → EditHasTexts (back_tree e tree)
 back-texts (SetAttr serial name value) tree has us =
     let node = node_at-texts serial tree us in
     restored-texts serial name (value_of name (label_at serial tree).attributes) has.0 (value-texts name (label_at serial tree).attributes node.0.2)

@@ -1,7 +1,7 @@
 -- What becomes of the history by a step: it stays one, and few edits more are kept.
 use Rattle.std.proofs.Common.{◌≡◌, ℕ, ◌+◌, ◌≤◌, List, length, sym, ap, subst, arith}
 use Rattle.undo_marks.specs.Marks.{Marks, no_marks, marked}
-use Rattle.undo_marks.specs.Changes.{Change as Entry, after_all, changes_on, AllTaken, IsHistory}
+use Rattle.undo_marks.specs.Changes.{HistoryEntry as Entry, after_all, changes_on, AllTaken, IsHistory}
 use Rattle.undo_marks.specs.Saved.{Saved}
 use Rattle.undo_marks.specs.SavedEdits.{page_after}
 use Rattle.undo_marks.specs.declared.inverse_lists.Inverse.{Inverse}

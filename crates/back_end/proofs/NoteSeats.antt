@@ -1,7 +1,7 @@
 -- A client's edits are noted by the edits that lead back, and these are kept for the state after them.
 use Rattle.std.proofs.Common.{◌≡◌, ◌≤◌, ℕ, List, [], ◌∷◌, map, Option, Some, None, Ok, refl, sym, ap, ◌∙◌, subst, arith}
 use Rattle.node_tree.specs.Nodes.{Branch, alone}
-use Rattle.page_tree.specs.Pages.{Row, State as PageValue, IsValid}
+use Rattle.page_tree.specs.Pages.{PageRow, PageValue, IsValid}
 use Rattle.page_tree.specs.Edits.{after, form_at}
 use Rattle.page_tree.specs.EditFaults.{CanApplyAll}
 use Rattle.page_tree.specs.declared.edits.TreeEdit.{TreeEdit}
@@ -26,7 +26,7 @@ use Rattle.back_end.specs.declared.side.PageSide.{PageSide}
 use Rattle.back_end.specs.declared.dom_edits.NodeEdit.{NodeEdit}
 use Rattle.back_end.specs.declared.dom_edits.NodeEdit.TheVariants.{One, MoveNode, CopyNode}
 use Rattle.back_end.specs.Plans.{Plan, node_edit_fault, node_edit_plan, node_put}
-use Rattle.back_end.specs.States.{State, nodes_in, book_in, HoldsNow, TakesWell, saved_now, Keeps}
+use Rattle.back_end.specs.States.{State, page_nodes, book_in, HoldsNow, TakesWell, saved_now, Keeps}
 use Rattle.back_end.specs.Steps.{Step, idle, with_page, with_marks, keeping, edit_step, edit_steps, splice_steps, plan_step, planned_by_client, put_answer, unless_fault, node_edit_step}
 use Rattle.back_end.specs.Texts.{IsPlainEdit}
 use Rattle.back_end.specs.Seats.{DeskStandsFor, BothStandFor}
@@ -49,7 +49,7 @@ record Taken (es : List TreeEdit) (state : State) : Type 0 where
   next : (edit_steps es state).state.side.page.next ≡ state.side.page.next
   marks : (edit_steps es state).state.client.marks ≡ state.client.marks
 
-taken-all : (es : List TreeEdit) (state : State) → IsValid state.side.page → RowsHaveUtf8 (nodes_in state) → CanApplyAll es state.side.page → EditsHaveTexts es → Taken es state
+taken-all : (es : List TreeEdit) (state : State) → IsValid state.side.page → RowsHaveUtf8 (page_nodes state) → CanApplyAll es state.side.page → EditsHaveTexts es → Taken es state
 taken-all [] state valid texts can own = record { taken = tt; saved = refl; next = refl; marks = refl }
 taken-all (e ∷ es) state valid texts can own =
     let page = state.side.page in
@@ -117,9 +117,9 @@ planned-kept h state e k is plain fits =
     let plan = plan_of e state in
     let b = begins state e is plain fits in
     let first = with_page plan.page state in
-    let texts : RowsHaveUtf8 (nodes_in first) = subst (λ (tree : Branch Row). RowsHaveUtf8 (alone tree)) (sym b.same) is.texts in
+    let texts : RowsHaveUtf8 (page_nodes first) = subst (λ (tree : Branch PageRow). RowsHaveUtf8 (alone tree)) (sym b.same) is.texts in
     let t = taken-all plan.edits first b.page texts b.can b.texts in
-    let same : saved_now first ≡ saved_now state = ap (λ (tree : Branch Row). saved_of tree (book_in state)) b.same in
+    let same : saved_now first ≡ saved_now state = ap (λ (tree : Branch PageRow). saved_of tree (book_in state)) b.same in
     let last : plan.page.next ≡ (plan_step plan state).state.side.page.next = sym t.next in
     keeps-edited h (trees plan.edits) state (plan_step plan state) k
     (subst (λ (n : ℕ). AllTaken page_after (TakesWell n) (trees plan.edits) (saved_now state)) last
@@ -158,23 +158,23 @@ edited-both d d1 h h1 s s1 state id e put both plain fits put_is noted stands =
 abbrev sheets : List Splice → List Inverse
 sheets ss = map (λ s. Sheet s) ss
 
-after-book : (s : Splice) (tree : Branch Row) (book : List SheetEntry) → page_after (Sheet s) (saved_of tree book) ≡ saved_of tree (after_splice s book)
+after-book : (s : Splice) (tree : Branch PageRow) (book : List SheetEntry) → page_after (Sheet s) (saved_of tree book) ≡ saved_of tree (after_splice s book)
 after-book s tree book = λ i. record { tree = tree; sheets = after-saved s book i }
 
 -- the splices that lead back are those of the saved page
-backs-saved : (ss : List Splice) (tree : Branch Row) (book : List SheetEntry) → back_all page_after way_back (sheets ss) (saved_of tree book) ≡ sheets (back_splices ss book)
+backs-saved : (ss : List Splice) (tree : Branch PageRow) (book : List SheetEntry) → back_all page_after way_back (sheets ss) (saved_of tree book) ≡ sheets (back_splices ss book)
 backs-saved [] tree book = refl
 backs-saved (s ∷ ss) tree book =
     ap (λ (x : Splice). Sheet x ∷ back_all page_after way_back (sheets ss) (page_after (Sheet s) (saved_of tree book))) (back-saved s book)
     ∙ ap (λ (page : Saved). Sheet (back_splice s book) ∷ back_all page_after way_back (sheets ss) page) (after-book s tree book)
     ∙ ap (λ (l : List Inverse). Sheet (back_splice s book) ∷ l) (backs-saved ss tree (after_splice s book))
 
-afters-saved : (ss : List Splice) (tree : Branch Row) (book : List SheetEntry) → after_all page_after (sheets ss) (saved_of tree book) ≡ saved_of tree (after_splices ss book)
+afters-saved : (ss : List Splice) (tree : Branch PageRow) (book : List SheetEntry) → after_all page_after (sheets ss) (saved_of tree book) ≡ saved_of tree (after_splices ss book)
 afters-saved [] tree book = refl
 afters-saved (s ∷ ss) tree book =
     ap (λ (page : Saved). after_all page_after (sheets ss) page) (after-book s tree book) ∙ afters-saved ss tree (after_splice s book)
 
-splices-taken : (next : ℕ) (ss : List Splice) (tree : Branch Row) (book : List SheetEntry) → RowsHaveUtf8 (alone tree) → AllTake ss book
+splices-taken : (next : ℕ) (ss : List Splice) (tree : Branch PageRow) (book : List SheetEntry) → RowsHaveUtf8 (alone tree) → AllTake ss book
     → AllTaken page_after (TakesWell next) (sheets ss) (saved_of tree book)
 splices-taken next [] tree book texts all = tt
 splices-taken next (s ∷ ss) tree book texts all = (

@@ -5,7 +5,7 @@ use Rattle.std.specs.Str.{IsCharBoundary}
 use Rattle.std.proofs.Math.Logic.{∥∥₁_map, ∥∥₁_elim}
 use Rattle.std.proofs.Props.{props}
 use Rattle.node_tree.specs.Nodes.{Branch, map_branch}
-use Rattle.page_tree.specs.Pages.{Row, row_label, times_in}
+use Rattle.page_tree.specs.Pages.{PageRow, row_label, times_in}
 use Rattle.page_tree.specs.EditFaults.{CanInsert, CanAttach, IsReady, CanApply, first_fault}
 use Rattle.page_tree.specs.declared.edits.TreeEdit.{TreeEdit}
 use Rattle.page_tree.specs.declared.edits.TreeEdit.TheVariants.{SetAttr, DropAttr, SetText, Attach, Detach}
@@ -20,7 +20,7 @@ use Rattle.style_edits.specs.Splices.{FitsIn, FitsSplice, spliced}
 
 -- ---- an edit of the tree
 
-CanAttach-prop : (next : ℕ) (w tree : Branch Row) → IsProp (CanAttach next w tree)
+CanAttach-prop : (next : ℕ) (w tree : Branch PageRow) → IsProp (CanAttach next w tree)
 CanAttach-prop next w tree x y =
     let formed_prop : IsProp (CanInsert (map_branch row_label w)) = hlevel props in
     let distinct_prop : IsProp ((serial : ℕ) → times_in serial w ≤ 1) = hlevel props in
@@ -35,7 +35,7 @@ CanAttach-prop next w tree x y =
       apart = apart_prop x.apart y.apart i;
     }
 
-ready : (next : ℕ) (e : TreeEdit) (tree : Branch Row) → ∥ IsReady next e tree ∥₁ → IsReady next e tree
+ready : (next : ℕ) (e : TreeEdit) (tree : Branch PageRow) → ∥ IsReady next e tree ∥₁ → IsReady next e tree
 ready next (SetAttr serial name value) tree h = tt
 ready next (DropAttr serial name) tree h = tt
 ready next (SetText serial value) tree h = tt
@@ -46,7 +46,7 @@ no-fault : (o : Option EditFault) → is_none o ≡ true → o ≡ None
 no-fault None e = refl
 no-fault (Some f) e = absurd cc
 
-pub can-apply : (next : ℕ) (e : TreeEdit) (tree : Branch Row) → ∥ CanApply next e tree ∥₁ → CanApply next e tree
+pub can-apply : (next : ℕ) (e : TreeEdit) (tree : Branch PageRow) → ∥ CanApply next e tree ∥₁ → CanApply next e tree
 can-apply next e tree h =
     let fits_prop : IsProp (is_none (first_fault e tree) ≡ true) = hlevel props in
     record {

@@ -7,7 +7,7 @@ use Rattle.serde_json.specs.Written.{has_float}
 use Rattle.cdp_json.specs.Kinds.{is_counted}
 use Rattle.cdp_json.specs.Lookups.{then_ok}
 use Rattle.cdp_json.specs.Plain.{HasUtf8}
-use Rattle.page_tree.specs.Pages.{State as PageValue}
+use Rattle.page_tree.specs.Pages.{PageValue}
 use Rattle.sheet_reader.specs.declared.book.SheetEntry.{SheetEntry}
 use Rattle.page_forms.specs.declared.acts.Act.{Act}
 use Rattle.page_forms.specs.Acts.{act_in}

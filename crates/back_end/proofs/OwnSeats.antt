@@ -4,7 +4,7 @@ use Rattle.std.specs.Prelude.{option_map}
 use Rattle.std.proofs.lemmas.List.Concat.{flat_map-append}
 use Rattle.serde_json.specs.Data.{Data}
 use Rattle.cdp_json.specs.Lookups.{then_ok}
-use Rattle.page_tree.specs.Pages.{State as PageValue}
+use Rattle.page_tree.specs.Pages.{PageValue}
 use Rattle.page_forms.specs.Pages.{LoadedPage}
 use Rattle.page_forms.specs.declared.acts.Act.{Act}
 use Rattle.cdp_messages.specs.declared.command.CommandErr.{CommandErr}

@@ -33,7 +33,7 @@ use Rattle.cdp_messages.specs.Refusals.{param_name}
 use Rattle.css_objects.specs.declared.ranges.SourceRange.{SourceRange}
 use Rattle.css_agent.specs.EditLaws.{HasEditText}
 use Rattle.back_end.proofs.CommandTexts.{Any, reads-any, reads-text, reads-list, IfGiven, Gives, member-texts, gives-all, gives-field, reads-edit}
-use Rattle.cdp_messages.specs.Parameters.{command_by, reading, needed, attribute_fields, name_fields, value_fields, edits_field, selector_fields, sheet_text_fields, rule_fields, place, text_edit}
+use Rattle.cdp_messages.specs.Parameters.{command_by, reads_with, needed, attribute_fields, name_fields, value_fields, edits_field, set_selector_fields, sheet_text_fields, add_rule_fields, range_parameter, text_edit}
 use Rattle.cdp_messages.specs.Asked.{json_of, of_method, command_for, unless_session, or_bad_request, params_of, command_of, method_in, command_in, asked_by, with_id, asked_in, asked_value, asked}
 use Rattle.back_end.specs.Servers.{by_agent, server_of, HasServedTexts}
 
@@ -60,7 +60,7 @@ by-agents (Err why) makes has = tt
 
 -- one whose parameters bring texts
 given : {T : Type 0} (fields : Lookups Why T) (makes : T → Command) (P : T → Type 0) (ms : Members) → MembersHaveUtf8 ms → Gives fields P → ((x : T) → P x → HasServedTexts (server_of (makes x)))
-    → CommandTexts (reading fields makes ms)
+    → CommandTexts (reads_with fields makes ms)
 given fields makes P ms u gives has = at (fields.gets ms) (gives ms u) where
   at : (r : Result _ Why) → IfGiven P r → CommandTexts (then_ok r (λ x. Ok (makes x)))
   at (Ok x) g = has x g
@@ -90,15 +90,15 @@ attribute-gives =
 edits-give : Gives edits_field (λ x. All HasEditText x.0 × Any x.1)
 edits-give = gives-field (param_name param.Edits) (BadParam param.Edits) (list_of text_edit) no_lookups (All HasEditText) Any (reads-list text_edit HasEditText reads-edit) (gives-all Why)
 
-selector-gives : Gives selector_fields (λ x. IsUtf8 x.0 × (Any x.1.0 × OneText x.1.1))
+selector-gives : Gives set_selector_fields (λ x. IsUtf8 x.0 × (Any x.1.0 × OneText x.1.1))
 selector-gives =
-    needed-text param.StyleSheetId (needed param.Range place (needed param.Selector text no_lookups)) (λ (x : SourceRange × (List ℕ × ⊤)). Any x.0 × OneText x.1)
-    (needed-any param.Range place (needed param.Selector text no_lookups) OneText (last-text param.Selector))
+    needed-text param.StyleSheetId (needed param.Range range_parameter (needed param.Selector text no_lookups)) (λ (x : SourceRange × (List ℕ × ⊤)). Any x.0 × OneText x.1)
+    (needed-any param.Range range_parameter (needed param.Selector text no_lookups) OneText (last-text param.Selector))
 
-rule-gives : Gives rule_fields (λ x. IsUtf8 x.0 × (IsUtf8 x.1.0 × (Any x.1.1.0 × Any x.1.1.1)))
+rule-gives : Gives add_rule_fields (λ x. IsUtf8 x.0 × (IsUtf8 x.1.0 × (Any x.1.1.0 × Any x.1.1.1)))
 rule-gives =
-    needed-text param.StyleSheetId (needed param.RuleText text (needed param.Location place no_lookups)) (λ (x : List ℕ × (SourceRange × ⊤)). IsUtf8 x.0 × (Any x.1.0 × Any x.1.1))
-    (needed-text param.RuleText (needed param.Location place no_lookups) (λ (x : SourceRange × ⊤). Any x.0 × Any x.1) (needed-any param.Location place no_lookups Any (gives-all Why)))
+    needed-text param.StyleSheetId (needed param.RuleText text (needed param.Location range_parameter no_lookups)) (λ (x : List ℕ × (SourceRange × ⊤)). IsUtf8 x.0 × (Any x.1.0 × Any x.1.1))
+    (needed-text param.RuleText (needed param.Location range_parameter no_lookups) (λ (x : SourceRange × ⊤). Any x.0 × Any x.1) (needed-any param.Location range_parameter no_lookups Any (gives-all Why)))
 
 by-method : (m : Method) (ms : Members) → MembersHaveUtf8 ms → CommandTexts (command_by m ms)
 by-method method.DomEnable ms u = tt
@@ -126,9 +126,9 @@ by-method method.GetMatchedStyles ms u = by-agents _ (λ x. GetMatchedStyles x.0
 by-method method.GetStyleSheetText ms u = by-agents _ (λ x. GetStyleSheetText x.0) (λ x. tt)
 by-method method.CollectClassNames ms u = by-agents _ (λ x. CollectClassNames x.0) (λ x. tt)
 by-method method.SetStyleTexts ms u = given edits_field (λ x. SetStyleTexts x.0) (λ x. All HasEditText x.0 × Any x.1) ms u edits-give (λ x g. g.0)
-by-method method.SetRuleSelector ms u = given selector_fields (λ x. SetRuleSelector x.0 x.1.0 x.1.1.0) (λ x. IsUtf8 x.0 × (Any x.1.0 × OneText x.1.1)) ms u selector-gives (λ x g. g.1.1.0)
+by-method method.SetRuleSelector ms u = given set_selector_fields (λ x. SetRuleSelector x.0 x.1.0 x.1.1.0) (λ x. IsUtf8 x.0 × (Any x.1.0 × OneText x.1.1)) ms u selector-gives (λ x g. g.1.1.0)
 by-method method.SetStyleSheetText ms u = given sheet_text_fields (λ x. SetStyleSheetText x.0 x.1.0) TwoTexts ms u (needed-text param.StyleSheetId (needed param.Text text no_lookups) OneText (last-text param.Text)) (λ x g. g.1.0)
-by-method method.AddRule ms u = given rule_fields (λ x. AddRule x.0 x.1.0 x.1.1.0) (λ x. IsUtf8 x.0 × (IsUtf8 x.1.0 × (Any x.1.1.0 × Any x.1.1.1))) ms u rule-gives (λ x g. g.1.0)
+by-method method.AddRule ms u = given add_rule_fields (λ x. AddRule x.0 x.1.0 x.1.1.0) (λ x. IsUtf8 x.0 × (IsUtf8 x.1.0 × (Any x.1.1.0 × Any x.1.1.1))) ms u rule-gives (λ x g. g.1.0)
 by-method method.SetBreakpoint ms u = by-agents _ (λ x. SetBreakpoint x.0 x.1.0) (λ x. tt)
 by-method method.RemoveBreakpoint ms u = by-agents _ (λ x. RemoveBreakpoint x.0 x.1.0) (λ x. tt)
 by-method method.ReplayLoad ms u = u

@@ -4,13 +4,13 @@ use Rattle.std.specs.Prelude.{is_some}
 use Rattle.std.proofs.lemmas.List.Concat.{flat_map-append}
 use Rattle.node_tree.specs.Nodes.{Nodes, Branch}
 use Rattle.node_tree.specs.Keys.{has}
-use Rattle.page_tree.specs.Pages.{Row, row_serial, State as PageValue}
+use Rattle.page_tree.specs.Pages.{PageRow, row_serial, PageValue}
 use Rattle.page_tree.specs.EditFaults.{CanApply}
 use Rattle.page_tree.specs.declared.edits.TreeEdit.{TreeEdit}
 use Rattle.node_binding.specs.Counts.{times}
 use Rattle.node_binding.specs.Cuts.{known, shown_anew}
 use Rattle.node_binding.specs.Openings.{opened_also}
-use Rattle.node_binding.specs.Sessions.{Session, IsSession, session_of, ids_in, grown}
+use Rattle.node_binding.specs.Sessions.{Session, IsSession, session_of, session_ids, grown}
 use Rattle.node_binding.proofs.GrowLemmas.{times-anew}
 use Rattle.node_binding.proofs.InViewLemmas.{opened-grows, roots_in_view}
 use Rattle.node_binding.proofs.OpenedLemmas.{IsSession-opened, ids-stay}
@@ -29,7 +29,7 @@ use Rattle.dom_breakpoints.specs.declared.pauses.WatchKind.TheVariants.{Subtree,
 use Rattle.dom_breakpoints.specs.declared.pauses.Pause.{Pause}
 use Rattle.dom_breakpoints.specs.Pauses.{pause_of}
 use Rattle.dom_breakpoints.specs.Watched.{Watched, is_watched}
-use Rattle.back_end.specs.States.{State, nodes_in, HoldsNow}
+use Rattle.back_end.specs.States.{State, page_nodes, HoldsNow}
 use Rattle.back_end.specs.Steps.{push_step, id_now, pause_step, edit_step, pause_before, script_step}
 use Rattle.back_end.specs.declared.desk.Desk.{Desk}
 use Rattle.back_end.specs.declared.side.PageSide.{PageSide}
@@ -39,9 +39,9 @@ use Rattle.back_end.proofs.PushSteps.{IsBegun, is-begun, session-is, opened_by, 
 
 -- ---- ids stay
 
-module _ (n : Nodes Row) (distinct : AreDistinct n) (document : Branch Row) (s : ℕ) where
+module _ (n : Nodes PageRow) (distinct : AreDistinct n) (document : Branch PageRow) (s : ℕ) where
   ids-openings : (xs : List Opening) (o : ℕ → Bool) (pushed : List ℕ) (since : ℕ) → IsSession n (session_of o pushed since) → AreOpenings n o xs → 0 < times s (known o n)
-      → ids_in (session_of o pushed since) s ≡ ids_in (all_opened (session_keeper n) document xs (session_of o pushed since)).state s
+      → session_ids (session_of o pushed since) s ≡ session_ids (all_opened (session_keeper n) document xs (session_of o pushed since)).state s
   ids-openings [] o pushed since session are h = refl
   ids-openings (y ∷ ys) o pushed since session are h =
       let p : ℕ → Bool = opened_also y.levels y.node o in
@@ -51,15 +51,15 @@ module _ (n : Nodes Row) (distinct : AreDistinct n) (document : Branch Row) (s :
       ∙ ids-openings ys p z.pushed z.since (IsSession-opened y.levels n y.node o pushed since distinct are.0 are.1 session) are.2 (omega (arith, still, h))
 
 -- the id of a known node stays when another one becomes known
-pub push-keeps-id : (serial : ℕ) (state : State) (begun : IsBegun state.client.session) (s : ℕ) → HoldsNow state → 0 < times s (known begun.0 (nodes_in state))
+pub push-keeps-id : (serial : ℕ) (state : State) (begun : IsBegun state.client.session) (s : ℕ) → HoldsNow state → 0 < times s (known begun.0 (page_nodes state))
     → id_now state s ≡ id_now (push_step serial state).state s
 push-keeps-id serial state begun s is h =
     let page = state.side.page in
-    let n = nodes_in state in
+    let n = page_nodes state in
     let w : Session = state.client.session in
     let same : session_of begun.0 w.pushed w.since ≡ w = session-is w begun in
     let distinct = distinct-alone page is.page in
-    subst (λ (z : Session). ids_in z s ≡ ids_in (pushed (session_keeper n) page.tree serial z).state s) same
+    subst (λ (z : Session). session_ids z s ≡ session_ids (pushed (session_keeper n) page.tree serial z).state s) same
     (ids-openings n distinct page.tree s (pushing begun.0 serial n) begun.0 w.pushed w.since (subst (λ (z : Session). IsSession n z) (sym same) is.session)
     (pushing-are n distinct begun.0 serial n begun.0 (containers-page page is.page) distinct (roots_in_view begun.0 n) (λ k h. refl)) h)
 
@@ -70,7 +70,7 @@ pub watched-can : (state : State) (kind : WatchKind) (s : ℕ) → HoldsNow stat
 watched-can state kind s is h = record { begun = ap (λ (o : Option (ℕ → Bool)). is_some o) (watched-begun state kind s is h).1; there = is.watched kind s h }
 
 -- after a push any node of the page
-pub after-can : (serial s : ℕ) (state : State) → CanPush serial state → has row_serial s (nodes_in state) ≡ true → CanPush s (push_step serial state).state
+pub after-can : (serial s : ℕ) (state : State) → CanPush serial state → has row_serial s (page_nodes state) ≡ true → CanPush s (push_step serial state).state
 after-can serial s state can there =
     record { begun = ap (λ (o : Option (ℕ → Bool)). is_some o) (push-opened serial state (is-begun state.client.session can.begun)); there = there }
 
@@ -120,7 +120,7 @@ subtree-sent state node target id target_id insertion old first second new is ca
 
 -- ---- which pause it is
 
-module _ {w : Watched} {n : Nodes Row} where
+module _ {w : Watched} {n : Nodes PageRow} where
   pub attribute-is : (p : Pause) → p.kind ≡ Attribute → IsPause w n p → (p ≡ attribute_pause p.node) × (is_watched Attribute w p.node ≡ true)
   attribute-is _ e (by_attribute s h) = (refl, h)
   attribute-is _ e (by_removal s h) = absurd cc
@@ -152,7 +152,7 @@ pause-here d s state e page o stands page_is is =
     sym (is ∙ ap (λ (p : PageValue). pause_of d.watches p.tree e) (page_is ∙ stands.page_is) ∙ ap (λ w. pause_of w state.side.page.tree e) stands.watches_are)
 
 pub edit-is-pause : (d : Desk) (s : PageSide) (state : State) (e : TreeEdit) (p : Pause) → DeskStandsFor d s state → CanApply s.page.next e s.page.tree
-    → pause_of state.client.watched state.side.page.tree e ≡ Some p → IsPause state.client.watched (nodes_in state) p
+    → pause_of state.client.watched state.side.page.tree e ≡ Some p → IsPause state.client.watched (page_nodes state) p
 edit-is-pause d s state e p stands can is =
     edit-pause e state.client.watched state.side.page.next state.side.page.tree p (subst (λ (page : PageValue). CanApply page.next e page.tree) stands.page_is can) is
 

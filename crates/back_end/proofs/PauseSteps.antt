@@ -6,7 +6,7 @@ use Rattle.node_tree.specs.Nodes.{Nodes, none, node, Branch, alone}
 use Rattle.node_tree.specs.Keys.{first_of, has, tally}
 use Rattle.node_tree.specs.Seen.{Seen, seen_id}
 use Rattle.node_tree.proofs.KeyLemmas.{has-there, has-find}
-use Rattle.page_tree.specs.Pages.{Row, row_serial}
+use Rattle.page_tree.specs.Pages.{PageRow, row_serial}
 use Rattle.page_tree.specs.Ancestors.{ancestors_at}
 use Rattle.page_tree.specs.EditFaults.{is_live, CanApply, edit_faults}
 use Rattle.page_tree.specs.declared.edits.TreeEdit.{TreeEdit}
@@ -15,7 +15,7 @@ use Rattle.page_tree.proofs.EditLemmas.{clear}
 use Rattle.page_tree.proofs.FormedLemmas.{left}
 use Rattle.node_binding.specs.Counts.{times}
 use Rattle.node_binding.specs.Cuts.{opens, known, cut}
-use Rattle.node_binding.specs.Sessions.{Session, ids_in, cut_by}
+use Rattle.node_binding.specs.Sessions.{Session, session_ids, cut_by}
 use Rattle.node_binding.proofs.PairLemmas.{find-there}
 use Rattle.node_binding.proofs.SessionLemmas.{times-known}
 use Rattle.node_binding.proofs.StartLemmas.{distinct-alone}
@@ -29,7 +29,7 @@ use Rattle.dom_breakpoints.specs.declared.pauses.WatchKind.TheVariants.{Subtree,
 use Rattle.dom_breakpoints.specs.declared.pauses.Pause.{Pause}
 use Rattle.dom_breakpoints.specs.Pauses.{own_pause, subtree_pause, pause_of}
 use Rattle.dom_breakpoints.specs.Watched.{Watched, is_watched}
-use Rattle.back_end.specs.States.{State, nodes_in, view_of, HoldsNow}
+use Rattle.back_end.specs.States.{State, page_nodes, view_of, HoldsNow}
 use Rattle.back_end.specs.Steps.{Step, push_step, push_steps, pause_data, id_now, met_step, followed_by, pause_step}
 use Rattle.back_end.specs.Seats.{IsPause, by_attribute, by_removal, by_subtree}
 use Rattle.back_end.proofs.WatchedLemmas.{none-set}
@@ -38,7 +38,7 @@ use Rattle.back_end.proofs.WellSteps.{Well, HasNumbers, stays, stays-with, then-
 
 -- ---- what an edit pauses by
 
-module _ (w : Watched) (n : Nodes Row) where
+module _ (w : Watched) (n : Nodes PageRow) where
   one-pause : (x p : Pause) (b : Bool) → (b ≡ true → IsPause w n x) → cond b (Some x) None ≡ Some p → IsPause w n p
   one-pause x p true is e = let same : x ≡ p = cc in subst (IsPause w n) same (is refl)
   one-pause x p false is e = absurd cc
@@ -62,11 +62,11 @@ module _ (w : Watched) (n : Nodes Row) where
   first-pause None u p f g e = g e
   first-pause (Some x) u p f g e = f e
 
-live-there : (s : ℕ) (tree : Branch Row) → is_live s tree ≡ true → has row_serial s (alone tree) ≡ true
+live-there : (s : ℕ) (tree : Branch PageRow) → is_live s tree ≡ true → has row_serial s (alone tree) ≡ true
 live-there s tree live = has-find row_serial s (alone tree) ∙ live
 
 -- the pause that an edit comes to
-pub edit-pause : (e : TreeEdit) (w : Watched) (next : ℕ) (tree : Branch Row) (p : Pause) → CanApply next e tree → pause_of w tree e ≡ Some p → IsPause w (alone tree) p
+pub edit-pause : (e : TreeEdit) (w : Watched) (next : ℕ) (tree : Branch PageRow) (p : Pause) → CanApply next e tree → pause_of w tree e ≡ Some p → IsPause w (alone tree) p
 edit-pause (SetAttr s name value) w next tree p can e = attribute-pause w (alone tree) s p e
 edit-pause (DropAttr s name) w next tree p can e = attribute-pause w (alone tree) s p e
 edit-pause (SetText s value) w next tree p can e =
@@ -100,26 +100,26 @@ module _ (o : ℕ → Bool) (i : ℕ → ℕ) (s : ℕ) where
   seen-step false false true a c d below f h k = omega arith
   seen-step false false false a c d below f h k = omega arith
 
-  known-seen : (n : Nodes Row) → times s (known o n) ≤ tally seen_id (i s) (cut o i n)
+  known-seen : (n : Nodes PageRow) → times s (known o n) ≤ tally seen_id (i s) (cut o i n)
   known-seen none = omega arith
   known-seen (node r c t) =
       rw (times-known o i s r c t)
       (seen-step (r.serial == s) (i r.serial == i s) (opens o r) _ _ _ (cut o i c) (λ e. eq-eqb (i r.serial) (i s) (ap i (eqb-true r.serial s e))) (known-seen c) (known-seen t))
 
-  pub seen-known : (n : Nodes Row) → 0 < times s (known o n) → has seen_id (i s) (cut o i n) ≡ true
+  pub seen-known : (n : Nodes PageRow) → 0 < times s (known o n) → has seen_id (i s) (cut o i n) ≡ true
   seen-known n h = has-there seen_id (i s) (cut o i n) (omega (arith, h, known-seen n))
 
 -- a node that was pushed is known where at least as much is opened
-pub push-knows : (serial : ℕ) (state : State) (begun : IsBegun state.client.session) (q : ℕ → Bool) → HoldsNow state → has row_serial serial (nodes_in state) ≡ true
-    → ((k : ℕ) → opened_by serial state begun.0 k ≡ true → q k ≡ true) → 0 < times serial (known q (nodes_in state))
+pub push-knows : (serial : ℕ) (state : State) (begun : IsBegun state.client.session) (q : ℕ → Bool) → HoldsNow state → has row_serial serial (page_nodes state) ≡ true
+    → ((k : ℕ) → opened_by serial state begun.0 k ≡ true → q k ≡ true) → 0 < times serial (known q (page_nodes state))
 push-knows serial state begun q is there all =
-    pushed-known begun.0 serial q (nodes_in state) begun.0 (containers-page state.side.page is.page) (distinct-alone state.side.page is.page) (λ k h. refl) all there
+    pushed-known begun.0 serial q (page_nodes state) begun.0 (containers-page state.side.page is.page) (distinct-alone state.side.page is.page) (λ k h. refl) all there
 
 -- and its client sees it
-shown-id : (state : State) (begun : IsBegun state.client.session) (s : ℕ) → 0 < times s (known begun.0 (nodes_in state)) → has seen_id (id_now state s) (view_of state).tree ≡ true
+shown-id : (state : State) (begun : IsBegun state.client.session) (s : ℕ) → 0 < times s (known begun.0 (page_nodes state)) → has seen_id (id_now state s) (view_of state).tree ≡ true
 shown-id state begun s h =
     let w : Session = state.client.session in
-    ap (λ (o : Option (ℕ → Bool)). has seen_id (ids_in w s) (cut_by o (ids_in w) (nodes_in state))) begun.1 ∙ seen-known begun.0 (ids_in w) s (nodes_in state) h
+    ap (λ (o : Option (ℕ → Bool)). has seen_id (session_ids w s) (cut_by o (session_ids w) (page_nodes state))) begun.1 ∙ seen-known begun.0 (session_ids w) s (page_nodes state) h
 
 -- ---- the step
 
@@ -137,7 +137,7 @@ low-after ids low well few = record {
 
 -- by a watch of the node itself
 own-pauses : (state : State) (p : Pause) → p.target ≡ None → HoldsNow state → HasNumbers state → length state.client.session.pushed + 200000 < 2 ^ 52 → IsBegun state.client.session
-    → has row_serial p.node (nodes_in state) ≡ true → paused_nodes (pause_data p.kind p (id_now (push_step p.node state).state)) ≡ id_now (push_step p.node state).state p.node ∷ []
+    → has row_serial p.node (page_nodes state) ≡ true → paused_nodes (pause_data p.kind p (id_now (push_step p.node state).state)) ≡ id_now (push_step p.node state).state p.node ∷ []
     → Pauses state (followed_by (followed_by (push_step p.node state) (push_steps None)) (met_step p))
 own-pauses state p alone_is is low few begun there names =
     let after = (push_step p.node state).state in
@@ -154,7 +154,7 @@ own-pauses state p alone_is is low few begun there names =
 
 -- by a subtree watch
 subtree-pauses : (state : State) (s target : ℕ) (insertion : Bool) → HoldsNow state → HasNumbers state → length state.client.session.pushed + 200000 < 2 ^ 52 → IsBegun state.client.session
-    → has row_serial s (nodes_in state) ≡ true → has row_serial target (nodes_in state) ≡ true
+    → has row_serial s (page_nodes state) ≡ true → has row_serial target (page_nodes state) ≡ true
     → Pauses state (pause_step (Some (record { kind = Subtree; node = s; target = Some target; insertion = insertion })) state)
 subtree-pauses state s target insertion is low few begun there aimed =
     let after = (push_step s state).state in
@@ -167,7 +167,7 @@ subtree-pauses state s target insertion is low few begun there aimed =
     let low_last : HasNumbers last = low-after 200000 low both few in
     let begun_last : IsBegun last.client.session = (opened_by target after begun_after.0, push-opened target after begun_after) in
     let o : ℕ → Bool = begun_after.0 in
-    let node_seen = shown-id last begun_last s (push-knows s state begun begun_last.0 is there (λ k h. opened_all-grows o (pushing o target (nodes_in state)) k h)) in
+    let node_seen = shown-id last begun_last s (push-knows s state begun begun_last.0 is there (λ k h. opened_all-grows o (pushing o target (page_nodes state)) k h)) in
     let target_seen = shown-id last begun_last target (push-knows target after begun_after begun_last.0 first.now aimed (λ k h. h)) in
     let p : Pause = record { kind = Subtree; node = s; target = Some target; insertion = insertion } in
     record {
@@ -175,7 +175,7 @@ subtree-pauses state s target insertion is low few begun there aimed =
       side = refl;
     }
 
-pub pauses : (state : State) (p : Pause) → HoldsNow state → HasNumbers state → length state.client.session.pushed + 200000 < 2 ^ 52 → IsPause state.client.watched (nodes_in state) p
+pub pauses : (state : State) (p : Pause) → HoldsNow state → HasNumbers state → length state.client.session.pushed + 200000 < 2 ^ 52 → IsPause state.client.watched (page_nodes state) p
     → Pauses state (pause_step (Some p) state)
 pauses state _ is low few (by_attribute s h) =
     own-pauses state (record { kind = Attribute; node = s; target = None; insertion = false }) refl is low few (watched-begun state Attribute s is h) (is.watched Attribute s h) refl

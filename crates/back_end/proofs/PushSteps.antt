@@ -2,7 +2,7 @@
 use Rattle.std.proofs.Common.{◌≡◌, ℕ, ◌+◌, ◌≤◌, Bool, true, false, cond, length, Option, Some, None, refl, sym, ◌∙◌, ap, subst, arith}
 use Rattle.std.specs.Prelude.{is_some}
 use Rattle.node_tree.specs.Nodes.{node_count}
-use Rattle.page_tree.specs.Pages.{State as PageValue, node_at}
+use Rattle.page_tree.specs.Pages.{PageValue, node_at}
 use Rattle.page_tree.specs.declared.edits.TreeEdit.{TreeEdit}
 use Rattle.page_tree.specs.declared.edits.TreeEdit.TheVariants.{SetAttr, DropAttr, SetText, Attach, Detach}
 use Rattle.node_binding.specs.Sessions.{Session, IsSession, session_of, is_open, serial_at}
@@ -17,7 +17,7 @@ use Rattle.dom_agent.proofs.OutcomeLemmas.{containers-page}
 use Rattle.dom_agent.proofs.OpeningsLemmas.{opened_all}
 use Rattle.dom_agent.proofs.KnownLemmas.{opened_after}
 use Rattle.dom_agent.proofs.TellableLemmas.{can_say}
-use Rattle.back_end.specs.States.{State, nodes_in, sheets_shown, HoldsNow}
+use Rattle.back_end.specs.States.{State, page_nodes, sheets_shown, HoldsNow}
 use Rattle.back_end.specs.Steps.{push_step}
 use Rattle.back_end.proofs.WellSteps.{Well, HasNumbers, can-sheets, can-tell}
 
@@ -27,7 +27,7 @@ IsBegun w = (o : ℕ → Bool) × (w.opened ≡ Some o)
 
 -- what a push comes to for the session
 abbrev pub push_of : ℕ → State → Progress Session
-push_of serial state = pushed (session_keeper (nodes_in state)) state.side.page.tree serial state.client.session
+push_of serial state = pushed (session_keeper (page_nodes state)) state.side.page.tree serial state.client.session
 
 pub session-is : (w : Session) (begun : IsBegun w) → session_of begun.0 w.pushed w.since ≡ w
 session-is w begun = λ i. record { opened = sym begun.1 i; pushed = w.pushed; since = w.since }
@@ -47,11 +47,11 @@ begun-is w begun = ap (λ (o : Option (ℕ → Bool)). is_some o) begun.1
 
 -- a node is known only where something is opened
 known-begun : (o : Option (ℕ → Bool)) (w : Session) (state : State) (id serial : ℕ) → w.opened ≡ o
-    → serial_at (record { opened = o; pushed = w.pushed; since = w.since }) (nodes_in state) id ≡ Some serial → IsBegun w
+    → serial_at (record { opened = o; pushed = w.pushed; since = w.since }) (page_nodes state) id ≡ Some serial → IsBegun w
 known-begun None w state id serial is h = let no : ◌≡◌ {A = Option ℕ} None (Some serial) = h in absurd cc
 known-begun (Some o) w state id serial is h = (o, is)
 
-pub begun-known : (w : Session) (state : State) (id serial : ℕ) → serial_at w (nodes_in state) id ≡ Some serial → IsBegun w
+pub begun-known : (w : Session) (state : State) (id serial : ℕ) → serial_at w (page_nodes state) id ≡ Some serial → IsBegun w
 begun-known w state id serial h = known-begun w.opened w state id serial refl h
 
 -- ---- edits
@@ -71,9 +71,9 @@ begun-edited (Detach serial) page w h =
 -- ---- pushes
 
 pub push-goes : (serial : ℕ) (state : State) → HoldsNow state → IsBegun state.client.session
-    → Goes (nodes_in state) state.client.session (push_of serial state).state (push_of serial state).shown
+    → Goes (page_nodes state) state.client.session (push_of serial state).state (push_of serial state).shown
 push-goes serial state is begun =
-    let n = nodes_in state in
+    let n = page_nodes state in
     let w : Session = state.client.session in
     let same : session_of begun.0 w.pushed w.since ≡ w = session-is w begun in
     subst (λ (z : Session). Goes n z (pushed (session_keeper n) state.side.page.tree serial z).state (pushed (session_keeper n) state.side.page.tree serial z).shown) same
@@ -82,11 +82,11 @@ push-goes serial state is begun =
 
 -- what is opened after a push, where this was
 abbrev pub opened_by : ℕ → State → (ℕ → Bool) → ℕ → Bool
-opened_by serial state o = opened_all o (pushing o serial (nodes_in state))
+opened_by serial state o = opened_all o (pushing o serial (page_nodes state))
 
 pub push-opened : (serial : ℕ) (state : State) (begun : IsBegun state.client.session) → (push_step serial state).state.client.session.opened ≡ Some (opened_by serial state begun.0)
 push-opened serial state begun =
-    let n = nodes_in state in
+    let n = page_nodes state in
     let w : Session = state.client.session in
     ap (λ (z : Session). (pushed (session_keeper n) state.side.page.tree serial z).state.opened) (sym (session-is w begun))
     ∙ opened_after n state.side.page.tree (pushing begun.0 serial n) begun.0 w.pushed w.since
@@ -110,7 +110,7 @@ push-is serial state is begun = record {
 pub push-well : (serial : ℕ) (state : State) → HoldsNow state → HasNumbers state → IsBegun state.client.session → Well state (push_step serial state) 100000 0 0
 push-well serial state is low begun =
     let page = state.side.page in
-    let n = nodes_in state in
+    let n = page_nodes state in
     let w : Session = state.client.session in
     let p : Progress Session = push_of serial state in
     let g : Goes n w p.state p.shown = push-goes serial state is begun in

@@ -3,9 +3,9 @@ use Rattle.std.proofs.Common.{◌≡◌, ℕ, suc, ◌+◌, ◌^◌, ◌<◌, �
 use Rattle.std.proofs.lemmas.List.Concat.{flat_map-append}
 use Rattle.node_tree.specs.Nodes.{Nodes, none, node, Branch, alone, branch_count}
 use Rattle.node_tree.specs.Labels.{Label}
-use Rattle.page_tree.specs.Pages.{Row, State as PageValue, IsValid, node_at}
+use Rattle.page_tree.specs.Pages.{PageRow, PageValue, IsValid, node_at}
 use Rattle.page_tree.specs.Edits.{after, drawn, numbered_branch, moved_before}
-use Rattle.page_tree.specs.EditFaults.{CanApply, CanInsert, Refuses, first_fault, insert_fault, move_fault}
+use Rattle.page_tree.specs.EditFaults.{CanApply, CanInsert, RefusesEdit, first_fault, insert_fault, move_fault}
 use Rattle.page_tree.proofs.InsertLemmas.{insert-leads}
 use Rattle.page_tree.proofs.MoveLemmas.{move-leads}
 use Rattle.page_tree.specs.declared.edits.TreeEdit.{TreeEdit}
@@ -14,7 +14,7 @@ use Rattle.page_tree.specs.declared.edit_faults.EditFault.{EditFault}
 use Rattle.page_tree.specs.declared.edit_faults.EditErr.{EditErr}
 use Rattle.page_tree.specs.declared.edit_faults.EditErr.TheVariants.{Fault}
 use Rattle.page_forms.specs.declared.acts.Act.TheVariants.{Insert, Move}
-use Rattle.node_binding.specs.Bindings.{Bound, Stands, with_bound, forgotten, all_forgotten, opened_in}
+use Rattle.node_binding.specs.Bindings.{BindingValue, Stands, with_bound, forgotten, all_forgotten, opened_in}
 use Rattle.dom_agent.specs.Edits.{Edited, OnFault}
 use Rattle.std.specs.Result.{OnOk}
 use Rattle.cdp_messages.specs.Moves.{Move as Told, frames_of_moves, move_text}
@@ -23,7 +23,7 @@ use Rattle.dom_agent.specs.EditLaws.{session_edited, binding_edited}
 use Rattle.dom_agent.proofs.EditKeepers.{edit_keeps_bound, same_edit_moves}
 use Rattle.dom_breakpoints.specs.Watched.{Watched}
 use Rattle.back_end.specs.Sheets.{NumberedBook}
-use Rattle.back_end.specs.States.{State, nodes_in, book_in}
+use Rattle.back_end.specs.States.{State, page_nodes, book_in}
 use Rattle.back_end.specs.Plans.{one_edit, edit_fault, act_plan}
 use Rattle.back_end.specs.Steps.{with_page, watches_left, watched_after, edit_step, script_step, with_crossed, planned_step, act_step, lone_step}
 use Rattle.back_end.specs.Texts.{FormHasTexts, EditHasTexts}
@@ -85,24 +85,24 @@ edit-sent d s state e old new stands can sent =
     (same_edit_moves page e state.client.session d.agent stands.now.page can_here (record { session = stands.now.session; stands = stands.stands }))
 
 -- the ids that an edit draws at a desk
-forgotten-next : (n : Nodes Row) (b : Bound) → (all_forgotten n b).next ≡ b.next
+forgotten-next : (n : Nodes PageRow) (b : BindingValue) → (all_forgotten n b).next ≡ b.next
 forgotten-next none b = refl
 forgotten-next (node r c t) b = forgotten-next t (all_forgotten c (forgotten r.serial b)) ∙ forgotten-next c (forgotten r.serial b)
 
-came-few : (o : Bool) (b : Bound) (s : ℕ) (ms ks : List Told)
-    → (cond {A = Edited Bound} o (record { state = with_bound s b; moves = ms }) (record { state = b; moves = ks })).state.next < b.next + 2
+came-few : (o : Bool) (b : BindingValue) (s : ℕ) (ms ks : List Told)
+    → (cond {A = Edited BindingValue} o (record { state = with_bound s b; moves = ms }) (record { state = b; moves = ks })).state.next < b.next + 2
 came-few true b s ms ks = omega arith
 came-few false b s ms ks = omega arith
 
-bound-few : (page : PageValue) (e : TreeEdit) (b : Bound) → (binding_edited e page b).state.next < b.next + 2
+bound-few : (page : PageValue) (e : TreeEdit) (b : BindingValue) → (binding_edited e page b).state.next < b.next + 2
 bound-few page (SetAttr serial name value) b = omega arith
 bound-few page (DropAttr serial name) b = omega arith
 bound-few page (SetText serial value) b = omega arith
 bound-few page (Attach parent before x) b = came-few (opened_in b parent) b x.row.serial _ _
 bound-few page (Detach serial) b = let same = forgotten-next (alone (node_at serial page.tree)) b in omega (arith, same)
 
-pub edit-few : (page : PageValue) (e : TreeEdit) (b b1 : Bound) → b1 ≡ (binding_edited e page b).state → b1.next < b.next + 2
-edit-few page e b b1 is = let few = bound-few page e b in let same : b1.next ≡ (binding_edited e page b).state.next = ap (λ (x : Bound). x.next) is in omega (arith, few, same)
+pub edit-few : (page : PageValue) (e : TreeEdit) (b b1 : BindingValue) → b1 ≡ (binding_edited e page b).state → b1.next < b.next + 2
+edit-few page e b b1 is = let few = bound-few page e b in let same : b1.next ≡ (binding_edited e page b).state.next = ap (λ (x : BindingValue). x.next) is in omega (arith, few, same)
 
 -- ---- plans
 
@@ -153,7 +153,7 @@ lone-unsent s state e f old new same fault sent =
 
 -- ---- inserts
 
-pub grown-can : (page drawn_page : PageValue) (parent before : ℕ) (form : Branch Label) (tree : Branch Row) → IsValid page → CanInsert form
+pub grown-can : (page drawn_page : PageValue) (parent before : ℕ) (form : Branch Label) (tree : Branch PageRow) → IsValid page → CanInsert form
     → insert_fault parent before form page.tree ≡ None → drawn_page ≡ drawn form page → tree ≡ numbered_branch page.next form
     → CanApply drawn_page.next (Attach parent before tree) drawn_page.tree
 grown-can page drawn_page parent before form tree valid can fits drawn_is tree_is =
@@ -161,7 +161,7 @@ grown-can page drawn_page parent before form tree valid can fits drawn_is tree_i
     (subst (λ t. CanApply (drawn form page).next (Attach parent before t) page.tree) (sym tree_is)
     (insert-leads page parent before form valid can fits).taken.0)
 
-pub grown-texts : (page : PageValue) (form : Branch Label) (tree : Branch Row) → FormHasTexts form → tree ≡ numbered_branch page.next form → RowsHaveUtf8 (alone tree)
+pub grown-texts : (page : PageValue) (form : Branch Label) (tree : Branch PageRow) → FormHasTexts form → tree ≡ numbered_branch page.next form → RowsHaveUtf8 (alone tree)
 grown-texts page form tree texts tree_is = subst (λ t. RowsHaveUtf8 (alone t)) (sym tree_is) (branch-texts page.next form texts)
 
 pub grown-low : (page drawn_page : PageValue) (form : Branch Label) → page.next < 2 ^ 50 → branch_count form ≤ 100000 → drawn_page ≡ drawn form page → drawn_page.next < 2 ^ 51
@@ -173,7 +173,7 @@ drawn-form d s s1 state form stands is sheets_is =
     let same : s1.page ≡ drawn form state.side.page = is ∙ ap (drawn form) stands.page_is in
     drawn-stands d s s1 state (drawn form state.side.page) stands same sheets_is (drawn-valid form state.side.page stands.now.page) refl
 
-pub grown-stands : (d1 : Desk) (s1 : PageSide) (state : State) (parent before : ℕ) (form : Branch Label) (tree : Branch Row) (page : PageValue) → page ≡ state.side.page
+pub grown-stands : (d1 : Desk) (s1 : PageSide) (state : State) (parent before : ℕ) (form : Branch Label) (tree : Branch PageRow) (page : PageValue) → page ≡ state.side.page
     → insert_fault parent before form page.tree ≡ None → tree ≡ numbered_branch page.next form
     → DeskStandsFor d1 s1 (script_step (Attach parent before tree) (with_page (drawn form state.side.page) state)).state
     → DeskStandsFor d1 s1 (act_step (Insert parent before form) state).state
@@ -184,7 +184,7 @@ grown-stands d1 s1 state parent before form tree page same fits tree_is stands =
     (crossed-stands d1 s1 (script_step (Attach parent before (numbered_branch state.side.page.next form)) (with_page (drawn form state.side.page) state)).state
     (subst (λ t. DeskStandsFor d1 s1 (script_step (Attach parent before t) (with_page (drawn form state.side.page) state)).state) tree_here stands))
 
-pub grown-sent : (state : State) (parent before : ℕ) (form : Branch Label) (tree : Branch Row) (page : PageValue) (old new : List ℕ) → page ≡ state.side.page
+pub grown-sent : (state : State) (parent before : ℕ) (form : Branch Label) (tree : Branch PageRow) (page : PageValue) (old new : List ℕ) → page ≡ state.side.page
     → insert_fault parent before form page.tree ≡ None → tree ≡ numbered_branch page.next form
     → new ≡ old ++ frames_of_moves (script_step (Attach parent before tree) (with_page (drawn form state.side.page) state)).moves
     → new ≡ old ++ frames_of_moves (act_step (Insert parent before form) state).moves
@@ -199,7 +199,7 @@ grown-sent state parent before form tree page old new same fits tree_is sent =
 -- ---- moves
 
 -- the tree of an attach
-abbrev tree_of : Branch Row → TreeEdit → Branch Row
+abbrev tree_of : Branch PageRow → TreeEdit → Branch PageRow
 tree_of other (SetAttr serial name value) = other
 tree_of other (DropAttr serial name) = other
 tree_of other (SetText serial value) = other
@@ -207,10 +207,10 @@ tree_of other (Attach parent before tree) = tree
 tree_of other (Detach serial) = other
 
 -- what a detach leads back to has the tree that was taken out
-pub taken-out : {back : TreeEdit} {p q b c : ℕ} {tree out : Branch Row} → back ≡ Attach p b tree → back ≡ Attach q c out → tree ≡ out
+pub taken-out : {back : TreeEdit} {p q b c : ℕ} {tree out : Branch PageRow} → back ≡ Attach p b tree → back ≡ Attach q c out → tree ≡ out
 taken-out {tree = tree} is was = ap (tree_of tree) (sym is ∙ was)
 
-pub moved-can : (page taken_page : PageValue) (serial parent before there : ℕ) (tree : Branch Row) → IsValid page
+pub moved-can : (page taken_page : PageValue) (serial parent before there : ℕ) (tree : Branch PageRow) → IsValid page
     → move_fault serial parent before page.tree ≡ None → there ≡ moved_before serial parent before page.tree → taken_page ≡ after (Detach serial) page
     → tree ≡ node_at serial page.tree → CanApply taken_page.next (Attach parent there tree) taken_page.tree
 moved-can page taken_page serial parent before there tree valid fits there_is page_is tree_is =
@@ -219,13 +219,13 @@ moved-can page taken_page serial parent before there tree valid fits there_is pa
     (subst (λ t. CanApply (after (Detach serial) page).next (Attach parent (moved_before serial parent before page.tree) t) (after (Detach serial) page).tree) (sym tree_is)
     (move-leads page serial parent before valid fits).1.0))
 
-pub moved-texts : (d : Desk) (s : PageSide) (state : State) (serial : ℕ) (tree : Branch Row) → DeskStandsFor d s state → tree ≡ node_at serial s.page.tree
+pub moved-texts : (d : Desk) (s : PageSide) (state : State) (serial : ℕ) (tree : Branch PageRow) → DeskStandsFor d s state → tree ≡ node_at serial s.page.tree
     → RowsHaveUtf8 (alone tree)
 moved-texts d s state serial tree stands is =
     subst (λ t. RowsHaveUtf8 (alone t)) (sym (is ∙ ap (λ (p : PageValue). node_at serial p.tree) stands.page_is))
     (node_at-texts serial state.side.page.tree stands.now.texts)
 
-pub moved-stands : (d1 : Desk) (s1 : PageSide) (state : State) (serial parent before there : ℕ) (tree : Branch Row) (page : PageValue) → page ≡ state.side.page
+pub moved-stands : (d1 : Desk) (s1 : PageSide) (state : State) (serial parent before there : ℕ) (tree : Branch PageRow) (page : PageValue) → page ≡ state.side.page
     → move_fault serial parent before page.tree ≡ None → there ≡ moved_before serial parent before page.tree → tree ≡ node_at serial page.tree
     → DeskStandsFor d1 s1 (script_step (Attach parent there tree) (script_step (Detach serial) state).state).state
     → DeskStandsFor d1 s1 (act_step (Move serial parent before) state).state
@@ -239,7 +239,7 @@ moved-stands d1 s1 state serial parent before there tree page same fits there_is
     (subst (λ b. DeskStandsFor d1 s1 (script_step (Attach parent b (node_at serial state.side.page.tree)) first).state) there_here
     (subst (λ t. DeskStandsFor d1 s1 (script_step (Attach parent there t) first).state) tree_here stands)))
 
-pub moved-sent : (state : State) (serial parent before there : ℕ) (tree : Branch Row) (page : PageValue) (old middle new : List ℕ) → page ≡ state.side.page
+pub moved-sent : (state : State) (serial parent before there : ℕ) (tree : Branch PageRow) (page : PageValue) (old middle new : List ℕ) → page ≡ state.side.page
     → move_fault serial parent before page.tree ≡ None → there ≡ moved_before serial parent before page.tree → tree ≡ node_at serial page.tree
     → middle ≡ old ++ frames_of_moves (script_step (Detach serial) state).moves
     → new ≡ middle ++ frames_of_moves (script_step (Attach parent there tree) (script_step (Detach serial) state).state).moves
@@ -263,8 +263,8 @@ moved-sent state serial parent before there tree page old middle new same fits t
 -- ---- what an edit gave
 
 -- the fault that an edit is refused with
-pub refused-with : {T : Type 0} (result : Result T EditErr) (fault : Option EditFault) (f : EditFault) → result ≡ Err (Fault f) → Refuses result fault → fault ≡ Some f
-refused-with result fault f is refuses = subst (λ r. Refuses r fault) is refuses
+pub refused-with : {T : Type 0} (result : Result T EditErr) (fault : Option EditFault) (f : EditFault) → result ≡ Err (Fault f) → RefusesEdit result fault → fault ≡ Some f
+refused-with result fault f is refuses = subst (λ r. RefusesEdit r fault) is refuses
 
 -- what stays the same then
 pub kept-with : {T : Type 0} (result : Result T EditErr) (P : Type 0) (f : EditFault) → result ≡ Err (Fault f) → OnFault result P → P
@@ -290,5 +290,5 @@ stayed-stands d d1 s s1 state on_is css_is watches_is agent_is page_is sheets_is
   on_is = on_is ∙ stands.on_is;
   css_is = css_is ∙ stands.css_is;
   watches_are = watches_is ∙ stands.watches_are;
-  stands = subst (λ a. Stands (nodes_in state) state.client.session a) (sym agent_is) stands.stands;
+  stands = subst (λ a. Stands (page_nodes state) state.client.session a) (sym agent_is) stands.stands;
 }

@@ -1,7 +1,7 @@
 -- The answer of a seat to a command is the step of the state.
 use Rattle.std.proofs.Common.{◌≡◌, ℕ, List, [], ◌++◌, Bool, true, false, not, ◌&&◌, ◌||◌, cond, Some, Result, Ok, Err, refl, sym, ◌∙◌, ap, subst, append-nil}
 use Rattle.std.specs.Result.{OnOk}
-use Rattle.page_tree.specs.Pages.{State as PageValue}
+use Rattle.page_tree.specs.Pages.{PageValue}
 use Rattle.node_binding.specs.Bindings.{Stands, cleared}
 use Rattle.node_binding.specs.Sessions.{Session, reset}
 use Rattle.node_binding.proofs.StandsLemmas.{Stands-reset}
@@ -16,11 +16,11 @@ use Rattle.dom_agent.proofs.OutcomeLemmas.{stays_session}
 use Rattle.dom_agent.proofs.KeeperLemmas.{stays_bound, same_moves}
 use Rattle.dom_breakpoints.specs.Watched.{unwatched}
 use Rattle.undo_marks.specs.Marks.{Marks}
-use Rattle.undo_marks.specs.Changes.{Change as Entry}
+use Rattle.undo_marks.specs.Changes.{HistoryEntry as Entry}
 use Rattle.undo_marks.specs.Saved.{Saved}
 use Rattle.undo_marks.specs.declared.inverse_lists.Inverse.{Inverse}
 use Rattle.back_end.specs.Sheets.{NumberedBook}
-use Rattle.back_end.specs.States.{Client, State, nodes_in}
+use Rattle.back_end.specs.States.{Client, State, page_nodes}
 use Rattle.back_end.specs.Servers.{Server, enables, disables, agent}
 use Rattle.back_end.specs.Steps.{Step, refusing, with_marks, ask_needs_on, needs_on, needs_css, turns_on, client_served, server_step, command_step}
 use Rattle.back_end.specs.declared.desk.Desk.{Desk}
@@ -132,7 +132,7 @@ asked-stands d d1 s s1 state id c page fits is_off stands same_side sheets_is sa
     let w = state.client.session in
     let on : (ask_needs_on c && not state.client.dom_on) ≡ false = same-on c d.is_on state.client.dom_on false stands.on_is is_off in
     let o : Outcome Session = session_outcome state.side.page c w in
-    let bound : Stands (nodes_in state) (state_after w o) (state_after d.agent (binding_outcome state.side.page c d.agent)) =
+    let bound : Stands (page_nodes state) (state_after w o) (state_after d.agent (binding_outcome state.side.page c d.agent)) =
     stays_bound state.side.page c w d.agent stands.now.page fits stands.now.session stands.stands in
     let agent_now : state_after d.agent (binding_outcome state.side.page c d.agent) ≡ d1.agent =
     sym (agent_is ∙ ap (λ page. state_after d.agent (binding_outcome page c d.agent)) (same_page ∙ stands.page_is)) in
@@ -144,7 +144,7 @@ asked-stands d d1 s s1 state id c page fits is_off stands same_side sheets_is sa
       on_is = on_is ∙ on-after c state.side.page state.client d.is_on stands.on_is;
       css_is = css_is ∙ stands.css_is ∙ served-css c o state.client;
       watches_are = watches_is ∙ stands.watches_are ∙ served-watches c o state.client;
-      stands = subst (λ z. Stands (nodes_in state) z d1.agent) (served-session c o state.client) (subst (λ a. Stands (nodes_in state) (state_after w o) a) agent_now bound);
+      stands = subst (λ z. Stands (page_nodes state) z d1.agent) (served-session c o state.client) (subst (λ a. Stands (page_nodes state) (state_after w o) a) agent_now bound);
     })
 
 pub asked-sent : (d : Desk) (s : PageSide) (state : State) (id : ℕ) (c : DomAsk) (page : PageValue) (old new : List ℕ)
@@ -181,7 +181,7 @@ enabled-stands d d1 s s1 state id stands same sheets_is on css_is watches_is age
   on_is = on;
   css_is = css_is ∙ stands.css_is;
   watches_are = watches_is ∙ stands.watches_are;
-  stands = subst (λ a. Stands (nodes_in state) state.client.session a) (sym agent_is) stands.stands;
+  stands = subst (λ a. Stands (page_nodes state) state.client.session a) (sym agent_is) stands.stands;
 }
 
 -- `DOM.disable`, where DOM is on
@@ -206,7 +206,7 @@ disabled-stands d d1 s s1 state id stands was same sheets_is off css_off watches
       on_is = off;
       css_is = css_off ∙ sym (and-false state.client.css_on);
       watches_are = watches_is;
-      stands = subst (λ a. Stands (nodes_in state) (reset state.client.session) a) (sym agent_is) (Stands-reset (nodes_in state) (nodes_in state) state.client.session d.agent stands.stands);
+      stands = subst (λ a. Stands (page_nodes state) (reset state.client.session) a) (sym agent_is) (Stands-reset (page_nodes state) (page_nodes state) state.client.session d.agent stands.stands);
     })
 
 pub disabled-sent : (d : Desk) (s : PageSide) (state : State) (id : ℕ) (old middle new : List ℕ) → DeskStandsFor d s state → d.is_on ≡ true

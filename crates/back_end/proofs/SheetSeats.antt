@@ -10,8 +10,8 @@ use Rattle.css_objects.specs.Sheets.{sheet_in}
 use Rattle.node_tree.specs.Nodes.{Branch, alone}
 use Rattle.node_tree.specs.Labels.{is_element}
 use Rattle.node_tree.proofs.KeyLemmas.{found_key}
-use Rattle.page_tree.specs.Pages.{Row, row_serial, State as PageValue, find_in, loaded}
-use Rattle.node_binding.specs.Bindings.{Bound, Stands, cleared}
+use Rattle.page_tree.specs.Pages.{PageRow, row_serial, PageValue, find_in, loaded}
+use Rattle.node_binding.specs.Bindings.{BindingValue, Stands, cleared}
 use Rattle.node_binding.specs.Sessions.{Session, serial_at, reset}
 use Rattle.node_binding.proofs.StandsLemmas.{Stands-reset}
 use Rattle.sheet_reader.specs.declared.book.Origin.{Origin}
@@ -41,7 +41,7 @@ use Rattle.back_end.specs.declared.faults.ActFault.{ActFault}
 use Rattle.back_end.specs.declared.faults.ActFault.TheVariants.{Sheet}
 use Rattle.style_edits.specs.declared.faults.SheetFault.TheVariants.{TooBig}
 use Rattle.back_end.specs.Sheets.{origin_in_book, entry_of_sheet, as_book, numbered_sheets, SheetChange, leaves, comes, NumberedBook}
-use Rattle.back_end.specs.States.{State, nodes_in, book_in}
+use Rattle.back_end.specs.States.{State, page_nodes, book_in}
 use Rattle.back_end.specs.Plans.{Deed, restyles, size_fault, drop_fault, replace_fault, dropping, replacing}
 use Rattle.dom_breakpoints.specs.Watched.{unwatched}
 use Rattle.back_end.specs.Servers.{Server, css_enables, css_disables, css_agent}
@@ -147,7 +147,7 @@ css-enabled-stands d d1 s state id stands was on_is css_is watches_is agent_is =
       on_is = on_is ∙ stands.on_is;
       css_is = css_is;
       watches_are = watches_is ∙ stands.watches_are;
-      stands = subst (λ a. Stands (nodes_in state) state.client.session a) (sym agent_is) stands.stands;
+      stands = subst (λ a. Stands (page_nodes state) state.client.session a) (sym agent_is) stands.stands;
     })
 
 pub css-enabled-sent : (d : Desk) (s : PageSide) (state : State) (id : ℕ) (book : List SheetEntry) (old middle new : List ℕ) → DeskStandsFor d s state → d.is_on ≡ true → book ≡ s.sheets.entries
@@ -177,7 +177,7 @@ css-disabled-stands d d1 s state id stands was css_was on_is css_is watches_is a
       on_is = on_is ∙ stands.on_is;
       css_is = css_is;
       watches_are = watches_is ∙ stands.watches_are;
-      stands = subst (λ a. Stands (nodes_in state) state.client.session a) (sym agent_is) stands.stands;
+      stands = subst (λ a. Stands (page_nodes state) state.client.session a) (sym agent_is) stands.stands;
     })
 
 pub css-disabled-sent : (d : Desk) (s : PageSide) (state : State) (id : ℕ) (old middle new : List ℕ) → DeskStandsFor d s state → d.is_on ≡ true → d.css ≡ true
@@ -206,7 +206,7 @@ text-frames : (id : ℕ) (o : Option SheetEntry) → frames_of_moves (answer_mov
 text-frames id None = refl
 text-frames id (Some e) = refl
 
-same-node : (page : PageValue) (w : Session) (b : Bound) (o : Option ℕ) → known_node (binding_keeper (alone page.tree)) page.tree b o ≡ known_node (session_keeper (alone page.tree)) page.tree w o
+same-node : (page : PageValue) (w : Session) (b : BindingValue) (o : Option ℕ) → known_node (binding_keeper (alone page.tree)) page.tree b o ≡ known_node (session_keeper (alone page.tree)) page.tree w o
 same-node page w b None = refl
 same-node page w b (Some serial) = refl
 
@@ -247,8 +247,8 @@ element-is d s state page named r stands page_is is =
     let w = state.client.session in
     let b = d.agent in
     sym (is ∙ ap (λ (p : PageValue). element_serial (known_node (binding_keeper (alone p.tree)) p.tree b (finite.get b.serials named))) (page_is ∙ stands.page_is)
-    ∙ ap (λ (o : Option ℕ). element_serial (known_node (binding_keeper (nodes_in state)) state.side.page.tree b o)) (stands.stands.serials_are named)
-    ∙ ap element_serial (same-node state.side.page w b (serial_at w (nodes_in state) named)))
+    ∙ ap (λ (o : Option ℕ). element_serial (known_node (binding_keeper (page_nodes state)) state.side.page.tree b o)) (stands.stands.serials_are named)
+    ∙ ap element_serial (same-node state.side.page w b (serial_at w (page_nodes state) named)))
 
 pub node-asked : (d : Desk) (s : PageSide) (state : State) (id named serial : ℕ) (page : PageValue) (book : List SheetEntry) (old new : List ℕ) → DeskStandsFor d s state
     → page ≡ s.page → book ≡ s.sheets.entries → element_named named state ≡ Ok serial
@@ -495,8 +495,8 @@ load-stands d d1 s s1 state page stands can texts page_is sheets_are next_is on_
   on_is = on_is ∙ stands.on_is;
   css_is = css_is ∙ stands.css_is ∙ both-on state.client.css_on state.client.dom_on stands.now.css_off;
   watches_are = watches_is;
-  stands = subst (λ a. Stands (nodes_in (load_step page state).state) (reset state.client.session) a) (sym agent_is)
-      (Stands-reset (nodes_in state) (nodes_in (load_step page state).state) state.client.session d.agent stands.stands);
+  stands = subst (λ a. Stands (page_nodes (load_step page state).state) (reset state.client.session) a) (sym agent_is)
+      (Stands-reset (page_nodes state) (page_nodes (load_step page state).state) state.client.session d.agent stands.stands);
 }
   where
     both-on : (c on : Bool) → (on ≡ false → c ≡ false) → c ≡ (c && on)
@@ -548,7 +548,7 @@ gone-turn book i e before after at sent =
 
 -- ---- the node that an ask names, in code
 
-pub element-found : (b : Bound) (tree : Branch Row) (o : Option ℕ) (serial : ℕ) (found : Branch Row) → o ≡ Some serial → find_in serial tree ≡ Some found → is_element found.row.label.kind ≡ true
+pub element-found : (b : BindingValue) (tree : Branch PageRow) (o : Option ℕ) (serial : ℕ) (found : Branch PageRow) → o ≡ Some serial → find_in serial tree ≡ Some found → is_element found.row.label.kind ≡ true
     → ◌≡◌ {A = Result ℕ Why} (Ok serial) (element_serial (known_node (binding_keeper (alone tree)) tree b o))
 element-found b tree o serial found named is element =
     let own : found.row.serial ≡ serial = found_key row_serial serial (alone tree) found is in

@@ -4,13 +4,13 @@ use Rattle.std.specs.Prelude.{⊤}
 use Rattle.node_tree.specs.Nodes.{Nodes, none}
 use Rattle.node_tree.specs.Seen.{Seen}
 use Rattle.cdp_json.specs.Kinds.{is_counted}
-use Rattle.page_tree.specs.Pages.{State as PageValue}
+use Rattle.page_tree.specs.Pages.{PageValue}
 use Rattle.node_binding.specs.Sessions.{Session, reset}
 use Rattle.cdp_messages.specs.declared.down.ReplyBody.TheVariants.{Nothing}
 use Rattle.cdp_messages.specs.Views.{ShownSheet, View, text_units, shows_sheet, sheets_without}
 use Rattle.cdp_messages.specs.Moves.{Move as Told, clear as cleared, added, dropped, replied, sheets_off, CanBeTold, Moves, Course, ends, goes}
 use Rattle.css_agent.proofs.TellableStyles.{counted, units-few}
-use Rattle.dom_agent.specs.Laws.{CanTellSheets, view_of as seen_by}
+use Rattle.dom_agent.specs.Laws.{CanTellSheets, session_view as seen_by}
 use Rattle.dom_agent.proofs.StepLemmas.{course-join}
 use Rattle.page_forms.specs.Sheets.{max_sheet_bytes}
 use Rattle.back_end.specs.Sheets.{SheetChange, leaves, comes, AreSheetsBelow}

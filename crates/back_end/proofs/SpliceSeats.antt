@@ -4,10 +4,10 @@ use Rattle.std.specs.List.{AllByRecursion}
 use Rattle.std.specs.Result.{OnOk, OnErr}
 use Rattle.std.proofs.lemmas.Bool.Decides.{nat_tests}
 use Rattle.node_binding.specs.Bindings.{Stands}
-use Rattle.page_tree.specs.Pages.{State as PageValue}
+use Rattle.page_tree.specs.Pages.{PageValue}
 use Rattle.node_tree.specs.Nodes.{alone}
 use Rattle.sheet_reader.specs.declared.book.SheetEntry.{SheetEntry}
-use Rattle.sheet_reader.specs.Books.{IsStored, entry_of, changed}
+use Rattle.sheet_reader.specs.Books.{IsStored, entry_of, book_changed}
 use Rattle.style_edits.specs.declared.faults.SheetErr.{SheetErr}
 use Rattle.style_edits.specs.declared.faults.SheetErr.TheVariants.{Fault}
 use Rattle.style_edits.specs.declared.faults.SheetFault.{SheetFault}
@@ -17,7 +17,7 @@ use Rattle.style_edits.specs.Splices.{spliced_entry, after_by, after_splice, aft
 use Rattle.cdp_messages.specs.declared.command.Why.{Why}
 use Rattle.cdp_messages.specs.Moves.{Move, replied, frames_of_moves}
 use Rattle.css_agent.specs.declared.edits.CssEdit.{CssEdit}
-use Rattle.css_agent.specs.Edits.{CssDone, CssEdited, css_edited, css_splices, splice_moves, with_reply, edit_moves, edit_splices}
+use Rattle.css_agent.specs.Edits.{CssDone, CssEdited, css_edited, css_splices, splice_moves, moves_with_reply, edit_moves, edit_splices}
 use Rattle.css_agent.specs.EditLaws.{HasEditTexts}
 use Rattle.css_agent.proofs.DoneLemmas.{css-leads, stored-all}
 use Rattle.back_end.specs.declared.desk.Desk.{Desk}
@@ -65,13 +65,13 @@ in_fault {A = A} result f P is holds = subst (λ (r : Result A SheetErr). IfFaul
 
 -- ---- numbers in code
 
-below-changed : (new : SheetEntry) (next : ℕ) (es : List SheetEntry) → AreBelow next es → AreBelow next (changed new es)
+below-changed : (new : SheetEntry) (next : ℕ) (es : List SheetEntry) → AreBelow next es → AreBelow next (book_changed new es)
 below-changed new next [] all = tt
 below-changed new next (e ∷ es) all = at (new.id == e.id) refl (below-changed new next es all.1) where
   own : (new.id == e.id) ≡ true → new.id ≡ e.id
   own t = grind (arith, nat_tests)
 
-  at : (b : Bool) → (new.id == e.id) ≡ b → AreBelow next (changed new es) → AreBelow next (cond b (new ∷ es) (e ∷ changed new es))
+  at : (b : Bool) → (new.id == e.id) ≡ b → AreBelow next (book_changed new es) → AreBelow next (cond b (new ∷ es) (e ∷ book_changed new es))
   at true t later = let is = own t in (omega (arith, is, all.0), all.1)
   at false t later = (all.0, later)
 
@@ -154,7 +154,7 @@ restyled-sent d s state id x new backs before after stands room texts on css h s
     let told = splices-told ss state (sym stands.css_is ∙ css) done.taken in
     sent
     ∙ ap (λ (es : List SheetEntry). before ++ frames_of_moves (edit_moves id es x)) stands.sheets_are
-    ∙ ap (λ (r : CssEdited). before ++ frames_of_moves (with_reply id (splice_moves ss (book_in state)) r)) here
+    ∙ ap (λ (r : CssEdited). before ++ frames_of_moves (moves_with_reply id (splice_moves ss (book_in state)) r)) here
     ∙ ap (λ (ms : List Move). before ++ frames_of_moves (ms ++ replied id made.done.body ∷ [])) (sym told)
     ∙ ap (λ (done : Step). before ++ frames_of_moves done.moves) (sym (step-is d s state id x stands on css ∙ ap (λ (r : CssEdited). restyled_step id r ss state) here))
 

@@ -7,9 +7,9 @@ use Rattle.std.proofs.lemmas.List.{length-map}
 use Rattle.std.proofs.lemmas.Str.{IsUtf8-append, IsUtf8-take, IsUtf8-drop}
 use Rattle.cdp_json.specs.Kinds.{is_counted}
 use Rattle.node_tree.specs.Nodes.{Branch, alone}
-use Rattle.page_tree.specs.Pages.{Row, State as PageValue}
+use Rattle.page_tree.specs.Pages.{PageRow, PageValue}
 use Rattle.sheet_reader.specs.declared.book.SheetEntry.{SheetEntry}
-use Rattle.sheet_reader.specs.Books.{entry_of, changed}
+use Rattle.sheet_reader.specs.Books.{entry_of, book_changed}
 use Rattle.style_edits.specs.declared.splice.Splice.{Splice}
 use Rattle.style_edits.specs.Splices.{spliced, with_text, after_by, after_splice, after_splices, TakesSplice}
 use Rattle.style_edits.specs.declared.edits.StyleEdit.{StyleEdit}
@@ -50,7 +50,7 @@ use Rattle.back_end.proofs.AnsweredSteps.{Answered, reply-answered, refusal-answ
 
 -- the book of sheets of which one has another text
 record TextPut (n : ℕ) (text : List ℕ) (e : SheetEntry) (ss : List ShownSheet) : Type 0 where
-  book : changed (with_text e text) (as_book ss) ≡ as_book (sheets_with_text n text ss)
+  book : book_changed (with_text e text) (as_book ss) ≡ as_book (sheets_with_text n text ss)
   told : text_under n (as_book (sheets_with_text n text ss)) ≡ text
 
 text-put : (n : ℕ) (text : List ℕ) (ss : List ShownSheet) (e : SheetEntry) → entry_of n (as_book ss) ≡ Some e → TextPut n text e ss
@@ -68,10 +68,10 @@ text-put n text (s ∷ ss) e h = at (n == s.number) refl h (λ k. text-put n tex
       let same : entry_of_sheet s ≡ e = cc in
       let test : (s.number == n) ≡ true = same-test s.number n ∙ t in
       let is : sheets_with_text n text (s ∷ ss) ≡ put ∷ ss = ap (λ (b : Bool). cond b (put ∷ ss) (s ∷ sheets_with_text n text ss)) test in
-      let own : changed (with_text (entry_of_sheet s) text) (as_book (s ∷ ss)) ≡ as_book (put ∷ ss) =
-      ap (λ (b : Bool). cond b (entry_of_sheet put ∷ as_book ss) (entry_of_sheet s ∷ changed (entry_of_sheet put) (as_book ss))) (own-test s.number) in
+      let own : book_changed (with_text (entry_of_sheet s) text) (as_book (s ∷ ss)) ≡ as_book (put ∷ ss) =
+      ap (λ (b : Bool). cond b (entry_of_sheet put ∷ as_book ss) (entry_of_sheet s ∷ book_changed (entry_of_sheet put) (as_book ss))) (own-test s.number) in
       record {
-        book = ap (λ (x : SheetEntry). changed (with_text x text) (as_book (s ∷ ss))) (sym same) ∙ own ∙ ap (λ (xs : List ShownSheet). as_book xs) (sym is);
+        book = ap (λ (x : SheetEntry). book_changed (with_text x text) (as_book (s ∷ ss))) (sym same) ∙ own ∙ ap (λ (xs : List ShownSheet). as_book xs) (sym is);
         told = ap (λ (xs : List ShownSheet). text_under n (as_book xs)) is ∙ ap (λ (b : Bool). text_in (cond b (Some (entry_of_sheet put)) (entry_of n (as_book ss)))) t;
       }
   at false t k later =
@@ -80,8 +80,8 @@ text-put n text (s ∷ ss) e h = at (n == s.number) refl h (λ k. text-put n tex
       let id : e.id ≡ n = entry_id n (as_book ss) e k in
       let is : sheets_with_text n text (s ∷ ss) ≡ s ∷ sheets_with_text n text ss = ap (λ (b : Bool). cond b (put ∷ ss) (s ∷ sheets_with_text n text ss)) test in
       record {
-        book = ap (λ (m : ℕ). cond (m == s.number) (with_text e text ∷ as_book ss) (entry_of_sheet s ∷ changed (with_text e text) (as_book ss))) id
-            ∙ ap (λ (b : Bool). cond b (with_text e text ∷ as_book ss) (entry_of_sheet s ∷ changed (with_text e text) (as_book ss))) t
+        book = ap (λ (m : ℕ). cond (m == s.number) (with_text e text ∷ as_book ss) (entry_of_sheet s ∷ book_changed (with_text e text) (as_book ss))) id
+            ∙ ap (λ (b : Bool). cond b (with_text e text ∷ as_book ss) (entry_of_sheet s ∷ book_changed (with_text e text) (as_book ss))) t
             ∙ ap (λ (es : List SheetEntry). entry_of_sheet s ∷ es) rest.book
             ∙ ap (λ (xs : List ShownSheet). as_book xs) (sym is);
         told = ap (λ (xs : List ShownSheet). text_under n (as_book xs)) is
@@ -251,7 +251,7 @@ splices-saved (s ∷ ss) state all =
     splices-saved ss (splice_step s state).state (taken-on s ss state all) ∙ ap (λ (p : Saved). after_all page_after (as_kept ss) p) (splice-saved s state all.0)
 
 -- and each is taken by the saved page
-pub splices-taken : (next : ℕ) (tree : Branch Row) (ss : List Splice) (book : List SheetEntry) → RowsHaveUtf8 (alone tree) → AllTake ss book
+pub splices-taken : (next : ℕ) (tree : Branch PageRow) (ss : List Splice) (book : List SheetEntry) → RowsHaveUtf8 (alone tree) → AllTake ss book
     → AllTaken page_after (TakesWell next) (as_kept ss) (saved_of tree book)
 splices-taken next tree [] book texts all = tt
 splices-taken next tree (s ∷ ss) book texts all =

@@ -9,7 +9,7 @@ use Rattle.std.proofs.lemmas.Bool.{leb-true}
 use Rattle.std.proofs.lemmas.Str.{IsUtf8-nil}
 use Rattle.node_tree.specs.Nodes.{none, Branch, alone, node_count, branch_count}
 use Rattle.node_tree.specs.Labels.{Label}
-use Rattle.page_tree.specs.Pages.{Row, row_serial, State as PageValue, IsValid, node_at}
+use Rattle.page_tree.specs.Pages.{PageRow, row_serial, PageValue, IsValid, node_at}
 use Rattle.page_tree.specs.Edits.{after, drawn}
 use Rattle.page_tree.specs.EditFaults.{CanApply, CanApplyAll, attach_faults, insert_fault}
 use Rattle.page_tree.specs.declared.edits.TreeEdit.{TreeEdit}
@@ -36,7 +36,7 @@ use Rattle.style_edits.specs.Edits.{is_too_big}
 use Rattle.cdp_messages.specs.Views.{ShownSheet, sheets_without}
 use Rattle.cdp_messages.specs.Moves.{CanBeTold, Course}
 use Rattle.css_agent.specs.Asks.{sheet_named}
-use Rattle.dom_agent.specs.Laws.{CanTell, CanTellSheets, RowsHaveUtf8, view_of as seen_by}
+use Rattle.dom_agent.specs.Laws.{CanTell, CanTellSheets, RowsHaveUtf8, session_view as seen_by}
 use Rattle.dom_agent.specs.EditLaws.{session_edited}
 use Rattle.dom_agent.proofs.EditMoves.{edits_are_moves}
 use Rattle.dom_agent.proofs.EditLemmas.{edit_keeps_session, edit_draws_one}
@@ -74,13 +74,13 @@ edited-off (edit.Attach parent before x) page w h = rw (at-none w.opened parent 
 edited-off (edit.Detach serial) page w h = ap (option_map (opened_without (node_at serial page.tree))) h
 
 -- of no serials none are left
-no-serials : (root : ℕ) (tree : Branch Row) → outside root tree set.empty ≡ set.empty
+no-serials : (root : ℕ) (tree : Branch PageRow) → outside root tree set.empty ≡ set.empty
 no-serials root tree =
     set.same_set nat_cmp_total set.nat_cmp-IsAntisymmetric (outside root tree set.empty) set.empty
     (λ q. set.contains-retain set.empty (λ serial. not (is_within serial root tree)) q (λ x e. ap (λ s. not (is_within s root tree)) (sym (set.nat_cmp-IsAntisymmetric q x e)))
     ∙ ap (λ b. b && not (is_within q root tree)) (set.contains-empty nat_cmp q) ∙ sym (set.contains-empty nat_cmp q))
 
-none-left : (root : ℕ) (tree : Branch Row) → without_subtree root tree unwatched ≡ unwatched
+none-left : (root : ℕ) (tree : Branch PageRow) → without_subtree root tree unwatched ≡ unwatched
 none-left root tree = λ i. record { subtree = no-serials root tree i; attribute = no-serials root tree i; removed = no-serials root tree i }
 
 -- where nothing is opened after an edit, nothing was

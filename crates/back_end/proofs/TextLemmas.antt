@@ -9,7 +9,7 @@ use Rattle.node_tree.specs.Nodes.{Nodes, none, node, Branch, alone, node_count, 
 use Rattle.node_tree.specs.Labels.{Pair, Label}
 use Rattle.node_tree.specs.Keys as keys
 use Rattle.node_tree.specs.Keys.{first_of}
-use Rattle.page_tree.specs.Pages.{Row, row_label, row_serial, find_in, node_at, parent_at, numbered}
+use Rattle.page_tree.specs.Pages.{PageRow, row_label, row_serial, find_in, node_at, parent_at, numbered}
 use Rattle.page_tree.specs.Edits.{pairs_without, with_attribute, without_attribute, with_value, relabelled, put_before, taken_out, with_child, without_child, put_in, changed_at, after_tree, form_at, numbered_branch}
 use Rattle.page_tree.specs.declared.edits.TreeEdit.{TreeEdit}
 use Rattle.page_tree.specs.declared.edits.TreeEdit.TheVariants.{SetAttr, DropAttr, SetText, Attach, Detach}
@@ -48,15 +48,15 @@ label-said value l v us = (us.0, v, us.2)
 
 -- ---- trees
 
-abbrev TextTree : Branch Row → Type 0
+abbrev TextTree : Branch PageRow → Type 0
 TextTree b = RowsHaveUtf8 (alone b)
 
 -- the first of the nodes that is found
-found-either : (o p : Option (Branch Row)) → IfSome TextTree o → IfSome TextTree p → IfSome TextTree (first_of o p)
+found-either : (o p : Option (Branch PageRow)) → IfSome TextTree o → IfSome TextTree p → IfSome TextTree (first_of o p)
 found-either None p u v = v
 found-either (Some x) p u v = u
 
-found-texts : (serial : ℕ) (n : Nodes Row) → RowsHaveUtf8 n → IfSome TextTree (keys.find row_serial serial n)
+found-texts : (serial : ℕ) (n : Nodes PageRow) → RowsHaveUtf8 n → IfSome TextTree (keys.find row_serial serial n)
 found-texts serial none us = tt
 found-texts serial (node r c t) us = at (r.serial == serial) (found-texts serial c us.1) (found-texts serial t us.2) where
   at : (b : Bool) → IfSome TextTree (keys.find row_serial serial c) → IfSome TextTree (keys.find row_serial serial t)
@@ -64,15 +64,15 @@ found-texts serial (node r c t) us = at (r.serial == serial) (found-texts serial
   at true below beside = (us.0, us.1, tt)
   at false below beside = found-either (keys.find row_serial serial c) (keys.find row_serial serial t) below beside
 
-or-tree : (o : Option (Branch Row)) (tree : Branch Row) → IfSome TextTree o → TextTree tree → TextTree (unwrap_or o tree)
+or-tree : (o : Option (Branch PageRow)) (tree : Branch PageRow) → IfSome TextTree o → TextTree tree → TextTree (unwrap_or o tree)
 or-tree None tree u v = v
 or-tree (Some x) tree u v = u
 
-pub node_at-texts : (serial : ℕ) (tree : Branch Row) → TextTree tree → TextTree (node_at serial tree)
+pub node_at-texts : (serial : ℕ) (tree : Branch PageRow) → TextTree tree → TextTree (node_at serial tree)
 node_at-texts serial tree us = or-tree (find_in serial tree) tree (found-texts serial (alone tree) us) us
 
 -- another tree in the place of one
-put-texts : (serial : ℕ) (w : Branch Row) (n : Nodes Row) → TextTree w → RowsHaveUtf8 n → RowsHaveUtf8 (keys.put row_serial serial w n)
+put-texts : (serial : ℕ) (w : Branch PageRow) (n : Nodes PageRow) → TextTree w → RowsHaveUtf8 n → RowsHaveUtf8 (keys.put row_serial serial w n)
 put-texts serial w none u us = tt
 put-texts serial w (node r c t) u us = at (r.serial == serial) (keys.has row_serial serial c) (put-texts serial w c u us.1) (put-texts serial w t u us.2) where
   at : (b d : Bool) → RowsHaveUtf8 (keys.put row_serial serial w c) → RowsHaveUtf8 (keys.put row_serial serial w t)
@@ -81,28 +81,28 @@ put-texts serial w (node r c t) u us = at (r.serial == serial) (keys.has row_ser
   at false true below beside = (us.0, below, us.2)
   at false false below beside = (us.0, us.1, beside)
 
-put_in-texts : (serial : ℕ) (w tree : Branch Row) → TextTree w → TextTree tree → TextTree (put_in serial w tree)
+put_in-texts : (serial : ℕ) (w tree : Branch PageRow) → TextTree w → TextTree tree → TextTree (put_in serial w tree)
 put_in-texts serial w tree u us = at (tree.row.serial == serial) where
   at : (b : Bool) → TextTree (cond b w (record { row = tree.row; children = keys.put row_serial serial w tree.children }))
   at true = u
   at false = (us.0, put-texts serial w tree.children u us.1, tt)
 
-changed-texts : (serial : ℕ) (change : Branch Row → Branch Row) (tree : Branch Row) → ((b : Branch Row) → TextTree b → TextTree (change b)) → TextTree tree
+changed-texts : (serial : ℕ) (change : Branch PageRow → Branch PageRow) (tree : Branch PageRow) → ((b : Branch PageRow) → TextTree b → TextTree (change b)) → TextTree tree
     → TextTree (changed_at serial change tree)
 changed-texts serial change tree keeps us =
     put_in-texts serial (change (node_at serial tree)) tree (keeps (node_at serial tree) (node_at-texts serial tree us)) us
 
-relabelled-texts : (f : Label → Label) → ((l : Label) → LabelHasUtf8 l → LabelHasUtf8 (f l)) → (b : Branch Row) → TextTree b → TextTree (relabelled f b)
+relabelled-texts : (f : Label → Label) → ((l : Label) → LabelHasUtf8 l → LabelHasUtf8 (f l)) → (b : Branch PageRow) → TextTree b → TextTree (relabelled f b)
 relabelled-texts f keeps b us = (keeps b.row.label us.0, us.1, tt)
 
-put_before-texts : (before : ℕ) (w : Branch Row) (n : Nodes Row) → TextTree w → RowsHaveUtf8 n → RowsHaveUtf8 (put_before before w n)
+put_before-texts : (before : ℕ) (w : Branch PageRow) (n : Nodes PageRow) → TextTree w → RowsHaveUtf8 n → RowsHaveUtf8 (put_before before w n)
 put_before-texts before w none u us = u
 put_before-texts before w (node r c t) u us = at (r.serial == before) (put_before-texts before w t u us.2) where
   at : (b : Bool) → RowsHaveUtf8 (put_before before w t) → RowsHaveUtf8 (cond b (node w.row w.children (node r c t)) (node r c (put_before before w t)))
   at true later = (u.0, u.1, us)
   at false later = (us.0, us.1, later)
 
-taken_out-texts : (serial : ℕ) (n : Nodes Row) → RowsHaveUtf8 n → RowsHaveUtf8 (taken_out serial n)
+taken_out-texts : (serial : ℕ) (n : Nodes PageRow) → RowsHaveUtf8 n → RowsHaveUtf8 (taken_out serial n)
 taken_out-texts serial none us = tt
 taken_out-texts serial (node r c t) us = at (r.serial == serial) (taken_out-texts serial t us.2) where
   at : (b : Bool) → RowsHaveUtf8 (taken_out serial t) → RowsHaveUtf8 (cond b t (node r c (taken_out serial t)))
@@ -111,7 +111,7 @@ taken_out-texts serial (node r c t) us = at (r.serial == serial) (taken_out-text
 
 -- ---- edits
 
-pub after-texts : (e : TreeEdit) (tree : Branch Row) → EditHasTexts e → TextTree tree → TextTree (after_tree e tree)
+pub after-texts : (e : TreeEdit) (tree : Branch PageRow) → EditHasTexts e → TextTree tree → TextTree (after_tree e tree)
 after-texts (SetAttr serial name value) tree has us =
     changed-texts serial (relabelled (with_attribute name value)) tree
     (relabelled-texts (with_attribute name value) (λ l ls. label-set name value l has.0 has.1 ls)) us
@@ -135,10 +135,10 @@ branch-texts first form texts = (texts.0, numbered-texts (first + 1) form.childr
 
 -- ---- a copy
 
-rows-texts : (n : Nodes Row) → RowsHaveUtf8 n → HaveTexts (map_rows row_label n)
+rows-texts : (n : Nodes PageRow) → RowsHaveUtf8 n → HaveTexts (map_rows row_label n)
 rows-texts none texts = tt
 rows-texts (node r c t) texts = (texts.0, rows-texts c texts.1, rows-texts t texts.2)
 
 -- the form of a node of the page has its texts
-pub form-texts : (serial : ℕ) (tree : Branch Row) → RowsHaveUtf8 (alone tree) → FormHasTexts (form_at serial tree)
+pub form-texts : (serial : ℕ) (tree : Branch PageRow) → RowsHaveUtf8 (alone tree) → FormHasTexts (form_at serial tree)
 form-texts serial tree texts = let has = node_at-texts serial tree texts in (has.0, rows-texts (node_at serial tree).children has.1)

@@ -6,7 +6,7 @@ use Rattle.std.specs.Prelude.{OnOk, IsSome, is_some}
 use Rattle.node_tree.specs.Nodes.{none, Branch, alone}
 use Rattle.node_tree.specs.Keys.{has, tally, tally_in}
 use Rattle.node_tree.proofs.KeyLemmas.{tally-at, has-there, tally_row}
-use Rattle.page_tree.specs.Pages.{Row, row_serial, State as PageValue, IsValid, find_in, node_at}
+use Rattle.page_tree.specs.Pages.{PageRow, row_serial, PageValue, IsValid, find_in, node_at}
 use Rattle.sheet_reader.specs.declared.book.SheetEntry.{SheetEntry}
 use Rattle.undo_marks.specs.Marks.{Marks, noted, noted_singly}
 use Rattle.undo_marks.specs.Changes.{back_all}
@@ -31,7 +31,7 @@ use Rattle.back_end.specs.declared.dom_edits.NodeEdit.{NodeEdit}
 use Rattle.back_end.specs.declared.dom_edits.NodeEdit.TheVariants.{One, MoveNode, CopyNode}
 use Rattle.back_end.specs.declared.desk.Desk.{Desk}
 use Rattle.back_end.specs.declared.side.PageSide.{PageSide}
-use Rattle.back_end.specs.States.{State, nodes_in, HoldsNow}
+use Rattle.back_end.specs.States.{State, page_nodes, HoldsNow}
 use Rattle.back_end.specs.OwnMethods.{edit_why}
 use Rattle.back_end.specs.Plans.{node_edit_fault, node_edit_plan, node_put}
 use Rattle.back_end.specs.Servers.{edits_tree}
@@ -46,7 +46,7 @@ use Rattle.back_end.proofs.SeatLemmas.{on-is}
 
 -- ---- a move
 
-pub moved-plan-stands : (d1 : Desk) (s1 : PageSide) (state : State) (serial parent before there : ℕ) (tree : Branch Row) (page : PageValue) → page ≡ state.side.page
+pub moved-plan-stands : (d1 : Desk) (s1 : PageSide) (state : State) (serial parent before there : ℕ) (tree : Branch PageRow) (page : PageValue) → page ≡ state.side.page
     → there ≡ moved_before serial parent before page.tree → tree ≡ node_at serial page.tree
     → DeskStandsFor d1 s1 (edit_step (Attach parent there tree) (edit_step (Detach serial) state).state).state
     → DeskStandsFor d1 s1 (plan_step (node_edit_plan (MoveNode serial parent before) state.side.page) state).state
@@ -56,7 +56,7 @@ moved-plan-stands d1 s1 state serial parent before there tree page same there_is
     (subst (λ b. DeskStandsFor d1 s1 (edit_step (Attach parent b (node_at serial page.tree)) first).state) there_is
     (subst (λ t. DeskStandsFor d1 s1 (edit_step (Attach parent there t) first).state) tree_is stands))
 
-pub moved-plan-sent : (state : State) (serial parent before there : ℕ) (tree : Branch Row) (page : PageValue) (old middle new : List ℕ) → page ≡ state.side.page
+pub moved-plan-sent : (state : State) (serial parent before there : ℕ) (tree : Branch PageRow) (page : PageValue) (old middle new : List ℕ) → page ≡ state.side.page
     → there ≡ moved_before serial parent before page.tree → tree ≡ node_at serial page.tree
     → middle ≡ old ++ frames_of_moves (edit_step (Detach serial) state).moves
     → new ≡ middle ++ frames_of_moves (edit_step (Attach parent there tree) (edit_step (Detach serial) state).state).moves
@@ -75,24 +75,24 @@ moved-plan-sent state serial parent before there tree page old middle new same t
     ∙ ap (λ ms. old ++ frames_of_moves (one ++ ms)) (sym (append-nil last))
 
 -- both edits are noted by what leads back
-pub moved-noted : (h h1 h2 : Marks Inverse) (page : PageValue) (book : List SheetEntry) (serial parent before : ℕ) (tree : Branch Row) → tree ≡ node_at serial page.tree
+pub moved-noted : (h h1 h2 : Marks Inverse) (page : PageValue) (book : List SheetEntry) (serial parent before : ℕ) (tree : Branch PageRow) → tree ≡ node_at serial page.tree
     → h1 ≡ noted (Tree (back_tree (Detach serial) page.tree)) h → h2 ≡ noted (Tree (Detach tree.row.serial)) h1
     → h2 ≡ noted_singly (back_all page_after way_back (mapped (λ e. Tree e) (node_edit_plan (MoveNode serial parent before) page).edits) (saved_of page.tree book)) h
 moved-noted h h1 h2 page book serial parent before tree is first second =
-    second ∙ ap (λ (t : Branch Row). noted (Tree (Detach t.row.serial)) h1) is ∙ ap (λ (m : Marks Inverse). noted (Tree (Detach (node_at serial page.tree).row.serial)) m) first
+    second ∙ ap (λ (t : Branch PageRow). noted (Tree (Detach t.row.serial)) h1) is ∙ ap (λ (m : Marks Inverse). noted (Tree (Detach (node_at serial page.tree).row.serial)) m) first
 
 -- the node that is to be moved is there
-pub moved-there : (serial parent before : ℕ) (tree : Branch Row) → move_fault serial parent before tree ≡ None → IsSome (find_in serial tree)
+pub moved-there : (serial parent before : ℕ) (tree : Branch PageRow) → move_fault serial parent before tree ≡ None → IsSome (find_in serial tree)
 moved-there serial parent before tree fits = (move_live serial parent before tree fits).0
 
 -- ---- a copy
 
-pub copied-noted : (h h1 : Marks Inverse) (page : PageValue) (book : List SheetEntry) (serial parent before : ℕ) (tree : Branch Row) → tree ≡ numbered_branch page.next (form_at serial page.tree)
+pub copied-noted : (h h1 : Marks Inverse) (page : PageValue) (book : List SheetEntry) (serial parent before : ℕ) (tree : Branch PageRow) → tree ≡ numbered_branch page.next (form_at serial page.tree)
     → h1 ≡ noted (Tree (Detach tree.row.serial)) h
     → h1 ≡ noted_singly (back_all page_after way_back (mapped (λ e. Tree e) (node_edit_plan (CopyNode serial parent before) page).edits) (saved_of page.tree book)) h
-copied-noted h h1 page book serial parent before tree is first = first ∙ ap (λ (t : Branch Row). noted (Tree (Detach t.row.serial)) h) is
+copied-noted h h1 page book serial parent before tree is first = first ∙ ap (λ (t : Branch PageRow). noted (Tree (Detach t.row.serial)) h) is
 
-pub copied-can : (page drawn_page : PageValue) (serial parent before : ℕ) (tree : Branch Row) → IsValid page → copy_fault serial parent before page.tree ≡ None
+pub copied-can : (page drawn_page : PageValue) (serial parent before : ℕ) (tree : Branch PageRow) → IsValid page → copy_fault serial parent before page.tree ≡ None
     → drawn_page ≡ drawn (form_at serial page.tree) page → tree ≡ numbered_branch page.next (form_at serial page.tree)
     → CanApply drawn_page.next (Attach parent before tree) drawn_page.tree
 copied-can page drawn_page serial parent before tree valid fits drawn_is tree_is =
@@ -100,13 +100,13 @@ copied-can page drawn_page serial parent before tree valid fits drawn_is tree_is
     (subst (λ t. CanApply (drawn (form_at serial page.tree) page).next (Attach parent before t) page.tree) (sym tree_is)
     (copy-leads page serial parent before valid fits).taken.0)
 
-pub copied-texts : (d : Desk) (s : PageSide) (state : State) (serial : ℕ) (tree : Branch Row) → DeskStandsFor d s state → tree ≡ numbered_branch s.page.next (form_at serial s.page.tree)
+pub copied-texts : (d : Desk) (s : PageSide) (state : State) (serial : ℕ) (tree : Branch PageRow) → DeskStandsFor d s state → tree ≡ numbered_branch s.page.next (form_at serial s.page.tree)
     → RowsHaveUtf8 (alone tree)
 copied-texts d s state serial tree stands is =
     subst (λ t. RowsHaveUtf8 (alone t)) (sym (is ∙ ap (λ (p : PageValue). numbered_branch p.next (form_at serial p.tree)) stands.page_is))
     (branch-texts state.side.page.next (form_at serial state.side.page.tree) (form-texts serial state.side.page.tree stands.now.texts))
 
-pub copied-stands : (d1 : Desk) (s1 : PageSide) (state : State) (serial parent before : ℕ) (tree : Branch Row) (page : PageValue) → page ≡ state.side.page
+pub copied-stands : (d1 : Desk) (s1 : PageSide) (state : State) (serial parent before : ℕ) (tree : Branch PageRow) (page : PageValue) → page ≡ state.side.page
     → tree ≡ numbered_branch page.next (form_at serial page.tree)
     → DeskStandsFor d1 s1 (edit_step (Attach parent before tree) (with_page (drawn (form_at serial page.tree) state.side.page) state)).state
     → DeskStandsFor d1 s1 (plan_step (node_edit_plan (CopyNode serial parent before) state.side.page) state).state
@@ -114,12 +114,12 @@ copied-stands d1 s1 state serial parent before tree page same tree_is stands =
     subst (λ (p : PageValue). DeskStandsFor d1 s1 (edit_step (Attach parent before (numbered_branch p.next (form_at serial p.tree))) (with_page (drawn (form_at serial p.tree) state.side.page) state)).state) same
     (subst (λ t. DeskStandsFor d1 s1 (edit_step (Attach parent before t) (with_page (drawn (form_at serial page.tree) state.side.page) state)).state) tree_is stands)
 
-pub copied-sent : (state : State) (serial parent before : ℕ) (tree : Branch Row) (page : PageValue) (old new : List ℕ) → page ≡ state.side.page
+pub copied-sent : (state : State) (serial parent before : ℕ) (tree : Branch PageRow) (page : PageValue) (old new : List ℕ) → page ≡ state.side.page
     → tree ≡ numbered_branch page.next (form_at serial page.tree)
     → new ≡ old ++ frames_of_moves (edit_step (Attach parent before tree) (with_page (drawn (form_at serial page.tree) state.side.page) state)).moves
     → new ≡ old ++ frames_of_moves (plan_step (node_edit_plan (CopyNode serial parent before) state.side.page) state).moves
 copied-sent state serial parent before tree page old new same tree_is sent =
-    let told : Branch Row → PageValue → List Told = λ t p. (edit_step (Attach parent before t) (with_page (drawn (form_at serial p.tree) state.side.page) state)).moves in
+    let told : Branch PageRow → PageValue → List Told = λ t p. (edit_step (Attach parent before t) (with_page (drawn (form_at serial p.tree) state.side.page) state)).moves in
     sent
     ∙ ap (λ t. old ++ frames_of_moves (told t page)) tree_is
     ∙ ap (λ (p : PageValue). old ++ frames_of_moves (told (numbered_branch p.next (form_at serial p.tree)) p)) same
@@ -136,7 +136,7 @@ first-both true b e = refl
 first-both false b e = absurd cc
 
 -- a tree that was attached is in the page
-attached-there : (next parent before : ℕ) (x tree : Branch Row) → CanApply next (Attach parent before x) tree → has row_serial x.row.serial (alone (after_tree (Attach parent before x) tree)) ≡ true
+attached-there : (next parent before : ℕ) (x tree : Branch PageRow) → CanApply next (Attach parent before x) tree → has row_serial x.row.serial (alone (after_tree (Attach parent before x) tree)) ≡ true
 attached-there next parent before x tree can =
     let s = x.row.serial in
     let tests = clear (edit_faults (Attach parent before x) tree) can.fits in
@@ -149,7 +149,7 @@ attached-there next parent before x tree can =
     has-there row_serial s m (omega (arith, count, put, own))
 
 pub put-there : (state : State) (e : NodeEdit) → HoldsNow state → node_edit_fault e state.side.page ≡ None → (serial : ℕ) → node_put e state.side.page ≡ Some serial
-    → has row_serial serial (nodes_in (plan_step (node_edit_plan e state.side.page) state).state) ≡ true
+    → has row_serial serial (page_nodes (plan_step (node_edit_plan e state.side.page) state).state) ≡ true
 put-there state (One e) is fits serial put = let no : ◌≡◌ {A = Option ℕ} None (Some serial) = put in absurd cc
 put-there state (MoveNode moved parent before) is fits serial put =
     let page = state.side.page in

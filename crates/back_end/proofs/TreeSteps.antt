@@ -6,7 +6,7 @@ use Rattle.std.proofs.lemmas.List.{length-map}
 use Rattle.std_alloc.proofs.string.Cased.{lowered as utf8-lowered}
 use Rattle.cdp_json.specs.Kinds.{is_counted}
 use Rattle.node_tree.specs.Nodes.{Branch, alone, branch_count}
-use Rattle.page_tree.specs.Pages.{Row, State as PageValue, IsValid}
+use Rattle.page_tree.specs.Pages.{PageRow, PageValue, IsValid}
 use Rattle.page_tree.specs.Edits.{after, form_at}
 use Rattle.page_tree.specs.EditFaults.{CanApplyAll, IsReady, copy_faults, copy_fault}
 use Rattle.page_tree.specs.declared.edits.TreeEdit.{TreeEdit}
@@ -15,7 +15,7 @@ use Rattle.page_tree.specs.declared.edit_faults.EditFault.{EditFault}
 use Rattle.page_tree.proofs.EditLemmas.{valid-after, clear}
 use Rattle.page_tree.proofs.InsertLemmas.{next-stays, copy-leads}
 use Rattle.page_tree.proofs.MoveLemmas.{move-leads}
-use Rattle.node_binding.specs.Sessions.{Session, ids_in}
+use Rattle.node_binding.specs.Sessions.{Session, session_ids}
 use Rattle.cdp_messages.specs.declared.command.Why.{Why}
 use Rattle.cdp_messages.specs.declared.command.Why.TheVariants.{UnknownNode}
 use Rattle.cdp_messages.specs.declared.down.ReplyBody.TheVariants.{Nothing, NodeId}
@@ -33,7 +33,7 @@ use Rattle.undo_marks.specs.Saved.{Saved}
 use Rattle.undo_marks.specs.SavedEdits.{saved_of, page_after}
 use Rattle.undo_marks.specs.declared.inverse_lists.Inverse.{Inverse}
 use Rattle.undo_marks.specs.declared.inverse_lists.Inverse.TheVariants.{Tree}
-use Rattle.back_end.specs.States.{State, nodes_in, book_in, view_of, HoldsNow, saved_now, TakesWell, IsState}
+use Rattle.back_end.specs.States.{State, page_nodes, book_in, view_of, HoldsNow, saved_now, TakesWell, IsState}
 use Rattle.back_end.specs.Plans.{Plan, node_edit_fault, node_edit_plan, node_put}
 use Rattle.back_end.specs.Steps.{Step, with_page, edit_step, edit_steps, push_step, followed_by, id_now, serial_now, of_node, put_node, before_by, lowered, edit_named, put_answer, plan_step, planned_by_client, unless_fault, node_edit_step, tree_edit_step}
 use Rattle.back_end.specs.Texts.{EditHasTexts, HasTreeTexts, IsPlainEdit}
@@ -75,7 +75,7 @@ all-events (e ∷ es) state =
 
 -- what is known of an edit whose nodes are known: its texts, and that the method may be answered so
 abbrev pub IsNamed : List ℕ → NodeEdit → Type 0
-IsNamed method (One e) = EditHasTexts e × ((next : ℕ) (tree : Branch Row) → IsReady next e tree) × MayAnswer method (replied 0 Nothing)
+IsNamed method (One e) = EditHasTexts e × ((next : ℕ) (tree : Branch PageRow) → IsReady next e tree) × MayAnswer method (replied 0 Nothing)
 IsNamed method (MoveNode node parent before) = (id : ℕ) → MayAnswer method (replied 0 (NodeId id))
 IsNamed method (CopyNode node parent before) = (id : ℕ) → MayAnswer method (replied 0 (NodeId id))
 
@@ -163,7 +163,7 @@ room-is : (a b : ℕ) → nat_le (a + b) 100000 ≡ true → b ≤ 100000
 room-is a b h = let low : a + b ≤ 100000 = leb-true (a + b) 100000 h in omega (arith, low)
 
 -- the nodes of a copy are few
-pub copy-few : (serial parent before : ℕ) (tree : Branch Row) → copy_fault serial parent before tree ≡ None → branch_count (form_at serial tree) ≤ 100000
+pub copy-few : (serial parent before : ℕ) (tree : Branch PageRow) → copy_fault serial parent before tree ≡ None → branch_count (form_at serial tree) ≤ 100000
 copy-few serial parent before tree h =
     let tests = clear (copy_faults serial parent before tree) h in
     room-is (branch_count tree) (branch_count (form_at serial tree)) (negated _ tests.1.1.1.1.0)
@@ -275,14 +275,14 @@ answer-well id (Some serial) before done room begun small well =
     let shown : Well before (followed_by done (push_step serial)) 100002 100000 0 = then-well well pushed in
     let low : HasNumbers (push_step serial done.state).state = numbers-after room (omega arith) shown in
     let w : Session = (push_step serial done.state).state.client.session in
-    let below : ids_in w serial ≤ length w.pushed = ids-below (nodes_in (push_step serial done.state).state) w serial shown.now.session in
+    let below : session_ids w serial ≤ length w.pushed = ids-below (page_nodes (push_step serial done.state).state) w serial shown.now.session in
     more (omega arith) (omega arith) (omega arith)
-    (then-well shown (stays-with (replied id (NodeId (ids_in w serial))) (push_step serial done.state).state shown.now low (
+    (then-well shown (stays-with (replied id (NodeId (session_ids w serial))) (push_step serial done.state).state shown.now low (
       refl,
       record {
         id_fits = small;
         plain = refl;
-        fits = and_from (is_small (ids_in w serial)) true (lt-ltb (ids_in w serial) (2 ^ 53) (omega (arith, below, low.ids))) refl;
+        fits = and_from (is_small (session_ids w serial)) true (lt-ltb (session_ids w serial) (2 ^ 53) (omega (arith, below, low.ids))) refl;
         texts = tt;
         levels = omega arith;
       },

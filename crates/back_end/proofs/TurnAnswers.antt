@@ -3,7 +3,7 @@ use Rattle.std.proofs.Common.{◌≡◌, ℕ, Bool, true, false, cond, List, [],
 use Rattle.std.specs.Prelude.{⊤}
 use Rattle.std.specs.List.{flat_map}
 use Rattle.node_tree.specs.Nodes.{alone}
-use Rattle.page_tree.specs.Pages.{State as PageValue, parent_at}
+use Rattle.page_tree.specs.Pages.{PageValue, parent_at}
 use Rattle.page_tree.specs.declared.edits.TreeEdit.{TreeEdit}
 use Rattle.page_tree.specs.declared.edits.TreeEdit.TheVariants.{SetAttr, DropAttr, SetText, Attach, Detach}
 use Rattle.page_forms.specs.declared.acts.Act.{Act}
@@ -18,7 +18,7 @@ use Rattle.dom_breakpoints.specs.declared.pauses.Pause.{Pause}
 use Rattle.dom_breakpoints.specs.Pauses.{pause_of}
 use Rattle.back_end.specs.declared.faults.ActFault.{ActFault}
 use Rattle.back_end.specs.Sheets.{SheetChange, leaves, comes}
-use Rattle.back_end.specs.States.{Side, State, nodes_in, book_in}
+use Rattle.back_end.specs.States.{Side, State, page_nodes, book_in}
 use Rattle.back_end.specs.Plans.{Deed, edits, restyles, act_fault, act_plan}
 use Rattle.back_end.specs.Steps.{edit_step, push_step, push_steps, met_step, followed_by, pause_step, script_step, script_steps, with_page, sheet_move, sheet_step, sheet_steps, moves_gone, moves_come, deed_step, planned_step, act_step, load_step, Turn, acts, loads, turn_step}
 use Rattle.back_end.specs.Laws.{reply_ids, MayAnswerAll, TellTextOf}
@@ -132,7 +132,7 @@ openings-events [] = tt
 openings-events (x ∷ xs) = (tt, openings-events xs)
 
 push-events : (serial : ℕ) (state : State) → AreEvents (push_step serial state).moves
-push-events serial state = openings-events (pushed (session_keeper (nodes_in state)) state.side.page.tree serial state.client.session).shown
+push-events serial state = openings-events (pushed (session_keeper (page_nodes state)) state.side.page.tree serial state.client.session).shown
 
 pushes-events : (serial : Option ℕ) (state : State) → AreEvents (push_steps serial state).moves
 pushes-events None state = tt

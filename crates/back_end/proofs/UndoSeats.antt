@@ -3,7 +3,7 @@ use Rattle.std.proofs.Common.{◌≡◌, ◌≤◌, ℕ, ◌+◌, ◌^◌, ◌<�
 use Rattle.std.proofs.Math.Logic.{∥∥₁_map}
 use Rattle.std.proofs.lemmas.List.{length-reverse}
 use Rattle.std.proofs.lemmas.List.Concat.{flat_map-append}
-use Rattle.page_tree.specs.Pages.{State as PageValue}
+use Rattle.page_tree.specs.Pages.{PageValue}
 use Rattle.page_tree.specs.Edits.{after, back_tree}
 use Rattle.page_tree.specs.EditFaults.{CanApply}
 use Rattle.page_tree.specs.declared.edits.TreeEdit.{TreeEdit}
@@ -20,7 +20,7 @@ use Rattle.cdp_messages.specs.Moves.{Move, rewritten, frames_of_moves, move_text
 use Rattle.css_agent.specs.Told.{event_messages, message_frames}
 use Rattle.css_agent.specs.Edits.{text_under}
 use Rattle.undo_marks.specs.Marks.{Marks, entry_count, handed_out, marked, past_popped, future_popped, past_pushed, future_pushed, undone, redone}
-use Rattle.undo_marks.specs.Changes.{Change as Entry, after_all, back_all, AllTaken}
+use Rattle.undo_marks.specs.Changes.{HistoryEntry as Entry, after_all, back_all, AllTaken}
 use Rattle.undo_marks.specs.Saved.{Saved}
 use Rattle.undo_marks.specs.SavedEdits.{saved_sheet, saved_of, page_after, way_back, TakesSheet}
 use Rattle.undo_marks.specs.declared.inverse_lists.Inverse.{Inverse}
@@ -31,7 +31,7 @@ use Rattle.back_end.specs.declared.side.PageSide.{PageSide}
 use Rattle.back_end.specs.Sheets.{NumberedBook}
 use Rattle.back_end.specs.States.{State, book_in, TakesWell, saved_now, Keeps}
 use Rattle.back_end.specs.Servers.{Server, ends_group, undoes, redoes}
-use Rattle.back_end.specs.Steps.{Step, telling, idle, refusing, answering, with_marks, kept_step, kept_steps, splice_step, undo_edits, redo_edits, taken_step, needs_on, needs_css, server_step, command_step}
+use Rattle.back_end.specs.Steps.{Step, telling_first, idle, refusing, answering, with_marks, kept_step, kept_steps, splice_step, undo_edits, redo_edits, taken_step, needs_on, needs_css, server_step, command_step}
 use Rattle.back_end.specs.Seats.{DeskStandsFor, BothStandFor}
 use Rattle.back_end.proofs.HistoryLemmas.{keeps-marked, undo-hands, redo-hands, undo-hands-none, redo-hands-none}
 use Rattle.back_end.proofs.SpliceSteps.{restyled}
@@ -53,7 +53,7 @@ pub record Reached (all rest : List Inverse) (d : Desk) (s : PageSide) (old out 
   pub told : List Move
   pub stands : DeskStandsFor d s mid
   pub taken : AllTaken page_after (TakesWell s.page.next) rest (saved_at s)
-  pub whole : kept_steps all state ≡ telling told (kept_steps rest mid)
+  pub whole : kept_steps all state ≡ telling_first told (kept_steps rest mid)
   pub sent : out ≡ old ++ frames_of_moves told
 
 -- the page at the desk takes these edits, one after the other

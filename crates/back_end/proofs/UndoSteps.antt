@@ -17,7 +17,7 @@ use Rattle.cdp_messages.specs.declared.command.Why.TheVariants.{Crossed}
 use Rattle.cdp_messages.specs.Views.{ShownSheet}
 use Rattle.cdp_messages.specs.Moves.{replied}
 use Rattle.undo_marks.specs.Marks.{Marks, handed_out, marked, taken_back, done_again, undone, redone}
-use Rattle.undo_marks.specs.Changes.{Change as Entry, after_all, AllTaken, page_undone, page_redone}
+use Rattle.undo_marks.specs.Changes.{HistoryEntry as Entry, after_all, AllTaken, page_undone, page_redone}
 use Rattle.undo_marks.specs.Saved.{SavedSheet, Saved}
 use Rattle.undo_marks.specs.SavedEdits.{saved_sheet, sheet_at, page_after, TakesSheet, MeetsNoFault}
 use Rattle.undo_marks.specs.declared.inverse_lists.Inverse.{Inverse}

@@ -5,7 +5,7 @@ use Rattle.node_binding.specs.Bindings.{Stands}
 use Rattle.cdp_messages.specs.declared.command.Why.TheVariants.{UnknownNode}
 use Rattle.cdp_messages.specs.Moves.{frames_of_moves}
 use Rattle.dom_breakpoints.specs.Watched.{Watched}
-use Rattle.back_end.specs.States.{State, nodes_in}
+use Rattle.back_end.specs.States.{State, page_nodes}
 use Rattle.back_end.specs.Servers.{Server}
 use Rattle.back_end.specs.Steps.{Step, refusing, serial_now, watch_step, server_step, command_step, needs_css}
 use Rattle.back_end.specs.declared.desk.Desk.{Desk}
@@ -46,5 +46,5 @@ module _ (d : Desk) (s : PageSide) (state : State) (id : ℕ) (server : Server) 
         on_is = on_is ∙ stands.on_is;
         css_is = css_is ∙ stands.css_is;
         watches_are = watches_is ∙ ap (change serial) stands.watches_are;
-        stands = subst (λ a. Stands (nodes_in state) state.client.session a) (sym agent_is) stands.stands;
+        stands = subst (λ a. Stands (page_nodes state) state.client.session a) (sym agent_is) stands.stands;
       })

@@ -8,9 +8,9 @@ use Rattle.cdp_json.specs.Kinds.{is_counted}
 use Rattle.node_tree.specs.Nodes.{Nodes}
 use Rattle.node_tree.specs.Keys.{has}
 use Rattle.node_tree.proofs.KeyLemmas.{has-there}
-use Rattle.page_tree.specs.Pages.{Row, row_serial}
+use Rattle.page_tree.specs.Pages.{PageRow, row_serial}
 use Rattle.node_binding.specs.Counts.{times}
-use Rattle.node_binding.specs.Sessions.{Session, ids_in, known_by}
+use Rattle.node_binding.specs.Sessions.{Session, session_ids, known_by}
 use Rattle.node_binding.proofs.Known.{known-tally}
 use Rattle.node_binding.proofs.PairLemmas.{find-there}
 use Rattle.cdp_messages.specs.declared.down.ReplyBody.TheVariants.{Nothing}
@@ -18,7 +18,7 @@ use Rattle.cdp_messages.specs.Moves.{replied, CanBeTold, ends, goes}
 use Rattle.dom_breakpoints.specs.declared.pauses.WatchKind.{WatchKind}
 use Rattle.dom_breakpoints.specs.declared.pauses.WatchKind.TheVariants.{Subtree, Attribute, Removed}
 use Rattle.dom_breakpoints.specs.Watched.{Serials, Watched, is_watched, with_watch, without_watch}
-use Rattle.back_end.specs.States.{State, nodes_in, view_of, HoldsNow}
+use Rattle.back_end.specs.States.{State, page_nodes, view_of, HoldsNow}
 use Rattle.back_end.specs.Steps.{with_client, serial_now, watch_step}
 use Rattle.back_end.proofs.PushSteps.{not-begun, begun-known}
 use Rattle.back_end.proofs.WellSteps.{Well, HasNumbers, told-view}
@@ -66,15 +66,15 @@ without-adds Removed Removed node s w h = inr (removed w.removed node s h)
 -- ---- known nodes
 
 -- a known node is one of the page
-there-by : (o : Option (ℕ → Bool)) (n : Nodes Row) (p : ℕ → Bool) (s : ℕ) → 0 < times s (known_by o n) → has row_serial s n ≡ true
+there-by : (o : Option (ℕ → Bool)) (n : Nodes PageRow) (p : ℕ → Bool) (s : ℕ) → 0 < times s (known_by o n) → has row_serial s n ≡ true
 there-by None n p s h = absurd (omega (arith, h))
 there-by (Some o) n p s h = has-there row_serial s n (omega (arith, h, known-tally o s n))
 
-pub known-there : (state : State) (id serial : ℕ) → serial_now state id ≡ Some serial → has row_serial serial (nodes_in state) ≡ true
+pub known-there : (state : State) (id serial : ℕ) → serial_now state id ≡ Some serial → has row_serial serial (page_nodes state) ≡ true
 known-there state id serial h =
     let w : Session = state.client.session in
-    let p = λ (s : ℕ). ids_in w s == id in
-    there-by w.opened (nodes_in state) p serial (find-there p (known_by w.opened (nodes_in state)) serial h).0
+    let p = λ (s : ℕ). session_ids w s == id in
+    there-by w.opened (page_nodes state) p serial (find-there p (known_by w.opened (page_nodes state)) serial h).0
 
 -- ---- the step
 
@@ -92,7 +92,7 @@ watches-are change state id serial adds h is = record {
   off = is.off;
   css_off = is.css_off;
   watched = λ kind s e.
-      ⊎_elim (λ same. subst (λ (k : ℕ). has row_serial k (nodes_in state) ≡ true) (sym same) (known-there state id serial h)) (λ was. is.watched kind s was)
+      ⊎_elim (λ same. subst (λ (k : ℕ). has row_serial k (page_nodes state) ≡ true) (sym same) (known-there state id serial h)) (λ was. is.watched kind s was)
       (adds kind serial s state.client.watched e);
   none_watched = λ e. not-begun state.client.session (begun-known state.client.session state id serial h) e;
 }

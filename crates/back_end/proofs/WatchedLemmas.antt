@@ -7,7 +7,7 @@ use Rattle.node_tree.specs.Nodes.{Nodes, Branch, alone}
 use Rattle.node_tree.specs.Keys.{has, tally, tally_in}
 use Rattle.node_tree.specs.Labels.{Label}
 use Rattle.node_tree.proofs.KeyLemmas.{tally-at, has-there}
-use Rattle.page_tree.specs.Pages.{Row, row_serial, IsValid, node_at, parent_at}
+use Rattle.page_tree.specs.Pages.{PageRow, row_serial, IsValid, node_at, parent_at}
 use Rattle.page_tree.specs.Edits.{after, relabelled, with_attribute, without_attribute, with_value, with_child, without_child, changed_at, children_at}
 use Rattle.page_tree.specs.EditFaults.{is_live, CanApply, edit_faults}
 use Rattle.page_tree.specs.declared.edits.TreeEdit.{TreeEdit}
@@ -20,25 +20,25 @@ use Rattle.dom_agent.proofs.SetLemmas.{there_once}
 use Rattle.dom_breakpoints.specs.declared.pauses.WatchKind.{WatchKind}
 use Rattle.dom_breakpoints.specs.declared.pauses.WatchKind.TheVariants as watch
 use Rattle.dom_breakpoints.specs.Watched.{Serials, unwatched, is_watched, is_within, outside, without_subtree}
-use Rattle.back_end.specs.States.{State, nodes_in, AreAmong}
+use Rattle.back_end.specs.States.{State, page_nodes, AreAmong}
 use Rattle.back_end.specs.Steps.{watched_after}
 
 -- ---- how many nodes have a serial after an edit
 
 -- another label changes none
-relabelled-tally : (serial : ℕ) (f : Label → Label) (tree : Branch Row) → is_live serial tree ≡ true → (s : ℕ)
+relabelled-tally : (serial : ℕ) (f : Label → Label) (tree : Branch PageRow) → is_live serial tree ≡ true → (s : ℕ)
     → tally row_serial s (alone (changed_at serial (relabelled f) tree)) ≡ tally row_serial s (alone tree)
 relabelled-tally serial f tree live s =
     let e = changed serial (relabelled f) tree live in
     omega (arith, tally-at row_serial s e.1)
 
-attached-tally : (parent before : ℕ) (x tree : Branch Row) → is_live parent tree ≡ true → (s : ℕ)
+attached-tally : (parent before : ℕ) (x tree : Branch PageRow) → is_live parent tree ≡ true → (s : ℕ)
     → tally row_serial s (alone (changed_at parent (with_child before x) tree)) ≡ tally row_serial s (alone tree) + tally_in row_serial s x
 attached-tally parent before x tree live s =
     let e = changed parent (with_child before x) tree live in
     omega (arith, tally-at row_serial s e.1, tally-inserted s (inserted-before before x (children_at parent tree)))
 
-detached-tally : (serial : ℕ) (tree : Branch Row) → is_live serial tree ≡ true → Parted serial tree → (s : ℕ)
+detached-tally : (serial : ℕ) (tree : Branch PageRow) → is_live serial tree ≡ true → Parted serial tree → (s : ℕ)
     → tally row_serial s (alone (changed_at (parent_at serial tree) (without_child serial) tree)) + tally_in row_serial s (node_at serial tree) ≡ tally row_serial s (alone tree)
 detached-tally serial tree live part s =
     let e = changed (parent_at serial tree) (without_child serial) tree part.live in
@@ -53,10 +53,10 @@ none-set watch.Attribute serial h = let no : false ≡ true = sym (set.contains-
 none-set watch.Removed serial h = let no : false ≡ true = sym (set.contains-empty nat_cmp serial) ∙ h in absurd cc
 
 -- a node that no fewer nodes have the serial of is still there
-still : (s : ℕ) (n m : Nodes Row) → tally row_serial s n ≤ tally row_serial s m → has row_serial s n ≡ true → has row_serial s m ≡ true
+still : (s : ℕ) (n m : Nodes PageRow) → tally row_serial s n ≤ tally row_serial s m → has row_serial s n ≡ true → has row_serial s m ≡ true
 still s n m grows there = has-there row_serial s m (omega (arith, grows, there_once s n there))
 
-outside-set : (root : ℕ) (tree : Branch Row) (serials : Serials) (s : ℕ) → set.contains (outside root tree serials) s ≡ (set.contains serials s && not (is_within s root tree))
+outside-set : (root : ℕ) (tree : Branch PageRow) (serials : Serials) (s : ℕ) → set.contains (outside root tree serials) s ≡ (set.contains serials s && not (is_within s root tree))
 outside-set root tree serials s =
     set.contains-retain serials (λ serial. not (is_within serial root tree)) s (λ x e. ap (λ k. not (is_within k root tree)) (sym (set.nat_cmp-IsAntisymmetric s x e)))
 
@@ -68,14 +68,14 @@ left-watch watch.Attribute root state s h = sym (outside-set root state.side.pag
 left-watch watch.Removed root state s h = sym (outside-set root state.side.page.tree state.client.watched.removed s) ∙ h
 
 -- a node that is not among these
-absent : (s : ℕ) (n : Nodes Row) → has row_serial s n ≡ false → tally row_serial s n ≡ 0
+absent : (s : ℕ) (n : Nodes PageRow) → has row_serial s n ≡ false → tally row_serial s n ≡ 0
 absent s n h = elim (tally row_serial s n) as (λ m. tally row_serial s n ≡ m → tally row_serial s n ≡ 0) [
   | zero ↦ λ e. e
   | suc m ↦ λ e. absurd (let no : false ≡ true = sym h ∙ has-there row_serial s n (omega (arith, e)) in cc)
 ] refl
 
 pub among-after : (e : TreeEdit) (state : State) → IsValid state.side.page → CanApply state.side.page.next e state.side.page.tree
-    → AreAmong state.client.watched (nodes_in state) → AreAmong (watched_after e state) (alone (after e state.side.page).tree)
+    → AreAmong state.client.watched (page_nodes state) → AreAmong (watched_after e state) (alone (after e state.side.page).tree)
 among-after (SetAttr serial name value) state valid can is kind s h =
     let tree = state.side.page.tree in
     let e = relabelled-tally serial (with_attribute name value) tree (not-false _ (clear (edit_faults (SetAttr serial name value) tree) can.fits).0) s in

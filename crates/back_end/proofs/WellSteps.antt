@@ -6,15 +6,15 @@ use Rattle.node_binding.proofs.StartLemmas.{count-alone}
 use Rattle.cdp_messages.specs.Views.{ShownSheet}
 use Rattle.cdp_messages.specs.declared.down.ReplyBody.TheVariants.{Nothing}
 use Rattle.cdp_messages.specs.Moves.{Move as Told, replied, CanBeTold, Moves, Course, ends, goes}
-use Rattle.dom_agent.specs.Laws.{CanTell, CanTellSheets, view_of as seen_by}
+use Rattle.dom_agent.specs.Laws.{CanTell, CanTellSheets, session_view as seen_by}
 use Rattle.dom_agent.proofs.StepLemmas.{course-join}
 use Rattle.dom_agent.proofs.TellableLemmas.{can_say}
 use Rattle.back_end.specs.Sheets.{AreSheetsBelow}
 use Rattle.undo_marks.specs.Marks.{Marks}
-use Rattle.undo_marks.specs.Changes.{Change as Entry}
+use Rattle.undo_marks.specs.Changes.{HistoryEntry as Entry}
 use Rattle.undo_marks.specs.Saved.{Saved}
 use Rattle.undo_marks.specs.declared.inverse_lists.Inverse.{Inverse}
-use Rattle.back_end.specs.States.{State, nodes_in, sheets_shown, view_of, HoldsNow}
+use Rattle.back_end.specs.States.{State, page_nodes, sheets_shown, view_of, HoldsNow}
 use Rattle.back_end.specs.Steps.{Step, with_marks, answering}
 use Rattle.back_end.specs.Laws.{HasRoom}
 use Rattle.back_end.proofs.SheetLemmas.{can-tell-sheets, below-none}
@@ -49,7 +49,7 @@ can-sheets state is low = can-tell-sheets state.side.next_sheet (sheets_shown st
 
 pub can-tell : (state : State) → HoldsNow state → HasNumbers state → CanTell state.side.page state.client.session
 can-tell state is low =
-    let few : node_count (nodes_in state) ≤ 100000 = count-alone state.side.page is.page in
+    let few : node_count (page_nodes state) ≤ 100000 = count-alone state.side.page is.page in
     record { serials = omega (arith, low.serials); ids = omega (arith, low.ids, few); texts = is.texts }
 
 -- the page with any sheets

@@ -18,7 +18,7 @@ use Rattle.css_agent.specs.Asks.{css_ask_in}
 use Rattle.css_agent.specs.declared.edits.CssEdit.{CssEdit}
 use Rattle.css_agent.specs.declared.edits.CssEdit.TheVariants as style
 use Rattle.undo_marks.specs.Marks.{entry_count, undone, redone}
-use Rattle.undo_marks.specs.Changes.{Change as Entry, AllTaken, page_undone, page_redone}
+use Rattle.undo_marks.specs.Changes.{HistoryEntry as Entry, AllTaken, page_undone, page_redone}
 use Rattle.undo_marks.specs.SavedEdits.{page_after, MeetsNoFault}
 use Rattle.undo_marks.specs.Saved.{Saved}
 use Rattle.undo_marks.specs.declared.inverse_lists.Inverse.{Inverse}

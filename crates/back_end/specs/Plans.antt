@@ -1,6 +1,6 @@
 -- What a script's change of the page comes to: edits of the page, or changes of its sheets, or the first fault.
 use Rattle.std.specs.Prelude.{ℕ, cond, List, [], ◌∷◌, Option, Some, None, option_map}
-use Rattle.page_tree.specs.Pages.{State as PageValue}
+use Rattle.page_tree.specs.Pages.{PageValue}
 use Rattle.page_tree.specs.Edits.{drawn, form_at, insert_edits, copy_edits, move_edits}
 use Rattle.page_tree.specs.EditFaults.{first_fault, insert_fault, move_fault, copy_fault}
 use Rattle.page_tree.specs.declared.edits.TreeEdit.{TreeEdit}

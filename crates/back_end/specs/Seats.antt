@@ -2,7 +2,7 @@
 use Rattle.std.specs.Prelude.{◌≡◌, ℕ, ◌+◌, ◌<◌, ◌^◌, Bool, true, false, [], Option, Some, None, is_some, ⊤}
 use Rattle.node_tree.specs.Nodes.{Nodes, none}
 use Rattle.node_tree.specs.Keys.{has}
-use Rattle.page_tree.specs.Pages.{Row, row_serial}
+use Rattle.page_tree.specs.Pages.{PageRow, row_serial}
 use Rattle.node_binding.specs.Bindings.{Stands}
 use Rattle.dom_breakpoints.specs.declared.pauses.WatchKind.TheVariants.{Subtree, Attribute, Removed}
 use Rattle.dom_breakpoints.specs.declared.pauses.Pause.{Pause}
@@ -11,7 +11,7 @@ use Rattle.page_forms.specs.declared.pages.PageForm.{PageForm}
 use Rattle.page_forms.specs.Pages.{LoadedPage, loaded_page}
 use Rattle.undo_marks.specs.Marks.{Marks, entry_count}
 use Rattle.undo_marks.specs.declared.inverse_lists.Inverse.{Inverse}
-use Rattle.back_end.specs.States.{State, HoldsNow, Keeps, nodes_in, book_in}
+use Rattle.back_end.specs.States.{State, HoldsNow, Keeps, page_nodes, book_in}
 use Rattle.back_end.specs.declared.desk.Desk.{Desk}
 use Rattle.back_end.specs.declared.seat.Seat.{Seat}
 use Rattle.back_end.specs.declared.side.PageSide.{PageSide}
@@ -25,7 +25,7 @@ pub record DeskStandsFor (desk : Desk) (side : PageSide) (state : State) : Type 
   pub next_is : side.sheets.next ≡ state.side.next_sheet
   pub on_is : desk.is_on ≡ state.client.dom_on
   pub css_is : desk.css ≡ state.client.css_on
-  pub stands : Stands (nodes_in state) state.client.session desk.agent
+  pub stands : Stands (page_nodes state) state.client.session desk.agent
   pub watches_are : desk.watches ≡ state.client.watched
 
 -- the same with a history, which keeps the edits of the state's
@@ -61,7 +61,7 @@ pub record HasRoomLeft (seat : Seat) (side : PageSide) : Type 0 where
 -- A node can become known: something is opened, and the node is one of the page.
 pub record CanPush (serial : ℕ) (state : State) : Type 0 where
   pub begun : is_some state.client.session.opened ≡ true
-  pub there : has row_serial serial (nodes_in state) ≡ true
+  pub there : has row_serial serial (page_nodes state) ≡ true
 
 -- where there is one
 abbrev pub CanPushAny : Option ℕ → State → Type 0
@@ -81,7 +81,7 @@ abbrev pub subtree_watch_pause : ℕ → ℕ → Bool → Pause
 subtree_watch_pause node target insertion = record { kind = Subtree; node = node; target = Some target; insertion = insertion }
 
 -- A pause by a watch of the edited node itself, or by a subtree watch, of which the target is a node of the page
-pub data IsPause (w : Watched) (n : Nodes Row) : Pause → Type 0 where
+pub data IsPause (w : Watched) (n : Nodes PageRow) : Pause → Type 0 where
   by_attribute : (s : ℕ) → is_watched Attribute w s ≡ true → IsPause w n (attribute_pause s)
   by_removal : (s : ℕ) → is_watched Removed w s ≡ true → IsPause w n (removal_pause s)
   by_subtree : (s target : ℕ) (insertion : Bool) → is_watched Subtree w s ≡ true → has row_serial target n ≡ true

@@ -2,17 +2,17 @@
 use Rattle.std.specs.Prelude.{◌≡◌, ℕ, ◌+◌, Bool, true, false, cond, List, [], length, None}
 use Rattle.node_tree.specs.Nodes.{Nodes, alone}
 use Rattle.node_tree.specs.Keys.{has}
-use Rattle.page_tree.specs.Pages.{Row, row_serial, State as PageValue, IsValid, loaded}
+use Rattle.page_tree.specs.Pages.{PageRow, row_serial, PageValue, IsValid, loaded}
 use Rattle.node_binding.specs.Sessions.{Session, IsSession, begun}
 use Rattle.cdp_messages.specs.Views.{ShownSheet, View}
 use Rattle.dom_breakpoints.specs.declared.pauses.WatchKind.{WatchKind}
 use Rattle.dom_breakpoints.specs.Watched.{Watched, unwatched, is_watched}
 use Rattle.undo_marks.specs.Marks.{Marks, no_marks}
-use Rattle.undo_marks.specs.Changes.{Change as Entry, KeptFor, IsHistory}
+use Rattle.undo_marks.specs.Changes.{HistoryEntry as Entry, KeptFor, IsHistory}
 use Rattle.undo_marks.specs.Saved.{Saved}
 use Rattle.undo_marks.specs.SavedEdits.{saved_of, page_after, way_back, TakesEdit}
 use Rattle.undo_marks.specs.declared.inverse_lists.Inverse.{Inverse}
-use Rattle.dom_agent.specs.Laws.{RowsHaveUtf8, view_of as seen_by}
+use Rattle.dom_agent.specs.Laws.{RowsHaveUtf8, session_view as seen_by}
 use Rattle.page_forms.specs.Pages.{LoadedPage}
 use Rattle.sheet_reader.specs.declared.book.SheetEntry.{SheetEntry}
 use Rattle.back_end.specs.Sheets.{as_book, numbered_sheets, AreSheetsBelow}
@@ -42,8 +42,8 @@ pub record State : Type 0 where
   pub client : Client
 
 -- the page's nodes, the document first
-abbrev pub nodes_in : State → Nodes Row
-nodes_in state = alone state.side.page.tree
+abbrev pub page_nodes : State → Nodes PageRow
+page_nodes state = alone state.side.page.tree
 
 -- the page's sheets as a book
 abbrev pub book_in : State → List SheetEntry
@@ -76,7 +76,7 @@ loaded_state page = record { side = loaded_side 1 1 page; client = new_client }
 -- ---- valid states
 
 -- each watched node is one of these
-abbrev pub AreAmong : Watched → Nodes Row → Type 0
+abbrev pub AreAmong : Watched → Nodes PageRow → Type 0
 AreAmong w n = (kind : WatchKind) (serial : ℕ) → is_watched kind w serial ≡ true → has row_serial serial n ≡ true
 
 -- What holds of a state at each moment, in the midst of a command too: the page is valid and its texts are UTF-8, and so are its
@@ -84,12 +84,12 @@ AreAmong w n = (kind : WatchKind) (serial : ℕ) → is_watched kind w serial �
 -- and where nothing is known none is watched.
 pub record HoldsNow (state : State) : Type 0 where
   pub page : IsValid state.side.page
-  pub texts : RowsHaveUtf8 (nodes_in state)
+  pub texts : RowsHaveUtf8 (page_nodes state)
   pub sheets : AreSheetsBelow state.side.next_sheet state.side.sheets
-  pub session : IsSession (nodes_in state) state.client.session
+  pub session : IsSession (page_nodes state) state.client.session
   pub off : state.client.dom_on ≡ false → state.client.session.opened ≡ None
   pub css_off : state.client.dom_on ≡ false → state.client.css_on ≡ false
-  pub watched : AreAmong state.client.watched (nodes_in state)
+  pub watched : AreAmong state.client.watched (page_nodes state)
   pub none_watched : state.client.session.opened ≡ None → state.client.watched ≡ unwatched
 
 -- ---- the history of a client's edits

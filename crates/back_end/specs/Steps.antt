@@ -4,7 +4,7 @@ use Rattle.std.specs.Prelude.{ℕ, ◌+◌, Bool, true, false, not, ◌&&◌, �
 use Rattle.std.specs.Char.{to_ascii_lowercase}
 use Rattle.node_tree.specs.Nodes.{Branch}
 use Rattle.node_tree.specs.Labels.{is_element}
-use Rattle.page_tree.specs.Pages.{Row, State as PageValue}
+use Rattle.page_tree.specs.Pages.{PageRow, PageValue}
 use Rattle.page_tree.specs.Edits.{after}
 use Rattle.page_tree.specs.EditFaults.{first_fault}
 use Rattle.page_tree.specs.declared.edit_faults.EditFault.{EditFault}
@@ -12,7 +12,7 @@ use Rattle.page_tree.specs.declared.edits.TreeEdit.{TreeEdit}
 use Rattle.page_tree.specs.declared.edits.TreeEdit.TheVariants.{SetAttr, DropAttr, SetText, Attach, Detach}
 use Rattle.page_forms.specs.declared.acts.Act.{Act}
 use Rattle.page_forms.specs.Pages.{LoadedPage}
-use Rattle.node_binding.specs.Sessions.{Session, ids_in, serial_at, reset}
+use Rattle.node_binding.specs.Sessions.{Session, session_ids, serial_at, reset}
 use Rattle.cdp_messages.specs.declared.command.Why.{Why}
 use Rattle.cdp_messages.specs.declared.command.Why.TheVariants.{NoMethod, DomOff, CssOff, UnknownNode, NotElement, NoSheet, Crossed}
 use Rattle.cdp_messages.specs.declared.command.Asked.{Asked}
@@ -47,7 +47,7 @@ use Rattle.dom_breakpoints.specs.declared.pauses.Pause.{Pause}
 use Rattle.dom_breakpoints.specs.Pauses.{pause_of}
 use Rattle.dom_breakpoints.specs.Watched.{Watched, unwatched, with_watch, without_watch, without_subtree}
 use Rattle.undo_marks.specs.Marks.{Marks, no_marks, newest, edited, marked, crossed_over, undone, redone}
-use Rattle.undo_marks.specs.Changes.{Change as Entry, changes_on, backs_of}
+use Rattle.undo_marks.specs.Changes.{HistoryEntry as Entry, changes_on, backs_of}
 use Rattle.undo_marks.specs.Saved.{Saved}
 use Rattle.undo_marks.specs.SavedEdits.{page_after, way_back}
 use Rattle.undo_marks.specs.declared.inverse_lists.Inverse.{Inverse}
@@ -58,7 +58,7 @@ use Rattle.back_end.specs.declared.dom_edits.DomEdit.TheVariants as tree
 use Rattle.back_end.specs.declared.dom_edits.NodeEdit.{NodeEdit}
 use Rattle.back_end.specs.declared.dom_edits.NodeEdit.TheVariants.{One, MoveNode, CopyNode}
 use Rattle.back_end.specs.Sheets.{shown_sheet, SheetChange, leaves, comes}
-use Rattle.back_end.specs.States.{Side, Client, State, nodes_in, book_in, loaded_side, saved_now}
+use Rattle.back_end.specs.States.{Side, Client, State, page_nodes, book_in, loaded_side, saved_now}
 use Rattle.back_end.specs.Plans.{Plan, node_edit_fault, node_edit_plan, node_put, Deed, edits, restyles, one_edit, edit_fault, act_fault, act_plan}
 use Rattle.back_end.specs.OwnMethods.{edit_why, sheet_why, load_asked, act_judged, act_asked}
 use Rattle.back_end.specs.Servers.{Server, enables, disables, css_enables, css_disables, agent, css_agent, edits_tree, edits_sheets, ends_group, undoes, redoes, watches, unwatches, page_load, page_act, nobody, server_of}
@@ -69,8 +69,8 @@ pub record Step : Type 0 where
   pub moves : List Move
 
 -- a step that tells something first
-abbrev pub telling : List Move → Step → Step
-telling before later = record { state = later.state; moves = before ++ later.moves }
+abbrev pub telling_first : List Move → Step → Step
+telling_first before later = record { state = later.state; moves = before ++ later.moves }
 
 -- a step that changes nothing, and tells a refusal
 abbrev pub refusing : Option ℕ → Why → State → Step
@@ -97,7 +97,7 @@ answering id done = replying id Nothing done
 -- a node and all above it become known: each ancestor that is not opened yet is opened, from the top down
 abbrev pub push_step : ℕ → State → Step
 push_step serial state =
-    let p = pushed (session_keeper (nodes_in state)) state.side.page.tree serial state.client.session in
+    let p = pushed (session_keeper (page_nodes state)) state.side.page.tree serial state.client.session in
     record { state = with_client (record state.client { session = p.state }) state; moves = opening_moves p.shown }
 
 -- where there is one
@@ -107,16 +107,16 @@ push_steps (Some serial) state = push_step serial state
 
 -- the id of a known node
 abbrev pub id_now : State → ℕ → ℕ
-id_now state serial = ids_in state.client.session serial
+id_now state serial = session_ids state.client.session serial
 
 -- the serial of the known node with that id
 abbrev pub serial_now : State → ℕ → Option ℕ
-serial_now state id = serial_at state.client.session (nodes_in state) id
+serial_now state id = serial_at state.client.session (page_nodes state) id
 
 -- ---- edits of the page
 
 -- the watches that are left after an edit of that tree: those of a tree that goes are dropped
-abbrev pub watches_left : TreeEdit → Branch Row → Watched → Watched
+abbrev pub watches_left : TreeEdit → Branch PageRow → Watched → Watched
 watches_left (SetAttr node name value) tree w = w
 watches_left (DropAttr node name) tree w = w
 watches_left (SetText node value) tree w = w
@@ -155,7 +155,7 @@ edit_step e state = record {
 -- a client's edits, one after the other
 abbrev pub edit_steps : List TreeEdit → State → Step
 edit_steps [] state = idle state
-edit_steps (e ∷ es) state = let first = edit_step e state in telling first.moves (edit_steps es first.state)
+edit_steps (e ∷ es) state = let first = edit_step e state in telling_first first.moves (edit_steps es first.state)
 
 -- ---- pauses
 
@@ -171,7 +171,7 @@ met_step p state = record { state = state; moves = met (pause_data p.kind p (id_
 
 -- the step by another one, and then by this one
 abbrev pub followed_by : Step → (State → Step) → Step
-followed_by first later = telling first.moves (later first.state)
+followed_by first later = telling_first first.moves (later first.state)
 
 -- a pause: the watched node becomes known, then the target, and then it is told
 abbrev pub pause_step : Option Pause → State → Step
@@ -221,7 +221,7 @@ sheet_step change state = record {
 -- changes, one after the other
 abbrev pub sheet_steps : List SheetChange → State → Step
 sheet_steps [] state = record { state = state; moves = [] }
-sheet_steps (c ∷ cs) state = let first = sheet_step c state in telling first.moves (sheet_steps cs first.state)
+sheet_steps (c ∷ cs) state = let first = sheet_step c state in telling_first first.moves (sheet_steps cs first.state)
 
 -- ---- edits of sheets' texts
 
@@ -439,7 +439,7 @@ agent_step id ask state =
 -- ---- the commands of the domain CSS
 
 -- the serial of a node that is to be an element, or why there is none
-abbrev pub element_serial : Option (Branch Row) → Result ℕ Why
+abbrev pub element_serial : Option (Branch PageRow) → Result ℕ Why
 element_serial None = Err UnknownNode
 element_serial (Some b) = cond (is_element b.row.label.kind) (Ok b.row.serial) (Err NotElement)
 
@@ -447,7 +447,7 @@ element_serial (Some b) = cond (is_element b.row.label.kind) (Ok b.row.serial) (
 abbrev pub element_named : ℕ → State → Result ℕ Why
 element_named node state =
     let w = state.client.session in
-    let n = nodes_in state in
+    let n = page_nodes state in
     element_serial (known_node (session_keeper n) state.side.page.tree w (serial_at w n node))
 
 -- the move that answers an ask of the node that was named, or the refusal
@@ -490,14 +490,14 @@ of_node edit None = Err UnknownNode
 of_node edit (Some node) = Ok (edit node)
 
 -- an edit that puts a node before a known one
-abbrev pub put_before : (ℕ → ℕ → ℕ → NodeEdit) → ℕ → ℕ → Option ℕ → Result NodeEdit Why
-put_before edit node parent None = Err UnknownNode
-put_before edit node parent (Some before) = Ok (edit node parent before)
+abbrev pub put_before_known : (ℕ → ℕ → ℕ → NodeEdit) → ℕ → ℕ → Option ℕ → Result NodeEdit Why
+put_before_known edit node parent None = Err UnknownNode
+put_before_known edit node parent (Some before) = Ok (edit node parent before)
 
 -- below a known one
 abbrev pub put_below : (ℕ → ℕ → ℕ → NodeEdit) → ℕ → Option ℕ → Option ℕ → Result NodeEdit Why
 put_below edit node None before = Err UnknownNode
-put_below edit node (Some parent) before = put_before edit node parent before
+put_below edit node (Some parent) before = put_before_known edit node parent before
 
 -- and is known itself
 abbrev pub put_node : (ℕ → ℕ → ℕ → NodeEdit) → Option ℕ → Option ℕ → Option ℕ → Result NodeEdit Why

@@ -2,7 +2,7 @@
 use Rattle.std.specs.Prelude.{ℕ, ⊤}
 use Rattle.std.specs.Str.{IsUtf8}
 use Rattle.node_tree.specs.Nodes.{Branch, alone}
-use Rattle.page_tree.specs.Pages.{Row}
+use Rattle.page_tree.specs.Pages.{PageRow}
 use Rattle.page_tree.specs.EditFaults.{IsReady}
 use Rattle.page_tree.specs.declared.edits.TreeEdit.{TreeEdit}
 use Rattle.page_tree.specs.declared.edits.TreeEdit.TheVariants.{SetAttr, DropAttr, SetText, Attach, Detach}
@@ -39,6 +39,6 @@ HasTreeTexts (dom.CopyTo node target before) = ⊤
 
 -- An edit with nodes by their serials: one alone attaches no tree of its own, and its texts are UTF-8.
 abbrev pub IsPlainEdit : NodeEdit → Type 0
-IsPlainEdit (One edit) = EditHasTexts edit × ((next : ℕ) (tree : Branch Row) → IsReady next edit tree)
+IsPlainEdit (One edit) = EditHasTexts edit × ((next : ℕ) (tree : Branch PageRow) → IsReady next edit tree)
 IsPlainEdit (MoveNode node parent before) = ⊤
 IsPlainEdit (CopyNode node parent before) = ⊤

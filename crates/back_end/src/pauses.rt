@@ -3,7 +3,7 @@ ghost use Rattle.std.specs.Prelude.{◌≡◌, ◌<◌, ◌+◌, ◌^◌, ◌++�
 ghost use Rattle.page_tree.specs.EditFaults.{CanApply};
 ghost use Rattle.page_tree.specs.Edits.{after, back_tree};
 ghost use Rattle.cdp_messages.specs.Moves.{met, frames_of_moves};
-ghost use Rattle.back_end.specs.States.{State, nodes_in};
+ghost use Rattle.back_end.specs.States.{State, page_nodes};
 ghost use Rattle.back_end.specs.Steps.{id_now, pause_before, pause_step, push_step, script_step};
 ghost use Rattle.back_end.specs.Texts.{EditHasTexts};
 ghost use Rattle.back_end.specs.Seats.{CanPush, IsPause, attribute_pause, removal_pause, subtree_watch_pause, DeskStandsFor};
@@ -122,9 +122,9 @@ impl Desk {
     ) -> Result<(), AllocError>
         requires ids { self.old.agent.next < 2 ^ 51 }
         ensures few { OnOk result (self.new.agent.next < max (2 ^ 50 + 2 ^ 40) (self.old.agent.next + 1)) }
-        ensures stands { (state : State) → DeskStandsFor self.old side.now state → IsPause state.client.watched (nodes_in state) pause
+        ensures stands { (state : State) → DeskStandsFor self.old side.now state → IsPause state.client.watched (page_nodes state) pause
             → OnOk result (DeskStandsFor self.new side.now (pause_step (Some pause) state).state) }
-        ensures sent { (state : State) → DeskStandsFor self.old side.now state → IsPause state.client.watched (nodes_in state) pause
+        ensures sent { (state : State) → DeskStandsFor self.old side.now state → IsPause state.client.watched (page_nodes state) pause
             → OnOk result (out.new.items ≡ out.old.items ++ frames_of_moves (pause_step (Some pause) state).moves) }
     {
         match (pause.kind, pause.target) {

@@ -14,7 +14,7 @@ use Rattle.sheet_reader.specs.Forms.{RuleForm, rule_seen}
 use Rattle.cascade_match.specs.declared.keys.Key.{Key}
 use Rattle.cascade_match.specs.declared.hits.Hit.{Hit}
 use Rattle.cascade_match.specs.Precedence.{key_cmp, greater}
-use Rattle.cascade_match.specs.Matched.{places_from, Source, source_of, entry_of, entries_of_rules, entries_of_sheets, put_all}
+use Rattle.cascade_match.specs.Matched.{places_from, Source, source_of, keyed_rule, entries_of_rules, entries_of_sheets, all_entered}
 use Rattle.std.specs.BTreeMap.{insert_entry}
 
 drop-suc : {A : Type 0} (xs : List A) (i : ℕ) (x : A) → slice_get xs i ≡ Some x → drop i xs ≡ x ∷ drop (suc i) xs
@@ -52,7 +52,7 @@ module _ (ss : List SelectorForm) (z : Zipper) (i : ℕ) (s : SelectorForm) (at 
       ∙ kept_weight (selector_matches s z) best rest
       ∙ sym (ap (λ (l : List SelectorForm). fold (λ best s. greater best (specificity_of s)) best (filter (λ s. selector_matches s z) l)) (drop-at ss i s at))
 
-pub put_all-append : (es xs ys : List (Key × Hit)) → put_all es (xs ++ ys) ≡ put_all (put_all es xs) ys
+pub put_all-append : (es xs ys : List (Key × Hit)) → all_entered es (xs ++ ys) ≡ all_entered (all_entered es xs) ys
 put_all-append es [] ys = refl
 put_all-append es (x ∷ xs) ys = put_all-append (insert_entry key_cmp es x.0 x.1) xs ys
 
@@ -62,15 +62,15 @@ rules-at xs rs i x seen inside is =
     ap (λ (l : List RuleForm). drop i l) (sym seen) ∙ drop-map rule_seen i xs ∙ ap (λ (l : List StyleRule). map rule_seen l) (drop_more xs i x inside) ∙ ap (λ (y : StyleRule). rule_seen y ∷ map rule_seen (drop (i + 1) xs)) (sym is)
     ∙ ap (λ (l : List RuleForm). rule_seen x ∷ l) (sym (drop-map rule_seen (i + 1) xs) ∙ ap (λ (l : List RuleForm). drop (i + 1) l) seen)
 
-pub rules-step : (from : Source) (rs : List RuleForm) (z : Zipper) (i : ℕ) (r : RuleForm) (old new : List (Key × Hit)) → drop i rs ≡ r ∷ drop (i + 1) rs → new ≡ put_all old (option_to_list (entry_of from i r z))
-    → put_all new (entries_of_rules from (i + 1) (drop (i + 1) rs) z) ≡ put_all old (entries_of_rules from i (drop i rs) z)
+pub rules-step : (from : Source) (rs : List RuleForm) (z : Zipper) (i : ℕ) (r : RuleForm) (old new : List (Key × Hit)) → drop i rs ≡ r ∷ drop (i + 1) rs → new ≡ all_entered old (option_to_list (keyed_rule from i r z))
+    → all_entered new (entries_of_rules from (i + 1) (drop (i + 1) rs) z) ≡ all_entered old (entries_of_rules from i (drop i rs) z)
 rules-step from rs z i r old new at e =
     let rest = entries_of_rules from (i + 1) (drop (i + 1) rs) z in
-    ap (λ (l : List (Key × Hit)). put_all l rest) e ∙ sym (put_all-append old (option_to_list (entry_of from i r z)) rest) ∙ sym (ap (λ (l : List RuleForm). put_all old (entries_of_rules from i l z)) at)
+    ap (λ (l : List (Key × Hit)). all_entered l rest) e ∙ sym (put_all-append old (option_to_list (keyed_rule from i r z)) rest) ∙ sym (ap (λ (l : List RuleForm). all_entered old (entries_of_rules from i l z)) at)
 
-pub sheets-step : (book : List SheetEntry) (z : Zipper) (i : ℕ) (s : SheetEntry) (old new : List (Key × Hit)) → slice_get book i ≡ Some s → new ≡ put_all old (entries_of_rules (source_of i s) 0 s.reading.rules z)
-    → put_all new (entries_of_sheets (i + 1) (drop (i + 1) book) z) ≡ put_all old (entries_of_sheets i (drop i book) z)
+pub sheets-step : (book : List SheetEntry) (z : Zipper) (i : ℕ) (s : SheetEntry) (old new : List (Key × Hit)) → slice_get book i ≡ Some s → new ≡ all_entered old (entries_of_rules (source_of i s) 0 s.reading.rules z)
+    → all_entered new (entries_of_sheets (i + 1) (drop (i + 1) book) z) ≡ all_entered old (entries_of_sheets i (drop i book) z)
 sheets-step book z i s old new at e =
     let rest = entries_of_sheets (i + 1) (drop (i + 1) book) z in
-    ap (λ (l : List (Key × Hit)). put_all l rest) e ∙ sym (put_all-append old (entries_of_rules (source_of i s) 0 s.reading.rules z) rest)
-    ∙ sym (ap (λ (l : List SheetEntry). put_all old (entries_of_sheets i l z)) (drop-at book i s at))
+    ap (λ (l : List (Key × Hit)). all_entered l rest) e ∙ sym (put_all-append old (entries_of_rules (source_of i s) 0 s.reading.rules z) rest)
+    ∙ sym (ap (λ (l : List SheetEntry). all_entered old (entries_of_sheets i l z)) (drop-at book i s at))

@@ -14,7 +14,7 @@ use Rattle.sheet_reader.specs.declared.book.SheetEntry.{SheetEntry}
 use Rattle.cascade_match.specs.declared.keys.Key.{Key}
 use Rattle.cascade_match.specs.declared.hits.Hit.{Hit}
 use Rattle.cascade_match.specs.Precedence.{key_cmp}
-use Rattle.cascade_match.specs.Matched.{put_all, entries_of_sheets, matched_entries}
+use Rattle.cascade_match.specs.Matched.{all_entered, entries_of_sheets, matched_entries}
 
 key_total : IsTotalOrder key_cmp
 key_total =
@@ -51,7 +51,7 @@ unfolding IsStrictlySortedBy
 sorted-insert [] k v s = (s, s)
 sorted-insert (e ∷ es) k v s = sorted_by e es (insert_entry key_cmp es k v) k v s (all-insert (λ y. key_cmp e.0 y ≡ Less) es k v s.0) (sorted-insert es k v s.1) (key_cmp k e.0) refl
 
-sorted-put_all : (sorted es : List (Key × Hit)) → IsStrictlySortedBy key_cmp (keys_of sorted) → IsStrictlySortedBy key_cmp (keys_of (put_all sorted es))
+sorted-put_all : (sorted es : List (Key × Hit)) → IsStrictlySortedBy key_cmp (keys_of sorted) → IsStrictlySortedBy key_cmp (keys_of (all_entered sorted es))
 sorted-put_all sorted [] s = s
 sorted-put_all sorted (e ∷ es) s = sorted-put_all (insert_entry key_cmp sorted e.0 e.1) es (sorted-insert sorted e.0 e.1 s)
 

@@ -18,7 +18,7 @@ use Rattle.sheet_reader.specs.Forms.{RuleForm}
 use Rattle.cascade_match.specs.declared.keys.Key.{Key}
 use Rattle.cascade_match.specs.declared.hits.Hit.{Hit}
 use Rattle.cascade_match.specs.Precedence.{key_of, key_cmp}
-use Rattle.cascade_match.specs.Matched.{places_from, places_matching, greatest, Source, source_of, entry_by, entry_of, entries_of_rules, entries_of_sheets, put_all, matched_entries}
+use Rattle.cascade_match.specs.Matched.{places_from, places_matching, greatest, Source, source_of, entry_by, keyed_rule, entries_of_rules, entries_of_sheets, all_entered, matched_entries}
 use Rattle.cascade_match.specs.Standing.{PlacedRule, Applies, standing}
 
 -- ---- places of selectors
@@ -84,10 +84,10 @@ has_made from rule weight (p ∷ ps) e at = refl
 
 -- a rule that some selector matches has an entry
 pub entry-made : (place rule : ℕ) (s : SheetEntry) (r : RuleForm) (z : Zipper) → list_matches r.selectors z ≡ true
-    → entry_of (source_of place s) rule r z ≡ Some (standing (record { sheet = place; entry = s; rule = rule; form = r }) z)
+    → keyed_rule (source_of place s) rule r z ≡ Some (standing (record { sheet = place; entry = s; rule = rule; form = r }) z)
 entry-made place rule s r z e = made (source_of place s) rule (greatest r.selectors z) (places_matching r.selectors z) (sym (some_place 0 r.selectors z) ∙ e)
 
-entry_matches : (from : Source) (rule : ℕ) (r : RuleForm) (z : Zipper) (e : Key × Hit) → entry_of from rule r z ≡ Some e → list_matches r.selectors z ≡ true
+entry_matches : (from : Source) (rule : ℕ) (r : RuleForm) (z : Zipper) (e : Key × Hit) → keyed_rule from rule r z ≡ Some e → list_matches r.selectors z ≡ true
 entry_matches from rule r z e at = some_place 0 r.selectors z ∙ has_made from rule (greatest r.selectors z) (places_matching r.selectors z) e at
 
 same_some : {A : Type 0} (x y : A) → Some x ≡ Some y → x ≡ y
@@ -109,33 +109,33 @@ pub record RuleFrom (from : Source) (i : ℕ) (rs : List RuleForm) (z : Zipper) 
   pub offset : ℕ
   pub form : RuleForm
   pub there : slice_get rs offset ≡ Some form
-  pub entry : entry_of from (i + offset) form z ≡ Some e
+  pub entry : keyed_rule from (i + offset) form z ≡ Some e
 
 further_rule : (from : Source) (i : ℕ) (r : RuleForm) (rs : List RuleForm) (z : Zipper) (e : Key × Hit) → RuleFrom from (i + 1) rs z e → RuleFrom from i (r ∷ rs) z e
 further_rule from i r rs z e h =
     let at : i + 1 + h.offset ≡ i + suc h.offset = omega arith in
-    record { offset = suc h.offset; form = h.form; there = h.there; entry = sym (ap (λ (n : ℕ). entry_of from n h.form z) at) ∙ h.entry }
+    record { offset = suc h.offset; form = h.form; there = h.there; entry = sym (ap (λ (n : ℕ). keyed_rule from n h.form z) at) ∙ h.entry }
 
-first_rule : (from : Source) (i : ℕ) (r : RuleForm) (rs : List RuleForm) (z : Zipper) (e : Key × Hit) → IsIn e (option_to_list (entry_of from i r z)) → RuleFrom from i (r ∷ rs) z e
+first_rule : (from : Source) (i : ℕ) (r : RuleForm) (rs : List RuleForm) (z : Zipper) (e : Key × Hit) → IsIn e (option_to_list (keyed_rule from i r z)) → RuleFrom from i (r ∷ rs) z e
 first_rule from i r rs z e j =
     let first : i ≡ i + 0 = omega arith in
-    record { offset = 0; form = r; there = refl; entry = sym (ap (λ (n : ℕ). entry_of from n r z) first) ∙ in_option (entry_of from i r z) e j }
+    record { offset = 0; form = r; there = refl; entry = sym (ap (λ (n : ℕ). keyed_rule from n r z) first) ∙ in_option (keyed_rule from i r z) e j }
 
 rules-from : (from : Source) (i : ℕ) (rs : List RuleForm) (z : Zipper) (e : Key × Hit) → IsIn e (entries_of_rules from i rs z) → RuleFrom from i rs z e
 rules-from from i [] z e there = elim there [ ]
 rules-from from i (r ∷ rs) z e there =
-    elim (IsIn-append (option_to_list (entry_of from i r z)) (entries_of_rules from (i + 1) rs z) there) [
+    elim (IsIn-append (option_to_list (keyed_rule from i r z)) (entries_of_rules from (i + 1) rs z) there) [
       | inl j ↦ first_rule from i r rs z e j
       | inr j ↦ further_rule from i r rs z e (rules-from from (i + 1) rs z e j)
     ]
 
-rules-of : (from : Source) (i k n : ℕ) (rs : List RuleForm) (z : Zipper) (r : RuleForm) (e : Key × Hit) → n ≡ i + k → slice_get rs k ≡ Some r → entry_of from n r z ≡ Some e → IsIn e (entries_of_rules from i rs z)
+rules-of : (from : Source) (i k n : ℕ) (rs : List RuleForm) (z : Zipper) (r : RuleForm) (e : Key × Hit) → n ≡ i + k → slice_get rs k ≡ Some r → keyed_rule from n r z ≡ Some e → IsIn e (entries_of_rules from i rs z)
 rules-of from i k n [] z r e is at made = absurd (cc)
 rules-of from i zero n (x ∷ rs) z r e is at made =
     let same : x ≡ r = cc in
     let here : i ≡ n = omega arith in
-    IsIn-append_left _ (option_in (entry_of from i x z) e (ap (λ (m : ℕ). entry_of from m x z) here ∙ ap (λ (t : RuleForm). entry_of from n t z) same ∙ made))
-rules-of from i (suc k) n (x ∷ rs) z r e is at made = IsIn-append_right (option_to_list (entry_of from i x z)) (rules-of from (i + 1) k n rs z r e (omega arith) at made)
+    IsIn-append_left _ (option_in (keyed_rule from i x z) e (ap (λ (m : ℕ). keyed_rule from m x z) here ∙ ap (λ (t : RuleForm). keyed_rule from n t z) same ∙ made))
+rules-of from i (suc k) n (x ∷ rs) z r e is at made = IsIn-append_right (option_to_list (keyed_rule from i x z)) (rules-of from (i + 1) k n rs z r e (omega arith) at made)
 
 pub record SheetFrom (i : ℕ) (book : List SheetEntry) (z : Zipper) (e : Key × Hit) : Type 0 where
   pub offset : ℕ
@@ -182,7 +182,7 @@ stands-from book z e there =
     let sheet : 0 + s.offset ≡ s.offset = omega arith in
     let rule : 0 + r.offset ≡ r.offset = omega arith in
     let matches = entry_matches (source_of (0 + s.offset) s.entry) (0 + r.offset) r.form z e r.entry in
-    let entry = sym (ap (λ (n : ℕ). entry_of (source_of n s.entry) (0 + r.offset) r.form z) sheet ∙ ap (λ (n : ℕ). entry_of (source_of s.offset s.entry) n r.form z) rule) ∙ r.entry in
+    let entry = sym (ap (λ (n : ℕ). keyed_rule (source_of n s.entry) (0 + r.offset) r.form z) sheet ∙ ap (λ (n : ℕ). keyed_rule (source_of s.offset s.entry) n r.form z) rule) ∙ r.entry in
     record {
       placed = record { sheet = s.offset; entry = s.entry; rule = r.offset; form = r.form };
       applies = record { sheet = s.there; rule = r.there; matches = matches };
@@ -263,7 +263,7 @@ put_before : (x e : Key × Hit) (sorted es : List (Key × Hit)) → IsIn x (e �
 put_before x e sorted es (at_head _) = inr (at_head es)
 put_before x e sorted es (in_tail _ _ j) = inl j
 
-pub all-from : (sorted es : List (Key × Hit)) (x : Key × Hit) → IsIn x (put_all sorted es) → IsIn x sorted ⊎ IsIn x es
+pub all-from : (sorted es : List (Key × Hit)) (x : Key × Hit) → IsIn x (all_entered sorted es) → IsIn x sorted ⊎ IsIn x es
 all-from sorted [] x there = inl there
 all-from sorted (e ∷ es) x there =
     elim (all-from (insert_entry key_cmp sorted e.0 e.1) es x there) [
@@ -275,11 +275,11 @@ all-from sorted (e ∷ es) x there =
 abbrev pub ApartFrom : (Key × Hit) → List (Key × Hit) → Type 0
 ApartFrom x es = (y : Key × Hit) → IsIn y es → x.0 ≡ y.0 → x ≡ y
 
-pub all-keeps : (sorted es : List (Key × Hit)) (x : Key × Hit) → ApartFrom x es → IsIn x sorted → IsIn x (put_all sorted es)
+pub all-keeps : (sorted es : List (Key × Hit)) (x : Key × Hit) → ApartFrom x es → IsIn x sorted → IsIn x (all_entered sorted es)
 all-keeps sorted [] x apart there = there
 all-keeps sorted (e ∷ es) x apart there = all-keeps (insert_entry key_cmp sorted e.0 e.1) es x (λ y j. apart y (in_tail e _ j)) (put-keeps e.0 e.1 sorted x there (λ same. apart e (at_head es) same))
 
-pub all-of : (sorted es : List (Key × Hit)) (x : Key × Hit) → ApartFrom x es → IsIn x es → IsIn x (put_all sorted es)
+pub all-of : (sorted es : List (Key × Hit)) (x : Key × Hit) → ApartFrom x es → IsIn x es → IsIn x (all_entered sorted es)
 all-of sorted [] x apart there = elim there [ ]
 all-of sorted (e ∷ es) x apart (at_head _) = all-keeps (insert_entry key_cmp sorted e.0 e.1) es e (λ y j. apart y (in_tail e _ j)) (put-in e.0 e.1 sorted)
 all-of sorted (e ∷ es) x apart (in_tail _ _ j) = all-of (insert_entry key_cmp sorted e.0 e.1) es x (λ y i. apart y (in_tail e _ i)) j

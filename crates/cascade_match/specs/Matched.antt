@@ -46,13 +46,13 @@ entry_by from rule weight [] = None
 entry_by from rule weight (p ∷ ps) = Some (key_of from.origin weight from.place rule, record { sheet = from.id; rule = rule; matching = p ∷ ps })
 
 -- the rule at a place of a sheet with its key, if some selector of it matches
-abbrev pub entry_of : Source → ℕ → RuleForm → Zipper → Option (Key × Hit)
-entry_of from rule r z = entry_by from rule (greatest r.selectors z) (places_matching r.selectors z)
+abbrev pub keyed_rule : Source → ℕ → RuleForm → Zipper → Option (Key × Hit)
+keyed_rule from rule r z = entry_by from rule (greatest r.selectors z) (places_matching r.selectors z)
 
 -- those of the rules from a place of a sheet on
 abbrev pub entries_of_rules : Source → ℕ → List RuleForm → Zipper → List (Key × Hit)
 entries_of_rules from i [] z = []
-entries_of_rules from i (r ∷ rs) z = option_to_list (entry_of from i r z) ++ entries_of_rules from (i + 1) rs z
+entries_of_rules from i (r ∷ rs) z = option_to_list (keyed_rule from i r z) ++ entries_of_rules from (i + 1) rs z
 
 -- those of the sheets from a place of a book on
 abbrev pub entries_of_sheets : ℕ → List SheetEntry → Zipper → List (Key × Hit)
@@ -60,13 +60,13 @@ entries_of_sheets place [] z = []
 entries_of_sheets place (e ∷ es) z = entries_of_rules (source_of place e) 0 e.reading.rules z ++ entries_of_sheets (place + 1) es z
 
 -- the entries, each put in its place among those before it
-abbrev pub put_all : List (Key × Hit) → List (Key × Hit) → List (Key × Hit)
-put_all sorted [] = sorted
-put_all sorted (e ∷ es) = put_all (insert_entry key_cmp sorted e.0 e.1) es
+abbrev pub all_entered : List (Key × Hit) → List (Key × Hit) → List (Key × Hit)
+all_entered sorted [] = sorted
+all_entered sorted (e ∷ es) = all_entered (insert_entry key_cmp sorted e.0 e.1) es
 
 -- all pairs of a sheet and a rule of which some selector matches, in ascending order of their keys
 abbrev pub matched_entries : List SheetEntry → Zipper → List (Key × Hit)
-matched_entries book z = put_all [] (entries_of_sheets 0 book z)
+matched_entries book z = all_entered [] (entries_of_sheets 0 book z)
 
 -- the rules that match a node, in ascending order of their keys
 abbrev pub matched_of : List SheetEntry → Zipper → List Hit

@@ -7,7 +7,7 @@ ghost use Rattle.selectors.specs.Lists.{list_seen};
 ghost use Rattle.select_match.specs.Matches.{selector_matches};
 ghost use Rattle.sheet_reader.specs.Forms.{rule_seen};
 ghost use Rattle.cascade_match.specs.Precedence.{key_cmp, greater};
-ghost use Rattle.cascade_match.specs.Matched.{places_matching, greatest, source_of, entry_of, entries_of_rules, put_all, matched_of};
+ghost use Rattle.cascade_match.specs.Matched.{places_matching, greatest, source_of, keyed_rule, entries_of_rules, all_entered, matched_of};
 
 use crate::hits::Hit;
 use crate::keys::{Key, greater, key_of};
@@ -68,7 +68,7 @@ fn add_rules(
     found: &mut BTreeMap<Key, Hit>,
 ) -> Result<(), AllocError>
     ensures entries { OnOk result (found.new.entries
-        ≡ put_all found.old.entries (entries_of_rules (source_of place entry.now) 0 entry.now.reading.rules subject.old)) }
+        ≡ all_entered found.old.entries (entries_of_rules (source_of place entry.now) 0 entry.now.reading.rules subject.old)) }
     ensures same { subject.new ≡ subject.old }
 {
     let rules = entry.reading.rules.as_slice();
@@ -88,7 +88,7 @@ fn add_rule(
     found: &mut BTreeMap<Key, Hit>,
 ) -> Result<(), AllocError>
     ensures entries { OnOk result (found.new.entries
-        ≡ put_all found.old.entries (option_to_list (entry_of (source_of place entry.now) i (rule_seen rule.now) subject.old))) }
+        ≡ all_entered found.old.entries (option_to_list (keyed_rule (source_of place entry.now) i (rule_seen rule.now) subject.old))) }
     ensures same { subject.new ≡ subject.old }
 {
     let matching = matching_places(alloc, &rule.selectors, subject)?;
@@ -110,7 +110,7 @@ fn add_rule(
 }
 
 fn add_hit(key: Key, hit: Hit, found: &mut BTreeMap<Key, Hit>) -> Result<(), AllocError>
-    ensures { OnOk result (found.new.entries ≡ put_all found.old.entries ((key, hit) ∷ [])) }
+    ensures { OnOk result (found.new.entries ≡ all_entered found.old.entries ((key, hit) ∷ [])) }
 {
     match found.insert(key, hit) {
         Ok(_) => Ok(()),

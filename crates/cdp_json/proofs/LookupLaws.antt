@@ -11,7 +11,7 @@ use Rattle.cdp_json.specs.Plain.{starts_after, is_plain, members_are_plain}
 use Rattle.node_tree.specs.Labels.{is_before}
 use Rattle.cdp_json.specs.Kinds.{Kind, passes, holds_of_some, any_object}
 use Rattle.cdp_json.specs.Fields.{field_from, field_if}
-use Rattle.cdp_json.specs.Lookups.{then_ok, optional, required, Lookups, no_lookups, with_later, look_for, may_look_for, value_of, object_with, is_none_of}
+use Rattle.cdp_json.specs.Lookups.{then_ok, optional, required, Lookups, no_lookups, with_later, look_for, may_look_for, ok_value, object_with, is_none_of}
 use Rattle.cdp_json.specs.Faithful.{FaithfulKind, FaithfulLookups}
 use Rattle.cdp_json.proofs.Options.{both, both_parts, and_then_some}
 
@@ -143,15 +143,15 @@ may_look_for_faithful {E} {A} {B} {k} {later} name e tight law laws apart = reco
       may_absent k later name e laws other x.0 x.1 p.0 p.1;
 }
 
-value_of_some : {A E : Type 0} (r : Result A E) (x : A) → value_of r ≡ Some x → r ≡ Ok x
+value_of_some : {A E : Type 0} (r : Result A E) (x : A) → ok_value r ≡ Some x → r ≡ Ok x
 value_of_some (Ok y) x e = let same : y ≡ x = cc in ap (λ z. Ok z) same
 value_of_some (Err why) x e = absurd cc
 
 pub object_with_faithful : {E T : Type 0} {l : Lookups E T} → FaithfulLookups l → FaithfulKind (object_with l)
 object_with_faithful {E} {T} {l} law = record {
   fit = λ d x e.
-      let p = and_then_some (λ ms. value_of (l.gets ms)) (any_object.reads d) x e in
+      let p = and_then_some (λ ms. ok_value (l.gets ms)) (any_object.reads d) x e in
       law.fit p.0 x (value_of_some (l.gets p.0) x p.2);
-  again = λ x f. ap value_of (law.again x f);
+  again = λ x f. ap ok_value (law.again x f);
   plain = λ x f loose. law.plain x f;
 }

@@ -9,7 +9,7 @@ use Rattle.serde_json.specs.Data.{Data, object, Members, no_members, member}
 use Rattle.cdp_json.specs.Plain.{starts_after, is_plain, members_are_plain}
 use Rattle.node_tree.specs.Labels.{is_before}
 use Rattle.cdp_json.specs.Kinds.{Kind, passes, holds_of_some, only_true, any_object}
-use Rattle.cdp_json.specs.Rows.{Row, beside, first_at, after_first, need, some_beside, may_from, may, is_there, may_true, is_done, maybe_member, members_of, unit_if, ends, and_then, both_loose, and_need, and_may, and_true, object_of}
+use Rattle.cdp_json.specs.Rows.{Row, left_with, first_at, after_first, need, some_beside, may_from, may, is_there, may_true, is_done, maybe_member, members_of, unit_if, ends, and_then, both_loose, and_need, and_may, and_true, object_of}
 use Rattle.cdp_json.specs.Lawful.{LawfulKind, LawfulRow, is_before_all}
 use Rattle.cdp_json.proofs.Options.{both, both_parts, and_then_some, map_some}
 use Rattle.cdp_json.proofs.KindLaws.{same_name, any_object_takes, only_true_lawful}
@@ -44,12 +44,12 @@ first_at_again name d ms = rw (same_name name)
 
 need_takes : {T : Type 0} (reads : Data → Option T) (name : List ℕ) (ms : Members) (p : T × Members) → need reads name ms ≡ Some p → (d : Data) × (member name d p.1 ≡ ms) × (reads d ≡ Some p.0)
 need_takes reads name ms p e =
-    let q = map_some (beside (after_first ms)) (option_and_then reads (first_at name ms)) p e in
+    let q = map_some (left_with (after_first ms)) (option_and_then reads (first_at name ms)) p e in
     let r = and_then_some reads (first_at name ms) q.0 q.1 in
     (r.0, ap (member name r.0) (sym (ap (λ z. z.1) q.2)) ∙ first_at_takes name ms r.0 r.1, r.2 ∙ ap (λ z. Some z.0) q.2)
 
 pub need_again : {T : Type 0} (reads : Data → Option T) (name : List ℕ) (d : Data) (ms : Members) (x : T) → reads d ≡ Some x → need reads name (member name d ms) ≡ Some (x, ms)
-need_again reads name d ms x e = rw (same_name name) (ap (option_map (beside ms)) e)
+need_again reads name d ms x e = rw (same_name name) (ap (option_map (left_with ms)) e)
 
 pub and_need_lawful : {A B : Type 0} {k : Kind A} {row : Row B} (name : List ℕ) → LawfulKind k → LawfulRow row → is_before_all name row.names ≡ true → LawfulRow (and_need name k row)
 and_need_lawful {A} {B} {k} {row} name law later before = record {

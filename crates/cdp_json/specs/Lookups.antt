@@ -60,13 +60,13 @@ may_look_for name e k later = record {
 }
 
 -- the value, where there is one
-abbrev pub value_of : {A E : Type 0} → Result A E → Option A
-value_of (Ok x) = Some x
-value_of (Err e) = None
+abbrev pub ok_value : {A E : Type 0} → Result A E → Option A
+ok_value (Ok x) = Some x
+ok_value (Err e) = None
 
 -- an object that has these fields, beside any others; written with these alone
 abbrev pub object_with : {E T : Type 0} → Lookups E T → Kind T
-object_with l = record { spell = λ x. object (l.puts x); reads = λ d. option_and_then (λ ms. value_of (l.gets ms)) (as_object d); fits = l.fits; loose = None }
+object_with l = record { spell = λ x. object (l.puts x); reads = λ d. option_and_then (λ ms. ok_value (l.gets ms)) (as_object d); fits = l.fits; loose = None }
 
 -- the name is none of these
 abbrev pub is_none_of : List ℕ → List (List ℕ) → Bool

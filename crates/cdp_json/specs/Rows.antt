@@ -5,8 +5,8 @@ use Rattle.serde_json.specs.Find.{as_object}
 use Rattle.cdp_json.specs.Kinds.{Kind, holds_of_some, only_true}
 
 -- a value, with what is left after it
-abbrev pub beside : {A B : Type 0} → B → A → A × B
-beside b a = (a, b)
+abbrev pub left_with : {A B : Type 0} → B → A → A × B
+left_with b a = (a, b)
 
 -- the first member's value, if it has this name
 abbrev pub first_at : List ℕ → Members → Option Data
@@ -20,7 +20,7 @@ after_first (member k d ms) = ms
 
 -- the member of this name has to stand first, and its value is of the kind
 abbrev pub need : {T : Type 0} → (Data → Option T) → List ℕ → Members → Option (T × Members)
-need reads name ms = option_map (beside (after_first ms)) (option_and_then reads (first_at name ms))
+need reads name ms = option_map (left_with (after_first ms)) (option_and_then reads (first_at name ms))
 
 -- a value that is there, with what is left after it
 abbrev pub some_beside : {A B : Type 0} → B → A → Option A × B

@@ -3,7 +3,7 @@ ghost use Rattle.std.specs.Prelude.{◌≡◌, false, Some, option_map, IfNone};
 ghost use Rattle.serde_json.specs.Find.{as_bool, as_str, as_array, as_object};
 ghost use Rattle.serde_json.specs.View.{view, items_view, members_view};
 ghost use Rattle.cdp_json.specs.Kinds.{as_whole, as_signed};
-ghost use Rattle.cdp_json.specs.Rows.{beside, first_at, after_first, need, may, may_true, is_done};
+ghost use Rattle.cdp_json.specs.Rows.{left_with, first_at, after_first, need, may, may_true, is_done};
 
 use crate::values::{flag_of, list_of, object_of, signed_of, text_of, whole_of};
 use serde_json::{Map, Value};
@@ -60,7 +60,7 @@ impl<'a> Cursor<'a> {
 
     /// Takes the next member, if it has this name. Each `None` here leaves the cursor as it was.
     pub fn need(&mut self, name: &str) -> Option<&'a Value>
-        ensures value { option_map (λ v. beside (left self.new) (view v.now)) result
+        ensures value { option_map (λ v. left_with (left self.new) (view v.now)) result
             ≡ need Some name.now (left self.old) }
         ensures none { IfNone result (left self.new ≡ left self.old) }
     {
@@ -71,7 +71,7 @@ impl<'a> Cursor<'a> {
 
     /// The field of this name, which must be there, as a whole number of at least 0.
     pub fn need_whole(&mut self, name: &str) -> Option<u64>
-        ensures value { option_map (beside (left self.new)) result
+        ensures value { option_map (left_with (left self.new)) result
             ≡ need as_whole name.now (left self.old) }
         ensures none { IfNone result (left self.new ≡ left self.old) }
     {
@@ -82,7 +82,7 @@ impl<'a> Cursor<'a> {
 
     /// The field of this name, which must be there, as a whole number.
     pub fn need_signed(&mut self, name: &str) -> Option<i64>
-        ensures value { option_map (beside (left self.new)) result
+        ensures value { option_map (left_with (left self.new)) result
             ≡ need as_signed name.now (left self.old) }
         ensures none { IfNone result (left self.new ≡ left self.old) }
     {
@@ -93,7 +93,7 @@ impl<'a> Cursor<'a> {
 
     /// The field of this name, which must be there, as a string.
     pub fn need_text(&mut self, name: &str) -> Option<&'a str>
-        ensures value { option_map (λ s. beside (left self.new) s.now) result
+        ensures value { option_map (λ s. left_with (left self.new) s.now) result
             ≡ need as_str name.now (left self.old) }
         ensures none { IfNone result (left self.new ≡ left self.old) }
     {
@@ -104,7 +104,7 @@ impl<'a> Cursor<'a> {
 
     /// The field of this name, which must be there, as a boolean.
     pub fn need_flag(&mut self, name: &str) -> Option<bool>
-        ensures value { option_map (beside (left self.new)) result
+        ensures value { option_map (left_with (left self.new)) result
             ≡ need as_bool name.now (left self.old) }
         ensures none { IfNone result (left self.new ≡ left self.old) }
     {
@@ -115,7 +115,7 @@ impl<'a> Cursor<'a> {
 
     /// The field of this name, which must be there, as an array.
     pub fn need_list(&mut self, name: &str) -> Option<&'a [Value]>
-        ensures value { option_map (λ xs. beside (left self.new) (items_view xs.now)) result
+        ensures value { option_map (λ xs. left_with (left self.new) (items_view xs.now)) result
             ≡ need as_array name.now (left self.old) }
         ensures none { IfNone result (left self.new ≡ left self.old) }
     {
@@ -126,7 +126,7 @@ impl<'a> Cursor<'a> {
 
     /// The field of this name, which must be there, as an object.
     pub fn need_object(&mut self, name: &str) -> Option<&'a Map<String, Value>>
-        ensures value { option_map (λ m. beside (left self.new) (members_view m.now.entries)) result
+        ensures value { option_map (λ m. left_with (left self.new) (members_view m.now.entries)) result
             ≡ need as_object name.now (left self.old) }
         ensures none { IfNone result (left self.new ≡ left self.old) }
     {
@@ -138,7 +138,7 @@ impl<'a> Cursor<'a> {
     /// Takes the next member, if it has this name. An outer `None`, here and below, says that the
     /// member is there and of another kind.
     pub fn may(&mut self, name: &str) -> Option<&'a Value>
-        ensures { Some (beside (left self.new) (option_map (λ v. view v.now) result))
+        ensures { Some (left_with (left self.new) (option_map (λ v. view v.now) result))
             ≡ may Some name.now (left self.old) }
     {
         let value = self.here(name)?;
@@ -148,7 +148,7 @@ impl<'a> Cursor<'a> {
 
     /// The field of this name, if it is there, as a whole number of at least 0.
     pub fn may_whole(&mut self, name: &str) -> Option<Option<u64>>
-        ensures value { option_map (beside (left self.new)) result
+        ensures value { option_map (left_with (left self.new)) result
             ≡ may as_whole name.now (left self.old) }
         ensures none { IfNone result (left self.new ≡ left self.old) }
     {
@@ -162,7 +162,7 @@ impl<'a> Cursor<'a> {
 
     /// The field of this name, if it is there, as a string.
     pub fn may_text(&mut self, name: &str) -> Option<Option<&'a str>>
-        ensures value { option_map (λ o. beside (left self.new) (option_map (λ s. s.now) o)) result
+        ensures value { option_map (λ o. left_with (left self.new) (option_map (λ s. s.now) o)) result
             ≡ may as_str name.now (left self.old) }
         ensures none { IfNone result (left self.new ≡ left self.old) }
     {
@@ -176,7 +176,7 @@ impl<'a> Cursor<'a> {
 
     /// The field of this name, if it is there, as an array.
     pub fn may_list(&mut self, name: &str) -> Option<Option<&'a [Value]>>
-        ensures value { option_map (λ o. beside (left self.new) (option_map (λ xs. items_view xs.now) o)) result
+        ensures value { option_map (λ o. left_with (left self.new) (option_map (λ xs. items_view xs.now) o)) result
             ≡ may as_array name.now (left self.old) }
         ensures none { IfNone result (left self.new ≡ left self.old) }
     {
@@ -190,7 +190,7 @@ impl<'a> Cursor<'a> {
 
     /// The field of this name, if it is there, as an object.
     pub fn may_object(&mut self, name: &str) -> Option<Option<&'a Map<String, Value>>>
-        ensures value { option_map (λ o. beside (left self.new) (option_map (λ m. members_view m.now.entries) o)) result
+        ensures value { option_map (λ o. left_with (left self.new) (option_map (λ m. members_view m.now.entries) o)) result
             ≡ may as_object name.now (left self.old) }
         ensures none { IfNone result (left self.new ≡ left self.old) }
     {
@@ -204,7 +204,7 @@ impl<'a> Cursor<'a> {
 
     /// Whether the next member has this name, with `true` as its value.
     pub fn may_true(&mut self, name: &str) -> Option<bool>
-        ensures value { option_map (beside (left self.new)) result
+        ensures value { option_map (left_with (left self.new)) result
             ≡ may_true name.now (left self.old) }
         ensures none { IfNone result (left self.new ≡ left self.old) }
     {

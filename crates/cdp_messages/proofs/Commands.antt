@@ -28,10 +28,10 @@ use Rattle.cdp_messages.specs.declared.method.Method.{Method}
 use Rattle.cdp_messages.specs.declared.method.Method.TheVariants as method
 use Rattle.css_objects.specs.declared.ranges.SourceRange.{SourceRange}
 use Rattle.cdp_messages.specs.Methods.{name_of, all_methods, method_named, is_own, if_known, known_method}
-use Rattle.cdp_messages.specs.Parameters.{depth_number, place_fields, place_parts, place_from, place, edit_fields, edit_parts, edit_from, text_edit, allowed, one_there, one_of, depth_fields, children_fields, path_field, serials_field, node_field, query_fields, describe_fields, attribute_fields, name_fields, value_fields, move_fields, sheet_field, edits_field, selector_fields, sheet_text_fields, rule_fields, watch_fields, reading, command_by, Form, form, form_of}
+use Rattle.cdp_messages.specs.Parameters.{depth_number, place_fields, place_parts, place_from, range_parameter, edit_fields, edit_parts, edit_from, text_edit, allowed, one_there, one_of, depth_fields, children_fields, path_field, serials_field, node_field, query_fields, describe_fields, attribute_fields, name_fields, value_fields, move_fields, sheet_field, edits_field, set_selector_fields, sheet_text_fields, add_rule_fields, watch_fields, reads_with, command_by, Form, form, parameters_form}
 use Rattle.cdp_messages.specs.Asked.{refusal, of_method, command_for, params_of, unless_session, command_of, method_in, command_in, with_id, asked_in, asked_value, asked_by, json_of, method_of, method_name, parameters, fits_command, command_value, request}
 use Rattle.cdp_messages.specs.Laws.{AsksAreAsked, CommandsAreAsked, ParametersAreRead, ParametersArePlain, CommandsAreNamed, AsksFit}
-use Rattle.cdp_messages.specs.Answers.{Asks}
+use Rattle.cdp_messages.specs.Answers.{ReadsAsked}
 use Rattle.cdp_messages.specs.Events.{is_object, watch}
 use Rattle.cdp_messages.specs.Refusals.{param_name}
 use Rattle.cdp_messages.specs.declared.command.ReadErr.{ReadErr}
@@ -91,7 +91,7 @@ place_only s x e = ap place_parts (same_place _ x e) where
   same_place : (a b : SourceRange) → Some a ≡ Some b → b ≡ a
   same_place a b h = cc
 
-place_faithful : FaithfulKind place
+place_faithful : FaithfulKind range_parameter
 place_faithful = through_faithful place_parts place_from place_only (λ x. refl) (object_with_faithful place_fields_faithful)
 
 edit_fields_faithful : FaithfulLookups edit_fields
@@ -207,13 +207,13 @@ sheet_field_faithful = look_for_faithful _ _ refl text_faithful nothing_more ref
 edits_field_faithful : FaithfulLookups edits_field
 edits_field_faithful = look_for_faithful _ _ refl (list_faithful edit_faithful) nothing_more refl
 
-selector_fields_faithful : FaithfulLookups selector_fields
+selector_fields_faithful : FaithfulLookups set_selector_fields
 selector_fields_faithful = look_for_faithful _ _ refl text_faithful (look_for_faithful _ _ refl place_faithful (look_for_faithful _ _ refl text_faithful nothing_more refl) refl) refl
 
 sheet_text_fields_faithful : FaithfulLookups sheet_text_fields
 sheet_text_fields_faithful = look_for_faithful _ _ refl text_faithful (look_for_faithful _ _ refl text_faithful nothing_more refl) refl
 
-rule_fields_faithful : FaithfulLookups rule_fields
+rule_fields_faithful : FaithfulLookups add_rule_fields
 rule_fields_faithful = look_for_faithful _ _ refl text_faithful (look_for_faithful _ _ refl text_faithful (look_for_faithful _ _ refl place_faithful nothing_more refl) refl) refl
 
 watch_fields_faithful : FaithfulLookups watch_fields
@@ -221,7 +221,7 @@ watch_fields_faithful = look_for_faithful _ _ refl whole_faithful (look_for_fait
 
 -- ---- a command that is written is read
 
-read_again : {T : Type 0} {fields : Lookups Why T} → FaithfulLookups fields → (makes : T → Command) (x : T) → fields.fits x ≡ true → reading fields makes (fields.puts x) ≡ Ok (makes x)
+read_again : {T : Type 0} {fields : Lookups Why T} → FaithfulLookups fields → (makes : T → Command) (x : T) → fields.fits x ≡ true → reads_with fields makes (fields.puts x) ≡ Ok (makes x)
 read_again law makes x f = ap (λ r. then_ok r (λ y. Ok (makes y))) (law.again x f)
 
 -- an object that a command keeps as it is
@@ -314,7 +314,7 @@ pub record IsOf (m : Method) (c : Command) : Type 0 where
   pub method_is : method_of c ≡ m
   pub fits : fits_command c ≡ true
 
-read_fits : {T : Type 0} {fields : Lookups Why T} → FaithfulLookups fields → (m : Method) (makes : T → Command) → ((x : T) → form_of (makes x) ≡ form m fields x) → (ms : Members) (c : Command) → reading fields makes ms ≡ Ok c → IsOf m c
+read_fits : {T : Type 0} {fields : Lookups Why T} → FaithfulLookups fields → (m : Method) (makes : T → Command) → ((x : T) → parameters_form (makes x) ≡ form m fields x) → (ms : Members) (c : Command) → reads_with fields makes ms ≡ Ok c → IsOf m c
 read_fits {T} {fields} law m makes is ms c e =
     let p = then_ok_some (fields.gets ms) (λ x. Ok (makes x)) c e in
     subst (IsOf m) (same_ok (makes p.0) c p.2)
@@ -418,7 +418,7 @@ asked_value_fits own (Some d) a e = asked_in_fits own (as_object d) a e
 pub asks_fit : AsksFit
 asks_fit own bytes a e = asked_value_fits own (json_of bytes) a e
 
-pub answers_fit : (own : Bool) (o : Option Data) (r : Result Asked ReadErr) → Asks r (asked_value own o) → IfOk r (λ a. fits_command a.command ≡ true)
+pub answers_fit : (own : Bool) (o : Option Data) (r : Result Asked ReadErr) → ReadsAsked r (asked_value own o) → IfOk r (λ a. fits_command a.command ≡ true)
 answers_fit own o (Ok a) is = (asked_value_fits own o a is).1
 answers_fit own o (Err e) is = tt
 

@@ -9,7 +9,7 @@ use Rattle.serde_json.specs.Read.{max_depth}
 use Rattle.serde_json.specs.Written.{compact_text}
 use Rattle.cdp_json.specs.Plain.{is_plain, HasUtf8}
 use Rattle.cdp_json.specs.Kinds.{Kind, passes, named, is_counted, is_signed, holds_of_some}
-use Rattle.css_objects.specs.Laws.{IsSound}
+use Rattle.css_objects.specs.Laws.{IsSoundKind}
 use Rattle.cdp_json.specs.Lawful.{LawfulKind}
 use Rattle.cdp_json.specs.Rows.{unit_if}
 use Rattle.cdp_json.proofs.KindLaws.{same_name, whole_lawful, signed_lawful, text_lawful, anything_lawful, refined_lawful, list_lawful}
@@ -28,7 +28,7 @@ use Rattle.cdp_messages.specs.declared.down.ReplyBody.TheVariants.{Nothing, Root
 use Rattle.cdp_messages.specs.declared.method.Method.{Method}
 use Rattle.cdp_messages.specs.declared.result_forms.ResultForm.{ResultForm}
 use Rattle.cdp_messages.specs.declared.result_forms.ResultForm.TheVariants as form
-use Rattle.cdp_messages.specs.Refusals.{code_of, text_of}
+use Rattle.cdp_messages.specs.Refusals.{code_of, refusal_words}
 use Rattle.node_tree.specs.Labels.{Pair}
 use Rattle.cdp_messages.specs.declared.node_rules.Manner.TheVariants.{Pushed, Described}
 use Rattle.cdp_messages.specs.NodeData.{fits_tree, fits_described_tree}
@@ -279,7 +279,7 @@ one_result a b fa fb e =
 pub json_of-compact_text : (d : Data) → is_plain d ≡ true → depth d ≤ max_depth → IsUtf8 (compact_text d) → json_of (compact_text d) ≡ Some d
 json_of-compact_text d p s u = json_is (compact_text d) d u (read-compact_text d p s)
 
-sound_plain : {T : Type 0} {k : Kind T} {P : T → Type 0} {n : ℕ} → IsSound k P n → (x : T) → k.fits x ≡ true → is_plain (k.spell x) ≡ true
+sound_plain : {T : Type 0} {k : Kind T} {P : T → Type 0} {n : ℕ} → IsSoundKind k P n → (x : T) → k.fits x ≡ true → is_plain (k.spell x) ≡ true
 sound_plain {T} {k} s x f = s.lawful.plain x f (ap (λ o. passes o x) s.tight)
 
 pub body_plain : (body : ReplyBody) → fits_body body ≡ true → is_plain (body_data body) ≡ true
@@ -360,59 +360,59 @@ code_fits BadSelector = refl
 code_fits BadPlace = refl
 code_fits TooBig = refl
 
-param_utf8 : (p : Param) → IsUtf8 (text_of (BadParam p))
-param_utf8 param.BackendNodeId = IsUtf8-are_ascii (text_of (BadParam param.BackendNodeId)) refl
-param_utf8 param.BackendNodeIds = IsUtf8-are_ascii (text_of (BadParam param.BackendNodeIds)) refl
-param_utf8 param.Depth = IsUtf8-are_ascii (text_of (BadParam param.Depth)) refl
-param_utf8 param.Edits = IsUtf8-are_ascii (text_of (BadParam param.Edits)) refl
-param_utf8 param.InsertBeforeNodeId = IsUtf8-are_ascii (text_of (BadParam param.InsertBeforeNodeId)) refl
-param_utf8 param.Location = IsUtf8-are_ascii (text_of (BadParam param.Location)) refl
-param_utf8 param.Name = IsUtf8-are_ascii (text_of (BadParam param.Name)) refl
-param_utf8 param.NodeId = IsUtf8-are_ascii (text_of (BadParam param.NodeId)) refl
-param_utf8 param.Params = IsUtf8-are_ascii (text_of (BadParam param.Params)) refl
-param_utf8 param.Path = IsUtf8-are_ascii (text_of (BadParam param.Path)) refl
-param_utf8 param.Pierce = IsUtf8-are_ascii (text_of (BadParam param.Pierce)) refl
-param_utf8 param.Range = IsUtf8-are_ascii (text_of (BadParam param.Range)) refl
-param_utf8 param.RuleText = IsUtf8-are_ascii (text_of (BadParam param.RuleText)) refl
-param_utf8 param.Selector = IsUtf8-are_ascii (text_of (BadParam param.Selector)) refl
-param_utf8 param.StyleSheetId = IsUtf8-are_ascii (text_of (BadParam param.StyleSheetId)) refl
-param_utf8 param.TargetNodeId = IsUtf8-are_ascii (text_of (BadParam param.TargetNodeId)) refl
-param_utf8 param.Text = IsUtf8-are_ascii (text_of (BadParam param.Text)) refl
-param_utf8 param.Type = IsUtf8-are_ascii (text_of (BadParam param.Type)) refl
-param_utf8 param.Value = IsUtf8-are_ascii (text_of (BadParam param.Value)) refl
+param_utf8 : (p : Param) → IsUtf8 (refusal_words (BadParam p))
+param_utf8 param.BackendNodeId = IsUtf8-are_ascii (refusal_words (BadParam param.BackendNodeId)) refl
+param_utf8 param.BackendNodeIds = IsUtf8-are_ascii (refusal_words (BadParam param.BackendNodeIds)) refl
+param_utf8 param.Depth = IsUtf8-are_ascii (refusal_words (BadParam param.Depth)) refl
+param_utf8 param.Edits = IsUtf8-are_ascii (refusal_words (BadParam param.Edits)) refl
+param_utf8 param.InsertBeforeNodeId = IsUtf8-are_ascii (refusal_words (BadParam param.InsertBeforeNodeId)) refl
+param_utf8 param.Location = IsUtf8-are_ascii (refusal_words (BadParam param.Location)) refl
+param_utf8 param.Name = IsUtf8-are_ascii (refusal_words (BadParam param.Name)) refl
+param_utf8 param.NodeId = IsUtf8-are_ascii (refusal_words (BadParam param.NodeId)) refl
+param_utf8 param.Params = IsUtf8-are_ascii (refusal_words (BadParam param.Params)) refl
+param_utf8 param.Path = IsUtf8-are_ascii (refusal_words (BadParam param.Path)) refl
+param_utf8 param.Pierce = IsUtf8-are_ascii (refusal_words (BadParam param.Pierce)) refl
+param_utf8 param.Range = IsUtf8-are_ascii (refusal_words (BadParam param.Range)) refl
+param_utf8 param.RuleText = IsUtf8-are_ascii (refusal_words (BadParam param.RuleText)) refl
+param_utf8 param.Selector = IsUtf8-are_ascii (refusal_words (BadParam param.Selector)) refl
+param_utf8 param.StyleSheetId = IsUtf8-are_ascii (refusal_words (BadParam param.StyleSheetId)) refl
+param_utf8 param.TargetNodeId = IsUtf8-are_ascii (refusal_words (BadParam param.TargetNodeId)) refl
+param_utf8 param.Text = IsUtf8-are_ascii (refusal_words (BadParam param.Text)) refl
+param_utf8 param.Type = IsUtf8-are_ascii (refusal_words (BadParam param.Type)) refl
+param_utf8 param.Value = IsUtf8-are_ascii (refusal_words (BadParam param.Value)) refl
 
-why_utf8 : (why : Why) → IsUtf8 (text_of why)
-why_utf8 NotJson = IsUtf8-are_ascii (text_of NotJson) refl
-why_utf8 NoId = IsUtf8-are_ascii (text_of NoId) refl
-why_utf8 BadRequest = IsUtf8-are_ascii (text_of BadRequest) refl
-why_utf8 NoSession = IsUtf8-are_ascii (text_of NoSession) refl
-why_utf8 NoMethod = IsUtf8-are_ascii (text_of NoMethod) refl
+why_utf8 : (why : Why) → IsUtf8 (refusal_words why)
+why_utf8 NotJson = IsUtf8-are_ascii (refusal_words NotJson) refl
+why_utf8 NoId = IsUtf8-are_ascii (refusal_words NoId) refl
+why_utf8 BadRequest = IsUtf8-are_ascii (refusal_words BadRequest) refl
+why_utf8 NoSession = IsUtf8-are_ascii (refusal_words NoSession) refl
+why_utf8 NoMethod = IsUtf8-are_ascii (refusal_words NoMethod) refl
 why_utf8 (BadParam p) = param_utf8 p
-why_utf8 DomOff = IsUtf8-are_ascii (text_of DomOff) refl
-why_utf8 CssOff = IsUtf8-are_ascii (text_of CssOff) refl
-why_utf8 UnknownNode = IsUtf8-are_ascii (text_of UnknownNode) refl
-why_utf8 NotPushed = IsUtf8-are_ascii (text_of NotPushed) refl
-why_utf8 NoPath = IsUtf8-are_ascii (text_of NoPath) refl
-why_utf8 BadQuery = IsUtf8-are_ascii (text_of BadQuery) refl
-why_utf8 Crossed = IsUtf8-are_ascii (text_of Crossed) refl
-why_utf8 NoNode = IsUtf8-are_ascii (text_of NoNode) refl
-why_utf8 NotElement = IsUtf8-are_ascii (text_of NotElement) refl
-why_utf8 NotText = IsUtf8-are_ascii (text_of NotText) refl
-why_utf8 IsDocument = IsUtf8-are_ascii (text_of IsDocument) refl
-why_utf8 NotChild = IsUtf8-are_ascii (text_of NotChild) refl
-why_utf8 Inside = IsUtf8-are_ascii (text_of Inside) refl
-why_utf8 TooDeep = IsUtf8-are_ascii (text_of TooDeep) refl
-why_utf8 TooMany = IsUtf8-are_ascii (text_of TooMany) refl
-why_utf8 BadName = IsUtf8-are_ascii (text_of BadName) refl
-why_utf8 NoAttr = IsUtf8-are_ascii (text_of NoAttr) refl
-why_utf8 NotContainer = IsUtf8-are_ascii (text_of NotContainer) refl
-why_utf8 NoSheet = IsUtf8-are_ascii (text_of NoSheet) refl
-why_utf8 NotMutable = IsUtf8-are_ascii (text_of NotMutable) refl
-why_utf8 BadRange = IsUtf8-are_ascii (text_of BadRange) refl
-why_utf8 BadText = IsUtf8-are_ascii (text_of BadText) refl
-why_utf8 BadSelector = IsUtf8-are_ascii (text_of BadSelector) refl
-why_utf8 BadPlace = IsUtf8-are_ascii (text_of BadPlace) refl
-why_utf8 TooBig = IsUtf8-are_ascii (text_of TooBig) refl
+why_utf8 DomOff = IsUtf8-are_ascii (refusal_words DomOff) refl
+why_utf8 CssOff = IsUtf8-are_ascii (refusal_words CssOff) refl
+why_utf8 UnknownNode = IsUtf8-are_ascii (refusal_words UnknownNode) refl
+why_utf8 NotPushed = IsUtf8-are_ascii (refusal_words NotPushed) refl
+why_utf8 NoPath = IsUtf8-are_ascii (refusal_words NoPath) refl
+why_utf8 BadQuery = IsUtf8-are_ascii (refusal_words BadQuery) refl
+why_utf8 Crossed = IsUtf8-are_ascii (refusal_words Crossed) refl
+why_utf8 NoNode = IsUtf8-are_ascii (refusal_words NoNode) refl
+why_utf8 NotElement = IsUtf8-are_ascii (refusal_words NotElement) refl
+why_utf8 NotText = IsUtf8-are_ascii (refusal_words NotText) refl
+why_utf8 IsDocument = IsUtf8-are_ascii (refusal_words IsDocument) refl
+why_utf8 NotChild = IsUtf8-are_ascii (refusal_words NotChild) refl
+why_utf8 Inside = IsUtf8-are_ascii (refusal_words Inside) refl
+why_utf8 TooDeep = IsUtf8-are_ascii (refusal_words TooDeep) refl
+why_utf8 TooMany = IsUtf8-are_ascii (refusal_words TooMany) refl
+why_utf8 BadName = IsUtf8-are_ascii (refusal_words BadName) refl
+why_utf8 NoAttr = IsUtf8-are_ascii (refusal_words NoAttr) refl
+why_utf8 NotContainer = IsUtf8-are_ascii (refusal_words NotContainer) refl
+why_utf8 NoSheet = IsUtf8-are_ascii (refusal_words NoSheet) refl
+why_utf8 NotMutable = IsUtf8-are_ascii (refusal_words NotMutable) refl
+why_utf8 BadRange = IsUtf8-are_ascii (refusal_words BadRange) refl
+why_utf8 BadText = IsUtf8-are_ascii (refusal_words BadText) refl
+why_utf8 BadSelector = IsUtf8-are_ascii (refusal_words BadSelector) refl
+why_utf8 BadPlace = IsUtf8-are_ascii (refusal_words BadPlace) refl
+why_utf8 TooBig = IsUtf8-are_ascii (refusal_words TooBig) refl
 
 refusal_fits : (r : Refused) → holds_of_some is_counted r.id ≡ true → fits_message (refusal_message r) ≡ true
 refusal_fits r c = both (both (code_fits r.why) refl) (both c refl)
@@ -434,7 +434,7 @@ faults_are_read id code said c k u =
     messages_are_read (fault id code said) f p (fault_shallow id code said) (IsUtf8-compact_text d p (fault_utf8 id code said u))
 
 pub refusal_plain : (r : Refused) → holds_of_some is_counted r.id ≡ true → is_plain (message_data (refusal_message r)) ≡ true
-refusal_plain r c = fault_lawful.plain ((code_of r.why, (text_of r.why, tt)), (r.id, tt)) (refusal_fits r c) refl
+refusal_plain r c = fault_lawful.plain ((code_of r.why, (refusal_words r.why, tt)), (r.id, tt)) (refusal_fits r c) refl
 
 pub refusals_are_read : RefusalsAreRead
-refusals_are_read r c = faults_are_read r.id (code_of r.why) (text_of r.why) c (code_fits r.why) (why_utf8 r.why)
+refusals_are_read r c = faults_are_read r.id (code_of r.why) (refusal_words r.why) c (code_fits r.why) (why_utf8 r.why)

@@ -16,7 +16,7 @@ use Rattle.cdp_messages.specs.declared.down.PauseData.{PauseData}
 use Rattle.cdp_messages.specs.declared.down.PauseData.TheVariants as pause
 use Rattle.cdp_messages.specs.declared.event_names.EventName.{EventName}
 use Rattle.cdp_messages.specs.declared.event_names.EventName.TheVariants as name
-use Rattle.cdp_messages.specs.Events.{News, attribute_modified, attribute_removed, text_modified, count_updated, inserted, removed, set_children, document_updated, sheet_added, sheet_changed, sheet_removed, paused, event_name, all_events, event_named, is_unopened, node_id, attribute_name, modified_kind, dropped_kind, data_kind, count_kind, inserted_kind, removed_kind, children_kind, added_kind, sheet_id_kind, empty_kind, watch_name, all_watches, watch, pause_fields, pause_by, pause_from, pause_kind, paused_kind, NewsForm, news_form_of, news_form, envelope, news_data, fits_news, news_by, news_of_name, news_inside, news_in}
+use Rattle.cdp_messages.specs.Events.{News, attribute_modified, attribute_removed, text_modified, count_updated, inserted, removed, set_children, document_updated, sheet_added, sheet_changed, sheet_removed, paused, event_name, all_events, event_named, shows_no_children, node_id, attribute_name, modified_kind, dropped_kind, data_kind, count_kind, inserted_kind, removed_kind, children_kind, added_kind, sheet_id_kind, empty_kind, watch_name, all_watches, watch, pause_fields, pause_by, pause_from, pause_kind, paused_kind, NewsForm, news_form_of, news_form, envelope, news_data, fits_news, news_by, news_of_name, news_inside, news_in}
 use Rattle.css_objects.specs.Styles.{empty_list, has_none}
 use Rattle.cdp_messages.proofs.Options.{and_then_some, map_some}
 use Rattle.cdp_messages.proofs.NodeTrees.{nodes_lawful, tree_lawful}
@@ -45,7 +45,7 @@ count_lawful : LawfulKind count_kind
 count_lawful = object_lawful (and_need_lawful _ whole_lawful (and_need_lawful _ node_id_lawful ends_lawful refl) refl)
 
 inserted_lawful : LawfulKind inserted_kind
-inserted_lawful = object_lawful (and_need_lawful _ (refined_lawful is_unopened tree_lawful) (and_need_lawful _ node_id_lawful (and_need_lawful _ whole_lawful ends_lawful refl) refl) refl)
+inserted_lawful = object_lawful (and_need_lawful _ (refined_lawful shows_no_children tree_lawful) (and_need_lawful _ node_id_lawful (and_need_lawful _ whole_lawful ends_lawful refl) refl) refl)
 
 removed_lawful : LawfulKind removed_kind
 removed_lawful = object_lawful (and_need_lawful _ node_id_lawful (and_need_lawful _ node_id_lawful ends_lawful refl) refl)

@@ -17,7 +17,7 @@ use Rattle.node_tree.specs.Seen.{Hold, leaf, counted, opened, is_opened}
 use Rattle.cdp_messages.specs.declared.node_rules.Manner.{Manner}
 use Rattle.cdp_messages.specs.declared.node_rules.Manner.TheVariants.{Pushed, Described}
 use Rattle.cdp_messages.specs.Told.{Told, hold_of}
-use Rattle.cdp_messages.specs.NodeObject.{NodeObject, flat, paired, attribute_list, type_number, numbered, kind_of_type, node_type, Fields, fields_of, of_fields, node_fields, node_name, local_name, only_if, object_for, name_in, label_in, told_in, children_in, same, fits_hold, fits_place, fits_told, is_counted_row, row_fits, agrees, tells, node_object}
+use Rattle.cdp_messages.specs.NodeObject.{NodeObject, flat, paired, attribute_list, type_number, first_numbered, kind_of_type, node_type, Fields, fields_of, of_fields, node_fields, node_name, local_name, only_if, object_for, name_in, label_in, told_in, children_shown, same, fits_hold, fits_place, fits_told, is_counted_row, row_fits, agrees, tells, node_object}
 
 -- ---- the fields are lawful
 
@@ -36,11 +36,11 @@ pub attributes_lawful : LawfulKind attribute_list
 attributes_lawful = through_lawful flat paired flat_of_paired paired-flat (list_lawful text_lawful)
 
 numbered_at : {T : Type 0} (number : T → ℕ) (y : T) (xs : List T) (n : ℕ) (x : T) (b : Bool) → (number y == n) ≡ b
-    → (numbered number xs n ≡ Some x → number x ≡ n) → cond b (Some y) (numbered number xs n) ≡ Some x → number x ≡ n
+    → (first_numbered number xs n ≡ Some x → number x ≡ n) → cond b (Some y) (first_numbered number xs n) ≡ Some x → number x ≡ n
 numbered_at number y xs n x true is later e = let first : y ≡ x = cc in ap number (sym first) ∙ eqb-true _ _ is
 numbered_at number y xs n x false is later e = later e
 
-numbered_is : {T : Type 0} (number : T → ℕ) (xs : List T) (n : ℕ) (x : T) → numbered number xs n ≡ Some x → number x ≡ n
+numbered_is : {T : Type 0} (number : T → ℕ) (xs : List T) (n : ℕ) (x : T) → first_numbered number xs n ≡ Some x → number x ≡ n
 numbered_is number [] n x e = absurd cc
 numbered_is number (y ∷ xs) n x e = numbered_at number y xs n x _ refl (numbered_is number xs n x) e
 
@@ -99,9 +99,9 @@ object_is : (o : NodeObject) (attributes : Option (List Pair)) (count : Option �
     → record o { attributes = attributes; count = count; children = children; local_name = local; name = name; parent = parent } ≡ o
 object_is o attributes count children local name parent a c k l n p = λ i. record o { attributes = a i; count = c i; children = k i; local_name = l i; name = n i; parent = p i }
 
-pub object_for-told_in : (m : Manner) (top : Bool) (o : NodeObject) → tells m top o ≡ true → object_for (told_in o) (children_in o) ≡ o
+pub object_for-told_in : (m : Manner) (top : Bool) (o : NodeObject) → tells m top o ≡ true → object_for (told_in o) (children_shown o) ≡ o
 object_for-told_in m top o t =
-    let a = (both_parts (agrees o) (fits_told m top (items_len (children_in o)) (told_in o)) t).0 in
+    let a = (both_parts (agrees o) (fits_told m top (items_len (children_shown o)) (told_in o)) t).0 in
     let p5 = both_parts _ (holds_of_some (nat_lt 0) o.parent) a in
     let p4 = both_parts _ (bytes_eq o.name (node_name (label_in o))) p5.0 in
     let p3 = both_parts _ (bytes_eq o.local_name (local_name (label_in o))) p4.0 in
@@ -229,7 +229,7 @@ same_hold (counted n) container count width ds w f = f
 same_hold opened container count width ds w f = rw w f
 
 same_place : (m : Manner) (top : Bool) (width : ℕ) (r : Told) (ds : Items) → items_len ds ≡ width → fits_told m top width r ≡ true
-    → fits_told m top (items_len (children_in (object_for r ds))) r ≡ true
+    → fits_told m top (items_len (children_shown (object_for r ds))) r ≡ true
 same_place Pushed top width r ds w f =
     let p6 = both_parts _ (fits_hold r.seen.hold (holds r.seen.label.kind) r.count width) f in
     both p6.0 (same_hold r.seen.hold (holds r.seen.label.kind) r.count width ds w p6.1)
@@ -240,7 +240,7 @@ same_place Described top width r ds w f =
 pub tells-object_for : (m : Manner) (top : Bool) (width : ℕ) (r : Told) (ds : Items) → items_len ds ≡ width → fits_told m top width r ≡ true → tells m top (object_for r ds) ≡ true
 tells-object_for m top width r ds w f =
     let e = told_in-object_for m top width r ds f in
-    both (agrees-object_for r ds e) (ap (fits_told m top (items_len (children_in (object_for r ds)))) e ∙ same_place m top width r ds w f)
+    both (agrees-object_for r ds e) (ap (fits_told m top (items_len (children_shown (object_for r ds)))) e ∙ same_place m top width r ds w f)
 
 -- its fields fit
 

@@ -13,8 +13,8 @@ use Rattle.node_tree.specs.Labels.{holds}
 use Rattle.cdp_messages.specs.declared.node_rules.Manner.{Manner}
 use Rattle.cdp_messages.specs.declared.node_rules.Manner.TheVariants.{Pushed, Described}
 use Rattle.cdp_messages.specs.Told.{Told, hold_of}
-use Rattle.cdp_messages.specs.NodeObject.{NodeObject, Fields, attribute_list, node_type, agrees, node_row, fields_of, node_fields, node_data, object_for, told_in, children_in, only_if, row_fits, fits_told, is_counted_row, tells, node_object}
-use Rattle.cdp_messages.specs.NodeData.{tree_items, tree_data, fits_below, nodes_fit, fits_nodes, tree_fits, fits_tree, over, before, tree_of, children_of, trees_in, trees_of}
+use Rattle.cdp_messages.specs.NodeObject.{NodeObject, Fields, attribute_list, node_type, agrees, node_row, fields_of, node_fields, node_data, object_for, told_in, children_shown, only_if, row_fits, fits_told, is_counted_row, tells, node_object}
+use Rattle.cdp_messages.specs.NodeData.{tree_items, tree_data, fits_below, nodes_fit, fits_nodes, tree_fits, fits_tree, over, tree_before, tree_told, children_told, trees_told, trees_of}
 use Rattle.cdp_messages.specs.Events.{nodes_kind, tree_kind}
 use Rattle.cdp_messages.specs.Results.{document_kind, described_kind}
 use Rattle.cdp_messages.proofs.Options.{both, both_parts}
@@ -26,9 +26,9 @@ abbrev pub trees_of_some : Manner → Option Items → Option (Nodes Told)
 trees_of_some m None = Some none
 trees_of_some m (Some ds) = trees_of m ds
 
-pub children_of-members : (m : Manner) (f : Fields) → children_of m (members_of (node_row.writes f)) ≡ trees_of_some m f.1.1.1.0
+pub children_of-members : (m : Manner) (f : Fields) → children_told m (members_of (node_row.writes f)) ≡ trees_of_some m f.1.1.1.0
 children_of-members m (a, (s, (c, (k, (l, (i, (n, (t, (v, (p, u)))))))))) = at a c k p where
-  at : (a' : _) (c' : Option ℕ) (k' : Option Items) (p' : Option ℕ) → children_of m (members_of (node_row.writes (a', (s, (c', (k', (l, (i, (n, (t, (v, (p', u)))))))))))) ≡ trees_of_some m k'
+  at : (a' : _) (c' : Option ℕ) (k' : Option Items) (p' : Option ℕ) → children_told m (members_of (node_row.writes (a', (s, (c', (k', (l, (i, (n, (t, (v, (p', u)))))))))))) ≡ trees_of_some m k'
   at None None None None = refl
   at None None None (Some p') = refl
   at None None (Some ds) p' = refl
@@ -55,7 +55,7 @@ shown_again m false none b e = refl
 shown_again m false (node r c t) b e = absurd cc
 
 branch_again : (m : Manner) (top : Bool) (r : Told) (c : Nodes Told) → row_fits m top (width c) r ≡ true → fits_below r c ≡ true → trees_of m (tree_items c) ≡ Some c
-    → tree_of m top (node_data r (tree_items c)) ≡ Some (record { row = r; children = c })
+    → tree_told m top (node_data r (tree_items c)) ≡ Some (record { row = r; children = c })
 branch_again m top r c f b e =
     let fits = object_fits m top (width c) r (tree_items c) (items_len-tree_items c) f in
     let place = (both_parts (is_counted_row r) (fits_told m top (width c) r) f).1 in
@@ -98,9 +98,9 @@ pub trees_again : (m : Manner) (n : Nodes Told) → nodes_fit m n ≡ true → t
 trees_again m none f = refl
 trees_again m (node r c t) f =
     let p = fitting_in m r c t f in
-    ap₂ before (branch_again m false r c p.row p.below (trees_again m c p.children)) (trees_again m t p.later)
+    ap₂ tree_before (branch_again m false r c p.row p.below (trees_again m c p.children)) (trees_again m t p.later)
 
-pub tree_again : (m : Manner) (top : Bool) (b : Branch Told) → tree_fits m top b ≡ true → tree_of m top (tree_data b) ≡ Some b
+pub tree_again : (m : Manner) (top : Bool) (b : Branch Told) → tree_fits m top b ≡ true → tree_told m top (tree_data b) ≡ Some b
 tree_again m top b f = let p = tree_in m top b f in branch_again m top b.row b.children p.row p.below (trees_again m b.children p.children)
 
 -- ---- nothing else is read
@@ -141,7 +141,7 @@ over_some None c b e = absurd cc
 over_some (Some x) None b e = absurd cc
 over_some (Some x) (Some n) b e = (x, n, refl, refl, cc)
 
-before_some : (o : Option (Branch Told)) (t : Option (Nodes Told)) (n : Nodes Told) → before o t ≡ Some n
+before_some : (o : Option (Branch Told)) (t : Option (Nodes Told)) (n : Nodes Told) → tree_before o t ≡ Some n
     → (b : Branch Told) × (m : Nodes Told) × (o ≡ Some b) × (t ≡ Some m) × (node b.row b.children m ≡ n)
 before_some None t n e = absurd cc
 before_some (Some b) None n e = absurd cc
@@ -175,7 +175,7 @@ hidden_below None true count n is e = e
 hidden_below None false count n is e = e
 hidden_below (Some ds) container count n is e = absurd cc
 
-pub below_told : (x : NodeObject) (n : Nodes Told) → tree_items n ≡ children_in x → fits_below (told_in x) n ≡ true
+pub below_told : (x : NodeObject) (n : Nodes Told) → tree_items n ≡ children_shown x → fits_below (told_in x) n ≡ true
 below_told x n e = at x.children refl where
   at : (o : Option Items) → x.children ≡ o → fits_below (told_in x) n ≡ true
   at None is = hidden_below x.children (holds x.kind) (unwrap_or x.count 0) n is (no_items_none n (e ∙ ap (λ o. unwrap_or o no_items) is))
@@ -184,8 +184,8 @@ below_told x n e = at x.children refl where
 pub object_inside : (ms ns : Members) → object ms ≡ object ns → ms ≡ ns
 object_inside ms ns e = cc
 
-object_take : (m : Manner) (top : Bool) (ms : Members) (b : Branch Told) → ((n : Nodes Told) → children_of m ms ≡ Some n → (tree_items n ≡ child_items ms) × (nodes_fit m n ≡ true))
-    → over ((node_object m top).reads (object ms)) (children_of m ms) ≡ Some b → (tree_data b ≡ object ms) × (tree_fits m top b ≡ true)
+object_take : (m : Manner) (top : Bool) (ms : Members) (b : Branch Told) → ((n : Nodes Told) → children_told m ms ≡ Some n → (tree_items n ≡ child_items ms) × (nodes_fit m n ≡ true))
+    → over ((node_object m top).reads (object ms)) (children_told m ms) ≡ Some b → (tree_data b ≡ object ms) × (tree_fits m top b ≡ true)
 object_take m top ms b rec e =
     let p = over_some _ _ b e in
     let x = p.0 in
@@ -193,9 +193,9 @@ object_take m top ms b rec e =
     let t = (object_lawful_at m top).takes (object ms) x p.2 in
     let f = both_parts (node_fields.fits x) (tells m top x) t.1 in
     let r = rec n p.3 in
-    let kids : tree_items n ≡ children_in x = r.0 ∙ ap child_items (sym (object_inside (members_of (node_row.writes (fields_of x))) ms t.0)) ∙ child_items-members (fields_of x) in
-    let place = (both_parts (agrees x) (fits_told m top (items_len (children_in x)) (told_in x)) f.1).1 in
-    let wide : items_len (children_in x) ≡ width n = ap items_len (sym kids) ∙ items_len-tree_items n in
+    let kids : tree_items n ≡ children_shown x = r.0 ∙ ap child_items (sym (object_inside (members_of (node_row.writes (fields_of x))) ms t.0)) ∙ child_items-members (fields_of x) in
+    let place = (both_parts (agrees x) (fits_told m top (items_len (children_shown x)) (told_in x)) f.1).1 in
+    let wide : items_len (children_shown x) ≡ width n = ap items_len (sym kids) ∙ items_len-tree_items n in
     subst (λ (z : Branch Told). (tree_data z ≡ object ms) × (tree_fits m top z ≡ true)) p.4 (
       ap (node_data (told_in x)) kids ∙ ap node_fields.spell (object_for-told_in m top x f.1) ∙ t.0,
       both (both (both (counted_told x f.0) (subst (λ w. fits_told m top w (told_in x) ≡ true) wide place)) (below_told x n kids)) r.1,
@@ -211,7 +211,7 @@ member_take m true here later ds es n first rest e = first e
 member_take m false here later ds es n first rest e = rest e
 
 mutual
-  pub tree_take : (m : Manner) (top : Bool) (d : Data) (b : Branch Told) → tree_of m top d ≡ Some b → (tree_data b ≡ d) × (tree_fits m top b ≡ true)
+  pub tree_take : (m : Manner) (top : Bool) (d : Data) (b : Branch Told) → tree_told m top d ≡ Some b → (tree_data b ≡ d) × (tree_fits m top b ≡ true)
   tree_take m top null b e = absurd cc
   tree_take m top (boolean x) b e = absurd cc
   tree_take m top (number x) b e = absurd cc
@@ -219,11 +219,11 @@ mutual
   tree_take m top (array x) b e = absurd cc
   tree_take m top (object ms) b e = object_take m top ms b (children_take m ms) e
 
-  children_take : (m : Manner) (ms : Members) (n : Nodes Told) → children_of m ms ≡ Some n → (tree_items n ≡ child_items ms) × (nodes_fit m n ≡ true)
+  children_take : (m : Manner) (ms : Members) (n : Nodes Told) → children_told m ms ≡ Some n → (tree_items n ≡ child_items ms) × (nodes_fit m n ≡ true)
   children_take m no_members n e = none_taken m n cc
-  children_take m (member k d ms) n e = member_take m (bytes_eq (codes "children") k) (trees_in m d) (children_of m ms) (items_in d) (child_items ms) n (array_take m d n) (children_take m ms n) e
+  children_take m (member k d ms) n e = member_take m (bytes_eq (codes "children") k) (trees_told m d) (children_told m ms) (items_in d) (child_items ms) n (array_take m d n) (children_take m ms n) e
 
-  array_take : (m : Manner) (d : Data) (n : Nodes Told) → trees_in m d ≡ Some n → (tree_items n ≡ items_in d) × (nodes_fit m n ≡ true)
+  array_take : (m : Manner) (d : Data) (n : Nodes Told) → trees_told m d ≡ Some n → (tree_items n ≡ items_in d) × (nodes_fit m n ≡ true)
   array_take m null n e = absurd cc
   array_take m (boolean x) n e = absurd cc
   array_take m (number x) n e = absurd cc
@@ -234,7 +234,7 @@ mutual
   trees_take : (m : Manner) (ds : Items) (n : Nodes Told) → trees_of m ds ≡ Some n → (tree_items n ≡ ds) × (nodes_fit m n ≡ true)
   trees_take m no_items n e = none_taken m n cc
   trees_take m (item d ds) n e =
-      let p = before_some (tree_of m false d) (trees_of m ds) n e in
+      let p = before_some (tree_told m false d) (trees_of m ds) n e in
       let first = tree_take m false d p.0 p.2 in
       let rest = trees_take m ds p.1 p.3 in
       let f = tree_in m false p.0 first.1 in
@@ -260,7 +260,7 @@ trees_plain m (node r c t) f =
 pub tree_plain : (m : Manner) (top : Bool) (b : Branch Told) → tree_fits m top b ≡ true → is_plain (tree_data b) ≡ true
 tree_plain m top b f = let p = tree_in m top b f in node_plain m top b.row b.children p.row (trees_plain m b.children p.children)
 
-nodes_take : (d : Data) (n : Nodes Told) → trees_in Pushed d ≡ Some n → (array (tree_items n) ≡ d) × (fits_nodes n ≡ true)
+nodes_take : (d : Data) (n : Nodes Told) → trees_told Pushed d ≡ Some n → (array (tree_items n) ≡ d) × (fits_nodes n ≡ true)
 nodes_take null n e = absurd cc
 nodes_take (boolean x) n e = absurd cc
 nodes_take (number x) n e = absurd cc

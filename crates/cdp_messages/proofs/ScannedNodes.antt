@@ -14,7 +14,7 @@ use Rattle.cdp_messages.specs.declared.node_read.NodeParts.{NodeParts}
 use Rattle.cdp_messages.specs.declared.node_rules.Manner.TheVariants.{Pushed}
 use Rattle.cdp_messages.specs.declared.down.ReplyBody.TheVariants.{Root}
 use Rattle.cdp_messages.specs.Told.{Told, shown_children, told_tree}
-use Rattle.cdp_messages.specs.NodeObject.{NodeObject, node_fields, node_data, label_in, told_in, children_in, fits_told, is_counted_row, agrees, tells}
+use Rattle.cdp_messages.specs.NodeObject.{NodeObject, node_fields, node_data, label_in, told_in, children_shown, fits_told, is_counted_row, agrees, tells}
 use Rattle.cdp_messages.specs.NodeData.{tree_items, tree_data, fits_nodes, fits_tree}
 use Rattle.cdp_messages.specs.Replies.{reply, message_data, message_in, body_data, down_of}
 use Rattle.cdp_messages.specs.Tokens.{data_tokens}
@@ -87,9 +87,9 @@ pub node_fits : (parts : NodeParts) (top : Bool) (o : Option (Vec (Branch Told) 
 node_fits parts top o tree counted t below e =
     let x = over_trees parts o in
     let n = shown_children o in
-    let kids : tree_items n ≡ children_in x = shown_items o in
-    let wide : items_len (children_in x) ≡ width n = ap items_len (sym kids) ∙ items_len-tree_items n in
-    let place = (both_parts (agrees x) (fits_told Pushed top (items_len (children_in x)) (told_in x)) (tells_here parts top o ∙ t)).1 in
+    let kids : tree_items n ≡ children_shown x = shown_items o in
+    let wide : items_len (children_shown x) ≡ width n = ap items_len (sym kids) ∙ items_len-tree_items n in
+    let place = (both_parts (agrees x) (fits_told Pushed top (items_len (children_shown x)) (told_in x)) (tells_here parts top o ∙ t)).1 in
     subst (λ (z : Branch Told). fits_tree top z ≡ true) (sym (tree_is parts o tree e))
     (both (both (both (counted_row parts (items_shown o) counted) (subst (λ w. fits_told Pushed top w (told_in x) ≡ true) wide place)) (below_told x n kids)) below)
 

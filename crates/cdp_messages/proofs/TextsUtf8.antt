@@ -27,7 +27,7 @@ use Rattle.cdp_messages.specs.declared.node_rules.Manner.TheVariants.{Pushed, De
 use Rattle.cdp_messages.specs.Told.{Told}
 use Rattle.cdp_messages.specs.NodeObject.{flat, attribute_list, node_type, name_shown, local_name_of, node_name, local_name, only_if, node_data, is_counted_row, fits_told, row_fits}
 use Rattle.cdp_messages.specs.NodeData.{tree_items, tree_data, nodes_fit, fits_nodes, tree_fits, fits_tree}
-use Rattle.cdp_messages.specs.Events.{News, attribute_modified, attribute_removed, text_modified, count_updated, inserted, removed, set_children, document_updated, sheet_added, sheet_changed, sheet_removed, paused, event_name, is_unopened, pause_kind, news_form, news_data, fits_news}
+use Rattle.cdp_messages.specs.Events.{News, attribute_modified, attribute_removed, text_modified, count_updated, inserted, removed, set_children, document_updated, sheet_added, sheet_changed, sheet_removed, paused, event_name, shows_no_children, pause_kind, news_form, news_data, fits_news}
 use Rattle.cdp_messages.specs.declared.down.PauseData.{PauseData}
 use Rattle.cdp_messages.specs.declared.down.PauseData.TheVariants as pause
 use Rattle.cdp_messages.specs.declared.event_names.EventName.{EventName}
@@ -220,7 +220,7 @@ params_utf8 (text_modified id value) f u = (IsUtf8-are_ascii (codes "characterDa
 params_utf8 (count_updated id count) f u = (IsUtf8-are_ascii (codes "childNodeCount") refl, tt, (IsUtf8-are_ascii (codes "nodeId") refl, tt, tt))
 params_utf8 (inserted parent previous b) f u = (
   IsUtf8-are_ascii (codes "node") refl,
-  tree_utf8 Pushed false b (both_parts (fits_tree false b) (is_unopened b) (both_parts (fits_tree false b && is_unopened b) _ f).0).0 u,
+  tree_utf8 Pushed false b (both_parts (fits_tree false b) (shows_no_children b) (both_parts (fits_tree false b && shows_no_children b) _ f).0).0 u,
   (IsUtf8-are_ascii (codes "parentNodeId") refl, tt, (IsUtf8-are_ascii (codes "previousNodeId") refl, tt, tt)),
 )
 params_utf8 (removed parent id) f u = (IsUtf8-are_ascii (codes "nodeId") refl, tt, (IsUtf8-are_ascii (codes "parentNodeId") refl, tt, tt))

@@ -18,7 +18,7 @@ use Rattle.node_tree.specs.Nodes.{Branch, nodes_of}
 use Rattle.node_tree.specs.Seen.{is_opened}
 use Rattle.pipe_frames.specs.Frames.{framed}
 use Rattle.cdp_messages.specs.Told.{Told, told_tree}
-use Rattle.cdp_messages.specs.NodeObject.{flat, attribute_list, type_number, node_name, local_name, only_if, node_data, node_members, node_fields, object_with}
+use Rattle.cdp_messages.specs.NodeObject.{flat, attribute_list, type_number, node_name, local_name, only_if, node_data, node_members, node_fields, node_object_with}
 use Rattle.cdp_messages.specs.NodeData.{tree_items, tree_data}
 use Rattle.cdp_messages.specs.Events.{event_name}
 use Rattle.cdp_messages.specs.Tokens.{data_tokens, field_tokens, head_tokens, tail_tokens}
@@ -105,7 +105,7 @@ object_tokens a s c k l i n t v p =
     ∙ regroup begin_object (field_tokens (codes "attributes") a) (field_tokens (codes "backendNodeId") (Some s)) (field_tokens (codes "childNodeCount") c) t3
 
 -- a node's object by its row and its children, where they are shown
-row_tokens : (r : Told) (k : Option Items) → data_tokens (node_fields.spell (object_with r k)) ≡ head_tokens r ++ (field_tokens (codes "children") (option_map array k) ++ tail_tokens r)
+row_tokens : (r : Told) (k : Option Items) → data_tokens (node_fields.spell (node_object_with r k)) ≡ head_tokens r ++ (field_tokens (codes "children") (option_map array k) ++ tail_tokens r)
 row_tokens r k = object_tokens _ _ _ _ _ _ _ _ _ _
 
 -- the same of a told row, over the items of its children

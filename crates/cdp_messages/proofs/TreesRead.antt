@@ -15,14 +15,14 @@ use Rattle.cdp_messages.specs.declared.node_rules.Manner.{Manner}
 use Rattle.cdp_messages.specs.Told.{Told, hold_of, shown_children, told_tree}
 use Rattle.cdp_messages.specs.declared.down.DownErr.{DownErr}
 use Rattle.cdp_messages.specs.declared.down.DownErr.TheVariants.{NotMessage, Memory}
-use Rattle.cdp_messages.specs.Answers.{Gives}
+use Rattle.cdp_messages.specs.Answers.{GivesMessage}
 use Rattle.cdp_messages.specs.NodeObject.{NodeObject, attribute_list, node_type, node_members, node_row, fields_of, node_fields, label_in, told_in, tells}
-use Rattle.cdp_messages.specs.NodeData.{over, before, tree_of, children_of, trees_of}
+use Rattle.cdp_messages.specs.NodeData.{over, tree_before, tree_told, children_told, trees_of}
 use Rattle.cdp_messages.proofs.NodeObjects.{fields_lawful}
 use Rattle.cdp_messages.proofs.NodeTrees.{trees_of_some, children_of-members, object_inside}
 
 -- a node by its fields and its children
-pub tree_of-read : (m : Manner) (top : Bool) (d : Data) (o : NodeObject) → node_fields.reads d ≡ Some o → tree_of m top d ≡ over (if_holds (tells m top) o) (trees_of_some m o.children)
+pub tree_of-read : (m : Manner) (top : Bool) (d : Data) (o : NodeObject) → node_fields.reads d ≡ Some o → tree_told m top d ≡ over (if_holds (tells m top) o) (trees_of_some m o.children)
 tree_of-read m top null o e = absurd cc
 tree_of-read m top (boolean b) o e = absurd cc
 tree_of-read m top (number n) o e = absurd cc
@@ -30,28 +30,28 @@ tree_of-read m top (string s) o e = absurd cc
 tree_of-read m top (array ds) o e = absurd cc
 tree_of-read m top (object ms) o e =
     let t = fields_lawful.takes (object ms) o e in
-    ap₂ over (ap (option_and_then (if_holds (tells m top))) e) (ap (children_of m) (sym (object_inside (members_of (node_row.writes (fields_of o))) ms t.0)) ∙ children_of-members m (fields_of o))
+    ap₂ over (ap (option_and_then (if_holds (tells m top))) e) (ap (children_told m) (sym (object_inside (members_of (node_row.writes (fields_of o))) ms t.0)) ∙ children_of-members m (fields_of o))
 
-pub tree_of-unread : (m : Manner) (top : Bool) (d : Data) → node_fields.reads d ≡ None → tree_of m top d ≡ None
+pub tree_of-unread : (m : Manner) (top : Bool) (d : Data) → node_fields.reads d ≡ None → tree_told m top d ≡ None
 tree_of-unread m top null e = refl
 tree_of-unread m top (boolean b) e = refl
 tree_of-unread m top (number n) e = refl
 tree_of-unread m top (string s) e = refl
 tree_of-unread m top (array ds) e = refl
-tree_of-unread m top (object ms) e = ap (λ o. over (option_and_then (if_holds (tells m top)) o) (children_of m ms)) e
+tree_of-unread m top (object ms) e = ap (λ o. over (option_and_then (if_holds (tells m top)) o) (children_told m ms)) e
 
 -- fields that tell no node
-pub tree_of-untold : (m : Manner) (top : Bool) (d : Data) (o : NodeObject) → node_fields.reads d ≡ Some o → tells m top o ≡ false → tree_of m top d ≡ None
+pub tree_of-untold : (m : Manner) (top : Bool) (d : Data) (o : NodeObject) → node_fields.reads d ≡ Some o → tells m top o ≡ false → tree_told m top d ≡ None
 tree_of-untold m top d o e f = tree_of-read m top d o e ∙ ap (λ b. over (cond b (Some o) None) (trees_of_some m o.children)) f
 
 -- fields that tell a node whose children are no nodes
-pub tree_of-childless : (m : Manner) (top : Bool) (d : Data) (o : NodeObject) (ds : Items) → node_fields.reads d ≡ Some o → tells m top o ≡ true → o.children ≡ Some ds → trees_of m ds ≡ None → tree_of m top d ≡ None
+pub tree_of-childless : (m : Manner) (top : Bool) (d : Data) (o : NodeObject) (ds : Items) → node_fields.reads d ≡ Some o → tells m top o ≡ true → o.children ≡ Some ds → trees_of m ds ≡ None → tree_told m top d ≡ None
 tree_of-childless m top d o ds e f c n =
     tree_of-read m top d o e ∙ ap (λ b. over (cond b (Some o) None) (trees_of_some m o.children)) f ∙ ap (λ k. over (Some o) (trees_of_some m k)) c ∙ ap (over (Some o)) n
 
 -- fields that tell a node
 pub tree_of-told : (m : Manner) (top : Bool) (d : Data) (o : NodeObject) (n : Nodes Told) → node_fields.reads d ≡ Some o → tells m top o ≡ true → trees_of_some m o.children ≡ Some n
-    → tree_of m top d ≡ Some (record { row = told_in o; children = n })
+    → tree_told m top d ≡ Some (record { row = told_in o; children = n })
 tree_of-told m top d o n e f c = tree_of-read m top d o e ∙ ap (λ b. over (cond b (Some o) None) (trees_of_some m o.children)) f ∙ ap (over (Some o)) c
 
 -- ---- trees side by side
@@ -60,18 +60,18 @@ abbrev pub read_beside : Nodes Told → Option (Nodes Told) → Option (Nodes To
 read_beside n None = None
 read_beside n (Some m) = Some (beside n m)
 
-one_more : (ts : List (Branch Told)) (b : Branch Told) (o : Option (Nodes Told)) → read_beside (nodes_of (ts ++ b ∷ [])) o ≡ read_beside (nodes_of ts) (before (Some b) o)
+one_more : (ts : List (Branch Told)) (b : Branch Told) (o : Option (Nodes Told)) → read_beside (nodes_of (ts ++ b ∷ [])) o ≡ read_beside (nodes_of ts) (tree_before (Some b) o)
 one_more ts b None = refl
 one_more ts b (Some n) = ap Some (ap (λ m. beside m n) (nodes_of-append ts (b ∷ [])) ∙ beside_assoc (nodes_of ts) (nodes_of (b ∷ [])) n)
 
 -- a turn of the reader's loop
-pub trees_turn : (w : Manner) (ts more : List (Branch Told)) (b : Branch Told) (vs : List Value) (i : ℕ) (v : Value) → i < length vs → v ≡ get_or vs i v → more ≡ ts ++ b ∷ [] → tree_of w false (view v) ≡ Some b
+pub trees_turn : (w : Manner) (ts more : List (Branch Told)) (b : Branch Told) (vs : List Value) (i : ℕ) (v : Value) → i < length vs → v ≡ get_or vs i v → more ≡ ts ++ b ∷ [] → tree_told w false (view v) ≡ Some b
     → read_beside (nodes_of ts) (trees_of w (items_view (drop i vs))) ≡ trees_of w (items_view vs) → read_beside (nodes_of more) (trees_of w (items_view (drop (i + 1) vs))) ≡ trees_of w (items_view vs)
 trees_turn w ts more b vs i v below at m e so =
     let later = drop (i + 1) vs in
     let r : drop i vs ≡ v ∷ later = drop-cons vs i v below ∙ ap₂ (λ x l. x ∷ l) (sym at) (ap (λ n. drop n vs) (sym (add-one i))) in
     ap (λ l. read_beside (nodes_of l) (trees_of w (items_view later))) m ∙ one_more ts b (trees_of w (items_view later))
-    ∙ ap (λ o. read_beside (nodes_of ts) (before o (trees_of w (items_view later)))) (sym e) ∙ ap (λ l. read_beside (nodes_of ts) (trees_of w (items_view l))) (sym r) ∙ so
+    ∙ ap (λ o. read_beside (nodes_of ts) (tree_before o (trees_of w (items_view later)))) (sym e) ∙ ap (λ l. read_beside (nodes_of ts) (trees_of w (items_view l))) (sym r) ∙ so
 
 beside-nothing : (n : Nodes Told) → beside n none ≡ n
 beside-nothing none = refl
@@ -88,17 +88,17 @@ finished_is o children e =
     ap (λ b. record { row = record { parent = unwrap_or o.parent 0; count = unwrap_or o.count 0; seen = record { id = o.id; serial = o.serial; label = label_in o; hold = hold_of b (holds o.kind) (unwrap_or o.count 0) } }; children = shown_children children }) e
 
 pub read_shown : (m : Manner) (top : Bool) (d : Data) (o : NodeObject) (ds : Items) (ts : Vec (Branch Told) Global) (t : Branch Told) → node_fields.reads d ≡ Some o → tells m top o ≡ true → o.children ≡ Some ds → trees_of m ds ≡ Some (nodes_of ts.items)
-    → t ≡ told_tree (unwrap_or o.parent 0) (unwrap_or o.count 0) o.id o.serial (label_in o) (Some ts) → tree_of m top d ≡ Some t
+    → t ≡ told_tree (unwrap_or o.parent 0) (unwrap_or o.count 0) o.id o.serial (label_in o) (Some ts) → tree_told m top d ≡ Some t
 read_shown m top d o ds ts t e f c n is =
     tree_of-told m top d o (nodes_of ts.items) e f (ap (trees_of_some m) c ∙ n) ∙ ap Some (sym (finished_is o (Some ts) (sym (ap is_some c))) ∙ sym is)
 
 pub read_hidden : (m : Manner) (top : Bool) (d : Data) (o : NodeObject) (t : Branch Told) → node_fields.reads d ≡ Some o → tells m top o ≡ true → o.children ≡ None
-    → t ≡ told_tree (unwrap_or o.parent 0) (unwrap_or o.count 0) o.id o.serial (label_in o) None → tree_of m top d ≡ Some t
+    → t ≡ told_tree (unwrap_or o.parent 0) (unwrap_or o.count 0) o.id o.serial (label_in o) None → tree_told m top d ≡ Some t
 read_hidden m top d o t e f c is =
     tree_of-told m top d o none e f (ap (trees_of_some m) c) ∙ ap Some (sym (finished_is o None (sym (ap is_some c))) ∙ sym is)
 
 -- an error of the children is the node's
-pub Gives-error : {A B X Y : Type 0} (f : X → A) (g : Y → B) (e : DownErr) (a : Option A) (b : Option B) → (a ≡ None → b ≡ None) → Gives f (Err e) a → Gives g (Err e) b
+pub Gives-error : {A B X Y : Type 0} (f : X → A) (g : Y → B) (e : DownErr) (a : Option A) (b : Option B) → (a ≡ None → b ≡ None) → GivesMessage f (Err e) a → GivesMessage g (Err e) b
 Gives-error f g NotMessage a b h x = h x
 Gives-error f g Memory a b h x = tt
 

@@ -5,7 +5,7 @@ use Rattle.node_tree.specs.Labels.{Label, holds}
 use Rattle.node_tree.specs.Nodes.{Branch, nodes_of}
 use Rattle.node_tree.specs.Seen.{is_opened}
 use Rattle.cdp_messages.specs.Told.{Told, hold_of, told_tree}
-use Rattle.cdp_messages.specs.NodeObject.{node_fields, only_if, object_with}
+use Rattle.cdp_messages.specs.NodeObject.{node_fields, only_if, node_object_with}
 use Rattle.cdp_messages.specs.NodeData.{tree_items, tree_data}
 
 hidden : {A : Type 0} (container : Bool) (count : ℕ) (x : A) → None ≡ only_if (is_opened (hold_of false container count)) x
@@ -16,12 +16,12 @@ abbrev pub written_items : Vec (Branch Told) Global → Items
 written_items ts = tree_items (nodes_of ts.items)
 
 written_at : (parent count id serial : ℕ) (label : Label) (o : Option (Vec (Branch Told) Global))
-    → node_fields.spell (object_with (told_tree parent count id serial label o).row (option_map written_items o)) ≡ tree_data (told_tree parent count id serial label o)
-written_at parent count id serial label None = ap (λ k. node_fields.spell (object_with (told_tree parent count id serial label None).row k)) (hidden (holds label.kind) count _)
+    → node_fields.spell (node_object_with (told_tree parent count id serial label o).row (option_map written_items o)) ≡ tree_data (told_tree parent count id serial label o)
+written_at parent count id serial label None = ap (λ k. node_fields.spell (node_object_with (told_tree parent count id serial label None).row k)) (hidden (holds label.kind) count _)
 written_at parent count id serial label (Some ts) = refl
 
 pub tree_written : (parent count id serial : ℕ) (label : Label) (o : Option (Vec (Branch Told) Global)) (b : Branch Told) (list : Option Items)
-    → told_tree parent count id serial label o ≡ b → list ≡ option_map written_items o → node_fields.spell (object_with b.row list) ≡ tree_data b
+    → told_tree parent count id serial label o ≡ b → list ≡ option_map written_items o → node_fields.spell (node_object_with b.row list) ≡ tree_data b
 tree_written parent count id serial label o b list e l =
-    ap (λ k. node_fields.spell (object_with b.row k)) l
-    ∙ subst (λ (t : Branch Told). node_fields.spell (object_with t.row (option_map written_items o)) ≡ tree_data t) e (written_at parent count id serial label o)
+    ap (λ k. node_fields.spell (node_object_with b.row k)) l
+    ∙ subst (λ (t : Branch Told). node_fields.spell (node_object_with t.row (option_map written_items o)) ≡ tree_data t) e (written_at parent count id serial label o)

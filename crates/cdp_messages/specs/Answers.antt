@@ -11,10 +11,10 @@ use Rattle.cdp_messages.specs.declared.down.DownErr.{DownErr}
 use Rattle.cdp_messages.specs.declared.down.DownErr.TheVariants.{NotMessage, Memory}
 
 -- a command is answered as what was asked, a refusal as what is refused
-abbrev pub Asks : Result Asked ReadErr → Result Asked Refused → Type 0
-Asks (Ok a) r = r ≡ Ok a
-Asks (Err (read_err.Refused x)) r = r ≡ Err x
-Asks (Err read_err.Memory) r = ⊤
+abbrev pub ReadsAsked : Result Asked ReadErr → Result Asked Refused → Type 0
+ReadsAsked (Ok a) r = r ≡ Ok a
+ReadsAsked (Err (read_err.Refused x)) r = r ≡ Err x
+ReadsAsked (Err read_err.Memory) r = ⊤
 
 -- a method with its parameters is answered as the command, or as the first refusal
 abbrev pub Commands : {T : Type 0} → Result T CommandErr → Result T Why → Type 0
@@ -23,8 +23,7 @@ Commands (Err (command_err.Refused why)) r = r ≡ Err why
 Commands (Err command_err.Memory) r = ⊤
 
 -- Ok tells, as f sees it, what was read; NotMessage comes exactly where nothing is
-abbrev pub Gives : {T X : Type 0} → (T → X) → Result T DownErr → Option X → Type 0
-Gives f (Ok t) r = r ≡ Some (f t)
-Gives f (Err NotMessage) r = r ≡ None
-Gives f (Err Memory) r = ⊤
-
+abbrev pub GivesMessage : {T X : Type 0} → (T → X) → Result T DownErr → Option X → Type 0
+GivesMessage f (Ok t) r = r ≡ Some (f t)
+GivesMessage f (Err NotMessage) r = r ≡ None
+GivesMessage f (Err Memory) r = ⊤

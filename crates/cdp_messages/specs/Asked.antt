@@ -18,7 +18,7 @@ use Rattle.cdp_messages.specs.declared.command.Asked.{Asked}
 use Rattle.cdp_messages.specs.declared.command.Refused.{Refused}
 use Rattle.cdp_messages.specs.declared.method.Method.{Method}
 use Rattle.cdp_messages.specs.Methods.{name_of, known_method}
-use Rattle.cdp_messages.specs.Parameters.{command_by, form_of}
+use Rattle.cdp_messages.specs.Parameters.{command_by, parameters_form}
 
 -- ---- a frame's JSON
 
@@ -119,7 +119,7 @@ command_text id method params session = compact_text (command_value id method pa
 
 -- a command's method
 abbrev pub method_of : Command → Method
-method_of c = (form_of c).method
+method_of c = (parameters_form c).method
 
 -- and its name
 abbrev pub method_name : Command → List ℕ
@@ -127,11 +127,11 @@ method_name c = name_of (method_of c)
 
 -- the parameters of a command, as they are written
 abbrev pub parameters : Command → Data
-parameters c = (form_of c).parameters
+parameters c = (parameters_form c).parameters
 
 -- each parameter is in its range
 abbrev pub fits_command : Command → Bool
-fits_command c = (form_of c).fits
+fits_command c = (parameters_form c).fits
 
 -- no number in it that is not whole
 abbrev pub is_whole_where_there : Option Data → Bool

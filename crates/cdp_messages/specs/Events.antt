@@ -21,7 +21,7 @@ use Rattle.cdp_messages.specs.declared.event_names.EventName.{EventName}
 use Rattle.cdp_messages.specs.declared.event_names.EventName.TheVariants as name
 use Rattle.cdp_messages.specs.declared.node_rules.Manner.TheVariants.{Pushed}
 use Rattle.cdp_messages.specs.Told.{Told}
-use Rattle.cdp_messages.specs.NodeData.{tree_data, tree_of, tree_items, trees_in, fits_tree, fits_nodes}
+use Rattle.cdp_messages.specs.NodeData.{tree_data, tree_told, tree_items, trees_told, fits_tree, fits_nodes}
 use Rattle.css_objects.specs.Styles.{empty_list}
 
 -- what an event tells
@@ -107,19 +107,19 @@ event_named = named event_name all_events
 
 -- nodes that are no document, each with all that is shown of it
 abbrev pub nodes_kind : Kind (Nodes Told)
-nodes_kind = record { spell = λ n. array (tree_items n); reads = trees_in Pushed; fits = fits_nodes; loose = None }
+nodes_kind = record { spell = λ n. array (tree_items n); reads = trees_told Pushed; fits = fits_nodes; loose = None }
 
 -- one such node
 abbrev pub tree_kind : Kind (Branch Told)
-tree_kind = record { spell = tree_data; reads = tree_of Pushed false; fits = fits_tree false; loose = None }
+tree_kind = record { spell = tree_data; reads = tree_told Pushed false; fits = fits_tree false; loose = None }
 
 -- no children are shown
-abbrev pub is_unopened : Branch Told → Bool
-is_unopened b = not (is_opened b.row.seen.hold)
+abbrev pub shows_no_children : Branch Told → Bool
+shows_no_children b = not (is_opened b.row.seen.hold)
 
 -- one such node, none of whose children are shown
 abbrev pub bare_kind : Kind (Branch Told)
-bare_kind = refined tree_kind is_unopened
+bare_kind = refined tree_kind shows_no_children
 
 -- an id of a node: from 1
 abbrev pub node_id : Kind ℕ

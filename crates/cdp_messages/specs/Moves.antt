@@ -9,7 +9,7 @@ use Rattle.node_tree.specs.Keys.{At, has}
 use Rattle.node_tree.specs.Labels.{Label, is_element, has_value}
 use Rattle.node_tree.specs.Names.{is_attribute_name}
 use Rattle.cdp_messages.specs.LabelChanges.{with_attribute, without_attribute, with_value}
-use Rattle.node_tree.specs.Seen.{Seen, counted, opened, is_counted as is_shut, is_opened, seen_id}
+use Rattle.node_tree.specs.Seen.{Seen, counted, opened, shows_count as is_shut, is_opened, seen_id}
 use Rattle.cdp_messages.specs.declared.command.Refused.{Refused}
 use Rattle.cdp_messages.specs.declared.down.ReplyBody.{ReplyBody}
 use Rattle.cdp_messages.specs.declared.down.ReplyBody.TheVariants.{Nothing, Root, Node, NodeId, NodeIds, Attributes, ClassNames, SheetText, Styles, Selectors, Rule, Matched}

@@ -58,35 +58,35 @@ over None c = None
 over (Some o) c = option_map (λ n. record { row = told_in o; children = n }) c
 
 -- a tree before those that follow it
-abbrev pub before : Option (Branch Told) → Option (Nodes Told) → Option (Nodes Told)
-before None t = None
-before (Some b) t = option_map (node b.row b.children) t
+abbrev pub tree_before : Option (Branch Told) → Option (Nodes Told) → Option (Nodes Told)
+tree_before None t = None
+tree_before (Some b) t = option_map (node b.row b.children) t
 
 -- a node and the nodes below it, as JSON spells them
 abbrev mutual
   -- a node that is told in this manner, at the top or below it
-  pub tree_of : Manner → Bool → Data → Option (Branch Told)
-  tree_of manner top null = None
-  tree_of manner top (boolean b) = None
-  tree_of manner top (number n) = None
-  tree_of manner top (string s) = None
-  tree_of manner top (array ds) = None
-  tree_of manner top (object ms) = over ((node_object manner top).reads (object ms)) (children_of manner ms)
+  pub tree_told : Manner → Bool → Data → Option (Branch Told)
+  tree_told manner top null = None
+  tree_told manner top (boolean b) = None
+  tree_told manner top (number n) = None
+  tree_told manner top (string s) = None
+  tree_told manner top (array ds) = None
+  tree_told manner top (object ms) = over ((node_object manner top).reads (object ms)) (children_told manner ms)
 
   -- the trees of the array named `children`; none where there is no such member
-  pub children_of : Manner → Members → Option (Nodes Told)
-  children_of manner no_members = Some none
-  children_of manner (member k d ms) = cond (bytes_eq (codes "children") k) (trees_in manner d) (children_of manner ms)
+  pub children_told : Manner → Members → Option (Nodes Told)
+  children_told manner no_members = Some none
+  children_told manner (member k d ms) = cond (bytes_eq (codes "children") k) (trees_told manner d) (children_told manner ms)
 
-  pub trees_in : Manner → Data → Option (Nodes Told)
-  trees_in manner null = None
-  trees_in manner (boolean b) = None
-  trees_in manner (number n) = None
-  trees_in manner (string s) = None
-  trees_in manner (array ds) = trees_of manner ds
-  trees_in manner (object ms) = None
+  pub trees_told : Manner → Data → Option (Nodes Told)
+  trees_told manner null = None
+  trees_told manner (boolean b) = None
+  trees_told manner (number n) = None
+  trees_told manner (string s) = None
+  trees_told manner (array ds) = trees_of manner ds
+  trees_told manner (object ms) = None
 
   -- nodes below the top
   pub trees_of : Manner → Items → Option (Nodes Told)
   trees_of manner no_items = Some none
-  trees_of manner (item d ds) = before (tree_of manner false d) (trees_of manner ds)
+  trees_of manner (item d ds) = tree_before (tree_told manner false d) (trees_of manner ds)

@@ -52,13 +52,13 @@ type_number Document = 9
 type_number Doctype = 10
 
 -- the first of a list that has this number
-abbrev pub numbered : {T : Type 0} → (T → ℕ) → List T → ℕ → Option T
-numbered number [] n = None
-numbered number (x ∷ xs) n = cond (number x == n) (Some x) (numbered number xs n)
+abbrev pub first_numbered : {T : Type 0} → (T → ℕ) → List T → ℕ → Option T
+first_numbered number [] n = None
+first_numbered number (x ∷ xs) n = cond (number x == n) (Some x) (first_numbered number xs n)
 
 -- the kind of a type number
 abbrev pub kind_of_type : ℕ → Option Kind
-kind_of_type = numbered type_number (Element ∷ Text ∷ Comment ∷ Document ∷ Doctype ∷ [])
+kind_of_type = first_numbered type_number (Element ∷ Text ∷ Comment ∷ Document ∷ Doctype ∷ [])
 
 -- `nodeType`: a kind by its number
 abbrev pub node_type : Description Kind
@@ -138,8 +138,8 @@ abbrev pub only_if : {A : Type 0} → Bool → A → Option A
 only_if b x = cond b (Some x) None
 
 -- the object of a told row, with these children
-abbrev pub object_with : Told → Option Items → NodeObject
-object_with r children = record {
+abbrev pub node_object_with : Told → Option Items → NodeObject
+node_object_with r children = record {
   attributes = only_if (is_element r.seen.label.kind) r.seen.label.attributes;
   serial = r.seen.serial;
   count = only_if (holds r.seen.label.kind) r.count;
@@ -154,7 +154,7 @@ object_with r children = record {
 
 -- the object of a told row, with these as its children where they are shown
 abbrev pub object_for : Told → Items → NodeObject
-object_for r ds = object_with r (only_if (is_opened r.seen.hold) ds)
+object_for r ds = node_object_with r (only_if (is_opened r.seen.hold) ds)
 
 -- a told row's JSON, with these as its children where they are shown
 abbrev pub node_data : Told → Items → Data
@@ -183,8 +183,8 @@ told_in o = record {
 }
 
 -- the items of `children`, none where it is absent
-abbrev pub children_in : NodeObject → Items
-children_in o = unwrap_or o.children no_items
+abbrev pub children_shown : NodeObject → Items
+children_shown o = unwrap_or o.children no_items
 
 -- ---- which rows have an object
 
@@ -239,7 +239,7 @@ agrees o =
 
 -- an object that tells a node in this manner
 abbrev pub tells : Manner → Bool → NodeObject → Bool
-tells manner top o = agrees o && fits_told manner top (items_len (children_in o)) (told_in o)
+tells manner top o = agrees o && fits_told manner top (items_len (children_shown o)) (told_in o)
 
 -- the object of a node, at the top or not
 abbrev pub node_object : Manner → Bool → Description NodeObject

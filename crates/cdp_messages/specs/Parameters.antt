@@ -38,12 +38,12 @@ abbrev pub place_from : ℕ × (ℕ × (ℕ × (ℕ × ⊤))) → Option SourceR
 place_from x = Some (record { start_line = x.0; start_column = x.1.0; end_line = x.1.1.0; end_column = x.1.1.1.0 })
 
 -- a range as JSON
-abbrev pub place : Kind SourceRange
-place = through (object_with place_fields) place_parts place_from
+abbrev pub range_parameter : Kind SourceRange
+range_parameter = through (object_with place_fields) place_parts place_from
 
 -- one edit of a sheet; further fields count for nothing
 abbrev pub edit_fields : Lookups ⊤ (List ℕ × (SourceRange × (List ℕ × ⊤)))
-edit_fields = look_for (param_name param.StyleSheetId) tt text (look_for (param_name param.Range) tt place (look_for (param_name param.Text) tt text no_lookups))
+edit_fields = look_for (param_name param.StyleSheetId) tt text (look_for (param_name param.Range) tt range_parameter (look_for (param_name param.Text) tt text no_lookups))
 
 -- an edit as its fields
 abbrev pub edit_parts : TextEdit → List ℕ × (SourceRange × (List ℕ × ⊤))
@@ -140,16 +140,16 @@ abbrev pub edits_field : Lookups Why (List TextEdit × ⊤)
 edits_field = needed param.Edits (list_of text_edit) no_lookups
 
 -- of `CSS.setRuleSelector`
-abbrev pub selector_fields : Lookups Why (List ℕ × (SourceRange × (List ℕ × ⊤)))
-selector_fields = needed param.StyleSheetId text (needed param.Range place (needed param.Selector text no_lookups))
+abbrev pub set_selector_fields : Lookups Why (List ℕ × (SourceRange × (List ℕ × ⊤)))
+set_selector_fields = needed param.StyleSheetId text (needed param.Range range_parameter (needed param.Selector text no_lookups))
 
 -- of `CSS.setStyleSheetText`
 abbrev pub sheet_text_fields : Lookups Why (List ℕ × (List ℕ × ⊤))
 sheet_text_fields = needed param.StyleSheetId text (needed param.Text text no_lookups)
 
 -- of `CSS.addRule`
-abbrev pub rule_fields : Lookups Why (List ℕ × (List ℕ × (SourceRange × ⊤)))
-rule_fields = needed param.StyleSheetId text (needed param.RuleText text (needed param.Location place no_lookups))
+abbrev pub add_rule_fields : Lookups Why (List ℕ × (List ℕ × (SourceRange × ⊤)))
+add_rule_fields = needed param.StyleSheetId text (needed param.RuleText text (needed param.Location range_parameter no_lookups))
 
 -- of `DOMDebugger.setDOMBreakpoint` and `DOMDebugger.removeDOMBreakpoint`
 abbrev pub watch_fields : Lookups Why (ℕ × (WatchWord × ⊤))
@@ -158,41 +158,41 @@ watch_fields = needed param.NodeId whole (needed param.Type watch no_lookups)
 -- ---- read
 
 -- the command that is made of the parameters
-abbrev pub reading : {T : Type 0} → Lookups Why T → (T → Command) → Members → Result Command Why
-reading fields makes ms = then_ok (fields.gets ms) (λ x. Ok (makes x))
+abbrev pub reads_with : {T : Type 0} → Lookups Why T → (T → Command) → Members → Result Command Why
+reads_with fields makes ms = then_ok (fields.gets ms) (λ x. Ok (makes x))
 
 -- the command of a method with these parameters, or the first refusal; what our own two methods are given is not looked into
 abbrev pub command_by : Method → Members → Result Command Why
 command_by method.DomEnable ms = Ok DomEnable
 command_by method.DomDisable ms = Ok DomDisable
-command_by method.GetDocument ms = reading depth_fields (λ x. GetDocument x.0 x.1.0) ms
-command_by method.RequestChildNodes ms = reading children_fields (λ x. RequestChildNodes x.0 x.1.0 x.1.1.0) ms
-command_by method.PushByPath ms = reading path_field (λ x. PushByPath x.0) ms
-command_by method.PushBySerials ms = reading serials_field (λ x. PushBySerials x.0) ms
-command_by method.QuerySelector ms = reading query_fields (λ x. QuerySelector x.0 x.1.0) ms
-command_by method.QuerySelectorAll ms = reading query_fields (λ x. QuerySelectorAll x.0 x.1.0) ms
-command_by method.GetAttributes ms = reading node_field (λ x. GetAttributes x.0) ms
-command_by method.DescribeNode ms = reading describe_fields (λ x. DescribeNode x.0 x.1.0 x.1.1.0 x.1.1.1.0) ms
-command_by method.SetAttributeValue ms = reading attribute_fields (λ x. SetAttributeValue x.0 x.1.0 x.1.1.0) ms
-command_by method.RemoveAttribute ms = reading name_fields (λ x. RemoveAttribute x.0 x.1.0) ms
-command_by method.SetNodeValue ms = reading value_fields (λ x. SetNodeValue x.0 x.1.0) ms
-command_by method.RemoveNode ms = reading node_field (λ x. RemoveNode x.0) ms
-command_by method.MoveTo ms = reading move_fields (λ x. MoveTo x.0 x.1.0 x.1.1.0) ms
-command_by method.CopyTo ms = reading move_fields (λ x. CopyTo x.0 x.1.0 x.1.1.0) ms
+command_by method.GetDocument ms = reads_with depth_fields (λ x. GetDocument x.0 x.1.0) ms
+command_by method.RequestChildNodes ms = reads_with children_fields (λ x. RequestChildNodes x.0 x.1.0 x.1.1.0) ms
+command_by method.PushByPath ms = reads_with path_field (λ x. PushByPath x.0) ms
+command_by method.PushBySerials ms = reads_with serials_field (λ x. PushBySerials x.0) ms
+command_by method.QuerySelector ms = reads_with query_fields (λ x. QuerySelector x.0 x.1.0) ms
+command_by method.QuerySelectorAll ms = reads_with query_fields (λ x. QuerySelectorAll x.0 x.1.0) ms
+command_by method.GetAttributes ms = reads_with node_field (λ x. GetAttributes x.0) ms
+command_by method.DescribeNode ms = reads_with describe_fields (λ x. DescribeNode x.0 x.1.0 x.1.1.0 x.1.1.1.0) ms
+command_by method.SetAttributeValue ms = reads_with attribute_fields (λ x. SetAttributeValue x.0 x.1.0 x.1.1.0) ms
+command_by method.RemoveAttribute ms = reads_with name_fields (λ x. RemoveAttribute x.0 x.1.0) ms
+command_by method.SetNodeValue ms = reads_with value_fields (λ x. SetNodeValue x.0 x.1.0) ms
+command_by method.RemoveNode ms = reads_with node_field (λ x. RemoveNode x.0) ms
+command_by method.MoveTo ms = reads_with move_fields (λ x. MoveTo x.0 x.1.0 x.1.1.0) ms
+command_by method.CopyTo ms = reads_with move_fields (λ x. CopyTo x.0 x.1.0 x.1.1.0) ms
 command_by method.MarkUndoableState ms = Ok MarkUndoableState
 command_by method.Undo ms = Ok Undo
 command_by method.Redo ms = Ok Redo
 command_by method.CssEnable ms = Ok CssEnable
 command_by method.CssDisable ms = Ok CssDisable
-command_by method.GetMatchedStyles ms = reading node_field (λ x. GetMatchedStyles x.0) ms
-command_by method.GetStyleSheetText ms = reading sheet_field (λ x. GetStyleSheetText x.0) ms
-command_by method.CollectClassNames ms = reading sheet_field (λ x. CollectClassNames x.0) ms
-command_by method.SetStyleTexts ms = reading edits_field (λ x. SetStyleTexts x.0) ms
-command_by method.SetRuleSelector ms = reading selector_fields (λ x. SetRuleSelector x.0 x.1.0 x.1.1.0) ms
-command_by method.SetStyleSheetText ms = reading sheet_text_fields (λ x. SetStyleSheetText x.0 x.1.0) ms
-command_by method.AddRule ms = reading rule_fields (λ x. AddRule x.0 x.1.0 x.1.1.0) ms
-command_by method.SetBreakpoint ms = reading watch_fields (λ x. SetBreakpoint x.0 x.1.0) ms
-command_by method.RemoveBreakpoint ms = reading watch_fields (λ x. RemoveBreakpoint x.0 x.1.0) ms
+command_by method.GetMatchedStyles ms = reads_with node_field (λ x. GetMatchedStyles x.0) ms
+command_by method.GetStyleSheetText ms = reads_with sheet_field (λ x. GetStyleSheetText x.0) ms
+command_by method.CollectClassNames ms = reads_with sheet_field (λ x. CollectClassNames x.0) ms
+command_by method.SetStyleTexts ms = reads_with edits_field (λ x. SetStyleTexts x.0) ms
+command_by method.SetRuleSelector ms = reads_with set_selector_fields (λ x. SetRuleSelector x.0 x.1.0 x.1.1.0) ms
+command_by method.SetStyleSheetText ms = reads_with sheet_text_fields (λ x. SetStyleSheetText x.0 x.1.0) ms
+command_by method.AddRule ms = reads_with add_rule_fields (λ x. AddRule x.0 x.1.0 x.1.1.0) ms
+command_by method.SetBreakpoint ms = reads_with watch_fields (λ x. SetBreakpoint x.0 x.1.0) ms
+command_by method.RemoveBreakpoint ms = reads_with watch_fields (λ x. RemoveBreakpoint x.0 x.1.0) ms
 command_by method.ReplayLoad ms = Ok (ReplayLoad (object ms))
 command_by method.ReplayAct ms = Ok (ReplayAct (object ms))
 
@@ -209,36 +209,36 @@ abbrev pub form : {T : Type 0} → Method → Lookups Why T → T → Form
 form m fields x = record { method = m; parameters = object (fields.puts x); fits = fields.fits x }
 
 -- each command, as it is written
-abbrev pub form_of : Command → Form
-form_of DomEnable = form method.DomEnable no_lookups tt
-form_of DomDisable = form method.DomDisable no_lookups tt
-form_of (GetDocument depth pierce) = form method.GetDocument depth_fields (depth, (pierce, tt))
-form_of (RequestChildNodes node depth pierce) = form method.RequestChildNodes children_fields (node, (depth, (pierce, tt)))
-form_of (PushByPath path) = form method.PushByPath path_field (path, tt)
-form_of (PushBySerials serials) = form method.PushBySerials serials_field (serials, tt)
-form_of (QuerySelector node selector) = form method.QuerySelector query_fields (node, (selector, tt))
-form_of (QuerySelectorAll node selector) = form method.QuerySelectorAll query_fields (node, (selector, tt))
-form_of (GetAttributes node) = form method.GetAttributes node_field (node, tt)
-form_of (DescribeNode id serial depth pierce) = form method.DescribeNode describe_fields (id, (serial, (depth, (pierce, tt))))
-form_of (SetAttributeValue node name value) = form method.SetAttributeValue attribute_fields (node, (name, (value, tt)))
-form_of (RemoveAttribute node name) = form method.RemoveAttribute name_fields (node, (name, tt))
-form_of (SetNodeValue node value) = form method.SetNodeValue value_fields (node, (value, tt))
-form_of (RemoveNode node) = form method.RemoveNode node_field (node, tt)
-form_of (MoveTo node target before) = form method.MoveTo move_fields (node, (target, (before, tt)))
-form_of (CopyTo node target before) = form method.CopyTo move_fields (node, (target, (before, tt)))
-form_of MarkUndoableState = form method.MarkUndoableState no_lookups tt
-form_of Undo = form method.Undo no_lookups tt
-form_of Redo = form method.Redo no_lookups tt
-form_of CssEnable = form method.CssEnable no_lookups tt
-form_of CssDisable = form method.CssDisable no_lookups tt
-form_of (GetMatchedStyles node) = form method.GetMatchedStyles node_field (node, tt)
-form_of (GetStyleSheetText sheet) = form method.GetStyleSheetText sheet_field (sheet, tt)
-form_of (CollectClassNames sheet) = form method.CollectClassNames sheet_field (sheet, tt)
-form_of (SetStyleTexts edits) = form method.SetStyleTexts edits_field (edits, tt)
-form_of (SetRuleSelector sheet range selector) = form method.SetRuleSelector selector_fields (sheet, (range, (selector, tt)))
-form_of (SetStyleSheetText sheet text) = form method.SetStyleSheetText sheet_text_fields (sheet, (text, tt))
-form_of (AddRule sheet rule_text location) = form method.AddRule rule_fields (sheet, (rule_text, (location, tt)))
-form_of (SetBreakpoint node kind) = form method.SetBreakpoint watch_fields (node, (kind, tt))
-form_of (RemoveBreakpoint node kind) = form method.RemoveBreakpoint watch_fields (node, (kind, tt))
-form_of (ReplayLoad params) = record { method = method.ReplayLoad; parameters = params; fits = is_object params }
-form_of (ReplayAct params) = record { method = method.ReplayAct; parameters = params; fits = is_object params }
+abbrev pub parameters_form : Command → Form
+parameters_form DomEnable = form method.DomEnable no_lookups tt
+parameters_form DomDisable = form method.DomDisable no_lookups tt
+parameters_form (GetDocument depth pierce) = form method.GetDocument depth_fields (depth, (pierce, tt))
+parameters_form (RequestChildNodes node depth pierce) = form method.RequestChildNodes children_fields (node, (depth, (pierce, tt)))
+parameters_form (PushByPath path) = form method.PushByPath path_field (path, tt)
+parameters_form (PushBySerials serials) = form method.PushBySerials serials_field (serials, tt)
+parameters_form (QuerySelector node selector) = form method.QuerySelector query_fields (node, (selector, tt))
+parameters_form (QuerySelectorAll node selector) = form method.QuerySelectorAll query_fields (node, (selector, tt))
+parameters_form (GetAttributes node) = form method.GetAttributes node_field (node, tt)
+parameters_form (DescribeNode id serial depth pierce) = form method.DescribeNode describe_fields (id, (serial, (depth, (pierce, tt))))
+parameters_form (SetAttributeValue node name value) = form method.SetAttributeValue attribute_fields (node, (name, (value, tt)))
+parameters_form (RemoveAttribute node name) = form method.RemoveAttribute name_fields (node, (name, tt))
+parameters_form (SetNodeValue node value) = form method.SetNodeValue value_fields (node, (value, tt))
+parameters_form (RemoveNode node) = form method.RemoveNode node_field (node, tt)
+parameters_form (MoveTo node target before) = form method.MoveTo move_fields (node, (target, (before, tt)))
+parameters_form (CopyTo node target before) = form method.CopyTo move_fields (node, (target, (before, tt)))
+parameters_form MarkUndoableState = form method.MarkUndoableState no_lookups tt
+parameters_form Undo = form method.Undo no_lookups tt
+parameters_form Redo = form method.Redo no_lookups tt
+parameters_form CssEnable = form method.CssEnable no_lookups tt
+parameters_form CssDisable = form method.CssDisable no_lookups tt
+parameters_form (GetMatchedStyles node) = form method.GetMatchedStyles node_field (node, tt)
+parameters_form (GetStyleSheetText sheet) = form method.GetStyleSheetText sheet_field (sheet, tt)
+parameters_form (CollectClassNames sheet) = form method.CollectClassNames sheet_field (sheet, tt)
+parameters_form (SetStyleTexts edits) = form method.SetStyleTexts edits_field (edits, tt)
+parameters_form (SetRuleSelector sheet range selector) = form method.SetRuleSelector set_selector_fields (sheet, (range, (selector, tt)))
+parameters_form (SetStyleSheetText sheet text) = form method.SetStyleSheetText sheet_text_fields (sheet, (text, tt))
+parameters_form (AddRule sheet rule_text location) = form method.AddRule add_rule_fields (sheet, (rule_text, (location, tt)))
+parameters_form (SetBreakpoint node kind) = form method.SetBreakpoint watch_fields (node, (kind, tt))
+parameters_form (RemoveBreakpoint node kind) = form method.RemoveBreakpoint watch_fields (node, (kind, tt))
+parameters_form (ReplayLoad params) = record { method = method.ReplayLoad; parameters = params; fits = is_object params }
+parameters_form (ReplayAct params) = record { method = method.ReplayAct; parameters = params; fits = is_object params }

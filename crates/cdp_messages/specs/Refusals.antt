@@ -130,5 +130,5 @@ said_of_param BadPlace = []
 said_of_param TooBig = []
 
 -- the text of a refusal
-abbrev pub text_of : Why → List ℕ
-text_of why = said_first why ++ said_of_param why
+abbrev pub refusal_words : Why → List ℕ
+refusal_words why = said_first why ++ said_of_param why

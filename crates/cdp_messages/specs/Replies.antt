@@ -18,7 +18,7 @@ use Rattle.cdp_messages.specs.declared.result_forms.ResultForm.{ResultForm}
 use Rattle.cdp_messages.specs.declared.result_forms.ResultForm.TheVariants as form
 use Rattle.cdp_messages.specs.NodeData.{fits_tree, fits_described_tree}
 use Rattle.cdp_messages.specs.Methods.{method_named}
-use Rattle.cdp_messages.specs.Refusals.{code_of, text_of}
+use Rattle.cdp_messages.specs.Refusals.{code_of, refusal_words}
 use Rattle.cdp_messages.specs.Asked.{json_of}
 use Rattle.cdp_messages.specs.Events.{is_object, News, news_of, news_data, fits_news, news_in}
 use Rattle.cdp_messages.specs.Results.{nothing_kind, root_kind, node_kind, id_kind, ids_kind, are_attributes, attributes_kind, result_form}
@@ -173,7 +173,7 @@ reply_text id body = compact_text (message_data (reply id (body_data body)))
 
 -- the message that tells a refusal
 abbrev pub refusal_message : Refused → Message
-refusal_message r = fault r.id (code_of r.why) (text_of r.why)
+refusal_message r = fault r.id (code_of r.why) (refusal_words r.why)
 
 -- the text of a refusal
 abbrev pub refused_text : Refused → List ℕ

@@ -14,7 +14,7 @@ use Rattle.cdp_messages.specs.declared.result_forms.ResultForm.{ResultForm}
 use Rattle.cdp_messages.specs.declared.result_forms.ResultForm.TheVariants as form
 use Rattle.cdp_messages.specs.Told.{Told}
 use Rattle.cdp_messages.specs.NodeObject.{attribute_list}
-use Rattle.cdp_messages.specs.NodeData.{tree_data, tree_of, fits_tree, fits_described_tree}
+use Rattle.cdp_messages.specs.NodeData.{tree_data, tree_told, fits_tree, fits_described_tree}
 use Rattle.cdp_messages.specs.Events.{is_object}
 
 -- ---- kinds
@@ -25,7 +25,7 @@ nothing_kind = record { spell = λ _. object no_members; reads = λ d. unit_if (
 
 -- a document with all that is shown of it
 abbrev pub document_kind : Kind (Branch Told)
-document_kind = record { spell = tree_data; reads = tree_of Pushed true; fits = fits_tree true; loose = None }
+document_kind = record { spell = tree_data; reads = tree_told Pushed true; fits = fits_tree true; loose = None }
 
 -- of `DOM.getDocument`: the document
 abbrev pub root_kind : Kind (Branch Told × ⊤)
@@ -33,7 +33,7 @@ root_kind = object_of (and_need (codes "root") document_kind ends)
 
 -- a node that is described alone, with all that is shown of it
 abbrev pub described_kind : Kind (Branch Told)
-described_kind = record { spell = tree_data; reads = tree_of Described true; fits = fits_described_tree; loose = None }
+described_kind = record { spell = tree_data; reads = tree_told Described true; fits = fits_described_tree; loose = None }
 
 -- of `DOM.describeNode`: the node
 abbrev pub node_kind : Kind (Branch Told × ⊤)

@@ -4,9 +4,9 @@ ghost use Rattle.serde_json.specs.Find.{as_bool};
 ghost use Rattle.serde_json.specs.View.{view, items_view};
 ghost use Rattle.cdp_json.specs.Kinds.{only_text};
 ghost use Rattle.cdp_json.specs.Left.{left};
-ghost use Rattle.cdp_json.specs.Rows.{beside, need, may};
+ghost use Rattle.cdp_json.specs.Rows.{left_with, need, may};
 ghost use Rattle.css_objects.specs.Sheets.{header_kind, sheet_kind};
-ghost use Rattle.cdp_messages.specs.Answers.{Gives};
+ghost use Rattle.cdp_messages.specs.Answers.{GivesMessage};
 ghost use Rattle.cdp_messages.specs.declared.event_names.EventName.TheVariants as event_name;
 ghost use Rattle.cdp_messages.specs.Events.{news_of, node_id, attribute_name, bare_kind, watch, pause_by, pause_kind, sheet_id_kind, envelope, envelope_seen, children_fields, children_seen, inserted_fields, inserted_seen, news_by, news_from, news_in};
 ghost use Rattle.css_objects.specs.Styles.{empty_list, has_none};
@@ -38,7 +38,7 @@ fn envelope_of(value: &Value) -> Option<(&str, &Value)>
 
 // The id of a node that is known.
 fn node_id_field(fields: &mut Cursor<'_>, name: &str) -> Option<u64>
-    ensures { option_map (beside (left fields.new)) result
+    ensures { option_map (left_with (left fields.new)) result
         ≡ need node_id.reads name.now (left fields.old) }
 {
     let id = fields.need_whole(name)?;
@@ -47,7 +47,7 @@ fn node_id_field(fields: &mut Cursor<'_>, name: &str) -> Option<u64>
 
 // An attribute's name.
 fn name_field<'a>(fields: &mut Cursor<'a>) -> Option<&'a str>
-    ensures { option_map (λ s. beside (left fields.new) s.now) result
+    ensures { option_map (λ s. left_with (left fields.new) s.now) result
         ≡ need attribute_name.reads (codes "name") (left fields.old) }
 {
     let name = fields.need_text("name")?;
@@ -59,7 +59,7 @@ fn name_field<'a>(fields: &mut Cursor<'a>) -> Option<&'a str>
 }
 
 fn modified_of(alloc: Global, params: &Value) -> Result<Event, DownErr>
-    ensures { Gives news_of result (news_by event_name.AttributeModified (view params.now)) }
+    ensures { GivesMessage news_of result (news_by event_name.AttributeModified (view params.now)) }
 {
     let object = params.as_object().ok_or(DownErr::NotMessage)?;
     let mut fields = Cursor::new(object);
@@ -75,7 +75,7 @@ fn modified_of(alloc: Global, params: &Value) -> Result<Event, DownErr>
 }
 
 fn dropped_of(alloc: Global, params: &Value) -> Result<Event, DownErr>
-    ensures { Gives news_of result (news_by event_name.AttributeRemoved (view params.now)) }
+    ensures { GivesMessage news_of result (news_by event_name.AttributeRemoved (view params.now)) }
 {
     let object = params.as_object().ok_or(DownErr::NotMessage)?;
     let mut fields = Cursor::new(object);
@@ -89,7 +89,7 @@ fn dropped_of(alloc: Global, params: &Value) -> Result<Event, DownErr>
 }
 
 fn data_of(alloc: Global, params: &Value) -> Result<Event, DownErr>
-    ensures { Gives news_of result (news_by event_name.CharacterDataModified (view params.now)) }
+    ensures { GivesMessage news_of result (news_by event_name.CharacterDataModified (view params.now)) }
 {
     let object = params.as_object().ok_or(DownErr::NotMessage)?;
     let mut fields = Cursor::new(object);
@@ -105,7 +105,7 @@ fn data_of(alloc: Global, params: &Value) -> Result<Event, DownErr>
 }
 
 fn count_of(params: &Value) -> Result<Event, DownErr>
-    ensures { Gives news_of result (news_by event_name.ChildNodeCountUpdated (view params.now)) }
+    ensures { GivesMessage news_of result (news_by event_name.ChildNodeCountUpdated (view params.now)) }
 {
     let object = params.as_object().ok_or(DownErr::NotMessage)?;
     let mut fields = Cursor::new(object);
@@ -120,7 +120,7 @@ fn count_of(params: &Value) -> Result<Event, DownErr>
 }
 
 fn removed_of(params: &Value) -> Result<Event, DownErr>
-    ensures { Gives news_of result (news_by event_name.ChildNodeRemoved (view params.now)) }
+    ensures { GivesMessage news_of result (news_by event_name.ChildNodeRemoved (view params.now)) }
 {
     let object = params.as_object().ok_or(DownErr::NotMessage)?;
     let mut fields = Cursor::new(object);
@@ -146,7 +146,7 @@ fn children_fields(params: &Value) -> Option<(&[Value], u64)>
 }
 
 fn children_of(alloc: Global, params: &Value) -> Result<Event, DownErr>
-    ensures { Gives news_of result (news_by event_name.SetChildNodes (view params.now)) }
+    ensures { GivesMessage news_of result (news_by event_name.SetChildNodes (view params.now)) }
 {
     let Some((values, parent)) = children_fields(params) else {
         return Err(DownErr::NotMessage);
@@ -173,7 +173,7 @@ fn inserted_fields(params: &Value) -> Option<(&Value, (u64, u64))>
 
 // A node none of whose children are shown.
 fn bare_of(alloc: Global, value: &Value) -> Result<NodeTree, DownErr>
-    ensures { Gives (λ tree. tree) result (bare_kind.reads (view value.now)) }
+    ensures { GivesMessage (λ tree. tree) result (bare_kind.reads (view value.now)) }
 {
     match tree_of(alloc, value, Manner::Pushed, false) {
         Ok(tree) => if tree.children.is_some() {
@@ -186,7 +186,7 @@ fn bare_of(alloc: Global, value: &Value) -> Result<NodeTree, DownErr>
 }
 
 fn inserted_of(alloc: Global, params: &Value) -> Result<Event, DownErr>
-    ensures { Gives news_of result (news_by event_name.ChildNodeInserted (view params.now)) }
+    ensures { GivesMessage news_of result (news_by event_name.ChildNodeInserted (view params.now)) }
 {
     let Some((value, (parent, previous))) = inserted_fields(params) else {
         return Err(DownErr::NotMessage);
@@ -202,7 +202,7 @@ fn inserted_of(alloc: Global, params: &Value) -> Result<Event, DownErr>
 }
 
 fn updated_of(params: &Value) -> Result<Event, DownErr>
-    ensures { Gives news_of result (news_by event_name.DocumentUpdated (view params.now)) }
+    ensures { GivesMessage news_of result (news_by event_name.DocumentUpdated (view params.now)) }
 {
     let object = params.as_object().ok_or(DownErr::NotMessage)?;
     let fields = Cursor::new(object);
@@ -213,7 +213,7 @@ fn updated_of(params: &Value) -> Result<Event, DownErr>
 }
 
 fn header_field(fields: &mut Cursor<'_>) -> Option<Header>
-    ensures { option_map (beside (left fields.new)) result
+    ensures { option_map (left_with (left fields.new)) result
         ≡ need header_kind.reads (codes "header") (left fields.old) }
 {
     let value = fields.need("header")?;
@@ -221,7 +221,7 @@ fn header_field(fields: &mut Cursor<'_>) -> Option<Header>
 }
 
 fn sheet_field(fields: &mut Cursor<'_>) -> Option<u64>
-    ensures { option_map (beside (left fields.new)) result
+    ensures { option_map (left_with (left fields.new)) result
         ≡ need sheet_kind.reads (codes "styleSheetId") (left fields.old) }
 {
     let value = fields.need("styleSheetId")?;
@@ -229,7 +229,7 @@ fn sheet_field(fields: &mut Cursor<'_>) -> Option<u64>
 }
 
 fn added_of(params: &Value) -> Result<Event, DownErr>
-    ensures { Gives news_of result (news_by event_name.StyleSheetAdded (view params.now)) }
+    ensures { GivesMessage news_of result (news_by event_name.StyleSheetAdded (view params.now)) }
 {
     let object = params.as_object().ok_or(DownErr::NotMessage)?;
     let mut fields = Cursor::new(object);
@@ -253,7 +253,7 @@ fn named_sheet(params: &Value) -> Option<u64>
 }
 
 fn changed_of(params: &Value) -> Result<Event, DownErr>
-    ensures { Gives news_of result (news_by event_name.StyleSheetChanged (view params.now)) }
+    ensures { GivesMessage news_of result (news_by event_name.StyleSheetChanged (view params.now)) }
 {
     match named_sheet(params) {
         Some(sheet) => Ok(Event::StyleSheetChanged { sheet }),
@@ -262,7 +262,7 @@ fn changed_of(params: &Value) -> Result<Event, DownErr>
 }
 
 fn sheet_removed_of(params: &Value) -> Result<Event, DownErr>
-    ensures { Gives news_of result (news_by event_name.StyleSheetRemoved (view params.now)) }
+    ensures { GivesMessage news_of result (news_by event_name.StyleSheetRemoved (view params.now)) }
 {
     match named_sheet(params) {
         Some(sheet) => Ok(Event::StyleSheetRemoved { sheet }),
@@ -272,7 +272,7 @@ fn sheet_removed_of(params: &Value) -> Result<Event, DownErr>
 
 // An outer `None` says that the field is there and of another kind, here and below.
 fn flag_if_any(fields: &mut Cursor<'_>, name: &str) -> Option<Option<bool>>
-    ensures { option_map (beside (left fields.new)) result
+    ensures { option_map (left_with (left fields.new)) result
         ≡ may as_bool name.now (left fields.old) }
 {
     match fields.may(name) {
@@ -285,7 +285,7 @@ fn flag_if_any(fields: &mut Cursor<'_>, name: &str) -> Option<Option<bool>>
 }
 
 fn node_id_if_any(fields: &mut Cursor<'_>, name: &str) -> Option<Option<u64>>
-    ensures { option_map (beside (left fields.new)) result
+    ensures { option_map (left_with (left fields.new)) result
         ≡ may node_id.reads name.now (left fields.old) }
 {
     match fields.may_whole(name) {
@@ -296,7 +296,7 @@ fn node_id_if_any(fields: &mut Cursor<'_>, name: &str) -> Option<Option<u64>>
 }
 
 fn watch_field(fields: &mut Cursor<'_>) -> Option<WatchWord>
-    ensures { option_map (beside (left fields.new)) result
+    ensures { option_map (left_with (left fields.new)) result
         ≡ need watch.reads (codes "type") (left fields.old) }
 {
     let word = fields.need_text("type")?;
@@ -339,7 +339,7 @@ fn pause_of(value: &Value) -> Option<PauseData>
 }
 
 fn pause_field(fields: &mut Cursor<'_>) -> Option<PauseData>
-    ensures { option_map (beside (left fields.new)) result
+    ensures { option_map (left_with (left fields.new)) result
         ≡ need pause_kind.reads (codes "data") (left fields.old) }
 {
     let value = fields.need("data")?;
@@ -356,7 +356,7 @@ fn has_none(items: &[Value]) -> bool
 }
 
 fn empty_list_field(fields: &mut Cursor<'_>) -> bool
-    ensures { option_map (beside (left fields.new)) (if result then Some tt else None)
+    ensures { option_map (left_with (left fields.new)) (if result then Some tt else None)
         ≡ need empty_list.reads (codes "callFrames") (left fields.old) }
 {
     match fields.need_list("callFrames") {
@@ -366,7 +366,7 @@ fn empty_list_field(fields: &mut Cursor<'_>) -> bool
 }
 
 fn reason_field(fields: &mut Cursor<'_>) -> bool
-    ensures { option_map (beside (left fields.new)) (if result then Some tt else None)
+    ensures { option_map (left_with (left fields.new)) (if result then Some tt else None)
         ≡ need (only_text (codes "DOM")).reads (codes "reason") (left fields.old) }
 {
     match fields.need_text("reason") {
@@ -376,7 +376,7 @@ fn reason_field(fields: &mut Cursor<'_>) -> bool
 }
 
 fn paused_of(params: &Value) -> Result<Event, DownErr>
-    ensures { Gives news_of result (news_by event_name.Paused (view params.now)) }
+    ensures { GivesMessage news_of result (news_by event_name.Paused (view params.now)) }
 {
     let object = params.as_object().ok_or(DownErr::NotMessage)?;
     let mut fields = Cursor::new(object);
@@ -394,7 +394,7 @@ fn paused_of(params: &Value) -> Result<Event, DownErr>
 }
 
 fn event_by(alloc: Global, name: EventName, params: &Value) -> Result<Event, DownErr>
-    ensures { Gives news_of result (news_by name (view params.now)) }
+    ensures { GivesMessage news_of result (news_by name (view params.now)) }
 {
     match name {
         EventName::AttributeModified => modified_of(alloc, params),
@@ -413,7 +413,7 @@ fn event_by(alloc: Global, name: EventName, params: &Value) -> Result<Event, Dow
 }
 
 fn named_event(alloc: Global, method: &str, params: &Value) -> Result<Event, DownErr>
-    ensures { Gives news_of result (news_from method.now (view params.now)) }
+    ensures { GivesMessage news_of result (news_from method.now (view params.now)) }
 {
     match EventName::named(method) {
         Some(name) => event_by(alloc, name, params),
@@ -422,7 +422,7 @@ fn named_event(alloc: Global, method: &str, params: &Value) -> Result<Event, Dow
 }
 
 pub(crate) fn event_of(alloc: Global, value: &Value) -> Result<Event, DownErr>
-    ensures { Gives news_of result (news_in (view value.now)) }
+    ensures { GivesMessage news_of result (news_in (view value.now)) }
 {
     match envelope_of(value) {
         Some((method, params)) => named_event(alloc, method, params),

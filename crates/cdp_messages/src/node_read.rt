@@ -4,10 +4,10 @@ ghost use Rattle.serde_json.specs.Events.{items_len};
 ghost use Rattle.serde_json.specs.Data.{array};
 ghost use Rattle.serde_json.specs.View.{view, items_view};
 ghost use Rattle.cdp_json.specs.Left.{left};
-ghost use Rattle.cdp_json.specs.Rows.{beside, need, may};
+ghost use Rattle.cdp_json.specs.Rows.{left_with, need, may};
 ghost use Rattle.node_tree.specs.Nodes.{nodes_of};
-ghost use Rattle.cdp_messages.specs.Answers.{Gives};
-ghost use Rattle.cdp_messages.specs.NodeData.{tree_of, trees_of};
+ghost use Rattle.cdp_messages.specs.Answers.{GivesMessage};
+ghost use Rattle.cdp_messages.specs.NodeData.{tree_told, trees_of};
 ghost use Rattle.cdp_messages.specs.NodeObject.{attribute_list, kind_of_type, node_type, node_name, node_fields};
 
 use crate::down::DownErr;
@@ -42,7 +42,7 @@ pub(crate) struct RawNode<'a> {
 
 // Names and values in turn.
 pub(crate) fn attributes_of(alloc: Global, values: &[Value]) -> Result<Attributes, DownErr>
-    ensures { Gives (λ pairs. pairs) result (attribute_list.reads (array (items_view values.now))) }
+    ensures { GivesMessage (λ pairs. pairs) result (attribute_list.reads (array (items_view values.now))) }
 {
     let mut pairs = Attributes::new(alloc);
     let mut rest = values;
@@ -82,7 +82,7 @@ pub(crate) fn kind_of_type(number: u64) -> Option<Kind>
 }
 
 fn kind_field(fields: &mut Cursor<'_>) -> Option<Kind>
-    ensures { option_map (beside (left fields.new)) result
+    ensures { option_map (left_with (left fields.new)) result
         ≡ need node_type.reads (codes "nodeType") (left fields.old) }
 {
     let number = fields.need_whole("nodeType")?;
@@ -90,7 +90,7 @@ fn kind_field(fields: &mut Cursor<'_>) -> Option<Kind>
 }
 
 fn attributes_field(alloc: Global, fields: &mut Cursor<'_>) -> Result<Option<Attributes>, DownErr>
-    ensures { Gives (beside (left fields.new)) result
+    ensures { GivesMessage (left_with (left fields.new)) result
         (may attribute_list.reads (codes "attributes") (left fields.old)) }
 {
     match fields.may_list("attributes") {
@@ -108,7 +108,7 @@ impl<'a> RawNode<'a> {
 
     // Exactly these fields, in their forms.
     fn read(alloc: Global, value: &'a Value) -> Result<RawNode<'a>, DownErr>
-        ensures { Gives object_in result (node_fields.reads (view value.now)) }
+        ensures { GivesMessage object_in result (node_fields.reads (view value.now)) }
     {
         let object = value.as_object().ok_or(DownErr::NotMessage)?;
         let mut fields = Cursor::new(object);
@@ -318,7 +318,7 @@ pub(crate) fn tree_of(
     manner: Manner,
     top: bool,
 ) -> Result<NodeTree, DownErr>
-    ensures { Gives (λ tree. tree) result (tree_of manner top (view value.now)) }
+    ensures { GivesMessage (λ tree. tree) result (tree_told manner top (view value.now)) }
 {
     let raw = match RawNode::read(alloc, value) {
         Ok(raw) => raw,
@@ -349,7 +349,7 @@ pub(crate) fn trees_of(
     values: &[Value],
     manner: Manner,
 ) -> Result<Vec<NodeTree>, DownErr>
-    ensures { Gives (λ trees. nodes_of trees.items) result
+    ensures { GivesMessage (λ trees. nodes_of trees.items) result
         (trees_of manner (items_view values.now)) }
 {
     let mut trees = Vec::with_capacity(alloc, values.len())?;

@@ -4,11 +4,11 @@ ghost use Rattle.serde_json.specs.Find.{as_bool, as_str};
 ghost use Rattle.serde_json.specs.View.{view, items_view, members_view};
 ghost use Rattle.cdp_json.specs.Fields.{field_of};
 ghost use Rattle.cdp_json.specs.Kinds.{as_whole, as_depth, list_of, whole, read_items};
-ghost use Rattle.cdp_json.specs.Lookups.{optional, required, value_of};
+ghost use Rattle.cdp_json.specs.Lookups.{optional, required, ok_value};
 ghost use Rattle.cdp_messages.specs.declared.command.Why.TheVariants.{BadParam};
 ghost use Rattle.cdp_messages.specs.Refusals.{param_name};
 ghost use Rattle.cdp_messages.specs.Events.{watch};
-ghost use Rattle.cdp_messages.specs.Parameters.{place_fields, place_from, place, text_edit};
+ghost use Rattle.cdp_messages.specs.Parameters.{place_fields, place_from, range_parameter, text_edit};
 ghost use Rattle.cdp_messages.specs.Answers.{Commands};
 
 use crate::command::{CommandErr, Param, WatchWord, Why};
@@ -150,7 +150,7 @@ pub(crate) fn watch(params: &Map<String, Value>, param: Param) -> Result<WatchWo
 }
 
 fn place_in(members: &Map<String, Value>) -> Option<SourceRange>
-    ensures { result ≡ option_and_then place_from (value_of (place_fields.gets
+    ensures { result ≡ option_and_then place_from (ok_value (place_fields.gets
         (members_view members.now.entries))) }
 {
     let Field::Is(start_line) = int_field(members, "startLine") else {
@@ -174,7 +174,7 @@ fn place_in(members: &Map<String, Value>) -> Option<SourceRange>
 }
 
 fn place_field(params: &Map<String, Value>, name: &str) -> Field<SourceRange>
-    ensures { result ≡ field_of place.reads name.now (members_view params.now.entries) }
+    ensures { result ≡ field_of range_parameter.reads name.now (members_view params.now.entries) }
 {
     match object_field(params, name) {
         Field::Is(members) => match place_in(members) {
@@ -187,7 +187,7 @@ fn place_field(params: &Map<String, Value>, name: &str) -> Field<SourceRange>
 }
 
 pub(crate) fn place(params: &Map<String, Value>, param: Param) -> Result<SourceRange, Why>
-    ensures { result ≡ required (BadParam param) (field_of place.reads (param_name param)
+    ensures { result ≡ required (BadParam param) (field_of range_parameter.reads (param_name param)
         (members_view params.now.entries)) }
 {
     required(param, place_field(params, param_name(param)))

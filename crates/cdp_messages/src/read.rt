@@ -5,7 +5,7 @@ ghost use Rattle.serde_json.specs.View.{view, members_view};
 ghost use Rattle.cdp_json.specs.Lookups.{then_ok};
 ghost use Rattle.cdp_messages.specs.Methods.{known_method};
 ghost use Rattle.cdp_messages.specs.Asked.{json_of, of_method, unless_session, or_bad_request, command_of, command_in, asked_in, asked_value, asked, fits_command};
-ghost use Rattle.cdp_messages.specs.Answers.{Asks, Commands};
+ghost use Rattle.cdp_messages.specs.Answers.{ReadsAsked, Commands};
 
 use crate::command::{Asked, Command, CommandErr, ReadErr, Refused, Why};
 use crate::method::Method;
@@ -99,7 +99,7 @@ fn command_in(alloc: Global, frame: &Map<String, Value>, own: bool) -> Result<Co
 }
 
 fn asked_in(alloc: Global, value: &Value, own: bool) -> Result<Asked, ReadErr>
-    ensures { Asks result (asked_in own (as_object (view value.now))) }
+    ensures { ReadsAsked result (asked_in own (as_object (view value.now))) }
 {
     let refused = ReadErr::Refused(Refused {
         id: None,
@@ -134,7 +134,7 @@ pub(crate) fn json_of(alloc: Global, bytes: &[u8]) -> Result<Option<Value>, Allo
 
 // What is asked by a frame that is this value, if it is any.
 fn asked_by(alloc: Global, found: &Option<Value>, own: bool) -> Result<Asked, ReadErr>
-    ensures { Asks result (asked_value own (option_map view found.now)) }
+    ensures { ReadsAsked result (asked_value own (option_map view found.now)) }
 {
     match found {
         Some(value) => asked_in(alloc, value, own),
@@ -148,7 +148,7 @@ fn asked_by(alloc: Global, found: &Option<Value>, own: bool) -> Result<Asked, Re
 /// Reads what a frame asks: a command, or the first refusal that applies. `own` says whether our own two methods are known,
 /// `Replay.load` and `Replay.act`. Each parameter of the command is in its range.
 pub fn read_command(alloc: Global, bytes: &[u8], own: bool) -> Result<Asked, ReadErr>
-    ensures asked { Asks result (asked bytes.now own) }
+    ensures asked { ReadsAsked result (asked bytes.now own) }
     ensures fits { IfOk result (λ a. fits_command a.command ≡ true) }
 {
     let Ok(found) = json_of(alloc, bytes) else {

@@ -3,8 +3,8 @@ ghost use Rattle.std.specs.Prelude.{◌≡◌, codes, option_map};
 ghost use Rattle.serde_json.specs.Find.{get};
 ghost use Rattle.serde_json.specs.View.{view};
 ghost use Rattle.cdp_json.specs.Left.{left};
-ghost use Rattle.cdp_json.specs.Rows.{beside, need};
-ghost use Rattle.cdp_messages.specs.Answers.{Gives};
+ghost use Rattle.cdp_json.specs.Rows.{left_with, need};
+ghost use Rattle.cdp_messages.specs.Answers.{GivesMessage};
 ghost use Rattle.cdp_messages.specs.Events.{news_in};
 ghost use Rattle.cdp_messages.specs.Replies.{message_of, event, reply_kind, error_kind, error_seen, fault_kind, fault_from, message_in, down_of};
 ghost use Rattle.node_tree.specs.Keys.{first_of};
@@ -55,7 +55,7 @@ fn error_of(value: &Value) -> Option<(i64, &str)>
 }
 
 fn error_field<'a>(fields: &mut Cursor<'a>) -> Option<(i64, &'a str)>
-    ensures { option_map (λ e. beside (left fields.new) (error_seen e)) result
+    ensures { option_map (λ e. left_with (left fields.new) (error_seen e)) result
         ≡ need error_kind.reads (codes "error") (left fields.old) }
 {
     let value = fields.need("error")?;
@@ -63,7 +63,7 @@ fn error_field<'a>(fields: &mut Cursor<'a>) -> Option<(i64, &'a str)>
 }
 
 fn fault_of(alloc: Global, value: &Value) -> Result<Down, DownErr>
-    ensures { Gives message_of result (option_map fault_from (fault_kind.reads (view value.now))) }
+    ensures { GivesMessage message_of result (option_map fault_from (fault_kind.reads (view value.now))) }
 {
     let object = value.as_object().ok_or(DownErr::NotMessage)?;
     let mut fields = Cursor::new(object);
@@ -82,7 +82,7 @@ fn fault_of(alloc: Global, value: &Value) -> Result<Down, DownErr>
 
 // A message that is no reply.
 fn fault_or_event(alloc: Global, value: &Value) -> Result<Down, DownErr>
-    ensures { Gives message_of result (first_of (option_map fault_from (fault_kind.reads (view value.now)))
+    ensures { GivesMessage message_of result (first_of (option_map fault_from (fault_kind.reads (view value.now)))
         (option_map event (news_in (view value.now)))) }
 {
     match fault_of(alloc, value) {
@@ -96,7 +96,7 @@ fn fault_or_event(alloc: Global, value: &Value) -> Result<Down, DownErr>
 }
 
 fn message_in(alloc: Global, value: Value) -> Result<Down, DownErr>
-    ensures { Gives message_of result (message_in (view value)) }
+    ensures { GivesMessage message_of result (message_in (view value)) }
 {
     let Some(id) = reply_id(&value) else {
         return fault_or_event(alloc, &value);
@@ -110,7 +110,7 @@ fn message_in(alloc: Global, value: Value) -> Result<Down, DownErr>
 /// Reads a message from the back end. It has exactly the fields that its form has; of a reply's result only that it is
 /// an object is seen.
 pub fn read_down(alloc: Global, bytes: &[u8]) -> Result<Down, DownErr>
-    ensures { Gives message_of result (down_of bytes.now) }
+    ensures { GivesMessage message_of result (down_of bytes.now) }
 {
     let Ok(found) = json_of(alloc, bytes) else {
         return Err(DownErr::Memory);

@@ -4,8 +4,8 @@ ghost use Rattle.serde_json.specs.Data.{array};
 ghost use Rattle.serde_json.specs.View.{view, items_view};
 ghost use Rattle.cdp_json.specs.Left.{left};
 ghost use Rattle.cdp_json.specs.Kinds.{list_of, refined, whole};
-ghost use Rattle.cdp_json.specs.Rows.{beside, need};
-ghost use Rattle.cdp_messages.specs.Answers.{Gives};
+ghost use Rattle.cdp_json.specs.Rows.{left_with, need};
+ghost use Rattle.cdp_messages.specs.Answers.{GivesMessage};
 ghost use Rattle.cdp_messages.specs.declared.result_forms.ResultForm.TheVariants as form;
 ghost use Rattle.cdp_messages.specs.NodeObject.{attribute_list};
 ghost use Rattle.cdp_messages.specs.Results.{are_attributes};
@@ -27,7 +27,7 @@ use std::alloc::Global;
 
 // Any object is the empty result.
 fn nothing_of(value: &Value) -> Result<ReplyBody, DownErr>
-    ensures { Gives (λ body. body) result (result_by form.Nothing (view value.now)) }
+    ensures { GivesMessage (λ body. body) result (result_by form.Nothing (view value.now)) }
 {
     if value.is_object() {
         Ok(ReplyBody::Nothing)
@@ -37,7 +37,7 @@ fn nothing_of(value: &Value) -> Result<ReplyBody, DownErr>
 }
 
 fn root_of(alloc: Global, value: &Value) -> Result<ReplyBody, DownErr>
-    ensures { Gives (λ body. body) result (result_by form.Root (view value.now)) }
+    ensures { GivesMessage (λ body. body) result (result_by form.Root (view value.now)) }
 {
     let object = value.as_object().ok_or(DownErr::NotMessage)?;
     let mut fields = Cursor::new(object);
@@ -52,7 +52,7 @@ fn root_of(alloc: Global, value: &Value) -> Result<ReplyBody, DownErr>
 }
 
 fn node_of(alloc: Global, value: &Value) -> Result<ReplyBody, DownErr>
-    ensures { Gives (λ body. body) result (result_by form.Node (view value.now)) }
+    ensures { GivesMessage (λ body. body) result (result_by form.Node (view value.now)) }
 {
     let object = value.as_object().ok_or(DownErr::NotMessage)?;
     let mut fields = Cursor::new(object);
@@ -67,7 +67,7 @@ fn node_of(alloc: Global, value: &Value) -> Result<ReplyBody, DownErr>
 }
 
 fn id_of(value: &Value) -> Result<ReplyBody, DownErr>
-    ensures { Gives (λ body. body) result (result_by form.NodeId (view value.now)) }
+    ensures { GivesMessage (λ body. body) result (result_by form.NodeId (view value.now)) }
 {
     let object = value.as_object().ok_or(DownErr::NotMessage)?;
     let mut fields = Cursor::new(object);
@@ -79,7 +79,7 @@ fn id_of(value: &Value) -> Result<ReplyBody, DownErr>
 }
 
 fn wholes_field(alloc: Global, fields: &mut Cursor<'_>, name: &str) -> Result<Numbers, DownErr>
-    ensures { Gives (beside (left fields.new)) result
+    ensures { GivesMessage (left_with (left fields.new)) result
         (need (list_of whole).reads name.now (left fields.old)) }
 {
     match fields.need_list(name) {
@@ -92,7 +92,7 @@ fn wholes_field(alloc: Global, fields: &mut Cursor<'_>, name: &str) -> Result<Nu
 }
 
 fn ids_of(alloc: Global, value: &Value) -> Result<ReplyBody, DownErr>
-    ensures { Gives (λ body. body) result (result_by form.NodeIds (view value.now)) }
+    ensures { GivesMessage (λ body. body) result (result_by form.NodeIds (view value.now)) }
 {
     let object = value.as_object().ok_or(DownErr::NotMessage)?;
     let mut fields = Cursor::new(object);
@@ -112,7 +112,7 @@ fn are_attributes(pairs: &[(Text, Text)]) -> bool
 
 // Names and values in turn, in the order of the names.
 fn ordered_attributes(alloc: Global, values: &[Value]) -> Result<Attributes, DownErr>
-    ensures { Gives (λ pairs. pairs) result
+    ensures { GivesMessage (λ pairs. pairs) result
         ((refined attribute_list are_attributes).reads (array (items_view values.now))) }
 {
     match attributes_of(alloc, values) {
@@ -126,7 +126,7 @@ fn ordered_attributes(alloc: Global, values: &[Value]) -> Result<Attributes, Dow
 }
 
 fn attributes_field(alloc: Global, fields: &mut Cursor<'_>) -> Result<Attributes, DownErr>
-    ensures { Gives (beside (left fields.new)) result
+    ensures { GivesMessage (left_with (left fields.new)) result
         (need (refined attribute_list are_attributes).reads (codes "attributes") (left fields.old)) }
 {
     match fields.need_list("attributes") {
@@ -136,7 +136,7 @@ fn attributes_field(alloc: Global, fields: &mut Cursor<'_>) -> Result<Attributes
 }
 
 fn attributes_result(alloc: Global, value: &Value) -> Result<ReplyBody, DownErr>
-    ensures { Gives (λ body. body) result (result_by form.Attributes (view value.now)) }
+    ensures { GivesMessage (λ body. body) result (result_by form.Attributes (view value.now)) }
 {
     let object = value.as_object().ok_or(DownErr::NotMessage)?;
     let mut fields = Cursor::new(object);
@@ -148,7 +148,7 @@ fn attributes_result(alloc: Global, value: &Value) -> Result<ReplyBody, DownErr>
 }
 
 fn class_names_result(alloc: Global, value: &Value) -> Result<ReplyBody, DownErr>
-    ensures { Gives (λ body. body) result (result_by form.ClassNames (view value.now)) }
+    ensures { GivesMessage (λ body. body) result (result_by form.ClassNames (view value.now)) }
 {
     match class_names_of(alloc, value)? {
         Some(names) => Ok(ReplyBody::ClassNames(names)),
@@ -157,7 +157,7 @@ fn class_names_result(alloc: Global, value: &Value) -> Result<ReplyBody, DownErr
 }
 
 fn sheet_text_result(alloc: Global, value: &Value) -> Result<ReplyBody, DownErr>
-    ensures { Gives (λ body. body) result (result_by form.SheetText (view value.now)) }
+    ensures { GivesMessage (λ body. body) result (result_by form.SheetText (view value.now)) }
 {
     match sheet_text_of(alloc, value)? {
         Some(text) => Ok(ReplyBody::SheetText(text)),
@@ -166,7 +166,7 @@ fn sheet_text_result(alloc: Global, value: &Value) -> Result<ReplyBody, DownErr>
 }
 
 fn styles_result(alloc: Global, value: &Value) -> Result<ReplyBody, DownErr>
-    ensures { Gives (λ body. body) result (result_by form.Styles (view value.now)) }
+    ensures { GivesMessage (λ body. body) result (result_by form.Styles (view value.now)) }
 {
     match styles_of(alloc, value)? {
         Some(styles) => Ok(ReplyBody::Styles(styles)),
@@ -175,7 +175,7 @@ fn styles_result(alloc: Global, value: &Value) -> Result<ReplyBody, DownErr>
 }
 
 fn selectors_result(alloc: Global, value: &Value) -> Result<ReplyBody, DownErr>
-    ensures { Gives (λ body. body) result (result_by form.Selectors (view value.now)) }
+    ensures { GivesMessage (λ body. body) result (result_by form.Selectors (view value.now)) }
 {
     match new_selectors_of(alloc, value)? {
         Some(selectors) => Ok(ReplyBody::Selectors(selectors)),
@@ -184,7 +184,7 @@ fn selectors_result(alloc: Global, value: &Value) -> Result<ReplyBody, DownErr>
 }
 
 fn rule_result(alloc: Global, value: &Value) -> Result<ReplyBody, DownErr>
-    ensures { Gives (λ body. body) result (result_by form.Rule (view value.now)) }
+    ensures { GivesMessage (λ body. body) result (result_by form.Rule (view value.now)) }
 {
     match new_rule_of(alloc, value)? {
         Some(rule) => Ok(ReplyBody::Rule(rule)),
@@ -193,7 +193,7 @@ fn rule_result(alloc: Global, value: &Value) -> Result<ReplyBody, DownErr>
 }
 
 fn matched_result(alloc: Global, value: &Value) -> Result<ReplyBody, DownErr>
-    ensures { Gives (λ body. body) result (result_by form.Matched (view value.now)) }
+    ensures { GivesMessage (λ body. body) result (result_by form.Matched (view value.now)) }
 {
     match matched_of(alloc, value)? {
         Some(matched) => Ok(ReplyBody::Matched(matched)),
@@ -202,7 +202,7 @@ fn matched_result(alloc: Global, value: &Value) -> Result<ReplyBody, DownErr>
 }
 
 fn result_by(alloc: Global, form: ResultForm, value: &Value) -> Result<ReplyBody, DownErr>
-    ensures { Gives (λ body. body) result (result_by form (view value.now)) }
+    ensures { GivesMessage (λ body. body) result (result_by form (view value.now)) }
 {
     match form {
         ResultForm::Nothing => nothing_of(value),
@@ -222,7 +222,7 @@ fn result_by(alloc: Global, form: ResultForm, value: &Value) -> Result<ReplyBody
 
 /// Reads the result of a reply to a command of that method. No result is one of a method that is not known.
 pub fn read_result(alloc: Global, method: &str, value: &Value) -> Result<ReplyBody, DownErr>
-    ensures { Gives (λ body. body) result (result_of method.now (view value.now)) }
+    ensures { GivesMessage (λ body. body) result (result_of method.now (view value.now)) }
 {
     match Method::named(method) {
         Some(method) => result_by(alloc, ResultForm::of_method(method), value),

@@ -2,7 +2,7 @@
 ghost use Rattle.std.specs.Prelude.{◌≡◌, ◌++◌, ℤ, IsTrue, IfOk, OnOk, OnErr, option_map, false, string_bytes, IsUtf8};
 ghost use Rattle.serde_json.specs.View.{view};
 ghost use Rattle.serde_json.specs.Written.{compact_text, has_float};
-ghost use Rattle.cdp_messages.specs.Refusals.{param_name, code_of, said_first, said_of_param, text_of};
+ghost use Rattle.cdp_messages.specs.Refusals.{param_name, code_of, said_first, said_of_param, refusal_words};
 ghost use Rattle.cdp_messages.specs.Asked.{command_value, command_text, is_whole_where_there};
 ghost use Rattle.cdp_messages.specs.Replies.{error_kind, fault, message_data, refused_text};
 ghost use Rattle.pipe_frames.specs.Frames.{framed};
@@ -216,7 +216,7 @@ fn said_of_param(why: Why) -> &'static str
 }
 
 fn text_of(alloc: Global, why: Why) -> Result<String, AllocError>
-    ensures { IfOk result (λ text. string_bytes text ≡ text_of why) }
+    ensures { IfOk result (λ text. string_bytes text ≡ refusal_words why) }
 {
     let mut text = String::from_str(alloc, said_first(why))?;
     text.push_str(said_of_param(why))?;

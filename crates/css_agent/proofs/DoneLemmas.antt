@@ -21,7 +21,7 @@ use Rattle.cdp_messages.specs.declared.down.ReplyBody.TheVariants as body
 use Rattle.cdp_messages.specs.declared.edits.TextEdit.{TextEdit}
 use Rattle.css_agent.specs.declared.edits.CssEdit.{CssEdit}
 use Rattle.css_agent.specs.declared.edits.CssEdit.TheVariants as edit
-use Rattle.css_agent.specs.Edits.{sheet_number, line_range, style_edit, told_at, CssDone, css_done, styles_done, one_done, css_edited, one_splice, splices_on, style_splices, css_splices}
+use Rattle.css_agent.specs.Edits.{number_named, line_range, style_edit, told_at, CssDone, css_done, styles_done, one_done, css_edited, one_splice, splices_on, style_splices, css_splices}
 use Rattle.css_agent.specs.EditLaws.{HasEditText, HasEditTexts, edit_count, AllTake, back_splices}
 
 -- ---- lists whose elements all have a property
@@ -111,10 +111,10 @@ css-leads (edit.SetStyleTexts edits) book d h =
     subst (λ (n : ℕ). Leads (style_splices (map style_edit edits) book) d.backs n book d.book) (length-map edits style_edit)
     (style-leads (map style_edit edits) book d.book d.backs (styles-are-done edits book d h).done)
 css-leads (edit.SetRuleSelector sheet range selector) book d h =
-    one-leads (λ r. body.Selectors r.selectors) (selector_splice (sheet_number sheet) (line_range range) selector book) book d h
-css-leads (edit.SetStyleSheetText sheet text) book d h = one-leads (λ r. body.Nothing) (text_splice (sheet_number sheet) text book) book d h
+    one-leads (λ r. body.Selectors r.selectors) (selector_splice (number_named sheet) (line_range range) selector book) book d h
+css-leads (edit.SetStyleSheetText sheet text) book d h = one-leads (λ r. body.Nothing) (text_splice (number_named sheet) text book) book d h
 css-leads (edit.AddRule sheet rule_text location) book d h =
-    one-leads (λ r. body.Rule r) (rule_splice (sheet_number sheet) (line_range location) rule_text book) book d h
+    one-leads (λ r. body.Rule r) (rule_splice (number_named sheet) (line_range location) rule_text book) book d h
 
 -- ---- splices that can be made
 
@@ -141,10 +141,10 @@ one-takes (Ok s) book takes = (takes s refl, tt)
 pub css-takes : (x : CssEdit) (book : List SheetEntry) → All IsStored book → HasEditTexts x → AllTake (css_splices book x) book
 css-takes (edit.SetStyleTexts edits) book all texts = styles-take (map style_edit edits) book all (texts-all edits texts)
 css-takes (edit.SetRuleSelector sheet range selector) book all utf8 =
-    one-takes (selector_splice (sheet_number sheet) (line_range range) selector book) book
-    (λ s h. selector_found (sheet_number sheet) (line_range range) selector book s all utf8 h)
+    one-takes (selector_splice (number_named sheet) (line_range range) selector book) book
+    (λ s h. selector_found (number_named sheet) (line_range range) selector book s all utf8 h)
 css-takes (edit.SetStyleSheetText sheet text) book all utf8 =
-    one-takes (text_splice (sheet_number sheet) text book) book (λ s h. text_found (sheet_number sheet) text book s all utf8 h)
+    one-takes (text_splice (number_named sheet) text book) book (λ s h. text_found (number_named sheet) text book s all utf8 h)
 css-takes (edit.AddRule sheet rule_text location) book all utf8 =
-    one-takes (rule_splice (sheet_number sheet) (line_range location) rule_text book) book
-    (λ s h. rule_found (sheet_number sheet) (line_range location) rule_text book s all utf8 h)
+    one-takes (rule_splice (number_named sheet) (line_range location) rule_text book) book
+    (λ s h. rule_found (number_named sheet) (line_range location) rule_text book s all utf8 h)

@@ -13,7 +13,7 @@ use Rattle.cdp_messages.specs.Moves.{Move, replied, move_text, frames_of_moves}
 use Rattle.cdp_messages.specs.Replies.{event}
 use Rattle.css_agent.specs.declared.edits.CssEdit.{CssEdit}
 use Rattle.css_agent.specs.Told.{changed_message, message_frame, message_frames}
-use Rattle.css_agent.specs.Edits.{CssDone, CssEdited, css_edited, css_splices, splice_moves, with_reply, edit_moves}
+use Rattle.css_agent.specs.Edits.{CssDone, CssEdited, css_edited, css_splices, splice_moves, moves_with_reply, edit_moves}
 use Rattle.css_agent.specs.EditLaws.{back_splices}
 use Rattle.css_agent.proofs.DoneLemmas.{css-leads}
 
@@ -52,7 +52,7 @@ edit_told x book d id front done =
     ∙ ap (λ (bs : List Splice). front ++ (message_frames (map changed_message bs) ++ own)) (css-leads x book d done).back
     ∙ ap (λ (xs : List ℕ). front ++ (xs ++ own)) (sym (splices-told ss book))
     ∙ ap (λ (xs : List ℕ). front ++ xs) (sym (flat_map-append (λ (m : Move). framed (move_text m)) (splice_moves ss book) (replied id d.body ∷ [])))
-    ∙ sym (ap (λ (o : CssEdited). front ++ frames_of_moves (with_reply id (splice_moves ss book) o)) done)
+    ∙ sym (ap (λ (o : CssEdited). front ++ frames_of_moves (moves_with_reply id (splice_moves ss book) o)) done)
 
 -- one more is made, of that at a place
 pub made-turn : {X Y : Type 0} (f : X → Y) (xs : List X) (i : ℕ) (x : X) (before after : List Y) → i < length xs → x ≡ get_or xs i x → before ≡ map f (take i xs) → after ≡ before ++ f x ∷ []

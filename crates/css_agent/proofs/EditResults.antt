@@ -37,7 +37,7 @@ use Rattle.cdp_messages.specs.Moves.{IsPlainReply}
 use Rattle.css_agent.specs.declared.edits.CssEdit.{CssEdit}
 use Rattle.css_agent.specs.declared.edits.CssEdit.TheVariants as edit
 use Rattle.css_agent.specs.RuleObjects.{told_rule}
-use Rattle.css_agent.specs.Edits.{sheet_number, line_range, style_edit, found_at, empty_rule, told_at, CssDone, css_done, one_done, css_edited, splices_on, style_splices, css_splices}
+use Rattle.css_agent.specs.Edits.{number_named, line_range, style_edit, found_at, empty_rule, told_at, CssDone, css_done, one_done, css_edited, splices_on, style_splices, css_splices}
 use Rattle.css_agent.specs.EditLaws.{HasEditTexts, css_edit_name, edit_count, TellsStyles, IsDone, EditsAreDone, EditsAreNamed}
 use Rattle.css_agent.proofs.SheetNames.{rules-named}
 use Rattle.css_agent.proofs.TellableStyles.{both, sheet-number, IsTold, prelude-fits, style-fits, rule-fits, rule-utf8, stored-told, entry-stored, rule-at}
@@ -170,24 +170,24 @@ result-told (edit.SetStyleTexts edits) book d all texts h =
     } in
     subst (λ (b : ReplyBody). ResultTold x b) (sym is.told) own
 result-told (edit.SetRuleSelector sheet range selector) book d all utf8 h =
-    one-result (edit.SetRuleSelector sheet range selector) (λ r. body.Selectors r.selectors) (selector_splice (sheet_number sheet) (line_range range) selector book) book d all
-    (λ s k. selector_found (sheet_number sheet) (line_range range) selector book s all utf8 k)
+    one-result (edit.SetRuleSelector sheet range selector) (λ r. body.Selectors r.selectors) (selector_splice (number_named sheet) (line_range range) selector book) book d all
+    (λ s k. selector_found (number_named sheet) (line_range range) selector book s all utf8 k)
     (λ r told. record {
       plain = λ id small. record { id_fits = small; plain = refl; fits = both told.selectors refl; texts = told.utf8.0; levels = omega arith };
       answers = refl;
       styles = tt;
     }) h
 result-told (edit.SetStyleSheetText sheet text) book d all utf8 h =
-    one-result (edit.SetStyleSheetText sheet text) (λ r. body.Nothing) (text_splice (sheet_number sheet) text book) book d all
-    (λ s k. text_found (sheet_number sheet) text book s all utf8 k)
+    one-result (edit.SetStyleSheetText sheet text) (λ r. body.Nothing) (text_splice (number_named sheet) text book) book d all
+    (λ s k. text_found (number_named sheet) text book s all utf8 k)
     (λ r told. record {
       plain = λ id small. record { id_fits = small; plain = refl; fits = refl; texts = tt; levels = omega arith };
       answers = refl;
       styles = tt;
     }) h
 result-told (edit.AddRule sheet rule_text location) book d all utf8 h =
-    one-result (edit.AddRule sheet rule_text location) (λ r. body.Rule r) (rule_splice (sheet_number sheet) (line_range location) rule_text book) book d all
-    (λ s k. rule_found (sheet_number sheet) (line_range location) rule_text book s all utf8 k)
+    one-result (edit.AddRule sheet rule_text location) (λ r. body.Rule r) (rule_splice (number_named sheet) (line_range location) rule_text book) book d all
+    (λ s k. rule_found (number_named sheet) (line_range location) rule_text book s all utf8 k)
     (λ r told. record {
       plain = λ id small. record { id_fits = small; plain = refl; fits = both told.whole refl; texts = told.utf8; levels = omega arith };
       answers = refl;

@@ -9,9 +9,9 @@ use Rattle.css_tokens.specs.declared.token.Range.{Range}
 use Rattle.css_tokens.specs.declared.token.Token.{Token}
 use Rattle.css_tokens.specs.Pieces.{pieces, IsCutAt}
 use Rattle.selectors.specs.declared.words.Word.{Word}
-use Rattle.selectors.specs.Words.{reading, passed, word_of, words_by, words_after, is_mark}
+use Rattle.selectors.specs.Words.{word_reading, passed_over, word_of, words_by, words_after, is_mark}
 use Rattle.selectors.specs.Forms.{SelectorForm, ◌>>=◌}
-use Rattle.selectors.specs.Reading.{value_of, range_of, segments, put_first, selector_of, selectors_in, put_before, list_of, is_over}
+use Rattle.selectors.specs.Reading.{word_value, range_of, segments, put_first, selector_of, selectors_in, selector_before, selector_list_of, is_over}
 use Rattle.selectors.specs.Ranges.{AreTiles}
 use Rattle.selectors.proofs.Choices.{none_some, some_is, passed_test, failed_test, bind_some}
 use Rattle.selectors.proofs.RangeForms.{tiles_whole}
@@ -49,7 +49,7 @@ pieces-few text utf8 = let few = tiles-few text 0 (length text) (pieces text) (t
 words-cut : (text : List ℕ) (spaced : Bool) (ts : List Token) → AreCutAt text ts → AreCutOut text (words_after text spaced ts)
 unfolding words_after
 words-cut text spaced [] cut = tt
-words-cut text spaced (t ∷ ts) cut = at (passed t.kind spaced) (λ s. words-cut text s ts cut.1) where
+words-cut text spaced (t ∷ ts) cut = at (passed_over t.kind spaced) (λ s. words-cut text s ts cut.1) where
   at : (o : Option Bool) → ((s : Bool) → AreCutOut text (words_after text s ts)) → AreCutOut text (words_by o (word_of text spaced t) (λ s. words_after text s ts))
   at None more = (record { order = omega (arith, cut.0.0); front = cut.0.1; back = cut.0.2 }, more false)
   at (Some s) more = more s
@@ -57,7 +57,7 @@ words-cut text spaced (t ∷ ts) cut = at (passed t.kind spaced) (λ s. words-cu
 words-few : (text : List ℕ) (spaced : Bool) (ts : List Token) → length (words_after text spaced ts) ≤ length ts
 unfolding words_after
 words-few text spaced [] = omega arith
-words-few text spaced (t ∷ ts) = at (passed t.kind spaced) (λ s. words-few text s ts) where
+words-few text spaced (t ∷ ts) = at (passed_over t.kind spaced) (λ s. words-few text s ts) where
   at : (o : Option Bool) → ((s : Bool) → length (words_after text s ts) ≤ length ts) → length (words_by o (word_of text spaced t) (λ s. words_after text s ts)) ≤ length (t ∷ ts)
   at None more = let few = more false in omega (arith, few)
   at (Some s) more = let few = more s in omega (arith, few)
@@ -81,14 +81,14 @@ selectors-few : (text : List ℕ) (segs : List (List Word)) (ss : List SelectorF
 unfolding selectors_in
 selectors-few text [] ss e = ap (λ (xs : List SelectorForm). length xs) (sym (some_is {A = List SelectorForm} [] ss e))
 selectors-few text (own ∷ others) ss e =
-    let a = bind_some (selector_of (reading text own)) (λ s. put_before s (selectors_in text others)) ss e in
+    let a = bind_some (selector_of (word_reading text own)) (λ s. selector_before s (selectors_in text others)) ss e in
     at a.0 (selectors_in text others) a.2 (λ tail h. selectors-few text others tail h)
   where
-    at : (s : SelectorForm) (o : Option (List SelectorForm)) → put_before s o ≡ Some ss → ((tail : List SelectorForm) → o ≡ Some tail → length tail ≡ length others) → length ss ≡ suc (length others)
+    at : (s : SelectorForm) (o : Option (List SelectorForm)) → selector_before s o ≡ Some ss → ((tail : List SelectorForm) → o ≡ Some tail → length tail ≡ length others) → length ss ≡ suc (length others)
     at s None e more = absurd (none_some ss e)
     at s (Some tail) e more = ap (λ (xs : List SelectorForm). length xs) (sym (some_is {A = List SelectorForm} (s ∷ tail) ss e)) ∙ ap (λ n. suc n) (more tail refl)
 
-list-few : (text : List ℕ) (ws : List Word) (ss : List SelectorForm) → list_of (reading text ws) ≡ Some ss → length ss ≤ length ws + 1
+list-few : (text : List ℕ) (ws : List Word) (ss : List SelectorForm) → selector_list_of (word_reading text ws) ≡ Some ss → length ss ≤ length ws + 1
 list-few text ws ss e = let same = selectors-few text (segments ws) ss e in let few = segments-few ws in omega (arith, same, few.1)
 
 -- ---- declarations
@@ -109,11 +109,11 @@ words-named text (name ∷ []) whole p utf8 cut e = absurd (none_some p e)
 words-named text (name ∷ colon ∷ value) whole p utf8 cut e =
     let important = is_important text value in
     let plain = plain_value important value in
-    let own = name_by (value_of text name) in
+    let own = name_by (word_value text name) in
     let a = passed_test (is_mark 58 colon.kind) (property_by own colon important plain whole) p e in
     let b = failed_test (is_over plain && not (is_custom own)) (Some (property own colon important plain whole)) p a.1 in
     let same = some_is {A = Property} (property own colon important plain whole) p b.1 in
-    subst PropertyNamed same (name-utf8 (value_of text name) (value-utf8 text name utf8 cut.0))
+    subst PropertyNamed same (name-utf8 (word_value text name) (value-utf8 text name utf8 cut.0))
 
 declaration-named : (text : List ℕ) (ts : List Token) (p : Property) → IsUtf8 text → AreCutAt text ts → declaration_of text ts ≡ Some p → PropertyNamed p
 unfolding declaration_of
@@ -161,8 +161,8 @@ styled-named : (text : List ℕ) (prelude inside : List Token) (own : Range) (r 
 styled-named text prelude inside own r utf8 front within e =
     let ws = words_after text false prelude in
     let of : Range → List SelectorForm → RuleForm = λ a ss. record { prelude = a; selectors = ss; body = own; properties = declarations text inside } in
-    let a = bind_some (range_of ws) (λ a. list_of (reading text ws) >>= λ ss. Some (of a ss)) r e in
-    let b = bind_some (list_of (reading text ws)) (λ ss. Some (of a.0 ss)) r a.2 in
+    let a = bind_some (range_of ws) (λ a. selector_list_of (word_reading text ws) >>= λ ss. Some (of a ss)) r e in
+    let b = bind_some (selector_list_of (word_reading text ws)) (λ ss. Some (of a.0 ss)) r a.2 in
     let same = some_is {A = RuleForm} (of a.0 b.0) r b.2 in
     let few = list-few text ws b.0 b.1 in
     let short = words-few text false prelude in

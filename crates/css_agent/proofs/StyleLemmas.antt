@@ -18,7 +18,7 @@ use Rattle.sheet_reader.specs.Usable.{IsRuleOf}
 use Rattle.sheet_reader.proofs.UsableForms.{sheet_usable}
 use Rattle.selectors.specs.Ranges.{IsRangeOf, AreBetween, ranges_of}
 use Rattle.page_tree.specs.Zippers.{Zipper, ancestors, parent_of}
-use Rattle.select_match.specs.Elements.{is_element, elements}
+use Rattle.select_match.specs.Elements.{is_element_node, elements}
 use Rattle.select_match.proofs.WalkLemmas.{from, ancestors-from, walk-step}
 use Rattle.sheet_reader.specs.declared.book.SheetEntry.{SheetEntry}
 use Rattle.css_objects.specs.declared.rules.Inherited.{Inherited}
@@ -42,11 +42,11 @@ one-more book false front z rest = append_assoc front [] (map (told_inherited bo
 
 -- an ancestor, and then those above it
 pub ancestors-turn : (book : List SheetEntry) (at : Option Zipper) (q : Zipper) (next : Option Zipper) (before after : List Inherited) → at ≡ Some q → next ≡ parent_of q
-    → after ≡ before ++ cond (is_element q) (told_inherited book q ∷ []) []
+    → after ≡ before ++ cond (is_element_node q) (told_inherited book q ∷ []) []
     → after ++ map (told_inherited book) (elements (from ancestors next)) ≡ before ++ map (told_inherited book) (elements (from ancestors at))
 ancestors-turn book at q next before after e f made =
     ap (λ (l : List Inherited). l ++ map (told_inherited book) (elements (from ancestors next))) made
-    ∙ one-more book (is_element q) before q (elements (from ancestors next))
+    ∙ one-more book (is_element_node q) before q (elements (from ancestors next))
     ∙ sym (ap (λ (l : List Zipper). before ++ map (told_inherited book) (elements l)) (walk-step ancestors ancestors-from at q next e f))
 
 -- the selectors of a rule stand each where the text can be cut

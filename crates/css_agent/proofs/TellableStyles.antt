@@ -14,7 +14,7 @@ use Rattle.std.proofs.lemmas.Bool.Decides.{nat_tests}
 use Rattle.cdp_json.specs.Kinds.{is_counted}
 use Rattle.node_tree.specs.Nodes.{Nodes, none, node, Branch, alone}
 use Rattle.node_tree.specs.Labels.{Pair, value_of}
-use Rattle.page_tree.specs.Pages.{Row}
+use Rattle.page_tree.specs.Pages.{PageRow}
 use Rattle.page_tree.specs.Zippers.{Generation, Zipper, ancestors, ancestors_in, all_in, zippers, root_of, has_serial, zipper_at}
 use Rattle.css_tokens.specs.declared.token.Range.{Range}
 use Rattle.css_objects.specs.declared.ranges.SourceRange.{SourceRange}
@@ -29,7 +29,7 @@ use Rattle.css_objects.specs.Rules.{rule_kind, starts_above, ascend, match_kind,
 use Rattle.css_objects.specs.Laws.{SelectorHasUtf8, PropertyHasUtf8, StyleHasUtf8, RuleHasUtf8, MatchHasUtf8, InheritedHasUtf8, MatchedHaveUtf8}
 use Rattle.selectors.specs.declared.weight.Spec.{Spec}
 use Rattle.selectors.specs.Forms.{SimpleForm, CompoundForm, SelectorForm}
-use Rattle.selectors.specs.Weight.{ids, classes, types, in_compounds, bounded, elements as pseudo, specificity_of}
+use Rattle.selectors.specs.Weight.{ids, classes, types, in_compounds, bounded, element_count as pseudo, specificity_of}
 use Rattle.selectors.specs.Ranges.{IsRangeOf, AreBetween, ranges_of}
 use Rattle.sheet_reader.specs.declared.sheet.Property.{Property}
 use Rattle.sheet_reader.specs.declared.book.SheetEntry.{SheetEntry}
@@ -41,11 +41,11 @@ use Rattle.sheet_reader.specs.Usable.{IsPropertyOf, IsRuleOf}
 use Rattle.sheet_reader.specs.Books.{IsStored, entry_of}
 use Rattle.sheet_reader.proofs.UsableForms.{sheet_usable, style_usable}
 use Rattle.select_match.specs.Matches.{selector_matches}
-use Rattle.select_match.specs.Elements.{attributes_of, is_element, elements}
+use Rattle.select_match.specs.Elements.{attributes_of, is_element_node, elements}
 use Rattle.cascade_match.specs.declared.keys.Key.{Key}
 use Rattle.cascade_match.specs.declared.hits.Hit.{Hit}
 use Rattle.cascade_match.specs.Precedence.{key_cmp}
-use Rattle.cascade_match.specs.Matched.{places_from, Source, source_of, entry_by, entries_of_rules, entries_of_sheets, put_all, matched_entries, matched_of, greatest, places_matching}
+use Rattle.cascade_match.specs.Matched.{places_from, Source, source_of, entry_by, entries_of_rules, entries_of_sheets, all_entered, matched_entries, matched_of, greatest, places_matching}
 use Rattle.css_agent.specs.ClassNames.{class_of, classes_of_tests, classes_of_compounds, classes_of_selectors, classes_of_rules, with_name, with_names, class_names}
 use Rattle.css_agent.specs.Texts.{source_range, told_part}
 use Rattle.css_agent.specs.RuleObjects.{property_with, sheet_property, inline_property, inline_style, told_weight, told_selector, told_rule}
@@ -234,7 +234,7 @@ put-fits (e ∷ es) k h own all = at (key_cmp k e.0) (put-fits es k h own all.1)
   at Equal more = (own, all.1)
   at Greater more = (all.0, more)
 
-all-fit : (sorted es : List (Key × Hit)) → AllByRecursion EntryFits sorted → AllByRecursion EntryFits es → AllByRecursion EntryFits (put_all sorted es)
+all-fit : (sorted es : List (Key × Hit)) → AllByRecursion EntryFits sorted → AllByRecursion EntryFits es → AllByRecursion EntryFits (all_entered sorted es)
 all-fit sorted [] own all = own
 all-fit sorted (e ∷ es) own all = all-fit (insert_entry key_cmp sorted e.0 e.1) es (put-fits sorted e.0 e.1 all.0 own) all.1
 
@@ -300,7 +300,7 @@ matches-utf8 (m ∷ ms) all = (all.0.1, matches-utf8 ms all.1)
 abbrev pub ValuesAre : List Pair → Type 0
 ValuesAre ps = AllByRecursion (λ p. IsUtf8 p.1) ps
 
-abbrev pub RowHasValues : Row → Type 0
+abbrev pub RowHasValues : PageRow → Type 0
 RowHasValues r = ValuesAre r.label.attributes
 
 -- those of a node and of its ancestors
@@ -338,7 +338,7 @@ matched-told (Some s) ms is own all above = (both above.0 (both own.0 (both (mat
 above-told : (book : List SheetEntry) (gs : List Generation) → AllByRecursion IsStored book → AllByRecursion (λ g. RowHasValues g.branch.row) gs
     → (list_all inherited_kind.fits (map (told_inherited book) (elements (ancestors_in gs))) ≡ true) × AllByRecursion InheritedHasUtf8 (map (told_inherited book) (elements (ancestors_in gs)))
 above-told book [] all values = (refl, tt)
-above-told book (g ∷ gs) all values = at (is_element z) (above-told book gs all values.1) where
+above-told book (g ∷ gs) all values = at (is_element_node z) (above-told book gs all values.1) where
   z : Zipper
   z = record { branch = g.branch; before = g.before; after = g.after; above = gs }
 
@@ -359,11 +359,11 @@ styles-told book z all values =
 -- ---- the nodes of a page
 
 -- the values of the attributes of all nodes
-abbrev pub NodesHaveValues : Nodes Row → Type 0
+abbrev pub NodesHaveValues : Nodes PageRow → Type 0
 NodesHaveValues none = ⊤
 NodesHaveValues (node r c t) = RowHasValues r × NodesHaveValues c × NodesHaveValues t
 
-nodes-have : (above : List Generation) (before : List (Branch Row)) (n : Nodes Row) → AllByRecursion (λ g. RowHasValues g.branch.row) above → NodesHaveValues n → AllByRecursion HasValues (all_in above before n)
+nodes-have : (above : List Generation) (before : List (Branch PageRow)) (n : Nodes PageRow) → AllByRecursion (λ g. RowHasValues g.branch.row) above → NodesHaveValues n → AllByRecursion HasValues (all_in above before n)
 nodes-have above before none high has = tt
 nodes-have above before (node r c t) high has =
     let g : Generation = record { branch = record { row = r; children = c }; before = before; after = t } in (
@@ -380,7 +380,7 @@ found-has p (z ∷ zs) all = at (p z) (found-has p zs all.1) where
   at false more = more
 
 -- each node of a page has them where all nodes have
-pub zipper-has : (serial : ℕ) (tree : Branch Row) → NodesHaveValues (alone tree) → HasValues (zipper_at serial tree)
+pub zipper-has : (serial : ℕ) (tree : Branch PageRow) → NodesHaveValues (alone tree) → HasValues (zipper_at serial tree)
 zipper-has serial tree has = at (find (has_serial serial) (zippers tree)) (found-has (has_serial serial) (zippers tree) (nodes-have [] [] (alone tree) tt has)) where
   at : (o : Option Zipper) → IfSome o HasValues → HasValues (unwrap_or o (root_of tree))
   at None own = record { own = has.0; above = tt }

@@ -3,7 +3,7 @@
 use Rattle.std.specs.Prelude.{ℕ, List, option_and_then, Option, Some, None, IsSome, Result, Ok, Err, ⊤}
 use Rattle.css_objects.specs.Sheets.{sheet_in}
 use Rattle.node_tree.specs.Nodes.{Branch}
-use Rattle.page_tree.specs.Pages.{Row, find_in}
+use Rattle.page_tree.specs.Pages.{PageRow, find_in}
 use Rattle.page_tree.specs.Zippers.{zipper_at}
 use Rattle.sheet_reader.specs.declared.book.SheetEntry.{SheetEntry}
 use Rattle.sheet_reader.specs.Books.{entry_of}
@@ -68,13 +68,13 @@ if_sheet told None = Err NoSheet
 if_sheet told (Some e) = Ok (told e)
 
 -- the node that the command asks for is one of the tree: that with this serial
-abbrev pub NodeIsThere : ℕ → Branch Row → CssAsk → Type 0
+abbrev pub NodeIsThere : ℕ → Branch PageRow → CssAsk → Type 0
 NodeIsThere node tree (ask.GetMatchedStyles id) = IsSome (find_in node tree)
 NodeIsThere node tree (ask.GetStyleSheetText sheet) = ⊤
 NodeIsThere node tree (ask.CollectClassNames sheet) = ⊤
 
 -- each command, where the node that it asks for, if it asks for one, has this serial in the tree
-abbrev pub css_outcome : Branch Row → List SheetEntry → ℕ → CssAsk → CssOutcome
+abbrev pub css_outcome : Branch PageRow → List SheetEntry → ℕ → CssAsk → CssOutcome
 css_outcome tree book node (ask.GetMatchedStyles id) = Ok (body.Matched (matched_styles book (zipper_at node tree)))
 css_outcome tree book node (ask.GetStyleSheetText sheet) = if_sheet (λ e. body.SheetText e.text) (sheet_named sheet book)
 css_outcome tree book node (ask.CollectClassNames sheet) = if_sheet (λ e. body.ClassNames (class_names e.text)) (sheet_named sheet book)

@@ -65,8 +65,8 @@ css_edit_in (ReplayAct params) = None
 -- ---- from a command's words to those of edits
 
 -- the number of the sheet whose id has this text; where none can have it, 0, which is no sheet's
-abbrev pub sheet_number : List ℕ → ℕ
-sheet_number text = unwrap_or (sheet_in text) 0
+abbrev pub number_named : List ℕ → ℕ
+number_named text = unwrap_or (sheet_in text) 0
 
 -- lines and columns of a message
 abbrev pub line_range : SourceRange → LineRange
@@ -74,7 +74,7 @@ line_range r = record { start_line = r.start_line; start_column = r.start_column
 
 -- an edit of a style rule's body
 abbrev pub style_edit : TextEdit → StyleEdit
-style_edit x = record { sheet = sheet_number x.sheet; range = line_range x.range; text = x.text }
+style_edit x = record { sheet = number_named x.sheet; range = line_range x.range; text = x.text }
 
 -- ---- rules of the book after an edit
 
@@ -127,15 +127,15 @@ styles_set edits book = styles_done (edited_rules (map style_edit edits) book) (
 
 -- the edit of `CSS.setRuleSelector`
 abbrev pub selector_edited : List ℕ → SourceRange → List ℕ → List SheetEntry → Result (List SheetEntry × Splice) SheetFault
-selector_edited sheet range selector book = edited book (selector_splice (sheet_number sheet) (line_range range) selector book)
+selector_edited sheet range selector book = edited book (selector_splice (number_named sheet) (line_range range) selector book)
 
 -- that of `CSS.setStyleSheetText`
 abbrev pub text_edited : List ℕ → List ℕ → List SheetEntry → Result (List SheetEntry × Splice) SheetFault
-text_edited sheet text book = edited book (text_splice (sheet_number sheet) text book)
+text_edited sheet text book = edited book (text_splice (number_named sheet) text book)
 
 -- that of `CSS.addRule`
 abbrev pub rule_edited : List ℕ → List ℕ → SourceRange → List SheetEntry → Result (List SheetEntry × Splice) SheetFault
-rule_edited sheet rule_text location book = edited book (rule_splice (sheet_number sheet) (line_range location) rule_text book)
+rule_edited sheet rule_text location book = edited book (rule_splice (number_named sheet) (line_range location) rule_text book)
 
 -- each command
 abbrev pub css_edited : List SheetEntry → CssEdit → CssEdited
@@ -169,10 +169,10 @@ style_splices (x ∷ xs) book = splices_on (style_splice x book) book (λ next. 
 abbrev pub css_splices : List SheetEntry → CssEdit → List Splice
 css_splices book (edit.SetStyleTexts edits) = style_splices (map style_edit edits) book
 css_splices book (edit.SetRuleSelector sheet range selector) =
-    one_splice (selector_splice (sheet_number sheet) (line_range range) selector book)
-css_splices book (edit.SetStyleSheetText sheet text) = one_splice (text_splice (sheet_number sheet) text book)
+    one_splice (selector_splice (number_named sheet) (line_range range) selector book)
+css_splices book (edit.SetStyleSheetText sheet text) = one_splice (text_splice (number_named sheet) text book)
 css_splices book (edit.AddRule sheet rule_text location) =
-    one_splice (rule_splice (sheet_number sheet) (line_range location) rule_text book)
+    one_splice (rule_splice (number_named sheet) (line_range location) rule_text book)
 
 -- the move that tells that the sheet of that id was edited, and has the text that it has in this book
 abbrev pub rewritten_in : List SheetEntry → ℕ → Move
@@ -184,13 +184,13 @@ splice_moves [] book = []
 splice_moves (s ∷ ss) book = rewritten_in (after_splice s book) s.sheet ∷ splice_moves ss (after_splice s book)
 
 -- these moves, and the reply behind them to the command with that id; none on a fault
-abbrev pub with_reply : ℕ → List Move → CssEdited → List Move
-with_reply id told (Ok d) = told ++ replied id d.body ∷ []
-with_reply id told (Err f) = []
+abbrev pub moves_with_reply : ℕ → List Move → CssEdited → List Move
+moves_with_reply id told (Ok d) = told ++ replied id d.body ∷ []
+moves_with_reply id told (Err f) = []
 
 -- the moves that tell an edit: one for each splice, and the reply
 abbrev pub edit_moves : ℕ → List SheetEntry → CssEdit → List Move
-edit_moves id book x = with_reply id (splice_moves (css_splices book x) book) (css_edited book x)
+edit_moves id book x = moves_with_reply id (splice_moves (css_splices book x) book) (css_edited book x)
 
 -- the book after an edit and the splices that lead back
 abbrev pub edit_splices : CssEdited → EditsOutcome

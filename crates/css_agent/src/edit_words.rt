@@ -1,6 +1,6 @@
 // From a command's words to those of edits.
 ghost use Rattle.std.specs.Prelude.{◌≡◌, map, IfOk};
-ghost use Rattle.css_agent.specs.Edits.{sheet_number, line_range, style_edit};
+ghost use Rattle.css_agent.specs.Edits.{number_named, line_range, style_edit};
 
 use cdp_messages::TextEdit;
 use css_objects::{SourceRange, sheet_in};
@@ -9,7 +9,7 @@ use style_edits::{LineRange, StyleEdit};
 
 /// The number of the sheet whose id has this text; 0, which is no sheet's, where none can have it.
 pub(crate) fn sheet_number(text: &str) -> u64
-    ensures { result ≡ sheet_number text.now }
+    ensures { result ≡ number_named text.now }
 {
     sheet_in(text).unwrap_or(0)
 }

@@ -3,7 +3,7 @@ ghost use Rattle.std.specs.Prelude.{◌≡◌, ◌++◌, map, cond, [], ◌∷�
 ghost use Rattle.std.specs.List.{filter_map};
 ghost use Rattle.node_tree.specs.Labels.{value_of};
 ghost use Rattle.page_tree.specs.Zippers.{ancestors};
-ghost use Rattle.select_match.specs.Elements.{is_element, elements, attributes_of};
+ghost use Rattle.select_match.specs.Elements.{is_element_node, elements, attributes_of};
 ghost use Rattle.sheet_reader.specs.Books.{IsEntry};
 ghost use Rattle.sheet_reader.specs.Forms.{rule_seen};
 ghost use Rattle.sheet_reader.specs.Sheets.{sheet_of};
@@ -143,7 +143,7 @@ fn add_ancestor(
     node: NodeRef<'_>,
     entries: &mut Vec<Inherited>,
 ) -> Result<(), AllocError>
-    ensures { OnOk result (entries.new.items ≡ entries.old.items ++ cond (is_element node.entry) (told_inherited book.now node.entry ∷ []) []) }
+    ensures { OnOk result (entries.new.items ≡ entries.old.items ++ cond (is_element_node node.entry) (told_inherited book.now node.entry ∷ []) []) }
 {
     if node.kind() == Kind::Element {
         entries.push(told_inherited(alloc, book, node)?)?;

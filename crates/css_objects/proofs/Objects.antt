@@ -14,7 +14,7 @@ use Rattle.css_objects.specs.Selectors.{weight_fields, weight_from, weight_kind,
 use Rattle.css_objects.specs.Styles.{property_fields, property_from, property_kind, empty_list, style_fields, style_from, style_kind, is_inline, is_in_sheet, inline_kind, rule_style_kind}
 use Rattle.css_objects.specs.Rules.{rule_fields, rule_from, rule_kind, ascend, match_fields, match_from, match_kind, inherited_fields, inherited_from, inherited_kind, matched_fields, matched_from, matched_kind}
 use Rattle.css_objects.specs.Results.{sheet_text_result, class_names_result, styles_result, selectors_result, rule_result}
-use Rattle.css_objects.specs.Laws.{IsSound, SelectorHasUtf8, SelectorsHaveUtf8, PropertyHasUtf8, StyleHasUtf8, RuleHasUtf8, MatchHasUtf8, InheritedHasUtf8, MatchedHaveUtf8}
+use Rattle.css_objects.specs.Laws.{IsSoundKind, SelectorHasUtf8, SelectorsHaveUtf8, PropertyHasUtf8, StyleHasUtf8, RuleHasUtf8, MatchHasUtf8, InheritedHasUtf8, MatchedHaveUtf8}
 use Rattle.css_objects.proofs.SheetIds.{the_sheet, sheet_read, sheet_text-utf8}
 use Rattle.css_objects.proofs.SoundKinds.{sound, whole_sound, text_sound, refined_sound, fields_sound, weaker, list_sound, no_more, needed, optional, flagged, object_sound}
 
@@ -31,7 +31,7 @@ sheet_take (object ms) n e = absurd cc
 sheet_lawful : LawfulKind sheet_kind
 sheet_lawful = record { takes = sheet_take; again = λ n f. sym (the_sheet n f); plain = λ n f l. refl }
 
-pub sheet_sound : IsSound sheet_kind (λ _. ⊤) 0
+pub sheet_sound : IsSoundKind sheet_kind (λ _. ⊤) 0
 sheet_sound = sound sheet_lawful refl (λ n f u. sheet_text-utf8 n f) (λ n. omega arith) (λ n. refl)
 
 origin_again : (o : SheetOrigin) → origin_named (origin_name o) ≡ Some o
@@ -42,7 +42,7 @@ origin_utf8 : (o : SheetOrigin) → IsUtf8 (origin_name o)
 origin_utf8 UserAgent = IsUtf8-are_ascii (codes "user-agent") refl
 origin_utf8 Regular = IsUtf8-are_ascii (codes "regular") refl
 
-pub origin_sound : IsSound origin_kind (λ _. ⊤) 0
+pub origin_sound : IsSoundKind origin_kind (λ _. ⊤) 0
 origin_sound = sound (choice_lawful origin_name (UserAgent ∷ Regular ∷ []) origin_again) refl (λ o f u. origin_utf8 o) (λ o. omega arith) (λ o. refl)
 
 empty_take : (d : Data) (x : ⊤) → empty_list.reads d ≡ Some x → (empty_list.spell x ≡ d) × (empty_list.fits x ≡ true)
@@ -54,7 +54,7 @@ empty_take (array no_items) x e = (refl, refl)
 empty_take (array (item d ds)) x e = absurd cc
 empty_take (object ms) x e = absurd cc
 
-pub empty_sound : IsSound empty_list (λ _. ⊤) 1
+pub empty_sound : IsSoundKind empty_list (λ _. ⊤) 1
 empty_sound = sound (record { takes = empty_take; again = λ x f. refl; plain = λ x f l. refl }) refl (λ x f u. tt) (λ x. omega arith) (λ x. refl)
 
 -- ---- objects
@@ -63,7 +63,7 @@ any_some : {A : Type 0} (o : Option A) → IfSome o (λ _. ⊤)
 any_some None = tt
 any_some (Some x) = tt
 
-pub range_sound : IsSound range_kind (λ _. ⊤) 1
+pub range_sound : IsSoundKind range_kind (λ _. ⊤) 1
 range_sound =
     weaker (λ r u. (tt, (tt, (tt, (tt, tt))))) (fields_sound range_fields range_from (λ f. refl) (λ r. refl) (object_sound
     (needed (codes "endColumn") whole_sound
@@ -71,34 +71,34 @@ range_sound =
     (needed (codes "startColumn") whole_sound
     (needed (codes "startLine") whole_sound (no_more 0) refl refl (omega arith)) refl refl (omega arith)) refl refl (omega arith)) refl refl (omega arith))))
 
-pub header_sound : IsSound header_kind (λ _. ⊤) 1
+pub header_sound : IsSoundKind header_kind (λ _. ⊤) 1
 header_sound =
     weaker (λ h u. (tt, (tt, (tt, tt)))) (fields_sound header_fields header_from (λ f. refl) (λ h. refl) (object_sound
     (needed (codes "length") whole_sound
     (needed (codes "origin") origin_sound
     (needed (codes "styleSheetId") sheet_sound (no_more 0) refl refl (omega arith)) refl refl (omega arith)) refl refl (omega arith))))
 
-pub weight_sound : IsSound weight_kind (λ _. ⊤) 1
+pub weight_sound : IsSoundKind weight_kind (λ _. ⊤) 1
 weight_sound =
     weaker (λ w u. (tt, (tt, (tt, tt)))) (fields_sound weight_fields weight_from (λ f. refl) (λ w. refl) (object_sound
     (needed (codes "a") whole_sound
     (needed (codes "b") whole_sound
     (needed (codes "c") whole_sound (no_more 0) refl refl (omega arith)) refl refl (omega arith)) refl refl (omega arith))))
 
-pub selector_sound : IsSound selector_kind SelectorHasUtf8 2
+pub selector_sound : IsSoundKind selector_kind SelectorHasUtf8 2
 selector_sound =
     weaker (λ v u. (tt, (tt, (u, tt)))) (fields_sound selector_fields selector_from (λ f. refl) (λ v. refl) (object_sound
     (needed (codes "range") range_sound
     (needed (codes "specificity") weight_sound
     (needed (codes "text") text_sound (no_more 1) refl refl (omega arith)) refl refl (omega arith)) refl refl (omega arith))))
 
-pub selectors_sound : IsSound selectors_kind SelectorsHaveUtf8 4
+pub selectors_sound : IsSoundKind selectors_kind SelectorsHaveUtf8 4
 selectors_sound =
     weaker (λ s u. (u.0, (u.1, tt))) (fields_sound selectors_fields selectors_from (λ f. refl) (λ s. refl) (object_sound
     (needed (codes "selectors") (list_sound selector_sound)
     (needed (codes "text") text_sound (no_more 3) refl refl (omega arith)) refl refl (omega arith))))
 
-pub property_sound : IsSound property_kind PropertyHasUtf8 2
+pub property_sound : IsSoundKind property_kind PropertyHasUtf8 2
 property_sound =
     weaker (λ p u. (u.0, (any_some p.range, (u.1, (u.2, tt))))) (fields_sound property_fields property_from (λ f. refl) (λ p. refl) (object_sound
     (flagged (codes "important")
@@ -107,7 +107,7 @@ property_sound =
     (needed (codes "text") text_sound
     (needed (codes "value") text_sound (no_more 1) refl refl (omega arith)) refl refl (omega arith)) refl refl (omega arith)) refl refl (omega arith)) refl refl)))
 
-pub style_sound : IsSound style_kind StyleHasUtf8 4
+pub style_sound : IsSoundKind style_kind StyleHasUtf8 4
 style_sound =
     weaker (λ s u. (u.0, (u.1, (any_some s.range, (tt, (any_some s.sheet, tt)))))) (fields_sound style_fields style_from (λ f. refl) (λ s. refl) (object_sound
     (needed (codes "cssProperties") (list_sound property_sound)
@@ -116,13 +116,13 @@ style_sound =
     (needed (codes "shorthandEntries") empty_sound
     (optional (codes "styleSheetId") sheet_sound (no_more 3) refl refl (omega arith)) refl refl (omega arith)) refl refl (omega arith)) refl refl (omega arith)) refl refl (omega arith))))
 
-pub inline_sound : IsSound inline_kind StyleHasUtf8 4
+pub inline_sound : IsSoundKind inline_kind StyleHasUtf8 4
 inline_sound = refined_sound is_inline style_sound
 
-pub rule_style_sound : IsSound rule_style_kind StyleHasUtf8 4
+pub rule_style_sound : IsSoundKind rule_style_kind StyleHasUtf8 4
 rule_style_sound = refined_sound is_in_sheet style_sound
 
-pub rule_sound : IsSound rule_kind RuleHasUtf8 5
+pub rule_sound : IsSoundKind rule_kind RuleHasUtf8 5
 rule_sound =
     weaker (λ r u. (tt, (u.0, (u.1, (tt, tt))))) (fields_sound rule_fields rule_from (λ f. refl) (λ r. refl) (object_sound
     (needed (codes "origin") origin_sound
@@ -134,19 +134,19 @@ each_whole : (ns : List ℕ) → AllByRecursion (λ _. ⊤) ns
 each_whole [] = tt
 each_whole (n ∷ ns) = (tt, each_whole ns)
 
-pub match_sound : IsSound match_kind MatchHasUtf8 6
+pub match_sound : IsSoundKind match_kind MatchHasUtf8 6
 match_sound =
     weaker (λ m u. (each_whole m.matching, (u, tt))) (fields_sound match_fields match_from (λ f. refl) (λ m. refl) (object_sound
     (needed (codes "matchingSelectors") (refined_sound ascend (list_sound whole_sound))
     (needed (codes "rule") rule_sound (no_more 5) refl refl (omega arith)) refl refl (omega arith))))
 
-pub inherited_sound : IsSound inherited_kind InheritedHasUtf8 8
+pub inherited_sound : IsSoundKind inherited_kind InheritedHasUtf8 8
 inherited_sound =
     weaker (λ i u. (u.0, (u.1, tt))) (fields_sound inherited_fields inherited_from (λ f. refl) (λ i. refl) (object_sound
     (optional (codes "inlineStyle") inline_sound
     (needed (codes "matchedCSSRules") (list_sound match_sound) (no_more 7) refl refl (omega arith)) refl refl (omega arith))))
 
-pub matched_sound : IsSound matched_kind MatchedHaveUtf8 10
+pub matched_sound : IsSoundKind matched_kind MatchedHaveUtf8 10
 matched_sound =
     weaker (λ m u. (u.0, (u.1, (u.2, tt)))) (fields_sound matched_fields matched_from (λ f. refl) (λ m. refl) (object_sound
     (needed (codes "inherited") (list_sound inherited_sound)
@@ -155,17 +155,17 @@ matched_sound =
 
 -- ---- results
 
-pub sheet_text_sound : IsSound sheet_text_result IsUtf8 1
+pub sheet_text_sound : IsSoundKind sheet_text_result IsUtf8 1
 sheet_text_sound = weaker (λ s u. (u, tt)) (fields_sound _ _ (λ f. refl) (λ s. refl) (object_sound (needed (codes "text") text_sound (no_more 0) refl refl (omega arith))))
 
-pub class_names_sound : IsSound class_names_result (AllByRecursion IsUtf8) 2
+pub class_names_sound : IsSoundKind class_names_result (AllByRecursion IsUtf8) 2
 class_names_sound = weaker (λ ss u. (u, tt)) (fields_sound _ _ (λ f. refl) (λ ss. refl) (object_sound (needed (codes "classNames") (list_sound text_sound) (no_more 1) refl refl (omega arith))))
 
-pub styles_sound : IsSound styles_result (AllByRecursion StyleHasUtf8) 6
+pub styles_sound : IsSoundKind styles_result (AllByRecursion StyleHasUtf8) 6
 styles_sound = weaker (λ ss u. (u, tt)) (fields_sound _ _ (λ f. refl) (λ ss. refl) (object_sound (needed (codes "styles") (list_sound rule_style_sound) (no_more 5) refl refl (omega arith))))
 
-pub new_selectors_sound : IsSound selectors_result SelectorsHaveUtf8 5
+pub new_selectors_sound : IsSoundKind selectors_result SelectorsHaveUtf8 5
 new_selectors_sound = weaker (λ s u. (u, tt)) (fields_sound _ _ (λ f. refl) (λ s. refl) (object_sound (needed (codes "selectorList") selectors_sound (no_more 4) refl refl (omega arith))))
 
-pub new_rule_sound : IsSound rule_result RuleHasUtf8 6
+pub new_rule_sound : IsSoundKind rule_result RuleHasUtf8 6
 new_rule_sound = weaker (λ r u. (u, tt)) (fields_sound _ _ (λ f. refl) (λ r. refl) (object_sound (needed (codes "rule") rule_sound (no_more 5) refl refl (omega arith))))

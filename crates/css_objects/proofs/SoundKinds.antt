@@ -14,12 +14,12 @@ use Rattle.cdp_json.proofs.KindLaws.{whole_lawful, text_lawful, refined_lawful, 
 use Rattle.cdp_json.proofs.RowLaws.{ends_lawful, and_need_lawful, and_may_lawful, and_true_lawful, object_lawful}
 use Rattle.css_objects.proofs.Options.{both_parts}
 use Rattle.css_objects.specs.Made.{by_fields}
-use Rattle.css_objects.specs.Laws.{IsSound}
+use Rattle.css_objects.specs.Laws.{IsSoundKind}
 
 -- ---- kinds
 
 pub sound : {T : Type 0} {k : Kind T} {P : T → Type 0} {n : ℕ} → LawfulKind k → k.loose ≡ None → ((x : T) → k.fits x ≡ true → P x → HasUtf8 (k.spell x)) → ((x : T) → depth (k.spell x) ≤ n) → ((x : T) → has_float (k.spell x) ≡ false)
-    → IsSound k P n
+    → IsSoundKind k P n
 sound {T} {k} law tight utf8 shallow no_float = record {
   lawful = law;
   tight = tight;
@@ -31,24 +31,24 @@ sound {T} {k} law tight utf8 shallow no_float = record {
   same : (x y : T) → ◌≡◌ {A = Option T} (Some x) (Some y) → x ≡ y
   same x y e = cc
 
-pub whole_sound : IsSound whole (λ _. ⊤) 0
+pub whole_sound : IsSoundKind whole (λ _. ⊤) 0
 whole_sound = sound whole_lawful refl (λ n f u. tt) (λ n. omega arith) (λ n. refl)
 
-pub text_sound : IsSound text IsUtf8 0
+pub text_sound : IsSoundKind text IsUtf8 0
 text_sound = sound text_lawful refl (λ s f u. u) (λ s. omega arith) (λ s. refl)
 
-pub refined_sound : {T : Type 0} {k : Kind T} {P : T → Type 0} {n : ℕ} (test : T → Bool) → IsSound k P n → IsSound (refined k test) P n
+pub refined_sound : {T : Type 0} {k : Kind T} {P : T → Type 0} {n : ℕ} (test : T → Bool) → IsSoundKind k P n → IsSoundKind (refined k test) P n
 refined_sound {T} {k} test s = sound (refined_lawful test s.lawful) s.tight (λ x f u. s.utf8 x (both_parts (k.fits x) (test x) f).0 u) s.shallow s.no_float
 
-pub fields_sound : {S T : Type 0} {k : Kind S} {P : S → Type 0} {n : ℕ} (fields : T → S) (of : S → T) → ((s : S) → fields (of s) ≡ s) → ((x : T) → of (fields x) ≡ x) → IsSound k P n
-    → IsSound (by_fields k fields of) (λ x. P (fields x)) n
+pub fields_sound : {S T : Type 0} {k : Kind S} {P : S → Type 0} {n : ℕ} (fields : T → S) (of : S → T) → ((s : S) → fields (of s) ≡ s) → ((x : T) → of (fields x) ≡ x) → IsSoundKind k P n
+    → IsSoundKind (by_fields k fields of) (λ x. P (fields x)) n
 fields_sound {S} {T} {k} fields of there back s =
     sound (through_lawful fields (λ f. Some (of f)) only (λ x. ap Some (back x)) s.lawful) (ap (option_map (λ test x. test (fields x))) s.tight) (λ x f u. s.utf8 (fields x) f u) (λ x. s.shallow (fields x))
     (λ x. s.no_float (fields x)) where
       only : (f : S) (x : T) → ◌≡◌ {A = Option T} (Some (of f)) (Some x) → fields x ≡ f
       only f x e = let same : of f ≡ x = cc in ap fields (sym same) ∙ there f
 
-pub weaker : {T : Type 0} {k : Kind T} {P Q : T → Type 0} {n : ℕ} → ((x : T) → Q x → P x) → IsSound k P n → IsSound k Q n
+pub weaker : {T : Type 0} {k : Kind T} {P Q : T → Type 0} {n : ℕ} → ((x : T) → Q x → P x) → IsSoundKind k P n → IsSoundKind k Q n
 weaker enough s = sound s.lawful s.tight (λ x f u. s.utf8 x f (enough x u)) s.shallow s.no_float
 
 items_utf8 : {T : Type 0} (k : Kind T) {P : T → Type 0} → ((x : T) → k.fits x ≡ true → P x → HasUtf8 (k.spell x)) → (xs : List T) → list_all k.fits xs ≡ true → AllByRecursion P xs → ItemsHaveUtf8 (items_of (map k.spell xs))
@@ -68,7 +68,7 @@ items_whole : {T : Type 0} (k : Kind T) → ((x : T) → has_float (k.spell x) �
 items_whole k each [] = refl
 items_whole k each (x ∷ xs) = neither (each x) (items_whole k each xs)
 
-pub list_sound : {T : Type 0} {k : Kind T} {P : T → Type 0} {n : ℕ} → IsSound k P n → IsSound (list_of k) (AllByRecursion P) (suc n)
+pub list_sound : {T : Type 0} {k : Kind T} {P : T → Type 0} {n : ℕ} → IsSoundKind k P n → IsSoundKind (list_of k) (AllByRecursion P) (suc n)
 list_sound {T} {k} {P} {n} s =
     sound (list_lawful s.lawful) (ap (option_map list_all) s.tight) (λ xs f u. items_utf8 k s.utf8 xs f u) (λ xs. up (items_depth (items_of (map k.spell xs))) (items_shallow k s.shallow xs))
     (items_whole k s.no_float) where
@@ -95,7 +95,7 @@ both_tight (Some f) g p q = absurd cc
 member_shallow : (n : ℕ) (name : List ℕ) (d : Data) (ms : Members) → depth d ≤ n → members_depth ms ≤ n → members_depth (member name d ms) ≤ n
 member_shallow n name d ms p q = omega arith
 
-pub needed : {A B : Type 0} {k : Kind A} {row : Row B} {P : A → Type 0} {Q : B → Type 0} {m n : ℕ} (name : List ℕ) → IsSound k P m → SoundRow row Q n → is_before_all name row.names ≡ true → are_ascii name ≡ true → m ≤ n
+pub needed : {A B : Type 0} {k : Kind A} {row : Row B} {P : A → Type 0} {Q : B → Type 0} {m n : ℕ} (name : List ℕ) → IsSoundKind k P m → SoundRow row Q n → is_before_all name row.names ≡ true → are_ascii name ≡ true → m ≤ n
     → SoundRow (and_need name k row) (λ x. P x.0 × Q x.1) n
 needed {A} {B} {k} {row} {P} {Q} {m} {n} name s later before plain less = record {
   lawful = and_need_lawful name s.lawful later.lawful before;
@@ -130,7 +130,7 @@ maybe_shallow {A} k {m} n each less name (Some x) ms r = member_shallow n name (
   within : (d : ℕ) → d ≤ m → d ≤ n
   within d h = omega arith
 
-pub optional : {A B : Type 0} {k : Kind A} {row : Row B} {P : A → Type 0} {Q : B → Type 0} {m n : ℕ} (name : List ℕ) → IsSound k P m → SoundRow row Q n → is_before_all name row.names ≡ true → are_ascii name ≡ true → m ≤ n
+pub optional : {A B : Type 0} {k : Kind A} {row : Row B} {P : A → Type 0} {Q : B → Type 0} {m n : ℕ} (name : List ℕ) → IsSoundKind k P m → SoundRow row Q n → is_before_all name row.names ≡ true → are_ascii name ≡ true → m ≤ n
     → SoundRow (and_may name k row) (λ x. IfSome x.0 P × Q x.1) n
 optional {A} {B} {k} {row} {P} {Q} {m} {n} name s later before plain less = record {
   lawful = and_may_lawful name s.lawful later.lawful before;
@@ -163,7 +163,7 @@ flagged {B} {row} {Q} {n} name later before plain = record {
   no_float = λ x. flag_whole name x.0 (members_of (row.writes x.1)) (later.no_float x.1);
 }
 
-pub object_sound : {T : Type 0} {row : Row T} {P : T → Type 0} {n : ℕ} → SoundRow row P n → IsSound (object_of row) P (suc n)
+pub object_sound : {T : Type 0} {row : Row T} {P : T → Type 0} {n : ℕ} → SoundRow row P n → IsSoundKind (object_of row) P (suc n)
 object_sound {T} {row} {P} {n} s = sound (object_lawful s.lawful) s.tight s.utf8 (λ x. up (members_depth (members_of (row.writes x))) (s.shallow x)) s.no_float where
   up : (d : ℕ) → d ≤ n → suc d ≤ suc n
   up d h = omega arith

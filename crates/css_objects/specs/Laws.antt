@@ -17,7 +17,7 @@ use Rattle.css_objects.specs.declared.rules.Inherited.{Inherited}
 use Rattle.css_objects.specs.declared.rules.Matched.{Matched}
 
 -- What the messages need to know of a kind. `HasTexts` says that the texts in a value are UTF-8.
-pub record IsSound {T : Type 0} (k : Kind T) (HasTexts : T → Type 0) (levels : ℕ) : Type 0 where
+pub record IsSoundKind {T : Type 0} (k : Kind T) (HasTexts : T → Type 0) (levels : ℕ) : Type 0 where
   -- what is read is spelled so, and what is spelled is read
   pub lawful : LawfulKind k
   -- no part is JSON of any form

@@ -2,7 +2,7 @@
 ghost use Rattle.std.specs.Prelude.{◌≡◌, codes, option_map, IfOk};
 ghost use Rattle.serde_json.specs.View.{view};
 ghost use Rattle.cdp_json.specs.Left.{left};
-ghost use Rattle.cdp_json.specs.Rows.{beside, need, may};
+ghost use Rattle.cdp_json.specs.Rows.{left_with, need, may};
 ghost use Rattle.css_objects.specs.Ranges.{range_kind};
 
 use cdp_json::{Cursor, object};
@@ -52,7 +52,7 @@ pub fn range_value(alloc: Global, range: SourceRange) -> Result<Value, AllocErro
 }
 
 pub(crate) fn range_field(fields: &mut Cursor<'_>) -> Option<SourceRange>
-    ensures { option_map (beside (left fields.new)) result
+    ensures { option_map (left_with (left fields.new)) result
         ≡ need range_kind.reads (codes "range") (left fields.old) }
 {
     let value = fields.need("range")?;
@@ -61,7 +61,7 @@ pub(crate) fn range_field(fields: &mut Cursor<'_>) -> Option<SourceRange>
 
 // An outer `None` says that the field is there and no range.
 pub(crate) fn range_if_any(fields: &mut Cursor<'_>) -> Option<Option<SourceRange>>
-    ensures { option_map (beside (left fields.new)) result
+    ensures { option_map (left_with (left fields.new)) result
         ≡ may range_kind.reads (codes "range") (left fields.old) }
 {
     match fields.may("range") {

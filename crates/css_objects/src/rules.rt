@@ -3,7 +3,7 @@ ghost use Rattle.std.specs.Prelude.{◌≡◌, codes, option_map, IfOk};
 ghost use Rattle.serde_json.specs.View.{view, items_view};
 ghost use Rattle.cdp_json.specs.Left.{left};
 ghost use Rattle.cdp_json.specs.Kinds.{list_of, read_items};
-ghost use Rattle.cdp_json.specs.Rows.{beside, need, may};
+ghost use Rattle.cdp_json.specs.Rows.{left_with, need, may};
 ghost use Rattle.css_objects.specs.Selectors.{selectors_kind};
 ghost use Rattle.css_objects.specs.Styles.{inline_kind, rule_style_kind};
 ghost use Rattle.css_objects.specs.Rules.{rule_kind, ascend, places_kind, match_kind, inherited_kind, matched_kind};
@@ -56,7 +56,7 @@ fn selectors_field(
     alloc: Global,
     fields: &mut Cursor<'_>,
 ) -> Result<Option<RuleSelectors>, AllocError>
-    ensures { IfOk result (λ o. option_map (beside (left fields.new)) o
+    ensures { IfOk result (λ o. option_map (left_with (left fields.new)) o
         ≡ need selectors_kind.reads (codes "selectorList") (left fields.old)) }
 {
     let Some(value) = fields.need("selectorList") else {
@@ -66,7 +66,7 @@ fn selectors_field(
 }
 
 fn style_field(alloc: Global, fields: &mut Cursor<'_>) -> Result<Option<Style>, AllocError>
-    ensures { IfOk result (λ o. option_map (beside (left fields.new)) o
+    ensures { IfOk result (λ o. option_map (left_with (left fields.new)) o
         ≡ need rule_style_kind.reads (codes "style") (left fields.old)) }
 {
     let Some(value) = fields.need("style") else {
@@ -139,7 +139,7 @@ fn ascend(numbers: &[u64]) -> bool
 }
 
 fn places_field(alloc: Global, fields: &mut Cursor<'_>) -> Result<Option<Listed<u64>>, AllocError>
-    ensures { IfOk result (λ o. option_map (beside (left fields.new)) o
+    ensures { IfOk result (λ o. option_map (left_with (left fields.new)) o
         ≡ need places_kind.reads (codes "matchingSelectors") (left fields.old)) }
 {
     let Some(items) = fields.need_list("matchingSelectors") else {
@@ -156,7 +156,7 @@ fn places_field(alloc: Global, fields: &mut Cursor<'_>) -> Result<Option<Listed<
 }
 
 fn rule_field(alloc: Global, fields: &mut Cursor<'_>) -> Result<Option<Rule>, AllocError>
-    ensures { IfOk result (λ o. option_map (beside (left fields.new)) o
+    ensures { IfOk result (λ o. option_map (left_with (left fields.new)) o
         ≡ need rule_kind.reads (codes "rule") (left fields.old)) }
 {
     let Some(value) = fields.need("rule") else {
@@ -223,7 +223,7 @@ fn matches_field(
     alloc: Global,
     fields: &mut Cursor<'_>,
 ) -> Result<Option<Listed<RuleMatch>>, AllocError>
-    ensures { IfOk result (λ o. option_map (beside (left fields.new)) o
+    ensures { IfOk result (λ o. option_map (left_with (left fields.new)) o
         ≡ need (list_of match_kind).reads (codes "matchedCSSRules") (left fields.old)) }
 {
     let Some(items) = fields.need_list("matchedCSSRules") else {
@@ -240,7 +240,7 @@ fn inline_if_any(
     alloc: Global,
     fields: &mut Cursor<'_>,
 ) -> Result<Option<Option<Style>>, AllocError>
-    ensures { IfOk result (λ o. option_map (beside (left fields.new)) o
+    ensures { IfOk result (λ o. option_map (left_with (left fields.new)) o
         ≡ may inline_kind.reads (codes "inlineStyle") (left fields.old)) }
 {
     match fields.may("inlineStyle") {
@@ -322,7 +322,7 @@ fn inherited_field(
     alloc: Global,
     fields: &mut Cursor<'_>,
 ) -> Result<Option<Listed<Inherited>>, AllocError>
-    ensures { IfOk result (λ o. option_map (beside (left fields.new)) o
+    ensures { IfOk result (λ o. option_map (left_with (left fields.new)) o
         ≡ need (list_of inherited_kind).reads (codes "inherited") (left fields.old)) }
 {
     let Some(items) = fields.need_list("inherited") else {

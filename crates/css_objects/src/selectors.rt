@@ -3,7 +3,7 @@ ghost use Rattle.std.specs.Prelude.{◌≡◌, codes, option_map, IfOk};
 ghost use Rattle.serde_json.specs.View.{view, items_view};
 ghost use Rattle.cdp_json.specs.Left.{left};
 ghost use Rattle.cdp_json.specs.Kinds.{list_of, read_items};
-ghost use Rattle.cdp_json.specs.Rows.{beside, need};
+ghost use Rattle.cdp_json.specs.Rows.{left_with, need};
 ghost use Rattle.css_objects.specs.Selectors.{weight_kind, selector_kind, selectors_kind};
 
 use crate::listed::Listed;
@@ -50,7 +50,7 @@ fn weight_of(value: &Value) -> Option<Weight>
 }
 
 fn weight_field(fields: &mut Cursor<'_>) -> Option<Weight>
-    ensures { option_map (beside (left fields.new)) result
+    ensures { option_map (left_with (left fields.new)) result
         ≡ need weight_kind.reads (codes "specificity") (left fields.old) }
 {
     let value = fields.need("specificity")?;
@@ -139,7 +139,7 @@ fn selector_items_field(
     alloc: Global,
     fields: &mut Cursor<'_>,
 ) -> Result<Option<Listed<SelectorValue>>, AllocError>
-    ensures { IfOk result (λ o. option_map (beside (left fields.new)) o
+    ensures { IfOk result (λ o. option_map (left_with (left fields.new)) o
         ≡ need (list_of selector_kind).reads (codes "selectors") (left fields.old)) }
 {
     let Some(items) = fields.need_list("selectors") else {

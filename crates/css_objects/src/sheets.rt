@@ -2,7 +2,7 @@
 ghost use Rattle.std.specs.Prelude.{◌≡◌, codes, option_map, string_bytes, IfOk};
 ghost use Rattle.serde_json.specs.View.{view};
 ghost use Rattle.cdp_json.specs.Left.{left};
-ghost use Rattle.cdp_json.specs.Rows.{beside, need, may};
+ghost use Rattle.cdp_json.specs.Rows.{left_with, need, may};
 ghost use Rattle.css_objects.specs.Sheets.{sheet_text, sheet_in, sheet_kind, origin_name, origin_named, origin_kind, header_kind};
 
 use cdp_json::{Cursor, object, text_of};
@@ -71,7 +71,7 @@ pub fn sheet_of(value: &Value) -> Option<u64>
 }
 
 pub(crate) fn sheet_field(fields: &mut Cursor<'_>) -> Option<u64>
-    ensures { option_map (beside (left fields.new)) result
+    ensures { option_map (left_with (left fields.new)) result
         ≡ need sheet_kind.reads (codes "styleSheetId") (left fields.old) }
 {
     let value = fields.need("styleSheetId")?;
@@ -80,7 +80,7 @@ pub(crate) fn sheet_field(fields: &mut Cursor<'_>) -> Option<u64>
 
 // An outer `None` says that the field is there and no sheet's id.
 pub(crate) fn sheet_if_any(fields: &mut Cursor<'_>) -> Option<Option<u64>>
-    ensures { option_map (beside (left fields.new)) result
+    ensures { option_map (left_with (left fields.new)) result
         ≡ may sheet_kind.reads (codes "styleSheetId") (left fields.old) }
 {
     match fields.may("styleSheetId") {
@@ -131,7 +131,7 @@ fn origin_of(value: &Value) -> Option<SheetOrigin>
 }
 
 pub(crate) fn origin_field(fields: &mut Cursor<'_>) -> Option<SheetOrigin>
-    ensures { option_map (beside (left fields.new)) result
+    ensures { option_map (left_with (left fields.new)) result
         ≡ need origin_kind.reads (codes "origin") (left fields.old) }
 {
     let value = fields.need("origin")?;

@@ -4,7 +4,7 @@ ghost use Rattle.std.specs.List.{list_all};
 ghost use Rattle.serde_json.specs.View.{view, items_view};
 ghost use Rattle.cdp_json.specs.Left.{left};
 ghost use Rattle.cdp_json.specs.Kinds.{list_of, read_items, only_true};
-ghost use Rattle.cdp_json.specs.Rows.{beside, need, may, unit_if};
+ghost use Rattle.cdp_json.specs.Rows.{left_with, need, may, unit_if};
 ghost use Rattle.css_objects.specs.Styles.{property_kind, has_none, empty_list, style_kind, is_ranged, is_rangeless, is_inline, is_in_sheet, inline_kind, rule_style_kind};
 
 use crate::listed::Listed;
@@ -127,7 +127,7 @@ fn properties_field(
     alloc: Global,
     fields: &mut Cursor<'_>,
 ) -> Result<Option<Listed<StyleProperty>>, AllocError>
-    ensures { IfOk result (λ o. option_map (beside (left fields.new)) o
+    ensures { IfOk result (λ o. option_map (left_with (left fields.new)) o
         ≡ need (list_of property_kind).reads (codes "cssProperties") (left fields.old)) }
 {
     let Some(items) = fields.need_list("cssProperties") else {
@@ -156,7 +156,7 @@ fn empty_of(value: &Value) -> Option<()>
 }
 
 fn shorthands_field(fields: &mut Cursor<'_>) -> Option<()>
-    ensures { option_map (beside (left fields.new)) result
+    ensures { option_map (left_with (left fields.new)) result
         ≡ need empty_list.reads (codes "shorthandEntries") (left fields.old) }
 {
     let value = fields.need("shorthandEntries")?;

@@ -12,7 +12,7 @@ use Rattle.css_tokens.specs.Codes.{begins, is_ident, is_ident_start, is_newline,
 use Rattle.css_tokens.specs.Escapes.{begins_escape, escape_len}
 use Rattle.css_tokens.specs.Runs.{run, run_after, unit_then, name_unit, comment_unit, string_unit, bad_url_unit, name_len, starts_ident, white_run, number_len}
 use Rattle.css_tokens.proofs.Named.{name_some}
-use Rattle.css_tokens.specs.Rows.{up_to_and_with, ◌or◌, when, piece, open_string_len, open_url_len, opens_url, closes, first_piece, comment, white_space, string, bad_string, hash, numeric, cdc, url, bad_url, ident, cdo, at_keyword, mark, mark_kind}
+use Rattle.css_tokens.specs.Rows.{up_to_and_with, ◌or◌, when, piece, open_string_len, open_url_len, opens_url, closes_url, first_piece, comment, white_space, string, bad_string, hash, numeric, cdc, url, bad_url, ident, cdo, at_keyword, mark, mark_kind}
 
 -- a code beside the place is ASCII; past the text's end the code is 0
 abbrev pub IsBesideAscii : List ℕ → ℕ → Type 0
@@ -253,7 +253,7 @@ bad_string_whole text p found =
     subst (IsWhole text) h.1
     (record { beside = next_low text m (begins_low is_newline newline_low (drop m text) t.1); marks = tt })
 
-closes_low : (rest : List ℕ) → closes rest ≡ true → slice_index rest 0 < 128
+closes_low : (rest : List ℕ) → closes_url rest ≡ true → slice_index rest 0 < 128
 closes_low [] e = lit< tt
 closes_low (c ∷ rest) e = grind (arith, nat_tests)
 
@@ -261,7 +261,7 @@ url_whole : AreWhole url
 unfolding url
 url_whole text p found =
     let n = open_url_len text in
-    let h = when_some (opens_url text && closes (drop n text)) (piece Url (up_to_and_with n 1 text)) p found in
+    let h = when_some (opens_url text && closes_url (drop n text)) (piece Url (up_to_and_with n 1 text)) p found in
     let t = and_true (opens_url text) _ h.0 in
     subst (IsWhole text) h.1 (record { beside = closed_low text n (closes_low (drop n text) t.1); marks = tt })
 
@@ -283,7 +283,7 @@ unfolding bad_url
 bad_url_whole text p found =
     let n = open_url_len text in
     let m = n + run bad_url_unit (drop n text) in
-    let h = when_some (opens_url text && not (closes (drop n text))) (piece BadUrl (up_to_and_with m 1 text)) p found in
+    let h = when_some (opens_url text && not (closes_url (drop n text))) (piece BadUrl (up_to_and_with m 1 text)) p found in
     subst (IsWhole text) h.1 (record { beside = closed_low text m (bad_url_low (drop m text) (run_stops_at bad_url_unit refl text n)); marks = tt })
 
 last_low : (text : List ℕ) (n m : ℕ) → slice_index (drop n text) 0 ≡ m → m < 128 → IsBesideAscii text (n + 1)

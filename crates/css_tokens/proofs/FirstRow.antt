@@ -5,7 +5,7 @@ use Rattle.std.proofs.lemmas.Bool.Decides.{nat_tests}
 use Rattle.css_tokens.specs.declared.token.Piece.{Piece}
 use Rattle.css_tokens.specs.declared.rows.First.{First}
 use Rattle.css_tokens.specs.declared.rows.First.TheVariants.{Slash, White, Quote, Number, Dash, Name, Back, Pound, Less, At, Other}
-use Rattle.css_tokens.specs.First.{Tells}
+use Rattle.css_tokens.specs.First.{TellsFirst}
 use Rattle.css_tokens.specs.Codes.{is_newline, begins, is_white, is_quote, is_sign, is_ident_start}
 use Rattle.css_tokens.specs.Runs.{number_len, starts_ident}
 use Rattle.css_tokens.specs.Rows.{when, open_string_len, ◌or◌, first_piece, comment, white_space, string, bad_string, hash, numeric, cdc, url, bad_url, opens_url, ident, cdo, at_keyword, mark}
@@ -172,7 +172,7 @@ at_name c rest start =
     rw (no_comment c rest e, no_white c rest w, no_string c rest q, no_bad_string c rest q, no_hash c rest h, no_numeric c rest g n p, no_cdc c rest d)
     (named_last (url (c ∷ rest)) (bad_url (c ∷ rest)) (ident (c ∷ rest)) _ there.0 there.1)
 
-at_other : (c : ℕ) (rest : List ℕ) → Tells Other c → first_piece (c ∷ rest) ≡ mark (c ∷ rest)
+at_other : (c : ℕ) (rest : List ℕ) → TellsFirst Other c → first_piece (c ∷ rest) ≡ mark (c ∷ rest)
 unfolding first_piece
 at_other c rest other =
     let e : nat_eq 47 c ≡ false = grind (arith, nat_tests) in
@@ -205,7 +205,7 @@ tried Back text = (url text or bad_url text or ident text) or mark text
 tried Less text = cdo text or mark text
 tried Other text = mark text
 
-by_class : (class : First) (c : ℕ) (rest : List ℕ) → Tells class c → tried class (c ∷ rest) ≡ first_piece (c ∷ rest)
+by_class : (class : First) (c : ℕ) (rest : List ℕ) → TellsFirst class c → tried class (c ∷ rest) ≡ first_piece (c ∷ rest)
 by_class Name c rest tells = sym (at_name c rest tells)
 by_class White c rest tells = sym (at_white c rest tells)
 by_class Quote c rest tells = sym (at_quote c rest tells)
@@ -218,7 +218,7 @@ by_class Back c rest tells = rw tells (sym (at_back rest))
 by_class Less c rest tells = rw tells (sym (at_less rest))
 by_class Other c rest tells = sym (at_other c rest tells)
 
-pub tried_is_first : (class : First) (text : List ℕ) → 0 < length text → Tells class (slice_index text 0) → tried class text ≡ first_piece text
+pub tried_is_first : (class : First) (text : List ℕ) → 0 < length text → TellsFirst class (slice_index text 0) → tried class text ≡ first_piece text
 tried_is_first class [] some tells = absurd (omega arith)
 tried_is_first class (c ∷ rest) some tells = by_class class c rest tells
 

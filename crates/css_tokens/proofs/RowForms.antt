@@ -9,7 +9,7 @@ use Rattle.css_tokens.specs.Codes.{begins, is_white}
 use Rattle.css_tokens.specs.Runs.{run, comment_unit, white_run}
 use Rattle.css_tokens.specs.Rows.{piece, up_to_and_with, comment, white_space, mark}
 use Rattle.css_tokens.specs.Forms.{Units, ClosesWith, CommentUnit, CommentForm, WhiteSpaceForm}
-use Rattle.css_tokens.specs.Table.{Gives}
+use Rattle.css_tokens.specs.Table.{GivesLongest}
 use Rattle.css_tokens.proofs.Ends.{and_true, when_some}
 use Rattle.css_tokens.proofs.Unescaping.{same_code}
 use Rattle.css_tokens.proofs.RunForms.{Cut, units_run, run_cut}
@@ -23,7 +23,7 @@ pub record RowLaw (Form : TokenKind → List ℕ → List ℕ → Type 0) (row :
 pub same_len : (p q : Piece) → Some p ≡ Some q → p.len ≡ q.len
 same_len p q e = let same : p ≡ q = cc in ap (λ (x : Piece). x.len) same
 
-pub gives : (Form : TokenKind → List ℕ → List ℕ → Type 0) (row : List ℕ → Option Piece) → RowLaw Form row → Gives Form row
+pub gives : (Form : TokenKind → List ℕ → List ℕ → Type 0) (row : List ℕ → Option Piece) → RowLaw Form row → GivesLongest Form row
 gives Form row law = record {
   longest = λ text p found.
       let c = law.form text p found in

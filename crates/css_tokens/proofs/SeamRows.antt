@@ -9,7 +9,7 @@ use Rattle.css_tokens.specs.declared.token.TokenKind.TheVariants.{Comment, White
 use Rattle.css_tokens.specs.declared.token.Piece.{Piece}
 use Rattle.css_tokens.specs.Codes.{begins, is_newline, is_white, is_quote, is_sign}
 use Rattle.css_tokens.specs.Runs.{run, comment_unit, string_unit, name_unit, url_unit, bad_url_unit, name_len, starts_ident, white_run, digits, fraction_len, decimal_len, sign_len, exponent_len, number_len}
-use Rattle.css_tokens.specs.Rows.{◌or◌, when, piece, up_to_and_with, open_string_len, open_url_len, is_url, opens_url, url_body_len, closes, first_piece, comment, white_space, string, bad_string, hash, numeric, cdc, url, bad_url, ident, cdo, at_keyword, mark, mark_kind}
+use Rattle.css_tokens.specs.Rows.{◌or◌, when, piece, up_to_and_with, open_string_len, open_url_len, is_url, opens_url, url_body_len, closes_url, first_piece, comment, white_space, string, bad_string, hash, numeric, cdc, url, bad_url, ident, cdo, at_keyword, mark, mark_kind}
 use Rattle.css_tokens.proofs.SeamUnits.{stop_facts, StopFacts, begins_same, prefix_same, prefix_within, starts_same, comment_local, name_local, string_local, url_local, bad_url_local, Near, run_near}
 use Rattle.css_tokens.specs.Seams.{is_stop}
 use Rattle.css_tokens.proofs.Ends.{run_stops}
@@ -416,11 +416,11 @@ body_near c f rest other z =
       ]
     ]
 
-closes_same : (c : ℕ) (rest other w : List ℕ) → closes (w ++ c ∷ rest) ≡ closes (w ++ c ∷ other)
+closes_same : (c : ℕ) (rest other w : List ℕ) → closes_url (w ++ c ∷ rest) ≡ closes_url (w ++ c ∷ other)
 closes_same c rest other [] = refl
 closes_same c rest other (a ∷ w) = refl
 
-closed_some : (c : ℕ) (rest w : List ℕ) → StopFacts c → closes (w ++ c ∷ rest) ≡ true → 1 ≤ length w
+closed_some : (c : ℕ) (rest w : List ℕ) → StopFacts c → closes_url (w ++ c ∷ rest) ≡ true → 1 ≤ length w
 closed_some c rest [] f e = absurd (clash (c == 41) f.close e)
   where
     clash : (b : Bool) → b ≡ false → b ≡ true → ⊥
@@ -482,7 +482,7 @@ opens_same c f rest other x same fits =
 
 -- the group as it is computed
 names_of : List ℕ → Option Piece
-names_of text = names (opens_url text) (closes (drop (open_url_len text) text)) (starts_ident text) (begins (λ c. c == 40) (drop (name_len text) text)) (name_len text) (open_url_len text) (run bad_url_unit (drop (open_url_len text) text)) (length text)
+names_of text = names (opens_url text) (closes_url (drop (open_url_len text) text)) (starts_ident text) (begins (λ c. c == 40) (drop (name_len text) text)) (name_len text) (open_url_len text) (run bad_url_unit (drop (open_url_len text) text)) (length text)
 
 not_true_is : (b : Bool) → (b ≡ true → ⊥) → b ≡ false
 not_true_is true e = absurd (e refl)
@@ -518,14 +518,14 @@ open_past_name text = omega arith
 url_far_at : (text : List ℕ) (size : ℕ) → opens_url text ≡ true → size < open_url_len text → size < length text → (p : Piece) × (names_of text ≡ Some p) × (size < p.len)
 unfolding names_of
 url_far_at text size opens a b =
-    let h = urls_far size (name_len text) (open_url_len text) (run bad_url_unit (drop (open_url_len text) text)) (length text) (closes (drop (open_url_len text) text)) (starts_ident text) (begins (λ c. c == 40) (drop (name_len text) text)) a b in
-    (h.0, ap (λ (o : Bool). names o (closes (drop (open_url_len text) text)) (starts_ident text) (begins (λ c. c == 40) (drop (name_len text) text)) (name_len text) (open_url_len text) (run bad_url_unit (drop (open_url_len text) text)) (length text)) opens ∙ h.1, h.2)
+    let h = urls_far size (name_len text) (open_url_len text) (run bad_url_unit (drop (open_url_len text) text)) (length text) (closes_url (drop (open_url_len text) text)) (starts_ident text) (begins (λ c. c == 40) (drop (name_len text) text)) a b in
+    (h.0, ap (λ (o : Bool). names o (closes_url (drop (open_url_len text) text)) (starts_ident text) (begins (λ c. c == 40) (drop (name_len text) text)) (name_len text) (open_url_len text) (run bad_url_unit (drop (open_url_len text) text)) (length text)) opens ∙ h.1, h.2)
 
 name_far_at : (text : List ℕ) (size : ℕ) → starts_ident text ≡ true → size < name_len text → size < length text → (p : Piece) × (names_of text ≡ Some p) × (size < p.len)
 unfolding names_of
 name_far_at text size starts a b =
-    let h = names_far size (name_len text) (open_url_len text) (run bad_url_unit (drop (open_url_len text) text)) (length text) (opens_url text) (closes (drop (open_url_len text) text)) (begins (λ c. c == 40) (drop (name_len text) text)) a (omega (arith, open_past_name text)) b in
-    (h.0, ap (λ (s : Bool). names (opens_url text) (closes (drop (open_url_len text) text)) s (begins (λ c. c == 40) (drop (name_len text) text)) (name_len text) (open_url_len text) (run bad_url_unit (drop (open_url_len text) text)) (length text)) starts ∙ h.1, h.2)
+    let h = names_far size (name_len text) (open_url_len text) (run bad_url_unit (drop (open_url_len text) text)) (length text) (opens_url text) (closes_url (drop (open_url_len text) text)) (begins (λ c. c == 40) (drop (name_len text) text)) a (omega (arith, open_past_name text)) b in
+    (h.0, ap (λ (s : Bool). names (opens_url text) (closes_url (drop (open_url_len text) text)) s (begins (λ c. c == 40) (drop (name_len text) text)) (name_len text) (open_url_len text) (run bad_url_unit (drop (open_url_len text) text)) (length text)) starts ∙ h.1, h.2)
 
 size_of : (o w x : ℕ) → w ≡ x - o → o ≤ x → o + w ≡ x
 size_of o w x e f = omega arith
@@ -567,23 +567,23 @@ opened_alike c f rest other x n first second fits opens opens' =
                 let two : drop o' t' ≡ w ++ c ∷ other = ap (λ (k : ℕ). drop k t') (sym o_same) ∙ drop-append-le o x (c ∷ other) within in
                 let w_size : length w ≡ length x - o = length-drop o x in
                 let near = subst (λ (k : ℕ). Near k (o + run bad_url_unit (w ++ c ∷ rest)) (o + run bad_url_unit (w ++ c ∷ other))) (size_of o (length w) (length x) w_size within) (near_add o (length w) _ _ (run_near bad_url_unit c (bad_url_local c f) rest other w)) in
-                let close_fits : closes (w ++ c ∷ rest) ≡ true → o + 1 ≤ length x = λ e. let some = closed_some c rest w f e in omega arith in
-                let bad_fits : closes (w ++ c ∷ rest) ≡ false → o + run bad_url_unit (w ++ c ∷ rest) ≤ length x → o + run bad_url_unit (w ++ c ∷ rest) + 1 ≤ length x = λ _ short.
+                let close_fits : closes_url (w ++ c ∷ rest) ≡ true → o + 1 ≤ length x = λ e. let some = closed_some c rest w f e in omega arith in
+                let bad_fits : closes_url (w ++ c ∷ rest) ≡ false → o + run bad_url_unit (w ++ c ∷ rest) ≤ length x → o + run bad_url_unit (w ++ c ∷ rest) + 1 ≤ length x = λ _ short.
                 let r = run bad_url_unit (w ++ c ∷ rest) in
                 let at : drop r (w ++ c ∷ rest) ≡ drop r w ++ c ∷ rest = drop-append-le r w (c ∷ rest) (omega arith) in
                 let some = bad_some c rest (drop r w) f (sym (ap bad_url_unit at) ∙ run_stops bad_url_unit refl (w ++ c ∷ rest)) in
                 omega (arith, some, length-drop r w) in
-                let here = urls_near (length x) (name_len t) o (run bad_url_unit (w ++ c ∷ rest)) (run bad_url_unit (w ++ c ∷ other)) (length t) (length t') (closes (w ++ c ∷ rest)) s (begins (λ c. c == 40) (drop (name_len t) t)) more further close_fits near bad_fits in
-                let left : names_of t ≡ names true (closes (w ++ c ∷ rest)) s (begins (λ c. c == 40) (drop (name_len t) t)) (name_len t) o (run bad_url_unit (w ++ c ∷ rest)) (length t) =
-                ap (λ (b : Bool). names b (closes (drop o t)) s (begins (λ c. c == 40) (drop (name_len t) t)) (name_len t) o (run bad_url_unit (drop o t)) (length t)) opens
-                ∙ ap (λ (d : List ℕ). names true (closes d) s (begins (λ c. c == 40) (drop (name_len t) t)) (name_len t) o (run bad_url_unit d) (length t)) one in
-                let right : names_of t' ≡ names true (closes (w ++ c ∷ rest)) s (begins (λ c. c == 40) (drop (name_len t) t)) (name_len t) o (run bad_url_unit (w ++ c ∷ other)) (length t') =
-                ap (λ (b : Bool). names b (closes (drop o' t')) (starts_ident t') (begins (λ c. c == 40) (drop (name_len t') t')) (name_len t') o' (run bad_url_unit (drop o' t')) (length t')) opens'
-                ∙ ap (λ (d : List ℕ). names true (closes d) (starts_ident t') (begins (λ c. c == 40) (drop (name_len t') t')) (name_len t') o' (run bad_url_unit d) (length t')) two
-                ∙ urls_any (starts_ident t') s (begins (λ c. c == 40) (drop (name_len t') t')) (begins (λ c. c == 40) (drop (name_len t) t)) (name_len t') (name_len t) (closes (w ++ c ∷ other)) o' (run bad_url_unit (w ++ c ∷ other)) (length t')
+                let here = urls_near (length x) (name_len t) o (run bad_url_unit (w ++ c ∷ rest)) (run bad_url_unit (w ++ c ∷ other)) (length t) (length t') (closes_url (w ++ c ∷ rest)) s (begins (λ c. c == 40) (drop (name_len t) t)) more further close_fits near bad_fits in
+                let left : names_of t ≡ names true (closes_url (w ++ c ∷ rest)) s (begins (λ c. c == 40) (drop (name_len t) t)) (name_len t) o (run bad_url_unit (w ++ c ∷ rest)) (length t) =
+                ap (λ (b : Bool). names b (closes_url (drop o t)) s (begins (λ c. c == 40) (drop (name_len t) t)) (name_len t) o (run bad_url_unit (drop o t)) (length t)) opens
+                ∙ ap (λ (d : List ℕ). names true (closes_url d) s (begins (λ c. c == 40) (drop (name_len t) t)) (name_len t) o (run bad_url_unit d) (length t)) one in
+                let right : names_of t' ≡ names true (closes_url (w ++ c ∷ rest)) s (begins (λ c. c == 40) (drop (name_len t) t)) (name_len t) o (run bad_url_unit (w ++ c ∷ other)) (length t') =
+                ap (λ (b : Bool). names b (closes_url (drop o' t')) (starts_ident t') (begins (λ c. c == 40) (drop (name_len t') t')) (name_len t') o' (run bad_url_unit (drop o' t')) (length t')) opens'
+                ∙ ap (λ (d : List ℕ). names true (closes_url d) (starts_ident t') (begins (λ c. c == 40) (drop (name_len t') t')) (name_len t') o' (run bad_url_unit d) (length t')) two
+                ∙ urls_any (starts_ident t') s (begins (λ c. c == 40) (drop (name_len t') t')) (begins (λ c. c == 40) (drop (name_len t) t)) (name_len t') (name_len t) (closes_url (w ++ c ∷ other)) o' (run bad_url_unit (w ++ c ∷ other)) (length t')
                 ∙ ap (λ (b : Bool). names true b s (begins (λ c. c == 40) (drop (name_len t) t)) (name_len t) o' (run bad_url_unit (w ++ c ∷ other)) (length t')) (sym (closes_same c rest other w))
-                ∙ ap (λ (k : ℕ). names true (closes (w ++ c ∷ rest)) s (begins (λ c. c == 40) (drop (name_len t) t)) (name_len t) k (run bad_url_unit (w ++ c ∷ other)) (length t')) (sym o_same) in
-                subst (λ (a : Option Piece). Alike (length x) a (names_of t')) (sym left) (subst (Alike (length x) (names true (closes (w ++ c ∷ rest)) s (begins (λ c. c == 40) (drop (name_len t) t)) (name_len t) o (run bad_url_unit (w ++ c ∷ rest)) (length t))) (sym right) here)
+                ∙ ap (λ (k : ℕ). names true (closes_url (w ++ c ∷ rest)) s (begins (λ c. c == 40) (drop (name_len t) t)) (name_len t) k (run bad_url_unit (w ++ c ∷ other)) (length t')) (sym o_same) in
+                subst (λ (a : Option Piece). Alike (length x) a (names_of t')) (sym left) (subst (Alike (length x) (names true (closes_url (w ++ c ∷ rest)) s (begins (λ c. c == 40) (drop (name_len t) t)) (name_len t) o (run bad_url_unit (w ++ c ∷ rest)) (length t))) (sym right) here)
           ]
     ]
 

@@ -6,7 +6,7 @@ use Rattle.css_tokens.specs.declared.token.Piece.{Piece}
 use Rattle.css_tokens.specs.Rows.{◌or◌, piece, first_piece}
 use Rattle.css_tokens.specs.Pieces.{pieces, pieces_after}
 use Rattle.css_tokens.specs.Forms.{NumericForm, a_percentage, a_dimension, a_number}
-use Rattle.css_tokens.specs.Table.{Row, comment_row, white_space_row, string_row, bad_string_row, hash_row, numeric_row, cdc_row, url_row, bad_url_row, ident_row, cdo_row, at_keyword_row, mark_row, FormOf, row_of, HasNone, Gives, NoneOf, IsFirstPiece, Cuts}
+use Rattle.css_tokens.specs.Table.{PieceRow, comment_row, white_space_row, string_row, bad_string_row, hash_row, numeric_row, cdc_row, url_row, bad_url_row, ident_row, cdo_row, at_keyword_row, mark_row, FormOf, row_of, HasNone, GivesLongest, NoneOf, IsFirstPiece, Cuts}
 use Rattle.css_tokens.proofs.Named.{name_some}
 use Rattle.css_tokens.proofs.Cuts.{piece_first, none_at_end}
 use Rattle.css_tokens.proofs.RowForms.{RowLaw, gives, comment_row_law, white_row_law}
@@ -14,7 +14,7 @@ use Rattle.css_tokens.proofs.NameForms.{string_row_law, bad_string_row_law, hash
 use Rattle.css_tokens.proofs.NumberForms.{numeric_row_law, number_some}
 use Rattle.css_tokens.proofs.UrlForms.{url_row_law, bad_url_row_law}
 
-law_of : (row : Row) → RowLaw (FormOf row) (row_of row)
+law_of : (row : PieceRow) → RowLaw (FormOf row) (row_of row)
 law_of comment_row = comment_row_law
 law_of white_space_row = white_row_law
 law_of string_row = string_row_law
@@ -29,11 +29,11 @@ law_of cdo_row = cdo_row_law
 law_of at_keyword_row = at_keyword_row_law
 law_of mark_row = mark_row_law
 
-pub rows_give : (row : Row) → Gives (FormOf row) (row_of row)
+pub rows_give : (row : PieceRow) → GivesLongest (FormOf row) (row_of row)
 rows_give row = gives (FormOf row) (row_of row) (law_of row)
 
 -- the first of some rows that applies
-first_of : Row → List Row → List ℕ → Option Piece
+first_of : PieceRow → List PieceRow → List ℕ → Option Piece
 first_of row [] text = row_of row text
 first_of row (next ∷ rows) text = row_of row text or first_of next rows text
 
@@ -41,15 +41,15 @@ first_is : (text : List ℕ) → first_piece text ≡ first_of comment_row (whit
 unfolding first_piece first_of
 first_is text = refl
 
-record Found (rows : List Row) (text : List ℕ) (p : Piece) : Type 0 where
-  earlier : List Row
-  row : Row
-  later : List Row
+record Found (rows : List PieceRow) (text : List ℕ) (p : Piece) : Type 0 where
+  earlier : List PieceRow
+  row : PieceRow
+  later : List PieceRow
   order : rows ≡ earlier ++ row ∷ later
   none_earlier : NoneOf earlier text
   found : row_of row text ≡ Some p
 
-has_none : (row : Row) (text : List ℕ) → row_of row text ≡ None → HasNone (FormOf row) text
+has_none : (row : PieceRow) (text : List ℕ) → row_of row text ≡ None → HasNone (FormOf row) text
 has_none row text none kind front rest e f = let some : IsSome (row_of row text) = (rows_give row).where_any text front rest kind e f in no_some (row_of row text) none some
   where
     no_some : (o : Option Piece) → o ≡ None → IsSome o → ⊥
@@ -60,7 +60,7 @@ by_or : {P : Type 0} (a b : Option Piece) (p : Piece) → (a or b) ≡ Some p �
 by_or (Some q) b p e first next = first e
 by_or None b p e first next = next refl e
 
-found_in : (row : Row) (rows : List Row) (text : List ℕ) (p : Piece) → first_of row rows text ≡ Some p → Found (row ∷ rows) text p
+found_in : (row : PieceRow) (rows : List PieceRow) (text : List ℕ) (p : Piece) → first_of row rows text ≡ Some p → Found (row ∷ rows) text p
 unfolding first_of
 found_in row [] text p e = record { earlier = []; row = row; later = []; order = refl; none_earlier = tt; found = e }
 found_in row (next ∷ rows) text p e =
@@ -68,7 +68,7 @@ found_in row (next ∷ rows) text p e =
     (λ here. record { earlier = []; row = row; later = next ∷ rows; order = refl; none_earlier = tt; found = here })
     (λ none more.
     let f = found_in next rows text p more in
-    record { earlier = row ∷ f.earlier; row = f.row; later = f.later; order = ap (λ (x : List Row). row ∷ x) f.order; none_earlier = (has_none row text none, f.none_earlier); found = f.found })
+    record { earlier = row ∷ f.earlier; row = f.row; later = f.later; order = ap (λ (x : List PieceRow). row ∷ x) f.order; none_earlier = (has_none row text none, f.none_earlier); found = f.found })
 
 pub first_is_first : (text : List ℕ) (p : Piece) → first_piece text ≡ Some p → IsFirstPiece text p
 first_is_first text p found =
@@ -81,7 +81,7 @@ numeric_some kind front rest (a_percentage number h is) = omega (arith, ap lengt
 numeric_some kind front rest (a_dimension number name h is starts a_name) = omega (arith, ap length is, length-append number name, number_some number h.form)
 numeric_some kind front rest (a_number h percent none) = number_some front h.form
 
-form_some : (row : Row) (kind : TokenKind) (front rest : List ℕ) → FormOf row kind front rest → 0 < length front
+form_some : (row : PieceRow) (kind : TokenKind) (front rest : List ℕ) → FormOf row kind front rest → 0 < length front
 form_some comment_row kind front rest f = omega (arith, ap length f.is)
 form_some white_space_row kind front rest f = f.some
 form_some string_row kind front rest f = omega (arith, ap length f.is)

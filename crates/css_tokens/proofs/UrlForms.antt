@@ -8,7 +8,7 @@ use Rattle.css_tokens.specs.declared.token.Piece.{Piece}
 use Rattle.css_tokens.specs.Codes.{begins, is_white, is_quote, is_newline}
 use Rattle.css_tokens.specs.Escapes.{escape_len, begins_escape}
 use Rattle.css_tokens.specs.Runs.{run, url_unit, bad_url_unit, name_len, starts_ident, white_run}
-use Rattle.css_tokens.specs.Rows.{piece, up_to_and_with, is_url, opens_url, url_body_len, open_url_len, closes, url, bad_url}
+use Rattle.css_tokens.specs.Rows.{piece, up_to_and_with, is_url, opens_url, url_body_len, open_url_len, closes_url, url, bad_url}
 use Rattle.css_tokens.specs.Forms.{Units, no_units, unit_and, IsRun, ClosesWith, IsName, IsWhiteRun, UrlUnit, OpensUrl, UrlForm, BadUrlUnit, BadUrlForm}
 use Rattle.css_tokens.proofs.Ends.{and_true, not_true, when_some}
 use Rattle.css_tokens.proofs.Unescaping.{same_code}
@@ -146,15 +146,15 @@ opens_is front rest f =
     )
 
 -- what closes a url or a bad-url
-closing : (text : List ℕ) → closes text ≡ true → Closing (41 ∷ []) text
+closing : (text : List ℕ) → closes_url text ≡ true → Closing (41 ∷ []) text
 closing [] e = ends_here (41 ∷ [])
 closing (c ∷ rest) e = subst (λ (a : ℕ). Closing (41 ∷ []) (a ∷ rest)) (sym (same_code c 41 e)) (marked_here (41 ∷ []) rest)
 
-closing_closes : (close rest : List ℕ) → ClosesWith (41 ∷ []) close rest → (closes (close ++ rest) ≡ true) × (bad_url_unit (close ++ rest) ≡ 0)
+closing_closes : (close rest : List ℕ) → ClosesWith (41 ∷ []) close rest → (closes_url (close ++ rest) ≡ true) × (bad_url_unit (close ++ rest) ≡ 0)
 closing_closes close rest (inl is) = rw is (refl, refl)
 closing_closes close rest (inr end) = rw (end.0, end.1) (refl, refl)
 
-bad_closes : (text : List ℕ) → bad_url_unit text ≡ 0 → closes text ≡ true
+bad_closes : (text : List ℕ) → bad_url_unit text ≡ 0 → closes_url text ≡ true
 unfolding escape_len
 bad_closes [] none = refl
 bad_closes (c ∷ rest) none = by_tests (c == 41) (c == 92 && not (begins is_newline rest)) _ none
@@ -165,13 +165,13 @@ bad_closes (c ∷ rest) none = by_tests (c == 41) (c == 92 && not (begins is_new
     by_tests false false n e = absurd (omega arith)
 
 -- where a unit of a bad-url stands, nothing closes
-open_bad : (text : List ℕ) → 0 < bad_url_unit text → closes text ≡ false
+open_bad : (text : List ℕ) → 0 < bad_url_unit text → closes_url text ≡ false
 open_bad [] some = absurd (omega arith)
 open_bad (c ∷ rest) some =
     elim (c == 41) as (λ b. 0 < cond b 0 (cond (begins_escape (c ∷ rest)) (escape_len (c ∷ rest)) 1) → b ≡ false) [ true ↦ λ none. absurd (omega arith) | false ↦ λ _. refl ] some
 
-some_bad : (text body rest : List ℕ) → text ≡ body ++ rest → closes text ≡ false → bad_url_unit rest ≡ 0 → 0 < length body
-some_bad text [] rest is unclosed none = let closed : closes text ≡ true = ap closes is ∙ bad_closes rest none in cc
+some_bad : (text body rest : List ℕ) → text ≡ body ++ rest → closes_url text ≡ false → bad_url_unit rest ≡ 0 → 0 < length body
+some_bad text [] rest is unclosed none = let closed : closes_url text ≡ true = ap closes_url is ∙ bad_closes rest none in cc
 some_bad text (c ∷ body) rest is unclosed none = omega arith
 
 sizes : (front close rest text : List ℕ) → text ≡ (front ++ close) ++ rest → length text ≡ length front + length close + length rest
@@ -182,11 +182,11 @@ unfolding url
 url_row_law = record {
   form = λ text p found.
       let n = open_url_len text in
-      let h = when_some (opens_url text && closes (drop n text)) (piece Url (up_to_and_with n 1 text)) p found in
-      let t = and_true (opens_url text) (closes (drop n text)) h.0 in
+      let h = when_some (opens_url text && closes_url (drop n text)) (piece Url (up_to_and_with n 1 text)) p found in
+      let t = and_true (opens_url text) (closes_url (drop n text)) h.0 in
       let c = opened text t.0 in
       let past : drop n text ≡ c.rest = past_run url_unit text c.front c.rest n c.is c.len in
-      let e = closing c.rest (sym (ap closes past) ∙ t.1) in
+      let e = closing c.rest (sym (ap closes_url past) ∙ t.1) in
       let whole : text ≡ (c.front ++ e.close) ++ e.rest = c.is ∙ ap (λ (x : List ℕ). c.front ++ x) e.is ∙ sym (append_assoc c.front e.close e.rest) in
       subst (λ (q : Piece). Cut (UrlForm q.kind) text q.len) h.1
       (record {
@@ -203,19 +203,19 @@ url_row_law = record {
       let n = open_url_len (front ++ rest) in
       let len : n ≡ length f.front = ap open_url_len assoc ∙ o.1 in
       let opens : opens_url (front ++ rest) ≡ true = ap opens_url assoc ∙ o.0 in
-      let closed : closes (drop n (front ++ rest)) ≡ true = ap closes (past_run url_unit (front ++ rest) f.front (f.close ++ rest) n assoc len) ∙ (closing_closes f.close rest f.closed).0 in
+      let closed : closes_url (drop n (front ++ rest)) ≡ true = ap closes_url (past_run url_unit (front ++ rest) f.front (f.close ++ rest) n assoc len) ∙ (closing_closes f.close rest f.closed).0 in
       let size : up_to_and_with n 1 (front ++ rest) ≡ length front =
       closed_len n 1 _ _ f.close rest refl f.closed (omega (arith, len, sizes f.front f.close rest (front ++ rest) whole)) ∙ omega (arith, len, ap length f.is, length-append f.front f.close) in
       subst (λ (k : TokenKind). url (front ++ rest) ≡ Some (piece k (length front))) (sym f.named)
       (rw (opens, closed) (ap (λ (k : ℕ). Some (piece Url k)) size));
 }
 
-first_bad : (body rest : List ℕ) → 0 < length body → Units BadUrlUnit body rest → closes (body ++ rest) ≡ false
+first_bad : (body rest : List ℕ) → 0 < length body → Units BadUrlUnit body rest → closes_url (body ++ rest) ≡ false
 first_bad body rest some (no_units) = absurd (omega (arith, some))
 first_bad body rest some (unit_and {first = u} {others = us} whole first more) =
     let one = bad_url_law.only u (us ++ rest) first in
     let there : 0 < bad_url_unit (u ++ (us ++ rest)) = omega (arith, one.0, one.1) in
-    ap closes (ap (λ (x : List ℕ). x ++ rest) whole ∙ append_assoc u us rest) ∙ open_bad (u ++ (us ++ rest)) there
+    ap closes_url (ap (λ (x : List ℕ). x ++ rest) whole ∙ append_assoc u us rest) ∙ open_bad (u ++ (us ++ rest)) there
 
 pub bad_url_row_law : RowLaw BadUrlForm bad_url
 unfolding bad_url
@@ -223,11 +223,11 @@ bad_url_row_law = record {
   form = λ text p found.
       let n = open_url_len text in
       let m = n + run bad_url_unit (drop n text) in
-      let h = when_some (opens_url text && not (closes (drop n text))) (piece BadUrl (up_to_and_with m 1 text)) p found in
-      let t = and_true (opens_url text) (not (closes (drop n text))) h.0 in
+      let h = when_some (opens_url text && not (closes_url (drop n text))) (piece BadUrl (up_to_and_with m 1 text)) p found in
+      let t = and_true (opens_url text) (not (closes_url (drop n text))) h.0 in
       let c = opened text t.0 in
       let past : drop n text ≡ c.rest = past_run url_unit text c.front c.rest n c.is c.len in
-      let unclosed : closes c.rest ≡ false = sym (ap closes past) ∙ not_true _ t.1 in
+      let unclosed : closes_url c.rest ≡ false = sym (ap closes_url past) ∙ not_true _ t.1 in
       let b = run_cut BadUrlUnit bad_url_unit bad_url_law c.rest in
       let size : run bad_url_unit (drop n text) ≡ length b.front = ap (run bad_url_unit) past ∙ b.len in
       let e = closing b.rest (bad_closes b.rest b.form.1) in
@@ -261,7 +261,7 @@ bad_url_row_law = record {
       let len : n ≡ length f.front = ap open_url_len assoc ∙ o.1 in
       let opens : opens_url (front ++ rest) ≡ true = ap opens_url assoc ∙ o.0 in
       let past : drop n (front ++ rest) ≡ f.body ++ (f.close ++ rest) = past_run url_unit (front ++ rest) f.front (f.body ++ (f.close ++ rest)) n assoc len in
-      let unclosed : closes (drop n (front ++ rest)) ≡ false = ap closes past ∙ first_bad f.body (f.close ++ rest) f.some f.units in
+      let unclosed : closes_url (drop n (front ++ rest)) ≡ false = ap closes_url past ∙ first_bad f.body (f.close ++ rest) f.some f.units in
       let more : run bad_url_unit (drop n (front ++ rest)) ≡ length f.body = ap (run bad_url_unit) past ∙ units_run BadUrlUnit bad_url_unit bad_url_law f.body (f.close ++ rest) f.units (closing_closes f.close rest f.closed).1 in
       let all : length (front ++ rest) ≡ length f.front + length f.body + length f.close + length rest = sizes f.front (f.body ++ f.close) rest (front ++ rest) whole ∙ omega (arith, length-append f.body f.close) in
       let size : up_to_and_with (n + run bad_url_unit (drop n (front ++ rest))) 1 (front ++ rest) ≡ length front =

@@ -14,7 +14,7 @@ pub record Opens (mark : ℕ) (text : List ℕ) (start end : ℕ) : Type 0 where
   pub some : start + 1 < end
 
 -- the mark stands last, and something before it
-pub record Ends (mark : ℕ) (text : List ℕ) (start end : ℕ) : Type 0 where
+pub record EndsInMark (mark : ℕ) (text : List ℕ) (start end : ℕ) : Type 0 where
   pub is : slice_index text (end - 1) ≡ mark
   pub some : start + 1 < end
 
@@ -33,7 +33,7 @@ pub record IsMark (kind : TokenKind) (text : List ℕ) (start end : ℕ) : Type 
 abbrev pub HasMarks : TokenKind → List ℕ → ℕ → ℕ → Type 0
 HasMarks (Hash flag) text start end = Opens 35 text start end
 HasMarks AtKeyword text start end = Opens 64 text start end
-HasMarks Function text start end = Ends 40 text start end
+HasMarks Function text start end = EndsInMark 40 text start end
 HasMarks Str text start end = IsQuoted text start end
 HasMarks Colon text start end = IsMark Colon text start end
 HasMarks Semicolon text start end = IsMark Semicolon text start end

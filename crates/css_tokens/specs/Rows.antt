@@ -97,9 +97,9 @@ url_body_len inner =
     end + white_run (drop end inner)
 
 -- `)` or the text's end
-abbrev pub closes : List ℕ → Bool
-closes [] = true
-closes (c ∷ rest) = c == 41
+abbrev pub closes_url : List ℕ → Bool
+closes_url [] = true
+closes_url (c ∷ rest) = c == 41
 
 -- a name, `(` and a url body
 abbrev pub open_url_len : List ℕ → ℕ
@@ -109,13 +109,13 @@ open_url_len text = let n = name_len text + 1 in n + url_body_len (drop n text)
 unfoldable pub url : List ℕ → Option Piece
 url text =
     let n = open_url_len text in
-    when (opens_url text && closes (drop n text)) (piece Url (up_to_and_with n 1 text))
+    when (opens_url text && closes_url (drop n text)) (piece Url (up_to_and_with n 1 text))
 
 -- the same that meets what a url does not have there: up to and with the next `)` outside escapes, or to the text's end
 unfoldable pub bad_url : List ℕ → Option Piece
 bad_url text =
     let n = open_url_len text in
-    when (opens_url text && not (closes (drop n text)))
+    when (opens_url text && not (closes_url (drop n text)))
     (piece BadUrl (up_to_and_with (n + run bad_url_unit (drop n text)) 1 text))
 
 -- a name where the text starts an ident, and `(` after it or not

@@ -7,29 +7,29 @@ use Rattle.css_tokens.specs.Rows.{piece, comment, white_space, string, bad_strin
 use Rattle.css_tokens.specs.Forms.{CommentForm, WhiteSpaceForm, StringForm, BadStringForm, HashForm, NumericForm, CdcForm, UrlForm, BadUrlForm, IdentForm, CdoForm, AtKeywordForm, MarkForm}
 
 -- the rows of the table of pieces, in its order
-pub data Row : Type 0 where
-  comment_row : Row
-  white_space_row : Row
-  string_row : Row
-  bad_string_row : Row
-  hash_row : Row
-  numeric_row : Row
-  cdc_row : Row
-  url_row : Row
-  bad_url_row : Row
-  ident_row : Row
-  cdo_row : Row
-  at_keyword_row : Row
-  mark_row : Row
+pub data PieceRow : Type 0 where
+  comment_row : PieceRow
+  white_space_row : PieceRow
+  string_row : PieceRow
+  bad_string_row : PieceRow
+  hash_row : PieceRow
+  numeric_row : PieceRow
+  cdc_row : PieceRow
+  url_row : PieceRow
+  bad_url_row : PieceRow
+  ident_row : PieceRow
+  cdo_row : PieceRow
+  at_keyword_row : PieceRow
+  mark_row : PieceRow
 
 -- the rows in their order: those of url and bad-url take precedence over that of ident and function
-abbrev pub table : List Row
+abbrev pub table : List PieceRow
 table =
     comment_row ∷ white_space_row ∷ string_row ∷ bad_string_row ∷ hash_row ∷ numeric_row ∷ cdc_row
     ∷ url_row ∷ bad_url_row ∷ ident_row ∷ cdo_row ∷ at_keyword_row ∷ mark_row ∷ []
 
 -- the form of a row: a kind, a piece of that kind, and what follows it
-abbrev pub FormOf : Row → TokenKind → List ℕ → List ℕ → Type 0
+abbrev pub FormOf : PieceRow → TokenKind → List ℕ → List ℕ → Type 0
 FormOf comment_row = CommentForm
 FormOf white_space_row = WhiteSpaceForm
 FormOf string_row = StringForm
@@ -45,7 +45,7 @@ FormOf at_keyword_row = AtKeywordForm
 FormOf mark_row = MarkForm
 
 -- the function that computes a row
-abbrev pub row_of : Row → List ℕ → Option Piece
+abbrev pub row_of : PieceRow → List ℕ → Option Piece
 row_of comment_row = comment
 row_of white_space_row = white_space
 row_of string_row = string
@@ -74,20 +74,20 @@ abbrev pub HasNone : (TokenKind → List ℕ → List ℕ → Type 0) → List �
 HasNone Form text = (kind : TokenKind) (front rest : List ℕ) → text ≡ front ++ rest → Form kind front rest → ⊥
 
 -- a function gives the longest piece of a form where there is one, and nothing where there is none
-pub record Gives (Form : TokenKind → List ℕ → List ℕ → Type 0) (row : List ℕ → Option Piece) : Type 0 where
+pub record GivesLongest (Form : TokenKind → List ℕ → List ℕ → Type 0) (row : List ℕ → Option Piece) : Type 0 where
   pub longest : (text : List ℕ) (p : Piece) → row text ≡ Some p → IsLongest Form text p
   pub where_any : (text front rest : List ℕ) (kind : TokenKind) → text ≡ front ++ rest → Form kind front rest → IsSome (row text)
 
 -- none of the rows has a piece at the head of the text
-abbrev pub NoneOf : List Row → List ℕ → Type 0
+abbrev pub NoneOf : List PieceRow → List ℕ → Type 0
 NoneOf [] text = Unit {0}
 NoneOf (row ∷ rows) text = HasNone (FormOf row) text × NoneOf rows text
 
 -- the piece of a text: the longest piece of the first row that has one
 pub record IsFirstPiece (text : List ℕ) (p : Piece) : Type 0 where
-  pub earlier : List Row
-  pub row : Row
-  pub later : List Row
+  pub earlier : List PieceRow
+  pub row : PieceRow
+  pub later : List PieceRow
   pub order : table ≡ earlier ++ row ∷ later
   pub none_earlier : NoneOf earlier text
   pub longest : IsLongest (FormOf row) text p

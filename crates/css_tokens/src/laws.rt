@@ -6,12 +6,12 @@ ghost use Rattle.css_tokens.specs.Rows.{first_piece};
 ghost use Rattle.css_tokens.specs.declared.token.Token.{Token};
 ghost use Rattle.css_tokens.specs.Pieces.{pieces, pieces_after};
 ghost use Rattle.css_tokens.specs.Seams.{is_stop, IsWholeBefore};
-ghost use Rattle.css_tokens.specs.Table.{Row, FormOf, row_of, Gives, IsFirstPiece, Cuts};
+ghost use Rattle.css_tokens.specs.Table.{PieceRow, FormOf, row_of, GivesLongest, IsFirstPiece, Cuts};
 
 /// Each row's function gives the longest piece of the row's form. The piece of a text is that of the first row that has
 /// one, and each text but the empty one has one. So the pieces of a text are what the table says, place by place.
 pub fn table_law()
-    ensures rows { (row : Row) → Gives (FormOf row) (row_of row) }
+    ensures rows { (row : PieceRow) → GivesLongest (FormOf row) (row_of row) }
     ensures first { (text : List ℕ) (p : Piece) → first_piece text ≡ Some p → IsFirstPiece text p }
     ensures always { (text : List ℕ) → first_piece text ≡ None → text ≡ [] }
     ensures cuts { (text : List ℕ) → Cuts text 0 (pieces text) }

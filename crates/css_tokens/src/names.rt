@@ -1,7 +1,7 @@
 //! Idents, functions and urls: the rows of what begins with a name.
 
 ghost use Rattle.std.specs.Prelude.{◌≡◌, ◌≤◌, ◌<◌, ◌==◌, ◌+◌, true, drop, Some, length, IfSome};
-ghost use Rattle.css_tokens.specs.Rows.{IsFront, ◌or◌, letter_len, is_url, opens_url, url_body_len, open_url_len, url, bad_url, ident, closes};
+ghost use Rattle.css_tokens.specs.Rows.{IsFront, ◌or◌, letter_len, is_url, opens_url, url_body_len, open_url_len, url, bad_url, ident, closes_url};
 ghost use Rattle.css_tokens.specs.Escapes.{escape_value};
 ghost use Rattle.css_tokens.specs.Codes.{is_quote, begins};
 ghost use Rattle.css_tokens.specs.Runs.{name_len, white_run, starts_ident};
@@ -51,7 +51,7 @@ fn is_url(name: &[u8]) -> bool
 }
 
 fn closes(text: &[u8]) -> bool
-    ensures { result ≡ closes text.now }
+    ensures { result ≡ closes_url text.now }
 {
     match text {
         [] => true,

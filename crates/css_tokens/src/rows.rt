@@ -2,7 +2,7 @@
 
 ghost use Rattle.std.specs.Prelude.{◌≡◌, ◌≤◌, ◌<◌, ◌==◌, List, length, IfSome};
 ghost use Rattle.css_tokens.specs.Rows.{IsFront, ◌or◌, comment, white_space, string, bad_string, hash, numeric, cdc, url, bad_url, ident, cdo, at_keyword, mark_kind, mark, first_piece};
-ghost use Rattle.css_tokens.specs.First.{Tells};
+ghost use Rattle.css_tokens.specs.First.{TellsFirst};
 ghost use Rattle.css_tokens.specs.Codes.{is_quote, begins};
 
 use crate::codes::{is_ident_start, is_quote, is_white};
@@ -220,7 +220,7 @@ enum First {
 }
 
 fn first_of(b: u8) -> First
-    ensures { Tells result b }
+    ensures { TellsFirst result b }
 {
     match b {
         b'A'..=b'Z' | b'a'..=b'z' | b'_' | 0 | 128..=255 => First::Name,

@@ -9,7 +9,7 @@ use Rattle.node_tree.specs.Labels.{Label, is_document, is_element, holds, has_na
 use Rattle.node_tree.specs.Seen.{Hold, Seen, leaf, counted, opened, is_opened}
 use Rattle.node_tree.proofs.NodeLemmas.{width_le-node_count}
 use Rattle.page_tree.specs.Forms.{are_formed, are_named}
-use Rattle.page_tree.specs.Pages.{Row, row_label, row_serial, State, IsValid}
+use Rattle.page_tree.specs.Pages.{PageRow, row_label, row_serial, PageValue, IsValid}
 use Rattle.node_binding.specs.Openings.{less, is_spent}
 use Rattle.node_binding.specs.Sessions.{Session}
 use Rattle.node_binding.proofs.StartLemmas.{count-alone}
@@ -31,7 +31,7 @@ use Rattle.dom_agent.proofs.TellableLemmas.{Fitting, fitting_row, fitting_later,
 -- ---- what a message can tell of a page
 
 -- of one node, above these children
-record RowTells (r : Row) (c : Nodes Row) : Type 0 where
+record RowTells (r : PageRow) (c : Nodes PageRow) : Type 0 where
   pub least : 1 ≤ r.serial
   pub below : r.serial < 2 ^ 53
   pub formed : is_formed_label r.label ≡ true
@@ -40,26 +40,26 @@ record RowTells (r : Row) (c : Nodes Row) : Type 0 where
   pub texts : LabelHasUtf8 r.label
 
 -- none of these trees has a document on top
-abbrev NoDocuments : Nodes Row → Type 0
+abbrev NoDocuments : Nodes PageRow → Type 0
 NoDocuments none = ⊤
 NoDocuments (node r c t) = (not (is_document r.label.kind) ≡ true) × NoDocuments t
 
 -- of all nodes
-abbrev AllTell : Nodes Row → Type 0
+abbrev AllTell : Nodes PageRow → Type 0
 AllTell none = ⊤
 AllTell (node r c t) = RowTells r c × NoDocuments c × AllTell c × AllTell t
 
 -- sound trees, whatever is known of them
-abbrev Sound : Bool → Nodes Row → Type 0
+abbrev Sound : Bool → Nodes PageRow → Type 0
 Sound top n = Fitting (λ _. true) (λ _. 1) (λ _. omega arith) top n
 
-no-documents : (top : Bool) (n : Nodes Row) → are_formed top (map_rows row_label n) ≡ true → NoDocuments n
+no-documents : (top : Bool) (n : Nodes PageRow) → are_formed top (map_rows row_label n) ≡ true → NoDocuments n
 no-documents top none e = tt
 no-documents top (node r c t) e =
     let parts = formed_parts (λ _. true) (λ _. 1) (λ _. omega arith) top r c t e in
     ((and_parts (not (is_document r.label.kind)) _ parts.stands).0, no-documents top t parts.later)
 
-sound-below : (top : Bool) (r : Row) (c t : Nodes Row) → Sound top (node r c t) → Sound false c
+sound-below : (top : Bool) (r : PageRow) (c t : Nodes PageRow) → Sound top (node r c t) → Sound false c
 sound-below top r c t f =
     let all : suc (node_count c + node_count t) ≤ 100000 = f.room in
     record {
@@ -70,7 +70,7 @@ sound-below top r c t f =
       ids = λ s h. omega arith;
     }
 
-all-tell : (top : Bool) (n : Nodes Row) → Sound top n → RowsHaveUtf8 n → AllTell n
+all-tell : (top : Bool) (n : Nodes PageRow) → Sound top n → RowsHaveUtf8 n → AllTell n
 all-tell top none f u = tt
 all-tell top (node r c t) f u =
     let row = fitting_row (λ _. true) (λ _. 1) (λ _. omega arith) top r c t f in (
@@ -80,7 +80,7 @@ all-tell top (node r c t) f u =
       all-tell top t (fitting_later (λ _. true) (λ _. 1) (λ _. omega arith) top r c t f) u.2,
     )
 
-page-tells : (page : State) (w : Session) → IsValid page → CanTell page w → AllTell (alone page.tree)
+page-tells : (page : PageValue) (w : Session) → IsValid page → CanTell page w → AllTell (alone page.tree)
 page-tells page w valid can =
     let s = serials_there page valid can.serials page.tree.row.serial (omega (arith, self_times page.tree.row.serial)) in
     let room : node_count (alone page.tree) ≤ 100000 = count-alone page valid in
@@ -106,18 +106,18 @@ page-tells page w valid can =
       tt,
     )
 
-tells-found : (s : ℕ) (n : Nodes Row) (x : Branch Row) → AllTell n → find row_serial s n ≡ Some x → AllTell (alone x)
+tells-found : (s : ℕ) (n : Nodes PageRow) (x : Branch PageRow) → AllTell n → find row_serial s n ≡ Some x → AllTell (alone x)
 tells-found s none x a e = cc
 tells-found s (node r c t) x a e =
     at_or_other r.serial s
-    (λ here. subst (λ (y : Branch Row). AllTell (alone y)) (found_here s r c t x here e) (a.0, a.1, a.2, tt))
+    (λ here. subst (λ (y : Branch PageRow). AllTell (alone y)) (found_here s r c t x here e) (a.0, a.1, a.2, tt))
     (λ other. ⊎_elim (λ in_c. tells-found s c x a.2 in_c) (λ in_t. tells-found s t x a.3 in_t) (found_later s r c t x other e))
 
-height-found : (s : ℕ) (n : Nodes Row) (x : Branch Row) → find row_serial s n ≡ Some x → height (alone x) ≤ height n
+height-found : (s : ℕ) (n : Nodes PageRow) (x : Branch PageRow) → find row_serial s n ≡ Some x → height (alone x) ≤ height n
 height-found s none x e = cc
 height-found s (node r c t) x e =
     at_or_other r.serial s
-    (λ here. subst (λ (y : Branch Row). height (alone y) ≤ height (node r c t)) (found_here s r c t x here e) (omega arith))
+    (λ here. subst (λ (y : Branch PageRow). height (alone y) ≤ height (node r c t)) (found_here s r c t x here e) (omega arith))
     (λ other. ⊎_elim (λ in_c. omega (arith, height-found s c x in_c)) (λ in_t. omega (arith, height-found s t x in_t)) (found_later s r c t x other e))
 
 -- ---- one row
@@ -143,10 +143,10 @@ below_fits true false w kids = refl
 below_fits false left w kids = refl
 
 -- a row as it is told of a described node
-abbrev told_row : Option ℕ → Row → Nodes Row → Told
+abbrev told_row : Option ℕ → PageRow → Nodes PageRow → Told
 told_row levels r c = record { parent = 0; count = count_in (row_to no_ids levels r c).hold (kids_to no_ids levels (record { row = r; children = c })); seen = row_to no_ids levels r c }
 
-row_described : (top : Bool) (levels : Option ℕ) (r : Row) (c : Nodes Row) → RowTells r c → (top || not (is_document r.label.kind)) ≡ true
+row_described : (top : Bool) (levels : Option ℕ) (r : PageRow) (c : Nodes PageRow) → RowTells r c → (top || not (is_document r.label.kind)) ≡ true
     → (is_counted_row (told_row levels r c) && fits_described top (width (told_nodes 0 (kids_to no_ids levels (record { row = r; children = c })))) (told_row levels r c)) ≡ true
 row_described top levels r c a place =
     let h : Bool = holds r.label.kind in
@@ -168,7 +168,7 @@ kids_fit : (b : Bool) (kids : Nodes Seen) → fits_described_nodes (told_nodes 0
 kids_fit true kids e = e
 kids_fit false kids e = refl
 
-nodes_described : (levels : Option ℕ) (n : Nodes Row) → AllTell n → NoDocuments n → fits_described_nodes (told_nodes 0 (shown_to no_ids levels n)) ≡ true
+nodes_described : (levels : Option ℕ) (n : Nodes PageRow) → AllTell n → NoDocuments n → fits_described_nodes (told_nodes 0 (shown_to no_ids levels n)) ≡ true
 nodes_described levels none a apart = refl
 nodes_described levels (node r c t) a apart =
     and_from _ _
@@ -177,7 +177,7 @@ nodes_described levels (node r c t) a apart =
     (kids_fit (shows_children levels r) (shown_to no_ids (less levels) c) (nodes_described (less levels) c a.2 a.1)))
     (nodes_described levels t a.3 apart.1)
 
-described_fits : (levels : Option ℕ) (x : Branch Row) → AllTell (alone x) → fits_described_tree (described levels x) ≡ true
+described_fits : (levels : Option ℕ) (x : Branch PageRow) → AllTell (alone x) → fits_described_tree (described levels x) ≡ true
 described_fits levels x a =
     and_from _ _
     (and_from _ _ (row_described true levels x.row x.children a.0 refl) (below_fits (holds x.row.label.kind) (not (is_spent levels)) (width x.children) (shown_to no_ids (less levels) x.children)))
@@ -187,12 +187,12 @@ kids_utf8 : (b : Bool) (kids : Nodes Seen) → NodesHaveUtf8 (told_nodes 0 kids)
 kids_utf8 true kids u = u
 kids_utf8 false kids u = tt
 
-nodes_utf8 : (levels : Option ℕ) (n : Nodes Row) → AllTell n → NodesHaveUtf8 (told_nodes 0 (shown_to no_ids levels n))
+nodes_utf8 : (levels : Option ℕ) (n : Nodes PageRow) → AllTell n → NodesHaveUtf8 (told_nodes 0 (shown_to no_ids levels n))
 nodes_utf8 levels none a = tt
 nodes_utf8 levels (node r c t) a =
     (a.0.texts, kids_utf8 (shows_children levels r) (shown_to no_ids (less levels) c) (nodes_utf8 (less levels) c a.2), nodes_utf8 levels t a.3)
 
-described_utf8 : (levels : Option ℕ) (x : Branch Row) → AllTell (alone x) → NodesHaveUtf8 (alone (described levels x))
+described_utf8 : (levels : Option ℕ) (x : Branch PageRow) → AllTell (alone x) → NodesHaveUtf8 (alone (described levels x))
 described_utf8 levels x a =
     (a.0.texts, kids_utf8 (shows_children levels x.row) (shown_to no_ids (less levels) x.children) (nodes_utf8 (less levels) x.children a.2), tt)
 
@@ -200,14 +200,14 @@ kids_height : (b : Bool) (kids : Nodes Seen) (h : ℕ) → height (told_nodes 0 
 kids_height true kids h e = e
 kids_height false kids h e = omega arith
 
-nodes_height : (levels : Option ℕ) (n : Nodes Row) → height (told_nodes 0 (shown_to no_ids levels n)) ≤ height n
+nodes_height : (levels : Option ℕ) (n : Nodes PageRow) → height (told_nodes 0 (shown_to no_ids levels n)) ≤ height n
 nodes_height levels none = omega arith
 nodes_height levels (node r c t) =
     let below : height (told_nodes 0 (cond (shows_children levels r) (shown_to no_ids (less levels) c) none)) ≤ height c =
     kids_height (shows_children levels r) (shown_to no_ids (less levels) c) (height c) (nodes_height (less levels) c) in
     omega (arith, below, nodes_height levels t)
 
-described_height : (levels : Option ℕ) (x : Branch Row) → height (alone (described levels x)) ≤ height (alone x)
+described_height : (levels : Option ℕ) (x : Branch PageRow) → height (alone (described levels x)) ≤ height (alone x)
 described_height levels x =
     let below : height (told_nodes 0 (kids_to no_ids levels x)) ≤ height x.children =
     kids_height (shows_children levels x.row) (shown_to no_ids (less levels) x.children) (height x.children) (nodes_height (less levels) x.children) in
@@ -221,7 +221,7 @@ label_attributes l element formed named =
     let ascending : is_ascending l.attributes ≡ true = subst (λ (b : Bool). cond b (is_ascending l.attributes) (is_empty l.attributes) ≡ true) element p2.0 in
     and_from _ _ ascending (and_parts (cond (has_name l.kind) (is_element_name l.name) true) _ named).1
 
-module _ (page : State) (w : Session) (valid : IsValid page) (s : ℕ) (x : Branch Row) (found : find row_serial s (alone page.tree) ≡ Some x) where
+module _ (page : PageValue) (w : Session) (valid : IsValid page) (s : ℕ) (x : Branch PageRow) (found : find row_serial s (alone page.tree) ≡ Some x) where
   tells : CanTell page w → AllTell (alone x)
   tells can = tells-found s (alone page.tree) x (page-tells page w valid can) found
 

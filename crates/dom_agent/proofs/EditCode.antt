@@ -7,7 +7,7 @@ use Rattle.std.specs.FinMap as map
 use Rattle.node_tree.specs.Nodes.{Nodes, none, Branch, alone, from, tree_at, width}
 use Rattle.node_tree.proofs.KeyLemmas.{Stands, find-stands, stands-below}
 use Rattle.node_tree.proofs.ChangeLemmas.{at-new}
-use Rattle.page_tree.specs.Pages.{Row, State, IsValid, row_serial, find_in, node_at, parent_at}
+use Rattle.page_tree.specs.Pages.{PageRow, PageValue, IsValid, row_serial, find_in, node_at, parent_at}
 use Rattle.page_tree.specs.Edits.{after, after_tree, with_child, children_at}
 use Rattle.page_tree.specs.EditFaults.{CanApply, CanAttach, first_fault}
 use Rattle.page_tree.specs.declared.edits.TreeEdit.{TreeEdit}
@@ -20,7 +20,7 @@ use Rattle.page_tree.proofs.WholeLemmas.{whole-valid}
 use Rattle.page_tree.proofs.EditLemmas.{serial-live, whole-after, valid-after}
 use Rattle.page_tree.proofs.BackLemmas.{turned-live}
 use Rattle.node_binding.proofs.StartLemmas.{distinct-alone}
-use Rattle.node_binding.specs.Bindings.{Bound, opened_in, id_in, with_bound}
+use Rattle.node_binding.specs.Bindings.{BindingValue, opened_in, id_in, with_bound}
 use Rattle.pipe_frames.specs.Frames.{framed}
 use Rattle.cdp_messages.specs.Moves.{inserts, removes, counts, Move, change, frames_of_moves}
 use Rattle.dom_agent.specs.Keepers.{Keeper, binding_keeper}
@@ -41,12 +41,12 @@ event_sent (Ok x) (Err e) out out2 frames wanted sent is same = absurd sent
 event_sent (Err e) event out out2 frames wanted sent is same = tt
 
 -- the same edit, by the agent's value
-pub by_agent : (page : State) (b self : Bound) (e edit : TreeEdit) → b ≡ self → edit ≡ e → binding_edited e page b ≡ binding_edited edit page self
+pub by_agent : (page : PageValue) (b self : BindingValue) (e edit : TreeEdit) → b ≡ self → edit ≡ e → binding_edited e page b ≡ binding_edited edit page self
 by_agent page b self e edit value_is edit_is = λ k. binding_edited (sym edit_is k) page (value_is k)
 
 -- ---- the sibling before
 
-module _ (ids : ℕ → ℕ) (n : Nodes Row) (k : ℕ) (x : Branch Row) (serial p q : ℕ) (inside : k < width n) (at : tree_at k n ≡ Some x) (was : id_before ids p serial (from k n) ≡ q) where
+module _ (ids : ℕ → ℕ) (n : Nodes PageRow) (k : ℕ) (x : Branch PageRow) (serial p q : ℕ) (inside : k < width n) (at : tree_at k n ≡ Some x) (was : id_before ids p serial (from k n) ≡ q) where
   here : cond {A = ℕ} (x.row.serial == serial) p (id_before ids (ids x.row.serial) serial (from (k + 1) n)) ≡ q
   here = sym (ap (id_before ids p serial) (from-next n k x inside at)) ∙ was
 
@@ -56,25 +56,25 @@ module _ (ids : ℕ → ℕ) (n : Nodes Row) (k : ℕ) (x : Branch Row) (serial 
   pub prior_turn : (x.row.serial == serial) ≡ false → id_before ids (ids x.row.serial) serial (from (k + 1) n) ≡ q
   prior_turn other = sym (ap (λ b. cond {A = ℕ} b p (id_before ids (ids x.row.serial) serial (from (k + 1) n))) other) ∙ here
 
-pub prior_end : (ids : ℕ → ℕ) (left : Nodes Row) (serial p q : ℕ) → left ≡ none → id_before ids p serial left ≡ q → p ≡ q
+pub prior_end : (ids : ℕ → ℕ) (left : Nodes PageRow) (serial p q : ℕ) → left ≡ none → id_before ids p serial left ≡ q → p ≡ q
 prior_end ids left serial p q framed was = sym (ap (id_before ids p serial) framed) ∙ was
 
 -- ---- a node that has come, as an event tells it
 
-pub came_sent : {E : Type 0} (r : Result (Unit {0}) E) (b : Bound) (parent above id previous : ℕ) (x : Branch Row) (kids : Nodes Row) (out out2 : List ℕ) → above ≡ id_in b parent → id ≡ id_in b x.row.serial
+pub came_sent : {E : Type 0} (r : Result (Unit {0}) E) (b : BindingValue) (parent above id previous : ℕ) (x : Branch PageRow) (kids : Nodes PageRow) (out out2 : List ℕ) → above ≡ id_in b parent → id ≡ id_in b x.row.serial
     → previous ≡ id_before (id_in b) 0 x.row.serial kids → OnOk r (out2 ≡ out ++ frames_of_moves (change above (inserts previous (unopened id x)) ∷ []))
-    → (n : Nodes Row) → OnOk r (out2 ≡ out ++ frames_of_moves (insertion (binding_keeper n) parent x kids b ∷ []))
+    → (n : Nodes PageRow) → OnOk r (out2 ≡ out ++ frames_of_moves (insertion (binding_keeper n) parent x kids b ∷ []))
 came_sent r b parent above id previous x kids out out2 above_is id_is previous_is sent n =
     subst (λ (m : Move). OnOk r (out2 ≡ out ++ frames_of_moves (m ∷ []))) (λ k. change (above_is k) (inserts (previous_is k) (unopened (id_is k) x))) sent
 
 -- ---- a node that goes
 
 -- one tree less
-width-inserted : {w : Branch Row} {n m : Nodes Row} → Inserted w n m → width m ≡ suc (width n)
+width-inserted : {w : Branch PageRow} {n m : Nodes PageRow} → Inserted w n m → width m ≡ suc (width n)
 width-inserted (front t) = refl
 width-inserted (behind r c t u i) = ap suc (width-inserted i)
 
-module _ (page : State) (valid : IsValid page) (serial : ℕ) (fits : first_fault (Detach serial) page.tree ≡ None) where
+module _ (page : PageValue) (valid : IsValid page) (serial : ℕ) (fits : first_fault (Detach serial) page.tree ≡ None) where
   can : CanApply page.next (Detach serial) page.tree
   can = record { fits = fits; ready = tt }
 
@@ -85,12 +85,12 @@ module _ (page : State) (valid : IsValid page) (serial : ℕ) (fits : first_faul
   fewer =
       let q = node_at (parent_at serial page.tree) page.tree in
       width-inserted (inserted-taken serial (node_at serial page.tree) q.children (serial-live serial page.tree (seen.live3 page valid serial can)) (seen.part page valid serial can).child)
-      ∙ ap (λ (c : Nodes Row). suc (width c)) (sym (seen.children_left page valid serial can))
+      ∙ ap (λ (c : Nodes PageRow). suc (width c)) (sym (seen.children_left page valid serial can))
 
   pub removed_some : (parent : ℕ) → parent ≡ parent_at serial page.tree → 1 ≤ width (node_at parent page.tree).children
   removed_some parent is = omega (arith, ap (λ (p : ℕ). width (node_at p page.tree).children) is, fewer)
 
-  pub removed_counts : (n : Nodes Row) (b : Bound) (parent above len : ℕ) → parent ≡ parent_at serial page.tree → opened_in b parent ≡ false → Some above ≡ map.get b.ids parent → len ≡ width (node_at parent page.tree).children
+  pub removed_counts : (n : Nodes PageRow) (b : BindingValue) (parent above len : ℕ) → parent ≡ parent_at serial page.tree → opened_in b parent ≡ false → Some above ≡ map.get b.ids parent → len ≡ width (node_at parent page.tree).children
       → ◌≡◌ {A = List Move} (change above (counts (len - 1)) ∷ []) (edited (binding_keeper n) (Detach serial) page.tree b).moves
   removed_counts n b parent above len is shut known len_is =
       let kids = children_at (parent_at serial page.tree) (after_tree (Detach serial) page.tree) in
@@ -103,8 +103,8 @@ module _ (page : State) (valid : IsValid page) (serial : ℕ) (fits : first_faul
 
 -- ---- a node that came
 
-module _ (n : Nodes Row) (b : Bound) (parent : ℕ) (x : Branch Row) (kids : Nodes Row) where
-  abbrev of_binding : Keeper Bound
+module _ (n : Nodes PageRow) (b : BindingValue) (parent : ℕ) (x : Branch PageRow) (kids : Nodes PageRow) where
+  abbrev of_binding : Keeper BindingValue
   of_binding = binding_keeper n
 
   pub came_shut : opened_in b parent ≡ false → child_came of_binding parent x kids b ≡ record { state = b; moves = told_count of_binding parent kids b }
@@ -113,20 +113,20 @@ module _ (n : Nodes Row) (b : Bound) (parent : ℕ) (x : Branch Row) (kids : Nod
   pub came_open : opened_in b parent ≡ true → child_came of_binding parent x kids b ≡ record { state = with_bound x.row.serial b; moves = insertion of_binding parent x kids (with_bound x.row.serial b) ∷ [] }
   came_open is = ap (λ v. cond v (record { state = with_bound x.row.serial b; moves = insertion of_binding parent x kids (with_bound x.row.serial b) ∷ [] }) (record { state = b; moves = told_count of_binding parent kids b })) is
 
-pub inserted_sent : (n : Nodes Row) (b b2 : Bound) (parent serial : ℕ) (x y : Branch Row) (kids kids2 : Nodes Row) (out out2 : List ℕ) → y ≡ x → kids2 ≡ kids → serial ≡ y.row.serial → b2 ≡ with_bound serial b → opened_in b parent ≡ true
+pub inserted_sent : (n : Nodes PageRow) (b b2 : BindingValue) (parent serial : ℕ) (x y : Branch PageRow) (kids kids2 : Nodes PageRow) (out out2 : List ℕ) → y ≡ x → kids2 ≡ kids → serial ≡ y.row.serial → b2 ≡ with_bound serial b → opened_in b parent ≡ true
     → out2 ≡ out ++ frames_of_moves (insertion (binding_keeper n) parent y kids2 b2 ∷ []) → out2 ≡ out ++ frames_of_moves (child_came (binding_keeper n) parent x kids b).moves
 inserted_sent n b b2 parent serial x y kids kids2 out out2 node_is kids_are serial_is bound is sent =
-    let after_is : b2 ≡ with_bound x.row.serial b = bound ∙ ap (λ (s : ℕ). with_bound s b) serial_is ∙ ap (λ (t : Branch Row). with_bound t.row.serial b) node_is in
+    let after_is : b2 ≡ with_bound x.row.serial b = bound ∙ ap (λ (s : ℕ). with_bound s b) serial_is ∙ ap (λ (t : Branch PageRow). with_bound t.row.serial b) node_is in
     let moves : ◌≡◌ {A = List Move} (insertion (binding_keeper n) parent y kids2 b2 ∷ []) (child_came (binding_keeper n) parent x kids b).moves =
-    (λ k. insertion (binding_keeper n) parent (node_is k) (kids_are k) (after_is k) ∷ []) ∙ sym (ap (λ (d : Edited Bound). d.moves) (came_open n b parent x kids is)) in
+    (λ k. insertion (binding_keeper n) parent (node_is k) (kids_are k) (after_is k) ∷ []) ∙ sym (ap (λ (d : Edited BindingValue). d.moves) (came_open n b parent x kids is)) in
     sent ∙ ap (λ ms. out ++ frames_of_moves ms) moves
 
-module _ (page : State) (valid : IsValid page) (parent before : ℕ) (x : Branch Row) (fits : first_fault (Attach parent before x) page.tree ≡ None) (ready : CanAttach page.next x page.tree)
-    (page2 : State) (after_is : page2 ≡ after (Attach parent before x) page) where
+module _ (page : PageValue) (valid : IsValid page) (parent before : ℕ) (x : Branch PageRow) (fits : first_fault (Attach parent before x) page.tree ≡ None) (ready : CanAttach page.next x page.tree)
+    (page2 : PageValue) (after_is : page2 ≡ after (Attach parent before x) page) where
   can_attach : CanApply page.next (Attach parent before x) page.tree
   can_attach = record { fits = fits; ready = ready }
 
-  abbrev there : State
+  abbrev there : PageValue
   there = after (Attach parent before x) page
 
   valid_after : IsValid there
@@ -135,23 +135,23 @@ module _ (page : State) (valid : IsValid page) (parent before : ℕ) (x : Branch
   found_child : find_in x.row.serial there.tree ≡ Some x
   found_child =
       let at = seen.at page valid parent before x can_attach in
-      let p : Branch Row = node_at parent page.tree in
+      let p : Branch PageRow = node_at parent page.tree in
       let above : Stands (with_child before x p) (alone there.tree) = (at.0, alone there.tree, at-new at.1) in
       find-stands row_serial x (alone there.tree) (stands-below (with_child before x p) x (alone there.tree) above (stands-inserted (inserted-before before x p.children))) (distinct-alone there valid_after x.row.serial)
 
   pub came_parent : IsSome (find_in parent page2.tree)
   came_parent =
-      subst (λ (y : State). is_some (find_in parent y.tree) ≡ true) (sym after_is)
+      subst (λ (y : PageValue). is_some (find_in parent y.tree) ≡ true) (sym after_is)
       (turned-live parent (with_child before x) page.tree (seen.live page valid parent before x can_attach) (whole-after page.next page.tree (whole-valid page valid) (Attach parent before x) can_attach) refl)
 
   pub came_child : (serial : ℕ) → serial ≡ x.row.serial → IsSome (find_in serial page2.tree)
   came_child serial is =
-      subst (λ (y : State). is_some (find_in serial y.tree) ≡ true) (sym after_is)
-      (subst (λ (s : ℕ). is_some (find_in s there.tree) ≡ true) (sym is) (ap (λ (o : Option (Branch Row)). is_some o) found_child))
+      subst (λ (y : PageValue). is_some (find_in serial y.tree) ≡ true) (sym after_is)
+      (subst (λ (s : ℕ). is_some (find_in s there.tree) ≡ true) (sym is) (ap (λ (o : Option (Branch PageRow)). is_some o) found_child))
 
-  pub came_same : (n : Nodes Row) (b : Bound) (serial : ℕ) → serial ≡ x.row.serial
+  pub came_same : (n : Nodes PageRow) (b : BindingValue) (serial : ℕ) → serial ≡ x.row.serial
       → child_came (binding_keeper n) parent (node_at serial page2.tree) (children_at parent page2.tree) b ≡ edited (binding_keeper n) (Attach parent before x) page.tree b
   came_same n b serial is =
-      ap (λ (y : State). child_came (binding_keeper n) parent (node_at serial y.tree) (children_at parent y.tree) b) after_is
+      ap (λ (y : PageValue). child_came (binding_keeper n) parent (node_at serial y.tree) (children_at parent y.tree) b) after_is
       ∙ ap (λ (s : ℕ). child_came (binding_keeper n) parent (node_at s there.tree) (children_at parent there.tree) b) is
-      ∙ ap (λ (o : Option (Branch Row)). child_came (binding_keeper n) parent (unwrap_or o there.tree) (children_at parent there.tree) b) found_child
+      ∙ ap (λ (o : Option (Branch PageRow)). child_came (binding_keeper n) parent (unwrap_or o there.tree) (children_at parent there.tree) b) found_child

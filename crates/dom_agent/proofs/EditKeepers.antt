@@ -6,7 +6,7 @@ use Rattle.node_tree.specs.Nodes.{Nodes, none, node, Branch, alone}
 use Rattle.node_tree.specs.Keys.{first_of, find}
 use Rattle.node_tree.specs.Labels.{holds, is_document, is_formed_label}
 use Rattle.node_tree.proofs.KeyLemmas.{stands-find}
-use Rattle.page_tree.specs.Pages.{Row, State, IsValid, row_serial, node_at, parent_at}
+use Rattle.page_tree.specs.Pages.{PageRow, PageValue, IsValid, row_serial, node_at, parent_at}
 use Rattle.page_tree.specs.Edits.{with_attribute, without_attribute, with_value, with_child, put_before, after, children_at}
 use Rattle.page_tree.specs.EditFaults.{is_live, kind_at, CanApply, edit_faults}
 use Rattle.page_tree.specs.declared.edits.TreeEdit.{TreeEdit}
@@ -16,9 +16,9 @@ use Rattle.page_tree.proofs.EditLemmas.{clear, found-live, serial-live, whole-af
 use Rattle.page_tree.proofs.BackLemmas.{turned-live, turned-node}
 use Rattle.node_binding.specs.Counts.{times}
 use Rattle.node_binding.specs.Cuts.{opens, known}
-use Rattle.node_binding.specs.Sessions.{Session, IsSession, session_of, is_open, knows, ids_in, attached}
-use Rattle.node_binding.specs.Bindings.{Bound, Stands, opened_in, id_in, with_bound}
-use Rattle.node_binding.specs.Changes.{StandsFor}
+use Rattle.node_binding.specs.Sessions.{Session, IsSession, session_of, is_open, knows, session_ids, attached}
+use Rattle.node_binding.specs.Bindings.{BindingValue, Stands, opened_in, id_in, with_bound}
+use Rattle.node_binding.specs.Changes.{BindingStandsFor}
 use Rattle.node_binding.proofs.StartLemmas.{distinct-alone}
 use Rattle.node_binding.proofs.SessionLemmas.{times-known}
 use Rattle.node_binding.proofs.CutLemmas.{ids-stands}
@@ -34,8 +34,8 @@ use Rattle.dom_agent.proofs.ShownLemmas.{is_root, seen-at}
 use Rattle.dom_agent.proofs.EditsShown as seen
 
 -- the binding stands for the session, and tells the same
-record Alike (page : State) (p : Edited Session) (q : Edited Bound) : Type 0 where
-  stands : StandsFor page p.state q.state
+record Alike (page : PageValue) (p : Edited Session) (q : Edited BindingValue) : Type 0 where
+  stands : BindingStandsFor page p.state q.state
   moves : q.moves ≡ p.moves
 
 both_ways : {A B : Type 0} (P : A → B → Type 0) (a c : Bool) (x y : A) (u v : B) → c ≡ a → (a ≡ true → P x u) → (a ≡ false → P y v) → P (cond a x y) (cond c u v)
@@ -55,7 +55,7 @@ told_alike k id o c e = ap (λ (r : Option ℕ). cond (is_some r) (change (unwra
 -- ---- known nodes
 
 -- an opened node is known
-opened_known : (n : Nodes Row) (o : ℕ → Bool) (pushed : List ℕ) (since : ℕ) (b : Branch Row) → AreDistinct n → IsSession n (session_of o pushed since) → find row_serial b.row.serial n ≡ Some b → o b.row.serial ≡ true → 0 < times b.row.serial (known o n)
+opened_known : (n : Nodes PageRow) (o : ℕ → Bool) (pushed : List ℕ) (since : ℕ) (b : Branch PageRow) → AreDistinct n → IsSession n (session_of o pushed since) → find row_serial b.row.serial n ≡ Some b → o b.row.serial ≡ true → 0 < times b.row.serial (known o n)
 opened_known n o pushed since b distinct session found is =
     let st = stands-find row_serial b.row.serial n b found in
     let alike : IsAlike b b = record { serial = refl; kind = refl } in
@@ -64,7 +64,7 @@ opened_known n o pushed since b distinct session found is =
     omega (arith, s.known (distinct b.row.serial), ap (λ v. cond {A = ℕ} v 1 0) shown)
 
 -- the roots are known
-root_known : (o : ℕ → Bool) (s : ℕ) (n : Nodes Row) → is_root s n ≡ true → 0 < times s (known o n)
+root_known : (o : ℕ → Bool) (s : ℕ) (n : Nodes PageRow) → is_root s n ≡ true → 0 < times s (known o n)
 root_known o s none e = cc
 root_known o s (node r c t) e = rw (times-known o (λ k. k) s r c t) (by (r.serial == s) e (root_known o s t))
   where
@@ -73,24 +73,24 @@ root_known o s (node r c t) e = rw (times-known o (λ k. k) s r c t) (by (r.seri
     by false e rest = let h : 0 < times s (known o t) = rest e in omega arith
 
 -- what is a child of an opened node has its id in the binding
-module _ (n : Nodes Row) (distinct : AreDistinct n) (o : ℕ → Bool) (pushed : List ℕ) (since : ℕ) (session : IsSession n (session_of o pushed since)) (b : Bound) (stands : Stands n (session_of o pushed since) b)
-    (parent : Branch Row) (found : find row_serial parent.row.serial n ≡ Some parent) (container : holds parent.row.label.kind ≡ true) (is : o parent.row.serial ≡ true) where
+module _ (n : Nodes PageRow) (distinct : AreDistinct n) (o : ℕ → Bool) (pushed : List ℕ) (since : ℕ) (session : IsSession n (session_of o pushed since)) (b : BindingValue) (stands : Stands n (session_of o pushed since) b)
+    (parent : Branch PageRow) (found : find row_serial parent.row.serial n ≡ Some parent) (container : holds parent.row.label.kind ≡ true) (is : o parent.row.serial ≡ true) where
   known_parent : 0 < times parent.row.serial (known o n)
   known_parent = opened_known n o pushed since parent distinct session found is
 
-  parent_id : id_in b parent.row.serial ≡ ids_in (session_of o pushed since) parent.row.serial
+  parent_id : id_in b parent.row.serial ≡ session_ids (session_of o pushed since) parent.row.serial
   parent_id = ids-stands n o pushed since b stands parent.row.serial known_parent
 
   open_row : opens o parent.row ≡ true
   open_row = rw (container, is) refl
 
-  child_id : (s : ℕ) → is_root s parent.children ≡ true → id_in b s ≡ ids_in (session_of o pushed since) s
+  child_id : (s : ℕ) → is_root s parent.children ≡ true → id_in b s ≡ session_ids (session_of o pushed since) s
   child_id s e =
       ids-stands n o pushed since b stands s
       (known-in_view o parent (in_view o parent n distinct found known_parent) open_row s (root_known o s parent.children e))
 
 -- the sibling before is the same
-id_before-same : (i j : ℕ → ℕ) (serial : ℕ) (n : Nodes Row) (p q : ℕ) → p ≡ q → ((s : ℕ) → is_root s n ≡ true → i s ≡ j s) → id_before i p serial n ≡ id_before j q serial n
+id_before-same : (i j : ℕ → ℕ) (serial : ℕ) (n : Nodes PageRow) (p q : ℕ) → p ≡ q → ((s : ℕ) → is_root s n ≡ true → i s ≡ j s) → id_before i p serial n ≡ id_before j q serial n
 id_before-same i j serial none p q e h = e
 id_before-same i j serial (node r c t) p q e h =
     let rest : id_before i (i r.serial) serial t ≡ id_before j (j r.serial) serial t =
@@ -101,7 +101,7 @@ id_before-same i j serial (node r c t) p q e h =
     or_second true b e = refl
     or_second false b e = e
 
-put_root : (before : ℕ) (x : Branch Row) (n : Nodes Row) → is_root x.row.serial (put_before before x n) ≡ true
+put_root : (before : ℕ) (x : Branch PageRow) (n : Nodes PageRow) → is_root x.row.serial (put_before before x n) ≡ true
 put_root before x none = ap (λ v. v || false) (eq-eqb x.row.serial x.row.serial refl)
 put_root before x (node r c t) = by (r.serial == before) (put_root before x t)
   where
@@ -115,18 +115,18 @@ put_root before x (node r c t) = by (r.serial == before) (put_root before x t)
 
 -- ---- the edits
 
-label_alike : (page : State) (w : Session) (b : Bound) (serial : ℕ) (c : Change) (page2 : State) → StandsFor page w b → StandsFor page2 w b
-    → Alike page2 (record { state = w; moves = cond (knows w (alone page.tree) serial) (change (ids_in w serial) c ∷ []) [] }) (record { state = b; moves = cond (is_some (map.get b.ids serial)) (change (id_in b serial) c ∷ []) [] })
+label_alike : (page : PageValue) (w : Session) (b : BindingValue) (serial : ℕ) (c : Change) (page2 : PageValue) → BindingStandsFor page w b → BindingStandsFor page2 w b
+    → Alike page2 (record { state = w; moves = cond (knows w (alone page.tree) serial) (change (session_ids w serial) c ∷ []) [] }) (record { state = b; moves = cond (is_some (map.get b.ids serial)) (change (id_in b serial) c ∷ []) [] })
 label_alike page w b serial c page2 for for_after = record {
   stands = for_after;
-  moves = told_alike (knows w (alone page.tree) serial) (ids_in w serial) _ c (for.stands.ids_are serial);
+  moves = told_alike (knows w (alone page.tree) serial) (session_ids w serial) _ c (for.stands.ids_are serial);
 }
 
-module _ (page : State) (valid : IsValid page) (parent before : ℕ) (x : Branch Row) (can : CanApply page.next (Attach parent before x) page.tree) where
+module _ (page : PageValue) (valid : IsValid page) (parent before : ℕ) (x : Branch PageRow) (can : CanApply page.next (Attach parent before x) page.tree) where
   abbrev e2 : TreeEdit
   e2 = Attach parent before x
 
-  abbrev page2 : State
+  abbrev page2 : PageValue
   page2 = after e2 page
 
   valid2 : IsValid page2
@@ -138,7 +138,7 @@ module _ (page : State) (valid : IsValid page) (parent before : ℕ) (x : Branch
   live2 : is_live parent page2.tree ≡ true
   live2 = turned-live parent (with_child before x) page.tree live (whole-after page.next page.tree (whole-valid page valid) e2 can) refl
 
-  abbrev p2 : Branch Row
+  abbrev p2 : Branch PageRow
   p2 = node_at parent page2.tree
 
   p2_serial : p2.row.serial ≡ parent
@@ -149,34 +149,34 @@ module _ (page : State) (valid : IsValid page) (parent before : ℕ) (x : Branch
 
   container2 : holds p2.row.label.kind ≡ true
   container2 =
-      ap (λ (b : Branch Row). holds b.row.label.kind) (turned-node parent (with_child before x) page.tree live (whole-after page.next page.tree (whole-valid page valid) e2 can) refl)
+      ap (λ (b : Branch PageRow). holds b.row.label.kind) (turned-node parent (with_child before x) page.tree live (whole-after page.next page.tree (whole-valid page valid) e2 can) refl)
       ∙ seen.container page valid parent before x can
 
   x_root : is_root x.row.serial p2.children ≡ true
   x_root = ap (is_root x.row.serial) (seen.children_after page valid parent before x can) ∙ put_root before x (node_at parent page.tree).children
 
-  inserted_alike : (o : ℕ → Bool) (pushed : List ℕ) (since : ℕ) (b : Bound) → o parent ≡ true → StandsFor page (session_of o pushed since) b
+  inserted_alike : (o : ℕ → Bool) (pushed : List ℕ) (since : ℕ) (b : BindingValue) → o parent ≡ true → BindingStandsFor page (session_of o pushed since) b
       → (let w : Session = session_of o pushed since in
       let z : Session = attached x.row.serial w in
-      let y : Bound = with_bound x.row.serial b in
-      let kids : Nodes Row = children_at parent page2.tree in
+      let y : BindingValue = with_bound x.row.serial b in
+      let kids : Nodes PageRow = children_at parent page2.tree in
       Alike page2 (record { state = z; moves = insertion (session_keeper (alone page.tree)) parent x kids z ∷ [] }) (record { state = y; moves = insertion (binding_keeper (alone page.tree)) parent x kids y ∷ [] }))
   inserted_alike o pushed since b is for =
       let w : Session = session_of o pushed since in
       let z : Session = attached x.row.serial w in
-      let y : Bound = with_bound x.row.serial b in
-      let kids : Nodes Row = children_at parent page2.tree in
-      let stood : StandsFor page2 z y = binds_child page parent before x w b valid valid2 is for in
+      let y : BindingValue = with_bound x.row.serial b in
+      let kids : Nodes PageRow = children_at parent page2.tree in
+      let stood : BindingStandsFor page2 z y = binds_child page parent before x w b valid valid2 is for in
       let distinct2 : AreDistinct (alone page2.tree) = distinct-alone page2 valid2 in
       let is2 : o p2.row.serial ≡ true = ap o p2_serial ∙ is in
-      let top : id_in y p2.row.serial ≡ ids_in z p2.row.serial = parent_id (alone page2.tree) distinct2 o z.pushed since stood.session y stood.stands p2 found2 container2 is2 in
-      let child : (s : ℕ) → is_root s p2.children ≡ true → id_in y s ≡ ids_in z s = child_id (alone page2.tree) distinct2 o z.pushed since stood.session y stood.stands p2 found2 container2 is2 in
-      let top_id : id_in y parent ≡ ids_in z parent = subst (λ (s : ℕ). id_in y s ≡ ids_in z s) p2_serial top in
-      let prior : id_before (id_in y) 0 x.row.serial kids ≡ id_before (ids_in z) 0 x.row.serial kids = id_before-same (id_in y) (ids_in z) x.row.serial kids 0 0 refl child in
-      let x_id : id_in y x.row.serial ≡ ids_in z x.row.serial = child x.row.serial x_root in
+      let top : id_in y p2.row.serial ≡ session_ids z p2.row.serial = parent_id (alone page2.tree) distinct2 o z.pushed since stood.session y stood.stands p2 found2 container2 is2 in
+      let child : (s : ℕ) → is_root s p2.children ≡ true → id_in y s ≡ session_ids z s = child_id (alone page2.tree) distinct2 o z.pushed since stood.session y stood.stands p2 found2 container2 is2 in
+      let top_id : id_in y parent ≡ session_ids z parent = subst (λ (s : ℕ). id_in y s ≡ session_ids z s) p2_serial top in
+      let prior : id_before (id_in y) 0 x.row.serial kids ≡ id_before (session_ids z) 0 x.row.serial kids = id_before-same (id_in y) (session_ids z) x.row.serial kids 0 0 refl child in
+      let x_id : id_in y x.row.serial ≡ session_ids z x.row.serial = child x.row.serial x_root in
       record { stands = stood; moves = λ k. change (top_id k) (inserts (prior k) (unopened (x_id k) x)) ∷ [] }
 
-  attach_alike : (opened : Option (ℕ → Bool)) (pushed : List ℕ) (since : ℕ) (b : Bound) → StandsFor page (record { opened = opened; pushed = pushed; since = since }) b
+  attach_alike : (opened : Option (ℕ → Bool)) (pushed : List ℕ) (since : ℕ) (b : BindingValue) → BindingStandsFor page (record { opened = opened; pushed = pushed; since = since }) b
       → Alike page2 (session_edited e2 page (record { opened = opened; pushed = pushed; since = since })) (binding_edited e2 page b)
   attach_alike opened pushed since b for =
       both_ways (Alike page2) (is_open opened parent) (opened_in b parent) _ _ _ _ (for.stands.opened_is parent)
@@ -184,28 +184,28 @@ module _ (page : State) (valid : IsValid page) (parent before : ℕ) (x : Branch
       (λ shut. (let w : Session = record { opened = opened; pushed = pushed; since = since } in
       label_alike page w b parent _ page2 for (passes_attach page parent before x w b valid valid2 live shut for)))
     where
-      inserted : (opened : Option (ℕ → Bool)) → StandsFor page (record { opened = opened; pushed = pushed; since = since }) b → is_open opened parent ≡ true
+      inserted : (opened : Option (ℕ → Bool)) → BindingStandsFor page (record { opened = opened; pushed = pushed; since = since }) b → is_open opened parent ≡ true
           → (let z : Session = attached x.row.serial (record { opened = opened; pushed = pushed; since = since }) in
-          let y : Bound = with_bound x.row.serial b in
-          let kids : Nodes Row = children_at parent page2.tree in
+          let y : BindingValue = with_bound x.row.serial b in
+          let kids : Nodes PageRow = children_at parent page2.tree in
           Alike page2 (record { state = z; moves = insertion (session_keeper (alone page.tree)) parent x kids z ∷ [] }) (record { state = y; moves = insertion (binding_keeper (alone page.tree)) parent x kids y ∷ [] }))
       inserted None for is = cc
       inserted (Some o) for is = inserted_alike o pushed since b is for
 
-module _ (page : State) (valid : IsValid page) (serial : ℕ) (can : CanApply page.next (Detach serial) page.tree) where
+module _ (page : PageValue) (valid : IsValid page) (serial : ℕ) (can : CanApply page.next (Detach serial) page.tree) where
   abbrev e3 : TreeEdit
   e3 = Detach serial
 
-  abbrev page3 : State
+  abbrev page3 : PageValue
   page3 = after e3 page
 
-  abbrev x3 : Branch Row
+  abbrev x3 : Branch PageRow
   x3 = node_at serial page.tree
 
   abbrev parent3 : ℕ
   parent3 = parent_at serial page.tree
 
-  abbrev q : Branch Row
+  abbrev q : Branch PageRow
   q = node_at parent3 page.tree
 
   q_serial : q.row.serial ≡ parent3
@@ -226,22 +226,22 @@ module _ (page : State) (valid : IsValid page) (serial : ℕ) (can : CanApply pa
       let apart : is_document (kind_at serial page.tree) ≡ false = (clear (edit_faults (Detach serial) page.tree) can.fits).1.0 in
       let top : is_document page.tree.row.label.kind ≡ true = (and_parts (is_document page.tree.row.label.kind) (is_formed_label page.tree.row.label) valid.root).0 in
       let here : node_at serial page.tree ≡ page.tree = ap (λ (v : Bool). unwrap_or (cond v (Some page.tree) (first_of (find row_serial serial page.tree.children) None)) page.tree) (eq-eqb page.tree.row.serial serial (sym same)) in
-      let bad : is_document page.tree.row.label.kind ≡ false = ap (λ (b : Branch Row). is_document b.row.label.kind) (sym here) ∙ apart in
+      let bad : is_document page.tree.row.label.kind ≡ false = ap (λ (b : Branch PageRow). is_document b.row.label.kind) (sym here) ∙ apart in
       cc
 
-  removed_alike : (o : ℕ → Bool) (pushed : List ℕ) (since : ℕ) (b : Bound) → o parent3 ≡ true → StandsFor page (session_of o pushed since) b
+  removed_alike : (o : ℕ → Bool) (pushed : List ℕ) (since : ℕ) (b : BindingValue) → o parent3 ≡ true → BindingStandsFor page (session_of o pushed since) b
       → (let w : Session = session_of o pushed since in
-      ◌≡◌ {A = List Move} (change (id_in b parent3) (removes (id_in b x3.row.serial)) ∷ []) (change (ids_in w parent3) (removes (ids_in w x3.row.serial)) ∷ []))
+      ◌≡◌ {A = List Move} (change (id_in b parent3) (removes (id_in b x3.row.serial)) ∷ []) (change (session_ids w parent3) (removes (session_ids w x3.row.serial)) ∷ []))
   removed_alike o pushed since b is for =
       let w : Session = session_of o pushed since in
       let is3 : o q.row.serial ≡ true = ap o q_serial ∙ is in
       let distinct : AreDistinct (alone page.tree) = distinct-alone page valid in
-      let top : id_in b q.row.serial ≡ ids_in w q.row.serial = parent_id (alone page.tree) distinct o pushed since for.session b for.stands q found3 (seen.container3 page valid serial can) is3 in
-      let top_id : id_in b parent3 ≡ ids_in w parent3 = subst (λ (s : ℕ). id_in b s ≡ ids_in w s) q_serial top in
-      let x_id : id_in b x3.row.serial ≡ ids_in w x3.row.serial = child_id (alone page.tree) distinct o pushed since for.session b for.stands q found3 (seen.container3 page valid serial can) is3 x3.row.serial x_child in
+      let top : id_in b q.row.serial ≡ session_ids w q.row.serial = parent_id (alone page.tree) distinct o pushed since for.session b for.stands q found3 (seen.container3 page valid serial can) is3 in
+      let top_id : id_in b parent3 ≡ session_ids w parent3 = subst (λ (s : ℕ). id_in b s ≡ session_ids w s) q_serial top in
+      let x_id : id_in b x3.row.serial ≡ session_ids w x3.row.serial = child_id (alone page.tree) distinct o pushed since for.session b for.stands q found3 (seen.container3 page valid serial can) is3 x3.row.serial x_child in
       λ k. change (top_id k) (removes (x_id k)) ∷ []
 
-  detach_alike : (opened : Option (ℕ → Bool)) (pushed : List ℕ) (since : ℕ) (b : Bound) → StandsFor page (record { opened = opened; pushed = pushed; since = since }) b
+  detach_alike : (opened : Option (ℕ → Bool)) (pushed : List ℕ) (since : ℕ) (b : BindingValue) → BindingStandsFor page (record { opened = opened; pushed = pushed; since = since }) b
       → Alike page3 (session_edited e3 page (record { opened = opened; pushed = pushed; since = since })) (binding_edited e3 page b)
   detach_alike opened pushed since b for =
       let w : Session = record { opened = opened; pushed = pushed; since = since } in
@@ -249,18 +249,18 @@ module _ (page : State) (valid : IsValid page) (serial : ℕ) (can : CanApply pa
         stands = forgets page serial w b valid (seen.live3 page valid serial can) other for;
         moves = both_ways (λ (p q : List Move). q ≡ p) (is_open opened parent3) (opened_in b parent3) _ _ _ _ (for.stands.opened_is parent3)
             (λ is. removed opened for is)
-            (λ shut. told_alike (knows w (alone page.tree) parent3) (ids_in w parent3) _ _ (for.stands.ids_are parent3));
+            (λ shut. told_alike (knows w (alone page.tree) parent3) (session_ids w parent3) _ _ (for.stands.ids_are parent3));
       }
     where
-      removed : (opened : Option (ℕ → Bool)) → StandsFor page (record { opened = opened; pushed = pushed; since = since }) b → is_open opened parent3 ≡ true
+      removed : (opened : Option (ℕ → Bool)) → BindingStandsFor page (record { opened = opened; pushed = pushed; since = since }) b → is_open opened parent3 ≡ true
           → (let w : Session = record { opened = opened; pushed = pushed; since = since } in
-          ◌≡◌ {A = List Move} (change (id_in b parent3) (removes (id_in b x3.row.serial)) ∷ []) (change (ids_in w parent3) (removes (ids_in w x3.row.serial)) ∷ []))
+          ◌≡◌ {A = List Move} (change (id_in b parent3) (removes (id_in b x3.row.serial)) ∷ []) (change (session_ids w parent3) (removes (session_ids w x3.row.serial)) ∷ []))
       removed None for is = cc
       removed (Some o) for is = removed_alike o pushed since b is for
 
 -- ---- the laws
 
-edit_alike : (page : State) (e : TreeEdit) (w : Session) (b : Bound) → IsValid page → CanApply page.next e page.tree → StandsFor page w b → Alike (after e page) (session_edited e page w) (binding_edited e page b)
+edit_alike : (page : PageValue) (e : TreeEdit) (w : Session) (b : BindingValue) → IsValid page → CanApply page.next e page.tree → BindingStandsFor page w b → Alike (after e page) (session_edited e page w) (binding_edited e page b)
 edit_alike page (SetAttr serial name value) w b valid can for =
     label_alike page w b serial _ (after (SetAttr serial name value) page) for (passes_label page serial (with_attribute name value) w b (λ l. refl) valid (not-false _ (clear (edit_faults (SetAttr serial name value) page.tree) can.fits).0) for)
 edit_alike page (DropAttr serial name) w b valid can for =

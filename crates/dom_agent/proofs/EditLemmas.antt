@@ -5,7 +5,7 @@ use Rattle.node_tree.specs.Nodes.{Nodes, none, node, Branch, alone}
 use Rattle.node_tree.specs.Keys.{At}
 use Rattle.node_tree.specs.Labels.{Label, holds}
 use Rattle.node_tree.proofs.ChangeLemmas.{child_of}
-use Rattle.page_tree.specs.Pages.{Row, State, IsValid, row_serial, node_at}
+use Rattle.page_tree.specs.Pages.{PageRow, PageValue, IsValid, row_serial, node_at}
 use Rattle.page_tree.specs.Edits.{relabelled, with_attribute, without_attribute, with_value, without_child, changed_at, after}
 use Rattle.page_tree.specs.EditFaults.{is_live, CanApply, edit_faults}
 use Rattle.page_tree.specs.declared.edits.TreeEdit.{TreeEdit}
@@ -28,16 +28,16 @@ either_way P true x y f g = f refl
 either_way P false x y f g = g refl
 
 -- where nothing is known, the page says nothing
-session_unknown : (n m : Nodes Row) (pushed : List ℕ) (since : ℕ) → IsSession n (record { opened = None; pushed = pushed; since = since }) → IsSession m (record { opened = None; pushed = pushed; since = since })
+session_unknown : (n m : Nodes PageRow) (pushed : List ℕ) (since : ℕ) → IsSession n (record { opened = None; pushed = pushed; since = since }) → IsSession m (record { opened = None; pushed = pushed; since = since })
 session_unknown n m pushed since session = record { opened_set = tt; since_then = session.since_then; known_stand = session.known_stand }
 
 -- ---- another label
 
-module _ (page : State) (valid : IsValid page) (serial : ℕ) (f : Label → Label) (kept : (l : Label) → (f l).kind ≡ l.kind) (live : is_live serial page.tree ≡ true) where
-  abbrev m : Nodes Row
+module _ (page : PageValue) (valid : IsValid page) (serial : ℕ) (f : Label → Label) (kept : (l : Label) → (f l).kind ≡ l.kind) (live : is_live serial page.tree ≡ true) where
+  abbrev m : Nodes PageRow
   m = alone (changed_at serial (relabelled f) page.tree)
 
-  abbrev b : Branch Row
+  abbrev b : Branch PageRow
   b = node_at serial page.tree
 
   alike : IsAlike b (relabelled f b)
@@ -59,7 +59,7 @@ module _ (page : State) (valid : IsValid page) (serial : ℕ) (f : Label → Lab
 
 -- ---- an attach
 
-module _ (page : State) (valid : IsValid page) (parent before : ℕ) (x : Branch Row) (can : CanApply page.next (Attach parent before x) page.tree) where
+module _ (page : PageValue) (valid : IsValid page) (parent before : ℕ) (x : Branch PageRow) (can : CanApply page.next (Attach parent before x) page.tree) where
   abbrev e2 : TreeEdit
   e2 = Attach parent before x
 
@@ -90,20 +90,20 @@ module _ (page : State) (valid : IsValid page) (parent before : ℕ) (x : Branch
 
 -- ---- a detach
 
-pub one_of : (serial : ℕ) (c : Nodes Row) (x : Branch Row) → child_of row_serial serial c ≡ Some x → IsOneOf x c
+pub one_of : (serial : ℕ) (c : Nodes PageRow) (x : Branch PageRow) → child_of row_serial serial c ≡ Some x → IsOneOf x c
 one_of serial none x e = cc
 one_of serial (node r c t) x e = by (r.serial == serial) e (one_of serial t x)
   where
     by : (v : Bool) → cond v (Some (record { row = r; children = c })) (child_of row_serial serial t) ≡ Some x → (child_of row_serial serial t ≡ Some x → IsOneOf x t) → IsOneOf x (node r c t)
-    by true e rest = let same : ◌≡◌ {A = Branch Row} (record { row = r; children = c }) x = cc in subst (λ (y : Branch Row). IsOneOf y (node r c t)) same (first t)
+    by true e rest = let same : ◌≡◌ {A = Branch PageRow} (record { row = r; children = c }) x = cc in subst (λ (y : Branch PageRow). IsOneOf y (node r c t)) same (first t)
     by false e rest = later r c t (rest e)
 
-session_detach : (page : State) (valid : IsValid page) (serial : ℕ) → CanApply page.next (Detach serial) page.tree → (opened : Option (ℕ → Bool)) (pushed : List ℕ) (since : ℕ) → IsSession (alone page.tree) (record { opened = opened; pushed = pushed; since = since })
+session_detach : (page : PageValue) (valid : IsValid page) (serial : ℕ) → CanApply page.next (Detach serial) page.tree → (opened : Option (ℕ → Bool)) (pushed : List ℕ) (since : ℕ) → IsSession (alone page.tree) (record { opened = opened; pushed = pushed; since = since })
     → IsSession (alone (after (Detach serial) page).tree) (detached (node_at serial page.tree) (record { opened = opened; pushed = pushed; since = since }))
 session_detach page valid serial can None pushed since session = session_unknown (alone page.tree) (alone (after (Detach serial) page).tree) pushed since session
 session_detach page valid serial can (Some o) pushed since session =
-    let q : Branch Row = seen.q page valid serial can in
-    let x : Branch Row = node_at serial page.tree in
+    let q : Branch PageRow = seen.q page valid serial can in
+    let x : Branch PageRow = node_at serial page.tree in
     let at3 = seen.at3 page valid serial can in
     let is : x.row.serial ≡ serial = serial-live serial page.tree (seen.live3 page valid serial can) in
     IsSession-detached (alone page.tree) (alone (after (Detach serial) page).tree) q x at3.0

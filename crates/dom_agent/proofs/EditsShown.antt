@@ -8,7 +8,7 @@ use Rattle.node_tree.specs.Labels.{Label, holds, is_document}
 use Rattle.node_tree.specs.Seen.{Seen, seen_id}
 use Rattle.node_tree.proofs.KeyLemmas.{tally-at, has-absent}
 use Rattle.node_tree.proofs.ChangeLemmas.{tally_in-at, child_of}
-use Rattle.page_tree.specs.Pages.{Row, State, IsValid, row_serial, node_at, parent_at}
+use Rattle.page_tree.specs.Pages.{PageRow, PageValue, IsValid, row_serial, node_at, parent_at}
 use Rattle.page_tree.specs.Edits.{put_before, taken_out, relabelled, with_attribute, without_attribute, with_value, with_child, without_child, changed_at, after_tree, children_at}
 use Rattle.page_tree.specs.EditFaults.{is_live, CanApply, edit_faults}
 use Rattle.page_tree.specs.declared.edits.TreeEdit.TheVariants.{SetAttr, DropAttr, SetText, Attach, Detach}
@@ -17,11 +17,11 @@ use Rattle.page_tree.proofs.FormedLemmas.{left}
 use Rattle.page_tree.proofs.WholeLemmas.{Whole, whole-valid, inserted-sound}
 use Rattle.page_tree.proofs.EditLemmas.{clear, changed, serial-live, Parted, parted, fits-live, whole-after}
 use Rattle.page_tree.proofs.BackLemmas.{turned-node}
-use Rattle.node_binding.specs.Counts.{times, place}
+use Rattle.node_binding.specs.Counts.{times, last_standing}
 use Rattle.node_binding.specs.Cuts.{opens, known, cut}
 use Rattle.node_binding.specs.Ids.{id_of}
-use Rattle.node_binding.specs.Openings.{reached, opened_without}
-use Rattle.node_binding.specs.Sessions.{Session, IsSession, session_of, ids_in, knows, view, detached}
+use Rattle.node_binding.specs.Openings.{containers_within, opened_without}
+use Rattle.node_binding.specs.Sessions.{Session, IsSession, session_of, session_ids, knows, view, detached}
 use Rattle.node_binding.proofs.Places.{is_in-times, place-none}
 use Rattle.node_binding.proofs.Known.{known-tally}
 use Rattle.node_binding.proofs.GrowLemmas.{place-append}
@@ -37,8 +37,8 @@ use Rattle.dom_agent.specs.Edits.{id_before, unopened}
 use Rattle.dom_agent.proofs.ShownLemmas.{is_root, seen-at}
 use Rattle.dom_agent.proofs.ShownChanges.{Tells, before_after, changes, tells_by, shown-sets, shown-drops, shown-says, shown-counts, suits-counts, shown-inserts, suits-inserts, shown-removes, suits-removes, kids_tally}
 
-module _ (page : State) (valid : IsValid page) where
-  abbrev n : Nodes Row
+module _ (page : PageValue) (valid : IsValid page) where
+  abbrev n : Nodes PageRow
   n = alone page.tree
 
   distinct : AreDistinct n
@@ -52,11 +52,11 @@ module _ (page : State) (valid : IsValid page) where
     abbrev w : Session
     w = record { opened = opened_now; pushed = pushed; since = since }
 
-    abbrev pub IsTold : ℕ → Change → Nodes Row → Type 0
-    IsTold serial c m = Tells (ids_in w serial) (knows w n serial) c (view w n) (view w m)
+    abbrev pub IsTold : ℕ → Change → Nodes PageRow → Type 0
+    IsTold serial c m = Tells (session_ids w serial) (knows w n serial) c (view w n) (view w m)
 
     label_told : (serial : ℕ) (f : Label → Label) (c : Change) → has_named_attribute c ≡ true → is_live serial page.tree ≡ true → ((l : Label) → (f l).kind ≡ l.kind)
-        → ((o : ℕ → Bool) → (suits_change c (shown o (ids_in w) (node_at serial page.tree)) ≡ true) × (shown o (ids_in w) (relabelled f (node_at serial page.tree)) ≡ changed_by c (shown o (ids_in w) (node_at serial page.tree))))
+        → ((o : ℕ → Bool) → (suits_change c (shown o (session_ids w) (node_at serial page.tree)) ≡ true) × (shown o (session_ids w) (relabelled f (node_at serial page.tree)) ≡ changed_by c (shown o (session_ids w) (node_at serial page.tree))))
         → IsTold serial c (alone (changed_at serial (relabelled f) page.tree))
     label_told serial f c named live kept fits =
         let b = node_at serial page.tree in
@@ -68,17 +68,17 @@ module _ (page : State) (valid : IsValid page) where
     pub set_told : (serial : ℕ) (name value : List ℕ) → CanApply page.next (SetAttr serial name value) page.tree → IsTold serial (sets name value) (alone (after_tree (SetAttr serial name value) page.tree))
     set_told serial name value can =
         let tests = clear (edit_faults (SetAttr serial name value) page.tree) can.fits in
-        label_told serial (with_attribute name value) (sets name value) (not-false _ tests.1.1.0) (not-false _ tests.0) (λ l. refl) (λ o. (not-false _ tests.1.0, shown-sets o (ids_in w) (node_at serial page.tree) name value))
+        label_told serial (with_attribute name value) (sets name value) (not-false _ tests.1.1.0) (not-false _ tests.0) (λ l. refl) (λ o. (not-false _ tests.1.0, shown-sets o (session_ids w) (node_at serial page.tree) name value))
 
     pub drop_told : (serial : ℕ) (name : List ℕ) → CanApply page.next (DropAttr serial name) page.tree → IsTold serial (drops name) (alone (after_tree (DropAttr serial name) page.tree))
     drop_told serial name can =
         let tests = clear (edit_faults (DropAttr serial name) page.tree) can.fits in
-        label_told serial (without_attribute name) (drops name) (not-false _ tests.1.1.0) (not-false _ tests.0) (λ l. refl) (λ o. (not-false _ tests.1.0, shown-drops o (ids_in w) (node_at serial page.tree) name))
+        label_told serial (without_attribute name) (drops name) (not-false _ tests.1.1.0) (not-false _ tests.0) (λ l. refl) (λ o. (not-false _ tests.1.0, shown-drops o (session_ids w) (node_at serial page.tree) name))
 
     pub text_told : (serial : ℕ) (value : List ℕ) → CanApply page.next (SetText serial value) page.tree → IsTold serial (says value) (alone (after_tree (SetText serial value) page.tree))
     text_told serial value can =
         let tests = clear (edit_faults (SetText serial value) page.tree) can.fits in
-        label_told serial (with_value value) (says value) refl (not-false _ tests.0) (λ l. refl) (λ o. (not-false _ tests.1.0, shown-says o (ids_in w) (node_at serial page.tree) value))
+        label_told serial (with_value value) (says value) refl (not-false _ tests.0) (λ l. refl) (λ o. (not-false _ tests.1.0, shown-says o (session_ids w) (node_at serial page.tree) value))
 
 -- ---- an attach
 
@@ -89,14 +89,14 @@ container_of false rest e = e
 opens_from : (h a : Bool) → h ≡ true → a ≡ true → cond h a false ≡ true
 opens_from h a e f = rw (e, f) refl
 
-module _ (page : State) (valid : IsValid page) (parent before : ℕ) (x : Branch Row) (can : CanApply page.next (Attach parent before x) page.tree) where
-  abbrev pub n2 : Nodes Row
+module _ (page : PageValue) (valid : IsValid page) (parent before : ℕ) (x : Branch PageRow) (can : CanApply page.next (Attach parent before x) page.tree) where
+  abbrev pub n2 : Nodes PageRow
   n2 = alone page.tree
 
-  abbrev pub m2 : Nodes Row
+  abbrev pub m2 : Nodes PageRow
   m2 = alone (after_tree (Attach parent before x) page.tree)
 
-  abbrev pub p : Branch Row
+  abbrev pub p : Branch PageRow
   p = node_at parent page.tree
 
   pub live : is_live parent page.tree ≡ true
@@ -120,7 +120,7 @@ module _ (page : State) (valid : IsValid page) (parent before : ℕ) (x : Branch
   -- the parent's children after the attach
   pub children_after : children_at parent (after_tree (Attach parent before x) page.tree) ≡ put_before before x p.children
   children_after =
-      ap (λ (b : Branch Row). b.children)
+      ap (λ (b : Branch PageRow). b.children)
       (turned-node parent (with_child before x) page.tree live (whole-after page.next page.tree (whole-valid page valid) (Attach parent before x) can) refl)
 
   pub x_new : tally row_serial x.row.serial n2 ≡ 0
@@ -131,14 +131,14 @@ module _ (page : State) (valid : IsValid page) (parent before : ℕ) (x : Branch
   -- below a node that is not opened only the number of its children changes
   pub attach_counts : (opened_now : Option (ℕ → Bool)) (pushed : List ℕ) (since : ℕ) → ((o : ℕ → Bool) → opened_now ≡ Some o → o parent ≡ false)
       → (let w : Session = record { opened = opened_now; pushed = pushed; since = since } in
-      Tells (ids_in w parent) (knows w n2 parent) (counts (width (children_at parent (after_tree (Attach parent before x) page.tree)))) (view w n2) (view w m2))
+      Tells (session_ids w parent) (knows w n2 parent) (counts (width (children_at parent (after_tree (Attach parent before x) page.tree)))) (view w n2) (view w m2))
   attach_counts opened_now pushed since shut =
       let w : Session = record { opened = opened_now; pushed = pushed; since = since } in
-      subst (λ (s : ℕ). Tells (ids_in w s) (knows w n2 s) (counts (width (children_at parent (after_tree (Attach parent before x) page.tree)))) (view w n2) (view w m2)) p_serial
-      (subst (λ (c : Nodes Row). Tells (ids_in w p.row.serial) (knows w n2 p.row.serial) (counts (width c)) (view w n2) (view w m2)) (sym children_after)
+      subst (λ (s : ℕ). Tells (session_ids w s) (knows w n2 s) (counts (width (children_at parent (after_tree (Attach parent before x) page.tree)))) (view w n2) (view w m2)) p_serial
+      (subst (λ (c : Nodes PageRow). Tells (session_ids w p.row.serial) (knows w n2 p.row.serial) (counts (width c)) (view w n2) (view w m2)) (sym children_after)
       (tells_by n2 m2 opened_now pushed since (counts (width (put_before before x p.children))) distinct2 refl alike2 at.1
       (λ o e. (let shut_p : o p.row.serial ≡ false = ap o p_serial ∙ shut o e in
-      (suits-counts o (ids_in w) p (width (put_before before x p.children)) container shut_p, shown-counts o (ids_in w) p (put_before before x p.children) container shut_p)))))
+      (suits-counts o (session_ids w) p (width (put_before before x p.children)) container shut_p, shown-counts o (session_ids w) p (put_before before x p.children) container shut_p)))))
 
   module _ (o : ℕ → Bool) (pushed : List ℕ) (since : ℕ) (session : IsSession n2 (session_of o pushed since)) (open_parent : o parent ≡ true) where
     abbrev i : ℕ → ℕ
@@ -151,15 +151,15 @@ module _ (page : State) (valid : IsValid page) (parent before : ℕ) (x : Branch
     x_shut = by (o x.row.serial) refl
       where
         by : (b : Bool) → o x.row.serial ≡ b → b ≡ false
-        by true e = absurd (omega (arith, is_in-times (reached None n2) x.row.serial (session.opened_set.live x.row.serial e), reached-tally None x.row.serial n2, x_new))
+        by true e = absurd (omega (arith, is_in-times (containers_within None n2) x.row.serial (session.opened_set.live x.row.serial e), reached-tally None x.row.serial n2, x_new))
         by false e = refl
 
     ids_stay : (s : ℕ) → 0 < times s (known o n2) → i s ≡ j s
     ids_stay s h =
         let other : times s (x.row.serial ∷ []) ≡ 0 = not_x (x.row.serial == s) refl in
-        ap (λ k. since + k) (old_place (place (x.row.serial ∷ []) s) (place (drop since pushed) s) (length (drop since pushed)) (place-none (x.row.serial ∷ []) s other)
+        ap (λ k. since + k) (old_place (last_standing (x.row.serial ∷ []) s) (last_standing (drop since pushed) s) (length (drop since pushed)) (place-none (x.row.serial ∷ []) s other)
         ∙ sym (place-append (drop since pushed) (x.row.serial ∷ []) s)
-        ∙ ap (λ xs. place xs s) (sym (drop-append-le since pushed (x.row.serial ∷ []) session.since_then)))
+        ∙ ap (λ xs. last_standing xs s) (sym (drop-append-le since pushed (x.row.serial ∷ []) session.since_then)))
       where
         old_place : (q a len : ℕ) → q ≡ 0 → a ≡ cond {A = ℕ} (q == 0) a (len + q)
         old_place q a len e = rw e refl
@@ -200,7 +200,7 @@ module _ (page : State) (valid : IsValid page) (parent before : ℕ) (x : Branch
     attach_inserts =
         let kids = put_before before x p.children in
         subst (λ (v : Nodes Seen). ChangesNode (j parent) (inserts (id_before j 0 x.row.serial (children_at parent (after_tree (Attach parent before x) page.tree))) (unopened (j x.row.serial) x)) v (cut o j m2)) (sym view_before)
-        (subst (λ (c : Nodes Row). ChangesNode (j parent) (inserts (id_before j 0 x.row.serial c) (unopened (j x.row.serial) x)) (cut o j n2) (cut o j m2)) (sym children_after)
+        (subst (λ (c : Nodes PageRow). ChangesNode (j parent) (inserts (id_before j 0 x.row.serial c) (unopened (j x.row.serial) x)) (cut o j n2) (cut o j m2)) (sym children_after)
         (subst (λ (s : ℕ). ChangesNode (j s) (inserts (id_before j 0 x.row.serial kids) (unopened (j x.row.serial) x)) (cut o j n2) (cut o j m2)) p_serial
         (changes o j alike2 at.1 (inserts (id_before j 0 x.row.serial kids) (unopened (j x.row.serial) x)) refl
         (suits-inserts o j p open_row before x x_apart x_shut once above)
@@ -208,7 +208,7 @@ module _ (page : State) (valid : IsValid page) (parent before : ℕ) (x : Branch
 
 -- ---- a detach
 
-pub root_of_child : (serial : ℕ) (n : Nodes Row) (x : Branch Row) → child_of row_serial serial n ≡ Some x → is_root serial n ≡ true
+pub root_of_child : (serial : ℕ) (n : Nodes PageRow) (x : Branch PageRow) → child_of row_serial serial n ≡ Some x → is_root serial n ≡ true
 root_of_child serial none x e = cc
 root_of_child serial (node r c t) x e = by (r.serial == serial) e (root_of_child serial t x)
   where
@@ -220,20 +220,20 @@ held_by : (d h rest : Bool) → (not d && (h && rest)) ≡ true → h ≡ true
 held_by true h rest e = let bad : false ≡ true = e in cc
 held_by false h rest e = container_of h rest e
 
-module _ (page : State) (valid : IsValid page) (serial : ℕ) (can : CanApply page.next (Detach serial) page.tree) where
-  abbrev pub n3 : Nodes Row
+module _ (page : PageValue) (valid : IsValid page) (serial : ℕ) (can : CanApply page.next (Detach serial) page.tree) where
+  abbrev pub n3 : Nodes PageRow
   n3 = alone page.tree
 
-  abbrev pub m3 : Nodes Row
+  abbrev pub m3 : Nodes PageRow
   m3 = alone (after_tree (Detach serial) page.tree)
 
-  abbrev pub x3 : Branch Row
+  abbrev pub x3 : Branch PageRow
   x3 = node_at serial page.tree
 
   abbrev pub parent3 : ℕ
   parent3 = parent_at serial page.tree
 
-  abbrev pub q : Branch Row
+  abbrev pub q : Branch PageRow
   q = node_at parent3 page.tree
 
   whole3 : Whole page.next n3
@@ -267,7 +267,7 @@ module _ (page : State) (valid : IsValid page) (serial : ℕ) (can : CanApply pa
 
   pub children_left : children_at parent3 (after_tree (Detach serial) page.tree) ≡ taken_out serial q.children
   children_left =
-      ap (λ (b : Branch Row). b.children)
+      ap (λ (b : Branch PageRow). b.children)
       (turned-node parent3 (without_child serial) page.tree part.live (whole-after page.next page.tree whole3 (Detach serial) can) refl)
 
   tally_left : (s : ℕ) → tally row_serial s m3 + tally row_serial s (alone x3) ≡ tally row_serial s n3
@@ -292,15 +292,15 @@ module _ (page : State) (valid : IsValid page) (serial : ℕ) (can : CanApply pa
 
   pub detach_counts : (opened_now : Option (ℕ → Bool)) (pushed : List ℕ) (since : ℕ) → ((o : ℕ → Bool) → opened_now ≡ Some o → o parent3 ≡ false)
       → (let w : Session = record { opened = opened_now; pushed = pushed; since = since } in
-      Tells (ids_in w parent3) (knows w n3 parent3) (counts (width (children_at parent3 (after_tree (Detach serial) page.tree)))) (view w n3) (view (detached x3 w) m3))
+      Tells (session_ids w parent3) (knows w n3 parent3) (counts (width (children_at parent3 (after_tree (Detach serial) page.tree)))) (view w n3) (view (detached x3 w) m3))
   detach_counts opened_now pushed since shut =
       let w : Session = record { opened = opened_now; pushed = pushed; since = since } in
-      subst (λ (v : Nodes Seen). Tells (ids_in w parent3) (knows w n3 parent3) (counts (width (children_at parent3 (after_tree (Detach serial) page.tree)))) (view w n3) v) (view_left opened_now pushed since)
-      (subst (λ (s : ℕ). Tells (ids_in w s) (knows w n3 s) (counts (width (children_at parent3 (after_tree (Detach serial) page.tree)))) (view w n3) (view w m3)) q_serial
-      (subst (λ (c : Nodes Row). Tells (ids_in w q.row.serial) (knows w n3 q.row.serial) (counts (width c)) (view w n3) (view w m3)) (sym children_left)
+      subst (λ (v : Nodes Seen). Tells (session_ids w parent3) (knows w n3 parent3) (counts (width (children_at parent3 (after_tree (Detach serial) page.tree)))) (view w n3) v) (view_left opened_now pushed since)
+      (subst (λ (s : ℕ). Tells (session_ids w s) (knows w n3 s) (counts (width (children_at parent3 (after_tree (Detach serial) page.tree)))) (view w n3) (view w m3)) q_serial
+      (subst (λ (c : Nodes PageRow). Tells (session_ids w q.row.serial) (knows w n3 q.row.serial) (counts (width c)) (view w n3) (view w m3)) (sym children_left)
       (tells_by n3 m3 opened_now pushed since (counts (width (taken_out serial q.children))) distinct3 refl alike3 at3.1
       (λ o e. (let shut_q : o q.row.serial ≡ false = ap o q_serial ∙ shut o e in
-      (suits-counts o (ids_in w) q (width (taken_out serial q.children)) container3 shut_q, shown-counts o (ids_in w) q (taken_out serial q.children) container3 shut_q))))))
+      (suits-counts o (session_ids w) q (width (taken_out serial q.children)) container3 shut_q, shown-counts o (session_ids w) q (taken_out serial q.children) container3 shut_q))))))
 
   module _ (o : ℕ → Bool) (pushed : List ℕ) (since : ℕ) (session : IsSession n3 (session_of o pushed since)) (open_parent : o parent3 ≡ true) where
     abbrev i3 : ℕ → ℕ

@@ -5,9 +5,9 @@ use Rattle.json.specs.Token.{Token}
 use Rattle.serde_json.specs.Data.{Data}
 use Rattle.serde_json.specs.Written.{compact_text}
 use Rattle.node_tree.specs.Nodes.{Nodes, Branch}
-use Rattle.page_tree.specs.Pages.{Row}
+use Rattle.page_tree.specs.Pages.{PageRow}
 use Rattle.node_binding.specs.Cuts.{cut}
-use Rattle.node_binding.specs.Bindings.{Bound, opened_in, id_in}
+use Rattle.node_binding.specs.Bindings.{BindingValue, opened_in, id_in}
 use Rattle.cdp_messages.specs.declared.down.ReplyBody.{ReplyBody}
 use Rattle.pipe_frames.specs.Frames.{framed}
 use Rattle.cdp_messages.specs.Tokens.{data_tokens}
@@ -30,8 +30,8 @@ move_written written result old before now us ts d m same begun wrote kept done 
     by (Err e) sent = tt
 
 -- the children of an opened node
-pub shows_sent : {E : Type 0} (r : Result (Unit {0}) E) (b : Bound) (parent : ℕ) (x : Branch Row) (kids : Nodes Row) (out out2 : List ℕ) → parent ≡ id_in b x.row.serial → kids ≡ x.children
-    → OnOk r (out2 ≡ out ++ frames_of_moves (change parent (shows (cut (opened_in b) (id_in b) kids)) ∷ [])) → (n : Nodes Row) (d : Branch Row) → OnOk r (out2 ≡ out ++ frames_told (told_of (binding_keeper n) d x b ∷ []))
+pub shows_sent : {E : Type 0} (r : Result (Unit {0}) E) (b : BindingValue) (parent : ℕ) (x : Branch PageRow) (kids : Nodes PageRow) (out out2 : List ℕ) → parent ≡ id_in b x.row.serial → kids ≡ x.children
+    → OnOk r (out2 ≡ out ++ frames_of_moves (change parent (shows (cut (opened_in b) (id_in b) kids)) ∷ [])) → (n : Nodes PageRow) (d : Branch PageRow) → OnOk r (out2 ≡ out ++ frames_told (told_of (binding_keeper n) d x b ∷ []))
 shows_sent r b parent x kids out out2 parent_is kids_are sent n d =
     subst (λ (m : Move). OnOk r (out2 ≡ out ++ frames_of_moves (m ∷ []))) (λ k. change (parent_is k) (shows (cut (opened_in b) (id_in b) (kids_are k)))) sent
 

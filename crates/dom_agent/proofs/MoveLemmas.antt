@@ -2,7 +2,7 @@
 use Rattle.std.proofs.Common.{◌≡◌, ℕ, ℤ, ◌+◌, ◌≤◌, pos, true, false, List, [], ◌∷◌, length, length-append, Option, unwrap_or, refl, sym, ◌∙◌, arith}
 use Rattle.cdp_json.specs.Kinds.{is_counted}
 use Rattle.node_tree.specs.Nodes.{Nodes, Branch, alone, node_count}
-use Rattle.page_tree.specs.Pages.{Row, State}
+use Rattle.page_tree.specs.Pages.{PageRow, PageValue}
 use Rattle.node_binding.specs.Cuts.{known}
 use Rattle.node_binding.specs.Openings.{levels_of, above}
 use Rattle.node_binding.specs.Sessions.{Session, IsSession, document_opened}
@@ -17,7 +17,7 @@ use Rattle.cdp_messages.specs.Views.{ShownSheet, View}
 use Rattle.cdp_messages.specs.Moves.{root, replied, failed, tells_view, IsPlainReply, CanBeTold, Course, ends, goes}
 use Rattle.cdp_messages.specs.Told.{Told}
 use Rattle.dom_agent.specs.Requests.{Outcome, shows_root, served, refused, state_after, moves_of}
-use Rattle.dom_agent.specs.Laws.{session_outcome, CanTell, view_of, IsReplyTo, StepsAreMoves, RepliesAnswer}
+use Rattle.dom_agent.specs.Laws.{session_outcome, CanTell, session_view, IsReplyTo, StepsAreMoves, RepliesAnswer}
 use Rattle.dom_agent.proofs.StepLemmas.{CanSay, CanSpell, course-join, goes-few}
 use Rattle.dom_agent.proofs.OutcomeLemmas.{IsOther, either_ask, OutcomeGoes, asks-go, stays_session}
 use Rattle.dom_agent.proofs.TellableLemmas.{can_say}
@@ -48,21 +48,21 @@ plain c id body other small spells is = record { id_fits = small; plain = is_no_
 replied_course : (id : ℕ) (body : ReplyBody) (v : View) → IsPlainReply id body → CanBeTold v → Course (replied id body ∷ []) v v
 replied_course id body v is told = goes (replied id body) [] v v v told (refl, is) (ends v told)
 
-module _ (page : State) (c : DomAsk) (w : Session) (id : ℕ) (sheets : List ShownSheet) (session : IsSession (alone page.tree) w) (can : CanTell page w) (small : is_counted id ≡ true)
+module _ (page : PageValue) (c : DomAsk) (w : Session) (id : ℕ) (sheets : List ShownSheet) (session : IsSession (alone page.tree) w) (can : CanTell page w) (small : is_counted id ≡ true)
     (say : CanSay (alone page.tree) (length w.pushed + node_count (alone page.tree)) sheets) where
-  moved : (out : Outcome Session) → TellsNoView c → OutcomeGoes page c w out → Course (moves_of id out) (view_of w page sheets) (view_of (state_after w out) page sheets)
+  moved : (out : Outcome Session) → TellsNoView c → OutcomeGoes page c w out → Course (moves_of id out) (session_view w page sheets) (session_view (state_after w out) page sheets)
   moved (shows_root z b) other g = absurd g
   moved (served p body) other g =
       let few : length p.state.pushed ≤ length w.pushed + node_count (alone page.tree) = goes-few (alone page.tree) w p.state p.shown g.0 in
       course-join (g.0.course _ sheets say few)
-      (replied_course id body (view_of p.state page sheets) (plain c id body other small (g.1 can) g.2) (say p.state g.0.session few))
+      (replied_course id body (session_view p.state page sheets) (plain c id body other small (g.1 can) g.2) (say p.state g.0.session few))
   moved (refused why) other g =
       let told = say w session (omega arith) in
-      goes (failed _) [] (view_of w page sheets) (view_of w page sheets) (view_of w page sheets) told (refl, small) (ends (view_of w page sheets) told)
+      goes (failed _) [] (session_view w page sheets) (session_view w page sheets) (session_view w page sheets) told (refl, small) (ends (session_view w page sheets) told)
 
-  document_moved : (depth : Option ℤ) (z : Session) (b : Branch _) → CanBeTold (view_of z page sheets) → view_of z page sheets ≡ record { tree = alone b; sheets = sheets } → Course (root id b ∷ []) (view_of w page sheets) (view_of z page sheets)
+  document_moved : (depth : Option ℤ) (z : Session) (b : Branch _) → CanBeTold (session_view z page sheets) → session_view z page sheets ≡ record { tree = alone b; sheets = sheets } → Course (root id b ∷ []) (session_view w page sheets) (session_view z page sheets)
   document_moved depth z b told is =
-      goes (root id b) [] (view_of w page sheets) (view_of z page sheets) (view_of z page sheets) (say w session (omega arith)) (is, small) (ends (view_of z page sheets) told)
+      goes (root id b) [] (session_view w page sheets) (session_view z page sheets) (session_view z page sheets) (say w session (omega arith)) (is, small) (ends (session_view z page sheets) told)
 
 tells_no_view : (c : DomAsk) → IsOther c → TellsNoView c
 tells_no_view (GetDocument depth pierce) other = absurd other
@@ -76,9 +76,9 @@ tells_no_view (DescribeNode id serial depth pierce) other = (λ b. refl, λ text
 
 pub steps_are_moves : StepsAreMoves
 steps_are_moves page ask w id sheets valid fits session can small can_sheets =
-    let n : Nodes Row = alone page.tree in
+    let n : Nodes PageRow = alone page.tree in
     let say = can_say page w sheets valid can can_sheets in
-    either_ask (λ c. fits_ask c ≡ true → (let o = session_outcome page c w in Course (moves_of id o) (view_of w page sheets) (view_of (state_after w o) page sheets)))
+    either_ask (λ c. fits_ask c ≡ true → (let o = session_outcome page c w in Course (moves_of id o) (session_view w page sheets) (session_view (state_after w o) page sheets)))
     (λ depth pierce h. (let d : Option ℕ = levels_of (unwrap_or depth (pos 1)) in
     let z : Session = document_opened d n w in
     document_moved page (GetDocument depth pierce) w id sheets session can small say depth z _
@@ -88,7 +88,7 @@ steps_are_moves page ask w id sheets valid fits session can small can_sheets =
 
 -- ---- the reply
 
-answered : (page : State) (c : DomAsk) (w : Session) (out : Outcome Session) → OutcomeGoes page c w out → IsReplyTo c out
+answered : (page : PageValue) (c : DomAsk) (w : Session) (out : Outcome Session) → OutcomeGoes page c w out → IsReplyTo c out
 answered page c w (shows_root z b) g = absurd g
 answered page c w (served p body) g = g.2
 answered page c w (refused why) g = tt

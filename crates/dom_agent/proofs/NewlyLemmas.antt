@@ -4,10 +4,10 @@ use Rattle.std.specs.List.{filter}
 use Rattle.node_tree.specs.Nodes.{Nodes, none, node, Branch, alone}
 use Rattle.node_tree.specs.Keys.{tally}
 use Rattle.node_tree.specs.Labels.{holds}
-use Rattle.page_tree.specs.Pages.{Row, row_serial}
-use Rattle.node_binding.specs.Counts.{times, is_in}
+use Rattle.page_tree.specs.Pages.{PageRow, row_serial}
+use Rattle.node_binding.specs.Counts.{times, stands_in}
 use Rattle.node_binding.specs.Cuts.{opens, known, shown_anew}
-use Rattle.node_binding.specs.Openings.{less, is_spent, reached, levelled, opened_also, is_unopened, is_closed}
+use Rattle.node_binding.specs.Openings.{less, is_spent, containers_within, levelled, opened_also, is_unopened, is_closed}
 use Rattle.node_binding.specs.Sessions.{IsSession, CanOpen, session_of}
 use Rattle.node_binding.proofs.Places.{first, is_in-times, times-is_in}
 use Rattle.node_binding.proofs.Known.{known-tally}
@@ -41,7 +41,7 @@ filter_append p (x ∷ xs) ys = ap (λ l. cond (p x) (x ∷ l) l) (filter_append
     kept true = refl
     kept false = refl
 
-as_often : (s : ℕ) (xs ys : List ℕ) → times s xs ≡ times s ys → not (is_in s xs) ≡ not (is_in s ys)
+as_often : (s : ℕ) (xs ys : List ℕ) → times s xs ≡ times s ys → not (stands_in s xs) ≡ not (stands_in s ys)
 as_often s xs ys e = ap (λ m. not (not (m == 0))) e
 
 times-if : (b : Bool) (s : ℕ) (xs : List ℕ) → times s (cond b xs []) ≤ times s xs
@@ -53,8 +53,8 @@ if_none true k e = e
 if_none false k e = refl
 
 module _ (o q : ℕ → Bool) (grows : (s : ℕ) → o s ≡ true → q s ≡ true) where
-  abbrev fresh : Nodes Row → ℕ → Bool
-  fresh n s = not (is_in s (known o n))
+  abbrev fresh : Nodes PageRow → ℕ → Bool
+  fresh n s = not (stands_in s (known o n))
 
   children_new : (a b : Bool) (p : ℕ → Bool) (old new : List ℕ) (shown : List ℕ) → (a ≡ true → b ≡ true) → (a ≡ true → filter p new ≡ shown) → (a ≡ false → filter p new ≡ new) → filter p (cond b new []) ≡ cond a shown (cond b new [])
   children_new true true p old new shown up f g = f refl
@@ -62,10 +62,10 @@ module _ (o q : ℕ → Bool) (grows : (s : ℕ) → o s ≡ true → q s ≡ tr
   children_new false true p old new shown up f g = g refl
   children_new false false p old new shown up f g = refl
 
-  pub anew-filter : (n : Nodes Row) → AreDistinct n → shown_anew o q n ≡ filter (fresh n) (known q n)
+  pub anew-filter : (n : Nodes PageRow) → AreDistinct n → shown_anew o q n ≡ filter (fresh n) (known q n)
   anew-filter none distinct = refl
   anew-filter (node r c t) distinct =
-      let n : Nodes Row = node r c t in
+      let n : Nodes PageRow = node r c t in
       let p : ℕ → Bool = fresh n in
       let kids : List ℕ = cond (opens q r) (known q c) [] in
       let root_known : p r.serial ≡ false = ap not (times-is_in (known o n) r.serial (first r.serial _)) in
@@ -97,7 +97,7 @@ module _ (o q : ℕ → Bool) (grows : (s : ℕ) → o s ≡ true → q s ≡ tr
 
 -- ---- what one opening after the other makes known
 
-abbrev pub anew_all : Nodes Row → (ℕ → Bool) → List Opening → List ℕ
+abbrev pub anew_all : Nodes PageRow → (ℕ → Bool) → List Opening → List ℕ
 anew_all n o [] = []
 anew_all n o (x ∷ xs) = shown_anew o (opened_also x.levels x.node o) n ++ anew_all n (opened_also x.levels x.node o) xs
 
@@ -110,7 +110,7 @@ all_levelled-append [] ys = refl
 all_levelled-append (x ∷ xs) ys =
     ap (λ l. levelled (less x.levels) x.node.children ++ l) (all_levelled-append xs ys) ∙ sym (append_assoc (levelled (less x.levels) x.node.children) (all_levelled xs) (all_levelled ys))
 
-module _ (n : Nodes Row) (document : Branch Row) where
+module _ (n : Nodes PageRow) (document : Branch PageRow) where
   pub pushed-all : (xs : List Opening) (o : ℕ → Bool) (pushed : List ℕ) (since : ℕ) → (all_opened (session_keeper n) document xs (session_of o pushed since)).state.pushed ≡ pushed ++ anew_all n o xs
   pushed-all [] o pushed since = sym (append-nil pushed)
   pushed-all (x ∷ xs) o pushed since =
@@ -137,10 +137,10 @@ or_nothing false = refl
 
 module _ (o q : ℕ → Bool) where
   -- q is o and the containers at a distance below d
-  abbrev pub Adds : Option ℕ → Nodes Row → Type 0
-  Adds d n = (s : ℕ) → 0 < tally row_serial s n → q s ≡ (o s || is_in s (reached d n))
+  abbrev pub Adds : Option ℕ → Nodes PageRow → Type 0
+  Adds d n = (s : ℕ) → 0 < tally row_serial s n → q s ≡ (o s || stands_in s (containers_within d n))
 
-  one_tree : (d : Option ℕ) (r : Row) (c : Nodes Row) (g h l a b : Bool) → (h && not l) ≡ g → o r.serial ≡ a → q r.serial ≡ b
+  one_tree : (d : Option ℕ) (r : PageRow) (c : Nodes PageRow) (g h l a b : Bool) → (h && not l) ≡ g → o r.serial ≡ a → q r.serial ≡ b
       → (g ≡ true → a ≡ true → shown_anew o q c ≡ all_levelled (requested o (less d) c))
       → (g ≡ true → a ≡ false → (b ≡ true) × (known q c ≡ levelled (less d) c))
       → (g ≡ false → (a ≡ b) × (shown_anew o q c ≡ []))
@@ -160,26 +160,26 @@ module _ (o q : ℕ → Bool) where
   one_tree d r c false h l a b g_is a_is b_is was now apart =
       let same = apart refl in same_part (cond h a false) (cond h b false) (shown_anew o q c) (known q c) (ap (λ v. cond h v false) same.0) same.1
 
-  pub anew-requested : (d : Option ℕ) (n : Nodes Row) → AreDistinct n → is_closed o n ≡ true → Adds d n → shown_anew o q n ≡ all_levelled (requested o d n)
+  pub anew-requested : (d : Option ℕ) (n : Nodes PageRow) → AreDistinct n → is_closed o n ≡ true → Adds d n → shown_anew o q n ≡ all_levelled (requested o d n)
   anew-requested d none distinct closed adds = refl
   anew-requested d (node r c t) distinct closed adds =
-      let x : Branch Row = record { row = r; children = c } in
+      let x : Branch PageRow = record { row = r; children = c } in
       let first : List Opening = cond (goes_on d r) (cond (o r.serial) (requested o (less d) c) (record { levels = d; node = x } ∷ [])) [] in
-      let in_c : (s : ℕ) → 0 < tally row_serial s c → q s ≡ (o s || not (cond {A = ℕ} (goes_on d r) (times s (reached (less d) c)) 0 == 0)) = λ s h.
+      let in_c : (s : ℕ) → 0 < tally row_serial s c → q s ≡ (o s || not (cond {A = ℕ} (goes_on d r) (times s (containers_within (less d) c)) 0 == 0)) = λ s h.
       adds s (omega arith) ∙ same_count (o s) _ _ (in_children d r c t distinct s h) in
       let at_r : q r.serial ≡ (o r.serial || not (cond {A = ℕ} (goes_on d r) 1 0 == 0)) = adds r.serial (omega (arith, self_times r.serial)) ∙ same_count (o r.serial) _ _ (at_root d r c t distinct) in
       let distinct_c : AreDistinct c = λ s. omega (arith, distinct s) in
       let unopened : o r.serial ≡ false → is_unopened o c ≡ true = λ e. ap (λ v. cond v (is_closed o c) (is_unopened o c)) (sym e) ∙ and-first (cond (o r.serial) (is_closed o c) (is_unopened o c)) (is_closed o t) closed in
       ap (λ l. l ++ shown_anew o q t) (one_tree d r c (goes_on d r) (holds r.label.kind) (is_spent d) (o r.serial) (q r.serial) refl refl refl
-      (λ g a. anew-requested (less d) c distinct_c (closed_below (o r.serial) (is_closed o c) (is_unopened o c) (is_closed o t) a closed) (λ s h. in_c s h ∙ ap (λ v. o s || not (cond {A = ℕ} v (times s (reached (less d) c)) 0 == 0)) g))
-      (λ g a. (at_r ∙ ap (λ v. v || not (cond {A = ℕ} (goes_on d r) 1 0 == 0)) a ∙ ap (λ v. not (cond {A = ℕ} v 1 0 == 0)) g, known-levelled q (less d) c distinct_c (λ s h. in_c s h ∙ ap (λ v. v || not (cond {A = ℕ} (goes_on d r) (times s (reached (less d) c)) 0 == 0)) (unopened-at o c (unopened a) s h) ∙ ap (λ v. not (cond {A = ℕ} v (times s (reached (less d) c)) 0 == 0)) g)))
-      (λ g. (sym (at_r ∙ ap (λ v. o r.serial || not (cond {A = ℕ} v 1 0 == 0)) g ∙ or_nothing (o r.serial)), anew-same o q c (λ s h. sym (in_c s h ∙ ap (λ v. o s || not (cond {A = ℕ} v (times s (reached (less d) c)) 0 == 0)) g ∙ or_nothing (o s))))))
+      (λ g a. anew-requested (less d) c distinct_c (closed_below (o r.serial) (is_closed o c) (is_unopened o c) (is_closed o t) a closed) (λ s h. in_c s h ∙ ap (λ v. o s || not (cond {A = ℕ} v (times s (containers_within (less d) c)) 0 == 0)) g))
+      (λ g a. (at_r ∙ ap (λ v. v || not (cond {A = ℕ} (goes_on d r) 1 0 == 0)) a ∙ ap (λ v. not (cond {A = ℕ} v 1 0 == 0)) g, known-levelled q (less d) c distinct_c (λ s h. in_c s h ∙ ap (λ v. v || not (cond {A = ℕ} (goes_on d r) (times s (containers_within (less d) c)) 0 == 0)) (unopened-at o c (unopened a) s h) ∙ ap (λ v. not (cond {A = ℕ} v (times s (containers_within (less d) c)) 0 == 0)) g)))
+      (λ g. (sym (at_r ∙ ap (λ v. o r.serial || not (cond {A = ℕ} v 1 0 == 0)) g ∙ or_nothing (o r.serial)), anew-same o q c (λ s h. sym (in_c s h ∙ ap (λ v. o s || not (cond {A = ℕ} v (times s (containers_within (less d) c)) 0 == 0)) g ∙ or_nothing (o s))))))
       ∙ ap (λ l. all_levelled first ++ l) (anew-requested d t (λ s. omega (arith, distinct s)) (and-second (cond (o r.serial) (is_closed o c) (is_unopened o c)) (is_closed o t) closed) (λ s h. adds s (omega arith) ∙ same_count (o s) _ _ (in_rest d r c t distinct s h)))
       ∙ sym (all_levelled-append first (requested o d t))
 
-  module _ (x : Branch Row) (outside : (s : ℕ) → tally row_serial s (alone x) ≡ 0 → o s ≡ q s) where
+  module _ (x : Branch PageRow) (outside : (s : ℕ) → tally row_serial s (alone x) ≡ 0 → o s ≡ q s) where
     -- what becomes known is below x
-    pub anew-within : {n : Nodes Row} → InView o x n → AreDistinct n → shown_anew o q n ≡ shown_anew o q (alone x)
+    pub anew-within : {n : Nodes PageRow} → InView o x n → AreDistinct n → shown_anew o q n ≡ shown_anew o q (alone x)
     anew-within (root t) distinct =
         ap (λ l. cond (opens o x.row) (shown_anew o q x.children) (cond (opens q x.row) (known q x.children) []) ++ l) (anew-same o q t (λ s h. outside s (omega (arith, distinct s))))
     anew-within (child r c t e v) distinct =
@@ -193,7 +193,7 @@ module _ (o q : ℕ → Bool) where
         ap (λ l. l ++ shown_anew o q t) (same_part (opens o r) (opens q r) (shown_anew o q c) (known q c) row (anew-same o q c (λ s h. outside s (omega (arith, distinct s, in_view-tally o x v s)))))
         ∙ anew-within v (λ s. omega (arith, distinct s))
 
-pub closed-in_view : (o : ℕ → Bool) (x : Branch Row) {n : Nodes Row} → InView o x n → is_closed o n ≡ true → is_closed o (alone x) ≡ true
+pub closed-in_view : (o : ℕ → Bool) (x : Branch PageRow) {n : Nodes PageRow} → InView o x n → is_closed o n ≡ true → is_closed o (alone x) ≡ true
 closed-in_view o x (root t) e = ap (λ b. b && true) (and-first (cond (o x.row.serial) (is_closed o x.children) (is_unopened o x.children)) (is_closed o t) e)
 closed-in_view o x (child r c t open_row v) e = closed-in_view o x v (closed_below (o r.serial) (is_closed o c) (is_unopened o c) (is_closed o t) (is_opened_row (holds r.label.kind) (o r.serial) open_row) e)
 closed-in_view o x (later r c t v) e = closed-in_view o x v (and-second (cond (o r.serial) (is_closed o c) (is_unopened o c)) (is_closed o t) e)

@@ -7,11 +7,11 @@ use Rattle.node_tree.specs.Keys.{has, find}
 use Rattle.node_tree.specs.Labels.{is_element, holds, is_formed_label}
 use Rattle.node_tree.proofs.KeyLemmas.{found_key}
 use Rattle.page_tree.specs.Forms.{may_stand, are_formed}
-use Rattle.page_tree.specs.Pages.{Row, State, IsValid, row_serial, row_label}
+use Rattle.page_tree.specs.Pages.{PageRow, PageValue, IsValid, row_serial, row_label}
 use Rattle.node_binding.specs.Counts.{times}
 use Rattle.node_binding.specs.Cuts.{known}
 use Rattle.node_binding.specs.Openings.{levels_of, is_spent, above}
-use Rattle.node_binding.specs.Sessions.{Session, IsSession, session_of, ids_in, serial_at}
+use Rattle.node_binding.specs.Sessions.{Session, IsSession, session_of, session_ids, serial_at}
 use Rattle.node_binding.proofs.Known.{length-known}
 use Rattle.node_binding.proofs.StartLemmas.{root_holds, distinct-alone}
 use Rattle.node_binding.proofs.SessionLemmas.{IsSession-document_opened}
@@ -70,12 +70,12 @@ either_ask P document others (DescribeNode id serial depth pierce) = others (Des
 
 -- ---- pages
 
-holds_above : (h : Bool) (c : Nodes Row) → (h || is_no_node (map_rows row_label c)) ≡ true → (s : ℕ) → has row_serial s c ≡ true → h ≡ true
+holds_above : (h : Bool) (c : Nodes PageRow) → (h || is_no_node (map_rows row_label c)) ≡ true → (s : ℕ) → has row_serial s c ≡ true → h ≡ true
 holds_above true c e s there = refl
 holds_above false none e s there = cc
 holds_above false (node r c t) e s there = cc
 
-containers-formed : (top : Bool) (n : Nodes Row) → are_formed top (map_rows row_label n) ≡ true → AreContainers n
+containers-formed : (top : Bool) (n : Nodes PageRow) → are_formed top (map_rows row_label n) ≡ true → AreContainers n
 containers-formed top none e = tt
 containers-formed top (node r c t) e =
     let p4 = and_parts (is_formed_label r.label && may_stand top r.label.kind && (holds r.label.kind || is_no_node (map_rows row_label c)) && are_formed false (map_rows row_label c)) (are_formed top (map_rows row_label t)) e in
@@ -83,13 +83,13 @@ containers-formed top (node r c t) e =
     let p2 = and_parts (is_formed_label r.label && may_stand top r.label.kind) (holds r.label.kind || is_no_node (map_rows row_label c)) p3.0 in
     (holds_above (holds r.label.kind) c p2.1, containers-formed false c p3.1, containers-formed top t p4.1)
 
-pub containers-page : (page : State) → IsValid page → AreContainers (alone page.tree)
+pub containers-page : (page : PageValue) → IsValid page → AreContainers (alone page.tree)
 containers-page page valid = (λ s there. root_holds page valid, containers-formed true page.tree.children valid.nodes.formed, tt)
 
 -- ---- commands
 
 -- what is served goes from the session as it was, and the reply is one of the command's, and no document
-abbrev pub OutcomeGoes : State → DomAsk → Session → Outcome Session → Type 0
+abbrev pub OutcomeGoes : PageValue → DomAsk → Session → Outcome Session → Type 0
 OutcomeGoes page c w (shows_root z b) = ⊥
 OutcomeGoes page c w (served p body) = Goes (alone page.tree) w p.state p.shown × (CanTell page w → CanSpell body) × (answers (ask_name c) body ≡ true)
 OutcomeGoes page c w (refused why) = Unit {0}
@@ -102,21 +102,21 @@ begun_or : (P : Outcome Session → Type 0) (b : Bool) (x y : Outcome Session) �
 begun_or P true x y f g = f refl
 begun_or P false x y f g = g
 
-module _ (page : State) (valid : IsValid page) where
-  abbrev n : Nodes Row
+module _ (page : PageValue) (valid : IsValid page) where
+  abbrev n : Nodes PageRow
   n = alone page.tree
 
   abbrev keeper : Keeper Session
   keeper = session_keeper n
 
   -- a known node that is found by its id
-  pub known-found : (o : ℕ → Bool) (pushed : List ℕ) (since : ℕ) (serial : Option ℕ) → ((s : ℕ) → serial ≡ Some s → 0 < times s (known o n)) → (x : Branch Row) → known_node keeper page.tree (session_of o pushed since) serial ≡ Some x → InView o x n
+  pub known-found : (o : ℕ → Bool) (pushed : List ℕ) (since : ℕ) (serial : Option ℕ) → ((s : ℕ) → serial ≡ Some s → 0 < times s (known o n)) → (x : Branch PageRow) → known_node keeper page.tree (session_of o pushed since) serial ≡ Some x → InView o x n
   known-found o pushed since None there x e = cc
   known-found o pushed since (Some s) there x e =
       let is : x.row.serial ≡ s = found_key row_serial s n x e in
       in_view o x n (distinct-alone page valid) (ap (λ (k : ℕ). find row_serial k n) is ∙ e) (subst (λ (k : ℕ). 0 < times k (known o n)) (sym is) (there s refl))
 
-  children-go : (c : DomAsk) (depth : Option ℤ) (o : ℕ → Bool) (pushed : List ℕ) (since : ℕ) → IsSession n (session_of o pushed since) → answers (ask_name c) Nothing ≡ true → (found : Option (Branch Row)) → ((x : Branch Row) → found ≡ Some x → InView o x n)
+  children-go : (c : DomAsk) (depth : Option ℤ) (o : ℕ → Bool) (pushed : List ℕ) (since : ℕ) → IsSession n (session_of o pushed since) → answers (ask_name c) Nothing ≡ true → (found : Option (Branch PageRow)) → ((x : Branch PageRow) → found ≡ Some x → InView o x n)
       → OutcomeGoes page c (session_of o pushed since) (of_children keeper page.tree depth found (session_of o pushed since))
   children-go c depth o pushed since session one None there = tt
   children-go c depth o pushed since session one (Some x) there =
@@ -128,9 +128,9 @@ module _ (page : State) (valid : IsValid page) where
       )
 
   -- the id of a node
-  pushed-spells : (z : Session) (s : ℕ) → IsSession n z → length z.pushed < 2 ^ 53 → CanSpell (NodeId (ids_in z s))
+  pushed-spells : (z : Session) (s : ℕ) → IsSession n z → length z.pushed < 2 ^ 53 → CanSpell (NodeId (session_ids z s))
   pushed-spells z s session few =
-      number_spells (NodeId (ids_in z s)) (and_from (is_small (ids_in z s)) true (lt-ltb (ids_in z s) (2 ^ 53) (omega (arith, ids-below n z s session, few))) refl) tt refl
+      number_spells (NodeId (session_ids z s)) (and_from (is_small (session_ids z s)) true (lt-ltb (session_ids z s) (2 ^ 53) (omega (arith, ids-below n z s session, few))) refl) tt refl
 
   -- a node is pushed, and its id is the reply
   push-goes : (c : DomAsk) → ((id : ℕ) → answers (ask_name c) (NodeId id) ≡ true) → (s : ℕ) (o : ℕ → Bool) (pushed : List ℕ) (since : ℕ) → IsSession n (session_of o pushed since)
@@ -139,9 +139,9 @@ module _ (page : State) (valid : IsValid page) where
       let w : Session = session_of o pushed since in
       let first : Progress Session = push_of keeper page.tree s w in
       let g = goes-pushed page.tree (distinct-alone page valid) (containers-page page valid) s o pushed since session in
-      (g, λ can. pushed-spells first.state s g.session (omega (arith, goes-few n w first.state first.shown g, can.ids)), one (ids_in first.state s))
+      (g, λ can. pushed-spells first.state s g.session (omega (arith, goes-few n w first.state first.shown g, can.ids)), one (session_ids first.state s))
 
-  path-goes : (path : List ℕ) (o : ℕ → Bool) (pushed : List ℕ) (since : ℕ) → IsSession n (session_of o pushed since) → (found : Option (Branch Row))
+  path-goes : (path : List ℕ) (o : ℕ → Bool) (pushed : List ℕ) (since : ℕ) → IsSession n (session_of o pushed since) → (found : Option (Branch PageRow))
       → OutcomeGoes page (PushByPath path) (session_of o pushed since) (of_path keeper page.tree found (session_of o pushed since))
   path-goes path o pushed since session None = tt
   path-goes path o pushed since session (Some x) = push-goes (PushByPath path) (λ id. refl) x.row.serial o pushed since session
@@ -163,7 +163,7 @@ module _ (page : State) (valid : IsValid page) where
   request-goes id depth pierce (Some o) pushed since session =
       let w : Session = session_of o pushed since in
       children-go (RequestChildNodes id depth pierce) depth o pushed since session refl (known_node keeper page.tree w (serial_at w n id))
-      (known-found o pushed since (serial_at w n id) (λ s e. (find-there (λ s. ids_in w s == id) (known o n) s e).0))
+      (known-found o pushed since (serial_at w n id) (λ s e. (find-there (λ s. session_ids w s == id) (known o n) s e).0))
 
   pub path-pushed : (path : List ℕ) (o : Option (ℕ → Bool)) (pushed : List ℕ) (since : ℕ) → IsSession n (record { opened = o; pushed = pushed; since = since }) → Asks (PushByPath path) (record { opened = o; pushed = pushed; since = since })
   path-pushed path None pushed since session = tt
@@ -186,22 +186,22 @@ module _ (page : State) (valid : IsValid page) where
   reply-goes c w body session spells one = (goes-none n w session, spells, one)
 
   -- a node that is found stands in the page
-  named-found : (w : Session) (serial : Option ℕ) (x : Branch Row) → known_node keeper page.tree w serial ≡ Some x → (s : ℕ) × (find row_serial s n ≡ Some x)
+  named-found : (w : Session) (serial : Option ℕ) (x : Branch PageRow) → known_node keeper page.tree w serial ≡ Some x → (s : ℕ) × (find row_serial s n ≡ Some x)
   named-found w None x e = cc
   named-found w (Some s) x e = (s, e)
 
-  named-there : (w : Session) (id serial : Option ℕ) (x : Branch Row) → named_node keeper page.tree w id serial ≡ Some x → (s : ℕ) × (find row_serial s n ≡ Some x)
+  named-there : (w : Session) (id serial : Option ℕ) (x : Branch PageRow) → named_node keeper page.tree w id serial ≡ Some x → (s : ℕ) × (find row_serial s n ≡ Some x)
   named-there w None serial x e = named-found w serial x e
   named-there w (Some id) serial x e = named-found w (serial_at w n id) x e
 
-  attributes-go : (id : ℕ) (w : Session) → IsSession n w → (found : Option (Branch Row)) → ((x : Branch Row) → found ≡ Some x → (s : ℕ) × (find row_serial s n ≡ Some x))
+  attributes-go : (id : ℕ) (w : Session) → IsSession n w → (found : Option (Branch PageRow)) → ((x : Branch PageRow) → found ≡ Some x → (s : ℕ) × (find row_serial s n ≡ Some x))
       → OutcomeGoes page (GetAttributes id) w (of_attributes keeper page.tree found w)
   attributes-go id w session None there = tt
   attributes-go id w session (Some x) there =
       begun_or (OutcomeGoes page (GetAttributes id) w) (is_element x.row.label.kind) (only_replied keeper page.tree (Attributes x.row.label.attributes) w) (refused _)
       (λ element. (let at = there x refl in reply-goes (GetAttributes id) w (Attributes x.row.label.attributes) session (attributes-spell page w valid at.0 x at.1 element) refl)) tt
 
-  description-goes : (id serial : Option ℕ) (depth : Option ℤ) (pierce : Option Bool) (w : Session) → IsSession n w → (found : Option (Branch Row)) → ((x : Branch Row) → found ≡ Some x → (s : ℕ) × (find row_serial s n ≡ Some x))
+  description-goes : (id serial : Option ℕ) (depth : Option ℤ) (pierce : Option Bool) (w : Session) → IsSession n w → (found : Option (Branch PageRow)) → ((x : Branch PageRow) → found ≡ Some x → (s : ℕ) × (find row_serial s n ≡ Some x))
       → OutcomeGoes page (DescribeNode id serial depth pierce) w (of_description keeper page.tree depth found w)
   description-goes id serial depth pierce w session None there = tt
   description-goes id serial depth pierce w session (Some x) there =
@@ -252,12 +252,12 @@ module _ (page : State) (valid : IsValid page) where
 
 -- ---- laws
 
-goes_session : (page : State) (c : DomAsk) (w : Session) (out : Outcome Session) → IsSession (alone page.tree) w → OutcomeGoes page c w out → IsSession (alone page.tree) (state_after w out)
+goes_session : (page : PageValue) (c : DomAsk) (w : Session) (out : Outcome Session) → IsSession (alone page.tree) w → OutcomeGoes page c w out → IsSession (alone page.tree) (state_after w out)
 goes_session page c w (shows_root z b) session g = absurd g
 goes_session page c w (served p body) session g = g.0.session
 goes_session page c w (refused why) session g = session
 
-goes_few : (page : State) (c : DomAsk) (w : Session) (out : Outcome Session) → OutcomeGoes page c w out → length (state_after w out).pushed ≤ length w.pushed + node_count (alone page.tree)
+goes_few : (page : PageValue) (c : DomAsk) (w : Session) (out : Outcome Session) → OutcomeGoes page c w out → length (state_after w out).pushed ≤ length w.pushed + node_count (alone page.tree)
 goes_few page c w (shows_root z b) g = absurd g
 goes_few page c w (served p body) g = goes-few (alone page.tree) w p.state p.shown g.0
 goes_few page c w (refused why) g = omega arith
@@ -271,7 +271,7 @@ stays_session page ask w valid fits session =
 
 pub draws_few : DrawsFew
 draws_few page ask w valid fits session =
-    let n : Nodes Row = alone page.tree in
+    let n : Nodes PageRow = alone page.tree in
     either_ask (λ c. length (state_after w (session_outcome page c w)).pushed ≤ length w.pushed + node_count n)
     (λ depth pierce. (let d : Option ℕ = levels_of (unwrap_or depth (pos 1)) in omega (arith, length-append w.pushed (known (above d n) n), length-known (above d n) n)))
     (λ c other. goes_few page c w (session_outcome page c w) (asks-go page valid c other w session))

@@ -5,8 +5,8 @@ use Rattle.std.specs.Option.{option_and_then}
 use Rattle.std.proofs.lemmas.List.{take_all}
 use Rattle.std.proofs.lemmas.Bool.Decides.{nat_tests}
 use Rattle.node_tree.specs.Nodes.{Nodes, none, node, Branch, tree_at, width}
-use Rattle.page_tree.specs.Pages.{Row}
-use Rattle.dom_agent.specs.Paths.{parts_of, parts_after, Step, step_of, onto, steps_of, child_by, node_by}
+use Rattle.page_tree.specs.Pages.{PageRow}
+use Rattle.dom_agent.specs.Paths.{parts_of, parts_after_comma, PathStep, step_of, onto, steps_of, child_by, node_by}
 
 -- ---- parts
 
@@ -60,7 +60,7 @@ parts_first text i e =
 
 -- ---- the walk
 
-pub tree_at-past : (n : Nodes Row) (i : ℕ) → width n ≤ i → tree_at i n ≡ None
+pub tree_at-past : (n : Nodes PageRow) (i : ℕ) → width n ≤ i → tree_at i n ≡ None
 tree_at-past none i h = refl
 tree_at-past (node r c t) zero h = absurd (omega arith)
 tree_at-past (node r c t) (suc i) h = tree_at-past t i (omega arith)
@@ -74,12 +74,12 @@ parts_some (b ∷ bs) =
       | false ↦ (b ∷ rest.0, (rest.1.0, ap (onto_first b) rest.1.1))
     ]
 
-onto_some : (s : Option Step) (steps : Option (List Step)) → onto s steps ≡ Some [] → ⊥
+onto_some : (s : Option PathStep) (steps : Option (List PathStep)) → onto s steps ≡ Some [] → ⊥
 onto_some None steps e = absurd (cc)
 onto_some (Some s) None e = absurd (cc)
 onto_some (Some s) (Some ss) e = absurd (cc)
 
-one_some : (s : Option Step) → option_map (λ s. s ∷ []) s ≡ Some [] → ⊥
+one_some : (s : Option PathStep) → option_map (λ s. s ∷ []) s ≡ Some [] → ⊥
 one_some None e = absurd (cc)
 one_some (Some s) e = absurd (cc)
 
@@ -93,35 +93,35 @@ nowhere : {A B : Type 0} (o : Option A) → option_and_then {T = A} {U = B} (λ 
 nowhere None = refl
 nowhere (Some x) = refl
 
-walk_on : (n : Nodes Row) (s : Option Step) (steps : Option (List Step)) → (steps ≡ Some [] → ⊥) → option_and_then (λ ss. node_by ss n) (onto s steps) ≡ option_and_then (λ (b : Branch Row). option_and_then (λ ss. node_by ss b.children) steps) (option_and_then (λ s. child_by s n) s)
+walk_on : (n : Nodes PageRow) (s : Option PathStep) (steps : Option (List PathStep)) → (steps ≡ Some [] → ⊥) → option_and_then (λ ss. node_by ss n) (onto s steps) ≡ option_and_then (λ (b : Branch PageRow). option_and_then (λ ss. node_by ss b.children) steps) (option_and_then (λ s. child_by s n) s)
 walk_on n None steps h = refl
 walk_on n (Some s) None h = sym (nowhere (child_by s n))
 walk_on n (Some s) (Some []) h = absurd (h refl)
 walk_on n (Some s) (Some (next ∷ more)) h = refl
 
-walk_last : (n : Nodes Row) (s : Option Step) → option_and_then (λ ss. node_by ss n) (option_map (λ s. s ∷ []) s) ≡ option_and_then (λ s. child_by s n) s
+walk_last : (n : Nodes PageRow) (s : Option PathStep) → option_and_then (λ ss. node_by ss n) (option_map (λ s. s ∷ []) s) ≡ option_and_then (λ s. child_by s n) s
 walk_last n None = refl
 walk_last n (Some s) = refl
 
 -- where no child is named so, a path leads nowhere
-pub walk_nowhere : (n : Nodes Row) (path named index name : List ℕ) (rest : Option (List ℕ)) → parts_of path ≡ index ∷ parts_of named → parts_of named ≡ name ∷ parts_after rest → None ≡ option_and_then (λ step. child_by step n) (step_of index name) → None ≡ option_and_then (λ steps. node_by steps n) (steps_of (parts_of path))
+pub walk_nowhere : (n : Nodes PageRow) (path named index name : List ℕ) (rest : Option (List ℕ)) → parts_of path ≡ index ∷ parts_of named → parts_of named ≡ name ∷ parts_after_comma rest → None ≡ option_and_then (λ step. child_by step n) (step_of index name) → None ≡ option_and_then (λ steps. node_by steps n) (steps_of (parts_of path))
 walk_nowhere n path named index name None first second missing =
     missing ∙ sym (walk_last n (step_of index name)) ∙ ap (λ ps. option_and_then (λ steps. node_by steps n) (steps_of ps)) (sym (first ∙ ap (λ ps. index ∷ ps) second))
 walk_nowhere n path named index name (Some text) first second missing =
     let more = parts_some text in
-    ap (λ b. option_and_then (λ (b : Branch Row). option_and_then (λ ss. node_by ss b.children) (steps_of (more.0 ∷ more.1.0))) b) missing
+    ap (λ b. option_and_then (λ (b : Branch PageRow). option_and_then (λ ss. node_by ss b.children) (steps_of (more.0 ∷ more.1.0))) b) missing
     ∙ sym (walk_on n (step_of index name) (steps_of (more.0 ∷ more.1.0)) (steps_some (more.0 ∷ more.1.0)))
     ∙ ap (λ ps. option_and_then (λ steps. node_by steps n) (steps_of ps)) (sym (first ∙ ap (λ ps. index ∷ ps) second ∙ ap (λ ps. index ∷ name ∷ ps) more.1.1))
 
-pub walk_here : (n : Nodes Row) (path named index name : List ℕ) (child : Branch Row) → parts_of path ≡ index ∷ parts_of named → parts_of named ≡ name ∷ [] → Some child ≡ option_and_then (λ step. child_by step n) (step_of index name) → Some child ≡ option_and_then (λ steps. node_by steps n) (steps_of (parts_of path))
+pub walk_here : (n : Nodes PageRow) (path named index name : List ℕ) (child : Branch PageRow) → parts_of path ≡ index ∷ parts_of named → parts_of named ≡ name ∷ [] → Some child ≡ option_and_then (λ step. child_by step n) (step_of index name) → Some child ≡ option_and_then (λ steps. node_by steps n) (steps_of (parts_of path))
 walk_here n path named index name child first second found =
     found ∙ sym (walk_last n (step_of index name)) ∙ ap (λ ps. option_and_then (λ steps. node_by steps n) (steps_of ps)) (sym (first ∙ ap (λ ps. index ∷ ps) second))
 
-pub walk_further : (n : Nodes Row) (path named index name text : List ℕ) (child : Branch Row) (result : Option (Branch Row)) → parts_of path ≡ index ∷ parts_of named → parts_of named ≡ name ∷ parts_of text → Some child ≡ option_and_then (λ step. child_by step n) (step_of index name) → result ≡ option_and_then (λ steps. node_by steps child.children) (steps_of (parts_of text)) → result ≡ option_and_then (λ steps. node_by steps n) (steps_of (parts_of path))
+pub walk_further : (n : Nodes PageRow) (path named index name text : List ℕ) (child : Branch PageRow) (result : Option (Branch PageRow)) → parts_of path ≡ index ∷ parts_of named → parts_of named ≡ name ∷ parts_of text → Some child ≡ option_and_then (λ step. child_by step n) (step_of index name) → result ≡ option_and_then (λ steps. node_by steps child.children) (steps_of (parts_of text)) → result ≡ option_and_then (λ steps. node_by steps n) (steps_of (parts_of path))
 walk_further n path named index name text child result first second found below =
     let more = parts_some text in
     below
     ∙ ap (λ ps. option_and_then (λ steps. node_by steps child.children) (steps_of ps)) more.1.1
-    ∙ ap (λ b. option_and_then (λ (b : Branch Row). option_and_then (λ ss. node_by ss b.children) (steps_of (more.0 ∷ more.1.0))) b) found
+    ∙ ap (λ b. option_and_then (λ (b : Branch PageRow). option_and_then (λ ss. node_by ss b.children) (steps_of (more.0 ∷ more.1.0))) b) found
     ∙ sym (walk_on n (step_of index name) (steps_of (more.0 ∷ more.1.0)) (steps_some (more.0 ∷ more.1.0)))
     ∙ ap (λ ps. option_and_then (λ steps. node_by steps n) (steps_of ps)) (sym (first ∙ ap (λ ps. index ∷ ps) second ∙ ap (λ ps. index ∷ name ∷ ps) more.1.1))

@@ -8,11 +8,11 @@ use Rattle.node_tree.specs.Nodes.{Nodes, none, Branch, width}
 use Rattle.node_tree.specs.Keys.{tally, tally_in, At}
 use Rattle.node_tree.specs.Labels.{Pair, Label, holds}
 use Rattle.node_tree.specs.Seen.{Seen, leaf, counted, opened, is_opened, seen_id}
-use Rattle.page_tree.specs.Pages.{Row, row_serial}
+use Rattle.page_tree.specs.Pages.{PageRow, row_serial}
 use Rattle.page_tree.specs.Loads as loads
 use Rattle.page_tree.specs.Edits as edits
 use Rattle.page_tree.specs.Edits.{put_before, taken_out, relabelled, with_child, without_child, changed_at, after, after_tree, children_at}
-use Rattle.node_binding.specs.Counts.{times, is_in}
+use Rattle.node_binding.specs.Counts.{times, stands_in}
 use Rattle.node_binding.specs.Cuts.{opens, known, cut}
 use Rattle.node_binding.specs.Ids.{id_of}
 use Rattle.node_binding.specs.Sessions.{knows, view}
@@ -30,7 +30,7 @@ pub record Tells (id : ℕ) (known_now : Bool) (c : Change) (v u : Nodes Seen) :
   pub seen : known_now ≡ true → ChangesNode id c v u
   pub unseen : known_now ≡ false → v ≡ u
 
-module _ (o : ℕ → Bool) (i : ℕ → ℕ) {old new : Branch Row} (alike : IsAlike old new) {depth : ℕ} {n m : Nodes Row} (at : At old new depth n m) (c : Change) where
+module _ (o : ℕ → Bool) (i : ℕ → ℕ) {old new : Branch PageRow} (alike : IsAlike old new) {depth : ℕ} {n m : Nodes PageRow} (at : At old new depth n m) (c : Change) where
   abbrev pub before_after : SeenAt o i old new n m
   before_after = seen-at o i alike at
 
@@ -39,7 +39,7 @@ module _ (o : ℕ → Bool) (i : ℕ → ℕ) {old new : Branch Row} (alike : Is
       let d = before_after.shows e in
       record { old = shown o i old; depth = d.0; is = refl; suits = suits; named = named; at = subst (λ (b : Branch Seen). At (shown o i old) b d.0 (cut o i n) (cut o i m)) same d.1 }
 
-  pub tells : AreDistinct n → has_named_attribute c ≡ true → suits_change c (shown o i old) ≡ true → shown o i new ≡ changed c (shown o i old) → Tells (i old.row.serial) (is_in old.row.serial (known o n)) c (cut o i n) (cut o i m)
+  pub tells : AreDistinct n → has_named_attribute c ≡ true → suits_change c (shown o i old) ≡ true → shown o i new ≡ changed c (shown o i old) → Tells (i old.row.serial) (stands_in old.row.serial (known o n)) c (cut o i n) (cut o i m)
   tells distinct named suits same =
       let s = old.row.serial in
       let seen_times : times s (known o n) ≡ cond {A = ℕ} before_after.in_view 1 0 = before_after.known (distinct s) in
@@ -67,7 +67,7 @@ without-same name [] = refl
 without-same name (q ∷ qs) = ap (λ l. cond (bytes_eq q.0 name) qs (q ∷ l)) (without-same name qs)
 
 -- another label of the same kind, as it is seen
-module _ (o : ℕ → Bool) (i : ℕ → ℕ) (b : Branch Row) where
+module _ (o : ℕ → Bool) (i : ℕ → ℕ) (b : Branch PageRow) where
   abbrev relabelled_as : Label → Branch Seen
   relabelled_as l = shown o i (record { row = record { serial = b.row.serial; label = l }; children = b.children })
 
@@ -85,7 +85,7 @@ module _ (o : ℕ → Bool) (i : ℕ → ℕ) (b : Branch Row) where
   shown_as h a w kids = record { row = record { id = i b.row.serial; serial = b.row.serial; label = b.row.label; hold = cond h (cond a opened (counted w)) leaf }; children = cond (cond h a false) kids none }
 
   -- a container that is not opened, with another number of children
-  pub shown-counts : (c : Nodes Row) → holds b.row.label.kind ≡ true → o b.row.serial ≡ false
+  pub shown-counts : (c : Nodes PageRow) → holds b.row.label.kind ≡ true → o b.row.serial ≡ false
       → shown o i (record { row = b.row; children = c }) ≡ changed (counts (width c)) (shown o i b)
   shown-counts c container shut = by (holds b.row.label.kind) (o b.row.serial) container shut
     where
@@ -99,7 +99,7 @@ module _ (o : ℕ → Bool) (i : ℕ → ℕ) (b : Branch Row) where
 
 -- ---- a page where one node has another label, or another number of children that are not shown
 
-pub tells_by : (n m : Nodes Row) (opened_now : Option (ℕ → Bool)) (pushed : List ℕ) (since : ℕ) {old new : Branch Row} {depth : ℕ} (c : Change) → AreDistinct n → has_named_attribute c ≡ true → IsAlike old new → At old new depth n m
+pub tells_by : (n m : Nodes PageRow) (opened_now : Option (ℕ → Bool)) (pushed : List ℕ) (since : ℕ) {old new : Branch PageRow} {depth : ℕ} (c : Change) → AreDistinct n → has_named_attribute c ≡ true → IsAlike old new → At old new depth n m
     → ((o : ℕ → Bool) → opened_now ≡ Some o → (suits_change c (shown o (id_of pushed since) old) ≡ true) × (shown o (id_of pushed since) new ≡ changed c (shown o (id_of pushed since) old)))
     → Tells (id_of pushed since old.row.serial) (knows (record { opened = opened_now; pushed = pushed; since = since }) n old.row.serial) c (view (record { opened = opened_now; pushed = pushed; since = since }) n) (view (record { opened = opened_now; pushed = pushed; since = since }) m)
 tells_by n m None pushed since c distinct named alike at fits = record { seen = λ e. let bad : false ≡ true = e in cc; unseen = λ e. refl }
@@ -108,7 +108,7 @@ tells_by n m (Some o) pushed since c distinct named alike at fits = let f = fits
 -- ---- a child put in below an opened node
 
 -- an opened container with other children
-module _ (o : ℕ → Bool) (i : ℕ → ℕ) (b : Branch Row) (open_now : opens o b.row ≡ true) where
+module _ (o : ℕ → Bool) (i : ℕ → ℕ) (b : Branch PageRow) (open_now : opens o b.row ≡ true) where
   pub shown_children_of : (shown o i b).children ≡ cut o i b.children
   shown_children_of = ap (λ g. cond g (cut o i b.children) none) open_now
 
@@ -120,7 +120,7 @@ module _ (o : ℕ → Bool) (i : ℕ → ℕ) (b : Branch Row) (open_now : opens
       by true false e = e
       by false a e = e
 
-  pub shown-kids : (c : Nodes Row) → shown o i (record { row = b.row; children = c }) ≡ record { row = (shown o i b).row; children = cut o i c }
+  pub shown-kids : (c : Nodes PageRow) → shown o i (record { row = b.row; children = c }) ≡ record { row = (shown o i b).row; children = cut o i c }
   shown-kids c = by (holds b.row.label.kind) (o b.row.serial) open_now
     where
       by : (h a : Bool) → cond h a false ≡ true
@@ -135,7 +135,7 @@ module _ (o : ℕ → Bool) (i : ℕ → ℕ) (b : Branch Row) (open_now : opens
     pub kids_tally : (key : Seen → ℕ) (y : ℕ) → tally key y (cut o i b.children) ≤ tally key y v
     kids_tally key y = omega (arith, few key y, ap (tally key y) shown_children_of)
 
-  module _ (before : ℕ) (x : Branch Row) (apart : tally row_serial x.row.serial b.children ≡ 0) (shut : o x.row.serial ≡ false)
+  module _ (before : ℕ) (x : Branch PageRow) (apart : tally row_serial x.row.serial b.children ≡ 0) (shut : o x.row.serial ≡ false)
       (once : (y : ℕ) → tally seen_id y (cut o i b.children) ≤ 1) (above : tally seen_id 0 (cut o i b.children) ≡ 0) where
     abbrev pub inserting : Change
     inserting = inserts (id_before i 0 x.row.serial (put_before before x b.children)) (unopened (i x.row.serial) x)

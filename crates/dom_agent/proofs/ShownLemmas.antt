@@ -7,7 +7,7 @@ use Rattle.node_tree.specs.Keys.{tally, At, here, within, past}
 use Rattle.node_tree.specs.Labels.{holds}
 use Rattle.node_tree.specs.Seen.{Seen, leaf, counted, opened, seen_id}
 use Rattle.node_tree.proofs.KeyLemmas.{At-tally, tally_below}
-use Rattle.page_tree.specs.Pages.{Row, row_serial}
+use Rattle.page_tree.specs.Pages.{PageRow, row_serial}
 use Rattle.page_tree.specs.Edits.{put_before, taken_out}
 use Rattle.node_binding.specs.Counts.{times}
 use Rattle.node_binding.specs.Cuts.{opens, known, seen_of, cut}
@@ -24,18 +24,18 @@ use Rattle.dom_agent.specs.Edits.{id_before, unopened}
 -- ---- the view where one node is changed
 
 -- only in a view is the change seen
-pub record SeenAt (o : ℕ → Bool) (i : ℕ → ℕ) (old new : Branch Row) (n m : Nodes Row) : Type 0 where
+pub record SeenAt (o : ℕ → Bool) (i : ℕ → ℕ) (old new : Branch PageRow) (n m : Nodes PageRow) : Type 0 where
   pub in_view : Bool
   pub shows : in_view ≡ true → (depth : ℕ) × At (shown o i old) (shown o i new) depth (cut o i n) (cut o i m)
   pub hides : in_view ≡ false → cut o i n ≡ cut o i m
   pub known : tally row_serial old.row.serial n ≤ 1 → times old.row.serial (known o n) ≡ cond {A = ℕ} in_view 1 0
   pub seen : is_closed o n ≡ true → AreContainersOpened o n → o old.row.serial ≡ true → in_view ≡ true
 
-module _ (o : ℕ → Bool) (i : ℕ → ℕ) {old new : Branch Row} (alike : IsAlike old new) where
-  row_wide : (r : Row) (c m : Nodes Row) → width c ≡ width m → seen_of o i r c ≡ seen_of o i r m
+module _ (o : ℕ → Bool) (i : ℕ → ℕ) {old new : Branch PageRow} (alike : IsAlike old new) where
+  row_wide : (r : PageRow) (c m : Nodes PageRow) → width c ≡ width m → seen_of o i r c ≡ seen_of o i r m
   row_wide r c m e = λ k. record { id = i r.serial; serial = r.serial; label = r.label; hold = cond (holds r.label.kind) (cond (o r.serial) opened (counted (e k))) leaf }
 
-  width-at : {depth : ℕ} {n m : Nodes Row} → At old new depth n m → width n ≡ width m
+  width-at : {depth : ℕ} {n m : Nodes PageRow} → At old new depth n m → width n ≡ width m
   width-at (here t) = refl
   width-at (within depth r c m t e) = refl
   width-at (past depth r c t m e) = ap suc (width-at e)
@@ -59,7 +59,7 @@ module _ (o : ℕ → Bool) (i : ℕ → ℕ) {old new : Branch Row} (alike : Is
   nowhere false true v k f e = omega arith
   nowhere false false v k f e = omega arith
 
-  pub seen-at : {depth : ℕ} {n m : Nodes Row} → At old new depth n m → SeenAt o i old new n m
+  pub seen-at : {depth : ℕ} {n m : Nodes PageRow} → At old new depth n m → SeenAt o i old new n m
   seen-at (here t) = record {
     in_view = true;
     shows = λ _. (0, here (cut o i t));
@@ -70,7 +70,7 @@ module _ (o : ℕ → Bool) (i : ℕ → ℕ) {old new : Branch Row} (alike : Is
     seen = λ closed containers is. refl;
   }
     where
-      known-below : (t : Nodes Row) → tally row_serial old.row.serial (node old.row old.children t) ≤ 1 → cond {A = ℕ} (opens o old.row) (times old.row.serial (known o old.children)) 0 ≡ 0
+      known-below : (t : Nodes PageRow) → tally row_serial old.row.serial (node old.row old.children t) ≤ 1 → cond {A = ℕ} (opens o old.row) (times old.row.serial (known o old.children)) 0 ≡ 0
       known-below t once =
           let self : cond {A = ℕ} (old.row.serial == old.row.serial) 1 0 ≡ 1 = self_times old.row.serial in
           none_there (opens o old.row) (times old.row.serial (known o old.children)) (omega (arith, known-tally o old.row.serial old.children))
@@ -129,18 +129,18 @@ has_tree-tally id (node r c t) e = one_of (r.id == id) (has_tree id t) (tally se
     one_of true b x y e f = omega arith
     one_of false b x y e f = let h : 0 < y = f e in omega arith
 
-module _ (o : ℕ → Bool) (i : ℕ → ℕ) (before : ℕ) (x : Branch Row) where
-  abbrev put : Nodes Row → Nodes Row
+module _ (o : ℕ → Bool) (i : ℕ → ℕ) (before : ℕ) (x : Branch PageRow) where
+  abbrev put : Nodes PageRow → Nodes PageRow
   put n = put_before before x n
 
   -- the sibling before x among these, x put in
-  abbrev prior : ℕ → Nodes Row → ℕ
+  abbrev prior : ℕ → Nodes PageRow → ℕ
   prior p n = id_before i p x.row.serial (put n)
 
-  head_is_x : (p : ℕ) (t : Nodes Row) → id_before i p x.row.serial (node x.row x.children t) ≡ p
+  head_is_x : (p : ℕ) (t : Nodes PageRow) → id_before i p x.row.serial (node x.row x.children t) ≡ p
   head_is_x p t = ap (λ b. cond {A = ℕ} b p (id_before i (i x.row.serial) x.row.serial t)) (eq-eqb x.row.serial x.row.serial refl)
 
-  prior_node : (p : ℕ) (r : Row) (c t : Nodes Row) → (r.serial ≡ x.row.serial → ⊥) → prior p (node r c t) ≡ cond {A = ℕ} (r.serial == before) p (prior (i r.serial) t)
+  prior_node : (p : ℕ) (r : PageRow) (c t : Nodes PageRow) → (r.serial ≡ x.row.serial → ⊥) → prior p (node r c t) ≡ cond {A = ℕ} (r.serial == before) p (prior (i r.serial) t)
   prior_node p r c t other = by (r.serial == before)
     where
       by : (b : Bool) → id_before i p x.row.serial (cond b (node x.row x.children (node r c t)) (node r c (put t))) ≡ cond {A = ℕ} b p (prior (i r.serial) t)
@@ -148,14 +148,14 @@ module _ (o : ℕ → Bool) (i : ℕ → ℕ) (before : ℕ) (x : Branch Row) wh
       by false = ap (λ b. cond {A = ℕ} b p (prior (i r.serial) t)) (ne_eqb r.serial x.row.serial other)
 
   -- no root is x
-  AreOthers : Nodes Row → Type 0
+  AreOthers : Nodes PageRow → Type 0
   AreOthers n = tally row_serial x.row.serial n ≡ 0
 
-  other_first : (r : Row) (c t : Nodes Row) → tally row_serial x.row.serial (node r c t) ≡ 0 → r.serial ≡ x.row.serial → ⊥
+  other_first : (r : PageRow) (c t : Nodes PageRow) → tally row_serial x.row.serial (node r c t) ≡ 0 → r.serial ≡ x.row.serial → ⊥
   other_first r c t h same = omega (arith, self_times x.row.serial, ap (λ (s : ℕ). cond {A = ℕ} (s == x.row.serial) 1 0) same)
 
   -- it is the one before, or one of them
-  pub prior_is : (p : ℕ) (n : Nodes Row) → tally row_serial x.row.serial n ≡ 0 → (prior p n ≡ p) ⊎ (has_tree (prior p n) (cut o i n) ≡ true)
+  pub prior_is : (p : ℕ) (n : Nodes PageRow) → tally row_serial x.row.serial n ≡ 0 → (prior p n ≡ p) ⊎ (has_tree (prior p n) (cut o i n) ≡ true)
   prior_is p none h = inl (head_is_x p none)
   prior_is p (node r c t) h =
       subst (λ (q : ℕ). (q ≡ p) ⊎ ((i r.serial == q || has_tree q (cut o i t)) ≡ true)) (sym (prior_node p r c t (other_first r c t h)))
@@ -175,7 +175,7 @@ module _ (o : ℕ → Bool) (i : ℕ → ℕ) (before : ℕ) (x : Branch Row) wh
     abbrev pub bare : Branch Seen
     bare = unopened (i x.row.serial) x
 
-    cut_new : (t : Nodes Row) → cut o i (node x.row x.children t) ≡ node bare.row none (cut o i t)
+    cut_new : (t : Nodes PageRow) → cut o i (node x.row x.children t) ≡ node bare.row none (cut o i t)
     cut_new t = by (holds x.row.label.kind) (o x.row.serial) shut
       where
         by : (h a : Bool) → a ≡ false
@@ -186,7 +186,7 @@ module _ (o : ℕ → Bool) (i : ℕ → ℕ) (before : ℕ) (x : Branch Row) wh
         by false a e = refl
 
     -- behind a sibling of id p that stands before these trees, or among them
-    put_shown : (p : ℕ) (n : Nodes Row) → tally row_serial x.row.serial n ≡ 0 → ((y : ℕ) → tally seen_id y (cut o i n) ≤ 1) → tally seen_id p (cut o i n) ≡ 0
+    put_shown : (p : ℕ) (n : Nodes PageRow) → tally row_serial x.row.serial n ≡ 0 → ((y : ℕ) → tally seen_id y (cut o i n) ≤ 1) → tally seen_id p (cut o i n) ≡ 0
         → cond (p == prior p n) (node bare.row none (cut o i n)) (put_behind (prior p n) bare (cut o i n)) ≡ cut o i (put n)
     put_shown p none h once apart = ap (λ b. cond b (node bare.row none none) none) (eq-eqb p (prior p none) (sym (head_is_x p none))) ∙ sym (cut_new none)
     put_shown p (node r c t) h once apart =
@@ -216,7 +216,7 @@ module _ (o : ℕ → Bool) (i : ℕ → ℕ) (before : ℕ) (x : Branch Row) wh
             ∙ ap (node (seen_of o i r c) (cond (opens o r) (cut o i c) none)) rest
 
     -- x is seen behind its previous sibling
-    pub insert_shown : (n : Nodes Row) → tally row_serial x.row.serial n ≡ 0 → ((y : ℕ) → tally seen_id y (cut o i n) ≤ 1) → tally seen_id 0 (cut o i n) ≡ 0
+    pub insert_shown : (n : Nodes PageRow) → tally row_serial x.row.serial n ≡ 0 → ((y : ℕ) → tally seen_id y (cut o i n) ≤ 1) → tally seen_id 0 (cut o i n) ≡ 0
         → put_after (prior 0 n) bare (cut o i n) ≡ cut o i (put n)
     insert_shown n h once apart = ap (λ b. cond b (node bare.row none (cut o i n)) (put_behind (prior 0 n) bare (cut o i n))) (turned 0 (prior 0 n)) ∙ put_shown 0 n h once apart
       where
@@ -226,7 +226,7 @@ module _ (o : ℕ → Bool) (i : ℕ → ℕ) (before : ℕ) (x : Branch Row) wh
 -- ---- a child taken out
 
 -- one of these trees has that serial
-abbrev pub is_root : ℕ → Nodes Row → Bool
+abbrev pub is_root : ℕ → Nodes PageRow → Bool
 is_root serial none = false
 is_root serial (node r c t) = r.serial == serial || is_root serial t
 
@@ -235,7 +235,7 @@ module _ (o : ℕ → Bool) (i : ℕ → ℕ) (serial : ℕ) where
   or_parts true b e f = let bad : true ≡ false = f in cc
   or_parts false b e f = e
 
-  pub root_seen : (n : Nodes Row) → is_root serial n ≡ true → has_tree (i serial) (cut o i n) ≡ true
+  pub root_seen : (n : Nodes PageRow) → is_root serial n ≡ true → has_tree (i serial) (cut o i n) ≡ true
   root_seen none e = e
   root_seen (node r c t) e = by (r.serial == serial) refl (root_seen t)
     where
@@ -247,7 +247,7 @@ module _ (o : ℕ → Bool) (i : ℕ → ℕ) (serial : ℕ) where
       by true is rest = ap (λ b. b || has_tree (i serial) (cut o i t)) (eq-eqb (i r.serial) (i serial) (ap i (eqb-true r.serial serial is)))
       by false is rest = or_second (i r.serial == i serial) (has_tree (i serial) (cut o i t)) (rest (or_parts (r.serial == serial) (is_root serial t) e is))
 
-  pub drop_shown : (n : Nodes Row) → is_root serial n ≡ true → ((y : ℕ) → tally seen_id y (cut o i n) ≤ 1) → without_tree (i serial) (cut o i n) ≡ cut o i (taken_out serial n)
+  pub drop_shown : (n : Nodes PageRow) → is_root serial n ≡ true → ((y : ℕ) → tally seen_id y (cut o i n) ≤ 1) → without_tree (i serial) (cut o i n) ≡ cut o i (taken_out serial n)
   drop_shown none e once = refl
   drop_shown (node r c t) e once = by (r.serial == serial) refl (λ in_t. drop_shown t in_t (λ y. omega (arith, once y)))
     where

@@ -5,10 +5,10 @@ use Rattle.std.proofs.lemmas.List.Elements.{All-cons, All-nil}
 use Rattle.node_tree.specs.Nodes.{Nodes, none, node, Branch, alone, width}
 use Rattle.node_tree.specs.Labels.{holds}
 use Rattle.node_tree.specs.Seen.{Seen, leaf, counted, opened}
-use Rattle.page_tree.specs.Pages.{Row, State, IsValid}
+use Rattle.page_tree.specs.Pages.{PageRow, PageValue, IsValid}
 use Rattle.node_binding.specs.Cuts.{opens, known, cut}
 use Rattle.node_binding.specs.Openings.{less, is_spent, opened_also, is_unopened, is_closed}
-use Rattle.node_binding.specs.Sessions.{Session, IsSession, CanOpen, session_of, is_open, ids_in, grown, serial_at}
+use Rattle.node_binding.specs.Sessions.{Session, IsSession, CanOpen, session_of, is_open, session_ids, grown, serial_at}
 use Rattle.node_binding.proofs.StartLemmas.{distinct-alone}
 use Rattle.node_binding.proofs.PairLemmas.{find-there}
 use Rattle.node_binding.proofs.AnewLemmas.{and-first, and-second}
@@ -20,7 +20,7 @@ use Rattle.dom_agent.specs.Requests.{Opening, Showing, requested, known_node, of
 use Rattle.dom_agent.specs.Distances.{StandsAt, root, below, beside, IsWithin}
 use Rattle.dom_agent.specs.Sets.{levels_asked}
 use Rattle.dom_agent.specs.Described.{shown_to}
-use Rattle.dom_agent.specs.Shows.{levels_left, TellsLevels, told_by, RequestTells}
+use Rattle.dom_agent.specs.Shows.{levels_left, TellsLevels, shown_by_outcome, RequestTells}
 use Rattle.dom_agent.proofs.OpeningsLemmas.{AreOpenings, requested-are}
 use Rattle.dom_agent.proofs.OutcomeLemmas.{known-found}
 use Rattle.dom_agent.proofs.NewlyLemmas.{closed-in_view}
@@ -32,7 +32,7 @@ kids_same : (g : Bool) (a b : Nodes Seen) → (g ≡ true → a ≡ b) → cond 
 kids_same true a b f = f refl
 kids_same false a b f = refl
 
-pub cut-levels : (o : ℕ → Bool) (i : ℕ → ℕ) (d : Option ℕ) (n : Nodes Row) → AreDistinct n → Agrees o d n → cut o i n ≡ shown_to i d n
+pub cut-levels : (o : ℕ → Bool) (i : ℕ → ℕ) (d : Option ℕ) (n : Nodes PageRow) → AreDistinct n → Agrees o d n → cut o i n ≡ shown_to i d n
 cut-levels o i d none distinct agrees = refl
 cut-levels o i d (node r c t) distinct agrees =
     let g : Bool = goes_on d r in
@@ -44,7 +44,7 @@ cut-levels o i d (node r c t) distinct agrees =
 
 -- ---- what is requested
 
-pub record IsRequested (d : Option ℕ) (n : Nodes Row) (o : ℕ → Bool) (y : Opening) : Type 0 where
+pub record IsRequested (d : Option ℕ) (n : Nodes PageRow) (o : ℕ → Bool) (y : Opening) : Type 0 where
   pub distance : ℕ
   pub stands : StandsAt y.node distance n
   pub near : IsWithin distance d
@@ -52,11 +52,11 @@ pub record IsRequested (d : Option ℕ) (n : Nodes Row) (o : ℕ → Bool) (y : 
   pub shut : o y.node.row.serial ≡ false
   pub levels : y.levels ≡ levels_left distance d
 
-abbrev pub AreRequested : Option ℕ → Nodes Row → (ℕ → Bool) → List Opening → Type 0
+abbrev pub AreRequested : Option ℕ → Nodes PageRow → (ℕ → Bool) → List Opening → Type 0
 AreRequested d n o [] = Unit {0}
 AreRequested d n o (y ∷ ys) = IsRequested d n o y × AreRequested d n o ys
 
-requested_join : (d : Option ℕ) (n : Nodes Row) (o : ℕ → Bool) (xs ys : List Opening) → AreRequested d n o xs → AreRequested d n o ys → AreRequested d n o (xs ++ ys)
+requested_join : (d : Option ℕ) (n : Nodes PageRow) (o : ℕ → Bool) (xs ys : List Opening) → AreRequested d n o xs → AreRequested d n o ys → AreRequested d n o (xs ++ ys)
 requested_join d n o [] ys h k = k
 requested_join d n o (x ∷ xs) ys h k = (h.0, requested_join d n o xs ys h.1 k)
 
@@ -70,7 +70,7 @@ left-below (Some zero) k = ap Some (omega arith)
 left-below (Some (suc d)) k = ap Some (omega arith)
 
 module _ (o : ℕ → Bool) where
-  all_below : (d : Option ℕ) (r : Row) (c t : Nodes Row) (ys : List Opening) → is_spent d ≡ false → AreRequested (less d) c o ys → AreRequested d (node r c t) o ys
+  all_below : (d : Option ℕ) (r : PageRow) (c t : Nodes PageRow) (ys : List Opening) → is_spent d ≡ false → AreRequested (less d) c o ys → AreRequested d (node r c t) o ys
   all_below d r c t [] left h = tt
   all_below d r c t (y ∷ ys) left h = (
     record {
@@ -84,7 +84,7 @@ module _ (o : ℕ → Bool) where
     all_below d r c t ys left h.1,
   )
 
-  all_beside : (d : Option ℕ) (r : Row) (c t : Nodes Row) (ys : List Opening) → AreRequested d t o ys → AreRequested d (node r c t) o ys
+  all_beside : (d : Option ℕ) (r : PageRow) (c t : Nodes PageRow) (ys : List Opening) → AreRequested d t o ys → AreRequested d (node r c t) o ys
   all_beside d r c t [] h = tt
   all_beside d r c t (y ∷ ys) h = (
     record {
@@ -98,7 +98,7 @@ module _ (o : ℕ → Bool) where
     all_beside d r c t ys h.1,
   )
 
-  first_tree : (d : Option ℕ) (r : Row) (c t : Nodes Row) (g a : Bool) → (holds r.label.kind && not (is_spent d)) ≡ g → o r.serial ≡ a → AreRequested (less d) c o (requested o (less d) c)
+  first_tree : (d : Option ℕ) (r : PageRow) (c t : Nodes PageRow) (g a : Bool) → (holds r.label.kind && not (is_spent d)) ≡ g → o r.serial ≡ a → AreRequested (less d) c o (requested o (less d) c)
       → AreRequested d (node r c t) o (cond g (cond a (requested o (less d) c) (record { levels = d; node = record { row = r; children = c } } ∷ [])) [])
   first_tree d r c t true true g_is a_is h = all_below d r c t (requested o (less d) c) (unspent (is_spent d) (and-second (holds r.label.kind) (not (is_spent d)) g_is)) h
   first_tree d r c t true false g_is a_is h = (
@@ -114,7 +114,7 @@ module _ (o : ℕ → Bool) where
   )
   first_tree d r c t false a g_is a_is h = tt
 
-  pub requested-at : (d : Option ℕ) (n : Nodes Row) → AreRequested d n o (requested o d n)
+  pub requested-at : (d : Option ℕ) (n : Nodes PageRow) → AreRequested d n o (requested o d n)
   requested-at d none = tt
   requested-at d (node r c t) =
       requested_join d (node r c t) o (cond (goes_on d r) (cond (o r.serial) (requested o (less d) c) (record { levels = d; node = record { row = r; children = c } } ∷ [])) []) (requested o d t)
@@ -123,7 +123,7 @@ module _ (o : ℕ → Bool) where
 
 -- ---- what is told of it
 
-module _ (n : Nodes Row) (document : Branch Row) (distinct : AreDistinct n) (d : Option ℕ) (x : Branch Row) (before : ℕ → Bool) (w : Session) (was : (s : ℕ) → is_open w.opened s ≡ before s) where
+module _ (n : Nodes PageRow) (document : Branch PageRow) (distinct : AreDistinct n) (d : Option ℕ) (x : Branch PageRow) (before : ℕ → Bool) (w : Session) (was : (s : ℕ) → is_open w.opened s ≡ before s) where
   pub tells-all : (xs : List Opening) (o : ℕ → Bool) (pushed : List ℕ) (since : ℕ) → AreOpenings n o xs → AreRequested d (alone x) before xs → IsSession n (session_of o pushed since)
       → All (TellsLevels d x w) (all_opened (session_keeper n) document xs (session_of o pushed since)).shown
   tells-all [] o pushed since are at session = All-nil (TellsLevels d x w)
@@ -136,7 +136,7 @@ module _ (n : Nodes Row) (document : Branch Row) (distinct : AreDistinct n) (d :
       let closed = closed-in_view o y.node v session.opened_set.closed in
       let unopened : is_unopened o y.node.children ≡ true = ap (λ b. cond b (is_closed o y.node.children) (is_unopened o y.node.children)) (sym can.shut) ∙ and-first (cond (o y.node.row.serial) (is_closed o y.node.children) (is_unopened o y.node.children)) true closed in
       let agrees : Agrees p (less y.levels) y.node.children = agrees_below o y.levels y.node are.0 can.container distinct_y unopened in
-      let told : Showing = record { parent = ids_in z y.node.row.serial; children = cut p (ids_in z) y.node.children } in
+      let told : Showing = record { parent = session_ids z y.node.row.serial; children = cut p (session_ids z) y.node.children } in
       All-cons (TellsLevels d x w) told (all_opened (session_keeper n) document ys z).shown
       (record {
         container = y.node;
@@ -145,28 +145,28 @@ module _ (n : Nodes Row) (document : Branch Row) (distinct : AreDistinct n) (d :
         near = at.0.near;
         can_hold = at.0.can_hold;
         shut = was y.node.row.serial ∙ at.0.shut;
-        ids = ids_in z;
+        ids = session_ids z;
         parent = refl;
-        shows = cut-levels p (ids_in z) (less y.levels) y.node.children (λ s. omega (arith, distinct_y s)) agrees ∙ ap (λ l. shown_to (ids_in z) (less l) y.node.children) at.0.levels;
+        shows = cut-levels p (session_ids z) (less y.levels) y.node.children (λ s. omega (arith, distinct_y s)) agrees ∙ ap (λ l. shown_to (session_ids z) (less l) y.node.children) at.0.levels;
       })
       (tells-all ys p z.pushed z.since are.2 at.1 (IsSession-opened y.levels n y.node o pushed since distinct are.0 can session))
 
-tells_by : (page : State) → IsValid page → (depth : Option ℤ) (opened : Option (ℕ → Bool)) (pushed : List ℕ) (since id : ℕ) (x : Branch Row) → IsSession (alone page.tree) (record { opened = opened; pushed = pushed; since = since })
+tells_by : (page : PageValue) → IsValid page → (depth : Option ℤ) (opened : Option (ℕ → Bool)) (pushed : List ℕ) (since id : ℕ) (x : Branch PageRow) → IsSession (alone page.tree) (record { opened = opened; pushed = pushed; since = since })
     → known_node (session_keeper (alone page.tree)) page.tree (record { opened = opened; pushed = pushed; since = since }) (serial_at (record { opened = opened; pushed = pushed; since = since }) (alone page.tree) id) ≡ Some x
     → All (TellsLevels (levels_asked depth) x (record { opened = opened; pushed = pushed; since = since })) (all_opened (session_keeper (alone page.tree)) page.tree (requested (is_open opened) (levels_asked depth) (alone x)) (record { opened = opened; pushed = pushed; since = since })).shown
 tells_by page valid depth None pushed since id x session found = cc
 tells_by page valid depth (Some o) pushed since id x session found =
-    let n : Nodes Row = alone page.tree in
+    let n : Nodes PageRow = alone page.tree in
     let d : Option ℕ = levels_asked depth in
     let w : Session = session_of o pushed since in
     let distinct = distinct-alone page valid in
-    let v : InView o x n = known-found page valid o pushed since (serial_at w n id) (λ s e. (find-there (λ s. ids_in w s == id) (known o n) s e).0) x found in
+    let v : InView o x n = known-found page valid o pushed since (serial_at w n id) (λ s e. (find-there (λ s. session_ids w s == id) (known o n) s e).0) x found in
     tells-all n page.tree distinct d x o w (λ s. refl) (requested o d (alone x)) o pushed since
     (requested-are n distinct o d (alone x) o (λ s. omega (arith, in_view-tally o x v s, distinct s)) (v, tt) (λ s h. refl))
     (requested-at o d (alone x)) session
 
 pub request_tells : RequestTells
 request_tells page id depth pierce w x valid session found =
-    let n : Nodes Row = alone page.tree in
-    subst (λ (f : Option (Branch Row)). All (TellsLevels (levels_asked depth) x w) (told_by (of_children (session_keeper n) page.tree depth f w))) (sym found)
+    let n : Nodes PageRow = alone page.tree in
+    subst (λ (f : Option (Branch PageRow)). All (TellsLevels (levels_asked depth) x w) (shown_by_outcome (of_children (session_keeper n) page.tree depth f w))) (sym found)
     (tells_by page valid depth w.opened w.pushed w.since id x session found)

@@ -6,10 +6,10 @@ use Rattle.std.proofs.lemmas.List.{map-append}
 use Rattle.node_tree.specs.Nodes.{Nodes, none, Branch, alone, width, node_count}
 use Rattle.node_tree.specs.Keys.{has}
 use Rattle.node_tree.specs.Seen.{counted}
-use Rattle.page_tree.specs.Pages.{Row, row_serial}
+use Rattle.page_tree.specs.Pages.{PageRow, row_serial}
 use Rattle.node_binding.specs.Cuts.{shown_anew, cut}
 use Rattle.node_binding.specs.Openings.{is_spent, opened_also}
-use Rattle.node_binding.specs.Sessions.{Session, IsSession, CanOpen, session_of, is_open, known_by, ids_in, view, grown}
+use Rattle.node_binding.specs.Sessions.{Session, IsSession, CanOpen, session_of, is_open, known_by, session_ids, view, grown}
 use Rattle.node_binding.proofs.Places.{place-le}
 use Rattle.node_binding.proofs.Known.{length-known}
 use Rattle.node_binding.proofs.OpeningLemmas.{AreDistinct}
@@ -25,16 +25,16 @@ use Rattle.dom_agent.specs.Requests.{Opening, Showing, Progress, Pushes, pushing
 use Rattle.dom_agent.proofs.OpeningsLemmas.{AreOpenings, AreContainers, pushing-are}
 
 -- what a client sees, beside these sheets
-abbrev pub seen_by : Nodes Row → List ShownSheet → Session → View
+abbrev pub seen_by : Nodes PageRow → List ShownSheet → Session → View
 seen_by n sheets w = record { tree = view w n; sheets = sheets }
 
 -- messages can tell what any session shows that has pushed no more than that
-abbrev pub CanSay : Nodes Row → ℕ → List ShownSheet → Type 0
+abbrev pub CanSay : Nodes PageRow → ℕ → List ShownSheet → Type 0
 CanSay n most sheets = (v : Session) → IsSession n v → length v.pushed ≤ most → CanBeTold (seen_by n sheets v)
 
 -- From w to z, with these openings told: z is a session, nothing is shut, each id is one of a node that became known, and
 -- the moves lead from the one view to the other.
-pub record Goes (n : Nodes Row) (w z : Session) (xs : List Showing) : Type 0 where
+pub record Goes (n : Nodes PageRow) (w z : Session) (xs : List Showing) : Type 0 where
   pub session : IsSession n z
   pub grows : (s : ℕ) → is_open w.opened s ≡ true → is_open z.opened s ≡ true
   pub counts : length z.pushed + length (known_by w.opened n) ≡ length w.pushed + length (known_by z.opened n)
@@ -51,11 +51,11 @@ pub course-join : {ms ks : List Move} {u v w : View} → Course ms u v → Cours
 course-join (ends v t) d = d
 course-join {ks = ks} {w = x} (goes m ms u v w t moved c) d = goes m (ms ++ ks) u v x t moved (course-join c d)
 
-length-known_by : (o : Option (ℕ → Bool)) (n : Nodes Row) → length (known_by o n) ≤ node_count n
+length-known_by : (o : Option (ℕ → Bool)) (n : Nodes PageRow) → length (known_by o n) ≤ node_count n
 length-known_by None n = omega arith
 length-known_by (Some o) n = length-known o n
 
-module _ (n : Nodes Row) where
+module _ (n : Nodes PageRow) where
   pub goes-none : (w : Session) → IsSession n w → Goes n w w []
   goes-none w session = record {
     session = session;
@@ -80,10 +80,10 @@ module _ (n : Nodes Row) where
   goes-few w z xs g = omega (arith, g.counts, length-known_by z.opened n)
 
   module _ (distinct : AreDistinct n) where
-    abbrev told : (z : Session) → Branch Row → Showing
-    told z x = record { parent = ids_in z x.row.serial; children = cut (is_open z.opened) (ids_in z) x.children }
+    abbrev told : (z : Session) → Branch PageRow → Showing
+    told z x = record { parent = session_ids z x.row.serial; children = cut (is_open z.opened) (session_ids z) x.children }
 
-    abbrev told_move : (z : Session) → Branch Row → Move
+    abbrev told_move : (z : Session) → Branch PageRow → Move
     told_move z x = opening_move (told z x)
 
     -- one opening
@@ -91,7 +91,7 @@ module _ (n : Nodes Row) where
         → Goes n (session_of o pushed since) (grown o (opened_also y.levels y.node o) n (session_of o pushed since)) (told (grown o (opened_also y.levels y.node o) n (session_of o pushed since)) y.node ∷ [])
     goes-one y o pushed since left can session =
         let d : Option ℕ = y.levels in
-        let x : Branch Row = y.node in
+        let x : Branch PageRow = y.node in
         let w : Session = session_of o pushed since in
         let z : Session = grown o (opened_also d x o) n w in
         let after : IsSession n z = IsSession-opened d n x o pushed since distinct left can session in
@@ -103,11 +103,11 @@ module _ (n : Nodes Row) where
           counts = length-opened d n x o pushed since distinct left can session;
           longer = more;
           course = λ most sheets say few. goes (told_move z x) [] (seen_by n sheets w) (seen_by n sheets z) (seen_by n sheets z) (say w session (omega (arith, more, few)))
-              (record { old = record { row = bare_row o d x (ids_in z) (counted (width x.children)); children = none }; depth = at.0; is = refl; suits = refl; named = refl; at = at.1 }, refl)
+              (record { old = record { row = bare_row o d x (session_ids z) (counted (width x.children)); children = none }; depth = at.0; is = refl; suits = refl; named = refl; at = at.1 }, refl)
               (ends (seen_by n sheets z) (say z after few));
         }
 
-    module _ (document : Branch Row) where
+    module _ (document : Branch PageRow) where
       -- several
       pub goes-openings : (xs : List Opening) (o : ℕ → Bool) (pushed : List ℕ) (since : ℕ) → IsSession n (session_of o pushed since) → AreOpenings n o xs
           → Goes n (session_of o pushed since) (all_opened (session_keeper n) document xs (session_of o pushed since)).state (all_opened (session_keeper n) document xs (session_of o pushed since)).shown
@@ -127,7 +127,7 @@ abbrev pub is_small : ℕ → Bool
 is_small id = nat_lt id (2 ^ 53)
 
 -- what several pushes come to, with their ids
-pub record GoesPushing (n : Nodes Row) (w : Session) (q : Pushes Session) : Type 0 where
+pub record GoesPushing (n : Nodes PageRow) (w : Session) (q : Pushes Session) : Type 0 where
   pub goes : Goes n w q.progress.state q.progress.shown
   pub ids : length q.progress.state.pushed < 2 ^ 53 → list_all is_small q.ids ≡ true
 
@@ -136,11 +136,11 @@ either P true x y f g = f
 either P false x y f g = g
 
 -- no id is above the number of serials pushed
-pub ids-below : (n : Nodes Row) (w : Session) (s : ℕ) → IsSession n w → ids_in w s ≤ length w.pushed
+pub ids-below : (n : Nodes PageRow) (w : Session) (s : ℕ) → IsSession n w → session_ids w s ≤ length w.pushed
 ids-below n w s session = omega (arith, place-le (drop w.since w.pushed) s, length-drop w.since w.pushed, session.since_then)
 
-module _ (document : Branch Row) (distinct : AreDistinct (alone document)) (containers : AreContainers (alone document)) where
-  abbrev n : Nodes Row
+module _ (document : Branch PageRow) (distinct : AreDistinct (alone document)) (containers : AreContainers (alone document)) where
+  abbrev n : Nodes PageRow
   n = alone document
 
   -- one push
@@ -162,12 +162,12 @@ module _ (document : Branch Row) (distinct : AreDistinct (alone document)) (cont
       let others : Pushes Session = all_pushed (session_keeper n) document ss w in
       let past : GoesPushing n w others = goes-all_pushed ss (Some o) pushed since begun session in
       either (GoesPushing n w) (has row_serial s n)
-      (record { progress = record { state = rest.progress.state; shown = first.shown ++ rest.progress.shown }; ids = ids_in first.state s ∷ rest.ids })
+      (record { progress = record { state = rest.progress.state; shown = first.shown ++ rest.progress.shown }; ids = session_ids first.state s ∷ rest.ids })
       (record { progress = record { state = others.progress.state; shown = others.progress.shown }; ids = 0 ∷ others.ids })
       (record {
         goes = goes-on n w first.state rest.progress.state first.shown rest.progress.shown one more.goes;
-        ids = λ few. and_from (is_small (ids_in first.state s)) (list_all is_small rest.ids)
-            (lt-ltb (ids_in first.state s) (2 ^ 53) (omega (arith, ids-below n first.state s one.session, more.goes.longer, few)))
+        ids = λ few. and_from (is_small (session_ids first.state s)) (list_all is_small rest.ids)
+            (lt-ltb (session_ids first.state s) (2 ^ 53) (omega (arith, ids-below n first.state s one.session, more.goes.longer, few)))
             (more.ids few);
       })
       (record { goes = past.goes; ids = λ few. past.ids few })

@@ -11,10 +11,10 @@ use Rattle.node_tree.specs.Labels.{Pair, is_document, is_element, holds, has_nam
 use Rattle.node_tree.specs.Seen.{Hold, Seen, leaf, counted, opened, is_opened}
 use Rattle.node_tree.proofs.NodeLemmas.{height-map_rows, width_le-node_count}
 use Rattle.page_tree.specs.Forms.{may_stand, is_bare as holds_none, are_formed, are_named}
-use Rattle.page_tree.specs.Pages.{Row, row_label, row_serial, State, IsValid, times_in}
-use Rattle.node_binding.specs.Counts.{times, place}
-use Rattle.node_binding.specs.Cuts.{opens, known, hold_of, seen_of, cut}
-use Rattle.node_binding.specs.Sessions.{Session, IsSession, session_of, ids_in, view}
+use Rattle.page_tree.specs.Pages.{PageRow, row_label, row_serial, PageValue, IsValid, times_in}
+use Rattle.node_binding.specs.Counts.{times, last_standing}
+use Rattle.node_binding.specs.Cuts.{opens, known, hold_cut, seen_of, cut}
+use Rattle.node_binding.specs.Sessions.{Session, IsSession, session_of, session_ids, view}
 use Rattle.node_binding.proofs.Places.{times-is_in, first}
 use Rattle.node_binding.proofs.StartLemmas.{count-alone, distinct-alone}
 use Rattle.node_binding.proofs.OpeningLemmas.{self_times}
@@ -55,14 +55,14 @@ kids_suit : (b : Bool) (kids : Nodes Seen) → (b ≡ true → suits_nodes kids 
 kids_suit true kids e = e refl
 kids_suit false kids e = refl
 
-width-cut : (o : ℕ → Bool) (i : ℕ → ℕ) (n : Nodes Row) → width (cut o i n) ≡ width n
+width-cut : (o : ℕ → Bool) (i : ℕ → ℕ) (n : Nodes PageRow) → width (cut o i n) ≡ width n
 width-cut o i none = refl
 width-cut o i (node r c t) = ap suc (width-cut o i t)
 
 -- ---- all rows
 
 module _ (o : ℕ → Bool) (i : ℕ → ℕ) (small : (s : ℕ) → i s < 2 ^ 53) where
-  pub record FitRow (r : Row) (c : Nodes Row) : Type 0 where
+  pub record FitRow (r : PageRow) (c : Nodes PageRow) : Type 0 where
     pub id : 0 < i r.serial
     pub least : 1 ≤ r.serial
     pub below : r.serial < 2 ^ 53
@@ -70,41 +70,41 @@ module _ (o : ℕ → Bool) (i : ℕ → ℕ) (small : (s : ℕ) → i s < 2 ^ 5
     pub named : is_named_label r.label ≡ true
     pub room : node_count c ≤ 100000
 
-  abbrev kids_of : Row → Nodes Row → Nodes Seen
+  abbrev kids_of : PageRow → Nodes PageRow → Nodes Seen
   kids_of r c = cond (opens o r) (cut o i c) none
 
-  row_suits : (top : Bool) (r : Row) (c : Nodes Row) → same (is_document r.label.kind) top ≡ true → FitRow r c → suits_row top (seen_of o i r c) (count_in (hold_of o r c) (kids_of r c)) ≡ true
+  row_suits : (top : Bool) (r : PageRow) (c : Nodes PageRow) → same (is_document r.label.kind) top ≡ true → FitRow r c → suits_row top (seen_of o i r c) (count_in (hold_cut o r c) (kids_of r c)) ≡ true
   row_suits top r c at f =
       let wide : width (cut o i c) ≡ width c = width-cut o i c in
       let few : width c ≤ node_count c = width_le-node_count c in
-      let n : count_in (hold_of o r c) (kids_of r c) ≤ width c = count_small (holds r.label.kind) (o r.serial) (width c) (cut o i c) wide in
+      let n : count_in (hold_cut o r c) (kids_of r c) ≤ width c = count_small (holds r.label.kind) (o r.serial) (width c) (cut o i c) wide in
       let room : node_count c ≤ 100000 = f.room in
       let one : 1 ≤ r.serial = f.least in
       and_from _ _
       (and_from _ _ (and_from _ _ (and_from _ _ (and_from _ _ (and_from _ _ (and_from _ _ (and_from _ _
       (lt-ltb (i r.serial) (2 ^ 53) (small r.serial))
       (lt-ltb r.serial (2 ^ 53) f.below))
-      (lt-ltb (count_in (hold_of o r c) (kids_of r c)) (2 ^ 53) (omega (arith, n, few, room))))
+      (lt-ltb (count_in (hold_cut o r c) (kids_of r c)) (2 ^ 53) (omega (arith, n, few, room))))
       (lt-ltb 0 (i r.serial) f.id))
       (lt-ltb 0 r.serial (omega arith)))
       f.formed) f.named) at)
       (hold_suits (holds r.label.kind) (o r.serial) (width c))
 
   -- the rows of some trees of a page
-  pub record Fitting (top : Bool) (n : Nodes Row) : Type 0 where
+  pub record Fitting (top : Bool) (n : Nodes PageRow) : Type 0 where
     pub formed : are_formed top (map_rows row_label n) ≡ true
     pub named : are_named (map_rows row_label n) ≡ true
     pub room : node_count n ≤ 100000
     pub serials : (s : ℕ) → 0 < tally row_serial s n → (1 ≤ s) × (s < 2 ^ 53)
     pub ids : (s : ℕ) → 0 < times s (known o n) → 0 < i s
 
-  pub record Parts (top : Bool) (r : Row) (c t : Nodes Row) : Type 0 where
+  pub record Parts (top : Bool) (r : PageRow) (c t : Nodes PageRow) : Type 0 where
     pub label : is_formed_label r.label ≡ true
     pub stands : may_stand top r.label.kind ≡ true
     pub below : are_formed false (map_rows row_label c) ≡ true
     pub later : are_formed top (map_rows row_label t) ≡ true
 
-  pub formed_parts : (top : Bool) (r : Row) (c t : Nodes Row) → are_formed top (map_rows row_label (node r c t)) ≡ true → Parts top r c t
+  pub formed_parts : (top : Bool) (r : PageRow) (c t : Nodes PageRow) → are_formed top (map_rows row_label (node r c t)) ≡ true → Parts top r c t
   formed_parts top r c t e =
       let p4 = and_parts (is_formed_label r.label && may_stand top r.label.kind && (holds r.label.kind || holds_none (map_rows row_label c)) && are_formed false (map_rows row_label c)) (are_formed top (map_rows row_label t)) e in
       let p3 = and_parts (is_formed_label r.label && may_stand top r.label.kind && (holds r.label.kind || holds_none (map_rows row_label c))) (are_formed false (map_rows row_label c)) p4.0 in
@@ -112,13 +112,13 @@ module _ (o : ℕ → Bool) (i : ℕ → ℕ) (small : (s : ℕ) → i s < 2 ^ 5
       let p1 = and_parts (is_formed_label r.label) (may_stand top r.label.kind) p2.0 in
       record { label = p1.0; stands = p1.1; below = p3.1; later = p4.1 }
 
-  ids_first : (r : Row) (c t : Nodes Row) → 0 < times r.serial (known o (node r c t))
+  ids_first : (r : PageRow) (c t : Nodes PageRow) → 0 < times r.serial (known o (node r c t))
   ids_first r c t = first r.serial (cond (opens o r) (known o c) [] ++ known o t)
 
-  ids_below : (r : Row) (c t : Nodes Row) (s : ℕ) → opens o r ≡ true → 0 < times s (known o c) → 0 < times s (known o (node r c t))
+  ids_below : (r : PageRow) (c t : Nodes PageRow) (s : ℕ) → opens o r ≡ true → 0 < times s (known o c) → 0 < times s (known o (node r c t))
   ids_below r c t s e h = rw (times-known o i s r c t) (known_below o i (opens o r) _ s _ _ e h)
 
-  ids_later : (r : Row) (c t : Nodes Row) (s : ℕ) → 0 < times s (known o t) → 0 < times s (known o (node r c t))
+  ids_later : (r : PageRow) (c t : Nodes PageRow) (s : ℕ) → 0 < times s (known o t) → 0 < times s (known o (node r c t))
   ids_later r c t s h = rw (times-known o i s r c t) (omega (arith, h))
 
   -- what stands below the document is no document
@@ -129,11 +129,11 @@ module _ (o : ℕ → Bool) (i : ℕ → ℕ) (small : (s : ℕ) → i s < 2 ^ 5
       alone_not true e = e
       alone_not false e = refl
 
-  pub named_parts : (r : Row) (c t : Nodes Row) → are_named (map_rows row_label (node r c t)) ≡ true
+  pub named_parts : (r : PageRow) (c t : Nodes PageRow) → are_named (map_rows row_label (node r c t)) ≡ true
       → ((is_named_label r.label && are_named (map_rows row_label c)) ≡ true) × (are_named (map_rows row_label t) ≡ true)
   named_parts r c t e = and_parts (is_named_label r.label && are_named (map_rows row_label c)) (are_named (map_rows row_label t)) e
 
-  pub fitting_row : (top : Bool) (r : Row) (c t : Nodes Row) → Fitting top (node r c t) → FitRow r c
+  pub fitting_row : (top : Bool) (r : PageRow) (c t : Nodes PageRow) → Fitting top (node r c t) → FitRow r c
   fitting_row top r c t f =
       let s = f.serials r.serial (omega (arith, self_times r.serial)) in
       let all : suc (node_count c + node_count t) ≤ 100000 = f.room in
@@ -146,7 +146,7 @@ module _ (o : ℕ → Bool) (i : ℕ → ℕ) (small : (s : ℕ) → i s < 2 ^ 5
         room = omega (arith, all);
       }
 
-  fitting_below : (top : Bool) (r : Row) (c t : Nodes Row) → Fitting top (node r c t) → opens o r ≡ true → Fitting false c
+  fitting_below : (top : Bool) (r : PageRow) (c t : Nodes PageRow) → Fitting top (node r c t) → opens o r ≡ true → Fitting false c
   fitting_below top r c t f e =
       let all : suc (node_count c + node_count t) ≤ 100000 = f.room in
       record {
@@ -157,7 +157,7 @@ module _ (o : ℕ → Bool) (i : ℕ → ℕ) (small : (s : ℕ) → i s < 2 ^ 5
         ids = λ s h. f.ids s (ids_below r c t s e h);
       }
 
-  pub fitting_later : (top : Bool) (r : Row) (c t : Nodes Row) → Fitting top (node r c t) → Fitting top t
+  pub fitting_later : (top : Bool) (r : PageRow) (c t : Nodes PageRow) → Fitting top (node r c t) → Fitting top t
   fitting_later top r c t f =
       let all : suc (node_count c + node_count t) ≤ 100000 = f.room in
       record {
@@ -168,7 +168,7 @@ module _ (o : ℕ → Bool) (i : ℕ → ℕ) (small : (s : ℕ) → i s < 2 ^ 5
         ids = λ s h. f.ids s (ids_later r c t s h);
       }
 
-  nodes_suit : (top : Bool) (n : Nodes Row) → Fitting top n → suits_nodes (cut o i n) ≡ true
+  nodes_suit : (top : Bool) (n : Nodes PageRow) → Fitting top n → suits_nodes (cut o i n) ≡ true
   nodes_suit top none f = refl
   nodes_suit top (node r c t) f =
       and_from _ _
@@ -183,7 +183,7 @@ module _ (o : ℕ → Bool) (i : ℕ → ℕ) (small : (s : ℕ) → i s < 2 ^ 5
   shown_utf8 true kids u = u refl
   shown_utf8 false kids u = tt
 
-  cut_utf8 : (n : Nodes Row) → RowsHaveUtf8 n → SeenHaveUtf8 (cut o i n)
+  cut_utf8 : (n : Nodes PageRow) → RowsHaveUtf8 n → SeenHaveUtf8 (cut o i n)
   cut_utf8 none u = tt
   cut_utf8 (node r c t) u = (u.0, shown_utf8 (opens o r) (cut o i c) (λ _. cut_utf8 c u.1), cut_utf8 t u.2)
 
@@ -193,7 +193,7 @@ bare_below true true w c e = e
 bare_below true false w c e = refl
 bare_below false o w c e = refl
 
-is_bare-cut : (o : ℕ → Bool) (i : ℕ → ℕ) (n : Nodes Row) → is_bare (cut o i n) ≡ true
+is_bare-cut : (o : ℕ → Bool) (i : ℕ → ℕ) (n : Nodes PageRow) → is_bare (cut o i n) ≡ true
 is_bare-cut o i none = refl
 is_bare-cut o i (node r c t) = and_from _ _ (bare_below (holds r.label.kind) (o r.serial) (width c) (cut o i c) (is_bare-cut o i c)) (is_bare-cut o i t)
 
@@ -208,8 +208,8 @@ document_named Text name ps d f = let bad : false ≡ true = d in cc
 document_named Comment name ps d f = let bad : false ≡ true = d in cc
 document_named Doctype name ps d f = let bad : false ≡ true = d in cc
 
-module _ (page : State) (valid : IsValid page) (next : page.next ≤ 2 ^ 53) where
-  abbrev n : Nodes Row
+module _ (page : PageValue) (valid : IsValid page) (next : page.next ≤ 2 ^ 53) where
+  abbrev n : Nodes PageRow
   n = alone page.tree
 
   pub serials_there : (s : ℕ) → 0 < tally row_serial s n → (1 ≤ s) × (s < 2 ^ 53)
@@ -221,7 +221,7 @@ module _ (page : State) (valid : IsValid page) (next : page.next ≤ 2 ^ 53) whe
 
   pub document_named_label : is_named_label page.tree.row.label ≡ true
   document_named_label =
-      let r : Row = page.tree.row in
+      let r : PageRow = page.tree.row in
       let d = and_parts (is_document r.label.kind) (is_formed_label r.label) valid.root in
       let label = and_parts (cond (is_element r.label.kind) (is_ascending r.label.attributes) (is_nothing r.label.attributes)) _
       (and_parts (cond (is_element r.label.kind) (is_ascending r.label.attributes) (is_nothing r.label.attributes) && _) _ d.1).0 in
@@ -235,7 +235,7 @@ module _ (page : State) (valid : IsValid page) (next : page.next ≤ 2 ^ 53) whe
 
   bare-view : (o : Option (ℕ → Bool)) (pushed : List ℕ) (since : ℕ) → is_bare (view (record { opened = o; pushed = pushed; since = since }) n) ≡ true
   bare-view None pushed since = refl
-  bare-view (Some o) pushed since = is_bare-cut o (ids_in (session_of o pushed since)) n
+  bare-view (Some o) pushed since = is_bare-cut o (session_ids (session_of o pushed since)) n
 
   IsView-session : (w : Session) → IsSession n w → IsView (view w n)
   IsView-session w session =
@@ -251,11 +251,11 @@ module _ (page : State) (valid : IsValid page) (next : page.next ≤ 2 ^ 53) whe
   document_suits : (o : ℕ → Bool) (pushed : List ℕ) (since : ℕ) → IsSession n (session_of o pushed since) → length pushed < 2 ^ 53 → suits_view (view (session_of o pushed since) n) ≡ true
   document_suits o pushed since session few =
       let w : Session = session_of o pushed since in
-      let r : Row = page.tree.row in
-      let c : Nodes Row = page.tree.children in
-      let i : ℕ → ℕ = ids_in w in
+      let r : PageRow = page.tree.row in
+      let c : Nodes PageRow = page.tree.children in
+      let i : ℕ → ℕ = session_ids w in
       let small : (s : ℕ) → i s < 2 ^ 53 = λ s. omega (arith, ids-below n w s session, few) in
-      let there : (s : ℕ) → 0 < times s (known o n) → 0 < i s = λ s h. (let a : 0 < place (drop since pushed) s = session.known_stand s (times-is_in (known o n) s h) in omega (arith, a)) in
+      let there : (s : ℕ) → 0 < times s (known o n) → 0 < i s = λ s h. (let a : 0 < last_standing (drop since pushed) s = session.known_stand s (times-is_in (known o n) s h) in omega (arith, a)) in
       let d = and_parts (is_document r.label.kind) (is_formed_label r.label) valid.root in
       let room : node_count n ≤ 100000 = count-alone page valid in
       let s = serials_there r.serial (omega (arith, self_times r.serial)) in
@@ -288,10 +288,10 @@ module _ (page : State) (valid : IsValid page) (next : page.next ≤ 2 ^ 53) whe
       record {
         view = IsView-session w session;
         forms = document_suits o pushed since session few;
-        texts = cut_utf8 o (ids_in w) (λ s. omega (arith, ids-below n w s session, few)) n texts;
+        texts = cut_utf8 o (session_ids w) (λ s. omega (arith, ids-below n w s session, few)) n texts;
       }
 
-pub can_say : (page : State) (w : Session) (sheets : List ShownSheet) → IsValid page → CanTell page w → CanTellSheets sheets → CanSay (alone page.tree) (length w.pushed + node_count (alone page.tree)) sheets
+pub can_say : (page : PageValue) (w : Session) (sheets : List ShownSheet) → IsValid page → CanTell page w → CanTellSheets sheets → CanSay (alone page.tree) (length w.pushed + node_count (alone page.tree)) sheets
 can_say page w sheets valid can can_sheets = λ v session few. record {
   tree = tellable page valid can.serials v.opened v.pushed v.since can.texts session (omega (arith, few, can.ids));
   sheets = can_sheets.are;

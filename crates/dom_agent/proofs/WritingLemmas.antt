@@ -9,7 +9,7 @@ use Rattle.node_tree.specs.Nodes.{Nodes, none, node, Branch, from, tree_at, widt
 use Rattle.node_tree.specs.Labels.{holds}
 use Rattle.node_tree.specs.Seen.{Seen, leaf, counted, opened, is_opened}
 use Rattle.node_tree.proofs.NodeLemmas.{from-zero}
-use Rattle.page_tree.specs.Pages.{Row}
+use Rattle.page_tree.specs.Pages.{PageRow}
 use Rattle.page_tree.proofs.CursorLemmas.{from-next}
 use Rattle.node_binding.specs.Cuts.{opens, cut}
 use Rattle.node_binding.specs.Openings.{less, is_spent}
@@ -22,11 +22,11 @@ use Rattle.dom_agent.specs.Described.{shows_children, shown_to, no_ids, describe
 use Rattle.dom_agent.specs.Requests.{shown}
 use Rattle.dom_agent.specs.Edits.{unopened}
 
-width-cut : (o : ℕ → Bool) (i : ℕ → ℕ) (n : Nodes Row) → width (cut o i n) ≡ width n
+width-cut : (o : ℕ → Bool) (i : ℕ → ℕ) (n : Nodes PageRow) → width (cut o i n) ≡ width n
 width-cut o i none = refl
 width-cut o i (node r c t) = ap suc (width-cut o i t)
 
-pub width-shown_to : (i : ℕ → ℕ) (levels : Option ℕ) (n : Nodes Row) → width (shown_to i levels n) ≡ width n
+pub width-shown_to : (i : ℕ → ℕ) (levels : Option ℕ) (n : Nodes PageRow) → width (shown_to i levels n) ≡ width n
 width-shown_to i levels none = refl
 width-shown_to i levels (node r c t) = ap suc (width-shown_to i levels t)
 
@@ -37,14 +37,14 @@ nodes_data id kids = array (tree_items (told_nodes id kids))
 -- ---- one node
 
 -- the row of a node of which nothing is shown below it
-abbrev pub plain_row : ℕ → ℕ → Branch Row → Told
+abbrev pub plain_row : ℕ → ℕ → Branch PageRow → Told
 plain_row id parent b = record {
   parent = parent;
   count = cond {A = ℕ} (holds b.row.label.kind) (width b.children) 0;
   seen = record { id = id; serial = b.row.serial; label = b.row.label; hold = hold_of false (holds b.row.label.kind) (cond {A = ℕ} (holds b.row.label.kind) (width b.children) 0) };
 }
 
-module _ (parent id : ℕ) (r : Row) (w : ℕ) (kids : Nodes Seen) where
+module _ (parent id : ℕ) (r : PageRow) (w : ℕ) (kids : Nodes Seen) where
   -- a node that may have children, or not, and is opened, or not
   abbrev told_now : Bool → Bool → Branch Told
   told_now container open_now =
@@ -83,7 +83,7 @@ module _ (parent id : ℕ) (r : Row) (w : ℕ) (kids : Nodes Seen) where
   hidden_told true = sym (node_tokens (told_now true false).row (tree_items none))
   hidden_told false = sym (node_tokens (told_now false false).row (tree_items none))
 
-pub shown_written : (o : ℕ → Bool) (i : ℕ → ℕ) (parent : ℕ) (b : Branch Row) (id : ℕ) (r : Told) (old : List Token) {t1 t2 new : List Token} → id ≡ i b.row.serial → r ≡ plain_row id parent b → t1 ≡ old ++ head_tokens r
+pub shown_written : (o : ℕ → Bool) (i : ℕ → ℕ) (parent : ℕ) (b : Branch PageRow) (id : ℕ) (r : Told) (old : List Token) {t1 t2 new : List Token} → id ≡ i b.row.serial → r ≡ plain_row id parent b → t1 ≡ old ++ head_tokens r
     → t2 ≡ t1 ++ field_tokens (codes "children") (only_if (opens o b.row) (nodes_data id (cut o i b.children))) → new ≡ t2 ++ tail_tokens r → new ≡ old ++ data_tokens (tree_data (told_branch parent (shown o i b)))
 shown_written o i parent b id r old {t1 = t1} id_is row_is e1 e2 e3 =
     let kids : ℕ → List Token = λ x. field_tokens (codes "children") (only_if (opens o b.row) (nodes_data x (cut o i b.children))) in
@@ -92,7 +92,7 @@ shown_written o i parent b id r old {t1 = t1} id_is row_is e1 e2 e3 =
     ∙ ap (λ (x : ℕ). old ++ (head_tokens (plain_row x parent b) ++ (kids x ++ tail_tokens (plain_row x parent b)))) id_is
     ∙ ap (λ ts. old ++ ts) (node_told parent (i b.row.serial) b.row (width b.children) (cut o i b.children) (holds b.row.label.kind) (o b.row.serial) (width-cut o i b.children))
 
-module _ (r : Row) (w : ℕ) (kids : Nodes Seen) (same : width kids ≡ w) where
+module _ (r : PageRow) (w : ℕ) (kids : Nodes Seen) (same : width kids ≡ w) where
   -- a node that is described, which may have children, or not, with levels left, or not
   abbrev described_now : Bool → Bool → Branch Told
   described_now container left =
@@ -106,7 +106,7 @@ module _ (r : Row) (w : ℕ) (kids : Nodes Seen) (same : width kids ≡ w) where
   described_told true left = node_told 0 0 r w kids true left same
   described_told false left = node_told 0 0 r w kids false left same
 
-pub described_written : (levels : Option ℕ) (b : Branch Row) (r : Told) (old : List Token) {t1 t2 new : List Token} → r ≡ plain_row 0 0 b → t1 ≡ old ++ head_tokens r
+pub described_written : (levels : Option ℕ) (b : Branch PageRow) (r : Told) (old : List Token) {t1 t2 new : List Token} → r ≡ plain_row 0 0 b → t1 ≡ old ++ head_tokens r
     → t2 ≡ t1 ++ field_tokens (codes "children") (only_if (shows_children levels b.row) (nodes_data 0 (shown_to no_ids (less levels) b.children))) → new ≡ t2 ++ tail_tokens r
     → new ≡ old ++ data_tokens (tree_data (described levels b))
 described_written levels b r old {t1 = t1} row_is e1 e2 e3 =
@@ -116,7 +116,7 @@ described_written levels b r old {t1 = t1} row_is e1 e2 e3 =
     ∙ ap (λ ts. old ++ ts)
     (described_told b.row (width b.children) (shown_to no_ids (less levels) b.children) (width-shown_to no_ids (less levels) b.children) (holds b.row.label.kind) (not (is_spent levels)))
 
-pub unopened_written : (parent id : ℕ) (b : Branch Row) (r : Told) (old : List Token) {t1 new : List Token} → r ≡ plain_row id parent b → t1 ≡ old ++ head_tokens r → new ≡ t1 ++ tail_tokens r
+pub unopened_written : (parent id : ℕ) (b : Branch PageRow) (r : Told) (old : List Token) {t1 new : List Token} → r ≡ plain_row id parent b → t1 ≡ old ++ head_tokens r → new ≡ t1 ++ tail_tokens r
     → new ≡ old ++ data_tokens (tree_data (told_branch parent (unopened id b)))
 unopened_written parent id b r old row_is e1 e2 =
     after old (head_tokens r) (tail_tokens r) e1 e2
@@ -139,7 +139,7 @@ abbrev pub left_tokens : ℕ → Nodes Seen → List Token
 left_tokens id kids = items_tokens (items_outline (tree_items (told_nodes id kids)))
 
 -- The walk over the children n, of which a client sees `see n`.
-module _ (see : Nodes Row → Nodes Seen) (parent : ℕ) (n : Nodes Row) where
+module _ (see : Nodes PageRow → Nodes Seen) (parent : ℕ) (n : Nodes PageRow) where
   -- what was written, with what is left from a place on
   abbrev pub with_left : List Token → ℕ → List Token
   with_left now k = now ++ left_tokens parent (see (from k n))
@@ -148,9 +148,9 @@ module _ (see : Nodes Row → Nodes Seen) (parent : ℕ) (n : Nodes Row) where
   left_start old begun =
       ap (λ ts. with_left ts 0) begun
       ∙ append_assoc old (begin_array ∷ []) (left_tokens parent (see (from 0 n)))
-      ∙ ap (λ (m : Nodes Row). old ++ (begin_array ∷ left_tokens parent (see m))) (from-zero n)
+      ∙ ap (λ (m : Nodes PageRow). old ++ (begin_array ∷ left_tokens parent (see m))) (from-zero n)
 
-  pub left_turn : (one : Branch Seen) (k : ℕ) (x : Branch Row) (now next all : List Token) → k < width n → tree_at k n ≡ Some x
+  pub left_turn : (one : Branch Seen) (k : ℕ) (x : Branch PageRow) (now next all : List Token) → k < width n → tree_at k n ≡ Some x
       → see (node x.row x.children (from (k + 1) n)) ≡ node one.row one.children (see (from (k + 1) n)) → next ≡ now ++ data_tokens (tree_data (told_branch parent one)) → with_left now k ≡ all
       → with_left next (k + 1) ≡ all
   left_turn one k x now next all inside at first wrote was =

@@ -3,14 +3,14 @@ use Rattle.std.specs.Prelude.{◌≡◌, ℕ, suc, ◌<◌, true, ◌⊎◌, ◌
 use Rattle.node_tree.specs.Nodes.{Nodes, node, Branch, alone}
 use Rattle.node_tree.specs.Keys.{has}
 use Rattle.node_tree.specs.Labels.{holds}
-use Rattle.page_tree.specs.Pages.{Row, row_serial}
+use Rattle.page_tree.specs.Pages.{PageRow, row_serial}
 use Rattle.node_binding.specs.Sessions.{Session, is_open}
 
 -- y is a node among these trees, so many levels below the roots
-pub data StandsAt (y : Branch Row) : ℕ → Nodes Row → Type 0 where
-  root : (t : Nodes Row) → StandsAt y 0 (node y.row y.children t)
-  below : (k : ℕ) (r : Row) (c t : Nodes Row) → StandsAt y k c → StandsAt y (suc k) (node r c t)
-  beside : (k : ℕ) (r : Row) (c t : Nodes Row) → StandsAt y k t → StandsAt y k (node r c t)
+pub data StandsAt (y : Branch PageRow) : ℕ → Nodes PageRow → Type 0 where
+  root : (t : Nodes PageRow) → StandsAt y 0 (node y.row y.children t)
+  below : (k : ℕ) (r : PageRow) (c t : Nodes PageRow) → StandsAt y k c → StandsAt y (suc k) (node r c t)
+  beside : (k : ℕ) (r : PageRow) (c t : Nodes PageRow) → StandsAt y k t → StandsAt y k (node r c t)
 
 -- the distance is below d; each is where d stands for all levels
 abbrev pub IsWithin : ℕ → Option ℕ → Type 0
@@ -18,8 +18,8 @@ IsWithin k None = Unit {0}
 IsWithin k (Some d) = k < d
 
 -- s is a container at or below x, at a distance below d
-pub record IsReached (d : Option ℕ) (x : Branch Row) (s : ℕ) : Type 0 where
-  pub container : Branch Row
+pub record IsReached (d : Option ℕ) (x : Branch PageRow) (s : ℕ) : Type 0 where
+  pub container : Branch PageRow
   pub distance : ℕ
   pub stands : StandsAt container distance (alone x)
   pub near : IsWithin distance d
@@ -27,8 +27,8 @@ pub record IsReached (d : Option ℕ) (x : Branch Row) (s : ℕ) : Type 0 where
   pub serial : container.row.serial ≡ s
 
 -- t is a proper ancestor of the node of serial s
-pub record IsAncestor (document : Branch Row) (s t : ℕ) : Type 0 where
-  pub ancestor : Branch Row
+pub record IsAncestor (document : Branch PageRow) (s t : ℕ) : Type 0 where
+  pub ancestor : Branch PageRow
   pub level : ℕ
   pub stands : StandsAt ancestor level (alone document)
   pub above : has row_serial s ancestor.children ≡ true

@@ -1,52 +1,52 @@
 -- An edit of the page, for a session and for the binding that stands for it.
 use Rattle.std.specs.Prelude.{◌≡◌, ◌+◌, ◌≤◌, List, length}
 use Rattle.node_tree.specs.Nodes.{alone}
-use Rattle.page_tree.specs.Pages.{State, IsValid}
+use Rattle.page_tree.specs.Pages.{PageValue, IsValid}
 use Rattle.page_tree.specs.Edits.{after}
 use Rattle.page_tree.specs.EditFaults.{CanApply}
 use Rattle.page_tree.specs.declared.edits.TreeEdit.{TreeEdit}
 use Rattle.node_binding.specs.Sessions.{Session, IsSession}
-use Rattle.node_binding.specs.Bindings.{Bound}
-use Rattle.node_binding.specs.Changes.{StandsFor}
+use Rattle.node_binding.specs.Bindings.{BindingValue}
+use Rattle.node_binding.specs.Changes.{BindingStandsFor}
 use Rattle.cdp_messages.specs.Views.{ShownSheet}
 use Rattle.cdp_messages.specs.Moves.{Course}
 use Rattle.dom_agent.specs.Keepers.{session_keeper, binding_keeper}
 use Rattle.dom_agent.specs.Edits.{Edited, edited}
-use Rattle.dom_agent.specs.Laws.{CanTell, CanTellSheets, view_of}
+use Rattle.dom_agent.specs.Laws.{CanTell, CanTellSheets, session_view}
 
 -- what an edit of the page comes to for a session
-abbrev pub session_edited : TreeEdit → State → Session → Edited Session
+abbrev pub session_edited : TreeEdit → PageValue → Session → Edited Session
 session_edited e page w = edited (session_keeper (alone page.tree)) e page.tree w
 
 -- and for a binding
-abbrev pub binding_edited : TreeEdit → State → Bound → Edited Bound
+abbrev pub binding_edited : TreeEdit → PageValue → BindingValue → Edited BindingValue
 binding_edited e page b = edited (binding_keeper (alone page.tree)) e page.tree b
 
 -- after an edit that a page takes a session is one with the page after
 abbrev pub EditKeepsSession : Type 0
 EditKeepsSession =
-    (page : State) (e : TreeEdit) (w : Session) → IsValid page → CanApply page.next e page.tree → IsSession (alone page.tree) w
+    (page : PageValue) (e : TreeEdit) (w : Session) → IsValid page → CanApply page.next e page.tree → IsSession (alone page.tree) w
     → IsSession (alone (after e page).tree) (session_edited e page w).state
 
 -- the binding stands for it
 abbrev pub EditKeepsBound : Type 0
 EditKeepsBound =
-    (page : State) (e : TreeEdit) (w : Session) (b : Bound) → IsValid page → CanApply page.next e page.tree → StandsFor page w b
-    → StandsFor (after e page) (session_edited e page w).state (binding_edited e page b).state
+    (page : PageValue) (e : TreeEdit) (w : Session) (b : BindingValue) → IsValid page → CanApply page.next e page.tree → BindingStandsFor page w b
+    → BindingStandsFor (after e page) (session_edited e page w).state (binding_edited e page b).state
 
 -- and tells the same moves
 abbrev pub SameEditMoves : Type 0
 SameEditMoves =
-    (page : State) (e : TreeEdit) (w : Session) (b : Bound) → IsValid page → CanApply page.next e page.tree → StandsFor page w b
+    (page : PageValue) (e : TreeEdit) (w : Session) (b : BindingValue) → IsValid page → CanApply page.next e page.tree → BindingStandsFor page w b
     → (binding_edited e page b).moves ≡ (session_edited e page w).moves
 
 -- by the moves of an edit the view of the page before comes to that of the page after, and messages can tell both
 abbrev pub EditsAreMoves : Type 0
 EditsAreMoves =
-    (page : State) (e : TreeEdit) (w : Session) (sheets : List ShownSheet) → IsValid page → CanApply page.next e page.tree
+    (page : PageValue) (e : TreeEdit) (w : Session) (sheets : List ShownSheet) → IsValid page → CanApply page.next e page.tree
     → IsSession (alone page.tree) w → CanTell page w → CanTell (after e page) (session_edited e page w).state → CanTellSheets sheets
-    → Course (session_edited e page w).moves (view_of w page sheets) (view_of (session_edited e page w).state (after e page) sheets)
+    → Course (session_edited e page w).moves (session_view w page sheets) (session_view (session_edited e page w).state (after e page) sheets)
 
 -- at most one id is drawn
 abbrev pub EditDrawsOne : Type 0
-EditDrawsOne = (page : State) (e : TreeEdit) (w : Session) → length (session_edited e page w).state.pushed ≤ length w.pushed + 1
+EditDrawsOne = (page : PageValue) (e : TreeEdit) (w : Session) → length (session_edited e page w).state.pushed ≤ length w.pushed + 1

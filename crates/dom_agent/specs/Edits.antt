@@ -5,7 +5,7 @@ use Rattle.std.specs.Option.{option_to_list}
 use Rattle.node_tree.specs.Nodes.{Nodes, none, node, Branch, width}
 use Rattle.node_tree.specs.Labels.{holds}
 use Rattle.node_tree.specs.Seen.{Seen, leaf, counted}
-use Rattle.page_tree.specs.Pages.{Row, node_at, parent_at}
+use Rattle.page_tree.specs.Pages.{PageRow, node_at, parent_at}
 use Rattle.page_tree.specs.Edits.{after_tree, children_at}
 use Rattle.page_tree.specs.declared.edits.TreeEdit.{TreeEdit}
 use Rattle.page_tree.specs.declared.edits.TreeEdit.TheVariants.{SetAttr, DropAttr, SetText, Attach, Detach}
@@ -24,12 +24,12 @@ pub record Edited (S : Type 0) : Type 0 where
   pub moves : List Move
 
 -- the id of the tree that stands right before that of the serial, or else of the last; `previous` where there is none
-abbrev pub id_before : (ℕ → ℕ) → ℕ → ℕ → Nodes Row → ℕ
+abbrev pub id_before : (ℕ → ℕ) → ℕ → ℕ → Nodes PageRow → ℕ
 id_before ids previous serial none = previous
 id_before ids previous serial (node r c t) = cond (r.serial == serial) previous (id_before ids (ids r.serial) serial t)
 
 -- a node with that id, none of whose children are shown
-abbrev pub unopened : ℕ → Branch Row → Branch Seen
+abbrev pub unopened : ℕ → Branch PageRow → Branch Seen
 unopened id x = record {
   row = record { id = id; serial = x.row.serial; label = x.row.label; hold = cond (holds x.row.label.kind) (counted (width x.children)) leaf };
   children = none;
@@ -41,29 +41,29 @@ module _ {S : Type 0} (k : Keeper S) where
   told_where_known serial c w = cond (k.knows w serial) (change (k.id_of w serial) c ∷ []) []
 
   -- that a node has so many children, where it is known
-  abbrev pub told_count : ℕ → Nodes Row → S → List Move
+  abbrev pub told_count : ℕ → Nodes PageRow → S → List Move
   told_count serial children w = told_where_known serial (counts (width children)) w
 
   -- that the opened node `parent` with these children has got x, unopened, behind the sibling before it
-  abbrev pub insertion : ℕ → Branch Row → Nodes Row → S → Move
+  abbrev pub insertion : ℕ → Branch PageRow → Nodes PageRow → S → Move
   insertion parent x children w =
       change (k.id_of w parent) (inserts (id_before (k.id_of w) 0 x.row.serial children) (unopened (k.id_of w x.row.serial) x))
 
   -- x was attached below the node `parent`, which has these children now: below an opened one it becomes known
-  abbrev pub child_came : ℕ → Branch Row → Nodes Row → S → Edited S
+  abbrev pub child_came : ℕ → Branch PageRow → Nodes PageRow → S → Edited S
   child_came parent x children w =
       cond (k.is_open w parent) (let z = k.bound x.row.serial w in record { state = z; moves = insertion parent x children z ∷ [] })
       (record { state = w; moves = told_count parent children w })
 
   -- x was detached from the node `parent`, which has these children now: below an opened one it is known
-  abbrev pub child_gone : ℕ → Branch Row → Nodes Row → S → Edited S
+  abbrev pub child_gone : ℕ → Branch PageRow → Nodes PageRow → S → Edited S
   child_gone parent x children w = record {
     state = k.forgot x w;
     moves = cond (k.is_open w parent) (change (k.id_of w parent) (removes (k.id_of w x.row.serial)) ∷ []) (told_count parent children w);
   }
 
   -- what an edit of that tree comes to
-  abbrev pub edited : TreeEdit → Branch Row → S → Edited S
+  abbrev pub edited : TreeEdit → Branch PageRow → S → Edited S
   edited (SetAttr serial name value) tree w = record { state = w; moves = told_where_known serial (sets name value) w }
   edited (DropAttr serial name) tree w = record { state = w; moves = told_where_known serial (drops name) w }
   edited (SetText serial value) tree w = record { state = w; moves = told_where_known serial (says value) w }

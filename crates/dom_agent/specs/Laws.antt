@@ -2,9 +2,9 @@
 use Rattle.std.specs.Prelude.{◌≡◌, ℕ, ◌+◌, ◌≤◌, ◌<◌, ◌^◌, true, List, map, length, ⊤}
 use Rattle.cdp_json.specs.Kinds.{is_counted}
 use Rattle.node_tree.specs.Nodes.{Nodes, none, node, alone, node_count}
-use Rattle.page_tree.specs.Pages.{Row, State, IsValid}
+use Rattle.page_tree.specs.Pages.{PageRow, PageValue, IsValid}
 use Rattle.node_binding.specs.Sessions.{Session, IsSession, view}
-use Rattle.node_binding.specs.Bindings.{Bound, Stands}
+use Rattle.node_binding.specs.Bindings.{BindingValue, Stands}
 use Rattle.cdp_messages.specs.declared.dom_ask.DomAsk.{DomAsk}
 use Rattle.cdp_messages.specs.DomAsks.{fits_ask, ask_name}
 use Rattle.cdp_messages.specs.Laws.{LabelHasUtf8, answers}
@@ -16,49 +16,49 @@ use Rattle.dom_agent.specs.Keepers.{session_keeper, binding_keeper}
 use Rattle.dom_agent.specs.Requests.{Outcome, shows_root, served, refused, outcome, state_after, moves_of}
 
 -- what a command comes to for a session with the page
-abbrev pub session_outcome : State → DomAsk → Session → Outcome Session
+abbrev pub session_outcome : PageValue → DomAsk → Session → Outcome Session
 session_outcome page c w = outcome (session_keeper (alone page.tree)) page.tree c w
 
 -- what a command comes to for a binding with the page
-abbrev pub binding_outcome : State → DomAsk → Bound → Outcome Bound
+abbrev pub binding_outcome : PageValue → DomAsk → BindingValue → Outcome BindingValue
 binding_outcome page c b = outcome (binding_keeper (alone page.tree)) page.tree c b
 
 -- a session stays one
 abbrev pub StaysSession : Type 0
-StaysSession = (page : State) (c : DomAsk) (w : Session) → IsValid page → fits_ask c ≡ true → IsSession (alone page.tree) w
+StaysSession = (page : PageValue) (c : DomAsk) (w : Session) → IsValid page → fits_ask c ≡ true → IsSession (alone page.tree) w
     → IsSession (alone page.tree) (state_after w (session_outcome page c w))
 
 -- the binding stands for the session after the step
 abbrev pub StaysBound : Type 0
-StaysBound = (page : State) (c : DomAsk) (w : Session) (b : Bound) → IsValid page → fits_ask c ≡ true → IsSession (alone page.tree) w
+StaysBound = (page : PageValue) (c : DomAsk) (w : Session) (b : BindingValue) → IsValid page → fits_ask c ≡ true → IsSession (alone page.tree) w
     → Stands (alone page.tree) w b → Stands (alone page.tree) (state_after w (session_outcome page c w)) (state_after b (binding_outcome page c b))
 
 -- and what is told are the moves of the step
 abbrev pub SameMoves : Type 0
-SameMoves = (page : State) (c : DomAsk) (w : Session) (b : Bound) (id : ℕ) → IsValid page → fits_ask c ≡ true → IsSession (alone page.tree) w
+SameMoves = (page : PageValue) (c : DomAsk) (w : Session) (b : BindingValue) (id : ℕ) → IsValid page → fits_ask c ≡ true → IsSession (alone page.tree) w
     → Stands (alone page.tree) w b → moves_of id (binding_outcome page c b) ≡ moves_of id (session_outcome page c w)
 
 -- no command draws more ids than the page has nodes
 abbrev pub DrawsFew : Type 0
-DrawsFew = (page : State) (c : DomAsk) (w : Session) → IsValid page → fits_ask c ≡ true → IsSession (alone page.tree) w
+DrawsFew = (page : PageValue) (c : DomAsk) (w : Session) → IsValid page → fits_ask c ≡ true → IsSession (alone page.tree) w
     → length (state_after w (session_outcome page c w)).pushed ≤ length w.pushed + node_count (alone page.tree)
 
 -- ---- a step is a list of moves
 
 -- the texts of all nodes are UTF-8
-abbrev pub RowsHaveUtf8 : Nodes Row → Type 0
+abbrev pub RowsHaveUtf8 : Nodes PageRow → Type 0
 RowsHaveUtf8 none = ⊤
 RowsHaveUtf8 (node r c t) = LabelHasUtf8 r.label × RowsHaveUtf8 c × RowsHaveUtf8 t
 
 -- messages can tell all of the page: its serials and the ids to come are below 2^53, and its texts are UTF-8
-pub record CanTell (page : State) (w : Session) : Type 0 where
+pub record CanTell (page : PageValue) (w : Session) : Type 0 where
   pub serials : page.next ≤ 2 ^ 53
   pub ids : length w.pushed + node_count (alone page.tree) < 2 ^ 53
   pub texts : RowsHaveUtf8 (alone page.tree)
 
 -- what the client of a session sees of a page, beside these sheets
-abbrev pub view_of : Session → State → List ShownSheet → View
-view_of w page sheets = record { tree = view w (alone page.tree); sheets = sheets }
+abbrev pub session_view : Session → PageValue → List ShownSheet → View
+session_view w page sheets = record { tree = view w (alone page.tree); sheets = sheets }
 
 -- messages can tell these sheets, and no two of them have one number
 pub record CanTellSheets (sheets : List ShownSheet) : Type 0 where
@@ -68,10 +68,10 @@ pub record CanTellSheets (sheets : List ShownSheet) : Type 0 where
 -- by the moves that answer a command the view comes to what it is after the step, and messages can tell each view in between
 abbrev pub StepsAreMoves : Type 0
 StepsAreMoves =
-    (page : State) (ask : DomAsk) (w : Session) (id : ℕ) (sheets : List ShownSheet) → IsValid page → fits_ask ask ≡ true
+    (page : PageValue) (ask : DomAsk) (w : Session) (id : ℕ) (sheets : List ShownSheet) → IsValid page → fits_ask ask ≡ true
     → IsSession (alone page.tree) w → CanTell page w → is_counted id ≡ true → CanTellSheets sheets
     → let o = session_outcome page ask w in
-    Course (moves_of id o) (view_of w page sheets) (view_of (state_after w o) page sheets)
+    Course (moves_of id o) (session_view w page sheets) (session_view (state_after w o) page sheets)
 
 -- ---- the reply
 
@@ -84,5 +84,5 @@ IsReplyTo ask (refused why) = ⊤
 -- each command is refused, or its reply is one of its method
 abbrev pub RepliesAnswer : Type 0
 RepliesAnswer =
-    (page : State) (ask : DomAsk) (w : Session) → IsValid page → fits_ask ask ≡ true → IsSession (alone page.tree) w
+    (page : PageValue) (ask : DomAsk) (w : Session) → IsValid page → fits_ask ask ≡ true → IsSession (alone page.tree) w
     → IsReplyTo ask (session_outcome page ask w)

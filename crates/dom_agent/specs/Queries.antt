@@ -3,7 +3,7 @@ use Rattle.std.specs.Prelude.{◌≡◌, ℕ, cond, List, map, Option, Some, Non
 use Rattle.std.specs.List.{find}
 use Rattle.node_tree.specs.Nodes.{Branch}
 use Rattle.node_tree.specs.Labels.{holds}
-use Rattle.page_tree.specs.Pages.{Row}
+use Rattle.page_tree.specs.Pages.{PageRow}
 use Rattle.page_tree.specs.Zippers.{serial_of, below, zipper_at}
 use Rattle.selectors.specs.Forms.{SelectorForm}
 use Rattle.selectors.specs.Lists.{list_seen}
@@ -30,7 +30,7 @@ query_with root None = Err BadQuery
 query_with root (Some selectors) = Ok (record { root = root; selectors = selectors })
 
 -- of a node, if there is one, with a text: what is asked, or the first refusal
-abbrev pub query_of : Option (Branch Row) → List ℕ → Result Query Why
+abbrev pub query_of : Option (Branch PageRow) → List ℕ → Result Query Why
 query_of None text = Err UnknownNode
 query_of (Some x) text = cond (holds x.row.label.kind) (query_with x.row.serial (selectors_of text)) (Err NotContainer)
 
@@ -41,9 +41,9 @@ IsQuery (Err (Refused why)) asked = asked ≡ Err why
 IsQuery (Err Memory) asked = Unit {0}
 
 -- the serial of the first element that matches, in document order
-abbrev pub first_matching : List SelectorForm → ℕ → Branch Row → Option ℕ
+abbrev pub first_matching : List SelectorForm → ℕ → Branch PageRow → Option ℕ
 first_matching selectors root document = option_map serial_of (find (list_matches selectors) (below (zipper_at root document)))
 
 -- the serials of all, in document order
-abbrev pub all_matching : List SelectorForm → ℕ → Branch Row → List ℕ
+abbrev pub all_matching : List SelectorForm → ℕ → Branch PageRow → List ℕ
 all_matching selectors root document = map serial_of (matching_below selectors (zipper_at root document))

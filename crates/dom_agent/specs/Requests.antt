@@ -4,7 +4,7 @@ use Rattle.node_tree.specs.Nodes.{Nodes, none, node, Branch, alone}
 use Rattle.node_tree.specs.Keys.{has, find}
 use Rattle.node_tree.specs.Labels.{holds, is_element}
 use Rattle.node_tree.specs.Seen.{Seen}
-use Rattle.page_tree.specs.Pages.{Row, row_serial}
+use Rattle.page_tree.specs.Pages.{PageRow, row_serial}
 use Rattle.node_binding.specs.Cuts.{opens, seen_of, cut}
 use Rattle.node_binding.specs.Openings.{levels_of, less, is_spent}
 use Rattle.cdp_messages.specs.declared.dom_ask.DomAsk.{DomAsk}
@@ -23,7 +23,7 @@ use Rattle.dom_agent.specs.Queries.{Query, query_of, first_matching, all_matchin
 -- a container that is opened, and by how many levels
 pub record Opening : Type 0 where
   pub levels : Option ℕ
-  pub node : Branch Row
+  pub node : Branch PageRow
 
 -- what is told of an opening: the children of the node of that id, with what is shown below them
 pub record Showing : Type 0 where
@@ -34,25 +34,25 @@ pub record Showing : Type 0 where
 
 -- By a request for the nodes n: in document order each container, at a distance k below d, that is not opened itself and is
 -- one of n or has an opened parent; by d - k levels.
-abbrev pub requested : (ℕ → Bool) → Option ℕ → Nodes Row → List Opening
+abbrev pub requested : (ℕ → Bool) → Option ℕ → Nodes PageRow → List Opening
 requested o d none = []
 requested o d (node r c t) =
     cond (holds r.label.kind && not (is_spent d)) (cond (o r.serial) (requested o (less d) c) (record { levels = d; node = record { row = r; children = c } } ∷ [])) []
     ++ requested o d t
 
 -- the proper ancestors of a node, from the top down
-abbrev pub ancestors : ℕ → Nodes Row → List (Branch Row)
-ancestors s none = []
-ancestors s (node r c t) = cond (has row_serial s c) (record { row = r; children = c } ∷ ancestors s c) (ancestors s t)
+abbrev pub ancestors_down : ℕ → Nodes PageRow → List (Branch PageRow)
+ancestors_down s none = []
+ancestors_down s (node r c t) = cond (has row_serial s c) (record { row = r; children = c } ∷ ancestors_down s c) (ancestors_down s t)
 
 -- by a push of a node: its ancestors that are not opened, from the top down, by one level each
-abbrev pub pushing : (ℕ → Bool) → ℕ → Nodes Row → List Opening
-pushing o s n = map (λ x. record { levels = Some 1; node = x }) (filter (λ (x : Branch Row). not (o x.row.serial)) (ancestors s n))
+abbrev pub pushing : (ℕ → Bool) → ℕ → Nodes PageRow → List Opening
+pushing o s n = map (λ x. record { levels = Some 1; node = x }) (filter (λ (x : Branch PageRow). not (o x.row.serial)) (ancestors_down s n))
 
 -- ---- what is told of a page
 
 -- a tree of the page, cut to what is known of it
-abbrev pub shown : (ℕ → Bool) → (ℕ → ℕ) → Branch Row → Branch Seen
+abbrev pub shown : (ℕ → Bool) → (ℕ → ℕ) → Branch PageRow → Branch Seen
 shown o i b = record { row = seen_of o i b.row b.children; children = cond (opens o b.row) (cut o i b.children) none }
 
 -- ---- what a command comes to
@@ -77,9 +77,9 @@ pub data Outcome (S : Type 0) : Type 0 where
 abbrev pub followed : {S : Type 0} → List Showing → Progress S → Progress S
 followed before later = record { state = later.state; shown = before ++ later.shown }
 
-module _ {S : Type 0} (k : Keeper S) (document : Branch Row) where
+module _ {S : Type 0} (k : Keeper S) (document : Branch PageRow) where
   -- of a container that was opened
-  abbrev pub told_of : Branch Row → S → Showing
+  abbrev pub told_of : Branch PageRow → S → Showing
   told_of x w = record { parent = k.id_of w x.row.serial; children = cut (k.is_open w) (k.id_of w) x.children }
 
   -- one after the other, each told as it is opened
@@ -108,19 +108,19 @@ module _ {S : Type 0} (k : Keeper S) (document : Branch Row) where
   with_document w = shows_root w (shown (k.is_open w) (k.id_of w) document)
 
   -- the children of the node x are asked for
-  abbrev pub of_children : Option ℤ → Option (Branch Row) → S → Outcome S
+  abbrev pub of_children : Option ℤ → Option (Branch PageRow) → S → Outcome S
   of_children depth None w = refused UnknownNode
   of_children depth (Some x) w = served (all_opened (requested (k.is_open w) (levels_of (unwrap_or depth (pos 1))) (alone x)) w) Nothing
 
   -- the known node of that id
-  abbrev pub known_node : S → Option ℕ → Option (Branch Row)
+  abbrev pub known_node : S → Option ℕ → Option (Branch PageRow)
   known_node w None = None
   known_node w (Some s) = find row_serial s (alone document)
 
   abbrev pub with_id : ℕ → Progress S → Outcome S
   with_id s p = served p (NodeId (k.id_of p.state s))
 
-  abbrev pub of_path : Option (Branch Row) → S → Outcome S
+  abbrev pub of_path : Option (Branch PageRow) → S → Outcome S
   of_path None w = refused NoPath
   of_path (Some x) w = with_id x.row.serial (pushed x.row.serial w)
 
@@ -153,17 +153,17 @@ module _ {S : Type 0} (k : Keeper S) (document : Branch Row) where
   of_query asks (Ok q) w = asks q.root q.selectors w
 
   -- the attributes of the node x are asked for
-  abbrev pub of_attributes : Option (Branch Row) → S → Outcome S
+  abbrev pub of_attributes : Option (Branch PageRow) → S → Outcome S
   of_attributes None w = refused UnknownNode
   of_attributes (Some x) w = cond (is_element x.row.label.kind) (only_replied (Attributes x.row.label.attributes) w) (refused NotElement)
 
   -- the node that an id names, or else a serial
-  abbrev pub named_node : S → Option ℕ → Option ℕ → Option (Branch Row)
+  abbrev pub named_node : S → Option ℕ → Option ℕ → Option (Branch PageRow)
   named_node w (Some id) serial = known_node w (k.serial_of w id)
   named_node w None serial = known_node w serial
 
   -- the node x is to be described
-  abbrev pub of_description : Option ℤ → Option (Branch Row) → S → Outcome S
+  abbrev pub of_description : Option ℤ → Option (Branch PageRow) → S → Outcome S
   of_description depth None w = refused UnknownNode
   of_description depth (Some x) w = only_replied (Node (described (levels_of (unwrap_or depth (pos 1))) x)) w
 

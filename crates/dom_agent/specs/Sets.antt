@@ -1,8 +1,8 @@
 -- What the commands open, as sets of nodes of the page.
 use Rattle.std.specs.Prelude.{◌≡◌, ℕ, ℤ, pos, Bool, true, not, List, ◌++◌, filter, ◌↔◌, Option, Some, unwrap_or}
 use Rattle.node_tree.specs.Nodes.{Branch, alone}
-use Rattle.page_tree.specs.Pages.{Row, State, IsValid}
-use Rattle.node_binding.specs.Counts.{is_in}
+use Rattle.page_tree.specs.Pages.{PageRow, PageValue, IsValid}
+use Rattle.node_binding.specs.Counts.{stands_in}
 use Rattle.node_binding.specs.Openings.{levels_of}
 use Rattle.node_binding.specs.Sessions.{Session, IsSession, is_open, known_by, knows, serial_at}
 use Rattle.cdp_messages.specs.declared.dom_ask.DomAsk.TheVariants.{GetDocument, RequestChildNodes, PushByPath, PushBySerials}
@@ -18,37 +18,37 @@ levels_asked depth = levels_of (unwrap_or depth (pos 1))
 
 -- after `DOM.getDocument` the containers of a level below the depth are opened, and nothing else
 abbrev pub DocumentOpens : Type 0
-DocumentOpens = (page : State) (depth : Option ℤ) (pierce : Option Bool) (w : Session) → IsValid page
+DocumentOpens = (page : PageValue) (depth : Option ℤ) (pierce : Option Bool) (w : Session) → IsValid page
     → (s : ℕ) → (is_open (state_after w (session_outcome page (GetDocument depth pierce) w)).opened s ≡ true) ↔ IsReached (levels_asked depth) page.tree s
 
 -- a request for the children of the known node x opens each container at or below it at a distance below the depth
 abbrev pub RequestOpens : Type 0
-RequestOpens = (page : State) (id : ℕ) (depth : Option ℤ) (pierce : Option Bool) (w : Session) (x : Branch Row) → IsValid page
+RequestOpens = (page : PageValue) (id : ℕ) (depth : Option ℤ) (pierce : Option Bool) (w : Session) (x : Branch PageRow) → IsValid page
     → known_node (session_keeper (alone page.tree)) page.tree w (serial_at w (alone page.tree) id) ≡ Some x
     → OpensAlso w (state_after w (session_outcome page (RequestChildNodes id depth pierce) w)) (IsReached (levels_asked depth) x)
 
 -- the nodes of the page that are known afterwards and were not before, in document order
-abbrev pub newly_known : State → Session → Session → List ℕ
+abbrev pub newly_known : PageValue → Session → Session → List ℕ
 newly_known page w z = filter (λ s. not (knows w (alone page.tree) s)) (known_by z.opened (alone page.tree))
 
 -- and the nodes that become known by it get the next ids, in document order
 abbrev pub RequestPushes : Type 0
-RequestPushes = (page : State) (id : ℕ) (depth : Option ℤ) (pierce : Option Bool) (w : Session) (x : Branch Row) → IsValid page → IsSession (alone page.tree) w
+RequestPushes = (page : PageValue) (id : ℕ) (depth : Option ℤ) (pierce : Option Bool) (w : Session) (x : Branch PageRow) → IsValid page → IsSession (alone page.tree) w
     → known_node (session_keeper (alone page.tree)) page.tree w (serial_at w (alone page.tree) id) ≡ Some x
     → (let z = state_after w (session_outcome page (RequestChildNodes id depth pierce) w) in z.pushed ≡ w.pushed ++ newly_known page w z)
 
 -- a push of the node that a path leads to opens its proper ancestors
 abbrev pub PathOpens : Type 0
-PathOpens = (page : State) (path : List ℕ) (w : Session) (x : Branch Row) → IsValid page → is_open w.opened page.tree.row.serial ≡ true → node_at_path path page.tree ≡ Some x
+PathOpens = (page : PageValue) (path : List ℕ) (w : Session) (x : Branch PageRow) → IsValid page → is_open w.opened page.tree.row.serial ≡ true → node_at_path path page.tree ≡ Some x
     → OpensAlso w (state_after w (session_outcome page (PushByPath path) w)) (IsAncestor page.tree x.row.serial)
 
 -- a push of several nodes opens the proper ancestors of each; a serial that no node has opens nothing
-pub record IsAncestorOfOne (document : Branch Row) (serials : List ℕ) (t : ℕ) : Type 0 where
+pub record IsAncestorOfOne (document : Branch PageRow) (serials : List ℕ) (t : ℕ) : Type 0 where
   pub serial : ℕ
-  pub listed : is_in serial serials ≡ true
+  pub listed : stands_in serial serials ≡ true
   pub above : IsAncestor document serial t
 
 -- once the document is opened, a push by serials opens the proper ancestors of each node that has one of them
 abbrev pub SerialsOpen : Type 0
-SerialsOpen = (page : State) (serials : List ℕ) (w : Session) → IsValid page → is_open w.opened page.tree.row.serial ≡ true
+SerialsOpen = (page : PageValue) (serials : List ℕ) (w : Session) → IsValid page → is_open w.opened page.tree.row.serial ≡ true
     → OpensAlso w (state_after w (session_outcome page (PushBySerials serials) w)) (IsAncestorOfOne page.tree serials)

@@ -3,7 +3,7 @@ use Rattle.std.specs.Prelude.{◌≡◌, ℕ, ℤ, ◌-◌, Bool, true, false, L
 use Rattle.std.specs.List.{All}
 use Rattle.node_tree.specs.Nodes.{Branch, alone}
 use Rattle.node_tree.specs.Labels.{holds}
-use Rattle.page_tree.specs.Pages.{Row, State, IsValid}
+use Rattle.page_tree.specs.Pages.{PageRow, PageValue, IsValid}
 use Rattle.node_binding.specs.Openings.{less}
 use Rattle.node_binding.specs.Sessions.{Session, IsSession, is_open, serial_at}
 use Rattle.cdp_messages.specs.declared.dom_ask.DomAsk.TheVariants.{RequestChildNodes}
@@ -20,8 +20,8 @@ levels_left k None = None
 levels_left k (Some d) = Some (d - k)
 
 -- The event tells the children of a container at or below x, at a distance k below d, that was not opened: to d - k levels.
-pub record TellsLevels (d : Option ℕ) (x : Branch Row) (w : Session) (e : Showing) : Type 0 where
-  pub container : Branch Row
+pub record TellsLevels (d : Option ℕ) (x : Branch PageRow) (w : Session) (e : Showing) : Type 0 where
+  pub container : Branch PageRow
   pub distance : ℕ
   pub stands : StandsAt container distance (alone x)
   pub near : IsWithin distance d
@@ -32,13 +32,13 @@ pub record TellsLevels (d : Option ℕ) (x : Branch Row) (w : Session) (e : Show
   pub shows : e.children ≡ shown_to ids (less (levels_left distance d)) container.children
 
 -- what an outcome tells before the reply
-abbrev pub told_by : Outcome Session → List Showing
-told_by (shows_root w b) = []
-told_by (served p body) = p.shown
-told_by (refused why) = []
+abbrev pub shown_by_outcome : Outcome Session → List Showing
+shown_by_outcome (shows_root w b) = []
+shown_by_outcome (served p body) = p.shown
+shown_by_outcome (refused why) = []
 
 -- each event of a request for the children of the known node x tells a container's children, to the levels that are left
 abbrev pub RequestTells : Type 0
-RequestTells = (page : State) (id : ℕ) (depth : Option ℤ) (pierce : Option Bool) (w : Session) (x : Branch Row) → IsValid page → IsSession (alone page.tree) w
+RequestTells = (page : PageValue) (id : ℕ) (depth : Option ℤ) (pierce : Option Bool) (w : Session) (x : Branch PageRow) → IsValid page → IsSession (alone page.tree) w
     → known_node (session_keeper (alone page.tree)) page.tree w (serial_at w (alone page.tree) id) ≡ Some x
-    → All (TellsLevels (levels_asked depth) x w) (told_by (session_outcome page (RequestChildNodes id depth pierce) w))
+    → All (TellsLevels (levels_asked depth) x w) (shown_by_outcome (session_outcome page (RequestChildNodes id depth pierce) w))

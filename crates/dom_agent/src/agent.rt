@@ -4,7 +4,7 @@ ghost use Rattle.node_tree.specs.Nodes.{alone};
 ghost use Rattle.node_tree.specs.Labels.{is_element};
 ghost use Rattle.page_tree.specs.Pages.{find_in};
 ghost use Rattle.page_tree.specs.Edits.{after, back_tree};
-ghost use Rattle.page_tree.specs.EditFaults.{first_fault, IsReady, Refuses};
+ghost use Rattle.page_tree.specs.EditFaults.{first_fault, IsReady, RefusesEdit};
 ghost use Rattle.node_binding.specs.Openings.{IsDepth, levels_of};
 ghost use Rattle.node_binding.specs.Bindings.{empty_from, cleared, opened_in, id_in};
 ghost use Rattle.cdp_messages.specs.DomAsks.{fits_ask};
@@ -40,9 +40,9 @@ pub struct DomAgent {
 }
 
 impl Model for DomAgent {
-    ghost use Rattle.node_binding.specs.Bindings.{Bound, coded_bound};
+    ghost use Rattle.node_binding.specs.Bindings.{BindingValue, coded_bound};
 
-    ghost Value = { Bound };
+    ghost Value = { BindingValue };
 
     ghost coded = { coded_bound };
 
@@ -406,7 +406,7 @@ impl DomAgent {
     ) -> Result<TreeEdit, EditErr>
         requires ready { IsReady page.old.next edit page.old.tree }
         requires room { self.old.next < 2 ^ 52 }
-        ensures fault { Refuses result (first_fault edit page.old.tree) }
+        ensures fault { RefusesEdit result (first_fault edit page.old.tree) }
         ensures page { OnOk result (page.new ≡ after edit page.old) }
         ensures back { IfOk result (λ back. back ≡ back_tree edit page.old.tree) }
         ensures agent { OnOk result (self.new ≡ (binding_edited edit page.old self.old).state) }

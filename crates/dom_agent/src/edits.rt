@@ -1,9 +1,9 @@
 ghost use Rattle.std.specs.Prelude.{◌≡◌, ◌<◌, ◌^◌, ◌++◌, [], ◌∷◌, None, IsSome, IsOkAnd, IfOk, OnOk};
 ghost use Rattle.node_tree.specs.Nodes.{Nodes, alone};
 ghost use Rattle.node_tree.specs.Labels.{is_document};
-ghost use Rattle.page_tree.specs.Pages.{Row, find_in, node_at, parent_at};
+ghost use Rattle.page_tree.specs.Pages.{PageRow, find_in, node_at, parent_at};
 ghost use Rattle.page_tree.specs.Edits.{after, after_tree, back_tree, children_at};
-ghost use Rattle.page_tree.specs.EditFaults.{first_fault, CanAttach, IsReady, Refuses};
+ghost use Rattle.page_tree.specs.EditFaults.{first_fault, CanAttach, IsReady, RefusesEdit};
 ghost use Rattle.page_tree.specs.declared.edits.TreeEdit.TheVariants.{SetAttr, DropAttr, SetText, Attach, Detach};
 ghost use Rattle.node_binding.specs.Bindings.{id_in};
 ghost use Rattle.cdp_messages.specs.Moves.{sets, drops, says, frames_of_moves};
@@ -36,7 +36,7 @@ pub(crate) fn attribute_set(
     name: &Text,
     value: &Text,
 ) -> Result<Option<Event>, AllocError>
-    ensures { (n : Nodes Row) → IfOk result (λ event. event_frames event
+    ensures { (n : Nodes PageRow) → IfOk result (λ event. event_frames event
         ≡ frames_of_moves (told_where_known (binding_keeper n) node (sets name.now value.now) binding.now)) }
 {
     let Some(node) = binding.id_of(node) else {
@@ -54,7 +54,7 @@ pub(crate) fn attribute_dropped(
     node: u64,
     name: &Text,
 ) -> Result<Option<Event>, AllocError>
-    ensures { (n : Nodes Row) → IfOk result (λ event. event_frames event
+    ensures { (n : Nodes PageRow) → IfOk result (λ event. event_frames event
         ≡ frames_of_moves (told_where_known (binding_keeper n) node (drops name.now) binding.now)) }
 {
     let Some(node) = binding.id_of(node) else {
@@ -71,7 +71,7 @@ pub(crate) fn text_set(
     node: u64,
     value: &Text,
 ) -> Result<Option<Event>, AllocError>
-    ensures { (n : Nodes Row) → IfOk result (λ event. event_frames event
+    ensures { (n : Nodes PageRow) → IfOk result (λ event. event_frames event
         ≡ frames_of_moves (told_where_known (binding_keeper n) node (says value.now) binding.now)) }
 {
     let Some(node) = binding.id_of(node) else {
@@ -91,7 +91,7 @@ pub(crate) fn apply_and_tell(
     out: &mut Vec<u8>,
 ) -> Result<TreeEdit, EditErr>
     requires { IsReady page.old.next edit page.old.tree }
-    ensures fault { Refuses result (first_fault edit page.old.tree) }
+    ensures fault { RefusesEdit result (first_fault edit page.old.tree) }
     ensures page { OnOk result (page.new ≡ after edit page.old) }
     ensures back { IfOk result (λ back. back ≡ back_tree edit page.old.tree) }
     ensures sent { OnOk result (IsOkAnd event (λ told. out.new.items ≡ out.old.items ++ event_frames told)) }
@@ -109,7 +109,7 @@ pub(crate) fn apply_and_tell(
 /// The number of the node's children, where it is known.
 fn count_of_known(binding: &Binding, page: &Page, node: u64) -> Option<Event>
     requires { IsSome (find_in node page.now.tree) }
-    ensures { (n : Nodes Row) → event_frames result
+    ensures { (n : Nodes PageRow) → event_frames result
         ≡ frames_of_moves (told_count (binding_keeper n) node (children_at node page.now.tree) binding.now) }
 {
     let Some(id) = binding.id_of(node) else {
@@ -143,7 +143,7 @@ fn tell_came(
     children: &Children,
     out: &mut Vec<u8>,
 ) -> Result<(), AllocError>
-    ensures { (n : Nodes Row) → OnOk result (out.new.items ≡ out.old.items
+    ensures { (n : Nodes PageRow) → OnOk result (out.new.items ≡ out.old.items
         ++ frames_of_moves (insertion (binding_keeper n) parent node.now children.now binding.now ∷ [])) }
 {
     let above = binding.id_of(parent).unwrap_or(0);
@@ -164,9 +164,9 @@ fn tell_child(
     requires parent { IsSome (find_in parent page.now.tree) }
     requires child { IsSome (find_in serial page.now.tree) }
     requires room { binding.old.next < 2 ^ 52 }
-    ensures known { (n : Nodes Row) → OnOk result (binding.new
+    ensures known { (n : Nodes PageRow) → OnOk result (binding.new
         ≡ (child_came (binding_keeper n) parent (node_at serial page.now.tree) (children_at parent page.now.tree) binding.old).state) }
-    ensures sent { (n : Nodes Row) → OnOk result (out.new.items ≡ out.old.items
+    ensures sent { (n : Nodes PageRow) → OnOk result (out.new.items ≡ out.old.items
         ++ frames_of_moves (child_came (binding_keeper n) parent (node_at serial page.now.tree) (children_at parent page.now.tree) binding.old).moves) }
 {
     if !binding.is_opened(parent) {
@@ -193,12 +193,12 @@ pub(crate) fn attach(
 ) -> Result<TreeEdit, EditErr>
     requires ready { CanAttach page.old.next tree page.old.tree }
     requires room { binding.old.next < 2 ^ 52 }
-    ensures fault { Refuses result (first_fault (Attach parent before tree) page.old.tree) }
+    ensures fault { RefusesEdit result (first_fault (Attach parent before tree) page.old.tree) }
     ensures page { OnOk result (page.new ≡ after (Attach parent before tree) page.old) }
     ensures back { IfOk result (λ back. back ≡ back_tree (Attach parent before tree) page.old.tree) }
-    ensures known { (n : Nodes Row) → OnOk result (binding.new
+    ensures known { (n : Nodes PageRow) → OnOk result (binding.new
         ≡ (edited (binding_keeper n) (Attach parent before tree) page.old.tree binding.old).state) }
-    ensures sent { (n : Nodes Row) → OnOk result (out.new.items ≡ out.old.items
+    ensures sent { (n : Nodes PageRow) → OnOk result (out.new.items ≡ out.old.items
         ++ frames_of_moves (edited (binding_keeper n) (Attach parent before tree) page.old.tree binding.old).moves) }
     ensures kept { OnFault result (page.new ≡ page.old) }
     ensures unknown { OnFault result (binding.new ≡ binding.old) }
@@ -232,7 +232,7 @@ fn is_document(kind: Kind) -> bool
 /// What the going of a node that is no document is to the client, told by the page that still has it.
 fn child_removed(binding: &Binding, page: &Page, serial: u64) -> Option<Event>
     requires { first_fault (Detach serial) page.now.tree ≡ None }
-    ensures { (n : Nodes Row) → event_frames result ≡ frames_of_moves (edited (binding_keeper n) (Detach serial) page.now.tree binding.now).moves }
+    ensures { (n : Nodes PageRow) → event_frames result ≡ frames_of_moves (edited (binding_keeper n) (Detach serial) page.now.tree binding.now).moves }
 {
     page.valid();
     let parent = page.parent(serial);
@@ -260,12 +260,12 @@ pub(crate) fn detach(
     serial: u64,
     out: &mut Vec<u8>,
 ) -> Result<TreeEdit, EditErr>
-    ensures fault { Refuses result (first_fault (Detach serial) page.old.tree) }
+    ensures fault { RefusesEdit result (first_fault (Detach serial) page.old.tree) }
     ensures page { OnOk result (page.new ≡ after (Detach serial) page.old) }
     ensures back { IfOk result (λ back. back ≡ back_tree (Detach serial) page.old.tree) }
-    ensures known { (n : Nodes Row) → OnOk result (binding.new
+    ensures known { (n : Nodes PageRow) → OnOk result (binding.new
         ≡ (edited (binding_keeper n) (Detach serial) page.old.tree binding.old).state) }
-    ensures sent { (n : Nodes Row) → OnOk result (out.new.items ≡ out.old.items
+    ensures sent { (n : Nodes PageRow) → OnOk result (out.new.items ≡ out.old.items
         ++ frames_of_moves (edited (binding_keeper n) (Detach serial) page.old.tree binding.old).moves) }
     ensures kept { OnFault result (page.new ≡ page.old) }
     ensures unknown { OnFault result (binding.new ≡ binding.old) }

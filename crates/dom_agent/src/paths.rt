@@ -4,7 +4,7 @@ ghost use Rattle.std.specs.List.{list_all, position};
 ghost use Rattle.std.specs.Str.{str_to_ascii_uppercase};
 ghost use Rattle.node_tree.specs.Nodes.{tree_at};
 ghost use Rattle.cdp_messages.specs.NodeObject.{node_name};
-ghost use Rattle.dom_agent.specs.Paths.{parts_of, parts_after, is_digit, leads_badly, is_index, number_in, step_of, steps_of, child_by, node_by, node_at_path};
+ghost use Rattle.dom_agent.specs.Paths.{parts_of, parts_after_comma, is_digit, leads_badly, is_index, number_in, step_of, steps_of, child_by, node_by, node_at_path};
 
 use page_tree::{Children, Kind, Node};
 
@@ -36,7 +36,7 @@ fn node_by<'a>(children: &Children<'a>, path: &[u8]) -> Option<Node<'a>>
 
 /// What stands before the first comma, and after it where there is one.
 fn first_part(text: &[u8]) -> (&[u8], Option<&[u8]>)
-    ensures parts { parts_of text.now ≡ result.0.now ∷ parts_after (option_copied result.1) }
+    ensures parts { parts_of text.now ≡ result.0.now ∷ parts_after_comma (option_copied result.1) }
     ensures shorter { IfSome result.1 (λ rest. length rest.now < length text.now) }
 {
     match comma_in(text) {

@@ -1,6 +1,6 @@
 ghost use Rattle.std.specs.Prelude.{◌≡◌, ◌+◌, ◌<◌, ◌^◌, ◌++◌, [], ◌∷◌, All, map, sum_by, OnOk};
 ghost use Rattle.node_tree.specs.Nodes.{Nodes, Branch, node_count};
-ghost use Rattle.page_tree.specs.Pages.{Row};
+ghost use Rattle.page_tree.specs.Pages.{PageRow};
 ghost use Rattle.dom_agent.specs.Keepers.{binding_keeper};
 ghost use Rattle.dom_agent.specs.Requests.{told_of, all_opened, frames_told};
 ghost use Rattle.dom_agent.specs.Openings.{opening_of, IsOfContainer};
@@ -18,7 +18,7 @@ fn tell_children(
     node: &Node,
     out: &mut Vec<u8>,
 ) -> Result<(), AllocError>
-    ensures { (n : Nodes Row) (document : Branch Row) → OnOk result (out.new.items
+    ensures { (n : Nodes PageRow) (document : Branch PageRow) → OnOk result (out.new.items
         ≡ out.old.items ++ frames_told (told_of (binding_keeper n) document node.now binding.now ∷ [])) }
 {
     let parent = binding.id_of(node.serial()).unwrap_or(0);
@@ -34,9 +34,9 @@ pub(crate) fn open_all(
 ) -> Result<(), AllocError>
     requires containers { All IsOfContainer (map opening_of openings.now) }
     requires room { binding.old.next + sum_by (λ x. node_count x.node.children) (map opening_of openings.now) < 2 ^ 63 }
-    ensures known { (n : Nodes Row) (document : Branch Row) → OnOk result (binding.new
+    ensures known { (n : Nodes PageRow) (document : Branch PageRow) → OnOk result (binding.new
         ≡ (all_opened (binding_keeper n) document (map opening_of openings.now) binding.old).state) }
-    ensures sent { (n : Nodes Row) (document : Branch Row) → OnOk result (out.new.items
+    ensures sent { (n : Nodes PageRow) (document : Branch PageRow) → OnOk result (out.new.items
         ≡ out.old.items ++ frames_told (all_opened (binding_keeper n) document (map opening_of openings.now) binding.old).shown) }
 {
     for opening in openings {

@@ -3,11 +3,11 @@ use Rattle.std.proofs.Common.{◌≡◌, ◌≢◌, ℕ, ◌<◌, ◌||◌, Bool
 use Rattle.std.specs.Prelude.{find}
 use Rattle.std.specs.List.{list_any}
 use Rattle.node_tree.specs.Nodes.{Branch}
-use Rattle.page_tree.specs.Pages.{Row, find_in, parent_at}
+use Rattle.page_tree.specs.Pages.{PageRow, find_in, parent_at}
 use Rattle.page_tree.specs.Ancestors.{ancestors_at}
 use Rattle.page_tree.proofs.AncestorLemmas.{StepUp}
 
-module _ (at parent : ℕ) (tree : Branch Row) (up : StepUp at tree) (is : parent ≡ parent_at at tree) where
+module _ (at parent : ℕ) (tree : Branch PageRow) (up : StepUp at tree) (is : parent ≡ parent_at at tree) where
   pub above_is : parent ≢ 0 → ancestors_at at tree ≡ parent ∷ ancestors_at parent tree
   above_is other = up.next (λ e. other (is ∙ e)) ∙ ap (λ k. k ∷ ancestors_at k tree) (sym is)
 

@@ -2,7 +2,7 @@
 use Rattle.std.specs.Prelude.{ℕ, Bool, true, false, cond, List, ◌∷◌, find, Option, Some, None, option_map}
 use Rattle.node_tree.specs.Nodes.{Branch}
 use Rattle.node_tree.specs.Keys.{first_of}
-use Rattle.page_tree.specs.Pages.{Row}
+use Rattle.page_tree.specs.Pages.{PageRow}
 use Rattle.page_tree.specs.Ancestors.{ancestors_at}
 use Rattle.page_tree.specs.declared.edits.TreeEdit.{TreeEdit}
 use Rattle.page_tree.specs.declared.edits.TreeEdit.TheVariants.{SetAttr, DropAttr, SetText, Attach, Detach}
@@ -32,7 +32,7 @@ subtree_pause w target insertion line =
 -- An attribute's edit pauses by an attribute watch on the node. A text's pauses by the nearest subtree watch above the node.
 -- An attach pauses by the nearest subtree watch from the parent upwards, and the parent is the target. A detach pauses by a
 -- removed watch on the node, and where there is none by the nearest subtree watch above it.
-abbrev pub pause_of : Watched → Branch Row → TreeEdit → Option Pause
+abbrev pub pause_of : Watched → Branch PageRow → TreeEdit → Option Pause
 pause_of w tree (SetAttr node name value) = own_pause Attribute w node
 pause_of w tree (DropAttr node name) = own_pause Attribute w node
 pause_of w tree (SetText node value) = subtree_pause w node false (ancestors_at node tree)

@@ -5,7 +5,7 @@ use Rattle.std.specs.Coded.{Coded, code_by, coded×, coded_ℕ}
 use Rattle.std.specs.FinSet as set
 use Rattle.node_tree.specs.Nodes.{Branch, alone}
 use Rattle.node_tree.specs.Keys.{has}
-use Rattle.page_tree.specs.Pages.{Row, row_serial, node_at}
+use Rattle.page_tree.specs.Pages.{PageRow, row_serial, node_at}
 use Rattle.dom_breakpoints.specs.declared.pauses.WatchKind.{WatchKind}
 use Rattle.dom_breakpoints.specs.declared.pauses.WatchKind.TheVariants.{Subtree, Attribute, Removed}
 
@@ -50,15 +50,15 @@ without_watch Attribute serial w = record { subtree = w.subtree; attribute = set
 without_watch Removed serial w = record { subtree = w.subtree; attribute = w.attribute; removed = set.remove w.removed serial }
 
 -- The node with the first serial is the one with the second, or below it.
-abbrev pub is_within : ℕ → ℕ → Branch Row → Bool
+abbrev pub is_within : ℕ → ℕ → Branch PageRow → Bool
 is_within serial root tree = has row_serial serial (alone (node_at root tree))
 
 -- the serials of a set but those of nodes at and below the root
-abbrev pub outside : ℕ → Branch Row → Serials → Serials
+abbrev pub outside : ℕ → Branch PageRow → Serials → Serials
 outside root tree serials = set.retain serials (λ serial. not (is_within serial root tree))
 
 -- without the watches at and below that node
-abbrev pub without_subtree : ℕ → Branch Row → Watched → Watched
+abbrev pub without_subtree : ℕ → Branch PageRow → Watched → Watched
 without_subtree root tree w = record {
   subtree = outside root tree w.subtree;
   attribute = outside root tree w.attribute;

@@ -8,7 +8,7 @@ use Rattle.node_tree.specs.Names.{is_attribute_name}
 use Rattle.node_tree.specs.Labels.{Pair, Label, is_document, is_element, has_value, is_ascending, is_formed_label, is_named_label}
 use Rattle.cdp_messages.specs.LabelChanges.{placed, pairs_without, with_attribute, without_attribute, with_value}
 use Rattle.node_tree.specs.Keys.{Spot, tally, tally_in, find, spot, put, At, here, within, past, first_true}
-use Rattle.node_tree.specs.Seen.{Seen, Hold, leaf, counted, opened, is_opened, is_counted, seen_id, seen_serial}
+use Rattle.node_tree.specs.Seen.{Seen, Hold, leaf, counted, opened, is_opened, shows_count, seen_id, seen_serial}
 use Rattle.node_tree.proofs.KeyLemmas.{tally-at, height-at, height_above-at}
 use Rattle.node_tree.proofs.ChangeLemmas.{at-old}
 use Rattle.node_tree.proofs.PairLemmas.{is_ascending-placed, names-placed, names-without, ascending-without}
@@ -122,7 +122,7 @@ pub record Owes (old new : Branch Seen) (more : Nodes Seen) : Type 0 where
   pub sound : Sound new
   pub kind : new.row.label.kind ≡ old.row.label.kind
 
-counted_empty : (h : Hold) (e : Bool) → is_counted h ≡ true → (is_opened h || e) ≡ true → e ≡ true
+counted_empty : (h : Hold) (e : Bool) → shows_count h ≡ true → (is_opened h || e) ≡ true → e ≡ true
 counted_empty leaf e c h = cc
 counted_empty (counted n) e c h = h
 counted_empty opened e c h = cc
@@ -132,7 +132,7 @@ empty_none none e = refl
 empty_none (node r c t) e = cc
 
 -- a node whose children are only counted has none
-pub counted_none : (b : Branch Seen) → is_counted b.row.hold ≡ true → (is_bare_node b.row b.children && is_bare b.children) ≡ true → b.children ≡ none
+pub counted_none : (b : Branch Seen) → shows_count b.row.hold ≡ true → (is_bare_node b.row b.children && is_bare b.children) ≡ true → b.children ≡ none
 counted_none b c e = empty_none b.children (counted_empty b.row.hold (is_no_node b.children) c (and_left (is_bare_node b.row b.children) (is_bare b.children) e))
 
 or_here : (a b : Bool) → a ≡ true → (a || b) ≡ true

@@ -8,7 +8,7 @@ use Rattle.css_objects.specs.declared.sheets.SheetOrigin.{SheetOrigin}
 use Rattle.cdp_messages.specs.Events.{sheet_added, sheet_changed, sheet_removed, fits_news}
 use Rattle.cdp_messages.specs.Views.{ShownSheet, sheet_number, AreSheets, text_units, sheet_header, shows_sheet, shown_text, sheets_without, sheets_with_text, is_in, is_distinct}
 use Rattle.front_mirror.specs.declared.sheets.KnownSheet.{KnownSheet}
-use Rattle.front_mirror.specs.Sheets.{new_sheet, stale_sheet, fresh_sheet, has_sheet, marked_old, with_fetched, without_sheet}
+use Rattle.front_mirror.specs.Sheets.{told_sheet, stale_sheet, fresh_sheet, has_sheet, marked_old, with_fetched, without_sheet}
 use Rattle.front_mirror.specs.Front.{sheets_fetched}
 use Rattle.front_mirror.specs.Laws.{KnowsSheet, KnowsSheets, IsOfSheet}
 use Rattle.front_mirror.proofs.BoolLemmas.{and_left, and_right, both, denied}
@@ -28,7 +28,7 @@ known-has n (k ∷ ks) (s ∷ ss) e =
     ap (λ (number : ℕ). number == n || has_sheet n ks) e.0.number ∙ ap (λ (b : Bool). s.number == n || b) (known-has n ks ss e.1)
 
 -- one sheet more
-pub known-added : (ks : List KnownSheet) (ss : List ShownSheet) (s : ShownSheet) → KnowsSheets ks ss → KnowsSheets (ks ++ new_sheet (sheet_header s) ∷ []) (ss ++ s ∷ [])
+pub known-added : (ks : List KnownSheet) (ss : List ShownSheet) (s : ShownSheet) → KnowsSheets ks ss → KnowsSheets (ks ++ told_sheet (sheet_header s) ∷ []) (ss ++ s ∷ [])
 known-added [] [] s e = (record { number = refl; origin = refl; text = λ fresh. absurd cc }, tt)
 known-added [] (t ∷ ss) s e = absurd e
 known-added (k ∷ ks) [] s e = absurd e

@@ -12,7 +12,7 @@ use Rattle.cdp_messages.specs.Views.{is_in}
 use Rattle.cdp_messages.specs.Moves.{has_tree}
 use Rattle.front_mirror.specs.declared.slots.Slot.{Slot}
 use Rattle.front_mirror.specs.declared.table.Table.{Table}
-use Rattle.front_mirror.specs.Tables.{slot_row, by_id, slots_in, ids_in, root_ids, HasOwnIds, IsTable, Looks, climbed}
+use Rattle.front_mirror.specs.Tables.{mirror_row, by_id, table_slots, table_ids, root_ids, HasOwnIds, IsTable, TableLooks, table_climbed}
 
 -- the ids of children are those of the trees that they keep
 pub keeps-ids : (slots : ℕ → Option Slot) (n : Nodes Seen) (above : Option ℕ) (ks : List ℕ) → HasOwnIds slots → Keeps by_id slots n above ks → ks ≡ root_ids n
@@ -48,47 +48,47 @@ pub some_there : {A : Type 0} (o : Option A) → is_some o ≡ true → (x : A) 
 some_there None e = absurd (cc)
 some_there (Some x) e = (x, refl)
 
-climbed_none : (t : Table) (levels : ℕ) → climbed t levels None ≡ 0
+climbed_none : (t : Table) (levels : ℕ) → table_climbed t levels None ≡ 0
 climbed_none t zero = refl
 climbed_none t (suc levels) = refl
 
-pub climbed_lost : (t : Table) (levels k : ℕ) → 0 < levels → slots_in t k ≡ None → 1 ≡ climbed t levels (Some k)
+pub climbed_lost : (t : Table) (levels k : ℕ) → 0 < levels → table_slots t k ≡ None → 1 ≡ table_climbed t levels (Some k)
 climbed_lost t zero k some e = absurd (omega arith)
-climbed_lost t (suc levels) k some e = sym (ap (λ (o : Option Slot). suc (climbed t levels (option_and_then (λ (s : Slot). s.parent) o))) e ∙ ap suc (climbed_none t levels))
+climbed_lost t (suc levels) k some e = sym (ap (λ (o : Option Slot). suc (table_climbed t levels (option_and_then (λ (s : Slot). s.parent) o))) e ∙ ap suc (climbed_none t levels))
 
 module _ (t : Table) (roots : List ℕ) (n : Nodes Seen) (table : IsTable t roots n) where
   -- the slot of a node that is found
   pub record Located (x : ℕ) (b : Branch Seen) : Type 0 where
     pub slot : Slot
-    pub at : slots_in t x ≡ Some slot
-    pub row_is : slot_row slot ≡ b.row
-    pub below : Keeps by_id (slots_in t) b.children (Some x) slot.children
+    pub at : table_slots t x ≡ Some slot
+    pub row_is : mirror_row slot ≡ b.row
+    pub below : Keeps by_id (table_slots t) b.children (Some x) slot.children
 
   pub located : (x : ℕ) (b : Branch Seen) → find seen_id x n ≡ Some b → Located x b
   located x b e =
-      let (a, k, (slot, at, up, is, below, after)) = keeps-find by_id (slots_in t) x n None roots b table.stands e in
+      let (a, k, (slot, at, up, is, below, after)) = keeps-find by_id (table_slots t) x n None roots b table.stands e in
       let same : k ≡ x = sym (table.own k slot at) ∙ ap (λ (q : Seen). q.id) is ∙ found_key seen_id x n b e in
       record {
         slot = slot;
-        at = ap (slots_in t) (sym same) ∙ at;
+        at = ap (table_slots t) (sym same) ∙ at;
         row_is = is;
-        below = subst (λ (j : ℕ). Keeps by_id (slots_in t) b.children (Some j) slot.children) same below;
+        below = subst (λ (j : ℕ). Keeps by_id (table_slots t) b.children (Some j) slot.children) same below;
       }
 
   pub found_there : (x : ℕ) → 0 < tally seen_id x n → (b : Branch Seen) × (find seen_id x n ≡ Some b)
   found_there x there = some_there (find seen_id x n) (sym (has-find seen_id x n) ∙ has-there seen_id x n there)
 
-  pub look_at : (x : ℕ) (b : Branch Seen) → find seen_id x n ≡ Some b → Looks (slots_in t x) (Some b)
+  pub look_at : (x : ℕ) (b : Branch Seen) → find seen_id x n ≡ Some b → TableLooks (table_slots t x) (Some b)
   look_at x b e =
       let l = located x b e in
-      subst (λ (o : Option Slot). Looks o (Some b)) (sym l.at) (b, refl, l.row_is, keeps-ids (slots_in t) b.children (Some x) l.slot.children table.own l.below)
+      subst (λ (o : Option Slot). TableLooks o (Some b)) (sym l.at) (b, refl, l.row_is, keeps-ids (table_slots t) b.children (Some x) l.slot.children table.own l.below)
 
-  pub looks : (x : ℕ) → Looks (slots_in t x) (find seen_id x n)
+  pub looks : (x : ℕ) → TableLooks (table_slots t x) (find seen_id x n)
   looks x =
-      (elim (find seen_id x n) as (λ f. find seen_id x n ≡ f → Looks (slots_in t x) f) [
+      (elim (find seen_id x n) as (λ f. find seen_id x n ≡ f → TableLooks (table_slots t x) f) [
         | Some b ↦ λ e. look_at x b e
         | None ↦ λ e.
-            (elim (slots_in t x) as (λ o. slots_in t x ≡ o → Looks o None) [
+            (elim (table_slots t x) as (λ o. table_slots t x ≡ o → TableLooks o None) [
               | None ↦ λ f. refl
               | Some slot ↦ λ f.
                   let (b, found) = found_there x (table.reached x slot f) in
@@ -98,7 +98,7 @@ module _ (t : Table) (roots : List ℕ) (n : Nodes Seen) (table : IsTable t root
 
   -- ---- by its serial
 
-  pub serial_found : ((x : ℕ) → tally seen_serial x n ≤ 1) → (s k : ℕ) → ids_in t s ≡ Some k → (b : Branch Seen) × (find seen_serial s n ≡ Some b) × (b.row.id ≡ k)
+  pub serial_found : ((x : ℕ) → tally seen_serial x n ≤ 1) → (s k : ℕ) → table_ids t s ≡ Some k → (b : Branch Seen) × (find seen_serial s n ≡ Some b) × (b.row.id ≡ k)
   serial_found once s k e =
       let (slot, at, serial_is) = table.files.found s k e in
       let (b, found) = found_there k (table.reached k slot at) in
@@ -108,17 +108,17 @@ module _ (t : Table) (roots : List ℕ) (n : Nodes Seen) (table : IsTable t root
       let stands = find-stands seen_serial b n (stands-find seen_id k n b found) (once b.row.serial) in
       (b, ap (λ (y : ℕ). find seen_serial y n) (sym is) ∙ stands, found_key seen_id k n b found)
 
-  pub serial_id : ((x : ℕ) → tally seen_id x n ≤ 1) → (s : ℕ) (b : Branch Seen) → find seen_serial s n ≡ Some b → ids_in t s ≡ Some b.row.id
+  pub serial_id : ((x : ℕ) → tally seen_id x n ≤ 1) → (s : ℕ) (b : Branch Seen) → find seen_serial s n ≡ Some b → table_ids t s ≡ Some b.row.id
   serial_id once s b e =
       let found = find-stands seen_id b n (stands-find seen_serial s n b e) (once b.row.id) in
       let l = located b.row.id b found in
       let is : l.slot.serial ≡ s = ap (λ (r : Seen). r.serial) l.row_is ∙ found_key seen_serial s n b e in
-      ap (ids_in t) (sym is) ∙ table.files.filed b.row.id l.slot l.at
+      ap (table_ids t) (sym is) ∙ table.files.filed b.row.id l.slot l.at
 
   -- the id of a serial
-  pub id_is : ((x : ℕ) → tally seen_id x n ≤ 1) → ((x : ℕ) → tally seen_serial x n ≤ 1) → (s : ℕ) → ids_in t s ≡ option_map (λ (b : Branch Seen). b.row.id) (find seen_serial s n)
+  pub id_is : ((x : ℕ) → tally seen_id x n ≤ 1) → ((x : ℕ) → tally seen_serial x n ≤ 1) → (s : ℕ) → table_ids t s ≡ option_map (λ (b : Branch Seen). b.row.id) (find seen_serial s n)
   id_is ids_once serials_once s =
-      (elim (ids_in t s) as (λ o. ids_in t s ≡ o → o ≡ option_map (λ (b : Branch Seen). b.row.id) (find seen_serial s n)) [
+      (elim (table_ids t s) as (λ o. table_ids t s ≡ o → o ≡ option_map (λ (b : Branch Seen). b.row.id) (find seen_serial s n)) [
         | Some k ↦ λ e.
             let (b, found, is) = serial_found serials_once s k e in
             ap (λ (i : ℕ). Some i) (sym is) ∙ ap (option_map (λ (b : Branch Seen). b.row.id)) (sym found)
@@ -135,13 +135,13 @@ module _ (t : Table) (roots : List ℕ) (n : Nodes Seen) (table : IsTable t root
     pub parent_is : parent_of seen_id x 0 n ≡ Some (unwrap_or slot.parent 0)
     pub level : ℕ
     pub level_is : level_of seen_id x 0 n ≡ Some level
-    pub climbs : (slot.parent ≡ None × level ≡ 0) ⊎ ((key : ℕ) × (over : Slot) × (slot.parent ≡ Some key) × (slots_in t key ≡ Some over) × (over_level : ℕ) × (level ≡ suc over_level) × (level_of seen_id key 0 n ≡ Some over_level))
+    pub climbs : (slot.parent ≡ None × level ≡ 0) ⊎ ((key : ℕ) × (over : Slot) × (slot.parent ≡ Some key) × (table_slots t key ≡ Some over) × (over_level : ℕ) × (level ≡ suc over_level) × (level_of seen_id key 0 n ≡ Some over_level))
 
-  pub up : ((y : ℕ) → tally seen_id y n ≤ 1) → (x : ℕ) (slot : Slot) → slots_in t x ≡ Some slot → Up x slot
+  pub up : ((y : ℕ) → tally seen_id y n ≤ 1) → (x : ℕ) (slot : Slot) → table_slots t x ≡ Some slot → Up x slot
   up once x slot e =
-      let u = keeps-up by_id (slots_in t) 0 0 x n None roots once (table.reached x slot e) table.stands in
+      let u = keeps-up by_id (table_slots t) 0 0 x n None roots once (table.reached x slot e) table.stands in
       let same_key : u.key ≡ x = sym (table.own u.key u.slot u.at) ∙ u.number_is in
-      let same : u.slot ≡ slot = let both : Some u.slot ≡ Some slot = sym u.at ∙ ap (slots_in t) same_key ∙ e in cc in
+      let same : u.slot ≡ slot = let both : Some u.slot ≡ Some slot = sym u.at ∙ ap (table_slots t) same_key ∙ e in cc in
       let parent_same : slot.parent ≡ u.slot.parent = ap (λ (s : Slot). s.parent) (sym same) in
       elim u.place [
         | inl top ↦ record {
@@ -160,16 +160,16 @@ module _ (t : Table) (roots : List ℕ) (n : Nodes Seen) (table : IsTable t root
             }
       ]
 
-  pub climbs : ((y : ℕ) → tally seen_id y n ≤ 1) → (levels x : ℕ) (slot : Slot) (l : ℕ) → slots_in t x ≡ Some slot → level_of seen_id x 0 n ≡ Some l → l ≤ levels → climbed t levels slot.parent ≡ l
+  pub climbs : ((y : ℕ) → tally seen_id y n ≤ 1) → (levels x : ℕ) (slot : Slot) (l : ℕ) → table_slots t x ≡ Some slot → level_of seen_id x 0 n ≡ Some l → l ≤ levels → table_climbed t levels slot.parent ≡ l
   climbs once zero x slot l e is h = omega arith
   climbs once (suc levels) x slot l e is h =
       let u = up once x slot e in
       let same : u.level ≡ l = let both : Some u.level ≡ Some l = sym u.level_is ∙ is in cc in
       elim u.climbs [
-        | inl (top, zero_is) ↦ ap (climbed t (suc levels)) top ∙ sym zero_is ∙ same
+        | inl (top, zero_is) ↦ ap (table_climbed t (suc levels)) top ∙ sym zero_is ∙ same
         | inr (key, over, above, at, over_level, level_is, over_is) ↦
-            ap (climbed t (suc levels)) above
-            ∙ ap (λ (o : Option Slot). suc (climbed t levels (option_and_then (λ (s : Slot). s.parent) o))) at
+            ap (table_climbed t (suc levels)) above
+            ∙ ap (λ (o : Option Slot). suc (table_climbed t levels (option_and_then (λ (s : Slot). s.parent) o))) at
             ∙ ap suc (climbs once levels key over over_level at over_is (omega arith))
             ∙ sym level_is
             ∙ same

@@ -19,7 +19,7 @@ use Rattle.cdp_messages.specs.Effects.{effect_of}
 use Rattle.cdp_messages.specs.Told.{Told}
 use Rattle.cdp_messages.specs.NodeData.{fits_tree, fits_nodes}
 use Rattle.cdp_messages.specs.Asked.{json_of}
-use Rattle.cdp_messages.specs.Events.{attribute_modified, attribute_removed, inserted, set_children, news_of, is_unopened, fits_news}
+use Rattle.cdp_messages.specs.Events.{attribute_modified, attribute_removed, inserted, set_children, news_of, shows_no_children, fits_news}
 use Rattle.cdp_messages.specs.Replies.{Message, reply, event, message_of, message_in, down_of, body_data, result_of, fits_body, fits_message}
 use Rattle.cdp_messages.proofs.Messages.{messages_are_spelled, results_are_read, results_are_spelled}
 use Rattle.front_mirror.specs.declared.faults.FrontKind.TheVariants.{NotMessage}
@@ -27,7 +27,7 @@ use Rattle.css_objects.specs.declared.rules.Matched.{Matched}
 use Rattle.front_mirror.specs.declared.replies.MatchedReply.{MatchedReply}
 use Rattle.front_mirror.specs.declared.edits.NodeEdit.TheVariants as edit
 use Rattle.front_mirror.specs.Edits.{fits_edit, fits_effect}
-use Rattle.front_mirror.specs.Front.{FrontValue, method_of, root_fault, matched_told, with_matched, replied, with_root, with_effect, with_body, with_reply, with_message, take_frame}
+use Rattle.front_mirror.specs.Front.{FrontValue, method_waiting, root_fault, matched_told, with_matched, replied, with_root, with_effect, with_body, with_reply, with_message, take_frame}
 use Rattle.front_mirror.proofs.BoolLemmas.{and_left, both}
 
 -- a result that is read has the forms of one, and so has what it changes
@@ -73,7 +73,7 @@ show_fits e parent nodes fits is =
 pub insert_fits : (e : Event) (parent previous : ℕ) (b : Branch Told) → fits_news (news_of e) ≡ true → e ≡ ChildNodeInserted parent previous b → fits_edit (edit.Insert previous b) ≡ true
 insert_fits e parent previous b fits is =
     let f : fits_news (inserted parent previous b) ≡ true = ap (λ (e : Event). fits_news (news_of e)) (sym is) ∙ fits in
-    both (node_alone b (and_left (fits_tree false b) (is_unopened b) (and_left (fits_tree false b && is_unopened b) _ f))) refl
+    both (node_alone b (and_left (fits_tree false b) (shows_no_children b) (and_left (fits_tree false b && shows_no_children b) _ f))) refl
 
 pub set_fits : (e : Event) (id : ℕ) (name value : List ℕ) → fits_news (news_of e) ≡ true → e ≡ AttributeModified id name value → fits_edit (edit.SetAttribute name value) ≡ true
 set_fits e id name value fits is =
@@ -122,16 +122,16 @@ untold id (body.Matched matched) other = absurd (other matched refl)
 
 -- What is read of a reply: the ask of its id waits and is of that method, which has this result.
 pub record IsRead (v : FrontValue) (id : ℕ) (d : Data) (method : List ℕ) (b : ReplyBody) : Type 0 where
-  pub waits : method_of id v.asks ≡ Some method
+  pub waits : method_waiting id v.asks ≡ Some method
   pub result : result_of method d ≡ Some b
 
 reply_read : (v : FrontValue) (id : ℕ) (frame : List ℕ) (d : Data) (method : List ℕ) (b : ReplyBody) → IsRead v id d method b
-    → with_reply v id frame d (method_of id v.asks) ≡ with_effect (with_matched v (matched_told id b)) id frame (effect_of method b)
+    → with_reply v id frame d (method_waiting id v.asks) ≡ with_effect (with_matched v (matched_told id b)) id frame (effect_of method b)
 reply_read v id frame d method b has = ap (with_reply v id frame d) has.waits ∙ ap (with_body v id frame method) has.result
 
 -- a result of matched styles is kept
 pub matched_taken : (v w : FrontValue) (id : ℕ) (frame : List ℕ) (d : Data) (method : List ℕ) (b : ReplyBody) (m : Matched) → IsRead v id d method b → b ≡ body.Matched m
-    → w ≡ replied (with_matched v (record { ask = id; matched = m } ∷ [])) id frame true v.tree → with_reply v id frame d (method_of id v.asks) ≡ Ok w
+    → w ≡ replied (with_matched v (record { ask = id; matched = m } ∷ [])) id frame true v.tree → with_reply v id frame d (method_waiting id v.asks) ≡ Ok w
 matched_taken v w id frame d method b m has is kept =
     reply_read v id frame d method b has
     ∙ ap (λ (x : ReplyBody). with_effect (with_matched v (matched_told id x)) id frame (effect_of method x)) is
@@ -139,7 +139,7 @@ matched_taken v w id frame d method b m has is kept =
 
 -- any other result has its effect alone
 pub other_taken : (v : FrontValue) (id : ℕ) (frame : List ℕ) (d : Data) (method : List ℕ) (b : ReplyBody) (x : Effect) → IsRead v id d method b
-    → ((m : Matched) → b ≡ body.Matched m → ⊥) → x ≡ effect_of method b → with_reply v id frame d (method_of id v.asks) ≡ with_effect v id frame x
+    → ((m : Matched) → b ≡ body.Matched m → ⊥) → x ≡ effect_of method b → with_reply v id frame d (method_waiting id v.asks) ≡ with_effect v id frame x
 other_taken v id frame d method b x has other is =
     reply_read v id frame d method b has
     ∙ ap (λ (rs : List MatchedReply). with_effect (with_matched v rs) id frame (effect_of method b)) (untold id b other)
@@ -148,7 +148,7 @@ other_taken v id frame d method b x has other is =
 
 -- a document that an ask waits for
 pub document_taken : (v : FrontValue) (frame : List ℕ) (id : ℕ) (tree : Branch Told) (method : List ℕ) → down_of frame ≡ Some (reply id (body_data (body.Root tree))) → fits_tree true tree ≡ true
-    → method_of id v.asks ≡ Some method → method ≡ codes "DOM.getDocument" → take_frame v frame ≡ with_root v id frame tree (root_fault tree)
+    → method_waiting id v.asks ≡ Some method → method ≡ codes "DOM.getDocument" → take_frame v frame ≡ with_root v id frame tree (root_fault tree)
 document_taken v frame id tree method told fits waits is =
     ap (with_message v frame) told ∙ ap (with_reply v id frame (body_data (body.Root tree))) (waits ∙ ap Some is)
     ∙ ap (with_body v id frame (codes "DOM.getDocument")) (results_are_read (codes "DOM.getDocument") (body.Root tree) refl fits)

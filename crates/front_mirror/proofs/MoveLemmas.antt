@@ -16,7 +16,7 @@ use Rattle.cdp_messages.specs.declared.effects.Effect.TheVariants as effect
 use Rattle.cdp_messages.specs.Effects.{effect_of}
 use Rattle.cdp_messages.specs.Told.{told_branch, seen-told}
 use Rattle.cdp_messages.specs.Events.{News, document_updated, paused, sheet_added, sheet_changed, sheet_removed, fits_news}
-use Rattle.cdp_messages.specs.Refusals.{code_of, text_of}
+use Rattle.cdp_messages.specs.Refusals.{code_of, refusal_words}
 use Rattle.cdp_messages.specs.Replies.{fault, event, down_of, body_data, fits_body, reply_text, event_text, refused_text}
 use Rattle.cdp_messages.specs.Tellable.{suits_tree}
 use Rattle.cdp_messages.specs.Laws.{BodyHasUtf8, body_height, answers}
@@ -32,9 +32,9 @@ use Rattle.front_mirror.specs.declared.replies.Ask.{Ask}
 use Rattle.front_mirror.specs.declared.faults.FrontKind.{FrontKind}
 use Rattle.front_mirror.specs.declared.faults.FrontKind.TheVariants.{UnknownNode, IdTaken, UnknownSheet}
 use Rattle.front_mirror.specs.declared.sheets.KnownSheet.{KnownSheet}
-use Rattle.front_mirror.specs.Sheets.{new_sheet, has_sheet, marked_old, without_sheet}
-use Rattle.front_mirror.specs.Front.{FrontValue, fetched_sheet, sheets_fetched, without, matched_told, with_matched, replied, refused, told, told_sheets, with_sheet, halted, is_shown, with_root, with_effect, with_body, with_reply, with_fault, with_message, take_frame, after_message, folded, outcome}
-use Rattle.front_mirror.specs.Laws.{KnowsSheets, Has, Asks, is_quiet, IsAnswered, IsOfSheet, IsTextAsked, Waits, IsAwaited, without_all, asks_after, kept_fault, kept_after, kept_after_all, pauses_after, matched_after, IsTaken, MoveGives, AreAwaited, asks_after_all, AreTaken, CourseGives, IsAnswer, InTurn, rests, tells, meets, TurnsAreAwaited}
+use Rattle.front_mirror.specs.Sheets.{told_sheet, has_sheet, marked_old, without_sheet}
+use Rattle.front_mirror.specs.Front.{FrontValue, fetched_sheet, sheets_fetched, asks_without, matched_told, with_matched, replied, refused, told, told_sheets, with_sheet, halted, is_shown, with_root, with_effect, with_body, with_reply, with_fault, with_message, take_frame, after_message, front_folded, outcome}
+use Rattle.front_mirror.specs.Laws.{KnowsSheets, Has, IsAskOf, is_quiet, IsReplyAlone, IsOfSheet, IsTextAsked, Waits, IsAwaited, without_all, asks_after, kept_fault, kept_after, kept_after_all, pauses_after, matched_after, IsTaken, MoveGives, AreAwaited, asks_after_all, AreTaken, CourseGives, IsAnswer, InTurn, rests, tells, meets, TurnsAreAwaited}
 use Rattle.front_mirror.proofs.ViewLemmas.{height-told, root_fault-told}
 use Rattle.front_mirror.proofs.FollowLemmas.{CanTellNews, changed_news, told_change_news, texts-told, shown_id}
 use Rattle.front_mirror.proofs.KnownSheets.{known-has, known-added, known-without, known-rewritten, known-fetched, apart_last, last_is_sheet, shown_is_sheet, shown_utf8, added_news_fit, changed_news_fit, removed_news_fit}
@@ -121,7 +121,7 @@ gives_pause why u v before are has =
 
 -- a reply that is written is read as one of its method
 reply_taken : (v : FrontValue) (id : ℕ) (body : ReplyBody) (method : List ℕ) → is_counted id ≡ true → fits_body body ≡ true → BodyHasUtf8 body → body_height body ≤ 61
-    → Asks id method v.asks → answers method body ≡ true
+    → IsAskOf id method v.asks → answers method body ≡ true
     → take_frame v (reply_text id body) ≡ with_effect (with_matched v (matched_told id body)) id (reply_text id body) (effect_of method body)
 reply_taken v id body method counted fits texts levels waits is =
     ap (with_message v (reply_text id body)) (replies_are_read id body counted fits (replies_are_shallow id body levels) (replies_are_utf8 id body counted fits texts))
@@ -129,7 +129,7 @@ reply_taken v id body method counted fits texts levels waits is =
     ∙ ap (with_body v id (reply_text id body) method) (results_are_read method body is fits)
 
 gives_root : (id : ℕ) (b : Branch Seen) (w : View) (v : FrontValue) → CanBeTold w → alone b ≡ w.tree → KnowsSheets v.sheets w.sheets → is_counted id ≡ true
-    → Asks id (codes "DOM.getDocument") v.asks → IsTaken (move.root id b) v w
+    → IsAskOf id (codes "DOM.getDocument") v.asks → IsTaken (move.root id b) v w
 gives_root id b w v after is knows counted waits =
     let can : IsTellable (alone b) = subst IsTellable (sym is) after.tree in
     let body = Root (told_branch 0 b) in
@@ -157,7 +157,7 @@ quiet_stays v id frame effect.AllOff e = absurd cc
 quiet_stays v id frame effect.SheetsOff e = absurd cc
 quiet_stays v id frame effect.NothingElse e = refl
 
-gives_reply : (id : ℕ) (body : ReplyBody) (w : View) (v : FrontValue) → IsPlainReply id body → IsAnswered id body v.asks → Has v w → IsTaken (move.replied id body) v w
+gives_reply : (id : ℕ) (body : ReplyBody) (w : View) (v : FrontValue) → IsPlainReply id body → IsReplyAlone id body v.asks → Has v w → IsTaken (move.replied id body) v w
 gives_reply id body w v plain is has = record {
   after = replied (with_matched v (matched_told id body)) id (reply_text id body) true v.tree;
   is_taken =
@@ -174,7 +174,7 @@ gives_reply id body w v plain is has = record {
 nothing_levels : body_height Nothing ≤ 61
 nothing_levels = omega arith
 
-gives_end : (id : ℕ) (w : View) (v : FrontValue) → none ≡ w.tree → w.sheets ≡ [] → is_counted id ≡ true → Asks id (codes "DOM.disable") v.asks → IsTaken (move.all_off id) v w
+gives_end : (id : ℕ) (w : View) (v : FrontValue) → none ≡ w.tree → w.sheets ≡ [] → is_counted id ≡ true → IsAskOf id (codes "DOM.disable") v.asks → IsTaken (move.all_off id) v w
 gives_end id w v is bare counted waits = record {
   after = record (replied (with_matched v []) id (reply_text id Nothing) true none) { sheets = [] };
   is_taken = reply_taken v id Nothing (codes "DOM.disable") counted refl tt nothing_levels waits refl;
@@ -186,7 +186,7 @@ gives_end id w v is bare counted waits = record {
   taken = refl;
 }
 
-gives_sheets_end : (id : ℕ) (w : View) (v : FrontValue) → v.tree ≡ w.tree → w.sheets ≡ [] → is_counted id ≡ true → Asks id (codes "CSS.disable") v.asks → IsTaken (move.sheets_off id) v w
+gives_sheets_end : (id : ℕ) (w : View) (v : FrontValue) → v.tree ≡ w.tree → w.sheets ≡ [] → is_counted id ≡ true → IsAskOf id (codes "CSS.disable") v.asks → IsTaken (move.sheets_off id) v w
 gives_sheets_end id w v is bare counted waits = record {
   after = record (replied (with_matched v []) id (reply_text id Nothing) true v.tree) { sheets = [] };
   is_taken = reply_taken v id Nothing (codes "CSS.disable") counted refl tt nothing_levels waits refl;
@@ -204,7 +204,7 @@ gives_refusal r w v None no_id has fits waits = record {
   after = refused v (refused_text r);
   is_taken =
       ap (with_message v (refused_text r)) (refusals_are_read r fits)
-      ∙ ap (λ (o : Option ℕ). with_message v (refused_text r) (Some (fault o (code_of r.why) (text_of r.why)))) no_id;
+      ∙ ap (λ (o : Option ℕ). with_message v (refused_text r) (Some (fault o (code_of r.why) (refusal_words r.why)))) no_id;
   has = record { tree = has.tree; sheets = has.sheets };
   asks = sym (ap (λ (o : Option ℕ). without_all (option_to_list o) v.asks) no_id);
   replies = sym (ap (λ (o : Option ℕ). v.replies ++ kept_fault o v.asks (refused_text r)) no_id);
@@ -216,7 +216,7 @@ gives_refusal r w v (Some id) has_id has fits waits = record {
   after = replied v id (refused_text r) false v.tree;
   is_taken =
       ap (with_message v (refused_text r)) (refusals_are_read r fits)
-      ∙ ap (λ (o : Option ℕ). with_message v (refused_text r) (Some (fault o (code_of r.why) (text_of r.why)))) has_id
+      ∙ ap (λ (o : Option ℕ). with_message v (refused_text r) (Some (fault o (code_of r.why) (refusal_words r.why)))) has_id
       ∙ ap (with_fault v id (refused_text r)) waits.1;
   has = record { tree = has.tree; sheets = has.sheets };
   asks = sym (ap (λ (o : Option ℕ). without_all (option_to_list o) v.asks) has_id);
@@ -240,7 +240,7 @@ gives_added s u w v after is counted has =
     let new : has_sheet s.number v.sheets ≡ false =
     known-has s.number v.sheets u.sheets has.sheets
     ∙ apart_last u.sheets s (subst (λ (ss : List ShownSheet). is_distinct (map sheet_number ss) ≡ true) sheets_are after.apart) in
-    let sheets = v.sheets ++ new_sheet (sheet_header s) ∷ [] in
+    let sheets = v.sheets ++ told_sheet (sheet_header s) ∷ [] in
     let can : CanTellNews (sheet_added (sheet_header s)) = record { fits = added_news_fit s number counted; texts = tt; levels = omega arith } in
     record {
       after = told_sheets v sheets;
@@ -354,7 +354,7 @@ more_taken : (m : Move) (ms : List Move) (u w : View) (v : FrontValue) → (one 
 more_taken m ms u w v one rest = record {
   after = rest.after;
   are_taken =
-      ap (λ (r : Result FrontValue FrontKind). outcome (after_message v (λ x. folded x (map move_text ms)) r).value (after_message v (λ x. folded x (map move_text ms)) r).fault) one.is_taken
+      ap (λ (r : Result FrontValue FrontKind). outcome (after_message v (λ x. front_folded x (map move_text ms)) r).value (after_message v (λ x. front_folded x (map move_text ms)) r).fault) one.is_taken
       ∙ rest.are_taken;
   has = rest.has;
   asks = rest.asks ∙ ap (asks_after_all ms) one.asks;
@@ -405,13 +405,13 @@ awaited_none (move.all_off id) asks e = absurd cc
 awaited_none (move.sheets_off id) asks e = absurd cc
 awaited_none (move.failed r) asks e = waits_none r.id asks e
 
-first_asks : (id : ℕ) (ask : Ask) (asks : List Ask) → ask.id ≡ id → Asks id ask.method (ask ∷ asks)
+first_asks : (id : ℕ) (ask : Ask) (asks : List Ask) → ask.id ≡ id → IsAskOf id ask.method (ask ∷ asks)
 first_asks id ask asks e = rw (eq-eqb ask.id id e) refl
 
 first_of_sheet : (id n : ℕ) (ask : Ask) (asks : List Ask) → ask.id ≡ id → IsOfSheet n ask.sheet → IsOfSheet n (fetched_sheet id (ask ∷ asks))
 first_of_sheet id n ask asks e of_sheet = rw (eq-eqb ask.id id e) of_sheet
 
-first_gone : (id : ℕ) (ask : Ask) (asks : List Ask) → ask.id ≡ id → without id (ask ∷ asks) ≡ asks
+first_gone : (id : ℕ) (ask : Ask) (asks : List Ask) → ask.id ≡ id → asks_without id (ask ∷ asks) ≡ asks
 first_gone id ask asks e = rw (eq-eqb ask.id id e) refl
 
 first_waits : (o : Option ℕ) (ask : Ask) (asks : List Ask) → o ≡ Some ask.id → Waits o (ask ∷ asks)

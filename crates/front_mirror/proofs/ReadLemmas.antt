@@ -5,7 +5,7 @@ use Rattle.std.specs.Option.{option_copied}
 use Rattle.node_tree.specs.Nodes.{Nodes, Branch, tree_at, width, height}
 use Rattle.node_tree.specs.Keys.{Spot, has, find, spot, level_of, parent_of}
 use Rattle.node_tree.specs.Labels.{is_element, has_value}
-use Rattle.node_tree.specs.Seen.{Seen, is_opened, is_counted, seen_id, seen_serial}
+use Rattle.node_tree.specs.Seen.{Seen, is_opened, shows_count, seen_id, seen_serial}
 use Rattle.node_tree.proofs.KeyLemmas.{has-find, found_key}
 use Rattle.cdp_messages.specs.Told.{count_in}
 use Rattle.cdp_messages.specs.Views.{IsMirror, most_levels, is_in}
@@ -20,7 +20,7 @@ use Rattle.front_mirror.specs.declared.table.Table.{Table}
 use Rattle.front_mirror.specs.Front.{change_fault}
 use Rattle.front_mirror.specs.Edits.{edit_told, spot_fault}
 use Rattle.front_mirror.specs.Outline.{lines_at, seen_line}
-use Rattle.front_mirror.specs.Tables.{below_hold, slots_in, ids_in, root_ids, trees_in, tree_in, IsTable, IsKept, IsFace, Looks, climbed}
+use Rattle.front_mirror.specs.Tables.{below_hold, table_slots, table_ids, root_ids, table_trees, tree_in, IsTable, KeepsMirror, IsFace, TableLooks, table_climbed}
 use Rattle.front_mirror.specs.TableEdits.{suits_slot}
 use Rattle.front_mirror.proofs.SpotLemmas.{spot_branch, find-spot, spot_level}
 use Rattle.front_mirror.proofs.TableLemmas.{on_ok}
@@ -54,57 +54,57 @@ level_low v x l h e =
           omega arith
     ]) refl
 
-module _ (t : Table) (roots : List ℕ) (v : Nodes Seen) (kept : IsKept t roots) (view : tree_in t roots ≡ v) where
+module _ (t : Table) (roots : List ℕ) (v : Nodes Seen) (kept : KeepsMirror t roots) (view : tree_in t roots ≡ v) where
   pub kept_table : IsTable t roots v
   kept_table = subst (λ (m : Nodes Seen). IsTable t roots m) view kept.table
 
   pub kept_tree : IsMirror v
   kept_tree = subst IsMirror view kept.mirror
 
-  pub slot_looks : (id : ℕ) (o : Option Slot) → o ≡ slots_in t id → Looks o (find seen_id id v)
-  slot_looks id o e = subst (λ (p : Option Slot). Looks p (find seen_id id v)) (sym e) (looks t roots v kept_table id)
+  pub slot_looks : (id : ℕ) (o : Option Slot) → o ≡ table_slots t id → TableLooks o (find seen_id id v)
+  slot_looks id o e = subst (λ (p : Option Slot). TableLooks p (find seen_id id v)) (sym e) (looks t roots v kept_table id)
 
-  pub slot_parent : (id : ℕ) (o : Option (Bor Slot)) → option_copied o ≡ slots_in t id → IfSome o (λ s. Some (unwrap_or s.now.parent 0) ≡ parent_of seen_id id 0 v)
+  pub slot_parent : (id : ℕ) (o : Option (Bor Slot)) → option_copied o ≡ table_slots t id → IfSome o (λ s. Some (unwrap_or s.now.parent 0) ≡ parent_of seen_id id 0 v)
   slot_parent id None e = search rules
   slot_parent id (Some s) e = let u = up t roots v kept_table kept_tree.view.ids id s.now (sym e) in sym u.parent_is
 
-  pub serial_is : (s : ℕ) (o : Option ℕ) → o ≡ ids_in t s → o ≡ option_map (λ (b : Branch Seen). b.row.id) (find seen_serial s v)
+  pub serial_is : (s : ℕ) (o : Option ℕ) → o ≡ table_ids t s → o ≡ option_map (λ (b : Branch Seen). b.row.id) (find seen_serial s v)
   serial_is s o e = e ∙ id_is t roots v kept_table kept_tree.view.ids kept_tree.view.serials s
 
-  pub serial_has : (s : ℕ) (o : Option ℕ) (r : Bool) → o ≡ ids_in t s → r ≡ is_some o → r ≡ has seen_serial s v
+  pub serial_has : (s : ℕ) (o : Option ℕ) (r : Bool) → o ≡ table_ids t s → r ≡ is_some o → r ≡ has seen_serial s v
   serial_has s o r e is = is ∙ ap is_some (serial_is s o e) ∙ mapped (λ (b : Branch Seen). b.row.id) (find seen_serial s v) ∙ sym (has-find seen_serial s v)
 
   -- a known node has a slot
-  pub slot_known : (id : ℕ) (o : Option Slot) → IsSome (find seen_id id v) → o ≡ slots_in t id → o ≡ None → ⊥
+  pub slot_known : (id : ℕ) (o : Option Slot) → IsSome (find seen_id id v) → o ≡ table_slots t id → o ≡ None → ⊥
   slot_known id o known e gone =
-      none_known (find seen_id id v) known (subst (λ (p : Option Slot). Looks p (find seen_id id v)) gone (slot_looks id o e))
+      none_known (find seen_id id v) known (subst (λ (p : Option Slot). TableLooks p (find seen_id id v)) gone (slot_looks id o e))
 
-  pub level_is : (id : ℕ) (slot : Slot) (r : ℕ) → slots_in t id ≡ Some slot → r ≡ climbed t most_levels slot.parent → level_of seen_id id 0 v ≡ Some r
+  pub level_is : (id : ℕ) (slot : Slot) (r : ℕ) → table_slots t id ≡ Some slot → r ≡ table_climbed t most_levels slot.parent → level_of seen_id id 0 v ≡ Some r
   level_is id slot r at is =
       let u = up t roots v kept_table kept_tree.view.ids id slot at in
       let low = level_low v id u.level kept_tree.view.levels u.level_is in
       u.level_is ∙ ap (λ (l : ℕ). Some l) (sym (is ∙ climbs t roots v kept_table kept_tree.view.ids most_levels id slot u.level at u.level_is (omega arith)))
 
-  pub level_fits : (id : ℕ) (slot : Slot) (r : ℕ) → slots_in t id ≡ Some slot → r ≡ climbed t most_levels slot.parent → r < most_levels
+  pub level_fits : (id : ℕ) (slot : Slot) (r : ℕ) → table_slots t id ≡ Some slot → r ≡ table_climbed t most_levels slot.parent → r < most_levels
   level_fits id slot r at is = level_low v id r kept_tree.view.levels (level_is id slot r at is)
 
 -- the lines of all trees
 pub lines_of : {E : Type 0} (t : Table) (roots ks : List ℕ) (v : Nodes Seen) (r : Result (Unit {0}) E) (old new : List ℕ) → ks ≡ roots → tree_in t roots ≡ v
-    → OnOk r (new ≡ old ++ lines_at seen_line 0 (trees_in t most_levels ks)) → OnOk r (new ≡ old ++ lines_at seen_line 0 v)
+    → OnOk r (new ≡ old ++ lines_at seen_line 0 (table_trees t most_levels ks)) → OnOk r (new ≡ old ++ lines_at seen_line 0 v)
 unfolding tree_in
 lines_of t roots ks v r old new same view written =
-    on_ok r _ _ (λ e. e ∙ ap (λ (l : List ℕ). old ++ lines_at seen_line 0 (trees_in t most_levels l)) same ∙ ap (λ (n : Nodes Seen). old ++ lines_at seen_line 0 n) view) written
+    on_ok r _ _ (λ e. e ∙ ap (λ (l : List ℕ). old ++ lines_at seen_line 0 (table_trees t most_levels l)) same ∙ ap (λ (n : Nodes Seen). old ++ lines_at seen_line 0 n) view) written
 
 -- ---- a slot and its node
 
 pub suits_face : (c : Change) (s : Slot) (b : Branch Seen) → IsFace s b → suits_slot c s ≡ suits_change c b
-suits_face (shows kids) s b face = ap (λ (r : Seen). is_counted r.hold) face.row
+suits_face (shows kids) s b face = ap (λ (r : Seen). shows_count r.hold) face.row
 suits_face (inserts previous w) s b face =
     ap (λ (r : Seen). is_opened r.hold && (previous == 0 || is_in previous s.children) && not (is_opened w.row.hold)) face.row
     ∙ ap (λ (x : Bool). is_opened b.row.hold && (previous == 0 || x) && not (is_opened w.row.hold)) (ap (is_in previous) face.children ∙ ids-has previous b.children)
 suits_face (removes id) s b face =
     ap (λ (r : Seen). is_opened r.hold && is_in id s.children) face.row ∙ ap (λ (x : Bool). is_opened b.row.hold && x) (ap (is_in id) face.children ∙ ids-has id b.children)
-suits_face (counts n) s b face = ap (λ (r : Seen). is_counted r.hold) face.row
+suits_face (counts n) s b face = ap (λ (r : Seen). shows_count r.hold) face.row
 suits_face (sets name value) s b face = ap (λ (r : Seen). is_element r.label.kind) face.row
 suits_face (drops name) s b face = ap (λ (r : Seen). is_element r.label.kind) face.row
 suits_face (says value) s b face = ap (λ (r : Seen). has_value r.label.kind) face.row
@@ -137,10 +137,10 @@ spot_none (Some s) e = absurd (cc)
 pub fault_nowhere : (v : Nodes Seen) (e : NodeEdit) (id : ℕ) → find seen_id id v ≡ None → Some UnknownNode ≡ spot_fault v (edit_told id e) (spot seen_id id 0 v)
 fault_nowhere v e id gone = sym (ap (spot_fault v (edit_told id e)) (spot_none (spot seen_id id 0 v) (sym (find-spot seen_id id 0 v) ∙ gone)))
 
-pub found_known : (slot : Slot) (o : Option (Branch Seen)) → Looks (Some slot) o → IsSome o
+pub found_known : (slot : Slot) (o : Option (Branch Seen)) → TableLooks (Some slot) o → IsSome o
 found_known slot o (b, found, row, children) = some_known o b found
 
-pub fault_found : {E : Type 0} (v : Nodes Seen) (e : NodeEdit) (id l : ℕ) (slot : Slot) (r : Result (Option FrontKind) E) → Looks (Some slot) (find seen_id id v) → level_of seen_id id 0 v ≡ Some l
+pub fault_found : {E : Type 0} (v : Nodes Seen) (e : NodeEdit) (id l : ℕ) (slot : Slot) (r : Result (Option FrontKind) E) → TableLooks (Some slot) (find seen_id id v) → level_of seen_id id 0 v ≡ Some l
     → ((b : Branch Seen) → IsFace slot b → IfOk r (λ wrong. wrong ≡ change_fault v (edit_told slot.id e) (record { branch = b; level = l })))
     → IfOk r (λ wrong. wrong ≡ spot_fault v (edit_told id e) (spot seen_id id 0 v))
 fault_found v e id l slot r (b, found, row, children) level faults =

@@ -13,7 +13,7 @@ use Rattle.std.specs.BTreeMap as map
 use Rattle.cdp_messages.specs.Views.{keys}
 use Rattle.front_mirror.specs.declared.table.Table.{Table}
 use Rattle.front_mirror.specs.declared.slots.Slot.{Slot}
-use Rattle.front_mirror.specs.Tables.{hold_below, below_hold, slot_row, by_id, by_serial, with_entry, Puts, root_ids, new_slot, planted, listed, without_slots, slots_in, ids_in, IsListed, HasOwnIds}
+use Rattle.front_mirror.specs.Tables.{hold_below, below_hold, mirror_row, by_id, by_serial, with_entry, PutsAt, root_ids, new_slot, planted, serials_listed, without_slots, table_slots, table_ids, IsListed, HasOwnIds}
 
 -- ---- one entry
 
@@ -24,7 +24,7 @@ module _ {X : Type 0} (k : ℕ) (w : Option X) (old : ℕ → Option X) where
   pub entry_other : (j : ℕ) → j ≢ k → with_entry k w old j ≡ old j
   entry_other j other = rw (ne_eqb j k other) refl
 
-  pub puts_is : (new : ℕ → Option X) → Puts old new k w → new ≡ with_entry k w old
+  pub puts_is : (new : ℕ → Option X) → PutsAt old new k w → new ≡ with_entry k w old
   puts_is new puts = λ i j. pointwise j i
     where
       pointwise : (j : ℕ) → new j ≡ with_entry k w old j
@@ -38,7 +38,7 @@ hold_back leaf = refl
 hold_back (counted n) = refl
 hold_back opened = refl
 
-row_back : (above : Option ℕ) (r : Seen) (children : List ℕ) → slot_row (new_slot above r children) ≡ r
+row_back : (above : Option ℕ) (r : Seen) (children : List ℕ) → mirror_row (new_slot above r children) ≡ r
 row_back above r children = ap (λ (h : Hold). record { id = r.id; serial = r.serial; label = r.label; hold = h }) (hold_back r.hold)
 
 entry-own : (k : ℕ) (s : Slot) (slots : ℕ → Option Slot) → s.id ≡ k → HasOwnIds slots → HasOwnIds (with_entry k (Some s) slots)
@@ -69,14 +69,14 @@ planted-outside above (node r c t) slots k h =
           ∙ entry_other r.id (Some (new_slot above r (root_ids c))) slots k (λ e. p.0 (sym e))
     ]
 
-pub listed-outside : (n : Nodes Seen) (ids : ℕ → Option ℕ) (x : ℕ) → tally seen_serial x n ≡ 0 → listed n ids x ≡ ids x
+pub listed-outside : (n : Nodes Seen) (ids : ℕ → Option ℕ) (x : ℕ) → tally seen_serial x n ≡ 0 → serials_listed n ids x ≡ ids x
 listed-outside none ids x h = refl
 listed-outside (node r c t) ids x h =
     elim (tally_cases seen_serial x r c t) [
       | inl p ↦ absurd (omega (arith, p.1))
       | inr p ↦
           let e = p.1 in
-          listed-outside t (listed c (with_entry r.serial (Some r.id) ids)) x (omega arith)
+          listed-outside t (serials_listed c (with_entry r.serial (Some r.id) ids)) x (omega arith)
           ∙ listed-outside c (with_entry r.serial (Some r.id) ids) x (omega arith)
           ∙ entry_other r.serial (Some r.id) ids x (λ e. p.0 (sym e))
     ]
@@ -150,7 +150,7 @@ module _ (above : Option ℕ) (r : Seen) (c t : Nodes Seen) (slots : ℕ → Opt
         ∙ new.no_id x (let w = tally_below seen_serial x r c t in omega arith);
   }
 
-  new_beside : AreNew (planted (Some r.id) c (with_first above r c slots)) (listed c (with_entry r.serial (Some r.id) ids)) t
+  new_beside : AreNew (planted (Some r.id) c (with_first above r c slots)) (serials_listed c (with_entry r.serial (Some r.id) ids)) t
   new_beside = record {
     ids_once = λ x. let w = tally_below seen_id x r c t in let o = new.ids_once x in omega arith;
     serials_once = λ x. let w = tally_below seen_serial x r c t in let o = new.serials_once x in omega arith;
@@ -176,16 +176,16 @@ module _ (above : Option ℕ) (r : Seen) (c t : Nodes Seen) (slots : ℕ → Opt
       files-add by_serial slots (with_first above r c slots) ids (with_entry r.serial (Some r.id) ids) r.id (new_slot above r (root_ids c)) files first_comes
       (new.no_id r.serial (tally_row seen_serial r.serial r c t refl)) (entry_at r.serial (Some r.id) ids) (λ y other. entry_other r.serial (Some r.id) ids y other)
 
-pub planted-files : (above : Option ℕ) (n : Nodes Seen) (slots : ℕ → Option Slot) (ids : ℕ → Option ℕ) → IsFiled by_serial slots ids → AreNew slots ids n → IsFiled by_serial (planted above n slots) (listed n ids)
+pub planted-files : (above : Option ℕ) (n : Nodes Seen) (slots : ℕ → Option Slot) (ids : ℕ → Option ℕ) → IsFiled by_serial slots ids → AreNew slots ids n → IsFiled by_serial (planted above n slots) (serials_listed n ids)
 planted-files above none slots ids files new = files
 planted-files above (node r c t) slots ids files new =
-    planted-files above t (planted (Some r.id) c (with_first above r c slots)) (listed c (with_entry r.serial (Some r.id) ids))
+    planted-files above t (planted (Some r.id) c (with_first above r c slots)) (serials_listed c (with_entry r.serial (Some r.id) ids))
     (planted-files (Some r.id) c (with_first above r c slots) (with_entry r.serial (Some r.id) ids) (first_files above r c t slots ids new files) (new_below above r c t slots ids new))
     (new_beside above r c t slots ids new)
 
 -- ---- a node comes in, and then what is below it
 
-pub plant_slots : (above : Option ℕ) (r : Seen) (c d : Nodes Seen) (old mid new : ℕ → Option Slot) (slot : Slot) (id : ℕ) → slot ≡ new_slot above r (root_ids c) → Puts old mid slot.id (Some slot) → id ≡ r.id → d ≡ c
+pub plant_slots : (above : Option ℕ) (r : Seen) (c d : Nodes Seen) (old mid new : ℕ → Option Slot) (slot : Slot) (id : ℕ) → slot ≡ new_slot above r (root_ids c) → PutsAt old mid slot.id (Some slot) → id ≡ r.id → d ≡ c
     → new ≡ planted (Some id) d mid → new ≡ planted above (node r c none) old
 plant_slots above r c d old mid new slot id is puts id_is same e =
     e
@@ -200,15 +200,15 @@ on_ok (Err e) P Q f p = p
 -- ---- nodes that go
 
 -- a slot goes, and its serial
-pub remove_files : (a b d : Table) (id : ℕ) (slot : Slot) → IsListed a → slots_in a id ≡ Some slot → Puts (slots_in a) (slots_in b) id None → b.ids ≡ a.ids → d.slots ≡ b.slots
-    → Puts (ids_in b) (ids_in d) slot.serial None → IsListed d
+pub remove_files : (a b d : Table) (id : ℕ) (slot : Slot) → IsListed a → table_slots a id ≡ Some slot → PutsAt (table_slots a) (table_slots b) id None → b.ids ≡ a.ids → d.slots ≡ b.slots
+    → PutsAt (table_ids b) (table_ids d) slot.serial None → IsListed d
 remove_files a b d id slot files at gone ids_are slots_are gone_id =
-    let slots_same : (j : ℕ) → slots_in d j ≡ slots_in b j = λ j. ap (λ m. slots_in (record d { slots = m }) j) slots_are in
-    let ids_same : (y : ℕ) → ids_in b y ≡ ids_in a y = λ y. ap (λ m. map.get nat_cmp m y) ids_are in
-    files-remove by_serial (slots_in a) (slots_in d) (ids_in a) (ids_in d) slot.serial id files (files.filed id slot at) (slots_same id ∙ gone.at)
+    let slots_same : (j : ℕ) → table_slots d j ≡ table_slots b j = λ j. ap (λ m. table_slots (record d { slots = m }) j) slots_are in
+    let ids_same : (y : ℕ) → table_ids b y ≡ table_ids a y = λ y. ap (λ m. map.get nat_cmp m y) ids_are in
+    files-remove by_serial (table_slots a) (table_slots d) (table_ids a) (table_ids d) slot.serial id files (files.filed id slot at) (slots_same id ∙ gone.at)
     (λ j other. slots_same j ∙ gone.others j other) gone_id.at (λ y other. gone_id.others y other ∙ ids_same y)
 
-pub without_turn : (ids : List ℕ) (i : ℕ) (now new first : ℕ → Option Slot) → i < length ids → Puts now new (get_or ids i 0) None → without_slots (drop i ids) now ≡ first → without_slots (drop (i + 1) ids) new ≡ first
+pub without_turn : (ids : List ℕ) (i : ℕ) (now new first : ℕ → Option Slot) → i < length ids → PutsAt now new (get_or ids i 0) None → without_slots (drop i ids) now ≡ first → without_slots (drop (i + 1) ids) new ≡ first
 without_turn ids i now new first within puts e =
     ap (λ (s : ℕ → Option Slot). without_slots (drop (i + 1) ids) s) (puts_is (get_or ids i 0) None now new puts)
     ∙ sym (ap (λ (l : List ℕ). without_slots l now) (drop_more ids i 0 within))

@@ -15,7 +15,7 @@ use Rattle.cdp_messages.specs.Moves.{put_behind, put_after, without_tree, has_tr
 use Rattle.front_mirror.specs.declared.slots.Slot.{Slot}
 use Rattle.front_mirror.specs.declared.table.Table.{Table}
 use Rattle.front_mirror.specs.IdLists.{id_behind, id_after, without_id}
-use Rattle.front_mirror.specs.Tables.{slot_row, by_id, by_serial, slots_in, ids_in, IsListed, root_ids, planted, listed, without_slots, Puts, Turned, HasOwnIds, tree_in, IsTable}
+use Rattle.front_mirror.specs.Tables.{mirror_row, by_id, by_serial, table_slots, table_ids, IsListed, root_ids, planted, serials_listed, without_slots, PutsAt, TableTurned, HasOwnIds, tree_in, IsTable}
 use Rattle.front_mirror.proofs.InsertedLemmas.{Inserted, first, later, tally-inserted}
 use Rattle.front_mirror.proofs.TableLemmas.{planted-outside, planted-own, planted-only, planted-keeps, planted-files, AreNew, gone-outside, gone-inside}
 use Rattle.front_mirror.proofs.LookLemmas.{Located, located, some_there}
@@ -23,20 +23,20 @@ use Rattle.front_mirror.proofs.LookLemmas.{Located, located, some_there}
 -- what a table keeps is read from it
 pub tree_is : (t : Table) (roots : List ℕ) (n : Nodes Seen) → IsTable t roots n → height n ≤ most_levels → tree_in t roots ≡ n
 unfolding tree_in
-tree_is t roots n table low = kept_trees-keeps by_id (slots_in t) most_levels n None roots table.stands low
+tree_is t roots n table low = kept_trees-keeps by_id (table_slots t) most_levels n None roots table.stands low
 
 -- a slot that keeps its serial leaves the serials as they are
-pub listed_turned : (a m : Table) (x : ℕ) (f : Slot → Slot) → IsListed a → IsSome (slots_in a x) → ((s : Slot) → (f s).serial ≡ s.serial) → Turned a m x f → m.ids ≡ a.ids → IsListed m
+pub listed_turned : (a m : Table) (x : ℕ) (f : Slot → Slot) → IsListed a → IsSome (table_slots a x) → ((s : Slot) → (f s).serial ≡ s.serial) → TableTurned a m x f → m.ids ≡ a.ids → IsListed m
 listed_turned a m x f files there serials turned same =
-    let (slot, at) = some_there (slots_in a x) there in
+    let (slot, at) = some_there (table_slots a x) there in
     let puts = turned slot at in
-    subst (λ d. IsFiled by_serial (slots_in m) (map.get nat_cmp d)) (sym same)
-    (files-turn by_serial (slots_in a) (slots_in m) (ids_in a) (ids_in a) x slot (f slot) files (record { before = at; at = puts.at; others = puts.others }) (serials slot))
+    subst (λ d. IsFiled by_serial (table_slots m) (map.get nat_cmp d)) (sym same)
+    (files-turn by_serial (table_slots a) (table_slots m) (table_ids a) (table_ids a) x slot (f slot) files (record { before = at; at = puts.at; others = puts.others }) (serials slot))
 
 -- ---- slots of children, one more or one less
 
 module _ (slots : ℕ → Option Slot) (own : HasOwnIds slots) (above : Option ℕ) where
-  key_is : (k : ℕ) (slot : Slot) (r : Seen) → slots k ≡ Some slot → slot_row slot ≡ r → k ≡ r.id
+  key_is : (k : ℕ) (slot : Slot) (r : Seen) → slots k ≡ Some slot → mirror_row slot ≡ r → k ≡ r.id
   key_is k slot r at is = sym (own k slot at) ∙ ap (λ (q : Seen). q.id) is
 
   behind_step : (v u : Bool) (w : Branch Seen) (r : Seen) (c t rest : Nodes Seen) (k x : ℕ) (ks more : List ℕ) → u ≡ v → KeepsOne by_id slots w above x → Keeps by_id slots (node r c t) above (k ∷ ks) → Keeps by_id slots rest above more
@@ -137,20 +137,20 @@ module _ (a : Table) (roots : List ℕ) (n : Nodes Seen) (table : IsTable a root
   pub below_slot : (k : ℕ) → 0 < tally seen_id k old.children → k ≢ x
   below_slot k there same = let z = subst (λ (y : ℕ). 0 < tally seen_id y old.children) same there in let o = own_below in omega arith
 
-  module _ (b : Table) (new : Branch Seen) (files : IsListed b) (own : HasOwnIds (slots_in b)) (keeps : KeepsOne by_id (slots_in b) new here.slot.parent x)
-      (same : (k : ℕ) (s : Slot) → slots_in a k ≡ Some s → tally seen_id k (alone old) ≡ 0 → slots_in b k ≡ Some s)
-      (reached : (k : ℕ) (s : Slot) → slots_in b k ≡ Some s → 0 < tally seen_id k (put seen_id x new n)) where
-    changed_keeps : (o : Option ℕ) (k : ℕ) → KeepsOne by_id (slots_in a) old o k → KeepsOne by_id (slots_in b) new o k
+  module _ (b : Table) (new : Branch Seen) (files : IsListed b) (own : HasOwnIds (table_slots b)) (keeps : KeepsOne by_id (table_slots b) new here.slot.parent x)
+      (same : (k : ℕ) (s : Slot) → table_slots a k ≡ Some s → tally seen_id k (alone old) ≡ 0 → table_slots b k ≡ Some s)
+      (reached : (k : ℕ) (s : Slot) → table_slots b k ≡ Some s → 0 < tally seen_id k (put seen_id x new n)) where
+    changed_keeps : (o : Option ℕ) (k : ℕ) → KeepsOne by_id (table_slots a) old o k → KeepsOne by_id (table_slots b) new o k
     changed_keeps o k (s, at, up, row_is, below, after) =
         let same_key : k ≡ x = sym (table.own k s at) ∙ ap (λ (r : Seen). r.id) row_is ∙ old_id in
-        let same_slot : s ≡ here.slot = let both : Some s ≡ Some here.slot = sym at ∙ ap (slots_in a) same_key ∙ here.at in cc in
+        let same_slot : s ≡ here.slot = let both : Some s ≡ Some here.slot = sym at ∙ ap (table_slots a) same_key ∙ here.at in cc in
         let same_parent : here.slot.parent ≡ o = ap (λ (z : Slot). z.parent) (sym same_slot) ∙ up in
-        subst (λ (p : Option ℕ). KeepsOne by_id (slots_in b) new p k) same_parent (subst (λ (j : ℕ). KeepsOne by_id (slots_in b) new here.slot.parent j) (sym same_key) keeps)
+        subst (λ (p : Option ℕ). KeepsOne by_id (table_slots b) new p k) same_parent (subst (λ (j : ℕ). KeepsOne by_id (table_slots b) new here.slot.parent j) (sym same_key) keeps)
 
     pub changed_table : IsTable b roots (put seen_id x new n)
     changed_table = record {
       stands =
-          keeps-at by_id (slots_in a) (slots_in b) None roots (at-put seen_id x new n old found).1 once changed_keeps
+          keeps-at by_id (table_slots a) (table_slots b) None roots (at-put seen_id x new n old found).1 once changed_keeps
           (λ k s e there absent. same k s e (subst (λ (y : ℕ). tally seen_id y (alone old) ≡ 0) (table.own k s e) absent)) table.stands;
       own = own;
       files = files;
@@ -159,23 +159,23 @@ module _ (a : Table) (roots : List ℕ) (n : Nodes Seen) (table : IsTable a root
 
   -- ---- its slot alone
 
-  module _ (m : Table) (slot2 : Slot) (puts : Puts (slots_in a) (slots_in m) x (Some slot2)) (ids_are : m.ids ≡ a.ids) (same_id : slot2.id ≡ here.slot.id) (same_serial : slot2.serial ≡ here.slot.serial) where
-    pub turned_own : HasOwnIds (slots_in m)
+  module _ (m : Table) (slot2 : Slot) (puts : PutsAt (table_slots a) (table_slots m) x (Some slot2)) (ids_are : m.ids ≡ a.ids) (same_id : slot2.id ≡ here.slot.id) (same_serial : slot2.serial ≡ here.slot.serial) where
+    pub turned_own : HasOwnIds (table_slots m)
     turned_own k s e =
         elim (cases_eq k x) [
           | inl same ↦
-              let one : slot2 ≡ s = let both : Some slot2 ≡ Some s = sym puts.at ∙ ap (slots_in m) (sym same) ∙ e in cc in
+              let one : slot2 ≡ s = let both : Some slot2 ≡ Some s = sym puts.at ∙ ap (table_slots m) (sym same) ∙ e in cc in
               ap (λ (z : Slot). z.id) (sym one) ∙ same_id ∙ own_id ∙ sym same
           | inr other ↦ table.own k s (sym (puts.others k other) ∙ e)
         ]
 
     pub turned_files : IsListed m
     turned_files =
-        subst (λ d. IsFiled by_serial (slots_in m) (map.get nat_cmp d)) (sym ids_are)
-        (files-turn by_serial (slots_in a) (slots_in m) (ids_in a) (ids_in a) x here.slot slot2 table.files (record { before = here.at; at = puts.at; others = puts.others }) same_serial)
+        subst (λ d. IsFiled by_serial (table_slots m) (map.get nat_cmp d)) (sym ids_are)
+        (files-turn by_serial (table_slots a) (table_slots m) (table_ids a) (table_ids a) x here.slot slot2 table.files (record { before = here.at; at = puts.at; others = puts.others }) same_serial)
 
     -- each slot is of a node that there was
-    pub turned_there : (k : ℕ) (s : Slot) → slots_in m k ≡ Some s → 0 < tally seen_id k n
+    pub turned_there : (k : ℕ) (s : Slot) → table_slots m k ≡ Some s → 0 < tally seen_id k n
     turned_there k s e =
         elim (cases_eq k x) [
           | inl same ↦ subst (λ (y : ℕ). 0 < tally seen_id y n) (sym same) (table.reached x here.slot here.at)
@@ -183,21 +183,21 @@ module _ (a : Table) (roots : List ℕ) (n : Nodes Seen) (table : IsTable a root
         ]
 
     -- what is below the node stays
-    pub turned_below : Keeps by_id (slots_in m) old.children (Some x) here.slot.children
+    pub turned_below : Keeps by_id (table_slots m) old.children (Some x) here.slot.children
     turned_below =
-        keeps-same by_id (slots_in a) (slots_in m) old.children (Some x) here.slot.children
+        keeps-same by_id (table_slots a) (table_slots m) old.children (Some x) here.slot.children
         (λ k s e there. puts.others k (below_slot k (subst (λ (y : ℕ). 0 < tally seen_id y old.children) (table.own k s e) there)) ∙ e) here.below
 
   -- a node with another row, and the children that it has
-  module _ (b : Table) (slot2 : Slot) (puts : Puts (slots_in a) (slots_in b) x (Some slot2)) (ids_are : b.ids ≡ a.ids) (same_id : slot2.id ≡ here.slot.id) (same_serial : slot2.serial ≡ here.slot.serial)
+  module _ (b : Table) (slot2 : Slot) (puts : PutsAt (table_slots a) (table_slots b) x (Some slot2)) (ids_are : b.ids ≡ a.ids) (same_id : slot2.id ≡ here.slot.id) (same_serial : slot2.serial ≡ here.slot.serial)
       (same_parent : slot2.parent ≡ here.slot.parent) (same_children : slot2.children ≡ here.slot.children) where
     abbrev row_new : Branch Seen
-    row_new = record { row = slot_row slot2; children = old.children }
+    row_new = record { row = mirror_row slot2; children = old.children }
 
     pub table_relabelled : IsTable b roots (put seen_id x row_new n)
     table_relabelled =
         changed_table b row_new (turned_files b slot2 puts ids_are same_id same_serial) (turned_own b slot2 puts ids_are same_id same_serial)
-        (slot2, puts.at, same_parent, refl, subst (λ (ks : List ℕ). Keeps by_id (slots_in b) old.children (Some x) ks) (sym same_children) (turned_below b slot2 puts ids_are same_id same_serial), tt)
+        (slot2, puts.at, same_parent, refl, subst (λ (ks : List ℕ). Keeps by_id (table_slots b) old.children (Some x) ks) (sym same_children) (turned_below b slot2 puts ids_are same_id same_serial), tt)
         (λ k s e absent. puts.others k (other_slot k absent) ∙ e)
         (λ k s e.
         let there = turned_there b slot2 puts ids_are same_id same_serial k s e in
@@ -209,39 +209,39 @@ module _ (a : Table) (roots : List ℕ) (n : Nodes Seen) (table : IsTable a root
   -- ---- trees more below it
 
   -- Its slot was told of the ids first; then these trees came in.
-  module _ (m b : Table) (slot2 : Slot) (puts : Puts (slots_in a) (slots_in m) x (Some slot2)) (ids_are : m.ids ≡ a.ids) (same_id : slot2.id ≡ here.slot.id) (same_serial : slot2.serial ≡ here.slot.serial)
-      (same_parent : slot2.parent ≡ here.slot.parent) (kids : Nodes Seen) (slots_are : slots_in b ≡ planted (Some x) kids (slots_in m)) (listing : ids_in b ≡ listed kids (ids_in m))
-      (fresh : AreNew (slots_in m) (ids_in m) kids) (apart : (y : ℕ) → tally seen_id y n + tally seen_id y kids ≤ 1) (new : Branch Seen) (row_is : slot_row slot2 ≡ new.row)
-      (below : HasOwnIds (slots_in b) → Keeps by_id (slots_in b) old.children (Some x) here.slot.children → Keeps by_id (slots_in b) kids (Some x) (root_ids kids) → Keeps by_id (slots_in b) new.children (Some x) slot2.children)
+  module _ (m b : Table) (slot2 : Slot) (puts : PutsAt (table_slots a) (table_slots m) x (Some slot2)) (ids_are : m.ids ≡ a.ids) (same_id : slot2.id ≡ here.slot.id) (same_serial : slot2.serial ≡ here.slot.serial)
+      (same_parent : slot2.parent ≡ here.slot.parent) (kids : Nodes Seen) (slots_are : table_slots b ≡ planted (Some x) kids (table_slots m)) (listing : table_ids b ≡ serials_listed kids (table_ids m))
+      (fresh : AreNew (table_slots m) (table_ids m) kids) (apart : (y : ℕ) → tally seen_id y n + tally seen_id y kids ≤ 1) (new : Branch Seen) (row_is : mirror_row slot2 ≡ new.row)
+      (below : HasOwnIds (table_slots b) → Keeps by_id (table_slots b) old.children (Some x) here.slot.children → Keeps by_id (table_slots b) kids (Some x) (root_ids kids) → Keeps by_id (table_slots b) new.children (Some x) slot2.children)
       (more : (y : ℕ) → tally_in seen_id y new ≡ tally_in seen_id y old + tally seen_id y kids) where
-    stays : (k : ℕ) → 0 < tally seen_id k n → slots_in b k ≡ slots_in m k
-    stays k there = ap (λ (s : ℕ → Option Slot). s k) slots_are ∙ planted-outside (Some x) kids (slots_in m) k (let h = apart k in omega arith)
+    stays : (k : ℕ) → 0 < tally seen_id k n → table_slots b k ≡ table_slots m k
+    stays k there = ap (λ (s : ℕ → Option Slot). s k) slots_are ∙ planted-outside (Some x) kids (table_slots m) k (let h = apart k in omega arith)
 
     there_x : 0 < tally seen_id x n
     there_x = table.reached x here.slot here.at
 
-    m_own : HasOwnIds (slots_in m)
+    m_own : HasOwnIds (table_slots m)
     m_own = turned_own m slot2 puts ids_are same_id same_serial
 
-    b_own : HasOwnIds (slots_in b)
-    b_own = subst HasOwnIds (sym slots_are) (planted-own (Some x) kids (slots_in m) m_own)
+    b_own : HasOwnIds (table_slots b)
+    b_own = subst HasOwnIds (sym slots_are) (planted-own (Some x) kids (table_slots m) m_own)
 
     b_files : IsListed b
     b_files =
-        subst (λ (s : ℕ → Option Slot). IsFiled by_serial s (ids_in b)) (sym slots_are)
-        (subst (λ (d : ℕ → Option ℕ). IsFiled by_serial (planted (Some x) kids (slots_in m)) d) (sym listing)
-        (planted-files (Some x) kids (slots_in m) (ids_in m) (turned_files m slot2 puts ids_are same_id same_serial) fresh))
+        subst (λ (s : ℕ → Option Slot). IsFiled by_serial s (table_ids b)) (sym slots_are)
+        (subst (λ (d : ℕ → Option ℕ). IsFiled by_serial (planted (Some x) kids (table_slots m)) d) (sym listing)
+        (planted-files (Some x) kids (table_slots m) (table_ids m) (turned_files m slot2 puts ids_are same_id same_serial) fresh))
 
-    b_below : Keeps by_id (slots_in b) old.children (Some x) here.slot.children
+    b_below : Keeps by_id (table_slots b) old.children (Some x) here.slot.children
     b_below =
-        keeps-same by_id (slots_in m) (slots_in b) old.children (Some x) here.slot.children
+        keeps-same by_id (table_slots m) (table_slots b) old.children (Some x) here.slot.children
         (λ k s e there.
         let there : 0 < tally seen_id k old.children = subst (λ (y : ℕ). 0 < tally seen_id y old.children) (m_own k s e) there in
         stays k (let w = within k in let v = tally_below seen_id k old.row old.children none in omega arith) ∙ e)
         (turned_below m slot2 puts ids_are same_id same_serial)
 
-    b_kids : Keeps by_id (slots_in b) kids (Some x) (root_ids kids)
-    b_kids = subst (λ (s : ℕ → Option Slot). Keeps by_id s kids (Some x) (root_ids kids)) (sym slots_are) (planted-keeps (Some x) kids (slots_in m) m_own fresh.ids_once)
+    b_kids : Keeps by_id (table_slots b) kids (Some x) (root_ids kids)
+    b_kids = subst (λ (s : ℕ → Option Slot). Keeps by_id s kids (Some x) (root_ids kids)) (sym slots_are) (planted-keeps (Some x) kids (table_slots m) m_own fresh.ids_once)
 
     pub table_grown : IsTable b roots (put seen_id x new n)
     table_grown =
@@ -251,7 +251,7 @@ module _ (a : Table) (roots : List ℕ) (n : Nodes Seen) (table : IsTable a root
         (λ k s e.
         let c = counts new k in
         let d = more k in
-        elim (planted-only (Some x) kids (slots_in m) k) [
+        elim (planted-only (Some x) kids (table_slots m) k) [
           | inl was ↦ let there = turned_there m slot2 puts ids_are same_id same_serial k s (sym was ∙ sym (ap (λ (s : ℕ → Option Slot). s k) slots_are) ∙ e) in omega arith
           | inr came ↦ let w = within k in omega arith
         ])
@@ -259,33 +259,33 @@ module _ (a : Table) (roots : List ℕ) (n : Nodes Seen) (table : IsTable a root
   -- ---- a tree less below it
 
   -- Its slot was told first; then the slots of the tree went.
-  module _ (m b : Table) (slot2 : Slot) (puts : Puts (slots_in a) (slots_in m) x (Some slot2)) (ids_are : m.ids ≡ a.ids) (same_id : slot2.id ≡ here.slot.id) (same_serial : slot2.serial ≡ here.slot.serial)
+  module _ (m b : Table) (slot2 : Slot) (puts : PutsAt (table_slots a) (table_slots m) x (Some slot2)) (ids_are : m.ids ≡ a.ids) (same_id : slot2.id ≡ here.slot.id) (same_serial : slot2.serial ≡ here.slot.serial)
       (same_parent : slot2.parent ≡ here.slot.parent) (child : ℕ) (w : Branch Seen) (stood : Inserted w (without_tree child old.children) old.children) (files : IsListed b)
-      (slots_are : slots_in b ≡ without_slots (keys seen_id (alone w)) (slots_in m)) (row_is : slot_row slot2 ≡ old.row) (children_are : slot2.children ≡ without_id child here.slot.children) where
+      (slots_are : table_slots b ≡ without_slots (keys seen_id (alone w)) (table_slots m)) (row_is : mirror_row slot2 ≡ old.row) (children_are : slot2.children ≡ without_id child here.slot.children) where
     abbrev less : Branch Seen
     less = record { row = old.row; children = without_tree child old.children }
 
     split : (y : ℕ) → tally seen_id y old.children ≡ tally seen_id y (alone w) + tally seen_id y (without_tree child old.children)
     split y = let h = tally-inserted seen_id y stood in omega arith
 
-    left : (k : ℕ) → tally seen_id k (alone w) ≡ 0 → slots_in b k ≡ slots_in m k
-    left k absent = ap (λ (s : ℕ → Option Slot). s k) slots_are ∙ gone-outside (alone w) (slots_in m) k absent
+    left : (k : ℕ) → tally seen_id k (alone w) ≡ 0 → table_slots b k ≡ table_slots m k
+    left k absent = ap (λ (s : ℕ → Option Slot). s k) slots_are ∙ gone-outside (alone w) (table_slots m) k absent
 
-    kept_slot : (k : ℕ) (s : Slot) → slots_in b k ≡ Some s → (tally seen_id k (alone w) ≡ 0) × (slots_in m k ≡ Some s)
+    kept_slot : (k : ℕ) (s : Slot) → table_slots b k ≡ Some s → (tally seen_id k (alone w) ≡ 0) × (table_slots m k ≡ Some s)
     kept_slot k s e =
         elim (cases_lt 0 (tally seen_id k (alone w))) [
-          | inl some ↦ absurd (let clash : None ≡ Some s = sym (ap (λ (s : ℕ → Option Slot). s k) slots_are ∙ gone-inside (alone w) (slots_in m) k some) ∙ e in cc)
+          | inl some ↦ absurd (let clash : None ≡ Some s = sym (ap (λ (s : ℕ → Option Slot). s k) slots_are ∙ gone-inside (alone w) (table_slots m) k some) ∙ e in cc)
           | inr few ↦ let absent : tally seen_id k (alone w) ≡ 0 = omega arith in (absent, sym (left k absent) ∙ e)
         ]
 
-    less_own : HasOwnIds (slots_in b)
+    less_own : HasOwnIds (table_slots b)
     less_own k s e = turned_own m slot2 puts ids_are same_id same_serial k s (kept_slot k s e).1
 
     pub table_cut : IsTable b roots (put seen_id x less n)
     table_cut =
-        let kept = out_keeps (slots_in m) (turned_own m slot2 puts ids_are same_id same_serial) (Some x) child old.children here.slot.children (turned_below m slot2 puts ids_are same_id same_serial) in
+        let kept = out_keeps (table_slots m) (turned_own m slot2 puts ids_are same_id same_serial) (Some x) child old.children here.slot.children (turned_below m slot2 puts ids_are same_id same_serial) in
         let kept_b =
-        keeps-same by_id (slots_in m) (slots_in b) (without_tree child old.children) (Some x) (without_id child here.slot.children)
+        keeps-same by_id (table_slots m) (table_slots b) (without_tree child old.children) (Some x) (without_id child here.slot.children)
         (λ k s e there.
         let there : 0 < tally seen_id k (without_tree child old.children) = subst (λ (y : ℕ). 0 < tally seen_id y (without_tree child old.children)) (turned_own m slot2 puts ids_are same_id same_serial k s e) there in
         let i = split k in
@@ -293,7 +293,7 @@ module _ (a : Table) (roots : List ℕ) (n : Nodes Seen) (table : IsTable a root
         let o = once k in
         left k (omega arith) ∙ e) kept in
         changed_table b less files less_own
-        (slot2, left x (let i = split x in let o = own_below in omega arith) ∙ puts.at, same_parent, row_is, subst (λ (ks : List ℕ). Keeps by_id (slots_in b) (without_tree child old.children) (Some x) ks) (sym children_are) kept_b, tt)
+        (slot2, left x (let i = split x in let o = own_below in omega arith) ∙ puts.at, same_parent, row_is, subst (λ (ks : List ℕ). Keeps by_id (table_slots b) (without_tree child old.children) (Some x) ks) (sym children_are) kept_b, tt)
         (λ k s e absent. left k (let i = split k in omega arith) ∙ puts.others k (other_slot k absent) ∙ e)
         (λ k s e.
         let (absent, at) = kept_slot k s e in

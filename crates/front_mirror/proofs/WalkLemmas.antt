@@ -8,7 +8,7 @@ use Rattle.cdp_messages.specs.Views.{keys}
 use Rattle.front_mirror.specs.Outline.{lines_at, seen_line}
 use Rattle.front_mirror.specs.declared.slots.Slot.{Slot}
 use Rattle.front_mirror.specs.declared.table.Table.{Table}
-use Rattle.front_mirror.specs.Tables.{by_id, slots_in, trees_in}
+use Rattle.front_mirror.specs.Tables.{by_id, table_slots, table_trees}
 
 slot_beside : (o : Option Slot) (slots : ℕ → Option Slot) (below : List ℕ → Nodes Seen) (after : Nodes Seen) → slot_tree by_id slots o below after ≡ beside (slot_tree by_id slots o below none) after
 slot_beside None slots below after = refl
@@ -16,26 +16,26 @@ slot_beside (Some s) slots below after = refl
 
 -- a list of nodes, each of which says something
 module _ {A : Type 0} (said : Nodes Seen → List A) (nothing : said none ≡ []) (sums : (n m : Nodes Seen) → said (beside n m) ≡ said n ++ said m) (t : Table) (levels : ℕ) where
-  pub said_first : (k : ℕ) (ks : List ℕ) → said (trees_in t (suc levels) (k ∷ ks)) ≡ said (trees_in t (suc levels) (k ∷ [])) ++ said (trees_in t (suc levels) ks)
+  pub said_first : (k : ℕ) (ks : List ℕ) → said (table_trees t (suc levels) (k ∷ ks)) ≡ said (table_trees t (suc levels) (k ∷ [])) ++ said (table_trees t (suc levels) ks)
   said_first k ks =
-      ap said (slot_beside (slots_in t k) (slots_in t) (kept_trees by_id (slots_in t) levels) (slot_trees by_id (slots_in t) (kept_trees by_id (slots_in t) levels) ks))
-      ∙ sums (slot_tree by_id (slots_in t) (slots_in t k) (kept_trees by_id (slots_in t) levels) none) (slot_trees by_id (slots_in t) (kept_trees by_id (slots_in t) levels) ks)
+      ap said (slot_beside (table_slots t k) (table_slots t) (kept_trees by_id (table_slots t) levels) (slot_trees by_id (table_slots t) (kept_trees by_id (table_slots t) levels) ks))
+      ∙ sums (slot_tree by_id (table_slots t) (table_slots t k) (kept_trees by_id (table_slots t) levels) none) (slot_trees by_id (table_slots t) (kept_trees by_id (table_slots t) levels) ks)
 
-  pub said_turn : (ks : List ℕ) (i : ℕ) (old new all : List A) → i < length ks → new ≡ old ++ said (trees_in t (suc levels) (get_or ks i 0 ∷ [])) → old ++ said (trees_in t (suc levels) (drop i ks)) ≡ all
-      → new ++ said (trees_in t (suc levels) (drop (i + 1) ks)) ≡ all
+  pub said_turn : (ks : List ℕ) (i : ℕ) (old new all : List A) → i < length ks → new ≡ old ++ said (table_trees t (suc levels) (get_or ks i 0 ∷ [])) → old ++ said (table_trees t (suc levels) (drop i ks)) ≡ all
+      → new ++ said (table_trees t (suc levels) (drop (i + 1) ks)) ≡ all
   said_turn ks i old new all within one before =
-      let rest = said (trees_in t (suc levels) (drop (i + 1) ks)) in
+      let rest = said (table_trees t (suc levels) (drop (i + 1) ks)) in
       ap (λ (l : List A). l ++ rest) one
-      ∙ append_assoc old (said (trees_in t (suc levels) (get_or ks i 0 ∷ []))) rest
+      ∙ append_assoc old (said (table_trees t (suc levels) (get_or ks i 0 ∷ []))) rest
       ∙ ap (λ (l : List A). old ++ l) (sym (said_first (get_or ks i 0) (drop (i + 1) ks)))
-      ∙ ap (λ (js : List ℕ). old ++ said (trees_in t (suc levels) js)) (sym (drop_more ks i 0 within))
+      ∙ ap (λ (js : List ℕ). old ++ said (table_trees t (suc levels) js)) (sym (drop_more ks i 0 within))
       ∙ before
 
-  pub said_end : (ks : List ℕ) (i : ℕ) (out all : List A) → length ks ≤ i → out ++ said (trees_in t (suc levels) (drop i ks)) ≡ all → out ≡ all
+  pub said_end : (ks : List ℕ) (i : ℕ) (out all : List A) → length ks ≤ i → out ++ said (table_trees t (suc levels) (drop i ks)) ≡ all → out ≡ all
   said_end ks i out all past before =
       sym (append-nil out)
       ∙ ap (λ (l : List A). out ++ l) (sym nothing)
-      ∙ ap (λ (js : List ℕ). out ++ said (trees_in t (suc levels) js)) (sym (drop_all i ks past))
+      ∙ ap (λ (js : List ℕ). out ++ said (table_trees t (suc levels) js)) (sym (drop_all i ks past))
       ∙ before
 
 pub keys-beside : (n m : Nodes Seen) → keys seen_id (beside n m) ≡ keys seen_id n ++ keys seen_id m

@@ -70,8 +70,8 @@ coded_value =
     (λ _. refl)
 
 -- a front by its parts
-abbrev pub coded_state : Coded FrontState
-coded_state =
+abbrev pub coded_front : Coded FrontState
+coded_front =
     code_by ((FrontValue × List ℕ) × (Option FrontFault × (ℕ × (ℕ × Bool))))
     (coded× (coded× coded_value (coded_list coded_ℕ)) (coded× (coded_option coded_fault) (coded× coded_ℕ (coded× coded_ℕ coded_bool))))
     (λ s. ((s.value, s.rest), (s.fault, (s.next, (s.fetches, s.dead)))))

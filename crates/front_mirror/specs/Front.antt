@@ -7,7 +7,7 @@ use Rattle.css_objects.specs.declared.rules.Matched.{Matched}
 use Rattle.node_tree.specs.Nodes.{Nodes, none, node, Branch, alone, height}
 use Rattle.node_tree.specs.Keys.{Spot, has, spot, put, first_true}
 use Rattle.node_tree.specs.Labels.{is_element, has_value}
-use Rattle.node_tree.specs.Seen.{Seen, is_counted, is_opened, seen_id, seen_serial}
+use Rattle.node_tree.specs.Seen.{Seen, shows_count, is_opened, seen_id, seen_serial}
 use Rattle.std.specs.List.{list_all}
 use Rattle.pipe_frames.specs.Frames.{frames_from, held_after}
 use Rattle.cdp_messages.specs.declared.down.ReplyBody.{ReplyBody}
@@ -32,7 +32,7 @@ use Rattle.cdp_messages.specs.Moves.{Change, shows, inserts, removes, counts, se
 use Rattle.cdp_messages.specs.Views.{most_levels, keys, is_distinct}
 use Rattle.css_objects.specs.declared.sheets.Header.{Header}
 use Rattle.front_mirror.specs.declared.sheets.KnownSheet.{KnownSheet}
-use Rattle.front_mirror.specs.Sheets.{new_sheet, has_sheet, marked_old, with_fetched, without_sheet}
+use Rattle.front_mirror.specs.Sheets.{told_sheet, has_sheet, marked_old, with_fetched, without_sheet}
 use Rattle.front_mirror.specs.Shown.{told_id, told_serial}
 
 -- The tree of the mirror, none where it is empty; the sheets, in the order in which they came; the asks that wait for a reply, in the order in which they were sent; the
@@ -70,17 +70,17 @@ ask_under id [] = None
 ask_under id (ask ∷ asks) = cond (ask.id == id) (Some ask) (ask_under id asks)
 
 -- its method
-abbrev pub method_of : ℕ → List Ask → Option (List ℕ)
-method_of id asks = option_map (λ (ask : Ask). ask.method) (ask_under id asks)
+abbrev pub method_waiting : ℕ → List Ask → Option (List ℕ)
+method_waiting id asks = option_map (λ (ask : Ask). ask.method) (ask_under id asks)
 
 -- the sheet that it fetches, if it is a fetch
 abbrev pub fetched_sheet : ℕ → List Ask → Option ℕ
 fetched_sheet id asks = option_and_then (λ (ask : Ask). ask.sheet) (ask_under id asks)
 
 -- the asks without the first one with that id
-abbrev pub without : ℕ → List Ask → List Ask
-without id [] = []
-without id (ask ∷ asks) = cond (ask.id == id) asks (ask ∷ without id asks)
+abbrev pub asks_without : ℕ → List Ask → List Ask
+asks_without id [] = []
+asks_without id (ask ∷ asks) = cond (ask.id == id) asks (ask ∷ asks_without id asks)
 
 -- ---- a whole tree that comes for an empty mirror
 
@@ -116,10 +116,10 @@ told_change id c nodes = record { node = id; change = c; nodes = nodes }
 -- The node is of a kind and in a state that the change fits: it is not opened and can have children, it is opened, it is an
 -- element, it has a value.
 abbrev pub takes_change : Change → Seen → Bool
-takes_change (shows kids) r = is_counted r.hold
+takes_change (shows kids) r = shows_count r.hold
 takes_change (inserts previous w) r = is_opened r.hold
 takes_change (removes id) r = is_opened r.hold
-takes_change (counts n) r = is_counted r.hold
+takes_change (counts n) r = shows_count r.hold
 takes_change (sets name value) r = is_element r.label.kind
 takes_change (drops name) r = is_element r.label.kind
 takes_change (says value) r = has_value r.label.kind
@@ -167,8 +167,8 @@ change_fault tree t s = first_true
 -- ---- one message
 
 -- a reply, kept with the frame that it came in, and the method of the ask that it answers
-abbrev pub kept : Option ℕ → Option (List ℕ) → List ℕ → Bool → Kept
-kept id method frame good = record { id = id; method = method; text = frame; good = good }
+abbrev pub reply_kept : Option ℕ → Option (List ℕ) → List ℕ → Bool → Kept
+reply_kept id method frame good = record { id = id; method = method; text = frame; good = good }
 
 -- what is kept of a reply: nothing, where it answers a fetch
 abbrev pub unless_fetch : Option ℕ → Kept → List Kept
@@ -177,7 +177,7 @@ unless_fetch (Some sheet) k = []
 
 -- what is kept of a reply to an ask of that id, where these wait
 abbrev pub kept_reply : ℕ → List Ask → List ℕ → Bool → List Kept
-kept_reply id asks frame good = unless_fetch (fetched_sheet id asks) (kept (Some id) (method_of id asks) frame good)
+kept_reply id asks frame good = unless_fetch (fetched_sheet id asks) (reply_kept (Some id) (method_waiting id asks) frame good)
 
 -- the sheets after the text of this one was fetched, if it was
 abbrev pub sheets_fetched : Option ℕ → List ℕ → List KnownSheet → List KnownSheet
@@ -187,11 +187,11 @@ sheets_fetched (Some n) text sheets = with_fetched n text sheets
 -- the front after a reply to the ask of that id
 abbrev pub replied : FrontValue → ℕ → List ℕ → Bool → Nodes Seen → FrontValue
 replied v id frame good tree =
-    record v { tree = tree; asks = without id v.asks; replies = v.replies ++ kept_reply id v.asks frame good; taken = v.taken + 1 }
+    record v { tree = tree; asks = asks_without id v.asks; replies = v.replies ++ kept_reply id v.asks frame good; taken = v.taken + 1 }
 
 -- the front after an error reply that names no ask
 abbrev pub refused : FrontValue → List ℕ → FrontValue
-refused v frame = record v { replies = v.replies ++ kept None None frame false ∷ []; taken = v.taken + 1 }
+refused v frame = record v { replies = v.replies ++ reply_kept None None frame false ∷ []; taken = v.taken + 1 }
 
 -- the front after an event that leads to this tree
 abbrev pub told : FrontValue → Nodes Seen → FrontValue
@@ -278,7 +278,7 @@ told_sheets v sheets = record v { sheets = sheets; taken = v.taken + 1 }
 
 -- after a new sheet, which stands last; its number is not known before
 abbrev pub with_added : FrontValue → Header → Result FrontValue FrontKind
-with_added v h = cond (has_sheet h.sheet v.sheets) (Err IdTaken) (Ok (told_sheets v (v.sheets ++ new_sheet h ∷ [])))
+with_added v h = cond (has_sheet h.sheet v.sheets) (Err IdTaken) (Ok (told_sheets v (v.sheets ++ told_sheet h ∷ [])))
 
 -- after an event that leads from the sheets to these, if one has the number
 abbrev pub with_sheet : FrontValue → ℕ → List KnownSheet → Result FrontValue FrontKind
@@ -303,9 +303,9 @@ with_news v (sheet_removed number) = with_sheet v number (without_sheet number v
 abbrev pub with_message : FrontValue → List ℕ → Option Message → Result FrontValue FrontKind
 with_message v frame None = Err NotMessage
 with_message v frame (Some (event n)) = with_news v n
-with_message v frame (Some (reply id result)) = with_reply v id frame result (method_of id v.asks)
+with_message v frame (Some (reply id result)) = with_reply v id frame result (method_waiting id v.asks)
 with_message v frame (Some (fault None code text)) = Ok (refused v frame)
-with_message v frame (Some (fault (Some id) code text)) = with_fault v id frame (method_of id v.asks)
+with_message v frame (Some (fault (Some id) code text)) = with_fault v id frame (method_waiting id v.asks)
 
 -- the front after one frame, or why it refuses the frame
 abbrev pub take_frame : FrontValue → List ℕ → Result FrontValue FrontKind
@@ -324,9 +324,9 @@ after_message v next (Ok w) = next w
 after_message v next (Err kind) = record { value = v; fault = Some (record { place = v.taken + 1; kind = kind }) }
 
 -- the front after these frames, up to the first that it refuses; places count from 1, over all messages taken
-abbrev pub folded : FrontValue → List (List ℕ) → Folded
-folded v [] = record { value = v; fault = None }
-folded v (frame ∷ frames) = after_message v (λ w. folded w frames) (take_frame v frame)
+abbrev pub front_folded : FrontValue → List (List ℕ) → Folded
+front_folded v [] = record { value = v; fault = None }
+front_folded v (frame ∷ frames) = after_message v (λ w. front_folded w frames) (take_frame v frame)
 
 -- the front, or else the fault
 abbrev pub outcome : FrontValue → Option FrontFault → Result FrontValue FrontFault
@@ -335,7 +335,7 @@ outcome v (Some f) = Err f
 
 -- frames folded one after the other, or the first fault
 abbrev pub fold_frames : FrontValue → List (List ℕ) → Result FrontValue FrontFault
-fold_frames v frames = let end = folded v frames in outcome end.value end.fault
+fold_frames v frames = let end = front_folded v frames in outcome end.value end.fault
 
 -- The fold of the bytes that came down, begun with an empty mirror and the asks that were sent: the front after the frames
 -- that are whole, or the first fault.
@@ -366,7 +366,7 @@ first_state = record { value = first_value []; rest = []; fault = None; next = 1
 -- the state after more bytes, where no fault was met before
 abbrev pub after_bytes : FrontState → List ℕ → FrontState
 after_bytes s bytes =
-    let end = folded s.value (frames_from s.rest bytes) in
+    let end = front_folded s.value (frames_from s.rest bytes) in
     record s { value = end.value; rest = held_after s.rest bytes; fault = end.fault }
 
 -- a front that has met a fault stays as it is

@@ -2,9 +2,9 @@
 use Rattle.std.specs.Prelude.{ℕ, suc, ◌==◌, cond, List, [], ◌∷◌}
 
 -- the place of the first that is the id, and else the number of them
-abbrev pub place_in : ℕ → List ℕ → ℕ
-place_in x [] = 0
-place_in x (k ∷ ks) = cond {A = ℕ} (k == x) 0 (suc (place_in x ks))
+abbrev pub id_place : ℕ → List ℕ → ℕ
+id_place x [] = 0
+id_place x (k ∷ ks) = cond {A = ℕ} (k == x) 0 (suc (id_place x ks))
 
 -- the ids with one more behind another
 abbrev pub id_behind : ℕ → ℕ → List ℕ → List ℕ

@@ -9,8 +9,8 @@ use Rattle.front_mirror.specs.declared.faults.FrontErr.TheVariants as front_err
 use Rattle.front_mirror.specs.Front.{FrontValue, Folded}
 
 -- what is known, as contracts see it
-abbrev pub value_of : Known → FrontValue
-value_of k = record {
+abbrev pub known_value : Known → FrontValue
+known_value k = record {
   tree = k.mirror;
   sheets = k.sheets;
   asks = k.asks.items;
@@ -27,7 +27,7 @@ Takes old new (Err (Refused kind)) r = (r ≡ Err kind) × (new ≡ old)
 Takes old new (Err Memory) r = ⊤
 
 -- Ok is a fold without a fault, a fault is the one that the fold met, and want of memory says nothing.
-abbrev pub Ends : Folded → FrontValue → Result (Unit {0}) FrontErr → Type 0
-Ends end v (Ok done) = end ≡ record { value = v; fault = None }
-Ends end v (Err (front_err.Fault f)) = end ≡ record { value = v; fault = Some f }
-Ends end v (Err front_err.Memory) = ⊤
+abbrev pub EndsFold : Folded → FrontValue → Result (Unit {0}) FrontErr → Type 0
+EndsFold end v (Ok done) = end ≡ record { value = v; fault = None }
+EndsFold end v (Err (front_err.Fault f)) = end ≡ record { value = v; fault = Some f }
+EndsFold end v (Err front_err.Memory) = ⊤

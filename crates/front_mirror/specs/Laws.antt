@@ -14,15 +14,15 @@ use Rattle.front_mirror.specs.declared.replies.Kept.{Kept}
 use Rattle.front_mirror.specs.declared.replies.MatchedReply.{MatchedReply}
 use Rattle.front_mirror.specs.declared.pauses.SeenPause.{SeenPause}
 use Rattle.front_mirror.specs.declared.sheets.KnownSheet.{KnownSheet}
-use Rattle.front_mirror.specs.Front.{FrontValue, plain_ask, fetch_ask, method_of, fetched_sheet, without, kept, kept_reply, matched_told, seen_pause, take_frame, outcome, fold_frames, fold, FrontState, first_state, after_take, after_ask, after_fetch}
+use Rattle.front_mirror.specs.Front.{FrontValue, plain_ask, fetch_ask, method_waiting, fetched_sheet, asks_without, reply_kept, kept_reply, matched_told, seen_pause, take_frame, outcome, fold_frames, fold, FrontState, first_state, after_take, after_ask, after_fetch}
 
 -- the front with one ask more that waits
-abbrev pub joined : FrontValue → Ask → FrontValue
-joined v ask = record v { asks = v.asks ++ ask ∷ [] }
+abbrev pub ask_joined : FrontValue → Ask → FrontValue
+ask_joined v ask = record v { asks = v.asks ++ ask ∷ [] }
 
 -- the fold of a longer stream goes on from the fold of the shorter one
-abbrev pub GoesOn : Type 0
-GoesOn =
+abbrev pub FoldGoesOn : Type 0
+FoldGoesOn =
     (waiting : List Ask) (down more : List ℕ) (v : FrontValue) → fold waiting down ≡ Ok v
     → fold waiting (down ++ more) ≡ fold_frames v (frames_from (held_after [] down) more)
 
@@ -30,7 +30,7 @@ GoesOn =
 abbrev pub AskJoins : Type 0
 AskJoins =
     (waiting : List Ask) (ask : Ask) (down : List ℕ) (v : FrontValue) → fold waiting down ≡ Ok v
-    → fold (waiting ++ ask ∷ []) down ≡ Ok (joined v ask)
+    → fold (waiting ++ ask ∷ []) down ≡ Ok (ask_joined v ask)
 
 -- ---- a front that runs
 
@@ -41,8 +41,8 @@ pub record IsFold (waiting : List Ask) (down : List ℕ) (s : FrontState) : Type
   pub well : s.fault ≡ None
 
 -- a new front is the fold of nothing
-abbrev pub Begins : Type 0
-Begins = IsFold [] [] first_state
+abbrev pub FrontBegins : Type 0
+FrontBegins = IsFold [] [] first_state
 
 -- after more bytes it has the value of the fold of them all, or the fault that this fold meets
 abbrev pub TakesFold : Type 0
@@ -89,8 +89,8 @@ pub record Has (v : FrontValue) (w : View) : Type 0 where
   pub sheets : KnowsSheets v.sheets w.sheets
 
 -- the first ask of that id is one of that method
-abbrev pub Asks : ℕ → List ℕ → List Ask → Type 0
-Asks id method asks = method_of id asks ≡ Some method
+abbrev pub IsAskOf : ℕ → List ℕ → List Ask → Type 0
+IsAskOf id method asks = method_waiting id asks ≡ Some method
 
 -- the view stays as it is
 abbrev pub is_quiet : Effect → Bool
@@ -101,9 +101,9 @@ is_quiet effect.SheetsOff = false
 is_quiet effect.NothingElse = true
 
 -- an ask of that id waits, the result is one of its method, and the view stays as it is
-pub record IsAnswered (id : ℕ) (body : ReplyBody) (asks : List Ask) : Type 0 where
+pub record IsReplyAlone (id : ℕ) (body : ReplyBody) (asks : List Ask) : Type 0 where
   pub method : List ℕ
-  pub waits : Asks id method asks
+  pub waits : IsAskOf id method asks
   pub answers : answers method body ≡ true
   pub quiet : is_quiet (effect_of method body) ≡ true
 
@@ -114,13 +114,13 @@ IsOfSheet n (Some sheet) = sheet ≡ n
 
 -- an ask of that id for the text of a sheet waits; where it is a fetch, it is one of that sheet
 pub record IsTextAsked (id n : ℕ) (asks : List Ask) : Type 0 where
-  pub waits : Asks id (codes "CSS.getStyleSheetText") asks
+  pub waits : IsAskOf id (codes "CSS.getStyleSheetText") asks
   pub of_sheet : IsOfSheet n (fetched_sheet id asks)
 
 -- an ask of that id waits, where there is an id
 abbrev pub Waits : Option ℕ → List Ask → Type 0
 Waits None asks = ⊤
-Waits (Some id) asks = (method : List ℕ) × Asks id method asks
+Waits (Some id) asks = (method : List ℕ) × IsAskOf id method asks
 
 -- what a move answers waits for it; events wait for nothing
 abbrev pub IsAwaited : Move → List Ask → Type 0
@@ -130,17 +130,17 @@ IsAwaited (met why) asks = ⊤
 IsAwaited (added s) asks = ⊤
 IsAwaited (dropped n) asks = ⊤
 IsAwaited (rewritten n text) asks = ⊤
-IsAwaited (root id b) asks = Asks id (codes "DOM.getDocument") asks
+IsAwaited (root id b) asks = IsAskOf id (codes "DOM.getDocument") asks
 IsAwaited (texted id n text) asks = IsTextAsked id n asks
-IsAwaited (replied id body) asks = IsAnswered id body asks
-IsAwaited (all_off id) asks = Asks id (codes "DOM.disable") asks
-IsAwaited (sheets_off id) asks = Asks id (codes "CSS.disable") asks
+IsAwaited (replied id body) asks = IsReplyAlone id body asks
+IsAwaited (all_off id) asks = IsAskOf id (codes "DOM.disable") asks
+IsAwaited (sheets_off id) asks = IsAskOf id (codes "CSS.disable") asks
 IsAwaited (failed r) asks = Waits r.id asks
 
 -- the asks without the first of each of these ids
 abbrev pub without_all : List ℕ → List Ask → List Ask
 without_all [] asks = asks
-without_all (id ∷ ids) asks = without_all ids (without id asks)
+without_all (id ∷ ids) asks = without_all ids (asks_without id asks)
 
 -- the asks that wait after a move
 abbrev pub asks_after : Move → List Ask → List Ask
@@ -148,7 +148,7 @@ asks_after m asks = without_all (answered_by m) asks
 
 -- what a front keeps of an error reply
 abbrev pub kept_fault : Option ℕ → List Ask → List ℕ → List Kept
-kept_fault None asks frame = kept None None frame false ∷ []
+kept_fault None asks frame = reply_kept None None frame false ∷ []
 kept_fault (Some id) asks frame = kept_reply id asks frame false
 
 -- the reply that a front keeps of a move, where these asks wait, if it is one; a reply to a fetch is not kept

@@ -4,8 +4,8 @@ use Rattle.css_objects.specs.declared.sheets.Header.{Header}
 use Rattle.front_mirror.specs.declared.sheets.KnownSheet.{KnownSheet}
 
 -- a sheet that is told of: its text is not known yet
-abbrev pub new_sheet : Header → KnownSheet
-new_sheet h = record { number = h.sheet; origin = h.origin; text = None; stale = true }
+abbrev pub told_sheet : Header → KnownSheet
+told_sheet h = record { number = h.sheet; origin = h.origin; text = None; stale = true }
 
 -- the sheet, with its text marked as old
 abbrev pub stale_sheet : KnownSheet → KnownSheet

@@ -7,8 +7,8 @@ use Rattle.node_tree.specs.Seen.{Seen, leaf, seen_id}
 use Rattle.cdp_messages.specs.Told.{Told, seen_nodes}
 
 -- what these trees of a message show
-abbrev pub shown : List (Branch Told) → Nodes Seen
-shown trees = seen_nodes (nodes_of trees)
+abbrev pub shown_of : List (Branch Told) → Nodes Seen
+shown_of trees = seen_nodes (nodes_of trees)
 
 -- what stands for a node that is not there
 abbrev pub no_node : Branch Seen

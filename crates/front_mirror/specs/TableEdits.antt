@@ -2,18 +2,18 @@
 use Rattle.std.specs.Prelude.{◌≡◌, ℕ, ◌==◌, ◌||◌, ◌&&◌, Bool, not, true, ⊤}
 use Rattle.node_tree.specs.Nodes.{alone}
 use Rattle.node_tree.specs.Labels.{is_ascending, is_element, has_value}
-use Rattle.node_tree.specs.Seen.{is_counted, is_opened}
+use Rattle.node_tree.specs.Seen.{shows_count, is_opened}
 use Rattle.cdp_messages.specs.Moves.{Change, shows, inserts, removes, counts, sets, drops, says}
 use Rattle.cdp_messages.specs.Told.{seen_nodes}
 use Rattle.cdp_messages.specs.Views.{is_in}
 use Rattle.cdp_messages.specs.LabelChanges.{placed, pairs_without}
-use Rattle.front_mirror.specs.Shown.{shown}
+use Rattle.front_mirror.specs.Shown.{shown_of}
 use Rattle.front_mirror.specs.declared.edits.NodeEdit.{NodeEdit}
 use Rattle.front_mirror.specs.declared.edits.NodeEdit.TheVariants as edit
 use Rattle.front_mirror.specs.declared.slots.Slot.{Slot}
 use Rattle.front_mirror.specs.declared.slots.Below.TheVariants.{Counted}
 use Rattle.front_mirror.specs.declared.table.Table.{Table}
-use Rattle.front_mirror.specs.Tables.{Turned, Grown, Cut, opened_slot, with_child, root_ids, slot_row}
+use Rattle.front_mirror.specs.Tables.{TableTurned, TableGrown, TableCut, opened_slot, with_child_id, root_ids, mirror_row}
 
 -- what the slot of the node owes before the edit: the sibling is there, attributes ascend
 abbrev pub Suits : NodeEdit → Slot → Type 0
@@ -27,24 +27,24 @@ Suits (edit.SetValue value) s = ⊤
 
 -- the change may be told of the node in that slot
 abbrev pub suits_slot : Change → Slot → Bool
-suits_slot (shows kids) s = is_counted (slot_row s).hold
+suits_slot (shows kids) s = shows_count (mirror_row s).hold
 suits_slot (inserts previous w) s =
-    is_opened (slot_row s).hold && (previous == 0 || is_in previous s.children) && not (is_opened w.row.hold)
-suits_slot (removes id) s = is_opened (slot_row s).hold && is_in id s.children
-suits_slot (counts n) s = is_counted (slot_row s).hold
+    is_opened (mirror_row s).hold && (previous == 0 || is_in previous s.children) && not (is_opened w.row.hold)
+suits_slot (removes id) s = is_opened (mirror_row s).hold && is_in id s.children
+suits_slot (counts n) s = shows_count (mirror_row s).hold
 suits_slot (sets name value) s = is_element s.kind
 suits_slot (drops name) s = is_element s.kind
 suits_slot (says value) s = has_value s.kind
 
 -- one slot is another, and nothing else
 abbrev pub TurnedAlone : Table → Table → ℕ → (Slot → Slot) → Type 0
-TurnedAlone a b x f = Turned a b x f × (b.ids ≡ a.ids)
+TurnedAlone a b x f = TableTurned a b x f × (b.ids ≡ a.ids)
 
 -- the second table is the first after the edit of the node of that id
 abbrev pub IsEdited : NodeEdit → Table → Table → ℕ → Type 0
-IsEdited (edit.Show nodes) a b x = Grown a b x (opened_slot (root_ids (shown nodes.items))) (shown nodes.items)
-IsEdited (edit.Insert previous tree) a b x = Grown a b x (with_child previous tree.row.seen.id) (seen_nodes (alone tree))
-IsEdited (edit.Remove id) a b x = Cut a b x id
+IsEdited (edit.Show nodes) a b x = TableGrown a b x (opened_slot (root_ids (shown_of nodes.items))) (shown_of nodes.items)
+IsEdited (edit.Insert previous tree) a b x = TableGrown a b x (with_child_id previous tree.row.seen.id) (seen_nodes (alone tree))
+IsEdited (edit.Remove id) a b x = TableCut a b x id
 IsEdited (edit.Count count) a b x = TurnedAlone a b x (λ s. record s { below = Counted count })
 IsEdited (edit.SetAttribute name value) a b x = TurnedAlone a b x (λ s. record s { attributes = placed (name, value) s.attributes })
 IsEdited (edit.DropAttribute name) a b x = TurnedAlone a b x (λ s. record s { attributes = pairs_without name s.attributes })

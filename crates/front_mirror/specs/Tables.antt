@@ -27,8 +27,8 @@ below_hold (Counted n) = counted n
 below_hold Opened = opened
 
 -- the row of a slot's node
-abbrev pub slot_row : Slot → Seen
-slot_row s = record {
+abbrev pub mirror_row : Slot → Seen
+mirror_row s = record {
   id = s.id;
   serial = s.serial;
   label = record { kind = s.kind; name = s.name; value = s.value; attributes = s.attributes };
@@ -37,23 +37,23 @@ slot_row s = record {
 
 -- slots by the ids of their nodes, which are their keys
 abbrev pub by_id : SlotForm Slot Seen
-by_id = record { row = slot_row; number = seen_id; parent = λ s. s.parent; children = λ s. s.children }
+by_id = record { row = mirror_row; number = seen_id; parent = λ s. s.parent; children = λ s. s.children }
 
 -- and by their serials
 abbrev pub by_serial : SlotForm Slot Seen
-by_serial = record { row = slot_row; number = seen_serial; parent = λ s. s.parent; children = λ s. s.children }
+by_serial = record { row = mirror_row; number = seen_serial; parent = λ s. s.parent; children = λ s. s.children }
 
 -- the slot of an id
-abbrev pub slots_in : Table → ℕ → Option Slot
-slots_in t k = option_map (λ slot. slot.value) (map.get nat_cmp t.slots k)
+abbrev pub table_slots : Table → ℕ → Option Slot
+table_slots t k = option_map (λ slot. slot.value) (map.get nat_cmp t.slots k)
 
 -- the id of a serial
-abbrev pub ids_in : Table → ℕ → Option ℕ
-ids_in t = map.get nat_cmp t.ids
+abbrev pub table_ids : Table → ℕ → Option ℕ
+table_ids t = map.get nat_cmp t.ids
 
 -- each serial has the id of its slot, and no others have one
 abbrev pub IsListed : Table → Type 0
-IsListed t = IsFiled by_serial (slots_in t) (ids_in t)
+IsListed t = IsFiled by_serial (table_slots t) (table_ids t)
 
 -- ---- a map changed at one number
 
@@ -62,13 +62,13 @@ abbrev pub with_entry : {X : Type 0} → ℕ → Option X → (ℕ → Option X)
 with_entry k w old j = cond (j == k) w (old j)
 
 -- the second map is the first but for what it has under the number
-pub record Puts {X : Type 0} (old new : ℕ → Option X) (k : ℕ) (w : Option X) : Type 0 where
+pub record PutsAt {X : Type 0} (old new : ℕ → Option X) (k : ℕ) (w : Option X) : Type 0 where
   pub at : new k ≡ w
   pub others : (j : ℕ) → j ≢ k → new j ≡ old j
 
 -- the slot of that id, where it has one, became what `f` makes of it, and no other slot changed
-abbrev pub Turned : Table → Table → ℕ → (Slot → Slot) → Type 0
-Turned t u k f = (s : Slot) → slots_in t k ≡ Some s → Puts (slots_in t) (slots_in u) k (Some (f s))
+abbrev pub TableTurned : Table → Table → ℕ → (Slot → Slot) → Type 0
+TableTurned t u k f = (s : Slot) → table_slots t k ≡ Some s → PutsAt (table_slots t) (table_slots u) k (Some (f s))
 
 -- ---- nodes that come and go
 
@@ -97,9 +97,9 @@ planted above none slots = slots
 planted above (node r c t) slots = planted above t (planted (Some r.id) c (with_entry r.id (Some (new_slot above r (root_ids c))) slots))
 
 -- and the ids of the serials
-abbrev pub listed : Nodes Seen → (ℕ → Option ℕ) → ℕ → Option ℕ
-listed none ids = ids
-listed (node r c t) ids = listed t (listed c (with_entry r.serial (Some r.id) ids))
+abbrev pub serials_listed : Nodes Seen → (ℕ → Option ℕ) → ℕ → Option ℕ
+serials_listed none ids = ids
+serials_listed (node r c t) ids = serials_listed t (serials_listed c (with_entry r.serial (Some r.id) ids))
 
 -- the slots without those of these ids
 abbrev pub without_slots : List ℕ → (ℕ → Option Slot) → ℕ → Option Slot
@@ -113,29 +113,29 @@ abbrev pub HasOwnIds : (ℕ → Option Slot) → Type 0
 HasOwnIds slots = (k : ℕ) (s : Slot) → slots k ≡ Some s → s.id ≡ k
 
 -- the trees in the slots of these ids, so many levels down
-abbrev pub trees_in : Table → ℕ → List ℕ → Nodes Seen
-trees_in t levels ids = kept_trees by_id (slots_in t) levels ids
+abbrev pub table_trees : Table → ℕ → List ℕ → Nodes Seen
+table_trees t levels ids = kept_trees by_id (table_slots t) levels ids
 
 -- the trees from the roots on
 unfoldable pub tree_in : Table → List ℕ → Nodes Seen
-tree_in t roots = trees_in t most_levels roots
+tree_in t roots = table_trees t most_levels roots
 
 -- The table keeps these trees and nothing else.
 pub record IsTable (t : Table) (roots : List ℕ) (n : Nodes Seen) : Type 0 where
-  pub stands : Keeps by_id (slots_in t) n None roots
-  pub own : HasOwnIds (slots_in t)
+  pub stands : Keeps by_id (table_slots t) n None roots
+  pub own : HasOwnIds (table_slots t)
   pub files : IsListed t
-  pub reached : (k : ℕ) (s : Slot) → slots_in t k ≡ Some s → 0 < tally seen_id k n
+  pub reached : (k : ℕ) (s : Slot) → table_slots t k ≡ Some s → 0 < tally seen_id k n
 
 -- what the slot of an id says of the node that is found
-abbrev pub Looks : Option Slot → Option (Branch Seen) → Type 0
-Looks None f = f ≡ None
-Looks (Some slot) f = (b : Branch Seen) × (f ≡ Some b) × (slot_row slot ≡ b.row) × (slot.children ≡ root_ids b.children)
+abbrev pub TableLooks : Option Slot → Option (Branch Seen) → Type 0
+TableLooks None f = f ≡ None
+TableLooks (Some slot) f = (b : Branch Seen) × (f ≡ Some b) × (mirror_row slot ≡ b.row) × (slot.children ≡ root_ids b.children)
 
 -- How many slots there are from the one of that id up, looked for no further than so many levels.
-abbrev pub climbed : Table → ℕ → Option ℕ → ℕ
-climbed t zero above = 0
-climbed t (suc levels) above = option_map_or (λ k. suc (climbed t levels (option_and_then (λ slot. slot.parent) (slots_in t k)))) above 0
+abbrev pub table_climbed : Table → ℕ → Option ℕ → ℕ
+table_climbed t zero above = 0
+table_climbed t (suc levels) above = option_map_or (λ k. suc (table_climbed t levels (option_and_then (λ slot. slot.parent) (table_slots t k)))) above 0
 
 -- ---- a node changed, with what comes and goes below it
 
@@ -144,35 +144,35 @@ abbrev pub opened_slot : List ℕ → Slot → Slot
 opened_slot ids slot = record slot { below = Opened; children = ids }
 
 -- with a child more, and a child less
-abbrev pub with_child : ℕ → ℕ → Slot → Slot
-with_child previous child slot = record slot { children = id_after previous child slot.children }
+abbrev pub with_child_id : ℕ → ℕ → Slot → Slot
+with_child_id previous child slot = record slot { children = id_after previous child slot.children }
 
 -- the slot without that child
-abbrev pub without_child : ℕ → Slot → Slot
-without_child child slot = record slot { children = without_id child slot.children }
+abbrev pub without_child_id : ℕ → Slot → Slot
+without_child_id child slot = record slot { children = without_id child slot.children }
 
 -- The slot of that id was told of its children, and then these trees came in below it.
-pub record Grown (a b : Table) (x : ℕ) (f : Slot → Slot) (kids : Nodes Seen) : Type 0 where
+pub record TableGrown (a b : Table) (x : ℕ) (f : Slot → Slot) (kids : Nodes Seen) : Type 0 where
   pub mid : Table
-  pub turned : Turned a mid x f
+  pub turned : TableTurned a mid x f
   pub ids_are : mid.ids ≡ a.ids
-  pub slots_are : slots_in b ≡ planted (Some x) kids (slots_in mid)
-  pub listing : ids_in b ≡ listed kids (ids_in mid)
+  pub slots_are : table_slots b ≡ planted (Some x) kids (table_slots mid)
+  pub listing : table_ids b ≡ serials_listed kids (table_ids mid)
 
 -- The slot of that id lost a child, and then the slots of that child and of all below it went.
-pub record Cut (a b : Table) (x child : ℕ) : Type 0 where
+pub record TableCut (a b : Table) (x child : ℕ) : Type 0 where
   pub mid : Table
-  pub turned : Turned a mid x (without_child child)
+  pub turned : TableTurned a mid x (without_child_id child)
   pub ids_are : mid.ids ≡ a.ids
   pub files : IsListed b
-  pub slots_are : slots_in b ≡ without_slots (keys seen_id (trees_in a most_levels (child ∷ []))) (slots_in mid)
+  pub slots_are : table_slots b ≡ without_slots (keys seen_id (table_trees a most_levels (child ∷ []))) (table_slots mid)
 
 -- what the slot of a node says of it
 pub record IsFace (slot : Slot) (b : Branch Seen) : Type 0 where
-  pub row : slot_row slot ≡ b.row
+  pub row : mirror_row slot ≡ b.row
   pub children : slot.children ≡ root_ids b.children
 
 -- the table of a mirror keeps its tree
-pub record IsKept (t : Table) (roots : List ℕ) : Type 0 where
+pub record KeepsMirror (t : Table) (roots : List ℕ) : Type 0 where
   pub table : IsTable t roots (tree_in t roots)
   pub mirror : IsMirror (tree_in t roots)

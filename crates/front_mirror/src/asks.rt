@@ -1,6 +1,6 @@
 // The asks that wait.
 ghost use Rattle.std.specs.Prelude.{◌≡◌, option_map, option_copied};
-ghost use Rattle.front_mirror.specs.Front.{ask_under, method_of, fetched_sheet, without};
+ghost use Rattle.front_mirror.specs.Front.{ask_under, method_waiting, fetched_sheet, asks_without};
 
 use crate::replies::Ask;
 
@@ -18,7 +18,7 @@ fn ask_under(asks: &[Ask], id: u64) -> Option<&Ask>
 
 /// The method of the first ask with that id.
 pub(crate) fn method_of(asks: &[Ask], id: u64) -> Option<&str>
-    ensures { option_map (λ m. m.now) result ≡ method_of id asks.now }
+    ensures { option_map (λ m. m.now) result ≡ method_waiting id asks.now }
 {
     match ask_under(asks, id) {
         Some(ask) => Some(ask.method.as_str()),
@@ -39,7 +39,7 @@ pub(crate) fn fetched_sheet(asks: &[Ask], id: u64) -> Option<u64>
 /// Takes the first ask with that id out.
 pub(crate) fn take_ask(asks: &mut Vec<Ask>, id: u64) -> Option<Ask>
     ensures ask { result ≡ ask_under id asks.old.items }
-    ensures rest { asks.new.items ≡ without id asks.old.items }
+    ensures rest { asks.new.items ≡ asks_without id asks.old.items }
 {
     for i in 0..asks.len() {
         let ask = &asks[i];

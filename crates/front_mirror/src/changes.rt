@@ -1,7 +1,7 @@
 // Changes of one node, carried out in the table.
 ghost use Rattle.std.specs.Prelude.{◌≡◌, Some, IsSome, OnOk};
 ghost use Rattle.front_mirror.specs.declared.slots.Slot.{Slot};
-ghost use Rattle.front_mirror.specs.Tables.{slots_in, IsListed};
+ghost use Rattle.front_mirror.specs.Tables.{table_slots, IsListed};
 ghost use Rattle.front_mirror.specs.TableEdits.{Suits, IsEdited};
 
 use crate::edits::NodeEdit;
@@ -18,8 +18,8 @@ impl Table {
         edit: NodeEdit,
     ) -> Result<(), AllocError>
         requires listed { IsListed self.old }
-        requires there { IsSome (slots_in self.old id) }
-        requires suits { (slot : Slot) → slots_in self.old id ≡ Some slot → Suits edit slot }
+        requires there { IsSome (table_slots self.old id) }
+        requires suits { (slot : Slot) → table_slots self.old id ≡ Some slot → Suits edit slot }
         ensures { OnOk result (IsEdited edit self.old self.new id) }
     {
         match edit {

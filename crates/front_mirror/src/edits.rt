@@ -4,7 +4,7 @@ ghost use Rattle.node_tree.specs.Nodes.{nodes_of, Branch};
 ghost use Rattle.node_tree.specs.Keys.{spot};
 ghost use Rattle.node_tree.specs.Seen.{Seen, seen_id};
 ghost use Rattle.cdp_messages.specs.Views.{most_levels};
-ghost use Rattle.front_mirror.specs.Tables.{slot_row, IsFace};
+ghost use Rattle.front_mirror.specs.Tables.{mirror_row, IsFace};
 ghost use Rattle.front_mirror.specs.TableEdits.{suits_slot};
 ghost use Rattle.front_mirror.specs.Front.{any_node, clashes, is_unique, is_fresh, stands_low, takes_change, knows_named, change_fault};
 ghost use Rattle.front_mirror.specs.Edits.{edit_nodes, edit_change, edit_told, spot_fault};
@@ -53,7 +53,7 @@ impl NodeEdit {
 
     /// Whether the node is of a kind and in a state that it fits.
     fn is_for(&self, slot: &Slot) -> bool
-        ensures { result ≡ takes_change (edit_change self.now) (slot_row slot.now) }
+        ensures { result ≡ takes_change (edit_change self.now) (mirror_row slot.now) }
     {
         match self {
             NodeEdit::Show(_) | NodeEdit::Count(_) => slot.is_unopened(),

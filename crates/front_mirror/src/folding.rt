@@ -1,6 +1,6 @@
 ghost use Rattle.std.specs.Prelude.{◌≡◌, [], OnOk};
-ghost use Rattle.front_mirror.specs.Front.{folded};
-ghost use Rattle.front_mirror.specs.Known.{value_of, Ends};
+ghost use Rattle.front_mirror.specs.Front.{front_folded};
+ghost use Rattle.front_mirror.specs.Known.{known_value, EndsFold};
 
 use crate::faults::{FrontErr, FrontFault};
 use crate::known::{FrameErr, Known};
@@ -9,7 +9,7 @@ use std::alloc::AllocError;
 
 /// Folds the frames that are whole, up to the first that is refused.
 pub(crate) fn fold_whole(known: &mut Known, splitter: &mut Splitter) -> Result<(), FrontErr>
-    ensures ends { Ends (folded (value_of known.old) splitter.old.whole) (value_of known.new) result }
+    ensures ends { EndsFold (front_folded (known_value known.old) splitter.old.whole) (known_value known.new) result }
     ensures whole { OnOk result (splitter.new.whole ≡ []) }
     ensures rest { splitter.new.rest ≡ splitter.old.rest }
 {

@@ -47,14 +47,14 @@ pub struct Front {
 impl Model for Front {
     ghost use Rattle.std.specs.Prelude.{◌≡◌, [], None, false};
     ghost use Rattle.front_mirror.specs.Front.{FrontState};
-    ghost use Rattle.front_mirror.specs.Codes.{coded_state};
-    ghost use Rattle.front_mirror.specs.Known.{value_of};
+    ghost use Rattle.front_mirror.specs.Codes.{coded_front};
+    ghost use Rattle.front_mirror.specs.Known.{known_value};
 
     ghost Value = { FrontState };
 
-    ghost coded = { coded_state };
+    ghost coded = { coded_front };
 
-    ghost view = { λ f. record { value = value_of f.known; rest = f.splitter.rest; fault = f.fault; next = f.next; fetches = f.fetches; dead = f.is_dead } };
+    ghost view = { λ f. record { value = known_value f.known; rest = f.splitter.rest; fault = f.fault; next = f.next; fetches = f.fetches; dead = f.is_dead } };
 
     ghost invariant = { λ f. f.is_dead ≡ false → f.fault ≡ None → f.splitter.whole ≡ [] };
 }

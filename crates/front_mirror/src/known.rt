@@ -5,9 +5,9 @@ ghost use Rattle.node_tree.specs.Nodes.{none};
 ghost use Rattle.cdp_messages.specs.NodeData.{fits_tree};
 ghost use Rattle.cdp_messages.specs.Moves.{paused_nodes};
 ghost use Rattle.cdp_messages.specs.Events.{news_of, fits_news};
-ghost use Rattle.front_mirror.specs.Known.{value_of, Takes};
-ghost use Rattle.front_mirror.specs.Front.{FrontValue, first_value, kept, method_of, fetched_sheet, sheets_fetched, replied, refused, told, with_root, with_effect, with_reply, with_fault, with_change, with_pause, with_matched, with_added, with_sheet, told_sheets, with_news, take_frame, is_shown, halted, root_fault};
-ghost use Rattle.front_mirror.specs.Sheets.{new_sheet, has_sheet, marked_old, without_sheet};
+ghost use Rattle.front_mirror.specs.Known.{known_value, Takes};
+ghost use Rattle.front_mirror.specs.Front.{FrontValue, first_value, reply_kept, method_waiting, fetched_sheet, sheets_fetched, replied, refused, told, with_root, with_effect, with_reply, with_fault, with_change, with_pause, with_matched, with_added, with_sheet, told_sheets, with_news, take_frame, is_shown, halted, root_fault};
+ghost use Rattle.front_mirror.specs.Sheets.{told_sheet, has_sheet, marked_old, without_sheet};
 ghost use Rattle.front_mirror.specs.Edits.{edit_told, fits_edit, fits_effect};
 
 use crate::asks::{fetched_sheet, method_of, take_ask};
@@ -69,7 +69,7 @@ pub(crate) struct Known {
 
 impl Known {
     pub(crate) fn new(alloc: Global) -> Known
-        ensures { value_of result ≡ first_value [] }
+        ensures { known_value result ≡ first_value [] }
     {
         Known {
             alloc,
@@ -85,7 +85,7 @@ impl Known {
 
     /// Takes one frame, without its zero byte.
     pub(crate) fn take_frame(&mut self, frame: Vec<u8>) -> Result<(), FrameErr>
-        ensures { Takes (value_of self.old) (value_of self.new) result (take_frame (value_of self.old) frame.items) }
+        ensures { Takes (known_value self.old) (known_value self.new) result (take_frame (known_value self.old) frame.items) }
     {
         let Ok(text) = String::from_utf8(frame) else {
             return Err(FrameErr::Refused(FrontKind::NotMessage));
@@ -95,7 +95,7 @@ impl Known {
 
     /// A document is read without values in between, where its text is as it is written; all else is read as a value.
     fn take_text(&mut self, frame: Text) -> Result<(), FrameErr>
-        ensures { Takes (value_of self.old) (value_of self.new) result (take_frame (value_of self.old) frame) }
+        ensures { Takes (known_value self.old) (known_value self.new) result (take_frame (known_value self.old) frame) }
     {
         match self.document_in(frame.as_str()) {
             Some((id, root)) => self.take_root(id, root, frame),
@@ -105,8 +105,8 @@ impl Known {
 
     /// The document that a text brings, and the id of the ask that waits for it.
     fn document_in(&self, text: &str) -> Option<(u64, NodeTree)>
-        ensures taken { IfSome result (λ p. take_frame (value_of self.now) text.now
-            ≡ with_root (value_of self.now) p.0 text.now p.1 (root_fault p.1)) }
+        ensures taken { IfSome result (λ p. take_frame (known_value self.now) text.now
+            ≡ with_root (known_value self.now) p.0 text.now p.1 (root_fault p.1)) }
         ensures fits { IfSome result (λ p. fits_tree true p.1 ≡ true) }
     {
         if !begins_document(text) {
@@ -122,7 +122,7 @@ impl Known {
     }
 
     fn take_value(&mut self, frame: Text) -> Result<(), FrameErr>
-        ensures { Takes (value_of self.old) (value_of self.new) result (take_frame (value_of self.old) frame) }
+        ensures { Takes (known_value self.old) (known_value self.new) result (take_frame (known_value self.old) frame) }
     {
         match read_down(self.alloc, frame.as_str().as_bytes()) {
             Ok(Down::Reply { id, result }) => self.take_reply(id, &result, frame),
@@ -135,8 +135,8 @@ impl Known {
     }
 
     fn take_reply(&mut self, id: u64, value: &Value, frame: Text) -> Result<(), FrameErr>
-        ensures { Takes (value_of self.old) (value_of self.new) result
-            (with_reply (value_of self.old) id frame (view value.now) (method_of id (value_of self.old).asks)) }
+        ensures { Takes (known_value self.old) (known_value self.new) result
+            (with_reply (known_value self.old) id frame (view value.now) (method_waiting id (known_value self.old).asks)) }
     {
         let Some(method) = method_of(&self.asks, id) else {
             return Err(FrameErr::Refused(FrontKind::NotMessage));
@@ -159,8 +159,8 @@ impl Known {
 
     /// Keeps a reply to the ask of that id, which then waits no longer, and the matched styles that it tells.
     fn keep_matched(&mut self, id: u64, matched: Matched, frame: Text) -> Result<(), AllocError>
-        ensures { OnOk result (value_of self.new ≡ replied
-            (with_matched (value_of self.old) (record { ask = id; matched = matched } ∷ [])) id frame true (value_of self.old).tree) }
+        ensures { OnOk result (known_value self.new ≡ replied
+            (with_matched (known_value self.old) (record { ask = id; matched = matched } ∷ [])) id frame true (known_value self.old).tree) }
     {
         self.matched.push(MatchedReply { ask: id, matched })?;
         self.keep_reply(id, frame, true)
@@ -168,8 +168,8 @@ impl Known {
 
     fn take_effect(&mut self, id: u64, effect: Effect, frame: Text) -> Result<(), FrameErr>
         requires { fits_effect effect ≡ true }
-        ensures { Takes (value_of self.old) (value_of self.new) result
-            (with_effect (value_of self.old) id frame effect) }
+        ensures { Takes (known_value self.old) (known_value self.new) result
+            (with_effect (known_value self.old) id frame effect) }
     {
         match effect {
             Effect::Document(root) => self.take_root(id, root, frame),
@@ -185,9 +185,9 @@ impl Known {
 
     /// The text of a sheet, which stays known where it was fetched.
     fn take_sheet_text(&mut self, id: u64, text: Text, frame: Text) -> Result<(), FrameErr>
-        ensures { Takes (value_of self.old) (value_of self.new) result
-            (Ok (record (replied (value_of self.old) id frame true (value_of self.old).tree) {
-              sheets = sheets_fetched (fetched_sheet id (value_of self.old).asks) text (value_of self.old).sheets;
+        ensures { Takes (known_value self.old) (known_value self.new) result
+            (Ok (record (replied (known_value self.old) id frame true (known_value self.old).tree) {
+              sheets = sheets_fetched (fetched_sheet id (known_value self.old).asks) text (known_value self.old).sheets;
             })) }
     {
         let fetched = fetched_sheet(&self.asks, id);
@@ -200,8 +200,8 @@ impl Known {
 
     /// Neither nodes nor sheets are told any more.
     fn take_end(&mut self, id: u64, frame: Text) -> Result<(), FrameErr>
-        ensures { Takes (value_of self.old) (value_of self.new) result
-            (Ok (record (replied (value_of self.old) id frame true none) { sheets = [] })) }
+        ensures { Takes (known_value self.old) (known_value self.new) result
+            (Ok (record (replied (known_value self.old) id frame true none) { sheets = [] })) }
     {
         self.keep_reply(id, frame, true)?;
         self.mirror = Mirror::new(self.alloc);
@@ -211,8 +211,8 @@ impl Known {
 
     /// No sheets are told any more.
     fn take_sheets_end(&mut self, id: u64, frame: Text) -> Result<(), FrameErr>
-        ensures { Takes (value_of self.old) (value_of self.new) result
-            (Ok (record (replied (value_of self.old) id frame true (value_of self.old).tree) { sheets = [] })) }
+        ensures { Takes (known_value self.old) (known_value self.new) result
+            (Ok (record (replied (known_value self.old) id frame true (known_value self.old).tree) { sheets = [] })) }
     {
         self.keep_reply(id, frame, true)?;
         self.sheets = KnownSheets::new(self.alloc);
@@ -220,7 +220,7 @@ impl Known {
     }
 
     fn take_sheet(&mut self, header: Header) -> Result<(), FrameErr>
-        ensures { Takes (value_of self.old) (value_of self.new) result (with_added (value_of self.old) header) }
+        ensures { Takes (known_value self.old) (known_value self.new) result (with_added (known_value self.old) header) }
     {
         if self.sheets.has(header.sheet) {
             return Err(FrameErr::Refused(FrontKind::IdTaken));
@@ -231,9 +231,9 @@ impl Known {
 
     /// Keeps a new sheet, and counts the message.
     fn keep_sheet(&mut self, header: Header) -> Result<(), AllocError>
-        requires { has_sheet header.sheet (value_of self.old).sheets ≡ false }
-        ensures { OnOk result (value_of self.new ≡ told_sheets (value_of self.old)
-            ((value_of self.old).sheets ++ new_sheet header ∷ [])) }
+        requires { has_sheet header.sheet (known_value self.old).sheets ≡ false }
+        ensures { OnOk result (known_value self.new ≡ told_sheets (known_value self.old)
+            ((known_value self.old).sheets ++ told_sheet header ∷ [])) }
     {
         let taken = self.taken.checked_add(1).ok_or(AllocError)?;
         self.sheets.put(new_sheet(header))?;
@@ -242,8 +242,8 @@ impl Known {
     }
 
     fn take_rewrite(&mut self, number: u64) -> Result<(), FrameErr>
-        ensures { Takes (value_of self.old) (value_of self.new) result
-            (with_sheet (value_of self.old) number (marked_old number (value_of self.old).sheets)) }
+        ensures { Takes (known_value self.old) (known_value self.new) result
+            (with_sheet (known_value self.old) number (marked_old number (known_value self.old).sheets)) }
     {
         if !self.sheets.has(number) {
             return Err(FrameErr::Refused(FrontKind::UnknownSheet));
@@ -254,8 +254,8 @@ impl Known {
     }
 
     fn take_removal(&mut self, number: u64) -> Result<(), FrameErr>
-        ensures { Takes (value_of self.old) (value_of self.new) result
-            (with_sheet (value_of self.old) number (without_sheet number (value_of self.old).sheets)) }
+        ensures { Takes (known_value self.old) (known_value self.new) result
+            (with_sheet (known_value self.old) number (without_sheet number (known_value self.old).sheets)) }
     {
         if !self.sheets.has(number) {
             return Err(FrameErr::Refused(FrontKind::UnknownSheet));
@@ -267,8 +267,8 @@ impl Known {
 
     fn take_root(&mut self, id: u64, root: NodeTree, frame: Text) -> Result<(), FrameErr>
         requires { fits_tree true root ≡ true }
-        ensures { Takes (value_of self.old) (value_of self.new) result
-            (with_root (value_of self.old) id frame root (root_fault root)) }
+        ensures { Takes (known_value self.old) (known_value self.new) result
+            (with_root (known_value self.old) id frame root (root_fault root)) }
     {
         if let Some(kind) = root_fault(self.alloc, &root)? {
             return Err(FrameErr::Refused(kind));
@@ -280,8 +280,8 @@ impl Known {
     }
 
     fn take_fault(&mut self, id: u64, frame: Text) -> Result<(), FrameErr>
-        ensures { Takes (value_of self.old) (value_of self.new) result
-            (with_fault (value_of self.old) id frame (method_of id (value_of self.old).asks)) }
+        ensures { Takes (known_value self.old) (known_value self.new) result
+            (with_fault (known_value self.old) id frame (method_waiting id (known_value self.old).asks)) }
     {
         if method_of(&self.asks, id).is_none() {
             return Err(FrameErr::Refused(FrontKind::NotMessage));
@@ -291,7 +291,7 @@ impl Known {
     }
 
     fn take_refusal(&mut self, frame: Text) -> Result<(), FrameErr>
-        ensures { Takes (value_of self.old) (value_of self.new) result (Ok (refused (value_of self.old) frame)) }
+        ensures { Takes (known_value self.old) (known_value self.new) result (Ok (refused (known_value self.old) frame)) }
     {
         self.keep(None, None, frame, false)?;
         Ok(())
@@ -299,7 +299,7 @@ impl Known {
 
     fn take_event(&mut self, event: Event) -> Result<(), FrameErr>
         requires { fits_news (news_of event) ≡ true }
-        ensures { Takes (value_of self.old) (value_of self.new) result (with_news (value_of self.old) (news_of event)) }
+        ensures { Takes (known_value self.old) (known_value self.new) result (with_news (known_value self.old) (news_of event)) }
     {
         match event {
             Event::SetChildNodes { parent, nodes } => self.take_edit(parent, NodeEdit::Show(nodes)),
@@ -333,8 +333,8 @@ impl Known {
 
     fn take_edit(&mut self, id: u64, edit: NodeEdit) -> Result<(), FrameErr>
         requires { fits_edit edit ≡ true }
-        ensures { Takes (value_of self.old) (value_of self.new) result
-            (with_change (value_of self.old) (edit_told id edit)) }
+        ensures { Takes (known_value self.old) (known_value self.new) result
+            (with_change (known_value self.old) (edit_told id edit)) }
     {
         if let Some(kind) = edit_fault(self.alloc, &self.mirror, id, &edit)? {
             return Err(FrameErr::Refused(kind));
@@ -346,7 +346,7 @@ impl Known {
     }
 
     fn take_pause(&mut self, why: PauseData) -> Result<(), FrameErr>
-        ensures { Takes (value_of self.old) (value_of self.new) result (with_pause (value_of self.old) why) }
+        ensures { Takes (known_value self.old) (known_value self.new) result (with_pause (known_value self.old) why) }
     {
         if !self.knows_paused(why) {
             return Err(FrameErr::Refused(FrontKind::UnknownNode));
@@ -357,7 +357,7 @@ impl Known {
 
     /// Keeps a pause, and counts the message.
     fn keep_pause(&mut self, why: PauseData) -> Result<(), AllocError>
-        ensures { OnOk result (value_of self.new ≡ halted (value_of self.old) why) }
+        ensures { OnOk result (known_value self.new ≡ halted (known_value self.old) why) }
     {
         let taken = self.taken.checked_add(1).ok_or(AllocError)?;
         self.pauses.push(seen_pause(why))?;
@@ -367,7 +367,7 @@ impl Known {
 
     /// Whether the nodes that a pause names are shown.
     fn knows_paused(&self, why: PauseData) -> bool
-        ensures { result ≡ list_all (is_shown (value_of self.now).tree) (paused_nodes why) }
+        ensures { result ≡ list_all (is_shown (known_value self.now).tree) (paused_nodes why) }
     {
         match why {
             PauseData::Subtree { node, target, .. } => self.mirror.has_id(node)
@@ -377,7 +377,7 @@ impl Known {
     }
 
     fn take_update(&mut self) -> Result<(), FrameErr>
-        ensures { Takes (value_of self.old) (value_of self.new) result (Ok (told (value_of self.old) none)) }
+        ensures { Takes (known_value self.old) (known_value self.new) result (Ok (told (known_value self.old) none)) }
     {
         self.taken = self.taken.checked_add(1).ok_or(AllocError)?;
         self.mirror = Mirror::new(self.alloc);
@@ -386,7 +386,7 @@ impl Known {
 
     /// Keeps a reply to the ask of that id, which then waits no longer. A reply to a fetch is not kept.
     fn keep_reply(&mut self, id: u64, frame: Text, good: bool) -> Result<(), AllocError>
-        ensures { OnOk result (value_of self.new ≡ replied (value_of self.old) id frame good (value_of self.old).tree) }
+        ensures { OnOk result (known_value self.new ≡ replied (known_value self.old) id frame good (known_value self.old).tree) }
     {
         match take_ask(&mut self.asks, id) {
             Some(Ask { sheet: Some(_), .. }) => self.count(),
@@ -403,7 +403,7 @@ impl Known {
 
     /// Counts the message.
     fn count(&mut self) -> Result<(), AllocError>
-        ensures { OnOk result (value_of self.new ≡ record (value_of self.old) { taken = (value_of self.old).taken + 1 }) }
+        ensures { OnOk result (known_value self.new ≡ record (known_value self.old) { taken = (known_value self.old).taken + 1 }) }
     {
         self.taken = self.taken.checked_add(1).ok_or(AllocError)?;
         Ok(())
@@ -417,9 +417,9 @@ impl Known {
         text: Text,
         good: bool,
     ) -> Result<(), AllocError>
-        ensures { OnOk result (value_of self.new ≡ record (value_of self.old) {
-          replies = (value_of self.old).replies ++ kept id method text good ∷ [];
-          taken = (value_of self.old).taken + 1;
+        ensures { OnOk result (known_value self.new ≡ record (known_value self.old) {
+          replies = (known_value self.old).replies ++ reply_kept id method text good ∷ [];
+          taken = (known_value self.old).taken + 1;
         }) }
     {
         let taken = self.taken.checked_add(1).ok_or(AllocError)?;

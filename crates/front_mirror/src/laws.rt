@@ -1,12 +1,12 @@
-ghost use Rattle.front_mirror.specs.Laws.{GoesOn, AskJoins, Begins, TakesFold, StaysFold, AsksFold, FetchesFold, MoveGives, CourseGives, TurnsAreAwaited};
+ghost use Rattle.front_mirror.specs.Laws.{FoldGoesOn, AskJoins, FrontBegins, TakesFold, StaysFold, AsksFold, FetchesFold, MoveGives, CourseGives, TurnsAreAwaited};
 
 /// The law of the fold: it goes on from the fold of a shorter stream, and an ask or a fetch that is sent only joins those that wait.
 /// So a front is at all times the fold of the asks that it sent and the bytes that it took, in whatever pieces, or has the
 /// first fault of that fold.
 pub fn front_law()
-    ensures goes_on { GoesOn }
+    ensures goes_on { FoldGoesOn }
     ensures ask_joins { AskJoins }
-    ensures begins { Begins }
+    ensures begins { FrontBegins }
     ensures takes { TakesFold }
     ensures stays { StaysFold }
     ensures asks { AsksFold }

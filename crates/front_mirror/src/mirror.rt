@@ -7,7 +7,7 @@ ghost use Rattle.cdp_messages.specs.Told.{count_in, seen_nodes, seen_branch};
 ghost use Rattle.cdp_messages.specs.NodeData.{fits_tree};
 ghost use Rattle.front_mirror.specs.Shown.{known_at, root_id};
 ghost use Rattle.front_mirror.specs.Outline.{lines_at, seen_line};
-ghost use Rattle.front_mirror.specs.Tables.{slot_row, root_ids, Looks};
+ghost use Rattle.front_mirror.specs.Tables.{mirror_row, root_ids, TableLooks};
 
 use crate::checks::MOST_LEVELS;
 use crate::edits::NodeEdit;
@@ -29,7 +29,7 @@ pub struct Mirror {
 impl Model for Mirror {
     ghost use Rattle.node_tree.specs.Nodes.{Nodes, coded_nodes};
     ghost use Rattle.node_tree.specs.Seen.{Seen, coded_seen};
-    ghost use Rattle.front_mirror.specs.Tables.{tree_in, IsKept};
+    ghost use Rattle.front_mirror.specs.Tables.{tree_in, KeepsMirror};
 
     ghost Value = { Nodes Seen };
 
@@ -37,7 +37,7 @@ impl Model for Mirror {
 
     ghost view = { λ m. tree_in m.table m.roots };
 
-    ghost invariant = { λ m. IsKept m.table m.roots };
+    ghost invariant = { λ m. KeepsMirror m.table m.roots };
 }
 
 impl Mirror {
@@ -119,7 +119,7 @@ impl Mirror {
 
     /// The slot of that id.
     pub(crate) fn find(&self, id: u64) -> Option<&Slot>
-        ensures looks { Looks (option_copied result) (find seen_id id self.now) }
+        ensures looks { TableLooks (option_copied result) (find seen_id id self.now) }
         ensures parent { IfSome result (λ slot. Some (unwrap_or slot.now.parent 0) ≡ parent_of seen_id id 0 self.now) }
     {
         self.table.get(id)
@@ -127,7 +127,7 @@ impl Mirror {
 
     fn at(&self, id: u64) -> &Slot
         requires known { IsSome (find seen_id id self.now) }
-        ensures row { slot_row result.now ≡ (known_at id self.now).row }
+        ensures row { mirror_row result.now ≡ (known_at id self.now).row }
         ensures children { result.now.children ≡ root_ids (known_at id self.now).children }
         ensures parent { Some (unwrap_or result.now.parent 0) ≡ parent_of seen_id id 0 self.now }
     {

@@ -2,8 +2,8 @@
 ghost use Rattle.std.specs.Prelude.{◌≡◌, IfOk, OnOk};
 ghost use Rattle.node_tree.specs.Nodes.{nodes_of, alone};
 ghost use Rattle.cdp_messages.specs.Told.{seen_nodes};
-ghost use Rattle.front_mirror.specs.Shown.{shown};
-ghost use Rattle.front_mirror.specs.Tables.{slots_in, ids_in, hold_below, root_ids, new_slot, planted, listed};
+ghost use Rattle.front_mirror.specs.Shown.{shown_of};
+ghost use Rattle.front_mirror.specs.Tables.{table_slots, table_ids, hold_below, root_ids, new_slot, planted, serials_listed};
 
 use crate::slots::{Below, IdList, Slot};
 use crate::table::Table;
@@ -25,7 +25,7 @@ fn below_of(node: &NodeTree) -> Below
 
 /// The ids of the trees, in their order.
 pub(crate) fn ids_of(alloc: Global, trees: &[NodeTree]) -> Result<IdList, AllocError>
-    ensures { IfOk result (λ ids. ids ≡ root_ids (shown trees.now)) }
+    ensures { IfOk result (λ ids. ids ≡ root_ids (shown_of trees.now)) }
 {
     let mut ids = IdList::with_room(alloc, trees.len())?;
     for tree in trees {
@@ -72,8 +72,8 @@ impl Table {
         tree: NodeTree,
         above: Option<u64>,
     ) -> Result<(), AllocError>
-        ensures slots { OnOk result (slots_in self.new ≡ planted above (seen_nodes (alone tree)) (slots_in self.old)) }
-        ensures ids { OnOk result (ids_in self.new ≡ listed (seen_nodes (alone tree)) (ids_in self.old)) }
+        ensures slots { OnOk result (table_slots self.new ≡ planted above (seen_nodes (alone tree)) (table_slots self.old)) }
+        ensures ids { OnOk result (table_ids self.new ≡ serials_listed (seen_nodes (alone tree)) (table_ids self.old)) }
     {
         let id = tree.id;
         let (slot, trees) = slot_of(alloc, tree, above)?;
@@ -89,8 +89,8 @@ impl Table {
         trees: Vec<NodeTree>,
         above: Option<u64>,
     ) -> Result<(), AllocError>
-        ensures slots { OnOk result (slots_in self.new ≡ planted above (shown trees.items) (slots_in self.old)) }
-        ensures ids { OnOk result (ids_in self.new ≡ listed (shown trees.items) (ids_in self.old)) }
+        ensures slots { OnOk result (table_slots self.new ≡ planted above (shown_of trees.items) (table_slots self.old)) }
+        ensures ids { OnOk result (table_ids self.new ≡ serials_listed (shown_of trees.items) (table_ids self.old)) }
     {
         for tree in trees {
             self.plant(alloc, tree, above)?;

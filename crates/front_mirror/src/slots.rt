@@ -3,10 +3,10 @@ ghost use Rattle.std.specs.List.{insert};
 ghost use Rattle.cdp_messages.specs.Views.{is_in};
 ghost use Rattle.node_tree.specs.Nodes.{Nodes};
 ghost use Rattle.node_tree.specs.Labels.{is_element, has_value};
-ghost use Rattle.node_tree.specs.Seen.{Seen, is_opened, is_counted};
+ghost use Rattle.node_tree.specs.Seen.{Seen, is_opened, shows_count};
 ghost use Rattle.cdp_messages.specs.Told.{count_in};
-ghost use Rattle.front_mirror.specs.Tables.{slot_row, root_ids};
-ghost use Rattle.front_mirror.specs.IdLists.{place_in, id_after, without_id};
+ghost use Rattle.front_mirror.specs.Tables.{mirror_row, root_ids};
+ghost use Rattle.front_mirror.specs.IdLists.{id_place, id_after, without_id};
 
 use node_tree::{Attributes, Kind, Text};
 use std::alloc::{AllocError, Global};
@@ -73,7 +73,7 @@ impl IdList {
 
     /// The place of the first that is the id, and else the number of them.
     fn place(&self, id: u64) -> usize
-        ensures { result ≡ place_in id self.now }
+        ensures { result ≡ id_place id self.now }
     {
         for i in 0..self.len() {
             if self.at(i) == id {
@@ -157,7 +157,7 @@ pub(crate) struct Slot {
 impl Slot {
     /// Whether its children are shown.
     pub(crate) fn is_opened(&self) -> bool
-        ensures { result ≡ is_opened (slot_row self.now).hold }
+        ensures { result ≡ is_opened (mirror_row self.now).hold }
     {
         match &self.below {
             Below::Opened => true,
@@ -167,7 +167,7 @@ impl Slot {
 
     /// Whether it can have children, and they are not shown.
     pub(crate) fn is_unopened(&self) -> bool
-        ensures { result ≡ is_counted (slot_row self.now).hold }
+        ensures { result ≡ shows_count (mirror_row self.now).hold }
     {
         match &self.below {
             Below::Counted(_) => true,
@@ -197,7 +197,7 @@ impl Slot {
 
     /// How many children it has, shown or only counted.
     pub(crate) fn count(&self) -> u64
-        ensures { (n : Nodes Seen) → self.now.children ≡ root_ids n → result ≡ count_in (slot_row self.now).hold n }
+        ensures { (n : Nodes Seen) → self.now.children ≡ root_ids n → result ≡ count_in (mirror_row self.now).hold n }
     {
         match &self.below {
             Below::Leaf => 0,

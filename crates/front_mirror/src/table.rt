@@ -1,6 +1,6 @@
 ghost use Rattle.std.specs.Prelude.{◌≡◌, ◌≤◌, ℕ, None, Some, OnOk};
 ghost use Rattle.std.specs.Option.{option_copied};
-ghost use Rattle.front_mirror.specs.Tables.{slots_in, ids_in, climbed, Puts};
+ghost use Rattle.front_mirror.specs.Tables.{table_slots, table_ids, table_climbed, PutsAt};
 
 use crate::slots::Slot;
 use std::alloc::{AllocError, Global};
@@ -16,8 +16,8 @@ pub(crate) struct Table {
 impl Table {
     /// No slots.
     pub(crate) fn new(alloc: Global) -> Table
-        ensures slots { (k : ℕ) → slots_in result k ≡ None }
-        ensures ids { (x : ℕ) → ids_in result x ≡ None }
+        ensures slots { (k : ℕ) → table_slots result k ≡ None }
+        ensures ids { (x : ℕ) → table_ids result x ≡ None }
     {
         Table {
             slots: BTreeMap::new(alloc),
@@ -27,7 +27,7 @@ impl Table {
 
     /// The slot of an id.
     pub(crate) fn get(&self, id: u64) -> Option<&Slot>
-        ensures { option_copied result ≡ slots_in self.now id }
+        ensures { option_copied result ≡ table_slots self.now id }
     {
         let Some(slot) = self.slots.get(&id) else {
             return None;
@@ -37,14 +37,14 @@ impl Table {
 
     /// The id of a serial.
     pub(crate) fn id_of(&self, serial: u64) -> Option<u64>
-        ensures { result ≡ ids_in self.now serial }
+        ensures { result ≡ table_ids self.now serial }
     {
         self.ids.get(&serial).copied()
     }
 
     /// How many slots there are from the one of that id up, at most so many.
     pub(crate) fn climb(&self, above: Option<u64>, levels: usize) -> usize
-        ensures rise { result ≡ climbed self.now levels above }
+        ensures rise { result ≡ table_climbed self.now levels above }
         ensures few { result ≤ levels }
     {
         if levels == 0 {
@@ -61,8 +61,8 @@ impl Table {
 
     /// Puts a node into its slot.
     pub(crate) fn put(&mut self, alloc: Global, slot: Slot) -> Result<(), AllocError>
-        ensures slots { OnOk result (Puts (slots_in self.old) (slots_in self.new) slot.id (Some slot)) }
-        ensures ids { OnOk result (Puts (ids_in self.old) (ids_in self.new) slot.serial (Some slot.id)) }
+        ensures slots { OnOk result (PutsAt (table_slots self.old) (table_slots self.new) slot.id (Some slot)) }
+        ensures ids { OnOk result (PutsAt (table_ids self.old) (table_ids self.new) slot.serial (Some slot.id)) }
     {
         let id = slot.id;
         self.ids.insert(slot.serial, id)?;

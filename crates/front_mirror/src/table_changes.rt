@@ -4,9 +4,9 @@ ghost use Rattle.node_tree.specs.Nodes.{alone};
 ghost use Rattle.cdp_messages.specs.Told.{seen_nodes};
 ghost use Rattle.cdp_messages.specs.Views.{is_in};
 ghost use Rattle.front_mirror.specs.declared.slots.Slot.{Slot};
-ghost use Rattle.front_mirror.specs.Shown.{shown};
+ghost use Rattle.front_mirror.specs.Shown.{shown_of};
 ghost use Rattle.front_mirror.specs.IdLists.{id_after};
-ghost use Rattle.front_mirror.specs.Tables.{slots_in, IsListed, Grown, Cut, opened_slot, with_child, root_ids};
+ghost use Rattle.front_mirror.specs.Tables.{table_slots, IsListed, TableGrown, TableCut, opened_slot, with_child_id, root_ids};
 
 use crate::checks::MOST_LEVELS;
 use crate::plants::ids_of;
@@ -23,7 +23,7 @@ impl Table {
         id: u64,
         nodes: Vec<NodeTree>,
     ) -> Result<(), AllocError>
-        ensures { OnOk result (Grown self.old self.new id (opened_slot (root_ids (shown nodes.items))) (shown nodes.items)) }
+        ensures { OnOk result (TableGrown self.old self.new id (opened_slot (root_ids (shown_of nodes.items))) (shown_of nodes.items)) }
     {
         let ids = ids_of(alloc, &nodes)?;
         self.open(id, ids);
@@ -38,8 +38,8 @@ impl Table {
         previous: u64,
         node: NodeTree,
     ) -> Result<(), AllocError>
-        requires { (slot : Slot) → slots_in self.old id ≡ Some slot → (previous == 0 || is_in previous slot.children) ≡ true }
-        ensures { OnOk result (Grown self.old self.new id (with_child previous node.row.seen.id) (seen_nodes (alone node))) }
+        requires { (slot : Slot) → table_slots self.old id ≡ Some slot → (previous == 0 || is_in previous slot.children) ≡ true }
+        ensures { OnOk result (TableGrown self.old self.new id (with_child_id previous node.row.seen.id) (seen_nodes (alone node))) }
     {
         self.insert_child(id, previous, node.id)?;
         self.plant(alloc, node, Some(id))
@@ -48,8 +48,8 @@ impl Table {
     /// Takes a child out, with all below it.
     pub(crate) fn cut(&mut self, alloc: Global, id: u64, child: u64) -> Result<(), AllocError>
         requires listed { IsListed self.old }
-        requires there { IsSome (slots_in self.old id) }
-        ensures { OnOk result (Cut self.old self.new id child) }
+        requires there { IsSome (table_slots self.old id) }
+        ensures { OnOk result (TableCut self.old self.new id child) }
     {
         let mut ids = Vec::new(alloc);
         self.list_all(slice::from_ref(&child), MOST_LEVELS, &mut ids)?;

@@ -6,7 +6,7 @@ ghost use Rattle.cdp_messages.specs.Views.{is_in};
 ghost use Rattle.front_mirror.specs.declared.slots.Slot.{Slot};
 ghost use Rattle.front_mirror.specs.declared.slots.Below.TheVariants.{Opened};
 ghost use Rattle.front_mirror.specs.IdLists.{id_after, without_id};
-ghost use Rattle.front_mirror.specs.Tables.{slots_in, ids_in, Turned, Puts, IsListed, without_slots};
+ghost use Rattle.front_mirror.specs.Tables.{table_slots, table_ids, TableTurned, PutsAt, IsListed, without_slots};
 
 use crate::slots::{Below, IdList, Slot};
 use crate::table::Table;
@@ -17,7 +17,7 @@ impl Table {
     /// What is shown below a node, but for its children.
     pub(crate) fn set_below(&mut self, id: u64, below: Below)
         ensures ids { self.new.ids ≡ self.old.ids }
-        ensures slots { Turned self.old self.new id (λ slot. record slot { below = below }) }
+        ensures slots { TableTurned self.old self.new id (λ slot. record slot { below = below }) }
     {
         if let Some(slot) = self.slots.get_mut(&id) {
             slot.below = below;
@@ -27,7 +27,7 @@ impl Table {
     /// Its children are shown from now on.
     pub(crate) fn open(&mut self, id: u64, children: IdList)
         ensures ids { self.new.ids ≡ self.old.ids }
-        ensures slots { Turned self.old self.new id (λ slot. record slot { below = Opened; children = children }) }
+        ensures slots { TableTurned self.old self.new id (λ slot. record slot { below = Opened; children = children }) }
     {
         if let Some(slot) = self.slots.get_mut(&id) {
             slot.below = Below::Opened;
@@ -38,7 +38,7 @@ impl Table {
     /// Its value is this one.
     pub(crate) fn set_value(&mut self, id: u64, value: Text)
         ensures ids { self.new.ids ≡ self.old.ids }
-        ensures slots { Turned self.old self.new id (λ slot. record slot { value = value }) }
+        ensures slots { TableTurned self.old self.new id (λ slot. record slot { value = value }) }
     {
         if let Some(slot) = self.slots.get_mut(&id) {
             slot.value = value;
@@ -47,9 +47,9 @@ impl Table {
 
     /// Sets the attribute of that name, or adds it in its place.
     pub(crate) fn set_attr(&mut self, id: u64, name: Text, value: Text) -> Result<(), AllocError>
-        requires { (slot : Slot) → slots_in self.old id ≡ Some slot → is_ascending slot.attributes ≡ true }
+        requires { (slot : Slot) → table_slots self.old id ≡ Some slot → is_ascending slot.attributes ≡ true }
         ensures ids { self.new.ids ≡ self.old.ids }
-        ensures slots { OnOk result (Turned self.old self.new id
+        ensures slots { OnOk result (TableTurned self.old self.new id
             (λ slot. record slot { attributes = placed (name, value) slot.attributes })) }
     {
         if let Some(slot) = self.slots.get_mut(&id) {
@@ -60,9 +60,9 @@ impl Table {
 
     /// Takes the attribute of that name away, where there is one.
     pub(crate) fn drop_attr(&mut self, id: u64, name: &str)
-        requires { (slot : Slot) → slots_in self.old id ≡ Some slot → is_ascending slot.attributes ≡ true }
+        requires { (slot : Slot) → table_slots self.old id ≡ Some slot → is_ascending slot.attributes ≡ true }
         ensures ids { self.new.ids ≡ self.old.ids }
-        ensures slots { Turned self.old self.new id (λ slot. record slot { attributes = pairs_without name.now slot.attributes }) }
+        ensures slots { TableTurned self.old self.new id (λ slot. record slot { attributes = pairs_without name.now slot.attributes }) }
     {
         if let Some(slot) = self.slots.get_mut(&id) {
             let _was = drop_attribute(&mut slot.attributes, name);
@@ -76,9 +76,9 @@ impl Table {
         previous: u64,
         child: u64,
     ) -> Result<(), AllocError>
-        requires { (slot : Slot) → slots_in self.old id ≡ Some slot → (previous == 0 || is_in previous slot.children) ≡ true }
+        requires { (slot : Slot) → table_slots self.old id ≡ Some slot → (previous == 0 || is_in previous slot.children) ≡ true }
         ensures ids { self.new.ids ≡ self.old.ids }
-        ensures slots { OnOk result (Turned self.old self.new id
+        ensures slots { OnOk result (TableTurned self.old self.new id
             (λ slot. record slot { children = id_after previous child slot.children })) }
     {
         match self.slots.get_mut(&id) {
@@ -90,7 +90,7 @@ impl Table {
     /// Takes an id out from among those of the children.
     pub(crate) fn remove_child(&mut self, id: u64, child: u64)
         ensures ids { self.new.ids ≡ self.old.ids }
-        ensures slots { Turned self.old self.new id (λ slot. record slot { children = without_id child slot.children }) }
+        ensures slots { TableTurned self.old self.new id (λ slot. record slot { children = without_id child slot.children }) }
     {
         if let Some(slot) = self.slots.get_mut(&id) {
             slot.children.remove(child);
@@ -99,8 +99,8 @@ impl Table {
 
     fn take_slot(&mut self, id: u64) -> Option<Slot>
         ensures ids { self.new.ids ≡ self.old.ids }
-        ensures slots { Puts (slots_in self.old) (slots_in self.new) id None }
-        ensures was { result ≡ slots_in self.old id }
+        ensures slots { PutsAt (table_slots self.old) (table_slots self.new) id None }
+        ensures was { result ≡ table_slots self.old id }
     {
         match self.slots.remove(&id) {
             Some(slot) => Some(Box::into_inner(slot)),
@@ -110,7 +110,7 @@ impl Table {
 
     fn drop_serial(&mut self, serial: u64)
         ensures slots { self.new.slots ≡ self.old.slots }
-        ensures ids { Puts (ids_in self.old) (ids_in self.new) serial None }
+        ensures ids { PutsAt (table_ids self.old) (table_ids self.new) serial None }
     {
         self.ids.remove(&serial);
     }
@@ -119,7 +119,7 @@ impl Table {
     fn remove(&mut self, id: u64)
         requires { IsListed self.old }
         ensures listed { IsListed self.new }
-        ensures slots { Puts (slots_in self.old) (slots_in self.new) id None }
+        ensures slots { PutsAt (table_slots self.old) (table_slots self.new) id None }
     {
         if let Some(slot) = self.take_slot(id) {
             self.drop_serial(slot.serial);
@@ -130,7 +130,7 @@ impl Table {
     pub(crate) fn remove_all(&mut self, ids: &[u64])
         requires { IsListed self.old }
         ensures listed { IsListed self.new }
-        ensures slots { slots_in self.new ≡ without_slots ids.now (slots_in self.old) }
+        ensures slots { table_slots self.new ≡ without_slots ids.now (table_slots self.old) }
     {
         for id in ids {
             self.remove(*id);

@@ -3,7 +3,7 @@ ghost use Rattle.std.specs.Prelude.{◌≡◌, ◌+◌, ◌++◌, ◌<◌, ◌^�
 ghost use Rattle.node_tree.specs.Seen.{seen_id};
 ghost use Rattle.cdp_messages.specs.Views.{keys};
 ghost use Rattle.front_mirror.specs.Outline.{lines_at, seen_line, unshown_of};
-ghost use Rattle.front_mirror.specs.Tables.{trees_in, slot_row, below_hold};
+ghost use Rattle.front_mirror.specs.Tables.{table_trees, mirror_row, below_hold};
 
 use crate::lines::{write_indent, write_node_line};
 use crate::slots::{Below, Slot};
@@ -21,7 +21,7 @@ fn unshown_of(slot: &Slot) -> u64
 }
 
 fn write_slot(alloc: Global, slot: &Slot, out: &mut Vec<u8>) -> Result<(), AllocError>
-    ensures { OnOk result (out.new.items ≡ out.old.items ++ seen_line (slot_row slot.now)) }
+    ensures { OnOk result (out.new.items ≡ out.old.items ++ seen_line (mirror_row slot.now)) }
 {
     write_node_line(
         alloc,
@@ -39,7 +39,7 @@ impl Table {
     /// Appends the id of a node and those of all below it, so many levels down, in document order.
     #[cycle(listing)]
     fn list_one(&self, id: u64, levels: usize, ids: &mut Vec<u64>) -> Result<(), AllocError>
-        ensures { OnOk result (ids.new.items ≡ ids.old.items ++ keys seen_id (trees_in self.now (suc levels) (id ∷ []))) }
+        ensures { OnOk result (ids.new.items ≡ ids.old.items ++ keys seen_id (table_trees self.now (suc levels) (id ∷ []))) }
     {
         let Some(slot) = self.get(id) else {
             return Ok(());
@@ -56,7 +56,7 @@ impl Table {
         levels: usize,
         ids: &mut Vec<u64>,
     ) -> Result<(), AllocError>
-        ensures { OnOk result (ids.new.items ≡ ids.old.items ++ keys seen_id (trees_in self.now levels roots.now)) }
+        ensures { OnOk result (ids.new.items ≡ ids.old.items ++ keys seen_id (table_trees self.now levels roots.now)) }
     {
         if levels == 0 {
             return Ok(());
@@ -78,7 +78,7 @@ impl Table {
         out: &mut Vec<u8>,
     ) -> Result<(), AllocError>
         requires { level + levels < 2 ^ 60 }
-        ensures { OnOk result (out.new.items ≡ out.old.items ++ lines_at seen_line level (trees_in self.now (suc levels) (id ∷ []))) }
+        ensures { OnOk result (out.new.items ≡ out.old.items ++ lines_at seen_line level (table_trees self.now (suc levels) (id ∷ []))) }
     {
         let Some(slot) = self.get(id) else {
             return Ok(());
@@ -100,7 +100,7 @@ impl Table {
         out: &mut Vec<u8>,
     ) -> Result<(), AllocError>
         requires { level + levels < 2 ^ 60 + 1 }
-        ensures { OnOk result (out.new.items ≡ out.old.items ++ lines_at seen_line level (trees_in self.now levels roots.now)) }
+        ensures { OnOk result (out.new.items ≡ out.old.items ++ lines_at seen_line level (table_trees self.now levels roots.now)) }
     {
         if levels == 0 {
             return Ok(());

@@ -29,8 +29,8 @@ use Rattle.replay_script.specs.Sound.{CanSend}
 use Rattle.inspect_world.specs.Held.{Ends as HeldEnds}
 use Rattle.std.specs.List.{All}
 use Rattle.front_mirror.specs.Front.{matched_in}
-use Rattle.inspect_world.specs.Links.{Started, started, one_line_more, knows_styles, came_styles, Drew, Follows, fold_of}
-use Rattle.inspect_world.specs.Fits.{ask_in}
+use Rattle.inspect_world.specs.Links.{Started, run_started, one_line_more, knows_styles, came_styles, Drew, Follows, fold_of}
+use Rattle.inspect_world.specs.Fits.{ask_of_frame}
 use Rattle.inspect_world.proofs.Scripts.{fit-first}
 use Rattle.inspect_world.proofs.LinkLemmas.{follows-fewer, front-full, seat-full, follows-told, follows-less, follows-start, follows-sends, follows-fetched, follows-raw, follows-given_up, follows-answered, follows-turned, follows-delivered_down, follows-refused, follows-fold, follows-replies}
 use Rattle.inspect_replay.specs.declared.ends.Ends.{Ends}
@@ -107,16 +107,16 @@ run-fewer state0 up0 down0 up down e run =
 
 -- the line that comes next is one of those that are left
 pub run-line : (state0 : State) (shown : List ℕ) (up0 down0 up down : Pipe) (e : Ends) (lines : List (List ℕ)) (line : List ℕ) (more : List (List ℕ)) → lines ≡ line ∷ more
-    → FollowsRun (started state0 (length lines) shown) up0 down0 up down e → FollowsRun (one_line_more (started state0 (length more) shown)) up0 down0 up down e
+    → FollowsRun (run_started state0 (length lines) shown) up0 down0 up down e → FollowsRun (one_line_more (run_started state0 (length more) shown)) up0 down0 up down e
 run-line state0 shown up0 down0 up down e lines line more is run =
     let count : length lines ≡ suc (length more) = ap length is in
     let plus : length lines ≡ length more + 1 = omega (arith, count) in
-    subst (λ n. FollowsRun (started state0 n shown) up0 down0 up down e) plus run
+    subst (λ n. FollowsRun (run_started state0 n shown) up0 down0 up down e) plus run
 
 -- and then none is left
 pub run-last : (state0 : State) (shown : List ℕ) (up0 down0 up down : Pipe) (e : Ends) (lines : List (List ℕ)) → lines ≡ []
-    → FollowsRun (started state0 (length lines) shown) up0 down0 up down e → FollowsRun (started state0 0 shown) up0 down0 up down e
-run-last state0 shown up0 down0 up down e lines none run = subst (λ (ls : List (List ℕ)). FollowsRun (started state0 (length ls) shown) up0 down0 up down e) none run
+    → FollowsRun (run_started state0 (length lines) shown) up0 down0 up down e → FollowsRun (run_started state0 0 shown) up0 down0 up down e
+run-last state0 shown up0 down0 up down e lines none run = subst (λ (ls : List (List ℕ)). FollowsRun (run_started state0 (length ls) shown) up0 down0 up down e) none run
 
 -- where the front end has no id left, the call stops
 pub front-stops : (state0 : Started) (up0 down0 up down : Pipe) (e : Ends) → FollowsRun state0 up0 down0 up down e
@@ -160,7 +160,7 @@ fetched-follows state0 up0 down0 up down up1 down1 e sheet waiting frame bytes t
 
 -- a frame is sent that names no ask
 pub raw-follows : (state0 : Started) (up0 down0 up down up1 down1 : Pipe) (e : HeldEnds) (text : List ℕ) (waiting : List (List ℕ)) (frame bytes : List ℕ) (there : ℕ)
-    → IsText text → ask_in text ≡ None → Follows state0 up0 down0 up down waiting e → there ≡ e.up_there + length frame
+    → IsText text → ask_of_frame text ≡ None → Follows state0 up0 down0 up down waiting e → there ≡ e.up_there + length frame
     → frame ≡ framed text → bytes ≡ frame → (up1.sent ≡ up.sent ++ bytes) × (up1.given ≡ up.given) → down1 ≡ down
     → Follows state0 up0 down0 up1 down1 waiting (record e { up_there = there })
 raw-follows state0 up0 down0 up down up1 down1 e text waiting frame bytes there letters none f left frame_is same_bytes sent same_down =
@@ -345,9 +345,9 @@ start-good up down =
 
 pub run-first : (up down : Pipe) (page : LoadedPage) (lines : ℕ) (e : Ends) → CanLoadPage page → PageHasTexts page → lines ≤ 2 ^ 26 → IsNewSide e.seat e.side page
     → e.splitter ≡ no_frames → e.front ≡ first_state → e.up_there ≡ 0 → e.down_there ≡ 0 → e.told ≡ 0 → e.told_pauses ≡ 0
-    → FollowsRun (started (loaded_state page) lines []) up down up down e
+    → FollowsRun (run_started (loaded_state page) lines []) up down up down e
 run-first up down page lines e can texts few new splitter_is front_is up_none down_none told_none pauses_none =
-    let start : Started = started (loaded_state page) lines [] in
+    let start : Started = run_started (loaded_state page) lines [] in
     let same : ends_of e ≡ first_ends e.seat e.side = ends-first e splitter_is front_is up_none down_none told_none pauses_none in
     let none : e.splitter.whole ≡ [] = ap (λ (f : Frames). f.whole) splitter_is in
     let fit = fit-first page can texts in

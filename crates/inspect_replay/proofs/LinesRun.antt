@@ -31,7 +31,7 @@ use Rattle.inspect_replay.specs.Says.{Phase, untouched, reading, underway, ended
 use Rattle.inspect_replay.specs.Moments.{moment, scene}
 use Rattle.inspect_replay.specs.Stops.{AmidRun, two_counts, HasStopCause, HasRunCause, GoesWell}
 use Rattle.inspect_replay.specs.Answers.{InRunOnly, RunTells, RunTook, Prints}
-use Rattle.inspect_replay.specs.Prints.{CarriesOut, CarriesLine, line_of, IsRead}
+use Rattle.inspect_replay.specs.Prints.{CarriesOut, CarriesLine, numbered_line, IsRead}
 use Rattle.inspect_replay.proofs.RunLemmas.{part-took, part-tells}
 
 -- ---- a part of a run that prints a text, as an answer of a run
@@ -58,8 +58,8 @@ plain-lacking there form none = ap (option_and_then (λ k. styles_missing (there
 
 pub plain-line : (result : Result (Unit {0}) Stop) (honest honest1 : Type 0) (up down up1 down1 : Pipe) (taken taken1 : Option (List ℕ)) (e e1 : Ends) (number : ℕ) (form : LineForm)
     (sink0 sink1 link0 link1 : ℕ) → styles_ask form ≡ None → HasStopCause sink0 sink1 link0 link1 result
-    → CarriesOut (scene (moment honest up down e) taken) (scene (moment honest1 up1 down1 e1) taken1) (line_of number form) result
-    → CarriesLine (scene (moment honest up down e) taken) (scene (moment honest1 up1 down1 e1) taken1) (line_of number form) result
+    → CarriesOut (scene (moment honest up down e) taken) (scene (moment honest1 up1 down1 e1) taken1) (numbered_line number form) result
+    → CarriesLine (scene (moment honest up down e) taken) (scene (moment honest1 up1 down1 e1) taken1) (numbered_line number form) result
 plain-line result honest honest1 up down up1 down1 taken taken1 e e1 number form sink0 sink1 link0 link1 none cause carries = λ up0 down0 more w play.
     let all = carries up0 down0 more w play in (
       all.1,
@@ -182,7 +182,7 @@ at-line honest up0 down0 up down taken0 taken all number line more form e runnin
 -- a line that lacks nothing was carried out
 pub run-on : (honest honest1 : Type 0) (up0 down0 up down up1 down1 : Pipe) (taken0 taken taken1 : Option (List ℕ)) (all : Whole) (number : ℕ) (line : List ℕ) (more : List (List ℕ)) (form : LineForm) (e e1 : Ends)
     → Running honest up0 down0 up down taken0 taken all number (line ∷ more) e → line_fault number line ≡ None → line_form line ≡ Some form
-    → CarriesLine {T = Unit {0}} (scene (moment honest up down e) taken) (scene (moment honest1 up1 down1 e1) taken1) (line_of number form) (Ok tt)
+    → CarriesLine {T = Unit {0}} (scene (moment honest up down e) taken) (scene (moment honest1 up1 down1 e1) taken1) (numbered_line number form) (Ok tt)
     → Running honest1 up0 down0 up1 down1 taken0 taken1 all (number + 1) more e1
 run-on honest honest1 up0 down0 up down up1 down1 taken0 taken taken1 all number line more form e e1 running good is carries =
     let w = running.world in
@@ -416,8 +416,8 @@ settled-stop stop sink0 link0 link1 cause =
 -- a line that did not settle
 pub stopped-line : (stop : Stop) (sink0 sink1 link0 link1 number : ℕ) (form : LineForm) (honest honest1 : Type 0) (up down up1 down1 : Pipe) (taken taken1 : Option (List ℕ)) (e e1 : Ends)
     → HasStopCause {T = Unit {0}} sink0 sink1 link0 link1 (Err stop)
-    → CarriesOut {T = Unit {0}} (scene (moment honest up down e) taken) (scene (moment honest1 up1 down1 e1) taken1) (line_of number form) (Err stop)
-    → CarriesLine {T = Unit {0}} (scene (moment honest up down e) taken) (scene (moment honest1 up1 down1 e1) taken1) (line_of number form) (Err stop)
+    → CarriesOut {T = Unit {0}} (scene (moment honest up down e) taken) (scene (moment honest1 up1 down1 e1) taken1) (numbered_line number form) (Err stop)
+    → CarriesLine {T = Unit {0}} (scene (moment honest up down e) taken) (scene (moment honest1 up1 down1 e1) taken1) (numbered_line number form) (Err stop)
 stopped-line stop sink0 sink1 link0 link1 number form honest honest1 up down up1 down1 taken taken1 e e1 cause carries = λ up0 down0 more w play.
     let all = carries up0 down0 more w play in (
       tt,

@@ -12,7 +12,7 @@ use Rattle.replay_script.specs.Script.{numbered_or, styles_ask, styles_missing, 
 use Rattle.replay_script.specs.declared.faults.LineFault.{LineFault}
 use Rattle.back_end.specs.States.{State}
 use Rattle.front_mirror.specs.Front.{FrontState}
-use Rattle.inspect_world.specs.Links.{Started, started, knows_styles, came_styles}
+use Rattle.inspect_world.specs.Links.{Started, run_started, knows_styles, came_styles}
 use Rattle.inspect_world.proofs.LinkLemmas.{follows-fold, follows-showing}
 use Rattle.inspect_replay.specs.declared.ends.Ends.{Ends}
 use Rattle.inspect_replay.specs.declared.stop.Stop.{Stop}
@@ -22,7 +22,7 @@ use Rattle.inspect_replay.specs.Moments.{Moment}
 use Rattle.inspect_replay.specs.Stops.{AmidRun, two_counts, HasStopCause}
 use Rattle.inspect_replay.specs.Answers.{AtEnd, RunTells}
 use Rattle.inspect_replay.specs.Followed.{AllCame, EndsShown, AnswersInOrder, GivesNoMore, Passed, fold_since, FollowsRun, LineFollows, LineTells, LinesCarried}
-use Rattle.inspect_replay.specs.Prints.{line_of, IsRead}
+use Rattle.inspect_replay.specs.Prints.{numbered_line, IsRead}
 use Rattle.inspect_replay.specs.Runs.{ends_of}
 use Rattle.inspect_replay.proofs.LinesRun.{closed-tells, plain-lacking, no-number, some-number}
 use Rattle.inspect_replay.proofs.RunLemmas.{part-tells}
@@ -60,7 +60,7 @@ ok-came (Err stop) state0 up0 down0 up down e run = tt
 
 -- a line that shows no matched styles lacks none
 pub plain-tells : (result : Result (Unit {0}) Stop) (old new : Moment) (number : ℕ) (form : LineForm) (sink0 sink1 link0 link1 : ℕ)
-    → styles_ask form ≡ None → HasStopCause sink0 sink1 link0 link1 result → LineFollows old new result → LineTells old new (line_of number form) result
+    → styles_ask form ≡ None → HasStopCause sink0 sink1 link0 link1 result → LineFollows old new result → LineTells old new (numbered_line number form) result
 plain-tells result old new number form sink0 sink1 link0 link1 none cause follows = λ state0 up0 down0 run.
     let passed = fold_since up0 down0 new.up new.down in (
       closed-tells result sink0 sink1 link0 link1 (numbered_or number (styles_fault (came_styles passed.fold) form) None)
@@ -82,10 +82,10 @@ stopped-tells stop sink0 sink1 link0 link1 number form state0 passed cause = (
 -- the run so far: the asks whose matched styles were shown, and that the first line that is refused is among those left, while these are there
 pub record Carried (state0 : State) (up0 down0 up down : Pipe) (initial : List (List ℕ)) (number : ℕ) (lines : List (List ℕ)) (e : Ends) : Type 0 where
   pub shown : List ℕ
-  pub run : FollowsRun (started state0 (length lines) shown) up0 down0 up down e
+  pub run : FollowsRun (run_started state0 (length lines) shown) up0 down0 up down e
   pub goes : (there : ℕ → Bool) → All (λ ask. there ask ≡ true) shown → first_refused there 2 initial ≡ first_refused there number lines
 
-pub carried-first : (state0 : State) (up0 down0 up down : Pipe) (lines : List (List ℕ)) (e : Ends) → FollowsRun (started state0 (length lines) []) up0 down0 up down e
+pub carried-first : (state0 : State) (up0 down0 up down : Pipe) (lines : List (List ℕ)) (e : Ends) → FollowsRun (run_started state0 (length lines) []) up0 down0 up down e
     → Carried state0 up0 down0 up down lines 2 lines e
 carried-first state0 up0 down0 up down lines e run = record { shown = []; run = run; goes = λ there all. refl }
 
@@ -117,7 +117,7 @@ refused-from there number line more form good is =
 
 -- a run that follows has the matched styles that came
 run-shows : (start : Started) (asks : List ℕ) (up0 down0 up down : Pipe) (e : Ends) → FollowsRun start up0 down0 up down e → AllCame (fold_since up0 down0 up down) asks
-    → FollowsRun (started start.state start.lines asks) up0 down0 up down e
+    → FollowsRun (run_started start.state start.lines asks) up0 down0 up down e
 run-shows start asks up0 down0 up down e run all =
     let f = run.so_far in
     let fold : (fold_since up0 down0 up down).fold ≡ Ok e.front.value = follows-fold start up0 down0 up down e.splitter.whole (ends_of e) f in
@@ -131,7 +131,7 @@ run-shows start asks up0 down0 up down e run all =
 -- a line was carried out
 pub carried-on : (state0 : State) (up0 down0 up down : Pipe) (old new : Moment) (initial : List (List ℕ)) (number : ℕ) (line : List ℕ) (more : List (List ℕ)) (form : LineForm)
     → (c : Carried state0 up0 down0 up down initial number (line ∷ more) old.ends) → line_fault number line ≡ None → line_form line ≡ Some form
-    → FollowsRun (started state0 (length more) c.shown) up0 down0 new.up new.down new.ends
+    → FollowsRun (run_started state0 (length more) c.shown) up0 down0 new.up new.down new.ends
     → (styles_fault (came_styles (fold_since up0 down0 new.up new.down).fold) form ≡ None)
     → Carried state0 up0 down0 new.up new.down initial (number + 1) more new.ends
 carried-on state0 up0 down0 up down old new initial number line more form c good is run lacks =
@@ -139,9 +139,9 @@ carried-on state0 up0 down0 up down old new initial number line more form c good
     let asks = option_to_list (styles_ask form) in
     record {
       shown = asks ++ c.shown;
-      run = run-shows (started state0 (length more) c.shown) (asks ++ c.shown) up0 down0 new.up new.down new.ends run
+      run = run-shows (run_started state0 (length more) c.shown) (asks ++ c.shown) up0 down0 new.up new.down new.ends run
           (All-append (λ ask. came ask ≡ true) asks c.shown (asked-there came (styles_ask form) lacks)
-          (run-came (started state0 (length more) c.shown) up0 down0 new.up new.down new.ends run));
+          (run-came (run_started state0 (length more) c.shown) up0 down0 new.up new.down new.ends run));
       goes = λ there all.
           let both = there-asked there (styles_ask form) c.shown all in
           c.goes there both.1 ∙ refused-from there number line more form good is ∙ ap (λ o. numbered_or number o (first_refused there (number + 1) more)) both.0;
@@ -174,7 +174,7 @@ pub read-tells : (stop : Stop) (state0 : State) (up0 down0 up down : Pipe) (init
     → RunTells {T = Unit {0}} (Err stop) (first_refused (came_styles (fold_since up0 down0 up down).fold) 2 initial)
 read-tells (Line n fault) state0 up0 down0 up down initial number line more e c read =
     let came = came_styles (fold_since up0 down0 up down).fold in
-    c.goes came (run-came (started state0 (length (line ∷ more)) c.shown) up0 down0 up down e c.run)
+    c.goes came (run-came (run_started state0 (length (line ∷ more)) c.shown) up0 down0 up down e c.run)
     ∙ ap (λ o. numbered_or number (first_of o (option_and_then (styles_fault came) (line_form line))) (first_refused came (number + 1) more)) read.1
     ∙ ap (λ m. Some (m, fault)) (sym read.0)
 read-tells TooLong state0 up0 down0 up down initial number line more e c read = absurd read
@@ -190,14 +190,14 @@ pub carried-all : (state0 : State) (up0 down0 : Pipe) (new : Moment) (initial : 
     → Carried state0 up0 down0 new.up new.down initial number lines new.ends → LinesCarried state0 up0 down0 new initial
 carried-all state0 up0 down0 new initial number lines none c = record {
   shown = c.shown;
-  run = subst (λ (ls : List (List ℕ)). FollowsRun (started state0 (length ls) c.shown) up0 down0 new.up new.down new.ends) none c.run;
+  run = subst (λ (ls : List (List ℕ)). FollowsRun (run_started state0 (length ls) c.shown) up0 down0 new.up new.down new.ends) none c.run;
   none = λ there all. c.goes there all ∙ ap (first_refused there number) none;
 }
 
 -- and then none is refused
 pub carried-tells : (state0 : State) (up0 down0 : Pipe) (new : Moment) (lines : List (List ℕ)) → LinesCarried state0 up0 down0 new lines
     → first_refused (came_styles (fold_since up0 down0 new.up new.down).fold) 2 lines ≡ None
-carried-tells state0 up0 down0 new lines c = c.none _ (run-came (started state0 0 c.shown) up0 down0 new.up new.down new.ends c.run)
+carried-tells state0 up0 down0 new lines c = c.none _ (run-came (run_started state0 0 c.shown) up0 down0 new.up new.down new.ends c.run)
 
 -- nor after the closing part
 pub closing-tells : (result : Result (Unit {0}) Stop) (sink0 sink1 link0 link1 : ℕ) (state0 : State) (up0 down0 up down : Pipe) (new : Moment) (before after : Option (List ℕ)) (lines : List (List ℕ))

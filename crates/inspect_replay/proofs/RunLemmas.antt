@@ -25,7 +25,7 @@ use Rattle.front_mirror.specs.Outline.{outline_text, seen_line}
 use Rattle.inspect_world.specs.Stream.{awaited}
 use Rattle.inspect_world.specs.World.{World, AlreadyTold, nothing_told, Spent, raw, turned, settled}
 use Rattle.node_tree.specs.Nodes.{alone}
-use Rattle.page_tree.specs.Pages.{State as PageValue}
+use Rattle.page_tree.specs.Pages.{PageValue}
 use Rattle.back_end.specs.declared.faults.ActFault.{ActFault}
 use Rattle.page_forms.specs.declared.acts.Act.{Act}
 use Rattle.node_binding.specs.Bindings.{Stands}
@@ -34,7 +34,7 @@ use Rattle.node_binding.proofs.StandsLemmas.{Stands-begun}
 use Rattle.back_end.specs.declared.seat.Seat.{Seat}
 use Rattle.back_end.specs.declared.side.PageSide.{PageSide}
 use Rattle.back_end.specs.Sheets.{as_book, numbered_sheets}
-use Rattle.back_end.specs.States.{loaded_state, nodes_in, book_in, sheets_shown, view_of}
+use Rattle.back_end.specs.States.{loaded_state, page_nodes, book_in, sheets_shown, view_of}
 use Rattle.back_end.specs.Steps.{acts}
 use Rattle.inspect_world.specs.RunStates.{RunState, run_step, run_turn}
 use Rattle.cdp_messages.specs.Events.{watch_name}
@@ -53,7 +53,7 @@ use Rattle.inspect_world.specs.Costs.{least_line, line_cost, line_bytes}
 use Rattle.inspect_world.specs.Fits.{most_bytes, HasLeft, IsPlainFrame}
 use Rattle.inspect_world.specs.FreshRuns.{front_fetcher, refreshes, fresh_line, Together}
 use Rattle.inspect_world.specs.ActTexts.{act_text}
-use Rattle.inspect_world.specs.Scripts.{page_line, after_line, line_text, rest_refused, refused_of, report_refused, closing_text, rest_text, text_of, report, loaded_world}
+use Rattle.inspect_world.specs.Scripts.{page_line, after_line, line_text, rest_refused, refused_of, report_refused, closing_text, rest_text, text_by_refusal, report, loaded_world}
 use Rattle.page_forms.specs.Texts.{PageHasTexts}
 use Rattle.inspect_world.specs.ScriptsFit.{IsLater}
 use Rattle.inspect_world.specs.Held.{Ends as HeldEnds, InWorld}
@@ -65,7 +65,7 @@ use Rattle.inspect_replay.specs.Says.{Phase, untouched, reading, underway, ended
 use Rattle.inspect_replay.specs.Moments.{moment, scene}
 use Rattle.inspect_replay.specs.Stops.{AmidRun, two_counts, HasStopCause, GoesWell}
 use Rattle.inspect_replay.specs.Answers.{Absent, AtEnd, InRunOnly, TookAt, RunTells, RunTook, Prints}
-use Rattle.inspect_replay.specs.Prints.{CarriesOut, NumberedLine, line_of, Closes}
+use Rattle.inspect_replay.specs.Prints.{CarriesOut, NumberedLine, numbered_line, Closes}
 use Rattle.replay_script.proofs.ScriptLemmas.{first_bad-good, good_lines-good}
 use Rattle.inspect_world.proofs.Scripts.{IsState-first, left-one, left-fewer, cost-least}
 use Rattle.front_mirror.specs.declared.sheets.KnownSheet.{KnownSheet}
@@ -148,9 +148,9 @@ pub spend-carries : (result : Result (Unit {0}) Stop) (honest honest1 : Type 0) 
     → ((v : World RunState) → f v ≡ fresh_line front_fetcher move v) → ((v : World RunState) → (fresh_line front_fetcher move v).told ≡ v.told)
     → ((w : World RunState) → (after_line move w).told ≡ w.told)
     → ((w : World RunState) → [] ≡ line_text number move w) → form ≡ move → Spends (line_cost move) (moment honest up down e) (moment honest1 up1 down1 e1) result f
-    → CarriesOut (scene (moment honest up down e) taken) (scene (moment honest1 up1 down1 e1) taken) (line_of number form) result
+    → CarriesOut (scene (moment honest up down e) taken) (scene (moment honest1 up1 down1 e1) taken) (numbered_line number form) result
 spend-carries result honest honest1 up down up1 down1 taken e e1 f number move form later goes told told1 silent is spends =
-    subst (λ line. CarriesOut (scene (moment honest up down e) taken) (scene (moment honest1 up1 down1 e1) taken) (line_of number line) result) (sym is)
+    subst (λ line. CarriesOut (scene (moment honest up down e) taken) (scene (moment honest1 up1 down1 e1) taken) (numbered_line number line) result) (sym is)
     (λ up0 down0 more w play. let both = plays result honest honest1 up down up1 down1 e e1 f move later goes told told1 spends up0 down0 more w play in (
       both.0,
       both.1,
@@ -163,7 +163,7 @@ pub move-carries : (result : Result (Unit {0}) Stop) (honest honest1 : Type 0) (
     → ((v : World RunState) → f v ≡ fresh_line front_fetcher move v) → ((v : World RunState) → (fresh_line front_fetcher move v).told ≡ v.told)
     → ((w : World RunState) → (after_line move w).told ≡ w.told)
     → ((w : World RunState) → [] ≡ line_text number move w) → form ≡ move → Steps (moment honest up down e) (moment honest1 up1 down1 e1) result f
-    → CarriesOut (scene (moment honest up down e) taken) (scene (moment honest1 up1 down1 e1) taken) (line_of number form) result
+    → CarriesOut (scene (moment honest up down e) taken) (scene (moment honest1 up1 down1 e1) taken) (numbered_line number form) result
 move-carries result honest honest1 up down up1 down1 taken e e1 f number move form later goes told told1 silent is steps =
     spend-carries result honest honest1 up down up1 down1 taken e e1 f number move form later goes told told1 silent is (λ up0 down0 w few run. steps up0 down0 w run)
 
@@ -181,10 +181,10 @@ raw-spends result honest honest1 up down up1 down1 e e1 text text1 is spends =
 
 -- the same of equal lines
 pub same-carries : (result : Result (Unit {0}) Stop) (honest honest1 : Type 0) (up down up1 down1 : Pipe) (taken taken1 : Option (List ℕ)) (e e1 : Ends) (number : ℕ) (line form : LineForm)
-    → form ≡ line → CarriesOut (scene (moment honest up down e) taken) (scene (moment honest1 up1 down1 e1) taken1) (line_of number line) result
-    → CarriesOut (scene (moment honest up down e) taken) (scene (moment honest1 up1 down1 e1) taken1) (line_of number form) result
+    → form ≡ line → CarriesOut (scene (moment honest up down e) taken) (scene (moment honest1 up1 down1 e1) taken1) (numbered_line number line) result
+    → CarriesOut (scene (moment honest up down e) taken) (scene (moment honest1 up1 down1 e1) taken1) (numbered_line number form) result
 same-carries result honest honest1 up down up1 down1 taken taken1 e e1 number line form is carries =
-    subst (λ f. CarriesOut (scene (moment honest up down e) taken) (scene (moment honest1 up1 down1 e1) taken1) (line_of number f) result) (sym is) carries
+    subst (λ f. CarriesOut (scene (moment honest up down e) taken) (scene (moment honest1 up1 down1 e1) taken1) (numbered_line number f) result) (sym is) carries
 
 -- after a settle the front end shows what the client sees of the page
 pub shown-settled : (honest1 : Type 0) (up0 down0 up1 down1 : Pipe) (lines : ℕ) (w v : World RunState) (e1 : Ends)
@@ -221,7 +221,7 @@ pub act-carries : (result : Result (Unit {0}) Stop) (fault : Option ActFault) (h
     → Spends {T = Option ActFault} least_line (moment honest up down e) (moment honest1 up1 down1 e1) (Ok fault) (λ w. turned run_turn (acts a) w)
     → IsTurn (acts a) → fault ≡ act_fault a e.side.page e.side.sheets.entries → GoesWell result
     → OnOk result (Appends taken taken1 (act_text number fault)) → OnErr result (WrotePart taken taken1 (act_text number fault))
-    → CarriesOut (scene (moment honest up down e) taken) (scene (moment honest1 up1 down1 e1) taken1) (line_of number (forms_of.act a)) result
+    → CarriesOut (scene (moment honest up down e) taken) (scene (moment honest1 up1 down1 e1) taken1) (numbered_line number (forms_of.act a)) result
 act-carries result fault honest honest1 up down up1 down1 taken taken1 e e1 number a spends later is never ok err = λ up0 down0 more w play.
     let both = plays {T = Option ActFault} (Ok fault) honest honest1 up down up1 down1 e e1 (λ v. turned run_turn (acts a) v) (forms_of.act a) later (λ v. refl) (λ v. refl) (λ v. refl) spends up0 down0 more w play in
     let says_same : fault ≡ act_fault a w.state.back.side.page (book_in w.state.back) =
@@ -246,13 +246,13 @@ pub page-carries : (result : Result (Unit {0}) Stop) (honest : Type 0) (up down 
     → page ≡ e.side.page → GoesWell result
     → OnOk result (Appends taken taken1 (codes "# page" ++ 10 ∷ outline_text page_line (alone page.tree)))
     → OnErr result (WrotePart taken taken1 (codes "# page" ++ 10 ∷ outline_text page_line (alone page.tree)))
-    → CarriesOut (scene (moment honest up down e) taken) (scene (moment honest up down e) taken1) (line_of number show_page) result
+    → CarriesOut (scene (moment honest up down e) taken) (scene (moment honest up down e) taken1) (numbered_line number show_page) result
 page-carries result honest up down taken taken1 e number page is never ok err = λ up0 down0 more w play.
     let same : page ≡ w.state.back.side.page = is ∙ page-is honest up0 down0 up down (more + least_line) w e play in
     let still = plays {T = Unit {0}} (Ok tt) honest honest up down up down e e (λ v. v) show_page tt (λ v. refl) (λ v. refl) (λ v. refl) (λ up0 down0 v few run. (tt, run)) up0 down0 more w play in (
       never,
       after-ok result still.1,
-      prints-same result taken taken1 (codes "# page" ++ 10 ∷ outline_text page_line (alone page.tree)) (codes "# page" ++ 10 ∷ outline_text page_line (nodes_in w.state.back))
+      prints-same result taken taken1 (codes "# page" ++ 10 ∷ outline_text page_line (alone page.tree)) (codes "# page" ++ 10 ∷ outline_text page_line (page_nodes w.state.back))
           (ap (λ (p : PageValue). codes "# page" ++ 10 ∷ outline_text page_line (alone p.tree)) same) ok err,
     )
 
@@ -262,7 +262,7 @@ pub show-carries : (result : Result (Unit {0}) Stop) (honest honest1 : Type 0) (
     → SettlesTo honest honest1 up down up1 down1 e e1 → tree ≡ e1.front.value.tree → GoesWell result
     → OnOk result (Appends taken taken1 (codes "# front" ++ 10 ∷ outline_text seen_line tree))
     → OnErr result (WrotePart taken taken1 (codes "# front" ++ 10 ∷ outline_text seen_line tree))
-    → CarriesOut (scene (moment honest up down e) taken) (scene (moment honest1 up1 down1 e1) taken1) (line_of number show_front) result
+    → CarriesOut (scene (moment honest up down e) taken) (scene (moment honest1 up1 down1 e1) taken1) (numbered_line number show_front) result
 show-carries result honest honest1 up down up1 down1 taken taken1 e e1 number tree settles same never ok err = λ up0 down0 more w play.
     let v : World RunState = play.fresh in
     let after : InRun honest1 up0 down0 up1 down1 (refreshes front_fetcher v) e1 = settles up0 down0 v (left-none v.spent (more + least_line) play.both.left) play.in_run in
@@ -282,7 +282,7 @@ pub sheets-carries : (result : Result (Unit {0}) Stop) (honest honest1 : Type 0)
     → SettlesTo honest honest1 up down up1 down1 e e1 → sheets ≡ e1.front.value.sheets → GoesWell result
     → OnOk result (Appends taken taken1 (codes "# sheets" ++ 10 ∷ known_lines sheets))
     → OnErr result (WrotePart taken taken1 (codes "# sheets" ++ 10 ∷ known_lines sheets))
-    → CarriesOut (scene (moment honest up down e) taken) (scene (moment honest1 up1 down1 e1) taken1) (line_of number show_sheets) result
+    → CarriesOut (scene (moment honest up down e) taken) (scene (moment honest1 up1 down1 e1) taken1) (numbered_line number show_sheets) result
 sheets-carries result honest honest1 up down up1 down1 taken taken1 e e1 number sheets settles same never ok err = λ up0 down0 more w play.
     let v : World RunState = play.fresh in
     let after : InRun honest1 up0 down0 up1 down1 (refreshes front_fetcher v) e1 = settles up0 down0 v (left-none v.spent (more + least_line) play.both.left) play.in_run in
@@ -410,7 +410,7 @@ told-play line honest1 up0 down0 up1 down1 more w v e1 e2 n later is both after 
 pub replies-carried : (number : ℕ) (honest honest1 : Type 0) (up down up1 down1 : Pipe) (taken taken1 : Option (List ℕ)) (e e1 e2 : Ends) (kept : List Kept)
     → SettlesTo honest honest1 up down up1 down1 e e1 → Untold e1.told e1.front.value.replies kept
     → Appends taken taken1 (replies_text kept) → e2 ≡ record e1 { told = length e1.front.value.replies }
-    → CarriesOut {T = Unit {0}} (scene (moment honest up down e) taken) (scene (moment honest1 up1 down1 e2) taken1) (line_of number show_replies) (Ok tt)
+    → CarriesOut {T = Unit {0}} (scene (moment honest up down e) taken) (scene (moment honest1 up1 down1 e2) taken1) (numbered_line number show_replies) (Ok tt)
 replies-carried number honest honest1 up down up1 down1 taken taken1 e e1 e2 kept settles u printed told = λ up0 down0 more w play.
     let v : World RunState = play.fresh in
     let before : BeforeTold honest1 up0 down0 up1 down1 w v e1 = before-told honest honest1 up0 down0 up down up1 down1 more w e e1 settles play in
@@ -427,7 +427,7 @@ replies-carried number honest honest1 up down up1 down1 taken taken1 e e1 e2 kep
 pub replies-stop : (number : ℕ) (stop : Stop) (honest honest1 : Type 0) (up down up1 down1 : Pipe) (taken taken1 : Option (List ℕ)) (e e1 e2 : Ends) (kept : List Kept)
     → SettlesTo honest honest1 up down up1 down1 e e1 → Untold e1.told e1.front.value.replies kept
     → GoesWell {T = Unit {0}} (Err stop) → WrotePart taken taken1 (replies_text kept)
-    → CarriesOut {T = Unit {0}} (scene (moment honest up down e) taken) (scene (moment honest1 up1 down1 e2) taken1) (line_of number show_replies) (Err stop)
+    → CarriesOut {T = Unit {0}} (scene (moment honest up down e) taken) (scene (moment honest1 up1 down1 e2) taken1) (numbered_line number show_replies) (Err stop)
 replies-stop number stop honest honest1 up down up1 down1 taken taken1 e e1 e2 kept settles u never wrote = λ up0 down0 more w play.
     let before : BeforeTold honest1 up0 down0 up1 down1 w play.fresh e1 = before-told honest honest1 up0 down0 up down up1 down1 more w e e1 settles play in
     (never, tt, subst (λ t. WrotePart taken taken1 t) (replies-same number w e1 kept before.shown (ap (λ (n : AlreadyTold). n.replies) before.told) u) wrote)
@@ -436,7 +436,7 @@ replies-stop number stop honest honest1 up down up1 down1 taken taken1 e e1 e2 k
 pub pauses-carried : (number : ℕ) (honest honest1 : Type 0) (up down up1 down1 : Pipe) (taken taken1 : Option (List ℕ)) (e e1 e2 : Ends) (kept : List SeenPause)
     → SettlesTo honest honest1 up down up1 down1 e e1 → Untold e1.told_pauses e1.front.value.pauses kept
     → Appends taken taken1 (pauses_text kept) → e2 ≡ record e1 { told_pauses = length e1.front.value.pauses }
-    → CarriesOut {T = Unit {0}} (scene (moment honest up down e) taken) (scene (moment honest1 up1 down1 e2) taken1) (line_of number show_pauses) (Ok tt)
+    → CarriesOut {T = Unit {0}} (scene (moment honest up down e) taken) (scene (moment honest1 up1 down1 e2) taken1) (numbered_line number show_pauses) (Ok tt)
 pauses-carried number honest honest1 up down up1 down1 taken taken1 e e1 e2 kept settles u printed told = λ up0 down0 more w play.
     let v : World RunState = play.fresh in
     let before : BeforeTold honest1 up0 down0 up1 down1 w v e1 = before-told honest honest1 up0 down0 up down up1 down1 more w e e1 settles play in
@@ -454,7 +454,7 @@ pauses-carried number honest honest1 up down up1 down1 taken taken1 e e1 e2 kept
 pub pauses-stop : (number : ℕ) (stop : Stop) (honest honest1 : Type 0) (up down up1 down1 : Pipe) (taken taken1 : Option (List ℕ)) (e e1 e2 : Ends) (kept : List SeenPause)
     → SettlesTo honest honest1 up down up1 down1 e e1 → Untold e1.told_pauses e1.front.value.pauses kept
     → GoesWell {T = Unit {0}} (Err stop) → WrotePart taken taken1 (pauses_text kept)
-    → CarriesOut {T = Unit {0}} (scene (moment honest up down e) taken) (scene (moment honest1 up1 down1 e2) taken1) (line_of number show_pauses) (Err stop)
+    → CarriesOut {T = Unit {0}} (scene (moment honest up down e) taken) (scene (moment honest1 up1 down1 e2) taken1) (numbered_line number show_pauses) (Err stop)
 pauses-stop number stop honest honest1 up down up1 down1 taken taken1 e e1 e2 kept settles u never wrote = λ up0 down0 more w play.
     let before : BeforeTold honest1 up0 down0 up1 down1 w play.fresh e1 = before-told honest honest1 up0 down0 up down up1 down1 more w e e1 settles play in
     (never, tt, subst (λ t. WrotePart taken taken1 t) (pauses-same number w e1 kept before.shown (ap (λ (n : AlreadyTold). n.pauses) before.told) u) wrote)
@@ -503,8 +503,8 @@ pub report-loads : (input first : List ℕ) (more : List (List ℕ)) (page : Loa
     → lines_of input ≡ first ∷ more → line_fault 1 first ≡ None → line_form first ≡ Some (load page)
     → report input ≡ rest_text (first_bad 2 more) (good_lines 2 more) (loaded_world page)
 report-loads input first more page lines good is =
-    ap (λ bad. text_of bad (script_forms input)) (bad-first input first more lines good)
-    ∙ ap (text_of (first_bad 2 more)) (forms-first input first more (load page) lines good is)
+    ap (λ bad. text_by_refusal bad (script_forms input)) (bad-first input first more lines good)
+    ∙ ap (text_by_refusal (first_bad 2 more)) (forms-first input first more (load page) lines good is)
 
 pub refused-loads : (input first : List ℕ) (more : List (List ℕ)) (page : LoadedPage)
     → lines_of input ≡ first ∷ more → line_fault 1 first ≡ None → line_form first ≡ Some (load page)
@@ -577,7 +577,7 @@ stands-first page seat side can texts new =
         on_is = new.off;
         css_is = new.css;
         watches_are = new.watches_are;
-        stands = subst (λ b. Stands (nodes_in (loaded_state page)) begun b) (sym new.agent_is) (Stands-begun (nodes_in (loaded_state page)));
+        stands = subst (λ b. Stands (page_nodes (loaded_state page)) begun b) (sym new.agent_is) (Stands-begun (page_nodes (loaded_state page)));
       };
       kept = record { edits = new.history_is; history = is.history };
     }

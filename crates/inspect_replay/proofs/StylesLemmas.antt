@@ -24,7 +24,7 @@ use Rattle.inspect_replay.specs.Says.{says_of}
 use Rattle.inspect_replay.specs.Moments.{moment, scene}
 use Rattle.inspect_replay.specs.Answers.{AtEnd, RunTells, RunTook}
 use Rattle.inspect_replay.specs.Followed.{AllCame, fold_since, FollowsRun}
-use Rattle.inspect_replay.specs.Prints.{CarriesLine, line_of}
+use Rattle.inspect_replay.specs.Prints.{CarriesLine, numbered_line}
 use Rattle.inspect_replay.proofs.RunLemmas.{SettlesTo, left-none, plays, after-ok, shown-settled}
 use Rattle.inspect_replay.proofs.LinesTell.{at-end}
 use Rattle.inspect_replay.proofs.FollowLemmas.{run-came, run-kept}
@@ -67,7 +67,7 @@ shown-styles w e1 ask shown = sym (under-kept ask e1.front.value.matched) ∙ ap
 pub styles-carry : (result : Result (Unit {0}) Stop) (number ask : ℕ) (found : Option Matched) (honest honest1 : Type 0) (up down up1 down1 : Pipe) (taken taken1 : Option (List ℕ)) (e e1 : Ends)
     → SettlesTo honest honest1 up down up1 down1 e e1 → found ≡ matched_in ask e1.front.value.matched
     → RunTook result taken taken1 (styles_shown ask found) → RunTells result (numbered_or number (styles_missing (is_some found)) None)
-    → CarriesLine (scene (moment honest up down e) taken) (scene (moment honest1 up1 down1 e1) taken1) (line_of number (show_styles ask)) result
+    → CarriesLine (scene (moment honest up down e) taken) (scene (moment honest1 up1 down1 e1) taken1) (numbered_line number (show_styles ask)) result
 styles-carry result number ask found honest honest1 up down up1 down1 taken taken1 e e1 settles is took tells = λ up0 down0 more w play.
     let v : World RunState = play.fresh in
     let after : InRun honest1 up0 down0 up1 down1 (refreshes front_fetcher v) e1 = settles up0 down0 v (left-none v.spent (more + least_line) play.both.left) play.in_run in

@@ -8,7 +8,7 @@ use Rattle.front_mirror.specs.Front.{FrontValue}
 use Rattle.front_mirror.specs.Outline.{outline_text, seen_line}
 use Rattle.back_end.specs.States.{State}
 use Rattle.replay_script.specs.Script.{numbered_or, styles_fault, first_refused}
-use Rattle.inspect_world.specs.Links.{Started, started, one_line_more, came_styles, Follows, fold_of}
+use Rattle.inspect_world.specs.Links.{Started, run_started, one_line_more, came_styles, Follows, fold_of}
 use Rattle.inspect_world.specs.ShownReplies.{ShownReply, replies_in, reply_id}
 use Rattle.inspect_replay.specs.declared.ends.Ends.{Ends}
 use Rattle.inspect_replay.specs.declared.status.Status.{Status}
@@ -103,13 +103,13 @@ LineTells old new line result =
 -- The lines were carried out: while the matched styles of the asks that they show are there, none of them is refused.
 pub record LinesCarried (state0 : State) (up0 down0 : Pipe) (new : Moment) (lines : List (List ℕ)) : Type 0 where
   pub shown : List ℕ
-  pub run : FollowsRun (started state0 0 shown) up0 down0 new.up new.down new.ends
+  pub run : FollowsRun (run_started state0 0 shown) up0 down0 new.up new.down new.ends
   pub none : (there : ℕ → Bool) → All (λ ask. there ask ≡ true) shown → first_refused there 2 lines ≡ None
 
 -- and of one that carries out these lines, the first of which has the number 2
 abbrev pub LinesFollow : {T : Type 0} → Moment → Moment → List (List ℕ) → Result T Stop → Type 0
 LinesFollow old new lines result =
-    (state0 : State) (up0 down0 : Pipe) → FollowsRun (started state0 (length lines) []) up0 down0 old.up old.down old.ends
+    (state0 : State) (up0 down0 : Pipe) → FollowsRun (run_started state0 (length lines) []) up0 down0 old.up old.down old.ends
     → OnOk result (LinesCarried state0 up0 down0 new lines)
     × StopFolds result (fold_since up0 down0 new.up new.down)
     × RunTells result (first_refused (came_styles (fold_since up0 down0 new.up new.down).fold) 2 lines)

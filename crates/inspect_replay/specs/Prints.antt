@@ -23,8 +23,8 @@ pub record NumberedLine : Type 0 where
   pub form : LineForm
 
 -- these together
-abbrev pub line_of : ℕ → LineForm → NumberedLine
-line_of number form = record { number = number; form = form }
+abbrev pub numbered_line : ℕ → LineForm → NumberedLine
+numbered_line number form = record { number = number; form = form }
 
 -- a line is carried out, and prints what it prints
 abbrev pub CarriesOut : {T : Type 0} → Scene → Scene → NumberedLine → Result T Stop → Type 0

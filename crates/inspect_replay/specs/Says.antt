@@ -48,21 +48,21 @@ pub record Says : Type 0 where
   pub over : Bool
 
 -- an answer that says how far the call had come, and nothing else
-abbrev pub at : Phase → Says
-at phase = record { phase = phase; failed = None; line = None; lie = None; over = false }
+abbrev pub come_to : Phase → Says
+come_to phase = record { phase = phase; failed = None; line = None; lie = None; over = false }
 
 -- what each status says
 abbrev pub says : Status → Says
-says status.Done = at ended
-says status.Usage = at untouched
-says (status.Line number fault) = record (at ended) { line = Some (number, fault) }
-says status.TooLong = record (at reading) { over = true }
-says status.ReadFault = record (at reading) { failed = Some source }
-says status.WriteFault = record (at underway) { failed = Some sink }
-says status.LinkFault = record (at underway) { failed = Some link }
-says (status.FrontRefused place kind) = record (at underway) { lie = Some (refused (record { place = place; kind = kind })) }
-says status.NoRoom = record (at underway) { lie = Some no_room }
-says status.Memory = at anywhen
+says status.Done = come_to ended
+says status.Usage = come_to untouched
+says (status.Line number fault) = record (come_to ended) { line = Some (number, fault) }
+says status.TooLong = record (come_to reading) { over = true }
+says status.ReadFault = record (come_to reading) { failed = Some source }
+says status.WriteFault = record (come_to underway) { failed = Some sink }
+says status.LinkFault = record (come_to underway) { failed = Some link }
+says (status.FrontRefused place kind) = record (come_to underway) { lie = Some (refused (record { place = place; kind = kind })) }
+says status.NoRoom = record (come_to underway) { lie = Some no_room }
+says status.Memory = come_to anywhen
 
 -- the status that a stop is
 abbrev pub status_of : Stop → Status
@@ -77,7 +77,7 @@ status_of Memory = status.Memory
 
 -- what a result of a part of the call says
 abbrev pub says_of : {T : Type 0} → Result T Stop → Says
-says_of (Ok value) = at ended
+says_of (Ok value) = come_to ended
 says_of (Err stop) = says (status_of stop)
 
 -- ---- causes

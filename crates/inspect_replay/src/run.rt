@@ -21,7 +21,7 @@ ghost use Rattle.inspect_replay.specs.Stops.{HasStopCause, HasRunCause};
 ghost use Rattle.inspect_replay.specs.Answers.{RunTells, RunTook};
 ghost use Rattle.inspect_replay.specs.Moments.{moment, scene};
 ghost use Rattle.inspect_replay.specs.Followed.{KeepsFollowing, LineFollows, LineTells, LinesFollow, PrintedSome, ClosesShown, StopFolds, fold_since, EndsShown, AnswersInOrder, GivesNoMore};
-ghost use Rattle.inspect_replay.specs.Prints.{CarriesOut, CarriesLine, RunsLines, Closes, IsRead, line_of, load_of};
+ghost use Rattle.inspect_replay.specs.Prints.{CarriesOut, CarriesLine, RunsLines, Closes, IsRead, numbered_line, load_of};
 
 use crate::ends::Ends;
 use crate::show::{
@@ -48,7 +48,7 @@ fn show_front<K: Sink, L: Link>(
         (moment (L.honest link.new) (L.up link.new) (L.down link.new) ends.new) result }
     ensures some { OnOk result (PrintedSome (K.taken out.old) (K.taken out.new)) }
     ensures runs { (number : ℕ) → CarriesOut (scene (moment (L.honest link.old) (L.up link.old) (L.down link.old) ends.old) (K.taken out.old))
-        (scene (moment (L.honest link.new) (L.up link.new) (L.down link.new) ends.new) (K.taken out.new)) (line_of number show_front) result }
+        (scene (moment (L.honest link.new) (L.up link.new) (L.down link.new) ends.new) (K.taken out.new)) (numbered_line number show_front) result }
 {
     match ends.settle(link) {
         Ok(()) => print_outline(alloc, "# front", ends.mirror(), out),
@@ -69,7 +69,7 @@ fn show_replies<K: Sink, L: Link>(
         (moment (L.honest link.new) (L.up link.new) (L.down link.new) ends.new) result }
     ensures some { OnOk result (PrintedSome (K.taken out.old) (K.taken out.new)) }
     ensures runs { (number : ℕ) → CarriesOut (scene (moment (L.honest link.old) (L.up link.old) (L.down link.old) ends.old) (K.taken out.old))
-        (scene (moment (L.honest link.new) (L.up link.new) (L.down link.new) ends.new) (K.taken out.new)) (line_of number show_replies) result }
+        (scene (moment (L.honest link.new) (L.up link.new) (L.down link.new) ends.new) (K.taken out.new)) (numbered_line number show_replies) result }
 {
     match ends.settle(link) {
         Ok(()) => {}
@@ -99,7 +99,7 @@ fn show_sheets<K: Sink, L: Link>(
         (moment (L.honest link.new) (L.up link.new) (L.down link.new) ends.new) result }
     ensures some { OnOk result (PrintedSome (K.taken out.old) (K.taken out.new)) }
     ensures runs { (number : ℕ) → CarriesOut (scene (moment (L.honest link.old) (L.up link.old) (L.down link.old) ends.old) (K.taken out.old))
-        (scene (moment (L.honest link.new) (L.up link.new) (L.down link.new) ends.new) (K.taken out.new)) (line_of number show_sheets) result }
+        (scene (moment (L.honest link.new) (L.up link.new) (L.down link.new) ends.new) (K.taken out.new)) (numbered_line number show_sheets) result }
 {
     match ends.settle(link) {
         Ok(()) => print_sheets(alloc, ends.front(), out),
@@ -120,7 +120,7 @@ fn show_pauses<K: Sink, L: Link>(
         (moment (L.honest link.new) (L.up link.new) (L.down link.new) ends.new) result }
     ensures some { OnOk result (PrintedSome (K.taken out.old) (K.taken out.new)) }
     ensures runs { (number : ℕ) → CarriesOut (scene (moment (L.honest link.old) (L.up link.old) (L.down link.old) ends.old) (K.taken out.old))
-        (scene (moment (L.honest link.new) (L.up link.new) (L.down link.new) ends.new) (K.taken out.new)) (line_of number show_pauses) result }
+        (scene (moment (L.honest link.new) (L.up link.new) (L.down link.new) ends.new) (K.taken out.new)) (numbered_line number show_pauses) result }
 {
     match ends.settle(link) {
         Ok(()) => {}
@@ -151,10 +151,10 @@ fn show_styles<K: Sink, L: Link>(
     ensures follows { KeepsFollowing (moment (L.honest link.old) (L.up link.old) (L.down link.old) ends.old)
         (moment (L.honest link.new) (L.up link.new) (L.down link.new) ends.new) result }
     ensures tells { LineTells (moment (L.honest link.old) (L.up link.old) (L.down link.old) ends.old)
-        (moment (L.honest link.new) (L.up link.new) (L.down link.new) ends.new) (line_of number (show_styles ask)) result }
+        (moment (L.honest link.new) (L.up link.new) (L.down link.new) ends.new) (numbered_line number (show_styles ask)) result }
     ensures some { OnOk result (PrintedSome (K.taken out.old) (K.taken out.new)) }
     ensures runs { CarriesLine (scene (moment (L.honest link.old) (L.up link.old) (L.down link.old) ends.old) (K.taken out.old))
-        (scene (moment (L.honest link.new) (L.up link.new) (L.down link.new) ends.new) (K.taken out.new)) (line_of number (show_styles ask)) result }
+        (scene (moment (L.honest link.new) (L.up link.new) (L.down link.new) ends.new) (K.taken out.new)) (numbered_line number (show_styles ask)) result }
 {
     match ends.settle(link) {
         Ok(()) => print_matched(alloc, number, ask, ends.matched_reply(ask), out),
@@ -178,7 +178,7 @@ fn carry_act<K: Sink, L: Link>(
         (moment (L.honest link.new) (L.up link.new) (L.down link.new) ends.new) result }
     ensures some { OnOk result (PrintedSome (K.taken out.old) (K.taken out.new)) }
     ensures runs { CarriesOut (scene (moment (L.honest link.old) (L.up link.old) (L.down link.old) ends.old) (K.taken out.old))
-        (scene (moment (L.honest link.new) (L.up link.new) (L.down link.new) ends.new) (K.taken out.new)) (line_of number (act change)) result }
+        (scene (moment (L.honest link.new) (L.up link.new) (L.down link.new) ends.new) (K.taken out.new)) (numbered_line number (act change)) result }
 {
     match ends.change_page(link, change) {
         Ok(fault) => print_fault(alloc, number, fault, out),
@@ -230,7 +230,7 @@ fn carry_plain<K: Sink, L: Link>(
         (moment (L.honest link.new) (L.up link.new) (L.down link.new) ends.new) result }
     ensures some { OnOk result (PrintedSome (K.taken out.old) (K.taken out.new)) }
     ensures runs { CarriesOut (scene (moment (L.honest link.old) (L.up link.old) (L.down link.old) ends.old) (K.taken out.old))
-        (scene (moment (L.honest link.new) (L.up link.new) (L.down link.new) ends.new) (K.taken out.new)) (line_of number (seen line)) result }
+        (scene (moment (L.honest link.new) (L.up link.new) (L.down link.new) ends.new) (K.taken out.new)) (numbered_line number (seen line)) result }
 {
     match line {
         Line::Load(page) => ends.load_page(link, page),
@@ -264,10 +264,10 @@ fn carry_out<K: Sink, L: Link>(
     ensures follows { LineFollows (moment (L.honest link.old) (L.up link.old) (L.down link.old) ends.old)
         (moment (L.honest link.new) (L.up link.new) (L.down link.new) ends.new) result }
     ensures tells { LineTells (moment (L.honest link.old) (L.up link.old) (L.down link.old) ends.old)
-        (moment (L.honest link.new) (L.up link.new) (L.down link.new) ends.new) (line_of number (seen line)) result }
+        (moment (L.honest link.new) (L.up link.new) (L.down link.new) ends.new) (numbered_line number (seen line)) result }
     ensures some { OnOk result (PrintedSome (K.taken out.old) (K.taken out.new)) }
     ensures runs { CarriesLine (scene (moment (L.honest link.old) (L.up link.old) (L.down link.old) ends.old) (K.taken out.old))
-        (scene (moment (L.honest link.new) (L.up link.new) (L.down link.new) ends.new) (K.taken out.new)) (line_of number (seen line)) result }
+        (scene (moment (L.honest link.new) (L.up link.new) (L.down link.new) ends.new) (K.taken out.new)) (numbered_line number (seen line)) result }
 {
     match line.styles_ask() {
         Some(ask) => show_styles(alloc, number, ask, ends, out, link),

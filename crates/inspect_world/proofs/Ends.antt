@@ -21,7 +21,7 @@ use Rattle.inspect_world.specs.RunStates.{RunState, run_step, run_turn}
 use Rattle.back_end.specs.Laws.{HasRoom}
 use Rattle.back_end.specs.Seats.{StandsFor, HasRoomLeft}
 use Rattle.inspect_world.specs.Costs.{ask_edits, least_line, line_cost}
-use Rattle.inspect_world.specs.Fits.{join, IsNext, next_raw, IsBare, IsNextTurn, replay, ask_in, ask_with, with_ask, most_frames, most_fetches, HasLeft, IsFit}
+use Rattle.inspect_world.specs.Fits.{join, IsNext, next_raw, IsBare, IsNextTurn, replay, ask_of_frame, ask_with, with_ask, most_frames, most_fetches, HasLeft, IsFit}
 use Rattle.inspect_world.specs.FreshRuns.{front_fetcher}
 use Rattle.inspect_world.specs.Scripts.{sends, loaded_world}
 use Rattle.page_forms.specs.Texts.{PageHasTexts}
@@ -42,11 +42,11 @@ use Rattle.inspect_world.proofs.Pipes.{carries-start, carries-put, carries-get}
 
 -- what a front makes of frames that it does not refuse
 pub front-folded : (frames : List (List ℕ)) (v w : FrontValue) → folded take_frame v frames ≡ Ok w
-    → front.folded v frames ≡ record { value = w; fault = None }
+    → front.front_folded v frames ≡ record { value = w; fault = None }
 front-folded [] v w e = let same : v ≡ w = cc in ap (λ value. record { value = value; fault = None }) same
 front-folded (frame ∷ frames) v w e =
     (elim (take_frame v frame) as (λ (r : Result FrontValue FrontKind). then r (λ next. folded take_frame next frames) ≡ Ok w
-    → after_message v (λ next. front.folded next frames) r ≡ record { value = w; fault = None }) [
+    → after_message v (λ next. front.front_folded next frames) r ≡ record { value = w; fault = None }) [
       | Ok next ↦ λ rest. front-folded frames next w rest
       | Err kind ↦ λ rest. let no : ◌≡◌ {A = Result FrontValue FrontKind} (Err kind) (Ok w) = rest in cc
     ]) e
@@ -80,7 +80,7 @@ takes up0 down0 up down w frames e n piece in_world front_part =
     let halves : Halves take_frame in_world.value in_world.fits.front (arriving n w.down) (awaited (passed n w.down)) =
     folded-halves take_frame in_world.value in_world.fits.front (arriving n w.down) (awaited (passed n w.down))
     (ap (folded take_frame in_world.value) (sym (awaited-passed n w.down)) ∙ coming) in
-    let taken : front.folded in_world.value (arriving n w.down) ≡ record { value = halves.middle; fault = None } =
+    let taken : front.front_folded in_world.value (arriving n w.down) ≡ record { value = halves.middle; fault = None } =
     front-folded (arriving n w.down) in_world.value halves.middle halves.before in
     record {
       value = halves.middle;
@@ -173,7 +173,7 @@ world-sent up0 down0 up down up1 w e a text there in_world can room text_is sent
     let few : w.spent.asks + w.spent.raws + 1 ≤ most_frames = frame-left w.spent (ask_edits a) room in
     let small : w.spent.asks + 1 < 2 ^ 30 = omega (arith, few) in
     let sends_text = command_text (w.spent.asks + 1) a.method a.params a.session in
-    let is : ask_in sends_text ≡ Some (ask_with a.method (w.spent.asks + 1)) = ask_in-sent (w.spent.asks + 1) a can small in
+    let is : ask_of_frame sends_text ≡ Some (ask_with a.method (w.spent.asks + 1)) = ask_in-sent (w.spent.asks + 1) a can small in
     let joins : join in_world.value sends_text ≡ with_ask in_world.value (Some (ask_with a.method (w.spent.asks + 1))) = ap (with_ask in_world.value) is in
     world-sent_up up0 down0 up down up1 w e sends_text (one_ask (ask_edits a)) (after_ask e.front a.method) there in_world
     (IsText-sent (w.spent.asks + 1) a can (omega (arith, few))) (IsNext-sent w.spent a can few (edits-left w.spent (ask_edits a) room) small)
@@ -200,7 +200,7 @@ pub world-fetched : (up0 down0 up down up1 : Pipe) (w : World RunState) (e : End
     (record e { front = after_fetch e.front sheet; up_there = there })
 world-fetched up0 down0 up down up1 w e sheet there in_world fits few sent_is given_is left =
     let text = front_fetcher.text w.spent.fetches sheet in
-    let is : ask_in text ≡ Some (fetch_ask w.spent.fetches sheet) = fetcher-asks w.spent.fetches sheet few fits in
+    let is : ask_of_frame text ≡ Some (fetch_ask w.spent.fetches sheet) = fetcher-asks w.spent.fetches sheet few fits in
     let joins : join in_world.value text ≡ with_ask in_world.value (Some (fetch_ask w.spent.fetches sheet)) = ap (with_ask in_world.value) is in
     world-sent_up up0 down0 up down up1 w e text one_fetch (after_fetch e.front sheet) there in_world
     (fetcher-text w.spent.fetches sheet few) (fetcher-next w.spent sheet few fits)

@@ -22,7 +22,7 @@ use Rattle.cdp_messages.proofs.Messages.{json_of-compact_text}
 use Rattle.cdp_messages.proofs.ZeroFree.{texts_have_no_zero}
 use Rattle.front_mirror.specs.Front.{fetch_ask, fetch_params}
 use Rattle.inspect_world.specs.World.{Spent, one_fetch}
-use Rattle.inspect_world.specs.Fits.{sheet_told, sheet_asked, ask_by, ask_of, ask_in, most_fetches, IsNext, next_fetch}
+use Rattle.inspect_world.specs.Fits.{sheet_told, sheet_asked, ask_by, ask_of, ask_of_frame, most_fetches, IsNext, next_fetch}
 use Rattle.inspect_world.specs.FreshRuns.{front_fetcher}
 
 -- the value of a fetch, by its id
@@ -69,7 +69,7 @@ value_fetch id sheet small = rw small
 
 -- it is the ask of that sheet
 fetch-asks : (id sheet : ℕ) → sheet < 2 ^ 64 → id < 2 ^ 53 → nat_lt id (2 ^ 30) ≡ false
-    → ask_in (command_text id (codes "CSS.getStyleSheetText") (Some (fetch_params sheet)) None) ≡ Some (record { id = id; method = codes "CSS.getStyleSheetText"; sheet = Some sheet })
+    → ask_of_frame (command_text id (codes "CSS.getStyleSheetText") (Some (fetch_params sheet)) None) ≡ Some (record { id = id; method = codes "CSS.getStyleSheetText"; sheet = Some sheet })
 fetch-asks id sheet fits small high =
     let c : is_counted id ≡ true = lt-ltb id (2 ^ 53) small in
     ap (λ o. option_and_then ask_of (option_and_then as_object o))
@@ -88,10 +88,10 @@ fetch-small count few = omega (arith, few)
 pub fetcher-text : (count sheet : ℕ) → count + 1 ≤ most_fetches → IsText (front_fetcher.text count sheet)
 fetcher-text count sheet few = fetch-text (2 ^ 30 + count) sheet (fetch-small count few)
 
-pub sent-fetch : (count sheet : ℕ) → 2 ^ 30 + count < 2 ^ 53 → sheet < 2 ^ 64 → ask_in (front_fetcher.text count sheet) ≡ Some (fetch_ask count sheet)
+pub sent-fetch : (count sheet : ℕ) → 2 ^ 30 + count < 2 ^ 53 → sheet < 2 ^ 64 → ask_of_frame (front_fetcher.text count sheet) ≡ Some (fetch_ask count sheet)
 sent-fetch count sheet small fits = fetch-asks (2 ^ 30 + count) sheet fits small (high-id count)
 
-pub fetcher-asks : (count sheet : ℕ) → count + 1 ≤ most_fetches → sheet < 2 ^ 64 → ask_in (front_fetcher.text count sheet) ≡ Some (fetch_ask count sheet)
+pub fetcher-asks : (count sheet : ℕ) → count + 1 ≤ most_fetches → sheet < 2 ^ 64 → ask_of_frame (front_fetcher.text count sheet) ≡ Some (fetch_ask count sheet)
 fetcher-asks count sheet few fits = sent-fetch count sheet (fetch-small count few) fits
 
 -- what the back end reads in a fetch

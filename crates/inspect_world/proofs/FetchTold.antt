@@ -31,7 +31,7 @@ use Rattle.back_end.specs.Servers.{css_agent}
 use Rattle.back_end.specs.Steps.{Step, refusing, text_answer, command_step, asked_step, frame_step}
 use Rattle.back_end.specs.Sheets.{as_book}
 use Rattle.inspect_world.specs.Fits as fits
-use Rattle.inspect_world.specs.Fits.{sheet_told, sheet_asked, ask_of, ask_in}
+use Rattle.inspect_world.specs.Fits.{sheet_told, sheet_asked, ask_of, ask_of_frame}
 use Rattle.inspect_world.proofs.Messages.{id_method, there}
 use Rattle.inspect_world.proofs.ShownSheets.{IsEntryOf, book-entry, entry-id}
 use Rattle.cdp_json.proofs.Options.{and_then_some}
@@ -84,7 +84,7 @@ record FetchParts (id : ℕ) (method : List ℕ) (params : Option Data) (sheet :
   text_is : field_of as_str (codes "styleSheetId") members ≡ Is text
   names : sheet_told text ≡ Some sheet
 
-fetch-object : (d : Data) (sheet : ℕ) (id : ℕ) (method : List ℕ) → method ≡ codes "CSS.getStyleSheetText" → fits.sheet_named d ≡ Some sheet → FetchParts id method (Some d) sheet
+fetch-object : (d : Data) (sheet : ℕ) (id : ℕ) (method : List ℕ) → method ≡ codes "CSS.getStyleSheetText" → fits.sheet_in_params d ≡ Some sheet → FetchParts id method (Some d) sheet
 fetch-object d sheet id method is e =
     let o = and_then_some (λ ms. option_and_then sheet_told (option_and_then as_str (get_member (codes "styleSheetId") ms))) (as_object d) sheet e in
     let t = and_then_some sheet_told (option_and_then as_str (get_member (codes "styleSheetId") o.0)) sheet o.2 in
@@ -98,7 +98,7 @@ fetch-object d sheet id method is e =
     }
 
 fetch-parts : (id : ℕ) (method : List ℕ) (params : Option Data) (sheet : ℕ) (low named : Bool) → bytes_eq method (codes "CSS.getStyleSheetText") ≡ named
-    → cond low None (cond named (option_and_then fits.sheet_named params) None) ≡ Some sheet → FetchParts id method params sheet
+    → cond low None (cond named (option_and_then fits.sheet_in_params params) None) ≡ Some sheet → FetchParts id method params sheet
 fetch-parts id method params sheet true named is e = absurd cc
 fetch-parts id method None sheet false true is e = absurd cc
 fetch-parts id method (Some d) sheet false true is e = fetch-object d sheet id method ((bytes_eq-Decides method (codes "CSS.getStyleSheetText")).0 is) e
@@ -112,7 +112,7 @@ fetch-command id method params session sheet p =
     ∙ ap (λ ps. then_ok ps (λ ms. unless_session session (command_for false (codes "CSS.getStyleSheetText") ms))) p.params_are
     ∙ ap (λ f. unless_session session (then_ok (then_ok (required (BadParam param.StyleSheetId) f) (with_later (λ _. Ok tt) p.members)) (λ x. Ok (GetStyleSheetText x.0)))) p.text_is
 
-pub text-asked : (frame : List ℕ) (ask : Ask) (sheet : ℕ) → ask_in frame ≡ Some ask → ask.sheet ≡ Some sheet → TextAsked frame ask.id sheet
+pub text-asked : (frame : List ℕ) (ask : Ask) (sheet : ℕ) → ask_of_frame frame ≡ Some ask → ask.sheet ≡ Some sheet → TextAsked frame ask.id sheet
 text-asked frame ask sheet is fetches =
     let o = and_then_some ask_of (option_and_then as_object (json_of frame)) ask is in
     let d = and_then_some as_object (json_of frame) o.0 o.1 in
@@ -167,7 +167,7 @@ answered-asked id sheet state text None told =
     answered-on id sheet state.client.dom_on state.client.css_on state (record { state = state; moves = text_answer id (sheet_named text (book_in state)) ∷ [] })
     (answered-entry id sheet state (sheet_named text (book_in state)) (λ e named. named-id text sheet (book_in state) e told named))
 
-pub fetch-answered : (frame : List ℕ) (ask : Ask) (sheet : ℕ) (state : State) → ask_in frame ≡ Some ask → ask.sheet ≡ Some sheet
+pub fetch-answered : (frame : List ℕ) (ask : Ask) (sheet : ℕ) (state : State) → ask_of_frame frame ≡ Some ask → ask.sheet ≡ Some sheet
     → FetchAnswered ask.id sheet state (frame_step false frame state)
 fetch-answered frame ask sheet state is fetches =
     let a : TextAsked frame ask.id sheet = text-asked frame ask sheet is fetches in

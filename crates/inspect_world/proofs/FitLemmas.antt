@@ -20,7 +20,7 @@ use Rattle.inspect_world.specs.RunStates.{RunState, ToldStyles, styles_answered,
 use Rattle.back_end.specs.Laws.{most_ids, tree_edits, edits_kept, edits_asked, KeepsAtMost, HasRoom, StepsWell, IsAnswered}
 use Rattle.inspect_world.specs.World.{Spent, one_turn}
 use Rattle.inspect_world.specs.Fold.{folded, then, Laws, Leads}
-use Rattle.inspect_world.specs.Fits.{join, ask_in, ask_with, sheet_in, IsPlainFrame, edits_in, drawing, asking, with_ask, Sendable, is_ask, is_bare, AreSendable, asks_among, most_bytes, most_frames, most_trees, IsNext, next_ask, next_fetch, next_raw, IsNextTurn, most_drawn, most_serials, most_numbers, kept_styles, IsFit, replay}
+use Rattle.inspect_world.specs.Fits.{join, ask_of_frame, ask_with, sheet_fetched, IsPlainFrame, edits_of_frame, drawing, asking, with_ask, Sendable, is_ask, is_bare, AreSendable, asks_among, most_bytes, most_frames, most_trees, IsNext, next_ask, next_fetch, next_raw, IsNextTurn, most_drawn, most_serials, most_numbers, kept_styles, IsFit, replay}
 use Rattle.front_mirror.proofs.FoldLemmas.{take_frame-more}
 use Rattle.inspect_world.proofs.AskLemmas.{asks_among-append, sendable-last, draws-one, draws-none, drawing-last, drawing-fetch, asks-edits, asks-none, asking-last, asking-fetch}
 use Rattle.inspect_world.proofs.TurnLemmas.{TurnKeeps, turn-keeps}
@@ -46,7 +46,7 @@ folded-join ask before after (frame ∷ frames) e =
     → then r (λ next. folded take_frame next frames) ≡ Ok after
     → then (take_frame (join before ask) frame) (λ next. folded take_frame next frames) ≡ Ok (join after ask)) [
       | Ok next ↦ λ is rest.
-          ap (λ result. then result (λ next. folded take_frame next frames)) (taken-with_ask before next (ask_in ask) frame is)
+          ap (λ result. then result (λ next. folded take_frame next frames)) (taken-with_ask before next (ask_of_frame ask) frame is)
           ∙ folded-join ask next after frames rest
       | Err kind ↦ λ is rest. let no : ◌≡◌ {A = Result FrontValue FrontKind} (Err kind) (Ok after) = rest in cc
     ]) refl e
@@ -148,8 +148,8 @@ fit-room n front s frames fit = record {
 -- ---- a frame is sent
 
 -- how many edits a frame comes to
-edits_in-is : (frame : List ℕ) → edits_in frame ≡ edits_asked (asked frame false)
-unfolding edits_in
+edits_in-is : (frame : List ℕ) → edits_of_frame frame ≡ edits_asked (asked frame false)
+unfolding edits_of_frame
 edits_in-is frame = refl
 
 more-frames : (asks raws sent : ℕ) → sent ≡ asks + raws + 1 → asks + raws + 1 ≤ most_frames → sent ≤ most_frames
@@ -165,7 +165,7 @@ fit-asked n _ text front s frames (next_ask method edits is asks few few_edits) 
       styles = ap (λ (v : FrontValue). map kept_styles v.matched) joins ∙ fit.styles;
       asks =
           asks_among-append frames (text ∷ [])
-          ∙ ap (λ asks. asks ++ (option_to_list (ask_in text) ++ [])) fit.asks
+          ∙ ap (λ asks. asks ++ (option_to_list (ask_of_frame text) ++ [])) fit.asks
           ∙ ap (λ o. front.asks ++ (option_to_list o ++ [])) is
           ∙ ap (λ (v : FrontValue). v.asks) (sym joins);
       sendable = sendable-last frames text fit.sendable (is_ask (ask_with method (n.asks + 1)) is);
@@ -175,20 +175,20 @@ fit-asked n _ text front s frames (next_ask method edits is asks few few_edits) 
       few_edits = few_edits;
       drawn = one_more_ids (length s.back.client.session.pushed + tree_edits s.back) (drawing frames) (drawing (frames ++ text ∷ [])) (n.asks + n.raws) (n.asks + 1 + n.raws) n.turns (drawing-last frames text) (omega arith) fit.drawn;
       trees = one_more_trees (tree_edits s.back) (drawing frames) (drawing (frames ++ text ∷ [])) (n.asks + n.raws) (n.asks + 1 + n.raws) (drawing-last frames text) (omega arith) fit.trees;
-      edits = one_more_edits (edits_kept s.back) (asking frames) (asking (frames ++ text ∷ [])) (edits_in text) edits n.edits (asking-last frames text) asks fit.edits;
+      edits = one_more_edits (edits_kept s.back) (asking frames) (asking (frames ++ text ∷ [])) (edits_of_frame text) edits n.edits (asking-last frames text) asks fit.edits;
       serials = one_more_serials s.back.side.page.next (drawing frames) (drawing (frames ++ text ∷ [])) (n.asks + n.raws + n.turns + 1) (n.asks + 1 + n.raws + n.turns + 1) (drawing-last frames text) (omega arith) fit.serials;
       numbers = one_more_numbers s.back.side.next_sheet (drawing frames) (drawing (frames ++ text ∷ [])) (n.asks + n.raws + n.turns + 1) (n.asks + 1 + n.raws + n.turns + 1) (drawing-last frames text) (omega arith) fit.numbers;
     }
 fit-asked n _ text front s frames (next_fetch sheet is few) fit =
     let joins : join front text ≡ with_ask front (Some (fetch_ask n.fetches sheet)) = ap (with_ask front) is in
-    let fetches : sheet_in text ≡ Some sheet = ap (option_and_then (λ (ask : Ask). ask.sheet)) is in
+    let fetches : sheet_fetched text ≡ Some sheet = ap (option_and_then (λ (ask : Ask). ask.sheet)) is in
     let drawn : drawing (frames ++ text ∷ []) ≡ drawing frames = drawing-fetch frames text sheet fetches in
     record {
       has = subst (λ v. Has v (view_of s.back)) (sym joins) (record { tree = fit.has.tree; sheets = fit.has.sheets });
       styles = ap (λ (v : FrontValue). map kept_styles v.matched) joins ∙ fit.styles;
       asks =
           asks_among-append frames (text ∷ [])
-          ∙ ap (λ asks. asks ++ (option_to_list (ask_in text) ++ [])) fit.asks
+          ∙ ap (λ asks. asks ++ (option_to_list (ask_of_frame text) ++ [])) fit.asks
           ∙ ap (λ o. front.asks ++ (option_to_list o ++ [])) is
           ∙ ap (λ (v : FrontValue). v.asks) (sym joins);
       sendable = sendable-last frames text fit.sendable (is_ask (fetch_ask n.fetches sheet) is);
@@ -209,7 +209,7 @@ fit-asked n _ text front s frames (next_raw bare few) fit =
       styles = ap (λ (v : FrontValue). map kept_styles v.matched) joins ∙ fit.styles;
       asks =
           asks_among-append frames (text ∷ [])
-          ∙ ap (λ asks. asks ++ (option_to_list (ask_in text) ++ [])) fit.asks
+          ∙ ap (λ asks. asks ++ (option_to_list (ask_of_frame text) ++ [])) fit.asks
           ∙ ap (λ o. front.asks ++ (option_to_list o ++ [])) bare.no_ask
           ∙ append-nil front.asks
           ∙ ap (λ (v : FrontValue). v.asks) (sym joins);
@@ -220,7 +220,7 @@ fit-asked n _ text front s frames (next_raw bare few) fit =
       few_edits = fit.few_edits;
       drawn = one_more_ids (length s.back.client.session.pushed + tree_edits s.back) (drawing frames) (drawing (frames ++ text ∷ [])) (n.asks + n.raws) (n.asks + (n.raws + 1)) n.turns (drawing-last frames text) (omega arith) fit.drawn;
       trees = one_more_trees (tree_edits s.back) (drawing frames) (drawing (frames ++ text ∷ [])) (n.asks + n.raws) (n.asks + (n.raws + 1)) (drawing-last frames text) (omega arith) fit.trees;
-      edits = no_more_edits (edits_kept s.back) (asking frames) (asking (frames ++ text ∷ [])) (edits_in text) n.edits (asking-last frames text) (edits_in-is text ∙ ap edits_asked bare.refused) fit.edits;
+      edits = no_more_edits (edits_kept s.back) (asking frames) (asking (frames ++ text ∷ [])) (edits_of_frame text) n.edits (asking-last frames text) (edits_in-is text ∙ ap edits_asked bare.refused) fit.edits;
       serials = one_more_serials s.back.side.page.next (drawing frames) (drawing (frames ++ text ∷ [])) (n.asks + n.raws + n.turns + 1) (n.asks + (n.raws + 1) + n.turns + 1) (drawing-last frames text) (omega arith) fit.serials;
       numbers = one_more_numbers s.back.side.next_sheet (drawing frames) (drawing (frames ++ text ∷ [])) (n.asks + n.raws + n.turns + 1) (n.asks + (n.raws + 1) + n.turns + 1) (drawing-last frames text) (omega arith) fit.numbers;
     }
@@ -273,7 +273,7 @@ leads-on n m s done told after front frames more fit well in_turn sendable enoug
     }
 
 -- the asks that wait, where the first frame is an ask, and where it is none
-first-asks : (frame : List ℕ) (frames : List (List ℕ)) (asks : List Ask) (o : Option Ask) → asks_among (frame ∷ frames) ≡ asks → ask_in frame ≡ o
+first-asks : (frame : List ℕ) (frames : List (List ℕ)) (asks : List Ask) (o : Option Ask) → asks_among (frame ∷ frames) ≡ asks → ask_of_frame frame ≡ o
     → option_to_list o ++ asks_among frames ≡ asks
 first-asks frame frames asks o e is = ap (λ p. option_to_list p ++ asks_among frames) (sym is) ∙ e
 
@@ -316,13 +316,13 @@ fetch-same id sheet state _ (is_told text) = refl
 
 -- the step on a fetch
 answer-fetch : (n : Spent) (frame : List ℕ) (front : FrontValue) (s : RunState) (frames : List (List ℕ)) (ask : Ask) (sheet : ℕ)
-    → IsFit n front s (frame ∷ frames) → ask_in frame ≡ Some ask → ask.sheet ≡ Some sheet → Answer n s.back front.asks frames (frame_step false frame s.back)
+    → IsFit n front s (frame ∷ frames) → ask_of_frame frame ≡ Some ask → ask.sheet ≡ Some sheet → Answer n s.back front.asks frames (frame_step false frame s.back)
 answer-fetch n frame front s frames ask sheet fit is fetches =
     let state : State = s.back in
     let done : Step = frame_step false frame state in
     let answered : FetchAnswered ask.id sheet state done = fetch-answered frame ask sheet state is fetches in
     let same : done.state ≡ state = fetch-same ask.id sheet state done answered in
-    let sheet_is : sheet_in frame ≡ Some sheet = ap (option_and_then (λ (a : Ask). a.sheet)) is ∙ fetches in
+    let sheet_is : sheet_fetched frame ≡ Some sheet = ap (option_and_then (λ (a : Ask). a.sheet)) is ∙ fetches in
     let none : drawing (frame ∷ frames) ≡ 0 + drawing frames = draws-none frame frames sheet sheet_is in
     record {
       in_turn =
@@ -360,7 +360,7 @@ fit-answered n frame front s frames fit =
   where
     by-sheet : (ask : Ask) (o : Option ℕ) → StepsWell s.back (frame_step false frame s.back) → IsAnswered (asked frame false) (frame_step false frame s.back).moves
         → KeepsAtMost (edits_asked (asked frame false)) s.back (frame_step false frame s.back).state
-        → AreQuiet (frame_step false frame s.back).moves → ask_in frame ≡ Some ask → ask.sheet ≡ o → Answer n s.back front.asks frames (frame_step false frame s.back)
+        → AreQuiet (frame_step false frame s.back).moves → ask_of_frame frame ≡ Some ask → ask.sheet ≡ o → Answer n s.back front.asks frames (frame_step false frame s.back)
     by-sheet ask (Some sheet) well answered keeps quiet is fetches = answer-fetch n frame front s frames ask sheet fit is fetches
     by-sheet ask None well answered keeps quiet is plain =
         let done : Step = frame_step false frame s.back in

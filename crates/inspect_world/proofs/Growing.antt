@@ -21,12 +21,12 @@ use Rattle.front_mirror.specs.declared.replies.MatchedReply.{MatchedReply}
 use Rattle.front_mirror.specs.declared.faults.FrontKind.{FrontKind}
 use Rattle.front_mirror.specs.declared.faults.FrontKind.TheVariants.{NotMessage, UnknownNode, IdTaken, UnknownSheet}
 use Rattle.front_mirror.specs.declared.sheets.KnownSheet.{KnownSheet}
-use Rattle.front_mirror.specs.Sheets.{new_sheet, has_sheet, marked_old, without_sheet}
-use Rattle.front_mirror.specs.Front.{FrontValue, first_value, take_frame, method_of, with_root, root_fault, matched_told, matched_in, with_matched, with_effect, with_body, with_reply, with_fault, with_tree, ToldChange, told_change, at_spot, change_fault, with_change, seen_pause, halted, is_shown, told_sheets, with_news, with_message}
+use Rattle.front_mirror.specs.Sheets.{told_sheet, has_sheet, marked_old, without_sheet}
+use Rattle.front_mirror.specs.Front.{FrontValue, first_value, take_frame, method_waiting, with_root, root_fault, matched_told, matched_in, with_matched, with_effect, with_body, with_reply, with_fault, with_tree, ToldChange, told_change, at_spot, change_fault, with_change, seen_pause, halted, is_shown, told_sheets, with_news, with_message}
 use Rattle.inspect_world.specs.Fold.{folded, joined, then}
-use Rattle.inspect_world.specs.Fits.{join, with_ask, ask_in}
+use Rattle.inspect_world.specs.Fits.{join, with_ask, ask_of_frame}
 use Rattle.inspect_world.specs.Links.{knows_styles}
-use Rattle.inspect_world.specs.ShownPauses.{pause_told, pause_of, pause_by}
+use Rattle.inspect_world.specs.ShownPauses.{pause_told, pauses_of_message, pauses_in_frame}
 
 -- the front has kept these pauses more, and perhaps some matched styles
 pub record Grows (v : FrontValue) (ps : List PauseData) (w : FrontValue) : Type 0 where
@@ -113,35 +113,35 @@ grows-news v (text_modified id value) w e = grows-change v (told_change id (says
 grows-news v (count_updated id count) w e = grows-change v (told_change id (counts count) none) w e
 grows-news v (inserted parent previous b) w e = grows-change v (told_change parent (inserts previous (seen_branch b)) (alone b)) w e
 grows-news v (removed parent id) w e = grows-change v (told_change parent (removes id) none) w e
-grows-news v (sheet_added header) w e = grows-added v (has_sheet header.sheet v.sheets) (v.sheets ++ new_sheet header ∷ []) w e
+grows-news v (sheet_added header) w e = grows-added v (has_sheet header.sheet v.sheets) (v.sheets ++ told_sheet header ∷ []) w e
 grows-news v (sheet_changed number) w e = grows-sheet v (has_sheet number v.sheets) (marked_old number v.sheets) w e
 grows-news v (sheet_removed number) w e = grows-sheet v (has_sheet number v.sheets) (without_sheet number v.sheets) w e
 grows-news v (paused why) w e = grows-pause v why (list_all (is_shown v.tree) (paused_nodes why)) w e
 
-grows-message : (v : FrontValue) (frame : List ℕ) (o : Option Message) (w : FrontValue) → with_message v frame o ≡ Ok w → Grows v (pause_of o) w
+grows-message : (v : FrontValue) (frame : List ℕ) (o : Option Message) (w : FrontValue) → with_message v frame o ≡ Ok w → Grows v (pauses_of_message o) w
 grows-message v frame None w e = refuses NotMessage w e
 grows-message v frame (Some (event n)) w e = grows-news v n w e
-grows-message v frame (Some (reply id result)) w e = grows-reply v id frame result (method_of id v.asks) w e
+grows-message v frame (Some (reply id result)) w e = grows-reply v id frame result (method_waiting id v.asks) w e
 grows-message v frame (Some (fault None code text)) w e = grows-same v _ w refl refl e
-grows-message v frame (Some (fault (Some id) code text)) w e = grows-fault v id frame (method_of id v.asks) w e
+grows-message v frame (Some (fault (Some id) code text)) w e = grows-fault v id frame (method_waiting id v.asks) w e
 
-pub grows-frame : (v w : FrontValue) (frame : List ℕ) → take_frame v frame ≡ Ok w → Grows v (pause_by frame) w
+pub grows-frame : (v w : FrontValue) (frame : List ℕ) → take_frame v frame ≡ Ok w → Grows v (pauses_in_frame frame) w
 grows-frame v w frame e = grows-message v frame (down_of frame) w e
 
 -- all of some frames
-pub grows-folded : (frames : List (List ℕ)) (v w : FrontValue) → folded take_frame v frames ≡ Ok w → Grows v (flat_map pause_by frames) w
+pub grows-folded : (frames : List (List ℕ)) (v w : FrontValue) → folded take_frame v frames ≡ Ok w → Grows v (flat_map pauses_in_frame frames) w
 grows-folded [] v w e = grows-same v v w refl refl e
 grows-folded (frame ∷ frames) v w e =
     (elim (take_frame v frame) as (λ (r : Result FrontValue FrontKind). take_frame v frame ≡ r
-    → then r (λ next. folded take_frame next frames) ≡ Ok w → Grows v (pause_by frame ++ flat_map pause_by frames) w) [
+    → then r (λ next. folded take_frame next frames) ≡ Ok w → Grows v (pauses_in_frame frame ++ flat_map pauses_in_frame frames) w) [
       | Ok next ↦ λ is rest.
-          let one : Grows v (pause_by frame) next = grows-frame v next frame is in
-          let later : Grows next (flat_map pause_by frames) w = grows-folded frames next w rest in
+          let one : Grows v (pauses_in_frame frame) next = grows-frame v next frame is in
+          let later : Grows next (flat_map pauses_in_frame frames) w = grows-folded frames next w rest in
           record {
             pauses =
-                later.pauses ∙ ap (λ ps. ps ++ map seen_pause (flat_map pause_by frames)) one.pauses
-                ∙ append_assoc v.pauses (map seen_pause (pause_by frame)) (map seen_pause (flat_map pause_by frames))
-                ∙ ap (λ ps. v.pauses ++ ps) (sym (map-append seen_pause (pause_by frame) (flat_map pause_by frames)));
+                later.pauses ∙ ap (λ ps. ps ++ map seen_pause (flat_map pauses_in_frame frames)) one.pauses
+                ∙ append_assoc v.pauses (map seen_pause (pauses_in_frame frame)) (map seen_pause (flat_map pauses_in_frame frames))
+                ∙ ap (λ ps. v.pauses ++ ps) (sym (map-append seen_pause (pauses_in_frame frame) (flat_map pauses_in_frame frames)));
             more = one.more ++ later.more;
             matched = later.matched ∙ ap (λ rs. rs ++ later.more) one.matched ∙ append_assoc v.matched one.more later.more;
           }
@@ -153,17 +153,17 @@ grows-folded (frame ∷ frames) v w e =
 -- asks that are sent add nothing
 joined-pauses : (v : FrontValue) (frames : List (List ℕ)) → (joined join v frames).pauses ≡ v.pauses
 joined-pauses v [] = refl
-joined-pauses v (frame ∷ frames) = joined-pauses (join v frame) frames ∙ with-ask v (ask_in frame) where
+joined-pauses v (frame ∷ frames) = joined-pauses (join v frame) frames ∙ with-ask v (ask_of_frame frame) where
   with-ask : (v : FrontValue) (o : Option Ask) → (with_ask v o).pauses ≡ v.pauses
   with-ask v None = refl
   with-ask v (Some ask) = refl
 
 -- the pauses that a front end has kept are those among the frames that it took
 pub pauses-of : (sent frames : List (List ℕ)) (front : FrontValue) → folded take_frame (joined join (first_value []) sent) frames ≡ Ok front
-    → front.pauses ≡ map seen_pause (flat_map pause_by frames)
+    → front.pauses ≡ map seen_pause (flat_map pauses_in_frame frames)
 pauses-of sent frames front e =
     let start = joined join (first_value []) sent in
-    (grows-folded frames start front e).pauses ∙ ap (λ ps. ps ++ map seen_pause (flat_map pause_by frames)) (joined-pauses (first_value []) sent)
+    (grows-folded frames start front e).pauses ∙ ap (λ ps. ps ++ map seen_pause (flat_map pauses_in_frame frames)) (joined-pauses (first_value []) sent)
 
 -- ---- matched styles that came are there for good
 

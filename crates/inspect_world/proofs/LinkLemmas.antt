@@ -29,9 +29,9 @@ use Rattle.back_end.specs.Laws.{tree_edits, edits_kept, edits_asked, KeepsAtMost
 use Rattle.page_tree.specs.Forms.{max_nodes}
 use Rattle.page_forms.specs.Sheets.{max_sheets}
 use Rattle.back_end.specs.Seats.{StandsFor, HasRoomLeft}
-use Rattle.inspect_world.specs.Fits.{ask_in, ask_with, asks_among, most_bytes}
+use Rattle.inspect_world.specs.Fits.{ask_of_frame, ask_with, asks_among, most_bytes}
 use Rattle.inspect_world.specs.Held.{Ends, good_front}
-use Rattle.inspect_world.specs.Links.{fold_of, knows_styles, Happening, came, made, step_of, happened, frames_among, made_among, commands_in, commands_among, bytes_among, Drew, Started, started, one_line_more, GoesOn, Follows}
+use Rattle.inspect_world.specs.Links.{fold_of, knows_styles, Happening, came, made, happening_step, happened, frames_among, made_among, commands_in, commands_among, bytes_among, Drew, Started, run_started, one_line_more, PipeGoesOn, Follows}
 use Rattle.replay_script.specs.Sound.{CanSend}
 use Rattle.inspect_world.specs.FreshRuns.{front_fetcher}
 use Rattle.inspect_world.proofs.FetchForms.{fetch-text, sent-fetch}
@@ -59,11 +59,11 @@ use Rattle.back_end.proofs.EditSizes.{edits-few}
 -- The frames of a step are whole, and hold the replies to the frames that came: each one reply, with the frame's id.
 pub record Sends (state : State) (h : Happening) : Type 0 where
   pub texts : List (List ℕ)
-  pub frames_are : frames_of (step_of h state).sent ≡ record { whole = texts; rest = [] }
+  pub frames_are : frames_of (happening_step h state).sent ≡ record { whole = texts; rest = [] }
   pub ids_are : map (λ (t : ShownReply). t.id) (replies_among texts) ≡ map reply_id (frames_among (h ∷ []))
-  pub drew : (c m b : ℕ) → Drew state c m b → Drew (step_of h state).state (c + commands_among (h ∷ [])) (m + made_among (h ∷ [])) (b + bytes_among (frames_among (h ∷ [])))
-  pub serials : (step_of h state).state.side.page.next ≤ state.side.page.next + (max_nodes + 1)
-  pub numbers : (step_of h state).state.side.next_sheet ≤ state.side.next_sheet + max_sheets
+  pub drew : (c m b : ℕ) → Drew state c m b → Drew (happening_step h state).state (c + commands_among (h ∷ [])) (m + made_among (h ∷ [])) (b + bytes_among (frames_among (h ∷ [])))
+  pub serials : (happening_step h state).state.side.page.next ≤ state.side.page.next + (max_nodes + 1)
+  pub numbers : (happening_step h state).state.side.next_sheet ≤ state.side.next_sheet + max_sheets
 
 -- sheets whose texts are not known
 abbrev unread : List ShownSheet → List KnownSheet
@@ -83,7 +83,7 @@ same-drew state {c} {c1} {m} {m1} {b} {b1} p q r drew =
     subst (λ x. Drew state x m1 b1) (sym p) (subst (λ y. Drew state c y b1) (sym q) (subst (λ z. Drew state c m z) (sym r) drew))
 
 -- what the moves of a step send
-sends-moves : (state : State) (h : Happening) (done : Step) (asks rest : List Ask) → StepsWell state done → step_of h state ≡ as_bytes done
+sends-moves : (state : State) (h : Happening) (done : Step) (asks rest : List Ask) → StepsWell state done → happening_step h state ≡ as_bytes done
     → ArePlain asks → InTurn done.moves asks rest → flat_map reply_ids done.moves ≡ map reply_id (frames_among (h ∷ []))
     → ((c m b : ℕ) → Drew state c m b → Drew done.state (c + commands_among (h ∷ [])) (m + made_among (h ∷ [])) (b + bytes_among (frames_among (h ∷ []))))
     → Sends state h
@@ -174,17 +174,17 @@ turn-sends state x is room is_turn =
 
 -- ---- one happening more
 
-happened-state : (state : State) (hs : List Happening) (h : Happening) → (happened state (hs ++ h ∷ [])).state ≡ (step_of h (happened state hs).state).state
+happened-state : (state : State) (hs : List Happening) (h : Happening) → (happened state (hs ++ h ∷ [])).state ≡ (happening_step h (happened state hs).state).state
 happened-state state [] h = refl
-happened-state state (first ∷ hs) h = happened-state (step_of first state).state hs h
+happened-state state (first ∷ hs) h = happened-state (happening_step first state).state hs h
 
 happened-sent : (state : State) (hs : List Happening) (h : Happening)
-    → (happened state (hs ++ h ∷ [])).sent ≡ (happened state hs).sent ++ (step_of h (happened state hs).state).sent
-happened-sent state [] h = append-nil (step_of h state).sent
+    → (happened state (hs ++ h ∷ [])).sent ≡ (happened state hs).sent ++ (happening_step h (happened state hs).state).sent
+happened-sent state [] h = append-nil (happening_step h state).sent
 happened-sent state (first ∷ hs) h =
-    let next = (step_of first state).state in
-    ap (λ bytes. (step_of first state).sent ++ bytes) (happened-sent next hs h)
-    ∙ sym (append_assoc (step_of first state).sent (happened next hs).sent (step_of h (happened next hs).state).sent)
+    let next = (happening_step first state).state in
+    ap (λ bytes. (happening_step first state).sent ++ bytes) (happened-sent next hs h)
+    ∙ sym (append_assoc (happening_step first state).sent (happened next hs).sent (happening_step h (happened next hs).state).sent)
 
 frames-last : (hs : List Happening) (h : Happening) → frames_among (hs ++ h ∷ []) ≡ frames_among hs ++ frames_among (h ∷ [])
 frames-last [] h = refl
@@ -193,28 +193,28 @@ frames-last (made x ∷ hs) h = frames-last hs h
 
 -- ---- pipes that go on
 
-goes-start : (start : Pipe) → GoesOn start start [] []
+goes-start : (start : Pipe) → PipeGoesOn start start [] []
 goes-start start = record { sent_is = sym (append-nil start.sent); given_is = sym (append-nil start.given) }
 
-goes-put : (start old new : Pipe) (sent given piece : List ℕ) → GoesOn start old sent given → new.sent ≡ old.sent ++ piece → new.given ≡ old.given
-    → GoesOn start new (sent ++ piece) given
+goes-put : (start old new : Pipe) (sent given piece : List ℕ) → PipeGoesOn start old sent given → new.sent ≡ old.sent ++ piece → new.given ≡ old.given
+    → PipeGoesOn start new (sent ++ piece) given
 goes-put start old new sent given piece goes sent_is given_is = record {
   sent_is = sent_is ∙ ap (λ bytes. bytes ++ piece) goes.sent_is ∙ append_assoc start.sent sent piece;
   given_is = given_is ∙ goes.given_is;
 }
 
-goes-get : (start old new : Pipe) (sent given piece : List ℕ) → GoesOn start old sent given → new.sent ≡ old.sent → new.given ≡ old.given ++ piece
-    → GoesOn start new sent (given ++ piece)
+goes-get : (start old new : Pipe) (sent given piece : List ℕ) → PipeGoesOn start old sent given → new.sent ≡ old.sent → new.given ≡ old.given ++ piece
+    → PipeGoesOn start new sent (given ++ piece)
 goes-get start old new sent given piece goes sent_is given_is = record {
   sent_is = sent_is ∙ goes.sent_is;
   given_is = given_is ∙ ap (λ bytes. bytes ++ piece) goes.given_is ∙ append_assoc start.given given piece;
 }
 
 -- what was sent and given since then
-pub sent_since-is : (start now : Pipe) (sent given : List ℕ) → GoesOn start now sent given → sent_since start now ≡ sent
+pub sent_since-is : (start now : Pipe) (sent given : List ℕ) → PipeGoesOn start now sent given → sent_since start now ≡ sent
 sent_since-is start now sent given goes = ap (drop (length start.sent)) goes.sent_is ∙ drop-append_seam start.sent sent
 
-pub given_since-is : (start now : Pipe) (sent given : List ℕ) → GoesOn start now sent given → given_since start now ≡ given
+pub given_since-is : (start now : Pipe) (sent given : List ℕ) → PipeGoesOn start now sent given → given_since start now ≡ given
 given_since-is start now sent given goes = ap (drop (length start.given)) goes.given_is ∙ drop-append_seam start.given given
 
 -- ---- asks
@@ -228,7 +228,7 @@ folds-more : (waiting more : List Ask) (down : List ℕ) (v : FrontValue) → fo
 folds-more waiting [] down v e = record { value = v; is_fold = ap (λ asks. fold asks down) (append-nil waiting) ∙ e }
 folds-more waiting (ask ∷ more) down v e =
     subst (λ asks. Folds asks down) (append_assoc waiting (ask ∷ []) more)
-    (folds-more (waiting ++ ask ∷ []) more down (front_laws.joined v ask) (fold-more waiting ask down v e))
+    (folds-more (waiting ++ ask ∷ []) more down (front_laws.ask_joined v ask) (fold-more waiting ask down v e))
 
 -- whatever more is sent up after whole frames, the fold meets no fault
 folds-sent : (sent_up more given_down : List ℕ) (v : FrontValue) → (frames_of sent_up).rest ≡ [] → fold_of sent_up given_down ≡ Ok v
@@ -313,7 +313,7 @@ follows-fewer state0 up0 down0 up down waiting e f = record {
 -- more matched styles were shown, which are there
 pub follows-showing : (state0 : Started) (shown : List ℕ) (up0 down0 up down : Pipe) (waiting : List (List ℕ)) (e : Ends)
     → (f : Follows state0 up0 down0 up down waiting e) → All (λ ask. knows_styles f.value ask ≡ true) shown
-    → Follows (started state0.state state0.lines shown) up0 down0 up down waiting e
+    → Follows (run_started state0.state state0.lines shown) up0 down0 up down waiting e
 follows-showing state0 shown up0 down0 up down waiting e f all = record {
   sent_up = f.sent_up;
   given_up = f.given_up;
@@ -359,15 +359,15 @@ module _ (state0 : Started) (up0 down0 : Pipe) where
       → (f : Follows state0 up0 down0 up down waiting e) → there ≡ e.up_there + length (framed text) → IsText text
       → front1 ≡ good_front value1 (frames_of f.given_down).rest front1.next front1.fetches
       → front1.next + front1.fetches ≤ e.front.next + e.front.fetches + 1 → value1.matched ≡ f.value.matched
-      → fold (asks_among (frames_of f.sent_up).whole ++ option_to_list (ask_in text)) f.given_down ≡ Ok value1
+      → fold (asks_among (frames_of f.sent_up).whole ++ option_to_list (ask_of_frame text)) f.given_down ≡ Ok value1
       → up1.sent ≡ up.sent ++ framed text → up1.given ≡ up.given
       → Follows state0 up0 down0 up1 down waiting (record e { front = front1; up_there = there })
   follows-sent up down up1 waiting e text value1 front1 there f left letters front_is one matched folds sent_is given_is =
       let frames : (frames_of (f.sent_up ++ framed text)).whole ≡ (frames_of f.sent_up).whole ++ text ∷ [] =
       whole-after f.sent_up (framed text) f.up_whole ∙ ap (λ (fs : Frames). (frames_of f.sent_up).whole ++ fs.whole) (frames_of-one text letters) in
-      let asks : asks_among (frames_of (f.sent_up ++ framed text)).whole ≡ asks_among (frames_of f.sent_up).whole ++ option_to_list (ask_in text) =
+      let asks : asks_among (frames_of (f.sent_up ++ framed text)).whole ≡ asks_among (frames_of f.sent_up).whole ++ option_to_list (ask_of_frame text) =
       ap asks_among frames ∙ asks_among-append (frames_of f.sent_up).whole (text ∷ [])
-      ∙ ap (λ more. asks_among (frames_of f.sent_up).whole ++ more) (append-nil (option_to_list (ask_in text))) in
+      ∙ ap (λ more. asks_among (frames_of f.sent_up).whole ++ more) (append-nil (option_to_list (ask_of_frame text))) in
       record {
         sent_up = f.sent_up ++ framed text;
         given_up = f.given_up;
@@ -407,12 +407,12 @@ module _ (state0 : Started) (up0 down0 : Pipe) where
 
   -- an ask is sent
   pub follows-asked : (up down up1 : Pipe) (waiting : List (List ℕ)) (e : Ends) (text method : List ℕ) (there : ℕ)
-      → Follows state0 up0 down0 up down waiting e → there ≡ e.up_there + length (framed text) → IsText text → ask_in text ≡ Some (ask_with method e.front.next)
+      → Follows state0 up0 down0 up down waiting e → there ≡ e.up_there + length (framed text) → IsText text → ask_of_frame text ≡ Some (ask_with method e.front.next)
       → up1.sent ≡ up.sent ++ framed text → up1.given ≡ up.given
       → Follows state0 up0 down0 up1 down waiting (record e { front = after_ask e.front method; up_there = there })
   follows-asked up down up1 waiting e text method there f left letters is sent_is given_is =
       let ask = ask_with method e.front.next in
-      follows-sent up down up1 waiting e text (front_laws.joined f.value ask) (after_ask e.front method) there f left letters
+      follows-sent up down up1 waiting e text (front_laws.ask_joined f.value ask) (after_ask e.front method) there f left letters
       (ap (λ s. after_ask s method) f.front_is) (omega arith) refl
       (ap (λ o. fold (asks_among (frames_of f.sent_up).whole ++ option_to_list o) f.given_down) is
       ∙ fold-more (asks_among (frames_of f.sent_up).whole) ask f.given_down f.value f.is_fold)
@@ -420,7 +420,7 @@ module _ (state0 : Started) (up0 down0 : Pipe) where
 
   -- a frame is sent that names no ask
   pub follows-raw : (up down up1 : Pipe) (waiting : List (List ℕ)) (e : Ends) (text : List ℕ) (there : ℕ)
-      → Follows state0 up0 down0 up down waiting e → there ≡ e.up_there + length (framed text) → IsText text → ask_in text ≡ None
+      → Follows state0 up0 down0 up down waiting e → there ≡ e.up_there + length (framed text) → IsText text → ask_of_frame text ≡ None
       → up1.sent ≡ up.sent ++ framed text → up1.given ≡ up.given
       → Follows state0 up0 down0 up1 down waiting (record e { up_there = there })
   follows-raw up down up1 waiting e text there f left letters none sent_is given_is =
@@ -439,8 +439,8 @@ module _ (state0 : Started) (up0 down0 : Pipe) where
       let ask = fetch_ask e.front.fetches sheet in
       let text = front_fetcher.text e.front.fetches sheet in
       let small : 2 ^ 30 + e.front.fetches < 2 ^ 53 = omega (arith, room) in
-      let is : ask_in text ≡ Some ask = sent-fetch e.front.fetches sheet small fits in
-      follows-sent up down up1 waiting e text (front_laws.joined f.value ask) (after_fetch e.front sheet) there f left (fetch-text (2 ^ 30 + e.front.fetches) sheet small)
+      let is : ask_of_frame text ≡ Some ask = sent-fetch e.front.fetches sheet small fits in
+      follows-sent up down up1 waiting e text (front_laws.ask_joined f.value ask) (after_fetch e.front sheet) there f left (fetch-text (2 ^ 30 + e.front.fetches) sheet small)
       (ap (λ s. after_fetch s sheet) f.front_is) (omega arith) refl
       (ap (λ o. fold (asks_among (frames_of f.sent_up).whole ++ option_to_list o) f.given_down) is
       ∙ fold-more (asks_among (frames_of f.sent_up).whole) ask f.given_down f.value f.is_fold)
@@ -501,9 +501,9 @@ module _ (state0 : Started) (up0 down0 : Pipe) where
   -- a step is carried out, and what it sends is put down; `lines` is how many lines more there were before
   follows-step : (lines : ℕ) (up down down1 : Pipe) (h : Happening) (waits waiting : List (List ℕ)) (e : Ends) (seat : Seat) (side : PageSide) (out : List ℕ) (there : ℕ)
       → made_among (h ∷ []) + state0.lines ≤ lines
-      → (f : Follows (started state0.state lines state0.shown) up0 down0 up down waits e) → waits ≡ frames_among (h ∷ []) ++ waiting → there ≡ e.down_there + length out
-      → Sends f.state h → StandsFor seat side (step_of h f.state).state
-      → out ≡ (step_of h f.state).sent → down1.sent ≡ down.sent ++ out → down1.given ≡ down.given
+      → (f : Follows (run_started state0.state lines state0.shown) up0 down0 up down waits e) → waits ≡ frames_among (h ∷ []) ++ waiting → there ≡ e.down_there + length out
+      → Sends f.state h → StandsFor seat side (happening_step h f.state).state
+      → out ≡ (happening_step h f.state).sent → down1.sent ≡ down.sent ++ out → down1.given ≡ down.given
       → Follows state0 up0 down0 up down1 waiting (record e { seat = seat; side = side; down_there = there })
   follows-step lines up down down1 h waits waiting e seat side out there room f waits_are left s stands out_is sent_is given_is =
       let old : State = (happened state0.state f.events).state in
@@ -529,11 +529,11 @@ module _ (state0 : Started) (up0 down0 : Pipe) where
             ∙ sym (append_assoc (frames_among f.events) (frames_among (h ∷ [])) waiting)
             ∙ ap (λ frames. frames ++ waiting) (sym (frames-last f.events h));
         back_is = f.back_is;
-        state = (step_of h f.state).state;
-        side_is = happened-state state0.state f.events h ∙ ap (λ state. (step_of h state).state) f.side_is;
+        state = (happening_step h f.state).state;
+        side_is = happened-state state0.state f.events h ∙ ap (λ state. (happening_step h state).state) f.side_is;
         sent_is =
-            ap (λ bytes. f.sent_down ++ bytes) (out_is ∙ ap (λ state. (step_of h state).sent) (sym f.side_is))
-            ∙ ap (λ bytes. bytes ++ (step_of h old).sent) f.sent_is
+            ap (λ bytes. f.sent_down ++ bytes) (out_is ∙ ap (λ state. (happening_step h state).sent) (sym f.side_is))
+            ∙ ap (λ bytes. bytes ++ (happening_step h old).sent) f.sent_is
             ∙ sym (happened-sent state0.state f.events h);
         replies_are =
             ap (λ fs. map (λ (t : ShownReply). t.id) (replies_among fs)) more
@@ -560,9 +560,9 @@ module _ (state0 : Started) (up0 down0 : Pipe) where
             let made_last : made_among (f.events ++ h ∷ []) ≡ made_among f.events + made_among (h ∷ []) = made-last f.events h in
             let bytes : bytes_among (frames_among (f.events ++ h ∷ [])) ≡ bytes_among (frames_among f.events) + bytes_among (frames_among (h ∷ [])) =
             ap bytes_among (frames-last f.events h) ∙ bytes-append (frames_among f.events) (frames_among (h ∷ [])) in
-            same-drew (step_of h f.state).state commands made_last bytes (s.drew (commands_among f.events) (made_among f.events) (bytes_among (frames_among f.events)) f.drew);
-        few_serials = more_serials f.state.side.page.next (step_of h f.state).state.side.page.next (length f.events) (length (f.events ++ h ∷ [])) events f.few_serials s.serials;
-        few_numbers = more_numbers f.state.side.next_sheet (step_of h f.state).state.side.next_sheet (length f.events) (length (f.events ++ h ∷ [])) events f.few_numbers s.numbers;
+            same-drew (happening_step h f.state).state commands made_last bytes (s.drew (commands_among f.events) (made_among f.events) (bytes_among (frames_among f.events)) f.drew);
+        few_serials = more_serials f.state.side.page.next (happening_step h f.state).state.side.page.next (length f.events) (length (f.events ++ h ∷ [])) events f.few_serials s.serials;
+        few_numbers = more_numbers f.state.side.next_sheet (happening_step h f.state).state.side.next_sheet (length f.events) (length (f.events ++ h ∷ [])) events f.few_numbers s.numbers;
       }
 
   -- a frame is answered
@@ -589,13 +589,13 @@ module _ (state0 : Started) (up0 down0 : Pipe) where
 
   -- the fold of what was given with these bytes more is what the front makes of them
   fold-down : (up down : Pipe) (waiting : List (List ℕ)) (e : Ends) (piece : List ℕ) (f : Follows state0 up0 down0 up down waiting e)
-      → let end = front.folded f.value (frames_from (frames_of f.given_down).rest piece) in
+      → let end = front.front_folded f.value (frames_from (frames_of f.given_down).rest piece) in
       fold_of f.sent_up (f.given_down ++ piece) ≡ outcome end.value end.fault
   fold-down up down waiting e piece f = fold-append (asks_among (frames_of f.sent_up).whole) f.given_down piece f.value f.is_fold
 
   -- what the front is after these bytes
   front-down : (up down : Pipe) (waiting : List (List ℕ)) (e : Ends) (piece : List ℕ) (f : Follows state0 up0 down0 up down waiting e)
-      → let end = front.folded f.value (frames_from (frames_of f.given_down).rest piece) in
+      → let end = front.front_folded f.value (frames_from (frames_of f.given_down).rest piece) in
       after_take e.front piece ≡ record { value = end.value; rest = held_after (frames_of f.given_down).rest piece; fault = end.fault; next = e.front.next; fetches = e.front.fetches; dead = false }
   front-down up down waiting e piece f = ap (λ s. after_take s piece) f.front_is
 
@@ -604,7 +604,7 @@ module _ (state0 : Started) (up0 down0 : Pipe) where
       → Follows state0 up0 down0 up down waiting e → there + length piece ≡ e.down_there → down1.sent ≡ down.sent → down1.given ≡ down.given ++ piece → (after_take e.front piece).fault ≡ None
       → Follows state0 up0 down0 up down1 waiting (record e { front = after_take e.front piece; down_there = there })
   follows-delivered_down up down down1 waiting e piece there f left sent_is given_is good =
-      let end : Folded = front.folded f.value (frames_from (frames_of f.given_down).rest piece) in
+      let end : Folded = front.front_folded f.value (frames_from (frames_of f.given_down).rest piece) in
       let front_now = front-down up down waiting e piece f in
       let none : end.fault ≡ None = sym (ap (λ (s : FrontState). s.fault) front_now) ∙ good in
       let next : (after_take e.front piece).next ≡ e.front.next = ap (λ (s : FrontState). s.next) front_now in
@@ -654,9 +654,9 @@ module _ (state0 : Started) (up0 down0 : Pipe) where
       → Follows state0 up0 down0 up down waiting e → down1.sent ≡ down.sent → down1.given ≡ down.given ++ piece → (after_take e.front piece).fault ≡ Some fault
       → fold_of (sent_since up0 up) (given_since down0 down1) ≡ Err fault
   follows-refused up down down1 waiting e piece fault f sent_is given_is bad =
-      let end : Folded = front.folded f.value (frames_from (frames_of f.given_down).rest piece) in
+      let end : Folded = front.front_folded f.value (frames_from (frames_of f.given_down).rest piece) in
       let some : end.fault ≡ Some fault = sym (ap (λ (s : FrontState). s.fault) (front-down up down waiting e piece f)) ∙ bad in
-      let down_is : GoesOn down0 down1 f.sent_down (f.given_down ++ piece) = goes-get down0 down down1 f.sent_down f.given_down piece f.down_is sent_is given_is in
+      let down_is : PipeGoesOn down0 down1 f.sent_down (f.given_down ++ piece) = goes-get down0 down down1 f.sent_down f.given_down piece f.down_is sent_is given_is in
       ap (λ bytes. fold_of bytes (given_since down0 down1)) (sent_since-is up0 up f.sent_up f.given_up f.up_is)
       ∙ ap (fold_of f.sent_up) (given_since-is down0 down1 f.sent_down (f.given_down ++ piece) down_is)
       ∙ fold-down up down waiting e piece f ∙ ap (outcome end.value) some

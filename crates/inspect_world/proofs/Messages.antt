@@ -19,7 +19,7 @@ use Rattle.front_mirror.specs.declared.replies.Ask.{Ask}
 use Rattle.replay_script.specs.Forms.{AskForm}
 use Rattle.inspect_world.specs.World.{Spent, one_ask}
 use Rattle.inspect_world.specs.Costs.{edits_commanded, ask_edits}
-use Rattle.inspect_world.specs.Fits.{sheet_named, sheet_asked, ask_by, ask_of, ask_in, ask_with, edits_in, most_bytes, most_frames, IsNext, next_ask}
+use Rattle.inspect_world.specs.Fits.{sheet_in_params, sheet_asked, ask_by, ask_of, ask_of_frame, ask_with, edits_of_frame, most_bytes, most_frames, IsNext, next_ask}
 use Rattle.replay_script.specs.Sound.{CanSend}
 use Rattle.cdp_json.proofs.Options.{and_then_some}
 use Rattle.back_end.proofs.AskedLemmas.{whole-is}
@@ -43,7 +43,7 @@ value_ask_in id method (Some p) None c small = rw (c, small)
 value_ask_in id method (Some p) (Some s) c small = rw (c, small)
 
 -- the front end's command is the ask that it is meant to be
-pub ask_in-sent : (id : ℕ) (a : AskForm) → CanSend a → id < 2 ^ 30 → ask_in (command_text id a.method a.params a.session) ≡ Some (ask_with a.method id)
+pub ask_in-sent : (id : ℕ) (a : AskForm) → CanSend a → id < 2 ^ 30 → ask_of_frame (command_text id a.method a.params a.session) ≡ Some (ask_with a.method id)
 ask_in-sent id a can small =
     let low : id < 2 ^ 53 = omega (arith, small) in
     let c : is_counted id ≡ true = lt-ltb id (2 ^ 53) low in
@@ -56,8 +56,8 @@ edits-by : (id : ℕ) (r : Result Command Why) → edits_asked (asked_by id r) �
 edits-by id (Ok c) = omega arith
 edits-by id (Err why) = omega arith
 
-edits-sent : (id : ℕ) (a : AskForm) → CanSend a → is_counted id ≡ true → edits_in (command_text id a.method a.params a.session) ≤ ask_edits a
-unfolding edits_in ask_edits
+edits-sent : (id : ℕ) (a : AskForm) → CanSend a → is_counted id ≡ true → edits_of_frame (command_text id a.method a.params a.session) ≤ ask_edits a
+unfolding edits_of_frame ask_edits
 edits-sent id a can counted =
     subst (λ r. edits_asked r ≤ edits_commanded (command_of false a.method a.params a.session))
     (sym (asks_are_asked false id a.method a.params a.session counted can.params can.session (can.shallow id) (can.texts id counted)))
@@ -117,11 +117,11 @@ value_ask : (o : Option Data) (ask : Ask) → option_and_then ask_of (option_and
 value_ask None ask e = absurd cc
 value_ask (Some d) ask e = object_ask (as_object d) ask e
 
-pub asked-ask : (frame : List ℕ) (ask : Ask) → ask_in frame ≡ Some ask → AskedAs ask (asked frame false)
+pub asked-ask : (frame : List ℕ) (ask : Ask) → ask_of_frame frame ≡ Some ask → AskedAs ask (asked frame false)
 asked-ask frame ask is = value_ask (json_of frame) ask is
 
 -- the id of an ask is below 2^53
-pub ask-id : (frame : List ℕ) (ask : Ask) → ask_in frame ≡ Some ask → is_counted ask.id ≡ true
+pub ask-id : (frame : List ℕ) (ask : Ask) → ask_of_frame frame ≡ Some ask → is_counted ask.id ≡ true
 ask-id frame ask is =
     let o = and_then_some ask_of (option_and_then as_object (json_of frame)) ask is in
     let p = id_method o.0 (option_and_then as_whole (get_member (codes "id") o.0)) (option_and_then as_str (get_member (codes "method") o.0)) ask o.2 in
@@ -130,13 +130,13 @@ ask-id frame ask is =
 
 -- only the method of fetches names a sheet
 asked-method : (method : List ℕ) (params : Option Data) (sheet : ℕ) (low named : Bool) → bytes_eq method (codes "CSS.getStyleSheetText") ≡ named
-    → cond low None (cond named (option_and_then sheet_named params) None) ≡ Some sheet → method ≡ codes "CSS.getStyleSheetText"
+    → cond low None (cond named (option_and_then sheet_in_params params) None) ≡ Some sheet → method ≡ codes "CSS.getStyleSheetText"
 asked-method method params sheet true named is e = absurd cc
 asked-method method params sheet false true is e = (bytes_eq-Decides method (codes "CSS.getStyleSheetText")).0 is
 asked-method method params sheet false false is e = absurd cc
 
 -- the ask that fetches a sheet's text has that method
-pub fetch-method : (frame : List ℕ) (ask : Ask) (sheet : ℕ) → ask_in frame ≡ Some ask → ask.sheet ≡ Some sheet → ask.method ≡ codes "CSS.getStyleSheetText"
+pub fetch-method : (frame : List ℕ) (ask : Ask) (sheet : ℕ) → ask_of_frame frame ≡ Some ask → ask.sheet ≡ Some sheet → ask.method ≡ codes "CSS.getStyleSheetText"
 fetch-method frame ask sheet is fetches =
     let o = and_then_some ask_of (option_and_then as_object (json_of frame)) ask is in
     let p = id_method o.0 (option_and_then as_whole (get_member (codes "id") o.0)) (option_and_then as_str (get_member (codes "method") o.0)) ask o.2 in

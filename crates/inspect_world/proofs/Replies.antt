@@ -21,11 +21,11 @@ use Rattle.front_mirror.specs.declared.replies.Kept.{Kept}
 use Rattle.front_mirror.specs.declared.faults.FrontKind.{FrontKind}
 use Rattle.front_mirror.specs.declared.faults.FrontKind.TheVariants.{NotMessage, UnknownNode, IdTaken, UnknownSheet}
 use Rattle.front_mirror.specs.declared.sheets.KnownSheet.{KnownSheet}
-use Rattle.front_mirror.specs.Sheets.{new_sheet, has_sheet, marked_old, without_sheet}
-use Rattle.front_mirror.specs.Front.{FrontValue, first_value, take_frame, method_of, without, kept, kept_reply, replied, refused, with_root, root_fault, matched_told, with_matched, with_effect, with_body, with_reply, with_fault, with_tree, ToldChange, told_change, at_spot, change_fault, with_change, halted, is_shown, told_sheets, with_news, with_message}
+use Rattle.front_mirror.specs.Sheets.{told_sheet, has_sheet, marked_old, without_sheet}
+use Rattle.front_mirror.specs.Front.{FrontValue, first_value, take_frame, method_waiting, asks_without, reply_kept, kept_reply, replied, refused, with_root, root_fault, matched_told, with_matched, with_effect, with_body, with_reply, with_fault, with_tree, ToldChange, told_change, at_spot, change_fault, with_change, halted, is_shown, told_sheets, with_news, with_message}
 use Rattle.inspect_world.specs.Fold.{folded, joined, then}
-use Rattle.inspect_world.specs.Fits.{join, with_ask, ask_in, IsPlainFrame}
-use Rattle.inspect_world.specs.ShownReplies.{ShownReply, told_of, told_by, replies_among}
+use Rattle.inspect_world.specs.Fits.{join, with_ask, ask_of_frame, IsPlainFrame}
+use Rattle.inspect_world.specs.ShownReplies.{ShownReply, told_of, replies_in_frame, replies_among}
 use Rattle.inspect_world.proofs.PlainAsks.{ArePlain, kept-plain, without-plain, joined-plain}
 
 -- the front has kept these replies more, and still none of the asks that wait is a fetch
@@ -37,7 +37,7 @@ refuses : {P : Type 0} (kind : FrontKind) (w : FrontValue) → ◌≡◌ {A = Re
 refuses kind w e = absurd cc
 
 -- a reply more
-keeps-like : (v : FrontValue) (id : ℕ) (frame : List ℕ) (good : Bool) (x w : FrontValue) → x.replies ≡ v.replies ++ kept_reply id v.asks frame good → x.asks ≡ without id v.asks → ArePlain v.asks
+keeps-like : (v : FrontValue) (id : ℕ) (frame : List ℕ) (good : Bool) (x w : FrontValue) → x.replies ≡ v.replies ++ kept_reply id v.asks frame good → x.asks ≡ asks_without id v.asks → ArePlain v.asks
     → ◌≡◌ {A = Result FrontValue FrontKind} (Ok x) (Ok w) → Keeps v (record { id = Some id; text = frame } ∷ []) w
 keeps-like v id frame good x w same asks plain e =
     let is : x ≡ w = cc e in
@@ -127,36 +127,36 @@ keeps-news v (text_modified id value) w plain e = keeps-change v (told_change id
 keeps-news v (count_updated id count) w plain e = keeps-change v (told_change id (counts count) none) w plain e
 keeps-news v (inserted parent previous b) w plain e = keeps-change v (told_change parent (inserts previous (seen_branch b)) (alone b)) w plain e
 keeps-news v (removed parent id) w plain e = keeps-change v (told_change parent (removes id) none) w plain e
-keeps-news v (sheet_added header) w plain e = keeps-added v (has_sheet header.sheet v.sheets) (v.sheets ++ new_sheet header ∷ []) w plain e
+keeps-news v (sheet_added header) w plain e = keeps-added v (has_sheet header.sheet v.sheets) (v.sheets ++ told_sheet header ∷ []) w plain e
 keeps-news v (sheet_changed number) w plain e = keeps-sheet v (has_sheet number v.sheets) (marked_old number v.sheets) w plain e
 keeps-news v (sheet_removed number) w plain e = keeps-sheet v (has_sheet number v.sheets) (without_sheet number v.sheets) w plain e
 keeps-news v (paused why) w plain e = keeps-pause v why (list_all (is_shown v.tree) (paused_nodes why)) w plain e
 
-keeps-message : (v : FrontValue) (frame : List ℕ) (o : Option Message) (w : FrontValue) → ArePlain v.asks → with_message v frame o ≡ Ok w → Keeps v (told_by frame o) w
+keeps-message : (v : FrontValue) (frame : List ℕ) (o : Option Message) (w : FrontValue) → ArePlain v.asks → with_message v frame o ≡ Ok w → Keeps v (replies_in_frame frame o) w
 keeps-message v frame None w plain e = refuses NotMessage w e
 keeps-message v frame (Some (event n)) w plain e = keeps-news v n w plain e
-keeps-message v frame (Some (reply id result)) w plain e = keeps-reply v id frame result (method_of id v.asks) w plain e
+keeps-message v frame (Some (reply id result)) w plain e = keeps-reply v id frame result (method_waiting id v.asks) w plain e
 keeps-message v frame (Some (fault None code text)) w plain e =
     let same : refused v frame ≡ w = cc e in
     record {
-      replies = ap (λ (x : FrontValue). map told_of x.replies) (sym same) ∙ map-append told_of v.replies (kept None None frame false ∷ []);
+      replies = ap (λ (x : FrontValue). map told_of x.replies) (sym same) ∙ map-append told_of v.replies (reply_kept None None frame false ∷ []);
       plain = subst ArePlain (ap (λ (x : FrontValue). x.asks) same) plain;
     }
-keeps-message v frame (Some (fault (Some id) code text)) w plain e = keeps-fault v id frame (method_of id v.asks) w plain e
+keeps-message v frame (Some (fault (Some id) code text)) w plain e = keeps-fault v id frame (method_waiting id v.asks) w plain e
 
 -- all of some frames
 keeps-folded : (frames : List (List ℕ)) (v w : FrontValue) → ArePlain v.asks → folded take_frame v frames ≡ Ok w → Keeps v (replies_among frames) w
 keeps-folded [] v w plain e = keeps-none v v w refl refl plain e
 keeps-folded (frame ∷ frames) v w plain e =
     (elim (take_frame v frame) as (λ (r : Result FrontValue FrontKind). take_frame v frame ≡ r
-    → then r (λ next. folded take_frame next frames) ≡ Ok w → Keeps v (told_by frame (down_of frame) ++ replies_among frames) w) [
+    → then r (λ next. folded take_frame next frames) ≡ Ok w → Keeps v (replies_in_frame frame (down_of frame) ++ replies_among frames) w) [
       | Ok next ↦ λ is rest.
-          let one : Keeps v (told_by frame (down_of frame)) next = keeps-message v frame (down_of frame) next plain is in
+          let one : Keeps v (replies_in_frame frame (down_of frame)) next = keeps-message v frame (down_of frame) next plain is in
           let later : Keeps next (replies_among frames) w = keeps-folded frames next w one.plain rest in
           record {
             replies =
                 later.replies ∙ ap (λ ts. ts ++ replies_among frames) one.replies
-                ∙ append_assoc (map told_of v.replies) (told_by frame (down_of frame)) (replies_among frames);
+                ∙ append_assoc (map told_of v.replies) (replies_in_frame frame (down_of frame)) (replies_among frames);
             plain = later.plain;
           }
       | Err kind ↦ λ is rest. refuses kind w rest
@@ -172,7 +172,7 @@ replies-with_ask v (Some ask) = refl
 
 pub replies-joined : (v : FrontValue) (frames : List (List ℕ)) → (joined join v frames).replies ≡ v.replies
 replies-joined v [] = refl
-replies-joined v (frame ∷ frames) = replies-joined (join v frame) frames ∙ replies-with_ask v (ask_in frame)
+replies-joined v (frame ∷ frames) = replies-joined (join v frame) frames ∙ replies-with_ask v (ask_of_frame frame)
 
 -- a front end that began with no reply, and sent no fetch, has those among the frames
 pub replies-of : (sent_frames frames : List (List ℕ)) (w : FrontValue) → All IsPlainFrame sent_frames → folded take_frame (joined join (first_value []) sent_frames) frames ≡ Ok w
@@ -184,5 +184,5 @@ replies-of sent_frames frames w all e =
 pub replies_among-append : (first second : List (List ℕ)) → replies_among (first ++ second) ≡ replies_among first ++ replies_among second
 replies_among-append [] second = refl
 replies_among-append (frame ∷ first) second =
-    ap (λ ts. told_by frame (down_of frame) ++ ts) (replies_among-append first second)
-    ∙ sym (append_assoc (told_by frame (down_of frame)) (replies_among first) (replies_among second))
+    ap (λ ts. replies_in_frame frame (down_of frame) ++ ts) (replies_among-append first second)
+    ∙ sym (append_assoc (replies_in_frame frame (down_of frame)) (replies_among first) (replies_among second))

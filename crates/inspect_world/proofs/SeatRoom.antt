@@ -1,9 +1,9 @@
 -- A seat has the room that its state has.
 use Rattle.std.proofs.Common.{◌≡◌, refl, ◌+◌, ◌^◌, ◌<◌, List, [], ◌∷◌, length, map, sym, ◌∙◌, ap, subst, arith}
 use Rattle.std.proofs.lemmas.List.{length-map, length-reverse}
-use Rattle.page_tree.specs.Pages.{State as PageValue}
+use Rattle.page_tree.specs.Pages.{PageValue}
 use Rattle.undo_marks.specs.Marks.{Marks, entry_count}
-use Rattle.undo_marks.specs.Changes.{Change as Entry, backs_of, again_of}
+use Rattle.undo_marks.specs.Changes.{HistoryEntry as Entry, backs_of, again_of}
 use Rattle.undo_marks.specs.Saved.{Saved}
 use Rattle.undo_marks.specs.SavedEdits.{way_back}
 use Rattle.undo_marks.specs.declared.inverse_lists.Inverse.{Inverse}

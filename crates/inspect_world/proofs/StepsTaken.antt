@@ -117,7 +117,7 @@ pub folded-fold : (frames : List (List ℕ)) (v w : FrontValue) → fold_frames 
 folded-fold [] v w e = let same : v ≡ w = cc in ap (λ (x : FrontValue). taken_well x) same
 folded-fold (frame ∷ frames) v w e =
     (elim (take_frame v frame) as (λ (r : Result FrontValue FrontKind).
-    outcome (after_message v (λ u. front.folded u frames) r).value (after_message v (λ u. front.folded u frames) r).fault ≡ Ok w
+    outcome (after_message v (λ u. front.front_folded u frames) r).value (after_message v (λ u. front.front_folded u frames) r).fault ≡ Ok w
     → then r (λ next. folded take_frame next frames) ≡ Ok w) [
       | Ok next ↦ λ rest. folded-fold frames next w rest
       | Err kind ↦ λ rest. let no : ◌≡◌ {A = Result FrontValue FrontFault} (Err (record { place = v.taken + 1; kind = kind })) (Ok w) = rest in absurd cc

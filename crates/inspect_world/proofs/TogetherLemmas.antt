@@ -4,7 +4,7 @@ use Rattle.std.specs.List.{All}
 use Rattle.std.proofs.lemmas.List.Elements.{All-nil, All-cons, All-append}
 use Rattle.pipe_frames.specs.Frames.{IsText, frames_of}
 use Rattle.inspect_world.specs.Stream.{sent}
-use Rattle.inspect_world.specs.World.{World, Spent, nothing_spent, one_ask, one_raw, first_world, asked, raw, sent_up, turned, delivered_up, delivered_down, settled}
+use Rattle.inspect_world.specs.World.{World, Spent, nothing_spent, one_ask, one_raw, first_world, ask_sent, raw, sent_up, turned, delivered_up, delivered_down, settled}
 use Rattle.inspect_world.specs.Fold.{Machine, Laws, Fits}
 use Rattle.inspect_world.specs.Fetches.{Fetcher, refreshed, FetchLaws}
 use Rattle.inspect_world.specs.Agreement.{RunTogether}
@@ -53,7 +53,7 @@ module _ {S F E X A : Type 0} (machine : Machine S F E X) (IsNext : Spent → Li
   -- an ask is sent
   pub together-asked : (start : F) (text : List ℕ) (edits : ℕ) (w v : World S) → IsText text → IsPlain text
       → IsNext w.spent text (one_ask edits w.spent) → IsNext v.spent text (one_ask edits v.spent)
-      → RunTogether machine Fit start seen IsPlain w v → RunTogether machine Fit start seen IsPlain (asked edits text w) (asked edits text v)
+      → RunTogether machine Fit start seen IsPlain w v → RunTogether machine Fit start seen IsPlain (ask_sent edits text w) (ask_sent edits text v)
   together-asked start text edits w v letters one next next1 both = record {
     fits = fits-sent_up machine IsNext IsTurn Fit laws start text (one_ask edits) w letters next both.fits;
     fits_fresh = fits-sent_up machine IsNext IsTurn Fit laws start text (one_ask edits) v letters next1 both.fits_fresh;

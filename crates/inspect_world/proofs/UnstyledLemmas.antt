@@ -20,9 +20,9 @@ use Rattle.front_mirror.specs.declared.replies.MatchedReply.{MatchedReply}
 use Rattle.front_mirror.specs.declared.faults.FrontKind.{FrontKind}
 use Rattle.front_mirror.specs.declared.faults.FrontKind.TheVariants.{NotMessage, UnknownNode, IdTaken, UnknownSheet}
 use Rattle.front_mirror.specs.declared.sheets.KnownSheet.{KnownSheet}
-use Rattle.front_mirror.specs.Sheets.{new_sheet, has_sheet, marked_old, without_sheet}
-use Rattle.front_mirror.specs.Front.{FrontValue, take_frame, method_of, with_root, root_fault, matched_told, with_matched, with_effect, with_body, with_reply, with_fault, with_tree, ToldChange, told_change, at_spot, change_fault, with_change, halted, is_shown, told_sheets, with_news, with_message}
-use Rattle.inspect_world.specs.Fits.{ask_in, with_ask, join}
+use Rattle.front_mirror.specs.Sheets.{told_sheet, has_sheet, marked_old, without_sheet}
+use Rattle.front_mirror.specs.Front.{FrontValue, take_frame, method_waiting, with_root, root_fault, matched_told, with_matched, with_effect, with_body, with_reply, with_fault, with_tree, ToldChange, told_change, at_spot, change_fault, with_change, halted, is_shown, told_sheets, with_news, with_message}
+use Rattle.inspect_world.specs.Fits.{ask_of_frame, with_ask, join}
 use Rattle.inspect_world.specs.FreshRuns.{Unstyled, unstyled}
 
 -- the front with other sheets, and another count of messages
@@ -107,7 +107,7 @@ module _ (v : FrontValue) (ss : List KnownSheet) (t : ℕ) (v1 w1 : FrontValue) 
   same-news (inserted parent previous b) e f = same-change (told_change parent (inserts previous (seen_branch b)) (alone b)) e f
   same-news (removed parent id) e f = same-change (told_change parent (removes id) none) e f
   same-news (sheet_added header) e f =
-      same-added (has_sheet header.sheet v.sheets) (has_sheet header.sheet ss) (v.sheets ++ new_sheet header ∷ []) (ss ++ new_sheet header ∷ []) e f
+      same-added (has_sheet header.sheet v.sheets) (has_sheet header.sheet ss) (v.sheets ++ told_sheet header ∷ []) (ss ++ told_sheet header ∷ []) e f
   same-news (sheet_changed number) e f = same-sheet (has_sheet number v.sheets) (has_sheet number ss) (marked_old number v.sheets) (marked_old number ss) e f
   same-news (sheet_removed number) e f = same-sheet (has_sheet number v.sheets) (has_sheet number ss) (without_sheet number v.sheets) (without_sheet number ss) e f
   same-news (paused why) e f = same-pause why (list_all (is_shown v.tree) (paused_nodes why)) e f
@@ -115,9 +115,9 @@ module _ (v : FrontValue) (ss : List KnownSheet) (t : ℕ) (v1 w1 : FrontValue) 
   same-message : (frame : List ℕ) (o : Option Message) → with_message v frame o ≡ Ok v1 → with_message (restyled v ss t) frame o ≡ Ok w1 → unstyled v1 ≡ unstyled w1
   same-message frame None e f = not-ok NotMessage v1 e
   same-message frame (Some (event n)) e f = same-news n e f
-  same-message frame (Some (reply id result)) e f = same-reply id frame result (method_of id v.asks) e f
+  same-message frame (Some (reply id result)) e f = same-reply id frame result (method_waiting id v.asks) e f
   same-message frame (Some (fault None code text)) e f = both-ok _ _ v1 w1 refl e f
-  same-message frame (Some (fault (Some id) code text)) e f = same-fault id frame (method_of id v.asks) e f
+  same-message frame (Some (fault (Some id) code text)) e f = same-fault id frame (method_waiting id v.asks) e f
 
 -- fronts that show the same, and both take a message, show the same then
 pub unstyled-takes : (v w v1 w1 : FrontValue) (frame : List ℕ) → unstyled v ≡ unstyled w → take_frame v frame ≡ Ok v1 → take_frame w frame ≡ Ok w1 → unstyled v1 ≡ unstyled w1
@@ -132,4 +132,4 @@ unstyled-with_ask v w (Some ask) same = ap (λ (u : Unstyled). record { tree = u
 
 -- and so do those that send the same
 pub unstyled-joins : (v w : FrontValue) (frame : List ℕ) → unstyled v ≡ unstyled w → unstyled (join v frame) ≡ unstyled (join w frame)
-unstyled-joins v w frame same = unstyled-with_ask v w (ask_in frame) same
+unstyled-joins v w frame same = unstyled-with_ask v w (ask_of_frame frame) same

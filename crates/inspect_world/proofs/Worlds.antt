@@ -4,7 +4,7 @@ use Rattle.pipe_frames.specs.Frames.{IsText, framed, frames_of, frames_from, hel
 use Rattle.pipe_frames.proofs.FrameLemmas.{frames_of-append, frames_of-one, frames_from-append}
 use Rattle.inspect_world.specs.Stream.{Stream, sent, put, passed, held, arriving, awaited}
 use Rattle.back_end.specs.Steps.{Stepped}
-use Rattle.inspect_world.specs.World.{World, Spent, nothing_spent, one_ask, one_turn, first_world, steps, sent_up, asked, turned, answered, given_up, delivered_up, delivered_down, settled}
+use Rattle.inspect_world.specs.World.{World, Spent, nothing_spent, one_ask, one_turn, first_world, steps, sent_up, ask_sent, turned, answered, given_up, delivered_up, delivered_down, settled}
 use Rattle.inspect_world.specs.Fold.{folded, joined, then, Machine, Laws, Leads, FitsWith, Fits}
 use Rattle.inspect_world.proofs.Frames.{rest-sent, sent-passed, awaited-passed}
 use Rattle.inspect_world.proofs.Folds.{folded-append, joined-append}
@@ -80,7 +80,7 @@ module _ {S F E X : Type 0} (machine : Machine S F E X) (IsNext : Spent → List
 
   -- an ask is sent
   pub fits-asked : (start : F) (ask : List ℕ) (edits : ℕ) (w : World S) → IsText ask → IsNext w.spent ask (one_ask edits w.spent)
-      → Fits machine.take machine.join Fit start w → Fits machine.take machine.join Fit start (asked edits ask w)
+      → Fits machine.take machine.join Fit start w → Fits machine.take machine.join Fit start (ask_sent edits ask w)
   fits-asked start ask edits w letters is_ask fits = fits-sent_up start ask (one_ask edits) w letters is_ask fits
 
   -- bytes are given up: the frames that become whole are the first that wait

@@ -34,15 +34,15 @@ abbrev pub sheet_told : List ℕ → Option ℕ
 sheet_told text = if_holds (λ n. bytes_eq (sheet_text n) text) (digits_value 10 (drop 1 text))
 
 -- the sheet that parameters name
-abbrev pub sheet_named : Data → Option ℕ
-sheet_named params =
+abbrev pub sheet_in_params : Data → Option ℕ
+sheet_in_params params =
     option_and_then (λ ms. option_and_then sheet_told (option_and_then as_str (get_member (codes "styleSheetId") ms))) (as_object params)
 
 -- The sheet that an ask fetches, by its id, its method and its parameters. The ids of fetches are from 2^30 on, and no other ask
 -- has one of them.
 abbrev pub sheet_asked : ℕ → List ℕ → Option Data → Option ℕ
 sheet_asked id method params =
-    cond (nat_lt id (2 ^ 30)) None (cond (bytes_eq method (codes "CSS.getStyleSheetText")) (option_and_then sheet_named params) None)
+    cond (nat_lt id (2 ^ 30)) None (cond (bytes_eq method (codes "CSS.getStyleSheetText")) (option_and_then sheet_in_params params) None)
 
 -- the ask that an object with this id and this method is
 abbrev pub ask_by : Members → ℕ → List ℕ → Ask
@@ -55,8 +55,8 @@ ask_of frame =
     (option_and_then as_whole (get_member (codes "id") frame))
 
 -- the ask that a frame is: an object with an id and a method
-abbrev pub ask_in : List ℕ → Option Ask
-ask_in frame = option_and_then ask_of (option_and_then as_object (json_of frame))
+abbrev pub ask_of_frame : List ℕ → Option Ask
+ask_of_frame frame = option_and_then ask_of (option_and_then as_object (json_of frame))
 
 -- the front waits for one more reply
 abbrev pub with_ask : FrontValue → Option Ask → FrontValue
@@ -65,7 +65,7 @@ with_ask v (Some ask) = record v { asks = v.asks ++ ask ∷ [] }
 
 -- the front after a frame was sent
 abbrev pub join : FrontValue → List ℕ → FrontValue
-join v frame = with_ask v (ask_in frame)
+join v frame = with_ask v (ask_of_frame frame)
 
 -- ---- what may be sent and done
 
@@ -91,31 +91,31 @@ most_fetches = (most_bytes + 1) * most_sheets
 
 -- a frame that names no ask, and to which the back end answers with an error reply without an id
 pub record IsBare (frame : List ℕ) : Type 0 where
-  pub no_ask : ask_in frame ≡ None
+  pub no_ask : ask_of_frame frame ≡ None
   pub why : Why
   pub refused : asked frame false ≡ Err (refusal None why)
 
 -- a frame that a front end may send: an ask, or a bare one
 pub data Sendable (frame : List ℕ) : Type 0 where
-  is_ask : (ask : Ask) → ask_in frame ≡ Some ask → Sendable frame
+  is_ask : (ask : Ask) → ask_of_frame frame ≡ Some ask → Sendable frame
   is_bare : IsBare frame → Sendable frame
 
 -- the sheet whose text a frame fetches, if it is a fetch
-abbrev pub sheet_in : List ℕ → Option ℕ
-sheet_in frame = option_and_then (λ (ask : Ask). ask.sheet) (ask_in frame)
+abbrev pub sheet_fetched : List ℕ → Option ℕ
+sheet_fetched frame = option_and_then (λ (ask : Ask). ask.sheet) (ask_of_frame frame)
 
 -- the frame is no fetch
 abbrev pub IsPlainFrame : List ℕ → Type 0
-IsPlainFrame frame = sheet_in frame ≡ None
+IsPlainFrame frame = sheet_fetched frame ≡ None
 
 -- how many edits a frame comes to at most
-unfoldable pub edits_in : List ℕ → ℕ
-edits_in frame = edits_asked (asked frame false)
+unfoldable pub edits_of_frame : List ℕ → ℕ
+edits_of_frame frame = edits_asked (asked frame false)
 
 -- how many of these frames are no fetches: those alone may draw ids and serials
 abbrev pub drawing : List (List ℕ) → ℕ
 drawing [] = 0
-drawing (frame ∷ frames) = cond (is_some (sheet_in frame)) 0 1 + drawing frames
+drawing (frame ∷ frames) = cond (is_some (sheet_fetched frame)) 0 1 + drawing frames
 
 -- frames each of which may be sent
 abbrev pub AreSendable : List (List ℕ) → Type 0
@@ -125,18 +125,18 @@ AreSendable (frame ∷ frames) = Sendable frame × AreSendable frames
 -- how many edits these frames ask for, but for fetches
 abbrev pub asking : List (List ℕ) → ℕ
 asking [] = 0
-asking (frame ∷ frames) = cond (is_some (sheet_in frame)) 0 (edits_in frame) + asking frames
+asking (frame ∷ frames) = cond (is_some (sheet_fetched frame)) 0 (edits_of_frame frame) + asking frames
 
 -- the asks that stand in frames
 abbrev pub asks_among : List (List ℕ) → List Ask
 asks_among [] = []
-asks_among (frame ∷ frames) = option_to_list (ask_in frame) ++ asks_among frames
+asks_among (frame ∷ frames) = option_to_list (ask_of_frame frame) ++ asks_among frames
 
 -- After n the text may be sent, as the next ask, as the next fetch or as a bare frame, and m is then spent.
 pub data IsNext (n : Spent) (text : List ℕ) : Spent → Type 0 where
-  next_ask : (method : List ℕ) (edits : ℕ) → ask_in text ≡ Some (ask_with method (n.asks + 1)) → edits_in text ≤ edits
+  next_ask : (method : List ℕ) (edits : ℕ) → ask_of_frame text ≡ Some (ask_with method (n.asks + 1)) → edits_of_frame text ≤ edits
       → n.asks + n.raws + 1 ≤ most_frames → n.edits + edits ≤ most_bytes → IsNext n text (one_ask edits n)
-  next_fetch : (sheet : ℕ) → ask_in text ≡ Some (fetch_ask n.fetches sheet) → n.fetches + 1 ≤ most_fetches → IsNext n text (one_fetch n)
+  next_fetch : (sheet : ℕ) → ask_of_frame text ≡ Some (fetch_ask n.fetches sheet) → n.fetches + 1 ≤ most_fetches → IsNext n text (one_fetch n)
   next_raw : IsBare text → n.asks + n.raws + 1 ≤ most_frames → IsNext n text (one_raw n)
 
 -- after n the script may make this step by itself

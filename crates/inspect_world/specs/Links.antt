@@ -39,15 +39,15 @@ pub data Happening : Type 0 where
   made : Turn → Happening
 
 -- its step
-abbrev pub step_of : Happening → State → Stepped State
-step_of (came frame) state = step state frame
-step_of (made x) state = turn x state
+abbrev pub happening_step : Happening → State → Stepped State
+happening_step (came frame) state = step state frame
+happening_step (made x) state = turn x state
 
 -- the steps, one after the other
 abbrev pub happened : State → List Happening → Stepped State
 happened state [] = record { state = state; sent = [] }
 happened state (h ∷ hs) =
-    let first = step_of h state in
+    let first = happening_step h state in
     let later = happened first.state hs in
     record { state = later.state; sent = first.sent ++ later.sent }
 
@@ -99,15 +99,15 @@ pub record Started : Type 0 where
   pub shown : List ℕ
 
 -- a run that has shown the matched styles of these asks
-abbrev pub started : State → ℕ → List ℕ → Started
-started state lines shown = record { state = state; lines = lines; shown = shown }
+abbrev pub run_started : State → ℕ → List ℕ → Started
+run_started state lines shown = record { state = state; lines = lines; shown = shown }
 
 -- one line more may be carried out
 abbrev pub one_line_more : Started → Started
-one_line_more start = started start.state (start.lines + 1) start.shown
+one_line_more start = run_started start.state (start.lines + 1) start.shown
 
 -- how a pipe goes on from an earlier moment
-pub record GoesOn (start now : Pipe) (sent given : List ℕ) : Type 0 where
+pub record PipeGoesOn (start now : Pipe) (sent given : List ℕ) : Type 0 where
   pub sent_is : now.sent ≡ start.sent ++ sent
   pub given_is : now.given ≡ start.given ++ given
 
@@ -121,8 +121,8 @@ pub record Follows (state0 : Started) (up0 down0 up down : Pipe) (waiting : List
   pub given_up : List ℕ
   pub sent_down : List ℕ
   pub given_down : List ℕ
-  pub up_is : GoesOn up0 up sent_up given_up
-  pub down_is : GoesOn down0 down sent_down given_down
+  pub up_is : PipeGoesOn up0 up sent_up given_up
+  pub down_is : PipeGoesOn down0 down sent_down given_down
   pub up_whole : (frames_of sent_up).rest ≡ []
   pub value : FrontValue
   pub front_is : e.front ≡ good_front value (frames_of given_down).rest e.front.next e.front.fetches

@@ -1,6 +1,6 @@
 -- A script carried out line by line, and what it prints.
 use Rattle.std.specs.Prelude.{ℕ, ◌+◌, Bool, List, [], ◌∷◌, ◌++◌, length, drop, codes, Option, Some, None, is_some}
-use Rattle.page_tree.specs.Pages.{Row}
+use Rattle.page_tree.specs.Pages.{PageRow}
 use Rattle.cdp_messages.specs.Asked.{command_text}
 use Rattle.front_mirror.specs.Outline.{outline_text, seen_line, node_line}
 use Rattle.replay_script.specs.declared.faults.LineFault.{LineFault}
@@ -12,14 +12,14 @@ use Rattle.css_objects.specs.declared.rules.Matched.{Matched}
 use Rattle.cdp_messages.specs.declared.down.PauseData.{PauseData}
 use Rattle.replay_script.specs.Script.{numbered_or, unless_bad, styles_fault, script_fault, script_forms}
 use Rattle.inspect_world.specs.Costs.{ask_edits}
-use Rattle.inspect_world.specs.World.{World, AlreadyTold, first_world, asked, raw, turned, delivered_up, delivered_down, settled}
+use Rattle.inspect_world.specs.World.{World, AlreadyTold, first_world, ask_sent, raw, turned, delivered_up, delivered_down, settled}
 use Rattle.inspect_world.specs.ShownReplies.{ShownReply, replies_in, told_lines}
 use Rattle.inspect_world.specs.ActTexts.{act_text}
 use Rattle.inspect_world.specs.SheetTexts.{sheet_lines}
 use Rattle.inspect_world.specs.ShownPauses.{pauses_in, pause_lines}
 use Rattle.inspect_world.specs.StylesTexts.{styles_text}
 use Rattle.inspect_world.specs.RunStates.{RunState, run_start, styles_under, run_step, run_turn}
-use Rattle.back_end.specs.States.{State, nodes_in, book_in, sheets_shown, view_of}
+use Rattle.back_end.specs.States.{State, page_nodes, book_in, sheets_shown, view_of}
 use Rattle.back_end.specs.Steps.{acts, loads}
 use Rattle.back_end.specs.Plans.{act_fault}
 
@@ -27,7 +27,7 @@ use Rattle.back_end.specs.Plans.{act_fault}
 
 -- the k-th ask is sent with the id k
 abbrev pub sends : AskForm → World RunState → World RunState
-sends a w = asked (ask_edits a) (command_text (w.spent.asks + 1) a.method a.params a.session) w
+sends a w = ask_sent (ask_edits a) (command_text (w.spent.asks + 1) a.method a.params a.session) w
 
 -- the run after something was told
 abbrev pub telling : AlreadyTold → World RunState → World RunState
@@ -81,12 +81,12 @@ abbrev pub outline_of : World RunState → List ℕ
 outline_of w = outline_text seen_line (view_of w.state.back).tree
 
 -- the line of a node of the page, by its serial
-abbrev pub page_line : Row → List ℕ
+abbrev pub page_line : PageRow → List ℕ
 page_line r = node_line r.serial r.label 0
 
 -- the page itself, as an outline
 abbrev pub page_outline : State → List ℕ
-page_outline state = outline_text page_line (nodes_in state)
+page_outline state = outline_text page_line (page_nodes state)
 
 -- the sheets that the client sees
 abbrev pub sheets_of : World RunState → List ℕ
@@ -97,8 +97,8 @@ abbrev pub replies_after : ℕ → World RunState → List ShownReply
 replies_after n w = drop n (replies_in w.down.given)
 
 -- the pauses that came after so many others
-abbrev pub pauses_after : ℕ → World RunState → List PauseData
-pauses_after n w = drop n (pauses_in w.down.given)
+abbrev pub pauses_since : ℕ → World RunState → List PauseData
+pauses_since n w = drop n (pauses_in w.down.given)
 
 -- the matched styles that answered the ask with that id, by the page as it was when the ask came to the back end
 abbrev pub styles_at : ℕ → World RunState → Option Matched
@@ -126,7 +126,7 @@ line_text number show_front w = codes "# front" ++ 10 ∷ outline_of (settled ru
 line_text number show_page w = codes "# page" ++ 10 ∷ page_outline w.state.back
 line_text number show_sheets w = codes "# sheets" ++ 10 ∷ sheets_of (settled run_step w)
 line_text number show_replies w = codes "# replies" ++ 10 ∷ told_lines (replies_after w.told.replies (settled run_step w))
-line_text number show_pauses w = codes "# pauses" ++ 10 ∷ pause_lines (pauses_after w.told.pauses (settled run_step w))
+line_text number show_pauses w = codes "# pauses" ++ 10 ∷ pause_lines (pauses_since w.told.pauses (settled run_step w))
 line_text number (show_styles k) w = styles_shown k (styles_at k (settled run_step w))
 
 -- what some lines print, the first of which has that number
@@ -171,26 +171,26 @@ rest_text bad lines w =
     lines_text 2 good w ++ closing_unless (rest_refused bad lines w) (after_lines good w)
 
 -- what the lines of a script print, by the first that is refused
-abbrev pub text_of : Option (ℕ × LineFault) → List LineForm → List ℕ
-text_of bad [] = []
-text_of bad (load page ∷ lines) = rest_text bad lines (loaded_world page)
-text_of bad (forms.act a ∷ lines) = []
-text_of bad (ask a ∷ lines) = []
-text_of bad (forms.raw text ∷ lines) = []
-text_of bad (up n ∷ lines) = []
-text_of bad (down n ∷ lines) = []
-text_of bad (settle ∷ lines) = []
-text_of bad (show_front ∷ lines) = []
-text_of bad (show_page ∷ lines) = []
-text_of bad (show_sheets ∷ lines) = []
-text_of bad (show_replies ∷ lines) = []
-text_of bad (show_pauses ∷ lines) = []
-text_of bad (show_styles k ∷ lines) = []
+abbrev pub text_by_refusal : Option (ℕ × LineFault) → List LineForm → List ℕ
+text_by_refusal bad [] = []
+text_by_refusal bad (load page ∷ lines) = rest_text bad lines (loaded_world page)
+text_by_refusal bad (forms.act a ∷ lines) = []
+text_by_refusal bad (ask a ∷ lines) = []
+text_by_refusal bad (forms.raw text ∷ lines) = []
+text_by_refusal bad (up n ∷ lines) = []
+text_by_refusal bad (down n ∷ lines) = []
+text_by_refusal bad (settle ∷ lines) = []
+text_by_refusal bad (show_front ∷ lines) = []
+text_by_refusal bad (show_page ∷ lines) = []
+text_by_refusal bad (show_sheets ∷ lines) = []
+text_by_refusal bad (show_replies ∷ lines) = []
+text_by_refusal bad (show_pauses ∷ lines) = []
+text_by_refusal bad (show_styles k ∷ lines) = []
 
 -- What a replay of the input writes: what each line before the first that is refused prints, and after the last line, where
 -- none is refused, the closing outline. No front end takes part in it.
 abbrev pub report : List ℕ → List ℕ
-report input = text_of (script_fault input) (script_forms input)
+report input = text_by_refusal (script_fault input) (script_forms input)
 
 -- The first line that is refused, by the run of the script.
 abbrev pub refused_of : Option (ℕ × LineFault) → List LineForm → Option (ℕ × LineFault)

@@ -25,19 +25,19 @@ pause_told (sheet_changed number) = []
 pause_told (sheet_removed number) = []
 
 -- the pause that a message tells
-abbrev pub pause_of : Option Message → List PauseData
-pause_of None = []
-pause_of (Some (reply id result)) = []
-pause_of (Some (fault id code said)) = []
-pause_of (Some (event n)) = pause_told n
+abbrev pub pauses_of_message : Option Message → List PauseData
+pauses_of_message None = []
+pauses_of_message (Some (reply id result)) = []
+pauses_of_message (Some (fault id code said)) = []
+pauses_of_message (Some (event n)) = pause_told n
 
 -- the pause that a frame is
-abbrev pub pause_by : List ℕ → List PauseData
-pause_by frame = pause_of (down_of frame)
+abbrev pub pauses_in_frame : List ℕ → List PauseData
+pauses_in_frame frame = pauses_of_message (down_of frame)
 
 -- the pauses among the whole frames of these bytes, in their order
 abbrev pub pauses_in : List ℕ → List PauseData
-pauses_in bytes = flat_map pause_by (frames_of bytes).whole
+pauses_in bytes = flat_map pauses_in_frame (frames_of bytes).whole
 
 -- ---- what a show prints
 

@@ -14,16 +14,16 @@ pub record ShownReply : Type 0 where
   pub text : List ℕ
 
 -- the reply that a frame is, by its message
-abbrev pub told_by : List ℕ → Option Message → List ShownReply
-told_by frame None = []
-told_by frame (Some (reply id result)) = record { id = Some id; text = frame } ∷ []
-told_by frame (Some (fault id code said)) = record { id = id; text = frame } ∷ []
-told_by frame (Some (event n)) = []
+abbrev pub replies_in_frame : List ℕ → Option Message → List ShownReply
+replies_in_frame frame None = []
+replies_in_frame frame (Some (reply id result)) = record { id = Some id; text = frame } ∷ []
+replies_in_frame frame (Some (fault id code said)) = record { id = id; text = frame } ∷ []
+replies_in_frame frame (Some (event n)) = []
 
 -- the replies among frames, in their order
 abbrev pub replies_among : List (List ℕ) → List ShownReply
 replies_among [] = []
-replies_among (frame ∷ frames) = told_by frame (down_of frame) ++ replies_among frames
+replies_among (frame ∷ frames) = replies_in_frame frame (down_of frame) ++ replies_among frames
 
 -- a reply that a front end has kept
 abbrev pub told_of : Kept → ShownReply

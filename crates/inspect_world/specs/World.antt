@@ -68,8 +68,8 @@ abbrev pub sent_up : {S : Type 0} → List ℕ → (Spent → Spent) → World S
 sent_up text more w = record { state = w.state; up = put (framed text) w.up; down = w.down; spent = more w.spent; told = w.told }
 
 -- the front end sends an ask, which may come to so many edits
-abbrev pub asked : {S : Type 0} → ℕ → List ℕ → World S → World S
-asked edits text w = sent_up text (one_ask edits) w
+abbrev pub ask_sent : {S : Type 0} → ℕ → List ℕ → World S → World S
+ask_sent edits text w = sent_up text (one_ask edits) w
 
 -- the front end sends a frame that is no ask
 abbrev pub raw : {S : Type 0} → List ℕ → World S → World S

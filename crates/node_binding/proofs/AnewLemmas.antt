@@ -5,10 +5,10 @@ use Rattle.std.proofs.lemmas.Bool.Decides.{nat_tests}
 use Rattle.node_tree.specs.Nodes.{Nodes, none, node, Branch, alone}
 use Rattle.node_tree.specs.Keys.{tally, find, first_of}
 use Rattle.node_tree.specs.Labels.{holds}
-use Rattle.page_tree.specs.Pages.{Row, row_serial}
-use Rattle.node_binding.specs.Counts.{times, is_in}
+use Rattle.page_tree.specs.Pages.{PageRow, row_serial}
+use Rattle.node_binding.specs.Counts.{times, stands_in}
 use Rattle.node_binding.specs.Cuts.{opens, known, shown_anew}
-use Rattle.node_binding.specs.Openings.{less, is_spent, reached, levelled, opened_also, is_unopened, is_closed}
+use Rattle.node_binding.specs.Openings.{less, is_spent, containers_within, levelled, opened_also, is_unopened, is_closed}
 use Rattle.node_binding.proofs.Known.{known-tally}
 use Rattle.node_binding.proofs.SessionLemmas.{times-known}
 use Rattle.node_binding.proofs.OpeningLemmas.{goes_on, AreDistinct, Agrees, self_times, in_children, at_root, reached-tally, known-levelled}
@@ -20,7 +20,7 @@ same_part true b xs ys e h = h
 same_part false true xs ys e h = cc
 same_part false false xs ys e h = refl
 
-pub anew-same : (o p : ℕ → Bool) (n : Nodes Row) → ((s : ℕ) → 0 < tally row_serial s n → o s ≡ p s) → shown_anew o p n ≡ []
+pub anew-same : (o p : ℕ → Bool) (n : Nodes PageRow) → ((s : ℕ) → 0 < tally row_serial s n → o s ≡ p s) → shown_anew o p n ≡ []
 anew-same o p none same = refl
 anew-same o p (node r c t) same =
     ap (λ xs. xs ++ shown_anew o p t) (same_part (opens o r) (opens p r) _ (known p c) (ap (λ b. cond (holds r.label.kind) b false) (same r.serial (omega (arith, self_times r.serial)))) (anew-same o p c (λ s h. same s (omega arith))))
@@ -31,8 +31,8 @@ or-false true = refl
 or-false false = refl
 
 -- a node outside x is opened as before
-pub outside : (d : Option ℕ) (x : Branch Row) (o : ℕ → Bool) (s : ℕ) → tally row_serial s (alone x) ≡ 0 → o s ≡ opened_also d x o s
-outside d x o s h = or-false (o s) ∙ ap (λ m. o s || not (m == 0)) (let e : 0 ≡ times s (reached d (alone x)) = omega (arith, reached-tally d s (alone x)) in e)
+pub outside : (d : Option ℕ) (x : Branch PageRow) (o : ℕ → Bool) (s : ℕ) → tally row_serial s (alone x) ≡ 0 → o s ≡ opened_also d x o s
+outside d x o s h = or-false (o s) ∙ ap (λ m. o s || not (m == 0)) (let e : 0 ≡ times s (containers_within d (alone x)) = omega (arith, reached-tally d s (alone x)) in e)
 
 -- ---- the node that is opened
 
@@ -44,7 +44,7 @@ pub and-second : (a b : Bool) → (a && b) ≡ true → b ≡ true
 and-second true b e = e
 and-second false b e = cc
 
-pub unopened-at : (o : ℕ → Bool) (n : Nodes Row) → is_unopened o n ≡ true → (s : ℕ) → 0 < tally row_serial s n → o s ≡ false
+pub unopened-at : (o : ℕ → Bool) (n : Nodes PageRow) → is_unopened o n ≡ true → (s : ℕ) → 0 < tally row_serial s n → o s ≡ false
 unopened-at o none e s h = absurd (omega arith)
 unopened-at o (node r c t) e s h =
     let here = and-first (not (o r.serial) && is_unopened o c) (is_unopened o t) e in
@@ -70,16 +70,16 @@ goes h s h_is s_is = rw (h_is, s_is) refl
 
 module _ (o : ℕ → Bool) (d : Option ℕ) (left : is_spent d ≡ false) where
   -- at the node itself
-  anew-here : (r : Row) (c t : Nodes Row) → AreDistinct (node r c t) → o r.serial ≡ false → holds r.label.kind ≡ true → is_closed o (node r c t) ≡ true → shown_anew o (opened_also d (record { row = r; children = c }) o) (node r c t) ≡ levelled (less d) c
+  anew-here : (r : PageRow) (c t : Nodes PageRow) → AreDistinct (node r c t) → o r.serial ≡ false → holds r.label.kind ≡ true → is_closed o (node r c t) ≡ true → shown_anew o (opened_also d (record { row = r; children = c }) o) (node r c t) ≡ levelled (less d) c
   anew-here r c t distinct shut container closed =
-      let x : Branch Row = record { row = r; children = c } in
+      let x : Branch PageRow = record { row = r; children = c } in
       let p : ℕ → Bool = opened_also d x o in
       let alone_distinct : AreDistinct (node r c none) = λ s. omega (arith, distinct s) in
       let on : goes_on d r ≡ true = goes (holds r.label.kind) (is_spent d) container left in
       let below_shut : is_unopened o c ≡ true = ap (λ b. cond b (is_closed o c) (is_unopened o c)) (sym shut) ∙ and-first _ (is_closed o t) closed in
-      let open_now : p r.serial ≡ true = ap (λ b. b || is_in r.serial (reached d (alone x))) shut ∙ ap (λ m. not (m == 0)) (at_root d r c none alone_distinct ∙ ap (λ b. cond {A = ℕ} b 1 0) on) in
-      let agrees : Agrees p (less d) c = λ s h. ap (λ b. b || is_in s (reached d (alone x))) (unopened-at o c below_shut s h)
-      ∙ ap (λ m. not (m == 0)) (in_children d r c none alone_distinct s h ∙ ap (λ b. cond {A = ℕ} b (times s (reached (less d) c)) 0) on) in
+      let open_now : p r.serial ≡ true = ap (λ b. b || stands_in r.serial (containers_within d (alone x))) shut ∙ ap (λ m. not (m == 0)) (at_root d r c none alone_distinct ∙ ap (λ b. cond {A = ℕ} b 1 0) on) in
+      let agrees : Agrees p (less d) c = λ s h. ap (λ b. b || stands_in s (containers_within d (alone x))) (unopened-at o c below_shut s h)
+      ∙ ap (λ m. not (m == 0)) (in_children d r c none alone_distinct s h ∙ ap (λ b. cond {A = ℕ} b (times s (containers_within (less d) c)) 0) on) in
       let rest : shown_anew o p t ≡ [] = anew-same o p t (λ s h. outside d x o s (omega (arith, distinct s))) in
       ap (λ xs. xs ++ shown_anew o p t) (opened_shown (holds r.label.kind) (o r.serial) (p r.serial) (shown_anew o p c) (known p c) container shut open_now)
       ∙ ap (λ xs. known p c ++ xs) rest
@@ -92,11 +92,11 @@ first_of-cases : {A : Type 0} (a b : Option A) (x : A) → first_of a b ≡ Some
 first_of-cases None b x e = inr e
 first_of-cases (Some y) b x e = inl e
 
-pub found_here : (k : ℕ) (r : Row) (c t : Nodes Row) (x : Branch Row) → (r.serial == k) ≡ true → find row_serial k (node r c t) ≡ Some x → ◌≡◌ {A = Branch Row} (record { row = r; children = c }) x
+pub found_here : (k : ℕ) (r : PageRow) (c t : Nodes PageRow) (x : Branch PageRow) → (r.serial == k) ≡ true → find row_serial k (node r c t) ≡ Some x → ◌≡◌ {A = Branch PageRow} (record { row = r; children = c }) x
 found_here k r c t x here e =
     ap (λ o. unwrap_or o x) (sym (ap (λ b. cond b (Some (record { row = r; children = c })) (first_of (find row_serial k c) (find row_serial k t))) here) ∙ e)
 
-pub found_later : (k : ℕ) (r : Row) (c t : Nodes Row) (x : Branch Row) → (r.serial == k) ≡ false → find row_serial k (node r c t) ≡ Some x → (find row_serial k c ≡ Some x) ⊎ (find row_serial k t ≡ Some x)
+pub found_later : (k : ℕ) (r : PageRow) (c t : Nodes PageRow) (x : Branch PageRow) → (r.serial == k) ≡ false → find row_serial k (node r c t) ≡ Some x → (find row_serial k c ≡ Some x) ⊎ (find row_serial k t ≡ Some x)
 found_later k r c t x other e =
     first_of-cases (find row_serial k c) (find row_serial k t) x (sym (ap (λ b. cond b (Some (record { row = r; children = c })) (first_of (find row_serial k c) (find row_serial k t))) other) ∙ e)
 
@@ -104,11 +104,11 @@ pub at_or_other : {P : Type 0} (a b : ℕ) → ((a == b) ≡ true → P) → ((a
 at_or_other {P} a b same other = elim (a == b) as (λ v. ((a == b) ≡ v) → P) [ true ↦ λ e. same e | false ↦ λ e. other e ] refl
 
 -- what is at and below a node that is found is there
-pub found-tally : (k : ℕ) (n : Nodes Row) (x : Branch Row) → find row_serial k n ≡ Some x → (s : ℕ) → tally row_serial s (alone x) ≤ tally row_serial s n
+pub found-tally : (k : ℕ) (n : Nodes PageRow) (x : Branch PageRow) → find row_serial k n ≡ Some x → (s : ℕ) → tally row_serial s (alone x) ≤ tally row_serial s n
 found-tally k none x e s = cc
 found-tally k (node r c t) x e s =
     at_or_other r.serial k
-    (λ here. subst (λ (y : Branch Row). tally row_serial s (alone y) ≤ tally row_serial s (node r c t)) (found_here k r c t x here e) (omega arith))
+    (λ here. subst (λ (y : Branch PageRow). tally row_serial s (alone y) ≤ tally row_serial s (node r c t)) (found_here k r c t x here e) (omega arith))
     (λ other. ⊎_elim
     (λ in_c. omega (arith, found-tally k c x in_c s))
     (λ in_t. omega (arith, found-tally k t x in_t s))
@@ -134,7 +134,7 @@ pub known_in_rest : (a : Bool) (here k m : ℕ) → here ≡ 0 → k ≡ 0 → 0
 known_in_rest true here k m e f h = omega arith
 known_in_rest false here k m e f h = omega arith
 
-pub anew-opened : (o : ℕ → Bool) (d : Option ℕ) → is_spent d ≡ false → (x : Branch Row) (n : Nodes Row) → AreDistinct n → find row_serial x.row.serial n ≡ Some x → 0 < times x.row.serial (known o n) → o x.row.serial ≡ false → holds x.row.label.kind ≡ true → is_closed o n ≡ true → shown_anew o (opened_also d x o) n ≡ levelled (less d) x.children
+pub anew-opened : (o : ℕ → Bool) (d : Option ℕ) → is_spent d ≡ false → (x : Branch PageRow) (n : Nodes PageRow) → AreDistinct n → find row_serial x.row.serial n ≡ Some x → 0 < times x.row.serial (known o n) → o x.row.serial ≡ false → holds x.row.label.kind ≡ true → is_closed o n ≡ true → shown_anew o (opened_also d x o) n ≡ levelled (less d) x.children
 anew-opened o d left x none distinct e known_x shut container closed = cc
 anew-opened o d left x (node r c t) distinct e known_x shut container closed =
     let k : ℕ = x.row.serial in
@@ -143,8 +143,8 @@ anew-opened o d left x (node r c t) distinct e known_x shut container closed =
     let split : 0 < cond {A = ℕ} (r.serial == k) 1 0 + (cond {A = ℕ} (opens o r) (times k (known o c)) 0 + times k (known o t)) = rw (times-known o (λ s. s) k r c t) at known_x in
     at_or_other r.serial k
     (λ here. (let is = found_here k r c t x here e in
-    subst (λ (y : Branch Row). shown_anew o (opened_also d y o) (node r c t) ≡ levelled (less d) y.children) is
-    (anew-here o d left r c t distinct (ap (λ (y : Branch Row). o y.row.serial) is ∙ shut) (ap (λ (y : Branch Row). holds y.row.label.kind) is ∙ container) closed)))
+    subst (λ (y : Branch PageRow). shown_anew o (opened_also d y o) (node r c t) ≡ levelled (less d) y.children) is
+    (anew-here o d left r c t distinct (ap (λ (y : Branch PageRow). o y.row.serial) is ∙ shut) (ap (λ (y : Branch PageRow). holds y.row.label.kind) is ∙ container) closed)))
     (λ other. (let row_apart : cond {A = ℕ} (r.serial == k) 1 0 ≡ 0 = ap (λ b. cond {A = ℕ} b 1 0) other in
     ⊎_elim
     (λ in_c. (let there : (s : ℕ) → tally row_serial s (alone x) ≤ tally row_serial s c = found-tally k c x in_c in

@@ -5,13 +5,13 @@ use Rattle.node_tree.specs.Nodes.{Nodes, none, node, Branch, alone}
 use Rattle.node_tree.specs.Keys.{tally, At}
 use Rattle.node_tree.specs.Labels.{holds}
 use Rattle.node_tree.proofs.KeyLemmas.{tally-at}
-use Rattle.page_tree.specs.Pages.{Row, row_serial}
+use Rattle.page_tree.specs.Pages.{PageRow, row_serial}
 use Rattle.page_tree.specs.Edits.{put_before, with_child}
 use Rattle.node_binding.specs.Counts.{times}
 use Rattle.node_binding.specs.Cuts.{opens, known}
-use Rattle.node_binding.specs.Openings.{reached, is_unopened, is_closed, IsOpenedSet}
+use Rattle.node_binding.specs.Openings.{containers_within, is_unopened, is_closed, IsOpenedSet}
 use Rattle.node_binding.specs.Sessions.{IsSession, session_of, attached}
-use Rattle.node_binding.specs.Bindings.{Bound, Stands, with_bound}
+use Rattle.node_binding.specs.Bindings.{BindingValue, Stands, with_bound}
 use Rattle.node_binding.proofs.Places.{is_in-times}
 use Rattle.node_binding.proofs.Known.{known-tally}
 use Rattle.node_binding.proofs.SessionLemmas.{times-known}
@@ -26,7 +26,7 @@ either : {A : Type 0} (P : A → Type 0) (b : Bool) (x y : A) → P x → P y �
 either P true x y f g = f
 either P false x y f g = g
 
-pub unopened-closed : (o : ℕ → Bool) (n : Nodes Row) → is_unopened o n ≡ true → is_closed o n ≡ true
+pub unopened-closed : (o : ℕ → Bool) (n : Nodes PageRow) → is_unopened o n ≡ true → is_closed o n ≡ true
 unopened-closed o none e = refl
 unopened-closed o (node r c t) e =
     let head = and-first (not (o r.serial) && is_unopened o c) (is_unopened o t) e in
@@ -38,23 +38,23 @@ unopened-closed o (node r c t) e =
     row true x y e f = cc
     row false x y e f = f
 
-module _ (before : ℕ) (x : Branch Row) where
-  put-tally : (s : ℕ) (c : Nodes Row) → tally row_serial s (put_before before x c) ≡ tally row_serial s c + tally row_serial s (alone x)
+module _ (before : ℕ) (x : Branch PageRow) where
+  put-tally : (s : ℕ) (c : Nodes PageRow) → tally row_serial s (put_before before x c) ≡ tally row_serial s c + tally row_serial s (alone x)
   put-tally s none = omega arith
   put-tally s (node r c t) =
       let rest = put-tally s t in
       either (λ n. tally row_serial s n ≡ tally row_serial s (node r c t) + tally row_serial s (alone x)) (r.serial == before) (node x.row x.children (node r c t)) (node r c (put_before before x t)) (omega arith) (omega arith)
 
-  put-reached : (s : ℕ) (c : Nodes Row) → times s (reached None c) ≤ times s (reached None (put_before before x c))
+  put-reached : (s : ℕ) (c : Nodes PageRow) → times s (containers_within None c) ≤ times s (containers_within None (put_before before x c))
   put-reached s none = omega arith
   put-reached s (node r c t) =
       let rest = put-reached s t in
-      either (λ n. times s (reached None (node r c t)) ≤ times s (reached None n)) (r.serial == before) (node x.row x.children (node r c t)) (node r c (put_before before x t))
+      either (λ n. times s (containers_within None (node r c t)) ≤ times s (containers_within None n)) (r.serial == before) (node x.row x.children (node r c t)) (node r c (put_before before x t))
       (omega (arith, times-reached None s x.row x.children (node r c t)))
       (omega (arith, times-reached None s r c t, times-reached None s r c (put_before before x t)))
 
   module _ (o : ℕ → Bool) where
-    put-known : (s : ℕ) (c : Nodes Row) → times s (known o (put_before before x c)) ≡ times s (known o c) + times s (known o (alone x))
+    put-known : (s : ℕ) (c : Nodes PageRow) → times s (known o (put_before before x c)) ≡ times s (known o c) + times s (known o (alone x))
     put-known s none = omega arith
     put-known s (node r c t) =
         let rest = put-known s t in
@@ -63,7 +63,7 @@ module _ (before : ℕ) (x : Branch Row) where
         (omega (arith, times-known o (λ k. k) s r c t, times-known o (λ k. k) s r c (put_before before x t)))
 
     module _ (shut : is_unopened o (alone x) ≡ true) where
-      put-unopened : (c : Nodes Row) → is_unopened o c ≡ true → is_unopened o (put_before before x c) ≡ true
+      put-unopened : (c : Nodes PageRow) → is_unopened o c ≡ true → is_unopened o (put_before before x c) ≡ true
       put-unopened none e = shut
       put-unopened (node r c t) e =
           let row = and-first (not (o r.serial) && is_unopened o c) (is_unopened o t) e in
@@ -71,7 +71,7 @@ module _ (before : ℕ) (x : Branch Row) where
           (and_from (not (o x.row.serial) && is_unopened o x.children) (is_unopened o (node r c t)) (and-first (not (o x.row.serial) && is_unopened o x.children) true shut) e)
           (and_from (not (o r.serial) && is_unopened o c) (is_unopened o (put_before before x t)) row (put-unopened t (and-second (not (o r.serial) && is_unopened o c) (is_unopened o t) e)))
 
-      put-closed : (c : Nodes Row) → is_closed o c ≡ true → is_closed o (put_before before x c) ≡ true
+      put-closed : (c : Nodes PageRow) → is_closed o c ≡ true → is_closed o (put_before before x c) ≡ true
       put-closed none e = unopened-closed o (alone x) shut
       put-closed (node r c t) e =
           let row = and-first (cond (o r.serial) (is_closed o c) (is_unopened o c)) (is_closed o t) e in
@@ -82,7 +82,7 @@ module _ (before : ℕ) (x : Branch Row) where
 
 -- ---- in the page
 
-alike_child : (before : ℕ) (x p : Branch Row) → IsAlike p (with_child before x p)
+alike_child : (before : ℕ) (x p : Branch PageRow) → IsAlike p (with_child before x p)
 alike_child before x p = record { serial = refl; kind = refl }
 
 -- what is known below a node that is not opened
@@ -96,7 +96,7 @@ first_alone true true s k xs e = cc
 first_alone true false s k xs e = refl
 first_alone false a s k xs e = refl
 
-module _ (n m : Nodes Row) (p x : Branch Row) (before : ℕ) (depth : ℕ) (at : At p (with_child before x p) depth n m) (distinct : AreDistinct m) (o : ℕ → Bool) (pushed : List ℕ) (since : ℕ) (session : IsSession n (session_of o pushed since)) where
+module _ (n m : Nodes PageRow) (p x : Branch PageRow) (before : ℕ) (depth : ℕ) (at : At p (with_child before x p) depth n m) (distinct : AreDistinct m) (o : ℕ → Bool) (pushed : List ℕ) (since : ℕ) (session : IsSession n (session_of o pushed since)) where
   tally-more : (s : ℕ) → tally row_serial s m ≡ tally row_serial s n + tally row_serial s (alone x)
   tally-more s = omega (arith, tally-at row_serial s at, put-tally before x s p.children)
 
@@ -105,7 +105,7 @@ module _ (n m : Nodes Row) (p x : Branch Row) (before : ℕ) (depth : ℕ) (at :
 
   -- no new node is opened
   fresh : (s : ℕ) → 0 < tally row_serial s (alone x) → o s ≡ false
-  fresh s h = not_live (o s) (λ e. omega (arith, is_in-times (reached None n) s (session.opened_set.live s e), reached-tally None s n, tally-more s, distinct s))
+  fresh s h = not_live (o s) (λ e. omega (arith, is_in-times (containers_within None n) s (session.opened_set.live s e), reached-tally None s n, tally-more s, distinct s))
     where
       not_live : (b : Bool) → (b ≡ true → ⊥) → b ≡ false
       not_live true f = absurd (f refl)
@@ -141,7 +141,7 @@ module _ (n m : Nodes Row) (p x : Branch Row) (before : ℕ) (depth : ℕ) (at :
     pub IsSession-attached : IsSession m (attached x.row.serial (session_of o pushed since))
     IsSession-attached = IsSession-more n m o o pushed since (x.row.serial ∷ []) known_more set_after session
 
-    pub Stands-attached : (b : Bound) → Stands n (session_of o pushed since) b → Stands m (attached x.row.serial (session_of o pushed since)) (with_bound x.row.serial b)
+    pub Stands-attached : (b : BindingValue) → Stands n (session_of o pushed since) b → Stands m (attached x.row.serial (session_of o pushed since)) (with_bound x.row.serial b)
     Stands-attached b stands =
         Stands-more n m o o pushed since [] (x.row.serial ∷ []) known_more (λ s. omega (arith, known-tally o s m, distinct s)) (λ s. or-false (o s)) b session stands
       where
@@ -163,5 +163,5 @@ module _ (n m : Nodes Row) (p x : Branch Row) (before : ℕ) (depth : ℕ) (at :
     pub IsSession-apart : IsSession m (session_of o pushed since)
     IsSession-apart = IsSession-same n m o pushed since known_same set_after session
 
-    pub Stands-apart : (b : Bound) → Stands n (session_of o pushed since) b → Stands m (session_of o pushed since) b
+    pub Stands-apart : (b : BindingValue) → Stands n (session_of o pushed since) b → Stands m (session_of o pushed since) b
     Stands-apart b stands = Stands-same n m o pushed since known_same (λ s. omega (arith, known-tally o s m, distinct s)) b session stands

@@ -6,12 +6,12 @@ use Rattle.node_tree.specs.Nodes.{Nodes, none, node, Branch}
 use Rattle.node_tree.specs.Keys.{tally, At, here, within, past}
 use Rattle.node_tree.specs.Labels.{holds}
 use Rattle.node_tree.proofs.KeyLemmas.{At-tally}
-use Rattle.page_tree.specs.Pages.{Row, row_serial}
-use Rattle.node_binding.specs.Counts.{times, is_in, place}
+use Rattle.page_tree.specs.Pages.{PageRow, row_serial}
+use Rattle.node_binding.specs.Counts.{times, stands_in, last_standing}
 use Rattle.node_binding.specs.Cuts.{opens, known}
-use Rattle.node_binding.specs.Openings.{reached, is_unopened, is_closed, has_roots, IsOpenedSet}
+use Rattle.node_binding.specs.Openings.{containers_within, is_unopened, is_closed, has_roots, IsOpenedSet}
 use Rattle.node_binding.specs.Sessions.{IsSession, session_of}
-use Rattle.node_binding.specs.Bindings.{Bound, Stands}
+use Rattle.node_binding.specs.Bindings.{BindingValue, Stands}
 use Rattle.node_binding.proofs.Places.{is_in-times, times-is_in, place-some}
 use Rattle.node_binding.proofs.SessionLemmas.{times-known}
 use Rattle.node_binding.proofs.GrowLemmas.{place-append, Stands-more}
@@ -20,7 +20,7 @@ use Rattle.node_binding.proofs.OpenedLemmas.{stand_more, not_there}
 use Rattle.node_binding.proofs.AnewLemmas.{and-first, and-second, unopened-at}
 
 -- the changed node keeps its serial and its kind
-pub record IsAlike (old new : Branch Row) : Type 0 where
+pub record IsAlike (old new : Branch PageRow) : Type 0 where
   pub serial : new.row.serial ≡ old.row.serial
   pub kind : new.row.label.kind ≡ old.row.label.kind
 
@@ -55,34 +55,34 @@ mono false k m n x y h l = omega arith
 
 module _ (o : ℕ → Bool) where
   -- what is known below a node
-  abbrev pub known_below_it : Branch Row → List ℕ
+  abbrev pub known_below_it : Branch PageRow → List ℕ
   known_below_it b = cond (opens o b.row) (known o b.children) []
 
   -- each opened node is a container
-  abbrev pub AreContainersOpened : Nodes Row → Type 0
+  abbrev pub AreContainersOpened : Nodes PageRow → Type 0
   AreContainersOpened none = Unit {0}
   AreContainersOpened (node r c t) = (o r.serial ≡ true → holds r.label.kind ≡ true) × AreContainersOpened c × AreContainersOpened t
 
-  pub containers-live : (n : Nodes Row) → AreDistinct n → ((s : ℕ) → 0 < tally row_serial s n → o s ≡ true → is_in s (reached None n) ≡ true) → AreContainersOpened n
+  pub containers-live : (n : Nodes PageRow) → AreDistinct n → ((s : ℕ) → 0 < tally row_serial s n → o s ≡ true → stands_in s (containers_within None n) ≡ true) → AreContainersOpened n
   containers-live none distinct live = tt
   containers-live (node r c t) distinct live = (
     λ e. holds_from (holds r.label.kind) (sym (ap (λ m. not (m == 0)) (at_root None r c t distinct)) ∙ live r.serial (omega (arith, self_times r.serial)) e),
-    containers-live c (λ s. omega (arith, distinct s)) (λ s h e. there_from (goes_on None r) (times s (reached None c)) (sym (ap (λ m. not (m == 0)) (in_children None r c t distinct s h)) ∙ live s (omega arith) e)),
+    containers-live c (λ s. omega (arith, distinct s)) (λ s h e. there_from (goes_on None r) (times s (containers_within None c)) (sym (ap (λ m. not (m == 0)) (in_children None r c t distinct s h)) ∙ live s (omega arith) e)),
     containers-live t (λ s. omega (arith, distinct s)) (λ s h e. sym (ap (λ m. not (m == 0)) (in_rest None r c t distinct s h)) ∙ live s (omega arith) e),
   )
 
   -- what changes of the known nodes: what is known below the changed one, where it is known itself
-  pub record KnownAt (old new : Branch Row) (n m : Nodes Row) : Type 0 where
+  pub record KnownAt (old new : Branch PageRow) (n m : Nodes PageRow) : Type 0 where
     pub in_view : Bool
     pub counts : (s : ℕ) → times s (known o m) + cond {A = ℕ} in_view (times s (known_below_it old)) 0 ≡ times s (known o n) + cond {A = ℕ} in_view (times s (known_below_it new)) 0
     pub seen : is_closed o n ≡ true → AreContainersOpened n → o old.row.serial ≡ true → in_view ≡ true
     pub holder : AreContainersOpened n → o old.row.serial ≡ true → opens o old.row ≡ true
 
-  module _ {old new : Branch Row} (alike : IsAlike old new) where
+  module _ {old new : Branch PageRow} (alike : IsAlike old new) where
     same_row : opens o new.row ≡ opens o old.row
     same_row = ap (λ k. cond (holds k) (o new.row.serial) false) alike.kind ∙ ap (λ s. cond (holds old.row.label.kind) (o s) false) alike.serial
 
-    pub known-at : {depth : ℕ} {n m : Nodes Row} → At old new depth n m → KnownAt old new n m
+    pub known-at : {depth : ℕ} {n m : Nodes PageRow} → At old new depth n m → KnownAt old new n m
     known-at (here t) = record {
       in_view = true;
       counts = λ s. omega (
@@ -116,20 +116,20 @@ module _ (o : ℕ → Bool) where
           holder = λ containers. inner.holder containers.2;
         }
 
-    pub rooted-at : {depth : ℕ} {n m : Nodes Row} → At old new depth n m → has_roots o n ≡ true → has_roots o m ≡ true
+    pub rooted-at : {depth : ℕ} {n m : Nodes PageRow} → At old new depth n m → has_roots o n ≡ true → has_roots o m ≡ true
     rooted-at (here t) e = ap (λ s. o s && has_roots o t) alike.serial ∙ e
     rooted-at (within depth r c m t at) e = e
     rooted-at (past depth r c t m at) e = and_from (o r.serial) (has_roots o m) (and-first (o r.serial) (has_roots o t) e) (rooted-at at (and-second (o r.serial) (has_roots o t) e))
 
-    module _ (more : (s : ℕ) → times s (reached None old.children) ≤ times s (reached None new.children)) where
-      pub reached-at : {depth : ℕ} {n m : Nodes Row} → At old new depth n m → (s : ℕ) → times s (reached None n) ≤ times s (reached None m)
+    module _ (more : (s : ℕ) → times s (containers_within None old.children) ≤ times s (containers_within None new.children)) where
+      pub reached-at : {depth : ℕ} {n m : Nodes PageRow} → At old new depth n m → (s : ℕ) → times s (containers_within None n) ≤ times s (containers_within None m)
       reached-at (here t) s =
           let row : cond {A = ℕ} (old.row.serial == s) 1 0 ≡ cond {A = ℕ} (new.row.serial == s) 1 0 = ap (λ k. cond {A = ℕ} (k == s) 1 0) (sym alike.serial) in
-          let kind : cond {A = ℕ} (goes_on None old.row) (cond {A = ℕ} (new.row.serial == s) 1 0 + times s (reached None old.children)) 0 ≡ cond {A = ℕ} (goes_on None new.row) (cond {A = ℕ} (new.row.serial == s) 1 0 + times s (reached None old.children)) 0 = ap (λ k. cond {A = ℕ} (holds k && true) (cond {A = ℕ} (new.row.serial == s) 1 0 + times s (reached None old.children)) 0) (sym alike.kind) in
-          let first : cond {A = ℕ} (goes_on None old.row) (cond {A = ℕ} (old.row.serial == s) 1 0 + times s (reached None old.children)) 0 ≡ cond {A = ℕ} (goes_on None new.row) (cond {A = ℕ} (new.row.serial == s) 1 0 + times s (reached None old.children)) 0 = ap (λ k. cond {A = ℕ} (goes_on None old.row) (k + times s (reached None old.children)) 0) row ∙ kind in
-          omega (arith, first, times-reached None s old.row old.children t, times-reached None s new.row new.children t, mono (goes_on None new.row) (cond {A = ℕ} (new.row.serial == s) 1 0) _ _ (times s (reached None t)) (times s (reached None t)) (more s) (omega arith))
+          let kind : cond {A = ℕ} (goes_on None old.row) (cond {A = ℕ} (new.row.serial == s) 1 0 + times s (containers_within None old.children)) 0 ≡ cond {A = ℕ} (goes_on None new.row) (cond {A = ℕ} (new.row.serial == s) 1 0 + times s (containers_within None old.children)) 0 = ap (λ k. cond {A = ℕ} (holds k && true) (cond {A = ℕ} (new.row.serial == s) 1 0 + times s (containers_within None old.children)) 0) (sym alike.kind) in
+          let first : cond {A = ℕ} (goes_on None old.row) (cond {A = ℕ} (old.row.serial == s) 1 0 + times s (containers_within None old.children)) 0 ≡ cond {A = ℕ} (goes_on None new.row) (cond {A = ℕ} (new.row.serial == s) 1 0 + times s (containers_within None old.children)) 0 = ap (λ k. cond {A = ℕ} (goes_on None old.row) (k + times s (containers_within None old.children)) 0) row ∙ kind in
+          omega (arith, first, times-reached None s old.row old.children t, times-reached None s new.row new.children t, mono (goes_on None new.row) (cond {A = ℕ} (new.row.serial == s) 1 0) _ _ (times s (containers_within None t)) (times s (containers_within None t)) (more s) (omega arith))
       reached-at (within depth r c m t e) s =
-          omega (arith, times-reached None s r c t, times-reached None s r m t, mono (goes_on None r) (cond {A = ℕ} (r.serial == s) 1 0) _ _ (times s (reached None t)) (times s (reached None t)) (reached-at e s) (omega arith))
+          omega (arith, times-reached None s r c t, times-reached None s r m t, mono (goes_on None r) (cond {A = ℕ} (r.serial == s) 1 0) _ _ (times s (containers_within None t)) (times s (containers_within None t)) (reached-at e s) (omega arith))
       reached-at (past depth r c t m e) s = omega (arith, times-reached None s r c t, times-reached None s r c m, reached-at e s)
 
     module _ (shut : is_unopened o old.children ≡ true → is_unopened o new.children ≡ true) (closed : is_closed o old.children ≡ true → is_closed o new.children ≡ true) where
@@ -137,7 +137,7 @@ module _ (o : ℕ → Bool) where
       row_closed true x y z w f g e = f e
       row_closed false x y z w f g e = g e
 
-      unopened-at_change : {depth : ℕ} {n m : Nodes Row} → At old new depth n m → is_unopened o n ≡ true → is_unopened o m ≡ true
+      unopened-at_change : {depth : ℕ} {n m : Nodes PageRow} → At old new depth n m → is_unopened o n ≡ true → is_unopened o m ≡ true
       unopened-at_change (here t) e =
           let head = and-first (not (o old.row.serial) && is_unopened o old.children) (is_unopened o t) e in
           and_from (not (o new.row.serial) && is_unopened o new.children) (is_unopened o t)
@@ -151,7 +151,7 @@ module _ (o : ℕ → Bool) where
       unopened-at_change (past depth r c t m at) e =
           and_from (not (o r.serial) && is_unopened o c) (is_unopened o m) (and-first (not (o r.serial) && is_unopened o c) (is_unopened o t) e) (unopened-at_change at (and-second (not (o r.serial) && is_unopened o c) (is_unopened o t) e))
 
-      pub closed-at : {depth : ℕ} {n m : Nodes Row} → At old new depth n m → is_closed o n ≡ true → is_closed o m ≡ true
+      pub closed-at : {depth : ℕ} {n m : Nodes PageRow} → At old new depth n m → is_closed o n ≡ true → is_closed o m ≡ true
       closed-at (here t) e =
           and_from (cond (o new.row.serial) (is_closed o new.children) (is_unopened o new.children)) (is_closed o t)
           (ap (λ s. cond (o s) (is_closed o new.children) (is_unopened o new.children)) alike.serial
@@ -165,32 +165,32 @@ module _ (o : ℕ → Bool) where
           and_from (cond (o r.serial) (is_closed o c) (is_unopened o c)) (is_closed o m) (and-first (cond (o r.serial) (is_closed o c) (is_unopened o c)) (is_closed o t) e) (closed-at at (and-second (cond (o r.serial) (is_closed o c) (is_unopened o c)) (is_closed o t) e))
 
       -- an opened set stays one
-      pub IsOpenedSet-at : ((s : ℕ) → times s (reached None old.children) ≤ times s (reached None new.children)) → {depth : ℕ} {n m : Nodes Row} → At old new depth n m → IsOpenedSet o n → IsOpenedSet o m
+      pub IsOpenedSet-at : ((s : ℕ) → times s (containers_within None old.children) ≤ times s (containers_within None new.children)) → {depth : ℕ} {n m : Nodes PageRow} → At old new depth n m → IsOpenedSet o n → IsOpenedSet o m
       IsOpenedSet-at more {n = n} {m = m} at set = record {
-        live = λ s e. times-is_in (reached None m) s (omega (arith, is_in-times (reached None n) s (set.live s e), reached-at more at s));
+        live = λ s e. times-is_in (containers_within None m) s (omega (arith, is_in-times (containers_within None n) s (set.live s e), reached-at more at s));
         rooted = rooted-at at set.rooted;
         closed = closed-at at set.closed;
       }
 
 -- a session whose opened set is one of the page m, in which the nodes ks are known too, and have their ids
-pub IsSession-more : (n m : Nodes Row) (o p : ℕ → Bool) (pushed : List ℕ) (since : ℕ) (ks : List ℕ) → ((s : ℕ) → times s (known p m) ≡ times s (known o n) + times s ks) → IsOpenedSet p m → IsSession n (session_of o pushed since) → IsSession m (session_of p (pushed ++ ks) since)
+pub IsSession-more : (n m : Nodes PageRow) (o p : ℕ → Bool) (pushed : List ℕ) (since : ℕ) (ks : List ℕ) → ((s : ℕ) → times s (known p m) ≡ times s (known o n) + times s ks) → IsOpenedSet p m → IsSession n (session_of o pushed since) → IsSession m (session_of p (pushed ++ ks) since)
 IsSession-more n m o p pushed since ks more set session = record {
   opened_set = set;
   since_then = omega (arith, length-append pushed ks, session.since_then);
   known_stand = λ s h. rw (drop-append-le since pushed ks session.since_then, place-append (drop since pushed) ks s)
-      (stand_more (place ks s) (place (drop since pushed) s) (length (drop since pushed))
-      (λ e. session.known_stand s (times-is_in (known o n) s (not_there (times s (known o n)) (times s ks) (place ks s) (omega (arith, more s, is_in-times (known p m) s h)) (place-some ks s) e))));
+      (stand_more (last_standing ks s) (last_standing (drop since pushed) s) (length (drop since pushed))
+      (λ e. session.known_stand s (times-is_in (known o n) s (not_there (times s (known o n)) (times s ks) (last_standing ks s) (omega (arith, more s, is_in-times (known p m) s h)) (place-some ks s) e))));
 }
 
 -- the same where the same nodes are known
-pub IsSession-same : (n m : Nodes Row) (o : ℕ → Bool) (pushed : List ℕ) (since : ℕ) → ((s : ℕ) → times s (known o m) ≡ times s (known o n)) → IsOpenedSet o m → IsSession n (session_of o pushed since) → IsSession m (session_of o pushed since)
+pub IsSession-same : (n m : Nodes PageRow) (o : ℕ → Bool) (pushed : List ℕ) (since : ℕ) → ((s : ℕ) → times s (known o m) ≡ times s (known o n)) → IsOpenedSet o m → IsSession n (session_of o pushed since) → IsSession m (session_of o pushed since)
 IsSession-same n m o pushed since same set session = record {
   opened_set = set;
   since_then = session.since_then;
   known_stand = λ s h. session.known_stand s (times-is_in (known o n) s (omega (arith, same s, is_in-times (known o m) s h)));
 }
 
-pub Stands-same : (n m : Nodes Row) (o : ℕ → Bool) (pushed : List ℕ) (since : ℕ) → ((s : ℕ) → times s (known o m) ≡ times s (known o n)) → ((s : ℕ) → times s (known o m) ≤ 1) → (b : Bound) → IsSession n (session_of o pushed since) → Stands n (session_of o pushed since) b → Stands m (session_of o pushed since) b
+pub Stands-same : (n m : Nodes PageRow) (o : ℕ → Bool) (pushed : List ℕ) (since : ℕ) → ((s : ℕ) → times s (known o m) ≡ times s (known o n)) → ((s : ℕ) → times s (known o m) ≤ 1) → (b : BindingValue) → IsSession n (session_of o pushed since) → Stands n (session_of o pushed since) b → Stands m (session_of o pushed since) b
 Stands-same n m o pushed since same distinct b session stands =
     subst (λ (l : List ℕ). Stands m (session_of o l since) b) (append-nil pushed)
     (Stands-more n m o o pushed since [] [] (λ s. omega (arith, same s)) distinct (λ s. or-false (o s)) b session stands)

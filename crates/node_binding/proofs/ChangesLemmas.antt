@@ -6,15 +6,15 @@ use Rattle.node_tree.specs.Nodes.{Nodes, none, node, Branch, alone}
 use Rattle.node_tree.specs.Labels.{Label, holds}
 use Rattle.node_tree.specs.Keys.{tally, has, At}
 use Rattle.node_tree.proofs.KeyLemmas.{tally-at, has-there, has-find, found_key, find-stands}
-use Rattle.page_tree.specs.Pages.{Row, row_serial, State, IsValid, find_in, node_at, parent_at}
+use Rattle.page_tree.specs.Pages.{PageRow, row_serial, PageValue, IsValid, find_in, node_at, parent_at}
 use Rattle.page_tree.specs.Edits.{after, changed_at, relabelled, with_child, without_child}
 use Rattle.page_tree.specs.declared.edits.TreeEdit.TheVariants.{Attach, Detach}
 use Rattle.node_binding.specs.Counts.{times}
 use Rattle.node_binding.specs.Cuts.{known}
-use Rattle.node_binding.specs.Openings.{reached}
+use Rattle.node_binding.specs.Openings.{containers_within}
 use Rattle.node_binding.specs.Sessions.{Session, IsSession, session_of, is_open, id_at, attached, detached}
-use Rattle.node_binding.specs.Bindings.{Bound, Stands, with_bound, all_forgotten}
-use Rattle.node_binding.specs.Changes.{StandsFor, Begins, Resets, Starts, OpensDown, BindsChild, PassesAttach, Forgets, PassesLabel}
+use Rattle.node_binding.specs.Bindings.{BindingValue, Stands, with_bound, all_forgotten}
+use Rattle.node_binding.specs.Changes.{BindingStandsFor, BindingBegins, Resets, Starts, OpensDown, BindsChild, PassesAttach, Forgets, PassesLabel}
 use Rattle.node_binding.proofs.Places.{is_in-times}
 use Rattle.node_binding.proofs.Known.{known-tally}
 use Rattle.node_binding.proofs.StartLemmas.{root_holds, distinct-alone}
@@ -30,7 +30,7 @@ use Rattle.node_binding.proofs.ForgetLemmas.{forgotten-ids, forgotten-opened, fo
 use Rattle.node_binding.proofs.PairLemmas.{IsPaired-stands, serials-paired}
 use Rattle.node_tree.proofs.ChangeLemmas.{at-put_root, child_of, Held, held}
 
-pub begins : Begins
+pub begins : BindingBegins
 begins page = record { session = IsSession-begun (alone page.tree); stands = Stands-begun (alone page.tree) }
 
 pub resets : Resets
@@ -54,10 +54,10 @@ opens_down d page x o pushed since b left valid can for = record {
 -- ---- one node of the page is changed
 
 -- where nothing is known, the page says nothing
-Stands-unknown : (n m : Nodes Row) (pushed : List ℕ) (since : ℕ) (b : Bound) → Stands n (record { opened = None; pushed = pushed; since = since }) b → Stands m (record { opened = None; pushed = pushed; since = since }) b
+Stands-unknown : (n m : Nodes PageRow) (pushed : List ℕ) (since : ℕ) (b : BindingValue) → Stands n (record { opened = None; pushed = pushed; since = since }) b → Stands m (record { opened = None; pushed = pushed; since = since }) b
 Stands-unknown n m pushed since b stands = record { opened_is = stands.opened_is; ids_are = stands.ids_are; serials_are = stands.serials_are; next_is = stands.next_is }
 
-IsSession-unknown : (n m : Nodes Row) (pushed : List ℕ) (since : ℕ) → IsSession n (record { opened = None; pushed = pushed; since = since }) → IsSession m (record { opened = None; pushed = pushed; since = since })
+IsSession-unknown : (n m : Nodes PageRow) (pushed : List ℕ) (since : ℕ) → IsSession n (record { opened = None; pushed = pushed; since = since }) → IsSession m (record { opened = None; pushed = pushed; since = since })
 IsSession-unknown n m pushed since session = record { opened_set = tt; since_then = session.since_then; known_stand = session.known_stand }
 
 or_nothing : (v : Bool) → cond {A = Option ℕ} v None None ≡ None
@@ -68,7 +68,7 @@ and_nothing : (v : Bool) → (v && false) ≡ false
 and_nothing true = refl
 and_nothing false = refl
 
-Stands-forgotten : (n m : Nodes Row) (x : Branch Row) (pushed : List ℕ) (since : ℕ) (b : Bound) → IsSession n (record { opened = None; pushed = pushed; since = since }) → Stands n (record { opened = None; pushed = pushed; since = since }) b
+Stands-forgotten : (n m : Nodes PageRow) (x : Branch PageRow) (pushed : List ℕ) (since : ℕ) (b : BindingValue) → IsSession n (record { opened = None; pushed = pushed; since = since }) → Stands n (record { opened = None; pushed = pushed; since = since }) b
     → Stands m (record { opened = None; pushed = pushed; since = since }) (all_forgotten (alone x) b)
 Stands-forgotten n m x pushed since b session stands =
     let w : Session = record { opened = None; pushed = pushed; since = since } in
@@ -81,40 +81,40 @@ Stands-forgotten n m x pushed since b session stands =
     }
 
 -- the node that a serial names
-pub record Named (serial : ℕ) (tree p : Branch Row) : Type 0 where
+pub record Named (serial : ℕ) (tree p : Branch PageRow) : Type 0 where
   pub found : find_in serial tree ≡ Some p
   pub at : node_at serial tree ≡ p
   pub serial_is : p.row.serial ≡ serial
 
-named : (serial : ℕ) (tree p : Branch Row) → find_in serial tree ≡ Some p → Named serial tree p
+named : (serial : ℕ) (tree p : Branch PageRow) → find_in serial tree ≡ Some p → Named serial tree p
 named serial tree p found = record { found = found; at = ap (λ o. unwrap_or o tree) found; serial_is = found_key row_serial serial (alone tree) p found }
 
-named_some : (serial : ℕ) (tree : Branch Row) → IsSome (find_in serial tree) → Named serial tree (node_at serial tree)
+named_some : (serial : ℕ) (tree : Branch PageRow) → IsSome (find_in serial tree) → Named serial tree (node_at serial tree)
 named_some serial tree there = go (find_in serial tree) refl there
   where
-    go : (o : Option (Branch Row)) → find_in serial tree ≡ o → IsSome o → Named serial tree (node_at serial tree)
+    go : (o : Option (Branch PageRow)) → find_in serial tree ≡ o → IsSome o → Named serial tree (node_at serial tree)
     go None e h = absurd (cc)
     go (Some p) e h = subst (Named serial tree) (sym (ap (λ o. unwrap_or o tree) e)) (named serial tree p e)
 
-named_opened : (o : ℕ → Bool) (tree : Branch Row) (serial : ℕ) → 0 < tally row_serial serial (alone tree) → IsSome (find_in serial tree)
+named_opened : (o : ℕ → Bool) (tree : Branch PageRow) (serial : ℕ) → 0 < tally row_serial serial (alone tree) → IsSome (find_in serial tree)
 named_opened o tree serial h = subst (λ b. b ≡ true) (sym (has-there row_serial serial (alone tree) h) ∙ has-find row_serial serial (alone tree)) refl
 
-changed : (serial : ℕ) (change : Branch Row → Branch Row) (tree : Branch Row) → IsSome (find_in serial tree)
+changed : (serial : ℕ) (change : Branch PageRow → Branch PageRow) (tree : Branch PageRow) → IsSome (find_in serial tree)
     → (depth : ℕ) × At (node_at serial tree) (change (node_at serial tree)) depth (alone tree) (alone (changed_at serial change tree))
 changed serial change tree there =
     let it = named_some serial tree there in at-put_root row_serial serial (change (node_at serial tree)) tree (node_at serial tree) it.found
 
 -- ---- attach
 
-module _ (page : State) (parent before : ℕ) (x : Branch Row) (valid : IsValid page) (valid_after : IsValid (after (Attach parent before x) page)) where
-  abbrev n : Nodes Row
+module _ (page : PageValue) (parent before : ℕ) (x : Branch PageRow) (valid : IsValid page) (valid_after : IsValid (after (Attach parent before x) page)) where
+  abbrev n : Nodes PageRow
   n = alone page.tree
 
-  abbrev m : Nodes Row
+  abbrev m : Nodes PageRow
   m = alone (after (Attach parent before x) page).tree
 
-  attached_below : (o : ℕ → Bool) (pushed : List ℕ) (since : ℕ) (b : Bound) → IsSome (find_in parent page.tree) → o parent ≡ true → StandsFor page (session_of o pushed since) b
-      → StandsFor (after (Attach parent before x) page) (attached x.row.serial (session_of o pushed since)) (with_bound x.row.serial b)
+  attached_below : (o : ℕ → Bool) (pushed : List ℕ) (since : ℕ) (b : BindingValue) → IsSome (find_in parent page.tree) → o parent ≡ true → BindingStandsFor page (session_of o pushed since) b
+      → BindingStandsFor (after (Attach parent before x) page) (attached x.row.serial (session_of o pushed since)) (with_bound x.row.serial b)
   attached_below o pushed since b there is for =
       let at = changed parent (with_child before x) page.tree there in
       let it = named_some parent page.tree there in
@@ -124,8 +124,8 @@ module _ (page : State) (parent before : ℕ) (x : Branch Row) (valid : IsValid 
         stands = Stands-attached n m (node_at parent page.tree) x before at.0 at.1 (distinct-alone (after (Attach parent before x) page) valid_after) o pushed since for.session open_parent b for.stands;
       }
 
-  attached_apart : (o : ℕ → Bool) (pushed : List ℕ) (since : ℕ) (b : Bound) → IsSome (find_in parent page.tree) → o parent ≡ false → StandsFor page (session_of o pushed since) b
-      → StandsFor (after (Attach parent before x) page) (session_of o pushed since) b
+  attached_apart : (o : ℕ → Bool) (pushed : List ℕ) (since : ℕ) (b : BindingValue) → IsSome (find_in parent page.tree) → o parent ≡ false → BindingStandsFor page (session_of o pushed since) b
+      → BindingStandsFor (after (Attach parent before x) page) (session_of o pushed since) b
   attached_apart o pushed since b there is for =
       let at = changed parent (with_child before x) page.tree there in
       let it = named_some parent page.tree there in
@@ -138,15 +138,15 @@ module _ (page : State) (parent before : ℕ) (x : Branch Row) (valid : IsValid 
   -- an opened node is live
   opened_there : (o : ℕ → Bool) (pushed : List ℕ) (since : ℕ) → IsSession n (session_of o pushed since) → o parent ≡ true → IsSome (find_in parent page.tree)
   opened_there o pushed since session is =
-      named_opened o page.tree parent (omega (arith, is_in-times (reached None n) parent (session.opened_set.live parent is), reached-tally None parent n))
+      named_opened o page.tree parent (omega (arith, is_in-times (containers_within None n) parent (session.opened_set.live parent is), reached-tally None parent n))
 
-  pub binds_child_by : (opened : Option (ℕ → Bool)) (pushed : List ℕ) (since : ℕ) (b : Bound) → is_open opened parent ≡ true → StandsFor page (record { opened = opened; pushed = pushed; since = since }) b
-      → StandsFor (after (Attach parent before x) page) (attached x.row.serial (record { opened = opened; pushed = pushed; since = since })) (with_bound x.row.serial b)
+  pub binds_child_by : (opened : Option (ℕ → Bool)) (pushed : List ℕ) (since : ℕ) (b : BindingValue) → is_open opened parent ≡ true → BindingStandsFor page (record { opened = opened; pushed = pushed; since = since }) b
+      → BindingStandsFor (after (Attach parent before x) page) (attached x.row.serial (record { opened = opened; pushed = pushed; since = since })) (with_bound x.row.serial b)
   binds_child_by None pushed since b is for = cc
   binds_child_by (Some o) pushed since b is for = attached_below o pushed since b (opened_there o pushed since for.session is) is for
 
-  pub passes_attach_by : (opened : Option (ℕ → Bool)) (pushed : List ℕ) (since : ℕ) (b : Bound) → IsSome (find_in parent page.tree) → is_open opened parent ≡ false → StandsFor page (record { opened = opened; pushed = pushed; since = since }) b
-      → StandsFor (after (Attach parent before x) page) (record { opened = opened; pushed = pushed; since = since }) b
+  pub passes_attach_by : (opened : Option (ℕ → Bool)) (pushed : List ℕ) (since : ℕ) (b : BindingValue) → IsSome (find_in parent page.tree) → is_open opened parent ≡ false → BindingStandsFor page (record { opened = opened; pushed = pushed; since = since }) b
+      → BindingStandsFor (after (Attach parent before x) page) (record { opened = opened; pushed = pushed; since = since }) b
   passes_attach_by None pushed since b there is for = record { session = IsSession-unknown n m pushed since for.session; stands = Stands-unknown n m pushed since b for.stands }
   passes_attach_by (Some o) pushed since b there is for = attached_apart o pushed since b there is for
 
@@ -158,23 +158,23 @@ passes_attach page parent before x w b valid valid_after there is for = passes_a
 
 -- ---- detach
 
-one_of : (k : ℕ) (c : Nodes Row) (x : Branch Row) → child_of row_serial k c ≡ Some x → IsOneOf x c
+one_of : (k : ℕ) (c : Nodes PageRow) (x : Branch PageRow) → child_of row_serial k c ≡ Some x → IsOneOf x c
 one_of k none x e = cc
 one_of k (node r c t) x e =
     (elim (r.serial == k) as (λ v. cond v (Some (record { row = r; children = c })) (child_of row_serial k t) ≡ Some x → IsOneOf x (node r c t)) [
-      | true ↦ λ e. (let same : ◌≡◌ {A = Branch Row} (record { row = r; children = c }) x = cc in subst (λ (y : Branch Row). IsOneOf y (node r c t)) same (first t))
+      | true ↦ λ e. (let same : ◌≡◌ {A = Branch PageRow} (record { row = r; children = c }) x = cc in subst (λ (y : Branch PageRow). IsOneOf y (node r c t)) same (first t))
       | false ↦ λ e. later r c t (one_of k t x e)
     ]) e
 
 -- where a node stands that is not the document
-record Place (page : State) (serial : ℕ) (x : Branch Row) : Type 0 where
-  holder : Branch Row
+record Place (page : PageValue) (serial : ℕ) (x : Branch PageRow) : Type 0 where
+  holder : Branch PageRow
   depth : ℕ
   at : At holder (without_child x.row.serial holder) depth (alone page.tree) (alone (after (Detach serial) page).tree)
   one : IsOneOf x holder.children
 
-module _ (page : State) (serial : ℕ) (valid : IsValid page) (there : IsSome (find_in serial page.tree)) (other : serial ≢ page.tree.row.serial) where
-  abbrev x : Branch Row
+module _ (page : PageValue) (serial : ℕ) (valid : IsValid page) (there : IsSome (find_in serial page.tree)) (other : serial ≢ page.tree.row.serial) where
+  abbrev x : Branch PageRow
   x = node_at serial page.tree
 
   place_of : Held row_serial serial 0 (alone page.tree) x → Place page serial x
@@ -183,11 +183,11 @@ module _ (page : State) (serial : ℕ) (valid : IsValid page) (there : IsSome (f
       let above : parent_at serial page.tree ≡ k = ap (λ o. unwrap_or o 0) h.parent in
       let found : find_in k page.tree ≡ Some h.holder = find-stands row_serial h.holder (alone page.tree) h.stands (distinct-alone page valid k) in
       let it = named k page.tree h.holder found in
-      let live : IsSome (find_in k page.tree) = subst (λ (o : Option (Branch Row)). IsSome o) (sym found) refl in
+      let live : IsSome (find_in k page.tree) = subst (λ (o : Option (Branch PageRow)). IsSome o) (sym found) refl in
       let at = changed k (without_child serial) page.tree live in
       let same : x.row.serial ≡ serial = (named_some serial page.tree there).serial_is in
       let by_holder : At h.holder (without_child serial h.holder) at.0 (alone page.tree) (alone (changed_at k (without_child serial) page.tree)) =
-      subst (λ (q : Branch Row). At q (without_child serial q) at.0 (alone page.tree) (alone (changed_at k (without_child serial) page.tree))) it.at at.1 in
+      subst (λ (q : Branch PageRow). At q (without_child serial q) at.0 (alone page.tree) (alone (changed_at k (without_child serial) page.tree))) it.at at.1 in
       record {
         holder = h.holder;
         depth = at.0;
@@ -202,14 +202,14 @@ module _ (page : State) (serial : ℕ) (valid : IsValid page) (there : IsSome (f
     | inr h ↦ place_of h
   ]
     where
-      document_of : (k : ℕ) (tree y : Branch Row) → child_of row_serial k (alone tree) ≡ Some y → tree.row.serial ≡ k
+      document_of : (k : ℕ) (tree y : Branch PageRow) → child_of row_serial k (alone tree) ≡ Some y → tree.row.serial ≡ k
       document_of k tree y e = (elim (tree.row.serial == k) as (λ v. (tree.row.serial == k) ≡ v → cond v (Some (record { row = tree.row; children = tree.children })) None ≡ Some y → tree.row.serial ≡ k) [
         | true ↦ λ is _. eqb-true tree.row.serial k is
         | false ↦ λ _ e. cc
       ]) refl e
 
-  pub forgets_by : (opened : Option (ℕ → Bool)) (pushed : List ℕ) (since : ℕ) (b : Bound) → StandsFor page (record { opened = opened; pushed = pushed; since = since }) b
-      → StandsFor (after (Detach serial) page) (detached x (record { opened = opened; pushed = pushed; since = since })) (all_forgotten (alone x) b)
+  pub forgets_by : (opened : Option (ℕ → Bool)) (pushed : List ℕ) (since : ℕ) (b : BindingValue) → BindingStandsFor page (record { opened = opened; pushed = pushed; since = since }) b
+      → BindingStandsFor (after (Detach serial) page) (detached x (record { opened = opened; pushed = pushed; since = since })) (all_forgotten (alone x) b)
   forgets_by None pushed since b for = record {
     session = IsSession-unknown (alone page.tree) (alone (after (Detach serial) page).tree) pushed since for.session;
     stands = Stands-forgotten (alone page.tree) (alone (after (Detach serial) page).tree) x pushed since b for.session for.stands;
@@ -224,11 +224,11 @@ forgets page serial w b valid there other for = forgets_by page serial valid the
 
 -- ---- labels
 
-module _ (page : State) (serial : ℕ) (label : Label → Label) (kept : (l : Label) → (label l).kind ≡ l.kind) (valid : IsValid page) (there : IsSome (find_in serial page.tree)) where
-  abbrev relabelled_page : State
+module _ (page : PageValue) (serial : ℕ) (label : Label → Label) (kept : (l : Label) → (label l).kind ≡ l.kind) (valid : IsValid page) (there : IsSome (find_in serial page.tree)) where
+  abbrev relabelled_page : PageValue
   relabelled_page = record page { tree = changed_at serial (relabelled label) page.tree }
 
-  abbrev q : Branch Row
+  abbrev q : Branch PageRow
   q = node_at serial page.tree
 
   alike : IsAlike q (relabelled label q)
@@ -246,7 +246,7 @@ module _ (page : State) (serial : ℕ) (label : Label → Label) (kept : (l : La
       let same : times s (known_below_it o (relabelled label q)) ≡ times s (known_below_it o q) = ap (λ k. times s (cond (cond (holds k) (o q.row.serial) false) (known o q.children) [])) (kept q.row.label) in
       omega (arith, at.counts s, ap (λ k. cond {A = ℕ} at.in_view k 0) same)
 
-  pub passes_label_by : (opened : Option (ℕ → Bool)) (pushed : List ℕ) (since : ℕ) (b : Bound) → StandsFor page (record { opened = opened; pushed = pushed; since = since }) b → StandsFor relabelled_page (record { opened = opened; pushed = pushed; since = since }) b
+  pub passes_label_by : (opened : Option (ℕ → Bool)) (pushed : List ℕ) (since : ℕ) (b : BindingValue) → BindingStandsFor page (record { opened = opened; pushed = pushed; since = since }) b → BindingStandsFor relabelled_page (record { opened = opened; pushed = pushed; since = since }) b
   passes_label_by None pushed since b for = record {
     session = IsSession-unknown (alone page.tree) (alone relabelled_page.tree) pushed since for.session;
     stands = Stands-unknown (alone page.tree) (alone relabelled_page.tree) pushed since b for.stands;

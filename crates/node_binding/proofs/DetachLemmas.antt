@@ -5,13 +5,13 @@ use Rattle.node_tree.specs.Nodes.{Nodes, none, node, Branch, alone}
 use Rattle.node_tree.specs.Keys.{tally, has, At, here, within, past}
 use Rattle.node_tree.specs.Labels.{holds}
 use Rattle.node_tree.proofs.KeyLemmas.{has-absent, has-there}
-use Rattle.page_tree.specs.Pages.{Row, row_serial}
+use Rattle.page_tree.specs.Pages.{PageRow, row_serial}
 use Rattle.page_tree.specs.Edits.{taken_out, without_child}
 use Rattle.node_binding.specs.Counts.{times}
 use Rattle.node_binding.specs.Cuts.{opens, known}
-use Rattle.node_binding.specs.Openings.{reached, opened_without, is_unopened, is_closed, has_roots, IsOpenedSet}
+use Rattle.node_binding.specs.Openings.{containers_within, opened_without, is_unopened, is_closed, has_roots, IsOpenedSet}
 use Rattle.node_binding.specs.Sessions.{IsSession, session_of, detached}
-use Rattle.node_binding.specs.Bindings.{Bound, Stands, all_forgotten}
+use Rattle.node_binding.specs.Bindings.{BindingValue, Stands, all_forgotten}
 use Rattle.node_binding.proofs.Places.{is_in-times, times-is_in}
 use Rattle.node_binding.proofs.Known.{known-tally}
 use Rattle.node_binding.proofs.SessionLemmas.{times-known}
@@ -21,11 +21,11 @@ use Rattle.node_binding.proofs.InViewLemmas.{is_unopened-same, is_closed-same}
 use Rattle.node_binding.proofs.ForgetLemmas.{Stands-detached}
 
 -- one of these trees
-pub data IsOneOf (x : Branch Row) : Nodes Row → Type 0 where
-  first : (t : Nodes Row) → IsOneOf x (node x.row x.children t)
-  later : (r : Row) (c t : Nodes Row) → IsOneOf x t → IsOneOf x (node r c t)
+pub data IsOneOf (x : Branch PageRow) : Nodes PageRow → Type 0 where
+  first : (t : Nodes PageRow) → IsOneOf x (node x.row x.children t)
+  later : (r : PageRow) (c t : Nodes PageRow) → IsOneOf x t → IsOneOf x (node r c t)
 
-known-same : (o p : ℕ → Bool) (n : Nodes Row) → ((s : ℕ) → 0 < tally row_serial s n → o s ≡ p s) → known o n ≡ known p n
+known-same : (o p : ℕ → Bool) (n : Nodes PageRow) → ((s : ℕ) → 0 < tally row_serial s n → o s ≡ p s) → known o n ≡ known p n
 known-same o p none h = refl
 known-same o p (node r c t) h =
     ap (λ b. r.serial ∷ (cond (cond (holds r.label.kind) b false) (known o c) [] ++ known o t)) (h r.serial (omega (arith, self_times r.serial)))
@@ -36,7 +36,7 @@ if_none : (g : Bool) (k : ℕ) → k ≡ 0 → cond {A = ℕ} g k 0 ≡ 0
 if_none true k e = e
 if_none false k e = refl
 
-module _ (x : Branch Row) (o : ℕ → Bool) where
+module _ (x : Branch PageRow) (o : ℕ → Bool) where
   abbrev p : ℕ → Bool
   p = opened_without x o
 
@@ -48,14 +48,14 @@ module _ (x : Branch Row) (o : ℕ → Bool) where
       and_true false = refl
 
   -- d is c without x: what is known and opened, but for x and all below it
-  pub record Pruned (c d : Nodes Row) : Type 0 where
+  pub record Pruned (c d : Nodes PageRow) : Type 0 where
     pub inside : (s : ℕ) → tally row_serial s (alone x) ≤ tally row_serial s c
     pub counts : (s : ℕ) → tally row_serial s (alone x) ≡ 0 → times s (known p d) ≡ times s (known o c)
-    pub reached_still : (s : ℕ) → tally row_serial s (alone x) ≡ 0 → times s (reached None c) ≤ times s (reached None d)
+    pub reached_still : (s : ℕ) → tally row_serial s (alone x) ≡ 0 → times s (containers_within None c) ≤ times s (containers_within None d)
     pub closed : is_closed o c ≡ true → is_closed p d ≡ true
     pub shut : is_unopened o c ≡ true → is_unopened p d ≡ true
 
-  pruned-first : (t : Nodes Row) → AreDistinct (node x.row x.children t) → Pruned (node x.row x.children t) t
+  pruned-first : (t : Nodes PageRow) → AreDistinct (node x.row x.children t) → Pruned (node x.row x.children t) t
   pruned-first t distinct =
       let agree : (s : ℕ) → 0 < tally row_serial s t → o s ≡ p s = λ s h. outside s (omega (arith, distinct s)) in
       record {
@@ -67,12 +67,12 @@ module _ (x : Branch Row) (o : ℕ → Bool) where
           ap (times s) (known-same o p t agree),
           h,
         );
-        reached_still = λ s h. omega (arith, times-reached None s x.row x.children t, if_none (goes_on None x.row) (cond {A = ℕ} (x.row.serial == s) 1 0 + times s (reached None x.children)) (omega (arith, reached-tally None s x.children)));
+        reached_still = λ s h. omega (arith, times-reached None s x.row x.children t, if_none (goes_on None x.row) (cond {A = ℕ} (x.row.serial == s) 1 0 + times s (containers_within None x.children)) (omega (arith, reached-tally None s x.children)));
         closed = λ e. sym (is_closed-same o p t agree) ∙ and-second (cond (o x.row.serial) (is_closed o x.children) (is_unopened o x.children)) (is_closed o t) e;
         shut = λ e. sym (is_unopened-same o p t agree) ∙ and-second (not (o x.row.serial) && is_unopened o x.children) (is_unopened o t) e;
       }
 
-  pruned-later : (r : Row) (c t d : Nodes Row) → AreDistinct (node r c t) → Pruned t d → Pruned (node r c t) (node r c d)
+  pruned-later : (r : PageRow) (c t d : Nodes PageRow) → AreDistinct (node r c t) → Pruned t d → Pruned (node r c t) (node r c d)
   pruned-later r c t d distinct was =
       let row : o r.serial ≡ p r.serial = outside r.serial (omega (arith, distinct r.serial, was.inside r.serial, self_times r.serial)) in
       let agree : (s : ℕ) → 0 < tally row_serial s c → o s ≡ p s = λ s h. outside s (omega (arith, distinct s, was.inside s)) in
@@ -103,7 +103,7 @@ module _ (x : Branch Row) (o : ℕ → Bool) where
   mono true k m n y h = omega arith
   mono false k m n y h = omega arith
 
-  pruned-within : (r : Row) (c m t : Nodes Row) → AreDistinct (node r c t) → Pruned c m → Pruned (node r c t) (node r m t)
+  pruned-within : (r : PageRow) (c m t : Nodes PageRow) → AreDistinct (node r c t) → Pruned c m → Pruned (node r c t) (node r m t)
   pruned-within r c m t distinct was =
       let row : o r.serial ≡ p r.serial = outside r.serial (omega (arith, distinct r.serial, was.inside r.serial, self_times r.serial)) in
       let agree : (s : ℕ) → 0 < tally row_serial s t → o s ≡ p s = λ s h. outside s (omega (arith, distinct s, was.inside s)) in
@@ -117,7 +117,7 @@ module _ (x : Branch Row) (o : ℕ → Bool) where
           ap (λ k. cond {A = ℕ} (opens p r) k 0) (was.counts s h),
           ap (times s) (known-same o p t agree),
         );
-        reached_still = λ s h. omega (arith, times-reached None s r c t, times-reached None s r m t, mono (goes_on None r) (cond {A = ℕ} (r.serial == s) 1 0) _ _ (times s (reached None t)) (was.reached_still s h));
+        reached_still = λ s h. omega (arith, times-reached None s r c t, times-reached None s r m t, mono (goes_on None r) (cond {A = ℕ} (r.serial == s) 1 0) _ _ (times s (containers_within None t)) (was.reached_still s h));
         closed = λ e. and_from (cond (p r.serial) (is_closed p m) (is_unopened p m)) (is_closed p t)
             (row_goes_on (p r.serial) (is_closed o c) (is_unopened o c) (is_closed p m) (is_unopened p m) was.closed was.shut (sym (ap (λ b. cond b (is_closed o c) (is_unopened o c)) row) ∙ and-first (cond (o r.serial) (is_closed o c) (is_unopened o c)) (is_closed o t) e))
             (sym (is_closed-same o p t agree) ∙ and-second (cond (o r.serial) (is_closed o c) (is_unopened o c)) (is_closed o t) e);
@@ -130,14 +130,14 @@ module _ (x : Branch Row) (o : ℕ → Bool) where
 
   -- ---- among the children
 
-  pub taken-tally : (c : Nodes Row) → AreDistinct c → IsOneOf x c → (s : ℕ) → tally row_serial s (taken_out x.row.serial c) + tally row_serial s (alone x) ≡ tally row_serial s c
+  pub taken-tally : (c : Nodes PageRow) → AreDistinct c → IsOneOf x c → (s : ℕ) → tally row_serial s (taken_out x.row.serial c) + tally row_serial s (alone x) ≡ tally row_serial s c
   taken-tally c distinct (first t) s = rw (eq-eqb x.row.serial x.row.serial refl) (omega arith)
   taken-tally c distinct (later r d t v) s =
       let k = x.row.serial in
       let rest = taken-tally t (λ s. omega (arith, distinct s)) v in
       rw (ne_eqb r.serial k (λ same. omega (arith, distinct k, rest k, self_times k, ap (λ y. cond {A = ℕ} (y == k) 1 0) same))) (omega (arith, rest s))
 
-  pruned-taken : (c : Nodes Row) → AreDistinct c → IsOneOf x c → Pruned c (taken_out x.row.serial c)
+  pruned-taken : (c : Nodes PageRow) → AreDistinct c → IsOneOf x c → Pruned c (taken_out x.row.serial c)
   pruned-taken c distinct (first t) = rw (eq-eqb x.row.serial x.row.serial refl) (pruned-first t distinct)
   pruned-taken c distinct (later r d t v) =
       let k = x.row.serial in
@@ -147,11 +147,11 @@ module _ (x : Branch Row) (o : ℕ → Bool) where
 
   -- ---- the roots stay
 
-  roots-same : (t : Nodes Row) → ((s : ℕ) → 0 < tally row_serial s t → o s ≡ p s) → has_roots o t ≡ has_roots p t
+  roots-same : (t : Nodes PageRow) → ((s : ℕ) → 0 < tally row_serial s t → o s ≡ p s) → has_roots o t ≡ has_roots p t
   roots-same none h = refl
   roots-same (node r c t) h = ap (λ b. b && has_roots o t) (h r.serial (omega (arith, self_times r.serial))) ∙ ap (λ b. p r.serial && b) (roots-same t (λ s k. h s (omega arith)))
 
-  roots_above : (r : Row) (c t : Nodes Row) → AreDistinct (node r c t) → ((s : ℕ) → tally row_serial s (alone x) ≤ tally row_serial s c) → (o r.serial && has_roots o t) ≡ true → (p r.serial && has_roots p t) ≡ true
+  roots_above : (r : PageRow) (c t : Nodes PageRow) → AreDistinct (node r c t) → ((s : ℕ) → tally row_serial s (alone x) ≤ tally row_serial s c) → (o r.serial && has_roots o t) ≡ true → (p r.serial && has_roots p t) ≡ true
   roots_above r c t distinct below e =
       sym (ap (λ b. b && has_roots o t) (outside r.serial (omega (arith, distinct r.serial, below r.serial, self_times r.serial)))
       ∙ ap (λ b. p r.serial && b) (roots-same t (λ s h. outside s (omega (arith, distinct s, below s)))))
@@ -159,18 +159,18 @@ module _ (x : Branch Row) (o : ℕ → Bool) where
 
   -- ---- in the page
 
-  module _ (q : Branch Row) (one : IsOneOf x q.children) where
-    pub pruned-at : {depth : ℕ} {n m : Nodes Row} → At q (without_child x.row.serial q) depth n m → AreDistinct n → Pruned n m
+  module _ (q : Branch PageRow) (one : IsOneOf x q.children) where
+    pub pruned-at : {depth : ℕ} {n m : Nodes PageRow} → At q (without_child x.row.serial q) depth n m → AreDistinct n → Pruned n m
     pruned-at (here t) distinct = pruned-within q.row q.children (taken_out x.row.serial q.children) t distinct (pruned-taken q.children (λ s. omega (arith, distinct s)) one)
     pruned-at (within depth r c m t e) distinct = pruned-within r c m t distinct (pruned-at e (λ s. omega (arith, distinct s)))
     pruned-at (past depth r c t m e) distinct = pruned-later r c t m distinct (pruned-at e (λ s. omega (arith, distinct s)))
 
-    pub tally-less : {depth : ℕ} {n m : Nodes Row} → At q (without_child x.row.serial q) depth n m → AreDistinct n → (s : ℕ) → tally row_serial s m + tally row_serial s (alone x) ≡ tally row_serial s n
+    pub tally-less : {depth : ℕ} {n m : Nodes PageRow} → At q (without_child x.row.serial q) depth n m → AreDistinct n → (s : ℕ) → tally row_serial s m + tally row_serial s (alone x) ≡ tally row_serial s n
     tally-less (here t) distinct s = omega (arith, taken-tally q.children (λ s. omega (arith, distinct s)) one s)
     tally-less (within depth r c m t e) distinct s = omega (arith, tally-less e (λ s. omega (arith, distinct s)) s)
     tally-less (past depth r c t m e) distinct s = omega (arith, tally-less e (λ s. omega (arith, distinct s)) s)
 
-    pub rooted-less : {depth : ℕ} {n m : Nodes Row} → At q (without_child x.row.serial q) depth n m → AreDistinct n → has_roots o n ≡ true → has_roots p m ≡ true
+    pub rooted-less : {depth : ℕ} {n m : Nodes PageRow} → At q (without_child x.row.serial q) depth n m → AreDistinct n → has_roots o n ≡ true → has_roots p m ≡ true
     rooted-less (here t) distinct e =
         roots_above q.row q.children t distinct (λ s. omega (arith, taken-tally q.children (λ s. omega (arith, distinct s)) one s)) e
     rooted-less (within depth r c m t at) distinct e =
@@ -184,7 +184,7 @@ module _ (x : Branch Row) (o : ℕ → Bool) where
 
 -- ---- the session
 
-module _ (n m : Nodes Row) (q x : Branch Row) (depth : ℕ) (at : At q (without_child x.row.serial q) depth n m) (one : IsOneOf x q.children) (distinct : AreDistinct n) (o : ℕ → Bool) (pushed : List ℕ) (since : ℕ) (session : IsSession n (session_of o pushed since)) where
+module _ (n m : Nodes PageRow) (q x : Branch PageRow) (depth : ℕ) (at : At q (without_child x.row.serial q) depth n m) (one : IsOneOf x q.children) (distinct : AreDistinct n) (o : ℕ → Bool) (pushed : List ℕ) (since : ℕ) (session : IsSession n (session_of o pushed since)) where
   abbrev left : ℕ → Bool
   left = opened_without x o
 
@@ -206,7 +206,7 @@ module _ (n m : Nodes Row) (q x : Branch Row) (depth : ℕ) (at : At q (without_
   set_after = record {
     live = λ s e.
         let was = opened_outside s e in
-        times-is_in (reached None m) s (omega (arith, is_in-times (reached None n) s (session.opened_set.live s was.0), pruned.reached_still s was.1));
+        times-is_in (containers_within None m) s (omega (arith, is_in-times (containers_within None n) s (session.opened_set.live s was.0), pruned.reached_still s was.1));
     rooted = rooted-less x o q one at distinct session.opened_set.rooted;
     closed = pruned.closed session.opened_set.closed;
   }
@@ -228,5 +228,5 @@ module _ (n m : Nodes Row) (q x : Branch Row) (depth : ℕ) (at : At q (without_
             gone ∙ sym (ap (λ b. cond {A = ℕ} b 0 (times s (known o n))) (has-there row_serial s (alone x) (omega arith))))
       ] refl
 
-  pub Stands-detached_at : (b : Bound) → Stands n (session_of o pushed since) b → Stands m (detached x (session_of o pushed since)) (all_forgotten (alone x) b)
+  pub Stands-detached_at : (b : BindingValue) → Stands n (session_of o pushed since) b → Stands m (detached x (session_of o pushed since)) (all_forgotten (alone x) b)
   Stands-detached_at b stands = Stands-detached n m x o pushed since b less_known session stands

@@ -8,12 +8,12 @@ use Rattle.std.specs.FinSet as set
 use Rattle.std.specs.FinMap as map
 use Rattle.node_tree.specs.Nodes.{Nodes, none, node, Branch, alone}
 use Rattle.node_tree.specs.Keys.{has}
-use Rattle.page_tree.specs.Pages.{Row, row_serial}
+use Rattle.page_tree.specs.Pages.{PageRow, row_serial}
 use Rattle.node_binding.specs.Counts.{times}
 use Rattle.node_binding.specs.Cuts.{known}
 use Rattle.node_binding.specs.Openings.{opened_without}
-use Rattle.node_binding.specs.Sessions.{Session, IsSession, detached, id_at, ids_in}
-use Rattle.node_binding.specs.Bindings.{Bound, without, forgotten, all_forgotten, Stands}
+use Rattle.node_binding.specs.Sessions.{Session, IsSession, detached, id_at, session_ids}
+use Rattle.node_binding.specs.Bindings.{BindingValue, ids_without, forgotten, all_forgotten, Stands}
 use Rattle.node_binding.proofs.Places.{turned}
 use Rattle.node_binding.proofs.PairLemmas.{IsPaired, IsPaired-stands, serials-paired, if_same, if_other, no_id, some_is}
 
@@ -25,7 +25,7 @@ contains-remove m k q = set.contains-remove nat_cmp_total m k q ∙ ap (λ b. no
 
 -- ---- one node
 
-module _ (s : ℕ) (b : Bound) (paired : IsPaired b) where
+module _ (s : ℕ) (b : BindingValue) (paired : IsPaired b) where
   ids_now : (x : ℕ) → map.get (forgotten s b).ids x ≡ cond (s == x) None (map.get b.ids x)
   ids_now x = get-remove b.ids s x
 
@@ -43,7 +43,7 @@ module _ (s : ℕ) (b : Bound) (paired : IsPaired b) where
       (λ other. (sym (if_other gone id None (map.get b.serials id) other) ∙ sym (get-remove b.serials gone id) ∙ e, other))
       (cases_eq gone id)
 
-  there_after : (old : Option ℕ) → map.get b.ids s ≡ old → (id x : ℕ) → map.get (without old b.serials) id ≡ Some x → map.get (map.remove b.ids s) x ≡ Some id
+  there_after : (old : Option ℕ) → map.get b.ids s ≡ old → (id x : ℕ) → map.get (ids_without old b.serials) id ≡ Some x → map.get (map.remove b.ids s) x ≡ Some id
   there_after None was id x e =
       let had : map.get b.ids x ≡ Some id = paired.there id x e in
       get-remove b.ids s x ∙ if_other s x None (map.get b.ids x) (λ is. no_id (sym was ∙ ap (map.get b.ids) is ∙ had)) ∙ had
@@ -52,7 +52,7 @@ module _ (s : ℕ) (b : Bound) (paired : IsPaired b) where
       let had : map.get b.ids x ≡ Some id = paired.there id x left.0 in
       get-remove b.ids s x ∙ if_other s x None (map.get b.ids x) (λ is. left.1 (some_is gone id (sym was ∙ ap (map.get b.ids) is ∙ had))) ∙ had
 
-  back_after : (old : Option ℕ) → map.get b.ids s ≡ old → (id x : ℕ) → map.get (map.remove b.ids s) x ≡ Some id → map.get (without old b.serials) id ≡ Some x
+  back_after : (old : Option ℕ) → map.get b.ids s ≡ old → (id x : ℕ) → map.get (map.remove b.ids s) x ≡ Some id → map.get (ids_without old b.serials) id ≡ Some x
   back_after None was id x e = paired.back id x (still x id e).0
   back_after (Some gone) was id x e =
       let left = still x id e in
@@ -68,7 +68,7 @@ module _ (s : ℕ) (b : Bound) (paired : IsPaired b) where
 
 -- ---- all nodes of some trees
 
-pub IsPaired-all_forgotten : (n : Nodes Row) (b : Bound) → IsPaired b → IsPaired (all_forgotten n b)
+pub IsPaired-all_forgotten : (n : Nodes PageRow) (b : BindingValue) → IsPaired b → IsPaired (all_forgotten n b)
 IsPaired-all_forgotten none b paired = paired
 IsPaired-all_forgotten (node r c t) b paired =
     IsPaired-all_forgotten t _ (IsPaired-all_forgotten c _ (IsPaired-forgotten r.serial b paired))
@@ -83,7 +83,7 @@ gone_joined false true false o = refl
 gone_joined false false true o = refl
 gone_joined false false false o = refl
 
-pub forgotten-ids : (n : Nodes Row) (b : Bound) (s : ℕ) → map.get (all_forgotten n b).ids s ≡ cond (has row_serial s n) None (map.get b.ids s)
+pub forgotten-ids : (n : Nodes PageRow) (b : BindingValue) (s : ℕ) → map.get (all_forgotten n b).ids s ≡ cond (has row_serial s n) None (map.get b.ids s)
 forgotten-ids none b s = refl
 forgotten-ids (node r c t) b s =
     forgotten-ids t _ s
@@ -100,14 +100,14 @@ out_joined false true false o = refl
 out_joined false false true o = refl
 out_joined false false false o = refl
 
-pub forgotten-opened : (n : Nodes Row) (b : Bound) (s : ℕ) → set.contains (all_forgotten n b).opened s ≡ (not (has row_serial s n) && set.contains b.opened s)
+pub forgotten-opened : (n : Nodes PageRow) (b : BindingValue) (s : ℕ) → set.contains (all_forgotten n b).opened s ≡ (not (has row_serial s n) && set.contains b.opened s)
 forgotten-opened none b s = refl
 forgotten-opened (node r c t) b s =
     forgotten-opened t _ s
     ∙ ap (λ v. not (has row_serial s t) && v) (forgotten-opened c (forgotten r.serial b) s ∙ ap (λ v. not (has row_serial s c) && v) (contains-remove b.opened r.serial s))
     ∙ out_joined (r.serial == s) (has row_serial s c) (has row_serial s t) (set.contains b.opened s)
 
-pub forgotten-next : (n : Nodes Row) (b : Bound) → (all_forgotten n b).next ≡ b.next
+pub forgotten-next : (n : Nodes PageRow) (b : BindingValue) → (all_forgotten n b).next ≡ b.next
 forgotten-next none b = refl
 forgotten-next (node r c t) b = forgotten-next t _ ∙ forgotten-next c (forgotten r.serial b)
 
@@ -122,11 +122,11 @@ left_known true old now i e = sym (ap (λ m. cond (not (m == 0)) (Some i) None) 
 left_known false old now i e = sym (ap (λ m. cond (not (m == 0)) (Some i) None) e)
 
 -- the tree x is gone from the page n, which is m now
-pub Stands-detached : (n m : Nodes Row) (x : Branch Row) (o : ℕ → Bool) (pushed : List ℕ) (since : ℕ) (b : Bound) → ((s : ℕ) → times s (known (opened_without x o) m) ≡ cond {A = ℕ} (has row_serial s (alone x)) 0 (times s (known o n))) → IsSession n (record { opened = Some o; pushed = pushed; since = since }) → Stands n (record { opened = Some o; pushed = pushed; since = since }) b → Stands m (detached x (record { opened = Some o; pushed = pushed; since = since })) (all_forgotten (alone x) b)
+pub Stands-detached : (n m : Nodes PageRow) (x : Branch PageRow) (o : ℕ → Bool) (pushed : List ℕ) (since : ℕ) (b : BindingValue) → ((s : ℕ) → times s (known (opened_without x o) m) ≡ cond {A = ℕ} (has row_serial s (alone x)) 0 (times s (known o n))) → IsSession n (record { opened = Some o; pushed = pushed; since = since }) → Stands n (record { opened = Some o; pushed = pushed; since = since }) b → Stands m (detached x (record { opened = Some o; pushed = pushed; since = since })) (all_forgotten (alone x) b)
 Stands-detached n m x o pushed since b less_known session stands =
     let before : Session = record { opened = Some o; pushed = pushed; since = since } in
     let ids : (s : ℕ) → map.get (all_forgotten (alone x) b).ids s ≡ id_at (detached x before) m s =
-    λ s. forgotten-ids (alone x) b s ∙ ap (cond (has row_serial s (alone x)) None) (stands.ids_are s) ∙ left_known (has row_serial s (alone x)) (times s (known o n)) (times s (known (opened_without x o) m)) (ids_in before s) (less_known s) in
+    λ s. forgotten-ids (alone x) b s ∙ ap (cond (has row_serial s (alone x)) None) (stands.ids_are s) ∙ left_known (has row_serial s (alone x)) (times s (known o n)) (times s (known (opened_without x o) m)) (session_ids before s) (less_known s) in
     record {
       opened_is = λ s. forgotten-opened (alone x) b s ∙ ap (λ v. not (has row_serial s (alone x)) && v) (stands.opened_is s) ∙ and-swap (has row_serial s (alone x)) (o s);
       ids_are = ids;

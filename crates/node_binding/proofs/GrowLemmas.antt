@@ -5,11 +5,11 @@ use Rattle.std.proofs.lemmas.List.{drop-append-le}
 use Rattle.std.specs.FinSet as set
 use Rattle.std.specs.FinMap as map
 use Rattle.node_tree.specs.Nodes.{Nodes, none, node}
-use Rattle.page_tree.specs.Pages.{Row}
-use Rattle.node_binding.specs.Counts.{times, is_in, place}
+use Rattle.page_tree.specs.Pages.{PageRow}
+use Rattle.node_binding.specs.Counts.{times, stands_in, last_standing}
 use Rattle.node_binding.specs.Cuts.{opens, known, shown_anew}
 use Rattle.node_binding.specs.Sessions.{Session, IsSession, id_at}
-use Rattle.node_binding.specs.Bindings.{Bound, all_bound, all_opened, Stands}
+use Rattle.node_binding.specs.Bindings.{BindingValue, all_bound, all_opened, Stands}
 use Rattle.node_binding.proofs.Places.{suc-is_zero, times-append, times-is_in, place-none, place-some}
 use Rattle.node_binding.proofs.BoundLemmas.{opened-ids, opened-next, opened-opened, bound-opened, bound-next, bound-ids}
 use Rattle.node_binding.proofs.SessionLemmas.{times-known}
@@ -34,7 +34,7 @@ if_holds false a b grows e = e
 
 module _ (o p : ℕ → Bool) (grows : (s : ℕ) → o s ≡ true → p s ≡ true) where
   -- what is known is what was known and what becomes known
-  pub times-anew : (s : ℕ) (n : Nodes Row) → times s (known p n) ≡ times s (known o n) + times s (shown_anew o p n)
+  pub times-anew : (s : ℕ) (n : Nodes PageRow) → times s (known p n) ≡ times s (known o n) + times s (shown_anew o p n)
   times-anew s none = omega arith
   times-anew s (node r c t) =
       times-known p (λ x. x) s r c t
@@ -58,9 +58,9 @@ place_step (suc k) both px len t e =
     ∙ omega arith
     ∙ sym (ap (λ b. cond {A = ℕ} b (cond {A = ℕ} (px == 0) (cond {A = ℕ} t 1 0) (suc px)) (suc len + suc k)) (suc-is_zero k))
 
-pub place-append : (xs ys : List ℕ) (s : ℕ) → place (xs ++ ys) s ≡ cond {A = ℕ} (place ys s == 0) (place xs s) (length xs + place ys s)
-place-append [] ys s = place_first (place ys s)
-place-append (x ∷ xs) ys s = place_step (place ys s) (place (xs ++ ys) s) (place xs s) (length xs) (x == s) (place-append xs ys s)
+pub place-append : (xs ys : List ℕ) (s : ℕ) → last_standing (xs ++ ys) s ≡ cond {A = ℕ} (last_standing ys s == 0) (last_standing xs s) (length xs + last_standing ys s)
+place-append [] ys s = place_first (last_standing ys s)
+place-append (x ∷ xs) ys s = place_step (last_standing ys s) (last_standing (xs ++ ys) s) (last_standing xs s) (length xs) (x == s) (place-append xs ys s)
 
 -- ---- ids
 
@@ -78,41 +78,41 @@ or-swap false true = refl
 or-swap false false = refl
 
 -- the session with the opened set o becomes one of the page m with the opened set p, in which the nodes ks are known too
-module _ (n m : Nodes Row) (o p : ℕ → Bool) (pushed : List ℕ) (since : ℕ) (os ks : List ℕ)
-    (more : (s : ℕ) → times s (known p m) ≡ times s (known o n) + times s ks) (distinct : (s : ℕ) → times s (known p m) ≤ 1) (opened_more : (s : ℕ) → p s ≡ (o s || is_in s os)) where
+module _ (n m : Nodes PageRow) (o p : ℕ → Bool) (pushed : List ℕ) (since : ℕ) (os ks : List ℕ)
+    (more : (s : ℕ) → times s (known p m) ≡ times s (known o n) + times s ks) (distinct : (s : ℕ) → times s (known p m) ≤ 1) (opened_more : (s : ℕ) → p s ≡ (o s || stands_in s os)) where
   abbrev before : Session
   before = record { opened = Some o; pushed = pushed; since = since }
 
   abbrev after : Session
   after = record { opened = Some p; pushed = pushed ++ ks; since = since }
 
-  module _ (b : Bound) (session : IsSession n before) (stands : Stands n before b) where
+  module _ (b : BindingValue) (session : IsSession n before) (stands : Stands n before b) where
     now : drop since (pushed ++ ks) ≡ drop since pushed ++ ks
     now = drop-append-le since pushed ks session.since_then
 
     ids_after : (s : ℕ) → map.get (all_bound ks (all_opened os b)).ids s ≡ id_at after m s
     ids_after s =
         bound-ids ks (all_opened os b) (length pushed) (opened-next os b ∙ stands.next_is) s
-        ∙ ap (λ was. cond (place ks s == 0) was (Some (length pushed + place ks s))) (ap (λ t. map.get t s) (opened-ids os b))
-        ∙ (elim (times s ks) as (λ t. times s ks ≡ t → cond (place ks s == 0) (map.get b.ids s) (Some (length pushed + place ks s)) ≡ cond (is_in s (known p m)) (Some (since + cond {A = ℕ} (place ks s == 0) (place (drop since pushed) s) (length (drop since pushed) + place ks s))) None) [
-          | zero ↦ λ e. ids_old (place ks s) (map.get b.ids s) None (length pushed) (place (drop since pushed) s) (length (drop since pushed)) since (is_in s (known p m)) (place-none ks s e) (stands.ids_are s ∙ ap (λ c. cond (not (c == 0)) (Some (since + place (drop since pushed) s)) None) (let same : times s (known o n) ≡ times s (known p m) = omega (arith, more s) in same))
-          | suc j ↦ λ e. ids_new (place ks s) (map.get b.ids s) (length pushed) (place (drop since pushed) s) (length (drop since pushed)) since (is_in s (known p m)) (place-some ks s (omega arith)) (times-is_in (known p m) s (omega (arith, more s))) (omega (arith, length-drop since pushed, session.since_then))
+        ∙ ap (λ was. cond (last_standing ks s == 0) was (Some (length pushed + last_standing ks s))) (ap (λ t. map.get t s) (opened-ids os b))
+        ∙ (elim (times s ks) as (λ t. times s ks ≡ t → cond (last_standing ks s == 0) (map.get b.ids s) (Some (length pushed + last_standing ks s)) ≡ cond (stands_in s (known p m)) (Some (since + cond {A = ℕ} (last_standing ks s == 0) (last_standing (drop since pushed) s) (length (drop since pushed) + last_standing ks s))) None) [
+          | zero ↦ λ e. ids_old (last_standing ks s) (map.get b.ids s) None (length pushed) (last_standing (drop since pushed) s) (length (drop since pushed)) since (stands_in s (known p m)) (place-none ks s e) (stands.ids_are s ∙ ap (λ c. cond (not (c == 0)) (Some (since + last_standing (drop since pushed) s)) None) (let same : times s (known o n) ≡ times s (known p m) = omega (arith, more s) in same))
+          | suc j ↦ λ e. ids_new (last_standing ks s) (map.get b.ids s) (length pushed) (last_standing (drop since pushed) s) (length (drop since pushed)) since (stands_in s (known p m)) (place-some ks s (omega arith)) (times-is_in (known p m) s (omega (arith, more s))) (omega (arith, length-drop since pushed, session.since_then))
         ] refl)
-        ∙ ap (λ q. cond (is_in s (known p m)) (Some (since + q)) None) (sym (place-append (drop since pushed) ks s))
-        ∙ ap (λ xs. cond (is_in s (known p m)) (Some (since + place xs s)) None) (sym now)
+        ∙ ap (λ q. cond (stands_in s (known p m)) (Some (since + q)) None) (sym (place-append (drop since pushed) ks s))
+        ∙ ap (λ xs. cond (stands_in s (known p m)) (Some (since + last_standing xs s)) None) (sym now)
 
     fresh : (s : ℕ) → 0 < times s ks → map.get (all_opened os b).ids s ≡ None
     fresh s h =
         ap (λ t. map.get t s) (opened-ids os b)
         ∙ stands.ids_are s
-        ∙ ap (λ c. cond (not (c == 0)) (Some (since + place (drop since pushed) s)) None) (let gone : times s (known o n) ≡ 0 = omega (arith, more s, distinct s) in gone)
+        ∙ ap (λ c. cond (not (c == 0)) (Some (since + last_standing (drop since pushed) s)) None) (let gone : times s (known o n) ≡ 0 = omega (arith, more s, distinct s) in gone)
 
     pub Stands-more : Stands m after (all_bound ks (all_opened os b))
     Stands-more =
         let paired : IsPaired (all_bound ks (all_opened os b)) =
         IsPaired-all_bound ks (all_opened os b) (IsPaired-all_opened os b (IsPaired-stands n before session b stands)) (λ s. omega (arith, more s, distinct s)) fresh in
         record {
-          opened_is = λ s. ap (λ t. set.contains t s) (bound-opened ks (all_opened os b)) ∙ opened-opened os b s ∙ ap (λ v. is_in s os || v) (stands.opened_is s) ∙ or-swap (is_in s os) (o s) ∙ sym (opened_more s);
+          opened_is = λ s. ap (λ t. set.contains t s) (bound-opened ks (all_opened os b)) ∙ opened-opened os b s ∙ ap (λ v. stands_in s os || v) (stands.opened_is s) ∙ or-swap (stands_in s os) (o s) ∙ sym (opened_more s);
           ids_are = ids_after;
           serials_are = serials-paired m after (all_bound ks (all_opened os b)) ids_after paired;
           next_is = bound-next ks (all_opened os b) ∙ omega (arith, opened-next os b, stands.next_is, length-append pushed ks);

@@ -5,8 +5,8 @@ use Rattle.node_tree.specs.Nodes.{Nodes, none, node, Branch, alone, width}
 use Rattle.node_tree.specs.Keys.{tally, At, here, within, past}
 use Rattle.node_tree.specs.Labels.{holds}
 use Rattle.node_tree.specs.Seen.{Seen, Hold, leaf, counted, opened}
-use Rattle.page_tree.specs.Pages.{Row, row_serial}
-use Rattle.node_binding.specs.Counts.{times, place}
+use Rattle.page_tree.specs.Pages.{PageRow, row_serial}
+use Rattle.node_binding.specs.Counts.{times, last_standing}
 use Rattle.node_binding.specs.Cuts.{opens, known, shown_anew, seen_of, cut}
 use Rattle.node_binding.specs.Ids.{id_of}
 use Rattle.node_binding.specs.Openings.{is_spent, opened_also}
@@ -29,10 +29,10 @@ length_anew true b xs ys = refl
 length_anew false true xs ys = refl
 length_anew false false xs ys = refl
 
-length-known_node : (o : ℕ → Bool) (r : Row) (c t : Nodes Row) → length (known o (node r c t)) ≡ 1 + (cond {A = ℕ} (opens o r) (length (known o c)) 0 + length (known o t))
+length-known_node : (o : ℕ → Bool) (r : PageRow) (c t : Nodes PageRow) → length (known o (node r c t)) ≡ 1 + (cond {A = ℕ} (opens o r) (length (known o c)) 0 + length (known o t))
 length-known_node o r c t = omega (arith, length-append (cond (opens o r) (known o c) []) (known o t), length_shown (opens o r) (known o c))
 
-pub length-anew : (o p : ℕ → Bool) → ((s : ℕ) → o s ≡ true → p s ≡ true) → (n : Nodes Row) → length (known p n) ≡ length (known o n) + length (shown_anew o p n)
+pub length-anew : (o p : ℕ → Bool) → ((s : ℕ) → o s ≡ true → p s ≡ true) → (n : Nodes PageRow) → length (known p n) ≡ length (known o n) + length (shown_anew o p n)
 length-anew o p grows none = omega arith
 length-anew o p grows (node r c t) =
     length-known_node p r c t
@@ -51,7 +51,7 @@ pub not_there : (m n q : ℕ) → 0 < m + n → (0 < n → 0 < q) → q ≡ 0 �
 not_there (suc m) n q h f e = omega arith
 not_there zero n q h f e = let g : 0 < q = f (omega arith) in absurd (omega arith)
 
-module _ (d : Option ℕ) (n : Nodes Row) (x : Branch Row) (o : ℕ → Bool) (pushed : List ℕ) (since : ℕ) (distinct : AreDistinct n) (left : is_spent d ≡ false) (can : CanOpen n o x) (session : IsSession n (session_of o pushed since)) where
+module _ (d : Option ℕ) (n : Nodes PageRow) (x : Branch PageRow) (o : ℕ → Bool) (pushed : List ℕ) (since : ℕ) (distinct : AreDistinct n) (left : is_spent d ≡ false) (can : CanOpen n o x) (session : IsSession n (session_of o pushed since)) where
   abbrev p : ℕ → Bool
   p = opened_also d x o
 
@@ -75,16 +75,16 @@ module _ (d : Option ℕ) (n : Nodes Row) (x : Branch Row) (o : ℕ → Bool) (p
     opened_set = IsOpenedSet-opened o d x left can.container distinct_x n distinct can.shut known_where session.opened_set;
     since_then = omega (arith, length-append pushed ks, session.since_then);
     known_stand = λ s h. rw (drop-append-le since pushed ks session.since_then, place-append (drop since pushed) ks s)
-        (stand_more (place ks s) (place (drop since pushed) s) (length (drop since pushed))
-        (λ e. session.known_stand s (times-is_in (known o n) s (not_there (times s (known o n)) (times s ks) (place ks s) (omega (arith, times-anew o p grows s n, is_in-times (known p n) s h)) (place-some ks s) e))));
+        (stand_more (last_standing ks s) (last_standing (drop since pushed) s) (length (drop since pushed))
+        (λ e. session.known_stand s (times-is_in (known o n) s (not_there (times s (known o n)) (times s ks) (last_standing ks s) (omega (arith, times-anew o p grows s n, is_in-times (known p n) s h)) (place-some ks s) e))));
   }
 
   -- the ids of the nodes that were known stay
   pub ids-stay : (s : ℕ) → 0 < times s (known o n) → id_of pushed since s ≡ id_of (pushed ++ ks) since s
   ids-stay s h =
-      ap (λ m. since + m) (old_place (place ks s) (place (drop since pushed) s) (length (drop since pushed)) (place-none ks s (omega (arith, times-anew o p grows s n, known-tally p s n, distinct s, h)))
+      ap (λ m. since + m) (old_place (last_standing ks s) (last_standing (drop since pushed) s) (length (drop since pushed)) (place-none ks s (omega (arith, times-anew o p grows s n, known-tally p s n, distinct s, h)))
       ∙ sym (place-append (drop since pushed) ks s)
-      ∙ ap (λ xs. place xs s) (sym (drop-append-le since pushed ks session.since_then)))
+      ∙ ap (λ xs. last_standing xs s) (sym (drop-append-le since pushed ks session.since_then)))
     where
       old_place : (q a len : ℕ) → q ≡ 0 → a ≡ cond {A = ℕ} (q == 0) a (len + q)
       old_place q a len e = rw e refl
@@ -95,11 +95,11 @@ module _ (d : Option ℕ) (n : Nodes Row) (x : Branch Row) (o : ℕ → Bool) (p
 -- ---- the view
 
 module _ (o p : ℕ → Bool) (j : ℕ → ℕ) where
-  seen-same : (r : Row) (c : Nodes Row) → o r.serial ≡ p r.serial → seen_of o j r c ≡ seen_of p j r c
+  seen-same : (r : PageRow) (c : Nodes PageRow) → o r.serial ≡ p r.serial → seen_of o j r c ≡ seen_of p j r c
   seen-same r c e =
       λ k. record { id = j r.serial; serial = r.serial; label = r.label; hold = cond (holds r.label.kind) (cond (e k) opened (counted (width c))) leaf }
 
-  pub cut-local : (n : Nodes Row) → ((s : ℕ) → 0 < tally row_serial s n → o s ≡ p s) → cut o j n ≡ cut p j n
+  pub cut-local : (n : Nodes PageRow) → ((s : ℕ) → 0 < tally row_serial s n → o s ≡ p s) → cut o j n ≡ cut p j n
   cut-local none h = refl
   cut-local (node r c t) h =
       let at : o r.serial ≡ p r.serial = h r.serial (omega (arith, self_times r.serial)) in
@@ -112,18 +112,18 @@ at-by : {old new : Branch Seen} {depth : ℕ} {u v m w : Nodes Seen} → u ≡ v
 at-by {old = old} {new = new} {depth = depth} {v = v} {m = m} e f at = subst (λ (y : Nodes Seen). At old new depth y m) (sym e) (subst (λ (y : Nodes Seen). At old new depth v y) (sym f) at)
 
 -- a row as it is seen, by its kind and whether it is opened
-abbrev seen_as : (h a : Bool) → ℕ → Row → ℕ → Seen
+abbrev seen_as : (h a : Bool) → ℕ → PageRow → ℕ → Seen
 seen_as h a id r w = record { id = id; serial = r.serial; label = r.label; hold = cond h (cond a opened (counted w)) leaf }
 
-shut_node : (h a : Bool) (id : ℕ) (r : Row) (w : ℕ) (c t : Nodes Seen) → h ≡ true → a ≡ false
+shut_node : (h a : Bool) (id : ℕ) (r : PageRow) (w : ℕ) (c t : Nodes Seen) → h ≡ true → a ≡ false
     → node (seen_as h a id r w) (cond (cond h a false) c none) t ≡ node (record { id = id; serial = r.serial; label = r.label; hold = counted w }) none t
 shut_node h a id r w c t e f = rw (e, f) refl
 
-open_node : (h a : Bool) (id : ℕ) (r : Row) (w : ℕ) (c t : Nodes Seen) → h ≡ true → a ≡ true
+open_node : (h a : Bool) (id : ℕ) (r : PageRow) (w : ℕ) (c t : Nodes Seen) → h ≡ true → a ≡ true
     → node (seen_as h a id r w) (cond (cond h a false) c none) t ≡ node (record { id = id; serial = r.serial; label = r.label; hold = opened }) c t
 open_node h a id r w c t e f = rw (e, f) refl
 
-module _ (o : ℕ → Bool) (d : Option ℕ) (x : Branch Row) (j : ℕ → ℕ) where
+module _ (o : ℕ → Bool) (d : Option ℕ) (x : Branch PageRow) (j : ℕ → ℕ) where
   abbrev q : ℕ → Bool
   q = opened_also d x o
 
@@ -136,7 +136,7 @@ module _ (o : ℕ → Bool) (d : Option ℕ) (x : Branch Row) (j : ℕ → ℕ) 
   Changed depth v w = At (record { row = bare_row (counted (width x.children)); children = none }) (record { row = bare_row opened; children = cut q j x.children }) depth v w
 
   module _ (container : holds x.row.label.kind ≡ true) (shut : o x.row.serial ≡ false) (open_after : q x.row.serial ≡ true) where
-    pub cut-opened : {n : Nodes Row} → AreDistinct n → InView o x n → (depth : ℕ) × Changed depth (cut o j n) (cut q j n)
+    pub cut-opened : {n : Nodes PageRow} → AreDistinct n → InView o x n → (depth : ℕ) × Changed depth (cut o j n) (cut q j n)
     cut-opened distinct (root t) =
         let rest : cut o j t ≡ cut q j t = cut-local o q j t (λ s h. opened-outside o d x s (omega (arith, distinct s))) in (
           0,
@@ -176,7 +176,7 @@ module _ (o : ℕ → Bool) (d : Option ℕ) (x : Branch Row) (j : ℕ → ℕ) 
         )
 
 -- the views before and after
-pub view-opened : (d : Option ℕ) (n : Nodes Row) (x : Branch Row) (o : ℕ → Bool) (pushed : List ℕ) (since : ℕ) → AreDistinct n → is_spent d ≡ false → CanOpen n o x → IsSession n (session_of o pushed since)
+pub view-opened : (d : Option ℕ) (n : Nodes PageRow) (x : Branch PageRow) (o : ℕ → Bool) (pushed : List ℕ) (since : ℕ) → AreDistinct n → is_spent d ≡ false → CanOpen n o x → IsSession n (session_of o pushed since)
     → (depth : ℕ) × Changed o d x (id_of (pushed ++ shown_anew o (opened_also d x o) n) since) depth (cut o (id_of pushed since) n) (cut (opened_also d x o) (id_of (pushed ++ shown_anew o (opened_also d x o) n) since) n)
 view-opened d n x o pushed since distinct left can session =
     let j : ℕ → ℕ = id_of (pushed ++ shown_anew o (opened_also d x o) n) since in

@@ -5,10 +5,10 @@ use Rattle.std.proofs.Math.Logic.{⊎_elim}
 use Rattle.std.proofs.lemmas.Bool.Decides.{nat_tests}
 use Rattle.std.specs.FinMap as map
 use Rattle.node_tree.specs.Nodes.{Nodes}
-use Rattle.page_tree.specs.Pages.{Row}
-use Rattle.node_binding.specs.Counts.{times, place}
-use Rattle.node_binding.specs.Sessions.{Session, IsSession, known_by, ids_in, id_at, serial_at, knows}
-use Rattle.node_binding.specs.Bindings.{Bound, with_bound, all_bound, with_opened, all_opened, Stands}
+use Rattle.page_tree.specs.Pages.{PageRow}
+use Rattle.node_binding.specs.Counts.{times, last_standing}
+use Rattle.node_binding.specs.Sessions.{Session, IsSession, known_by, session_ids, id_at, serial_at, knows}
+use Rattle.node_binding.specs.Bindings.{BindingValue, with_bound, all_bound, with_opened, all_opened, Stands}
 use Rattle.node_binding.proofs.Places.{is_in-times, times-is_in, place-le, first, once}
 use Rattle.node_binding.proofs.SessionLemmas.{standing, standing-place}
 use Rattle.node_binding.proofs.BoundLemmas.{get-insert}
@@ -49,7 +49,7 @@ find-is q xs r sound complete =
 -- ---- pairs
 
 -- each id in the table of ids leads back, and the other way round; ids are below the next one
-pub record IsPaired (b : Bound) : Type 0 where
+pub record IsPaired (b : BindingValue) : Type 0 where
   pub there : (id s : ℕ) → map.get b.serials id ≡ Some s → map.get b.ids s ≡ Some id
   pub back : (id s : ℕ) → map.get b.ids s ≡ Some id → map.get b.serials id ≡ Some s
   pub below : (id s : ℕ) → map.get b.ids s ≡ Some id → id < b.next
@@ -68,33 +68,33 @@ same_number a b e = grind (arith, nat_tests)
 equal_number : (a b : ℕ) → a ≡ b → (a == b) ≡ true
 equal_number a b e = grind (arith, nat_tests)
 
-module _ (n : Nodes Row) (w : Session) (session : IsSession n w) where
+module _ (n : Nodes PageRow) (w : Session) (session : IsSession n w) where
   -- the id of a known node leads back to it
-  same_id : (s x : ℕ) → knows w n s ≡ true → knows w n x ≡ true → ids_in w s ≡ ids_in w x → s ≡ x
+  same_id : (s x : ℕ) → knows w n s ≡ true → knows w n x ≡ true → session_ids w s ≡ session_ids w x → s ≡ x
   same_id s x s_known x_known e =
-      let places : place (drop w.since w.pushed) s ≡ place (drop w.since w.pushed) x = omega arith in
+      let places : last_standing (drop w.since w.pushed) s ≡ last_standing (drop w.since w.pushed) x = omega arith in
       sym (standing-place (drop w.since w.pushed) s (session.known_stand s s_known)) ∙ ap (standing (drop w.since w.pushed)) places ∙ standing-place (drop w.since w.pushed) x (session.known_stand x x_known)
 
-  id_bound : (s : ℕ) → ids_in w s < length w.pushed + 1
+  id_bound : (s : ℕ) → session_ids w s < length w.pushed + 1
   id_bound s = omega (arith, session.since_then, place-le (drop w.since w.pushed) s, length-drop w.since w.pushed)
 
-  pub IsPaired-stands : (b : Bound) → Stands n w b → IsPaired b
+  pub IsPaired-stands : (b : BindingValue) → Stands n w b → IsPaired b
   IsPaired-stands b stands = record {
-    there = λ id s e. (let found = find-there (λ x. ids_in w x == id) (known_by w.opened n) s (sym (stands.serials_are id) ∙ e) in
-        stands.ids_are s ∙ is_known (knows w n s) (ids_in w s) (times-is_in (known_by w.opened n) s found.0) ∙ ap Some (same_number (ids_in w s) id found.1));
-    back = λ id s e. (let at = known_id (knows w n s) (ids_in w s) id (sym (stands.ids_are s) ∙ e) in
-        let found = find-some (λ x. ids_in w x == id) (known_by w.opened n) s (is_in-times (known_by w.opened n) s at.0) (equal_number (ids_in w s) id at.1) in
-        let x = find-there (λ x. ids_in w x == id) (known_by w.opened n) found.0 found.1 in
-        stands.serials_are id ∙ found.1 ∙ ap Some (same_id found.0 s (times-is_in (known_by w.opened n) found.0 x.0) at.0 (same_number (ids_in w found.0) id x.1 ∙ sym at.1)));
-    below = λ id s e. (let at = known_id (knows w n s) (ids_in w s) id (sym (stands.ids_are s) ∙ e) in omega (arith, stands.next_is, id_bound s, at.1));
+    there = λ id s e. (let found = find-there (λ x. session_ids w x == id) (known_by w.opened n) s (sym (stands.serials_are id) ∙ e) in
+        stands.ids_are s ∙ is_known (knows w n s) (session_ids w s) (times-is_in (known_by w.opened n) s found.0) ∙ ap Some (same_number (session_ids w s) id found.1));
+    back = λ id s e. (let at = known_id (knows w n s) (session_ids w s) id (sym (stands.ids_are s) ∙ e) in
+        let found = find-some (λ x. session_ids w x == id) (known_by w.opened n) s (is_in-times (known_by w.opened n) s at.0) (equal_number (session_ids w s) id at.1) in
+        let x = find-there (λ x. session_ids w x == id) (known_by w.opened n) found.0 found.1 in
+        stands.serials_are id ∙ found.1 ∙ ap Some (same_id found.0 s (times-is_in (known_by w.opened n) found.0 x.0) at.0 (same_number (session_ids w found.0) id x.1 ∙ sym at.1)));
+    below = λ id s e. (let at = known_id (knows w n s) (session_ids w s) id (sym (stands.ids_are s) ∙ e) in omega (arith, stands.next_is, id_bound s, at.1));
   }
 
 -- pairs that have the session's ids have its serials
-pub serials-paired : (n : Nodes Row) (w : Session) (b : Bound) → ((s : ℕ) → map.get b.ids s ≡ id_at w n s) → IsPaired b → (id : ℕ) → map.get b.serials id ≡ serial_at w n id
+pub serials-paired : (n : Nodes PageRow) (w : Session) (b : BindingValue) → ((s : ℕ) → map.get b.ids s ≡ id_at w n s) → IsPaired b → (id : ℕ) → map.get b.serials id ≡ serial_at w n id
 serials-paired n w b ids_are paired id =
-    find-is (λ x. ids_in w x == id) (known_by w.opened n) (map.get b.serials id)
-    (λ s e. (let at = known_id (knows w n s) (ids_in w s) id (sym (ids_are s) ∙ paired.there id s e) in (is_in-times (known_by w.opened n) s at.0, equal_number (ids_in w s) id at.1)))
-    (λ s h t. paired.back id s (ids_are s ∙ is_known (knows w n s) (ids_in w s) (times-is_in (known_by w.opened n) s h) ∙ ap Some (same_number (ids_in w s) id t)))
+    find-is (λ x. session_ids w x == id) (known_by w.opened n) (map.get b.serials id)
+    (λ s e. (let at = known_id (knows w n s) (session_ids w s) id (sym (ids_are s) ∙ paired.there id s e) in (is_in-times (known_by w.opened n) s at.0, equal_number (session_ids w s) id at.1)))
+    (λ s h t. paired.back id s (ids_are s ∙ is_known (knows w n s) (session_ids w s) (times-is_in (known_by w.opened n) s h) ∙ ap Some (same_number (session_ids w s) id t)))
 
 -- ---- what keeps pairs
 
@@ -110,7 +110,7 @@ if_same a b x y e = ap (λ t. cond t x y) (equal_number a b e)
 pub if_other : {A : Type 0} (a b : ℕ) (x y : A) → ¬ (a ≡ b) → cond (a == b) x y ≡ y
 if_other a b x y ne = ap (λ t. cond t x y) (let e : (a == b) ≡ false = grind (arith, nat_tests) in e)
 
-module _ (b : Bound) (s : ℕ) (paired : IsPaired b) (fresh : map.get b.ids s ≡ None) where
+module _ (b : BindingValue) (s : ℕ) (paired : IsPaired b) (fresh : map.get b.ids s ≡ None) where
   pub IsPaired-with_bound : IsPaired (with_bound s b)
   IsPaired-with_bound = record {
     there = λ id x e. (⊎_elim
@@ -132,7 +132,7 @@ module _ (b : Bound) (s : ℕ) (paired : IsPaired b) (fresh : map.get b.ids s �
         (cases_eq s x));
   }
 
-pub IsPaired-all_bound : (ss : List ℕ) (b : Bound) → IsPaired b → ((s : ℕ) → times s ss ≤ 1) → ((s : ℕ) → 0 < times s ss → map.get b.ids s ≡ None) → IsPaired (all_bound ss b)
+pub IsPaired-all_bound : (ss : List ℕ) (b : BindingValue) → IsPaired b → ((s : ℕ) → times s ss ≤ 1) → ((s : ℕ) → 0 < times s ss → map.get b.ids s ≡ None) → IsPaired (all_bound ss b)
 IsPaired-all_bound [] b paired distinct fresh = paired
 IsPaired-all_bound (x ∷ xs) b paired distinct fresh =
     IsPaired-all_bound xs (with_bound x b) (IsPaired-with_bound b x paired (fresh x (first x xs))) (λ s. omega (arith, distinct s))
@@ -141,6 +141,6 @@ IsPaired-all_bound (x ∷ xs) b paired distinct fresh =
     ap_times : {s : ℕ} → x ≡ s → 0 < times s xs → 0 < times x xs
     ap_times e h = subst (λ (y : ℕ). 0 < times y xs) (sym e) h
 
-pub IsPaired-all_opened : (os : List ℕ) (b : Bound) → IsPaired b → IsPaired (all_opened os b)
+pub IsPaired-all_opened : (os : List ℕ) (b : BindingValue) → IsPaired b → IsPaired (all_opened os b)
 IsPaired-all_opened [] b paired = paired
 IsPaired-all_opened (s ∷ ss) b paired = IsPaired-all_opened ss (with_opened s b) (record { there = paired.there; back = paired.back; below = paired.below })

@@ -5,8 +5,8 @@ use Rattle.node_tree.specs.Nodes.{Nodes, none, node, height}
 use Rattle.node_tree.specs.Keys.{tally}
 use Rattle.node_tree.specs.Labels.{holds}
 use Rattle.node_tree.specs.Seen.{Seen, seen_id, seen_serial}
-use Rattle.page_tree.specs.Pages.{Row, row_serial}
-use Rattle.node_binding.specs.Counts.{times, is_in, place}
+use Rattle.page_tree.specs.Pages.{PageRow, row_serial}
+use Rattle.node_binding.specs.Counts.{times, stands_in, last_standing}
 use Rattle.node_binding.specs.Cuts.{opens, known, cut}
 use Rattle.node_binding.specs.Openings.{is_spent, above}
 use Rattle.node_binding.specs.Ids.{id_of}
@@ -18,18 +18,18 @@ use Rattle.node_binding.proofs.OpeningLemmas.{IsOpenedSet-above}
 
 -- ---- sessions
 
-nothing_known : (s : ℕ) → is_in s [] ≡ true → 0 < 0
+nothing_known : (s : ℕ) → stands_in s [] ≡ true → 0 < 0
 nothing_known s h = cc
 
-pub IsSession-begun : (n : Nodes Row) → IsSession n begun
+pub IsSession-begun : (n : Nodes PageRow) → IsSession n begun
 IsSession-begun n = record { opened_set = tt; since_then = omega arith; known_stand = λ s h. absurd (omega (arith, nothing_known s h)) }
 
-pub IsSession-reset : (n : Nodes Row) (w : Session) → IsSession n (reset w)
+pub IsSession-reset : (n : Nodes PageRow) (w : Session) → IsSession n (reset w)
 IsSession-reset n w = record { opened_set = tt; since_then = omega arith; known_stand = λ s h. absurd (omega (arith, nothing_known s h)) }
 
-pub IsSession-document_opened : (d : Option ℕ) (r : Row) (c : Nodes Row) (w : Session) → ((s : ℕ) → tally row_serial s (node r c none) ≤ 1) → holds r.label.kind ≡ true → is_spent d ≡ false → IsSession (node r c none) (document_opened d (node r c none) w)
+pub IsSession-document_opened : (d : Option ℕ) (r : PageRow) (c : Nodes PageRow) (w : Session) → ((s : ℕ) → tally row_serial s (node r c none) ≤ 1) → holds r.label.kind ≡ true → is_spent d ≡ false → IsSession (node r c none) (document_opened d (node r c none) w)
 IsSession-document_opened d r c w distinct holds_it left =
-    let n : Nodes Row = node r c none in
+    let n : Nodes PageRow = node r c none in
     let ks : List ℕ = known (above d n) n in
     let now : drop (length w.pushed) (w.pushed ++ ks) ≡ ks = drop-length w.pushed ks in
     record {
@@ -49,7 +49,7 @@ module _ (o : ℕ → Bool) (i : ℕ → ℕ) where
   shown_times true x xs = refl
   shown_times false x xs = refl
 
-  pub times-known : (x : ℕ) (r : Row) (c t : Nodes Row) → times x (known o (node r c t)) ≡ cond {A = ℕ} (r.serial == x) 1 0 + (cond {A = ℕ} (opens o r) (times x (known o c)) 0 + times x (known o t))
+  pub times-known : (x : ℕ) (r : PageRow) (c t : Nodes PageRow) → times x (known o (node r c t)) ≡ cond {A = ℕ} (r.serial == x) 1 0 + (cond {A = ℕ} (opens o r) (times x (known o c)) 0 + times x (known o t))
   times-known x r c t = ap (λ n. cond {A = ℕ} (r.serial == x) 1 0 + n) (times-append x (cond (opens o r) (known o c) []) (known o t) ∙ ap (λ n. n + times x (known o t)) (shown_times (opens o r) x (known o c)))
 
   alike : (b : Bool) (k m n x y : ℕ) → m ≡ n → x ≡ y → k + cond {A = ℕ} b m 0 + x ≡ k + (cond {A = ℕ} b n 0 + y)
@@ -57,7 +57,7 @@ module _ (o : ℕ → Bool) (i : ℕ → ℕ) where
   alike false k m n x y e f = omega arith
 
   -- a serial is seen as often as it is known
-  pub cut-serials : (x : ℕ) (n : Nodes Row) → tally seen_serial x (cut o i n) ≡ times x (known o n)
+  pub cut-serials : (x : ℕ) (n : Nodes PageRow) → tally seen_serial x (cut o i n) ≡ times x (known o n)
   cut-serials x none = refl
   cut-serials x (node r c t) =
       ap (λ m. cond {A = ℕ} (r.serial == x) 1 0 + m + tally seen_serial x (cut o i t)) (shown_tally (opens o r) seen_serial x (cut o i c))
@@ -73,7 +73,7 @@ module _ (o : ℕ → Bool) (i : ℕ → ℕ) where
   known_below false k s n m e h = cc
 
   -- an id is seen at most as often as the serial that it gives back is known
-  pub cut-ids : (back : ℕ → ℕ) (x : ℕ) (n : Nodes Row) → ((s : ℕ) → 0 < times s (known o n) → back (i s) ≡ s) → tally seen_id x (cut o i n) ≤ times (back x) (known o n)
+  pub cut-ids : (back : ℕ → ℕ) (x : ℕ) (n : Nodes PageRow) → ((s : ℕ) → 0 < times s (known o n) → back (i s) ≡ s) → tally seen_id x (cut o i n) ≤ times (back x) (known o n)
   cut-ids back x none h = omega arith
   cut-ids back x (node r c t) h =
       rw (times-known (back x) r c t, shown_tally (opens o r) seen_id x (cut o i c))
@@ -91,7 +91,7 @@ module _ (o : ℕ → Bool) (i : ℕ → ℕ) where
       self_known s = grind (arith, nat_tests)
 
   -- no id is 0 where none of a known node is
-  pub cut-above : (n : Nodes Row) → ((s : ℕ) → 0 < times s (known o n) → 0 < i s) → tally seen_id 0 (cut o i n) ≡ 0
+  pub cut-above : (n : Nodes PageRow) → ((s : ℕ) → 0 < times s (known o n) → 0 < i s) → tally seen_id 0 (cut o i n) ≡ 0
   cut-above none h = refl
   cut-above (node r c t) h =
       rw (shown_tally (opens o r) seen_id 0 (cut o i c)) (nothing (opens o r) _ _ _ (row_none (i r.serial) (h r.serial (rw (times-known r.serial r c t) (self_known r.serial))))
@@ -112,7 +112,7 @@ module _ (o : ℕ → Bool) (i : ℕ → ℕ) where
   shown_height true c m h = h
   shown_height false c m h = omega arith
 
-  pub height-cut : (n : Nodes Row) → height (cut o i n) ≤ height n
+  pub height-cut : (n : Nodes PageRow) → height (cut o i n) ≤ height n
   height-cut none = omega arith
   height-cut (node r c t) = omega (arith, shown_height (opens o r) (cut o i c) _ (height-cut c), height-cut t)
 
@@ -121,10 +121,10 @@ abbrev pub standing : List ℕ → ℕ → ℕ
 standing [] k = 0
 standing (x ∷ xs) k = cond (k == 1) x (standing xs (k - 1))
 
-pub standing-place : (xs : List ℕ) (s : ℕ) → 0 < place xs s → standing xs (place xs s) ≡ s
+pub standing-place : (xs : List ℕ) (s : ℕ) → 0 < last_standing xs s → standing xs (last_standing xs s) ≡ s
 standing-place [] s h = absurd (omega arith)
 standing-place (x ∷ xs) s h =
-    elim (place xs s) as (λ p. (0 < p → standing xs p ≡ s) → 0 < cond {A = ℕ} (p == 0) (cond {A = ℕ} (x == s) 1 0) (suc p) → standing (x ∷ xs) (cond {A = ℕ} (p == 0) (cond {A = ℕ} (x == s) 1 0) (suc p)) ≡ s) [
+    elim (last_standing xs s) as (λ p. (0 < p → standing xs p ≡ s) → 0 < cond {A = ℕ} (p == 0) (cond {A = ℕ} (x == s) 1 0) (suc p) → standing (x ∷ xs) (cond {A = ℕ} (p == 0) (cond {A = ℕ} (x == s) 1 0) (suc p)) ≡ s) [
       | zero ↦ λ _. elim (x == s) as (λ b. (x == s) ≡ b → 0 < cond {A = ℕ} b 1 0 → standing (x ∷ xs) (cond {A = ℕ} b 1 0) ≡ s) [ true ↦ λ e _. grind (arith, nat_tests) | false ↦ λ _ h. absurd (omega arith) ] refl
       | suc p ↦ λ rest _. rw (suc-is_zero p) (later p (rest (omega arith)))
     ] (standing-place xs s) h
@@ -132,8 +132,8 @@ standing-place (x ∷ xs) s h =
     later : (p : ℕ) → standing xs (suc p) ≡ s → standing (x ∷ xs) (suc (suc p)) ≡ s
     later p e = ap (λ b. cond b x (standing xs (suc (suc p) - 1))) (let f : (suc (suc p) == 1) ≡ false = grind (arith, nat_tests) in f) ∙ ap (standing xs) (let g : suc (suc p) - 1 ≡ suc p = omega arith in g) ∙ e
 
-module _ (n : Nodes Row) (pushed : List ℕ) (since : ℕ) (distinct : (s : ℕ) → tally row_serial s n ≤ 1) where
-  known_place : (o : ℕ → Bool) → IsSession n (record { opened = Some o; pushed = pushed; since = since }) → (s : ℕ) → 0 < times s (known o n) → 0 < place (drop since pushed) s
+module _ (n : Nodes PageRow) (pushed : List ℕ) (since : ℕ) (distinct : (s : ℕ) → tally row_serial s n ≤ 1) where
+  known_place : (o : ℕ → Bool) → IsSession n (record { opened = Some o; pushed = pushed; since = since }) → (s : ℕ) → 0 < times s (known o n) → 0 < last_standing (drop since pushed) s
   known_place o session s h = session.known_stand s (times-is_in (known o n) s h)
 
   pub view-ids : (o : Option (ℕ → Bool)) → IsSession n (record { opened = o; pushed = pushed; since = since }) → (x : ℕ) → tally seen_id x (view (record { opened = o; pushed = pushed; since = since }) n) ≤ 1
@@ -141,8 +141,8 @@ module _ (n : Nodes Row) (pushed : List ℕ) (since : ℕ) (distinct : (s : ℕ)
   view-ids (Some o) session x =
       omega (arith, cut-ids o (id_of pushed since) (λ id. standing (drop since pushed) (id - since)) x n (λ s h. gives_back s (known_place o session s h)), known-tally o (standing (drop since pushed) (x - since)) n, distinct (standing (drop since pushed) (x - since)))
     where
-      gives_back : (s : ℕ) → 0 < place (drop since pushed) s → standing (drop since pushed) (id_of pushed since s - since) ≡ s
-      gives_back s h = ap (standing (drop since pushed)) (let e : id_of pushed since s - since ≡ place (drop since pushed) s = omega arith in e) ∙ standing-place (drop since pushed) s h
+      gives_back : (s : ℕ) → 0 < last_standing (drop since pushed) s → standing (drop since pushed) (id_of pushed since s - since) ≡ s
+      gives_back s h = ap (standing (drop since pushed)) (let e : id_of pushed since s - since ≡ last_standing (drop since pushed) s = omega arith in e) ∙ standing-place (drop since pushed) s h
 
   pub view-serials : (o : Option (ℕ → Bool)) → (x : ℕ) → tally seen_serial x (view (record { opened = o; pushed = pushed; since = since }) n) ≤ 1
   view-serials None x = omega arith

@@ -5,18 +5,18 @@ use Rattle.std.specs.FinSet as set
 use Rattle.std.specs.FinMap as map
 use Rattle.node_tree.specs.Nodes.{Nodes}
 use Rattle.node_tree.specs.Keys.{tally, first_of}
-use Rattle.page_tree.specs.Pages.{Row, row_serial}
-use Rattle.node_binding.specs.Counts.{is_in, place}
+use Rattle.page_tree.specs.Pages.{PageRow, row_serial}
+use Rattle.node_binding.specs.Counts.{stands_in, last_standing}
 use Rattle.node_binding.specs.Cuts.{known}
-use Rattle.node_binding.specs.Openings.{reached, above}
+use Rattle.node_binding.specs.Openings.{containers_within, above}
 use Rattle.node_binding.specs.Sessions.{Session, begun, reset, document_opened}
-use Rattle.node_binding.specs.Bindings.{Bound, empty_from, all_opened, cleared, started, Stands}
+use Rattle.node_binding.specs.Bindings.{BindingValue, empty_from, all_opened, cleared, started, Stands}
 use Rattle.node_binding.proofs.Places.{is_in-place}
 use Rattle.node_binding.proofs.BoundLemmas.{opened-ids, opened-serials, opened-next, opened-opened, bound-opened, bound-next, bound-ids, bound-serials}
 use Rattle.node_binding.proofs.Known.{known-tally}
 
 -- empty tables stand for each session in which nothing is known
-pub Stands-empty_from : (n : Nodes Row) (pushed : List ℕ) (since next : ℕ) → next ≡ length pushed + 1 → Stands n (record { opened = None; pushed = pushed; since = since }) (empty_from next)
+pub Stands-empty_from : (n : Nodes PageRow) (pushed : List ℕ) (since next : ℕ) → next ≡ length pushed + 1 → Stands n (record { opened = None; pushed = pushed; since = since }) (empty_from next)
 Stands-empty_from n pushed since next e = record {
   opened_is = λ s. set.contains-empty nat_cmp s;
   ids_are = λ s. map.get-empty nat_cmp s;
@@ -24,10 +24,10 @@ Stands-empty_from n pushed since next e = record {
   next_is = e;
 }
 
-pub Stands-begun : (n : Nodes Row) → Stands n begun (empty_from 1)
+pub Stands-begun : (n : Nodes PageRow) → Stands n begun (empty_from 1)
 Stands-begun n = Stands-empty_from n [] 0 1 refl
 
-pub Stands-reset : (n m : Nodes Row) (w : Session) (b : Bound) → Stands n w b → Stands m (reset w) (cleared b)
+pub Stands-reset : (n m : Nodes PageRow) (w : Session) (b : BindingValue) → Stands n w b → Stands m (reset w) (cleared b)
 Stands-reset n m w b stands = Stands-empty_from m w.pushed (length w.pushed) b.next stands.next_is
 
 pub drop-length : (xs ys : List ℕ) → drop (length xs) (xs ++ ys) ≡ ys
@@ -46,43 +46,43 @@ first_of-None : {A : Type 0} (o : Option A) → first_of o None ≡ o
 first_of-None None = refl
 first_of-None (Some x) = refl
 
-module _ (d : Option ℕ) (n : Nodes Row) (b : Bound) where
+module _ (d : Option ℕ) (n : Nodes PageRow) (b : BindingValue) where
   abbrev ks : List ℕ
   ks = known (above d n) n
 
-  abbrev opened_first : Bound
-  opened_first = all_opened (reached d n) (cleared b)
+  abbrev opened_first : BindingValue
+  opened_first = all_opened (containers_within d n) (cleared b)
 
   started-opened : (s : ℕ) → set.contains (started d n b).opened s ≡ above d n s
   started-opened s =
       ap (λ o. set.contains o s) (bound-opened ks opened_first)
-      ∙ opened-opened (reached d n) (cleared b) s
-      ∙ ap (λ v. is_in s (reached d n) || v) (set.contains-empty nat_cmp s)
+      ∙ opened-opened (containers_within d n) (cleared b) s
+      ∙ ap (λ v. stands_in s (containers_within d n) || v) (set.contains-empty nat_cmp s)
       ∙ or-nothing _
 
-  started-ids : (k : ℕ) → b.next ≡ k + 1 → (s : ℕ) → map.get (started d n b).ids s ≡ cond (is_in s ks) (Some (k + place ks s)) None
+  started-ids : (k : ℕ) → b.next ≡ k + 1 → (s : ℕ) → map.get (started d n b).ids s ≡ cond (stands_in s ks) (Some (k + last_standing ks s)) None
   started-ids k e s =
-      bound-ids ks opened_first k (opened-next (reached d n) (cleared b) ∙ e) s
-      ∙ ap (λ o. cond (place ks s == 0) o (Some (k + place ks s))) (ap (λ m. map.get m s) (opened-ids (reached d n) (cleared b)) ∙ map.get-empty nat_cmp s)
-      ∙ not-cond (place ks s == 0) _ _
-      ∙ ap (λ v. cond v (Some (k + place ks s)) None) (sym (is_in-place ks s))
+      bound-ids ks opened_first k (opened-next (containers_within d n) (cleared b) ∙ e) s
+      ∙ ap (λ o. cond (last_standing ks s == 0) o (Some (k + last_standing ks s))) (ap (λ m. map.get m s) (opened-ids (containers_within d n) (cleared b)) ∙ map.get-empty nat_cmp s)
+      ∙ not-cond (last_standing ks s == 0) _ _
+      ∙ ap (λ v. cond v (Some (k + last_standing ks s)) None) (sym (is_in-place ks s))
 
-  started-serials : (k : ℕ) → b.next ≡ k + 1 → ((x : ℕ) → tally row_serial x n ≤ 1) → (id : ℕ) → map.get (started d n b).serials id ≡ find (λ s. (k + place ks s) == id) ks
+  started-serials : (k : ℕ) → b.next ≡ k + 1 → ((x : ℕ) → tally row_serial x n ≤ 1) → (id : ℕ) → map.get (started d n b).serials id ≡ find (λ s. (k + last_standing ks s) == id) ks
   started-serials k e distinct id =
-      bound-serials ks opened_first k (opened-next (reached d n) (cleared b) ∙ e) (λ s. omega (arith, known-tally (above d n) s n, distinct s)) id
-      ∙ ap (first_of (find (λ s. (k + place ks s) == id) ks)) (ap (λ m. map.get m id) (opened-serials (reached d n) (cleared b)) ∙ map.get-empty nat_cmp id)
+      bound-serials ks opened_first k (opened-next (containers_within d n) (cleared b) ∙ e) (λ s. omega (arith, known-tally (above d n) s n, distinct s)) id
+      ∙ ap (first_of (find (λ s. (k + last_standing ks s) == id) ks)) (ap (λ m. map.get m id) (opened-serials (containers_within d n) (cleared b)) ∙ map.get-empty nat_cmp id)
       ∙ first_of-None _
 
   started-next : (started d n b).next ≡ b.next + length ks
-  started-next = bound-next ks opened_first ∙ ap (λ m. m + length ks) (opened-next (reached d n) (cleared b))
+  started-next = bound-next ks opened_first ∙ ap (λ m. m + length ks) (opened-next (containers_within d n) (cleared b))
 
-pub Stands-document_opened : (d : Option ℕ) (n : Nodes Row) (w : Session) (b : Bound) → ((x : ℕ) → tally row_serial x n ≤ 1) → b.next ≡ length w.pushed + 1 → Stands n (document_opened d n w) (started d n b)
+pub Stands-document_opened : (d : Option ℕ) (n : Nodes PageRow) (w : Session) (b : BindingValue) → ((x : ℕ) → tally row_serial x n ≤ 1) → b.next ≡ length w.pushed + 1 → Stands n (document_opened d n w) (started d n b)
 Stands-document_opened d n w b distinct e =
     let ks : List ℕ = known (above d n) n in
     let now : drop (length w.pushed) (w.pushed ++ ks) ≡ ks = drop-length w.pushed ks in
     record {
       opened_is = started-opened d n b;
-      ids_are = λ s. started-ids d n b (length w.pushed) e s ∙ ap (λ xs. cond (is_in s ks) (Some (length w.pushed + place xs s)) None) (sym now);
-      serials_are = λ id. started-serials d n b (length w.pushed) e distinct id ∙ ap (λ xs. find (λ s. (length w.pushed + place xs s) == id) ks) (sym now);
+      ids_are = λ s. started-ids d n b (length w.pushed) e s ∙ ap (λ xs. cond (stands_in s ks) (Some (length w.pushed + last_standing xs s)) None) (sym now);
+      serials_are = λ id. started-serials d n b (length w.pushed) e distinct id ∙ ap (λ xs. find (λ s. (length w.pushed + last_standing xs s) == id) ks) (sym now);
       next_is = started-next d n b ∙ omega (arith, e, length-append w.pushed ks);
     }

@@ -7,10 +7,10 @@ times s [] = 0
 times s (x ∷ xs) = cond {A = ℕ} (x == s) 1 0 + times s xs
 
 -- it stands there at least once
-abbrev pub is_in : ℕ → List ℕ → Bool
-is_in s xs = not (times s xs == 0)
+abbrev pub stands_in : ℕ → List ℕ → Bool
+stands_in s xs = not (times s xs == 0)
 
 -- the last place, counted from 1, at which s stands; 0 where it stands nowhere
-abbrev pub place : List ℕ → ℕ → ℕ
-place [] s = 0
-place (x ∷ xs) s = cond {A = ℕ} (place xs s == 0) (cond {A = ℕ} (x == s) 1 0) (suc (place xs s))
+abbrev pub last_standing : List ℕ → ℕ → ℕ
+last_standing [] s = 0
+last_standing (x ∷ xs) s = cond {A = ℕ} (last_standing xs s == 0) (cond {A = ℕ} (x == s) 1 0) (suc (last_standing xs s))

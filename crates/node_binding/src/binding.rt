@@ -26,9 +26,9 @@ pub struct Binding {
 }
 
 impl Model for Binding {
-    ghost use Rattle.node_binding.specs.Bindings.{Bound, coded_bound};
+    ghost use Rattle.node_binding.specs.Bindings.{BindingValue, coded_bound};
 
-    ghost Value = { Bound };
+    ghost Value = { BindingValue };
 
     ghost coded = { coded_bound };
 

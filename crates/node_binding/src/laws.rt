@@ -1,8 +1,8 @@
-ghost use Rattle.node_binding.specs.Changes.{Begins, Resets, Starts, OpensDown, BindsChild, PassesAttach, Forgets, PassesLabel};
+ghost use Rattle.node_binding.specs.Changes.{BindingBegins, Resets, Starts, OpensDown, BindsChild, PassesAttach, Forgets, PassesLabel};
 
 /// A binding that stands for a session with a page stands for the session after each change of the session or the page.
 pub fn binding_law()
-    ensures begun { Begins }
+    ensures begun { BindingBegins }
     ensures reset { Resets }
     ensures start { Starts }
     ensures open_down { OpensDown }

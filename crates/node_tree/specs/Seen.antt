@@ -23,10 +23,10 @@ is_opened (counted n) = false
 is_opened opened = true
 
 -- only the number of its children is shown
-abbrev pub is_counted : Hold → Bool
-is_counted leaf = false
-is_counted (counted n) = true
-is_counted opened = false
+abbrev pub shows_count : Hold → Bool
+shows_count leaf = false
+shows_count (counted n) = true
+shows_count opened = false
 
 -- the keys by which a shown node is found
 abbrev pub seen_id : Seen → ℕ

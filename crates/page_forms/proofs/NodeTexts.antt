@@ -11,7 +11,7 @@ use Rattle.node_tree.specs.Keys.{first_of}
 use Rattle.node_tree.specs.Nodes.{Nodes, Branch}
 use Rattle.node_tree.specs.Labels.{Pair, Label}
 use Rattle.node_tree.specs.declared.Kind.TheVariants.{Element, Text, Comment, Doctype}
-use Rattle.page_tree.specs.Loads.{pairs_of, is_taken, placed, in_order, attributes_of, property_count, times_of, text_at, text_alone, labelled, attributes_at, element_name, element_label, label_of, branch_of, before, form_of, forms_of, below_of, list_of, nodes_in}
+use Rattle.page_tree.specs.Loads.{pairs_of, is_taken, placed, in_order, attributes_spelled, property_count, times_of, text_at, text_alone, labelled, attributes_at, element_name, element_label, label_spelled, branch_of, form_before, node_spelled, forms_of, below_of, nodes_listed, nodes_in}
 use Rattle.cdp_messages.specs.Laws.{PairsHaveUtf8, LabelHasUtf8}
 use Rattle.page_forms.specs.Texts.{HaveTexts, FormHasTexts}
 use Rattle.cdp_json.proofs.ReadTexts.{IfSome, map_keeps, then_keeps}
@@ -94,7 +94,7 @@ ordered_utf8 ordered [] us vs = us
 ordered_utf8 ordered (p ∷ ps) us vs =
     unless PairsHaveUtf8 (is_taken p.0 ordered) (in_order (placed p ordered) ps) (ordered_utf8 (placed p ordered) ps (placed_utf8 p ordered vs.0 vs.1 us) vs.2)
 
-attributes_utf8 : (d : Data) → HasUtf8 d → IfSome PairsHaveUtf8 (attributes_of d)
+attributes_utf8 : (d : Data) → HasUtf8 d → IfSome PairsHaveUtf8 (attributes_spelled d)
 attributes_utf8 d u =
     then_keeps PairsHaveUtf8 PairsHaveUtf8 (in_order []) (λ ps us. ordered_utf8 [] ps tt us) (option_and_then pairs_of (as_array d))
     (then_keeps ItemsHaveUtf8 PairsHaveUtf8 pairs_of pairs_utf8 (as_array d) (array_utf8 d u))
@@ -107,7 +107,7 @@ text_at-utf8 k d u = then_keeps HasUtf8 IsUtf8 as_str str_utf8 (get k d) (get_ut
 text_alone-utf8 : (k : List ℕ) (d : Data) → HasUtf8 d → IfSome IsUtf8 (text_alone k d)
 text_alone-utf8 k d u = when IsUtf8 (property_count d == 1) (text_at k d) (text_at-utf8 k d u)
 
-listed : (o : Option Data) → IfSome HasUtf8 o → IfSome PairsHaveUtf8 (option_map_or attributes_of o (Some []))
+listed : (o : Option Data) → IfSome HasUtf8 o → IfSome PairsHaveUtf8 (option_map_or attributes_spelled o (Some []))
 listed None u = tt
 listed (Some d) u = attributes_utf8 d u
 
@@ -123,7 +123,7 @@ either_utf8 : {A : Type 0} (Q : A → Type 0) (o p : Option A) → IfSome Q o �
 either_utf8 Q None p u v = v
 either_utf8 Q (Some x) p u v = u
 
-label_utf8 : (top : Bool) (d : Data) → HasUtf8 d → IfSome LabelHasUtf8 (label_of top d)
+label_utf8 : (top : Bool) (d : Data) → HasUtf8 d → IfSome LabelHasUtf8 (label_spelled top d)
 label_utf8 top d u =
     either_utf8 LabelHasUtf8 (element_label d) _ (element_utf8 d u)
     (either_utf8 LabelHasUtf8 (option_map (λ text. labelled Text [] text []) (text_alone (codes "t") d)) _
@@ -140,7 +140,7 @@ branch_utf8 None n ul un = tt
 branch_utf8 (Some l) None ul un = tt
 branch_utf8 (Some l) (Some n) ul un = (ul, un)
 
-before_utf8 : (b : Option (Branch Label)) (n : Option (Nodes Label)) → IfSome FormHasTexts b → IfSome HaveTexts n → IfSome HaveTexts (before b n)
+before_utf8 : (b : Option (Branch Label)) (n : Option (Nodes Label)) → IfSome FormHasTexts b → IfSome HaveTexts n → IfSome HaveTexts (form_before b n)
 before_utf8 None n ub un = tt
 before_utf8 (Some b) None ub un = tt
 before_utf8 (Some b) (Some n) ub un = (ub.0, ub.1, un)
@@ -150,23 +150,23 @@ below_utf8 true here later u v = u
 below_utf8 false here later u v = v
 
 mutual
-  pub form_utf8 : (top : Bool) (d : Data) → HasUtf8 d → IfSome FormHasTexts (form_of top d)
+  pub form_utf8 : (top : Bool) (d : Data) → HasUtf8 d → IfSome FormHasTexts (node_spelled top d)
   form_utf8 top null u = tt
   form_utf8 top (boolean b) u = tt
   form_utf8 top (number n) u = tt
   form_utf8 top (string s) u = tt
   form_utf8 top (array ds) u = tt
-  form_utf8 top (object ms) u = branch_utf8 (label_of top (object ms)) (below_of ms) (label_utf8 top (object ms) u) (children_utf8 ms u)
+  form_utf8 top (object ms) u = branch_utf8 (label_spelled top (object ms)) (below_of ms) (label_utf8 top (object ms) u) (children_utf8 ms u)
 
   forms_utf8 : (top : Bool) (ds : Items) → ItemsHaveUtf8 ds → IfSome HaveTexts (forms_of top ds)
   forms_utf8 top no_items u = tt
-  forms_utf8 top (item d ds) u = before_utf8 (form_of top d) (forms_of top ds) (form_utf8 top d u.0) (forms_utf8 top ds u.1)
+  forms_utf8 top (item d ds) u = before_utf8 (node_spelled top d) (forms_of top ds) (form_utf8 top d u.0) (forms_utf8 top ds u.1)
 
   children_utf8 : (ms : Members) → MembersHaveUtf8 ms → IfSome HaveTexts (below_of ms)
   children_utf8 no_members u = tt
-  children_utf8 (member k d ms) u = below_utf8 (bytes_eq (codes "c") k) (list_of d) (below_of ms) (list_utf8 d u.1) (children_utf8 ms u.2)
+  children_utf8 (member k d ms) u = below_utf8 (bytes_eq (codes "c") k) (nodes_listed d) (below_of ms) (list_utf8 d u.1) (children_utf8 ms u.2)
 
-  list_utf8 : (d : Data) → HasUtf8 d → IfSome HaveTexts (list_of d)
+  list_utf8 : (d : Data) → HasUtf8 d → IfSome HaveTexts (nodes_listed d)
   list_utf8 null u = tt
   list_utf8 (boolean b) u = tt
   list_utf8 (number n) u = tt

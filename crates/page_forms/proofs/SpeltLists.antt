@@ -10,10 +10,10 @@ use Rattle.serde_json.specs.Read.{of_items}
 use Rattle.node_tree.specs.Labels.{Pair, Label}
 use Rattle.node_tree.specs.Nodes.{Nodes, none, node, Branch, nodes_of, beside}
 use Rattle.node_tree.proofs.NodeLemmas.{nodes_of-append, beside-none, beside_assoc}
-use Rattle.page_tree.specs.Loads.{in_order, before}
+use Rattle.page_tree.specs.Loads.{in_order, form_before}
 use Rattle.cdp_json.specs.Kinds.{and_first}
 use Rattle.page_forms.specs.declared.sheets.SheetForm.{SheetForm}
-use Rattle.page_forms.specs.Spelt.{ValueForm, ListForm, Spells, SpellsItems}
+use Rattle.page_forms.specs.Spelt.{ValueForm, ListForm, ReadsAs, SpellsItems}
 use Rattle.page_forms.specs.NodeForms.{pairs_form, attributes_form, node_form, nodes_form}
 use Rattle.page_forms.specs.PageForms.{sheet_value, sheets_form}
 
@@ -51,7 +51,7 @@ neither false b e f = f
 -- an item, and the others behind it
 list_turn : {A B : Type 0} (one : ValueForm A) (form : ListForm B) (old middle new : List Token) (x : A) (rest all : B) → one.levels ≤ form.levels
     → ((d : Data) (ds : Items) → one.reads d ≡ Some x → form.reads ds ≡ Some rest → form.reads (datum.item d ds) ≡ Some all)
-    → Spells one old x middle → SpellsItems form middle rest new → SpellsItems form old all new
+    → ReadsAs one old x middle → SpellsItems form middle rest new → SpellsItems form old all new
 list_turn one form old middle new x rest all low more s r = record {
   json = json.item s.json r.json;
   items = datum.item s.value r.items;
@@ -75,7 +75,7 @@ some_token (json.array js) = omega arith
 some_token (json.object ms) = omega arith
 
 -- a value takes tokens
-pub value_shorter : {A : Type 0} (form : ValueForm A) (old new : List Token) (x : A) → Spells form old x new → length new < length old
+pub value_shorter : {A : Type 0} (form : ValueForm A) (old new : List Token) (x : A) → ReadsAs form old x new → length new < length old
 value_shorter form old new x s = omega (arith, ap length s.tokens, length-append (json_tokens s.json) new, some_token s.json)
 
 -- ---- attributes
@@ -133,12 +133,12 @@ module _ (levels : ℕ) (top : Bool) where
   pub no_nodes : (start : List Token) (done : List (Branch Label)) → done ≡ [] → NodesAhead start done start
   no_nodes start done e = λ rest new s. subst (λ bs. SpellsItems (nodes_form levels top) start (beside (nodes_of bs) rest) new) (sym e) s
 
-  node_turn : (old middle new : List Token) (b : Branch Label) (rest : Nodes Label) → Spells (node_form levels top) old b middle → SpellsItems (nodes_form levels top) middle rest new
+  node_turn : (old middle new : List Token) (b : Branch Label) (rest : Nodes Label) → ReadsAs (node_form levels top) old b middle → SpellsItems (nodes_form levels top) middle rest new
       → SpellsItems (nodes_form levels top) old (node b.row b.children rest) new
   node_turn old middle new b rest =
-      list_turn (node_form levels top) (nodes_form levels top) old middle new b rest (node b.row b.children rest) (omega arith) (λ d ds e f. ap₂ before e f)
+      list_turn (node_form levels top) (nodes_form levels top) old middle new b rest (node b.row b.children rest) (omega arith) (λ d ds e f. ap₂ form_before e f)
 
-  pub nodes_turn : (start left next : List Token) (done more : List (Branch Label)) (b : Branch Label) → NodesAhead start done left → Spells (node_form levels top) left b next → more ≡ done ++ b ∷ [] → NodesAhead start more next
+  pub nodes_turn : (start left next : List Token) (done more : List (Branch Label)) (b : Branch Label) → NodesAhead start done left → ReadsAs (node_form levels top) left b next → more ≡ done ++ b ∷ [] → NodesAhead start more next
   nodes_turn start left next done more b so s m = λ rest new r.
       let joined : beside (nodes_of done) (node b.row b.children rest) ≡ beside (nodes_of more) rest =
       sym (beside_assoc (nodes_of done) (nodes_of (b ∷ [])) rest) ∙ ap (λ n. beside n rest) (sym (nodes_of-append done (b ∷ []))) ∙ ap (λ bs. beside (nodes_of bs) rest) (sym m) in
@@ -157,10 +157,10 @@ SheetsAhead start done left = IsAhead sheets_form start (λ rest. done ++ rest) 
 pub no_sheets : (start : List Token) (done : List SheetForm) → done ≡ [] → SheetsAhead start done start
 no_sheets start done e = λ rest new s. subst (λ ss. SpellsItems sheets_form start (ss ++ rest) new) (sym e) s
 
-sheet_turn : (old middle new : List Token) (sheet : SheetForm) (rest : List SheetForm) → Spells sheet_value old sheet middle → SpellsItems sheets_form middle rest new → SpellsItems sheets_form old (sheet ∷ rest) new
+sheet_turn : (old middle new : List Token) (sheet : SheetForm) (rest : List SheetForm) → ReadsAs sheet_value old sheet middle → SpellsItems sheets_form middle rest new → SpellsItems sheets_form old (sheet ∷ rest) new
 sheet_turn old middle new sheet rest = list_turn sheet_value sheets_form old middle new sheet rest (sheet ∷ rest) (omega arith) (λ d ds e f. ap₂ (λ o p. option_and_then (λ x. and_first x p) o) e f)
 
-pub sheets_turn : (start left next : List Token) (done more : List SheetForm) (sheet : SheetForm) → SheetsAhead start done left → Spells sheet_value left sheet next → more ≡ done ++ sheet ∷ [] → SheetsAhead start more next
+pub sheets_turn : (start left next : List Token) (done more : List SheetForm) (sheet : SheetForm) → SheetsAhead start done left → ReadsAs sheet_value left sheet next → more ≡ done ++ sheet ∷ [] → SheetsAhead start more next
 sheets_turn start left next done more sheet so s m = λ rest new r.
     let joined : done ++ sheet ∷ rest ≡ more ++ rest = sym (append_assoc done (sheet ∷ []) rest) ∙ ap (λ ss. ss ++ rest) (sym m) in
     subst (λ ss. SpellsItems sheets_form start ss new) joined (so (sheet ∷ rest) new (sheet_turn left next new sheet rest s r))

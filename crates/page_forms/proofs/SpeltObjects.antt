@@ -6,20 +6,20 @@ use Rattle.json.specs.Tree.{items_tokens}
 use Rattle.serde_json.specs.Data as datum
 use Rattle.serde_json.specs.Data.{Data, Items, put}
 use Rattle.cdp_json.specs.Kinds.{text as text_kind, named}
-use Rattle.cdp_json.specs.Rows.{ends, and_need, and_then, beside}
+use Rattle.cdp_json.specs.Rows.{ends, and_need, and_then, left_with}
 use Rattle.node_tree.specs.Labels.{Pair, Label}
 use Rattle.node_tree.specs.Nodes.{Nodes, none, Branch}
 use Rattle.node_tree.specs.Keys.{first_of}
 use Rattle.node_tree.specs.declared.Kind.{Kind}
 use Rattle.node_tree.specs.declared.Kind.TheVariants.{Element}
-use Rattle.page_tree.specs.Loads.{labelled, branch_of, form_of}
+use Rattle.page_tree.specs.Loads.{labelled, branch_of, node_spelled}
 use Rattle.sheet_reader.specs.declared.book.Origin.{Origin}
 use Rattle.page_forms.specs.declared.sheets.SheetForm.{SheetForm}
 use Rattle.page_forms.specs.Sheets.{origin_word, all_origins, sheet_from}
 use Rattle.page_forms.specs.Pages.{page_with}
-use Rattle.page_forms.specs.Spelt.{FieldForm, Spells, SpellsItems, SpellsField, absent, there}
+use Rattle.page_forms.specs.Spelt.{FieldForm, ReadsAs, SpellsItems, SpellsField, absent, there}
 use Rattle.page_forms.specs.NodeForms.{text_field, text_data, element_tokens, attribute_field, node_form, nodes_form, child_field}
-use Rattle.page_forms.specs.PageForms.{sheet_value, sheet_field, page_form}
+use Rattle.page_forms.specs.PageForms.{sheet_value, sheets_field_form, page_form}
 
 -- ---- tokens of lists in an object
 
@@ -61,7 +61,7 @@ element_of top name attributes children = branch_of (first_of (option_map (label
 module _ (levels : ℕ) (top : Bool) (name : List ℕ) (old middle new : List Token) (ps : List Pair) (n : Nodes Label) where
   -- the node of that name, these attributes and these children
   abbrev Spelt : Type 0
-  Spelt = Spells (node_form (levels + 1) top) (element_tokens name old) (record { row = labelled Element name [] ps; children = n }) new
+  Spelt = ReadsAs (node_form (levels + 1) top) (element_tokens name old) (record { row = labelled Element name [] ps; children = n }) new
 
   bare : old ≡ middle → ps ≡ [] → middle ≡ end_object ∷ new → n ≡ none → Spelt
   bare e f g h = record {
@@ -119,10 +119,10 @@ module _ (levels : ℕ) (top : Bool) (name : List ℕ) (old middle new : List To
 -- the same of copies of the name and of the empty text
 pub element_made : (levels : ℕ) (top : Bool) (name copied value : List ℕ) (old begun middle new : List Token) (ps : List Pair) (n : Nodes Label) → copied ≡ name → value ≡ [] → old ≡ begun
     → SpellsField attribute_field begun ps middle → SpellsField (child_field levels) middle n (end_object ∷ new)
-    → Spells (node_form (levels + 1) top) (element_tokens name old) (record { row = record { kind = Element; name = copied; value = value; attributes = ps }; children = n }) new
+    → ReadsAs (node_form (levels + 1) top) (element_tokens name old) (record { row = record { kind = Element; name = copied; value = value; attributes = ps }; children = n }) new
 element_made levels top name copied value old begun middle new ps n e f g a c =
-    subst (λ x. Spells (node_form (levels + 1) top) (element_tokens name old) (record { row = record { kind = Element; name = x; value = value; attributes = ps }; children = n }) new) (sym e)
-    (subst (λ x. Spells (node_form (levels + 1) top) (element_tokens name old) (record { row = record { kind = Element; name = name; value = x; attributes = ps }; children = n }) new) (sym f)
+    subst (λ x. ReadsAs (node_form (levels + 1) top) (element_tokens name old) (record { row = record { kind = Element; name = x; value = value; attributes = ps }; children = n }) new) (sym e)
+    (subst (λ x. ReadsAs (node_form (levels + 1) top) (element_tokens name old) (record { row = record { kind = Element; name = name; value = x; attributes = ps }; children = n }) new) (sym f)
     (element_spelt levels top name old middle new ps n (subst (λ ts. SpellsField attribute_field ts ps middle) (sym g) a) c))
 
 -- a field that is there
@@ -136,7 +136,7 @@ opened : (name text : List ℕ) {old r1 r2 r3 : List Token} → old ≡ begin_ob
 opened name text e0 e1 e2 = e0 ∙ ap (λ ts. begin_object ∷ ts) (e1 ∙ ap (λ ts. key name ∷ ts) e2)
 
 pub leaf_spelt : (levels : ℕ) (top : Bool) (name text : List ℕ) (b : Branch Label) {old r1 r2 r3 new : List Token} → 0 < levels → old ≡ begin_object ∷ r1 → r1 ≡ key name ∷ r2 → r2 ≡ string text ∷ r3
-    → r3 ≡ end_object ∷ new → form_of top (text_data name text) ≡ Some b → Spells (node_form levels top) old b new
+    → r3 ≡ end_object ∷ new → node_spelled top (text_data name text) ≡ Some b → ReadsAs (node_form levels top) old b new
 leaf_spelt levels top name text b some e0 e1 e2 e3 is = record {
   json = json.object (json.member name (json.string text) json.no_members);
   value = text_data name text;
@@ -152,10 +152,10 @@ element_key : (name : List ℕ) (k : Kind) → text_field k ≡ Some name → k 
 element_key name k e f = let same : Some (codes "e") ≡ Some name = sym (ap text_field f) ∙ e in cc
 
 pub element_node : (levels below : ℕ) (top : Bool) (name text : List ℕ) (k : Kind) (b : Branch Label) {old r1 r2 r3 new : List Token} → below + 1 ≡ levels → old ≡ begin_object ∷ r1 → r1 ≡ key name ∷ r2
-    → r2 ≡ string text ∷ r3 → text_field k ≡ Some name → k ≡ Element → Spells (node_form (below + 1) top) (element_tokens text r3) b new → Spells (node_form levels top) old b new
+    → r2 ≡ string text ∷ r3 → text_field k ≡ Some name → k ≡ Element → ReadsAs (node_form (below + 1) top) (element_tokens text r3) b new → ReadsAs (node_form levels top) old b new
 element_node levels below top name text k b {r3 = r3} {new = new} less e0 e1 e2 e f s =
     let begun = opened name text e0 e1 e2 ∙ ap (λ n. begin_object ∷ (key n ∷ (string text ∷ r3))) (element_key name k e f) in
-    subst (λ ts. Spells (node_form levels top) ts b new) (sym begun) (subst (λ l. Spells (node_form l top) (element_tokens text r3) b new) less s)
+    subst (λ ts. ReadsAs (node_form levels top) ts b new) (sym begun) (subst (λ l. ReadsAs (node_form l top) (element_tokens text r3) b new) less s)
 
 -- ---- a sheet
 
@@ -164,7 +164,7 @@ abbrev pub sheet_of : Origin → List ℕ → SheetForm
 sheet_of origin text = record { origin = origin; text = text }
 
 pub sheet_spelt : (word text : List ℕ) (origin : Origin) {old r1 r2 r3 r4 r5 new : List Token} → old ≡ begin_object ∷ r1 → r1 ≡ key (codes "origin") ∷ r2 → r2 ≡ string word ∷ r3 → r3 ≡ key (codes "text") ∷ r4
-    → r4 ≡ string text ∷ r5 → r5 ≡ end_object ∷ new → named origin_word all_origins word ≡ Some origin → Spells sheet_value old (sheet_of origin text) new
+    → r4 ≡ string text ∷ r5 → r5 ≡ end_object ∷ new → named origin_word all_origins word ≡ Some origin → ReadsAs sheet_value old (sheet_of origin text) new
 sheet_spelt word text origin e0 e1 e2 e3 e4 e5 is = record {
   json = json.object (json.member (codes "origin") (json.string word) (json.member (codes "text") (json.string text) json.no_members));
   value = datum.object (datum.member (codes "origin") (datum.string word) (datum.member (codes "text") (datum.string text) datum.no_members));
@@ -175,14 +175,14 @@ sheet_spelt word text origin e0 e1 e2 e3 e4 e5 is = record {
   shallow = omega arith;
   whole = refl;
   reads =
-      ap (λ o. option_and_then sheet_from (and_then (and_need (codes "text") text_kind ends).gets (option_map (beside (datum.member (codes "text") (datum.string text) datum.no_members)) o))) is;
+      ap (λ o. option_and_then sheet_from (and_then (and_need (codes "text") text_kind ends).gets (option_map (left_with (datum.member (codes "text") (datum.string text) datum.no_members)) o))) is;
 }
 
 -- ---- a page
 
 module _ (old start middle new : List Token) (n : Nodes Label) (sheets : List SheetForm) where
-  pub page_spelt : old ≡ begin_object ∷ (key (codes "document") ∷ (begin_array ∷ start)) → SpellsItems (nodes_form 60 true) start n middle → SpellsField sheet_field middle sheets (end_object ∷ new)
-      → Spells page_form old (record { nodes = n; sheets = sheets }) new
+  pub page_spelt : old ≡ begin_object ∷ (key (codes "document") ∷ (begin_array ∷ start)) → SpellsItems (nodes_form 60 true) start n middle → SpellsField sheets_field_form middle sheets (end_object ∷ new)
+      → ReadsAs page_form old (record { nodes = n; sheets = sheets }) new
   page_spelt e s (absent f g) = record {
     json = json.object (json.member (codes "document") (json.array s.json) json.no_members);
     value = datum.object (datum.member (codes "document") (datum.array s.items) datum.no_members);

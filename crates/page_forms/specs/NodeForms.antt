@@ -6,7 +6,7 @@ use Rattle.node_tree.specs.Nodes.{Nodes, none, Branch}
 use Rattle.node_tree.specs.Labels.{Pair, Label}
 use Rattle.node_tree.specs.declared.Kind.{Kind}
 use Rattle.node_tree.specs.declared.Kind.TheVariants.{Document, Element, Text, Comment, Doctype}
-use Rattle.page_tree.specs.Loads.{pairs_of, attributes_of, form_of, forms_of}
+use Rattle.page_tree.specs.Loads.{pairs_of, attributes_spelled, node_spelled, forms_of}
 use Rattle.page_forms.specs.Spelt.{ValueForm, ListForm, FieldForm}
 use Rattle.page_forms.specs.declared.node_scan.Next.{Next}
 use Rattle.page_forms.specs.declared.node_scan.Next.TheVariants.{Attributes, Children, End}
@@ -47,7 +47,7 @@ pairs_form = record { levels = 0; reads = pairs_of }
 
 -- the same in the order of names
 abbrev pub attributes_form : ListForm (List Pair)
-attributes_form = record { levels = 0; reads = λ ds. attributes_of (array ds) }
+attributes_form = record { levels = 0; reads = λ ds. attributes_spelled (array ds) }
 
 -- the attributes of an element
 abbrev pub attribute_field : FieldForm (List Pair)
@@ -57,7 +57,7 @@ attribute_field = record { name = codes "a"; list = attributes_form; absent = []
 
 -- a node with at most so many levels
 abbrev pub node_form : ℕ → Bool → ValueForm (Branch Label)
-node_form levels top = record { levels = 2 * levels; reads = form_of top }
+node_form levels top = record { levels = 2 * levels; reads = node_spelled top }
 
 -- nodes with at most so many levels each
 abbrev pub nodes_form : ℕ → Bool → ListForm (Nodes Label)

@@ -15,8 +15,8 @@ abbrev pub sheets_form : ListForm (List SheetForm)
 sheets_form = record { levels = 1; reads = read_items sheet_form.reads }
 
 -- the sheets of a page
-abbrev pub sheet_field : FieldForm (List SheetForm)
-sheet_field = record { name = codes "sheets"; list = sheets_form; absent = [] }
+abbrev pub sheets_field_form : FieldForm (List SheetForm)
+sheets_field_form = record { name = codes "sheets"; list = sheets_form; absent = [] }
 
 -- a page, which nests two levels more than its 60 levels of nodes
 abbrev pub page_form : ValueForm LoadedPage

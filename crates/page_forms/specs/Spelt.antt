@@ -25,7 +25,7 @@ pub record FieldForm (A : Type 0) : Type 0 where
   pub absent : A
 
 -- The tokens `old` up to `new` are those of JSON that is read as x. It has no number with a point or an exponent.
-pub record Spells {A : Type 0} (form : ValueForm A) (old : List Token) (x : A) (new : List Token) : Type 0 where
+pub record ReadsAs {A : Type 0} (form : ValueForm A) (old : List Token) (x : A) (new : List Token) : Type 0 where
   pub json : Json
   pub value : Data
   pub tokens : old ≡ json_tokens json ++ new

@@ -4,7 +4,7 @@ ghost use Rattle.serde_json.specs.View.{view};
 ghost use Rattle.cdp_json.specs.Gives.{Gives};
 ghost use Rattle.cdp_json.specs.Kinds.{only_text};
 ghost use Rattle.cdp_json.specs.Left.{left};
-ghost use Rattle.cdp_json.specs.Rows.{beside, need};
+ghost use Rattle.cdp_json.specs.Rows.{left_with, need};
 ghost use Rattle.page_tree.specs.Loads.{node_in};
 ghost use Rattle.page_forms.specs.Acts.{set_attr_in, drop_attr_in, set_text_in, insert_in, remove_in, move_in, act_in, IsInsertable};
 ghost use Rattle.page_forms.specs.declared.acts.ActErr.TheVariants.{BadForm};
@@ -93,7 +93,7 @@ impl From<AllocError> for ActErr {
 
 // Whether the next member is `do`, with this word.
 pub(crate) fn does(fields: &mut Cursor<'_>, word: &str) -> bool
-    ensures { option_map (beside (left fields.new)) (if result then Some tt else None)
+    ensures { option_map (left_with (left fields.new)) (if result then Some tt else None)
         ≡ need (only_text word.now).reads (codes "do") (left fields.old) }
 {
     match fields.need_text("do") {

@@ -3,8 +3,8 @@ ghost use Rattle.std.specs.Prelude.{◌≡◌, ◌+◌, ℕ, Bool, List, [], ◌
 ghost use Rattle.json.specs.Token.{key, end_object};
 ghost use Rattle.node_tree.specs.Nodes.{nodes_of};
 ghost use Rattle.node_tree.specs.declared.Kind.TheVariants.{Doctype};
-ghost use Rattle.page_tree.specs.Loads.{labelled, form_of};
-ghost use Rattle.page_forms.specs.Spelt.{Spells, SpellsItems, SpellsField};
+ghost use Rattle.page_tree.specs.Loads.{labelled, node_spelled};
+ghost use Rattle.page_forms.specs.Spelt.{ReadsAs, SpellsItems, SpellsField};
 ghost use Rattle.page_forms.specs.NodeForms.{leaf, text_field, text_data, element_tokens, next_token, pairs_form, attributes_form, attribute_field, node_form, nodes_form, child_field};
 
 use crate::tokens::{
@@ -127,7 +127,7 @@ fn doctype_form(alloc: Global, name: &str) -> Result<NodeForm, AllocError>
 // The node that has nothing but this text. A doctype stands at the top alone.
 fn leaf_of(alloc: Global, kind: Kind, text: &str, top: bool) -> Result<NodeForm, ScanErr>
     ensures { IfOk result (λ form. (name : List ℕ) → text_field kind ≡ Some name
-        → form_of top (text_data name text.now) ≡ Some form) }
+        → node_spelled top (text_data name text.now) ≡ Some form) }
 {
     match kind {
         Kind::Text | Kind::Comment => {
@@ -153,7 +153,7 @@ fn scan_node(
     levels: u64,
     top: bool,
 ) -> Result<NodeForm, ScanErr>
-    ensures { IfOk result (λ form. Spells (node_form levels top) reader.old form reader.new) }
+    ensures { IfOk result (λ form. ReadsAs (node_form levels top) reader.old form reader.new) }
 {
     if levels == 0 {
         return Err(ScanErr::OtherForm);
@@ -182,7 +182,7 @@ fn scan_element(
     name: &str,
 ) -> Result<NodeForm, ScanErr>
     ensures { IfOk result (λ form. (top : Bool)
-        → Spells (node_form (levels + 1) top) (element_tokens name.now reader.old) form reader.new) }
+        → ReadsAs (node_form (levels + 1) top) (element_tokens name.now reader.old) form reader.new) }
 {
     let first = take_next(reader)?;
     let (attributes, next) = attributes_at(alloc, reader, first)?;

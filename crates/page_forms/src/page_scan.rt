@@ -1,8 +1,8 @@
 // A page out of the tokens that usually spell it.
 ghost use Rattle.std.specs.Prelude.{◌≡◌, ◌∷◌, true, Some, None, IfOk};
 ghost use Rattle.json.specs.Token.{key, end_object};
-ghost use Rattle.page_forms.specs.Spelt.{Spells, SpellsItems, SpellsField};
-ghost use Rattle.page_forms.specs.PageForms.{sheet_value, sheets_form, sheet_field, page_form};
+ghost use Rattle.page_forms.specs.Spelt.{ReadsAs, SpellsItems, SpellsField};
+ghost use Rattle.page_forms.specs.PageForms.{sheet_value, sheets_form, sheets_field_form, page_form};
 ghost use Rattle.page_forms.specs.Pages.{first_page_fault, loaded_page};
 
 use crate::node_scan::scan_nodes;
@@ -20,7 +20,7 @@ use std::alloc::Global;
 const LEVELS: u64 = 60;
 
 fn scan_sheet(alloc: Global, reader: &mut Reader<'_>) -> Result<SheetForm, ScanErr>
-    ensures { IfOk result (λ sheet. Spells sheet_value reader.old sheet reader.new) }
+    ensures { IfOk result (λ sheet. ReadsAs sheet_value reader.old sheet reader.new) }
 {
     take_begin_object(reader)?;
     take_key(reader, "origin")?;
@@ -55,7 +55,7 @@ fn sheets_under(
     reader: &mut Reader<'_>,
     name: &str,
 ) -> Result<Vec<SheetForm>, ScanErr>
-    ensures { IfOk result (λ sheets. SpellsField sheet_field
+    ensures { IfOk result (λ sheets. SpellsField sheets_field_form
         (key name.now ∷ reader.old) sheets.items (end_object ∷ reader.new)) }
 {
     if name != "sheets" {
@@ -69,7 +69,7 @@ fn sheets_under(
 
 // The sheets, if there are any, and the end of the page's object.
 fn sheets_ahead(alloc: Global, reader: &mut Reader<'_>) -> Result<Vec<SheetForm>, ScanErr>
-    ensures { IfOk result (λ sheets. SpellsField sheet_field
+    ensures { IfOk result (λ sheets. SpellsField sheets_field_form
         reader.old sheets.items (end_object ∷ reader.new)) }
 {
     match reader.next() {
@@ -94,7 +94,7 @@ fn can_load(page: &PageForm) -> bool
 /// element, `document` and `sheets` of a page, `origin` and `text` of a sheet stand in this order, and no more than 60 levels of nodes
 /// are there. Any other tokens, which may spell a page all the same, are answered by an error.
 pub fn scan_page(alloc: Global, reader: &mut Reader<'_>) -> Result<PageForm, ScanErr>
-    ensures spelt { IfOk result (λ page. Spells page_form reader.old (loaded_page page) reader.new) }
+    ensures spelt { IfOk result (λ page. ReadsAs page_form reader.old (loaded_page page) reader.new) }
     ensures sound { IfOk result (λ page. first_page_fault (Some (loaded_page page)) ≡ None) }
 {
     take_begin_object(reader)?;

@@ -4,7 +4,7 @@ ghost use Rattle.std.specs.List.{list_all};
 ghost use Rattle.serde_json.specs.View.{view, items_view};
 ghost use Rattle.cdp_json.specs.Kinds.{named, read_items};
 ghost use Rattle.cdp_json.specs.Left.{left};
-ghost use Rattle.cdp_json.specs.Rows.{beside, need};
+ghost use Rattle.cdp_json.specs.Rows.{left_with, need};
 ghost use Rattle.page_forms.specs.Sheets.{origin_word, all_origins, origin_form, sheet_form, sheet_list, is_short, can_hold_sheets};
 
 use cdp_json::{Cursor, text_of};
@@ -45,7 +45,7 @@ fn origin_of(value: &Value) -> Option<Origin>
 
 // The field `origin`.
 pub(crate) fn origin_field(fields: &mut Cursor<'_>) -> Option<Origin>
-    ensures { option_map (beside (left fields.new)) result
+    ensures { option_map (left_with (left fields.new)) result
         ≡ need origin_form.reads (codes "origin") (left fields.old) }
 {
     let value = fields.need("origin")?;

@@ -5,7 +5,7 @@ use Rattle.std.proofs.lemmas.Bool.{eq-eqb, eqb-true, ne_eqb}
 use Rattle.node_tree.specs.Nodes.{Nodes, none, node, Branch, alone}
 use Rattle.node_tree.specs.Keys.{first_of, tally, has, find, parent_of}
 use Rattle.node_tree.proofs.KeyLemmas.{tally_cases, tally_below, other_row, has-find, has-absent, has-there, find-absent}
-use Rattle.page_tree.specs.Pages.{Row, State, row_serial, find_in, node_at, parent_at, IsValid}
+use Rattle.page_tree.specs.Pages.{PageRow, PageValue, row_serial, find_in, node_at, parent_at, IsValid}
 use Rattle.page_tree.specs.Ancestors.{ancestors_of, ancestors_at}
 
 -- the nearest of them
@@ -14,7 +14,7 @@ first_or_0 [] = 0
 first_or_0 (x ∷ xs) = x
 
 module _ (x : ℕ) where
-  ancestors_of-absent : (above : List ℕ) (n : Nodes Row) → tally row_serial x n ≡ 0 → ancestors_of x above n ≡ None
+  ancestors_of-absent : (above : List ℕ) (n : Nodes PageRow) → tally row_serial x n ≡ 0 → ancestors_of x above n ≡ None
   ancestors_of-absent above none h = refl
   ancestors_of-absent above (node r c t) h =
       elim (tally_cases row_serial x r c t) [
@@ -22,7 +22,7 @@ module _ (x : ℕ) where
         | inr p ↦ rw (ne_eqb r.serial x p.0, ancestors_of-absent (r.serial ∷ above) c (omega arith), ancestors_of-absent above t (omega arith)) refl
       ]
 
-  found_there : (above : List ℕ) (n : Nodes Row) (l : List ℕ) → ancestors_of x above n ≡ Some l → 0 < tally row_serial x n
+  found_there : (above : List ℕ) (n : Nodes PageRow) (l : List ℕ) → ancestors_of x above n ≡ Some l → 0 < tally row_serial x n
   found_there above n l found =
       elim (tally row_serial x n) as (λ m. tally row_serial x n ≡ m → 0 < tally row_serial x n) [
         | zero ↦ λ e. let gone = ancestors_of-absent above n e in absurd (cc)
@@ -35,7 +35,7 @@ module _ (x : ℕ) where
   some_either false a None g = refl
 
   -- the nodes that are there have them
-  has-ancestors_of : (above : List ℕ) (n : Nodes Row) → has row_serial x n ≡ is_some (ancestors_of x above n)
+  has-ancestors_of : (above : List ℕ) (n : Nodes PageRow) → has row_serial x n ≡ is_some (ancestors_of x above n)
   has-ancestors_of above none = refl
   has-ancestors_of above (node r c t) =
       rw (has-ancestors_of (r.serial ∷ above) c, has-ancestors_of above t) (some_either (r.serial == x) above (ancestors_of x (r.serial ∷ above) c) (ancestors_of x above t))
@@ -47,29 +47,29 @@ module _ (x : ℕ) where
   nearest_either false a None g = refl
 
   -- the first of them is the parent
-  parent_of-ancestors_of : (above : List ℕ) (n : Nodes Row) → parent_of row_serial x (first_or_0 above) n ≡ option_map first_or_0 (ancestors_of x above n)
+  parent_of-ancestors_of : (above : List ℕ) (n : Nodes PageRow) → parent_of row_serial x (first_or_0 above) n ≡ option_map first_or_0 (ancestors_of x above n)
   parent_of-ancestors_of above none = refl
   parent_of-ancestors_of above (node r c t) =
       rw (parent_of-ancestors_of (r.serial ∷ above) c, parent_of-ancestors_of above t) (nearest_either (r.serial == x) above (ancestors_of x (r.serial ∷ above) c) (ancestors_of x above t))
 
 -- the others are those of the first
-record Chain (above : List ℕ) (n : Nodes Row) (l : List ℕ) : Type 0 where
+record Chain (above : List ℕ) (n : Nodes PageRow) (l : List ℕ) : Type 0 where
   first : ℕ
   rest : List ℕ
   is : l ≡ first ∷ rest
   up : ancestors_of first above n ≡ Some rest
 
-below_once : (r : Row) (c t : Nodes Row) → ((k : ℕ) → tally row_serial k (node r c t) ≤ 1) → ((k : ℕ) → tally row_serial k c ≤ 1) × ((k : ℕ) → tally row_serial k t ≤ 1)
+below_once : (r : PageRow) (c t : Nodes PageRow) → ((k : ℕ) → tally row_serial k (node r c t) ≤ 1) → ((k : ℕ) → tally row_serial k c ≤ 1) × ((k : ℕ) → tally row_serial k t ≤ 1)
 below_once r c t once = (λ k. omega (arith, once k, tally_below row_serial k r c t), λ k. omega (arith, once k, tally_below row_serial k r c t))
 
-chain_in : (r : Row) (c t : Nodes Row) (above l : List ℕ) → ((k : ℕ) → tally row_serial k (node r c t) ≤ 1) → (l ≡ r.serial ∷ above) ⊎ Chain (r.serial ∷ above) c l → Chain above (node r c t) l
+chain_in : (r : PageRow) (c t : Nodes PageRow) (above l : List ℕ) → ((k : ℕ) → tally row_serial k (node r c t) ≤ 1) → (l ≡ r.serial ∷ above) ⊎ Chain (r.serial ∷ above) c l → Chain above (node r c t) l
 chain_in r c t above l once (inl e) = record { first = r.serial; rest = above; is = e; up = rw (eq-eqb r.serial r.serial refl) refl }
 chain_in r c t above l once (inr u) =
     let there = found_there u.first (r.serial ∷ above) c u.rest u.up in
     let other = other_row row_serial u.first r c t (omega arith) (once u.first) in
     record { first = u.first; rest = u.rest; is = u.is; up = rw (ne_eqb r.serial u.first other, u.up) refl }
 
-chain_past : (r : Row) (c t : Nodes Row) (above l : List ℕ) → ((k : ℕ) → tally row_serial k (node r c t) ≤ 1) → (l ≡ above) ⊎ Chain above t l → (l ≡ above) ⊎ Chain above (node r c t) l
+chain_past : (r : PageRow) (c t : Nodes PageRow) (above l : List ℕ) → ((k : ℕ) → tally row_serial k (node r c t) ≤ 1) → (l ≡ above) ⊎ Chain above t l → (l ≡ above) ⊎ Chain above (node r c t) l
 chain_past r c t above l once (inl e) = inl e
 chain_past r c t above l once (inr u) =
     let there = found_there u.first above t u.rest u.up in
@@ -82,7 +82,7 @@ chain_step true above l f g P e here below past = here (cc)
 chain_step false above l (Some o) g P e here below past = below e
 chain_step false above l None g P e here below past = past e
 
-chain : (x : ℕ) (above : List ℕ) (n : Nodes Row) (l : List ℕ) → ((k : ℕ) → tally row_serial k n ≤ 1) → ancestors_of x above n ≡ Some l → (l ≡ above) ⊎ Chain above n l
+chain : (x : ℕ) (above : List ℕ) (n : Nodes PageRow) (l : List ℕ) → ((k : ℕ) → tally row_serial k n ≤ 1) → ancestors_of x above n ≡ Some l → (l ≡ above) ⊎ Chain above n l
 chain x above none l once found = absurd (cc)
 chain x above (node r c t) l once found =
     chain_step (r.serial == x) above l (ancestors_of x (r.serial ∷ above) c) (ancestors_of x above t) _ found
@@ -91,12 +91,12 @@ chain x above (node r c t) l once found =
     (λ e. chain_past r c t above l once (chain x above t l (below_once r c t once).1 e))
 
 -- What a step up from a node comes to: the document has no ancestors; those of another node are its parent and the parent's.
-pub record StepUp (serial : ℕ) (tree : Branch Row) : Type 0 where
+pub record StepUp (serial : ℕ) (tree : Branch PageRow) : Type 0 where
   pub top : parent_at serial tree ≡ 0 → ancestors_at serial tree ≡ []
   pub next : parent_at serial tree ≢ 0 → ancestors_at serial tree ≡ parent_at serial tree ∷ ancestors_at (parent_at serial tree) tree
   pub live : parent_at serial tree ≢ 0 → IsSome (find_in (parent_at serial tree) tree)
 
-module _ (page : State) (valid : IsValid page) where
+module _ (page : PageValue) (valid : IsValid page) where
   once : (k : ℕ) → tally row_serial k (alone page.tree) ≤ 1
   once k = omega (arith, valid.distinct k)
 
@@ -133,7 +133,7 @@ or-true : (a : Bool) → (a || true) ≡ true
 or-true true = refl
 or-true false = refl
 
-find_step : (b : Bool) (x : Branch Row) (f g : Option (Branch Row)) (y : Branch Row) (P : Type 0) → cond b (Some x) (first_of f g) ≡ Some y → (b ≡ true → x ≡ y → P) → (b ≡ false → f ≡ Some y → P) → (b ≡ false → f ≡ None → g ≡ Some y → P) → P
+find_step : (b : Bool) (x : Branch PageRow) (f g : Option (Branch PageRow)) (y : Branch PageRow) (P : Type 0) → cond b (Some x) (first_of f g) ≡ Some y → (b ≡ true → x ≡ y → P) → (b ≡ false → f ≡ Some y → P) → (b ≡ false → f ≡ None → g ≡ Some y → P) → P
 find_step true x f g y P e here below past = here refl (cc)
 find_step false x (Some z) g y P e here below past = below refl e
 find_step false x None g y P e here below past = past refl refl e
@@ -143,7 +143,7 @@ line_step true above l f g P e here below past = here refl (cc)
 line_step false above l (Some z) g P e here below past = below refl e
 line_step false above l None g P e here below past = past refl refl e
 
-found_at : (o : Option (Branch Row)) (d : Branch Row) → is_some o ≡ true → o ≡ Some (unwrap_or o d)
+found_at : (o : Option (Branch PageRow)) (d : Branch PageRow) → is_some o ≡ true → o ≡ Some (unwrap_or o d)
 found_at (Some b) d h = refl
 found_at None d h = absurd (cc)
 
@@ -152,31 +152,31 @@ some_at (Some l) h = refl
 some_at None h = absurd (cc)
 
 -- what is not found stands nowhere
-pub tally_absent : (x : ℕ) (n : Nodes Row) → is_some (find row_serial x n) ≡ false → tally row_serial x n ≡ 0
+pub tally_absent : (x : ℕ) (n : Nodes PageRow) → is_some (find row_serial x n) ≡ false → tally row_serial x n ≡ 0
 tally_absent x n gone =
     elim (tally row_serial x n) as (λ m. tally row_serial x n ≡ m → tally row_serial x n ≡ 0) [
       | zero ↦ λ e. e
       | suc m ↦ λ e. let there : has row_serial x n ≡ true = has-there row_serial x n (omega arith) in let found = has-find row_serial x n in absurd (cc)
     ] refl
 
-beside_once : (r : Row) (c t : Nodes Row) → ((k : ℕ) → tally row_serial k (node r c t) ≤ 1) → (k : ℕ) → tally row_serial k c + tally row_serial k t ≤ 1
+beside_once : (r : PageRow) (c t : Nodes PageRow) → ((k : ℕ) → tally row_serial k (node r c t) ≤ 1) → (k : ℕ) → tally row_serial k c + tally row_serial k t ≤ 1
 beside_once r c t once k = omega (arith, once k, tally_below row_serial k r c t)
 
 module _ (s : ℕ) where
-  find_there : (n : Nodes Row) (b : Branch Row) → find row_serial s n ≡ Some b → 0 < tally row_serial s n
+  find_there : (n : Nodes PageRow) (b : Branch PageRow) → find row_serial s n ≡ Some b → 0 < tally row_serial s n
   find_there n b found = positive (tally row_serial s n) (λ e. let gone = find-absent row_serial s n e in absurd (cc))
 
   -- what is below a found node is there
-  tally_found : (w : ℕ) (n : Nodes Row) (b : Branch Row) → find row_serial s n ≡ Some b → tally row_serial w (alone b) ≤ tally row_serial w n
+  tally_found : (w : ℕ) (n : Nodes PageRow) (b : Branch PageRow) → find row_serial s n ≡ Some b → tally row_serial w (alone b) ≤ tally row_serial w n
   tally_found w none b found = absurd (cc)
   tally_found w (node r c t) b found =
       find_step (r.serial == s) (record { row = r; children = c }) (find row_serial s c) (find row_serial s t) b _ found
-      (λ is same. subst (λ (o : Branch Row). tally row_serial w (alone o) ≤ tally row_serial w (node r c t)) same (omega arith))
+      (λ is same. subst (λ (o : Branch PageRow). tally row_serial w (alone o) ≤ tally row_serial w (node r c t)) same (omega arith))
       (λ is e. omega (arith, tally_found w c b e, tally_below row_serial w r c t))
       (λ is gone e. omega (arith, tally_found w t b e, tally_below row_serial w r c t))
 
   -- nodes that are not there are on no way up but above
-  line_without : (w : ℕ) (above : List ℕ) (n : Nodes Row) (l : List ℕ) → ancestors_of w above n ≡ Some l → list_any (λ k. k == s) above ≡ false → tally row_serial s n ≡ 0 → list_any (λ k. k == s) l ≡ false
+  line_without : (w : ℕ) (above : List ℕ) (n : Nodes PageRow) (l : List ℕ) → ancestors_of w above n ≡ Some l → list_any (λ k. k == s) above ≡ false → tally row_serial s n ≡ 0 → list_any (λ k. k == s) l ≡ false
   line_without w above none l found out gone = absurd (cc)
   line_without w above (node r c t) l found out gone =
       elim (tally_cases row_serial s r c t) [
@@ -188,7 +188,7 @@ module _ (s : ℕ) where
       ]
 
   -- what stands above is on each way up
-  line_keeps : (w : ℕ) (above : List ℕ) (n : Nodes Row) (l : List ℕ) → ancestors_of w above n ≡ Some l → list_any (λ k. k == s) above ≡ true → list_any (λ k. k == s) l ≡ true
+  line_keeps : (w : ℕ) (above : List ℕ) (n : Nodes PageRow) (l : List ℕ) → ancestors_of w above n ≡ Some l → list_any (λ k. k == s) above ≡ true → list_any (λ k. k == s) l ≡ true
   line_keeps w above none l found there = absurd (cc)
   line_keeps w above (node r c t) l found there =
       line_step (r.serial == w) above l (ancestors_of w (r.serial ∷ above) c) (ancestors_of w above t) _ found
@@ -197,14 +197,14 @@ module _ (s : ℕ) where
       (λ is none_below e. line_keeps w above t l e there)
 
   -- a node apart from the root's
-  line_apart : (w : ℕ) (l : List ℕ) (b : Branch Row) → w ≢ s → list_any (λ k. k == s) l ≡ false → tally row_serial w (alone b) ≡ 0 → list_any (λ k. k == s) (w ∷ l) ≡ has row_serial w (alone b)
+  line_apart : (w : ℕ) (l : List ℕ) (b : Branch PageRow) → w ≢ s → list_any (λ k. k == s) l ≡ false → tally row_serial w (alone b) ≡ 0 → list_any (λ k. k == s) (w ∷ l) ≡ has row_serial w (alone b)
   line_apart w l b other out gone = ap (λ x. x || list_any (λ k. k == s) l) (ne_eqb w s other) ∙ out ∙ sym (has-absent row_serial w (alone b) gone)
 
-  abbrev IsLine : ℕ → List ℕ → Branch Row → Type 0
+  abbrev IsLine : ℕ → List ℕ → Branch PageRow → Type 0
   IsLine w l b = list_any (λ k. k == s) (w ∷ l) ≡ has row_serial w (alone b)
 
   -- the root is first
-  line_root : (w : ℕ) (r : Row) (c t : Nodes Row) (above l : List ℕ) → r.serial ≡ s → tally row_serial s c + tally row_serial s t ≡ 0 → list_any (λ k. k == s) above ≡ false → ancestors_of w above (node r c t) ≡ Some l → IsLine w l (record { row = r; children = c })
+  line_root : (w : ℕ) (r : PageRow) (c t : Nodes PageRow) (above l : List ℕ) → r.serial ≡ s → tally row_serial s c + tally row_serial s t ≡ 0 → list_any (λ k. k == s) above ≡ false → ancestors_of w above (node r c t) ≡ Some l → IsLine w l (record { row = r; children = c })
   line_root w r c t above l same gone out found =
       line_step (r.serial == w) above l (ancestors_of w (r.serial ∷ above) c) (ancestors_of w above t) _ found
       (λ is up. ap (λ x. x || list_any (λ k. k == s) l) (eq-eqb w s (sym (eqb-true r.serial w is) ∙ same)) ∙ sym (ap (λ x. (x || has row_serial w c) || false) is))
@@ -220,7 +220,7 @@ module _ (s : ℕ) where
       ∙ sym (λ i. (is i || (has-ancestors_of w (r.serial ∷ above) c ∙ ap is_some none_below) i) || false))
 
   -- the node is first, and the root is another
-  line_here : (w : ℕ) (r : Row) (c t : Nodes Row) (above l : List ℕ) (b : Branch Row) → r.serial ≡ w → r.serial ≢ s → l ≡ above → list_any (λ k. k == s) above ≡ false
+  line_here : (w : ℕ) (r : PageRow) (c t : Nodes PageRow) (above l : List ℕ) (b : Branch PageRow) → r.serial ≡ w → r.serial ≢ s → l ≡ above → list_any (λ k. k == s) above ≡ false
       → tally row_serial w (node r c t) ≤ 1 → tally row_serial w (alone b) ≤ tally row_serial w c + tally row_serial w t → IsLine w l b
   line_here w r c t above l b here other same out once few =
       elim (tally_cases row_serial w r c t) [
@@ -229,7 +229,7 @@ module _ (s : ℕ) where
       ]
 
   -- they are among different trees
-  line_beside : (w : ℕ) (m n : Nodes Row) (above l : List ℕ) (b : Branch Row) → find row_serial s m ≡ Some b → ancestors_of w above n ≡ Some l → list_any (λ k. k == s) above ≡ false
+  line_beside : (w : ℕ) (m n : Nodes PageRow) (above l : List ℕ) (b : Branch PageRow) → find row_serial s m ≡ Some b → ancestors_of w above n ≡ Some l → list_any (λ k. k == s) above ≡ false
       → ((k : ℕ) → tally row_serial k m + tally row_serial k n ≤ 1) → IsLine w l b
   line_beside w m n above l b found up out once =
       let there = find_there m b found in
@@ -242,14 +242,14 @@ module _ (s : ℕ) where
       (line_without w above n l up out (omega arith))
       (omega arith)
 
-  line_of : (w : ℕ) (above : List ℕ) (n : Nodes Row) (b : Branch Row) (l : List ℕ) → ((k : ℕ) → tally row_serial k n ≤ 1) → list_any (λ k. k == s) above ≡ false → find row_serial s n ≡ Some b → ancestors_of w above n ≡ Some l → IsLine w l b
+  line_of : (w : ℕ) (above : List ℕ) (n : Nodes PageRow) (b : Branch PageRow) (l : List ℕ) → ((k : ℕ) → tally row_serial k n ≤ 1) → list_any (λ k. k == s) above ≡ false → find row_serial s n ≡ Some b → ancestors_of w above n ≡ Some l → IsLine w l b
   line_of w above none b l once out found up = absurd (cc)
   line_of w above (node r c t) b l once out found up =
       elim (tally_cases row_serial s r c t) [
         | inl p ↦ (let at_s = once s in
             let first = eq-eqb r.serial s p.0 in
             find_step (r.serial == s) (record { row = r; children = c }) (find row_serial s c) (find row_serial s t) b (IsLine w l b) found
-            (λ is same. subst (λ (o : Branch Row). IsLine w l o) same (line_root w r c t above l p.0 (omega arith) out up))
+            (λ is same. subst (λ (o : Branch PageRow). IsLine w l o) same (line_root w r c t above l p.0 (omega arith) out up))
             (λ is e. absurd (cc))
             (λ is gone e. absurd (cc)))
         | inr p ↦ (let split = below_once r c t once in
@@ -266,7 +266,7 @@ module _ (s : ℕ) where
             (λ here none_below g. line_of w above t b l split.1 out e g)))
       ]
 
-module _ (page : State) (valid : IsValid page) (root : ℕ) (root_live : IsSome (find_in root page.tree)) where
+module _ (page : PageValue) (valid : IsValid page) (root : ℕ) (root_live : IsSome (find_in root page.tree)) where
   root_found : find row_serial root (alone page.tree) ≡ Some (node_at root page.tree)
   root_found = found_at (find_in root page.tree) page.tree root_live
 

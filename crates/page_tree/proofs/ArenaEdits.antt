@@ -10,7 +10,7 @@ use Rattle.node_tree.proofs.KeyLemmas.{tally_row, tally_below, height_above-at}
 use Rattle.node_tree.proofs.ChangeLemmas.{at-old, child_of}
 use Rattle.node_tree.proofs.NodeLemmas.{height-map_rows}
 use Rattle.node_tree.proofs.ArenaLemmas.{keeps-same, kept_trees-keeps}
-use Rattle.page_tree.specs.Pages.{Row, row_serial, row_label, State, IsValid, find_in, node_at, parent_at}
+use Rattle.page_tree.specs.Pages.{PageRow, row_serial, row_label, PageValue, IsValid, find_in, node_at, parent_at}
 use Rattle.page_tree.specs.Loads.{placed}
 use Rattle.page_tree.specs.Edits.{with_attribute, without_attribute, pairs_without, with_value, relabelled, with_child, without_child, changed_at, greatest_serial, after, children_at, label_at, sibling_after}
 use Rattle.page_tree.specs.EditFaults.{is_live, CanAttach, CanApply, edit_faults}
@@ -39,11 +39,11 @@ same_page a b root next page same files =
     (tree_is b root next (tree_of a root) arena page.valid, rebuilt b root next (tree_of a root) arena page.valid)
 
 -- the page after an edit
-pub record IsAfter (b : Arena) (root next : ℕ) (e : TreeEdit) (p : State) : Type 0 where
-  pub shown : ◌≡◌ {A = State} (record { tree = tree_of b root; next = next }) (after e p)
+pub record IsAfter (b : Arena) (root next : ℕ) (e : TreeEdit) (p : PageValue) : Type 0 where
+  pub shown : ◌≡◌ {A = PageValue} (record { tree = tree_of b root; next = next }) (after e p)
   pub page : IsPage b root next
 
-greatest-below : (n : Nodes Row) (next : ℕ) → 0 < next → ((x : ℕ) → 0 < tally row_serial x n → x < next) → greatest_serial n < next
+greatest-below : (n : Nodes PageRow) (next : ℕ) → 0 < next → ((x : ℕ) → 0 < tally row_serial x n → x < next) → greatest_serial n < next
 greatest-below none next some low = some
 greatest-below (node r c t) next some low =
     let h = low r.serial (tally_row row_serial r.serial r c t refl) in
@@ -51,15 +51,15 @@ greatest-below (node r c t) next some low =
     let v = greatest-below t next some (λ x p. low x (let w = tally_below row_serial x r c t in omega arith)) in
     omega arith
 
-next_stays : (next : ℕ) (w tree : Branch Row) → CanAttach next w tree → max next (suc (greatest_serial (alone w))) ≡ next
+next_stays : (next : ℕ) (w tree : Branch PageRow) → CanAttach next w tree → max next (suc (greatest_serial (alone w))) ≡ next
 next_stays next w tree can =
     let root_low = can.below_next w.row.serial (let h = tally_row row_serial w.row.serial w.row w.children none refl in omega arith) in
     let low = greatest-below (alone w) next (omega arith) (λ x p. can.below_next x (omega arith)) in
     omega arith
 
-module _ (a b : Arena) (root next : ℕ) (page : IsPage a root next) (p : State) (view : ◌≡◌ {A = State} (record { tree = tree_of a root; next = next }) p) where
+module _ (a b : Arena) (root next : ℕ) (page : IsPage a root next) (p : PageValue) (view : ◌≡◌ {A = PageValue} (record { tree = tree_of a root; next = next }) p) where
   can_here : (e : TreeEdit) → CanApply p.next e p.tree → CanApply next e (tree_of a root)
-  can_here e can = subst (λ (q : State). CanApply q.next e q.tree) (sym view) can
+  can_here e can = subst (λ (q : PageValue). CanApply q.next e q.tree) (sym view) can
 
   valid_here : (e : TreeEdit) → CanApply p.next e p.tree → IsValid (after e (record { tree = tree_of a root; next = next }))
   valid_here e can = valid-after (record { tree = tree_of a root; next = next }) e page.valid (can_here e can)
@@ -71,7 +71,7 @@ module _ (a b : Arena) (root next : ℕ) (page : IsPage a root next) (p : State)
         | Some slot ↦ λ e. (slot, refl)
         | None ↦ λ e.
             let f = subst (λ (o : Option Slot). Looks o (find_in x (tree_of a root))) e (looks a root next page x) in
-            let clash : false ≡ true = sym (ap (λ (o : Option (Branch Row)). is_some o) f) ∙ live in absurd (cc)
+            let clash : false ≡ true = sym (ap (λ (o : Option (Branch PageRow)). is_some o) f) ∙ live in absurd (cc)
       ]) refl
 
   -- ---- a text or a comment with another value
@@ -85,7 +85,7 @@ module _ (a b : Arena) (root next : ℕ) (page : IsPage a root next) (p : State)
       let turns = subst (λ (k : ℕ). Turned a b k (λ slot. record slot { value = value })) same turned in
       let done = page_relabelled a root next page serial slot at b (with_value value) (record slot { value = value }) files (turns slot s.at) refl refl refl (valid_here (SetText serial value) can) in
       record {
-        shown = ap (λ (t : Branch Row). record { tree = t; next = next }) done.0 ∙ ap (λ (q : State). after (SetText serial value) q) view;
+        shown = ap (λ (t : Branch PageRow). record { tree = t; next = next }) done.0 ∙ ap (λ (q : PageValue). after (SetText serial value) q) view;
         page = done.1;
       }
 
@@ -101,12 +101,12 @@ module _ (a b : Arena) (root next : ℕ) (page : IsPage a root next) (p : State)
   label_here serial key e =
       let (slot, at, number_is) = page.arena.files.found serial key e in
       let s = seat a root next page serial slot (ap (λ (o : Option ℕ). option_and_then (slots_in a) o) e ∙ at) in
-      (slot, at, ap (λ (r : Row). r.label) s.row_is ∙ ap (λ (q : State). label_at serial q.tree) view)
+      (slot, at, ap (λ (r : PageRow). r.label) s.row_is ∙ ap (λ (q : PageValue). label_at serial q.tree) view)
 
   -- ---- an element with other attributes
 
   -- the label of a live node changed
-  label_set : (e : TreeEdit) (f : Label → Label) (g : Slot → Slot) (serial key : ℕ) → ((q : State) → after e q ≡ record { tree = changed_at serial (relabelled f) q.tree; next = q.next }) → CanApply p.next e p.tree
+  label_set : (e : TreeEdit) (f : Label → Label) (g : Slot → Slot) (serial key : ℕ) → ((q : PageValue) → after e q ≡ record { tree = changed_at serial (relabelled f) q.tree; next = q.next }) → CanApply p.next e p.tree
       → is_live serial (tree_of a root) ≡ true → keys_in a serial ≡ Some key → Turned a b key g → ((s : Slot) → slot_row (g s) ≡ record { serial = s.serial; label = f (slot_row s).label }) → ((s : Slot) → (g s).parent ≡ s.parent) → ((s : Slot) → (g s).children ≡ s.children)
       → Filed b → IsAfter b root next e p
   label_set e f g serial key means can live key_is turned rows parents children files =
@@ -114,11 +114,11 @@ module _ (a b : Arena) (root next : ℕ) (page : IsPage a root next) (p : State)
       let s = seat a root next page serial slot at in
       let same : key ≡ s.key = let both : Some key ≡ Some s.key = sym key_is ∙ s.key_is in cc in
       let turns = subst (λ (k : ℕ). Turned a b k g) same turned in
-      let here : State = record { tree = tree_of a root; next = next } in
+      let here : PageValue = record { tree = tree_of a root; next = next } in
       let valid = subst IsValid (means here) (valid_here e can) in
       let done = page_relabelled a root next page serial slot at b f (g slot) files (turns slot s.at) (rows slot) (parents slot) (children slot) valid in
       record {
-        shown = ap (λ (t : Branch Row). record { tree = t; next = next }) done.0 ∙ sym (means here) ∙ ap (λ (q : State). after e q) view;
+        shown = ap (λ (t : Branch PageRow). record { tree = t; next = next }) done.0 ∙ sym (means here) ∙ ap (λ (q : PageValue). after e q) view;
         page = done.1;
       }
 
@@ -157,7 +157,7 @@ module _ (a b : Arena) (root next : ℕ) (page : IsPage a root next) (p : State)
       let fits = (fits-live next (tree_of a root) (whole-valid (record { tree = tree_of a root; next = next }) page.valid) serial live).1 in
       let order = ascending-element (label_at serial (tree_of a root)) element fits.formed in
       let s = seat a root next page serial slot (ap (λ (o : Option ℕ). option_and_then (slots_in a) o) key_is ∙ at) in
-      ap (λ (r : Row). is_ascending r.label.attributes) s.row_is ∙ order
+      ap (λ (r : PageRow). is_ascending r.label.attributes) s.row_is ∙ order
 
   pub attr_ascends : (serial key : ℕ) (name value : List ℕ) → CanApply p.next (SetAttr serial name value) p.tree → keys_in a serial ≡ Some key → (slot : Slot) → slots_in a key ≡ Some slot → is_ascending slot.attributes ≡ true
   attr_ascends serial key name value can key_is slot at =
@@ -171,7 +171,7 @@ module _ (a b : Arena) (root next : ℕ) (page : IsPage a root next) (p : State)
 
   -- ---- a tree more
 
-  pub tree_attached : (parent before key : ℕ) (w : Branch Row) → CanApply p.next (Attach parent before w) p.tree → keys_in a parent ≡ Some key → Grafted a b key before w → Filed b → Fresh a (alone w) → IsAfter b root next (Attach parent before w) p
+  pub tree_attached : (parent before key : ℕ) (w : Branch PageRow) → CanApply p.next (Attach parent before w) p.tree → keys_in a parent ≡ Some key → Grafted a b key before w → Filed b → Fresh a (alone w) → IsAfter b root next (Attach parent before w) p
   tree_attached parent before key w can key_is grafted files fresh =
       let can = can_here (Attach parent before w) can in
       let tests = clear (edit_faults (Attach parent before w) (tree_of a root)) can.fits in
@@ -184,14 +184,14 @@ module _ (a b : Arena) (root next : ℕ) (page : IsPage a root next) (p : State)
       let done = page_grafted a root next page parent slot at b next before w files fresh (subst (λ (k : ℕ). Grafted a b k before w) same grafted) valid in
       record {
         shown =
-            ap (λ (t : Branch Row). record { tree = t; next = next }) done.0
+            ap (λ (t : Branch PageRow). record { tree = t; next = next }) done.0
             ∙ ap (λ (n : ℕ). record { tree = changed_at parent (with_child before w) (tree_of a root); next = n }) (sym stays)
-            ∙ ap (λ (q : State). after (Attach parent before w) q) view;
+            ∙ ap (λ (q : PageValue). after (Attach parent before w) q) view;
         page = done.1;
       }
 
   -- what is attached is fresh
-  pub attach_fresh : (parent before : ℕ) (w : Branch Row) → CanApply p.next (Attach parent before w) p.tree → Fresh a (alone w)
+  pub attach_fresh : (parent before : ℕ) (w : Branch PageRow) → CanApply p.next (Attach parent before w) p.tree → Fresh a (alone w)
   attach_fresh parent before w can =
       let ready = (can_here (Attach parent before w) can).ready in
       record {
@@ -202,14 +202,14 @@ module _ (a b : Arena) (root next : ℕ) (page : IsPage a root next) (p : State)
         ];
       }
 
-  pub attach_key : (parent before : ℕ) (w : Branch Row) → CanApply p.next (Attach parent before w) p.tree → keys_in a parent ≡ None → ⊥
+  pub attach_key : (parent before : ℕ) (w : Branch PageRow) → CanApply p.next (Attach parent before w) p.tree → keys_in a parent ≡ None → ⊥
   attach_key parent before w can e =
       let tests = clear (edit_faults (Attach parent before w) (tree_of a root)) (can_here (Attach parent before w) can).fits in
       let (slot, at) = slot_here parent (left (is_live parent (tree_of a root)) _ (not-false _ tests.0)) in
       let s = seat a root next page parent slot at in
       let clash : None ≡ Some s.key = sym e ∙ s.key_is in absurd (cc)
 
-  pub attach_slot : (parent before key : ℕ) (w : Branch Row) → CanApply p.next (Attach parent before w) p.tree → keys_in a parent ≡ Some key → IsSome (slots_in a key)
+  pub attach_slot : (parent before key : ℕ) (w : Branch PageRow) → CanApply p.next (Attach parent before w) p.tree → keys_in a parent ≡ Some key → IsSome (slots_in a key)
   attach_slot parent before key w can e =
       let (slot, at, number_is) = page.arena.files.found parent key e in
       subst (λ (o : Option Slot). IsSome o) (sym at) refl
@@ -266,7 +266,7 @@ module _ (a b : Arena) (root next : ℕ) (page : IsPage a root next) (p : State)
       subst (λ (o : Option Slot). IsSome o) (sym (ap (λ (k : ℕ). slots_in a k) same_key ∙ q.under.over_at)) refl
 
   -- the tree that is copied out is the node's
-  pub detach_tree : (serial : ℕ) (slot : Slot) (w : Branch Row) → slot_of a serial ≡ Some slot → w ≡ record { row = slot_row slot; children = stored_trees a 61 slot.children } → w ≡ node_at serial (tree_of a root)
+  pub detach_tree : (serial : ℕ) (slot : Slot) (w : Branch PageRow) → slot_of a serial ≡ Some slot → w ≡ record { row = slot_row slot; children = stored_trees a 61 slot.children } → w ≡ node_at serial (tree_of a root)
   detach_tree serial slot w e is =
       let s = seat a root next page serial slot e in
       let h = page.valid.nodes.levels in
@@ -275,7 +275,7 @@ module _ (a b : Arena) (root next : ℕ) (page : IsPage a root next) (p : State)
       is ∙ branch_same (slot_row slot) (node_at serial (tree_of a root)).row (stored_trees a 61 slot.children) (node_at serial (tree_of a root)).children s.row_is
       (kept_trees-keeps page_slots (slots_in a) 61 (node_at serial (tree_of a root)).children (Some s.key) slot.children s.below (omega arith))
 
-  pub tree_detached : (serial key : ℕ) (slot : Slot) (w : Branch Row) → CanApply p.next (Detach serial) p.tree → slot_of a serial ≡ Some slot → slot.parent ≡ Some key → w ≡ node_at serial (tree_of a root) → Cut a b key serial w → Filed b
+  pub tree_detached : (serial key : ℕ) (slot : Slot) (w : Branch PageRow) → CanApply p.next (Detach serial) p.tree → slot_of a serial ≡ Some slot → slot.parent ≡ Some key → w ≡ node_at serial (tree_of a root) → Cut a b key serial w → Filed b
       → IsAfter b root next (Detach serial) p
   tree_detached serial key slot w can e up is cut files =
       let q = parting serial can in
@@ -285,15 +285,15 @@ module _ (a b : Arena) (root next : ℕ) (page : IsPage a root next) (p : State)
       let own = seat a root next page q.under.over.serial q.under.over q.under.over_is in
       let own_key : q.under.key ≡ own.key = let both : Some q.under.key ≡ Some own.key = sym (page.arena.files.filed q.under.key q.under.over q.under.over_at) ∙ own.key_is in cc in
       let cut = subst (λ (k : ℕ). Cut a b k serial w) (same_key ∙ own_key) cut in
-      let cut = subst (λ (t : Branch Row). Cut a b own.key serial t) is cut in
+      let cut = subst (λ (t : Branch PageRow). Cut a b own.key serial t) is cut in
       let inserted = inserted-taken serial (node_at serial (tree_of a root)) (children_at q.under.over.serial (tree_of a root)) (serial-live serial (tree_of a root) q.live) q.child in
       let valid = subst (λ (x : ℕ). IsValid (record { tree = changed_at x (without_child serial) (tree_of a root); next = next })) q.under.parent_is (valid_here (Detach serial) can) in
       let done = page_cut a root next page q.under.over.serial q.under.over q.under.over_is b serial (node_at serial (tree_of a root)) files cut inserted valid in
       record {
         shown =
-            ap (λ (t : Branch Row). record { tree = t; next = next }) done.0
+            ap (λ (t : Branch PageRow). record { tree = t; next = next }) done.0
             ∙ ap (λ (x : ℕ). record { tree = changed_at x (without_child serial) (tree_of a root); next = next }) (sym q.under.parent_is)
-            ∙ ap (λ (r : State). after (Detach serial) r) view;
+            ∙ ap (λ (r : PageValue). after (Detach serial) r) view;
         page = done.1;
       }
 
@@ -307,7 +307,7 @@ module _ (a b : Arena) (root next : ℕ) (page : IsPage a root next) (p : State)
       ap (λ (s : Slot). next_in a serial s.children) same_over
       ∙ next_keeps a serial (Some q.over_seat.key) (node_at q.under.over.serial (tree_of a root)).children q.under.over.children q.over_seat.below
       ∙ ap (λ (x : ℕ). sibling_after serial x (tree_of a root)) (sym q.under.parent_is)
-      ∙ ap (λ (r : State). sibling_after serial (parent_at serial r.tree) r.tree) view
+      ∙ ap (λ (r : PageValue). sibling_after serial (parent_at serial r.tree) r.tree) view
 
 -- ---- results
 

@@ -9,7 +9,7 @@ use Rattle.node_tree.specs.Keys.{tally}
 use Rattle.node_tree.specs.Arena.{Shrinks, IsFiled, slot_tree, slot_trees, kept_trees}
 use Rattle.node_tree.proofs.NodeLemmas.{nodes_of-append, beside_assoc, beside-none}
 use Rattle.node_tree.proofs.ArenaLemmas.{files-turn, files-same}
-use Rattle.page_tree.specs.Pages.{Row, row_serial}
+use Rattle.page_tree.specs.Pages.{PageRow, row_serial}
 use Rattle.page_tree.specs.Arenas.{page_slots, slot_row, slots_in, keys_in, Filed, Turned, SameSlots, listed, is_numbered, place_in, first_in, next_in}
 use Rattle.page_tree.specs.declared.arenas.Arena.{Arena}
 use Rattle.page_tree.specs.declared.slots.Slot.{Slot}
@@ -45,7 +45,7 @@ listed-append x (y ∷ xs) ys = let e = listed-append x xs ys in omega arith
 
 -- ---- lists of serials
 
-module _ (x : ℕ) (bs : List (Branch Row)) (i : ℕ) (b : Branch Row) (done mid new first : List ℕ) (within : i < length bs) (is : b ≡ get_or bs i b) where
+module _ (x : ℕ) (bs : List (Branch PageRow)) (i : ℕ) (b : Branch PageRow) (done mid new first : List ℕ) (within : i < length bs) (is : b ≡ get_or bs i b) where
   here : drop i bs ≡ b ∷ drop (i + 1) bs
   here = drop_more bs i b within ∙ ap (λ y. y ∷ drop (i + 1) bs) (sym is)
 
@@ -67,7 +67,7 @@ drop-get [] i k e = absurd (cc)
 drop-get (x ∷ ks) zero k e = let same : x ≡ k = cc in ap (λ y. y ∷ ks) same
 drop-get (x ∷ ks) (suc i) k e = drop-get ks i k e
 
-module _ (slots : ℕ → Option Slot) (below : List ℕ → Nodes Row) (ks : List ℕ) (i k : ℕ) (done : List (Branch Row)) (whole : Nodes Row) (at : slice_get ks i ≡ Some k) (so_far : beside (nodes_of done) (slot_trees page_slots slots below (drop i ks)) ≡ whole) where
+module _ (slots : ℕ → Option Slot) (below : List ℕ → Nodes PageRow) (ks : List ℕ) (i k : ℕ) (done : List (Branch PageRow)) (whole : Nodes PageRow) (at : slice_get ks i ≡ Some k) (so_far : beside (nodes_of done) (slot_trees page_slots slots below (drop i ks)) ≡ whole) where
   next_is : drop i ks ≡ k ∷ drop (i + 1) ks
   next_is = let e : i + 1 ≡ suc i = omega arith in rw e (drop-get ks i k at)
 
@@ -77,18 +77,18 @@ module _ (slots : ℕ → Option Slot) (below : List ℕ → Nodes Row) (ks : Li
   pub nest_none : slots k ≡ None → beside (nodes_of done) (slot_trees page_slots slots below (drop (i + 1) ks)) ≡ whole
   nest_none vacant = sym (ap (λ (o : Option Slot). beside (nodes_of done) (slot_tree page_slots slots o below (slot_trees page_slots slots below (drop (i + 1) ks)))) vacant) ∙ opened
 
-  pub nest_some : (slot : Slot) (tree : Branch Row) (new : List (Branch Row)) → slots k ≡ Some slot → tree ≡ record { row = slot_row slot; children = below slot.children } → new ≡ done ++ tree ∷ []
+  pub nest_some : (slot : Slot) (tree : Branch PageRow) (new : List (Branch PageRow)) → slots k ≡ Some slot → tree ≡ record { row = slot_row slot; children = below slot.children } → new ≡ done ++ tree ∷ []
       → beside (nodes_of new) (slot_trees page_slots slots below (drop (i + 1) ks)) ≡ whole
   nest_some slot tree new found is pushed =
       let after = slot_trees page_slots slots below (drop (i + 1) ks) in
-      ap (λ (l : List (Branch Row)). beside (nodes_of l) after) pushed
-      ∙ ap (λ (n : Nodes Row). beside n after) (nodes_of-append done (tree ∷ []))
+      ap (λ (l : List (Branch PageRow)). beside (nodes_of l) after) pushed
+      ∙ ap (λ (n : Nodes PageRow). beside n after) (nodes_of-append done (tree ∷ []))
       ∙ beside_assoc (nodes_of done) (nodes_of (tree ∷ [])) after
-      ∙ ap (λ (b : Branch Row). beside (nodes_of done) (node b.row b.children after)) is
+      ∙ ap (λ (b : Branch PageRow). beside (nodes_of done) (node b.row b.children after)) is
       ∙ sym (ap (λ (o : Option Slot). beside (nodes_of done) (slot_tree page_slots slots o below after)) found)
       ∙ opened
 
-pub nest_end : (slots : ℕ → Option Slot) (levels : ℕ) (ks rest : List ℕ) (done : List (Branch Row)) → 0 < levels → rest ≡ []
+pub nest_end : (slots : ℕ → Option Slot) (levels : ℕ) (ks rest : List ℕ) (done : List (Branch PageRow)) → 0 < levels → rest ≡ []
     → beside (nodes_of done) (slot_trees page_slots slots (kept_trees page_slots slots (levels - 1)) rest) ≡ slot_trees page_slots slots (kept_trees page_slots slots (levels - 1)) ks
     → nodes_of done ≡ kept_trees page_slots slots levels ks
 nest_end slots zero ks rest done some empty so_far = absurd (omega arith)
@@ -99,7 +99,7 @@ nest_end slots (suc levels) ks rest done some empty so_far =
     ∙ so_far
     ∙ ap (λ (l : ℕ). slot_trees page_slots slots (kept_trees page_slots slots l) ks) e
 
-pub none_left : (bs : List (Branch Row)) → length bs ≡ 0 → nodes_of bs ≡ none
+pub none_left : (bs : List (Branch PageRow)) → length bs ≡ 0 → nodes_of bs ≡ none
 none_left [] e = refl
 none_left (b ∷ bs) e = absurd (omega arith)
 
@@ -124,11 +124,11 @@ place_le a serial (k ∷ ks) =
     ]
 
 -- the serials of one tree
-pub listing_of : (x : ℕ) (l new first : List ℕ) (ts : List (Branch Row)) (b : Branch Row) → l ≡ new → first ≡ [] → ts ≡ b ∷ [] → listed x new ≡ listed x first + tally row_serial x (nodes_of ts) → listed x l ≡ tally row_serial x (alone b)
+pub listing_of : (x : ℕ) (l new first : List ℕ) (ts : List (Branch PageRow)) (b : Branch PageRow) → l ≡ new → first ≡ [] → ts ≡ b ∷ [] → listed x new ≡ listed x first + tally row_serial x (nodes_of ts) → listed x l ≡ tally row_serial x (alone b)
 listing_of x l new first ts b same empty one e =
     let p = ap (λ (y : List ℕ). listed x y) same in
     let q = ap (λ (y : List ℕ). listed x y) empty in
-    let r = ap (λ (y : List (Branch Row)). tally row_serial x (nodes_of y)) one in
+    let r = ap (λ (y : List (Branch PageRow)). tally row_serial x (nodes_of y)) one in
     omega (arith, p, q, r)
 
 -- ---- slots that were changed

@@ -9,7 +9,7 @@ use Rattle.node_tree.proofs.NodeLemmas.{node_count-map_rows, height-map_rows}
 use Rattle.node_tree.proofs.KeyLemmas.{tally-at, tally_row, find-stands, put-at, Stands, stands-below, height_above-at}
 use Rattle.node_tree.proofs.ChangeLemmas.{at-old, at-new, at-back, count-at, tally_in-at, alone-put, parent-at, child-stands, child_of}
 use Rattle.page_tree.specs.Forms.{are_formed, are_named}
-use Rattle.page_tree.specs.Pages.{Row, row_serial, row_label, node_at, parent_at, level_at}
+use Rattle.page_tree.specs.Pages.{PageRow, row_serial, row_label, node_at, parent_at, level_at}
 use Rattle.page_tree.specs.Edits.{with_attribute, without_attribute, with_value, relabelled, with_child, without_child, put_before, taken_out, put_in, changed_at, after_tree, back_tree, restored, label_at, children_at, next_sibling, sibling_after, is_among}
 use Rattle.page_tree.specs.EditFaults.{is_live, kind_at, may_hold, CanAttach, CanApply, first_fault, edit_faults}
 use Rattle.page_tree.specs.EditLaws.{LeadsBack, BackLaw}
@@ -23,11 +23,11 @@ use Rattle.page_tree.proofs.EditLemmas.{clear, unfaulted, changed, serial-live, 
 
 -- ---- a change taken back
 
-abbrev first_branch : Branch Row → Nodes Row → Branch Row
+abbrev first_branch : Branch PageRow → Nodes PageRow → Branch PageRow
 first_branch d none = d
 first_branch d (node r c t) = record { row = r; children = c }
 
-module _ {next : ℕ} (serial : ℕ) (change : Branch Row → Branch Row) (tree : Branch Row) (live : is_live serial tree ≡ true) (whole : Whole next (alone (changed_at serial change tree)))
+module _ {next : ℕ} (serial : ℕ) (change : Branch PageRow → Branch PageRow) (tree : Branch PageRow) (live : is_live serial tree ≡ true) (whole : Whole next (alone (changed_at serial change tree)))
     (same : (change (node_at serial tree)).row.serial ≡ (node_at serial tree).row.serial) where
   pub turned-stands : Stands (change (node_at serial tree)) (alone (changed_at serial change tree))
   turned-stands = let e = changed serial change tree live in (e.0, alone (changed_at serial change tree), at-new e.1)
@@ -39,10 +39,10 @@ module _ {next : ℕ} (serial : ℕ) (change : Branch Row → Branch Row) (tree 
 
   -- the changed node is live, and as it was made
   pub turned-live : is_live serial (changed_at serial change tree) ≡ true
-  turned-live = ap (λ (o : Option (Branch Row)). is_some o) turned-found
+  turned-live = ap (λ (o : Option (Branch PageRow)). is_some o) turned-found
 
   pub turned-node : node_at serial (changed_at serial change tree) ≡ change (node_at serial tree)
-  turned-node = ap (λ (o : Option (Branch Row)). unwrap_or o (changed_at serial change tree)) turned-found
+  turned-node = ap (λ (o : Option (Branch PageRow)). unwrap_or o (changed_at serial change tree)) turned-found
 
   put_back : put_in serial (node_at serial tree) (changed_at serial change tree) ≡ tree
   put_back =
@@ -53,17 +53,17 @@ module _ {next : ℕ} (serial : ℕ) (change : Branch Row → Branch Row) (tree 
       ap (first_branch tree) trees
 
   -- and what makes the node as it was makes the tree as it was
-  pub turned-back : (undo : Branch Row → Branch Row) → undo (change (node_at serial tree)) ≡ node_at serial tree → changed_at serial undo (changed_at serial change tree) ≡ tree
+  pub turned-back : (undo : Branch PageRow → Branch PageRow) → undo (change (node_at serial tree)) ≡ node_at serial tree → changed_at serial undo (changed_at serial change tree) ≡ tree
   turned-back undo is =
-      let there : changed_at serial undo (changed_at serial change tree) ≡ put_in serial (undo (change (node_at serial tree))) (changed_at serial change tree) = ap (λ (b : Branch Row). put_in serial (undo b) (changed_at serial change tree)) turned-node in
-      let back : put_in serial (undo (change (node_at serial tree))) (changed_at serial change tree) ≡ put_in serial (node_at serial tree) (changed_at serial change tree) = ap (λ (b : Branch Row). put_in serial b (changed_at serial change tree)) is in
+      let there : changed_at serial undo (changed_at serial change tree) ≡ put_in serial (undo (change (node_at serial tree))) (changed_at serial change tree) = ap (λ (b : Branch PageRow). put_in serial (undo b) (changed_at serial change tree)) turned-node in
+      let back : put_in serial (undo (change (node_at serial tree))) (changed_at serial change tree) ≡ put_in serial (node_at serial tree) (changed_at serial change tree) = ap (λ (b : Branch PageRow). put_in serial b (changed_at serial change tree)) is in
       there ∙ (back ∙ put_back)
 
 -- ---- labels
 
-module _ {next : ℕ} (serial : ℕ) (f : Label → Label) (tree : Branch Row) (live : is_live serial tree ≡ true) (whole : Whole next (alone (changed_at serial (relabelled f) tree))) where
+module _ {next : ℕ} (serial : ℕ) (f : Label → Label) (tree : Branch PageRow) (live : is_live serial tree ≡ true) (whole : Whole next (alone (changed_at serial (relabelled f) tree))) where
   label-turned : label_at serial (changed_at serial (relabelled f) tree) ≡ f (label_at serial tree)
-  label-turned = ap (λ (b : Branch Row). b.row.label) (turned-node serial (relabelled f) tree live whole refl)
+  label-turned = ap (λ (b : Branch PageRow). b.row.label) (turned-node serial (relabelled f) tree live whole refl)
 
   live-turned : is_live serial (changed_at serial (relabelled f) tree) ≡ true
   live-turned = turned-live serial (relabelled f) tree live whole refl
@@ -73,7 +73,7 @@ module _ {next : ℕ} (serial : ℕ) (f : Label → Label) (tree : Branch Row) (
       turned-back serial (relabelled f) tree live whole refl (relabelled g)
       (ap (λ (l : Label). record { row = record { serial = (node_at serial tree).row.serial; label = l }; children = (node_at serial tree).children }) is)
 
-module _ {next : ℕ} (tree : Branch Row) (whole : Whole next (alone tree)) where
+module _ {next : ℕ} (tree : Branch PageRow) (whole : Whole next (alone tree)) where
   set_leads : (serial : ℕ) (name value : List ℕ) (was : Option (List ℕ)) → CanApply next (SetAttr serial name value) tree → value_of name (label_at serial tree).attributes ≡ was → LeadsBack (restored serial name was) (SetAttr serial name value) tree next
   set_leads serial name value None can is =
       let tests = clear (edit_faults (SetAttr serial name value) tree) can.fits in
@@ -162,8 +162,8 @@ or_cases : (a b : Bool) → (a || b) ≡ true → (a ≡ true) ⊎ (b ≡ true)
 or_cases true b e = inl refl
 or_cases false b e = inr e
 
-module _ {next : ℕ} (tree : Branch Row) (whole : Whole next (alone tree)) (parent before : ℕ) (w : Branch Row) (can : CanApply next (Attach parent before w) tree) where
-  abbrev tree_after : Branch Row
+module _ {next : ℕ} (tree : Branch PageRow) (whole : Whole next (alone tree)) (parent before : ℕ) (w : Branch PageRow) (can : CanApply next (Attach parent before w) tree) where
+  abbrev tree_after : Branch PageRow
   tree_after = changed_at parent (with_child before w) tree
 
   attach_live : is_live parent tree ≡ true
@@ -209,21 +209,21 @@ module _ {next : ℕ} (tree : Branch Row) (whole : Whole next (alone tree)) (par
 
   attach_leads : LeadsBack (Detach w.row.serial) (Attach parent before w) tree next
   attach_leads =
-      let live = ap (λ (o : Option (Branch Row)). is_some o) attach_found in
-      let is : node_at w.row.serial tree_after ≡ w = ap (λ (o : Option (Branch Row)). unwrap_or o tree_after) attach_found in
+      let live = ap (λ (o : Option (Branch PageRow)). is_some o) attach_found in
+      let is : node_at w.row.serial tree_after ≡ w = ap (λ (o : Option (Branch PageRow)). unwrap_or o tree_after) attach_found in
       let not_document : is_document w.row.label.kind ≡ false = document_apart w can.ready.formed in
-      let children : children_at parent tree_after ≡ put_before before w (children_at parent tree) = ap (λ (b : Branch Row). b.children) (turned-node parent (with_child before w) tree attach_live attach_later refl) in
+      let children : children_at parent tree_after ≡ put_before before w (children_at parent tree) = ap (λ (b : Branch PageRow). b.children) (turned-node parent (with_child before w) tree attach_live attach_later refl) in
       let sibling : sibling_after w.row.serial parent tree_after ≡ before = ap (next_sibling w.row.serial) children ∙ attach_next in
       record {
-        taken = record { fits = unfaulted (edit_faults (Detach w.row.serial) tree_after) (not_from_true _ live, (ap (λ (b : Branch Row). is_document b.row.label.kind) is ∙ not_document, tt)); ready = tt };
+        taken = record { fits = unfaulted (edit_faults (Detach w.row.serial) tree_after) (not_from_true _ live, (ap (λ (b : Branch PageRow). is_document b.row.label.kind) is ∙ not_document, tt)); ready = tt };
         tree_back =
             ap (λ (p : ℕ). changed_at p (without_child w.row.serial) tree_after) attach_parent
             ∙ turned-back parent (with_child before w) tree attach_live attach_later refl (without_child w.row.serial)
-            (ap (λ (c : Nodes Row). record { row = (node_at parent tree).row; children = c }) (take-put w before (children_at parent tree) attach_absent));
+            (ap (λ (c : Nodes PageRow). record { row = (node_at parent tree).row; children = c }) (take-put w before (children_at parent tree) attach_absent));
         edit_back = ap (λ (p : ℕ). Attach p (sibling_after w.row.serial p tree_after) (node_at w.row.serial tree_after)) attach_parent ∙ (λ i. Attach parent (sibling i) (is i));
       }
     where
-      document_apart : (b : Branch Row) → are_formed true (alone (map_branch row_label b)) ≡ true → is_document b.row.label.kind ≡ false
+      document_apart : (b : Branch PageRow) → are_formed true (alone (map_branch row_label b)) ≡ true → is_document b.row.label.kind ≡ false
       document_apart b formed = apart_at (is_formed_label b.row.label) (is_document b.row.label.kind) _ _ _ _ formed
         where
           apart_at : (a d e f g h : Bool) → ((((a && (not d && e)) && f) && g) && h) ≡ true → d ≡ false
@@ -233,14 +233,14 @@ module _ {next : ℕ} (tree : Branch Row) (whole : Whole next (alone tree)) (par
 
 -- ---- a detach taken back
 
-module _ {next : ℕ} (tree : Branch Row) (whole : Whole next (alone tree)) (serial : ℕ) (can : CanApply next (Detach serial) tree) where
+module _ {next : ℕ} (tree : Branch PageRow) (whole : Whole next (alone tree)) (serial : ℕ) (can : CanApply next (Detach serial) tree) where
   abbrev parent : ℕ
   parent = parent_at serial tree
 
-  abbrev left_tree : Branch Row
+  abbrev left_tree : Branch PageRow
   left_tree = changed_at (parent_at serial tree) (without_child serial) tree
 
-  abbrev taken : Branch Row
+  abbrev taken : Branch PageRow
   taken = node_at serial tree
 
   abbrev sibling : ℕ
@@ -284,7 +284,7 @@ module _ {next : ℕ} (tree : Branch Row) (whole : Whole next (alone tree)) (ser
       document_stands true p h top e = absurd (cc)
       document_stands false p h top e = refl
 
-      document_holds : (b : Branch Row) → Sound (Some (kind_at parent tree)) (alone b) → Sound (Some Document) (alone b)
+      document_holds : (b : Branch PageRow) → Sound (Some (kind_at parent tree)) (alone b) → Sound (Some Document) (alone b)
       document_holds b s = (record { formed = s.0.formed; named = s.0.named; stands = document_stands (is_document b.row.label.kind) (is_doctype b.row.label.kind) _ _ s.0.stands }, s.1, tt)
 
   pub form-named : are_named (alone (map_branch row_label taken)) ≡ true
@@ -303,7 +303,7 @@ module _ {next : ℕ} (tree : Branch Row) (whole : Whole next (alone tree)) (ser
   sibling_place =
       elim (next-among serial (children_at parent tree)) [
         | inl z ↦ inl z
-        | inr e ↦ inr (ap (λ (b : Branch Row). is_among sibling b.children) detach_node ∙ e)
+        | inr e ↦ inr (ap (λ (b : Branch PageRow). is_among sibling b.children) detach_node ∙ e)
       ]
 
   place_or : (P : ℕ → Bool) → ((sibling ≡ 0) ⊎ (P sibling ≡ true)) → (sibling == 0 || P sibling) ≡ true
@@ -322,7 +322,7 @@ module _ {next : ℕ} (tree : Branch Row) (whole : Whole next (alone tree)) (ser
             let there = among-tally sibling (children_at parent left_tree) e in
             let turned = turned-stands parent (without_child serial) tree detach_parent detach-later refl in
             let among = tally_in-at row_serial sibling turned.2 in
-            let is : tally row_serial sibling (children_at parent left_tree) ≡ tally row_serial sibling (taken_out serial (children_at parent tree)) = ap (λ (b : Branch Row). tally row_serial sibling b.children) detach_node in
+            let is : tally row_serial sibling (children_at parent left_tree) ≡ tally row_serial sibling (taken_out serial (children_at parent tree)) = ap (λ (b : Branch PageRow). tally row_serial sibling b.children) detach_node in
             inr (live-tally sibling left_tree (omega arith))
       ]
 
@@ -352,7 +352,7 @@ module _ {next : ℕ} (tree : Branch Row) (whole : Whole next (alone tree)) (ser
               not_from_true _ (le-leb _ _ (omega arith)),
               (
                 not_from_true _ form-named,
-                (not_from_true _ (ap (λ (b : Branch Row). may_hold b.row.label.kind taken.row.label.kind) detach_node ∙ held_part (is_document taken.row.label.kind) _ taken-sound.0.stands), tt),
+                (not_from_true _ (ap (λ (b : Branch PageRow). may_hold b.row.label.kind taken.row.label.kind) detach_node ∙ held_part (is_document taken.row.label.kind) _ taken-sound.0.stands), tt),
               ),
             ),
           ),
@@ -363,7 +363,7 @@ module _ {next : ℕ} (tree : Branch Row) (whole : Whole next (alone tree)) (ser
   detach_leads = record {
     taken = record { fits = detach_fits; ready = detach-ready };
     tree_back = turned-back parent (without_child serial) tree detach_parent detach-later refl (with_child sibling taken)
-        (ap (λ (c : Nodes Row). record { row = (node_at parent tree).row; children = c }) (put-take serial taken (children_at parent tree) detach_child once zeros));
+        (ap (λ (c : Nodes PageRow). record { row = (node_at parent tree).row; children = c }) (put-take serial taken (children_at parent tree) detach_child once zeros));
     edit_back = ap Detach (serial-live serial tree detach_live);
   }
     where
@@ -375,7 +375,7 @@ module _ {next : ℕ} (tree : Branch Row) (whole : Whole next (alone tree)) (ser
 
 -- ---- each edit
 
-pub can-later : (next then : ℕ) (e : TreeEdit) (tree : Branch Row) → next ≤ then → CanApply next e tree → CanApply then e tree
+pub can-later : (next then : ℕ) (e : TreeEdit) (tree : Branch PageRow) → next ≤ then → CanApply next e tree → CanApply then e tree
 can-later next then (SetAttr serial name value) tree h can = record { fits = can.fits; ready = tt }
 can-later next then (DropAttr serial name) tree h can = record { fits = can.fits; ready = tt }
 can-later next then (SetText serial value) tree h can = record { fits = can.fits; ready = tt }
@@ -385,7 +385,7 @@ can-later next then (Attach parent before w) tree h can = record {
 }
 can-later next then (Detach serial) tree h can = record { fits = can.fits; ready = tt }
 
-leads : {next : ℕ} (e : TreeEdit) (tree : Branch Row) → Whole next (alone tree) → CanApply next e tree → LeadsBack (back_tree e tree) e tree next
+leads : {next : ℕ} (e : TreeEdit) (tree : Branch PageRow) → Whole next (alone tree) → CanApply next e tree → LeadsBack (back_tree e tree) e tree next
 leads (SetAttr serial name value) tree whole can = set_leads tree whole serial name value (value_of name (label_at serial tree).attributes) can refl
 leads (DropAttr serial name) tree whole can = drop_leads tree whole serial name (value_of name (label_at serial tree).attributes) can refl
 leads (SetText serial value) tree whole can = text_leads tree whole serial value can

@@ -11,7 +11,7 @@ use Rattle.std.proofs.lemmas.List.{length-append, length-map}
 use Rattle.node_tree.specs.Nodes.{Nodes, none, node, Branch, alone, node_count, branch_count}
 use Rattle.node_tree.specs.Keys.{tally}
 use Rattle.std.specs.Option.{option_and_then}
-use Rattle.page_tree.specs.Pages.{Row, row_serial, find_in}
+use Rattle.page_tree.specs.Pages.{PageRow, row_serial, find_in}
 use Rattle.page_tree.specs.Arenas.{slots_in, keys_in, listed, tree_of, IsPage, Looks}
 use Rattle.page_tree.specs.declared.arenas.Arena.{Arena}
 use Rattle.page_tree.specs.declared.slots.Slot.{Slot}
@@ -60,11 +60,11 @@ same_length (x ∷ xs) ys same =
 
 -- ---- the serials of a tree
 
-abbrev serials : Nodes Row → List ℕ
+abbrev serials : Nodes PageRow → List ℕ
 serials none = []
 serials (node r c t) = r.serial ∷ (serials c ++ serials t)
 
-listed-serials : (x : ℕ) (n : Nodes Row) → listed x (serials n) ≡ tally row_serial x n
+listed-serials : (x : ℕ) (n : Nodes PageRow) → listed x (serials n) ≡ tally row_serial x n
 listed-serials x none = refl
 listed-serials x (node r c t) =
     let a = listed-append x (serials c) (serials t) in
@@ -72,7 +72,7 @@ listed-serials x (node r c t) =
     let d = listed-serials x t in
     omega arith
 
-length-serials : (n : Nodes Row) → length (serials n) ≡ node_count n
+length-serials : (n : Nodes PageRow) → length (serials n) ≡ node_count n
 length-serials none = refl
 length-serials (node r c t) =
     let a = length-append (serials c) (serials t) in
@@ -129,7 +129,7 @@ module _ (a : Arena) (root next : ℕ) (page : IsPage a root next) (ordered : Is
           subst (λ y. 0 < tally row_serial y (alone (tree_of a root))) serial_is (page.arena.reached k slot at)
 
       gone_at : (x : ℕ) → keys_in a x ≡ None → tally row_serial x (alone (tree_of a root)) ≡ 0
-      gone_at x e = tally_absent x (alone (tree_of a root)) (let f = subst (λ (o : Option Slot). Looks o (find_in x (tree_of a root))) (ap (λ (o : Option ℕ). option_and_then (slots_in a) o) e) (looks a root next page x) in ap (λ (o : Option (Branch Row)). is_some o) f)
+      gone_at x e = tally_absent x (alone (tree_of a root)) (let f = subst (λ (o : Option Slot). Looks o (find_in x (tree_of a root))) (ap (λ (o : Option ℕ). option_and_then (slots_in a) o) e) (looks a root next page x) in ap (λ (o : Option (Branch PageRow)). is_some o) f)
 
   pub count_is : btree_map_len a.keys ≡ branch_count (tree_of a root)
   count_is =

@@ -12,7 +12,7 @@ use Rattle.node_tree.proofs.ChangeLemmas.{at-old, at-put_root, level-at, child_o
 use Rattle.node_tree.specs.declared.Kind.{Kind}
 use Rattle.node_tree.specs.declared.Kind.TheVariants.{Document}
 use Rattle.page_tree.specs.Forms.{max_level, max_nodes, are_formed, are_named}
-use Rattle.page_tree.specs.Pages.{Row, row_serial, row_label, find_in, node_at, parent_at, level_at}
+use Rattle.page_tree.specs.Pages.{PageRow, row_serial, row_label, find_in, node_at, parent_at, level_at}
 use Rattle.page_tree.specs.Loads.{placed}
 use Rattle.page_tree.specs.Edits.{pairs_without, with_attribute, without_attribute, with_value, relabelled, with_child, without_child, taken_out, changed_at, after_tree, after, next_after, label_at, children_at}
 use Rattle.page_tree.specs.EditFaults.{is_live, kind_at, may_hold, CanAttach, CanApply, edit_faults}
@@ -43,34 +43,34 @@ unfaulted (x ∷ xs) (e, c) = rw e (unfaulted xs c)
 
 -- ---- a live node, and a tree with one node changed
 
-some_is : (o : Option (Branch Row)) (d : Branch Row) → is_some o ≡ true → o ≡ Some (unwrap_or o d)
+some_is : (o : Option (Branch PageRow)) (d : Branch PageRow) → is_some o ≡ true → o ≡ Some (unwrap_or o d)
 some_is None d e = absurd (cc)
 some_is (Some x) d e = refl
 
-pub found-live : (serial : ℕ) (tree : Branch Row) → is_live serial tree ≡ true → find row_serial serial (alone tree) ≡ Some (node_at serial tree)
+pub found-live : (serial : ℕ) (tree : Branch PageRow) → is_live serial tree ≡ true → find row_serial serial (alone tree) ≡ Some (node_at serial tree)
 found-live serial tree live = some_is (find_in serial tree) tree live
 
-pub serial-live : (serial : ℕ) (tree : Branch Row) → is_live serial tree ≡ true → (node_at serial tree).row.serial ≡ serial
+pub serial-live : (serial : ℕ) (tree : Branch PageRow) → is_live serial tree ≡ true → (node_at serial tree).row.serial ≡ serial
 serial-live serial tree live = found_key row_serial serial (alone tree) (node_at serial tree) (found-live serial tree live)
 
 -- what is among the nodes of a tree is live
-pub live-tally : (serial : ℕ) (tree : Branch Row) → 0 < tally row_serial serial (alone tree) → is_live serial tree ≡ true
+pub live-tally : (serial : ℕ) (tree : Branch PageRow) → 0 < tally row_serial serial (alone tree) → is_live serial tree ≡ true
 live-tally serial tree h = sym (has-find row_serial serial (alone tree)) ∙ has-there row_serial serial (alone tree) h
 
-pub changed : (serial : ℕ) (change : Branch Row → Branch Row) (tree : Branch Row) → is_live serial tree ≡ true
+pub changed : (serial : ℕ) (change : Branch PageRow → Branch PageRow) (tree : Branch PageRow) → is_live serial tree ≡ true
     → (depth : ℕ) × At (node_at serial tree) (change (node_at serial tree)) depth (alone tree) (alone (changed_at serial change tree))
 changed serial change tree live = at-put_root row_serial serial (change (node_at serial tree)) tree (node_at serial tree) (found-live serial tree live)
 
 -- the level of the changed node is its depth
-pub level-changed : {old new : Branch Row} {depth : ℕ} {m : Nodes Row} (serial : ℕ) (tree : Branch Row) → At old new depth (alone tree) m → old.row.serial ≡ serial → ((x : ℕ) → tally row_serial x (alone tree) ≤ 1) → level_at serial tree ≡ depth
+pub level-changed : {old new : Branch PageRow} {depth : ℕ} {m : Nodes PageRow} (serial : ℕ) (tree : Branch PageRow) → At old new depth (alone tree) m → old.row.serial ≡ serial → ((x : ℕ) → tally row_serial x (alone tree) ≤ 1) → level_at serial tree ≡ depth
 level-changed {old} {depth = d} serial tree e is once =
     let z : 0 + d ≡ d = omega arith in
     subst (λ (s : ℕ). level_at s tree ≡ d) is (ap (λ o. unwrap_or o 0) (level-at row_serial 0 e (once old.row.serial)) ∙ z)
 
 -- ---- another label
 
-module _ {next depth : ℕ} {old : Branch Row} {n m : Nodes Row} where
-  depth-old : Whole next n → {new : Branch Row} → At old new depth n m → depth + suc (height old.children) ≤ suc max_level
+module _ {next depth : ℕ} {old : Branch PageRow} {n m : Nodes PageRow} where
+  depth-old : Whole next n → {new : Branch PageRow} → At old new depth n m → depth + suc (height old.children) ≤ suc max_level
   depth-old whole e = let h = height_above-at (at-old e) in let low = whole.low in omega arith
 
   relabel_owes : (f : Label → Label) → Whole next n → At old (relabelled f old) depth n m → old.row.label.kind ≡ (f old.row.label).kind → is_formed_label (f old.row.label) ≡ true → is_named_label (f old.row.label) ≡ true
@@ -115,7 +115,7 @@ zero_or_more : (k : ℕ) → (k ≡ 0) ⊎ (0 < k)
 zero_or_more zero = inl refl
 zero_or_more (suc k) = inr (omega arith)
 
-module _ {next depth : ℕ} {old : Branch Row} {n m : Nodes Row} (w : Branch Row) where
+module _ {next depth : ℕ} {old : Branch PageRow} {n m : Nodes PageRow} (w : Branch PageRow) where
   attach_owes : (before : ℕ) → Whole next n → At old (with_child before w old) depth n m → Sound (Some old.row.label.kind) (alone w) → depth + height (alone w) ≤ max_level → node_count n + branch_count w ≤ max_nodes
       → AreNew next n (λ x. tally_in row_serial x w) → Owes next depth old (with_child before w old) n
   attach_owes before whole e fits low room are_new =
@@ -162,15 +162,15 @@ may_hold_parts true top h p e f = absurd (cc)
 may_hold_parts false top h p e f = e
 
 -- a form that may be inserted, and whose names have their forms, is sound below what may hold it
-pub sound-form : (above : Branch Row) (w : Branch Row) → are_formed true (alone (map_branch row_label w)) ≡ true → are_named (alone (map_branch row_label w)) ≡ true → may_hold above.row.label.kind w.row.label.kind ≡ true → Sound (Some above.row.label.kind) (alone w)
+pub sound-form : (above : Branch PageRow) (w : Branch PageRow) → are_formed true (alone (map_branch row_label w)) ≡ true → are_named (alone (map_branch row_label w)) ≡ true → may_hold above.row.label.kind w.row.label.kind ≡ true → Sound (Some above.row.label.kind) (alone w)
 sound-form above w formed named held =
     let whole = sound-formed_document w formed named in
     (record { formed = whole.0.formed; named = whole.0.named; stands = may_hold_parts (is_document w.row.label.kind) (is_document above.row.label.kind) _ (is_doctype w.row.label.kind) held (left (not (is_document w.row.label.kind)) _ whole.0.stands) }, whole.1, tt)
   where
-    sound-formed_document : (w : Branch Row) → are_formed true (alone (map_branch row_label w)) ≡ true → are_named (alone (map_branch row_label w)) ≡ true → Sound (Some Document) (alone w)
+    sound-formed_document : (w : Branch PageRow) → are_formed true (alone (map_branch row_label w)) ≡ true → are_named (alone (map_branch row_label w)) ≡ true → Sound (Some Document) (alone w)
     sound-formed_document w formed named = sound-formed Document (alone w) formed named refl
 
-pub are_new-attach : (next : ℕ) (w tree : Branch Row) → CanAttach next w tree → ((x : ℕ) → tally row_serial x (alone tree) ≤ 1) → AreNew next (alone tree) (λ x. tally_in row_serial x w)
+pub are_new-attach : (next : ℕ) (w tree : Branch PageRow) → CanAttach next w tree → ((x : ℕ) → tally row_serial x (alone tree) ≤ 1) → AreNew next (alone tree) (λ x. tally_in row_serial x w)
 are_new-attach next w tree can once = record {
   once = λ x. elim (zero_or_more (tally_in row_serial x w)) [ inl z ↦ let o = once x in omega arith | inr p ↦ let a = can.apart x p in let d = can.distinct x in omega arith ];
   least = can.least;
@@ -178,23 +178,23 @@ are_new-attach next w tree can once = record {
 }
 
 -- a node that is not the document is a child of its parent
-pub record Parted (serial : ℕ) (tree : Branch Row) : Type 0 where
+pub record Parted (serial : ℕ) (tree : Branch PageRow) : Type 0 where
   pub live : is_live (parent_at serial tree) tree ≡ true
   pub child : child_of row_serial serial (children_at (parent_at serial tree) tree) ≡ Some (node_at serial tree)
 
-top_step : (b : Bool) (tree w : Branch Row) → cond b (Some tree) None ≡ Some w → tree ≡ w
+top_step : (b : Bool) (tree w : Branch PageRow) → cond b (Some tree) None ≡ Some w → tree ≡ w
 top_step true tree w e = cc
 top_step false tree w e = absurd (cc)
 
-pub parted : {next : ℕ} (serial : ℕ) (tree : Branch Row) → Whole next (alone tree) → is_live serial tree ≡ true → is_document (kind_at serial tree) ≡ false → Parted serial tree
+pub parted : {next : ℕ} (serial : ℕ) (tree : Branch PageRow) → Whole next (alone tree) → is_live serial tree ≡ true → is_document (kind_at serial tree) ≡ false → Parted serial tree
 parted serial tree whole live apart =
     elim (held row_serial serial 0 (alone tree) (node_at serial tree) (found-live serial tree live)) [
-      | inl top ↦ absurd (let same = top_step (tree.row.serial == serial) tree (node_at serial tree) top.0 in let e : is_document tree.row.label.kind ≡ false = ap (λ (b : Branch Row). is_document b.row.label.kind) same ∙ apart in let f : is_document tree.row.label.kind ≡ true = whole.sound.0.stands in cc)
+      | inl top ↦ absurd (let same = top_step (tree.row.serial == serial) tree (node_at serial tree) top.0 in let e : is_document tree.row.label.kind ≡ false = ap (λ (b : Branch PageRow). is_document b.row.label.kind) same ∙ apart in let f : is_document tree.row.label.kind ≡ true = whole.sound.0.stands in cc)
       | inr h ↦
           let is : parent_at serial tree ≡ h.holder.row.serial = ap (λ o. unwrap_or o 0) h.parent in
           let found : find_in h.holder.row.serial tree ≡ Some h.holder = find-stands row_serial h.holder (alone tree) h.stands (whole.distinct h.holder.row.serial) in
-          let there : is_live h.holder.row.serial tree ≡ true = ap (λ (o : Option (Branch Row)). is_some o) found in
-          let child : child_of row_serial serial (children_at h.holder.row.serial tree) ≡ Some (node_at serial tree) = ap (λ (o : Option (Branch Row)). child_of row_serial serial (unwrap_or o tree).children) found ∙ h.child in
+          let there : is_live h.holder.row.serial tree ≡ true = ap (λ (o : Option (Branch PageRow)). is_some o) found in
+          let child : child_of row_serial serial (children_at h.holder.row.serial tree) ≡ Some (node_at serial tree) = ap (λ (o : Option (Branch PageRow)). child_of row_serial serial (unwrap_or o tree).children) found ∙ h.child in
           record {
             live = subst (λ (p : ℕ). is_live p tree ≡ true) (sym is) there;
             child = subst (λ (p : ℕ). child_of row_serial serial (children_at p tree) ≡ Some (node_at serial tree)) (sym is) child;
@@ -203,7 +203,7 @@ parted serial tree whole live apart =
 
 -- ---- after an edit
 
-module _ (next : ℕ) (tree : Branch Row) (whole : Whole next (alone tree)) where
+module _ (next : ℕ) (tree : Branch PageRow) (whole : Whole next (alone tree)) where
   relabelled_whole : (serial : ℕ) (f : Label → Label) → is_live serial tree ≡ true → (label_at serial tree).kind ≡ (f (label_at serial tree)).kind → is_formed_label (f (label_at serial tree)) ≡ true
       → is_named_label (f (label_at serial tree)) ≡ true → Whole next (alone (changed_at serial (relabelled f) tree))
   relabelled_whole serial f live kind formed named =

@@ -3,7 +3,7 @@ use Rattle.std.proofs.Common.{◌≡◌, ℕ, List, [], ◌∷◌, Some, None, c
 use Rattle.node_tree.specs.Nodes.{Nodes, none, node, Branch}
 use Rattle.node_tree.specs.Labels.{Pair, Label}
 use Rattle.node_tree.specs.declared.Kind.TheVariants.{Element, Text, Doctype}
-use Rattle.page_tree.specs.Pages.{Row, document_label}
+use Rattle.page_tree.specs.Pages.{PageRow, document_label}
 use Rattle.page_tree.specs.Edits.{after_all, after_tree, back_tree, moved_before, copy_edits, move_edits}
 use Rattle.page_tree.specs.EditFaults.{first_fault, insert_fault, move_fault, copy_fault}
 use Rattle.page_tree.specs.declared.edits.TreeEdit.TheVariants.{SetAttr, DropAttr, SetText, Attach, Detach}
@@ -21,14 +21,14 @@ doctype = record { kind = Doctype; name = codes "html"; value = []; attributes =
 abbrev b_is_1 : List Pair
 b_is_1 = (codes "b", codes "1") ∷ []
 
-abbrev page_of : Nodes Row → Branch Row
+abbrev page_of : Nodes PageRow → Branch PageRow
 page_of nodes = record { row = record { serial = 1; label = document_label }; children = nodes }
 
-abbrev at : ℕ → Label → Row
+abbrev at : ℕ → Label → PageRow
 at serial l = record { serial = serial; label = l }
 
 -- a doctype 2, an element 3 with a text 4 and an element 5, and a text 6
-abbrev page : Branch Row
+abbrev page : Branch PageRow
 page = page_of (node (at 2 doctype) none (node (at 3 (element b_is_1)) (node (at 4 text) none (node (at 5 (element [])) none none)) (node (at 6 text) none none)))
 
 -- ---- inverses

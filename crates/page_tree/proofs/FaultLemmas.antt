@@ -8,7 +8,7 @@ use Rattle.node_tree.specs.Labels.{Label, is_document}
 use Rattle.node_tree.specs.Arena.{Keeps}
 use Rattle.node_tree.proofs.KeyLemmas.{has-find}
 use Rattle.page_tree.specs.Forms.{max_level, max_nodes}
-use Rattle.page_tree.specs.Pages.{Row, row_serial, State, find_in, node_at, parent_at, IsValid}
+use Rattle.page_tree.specs.Pages.{PageRow, row_serial, PageValue, find_in, node_at, parent_at, IsValid}
 use Rattle.page_tree.specs.Rooms.{room_after}
 use Rattle.page_tree.specs.Edits.{children_at, is_among, sibling_after}
 use Rattle.page_tree.specs.EditFaults.{is_live, is_live_or_0, is_inside, kind_at, attach_faults, copy_faults, move_faults, insert_fault, copy_fault, move_fault}
@@ -62,27 +62,27 @@ among_step false false w p l e f = f ∙ shift
 among_step true false w p l e f = absurd (cc)
 among_step false true w p l e f = absurd (cc)
 
-among_keeps : (a : Arena) (serial : ℕ) (above : Option ℕ) (n : Nodes Row) (ks : List ℕ) → Keeps page_slots (slots_in a) n above ks → is_among serial n ≡ nat_lt (place_in a serial ks) (length ks)
+among_keeps : (a : Arena) (serial : ℕ) (above : Option ℕ) (n : Nodes PageRow) (ks : List ℕ) → Keeps page_slots (slots_in a) n above ks → is_among serial n ≡ nat_lt (place_in a serial ks) (length ks)
 among_keeps a serial above none [] kept = refl
 among_keeps a serial above none (k ∷ ks) kept = absurd kept
 among_keeps a serial above (node r c t) [] kept = absurd kept
 among_keeps a serial above (node r c t) (k ∷ ks) (slot, at, up, is, below, after) =
     among_step (is_numbered a serial k) (r.serial == serial) (is_among serial t) (place_in a serial ks) (length ks) (numbered_is a serial k slot r at is) (among_keeps a serial above t ks after)
 
-module _ (a : Arena) (root next : ℕ) (page : IsPage a root next) (t : Branch Row) (is : tree_of a root ≡ t) (parent : ℕ) (slot : Slot) (at : slot_of a parent ≡ Some slot) (serial : ℕ) where
+module _ (a : Arena) (root next : ℕ) (page : IsPage a root next) (t : Branch PageRow) (is : tree_of a root ≡ t) (parent : ℕ) (slot : Slot) (at : slot_of a parent ≡ Some slot) (serial : ℕ) where
   pub reads-among : nat_lt (place_in a serial slot.children) (length slot.children) ≡ is_among serial (children_at parent t)
   reads-among =
       let s = seat a root next page parent slot at in
-      sym (among_keeps a serial (Some s.key) (children_at parent (tree_of a root)) slot.children s.below) ∙ ap (λ (b : Branch Row). is_among serial (children_at parent b)) is
+      sym (among_keeps a serial (Some s.key) (children_at parent (tree_of a root)) slot.children s.below) ∙ ap (λ (b : Branch PageRow). is_among serial (children_at parent b)) is
 
   pub reads-next : next_in a serial slot.children ≡ sibling_after serial parent t
   reads-next =
       let s = seat a root next page parent slot at in
-      next_keeps a serial (Some s.key) (children_at parent (tree_of a root)) slot.children s.below ∙ ap (λ (b : Branch Row). sibling_after serial parent b) is
+      next_keeps a serial (Some s.key) (children_at parent (tree_of a root)) slot.children s.below ∙ ap (λ (b : Branch PageRow). sibling_after serial parent b) is
 
 -- ---- the way up
 
-module _ (at parent : ℕ) (tree : Branch Row) (up : StepUp at tree) (is : parent ≡ parent_at at tree) where
+module _ (at parent : ℕ) (tree : Branch PageRow) (up : StepUp at tree) (is : parent ≡ parent_at at tree) where
   above_is : parent ≢ 0 → ancestors_at at tree ≡ parent ∷ ancestors_at parent tree
   above_is other = up.next (λ e. other (is ∙ e)) ∙ ap (λ k. k ∷ ancestors_at k tree) (sym is)
 
@@ -99,11 +99,11 @@ module _ (at parent : ℕ) (tree : Branch Row) (up : StepUp at tree) (is : paren
   pub any_top : (p : ℕ → Bool) → p at ≡ false → parent ≡ 0 → list_any p (at ∷ ancestors_at at tree) ≡ false
   any_top p passed e = ap (λ b. b || list_any p (ancestors_at at tree)) passed ∙ ap (list_any p) (up.top (sym is ∙ e))
 
-pub any_here : (at : ℕ) (tree : Branch Row) (other : ℕ) → at ≡ other → true ≡ list_any (λ k. k == other) (at ∷ ancestors_at at tree)
+pub any_here : (at : ℕ) (tree : Branch PageRow) (other : ℕ) → at ≡ other → true ≡ list_any (λ k. k == other) (at ∷ ancestors_at at tree)
 any_here at tree other e = sym (ap (λ b. b || list_any (λ k. k == other) (ancestors_at at tree)) (eq-eqb at other e))
 
 -- a node is inside another where that one is on its way up
-pub inside_line : (page : State) → IsValid page → (other : ℕ) → IsSome (find_in other page.tree) → (serial : ℕ) → IsSome (find_in serial page.tree)
+pub inside_line : (page : PageValue) → IsValid page → (other : ℕ) → IsSome (find_in other page.tree) → (serial : ℕ) → IsSome (find_in serial page.tree)
     → list_any (λ k. k == other) (serial ∷ ancestors_at serial page.tree) ≡ is_inside serial other page.tree
 inside_line page valid other other_live serial live =
     within_line page valid other other_live serial live ∙ has-find row_serial serial (alone (node_at other page.tree))
@@ -111,20 +111,20 @@ inside_line page valid other other_live serial live =
 -- ---- what an act without a fault has
 
 -- the nodes of an insert have room
-pub insert_few : (parent before : ℕ) (form : Branch Label) (tree : Branch Row) → insert_fault parent before form tree ≡ None → branch_count form ≤ max_nodes
+pub insert_few : (parent before : ℕ) (form : Branch Label) (tree : Branch PageRow) → insert_fault parent before form tree ≡ None → branch_count form ≤ max_nodes
 insert_few parent before form tree e =
     let tests = clear (attach_faults parent before form tree) e in
     let room = leb-true (branch_count tree + branch_count form) max_nodes (not-false _ tests.1.1.1.0) in
     omega arith
 
 -- what is copied is live, and not the document
-pub copy_live : (serial parent before : ℕ) (tree : Branch Row) → copy_fault serial parent before tree ≡ None → (is_live serial tree ≡ true) × (is_document (kind_at serial tree) ≡ false)
+pub copy_live : (serial parent before : ℕ) (tree : Branch PageRow) → copy_fault serial parent before tree ≡ None → (is_live serial tree ≡ true) × (is_document (kind_at serial tree) ≡ false)
 copy_live serial parent before tree e =
     let tests = clear (copy_faults serial parent before tree) e in
     (left (is_live serial tree) (is_live parent tree) (left (is_live serial tree && is_live parent tree) (is_live_or_0 before tree) (not-false _ tests.0)), tests.1.0)
 
 -- and so are what is moved, and the parent
-pub move_live : (serial parent before : ℕ) (tree : Branch Row) → move_fault serial parent before tree ≡ None → (is_live serial tree ≡ true) × (is_live parent tree ≡ true)
+pub move_live : (serial parent before : ℕ) (tree : Branch PageRow) → move_fault serial parent before tree ≡ None → (is_live serial tree ≡ true) × (is_live parent tree ≡ true)
 move_live serial parent before tree e =
     let tests = clear (move_faults serial parent before tree) e in
     let both = left (is_live serial tree && is_live parent tree) (is_live_or_0 before tree) (not-false _ tests.0) in

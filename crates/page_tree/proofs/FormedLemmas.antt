@@ -16,7 +16,7 @@ use Rattle.node_tree.specs.Labels.{Pair, Label, is_formed_label, is_ascending, i
 use Rattle.node_tree.specs.Keys.{first_of, first_true}
 use Rattle.node_tree.specs.declared.Kind.TheVariants.{Element, Text, Comment, Doctype}
 use Rattle.page_tree.specs.Forms.{may_stand, are_formed, CanLoad}
-use Rattle.page_tree.specs.Loads.{placed, is_taken, in_order, attributes_of, attributes_at, pairs_of, labelled, text_alone, element_name, element_label, label_of, branch_of, before, form_of, forms_of, below_of, list_of, nodes_in, limit_faults}
+use Rattle.page_tree.specs.Loads.{placed, is_taken, in_order, attributes_spelled, attributes_at, pairs_of, labelled, text_alone, element_name, element_label, label_spelled, branch_of, form_before, node_spelled, forms_of, below_of, nodes_listed, nodes_in, limit_faults}
 use Rattle.page_tree.specs.declared.faults.LoadFault.{LoadFault}
 use Rattle.page_tree.specs.declared.faults.LoadFault.TheVariants.{TooDeep, TooMany, BadName}
 
@@ -34,7 +34,7 @@ listed_ascending : (o : Option (List Pair)) (ps : List Pair) → option_and_then
 listed_ascending None ps e = absurd (cc)
 listed_ascending (Some qs) ps e = is_ascending-in_order qs [] ps refl e
 
-attributes_ascending_at : (g : Option Data) (ps : List Pair) → option_map_or attributes_of g (Some []) ≡ Some ps → is_ascending ps ≡ true
+attributes_ascending_at : (g : Option Data) (ps : List Pair) → option_map_or attributes_spelled g (Some []) ≡ Some ps → is_ascending ps ≡ true
 attributes_ascending_at None ps e = let same : [] ≡ ps = cc in sym (ap is_ascending same)
 attributes_ascending_at (Some d) ps e = listed_ascending (option_and_then pairs_of (as_array d)) ps e
 
@@ -76,7 +76,7 @@ label_is true d l None None None (Some x) h is_t is_k is_n e = let same : labell
 label_is true d l None None None None h is_t is_k is_n e = absurd (cc)
 label_is false d l None None None n h is_t is_k is_n e = absurd (cc)
 
-label_of_is : (top : Bool) (d : Data) (l : Label) → label_of top d ≡ Some l → IsLabel top d l
+label_of_is : (top : Bool) (d : Data) (l : Label) → label_spelled top d ≡ Some l → IsLabel top d l
 label_of_is top d l e =
     label_is top d l (element_label d) (text_alone (codes "t") d) (text_alone (codes "k") d) (text_alone (codes "d") d)
     (λ m f. element_is top d (element_name d) (attributes_at d) m (attributes_ascending_at (get (codes "a") d)) f) refl refl refl e
@@ -115,7 +115,7 @@ formed_node top ms b (Some l) (Some c) h is_n below e =
     subst (λ (x : Branch Label). are_formed top (alone x) ≡ true) same (both _ _ (both _ _ (both _ _ (both _ _ fit.formed fit.stands) bare) (below c refl)) refl)
 
 formed_beside : (top : Bool) (b : Option (Branch Label)) (t : Option (Nodes Label)) (n : Nodes Label) → ((x : Branch Label) → b ≡ Some x → are_formed top (alone x) ≡ true) → ((m : Nodes Label) → t ≡ Some m → are_formed top m ≡ true)
-    → before b t ≡ Some n → are_formed top n ≡ true
+    → form_before b t ≡ Some n → are_formed top n ≡ true
 formed_beside top None t n h k e = absurd (cc)
 formed_beside top (Some b) None n h k e = absurd (cc)
 formed_beside top (Some b) (Some m) n h k e =
@@ -127,23 +127,23 @@ formed_choice true o p n h k e = h e
 formed_choice false o p n h k e = k e
 
 mutual
-  pub form_formed : (d : Data) (top : Bool) (b : Branch Label) → form_of top d ≡ Some b → are_formed top (alone b) ≡ true
+  pub form_formed : (d : Data) (top : Bool) (b : Branch Label) → node_spelled top d ≡ Some b → are_formed top (alone b) ≡ true
   form_formed null top b e = absurd (cc)
   form_formed (boolean x) top b e = absurd (cc)
   form_formed (number x) top b e = absurd (cc)
   form_formed (string s) top b e = absurd (cc)
   form_formed (array ds) top b e = absurd (cc)
-  form_formed (object ms) top b e = formed_node top ms b (label_of top (object ms)) (below_of ms) (label_of_is top (object ms)) refl (below_formed ms) e
+  form_formed (object ms) top b e = formed_node top ms b (label_spelled top (object ms)) (below_of ms) (label_of_is top (object ms)) refl (below_formed ms) e
 
   forms_formed : (ds : Items) (top : Bool) (n : Nodes Label) → forms_of top ds ≡ Some n → are_formed top n ≡ true
   forms_formed no_items top n e = let same : none ≡ n = cc in sym (ap (are_formed top) same)
-  forms_formed (item d ds) top n e = formed_beside top (form_of top d) (forms_of top ds) n (form_formed d top) (forms_formed ds top) e
+  forms_formed (item d ds) top n e = formed_beside top (node_spelled top d) (forms_of top ds) n (form_formed d top) (forms_formed ds top) e
 
   below_formed : (ms : Members) (n : Nodes Label) → below_of ms ≡ Some n → are_formed false n ≡ true
   below_formed no_members n e = let same : none ≡ n = cc in sym (ap (are_formed false) same)
-  below_formed (member k d ms) n e = formed_choice (bytes_eq (codes "c") k) (list_of d) (below_of ms) n (list_formed d n) (below_formed ms n) e
+  below_formed (member k d ms) n e = formed_choice (bytes_eq (codes "c") k) (nodes_listed d) (below_of ms) n (list_formed d n) (below_formed ms n) e
 
-  list_formed : (d : Data) (n : Nodes Label) → list_of d ≡ Some n → are_formed false n ≡ true
+  list_formed : (d : Data) (n : Nodes Label) → nodes_listed d ≡ Some n → are_formed false n ≡ true
   list_formed null n e = absurd (cc)
   list_formed (boolean b) n e = absurd (cc)
   list_formed (number x) n e = absurd (cc)

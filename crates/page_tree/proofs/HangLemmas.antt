@@ -6,31 +6,31 @@ use Rattle.node_tree.proofs.KeyLemmas.{height_above-at}
 use Rattle.node_tree.proofs.ChangeLemmas.{at-old}
 use Rattle.node_tree.proofs.NodeLemmas.{height-map_rows}
 use Rattle.page_tree.specs.Forms.{max_level}
-use Rattle.page_tree.specs.Pages.{Row, row_label, node_at}
+use Rattle.page_tree.specs.Pages.{PageRow, row_label, node_at}
 use Rattle.page_tree.specs.Arenas.{page_slots, slot_row, slots_in, Stored, slot_of, trees_in, branch_in, Hangs, tree_of, IsPage}
 use Rattle.page_tree.specs.declared.slots.Slot.{Slot}
 use Rattle.page_tree.specs.declared.arenas.Arena.{Arena}
 use Rattle.page_tree.proofs.TurnLemmas.{seat}
 use Rattle.page_tree.proofs.EditLemmas.{changed}
 
-pub branch_same : (r s : Row) (c d : Nodes Row) → r ≡ s → c ≡ d → ◌≡◌ {A = Branch Row} (record { row = r; children = c }) (record { row = s; children = d })
+pub branch_same : (r s : PageRow) (c d : Nodes PageRow) → r ≡ s → c ≡ d → ◌≡◌ {A = Branch PageRow} (record { row = r; children = c }) (record { row = s; children = d })
 branch_same r s c d p q = cc
 
 -- a tree among others has fewer levels below it
-height-tree_at : (n : Nodes Row) (i : ℕ) (b : Branch Row) → tree_at i n ≡ Some b → suc (height b.children) ≤ height n
+height-tree_at : (n : Nodes PageRow) (i : ℕ) (b : Branch PageRow) → tree_at i n ≡ Some b → suc (height b.children) ≤ height n
 height-tree_at none i b e = absurd (cc)
-height-tree_at (node r c t) zero b e = let same : ◌≡◌ {A = Branch Row} (record { row = r; children = c }) b = cc in let h = ap (λ (y : Branch Row). height y.children) same in omega arith
+height-tree_at (node r c t) zero b e = let same : ◌≡◌ {A = Branch PageRow} (record { row = r; children = c }) b = cc in let h = ap (λ (y : Branch PageRow). height y.children) same in omega arith
 height-tree_at (node r c t) (suc i) b e = let h = height-tree_at t i b e in omega arith
 
 module _ (a : Arena) where
-  pub trees_in-keeps : (n : Nodes Row) (above : Option ℕ) (ks : List ℕ) → Stored a n above ks → height n ≤ suc max_level → trees_in a ks ≡ n
+  pub trees_in-keeps : (n : Nodes PageRow) (above : Option ℕ) (ks : List ℕ) → Stored a n above ks → height n ≤ suc max_level → trees_in a ks ≡ n
   unfolding trees_in
   trees_in-keeps n above ks kept low = kept_trees-keeps page_slots (slots_in a) (suc max_level) n above ks kept low
 
-  pub hangs : (n : Nodes Row) (above : Option ℕ) (ks : List ℕ) → Stored a n above ks → height n ≤ suc max_level → Hangs a ks
+  pub hangs : (n : Nodes PageRow) (above : Option ℕ) (ks : List ℕ) → Stored a n above ks → height n ≤ suc max_level → Hangs a ks
   hangs n above ks kept low =
       let same = sym (trees_in-keeps n above ks kept low) in
-      record { above = above; stands = subst (λ (m : Nodes Row). Stored a m above ks) same kept; low = subst (λ (m : Nodes Row). height m ≤ suc max_level) same low }
+      record { above = above; stands = subst (λ (m : Nodes PageRow). Stored a m above ks) same kept; low = subst (λ (m : Nodes PageRow). height m ≤ suc max_level) same low }
 
   pub hangs-width : (ks : List ℕ) → Hangs a ks → length ks ≡ width (trees_in a ks)
   hangs-width ks h = sym (keeps-width page_slots (slots_in a) (trees_in a ks) h.above ks h.stands)
@@ -51,7 +51,7 @@ module _ (a : Arena) where
       record {
         slot = slot;
         at = at;
-        is = place ∙ ap (λ (y : Branch Row). Some y) (branch_same b.row (slot_row slot) b.children (trees_in a slot.children) (sym row_is) (sym (trees_in-keeps b.children (Some k) slot.children below few)));
+        is = place ∙ ap (λ (y : Branch PageRow). Some y) (branch_same b.row (slot_row slot) b.children (trees_in a slot.children) (sym row_is) (sym (trees_in-keeps b.children (Some k) slot.children below few)));
         below = hangs b.children (Some k) slot.children below few;
       }
 

@@ -5,7 +5,7 @@ use Rattle.node_tree.specs.Nodes.{Nodes, none, node, Branch, alone, node_count, 
 use Rattle.node_tree.specs.Labels.{Label}
 use Rattle.node_tree.specs.Keys.{tally, first_true}
 use Rattle.node_tree.proofs.KeyLemmas.{tally_row, tally_below}
-use Rattle.page_tree.specs.Pages.{Row, row_serial, row_label, State, numbered, times_in, IsValid}
+use Rattle.page_tree.specs.Pages.{PageRow, row_serial, row_label, PageValue, numbered, times_in, IsValid}
 use Rattle.page_tree.specs.Edits.{after, greatest_serial, numbered_branch, form_at}
 use Rattle.page_tree.specs.EditFaults.{is_live, is_live_or_0, CanInsert, CanAttach, CanApply, attach_faults, edit_faults, copy_faults}
 use Rattle.page_tree.specs.EditLaws.{NextLaw, InsertLaw, CopyLaw}
@@ -18,7 +18,7 @@ use Rattle.page_tree.proofs.BackLemmas.{form-sound, form-named}
 
 -- ---- the next serial
 
-greatest-below : (bound : ℕ) (n : Nodes Row) → 0 < bound → ((x : ℕ) → 0 < tally row_serial x n → x < bound) → greatest_serial n < bound
+greatest-below : (bound : ℕ) (n : Nodes PageRow) → 0 < bound → ((x : ℕ) → 0 < tally row_serial x n → x < bound) → greatest_serial n < bound
 greatest-below bound none some h = some
 greatest-below bound (node r c t) some h =
     let here = h r.serial (tally_row row_serial r.serial r c t refl) in
@@ -46,7 +46,7 @@ greatest-numbered from (node l c t) h =
 
 -- ---- an insert
 
-module _ (page : State) (form : Branch Label) (valid : IsValid page) where
+module _ (page : PageValue) (form : Branch Label) (valid : IsValid page) where
   pub form-numbered : map_branch row_label (numbered_branch page.next form) ≡ form
   form-numbered = ap (λ (c : Nodes Label). record { row = form.row; children = c }) (map_rows-numbered (page.next + 1) form.children)
 

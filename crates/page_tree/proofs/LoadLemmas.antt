@@ -13,11 +13,11 @@ use Rattle.serde_json.specs.declared.value.Value.{Value}
 use Rattle.node_tree.specs.Nodes.{Nodes, Branch, nodes_of, beside}
 use Rattle.node_tree.specs.Labels.{Label}
 use Rattle.node_tree.proofs.NodeLemmas.{nodes_of-append, beside-none, beside_assoc}
-use Rattle.page_tree.specs.Loads.{label_of, branch_of, before, form_of, forms_of, below_of, list_of, children_in}
+use Rattle.page_tree.specs.Loads.{label_spelled, branch_of, form_before, node_spelled, forms_of, below_of, nodes_listed, values_below}
 
 -- ---- a node is its label and its children
 
-list_of-array : (d : Data) → list_of d ≡ option_and_then (forms_of false) (as_array d)
+list_of-array : (d : Data) → nodes_listed d ≡ option_and_then (forms_of false) (as_array d)
 list_of-array null = refl
 list_of-array (boolean b) = refl
 list_of-array (number n) = refl
@@ -26,7 +26,7 @@ list_of-array (array ds) = refl
 list_of-array (object ms) = refl
 
 below_step : (o : Ordering) (b : Bool) (d : Data) (rest : Option (Nodes Label)) (g : Option Data) → is_eq o ≡ b → rest ≡ option_and_then (forms_of false) (option_map_or as_array g (Some no_items))
-    → cond b (list_of d) rest ≡ option_and_then (forms_of false) (option_map_or as_array (match_ordering o g (Some d) g) (Some no_items))
+    → cond b (nodes_listed d) rest ≡ option_and_then (forms_of false) (option_map_or as_array (match_ordering o g (Some d) g) (Some no_items))
 below_step Less false d rest g e h = h
 below_step Less true d rest g e h = absurd (cc)
 below_step Equal true d rest g e h = list_of-array d
@@ -34,11 +34,11 @@ below_step Equal false d rest g e h = absurd (cc)
 below_step Greater false d rest g e h = h
 below_step Greater true d rest g e h = absurd (cc)
 
-below_of-children : (ms : Members) → below_of ms ≡ option_and_then (forms_of false) (children_in (object ms))
+below_of-children : (ms : Members) → below_of ms ≡ option_and_then (forms_of false) (values_below (object ms))
 below_of-children no_members = refl
 below_of-children (member k d ms) = below_step (slice_cmp nat_cmp (codes "c") k) _ d _ (get_member (codes "c") ms) (is_eq-slice_cmp (codes "c") k) (below_of-children ms)
 
-pub form_of-parts : (top : Bool) (d : Data) → form_of top d ≡ branch_of (label_of top d) (option_and_then (forms_of false) (children_in d))
+pub form_of-parts : (top : Bool) (d : Data) → node_spelled top d ≡ branch_of (label_spelled top d) (option_and_then (forms_of false) (values_below d))
 form_of-parts true null = refl
 form_of-parts false null = refl
 form_of-parts true (boolean b) = refl
@@ -49,11 +49,11 @@ form_of-parts true (string s) = refl
 form_of-parts false (string s) = refl
 form_of-parts true (array ds) = refl
 form_of-parts false (array ds) = refl
-form_of-parts top (object ms) = ap (branch_of (label_of top (object ms))) (below_of-children ms)
+form_of-parts top (object ms) = ap (branch_of (label_spelled top (object ms))) (below_of-children ms)
 
 -- the node of a label and of children that were read; none where the children have not their form
-pub form_made : (top : Bool) (d : Data) (l : Label) (children : Option Items) (n : Option (Nodes Label)) → Some l ≡ label_of top d → children ≡ children_in d → n ≡ option_and_then (forms_of false) children
-    → option_map (λ n. record { row = l; children = n }) n ≡ form_of top d
+pub form_made : (top : Bool) (d : Data) (l : Label) (children : Option Items) (n : Option (Nodes Label)) → Some l ≡ label_spelled top d → children ≡ values_below d → n ≡ option_and_then (forms_of false) children
+    → option_map (λ n. record { row = l; children = n }) n ≡ node_spelled top d
 form_made top d l children n is_label is_children is_n = sym (rw (form_of-parts top d, ← is_label, ← is_children, ← is_n))
 
 -- ---- depths
@@ -80,7 +80,7 @@ listed-depth None ds m h e = let k : no_items ≡ ds = cc in let u = ap items_de
 listed-depth (Some d) ds m h e = let u = h d refl in let v = as_array-depth d ds e in omega arith
 
 -- what an object lists is less deep than it
-pub children_in-depth : (d : Data) (ds : Items) → children_in d ≡ Some ds → items_depth ds < depth d
+pub children_in-depth : (d : Data) (ds : Items) → values_below d ≡ Some ds → items_depth ds < depth d
 children_in-depth null ds e = absurd (cc)
 children_in-depth (boolean b) ds e = absurd (cc)
 children_in-depth (number n) ds e = absurd (cc)
@@ -95,15 +95,15 @@ item-depth (v ∷ vs) (suc i) d h = let u = item-depth vs i d (omega arith) in o
 
 -- ---- a list of nodes, node by node
 
-read_step : (done : List (Branch Label)) (b : Branch Label) (rest all : Option (Nodes Label)) → option_map (beside (nodes_of done)) (before (Some b) rest) ≡ all → option_map (beside (nodes_of (done ++ b ∷ []))) rest ≡ all
+read_step : (done : List (Branch Label)) (b : Branch Label) (rest all : Option (Nodes Label)) → option_map (beside (nodes_of done)) (form_before (Some b) rest) ≡ all → option_map (beside (nodes_of (done ++ b ∷ []))) rest ≡ all
 read_step done b None all e = e
 read_step done b (Some n) all e = ap Some (ap (λ (m : Nodes Label). beside m n) (nodes_of-append done (b ∷ [])) ∙ beside_assoc (nodes_of done) (nodes_of (b ∷ [])) n) ∙ e
 
-forms_of-drop : (top : Bool) (vs : List Value) (i : ℕ) (v : Value) → i < length vs → v ≡ get_or vs i v → forms_of top (items_view (drop i vs)) ≡ before (form_of top (view v)) (forms_of top (items_view (drop (i + 1) vs)))
-forms_of-drop top vs i v h e = rw (add-one, drop-cons vs i v) (ap (λ (u : Value). before (form_of top (view u)) (forms_of top (items_view (drop (suc i) vs)))) (sym e))
+forms_of-drop : (top : Bool) (vs : List Value) (i : ℕ) (v : Value) → i < length vs → v ≡ get_or vs i v → forms_of top (items_view (drop i vs)) ≡ form_before (node_spelled top (view v)) (forms_of top (items_view (drop (i + 1) vs)))
+forms_of-drop top vs i v h e = rw (add-one, drop-cons vs i v) (ap (λ (u : Value). form_before (node_spelled top (view u)) (forms_of top (items_view (drop (suc i) vs)))) (sym e))
 
 -- one node more is read
-pub read_turn : (top : Bool) (vs : List Value) (i : ℕ) (v : Value) (done : List (Branch Label)) (b : Branch Label) (all : Option (Nodes Label)) → i < length vs → v ≡ get_or vs i v → Some b ≡ form_of top (view v)
+pub read_turn : (top : Bool) (vs : List Value) (i : ℕ) (v : Value) (done : List (Branch Label)) (b : Branch Label) (all : Option (Nodes Label)) → i < length vs → v ≡ get_or vs i v → Some b ≡ node_spelled top (view v)
     → option_map (beside (nodes_of done)) (forms_of top (items_view (drop i vs))) ≡ all → option_map (beside (nodes_of (done ++ b ∷ []))) (forms_of top (items_view (drop (i + 1) vs))) ≡ all
 read_turn top vs i v done b all h e is_form so_far = read_step done b _ all (rw (forms_of-drop top vs i v h e, ← is_form) at so_far)
 

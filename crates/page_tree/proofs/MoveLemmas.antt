@@ -8,7 +8,7 @@ use Rattle.node_tree.proofs.NodeLemmas.{node_count-map_rows}
 use Rattle.node_tree.proofs.KeyLemmas.{tally_cases, tally_row, find-absent}
 use Rattle.node_tree.proofs.ChangeLemmas.{count-at, tally_in-at, child_of, child-key}
 use Rattle.page_tree.specs.Forms.{max_level}
-use Rattle.page_tree.specs.Pages.{Row, row_serial, row_label, State, node_at, parent_at, level_at, IsValid}
+use Rattle.page_tree.specs.Pages.{PageRow, row_serial, row_label, PageValue, node_at, parent_at, level_at, IsValid}
 use Rattle.page_tree.specs.Edits.{without_child, taken_out, changed_at, label_at, children_at, next_sibling, is_among, form_at, moved_before}
 use Rattle.page_tree.specs.EditFaults.{is_live, is_live_or_0, is_place, kind_at, may_hold, CanApply, edit_faults, move_faults, move_fault}
 use Rattle.page_tree.specs.EditLaws.{MoveLaw}
@@ -29,11 +29,11 @@ record Face : Type 0 where
   among : Bool
 
 module _ (x b : ℕ) where
-  abbrev face_of : ℕ → Nodes Row → Option Face
+  abbrev face_of : ℕ → Nodes PageRow → Option Face
   face_of level none = None
   face_of level (node r c t) = cond (r.serial == x) (Some (record { label = r.label; level = level; among = is_among b c })) (first_of (face_of (suc level) c) (face_of level t))
 
-  face-absent : (level : ℕ) (n : Nodes Row) → tally row_serial x n ≡ 0 → face_of level n ≡ None
+  face-absent : (level : ℕ) (n : Nodes PageRow) → tally row_serial x n ≡ 0 → face_of level n ≡ None
   face-absent level none h = refl
   face-absent level (node r c t) h =
       elim (tally_cases row_serial x r c t) [
@@ -42,24 +42,24 @@ module _ (x b : ℕ) where
       ]
 
   -- it is as the node that is found
-  abbrev faced : Option (Branch Row) → Option ℕ → Option Face
+  abbrev faced : Option (Branch PageRow) → Option ℕ → Option Face
   faced None level = None
   faced (Some y) None = None
   faced (Some y) (Some level) = Some (record { label = y.row.label; level = level; among = is_among b y.children })
 
-  found_both : (d : Bool) (top : Branch Row) (level : ℕ) (f g : Option (Branch Row)) (k l : Option ℕ) → is_some f ≡ is_some k → is_some g ≡ is_some l → is_some (cond d (Some top) (first_of f g)) ≡ is_some (cond d (Some level) (first_of k l))
+  found_both : (d : Bool) (top : Branch PageRow) (level : ℕ) (f g : Option (Branch PageRow)) (k l : Option ℕ) → is_some f ≡ is_some k → is_some g ≡ is_some l → is_some (cond d (Some top) (first_of f g)) ≡ is_some (cond d (Some level) (first_of k l))
   found_both true top level f g k l e h = refl
   found_both false top level None g None l e h = h
   found_both false top level None g (Some y) l e h = absurd (cc)
   found_both false top level (Some z) g None l e h = absurd (cc)
   found_both false top level (Some z) g (Some y) l e h = refl
 
-  level-found : (level : ℕ) (n : Nodes Row) → is_some (find row_serial x n) ≡ is_some (level_of row_serial x level n)
+  level-found : (level : ℕ) (n : Nodes PageRow) → is_some (find row_serial x n) ≡ is_some (level_of row_serial x level n)
   level-found level none = refl
   level-found level (node r c t) =
       found_both (r.serial == x) (record { row = r; children = c }) level (find row_serial x c) (find row_serial x t) (level_of row_serial x (suc level) c) (level_of row_serial x level t) (level-found (suc level) c) (level-found level t)
 
-  face_step : (d : Bool) (r : Row) (c : Nodes Row) (level : ℕ) (f g : Option (Branch Row)) (k l : Option ℕ) (u v : Option Face) → is_some f ≡ is_some k → u ≡ faced f k → v ≡ faced g l
+  face_step : (d : Bool) (r : PageRow) (c : Nodes PageRow) (level : ℕ) (f g : Option (Branch PageRow)) (k l : Option ℕ) (u v : Option Face) → is_some f ≡ is_some k → u ≡ faced f k → v ≡ faced g l
       → cond d (Some (record { label = r.label; level = level; among = is_among b c })) (first_of u v) ≡ faced (cond d (Some (record { row = r; children = c })) (first_of f g)) (cond d (Some level) (first_of k l))
   face_step true r c level f g k l u v e is_u is_v = refl
   face_step false r c level None g None l u v e is_u is_v = rw is_u is_v
@@ -67,7 +67,7 @@ module _ (x b : ℕ) where
   face_step false r c level (Some z) g None l u v e is_u is_v = absurd (cc)
   face_step false r c level (Some z) g (Some y) l u v e is_u is_v = rw is_u refl
 
-  face-found : (level : ℕ) (n : Nodes Row) → face_of level n ≡ faced (find row_serial x n) (level_of row_serial x level n)
+  face-found : (level : ℕ) (n : Nodes PageRow) → face_of level n ≡ faced (find row_serial x n) (level_of row_serial x level n)
   face-found level none = refl
   face-found level (node r c t) =
       face_step (r.serial == x) r c level (find row_serial x c) (find row_serial x t) (level_of row_serial x (suc level) c) (level_of row_serial x level t) (face_of (suc level) c) (face_of level t) (level-found (suc level) c)
@@ -75,16 +75,16 @@ module _ (x b : ℕ) where
 
   -- ---- a node taken out elsewhere
 
-  among-at : {old new : Branch Row} {depth : ℕ} {n m : Nodes Row} → old.row.serial ≡ new.row.serial → At old new depth n m → is_among b m ≡ is_among b n
+  among-at : {old new : Branch PageRow} {depth : ℕ} {n m : Nodes PageRow} → old.row.serial ≡ new.row.serial → At old new depth n m → is_among b m ≡ is_among b n
   among-at same (here t) = ap (λ (s : ℕ). s == b || is_among b t) (sym same)
   among-at same (within depth r c m t e) = refl
   among-at same (past depth r c t m e) = ap (λ (v : Bool). r.serial == b || v) (among-at same e)
 
-  among-inserted : {w : Branch Row} {n m : Nodes Row} → (w.row.serial ≡ b → ⊥) → Inserted w n m → is_among b n ≡ is_among b m
+  among-inserted : {w : Branch PageRow} {n m : Nodes PageRow} → (w.row.serial ≡ b → ⊥) → Inserted w n m → is_among b n ≡ is_among b m
   among-inserted {w} other (front t) = rw (ne_eqb w.row.serial b other) refl
   among-inserted other (behind r c t u i) = ap (λ (v : Bool). r.serial == b || v) (among-inserted other i)
 
-  face-inserted : {w : Branch Row} {n m : Nodes Row} (level : ℕ) → tally_in row_serial x w ≡ 0 → Inserted w n m → face_of level n ≡ face_of level m
+  face-inserted : {w : Branch PageRow} {n m : Nodes PageRow} (level : ℕ) → tally_in row_serial x w ≡ 0 → Inserted w n m → face_of level n ≡ face_of level m
   face-inserted {w} level apart (front t) =
       elim (tally_cases row_serial x w.row w.children none) [
         | inl p ↦ absurd (omega arith)
@@ -97,7 +97,7 @@ module _ (x b : ℕ) where
   cond_face : (d : Bool) (l : Label) (level : ℕ) (y z : Bool) (u v g h : Option Face) → y ≡ z → u ≡ v → g ≡ h → cond d (Some (record { label = l; level = level; among = y })) (first_of u g) ≡ cond d (Some (record { label = l; level = level; among = z })) (first_of v h)
   cond_face d l level y z u v g h e f k = λ i. cond d (Some (record { label = l; level = level; among = e i })) (first_of (f i) (k i))
 
-  face-at : (serial : ℕ) {old w : Branch Row} {depth : ℕ} {n m : Nodes Row} (level : ℕ) → At old (without_child serial old) depth n m → Inserted w (taken_out serial old.children) old.children → tally_in row_serial x w ≡ 0 → (w.row.serial ≡ b → ⊥)
+  face-at : (serial : ℕ) {old w : Branch PageRow} {depth : ℕ} {n m : Nodes PageRow} (level : ℕ) → At old (without_child serial old) depth n m → Inserted w (taken_out serial old.children) old.children → tally_in row_serial x w ≡ 0 → (w.row.serial ≡ b → ⊥)
       → face_of level m ≡ face_of level n
   face-at serial {old} level (here t) i apart other =
       cond_face (old.row.serial == x) old.row.label level (is_among b (taken_out serial old.children)) (is_among b old.children) (face_of (suc level) (taken_out serial old.children)) (face_of (suc level) old.children) (face_of level t) (face_of level t)
@@ -108,14 +108,14 @@ module _ (x b : ℕ) where
       cond_face (r.serial == x) r.label level (is_among b c) (is_among b c) (face_of (suc level) c) (face_of (suc level) c) (face_of level m) (face_of level t) refl refl (face-at serial level e i apart other)
 
   -- the face of a live node
-  abbrev face_at : Branch Row → Face
+  abbrev face_at : Branch PageRow → Face
   face_at tree = record { label = label_at x tree; level = level_at x tree; among = is_among b (children_at x tree) }
 
   some_level : (o : Option ℕ) → is_some o ≡ true → o ≡ Some (unwrap_or o 0)
   some_level None e = absurd (cc)
   some_level (Some l) e = refl
 
-  face-live : (tree : Branch Row) → is_live x tree ≡ true → face_of 0 (alone tree) ≡ Some (face_at tree)
+  face-live : (tree : Branch PageRow) → is_live x tree ≡ true → face_of 0 (alone tree) ≡ Some (face_at tree)
   face-live tree live =
       let found = found-live x tree live in
       let level : level_of row_serial x 0 (alone tree) ≡ Some (level_at x tree) = some_level (level_of row_serial x 0 (alone tree)) (sym (level-found 0 (alone tree)) ∙ live) in
@@ -127,16 +127,16 @@ zero_or_more : (k : ℕ) → (k ≡ 0) ⊎ (0 < k)
 zero_or_more zero = inl refl
 zero_or_more (suc k) = inr (omega arith)
 
-child_here : (d e : Bool) (r : Row) (c : Nodes Row) (later : Option (Branch Row)) → (d || e) ≡ true → (e ≡ true → (w : Branch Row) × (later ≡ Some w)) → (w : Branch Row) × (cond d (Some (record { row = r; children = c })) later ≡ Some w)
+child_here : (d e : Bool) (r : PageRow) (c : Nodes PageRow) (later : Option (Branch PageRow)) → (d || e) ≡ true → (e ≡ true → (w : Branch PageRow) × (later ≡ Some w)) → (w : Branch PageRow) × (cond d (Some (record { row = r; children = c })) later ≡ Some w)
 child_here true e r c later f k = (record { row = r; children = c }, refl)
 child_here false e r c later f k = k f
 
-among-child : (serial : ℕ) (n : Nodes Row) → is_among serial n ≡ true → (w : Branch Row) × (child_of row_serial serial n ≡ Some w)
+among-child : (serial : ℕ) (n : Nodes PageRow) → is_among serial n ≡ true → (w : Branch PageRow) × (child_of row_serial serial n ≡ Some w)
 among-child serial none e = absurd (cc)
 among-child serial (node r c t) e = child_here (r.serial == serial) (is_among serial t) r c (child_of row_serial serial t) e (among-child serial t)
 
 -- a next sibling is another node
-other_sibling : (serial : ℕ) (n : Nodes Row) → 1 ≤ serial → tally row_serial serial n ≤ 1 → is_among serial n ≡ true → next_sibling serial n ≡ serial → ⊥
+other_sibling : (serial : ℕ) (n : Nodes PageRow) → 1 ≤ serial → tally row_serial serial n ≤ 1 → is_among serial n ≡ true → next_sibling serial n ≡ serial → ⊥
 other_sibling serial n some once there same =
     elim (next-among serial n) [
       | inl z ↦ omega arith
@@ -150,7 +150,7 @@ other_sibling serial n some once there same =
           omega arith
     ]
   where
-    child_key : (w : Branch Row) → child_of row_serial serial n ≡ Some w → w.row.serial ≡ serial
+    child_key : (w : Branch PageRow) → child_of row_serial serial n ≡ Some w → w.row.serial ≡ serial
     child_key w e = child-key row_serial serial n w e
 
 or_right : (a b : Bool) → (a || b) ≡ true → a ≡ false → b ≡ true
@@ -166,7 +166,7 @@ before_other P serial before sibling some apart false is fits e =
 
 -- ---- a move
 
-module _ (page : State) (serial parent before : ℕ) (valid : IsValid page) (clear_of : move_fault serial parent before page.tree ≡ None) where
+module _ (page : PageValue) (serial parent before : ℕ) (valid : IsValid page) (clear_of : move_fault serial parent before page.tree ≡ None) where
   move_whole : Whole page.next (alone page.tree)
   move_whole = whole-valid page valid
 
@@ -179,7 +179,7 @@ module _ (page : State) (serial parent before : ℕ) (valid : IsValid page) (cle
   abbrev place : ℕ
   place = moved_before serial parent before page.tree
 
-  abbrev rest : Branch Row
+  abbrev rest : Branch PageRow
   rest = changed_at (parent_at serial page.tree) (without_child serial) page.tree
 
   move_place : is_place parent place page.tree ≡ true
@@ -199,7 +199,7 @@ module _ (page : State) (serial parent before : ℕ) (valid : IsValid page) (cle
       let there = find_tally parent page.tree (found-live parent page.tree move_lives.1) in
       live-tally parent rest (let z = parent_apart in omega arith)
     where
-      find_tally : (x : ℕ) (tree : Branch Row) → find row_serial x (alone tree) ≡ Some (node_at x tree) → 0 < tally row_serial x (alone tree)
+      find_tally : (x : ℕ) (tree : Branch PageRow) → find row_serial x (alone tree) ≡ Some (node_at x tree) → 0 < tally row_serial x (alone tree)
       find_tally x tree found = elim (zero_or_more (tally row_serial x (alone tree))) [ inl z ↦ absurd (let e = find-absent row_serial x (alone tree) z in cc) | inr p ↦ p ]
 
   serial_some : 1 ≤ serial

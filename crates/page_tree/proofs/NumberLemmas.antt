@@ -7,7 +7,7 @@ use Rattle.node_tree.specs.Labels.{Label}
 use Rattle.node_tree.specs.Keys.{tally}
 use Rattle.node_tree.proofs.NodeLemmas.{nodes_of-append, beside-none, beside_assoc}
 use Rattle.page_tree.specs.Forms.{CanLoad}
-use Rattle.page_tree.specs.Pages.{Row, row_serial, row_label, numbered, loaded, document_label, times_in, IsValid}
+use Rattle.page_tree.specs.Pages.{PageRow, row_serial, row_label, numbered, loaded, document_label, times_in, IsValid}
 
 pub map_rows-numbered : (first : ℕ) (n : Nodes Label) → map_rows row_label (numbered first n) ≡ n
 map_rows-numbered first none = refl
@@ -64,10 +64,10 @@ loaded_valid first n least fit = record {
 -- ---- a numbering, form by form
 
 -- the tree that a form becomes, with its children numbered
-abbrev pub grown : ℕ → Label → Nodes Row → Branch Row
+abbrev pub grown : ℕ → Label → Nodes PageRow → Branch PageRow
 grown serial label children = record { row = record { serial = serial; label = label }; children = children }
 
-pub number_turn : (done : List (Branch Row)) (label : Label) (below : Nodes Label) (children : Nodes Row) (later all : Nodes Label) (first next after : ℕ)
+pub number_turn : (done : List (Branch PageRow)) (label : Label) (below : Nodes Label) (children : Nodes PageRow) (later all : Nodes Label) (first next after : ℕ)
     → beside (nodes_of done) (numbered next (node label below later)) ≡ numbered first all
     → children ≡ numbered (next + 1) below
     → after ≡ next + 1 + node_count below
@@ -75,7 +75,7 @@ pub number_turn : (done : List (Branch Row)) (label : Label) (below : Nodes Labe
 number_turn done label below children later all first next after so_far is_children is_after =
     rw (is_children, is_after, nodes_of-append done (grown next label (numbered (next + 1) below) ∷ []), beside_assoc (nodes_of done) (nodes_of (grown next label (numbered (next + 1) below) ∷ [])) (numbered (next + 1 + node_count below) later)) so_far
 
-pub number_end : (done : List (Branch Row)) (rest : List (Branch Label)) (all : Nodes Label) (first next : ℕ) → length rest ≡ 0 → beside (nodes_of done) (numbered next (nodes_of rest)) ≡ numbered first all → nodes_of done ≡ numbered first all
+pub number_end : (done : List (Branch PageRow)) (rest : List (Branch Label)) (all : Nodes Label) (first next : ℕ) → length rest ≡ 0 → beside (nodes_of done) (numbered next (nodes_of rest)) ≡ numbered first all → nodes_of done ≡ numbered first all
 number_end done [] all first next e so_far = sym (beside-none (nodes_of done)) ∙ so_far
 number_end done (b ∷ bs) all first next e so_far = absurd (omega arith)
 

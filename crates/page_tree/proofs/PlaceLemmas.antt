@@ -8,7 +8,7 @@ use Rattle.node_tree.specs.Arena.{times, Keeps, IsArena}
 use Rattle.node_tree.proofs.NodeLemmas.{height-map_rows}
 use Rattle.node_tree.proofs.ArenaLemmas.{kept_trees-keeps, keeps-width, keeps-tree_at, keeps-up, IsAtKey, key-find, find-key}
 use Rattle.page_tree.specs.Forms.{max_level}
-use Rattle.page_tree.specs.Pages.{Row, row_serial, row_label, IsValid, find_in, node_at, parent_at, level_at}
+use Rattle.page_tree.specs.Pages.{PageRow, row_serial, row_label, IsValid, find_in, node_at, parent_at, level_at}
 use Rattle.page_tree.specs.Arenas.{page_slots, slot_row, slots_in, keys_in, Filed, Stored, Fresh, Grown, slot_of, climbed, first_tree, tree_of, IsPage, Looks}
 use Rattle.page_tree.specs.declared.slots.Slot.{Slot}
 use Rattle.page_tree.specs.declared.arenas.Arena.{Arena}
@@ -19,7 +19,7 @@ level_cases P false h l (Some y) g e here below after = below e
 level_cases P false h l None g e here below after = after e
 
 -- a level is below the height
-level_of-low : (x level : ℕ) (n : Nodes Row) (l : ℕ) → level_of row_serial x level n ≡ Some l → l < level + height n
+level_of-low : (x level : ℕ) (n : Nodes PageRow) (l : ℕ) → level_of row_serial x level n ≡ Some l → l < level + height n
 level_of-low x level none l e = absurd (cc)
 level_of-low x level (node r c t) l e =
     level_cases (l < level + height (node r c t)) (r.serial == x) level l (level_of row_serial x (suc level) c) (level_of row_serial x level t) e
@@ -36,7 +36,7 @@ climbed_lost a zero k some e = absurd (omega arith)
 climbed_lost a (suc levels) k some e = sym (ap (λ (o : Option Slot). suc (climbed a levels (option_and_then (λ (s : Slot). s.parent) o))) e ∙ ap suc (climbed_none a levels))
 
 -- a tree that the slots keep is the page's
-module _ (a : Arena) (root next : ℕ) (tree : Branch Row) (arena : IsArena page_slots (slots_in a) (keys_in a) root tree) (valid : IsValid (record { tree = tree; next = next })) where
+module _ (a : Arena) (root next : ℕ) (tree : Branch PageRow) (arena : IsArena page_slots (slots_in a) (keys_in a) root tree) (valid : IsValid (record { tree = tree; next = next })) where
   low : height (alone tree) ≤ suc max_level
   low = let h = valid.nodes.levels in let e = height-map_rows row_label tree.children in omega arith
 
@@ -47,8 +47,8 @@ module _ (a : Arena) (root next : ℕ) (tree : Branch Row) (arena : IsArena page
   pub rebuilt : IsPage a root next
   rebuilt =
       record {
-        arena = subst (λ (t : Branch Row). IsArena page_slots (slots_in a) (keys_in a) root t) (sym tree_is) arena;
-        valid = subst (λ (t : Branch Row). IsValid (record { tree = t; next = next })) (sym tree_is) valid;
+        arena = subst (λ (t : Branch PageRow). IsArena page_slots (slots_in a) (keys_in a) root t) (sym tree_is) arena;
+        valid = subst (λ (t : Branch PageRow). IsValid (record { tree = t; next = next })) (sym tree_is) valid;
       }
 
 -- ---- readers
@@ -57,7 +57,7 @@ module _ (a : Arena) (root next : ℕ) (page : IsPage a root next) where
   pub once : (x : ℕ) → times page_slots x (alone (tree_of a root)) ≤ 1
   once x = let d = page.valid.distinct x in omega arith
 
-  at_slot : (x k : ℕ) (b : Branch Row) → IsAtKey page_slots (slots_in a) (keys_in a) k x b → (slot : Slot) × (slot_of a x ≡ Some slot) × (slot_row slot ≡ b.row) × (length slot.children ≡ width b.children)
+  at_slot : (x k : ℕ) (b : Branch PageRow) → IsAtKey page_slots (slots_in a) (keys_in a) k x b → (slot : Slot) × (slot_of a x ≡ Some slot) × (slot_row slot ≡ b.row) × (length slot.children ≡ width b.children)
   at_slot x k b is =
       let (slot, at, up, row_is, below, after) = is.stands in
       (slot, ap (λ (o : Option ℕ). option_and_then (slots_in a) o) is.key_is ∙ at, row_is, sym (keeps-width page_slots (slots_in a) b.children (Some k) slot.children below))
@@ -84,7 +84,7 @@ module _ (a : Arena) (root next : ℕ) (page : IsPage a root next) where
     pub key_is : keys_in a x ≡ Some key
     pub at : slots_in a key ≡ Some slot
     pub serial_is : slot.serial ≡ x
-    pub branch : Branch Row
+    pub branch : Branch PageRow
     pub found : find_in x (tree_of a root) ≡ Some branch
     pub row_is : slot_row slot ≡ branch.row
     pub below : Keeps page_slots (slots_in a) branch.children (Some key) slot.children
@@ -113,20 +113,20 @@ module _ (a : Arena) (root next : ℕ) (page : IsPage a root next) where
   pub located : (x : ℕ) (slot : Slot) → slot_of a x ≡ Some slot → Located x slot
   located x slot e = option_and_then_some (slots_in a) (keys_in a x) slot e (λ k key_is at. located_key x k slot key_is at)
 
-  pub node_at_is : (x : ℕ) (b : Branch Row) → find_in x (tree_of a root) ≡ Some b → node_at x (tree_of a root) ≡ b
-  node_at_is x b e = ap (λ (o : Option (Branch Row)). unwrap_or o (tree_of a root)) e
+  pub node_at_is : (x : ℕ) (b : Branch PageRow) → find_in x (tree_of a root) ≡ Some b → node_at x (tree_of a root) ≡ b
+  node_at_is x b e = ap (λ (o : Option (Branch PageRow)). unwrap_or o (tree_of a root)) e
 
   -- a child at a place of the list
   pub child_is : (x : ℕ) (slot : Slot) (i k : ℕ) → slot_of a x ≡ Some slot → slice_get slot.children i ≡ Some k
-      → (child : Slot) × (slots_in a k ≡ Some child) × (option_map (λ (b : Branch Row). b.row.serial) (tree_at i (node_at x (tree_of a root)).children) ≡ Some child.serial)
+      → (child : Slot) × (slots_in a k ≡ Some child) × (option_map (λ (b : Branch PageRow). b.row.serial) (tree_at i (node_at x (tree_of a root)).children) ≡ Some child.serial)
   child_is x slot i k e at =
       let l = located x slot e in
       let (b, place, (child, child_at, up, row_is, below, after)) = keeps-tree_at page_slots (slots_in a) l.branch.children (Some l.key) slot.children i k l.below at in (
         child,
         child_at,
-        ap (λ (n : Branch Row). option_map (λ (b : Branch Row). b.row.serial) (tree_at i n.children)) (node_at_is x l.branch l.found)
-            ∙ ap (λ (o : Option (Branch Row)). option_map (λ (b : Branch Row). b.row.serial) o) place
-            ∙ ap (λ (r : Row). Some r.serial) (sym row_is),
+        ap (λ (n : Branch PageRow). option_map (λ (b : Branch PageRow). b.row.serial) (tree_at i n.children)) (node_at_is x l.branch l.found)
+            ∙ ap (λ (o : Option (Branch PageRow)). option_map (λ (b : Branch PageRow). b.row.serial) o) place
+            ∙ ap (λ (r : PageRow). Some r.serial) (sym row_is),
       )
 
   -- ---- upwards
@@ -188,33 +188,33 @@ module _ (a : Arena) (root next : ℕ) (page : IsPage a root next) where
 
 -- ---- the same, of the tree that a page is seen as
 
-pub looks-live : (o : Option Slot) (f : Option (Branch Row)) → Looks o f → is_some o ≡ is_some f
-looks-live None f e = sym (ap (λ (g : Option (Branch Row)). is_some g) e)
-looks-live (Some slot) f (b, e, row_is, length_is) = sym (ap (λ (g : Option (Branch Row)). is_some g) e)
+pub looks-live : (o : Option Slot) (f : Option (Branch PageRow)) → Looks o f → is_some o ≡ is_some f
+looks-live None f e = sym (ap (λ (g : Option (Branch PageRow)). is_some g) e)
+looks-live (Some slot) f (b, e, row_is, length_is) = sym (ap (λ (g : Option (Branch PageRow)). is_some g) e)
 
-module _ (a : Arena) (root next : ℕ) (page : IsPage a root next) (t : Branch Row) (is : tree_of a root ≡ t) where
+module _ (a : Arena) (root next : ℕ) (page : IsPage a root next) (t : Branch PageRow) (is : tree_of a root ≡ t) where
   pub reads-looks : (x : ℕ) → Looks (slot_of a x) (find_in x t)
-  reads-looks x = subst (λ (b : Branch Row). Looks (slot_of a x) (find_in x b)) is (looks a root next page x)
+  reads-looks x = subst (λ (b : Branch PageRow). Looks (slot_of a x) (find_in x b)) is (looks a root next page x)
 
   pub reads-there : (x : ℕ) → IsSome (find_in x t) → slot_of a x ≡ None → ⊥
   reads-there x some e =
       let f : find_in x t ≡ None = subst (λ (o : Option Slot). Looks o (find_in x t)) e (reads-looks x) in
-      let clash : IsSome {T = Branch Row} None = subst (λ (o : Option (Branch Row)). IsSome o) f some in absurd (cc)
+      let clash : IsSome {T = Branch PageRow} None = subst (λ (o : Option (Branch PageRow)). IsSome o) f some in absurd (cc)
 
   pub reads-node : (x : ℕ) (slot : Slot) → slot_of a x ≡ Some slot → (slot_row slot ≡ (node_at x t).row) × (length slot.children ≡ width (node_at x t).children)
   reads-node x slot e =
       let (b, found, row_is, length_is) = subst (λ (o : Option Slot). Looks o (find_in x t)) e (reads-looks x) in
-      let at : node_at x t ≡ b = ap (λ (o : Option (Branch Row)). unwrap_or o t) found in
-      (row_is ∙ sym (ap (λ (n : Branch Row). n.row) at), length_is ∙ sym (ap (λ (n : Branch Row). width n.children) at))
+      let at : node_at x t ≡ b = ap (λ (o : Option (Branch PageRow)). unwrap_or o t) found in
+      (row_is ∙ sym (ap (λ (n : Branch PageRow). n.row) at), length_is ∙ sym (ap (λ (n : Branch PageRow). width n.children) at))
 
   pub reads-child : (x : ℕ) (slot : Slot) (i k : ℕ) → slot_of a x ≡ Some slot → slice_get slot.children i ≡ Some k
-      → (child : Slot) × (slots_in a k ≡ Some child) × (option_map (λ (b : Branch Row). b.row.serial) (tree_at i (node_at x t).children) ≡ Some child.serial)
+      → (child : Slot) × (slots_in a k ≡ Some child) × (option_map (λ (b : Branch PageRow). b.row.serial) (tree_at i (node_at x t).children) ≡ Some child.serial)
   reads-child x slot i k e at =
-      subst (λ (n : Branch Row). (child : Slot) × (slots_in a k ≡ Some child) × (option_map (λ (b : Branch Row). b.row.serial) (tree_at i (node_at x n).children) ≡ Some child.serial)) is (child_is a root next page x slot i k e at)
+      subst (λ (n : Branch PageRow). (child : Slot) × (slots_in a k ≡ Some child) × (option_map (λ (b : Branch PageRow). b.row.serial) (tree_at i (node_at x n).children) ≡ Some child.serial)) is (child_is a root next page x slot i k e at)
 
   pub reads-top : (x : ℕ) (slot : Slot) → slot_of a x ≡ Some slot → slot.parent ≡ None → 0 ≡ parent_at x t
   reads-top x slot e up = elim (placed_up a root next page x slot e) [
-    | inl top ↦ sym (sym (ap (λ (n : Branch Row). parent_at x n) is) ∙ top.parent_is)
+    | inl top ↦ sym (sym (ap (λ (n : Branch PageRow). parent_at x n) is) ∙ top.parent_is)
     | inr low ↦ absurd (let clash : None ≡ Some low.key = sym up ∙ low.up in cc)
   ]
 
@@ -223,15 +223,15 @@ module _ (a : Arena) (root next : ℕ) (page : IsPage a root next) (t : Branch R
     | inl top ↦ absurd (let clash : None ≡ Some k = sym top.up ∙ up in cc)
     | inr low ↦
         let same : low.key ≡ k = let both : Some low.key ≡ Some k = sym low.up ∙ up in cc in
-        (low.over, sym (ap (λ (y : ℕ). slots_in a y) same) ∙ low.over_at, sym (sym (ap (λ (n : Branch Row). parent_at x n) is) ∙ low.parent_is))
+        (low.over, sym (ap (λ (y : ℕ). slots_in a y) same) ∙ low.over_at, sym (sym (ap (λ (n : Branch PageRow). parent_at x n) is) ∙ low.parent_is))
   ]
 
   pub reads-level : (x : ℕ) (slot : Slot) → slot_of a x ≡ Some slot → climbed a max_level slot.parent ≡ level_at x t
-  reads-level x slot e = climbs a root next page max_level x slot e (level_low a root next page x) ∙ ap (λ (n : Branch Row). level_at x n) is
+  reads-level x slot e = climbs a root next page max_level x slot e (level_low a root next page x) ∙ ap (λ (n : Branch PageRow). level_at x n) is
 
 -- ---- a load
 
-pub planted_page : (empty a : Arena) (root next : ℕ) (tree : Branch Row) → ((k : ℕ) → slots_in empty k ≡ None) → Filed a → Grown empty a (alone tree) → Stored a (alone tree) None (root ∷ []) → IsValid (record { tree = tree; next = next })
+pub planted_page : (empty a : Arena) (root next : ℕ) (tree : Branch PageRow) → ((k : ℕ) → slots_in empty k ≡ None) → Filed a → Grown empty a (alone tree) → Stored a (alone tree) None (root ∷ []) → IsValid (record { tree = tree; next = next })
     → (tree_of a root ≡ tree) × IsPage a root next
 planted_page empty a root next tree vacant files grown stored valid =
     let arena : IsArena page_slots (slots_in a) (keys_in a) root tree =
@@ -242,7 +242,7 @@ planted_page empty a root next tree vacant files grown stored valid =
     } in
     (tree_is a root next tree arena valid, rebuilt a root next tree arena valid)
 
-pub fresh_in_empty : (empty : Arena) (tree : Branch Row) (next : ℕ) → ((k : ℕ) → slots_in empty k ≡ None) → IsValid (record { tree = tree; next = next }) → Fresh empty (alone tree)
+pub fresh_in_empty : (empty : Arena) (tree : Branch PageRow) (next : ℕ) → ((k : ℕ) → slots_in empty k ≡ None) → IsValid (record { tree = tree; next = next }) → Fresh empty (alone tree)
 fresh_in_empty empty tree next vacant valid =
     record {
       distinct = λ x. let d = valid.distinct x in omega arith;

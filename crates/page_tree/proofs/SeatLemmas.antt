@@ -11,9 +11,9 @@ use Rattle.node_tree.proofs.ChangeLemmas.{tally_in-at}
 use Rattle.node_tree.proofs.NodeLemmas.{node_count-map_rows}
 use Rattle.node_tree.proofs.ArenaLemmas.{keeps-tree_at}
 use Rattle.page_tree.specs.Forms.{max_nodes}
-use Rattle.page_tree.specs.Pages.{Row, row_serial, row_label, node_at, parent_at}
-use Rattle.page_tree.specs.Zippers.{Generation, Zipper, generation_of, serial_of, zipper_of, ancestors_in, in_row, find_zipper, zipper_at, head, root_of, earlier, later, parent_of, previous_of, next_of, first_child_of}
-use Rattle.page_tree.specs.Arenas.{page_slots, slot_row, slots_in, Stored, slot_of, is_numbered, place_in, branch_in, tree_of, IsPage, IsSeated, sibling_keys, sibling_slot}
+use Rattle.page_tree.specs.Pages.{PageRow, row_serial, row_label, node_at, parent_at}
+use Rattle.page_tree.specs.Zippers.{Generation, Zipper, generation_of, serial_of, zipper_of, ancestors_in, in_row, find_zipper, zipper_at, first_node, root_of, earlier, later, parent_of, previous_of, next_of, first_child_of}
+use Rattle.page_tree.specs.Arenas.{page_slots, slot_row, slots_in, Stored, slot_of, is_numbered, place_in, branch_in, tree_of, IsPage, IsSlotAt, sibling_keys, sibling_slot}
 use Rattle.page_tree.specs.declared.slots.Slot.{Slot}
 use Rattle.page_tree.specs.declared.arenas.Arena.{Arena}
 use Rattle.page_tree.proofs.EditLemmas.{changed}
@@ -26,17 +26,17 @@ use Rattle.page_tree.proofs.SiblingLemmas.{few-siblings, length-earlier_in, live
 -- ---- nodes in a row
 
 -- what stands at a place behind those before
-at-place : (before : List (Branch Row)) (here : Nodes Row) (i : ℕ) → tree_at (length before + i) (siblings_of before here) ≡ tree_at i here
+at-place : (before : List (Branch PageRow)) (here : Nodes PageRow) (i : ℕ) → tree_at (length before + i) (siblings_of before here) ≡ tree_at i here
 at-place [] here i = let e : 0 + i ≡ i = omega arith in ap (λ k. tree_at k here) e
 at-place (b ∷ before) here i =
     let e : suc (length before) + i ≡ length before + suc i = omega arith in
     ap (λ k. tree_at k (siblings_of before (node b.row b.children here))) e ∙ at-place before (node b.row b.children here) (suc i)
 
-width-siblings : (before : List (Branch Row)) (here : Nodes Row) → width (siblings_of before here) ≡ length before + width here
+width-siblings : (before : List (Branch PageRow)) (here : Nodes PageRow) → width (siblings_of before here) ≡ length before + width here
 width-siblings [] here = omega arith
 width-siblings (b ∷ before) here = let h = width-siblings before (node b.row b.children here) in omega arith
 
-tally-siblings : (x : ℕ) (before : List (Branch Row)) (here : Nodes Row) → tally row_serial x here ≤ tally row_serial x (siblings_of before here)
+tally-siblings : (x : ℕ) (before : List (Branch PageRow)) (here : Nodes PageRow) → tally row_serial x here ≤ tally row_serial x (siblings_of before here)
 tally-siblings x [] here = omega arith
 tally-siblings x (b ∷ before) here =
     let h = tally-siblings x before (node b.row b.children here) in
@@ -44,12 +44,12 @@ tally-siblings x (b ∷ before) here =
     omega arith
 
 -- the place of the first tree of that serial
-abbrev place_among : ℕ → Nodes Row → ℕ
+abbrev place_among : ℕ → Nodes PageRow → ℕ
 place_among x none = 0
 place_among x (node r c t) = cond {A = ℕ} (r.serial == x) 0 (suc (place_among x t))
 
 -- behind trees that have not the serial
-place-siblings : (x : ℕ) (before : List (Branch Row)) (here : Nodes Row) → tally row_serial x (siblings_of before here) ≤ tally row_serial x here → place_among x (siblings_of before here) ≡ length before + place_among x here
+place-siblings : (x : ℕ) (before : List (Branch PageRow)) (here : Nodes PageRow) → tally row_serial x (siblings_of before here) ≤ tally row_serial x here → place_among x (siblings_of before here) ≡ length before + place_among x here
 place-siblings x [] here few = omega arith
 place-siblings x (b ∷ before) here few =
     let more = tally-siblings x before (node b.row b.children here) in
@@ -62,7 +62,7 @@ place-siblings x (b ∷ before) here few =
 place_step : (u v : Bool) (p q : ℕ) → u ≡ v → p ≡ q → cond {A = ℕ} u 0 (suc p) ≡ cond {A = ℕ} v 0 (suc q)
 place_step u v p q e f = cc
 
-place_keeps : (a : Arena) (x : ℕ) (above : Option ℕ) (n : Nodes Row) (ks : List ℕ) → Keeps page_slots (slots_in a) n above ks → place_in a x ks ≡ place_among x n
+place_keeps : (a : Arena) (x : ℕ) (above : Option ℕ) (n : Nodes PageRow) (ks : List ℕ) → Keeps page_slots (slots_in a) n above ks → place_in a x ks ≡ place_among x n
 place_keeps a x above none [] kept = refl
 place_keeps a x above none (k ∷ ks) kept = absurd kept
 place_keeps a x above (node r c t) [] kept = absurd kept
@@ -70,20 +70,20 @@ place_keeps a x above (node r c t) (k ∷ ks) (slot, at, up, is, below, after) =
     place_step (is_numbered a x k) (r.serial == x) (place_in a x ks) (place_among x t) (numbered_is a x k slot r at is) (place_keeps a x above t ks after)
 
 -- the slot at a place, and the tree there
-slot_none : (a : Arena) (above : Option ℕ) (n : Nodes Row) (ks : List ℕ) (i : ℕ) → Keeps page_slots (slots_in a) n above ks → option_and_then (slots_in a) (slice_get ks i) ≡ None → tree_at i n ≡ None
+slot_none : (a : Arena) (above : Option ℕ) (n : Nodes PageRow) (ks : List ℕ) (i : ℕ) → Keeps page_slots (slots_in a) n above ks → option_and_then (slots_in a) (slice_get ks i) ≡ None → tree_at i n ≡ None
 slot_none a above none ks i kept e = refl
 slot_none a above (node r c t) [] i kept e = absurd kept
 slot_none a above (node r c t) (k ∷ ks) zero (slot, at, up, is, below, after) e = absurd (let clash : None ≡ Some slot = sym e ∙ at in cc)
 slot_none a above (node r c t) (k ∷ ks) (suc i) (slot, at, up, is, below, after) e = slot_none a above t ks i after e
 
-pub record SlotAt (a : Arena) (n : Nodes Row) (i : ℕ) (slot : Slot) : Type 0 where
+pub record SlotAt (a : Arena) (n : Nodes PageRow) (i : ℕ) (slot : Slot) : Type 0 where
   pub key : ℕ
   pub at : slots_in a key ≡ Some slot
-  pub branch : Branch Row
+  pub branch : Branch PageRow
   pub there : tree_at i n ≡ Some branch
   pub row_is : slot_row slot ≡ branch.row
 
-slot_some : (a : Arena) (above : Option ℕ) (n : Nodes Row) (ks : List ℕ) (i : ℕ) (slot : Slot) → Keeps page_slots (slots_in a) n above ks → option_and_then (slots_in a) (slice_get ks i) ≡ Some slot → SlotAt a n i slot
+slot_some : (a : Arena) (above : Option ℕ) (n : Nodes PageRow) (ks : List ℕ) (i : ℕ) (slot : Slot) → Keeps page_slots (slots_in a) n above ks → option_and_then (slots_in a) (slice_get ks i) ≡ Some slot → SlotAt a n i slot
 slot_some a above n ks i slot kept e =
     option_and_then_some (slots_in a) (slice_get ks i) slot e (λ k key_is at.
     let (b, place, (own, own_at, up, row_is, below, after)) = keeps-tree_at page_slots (slots_in a) n above ks i k kept key_is in
@@ -93,27 +93,27 @@ slot_some a above n ks i slot kept e =
 -- ---- a zipper by what is above it
 
 -- the trees behind a node
-first_none : (n : Nodes Row) → tree_at 0 n ≡ None → n ≡ none
+first_none : (n : Nodes PageRow) → tree_at 0 n ≡ None → n ≡ none
 first_none none e = refl
 first_none (node r c t) e = absurd (cc)
 
-no_width : (n : Nodes Row) → width n ≡ 0 → n ≡ none
+no_width : (n : Nodes PageRow) → width n ≡ 0 → n ≡ none
 no_width none e = refl
 no_width (node r c t) e = absurd (omega arith)
 
-no_length : (bs : List (Branch Row)) → length bs ≡ 0 → bs ≡ []
+no_length : (bs : List (Branch PageRow)) → length bs ≡ 0 → bs ≡ []
 no_length [] e = refl
 no_length (b ∷ bs) e = absurd (omega arith)
 
-top_of : (tree : Branch Row) (above : List Generation) (before : List (Branch Row)) (b : Branch Row) (after : Nodes Row) → head (ancestors_in above) ≡ None → Fits tree above (siblings_of before (node b.row b.children after))
+top_of : (tree : Branch PageRow) (above : List Generation) (before : List (Branch PageRow)) (b : Branch PageRow) (after : Nodes PageRow) → first_node (ancestors_in above) ≡ None → Fits tree above (siblings_of before (node b.row b.children after))
     → (before ≡ []) × (after ≡ none)
 top_of tree [] before b after e fits =
     let w = width-siblings before (node b.row b.children after) in
-    let one = ap (λ (n : Nodes Row). width n) fits in
+    let one = ap (λ (n : Nodes PageRow). width n) fits in
     (no_length before (omega arith), no_width after (omega arith))
 top_of tree (g ∷ above) before b after e fits = absurd (cc)
 
-row_under : (tree : Branch Row) (above : List Generation) (row : Nodes Row) (p : Zipper) → head (ancestors_in above) ≡ Some p → Fits tree above row → row ≡ p.branch.children
+row_under : (tree : Branch PageRow) (above : List Generation) (row : Nodes PageRow) (p : Zipper) → first_node (ancestors_in above) ≡ Some p → Fits tree above row → row ≡ p.branch.children
 row_under tree [] row p e fits = absurd (cc)
 row_under tree (g ∷ above) row p e fits = let same : zipper_of g above ≡ p = cc in fits.0 ∙ ap (λ (z : Zipper). z.branch.children) same
 
@@ -135,7 +135,7 @@ module _ (a : Arena) (root next : ℕ) (page : IsPage a root next) where
   branch_at : (slot : Slot) (z : Zipper) → slot_of a slot.serial ≡ Some slot → find_zipper slot.serial (tree_of a root) ≡ Some z → branch_in a slot ≡ z.branch
   branch_at slot z at found = (hangs-slot a root next page slot.serial slot at).0 ∙ node_at_is a root next page slot.serial z.branch (live-of (tree_of a root) slot.serial z found)
 
-  some_found : (o : Option Zipper) (b : Branch Row) → option_map (λ (z : Zipper). z.branch) o ≡ Some b → o ≡ Some (unwrap_or o (root_of (tree_of a root)))
+  some_found : (o : Option Zipper) (b : Branch PageRow) → option_map (λ (z : Zipper). z.branch) o ≡ Some b → o ≡ Some (unwrap_or o (root_of (tree_of a root)))
   some_found (Some z) b e = refl
   some_found None b e = absurd (cc)
 
@@ -150,7 +150,7 @@ module _ (a : Arena) (root next : ℕ) (page : IsPage a root next) where
   pub sits_as : (slot : Slot) (k : ℕ) (z : Zipper) → slots_in a k ≡ Some slot → IsOf (tree_of a root) z → slot_row slot ≡ z.branch.row → Sits slot z
   sits_as slot k z at of row_is =
       let own = ap (λ (o : Option ℕ). option_and_then (slots_in a) o) (page.arena.files.filed k slot at) ∙ at in
-      let found = ap (λ (r : Row). find_zipper r.serial (tree_of a root)) row_is ∙ find-of (tree_of a root) page.valid.distinct z of in
+      let found = ap (λ (r : PageRow). find_zipper r.serial (tree_of a root)) row_is ∙ find-of (tree_of a root) page.valid.distinct z of in
       record { at = own; found = found; branch_is = branch_at slot z own found }
 
   -- the root's slot, which has no parent and no siblings
@@ -198,7 +198,7 @@ module _ (a : Arena) (root next : ℕ) (page : IsPage a root next) where
             let same_key : q.key ≡ low.key = let both : Some q.key ≡ Some low.key = sym q.key_is ∙ page.arena.files.filed low.key low.over low.over_at in cc in
             let branch_is = node_at_is a root next page low.over.serial p.branch (live-of (tree_of a root) low.over.serial p over_found) in
             let row_is = row_under (tree_of a root) z.above _ p leads (sits-of slot z s) in
-            let whole = ap (λ (b : Branch Row). b.children) branch_is ∙ sym row_is in
+            let whole = ap (λ (b : Branch PageRow). b.children) branch_is ∙ sym row_is in
             inr (record {
               key = low.key;
               over = low.over;
@@ -207,8 +207,8 @@ module _ (a : Arena) (root next : ℕ) (page : IsPage a root next) where
               parent = p;
               leads = leads;
               sits_over = record { at = low.over_is; found = over_found; branch_is = branch_at low.over p low.over_is over_found };
-              kept = subst (λ (n : Nodes Row). Stored a n (Some low.key) low.over.children) whole (subst (λ (k : ℕ). Stored a (node_at low.over.serial (tree_of a root)).children (Some k) low.over.children) same_key q.below);
-              once_there = λ x. subst (λ (n : Nodes Row). tally row_serial x n ≤ 1) whole
+              kept = subst (λ (n : Nodes PageRow). Stored a n (Some low.key) low.over.children) whole (subst (λ (k : ℕ). Stored a (node_at low.over.serial (tree_of a root)).children (Some k) low.over.children) same_key q.below);
+              once_there = λ x. subst (λ (n : Nodes PageRow). tally row_serial x n ≤ 1) whole
                   (let within = tally_in-at row_serial x (changed low.over.serial (λ b. b) (tree_of a root) q.live).1 in let o = once a root next page x in omega arith);
             })
       ]
@@ -255,13 +255,13 @@ module _ (a : Arena) (root next : ℕ) (page : IsPage a root next) where
     keys_top top = ap (λ (o : Option ℕ). option_map_or (λ (t : Slot). t.children) (option_and_then (slots_in a) o) []) top.up
 
     serial_is : slot.serial ≡ z.branch.row.serial
-    serial_is = ap (λ (b : Branch Row). b.row.serial) s.branch_is
+    serial_is = ap (λ (b : Branch PageRow). b.row.serial) s.branch_is
 
     pub place-of : place_in a slot.serial (sibling_keys a slot) ≡ length z.before
     place-of = elim seated [
-      | inl top ↦ ap (λ (ks : List ℕ). place_in a slot.serial ks) (keys_top top) ∙ sym (ap (λ (l : List (Branch Row)). length l) top.first)
+      | inl top ↦ ap (λ (ks : List ℕ). place_in a slot.serial ks) (keys_top top) ∙ sym (ap (λ (l : List (Branch PageRow)). length l) top.first)
       | inr low ↦
-          let here : Nodes Row = node z.branch.row z.branch.children z.after in
+          let here : Nodes PageRow = node z.branch.row z.branch.children z.after in
           let own = tally_row row_serial slot.serial z.branch.row z.branch.children z.after (sym serial_is) in
           let all = low.once_there slot.serial in
           let place = place-siblings slot.serial z.before here (omega arith) in
@@ -280,17 +280,17 @@ module _ (a : Arena) (root next : ℕ) (page : IsPage a root next) where
 
     pub next-none : (i : ℕ) → i ≡ length z.before + 1 → sibling_slot a slot i ≡ None → None ≡ next_of z
     next-none i is e = elim seated [
-      | inl top ↦ sym (ap (λ (n : Nodes Row). next_of (record z { after = n })) top.last)
+      | inl top ↦ sym (ap (λ (n : Nodes PageRow). next_of (record z { after = n })) top.last)
       | inr low ↦
           let gone = sym (at-place z.before (node z.branch.row z.branch.children z.after) 1) ∙ ap (λ k. tree_at k (siblings_of z.before (node z.branch.row z.branch.children z.after))) (sym is) ∙ at_none low i e in
-          sym (ap (λ (n : Nodes Row). next_of (record z { after = n })) (first_none z.after gone))
+          sym (ap (λ (n : Nodes PageRow). next_of (record z { after = n })) (first_none z.after gone))
     ]
 
-    next_to : (n : Nodes Row) (b : Branch Row) → n ≡ z.after → tree_at 0 n ≡ Some b → (to : Zipper) × (next_of z ≡ Some to) × (to.branch ≡ b) × (to.before ≡ z.branch ∷ z.before)
+    next_to : (n : Nodes PageRow) (b : Branch PageRow) → n ≡ z.after → tree_at 0 n ≡ Some b → (to : Zipper) × (next_of z ≡ Some to) × (to.branch ≡ b) × (to.before ≡ z.branch ∷ z.before)
     next_to none b is e = absurd (cc)
     next_to (node r c t) b is e =
-        let same : ◌≡◌ {A = Branch Row} (record { row = r; children = c }) b = cc in
-        (record { branch = record { row = r; children = c }; before = z.branch ∷ z.before; after = t; above = z.above }, ap (λ (n : Nodes Row). next_of (record z { after = n })) (sym is), same, refl)
+        let same : ◌≡◌ {A = Branch PageRow} (record { row = r; children = c }) b = cc in
+        (record { branch = record { row = r; children = c }; before = z.branch ∷ z.before; after = t; above = z.above }, ap (λ (n : Nodes PageRow). next_of (record z { after = n })) (sym is), same, refl)
 
     pub next-some : (i : ℕ) (t : Slot) → i ≡ length z.before + 1 → sibling_slot a slot i ≡ Some t → Steps t i (next_of z)
     next-some i t is e = elim seated [
@@ -299,31 +299,31 @@ module _ (a : Arena) (root next : ℕ) (page : IsPage a root next) where
           let q = at_some low i t e in
           let there = sym (at-place z.before (node z.branch.row z.branch.children z.after) 1) ∙ ap (λ k. tree_at k (siblings_of z.before (node z.branch.row z.branch.children z.after))) (sym is) ∙ q.there in
           let (to, leads, branch_is, before_is) = next_to z.after q.branch refl there in
-          let long = ap (λ (l : List (Branch Row)). length l) before_is in
+          let long = ap (λ (l : List (Branch PageRow)). length l) before_is in
           record {
             zipper = to;
             leads = leads;
-            sits_there = sits_as t q.key to q.at (of-next (tree_of a root) z to (sits-of slot z s) leads) (q.row_is ∙ ap (λ (b : Branch Row). b.row) (sym branch_is));
+            sits_there = sits_as t q.key to q.at (of-next (tree_of a root) z to (sits-of slot z s) leads) (q.row_is ∙ ap (λ (b : Branch PageRow). b.row) (sym branch_is));
             place_is = omega arith;
           }
     ]
 
     pub previous-none : length z.before ≡ 0 → None ≡ previous_of z
-    previous-none e = sym (ap (λ (l : List (Branch Row)). previous_of (record z { before = l })) (no_length z.before e))
+    previous-none e = sym (ap (λ (l : List (Branch PageRow)). previous_of (record z { before = l })) (no_length z.before e))
 
-    previous_to : (bs : List (Branch Row)) (b : Branch Row) (i : ℕ) → bs ≡ z.before → suc i ≡ length bs → tree_at i (siblings_of bs (node z.branch.row z.branch.children z.after)) ≡ Some b
+    previous_to : (bs : List (Branch PageRow)) (b : Branch PageRow) (i : ℕ) → bs ≡ z.before → suc i ≡ length bs → tree_at i (siblings_of bs (node z.branch.row z.branch.children z.after)) ≡ Some b
         → (to : Zipper) × (previous_of z ≡ Some to) × (to.branch ≡ b) × (i ≡ length to.before)
     previous_to [] b i is long e = absurd (omega arith)
     previous_to (d ∷ bs) b i is long e =
         let there = sym (at-place bs (node d.row d.children (node z.branch.row z.branch.children z.after)) 0) ∙ ap (λ k. tree_at k (siblings_of bs (node d.row d.children (node z.branch.row z.branch.children z.after)))) (let at : length bs + 0 ≡ i = omega arith in at) ∙ e in
         let same : d ≡ b = let both : Some d ≡ Some b = there in cc in (
           record { branch = d; before = bs; after = node z.branch.row z.branch.children z.after; above = z.above },
-          ap (λ (l : List (Branch Row)). previous_of (record z { before = l })) (sym is),
+          ap (λ (l : List (Branch PageRow)). previous_of (record z { before = l })) (sym is),
           same,
           omega arith,
         )
 
-    previous_back : (bs : List (Branch Row)) (i : ℕ) → suc i ≡ length bs → tree_at i (siblings_of bs (node z.branch.row z.branch.children z.after)) ≡ None → ⊥
+    previous_back : (bs : List (Branch PageRow)) (i : ℕ) → suc i ≡ length bs → tree_at i (siblings_of bs (node z.branch.row z.branch.children z.after)) ≡ None → ⊥
     previous_back [] i long e = absurd (omega arith)
     previous_back (d ∷ bs) i long e =
         let there = sym (at-place bs (node d.row d.children (node z.branch.row z.branch.children z.after)) 0) ∙ ap (λ k. tree_at k (siblings_of bs (node d.row d.children (node z.branch.row z.branch.children z.after)))) (let at : length bs + 0 ≡ i = omega arith in at) ∙ e in
@@ -331,7 +331,7 @@ module _ (a : Arena) (root next : ℕ) (page : IsPage a root next) where
 
     pub previous-there : (i : ℕ) → suc i ≡ length z.before → sibling_slot a slot i ≡ None → ⊥
     previous-there i long e = elim seated [
-      | inl top ↦ absurd (let none_before = ap (λ (l : List (Branch Row)). length l) top.first in omega arith)
+      | inl top ↦ absurd (let none_before = ap (λ (l : List (Branch PageRow)). length l) top.first in omega arith)
       | inr low ↦ previous_back z.before i long (at_none low i e)
     ]
 
@@ -344,7 +344,7 @@ module _ (a : Arena) (root next : ℕ) (page : IsPage a root next) where
           record {
             zipper = to;
             leads = leads;
-            sits_there = sits_as t q.key to q.at (of-previous (tree_of a root) z to (sits-of slot z s) leads) (q.row_is ∙ ap (λ (b : Branch Row). b.row) (sym branch_is));
+            sits_there = sits_as t q.key to q.at (of-previous (tree_of a root) z to (sits-of slot z s) leads) (q.row_is ∙ ap (λ (b : Branch PageRow). b.row) (sym branch_is));
             place_is = place_is;
           }
     ]
@@ -355,18 +355,18 @@ module _ (a : Arena) (root next : ℕ) (page : IsPage a root next) where
     own_below =
         let q = seat a root next page slot.serial slot s.at in
         let branch_is = node_at_is a root next page slot.serial z.branch (live-of (tree_of a root) slot.serial z s.found) in
-        (q.key, subst (λ (b : Branch Row). Stored a b.children (Some q.key) slot.children) branch_is q.below)
+        (q.key, subst (λ (b : Branch PageRow). Stored a b.children (Some q.key) slot.children) branch_is q.below)
 
-    child_to : (n : Nodes Row) (b : Branch Row) → n ≡ z.branch.children → tree_at 0 n ≡ Some b → (to : Zipper) × (first_child_of z ≡ Some to) × (to.branch ≡ b) × (to.before ≡ [])
+    child_to : (n : Nodes PageRow) (b : Branch PageRow) → n ≡ z.branch.children → tree_at 0 n ≡ Some b → (to : Zipper) × (first_child_of z ≡ Some to) × (to.branch ≡ b) × (to.before ≡ [])
     child_to none b is e = absurd (cc)
     child_to (node r c t) b is e =
-        let same : ◌≡◌ {A = Branch Row} (record { row = r; children = c }) b = cc in
-        (record { branch = record { row = r; children = c }; before = []; after = t; above = generation_of z ∷ z.above }, ap (λ (n : Nodes Row). head (in_row (generation_of z ∷ z.above) [] n)) (sym is), same, refl)
+        let same : ◌≡◌ {A = Branch PageRow} (record { row = r; children = c }) b = cc in
+        (record { branch = record { row = r; children = c }; before = []; after = t; above = generation_of z ∷ z.above }, ap (λ (n : Nodes PageRow). first_node (in_row (generation_of z ∷ z.above) [] n)) (sym is), same, refl)
 
     pub child-none : option_and_then (slots_in a) (slice_get slot.children 0) ≡ None → None ≡ first_child_of z
     child-none e =
         let (k, kept) = own_below in
-        sym (ap (λ (n : Nodes Row). head (in_row (generation_of z ∷ z.above) [] n)) (first_none z.branch.children (slot_none a (Some k) z.branch.children slot.children 0 kept e)))
+        sym (ap (λ (n : Nodes PageRow). first_node (in_row (generation_of z ∷ z.above) [] n)) (first_none z.branch.children (slot_none a (Some k) z.branch.children slot.children 0 kept e)))
 
     pub child-some : (t : Slot) → option_and_then (slots_in a) (slice_get slot.children 0) ≡ Some t → Steps t 0 (first_child_of z)
     child-some t e =
@@ -376,18 +376,18 @@ module _ (a : Arena) (root next : ℕ) (page : IsPage a root next) where
         record {
           zipper = to;
           leads = leads;
-          sits_there = sits_as t q.key to q.at (of-first_child (tree_of a root) z to (sits-of slot z s) leads) (q.row_is ∙ ap (λ (b : Branch Row). b.row) (sym branch_is));
-          place_is = sym (ap (λ (l : List (Branch Row)). length l) before_is);
+          sits_there = sits_as t q.key to q.at (of-first_child (tree_of a root) z to (sits-of slot z s) leads) (q.row_is ∙ ap (λ (b : Branch PageRow). b.row) (sym branch_is));
+          place_is = sym (ap (λ (l : List (Branch PageRow)). length l) before_is);
         }
 
 -- ---- cursors
 
 -- a cursor at that slot, and what it is seen as
 pub record Lands (a : Arena) (root : ℕ) (slot : Slot) (place : Option ℕ) (o : Option Zipper) : Type 0 where
-  pub seated : IsSeated a root slot place
+  pub seated : IsSlotAt a root slot place
   pub seen : Some (zipper_at slot.serial (tree_of a root)) ≡ o
 
-module _ (a : Arena) (root : ℕ) (slot : Slot) (place : Option ℕ) (s : IsSeated a root slot place) where
+module _ (a : Arena) (root : ℕ) (slot : Slot) (place : Option ℕ) (s : IsSlotAt a root slot place) where
   abbrev seen_as : Zipper
   seen_as = zipper_at slot.serial (tree_of a root)
 
@@ -395,7 +395,7 @@ module _ (a : Arena) (root : ℕ) (slot : Slot) (place : Option ℕ) (s : IsSeat
   own = sits a root s.next s.page slot s.at
 
   pub seat-row : slot_row slot ≡ seen_as.branch.row
-  seat-row = ap (λ (b : Branch Row). b.row) own.branch_is
+  seat-row = ap (λ (b : Branch PageRow). b.row) own.branch_is
 
   pub seat-few : (length (earlier seen_as) < max_nodes) × (length (later seen_as) < max_nodes) × (length seen_as.before < max_nodes)
   seat-few =

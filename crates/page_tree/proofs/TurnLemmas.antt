@@ -9,7 +9,7 @@ use Rattle.node_tree.specs.Arena.{times, Keeps, KeepsOne, IsArena, Turns}
 use Rattle.node_tree.proofs.KeyLemmas.{tally-at}
 use Rattle.node_tree.proofs.ChangeLemmas.{tally_in-at}
 use Rattle.node_tree.proofs.ArenaLemmas.{keeps-same, keeps-at, row_there, row_alone}
-use Rattle.page_tree.specs.Pages.{Row, row_serial, IsValid, node_at}
+use Rattle.page_tree.specs.Pages.{PageRow, row_serial, IsValid, node_at}
 use Rattle.page_tree.specs.Edits.{first_serial, next_sibling, relabelled, put_before, taken_out, with_child, without_child, changed_at}
 use Rattle.page_tree.specs.EditFaults.{is_live}
 use Rattle.page_tree.specs.Arenas.{page_slots, slot_row, slots_in, keys_in, Filed, Fresh, slot_of, is_numbered, place_in, first_in, next_in, with_child_key, without_child_key, Grafted, Cut, tree_of, IsPage}
@@ -21,20 +21,20 @@ use Rattle.page_tree.proofs.ChildLemmas.{Inserted, tally-inserted, inserted-befo
 
 -- ---- keys of children
 
-pub numbered_is : (a : Arena) (serial k : ℕ) (slot : Slot) (r : Row) → slots_in a k ≡ Some slot → slot_row slot ≡ r → is_numbered a serial k ≡ (r.serial == serial)
-numbered_is a serial k slot r at is = ap (λ (o : Option Slot). option_map_or (λ (s : Slot). s.serial == serial) o false) at ∙ ap (λ (q : Row). q.serial == serial) is
+pub numbered_is : (a : Arena) (serial k : ℕ) (slot : Slot) (r : PageRow) → slots_in a k ≡ Some slot → slot_row slot ≡ r → is_numbered a serial k ≡ (r.serial == serial)
+numbered_is a serial k slot r at is = ap (λ (o : Option Slot). option_map_or (λ (s : Slot). s.serial == serial) o false) at ∙ ap (λ (q : PageRow). q.serial == serial) is
 
-first_keeps : (a : Arena) (above : Option ℕ) (n : Nodes Row) (ks : List ℕ) → Keeps page_slots (slots_in a) n above ks → first_in a ks ≡ first_serial n
+first_keeps : (a : Arena) (above : Option ℕ) (n : Nodes PageRow) (ks : List ℕ) → Keeps page_slots (slots_in a) n above ks → first_in a ks ≡ first_serial n
 first_keeps a above none [] kept = refl
 first_keeps a above none (k ∷ ks) kept = absurd kept
 first_keeps a above (node r c t) [] kept = absurd kept
-first_keeps a above (node r c t) (k ∷ ks) (slot, at, up, is, below, after) = ap (λ (o : Option Slot). option_map_or (λ (s : Slot). s.serial) o 0) at ∙ ap (λ (q : Row). q.serial) is
+first_keeps a above (node r c t) (k ∷ ks) (slot, at, up, is, below, after) = ap (λ (o : Option Slot). option_map_or (λ (s : Slot). s.serial) o 0) at ∙ ap (λ (q : PageRow). q.serial) is
 
 cond_same : (u v : Bool) (x y z w : ℕ) → u ≡ v → x ≡ y → z ≡ w → cond u x z ≡ cond v y w
 cond_same u v x y z w e f g = cc
 
 -- the next of the siblings, by keys and by trees
-pub next_keeps : (a : Arena) (serial : ℕ) (above : Option ℕ) (n : Nodes Row) (ks : List ℕ) → Keeps page_slots (slots_in a) n above ks → next_in a serial ks ≡ next_sibling serial n
+pub next_keeps : (a : Arena) (serial : ℕ) (above : Option ℕ) (n : Nodes PageRow) (ks : List ℕ) → Keeps page_slots (slots_in a) n above ks → next_in a serial ks ≡ next_sibling serial n
 next_keeps a serial above none [] kept = refl
 next_keeps a serial above none (k ∷ ks) kept = absurd kept
 next_keeps a serial above (node r c t) [] kept = absurd kept
@@ -42,7 +42,7 @@ next_keeps a serial above (node r c t) (k ∷ ks) (slot, at, up, is, below, afte
     cond_same (is_numbered a serial k) (r.serial == serial) (first_in a ks) (first_serial t) (next_in a serial ks) (next_sibling serial t) (numbered_is a serial k slot r at is) (first_keeps a above t ks after) (next_keeps a serial above t ks after)
 
 module _ (b : Arena) (above : Option ℕ) where
-  insert_step : (v u : Bool) (w : Branch Row) (r : Row) (c t after : Nodes Row) (k child p : ℕ) (ks : List ℕ) → u ≡ v → KeepsOne page_slots (slots_in b) w above child → Keeps page_slots (slots_in b) (node r c t) above (k ∷ ks)
+  insert_step : (v u : Bool) (w : Branch PageRow) (r : PageRow) (c t after : Nodes PageRow) (k child p : ℕ) (ks : List ℕ) → u ≡ v → KeepsOne page_slots (slots_in b) w above child → Keeps page_slots (slots_in b) (node r c t) above (k ∷ ks)
       → Keeps page_slots (slots_in b) after above (insert ks p child)
       → Keeps page_slots (slots_in b) (cond v (node w.row w.children (node r c t)) (node r c after)) above (insert (k ∷ ks) (cond {A = ℕ} u 0 (suc p)) child)
   insert_step true true w r c t after k child p ks e (slot, at, up, is, below, nothing) whole rest = (slot, at, up, is, below, whole)
@@ -50,7 +50,7 @@ module _ (b : Arena) (above : Option ℕ) where
   insert_step true false w r c t after k child p ks e one whole rest = absurd (cc)
   insert_step false true w r c t after k child p ks e one whole rest = absurd (cc)
 
-  remove_step : (v u : Bool) (r : Row) (c t after : Nodes Row) (k p : ℕ) (ks : List ℕ) → u ≡ v → Keeps page_slots (slots_in b) (node r c t) above (k ∷ ks) → Keeps page_slots (slots_in b) after above (remove ks p)
+  remove_step : (v u : Bool) (r : PageRow) (c t after : Nodes PageRow) (k p : ℕ) (ks : List ℕ) → u ≡ v → Keeps page_slots (slots_in b) (node r c t) above (k ∷ ks) → Keeps page_slots (slots_in b) after above (remove ks p)
       → Keeps page_slots (slots_in b) (cond v t (node r c after)) above (remove (k ∷ ks) (cond {A = ℕ} u 0 (suc p)))
   remove_step true true r c t after k p ks e (slot, at, up, is, below, beside) rest = beside
   remove_step false false r c t after k p ks e (slot, at, up, is, below, beside) rest = (slot, at, up, is, below, rest)
@@ -58,7 +58,7 @@ module _ (b : Arena) (above : Option ℕ) where
   remove_step false true r c t after k p ks e whole rest = absurd (cc)
 
 -- a tree more among those that are kept
-insert_keeps : (a b : Arena) (before child : ℕ) (w : Branch Row) (above : Option ℕ) (n : Nodes Row) (ks : List ℕ) → KeepsOne page_slots (slots_in b) w above child → Keeps page_slots (slots_in a) n above ks → Keeps page_slots (slots_in b) n above ks
+insert_keeps : (a b : Arena) (before child : ℕ) (w : Branch PageRow) (above : Option ℕ) (n : Nodes PageRow) (ks : List ℕ) → KeepsOne page_slots (slots_in b) w above child → Keeps page_slots (slots_in a) n above ks → Keeps page_slots (slots_in b) n above ks
     → Keeps page_slots (slots_in b) (put_before before w n) above (insert ks (place_in a before ks) child)
 insert_keeps a b before child w above none [] one kept whole = one
 insert_keeps a b before child w above none (k ∷ ks) one kept whole = absurd kept
@@ -68,7 +68,7 @@ insert_keeps a b before child w above (node r c t) (k ∷ ks) one (slot, at, up,
     (insert_keeps a b before child w above t ks one after whole.5)
 
 -- and a tree less
-remove_keeps : (a : Arena) (serial : ℕ) (above : Option ℕ) (n : Nodes Row) (ks : List ℕ) → Keeps page_slots (slots_in a) n above ks → Keeps page_slots (slots_in a) (taken_out serial n) above (remove ks (place_in a serial ks))
+remove_keeps : (a : Arena) (serial : ℕ) (above : Option ℕ) (n : Nodes PageRow) (ks : List ℕ) → Keeps page_slots (slots_in a) n above ks → Keeps page_slots (slots_in a) (taken_out serial n) above (remove ks (place_in a serial ks))
 remove_keeps a serial above none [] kept = tt
 remove_keeps a serial above none (k ∷ ks) kept = absurd kept
 remove_keeps a serial above (node r c t) [] kept = absurd kept
@@ -95,9 +95,9 @@ module _ (a : Arena) (root next : ℕ) (page : IsPage a root next) (x : ℕ) (sl
         key_is = l.key_is;
         at = l.at;
         serial_is = l.serial_is;
-        live = ap (λ (o : Option (Branch Row)). is_some o) l.found;
-        row_is = l.row_is ∙ ap (λ (b : Branch Row). b.row) (sym is);
-        below = subst (λ (b : Branch Row). Keeps page_slots (slots_in a) b.children (Some l.key) slot.children) (sym is) l.below;
+        live = ap (λ (o : Option (Branch PageRow)). is_some o) l.found;
+        row_is = l.row_is ∙ ap (λ (b : Branch PageRow). b.row) (sym is);
+        below = subst (λ (b : Branch PageRow). Keeps page_slots (slots_in a) b.children (Some l.key) slot.children) (sym is) l.below;
       }
 
   -- the node's serial is its own: it stands once, and not below itself
@@ -111,14 +111,14 @@ module _ (a : Arena) (root next : ℕ) (page : IsPage a root next) (x : ℕ) (sl
       let h = row_alone page_slots slot (node_at x (tree_of a root)).row (node_at x (tree_of a root)).children none seat.row_is (omega arith) in
       omega arith
 
-  module _ (b : Arena) (then : ℕ) (change : Branch Row → Branch Row) (files : Filed b)
+  module _ (b : Arena) (then : ℕ) (change : Branch PageRow → Branch PageRow) (files : Filed b)
       (keeps : KeepsOne page_slots (slots_in b) (change (node_at x (tree_of a root))) slot.parent seat.key)
       (same : (k : ℕ) (s : Slot) → slots_in a k ≡ Some s → times page_slots s.serial (alone (node_at x (tree_of a root))) ≡ 0 → slots_in b k ≡ Some s)
       (reached : (k : ℕ) (s : Slot) → slots_in b k ≡ Some s → 0 < times page_slots s.serial (alone (changed_at x change (tree_of a root))))
       (valid : IsValid (record { tree = changed_at x change (tree_of a root); next = then })) where
     changed_keeps : (o : Option ℕ) (k : ℕ) → KeepsOne page_slots (slots_in a) (node_at x (tree_of a root)) o k → KeepsOne page_slots (slots_in b) (change (node_at x (tree_of a root))) o k
     changed_keeps o k (s, at, up, row_is, below, after) =
-        let serial_is : s.serial ≡ x = ap (λ (r : Row). r.serial) row_is ∙ serial-live x (tree_of a root) seat.live in
+        let serial_is : s.serial ≡ x = ap (λ (r : PageRow). r.serial) row_is ∙ serial-live x (tree_of a root) seat.live in
         let key_is : keys_in a x ≡ Some k = ap (λ (y : ℕ). keys_in a y) (sym serial_is) ∙ page.arena.files.filed k s at in
         let same_key : k ≡ seat.key = let both : Some k ≡ Some seat.key = sym key_is ∙ seat.key_is in cc in
         let same_slot : s ≡ slot = let both : Some s ≡ Some slot = sym at ∙ ap (λ (y : ℕ). slots_in a y) same_key ∙ seat.at in cc in
@@ -138,7 +138,7 @@ module _ (a : Arena) (root next : ℕ) (page : IsPage a root next) (x : ℕ) (sl
     page_changed = (tree_is b root then _ changed_arena valid, rebuilt b root then _ changed_arena valid)
 
   -- how many nodes have a serial, before and after
-  counts : (change : Branch Row → Branch Row) (y : ℕ) → times page_slots y (alone (changed_at x change (tree_of a root))) + times page_slots y (alone (node_at x (tree_of a root))) ≡ times page_slots y (alone (tree_of a root)) + times page_slots y (alone (change (node_at x (tree_of a root))))
+  counts : (change : Branch PageRow → Branch PageRow) (y : ℕ) → times page_slots y (alone (changed_at x change (tree_of a root))) + times page_slots y (alone (node_at x (tree_of a root))) ≡ times page_slots y (alone (tree_of a root)) + times page_slots y (alone (change (node_at x (tree_of a root))))
   counts change y = let h = tally-at row_serial y (changed x change (tree_of a root) seat.live).1 in omega arith
 
   -- ---- another label
@@ -156,7 +156,7 @@ module _ (a : Arena) (root next : ℕ) (page : IsPage a root next) (x : ℕ) (sl
           slot2,
           turns.at,
           parent_is,
-          row_is ∙ ap (λ (r : Row). record { serial = r.serial; label = f r.label }) seat.row_is,
+          row_is ∙ ap (λ (r : PageRow). record { serial = r.serial; label = f r.label }) seat.row_is,
           subst (λ (ks : List ℕ). Keeps page_slots (slots_in b) (node_at x (tree_of a root)).children (Some seat.key) ks) (sym children_are) kept,
           tt,
         )
@@ -166,7 +166,7 @@ module _ (a : Arena) (root next : ℕ) (page : IsPage a root next) (x : ℕ) (sl
         elim (cases_eq k seat.key) [
           | inl same ↦
               let is : slot2 ≡ s = let both : Some slot2 ≡ Some s = sym turns.at ∙ ap (λ (y : ℕ). slots_in b y) (sym same) ∙ at in cc in
-              let serial_is : slot.serial ≡ s.serial = sym (ap (λ (r : Row). r.serial) row_is) ∙ ap (λ (z : Slot). z.serial) is in
+              let serial_is : slot.serial ≡ s.serial = sym (ap (λ (r : PageRow). r.serial) row_is) ∙ ap (λ (z : Slot). z.serial) is in
               subst (λ (y : ℕ). 0 < times page_slots y (alone (tree_of a root))) serial_is (page.arena.reached seat.key slot seat.at)
           | inr other ↦ page.arena.reached k s (sym (turns.others k other) ∙ at)
         ]
@@ -179,7 +179,7 @@ module _ (a : Arena) (root next : ℕ) (page : IsPage a root next) (x : ℕ) (sl
 
   -- ---- a tree more below it
 
-  module _ (b : Arena) (then before : ℕ) (w : Branch Row) (files : Filed b) (fresh : Fresh a (alone w)) (g : Grafted a b seat.key before w)
+  module _ (b : Arena) (then before : ℕ) (w : Branch PageRow) (files : Filed b) (fresh : Fresh a (alone w)) (g : Grafted a b seat.key before w)
       (valid : IsValid (record { tree = changed_at x (with_child before w) (tree_of a root); next = then })) where
     grafted : Turns page_slots (slots_in g.mid) (slots_in b) seat.key slot (with_child_key a before g.child slot)
     grafted = g.turned slot (g.grown.kept seat.key slot seat.at)
@@ -222,7 +222,7 @@ module _ (a : Arena) (root next : ℕ) (page : IsPage a root next) (x : ℕ) (sl
 
   -- ---- and a tree less
 
-  module _ (b : Arena) (serial : ℕ) (w : Branch Row) (files : Filed b) (g : Cut a b seat.key serial w) (child : Inserted w (taken_out serial (node_at x (tree_of a root)).children) (node_at x (tree_of a root)).children)
+  module _ (b : Arena) (serial : ℕ) (w : Branch PageRow) (files : Filed b) (g : Cut a b seat.key serial w) (child : Inserted w (taken_out serial (node_at x (tree_of a root)).children) (node_at x (tree_of a root)).children)
       (valid : IsValid (record { tree = changed_at x (without_child serial) (tree_of a root); next = next })) where
     cut : Turns page_slots (slots_in a) (slots_in g.mid) seat.key slot (without_child_key a serial slot)
     cut = g.turned slot seat.at

@@ -5,7 +5,7 @@ use Rattle.node_tree.specs.Nodes.{Nodes, none, node, Branch, nodes_of, from, tre
 use Rattle.node_tree.proofs.NodeLemmas.{from-zero, beside-none, node_count-map_rows}
 use Rattle.node_tree.specs.Keys.{At, here, within, past}
 use Rattle.page_tree.specs.Forms.{max_nodes}
-use Rattle.page_tree.specs.Pages.{Row, State, row_label, node_at, numbered, IsValid}
+use Rattle.page_tree.specs.Pages.{PageRow, PageValue, row_label, node_at, numbered, IsValid}
 use Rattle.page_tree.specs.EditFaults.{is_live}
 use Rattle.page_tree.proofs.EditLemmas.{changed}
 use Rattle.page_tree.specs.Rooms.{room_after}
@@ -30,7 +30,7 @@ over_room c t left some e = grind (arith, nat_tests)
 next_room : (c t left rest : ℕ) → 0 < left → room_after c (left - 1) ≡ Some rest → room_after (suc (c + t)) left ≡ room_after t rest
 next_room c t left rest some e = grind (arith, nat_tests)
 
-module _ (n : Nodes Row) (i : ℕ) (b : Branch Row) (inside : i < width n) (at : tree_at i n ≡ Some b) where
+module _ (n : Nodes PageRow) (i : ℕ) (b : Branch PageRow) (inside : i < width n) (at : tree_at i n ≡ Some b) where
   pub count_open : node_count (from i n) ≡ suc (node_count b.children + node_count (from (i + 1) n))
   count_open = ap (λ m. node_count m) (from-next n i b inside at)
 
@@ -63,52 +63,52 @@ module _ (n : Nodes Row) (i : ℕ) (b : Branch Row) (inside : i < width n) (at :
     pub room_turn : (rest : ℕ) → 0 < left → room_after (node_count b.children) (left - 1) ≡ Some rest → room_after (node_count (from (i + 1) n)) rest ≡ room_after (node_count n) room
     room_turn rest some e = sym (next_room (node_count b.children) (node_count (from (i + 1) n)) left rest some e) ∙ inside_room
 
-  module _ (done new : List (Branch Row)) (tree : Branch Row) (first next after : ℕ) (so_far : beside (nodes_of done) (numbered next (map_rows row_label (from i n))) ≡ numbered first (map_rows row_label n)) where
-    pub copy_turn : (below : Nodes Row) → below ≡ numbered (next + 1) (map_rows row_label b.children) → after ≡ next + 1 + node_count (map_rows row_label b.children)
+  module _ (done new : List (Branch PageRow)) (tree : Branch PageRow) (first next after : ℕ) (so_far : beside (nodes_of done) (numbered next (map_rows row_label (from i n))) ≡ numbered first (map_rows row_label n)) where
+    pub copy_turn : (below : Nodes PageRow) → below ≡ numbered (next + 1) (map_rows row_label b.children) → after ≡ next + 1 + node_count (map_rows row_label b.children)
         → tree ≡ record { row = record { serial = next; label = b.row.label }; children = below } → new ≡ done ++ tree ∷ []
         → beside (nodes_of new) (numbered after (map_rows row_label (from (i + 1) n))) ≡ numbered first (map_rows row_label n)
     copy_turn below below_is after_is is pushed =
         let whole = sym (ap (λ m. beside (nodes_of done) (numbered next (map_rows row_label m))) opened) ∙ so_far in
-        ap (λ (l : List (Branch Row)). beside (nodes_of l) (numbered after (map_rows row_label (from (i + 1) n)))) (pushed ∙ ap (λ t. done ++ t ∷ []) is)
+        ap (λ (l : List (Branch PageRow)). beside (nodes_of l) (numbered after (map_rows row_label (from (i + 1) n)))) (pushed ∙ ap (λ t. done ++ t ∷ []) is)
         ∙ number_turn done b.row.label (map_rows row_label b.children) below (map_rows row_label (from (i + 1) n)) (map_rows row_label n) first next after whole below_is after_is
 
 -- nothing is left
 
-pub high_end : (n : Nodes Row) (i levels : ℕ) → from i n ≡ none → nat_le (height (from i n)) levels ≡ nat_le (height n) levels → true ≡ nat_le (height n) levels
+pub high_end : (n : Nodes PageRow) (i levels : ℕ) → from i n ≡ none → nat_le (height (from i n)) levels ≡ nat_le (height n) levels → true ≡ nat_le (height n) levels
 high_end n i levels ended so_far = low levels ∙ sym (ap (λ m. nat_le (height m) levels) ended) ∙ so_far
   where
     low : (l : ℕ) → true ≡ nat_le 0 l
     low l = grind (arith, nat_tests)
 
-pub room_end : (n : Nodes Row) (i room left : ℕ) → from i n ≡ none → room_after (node_count (from i n)) left ≡ room_after (node_count n) room → Some left ≡ room_after (node_count n) room
+pub room_end : (n : Nodes PageRow) (i room left : ℕ) → from i n ≡ none → room_after (node_count (from i n)) left ≡ room_after (node_count n) room → Some left ≡ room_after (node_count n) room
 room_end n i room left ended so_far = all_left left ∙ sym (ap (λ m. room_after (node_count m) left) ended) ∙ so_far
   where
     all_left : (l : ℕ) → Some l ≡ room_after 0 l
     all_left l = grind (arith, nat_tests)
 
-pub copy_start : (n : Nodes Row) (first : ℕ) (done : List (Branch Row)) → done ≡ [] → beside (nodes_of done) (numbered first (map_rows row_label (from 0 n))) ≡ numbered first (map_rows row_label n)
-copy_start n first done empty = ap (λ (l : List (Branch Row)). beside (nodes_of l) (numbered first (map_rows row_label (from 0 n)))) empty ∙ ap (λ m. numbered first (map_rows row_label m)) (from-zero n)
+pub copy_start : (n : Nodes PageRow) (first : ℕ) (done : List (Branch PageRow)) → done ≡ [] → beside (nodes_of done) (numbered first (map_rows row_label (from 0 n))) ≡ numbered first (map_rows row_label n)
+copy_start n first done empty = ap (λ (l : List (Branch PageRow)). beside (nodes_of l) (numbered first (map_rows row_label (from 0 n)))) empty ∙ ap (λ m. numbered first (map_rows row_label m)) (from-zero n)
 
-pub copy_end : (n : Nodes Row) (i : ℕ) (done : List (Branch Row)) (first next : ℕ) → from i n ≡ none → beside (nodes_of done) (numbered next (map_rows row_label (from i n))) ≡ numbered first (map_rows row_label n) → nodes_of done ≡ numbered first (map_rows row_label n)
+pub copy_end : (n : Nodes PageRow) (i : ℕ) (done : List (Branch PageRow)) (first next : ℕ) → from i n ≡ none → beside (nodes_of done) (numbered next (map_rows row_label (from i n))) ≡ numbered first (map_rows row_label n) → nodes_of done ≡ numbered first (map_rows row_label n)
 copy_end n i done first next ended so_far = sym (beside-none (nodes_of done)) ∙ sym (ap (λ m. beside (nodes_of done) (numbered next (map_rows row_label m))) ended) ∙ so_far
 
-pub count_end : (n : Nodes Row) (i next total : ℕ) → from i n ≡ none → next + node_count (from i n) ≡ total → next ≡ total
+pub count_end : (n : Nodes PageRow) (i next total : ℕ) → from i n ≡ none → next + node_count (from i n) ≡ total → next ≡ total
 count_end n i next total ended so_far = let e = ap (λ m. node_count m) ended in omega arith
 
 -- ---- a node has no more nodes than the page
 
-count_within : {old new : Branch Row} {depth : ℕ} {n m : Nodes Row} → At old new depth n m → branch_count old ≤ node_count n
+count_within : {old new : Branch PageRow} {depth : ℕ} {n m : Nodes PageRow} → At old new depth n m → branch_count old ≤ node_count n
 count_within (here t) = omega arith
 count_within (within depth r c m t e) = let h = count_within e in omega arith
 count_within (past depth r c t m e) = let h = count_within e in omega arith
 
-pub count_node : (page : State) → IsValid page → (x : ℕ) → is_live x page.tree ≡ true → branch_count (node_at x page.tree) ≤ max_nodes
+pub count_node : (page : PageValue) → IsValid page → (x : ℕ) → is_live x page.tree ≡ true → branch_count (node_at x page.tree) ≤ max_nodes
 count_node page valid x live =
     let h = count_within (changed x (λ b. b) page.tree live).1 in
     let room = valid.nodes.room in
     let rows = node_count-map_rows row_label page.tree.children in
     omega arith
 
-pub copied_next : {T E : Type 0} (r : Result (T × ℕ) E) (P : T × ℕ → Type 0) (first : ℕ) (w : Branch Row) → IfOk r (λ x. P x × (x.1 ≡ first + branch_count w)) → IfOk r (λ x. x.1 ≡ first + branch_count (map_branch row_label w))
+pub copied_next : {T E : Type 0} (r : Result (T × ℕ) E) (P : T × ℕ → Type 0) (first : ℕ) (w : Branch PageRow) → IfOk r (λ x. P x × (x.1 ≡ first + branch_count w)) → IfOk r (λ x. x.1 ≡ first + branch_count (map_branch row_label w))
 copied_next (Ok x) P first w (p, e) = let rows = node_count-map_rows row_label w.children in omega arith
 copied_next (Err e) P first w p = p

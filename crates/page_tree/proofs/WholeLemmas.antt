@@ -10,7 +10,7 @@ use Rattle.node_tree.proofs.NodeLemmas.{node_count-map_rows, height-map_rows}
 use Rattle.node_tree.proofs.KeyLemmas.{tally-at, height-at}
 use Rattle.node_tree.proofs.ChangeLemmas.{count-at}
 use Rattle.page_tree.specs.Forms.{max_level, max_nodes, may_stand, are_formed, are_named}
-use Rattle.page_tree.specs.Pages.{Row, row_serial, row_label, State, IsValid}
+use Rattle.page_tree.specs.Pages.{PageRow, row_serial, row_label, PageValue, IsValid}
 use Rattle.page_tree.specs.EditFaults.{may_hold}
 use Rattle.node_tree.proofs.PairLemmas.{both, left, right}
 use Rattle.page_tree.proofs.ChildLemmas.{Inserted, front, behind}
@@ -26,11 +26,11 @@ pub record Fits (above : Option Kind) (l : Label) : Type 0 where
   pub stands : stands_under above l.kind ≡ true
 
 -- each node is as a page may hold it, under what stands above it
-abbrev pub Sound : Option Kind → Nodes Row → Type 0
+abbrev pub Sound : Option Kind → Nodes PageRow → Type 0
 Sound above none = Unit {0}
 Sound above (node r c t) = Fits above r.label × Sound (Some r.label.kind) c × Sound above t
 
-pub record Whole (next : ℕ) (n : Nodes Row) : Type 0 where
+pub record Whole (next : ℕ) (n : Nodes PageRow) : Type 0 where
   pub sound : Sound None n
   pub low : height n ≤ suc max_level
   pub few : node_count n ≤ max_nodes
@@ -45,10 +45,10 @@ stand_parts top true h p e f = absurd (cc)
 stand_parts top false true p e f = e
 stand_parts top false false p e f = absurd (cc)
 
-labels : Nodes Row → Nodes Label
+labels : Nodes PageRow → Nodes Label
 labels = map_rows row_label
 
-pub sound-formed : (above : Kind) (n : Nodes Row) → are_formed (is_document above) (map_rows row_label n) ≡ true → are_named (map_rows row_label n) ≡ true → (holds above || is_no_node (map_rows row_label n)) ≡ true → Sound (Some above) n
+pub sound-formed : (above : Kind) (n : Nodes PageRow) → are_formed (is_document above) (map_rows row_label n) ≡ true → are_named (map_rows row_label n) ≡ true → (holds above || is_no_node (map_rows row_label n)) ≡ true → Sound (Some above) n
 sound-formed above none e f g = tt
 sound-formed above (node r c t) e f g =
     let e0 = left (is_formed_label r.label && may_stand (is_document above) r.label.kind && (holds r.label.kind || is_no_node (map_rows row_label c)) && are_formed false (map_rows row_label c)) (are_formed (is_document above) (map_rows row_label t)) e in
@@ -89,7 +89,7 @@ bare_none : (h : Bool) → (h || true) ≡ true
 bare_none true = refl
 bare_none false = refl
 
-pub formed-sound : (above : Kind) (n : Nodes Row) → Sound (Some above) n → Formed above (map_rows row_label n)
+pub formed-sound : (above : Kind) (n : Nodes PageRow) → Sound (Some above) n → Formed above (map_rows row_label n)
 formed-sound above none s = record { formed = refl; named = refl; holder = bare_none (holds above) }
 formed-sound above (node r c t) (fits, below, beside) =
     let u = formed-sound r.label.kind c below in
@@ -117,7 +117,7 @@ document_is Text e = absurd (cc)
 document_is Comment e = absurd (cc)
 document_is Doctype e = absurd (cc)
 
-pub whole-valid : (page : State) → IsValid page → Whole page.next (alone page.tree)
+pub whole-valid : (page : PageValue) → IsValid page → Whole page.next (alone page.tree)
 whole-valid page valid =
     let l = page.tree.row.label in
     let c = page.tree.children in
@@ -141,7 +141,7 @@ whole-valid page valid =
       below = λ x p. valid.below_next x (omega arith);
     }
 
-pub valid-whole : (page : State) → Whole page.next (alone page.tree) → IsValid page
+pub valid-whole : (page : PageValue) → Whole page.next (alone page.tree) → IsValid page
 valid-whole page whole =
     let l = page.tree.row.label in
     let c = page.tree.children in
@@ -162,8 +162,8 @@ valid-whole page whole =
 
 -- ---- one node changed
 
-module _ {old new : Branch Row} where
-  pub sound-at : {depth : ℕ} {n m : Nodes Row} (above : Option Kind) → At old new depth n m → old.row.label.kind ≡ new.row.label.kind → is_formed_label new.row.label ≡ true → is_named_label new.row.label ≡ true → Sound (Some new.row.label.kind) new.children
+module _ {old new : Branch PageRow} where
+  pub sound-at : {depth : ℕ} {n m : Nodes PageRow} (above : Option Kind) → At old new depth n m → old.row.label.kind ≡ new.row.label.kind → is_formed_label new.row.label ≡ true → is_named_label new.row.label ≡ true → Sound (Some new.row.label.kind) new.children
       → Sound above n → Sound above m
   sound-at above (here t) kind formed named below (fits, c, beside) =
       (record { formed = formed; named = named; stands = subst (λ (k : Kind). stands_under above k ≡ true) kind fits.stands }, below, beside)
@@ -171,7 +171,7 @@ module _ {old new : Branch Row} where
   sound-at above (past depth r c t m e) kind formed named below (fits, s, beside) = (fits, s, sound-at above e kind formed named below beside)
 
   -- what holds of the node before the change
-  pub sound-there : {depth : ℕ} {n m : Nodes Row} (above : Option Kind) → At old new depth n m → Sound above n → (a : Option Kind) × Fits a old.row.label × Sound (Some old.row.label.kind) old.children
+  pub sound-there : {depth : ℕ} {n m : Nodes PageRow} (above : Option Kind) → At old new depth n m → Sound above n → (a : Option Kind) × Fits a old.row.label × Sound (Some old.row.label.kind) old.children
   sound-there above (here t) (fits, c, beside) = (above, fits, c)
   sound-there above (within depth r c m t e) (fits, s, beside) = sound-there (Some r.label.kind) e s
   sound-there above (past depth r c t m e) (fits, s, beside) = sound-there above e beside
@@ -181,13 +181,13 @@ sum_cases zero b h = inr (omega arith)
 sum_cases (suc a) b h = inl (omega arith)
 
 -- serials that come to those of the trees
-pub record AreNew (next : ℕ) (n : Nodes Row) (more : ℕ → ℕ) : Type 0 where
+pub record AreNew (next : ℕ) (n : Nodes PageRow) (more : ℕ → ℕ) : Type 0 where
   pub once : (x : ℕ) → more x + tally row_serial x n ≤ 1
   pub least : (x : ℕ) → 0 < more x → 1 ≤ x
   pub below : (x : ℕ) → 0 < more x → x < next
 
 -- what the changed node owes
-pub record Owes (next depth : ℕ) (old new : Branch Row) (n : Nodes Row) : Type 0 where
+pub record Owes (next depth : ℕ) (old new : Branch PageRow) (n : Nodes PageRow) : Type 0 where
   pub kind : old.row.label.kind ≡ new.row.label.kind
   pub formed : is_formed_label new.row.label ≡ true
   pub named : is_named_label new.row.label ≡ true
@@ -198,7 +198,7 @@ pub record Owes (next depth : ℕ) (old new : Branch Row) (n : Nodes Row) : Type
   pub serials : (x : ℕ) → tally_in row_serial x new ≤ tally_in row_serial x old + more x
   pub are_new : AreNew next n more
 
-pub whole-at : {old new : Branch Row} {depth next then : ℕ} {n m : Nodes Row} → next ≤ then → Whole next n → At old new depth n m → Owes then depth old new n → Whole then m
+pub whole-at : {old new : Branch PageRow} {depth next then : ℕ} {n m : Nodes PageRow} → next ≤ then → Whole next n → At old new depth n m → Owes then depth old new n → Whole then m
 whole-at {old} {new} {depth} {next} {then} {n} {m} later whole e owes =
     let low = whole.low in
     let h = height-at e in
@@ -215,16 +215,16 @@ whole-at {old} {new} {depth} {next} {then} {n} {m} later whole e owes =
     }
 
 -- a page goes on being whole as its next serial goes on
-pub whole-later : {next then : ℕ} {n : Nodes Row} → next ≤ then → Whole next n → Whole then n
+pub whole-later : {next then : ℕ} {n : Nodes PageRow} → next ≤ then → Whole next n → Whole then n
 whole-later later whole = record { sound = whole.sound; low = whole.low; few = whole.few; distinct = whole.distinct; least = whole.least; below = λ x p. let b = whole.below x p in omega arith }
 
 -- ---- a tree among others
 
-module _ {w : Branch Row} {above : Option Kind} where
-  pub sound-inserted : {n m : Nodes Row} → Inserted w n m → Sound above n → Sound above (alone w) → Sound above m
+module _ {w : Branch PageRow} {above : Option Kind} where
+  pub sound-inserted : {n m : Nodes PageRow} → Inserted w n m → Sound above n → Sound above (alone w) → Sound above m
   sound-inserted (front t) s (fits, below, x) = (fits, below, s)
   sound-inserted (behind r c t u i) (fits, below, beside) s = (fits, below, sound-inserted i beside s)
 
-  pub inserted-sound : {n m : Nodes Row} → Inserted w n m → Sound above m → Sound above n × Sound above (alone w)
+  pub inserted-sound : {n m : Nodes PageRow} → Inserted w n m → Sound above m → Sound above n × Sound above (alone w)
   inserted-sound (front t) (fits, below, beside) = (beside, (fits, below, tt))
   inserted-sound (behind r c t u i) (fits, below, beside) = let s = inserted-sound i beside in ((fits, below, s.0), s.1)

@@ -8,17 +8,17 @@ use Rattle.slab.specs.Slab as slab
 use Rattle.node_tree.specs.Nodes.{Nodes, none, node, Branch, alone, width, height}
 use Rattle.node_tree.specs.Arena.{SlotForm, times, Keeps, kept_trees, IsFiled, IsArena, IsFresh, Grows, Shrinks, Comes, Turns}
 use Rattle.page_tree.specs.Forms.{max_level}
-use Rattle.page_tree.specs.Pages.{Row, row_serial, document_label, IsValid}
+use Rattle.page_tree.specs.Pages.{PageRow, row_serial, document_label, IsValid}
 use Rattle.page_tree.specs.Zippers.{zipper_at}
 use Rattle.page_tree.specs.declared.slots.Slot.{Slot}
 use Rattle.page_tree.specs.declared.arenas.Arena.{Arena}
 
 -- the row of a slot's node
-abbrev pub slot_row : Slot → Row
+abbrev pub slot_row : Slot → PageRow
 slot_row s = record { serial = s.serial; label = record { kind = s.kind; name = s.name; value = s.value; attributes = s.attributes } }
 
 -- what a slot of a page says: its node's row, its serial, its parent's key and its children's keys
-abbrev pub page_slots : SlotForm Slot Row
+abbrev pub page_slots : SlotForm Slot PageRow
 page_slots = record { row = slot_row; number = row_serial; parent = λ s. s.parent; children = λ s. s.children }
 
 -- the slot under a key, and the key of a serial's slot
@@ -34,19 +34,19 @@ abbrev pub Filed : Arena → Type 0
 Filed a = IsFiled page_slots (slots_in a) (keys_in a)
 
 -- the slots under these keys keep these trees
-abbrev pub Stored : Arena → Nodes Row → Option ℕ → List ℕ → Type 0
+abbrev pub Stored : Arena → Nodes PageRow → Option ℕ → List ℕ → Type 0
 Stored a n above ks = Keeps page_slots (slots_in a) n above ks
 
 -- the trees in the slots under these keys, so many levels down
-abbrev pub stored_trees : Arena → ℕ → List ℕ → Nodes Row
+abbrev pub stored_trees : Arena → ℕ → List ℕ → Nodes PageRow
 stored_trees a levels ks = kept_trees page_slots (slots_in a) levels ks
 
 -- these trees may come in
-abbrev pub Fresh : Arena → Nodes Row → Type 0
+abbrev pub Fresh : Arena → Nodes PageRow → Type 0
 Fresh a n = IsFresh page_slots (slots_in a) n
 
 -- slots of some of these trees' nodes came in, and all others stay
-abbrev pub Grown : Arena → Arena → Nodes Row → Type 0
+abbrev pub Grown : Arena → Arena → Nodes PageRow → Type 0
 Grown a b n = Grows page_slots (slots_in a) (slots_in b) (λ x. times page_slots x n)
 
 -- how often the list has the number
@@ -82,20 +82,20 @@ climbed a (suc levels) above = option_map_or (λ k. suc (climbed a levels (optio
 -- ---- a page in an arena
 
 -- the first of the trees; a page has one
-abbrev pub first_tree : Nodes Row → Branch Row
+abbrev pub first_tree : Nodes PageRow → Branch PageRow
 first_tree none = record { row = record { serial = 0; label = document_label }; children = none }
 first_tree (node r c t) = record { row = r; children = c }
 
 -- the tree from the root's slot on
-unfoldable pub tree_of : Arena → ℕ → Branch Row
+unfoldable pub tree_of : Arena → ℕ → Branch PageRow
 tree_of a root = first_tree (stored_trees a (suc max_level) (root ∷ []))
 
 -- the trees in the slots under these keys
-unfoldable pub trees_in : Arena → List ℕ → Nodes Row
+unfoldable pub trees_in : Arena → List ℕ → Nodes PageRow
 trees_in a ks = stored_trees a (suc max_level) ks
 
 -- the tree of a slot
-abbrev pub branch_in : Arena → Slot → Branch Row
+abbrev pub branch_in : Arena → Slot → Branch PageRow
 branch_in a slot = record { row = slot_row slot; children = trees_in a slot.children }
 
 -- the slots under these keys keep trees that hang below one parent, on no more levels than a page has
@@ -110,9 +110,9 @@ pub record IsPage (a : Arena) (root next : ℕ) : Type 0 where
   pub valid : IsValid (record { tree = tree_of a root; next = next })
 
 -- what the slot of a serial says of the node that is found
-abbrev pub Looks : Option Slot → Option (Branch Row) → Type 0
+abbrev pub Looks : Option Slot → Option (Branch PageRow) → Type 0
 Looks None f = f ≡ None
-Looks (Some slot) f = (b : Branch Row) × (f ≡ Some b) × (slot_row slot ≡ b.row) × (length slot.children ≡ width b.children)
+Looks (Some slot) f = (b : Branch PageRow) × (f ≡ Some b) × (slot_row slot ≡ b.row) × (length slot.children ≡ width b.children)
 
 -- the keys of a slot and its siblings, in their order; the root's slot has none
 abbrev pub sibling_keys : Arena → Slot → List ℕ
@@ -123,7 +123,7 @@ abbrev pub sibling_slot : Arena → Slot → ℕ → Option Slot
 sibling_slot a slot i = option_and_then (slots_in a) (slice_get (sibling_keys a slot) i)
 
 -- a slot of a page, with its place among its siblings, where that is known
-pub record IsSeated (a : Arena) (root : ℕ) (slot : Slot) (place : Option ℕ) : Type 0 where
+pub record IsSlotAt (a : Arena) (root : ℕ) (slot : Slot) (place : Option ℕ) : Type 0 where
   pub next : ℕ
   pub page : IsPage a root next
   pub at : slot_of a slot.serial ≡ Some slot
@@ -149,7 +149,7 @@ abbrev pub without_child_key : Arena → ℕ → Slot → Slot
 without_child_key a serial slot = record slot { children = remove slot.children (place_in a serial slot.children) }
 
 -- the tree came in below the slot of that key, before the child of that serial
-pub record Grafted (a b : Arena) (key before : ℕ) (tree : Branch Row) : Type 0 where
+pub record Grafted (a b : Arena) (key before : ℕ) (tree : Branch PageRow) : Type 0 where
   pub mid : Arena
   pub child : ℕ
   pub grown : Grown a mid (alone tree)
@@ -157,7 +157,7 @@ pub record Grafted (a b : Arena) (key before : ℕ) (tree : Branch Row) : Type 0
   pub turned : Turned mid b key (with_child_key a before child)
 
 -- the tree of that serial's slot went out, from among the children of the slot of that key
-pub record Cut (a b : Arena) (key serial : ℕ) (tree : Branch Row) : Type 0 where
+pub record Cut (a b : Arena) (key serial : ℕ) (tree : Branch PageRow) : Type 0 where
   pub mid : Arena
   pub serials : List ℕ
   pub turned : Turned a mid key (without_child_key a serial)

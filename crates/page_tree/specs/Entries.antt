@@ -4,6 +4,6 @@ use Rattle.std.specs.declared.alloc.Global.{Global}
 use Rattle.node_tree.specs.Labels.{Pair}
 
 -- the pairs of the entries, by bytes
-abbrev pub shown : List (String Global × List ℕ) → List Pair
-shown [] = []
-shown (e ∷ es) = (string_bytes e.0, e.1) ∷ shown es
+abbrev pub entry_pairs : List (String Global × List ℕ) → List Pair
+entry_pairs [] = []
+entry_pairs (e ∷ es) = (string_bytes e.0, e.1) ∷ entry_pairs es

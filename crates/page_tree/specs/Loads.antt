@@ -38,8 +38,8 @@ in_order ordered [] = Some ordered
 in_order ordered (p ∷ ps) = cond (is_taken p.0 ordered) None (in_order (placed p ordered) ps)
 
 -- the attributes that a list spells
-abbrev pub attributes_of : Data → Option (List Pair)
-attributes_of d = option_and_then (in_order []) (option_and_then pairs_of (as_array d))
+abbrev pub attributes_spelled : Data → Option (List Pair)
+attributes_spelled d = option_and_then (in_order []) (option_and_then pairs_of (as_array d))
 
 -- ---- the label of a node
 
@@ -65,7 +65,7 @@ labelled kind name value attributes = record { kind = kind; name = name; value =
 
 -- the attributes at `a`, which may be absent
 abbrev pub attributes_at : Data → Option (List Pair)
-attributes_at d = option_map_or attributes_of (get (codes "a") d) (Some [])
+attributes_at d = option_map_or attributes_spelled (get (codes "a") d) (Some [])
 
 -- the name at `e`, where there is nothing else but `a` and `c`
 abbrev pub element_name : Data → Option (List ℕ)
@@ -77,8 +77,8 @@ element_label d = option_and_then (λ name. option_map (labelled Element name []
 
 -- `{"e":NAME,"a":[NAME,VALUE,..],"c":[NODE,..]}`, where `a` and `c` may be absent, `{"t":TEXT}`, `{"k":TEXT}`, and right
 -- below the document `{"d":NAME}`, with exactly these properties
-abbrev pub label_of : Bool → Data → Option Label
-label_of top d =
+abbrev pub label_spelled : Bool → Data → Option Label
+label_spelled top d =
     first_of (element_label d)
     (first_of (option_map (λ text. labelled Text [] text []) (text_alone (codes "t") d))
     (first_of (option_map (λ text. labelled Comment [] text []) (text_alone (codes "k") d))
@@ -91,35 +91,35 @@ abbrev pub branch_of : Option Label → Option (Nodes Label) → Option (Branch 
 branch_of l n = option_and_then (λ l. option_map (λ n. record { row = l; children = n }) n) l
 
 -- a tree before those that follow it, where both are there
-abbrev pub before : Option (Branch Label) → Option (Nodes Label) → Option (Nodes Label)
-before b n = option_and_then (λ b. option_map (node b.row b.children) n) b
+abbrev pub form_before : Option (Branch Label) → Option (Nodes Label) → Option (Nodes Label)
+form_before b n = option_and_then (λ b. option_map (node b.row b.children) n) b
 
 -- The node that a value spells, the nodes that a list spells, those that the property `c` of an object lists, and those of
 -- its value. `top` says that they stand right below the document.
 abbrev mutual
-  pub form_of : Bool → Data → Option (Branch Label)
-  form_of top null = None
-  form_of top (boolean b) = None
-  form_of top (number n) = None
-  form_of top (string s) = None
-  form_of top (array ds) = None
-  form_of top (object ms) = branch_of (label_of top (object ms)) (below_of ms)
+  pub node_spelled : Bool → Data → Option (Branch Label)
+  node_spelled top null = None
+  node_spelled top (boolean b) = None
+  node_spelled top (number n) = None
+  node_spelled top (string s) = None
+  node_spelled top (array ds) = None
+  node_spelled top (object ms) = branch_of (label_spelled top (object ms)) (below_of ms)
 
   pub forms_of : Bool → Items → Option (Nodes Label)
   forms_of top no_items = Some none
-  forms_of top (item d ds) = before (form_of top d) (forms_of top ds)
+  forms_of top (item d ds) = form_before (node_spelled top d) (forms_of top ds)
 
   pub below_of : Members → Option (Nodes Label)
   below_of no_members = Some none
-  below_of (member key d ms) = cond (bytes_eq (codes "c") key) (list_of d) (below_of ms)
+  below_of (member key d ms) = cond (bytes_eq (codes "c") key) (nodes_listed d) (below_of ms)
 
-  pub list_of : Data → Option (Nodes Label)
-  list_of null = None
-  list_of (boolean b) = None
-  list_of (number n) = None
-  list_of (string s) = None
-  list_of (array ds) = forms_of false ds
-  list_of (object ms) = None
+  pub nodes_listed : Data → Option (Nodes Label)
+  nodes_listed null = None
+  nodes_listed (boolean b) = None
+  nodes_listed (number n) = None
+  nodes_listed (string s) = None
+  nodes_listed (array ds) = forms_of false ds
+  nodes_listed (object ms) = None
 
 -- the nodes that a load lists
 abbrev pub nodes_in : Data → Option (Nodes Label)
@@ -127,11 +127,11 @@ nodes_in d = option_and_then (forms_of true) (as_array d)
 
 -- the one node that a value spells; it may stand at the top
 abbrev pub node_in : Data → Option (Branch Label)
-node_in d = form_of true d
+node_in d = node_spelled true d
 
 -- the values that the property `c` of an object lists; it may be absent
-abbrev pub children_in : Data → Option Items
-children_in d = option_and_then (λ _. option_map_or as_array (get (codes "c") d) (Some no_items)) (as_object d)
+abbrev pub values_below : Data → Option Items
+values_below d = option_and_then (λ _. option_map_or as_array (get (codes "c") d) (Some no_items)) (as_object d)
 
 -- ---- faults
 

@@ -1,8 +1,8 @@
 ghost use Rattle.std.specs.Prelude.{◌≡◌, [], ◌++◌, map, string_bytes, option_map, IfOk, OnOk};
 ghost use Rattle.serde_json.specs.View.{view, items_view};
 ghost use Rattle.node_tree.specs.Labels.{is_below, is_ascending};
-ghost use Rattle.page_tree.specs.Loads.{pairs_of, in_order, attributes_of};
-ghost use Rattle.page_tree.specs.Entries.{shown};
+ghost use Rattle.page_tree.specs.Loads.{pairs_of, in_order, attributes_spelled};
+ghost use Rattle.page_tree.specs.Entries.{entry_pairs};
 
 use node_tree::{Attributes, Text};
 use serde_json::Value;
@@ -36,7 +36,7 @@ fn gather(
     alloc: Global,
     pairs: Vec<(Text, Text)>,
 ) -> Result<Option<BTreeMap<String, Text>>, AllocError>
-    ensures { IfOk result (λ entries. option_map (λ m. shown m.entries) entries ≡ in_order [] pairs.items) }
+    ensures { IfOk result (λ entries. option_map (λ m. entry_pairs m.entries) entries ≡ in_order [] pairs.items) }
 {
     let mut entries = BTreeMap::new(alloc);
     for (name, value) in pairs {
@@ -51,7 +51,7 @@ fn list_entries(
     alloc: Global,
     entries: BTreeMap<String, Text>,
 ) -> Result<Vec<(Text, Text)>, AllocError>
-    ensures { IfOk result (λ pairs. pairs.items ≡ shown entries.entries) }
+    ensures { IfOk result (λ pairs. pairs.items ≡ entry_pairs entries.entries) }
 {
     let mut pairs = Vec::with_capacity(alloc, entries.len())?;
     for (name, value) in entries {
@@ -103,7 +103,7 @@ pub fn order_pairs(
 
 /// The attributes that a list spells, in ascending order of the names' bytes.
 pub fn read_attributes(alloc: Global, v: &Value) -> Result<Option<Attributes>, AllocError>
-    ensures { IfOk result (λ attributes. attributes ≡ attributes_of (view v.now)) }
+    ensures { IfOk result (λ attributes. attributes ≡ attributes_spelled (view v.now)) }
 {
     let Some(values) = v.as_array() else {
         return Ok(None);

@@ -18,10 +18,10 @@ pub struct Node<'a> {
 
 impl<'a> Model for Node<'a> {
     ghost use Rattle.node_tree.specs.Nodes.{Branch, coded_branch};
-    ghost use Rattle.page_tree.specs.Pages.{Row, coded_row};
+    ghost use Rattle.page_tree.specs.Pages.{PageRow, coded_row};
     ghost use Rattle.page_tree.specs.Arenas.{branch_in, Hangs};
 
-    ghost Value = { Branch Row };
+    ghost Value = { Branch PageRow };
 
     ghost coded = { coded_branch coded_row };
 
@@ -39,10 +39,10 @@ pub struct Children<'a> {
 
 impl<'a> Model for Children<'a> {
     ghost use Rattle.node_tree.specs.Nodes.{Nodes, coded_nodes};
-    ghost use Rattle.page_tree.specs.Pages.{Row, coded_row};
+    ghost use Rattle.page_tree.specs.Pages.{PageRow, coded_row};
     ghost use Rattle.page_tree.specs.Arenas.{trees_in, Hangs};
 
-    ghost Value = { Nodes Row };
+    ghost Value = { Nodes PageRow };
 
     ghost coded = { coded_nodes coded_row };
 

@@ -1,7 +1,7 @@
 ghost use Rattle.std.specs.Prelude.{◌≡◌, [], codes, option_map, IfOk};
 ghost use Rattle.serde_json.specs.View.{view};
 ghost use Rattle.node_tree.specs.declared.Kind.TheVariants.{Doctype};
-ghost use Rattle.page_tree.specs.Loads.{property_count, times_of, text_at, text_alone, attributes_at, element_name, element_label, labelled, label_of};
+ghost use Rattle.page_tree.specs.Loads.{property_count, times_of, text_at, text_alone, attributes_at, element_name, element_label, labelled, label_spelled};
 
 use crate::attributes::read_attributes;
 use node_tree::{Attributes, Kind, Text};
@@ -121,7 +121,7 @@ fn doctype_label(alloc: Global, name: &str) -> Result<NodeLabel, AllocError>
 
 /// The label of the node that a value spells, in any of the four forms; a doctype's only right below the document.
 pub fn read_label(alloc: Global, top: bool, v: &Value) -> Result<Option<NodeLabel>, AllocError>
-    ensures { IfOk result (λ label. label ≡ label_of top (view v.now)) }
+    ensures { IfOk result (λ label. label ≡ label_spelled top (view v.now)) }
 {
     if let Some(label) = element_label(alloc, v)? {
         return Ok(Some(label));

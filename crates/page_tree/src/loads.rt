@@ -2,7 +2,7 @@ ghost use Rattle.std.specs.Prelude.{◌≡◌, option_map, IfOk};
 ghost use Rattle.serde_json.specs.View.{view, items_view};
 ghost use Rattle.node_tree.specs.Nodes.{nodes_of};
 ghost use Rattle.page_tree.specs.Forms.{CanLoad};
-ghost use Rattle.page_tree.specs.Loads.{children_in, form_of, forms_of, node_in, nodes_in, Reads, ReadsNode};
+ghost use Rattle.page_tree.specs.Loads.{values_below, node_spelled, forms_of, node_in, nodes_in, Reads, ReadsNode};
 ghost use Rattle.page_tree.specs.EditFaults.{CanInsert};
 
 use crate::faults::{LoadErr, LoadFault};
@@ -14,7 +14,7 @@ use std::alloc::{AllocError, Global};
 
 /// The values that the property `c` lists; none where it is there and no list.
 fn children_of(v: &Value) -> Option<&[Value]>
-    ensures { option_map (λ list. items_view list.now) result ≡ children_in (view v.now) }
+    ensures { option_map (λ list. items_view list.now) result ≡ values_below (view v.now) }
 {
     if !v.is_object() {
         return None;
@@ -30,7 +30,7 @@ fn children_of(v: &Value) -> Option<&[Value]>
 
 #[cycle(forms)]
 fn read_one(alloc: Global, top: bool, v: &Value) -> Result<Option<NodeForm>, AllocError>
-    ensures { IfOk result (λ form. form ≡ form_of top (view v.now)) }
+    ensures { IfOk result (λ form. form ≡ node_spelled top (view v.now)) }
 {
     let Some(label) = read_label(alloc, top, v)? else {
         return Ok(None);

@@ -26,7 +26,7 @@ pub struct NodeRef<'a> {
 
 impl<'a> Model for NodeRef<'a> {
     ghost use Rattle.page_tree.specs.Zippers.{Zipper, coded_zipper, zipper_at};
-    ghost use Rattle.page_tree.specs.Arenas.{tree_of, IsSeated};
+    ghost use Rattle.page_tree.specs.Arenas.{tree_of, IsSlotAt};
 
     ghost Value = { Zipper };
 
@@ -34,7 +34,7 @@ impl<'a> Model for NodeRef<'a> {
 
     ghost view = { λ n. zipper_at n.slot.now.serial (tree_of n.arena.now n.root) };
 
-    ghost invariant = { λ n. IsSeated n.arena.now n.root n.slot.now n.place };
+    ghost invariant = { λ n. IsSlotAt n.arena.now n.root n.slot.now n.place };
 }
 
 impl Page {

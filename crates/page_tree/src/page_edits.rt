@@ -4,7 +4,7 @@ ghost use Rattle.node_tree.specs.Labels.{value_of, is_document};
 ghost use Rattle.page_tree.specs.Forms.{max_nodes};
 ghost use Rattle.page_tree.specs.Pages.{find_in, node_at, parent_at};
 ghost use Rattle.page_tree.specs.Edits.{after, label_at, back_tree, restored, sibling_after, numbered_branch, drawn, form_at};
-ghost use Rattle.page_tree.specs.EditFaults.{kind_at, first_fault, IsReady, CanApply, Refuses};
+ghost use Rattle.page_tree.specs.EditFaults.{kind_at, first_fault, IsReady, CanApply, RefusesEdit};
 
 use crate::edit_faults::EditErr;
 use crate::edits::TreeEdit;
@@ -146,7 +146,7 @@ impl Page {
     /// Carries an edit out, and gives the edit that leads back. A fault and want of memory leave the page as it was.
     pub fn apply(&mut self, edit: TreeEdit) -> Result<TreeEdit, EditErr>
         requires { IsReady self.old.next edit self.old.tree }
-        ensures fault { Refuses result (first_fault edit self.old.tree) }
+        ensures fault { RefusesEdit result (first_fault edit self.old.tree) }
         ensures after { OnOk result (self.new ≡ after edit self.old) }
         ensures back { IfOk result (λ back. back ≡ back_tree edit self.old.tree) }
         ensures err { OnErr result (self.new ≡ self.old) }

@@ -25,10 +25,10 @@ pub struct Page {
 }
 
 impl Model for Page {
-    ghost use Rattle.page_tree.specs.Pages.{State, coded_state};
+    ghost use Rattle.page_tree.specs.Pages.{PageValue, coded_state};
     ghost use Rattle.page_tree.specs.Arenas.{tree_of, IsPage};
 
-    ghost Value = { State };
+    ghost Value = { PageValue };
 
     ghost coded = { coded_state };
 

@@ -14,10 +14,10 @@ pub struct Tree {
 
 impl Model for Tree {
     ghost use Rattle.node_tree.specs.Nodes.{Branch, nodes_of, branch_count, coded_branch, most_le-node_count};
-    ghost use Rattle.page_tree.specs.Pages.{Row, coded_row};
+    ghost use Rattle.page_tree.specs.Pages.{PageRow, coded_row};
     ghost use Rattle.std.proofs.Common.{arith};
 
-    ghost Value = { Branch Row };
+    ghost Value = { Branch PageRow };
 
     ghost coded = { coded_branch coded_row };
 

@@ -2,7 +2,7 @@
 use Rattle.std.proofs.Common.{◌≡◌, ℕ, ◌+◌, ◌-◌, ◌≤◌, ◌<◌, List, ◌++◌, length, take, drop, set, refl, sym, ◌∙◌, ap, inl, inr, arith}
 use Rattle.std.proofs.lemmas.Bool.{cases_lt, cases_eq, ne_eqb}
 use Rattle.std.proofs.lemmas.List.{take-append-drop, take-take, drop-take, length-take-le, length-drop, set-append_left, set-append_right, set_past, length-set, take_at, drop_at}
-use Rattle.pipe_frames.specs.Pipe.{Moves}
+use Rattle.pipe_frames.specs.Pipe.{GivesPiece}
 use Rattle.pipe_frames.specs.Calls.{Flow, pipe_of, replaced, lying_pipe}
 
 -- a front part is the front part before it, and the piece after that
@@ -19,7 +19,7 @@ length-piece bytes passed count within = length-take-le count (drop passed bytes
 -- a pipe that gives what was sent moves the next bytes
 pub Moves-flow : (bytes before after : List ℕ) (passed count : ℕ) → passed + count ≤ length bytes
     → after ≡ before ++ take (passed + count - passed) (drop passed bytes)
-    → Moves (pipe_of (record { sent = bytes; passed = passed })) (pipe_of (record { sent = bytes; passed = passed + count })) before after count
+    → GivesPiece (pipe_of (record { sent = bytes; passed = passed })) (pipe_of (record { sent = bytes; passed = passed + count })) before after count
 Moves-flow bytes before after passed count within into = record {
   piece = take count (drop passed bytes);
   count = length-piece bytes passed count within;
@@ -82,10 +82,10 @@ lied_after place to before moved after piece start size into lie =
 
 -- a lie moves as many bytes as an honest pipe does, and one of them is replaced where its place has come
 pub Moves-lie : (place to : ℕ) (old new : Flow) (before moved after : List ℕ) (count start passed : ℕ)
-    → Moves (pipe_of old) (pipe_of new) before moved count → start ≡ length before
+    → GivesPiece (pipe_of old) (pipe_of new) before moved count → start ≡ length before
     → passed ≡ old.passed → passed ≤ length old.sent
     → after ≡ take start moved ++ replaced (place - passed) to (drop start moved)
-    → Moves (lying_pipe place to old) (lying_pipe place to new) before after count
+    → GivesPiece (lying_pipe place to old) (lying_pipe place to new) before after count
 Moves-lie place to old new before moved after count start passed moves size is within lie = record {
   piece = replaced (place - passed) to moves.piece;
   count = length-replaced (place - passed) to moves.piece ∙ moves.count;

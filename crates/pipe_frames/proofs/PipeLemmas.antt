@@ -1,7 +1,7 @@
 -- What was sent and given since an earlier moment, over calls that follow one another.
 use Rattle.std.proofs.Common.{◌≡◌, ℕ, ◌+◌, ◌≤◌, List, [], ◌++◌, length, take, drop, refl, sym, ◌∙◌, ap, append_assoc, append-nil, arith, length-append}
 use Rattle.std.proofs.lemmas.List.{drop_all, drop_at, append_cancel_left, drop-drop}
-use Rattle.pipe_frames.specs.Pipe.{Pipe, Moves, waiting, GivesPrefix, IsLevel, sent_since, given_since, since, Extends}
+use Rattle.pipe_frames.specs.Pipe.{Pipe, GivesPiece, waiting, GivesPrefix, IsLevel, sent_since, given_since, since, Extends}
 
 -- what joins a list that goes on from a start
 pub drop-grown : (start now piece later : List ℕ) → now ≡ start ++ drop (length start) now → later ≡ now ++ piece
@@ -44,14 +44,14 @@ since-put start now later piece extends sent given =
 
 -- a piece that was got
 pub Extends-got : (start now later : Pipe) (before after : List ℕ) (count : ℕ) → Extends start now
-    → Moves now later before after count → Extends start later
+    → GivesPiece now later before after count → Extends start later
 Extends-got start now later before after count extends moves = record {
   sent = rw moves.sent extends.sent;
   given = grown-grown start.given now.given moves.piece later.given extends.given moves.given;
 }
 
 pub since-got : (start now later : Pipe) (before after : List ℕ) (count : ℕ) → Extends start now
-    → (moves : Moves now later before after count)
+    → (moves : GivesPiece now later before after count)
     → since start later ≡ record { sent = sent_since start now; given = given_since start now ++ moves.piece }
 since-got start now later before after count extends moves =
     rw (drop-grown start.given now.given moves.piece later.given extends.given moves.given, moves.sent) refl
@@ -83,7 +83,7 @@ since-waiting start now level extends prefix =
     ∙ ap (λ bytes. bytes ++ waiting now) extends.given ∙ append_assoc start.given (given_since start now) (waiting now))
 
 -- what an honest pipe gives are the bytes that wait
-pub Moves-honest : (old new : Pipe) (before after : List ℕ) (max count : ℕ) → (moves : Moves old new before after count)
+pub Moves-honest : (old new : Pipe) (before after : List ℕ) (max count : ℕ) → (moves : GivesPiece old new before after count)
     → after ≡ before ++ take max (waiting old) → moves.piece ≡ take max (waiting old)
 Moves-honest old new before after max count moves all =
     append_cancel_left before moves.piece (take max (waiting old)) (sym moves.into ∙ all)
@@ -95,7 +95,7 @@ waiting-put now later piece prefix sent given =
     ap (λ bytes. drop (length bytes) later.sent) given ∙ drop-grown now.given now.sent piece later.sent prefix sent
 
 -- what is got waits no more
-pub waiting-got : (now later : Pipe) (before after : List ℕ) (count : ℕ) → Moves now later before after count
+pub waiting-got : (now later : Pipe) (before after : List ℕ) (count : ℕ) → GivesPiece now later before after count
     → waiting later ≡ drop count (waiting now)
 waiting-got now later before after count moves =
     ap (λ bytes. drop (length bytes) later.sent) moves.given
@@ -105,7 +105,7 @@ waiting-got now later before after count moves =
     ∙ sym (drop-drop count (length now.given) now.sent)
 
 -- once all that waits was got, there is nothing left to give
-pub IsLevel-got : (now later : Pipe) (before after : List ℕ) (count : ℕ) → Moves now later before after count
+pub IsLevel-got : (now later : Pipe) (before after : List ℕ) (count : ℕ) → GivesPiece now later before after count
     → GivesPrefix later → length (waiting now) ≤ count → IsLevel later
 IsLevel-got now later before after count moves prefix enough =
     sym (prefix ∙ ap (λ bytes. later.given ++ bytes)

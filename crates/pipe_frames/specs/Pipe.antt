@@ -12,7 +12,7 @@ Puts old new piece result =
     MatchResult result (λ _. (new.sent ≡ old.sent ++ piece) × (new.given ≡ old.given)) (λ _. new ≡ old)
 
 -- the pipe gives a piece of n bytes, which is what a buffer grows by
-pub record Moves (old new : Pipe) (before after : List ℕ) (n : ℕ) : Type 0 where
+pub record GivesPiece (old new : Pipe) (before after : List ℕ) (n : ℕ) : Type 0 where
   pub piece : List ℕ
   pub count : length piece ≡ n
   pub into : after ≡ before ++ piece
@@ -22,7 +22,7 @@ pub record Moves (old new : Pipe) (before after : List ℕ) (n : ℕ) : Type 0 w
 -- a get moves at most max bytes into the buffer at `Ok`, and nothing at `Err`
 abbrev pub Gets : {E : Type 0} → Pipe → Pipe → ℕ → List ℕ → List ℕ → Result ℕ E → Type 0
 Gets old new max before after result =
-    MatchResult result (λ n. (n ≤ max) × Moves old new before after n) (λ _. (new ≡ old) × (after ≡ before))
+    MatchResult result (λ n. (n ≤ max) × GivesPiece old new before after n) (λ _. (new ≡ old) × (after ≡ before))
 
 -- the bytes that were sent and not given, in a pipe that gives what was sent
 abbrev pub waiting : Pipe → List ℕ

@@ -12,7 +12,7 @@ use Rattle.serde_json.specs.Written.{has_float}
 use Rattle.node_tree.specs.Keys.{first_of, first_true}
 use Rattle.page_forms.specs.Pages.{LoadedPage, page_in, first_page_fault}
 use Rattle.page_forms.specs.PageForms.{page_form}
-use Rattle.page_forms.specs.Spelt.{ValueForm, Spells}
+use Rattle.page_forms.specs.Spelt.{ValueForm, ReadsAs}
 use Rattle.cdp_messages.specs.Asked.{json_of}
 use Rattle.replay_script.specs.declared.faults.LineFault.TheVariants.{NotJson, BadLoad}
 use Rattle.replay_script.specs.declared.line_kinds.LineKind.{LineKind}
@@ -20,7 +20,7 @@ use Rattle.replay_script.specs.declared.line_kinds.LineKind.TheVariants as kind
 use Rattle.replay_script.specs.Kinds.{said}
 use Rattle.replay_script.specs.Forms.{load, form_by, form_of}
 use Rattle.replay_script.specs.Faults.{page_by, fault_of_data}
-use Rattle.replay_script.specs.Loads.{load_form, Loads}
+use Rattle.replay_script.specs.Loads.{load_line_form, Loads}
 use Rattle.replay_script.proofs.FaultLemmas.{json-some, fault_said}
 
 -- ---- the tokens of a line
@@ -30,7 +30,7 @@ neither true b e f = absurd cc
 neither false b e f = f
 
 -- a page under the name of a load, and nothing behind it
-pub load_spelt : (old from new : List Token) (page : LoadedPage) → old ≡ begin_object ∷ (key (codes "load") ∷ from) → Spells page_form from page new → new ≡ end_object ∷ [] → Spells load_form old page []
+pub load_spelt : (old from new : List Token) (page : LoadedPage) → old ≡ begin_object ∷ (key (codes "load") ∷ from) → ReadsAs page_form from page new → new ≡ end_object ∷ [] → ReadsAs load_line_form old page []
 load_spelt old from new page e s f = record {
   json = json.object (json.member (codes "load") s.json json.no_members);
   value = datum.object (datum.member (codes "load") s.value datum.no_members);
@@ -42,7 +42,7 @@ load_spelt old from new page e s f = record {
 }
 
 -- a text is the value that its tokens spell
-read_spelt : {A : Type 0} (form : ValueForm A) (text : List ℕ) (x : A) → form.levels ≤ max_depth → (s : Spells form (tokens text) x []) → read text ≡ Some s.value
+read_spelt : {A : Type 0} (form : ValueForm A) (text : List ℕ) (x : A) → form.levels ≤ max_depth → (s : ReadsAs form (tokens text) x []) → read text ≡ Some s.value
 read_spelt form text x low s =
     ap (λ ts. option_and_then of_json (option_and_then (λ p. json.if_last p.0 p.1) (json.value max_depth ts))) s.tokens
     ∙ ap (λ o. option_and_then of_json (option_and_then (λ p. json.if_last p.0 p.1) o)) (value-json_tokens s.json max_depth [] (omega (arith, low, s.shallow)))
@@ -78,11 +78,11 @@ load_clear : (number : ℕ) (d v : Data) (page : LoadedPage) → said d ≡ Some
 load_clear number d v page is whole spells sound =
     fault_said number d kind.Load v is whole (and_false (number == 1)) ∙ ap (λ o. first_of (option_map BadLoad (first_page_fault o)) None) spells ∙ ap (λ f. first_of (option_map BadLoad f) None) sound
 
-pub line_loads : (line text : List ℕ) (page : LoadedPage) → text ≡ line → IsUtf8 line → Spells load_form (tokens text) page [] → first_page_fault (Some page) ≡ None → Loads line page
+pub line_loads : (line text : List ℕ) (page : LoadedPage) → text ≡ line → IsUtf8 line → ReadsAs load_line_form (tokens text) page [] → first_page_fault (Some page) ≡ None → Loads line page
 line_loads line text page same u s sound =
-    let here : Spells load_form (tokens line) page [] = subst (λ t. Spells load_form (tokens t) page []) same s in
+    let here : ReadsAs load_line_form (tokens line) page [] = subst (λ t. ReadsAs load_line_form (tokens t) page []) same s in
     let d = here.value in
-    let is : json_of line ≡ Some d = json-some line d u (read_spelt load_form line page (omega arith) here) in
+    let is : json_of line ≡ Some d = json-some line d u (read_spelt load_line_form line page (omega arith) here) in
     let l = is_load_line (said d) page here.reads in
     record {
       form = ap (option_and_then form_of) is ∙ ap (option_and_then (λ t. form_by t.0 t.1)) l.is ∙ ap (option_map load) l.spells;

@@ -39,7 +39,7 @@ use Rattle.replay_script.specs.declared.line_kinds.LineKind.TheVariants as kind
 use Rattle.replay_script.specs.Kinds.{line_kind_name, all_line_kinds, is_load, sole_member, sole, styles_in, kind_said, said}
 use Rattle.replay_script.specs.Forms.{AskForm, LineForm, load, act, ask, raw, up, down, settle, show_front, show_page, show_sheets, show_replies, show_pauses, show_styles, AskParts, ask_kind, ask_from, ask_in, show_from, form_by, form_of, line_form}
 use Rattle.replay_script.specs.Faults.{is_zero, is_whole_number, has_whole_id, is_no_frame, fault_of_data, line_fault}
-use Rattle.replay_script.specs.Seen.{seen, seen_ask, Refuses}
+use Rattle.replay_script.specs.Seen.{seen, seen_ask, RefusesLine}
 use Rattle.replay_script.specs.Sound.{IsSoundLoad, IsSoundAct, CanSend, NamesNoAsk, IsSoundFrame, IsSound, FormsAreSound, FirstIsLoad, FitsPage, AreWhole}
 use Rattle.replay_script.proofs.FaultLemmas.{IsClear, is_clear, line_good, json_good}
 
@@ -322,7 +322,7 @@ whole_line line.ShowPauses s = tt
 whole_line (line.ShowStyles k) s = tt
 
 -- each line that is read has a form that is sound
-pub sound_ok : (n : ℕ) (text : List ℕ) (r : Result Line LineErr) → Refuses r (line_fault n text) → IfOk r (λ read. line_form text ≡ Some (seen read)) → IfOk r (λ read. IsSound (seen read))
+pub sound_ok : (n : ℕ) (text : List ℕ) (r : Result Line LineErr) → RefusesLine r (line_fault n text) → IfOk r (λ read. line_form text ≡ Some (seen read)) → IfOk r (λ read. IsSound (seen read))
 sound_ok n text (Ok read) e f = forms_are_sound n text (seen read) e f
 sound_ok n text (Err x) e f = f
 

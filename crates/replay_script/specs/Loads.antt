@@ -6,8 +6,8 @@ use Rattle.replay_script.specs.Faults.{page_of, line_fault}
 use Rattle.replay_script.specs.Forms.{load, line_form}
 
 -- such a line, which nests one level more than a page
-abbrev pub load_form : ValueForm LoadedPage
-load_form = record { levels = 123; reads = λ d. option_and_then page_in (page_of d) }
+abbrev pub load_line_form : ValueForm LoadedPage
+load_line_form = record { levels = 123; reads = λ d. option_and_then page_in (page_of d) }
 
 -- the line loads the page, and is not refused
 pub record Loads (line : List ℕ) (page : LoadedPage) : Type 0 where

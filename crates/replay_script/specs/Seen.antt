@@ -52,7 +52,7 @@ seen line.ShowPauses = show_pauses
 seen (line.ShowStyles k) = show_styles k
 
 -- Ok comes where there is no fault, and else the fault; want of memory is free.
-abbrev pub Refuses : {T : Type 0} → Result T LineErr → Option LineFault → Type 0
-Refuses (Ok x) fault = fault ≡ None
-Refuses (Err (Fault f)) fault = fault ≡ Some f
-Refuses (Err Memory) fault = ⊤
+abbrev pub RefusesLine : {T : Type 0} → Result T LineErr → Option LineFault → Type 0
+RefusesLine (Ok x) fault = fault ≡ None
+RefusesLine (Err (Fault f)) fault = fault ≡ Some f
+RefusesLine (Err Memory) fault = ⊤

@@ -3,7 +3,7 @@ ghost use Rattle.std.specs.Prelude.{◌≡◌, codes, option_map, if◌then◌el
 ghost use Rattle.serde_json.specs.View.{view};
 ghost use Rattle.cdp_json.specs.Kinds.{named, only_text};
 ghost use Rattle.cdp_json.specs.Left.{left};
-ghost use Rattle.cdp_json.specs.Rows.{beside, need};
+ghost use Rattle.cdp_json.specs.Rows.{left_with, need};
 ghost use Rattle.replay_script.specs.Kinds.{line_kind_name, all_line_kinds, is_load, sole, styles_in, said};
 ghost use Rattle.replay_script.specs.Seen.{member_seen, said_seen};
 
@@ -86,7 +86,7 @@ fn sole(value: &Value) -> Option<(&str, &Value)>
 }
 
 fn shows_styles(fields: &mut Cursor<'_>) -> bool
-    ensures { option_map (beside (left fields.new)) (if result then Some tt else None)
+    ensures { option_map (left_with (left fields.new)) (if result then Some tt else None)
         ≡ need (only_text (codes "styles")).reads (codes "show") (left fields.old) }
 {
     match fields.need_text("show") {

@@ -1,5 +1,5 @@
 ghost use Rattle.std.specs.Prelude.{◌≡◌, ◌<◌, ◌∷◌, length, position};
-ghost use Rattle.replay_script.specs.Lines.{is_line_feed, lines_of, has_long_line, LinesLaw};
+ghost use Rattle.replay_script.specs.Lines.{ends_line, lines_of, has_long_line, LinesLaw};
 
 use std::marker::Model;
 
@@ -58,7 +58,7 @@ fn cut_line(bytes: &[u8]) -> (&[u8], &[u8])
 }
 
 fn line_end(bytes: &[u8]) -> Option<usize>
-    ensures { result ≡ position is_line_feed bytes.now }
+    ensures { result ≡ position ends_line bytes.now }
 {
     bytes.iter().position(|byte| *byte == b'\n')
 }

@@ -3,8 +3,8 @@ ghost use Rattle.std.specs.Prelude.{◌≡◌, [], ◌∷◌, true, codes, Some,
 ghost use Rattle.json.specs.Token.{begin_object, end_object, key};
 ghost use Rattle.page_forms.specs.PageForms.{page_form};
 ghost use Rattle.page_forms.specs.Pages.{loaded_page, first_page_fault};
-ghost use Rattle.page_forms.specs.Spelt.{Spells};
-ghost use Rattle.replay_script.specs.Loads.{load_form, Loads};
+ghost use Rattle.page_forms.specs.Spelt.{ReadsAs};
+ghost use Rattle.replay_script.specs.Loads.{load_line_form, Loads};
 
 use json::{Reader, Scratch, Token};
 use page_forms::{PageForm, ScanErr, scan_page};
@@ -33,7 +33,7 @@ fn closes(reader: &mut Reader<'_>) -> bool
 }
 
 fn scan_tokens(alloc: Global, reader: &mut Reader<'_>) -> Result<PageForm, ScanErr>
-    ensures spelt { IfOk result (λ page. Spells load_form reader.old (loaded_page page) []) }
+    ensures spelt { IfOk result (λ page. ReadsAs load_line_form reader.old (loaded_page page) []) }
     ensures sound { IfOk result (λ page. first_page_fault (Some (loaded_page page)) ≡ None) }
 {
     if !opens_load(reader) {

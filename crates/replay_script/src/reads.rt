@@ -5,7 +5,7 @@ ghost use Rattle.replay_script.specs.declared.line_kinds.LineKind.TheVariants as
 ghost use Rattle.replay_script.specs.Faults.{is_later_word, fault_by, fault_of_data, line_fault};
 ghost use Rattle.replay_script.specs.Forms.{form_by, form_of, line_form};
 ghost use Rattle.replay_script.specs.Kinds.{is_load};
-ghost use Rattle.replay_script.specs.Seen.{seen, Refuses};
+ghost use Rattle.replay_script.specs.Seen.{seen, RefusesLine};
 ghost use Rattle.replay_script.specs.Sound.{IsSound, FitsPage, AreWhole};
 
 use crate::faults::{LineErr, LineFault};
@@ -21,7 +21,7 @@ use serde_json::Value;
 use std::alloc::Global;
 
 fn read_load(alloc: Global, page: &Value) -> Result<Line, LineErr>
-    ensures fault { Refuses result (fault_by kind.Load (view page.now)) }
+    ensures fault { RefusesLine result (fault_by kind.Load (view page.now)) }
     ensures form { IfOk result (λ line. form_by kind.Load (view page.now) ≡ Some (seen line)) }
 {
     match read_page(alloc, page) {
@@ -32,7 +32,7 @@ fn read_load(alloc: Global, page: &Value) -> Result<Line, LineErr>
 }
 
 fn read_change(alloc: Global, value: &Value) -> Result<Line, LineErr>
-    ensures fault { Refuses result (fault_by kind.Act (view value.now)) }
+    ensures fault { RefusesLine result (fault_by kind.Act (view value.now)) }
     ensures form { IfOk result (λ line. form_by kind.Act (view value.now) ≡ Some (seen line)) }
 {
     match read_act(alloc, value) {
@@ -43,7 +43,7 @@ fn read_change(alloc: Global, value: &Value) -> Result<Line, LineErr>
 }
 
 fn read_ask(alloc: Global, value: &Value) -> Result<Line, LineErr>
-    ensures fault { Refuses result (fault_by kind.Ask (view value.now)) }
+    ensures fault { RefusesLine result (fault_by kind.Ask (view value.now)) }
     ensures form { IfOk result (λ line. form_by kind.Ask (view value.now) ≡ Some (seen line)) }
 {
     match ask_in(value) {
@@ -53,7 +53,7 @@ fn read_ask(alloc: Global, value: &Value) -> Result<Line, LineErr>
 }
 
 fn read_raw(alloc: Global, value: &Value) -> Result<Line, LineErr>
-    ensures fault { Refuses result (fault_by kind.Raw (view value.now)) }
+    ensures fault { RefusesLine result (fault_by kind.Raw (view value.now)) }
     ensures form { IfOk result (λ line. form_by kind.Raw (view value.now) ≡ Some (seen line)) }
 {
     let Some(text) = value.as_str() else {
@@ -66,7 +66,7 @@ fn read_raw(alloc: Global, value: &Value) -> Result<Line, LineErr>
 }
 
 fn read_up(value: &Value) -> Result<Line, LineErr>
-    ensures fault { Refuses result (fault_by kind.Up (view value.now)) }
+    ensures fault { RefusesLine result (fault_by kind.Up (view value.now)) }
     ensures form { IfOk result (λ line. form_by kind.Up (view value.now) ≡ Some (seen line)) }
 {
     match whole_of(value) {
@@ -76,7 +76,7 @@ fn read_up(value: &Value) -> Result<Line, LineErr>
 }
 
 fn read_down(value: &Value) -> Result<Line, LineErr>
-    ensures fault { Refuses result (fault_by kind.Down (view value.now)) }
+    ensures fault { RefusesLine result (fault_by kind.Down (view value.now)) }
     ensures form { IfOk result (λ line. form_by kind.Down (view value.now) ≡ Some (seen line)) }
 {
     match whole_of(value) {
@@ -86,7 +86,7 @@ fn read_down(value: &Value) -> Result<Line, LineErr>
 }
 
 fn read_settle(value: &Value) -> Result<Line, LineErr>
-    ensures fault { Refuses result (fault_by kind.Settle (view value.now)) }
+    ensures fault { RefusesLine result (fault_by kind.Settle (view value.now)) }
     ensures form { IfOk result (λ line. form_by kind.Settle (view value.now) ≡ Some (seen line)) }
 {
     match flag_of(value) {
@@ -102,7 +102,7 @@ fn is_later_word(word: &str) -> bool
 }
 
 fn read_show(value: &Value) -> Result<Line, LineErr>
-    ensures fault { Refuses result (fault_by kind.Show (view value.now)) }
+    ensures fault { RefusesLine result (fault_by kind.Show (view value.now)) }
     ensures form { IfOk result (λ line. form_by kind.Show (view value.now) ≡ Some (seen line)) }
 {
     let Some(word) = value.as_str() else {
@@ -130,7 +130,7 @@ fn read_show(value: &Value) -> Result<Line, LineErr>
 }
 
 fn read_styles(value: &Value) -> Result<Line, LineErr>
-    ensures fault { Refuses result (fault_by kind.Styles (view value.now)) }
+    ensures fault { RefusesLine result (fault_by kind.Styles (view value.now)) }
     ensures form { IfOk result (λ line. form_by kind.Styles (view value.now) ≡ Some (seen line)) }
 {
     match whole_of(value) {
@@ -150,7 +150,7 @@ fn close_fault(value: &Value) -> LineFault
 }
 
 fn read_by(alloc: Global, kind: LineKind, value: &Value) -> Result<Line, LineErr>
-    ensures fault { Refuses result (fault_by kind (view value.now)) }
+    ensures fault { RefusesLine result (fault_by kind (view value.now)) }
     ensures form { IfOk result (λ line. form_by kind (view value.now) ≡ Some (seen line)) }
 {
     match kind {
@@ -175,7 +175,7 @@ fn lacks_load(number: u64, kind: LineKind) -> bool
 }
 
 fn read_value(alloc: Global, number: u64, line: &Value) -> Result<Line, LineErr>
-    ensures fault { Refuses result (fault_of_data number (view line.now)) }
+    ensures fault { RefusesLine result (fault_of_data number (view line.now)) }
     ensures form { IfOk result (λ read. form_of (view line.now) ≡ Some (seen read)) }
 {
     let Some((kind, value)) = said(line) else {
@@ -196,7 +196,7 @@ fn read_value(alloc: Global, number: u64, line: &Value) -> Result<Line, LineErr>
 }
 
 fn read_json(alloc: Global, number: u64, line: &[u8]) -> Result<Line, LineErr>
-    ensures fault { Refuses result (line_fault number line.now) }
+    ensures fault { RefusesLine result (line_fault number line.now) }
     ensures form { IfOk result (λ read. line_form line.now ≡ Some (seen read)) }
 {
     match json_of(alloc, line)? {
@@ -206,7 +206,7 @@ fn read_json(alloc: Global, number: u64, line: &[u8]) -> Result<Line, LineErr>
 }
 
 fn read_form(alloc: Global, number: u64, line: &[u8]) -> Result<Line, LineErr>
-    ensures fault { Refuses result (line_fault number line.now) }
+    ensures fault { RefusesLine result (line_fault number line.now) }
     ensures form { IfOk result (λ read. line_form line.now ≡ Some (seen read)) }
 {
     match scan_load(alloc, line) {
@@ -219,7 +219,7 @@ fn read_form(alloc: Global, number: u64, line: &[u8]) -> Result<Line, LineErr>
 /// Reads the line with this number, counted from 1. A form that is read may be carried out: a page takes its nodes and its sheets,
 /// and what it sends is a frame.
 pub fn read_line(alloc: Global, number: u64, line: &[u8]) -> Result<Line, LineErr>
-    ensures fault { Refuses result (line_fault number line.now) }
+    ensures fault { RefusesLine result (line_fault number line.now) }
     ensures form { IfOk result (λ read. line_form line.now ≡ Some (seen read)) }
     ensures sound { IfOk result (λ read. IsSound (seen read)) }
     ensures fits { IfOk result FitsPage }

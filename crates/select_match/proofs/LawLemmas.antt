@@ -7,7 +7,7 @@ use Rattle.std.proofs.lemmas.Slice.Eq.{bytes_eq-Decides}
 use Rattle.std.specs.Str.{bytes_eq}
 use Rattle.std.specs.Char.{is_ascii_whitespace}
 use Rattle.std.specs.List.{list_any, list_all, filter, slice_split, onto_first}
-use Rattle.select_match.specs.Texts.{is_empty, has_word}
+use Rattle.select_match.specs.Texts.{has_no_byte, has_word}
 use Rattle.select_match.specs.Elements.{is_reached, is_nth}
 
 -- ---- an+b
@@ -85,14 +85,14 @@ and_both : (a b : Bool) → (a && b) ≡ true → (a ≡ true) × (b ≡ true)
 and_both true b e = (refl, e)
 and_both false b e = absurd (cc)
 
-none_among : (p : ℕ → Bool) (word : List ℕ) (pieces : List (List ℕ)) → list_any p word ≡ true → list_all (λ piece. not (list_any p piece)) pieces ≡ true → list_any (λ w. bytes_eq w word) (filter (λ piece. not (is_empty piece)) pieces) ≡ false
+none_among : (p : ℕ → Bool) (word : List ℕ) (pieces : List (List ℕ)) → list_any p word ≡ true → list_all (λ piece. not (list_any p piece)) pieces ≡ true → list_any (λ w. bytes_eq w word) (filter (λ piece. not (has_no_byte piece)) pieces) ≡ false
 none_among p word [] spaced plain = refl
 none_among p word (piece ∷ pieces) spaced plain =
     let both = and_both (not (list_any p piece)) (list_all (λ piece. not (list_any p piece)) pieces) plain in
-    kept (not (is_empty piece)) (none_among p word pieces spaced both.1) (other_word p word piece spaced both.0)
+    kept (not (has_no_byte piece)) (none_among p word pieces spaced both.1) (other_word p word piece spaced both.0)
   where
-    kept : (b : Bool) → list_any (λ w. bytes_eq w word) (filter (λ piece. not (is_empty piece)) pieces) ≡ false → bytes_eq piece word ≡ false
-        → list_any (λ w. bytes_eq w word) (cond b (piece ∷ filter (λ piece. not (is_empty piece)) pieces) (filter (λ piece. not (is_empty piece)) pieces)) ≡ false
+    kept : (b : Bool) → list_any (λ w. bytes_eq w word) (filter (λ piece. not (has_no_byte piece)) pieces) ≡ false → bytes_eq piece word ≡ false
+        → list_any (λ w. bytes_eq w word) (cond b (piece ∷ filter (λ piece. not (has_no_byte piece)) pieces) (filter (λ piece. not (has_no_byte piece)) pieces)) ≡ false
     kept true rest other = rw (other, rest) refl
     kept false rest other = rest
 

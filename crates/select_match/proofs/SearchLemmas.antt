@@ -3,8 +3,8 @@ use Rattle.std.proofs.Common.{◌≡◌, ◌⊎◌, Bool, true, false, cond, ◌
 use Rattle.std.specs.List.{list_any, filter}
 use Rattle.std.proofs.lemmas.List.{map-append, reverse-append, length-reverse, length-map}
 use Rattle.node_tree.specs.Nodes.{Nodes, node, Branch}
-use Rattle.page_tree.specs.Pages.{Row}
-use Rattle.page_tree.specs.Zippers.{Generation, Zipper, zipper_of, ancestors, ancestors_in, earlier, earlier_in, head, parent_of}
+use Rattle.page_tree.specs.Pages.{PageRow}
+use Rattle.page_tree.specs.Zippers.{Generation, Zipper, zipper_of, ancestors, ancestors_in, earlier, earlier_in, first_node, parent_of}
 use Rattle.page_tree.specs.Members.{IsIn, at_head, in_tail}
 use Rattle.page_tree.proofs.ZipperLemmas.{IsIn-append, IsIn-append_left, IsIn-append_right}
 use Rattle.selectors.specs.declared.selector.Joint.{Joint}
@@ -13,7 +13,7 @@ use Rattle.selectors.specs.declared.selector.Compound.{Compound}
 use Rattle.selectors.specs.Forms.{CompoundForm, compound_seen}
 use Rattle.select_match.specs.declared.outcome.Outcome.{Outcome}
 use Rattle.select_match.specs.declared.outcome.Outcome.TheVariants.{Found, NotHere, NotBeside, Nowhere}
-use Rattle.select_match.specs.Elements.{is_element, elements}
+use Rattle.select_match.specs.Elements.{is_element_node, elements}
 use Rattle.select_match.specs.Matches.{compound_holds, reached, left_holds, chain_holds}
 use Rattle.select_match.specs.Outcomes.{behind_in, behind, Tells, ends_above, ends_before, at_child}
 use Rattle.select_match.proofs.WalkLemmas.{from, ancestors-from}
@@ -73,7 +73,7 @@ module _ (p : Zipper → Bool) where
 -- ---- which nodes lie behind which
 
 -- a sibling before has the same ancestors
-above-earlier : (above : List Generation) (before : List (Branch Row)) (here : Nodes Row) (w : Zipper) → IsIn w (earlier_in above before here) → w.above ≡ above
+above-earlier : (above : List Generation) (before : List (Branch PageRow)) (here : Nodes PageRow) (w : Zipper) → IsIn w (earlier_in above before here) → w.above ≡ above
 above-earlier above [] here w i = elim i [ ]
 above-earlier above (b ∷ before) here w (at_head _) = refl
 above-earlier above (b ∷ before) here w (in_tail _ _ i) = above-earlier above before (node b.row b.children here) w i
@@ -83,7 +83,7 @@ above-beside z w (at_head _) = refl
 above-beside z w (in_tail _ _ i) = above-earlier z.above z.before _ w i
 
 -- what stands before a sibling before stands before
-earlier-earlier : (above : List Generation) (before : List (Branch Row)) (here : Nodes Row) (w p : Zipper) → IsIn w (earlier_in above before here) → IsIn p (earlier w) → IsIn p (earlier_in above before here)
+earlier-earlier : (above : List Generation) (before : List (Branch PageRow)) (here : Nodes PageRow) (w p : Zipper) → IsIn w (earlier_in above before here) → IsIn p (earlier w) → IsIn p (earlier_in above before here)
 earlier-earlier above [] here w p i j = elim i [ ]
 earlier-earlier above (b ∷ before) here w p (at_head _) j = in_tail _ _ j
 earlier-earlier above (b ∷ before) here w p (in_tail _ _ i) j = in_tail _ _ (earlier-earlier above before (node b.row b.children here) w p i j)
@@ -143,7 +143,7 @@ beside-behind z p (in_tail _ _ i) = in_tail _ _ (IsIn-append_left _ i)
 
 elements-beside : (z p : Zipper) → IsIn p (z ∷ elements (earlier z)) → IsIn p (z ∷ earlier z)
 elements-beside z p (at_head _) = at_head _
-elements-beside z p (in_tail _ _ i) = in_tail _ _ (IsIn-filter is_element p (earlier z) i)
+elements-beside z p (in_tail _ _ i) = in_tail _ _ (IsIn-filter is_element_node p (earlier z) i)
 
 -- ---- outcomes
 
@@ -180,15 +180,15 @@ module _ (test : Zipper → Bool) where
       any-none _ (z ∷ earlier z)
       (λ w i. any-none test (take 1 (elements (earlier w))) (λ p j.
       let k = IsIn-take (elements (earlier w)) j in
-      any-in test e (IsIn-filter_passes is_element p (earlier z) (earlier-beside z w p i (IsIn-filter is_element p (earlier w) k)) (filter_true is_element p (earlier w) k))))
+      any-in test e (IsIn-filter_passes is_element_node p (earlier z) (earlier-beside z w p i (IsIn-filter is_element_node p (earlier w) k)) (filter_true is_element_node p (earlier w) k))))
 
   pub nowhere-previous : (z : Zipper) → list_any test (elements (earlier z)) ≡ false → list_any test (behind_in z.above) ≡ false → list_any (λ w. list_any test (reached Next w)) (behind z) ≡ false
   nowhere-previous z e f =
       any-none _ (behind z)
       (λ w i. any-none test (take 1 (elements (earlier w))) (λ p j.
       let k = IsIn-take (elements (earlier w)) j in
-      elim (earlier-behind z w p i (IsIn-filter is_element p (earlier w) k)) [
-        | inl h ↦ any-in test e (IsIn-filter_passes is_element p (earlier z) h (filter_true is_element p (earlier w) k))
+      elim (earlier-behind z w p i (IsIn-filter is_element_node p (earlier w) k)) [
+        | inl h ↦ any-in test e (IsIn-filter_passes is_element_node p (earlier z) h (filter_true is_element_node p (earlier w) k))
         | inr h ↦ any-in test f h
       ]))
 
@@ -249,8 +249,8 @@ module _ (test : Zipper → Bool) where
       nowhere-previous z (ap (λ (l : List Zipper). list_any test l) back ∙ any-none test (q ∷ elements (earlier q)) (λ p i. any-in test tells (beside-behind q p (elements-beside q p i))))
       (ap (λ (l : List Generation). list_any test (behind_in l)) (sym same) ∙ any-none test (behind_in q.above) (λ p i. any-in test tells (in_tail _ _ (IsIn-append_right _ i))))
 
-first_element_by : (z q : Zipper) (es : List Zipper) → es ≡ elements (earlier z) → (t : Bool) → head (cond t (z ∷ es) es) ≡ Some q
-    → (head es ≡ Some q → (q.above ≡ z.above) × (es ≡ q ∷ elements (earlier q)))
+first_element_by : (z q : Zipper) (es : List Zipper) → es ≡ elements (earlier z) → (t : Bool) → first_node (cond t (z ∷ es) es) ≡ Some q
+    → (first_node es ≡ Some q → (q.above ≡ z.above) × (es ≡ q ∷ elements (earlier q)))
     → (q.above ≡ z.above) × (cond t (z ∷ es) es ≡ q ∷ elements (earlier q))
 first_element_by z q es is true e rest =
     let same : z ≡ q = cc in
@@ -258,17 +258,17 @@ first_element_by z q es is true e rest =
 first_element_by z q es is false e rest = rest e
 
 -- the nearest element before, and those before it
-first_element : (above : List Generation) (before : List (Branch Row)) (here : Nodes Row) (q : Zipper) → head (elements (earlier_in above before here)) ≡ Some q
+first_element : (above : List Generation) (before : List (Branch PageRow)) (here : Nodes PageRow) (q : Zipper) → first_node (elements (earlier_in above before here)) ≡ Some q
     → (q.above ≡ above) × (elements (earlier_in above before here) ≡ q ∷ elements (earlier q))
 first_element above [] here q e = absurd (cc)
 first_element above (b ∷ before) here q e =
     let z : Zipper = record { branch = b; before = before; after = here; above = above } in
-    first_element_by z q (elements (earlier_in above before (node b.row b.children here))) refl (is_element z) e (first_element above before (node b.row b.children here) q)
+    first_element_by z q (elements (earlier_in above before (node b.row b.children here))) refl (is_element_node z) e (first_element above before (node b.row b.children here) q)
 
-pub previous-element : (z q : Zipper) → head (elements (earlier z)) ≡ Some q → (q.above ≡ z.above) × (elements (earlier z) ≡ q ∷ elements (earlier q))
+pub previous-element : (z q : Zipper) → first_node (elements (earlier z)) ≡ Some q → (q.above ≡ z.above) × (elements (earlier z) ≡ q ∷ elements (earlier q))
 previous-element z q e = first_element z.above z.before _ q e
 
-pub head-none : (zs : List Zipper) → head zs ≡ None → zs ≡ []
+pub head-none : (zs : List Zipper) → first_node zs ≡ None → zs ≡ []
 head-none [] e = refl
 head-none (z ∷ zs) e = absurd (cc)
 

@@ -5,7 +5,7 @@ use Rattle.std.specs.List.{list_any, list_all}
 use Rattle.selectors.specs.Forms.{SimpleForm}
 use Rattle.page_tree.specs.Zippers.{Zipper, earlier, later}
 use Rattle.selectors.specs.declared.selector.NthKind.{NthKind}
-use Rattle.select_match.specs.Texts.{has_word, has_value}
+use Rattle.select_match.specs.Texts.{has_word, value_passes}
 use Rattle.select_match.specs.Elements.{index}
 use Rattle.select_match.specs.Subjects.{pieces_in}
 use Rattle.select_match.proofs.TextLemmas.{some_word, no_word}
@@ -44,10 +44,10 @@ module _ (quick p : SimpleForm → Bool) where
       others ∙ ap (λ (l : Bool). l && list_all (λ s. quick s || p s) ss) (sym (sym is ∙ holds)) ∙ quick-all ss ∙ ap (λ (e : Bool). e && list_all p ss) (sym there)
 
 -- a word that is not empty is sought among the pieces
-pub some_piece : (word : List ℕ) (value : Option (List ℕ)) → (length word == 0) ≡ false → list_any (λ w. bytes_eq w word) (pieces_in value) ≡ has_value (has_word word) value
+pub some_piece : (word : List ℕ) (value : Option (List ℕ)) → (length word == 0) ≡ false → list_any (λ w. bytes_eq w word) (pieces_in value) ≡ value_passes (has_word word) value
 some_piece word None e = refl
 some_piece word (Some text) e = some_word word text e
 
-pub no_piece : (word : List ℕ) (value : Option (List ℕ)) → (length word == 0) ≡ true → false ≡ has_value (has_word word) value
+pub no_piece : (word : List ℕ) (value : Option (List ℕ)) → (length word == 0) ≡ true → false ≡ value_passes (has_word word) value
 no_piece word None e = refl
 no_piece word (Some text) e = no_word word text e

@@ -5,7 +5,7 @@ use Rattle.std.specs.Str.{bytes_eq}
 use Rattle.std.specs.List.{list_any, filter, slice_split, starts_with}
 use Rattle.std.specs.Char.{is_ascii_whitespace}
 use Rattle.std.proofs.lemmas.Bool.{eq-eqb, ne_eqb}
-use Rattle.select_match.specs.Texts.{is_empty, has_word, has_part}
+use Rattle.select_match.specs.Texts.{has_no_byte, has_word, has_part}
 
 suc_not_zero : (n : ℕ) → (suc n == 0) ≡ false
 suc_not_zero n = ne_eqb (suc n) 0 (λ e. absurd (omega arith))
@@ -27,13 +27,13 @@ and_false true = refl
 and_false false = refl
 
 -- a word that is not empty is sought among the pieces that are not
-pub any-pieces : (x : ℕ) (word : List ℕ) (pieces : List (List ℕ)) → list_any (λ w. bytes_eq w (x ∷ word)) (filter (λ piece. not (is_empty piece)) pieces) ≡ list_any (λ w. bytes_eq w (x ∷ word)) pieces
+pub any-pieces : (x : ℕ) (word : List ℕ) (pieces : List (List ℕ)) → list_any (λ w. bytes_eq w (x ∷ word)) (filter (λ piece. not (has_no_byte piece)) pieces) ≡ list_any (λ w. bytes_eq w (x ∷ word)) pieces
 any-pieces x word [] = refl
 any-pieces x word ([] ∷ pieces) = any-pieces x word pieces
 any-pieces x word ((b ∷ bs) ∷ pieces) = rw (suc_not_zero (length bs), any-pieces x word pieces) refl
 
 -- the empty text is none of the words
-pub any-empty : (pieces : List (List ℕ)) → list_any (λ w. bytes_eq w []) (filter (λ piece. not (is_empty piece)) pieces) ≡ false
+pub any-empty : (pieces : List (List ℕ)) → list_any (λ w. bytes_eq w []) (filter (λ piece. not (has_no_byte piece)) pieces) ≡ false
 any-empty [] = refl
 any-empty ([] ∷ pieces) = any-empty pieces
 any-empty ((b ∷ bs) ∷ pieces) = rw (suc_not_zero (length bs)) (any-empty pieces)

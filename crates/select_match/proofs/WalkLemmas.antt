@@ -6,9 +6,9 @@ use Rattle.std.proofs.lemmas.List.{append_assoc, map-append}
 use Rattle.std.proofs.lemmas.List.Elements.{filter-append}
 use Rattle.node_tree.specs.Nodes.{Nodes, none, node, Branch, node_count}
 use Rattle.node_tree.specs.Keys.{first_of}
-use Rattle.page_tree.specs.Pages.{Row}
+use Rattle.page_tree.specs.Pages.{PageRow}
 use Rattle.page_tree.proofs.ZipperLemmas.{find-append}
-use Rattle.page_tree.specs.Zippers.{Generation, Zipper, ancestors, earlier, later, children_of, head, parent_of, previous_of, next_of, first_child_of, below, all_in, serial_of}
+use Rattle.page_tree.specs.Zippers.{Generation, Zipper, ancestors, earlier, later, children_of, first_node, parent_of, previous_of, next_of, first_child_of, below, all_in, serial_of}
 use Rattle.selectors.specs.declared.selector.NthKind.{NthKind}
 use Rattle.selectors.specs.declared.selector.NthKind.TheVariants.{Child, LastChild, OfType, LastOfType}
 use Rattle.select_match.specs.Elements.{side, counts, index}
@@ -28,43 +28,43 @@ ancestors-from z = up z.above
 pub earlier-from : (z : Zipper) → earlier z ≡ from earlier (previous_of z)
 earlier-from z = back z.before
   where
-    back : (before : List (Branch Row)) → earlier (record z { before = before }) ≡ from earlier (previous_of (record z { before = before }))
+    back : (before : List (Branch PageRow)) → earlier (record z { before = before }) ≡ from earlier (previous_of (record z { before = before }))
     back [] = refl
     back (b ∷ before) = refl
 
 pub later-from : (z : Zipper) → later z ≡ from later (next_of z)
 later-from z = on z.after
   where
-    on : (after : Nodes Row) → later (record z { after = after }) ≡ from later (next_of (record z { after = after }))
+    on : (after : Nodes PageRow) → later (record z { after = after }) ≡ from later (next_of (record z { after = after }))
     on none = refl
     on (node r c t) = refl
 
 pub children-from : (z : Zipper) → children_of z ≡ from later (first_child_of z)
 children-from z = down z.branch.children
   where
-    down : (children : Nodes Row) → children_of (record z { branch = record { row = z.branch.row; children = children } }) ≡ from later (first_child_of (record z { branch = record { row = z.branch.row; children = children } }))
+    down : (children : Nodes PageRow) → children_of (record z { branch = record { row = z.branch.row; children = children } }) ≡ from later (first_child_of (record z { branch = record { row = z.branch.row; children = children } }))
     down none = refl
     down (node r c t) = refl
 
-pub side-from : (kind : NthKind) (z : Zipper) → side kind z ≡ from (side kind) (head (side kind z))
+pub side-from : (kind : NthKind) (z : Zipper) → side kind z ≡ from (side kind) (first_node (side kind z))
 side-from Child z = earlier-from z
 side-from LastChild z = later-from z
 side-from OfType z = earlier-from z
 side-from LastOfType z = later-from z
 
-module _ (rest : Zipper → List Zipper) (law : (z : Zipper) → rest z ≡ from rest (head (rest z))) where
+module _ (rest : Zipper → List Zipper) (law : (z : Zipper) → rest z ≡ from rest (first_node (rest z))) where
   -- where a walk begins
-  pub walk-start : (z : Zipper) (at : Option Zipper) → at ≡ head (rest z) → from rest at ≡ rest z
+  pub walk-start : (z : Zipper) (at : Option Zipper) → at ≡ first_node (rest z) → from rest at ≡ rest z
   walk-start z at e = ap (λ (o : Option Zipper). from rest o) e ∙ sym (law z)
 
   -- and a step of it
-  pub walk-step : (at : Option Zipper) (q : Zipper) (next : Option Zipper) → at ≡ Some q → next ≡ head (rest q) → from rest at ≡ q ∷ from rest next
+  pub walk-step : (at : Option Zipper) (q : Zipper) (next : Option Zipper) → at ≡ Some q → next ≡ first_node (rest q) → from rest at ≡ q ∷ from rest next
   walk-step at q next e f = ap (λ (o : Option Zipper). from rest o) e ∙ ap (λ (l : List Zipper). q ∷ l) (sym (walk-start q next f))
 
-  pub walk-smaller : (at : Option Zipper) (q : Zipper) (next : Option Zipper) → at ≡ Some q → next ≡ head (rest q) → length (from rest next) < length (from rest at)
+  pub walk-smaller : (at : Option Zipper) (q : Zipper) (next : Option Zipper) → at ≡ Some q → next ≡ first_node (rest q) → length (from rest next) < length (from rest at)
   walk-smaller at q next e f = omega (arith, ap (λ (l : List Zipper). length l) (walk-step at q next e f))
 
-  pub walk-any : (test : Zipper → Bool) (at : Option Zipper) (q : Zipper) (next : Option Zipper) → at ≡ Some q → next ≡ head (rest q) → test q ≡ false → list_any test (from rest next) ≡ list_any test (from rest at)
+  pub walk-any : (test : Zipper → Bool) (at : Option Zipper) (q : Zipper) (next : Option Zipper) → at ≡ Some q → next ≡ first_node (rest q) → test q ≡ false → list_any test (from rest next) ≡ list_any test (from rest at)
   walk-any test at q next e f fails = sym (ap (λ (l : List Zipper). list_any test l) (walk-step at q next e f) ∙ ap (λ (b : Bool). b || list_any test (from rest next)) fails)
 
   pub walk-any_here : (test : Zipper → Bool) (at : Option Zipper) (q : Zipper) → at ≡ Some q → test q ≡ true → true ≡ list_any test (from rest at)
@@ -109,7 +109,7 @@ above_of above (Some q) = q.above
 pub above_of-previous : (q : Zipper) → above_of q.above (previous_of q) ≡ q.above
 above_of-previous q = back q.before
   where
-    back : (before : List (Branch Row)) → above_of q.above (previous_of (record q { before = before })) ≡ q.above
+    back : (before : List (Branch PageRow)) → above_of q.above (previous_of (record q { before = before })) ≡ q.above
     back [] = refl
     back (b ∷ before) = refl
 
@@ -132,28 +132,28 @@ count_from (Some z) = suc (node_count z.branch.children + node_count z.after)
 pub below-from : (z : Zipper) → below z ≡ all_from (first_child_of z)
 below-from z = down z.branch.children
   where
-    down : (children : Nodes Row) → below (record z { branch = record { row = z.branch.row; children = children } }) ≡ all_from (first_child_of (record z { branch = record { row = z.branch.row; children = children } }))
+    down : (children : Nodes PageRow) → below (record z { branch = record { row = z.branch.row; children = children } }) ≡ all_from (first_child_of (record z { branch = record { row = z.branch.row; children = children } }))
     down none = refl
     down (node r c t) = refl
 
 pub after-from : (z : Zipper) → all_in z.above (z.branch ∷ z.before) z.after ≡ all_from (next_of z)
 after-from z = on z.after
   where
-    on : (after : Nodes Row) → all_in z.above (z.branch ∷ z.before) after ≡ all_from (next_of (record z { after = after }))
+    on : (after : Nodes PageRow) → all_in z.above (z.branch ∷ z.before) after ≡ all_from (next_of (record z { after = after }))
     on none = refl
     on (node r c t) = refl
 
 pub count-next : (z : Zipper) → count_from (next_of z) ≡ node_count z.after
 count-next z = on z.after
   where
-    on : (after : Nodes Row) → count_from (next_of (record z { after = after })) ≡ node_count after
+    on : (after : Nodes PageRow) → count_from (next_of (record z { after = after })) ≡ node_count after
     on none = refl
     on (node r c t) = refl
 
 pub count-first_child : (z : Zipper) → count_from (first_child_of z) ≡ node_count z.branch.children
 count-first_child z = down z.branch.children
   where
-    down : (children : Nodes Row) → count_from (first_child_of (record z { branch = record { row = z.branch.row; children = children } })) ≡ node_count children
+    down : (children : Nodes PageRow) → count_from (first_child_of (record z { branch = record { row = z.branch.row; children = children } })) ≡ node_count children
     down none = refl
     down (node r c t) = refl
 

@@ -8,7 +8,7 @@ use Rattle.node_tree.specs.Labels as labels
 use Rattle.page_tree.specs.Zippers.{Zipper, earlier, later}
 use Rattle.selectors.specs.declared.selector.NthKind.{NthKind}
 use Rattle.selectors.specs.declared.selector.NthKind.TheVariants.{Child, LastChild, OfType, LastOfType}
-use Rattle.select_match.specs.Texts.{is_empty}
+use Rattle.select_match.specs.Texts.{has_no_byte}
 
 -- the label of a node
 abbrev pub label_of : Zipper → Label
@@ -19,25 +19,25 @@ abbrev pub kind_of : Zipper → Kind
 kind_of z = (label_of z).kind
 
 -- the name of a node
-abbrev pub name_of : Zipper → List ℕ
-name_of z = (label_of z).name
+abbrev pub zipper_name : Zipper → List ℕ
+zipper_name z = (label_of z).name
 
 -- the attributes of a node
 abbrev pub attributes_of : Zipper → List Pair
 attributes_of z = (label_of z).attributes
 
 -- the node is an element
-abbrev pub is_element : Zipper → Bool
-is_element z = labels.is_element (kind_of z)
+abbrev pub is_element_node : Zipper → Bool
+is_element_node z = labels.is_element (kind_of z)
 
 -- those of the nodes that are elements
 abbrev pub elements : List Zipper → List Zipper
-elements zs = filter is_element zs
+elements zs = filter is_element_node zs
 
 -- a text with something in it
 abbrev pub fills_by : Kind → List ℕ → Bool
 fills_by Element value = true
-fills_by Text value = not (is_empty value)
+fills_by Text value = not (has_no_byte value)
 fills_by Document value = false
 fills_by Comment value = false
 fills_by Doctype value = false
@@ -53,7 +53,7 @@ is_root_by (Some parent) = is_document (kind_of parent)
 
 -- elements of one name
 abbrev pub has_name_of : Zipper → Zipper → Bool
-has_name_of z other = bytes_eq (name_of other) (name_of z)
+has_name_of z other = bytes_eq (zipper_name other) (zipper_name z)
 
 -- the siblings on the side from which the index is counted
 abbrev pub side : NthKind → Zipper → List Zipper
@@ -64,10 +64,10 @@ side LastOfType z = later z
 
 -- elements count; where the type is asked for, those of z's name
 abbrev pub counts : NthKind → Zipper → Zipper → Bool
-counts Child z other = is_element other
-counts LastChild z other = is_element other
-counts OfType z other = is_element other && has_name_of z other
-counts LastOfType z other = is_element other && has_name_of z other
+counts Child z other = is_element_node other
+counts LastChild z other = is_element_node other
+counts OfType z other = is_element_node other && has_name_of z other
+counts LastOfType z other = is_element_node other && has_name_of z other
 
 -- the place of an element among its siblings, counted from 1
 abbrev pub index : NthKind → Zipper → ℕ

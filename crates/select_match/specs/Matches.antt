@@ -8,15 +8,15 @@ use Rattle.selectors.specs.declared.selector.NthKind.TheVariants as sides
 use Rattle.selectors.specs.Forms.{TestForm, any, tag, id, class, attr, root, empty, nth, only_child, only_of_type, never, SimpleForm, is, is_not, CompoundForm, SelectorForm}
 use Rattle.node_tree.specs.Labels.{value_of}
 use Rattle.page_tree.specs.Zippers.{Zipper, ancestors, earlier, children_of, parent_of, below}
-use Rattle.select_match.specs.Texts.{same_name, has_word, compares, has_attribute, has_value}
-use Rattle.select_match.specs.Elements.{is_element, elements, name_of, attributes_of, fills, is_root_by, index, is_nth}
+use Rattle.select_match.specs.Texts.{same_name, has_word, compares, has_attribute, value_passes}
+use Rattle.select_match.specs.Elements.{is_element_node, elements, zipper_name, attributes_of, fills, is_root_by, index, is_nth}
 
 -- what a simple selector asks of an element
 abbrev pub test_holds : TestForm → Zipper → Bool
 test_holds any z = true
-test_holds (tag name) z = same_name (name_of z) name
-test_holds (id value) z = has_value (λ v. bytes_eq v value) (value_of (codes "id") (attributes_of z))
-test_holds (class word) z = has_value (has_word word) (value_of (codes "class") (attributes_of z))
+test_holds (tag name) z = same_name (zipper_name z) name
+test_holds (id value) z = value_passes (λ v. bytes_eq v value) (value_of (codes "id") (attributes_of z))
+test_holds (class word) z = value_passes (has_word word) (value_of (codes "class") (attributes_of z))
 test_holds (attr name op operand) z = has_attribute name (compares op operand) (attributes_of z)
 test_holds root z = is_root_by (parent_of z)
 test_holds empty z = not (list_any fills (children_of z))
@@ -32,7 +32,7 @@ simple_holds (is_not t) z = not (test_holds t z)
 
 -- an element that is as each part of a compound asks
 abbrev pub compound_holds : CompoundForm → Zipper → Bool
-compound_holds c z = is_element z && list_all (λ s. simple_holds s z) c.tests
+compound_holds c z = is_element_node z && list_all (λ s. simple_holds s z) c.tests
 
 -- the nodes that a combinator leads to on the left
 abbrev pub reached : Joint → Zipper → List Zipper
@@ -48,7 +48,7 @@ left_holds (c ∷ cs) joint z = list_any (λ q. compound_holds c q && left_holds
 
 -- z is as the first of the compounds asks, and what is left of it as the others do; they stand from right to left
 abbrev pub chain_holds : List CompoundForm → Zipper → Bool
-chain_holds [] z = is_element z
+chain_holds [] z = is_element_node z
 chain_holds (c ∷ cs) z = compound_holds c z && left_holds cs c.joint z
 
 -- a selector matches an element; one with a pseudo-element matches none

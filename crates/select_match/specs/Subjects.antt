@@ -65,8 +65,8 @@ pieces_in None = []
 pieces_in (Some value) = slice_split is_ascii_whitespace value
 
 -- an element's id
-abbrev pub id_of : Zipper → Option (List ℕ)
-id_of z = value_of (codes "id") (attributes_of z)
+abbrev pub element_id : Zipper → Option (List ℕ)
+element_id z = value_of (codes "id") (attributes_of z)
 
 -- the pieces of its class
 abbrev pub class_pieces : Zipper → List (List ℕ)

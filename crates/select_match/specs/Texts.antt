@@ -12,12 +12,12 @@ abbrev pub same_name : List ℕ → List ℕ → Bool
 same_name a b = bytes_eq (map to_ascii_lowercase a) (map to_ascii_lowercase b)
 
 -- the text has no byte
-abbrev pub is_empty : List ℕ → Bool
-is_empty text = length text == 0
+abbrev pub has_no_byte : List ℕ → Bool
+has_no_byte text = length text == 0
 
 -- the words of a text, which tabs, line feeds, form feeds, carriage returns and spaces part
 abbrev pub words : List ℕ → List (List ℕ)
-words text = filter (λ piece. not (is_empty piece)) (slice_split is_ascii_whitespace text)
+words text = filter (λ piece. not (has_no_byte piece)) (slice_split is_ascii_whitespace text)
 
 -- the text is one of the words
 abbrev pub has_word : List ℕ → List ℕ → Bool
@@ -34,15 +34,15 @@ compares Exists operand value = true
 compares Equal operand value = bytes_eq value operand
 compares Word operand value = has_word operand value
 compares Dash operand value = bytes_eq value operand || starts_with nat_eq value (operand ++ 45 ∷ [])
-compares Prefix operand value = not (is_empty operand) && starts_with nat_eq value operand
-compares Suffix operand value = not (is_empty operand) && ends_with nat_eq value operand
-compares Part operand value = not (is_empty operand) && has_part operand value
+compares Prefix operand value = not (has_no_byte operand) && starts_with nat_eq value operand
+compares Suffix operand value = not (has_no_byte operand) && ends_with nat_eq value operand
+compares Part operand value = not (has_no_byte operand) && has_part operand value
 
 -- some attribute has that name, in any ASCII case, and a value that passes
 abbrev pub has_attribute : List ℕ → (List ℕ → Bool) → List Pair → Bool
 has_attribute name passes pairs = list_any (λ p. same_name p.0 name && passes p.1) pairs
 
 -- there is a value, and it passes
-abbrev pub has_value : (List ℕ → Bool) → Option (List ℕ) → Bool
-has_value passes None = false
-has_value passes (Some value) = passes value
+abbrev pub value_passes : (List ℕ → Bool) → Option (List ℕ) → Bool
+value_passes passes None = false
+value_passes passes (Some value) = passes value

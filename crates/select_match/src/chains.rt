@@ -2,7 +2,7 @@
 
 ghost use Rattle.std.specs.Prelude.{◌≡◌, map, reverse};
 ghost use Rattle.std.specs.List.{list_any};
-ghost use Rattle.page_tree.specs.Zippers.{head, earlier};
+ghost use Rattle.page_tree.specs.Zippers.{first_node, earlier};
 ghost use Rattle.selectors.specs.Forms.{compound_seen, selector_seen};
 ghost use Rattle.select_match.specs.Elements.{elements};
 ghost use Rattle.select_match.specs.Matches.{reached, left_holds, chain_holds, selector_matches};
@@ -121,7 +121,7 @@ fn look_before(left: &[Compound], node: &NodeRef<'_>) -> Outcome
 
 /// The nearest sibling before the node that is an element.
 fn previous_element<'a>(node: &NodeRef<'a>) -> Option<NodeRef<'a>>
-    ensures { result ≡ head (elements (earlier node.now)) }
+    ensures { result ≡ first_node (elements (earlier node.now)) }
 {
     let mut at = node.previous_sibling();
     while let Some(other) = at {

@@ -2,15 +2,15 @@
 
 ghost use Rattle.std.specs.Prelude.{◌≡◌, ◌<◌, ◌≤◌, ◌^◌, ◌&&◌, ◌==◌, ℕ, false, if◌then◌else◌, pos, length};
 ghost use Rattle.std.specs.List.{list_any};
-ghost use Rattle.page_tree.specs.Zippers.{head, children_of, parent_of};
-ghost use Rattle.select_match.specs.Elements.{is_element, fills, is_root_by, side, counts, index, is_nth};
+ghost use Rattle.page_tree.specs.Zippers.{first_node, children_of, parent_of};
+ghost use Rattle.select_match.specs.Elements.{is_element_node, fills, is_root_by, side, counts, index, is_nth};
 
 use page_tree::{Kind, NodeRef};
 use selectors::NthKind;
 
 /// Whether the node is an element.
 pub fn is_element(node: &NodeRef<'_>) -> bool
-    ensures { result ≡ is_element node.now }
+    ensures { result ≡ is_element_node node.now }
 {
     node.kind() == Kind::Element
 }
@@ -51,7 +51,7 @@ pub fn is_filled(node: &NodeRef<'_>) -> bool
 
 /// The sibling next to a node on the side from which the index is counted.
 fn beside<'a>(kind: NthKind, node: &NodeRef<'a>) -> Option<NodeRef<'a>>
-    ensures { result ≡ head (side kind node.now) }
+    ensures { result ≡ first_node (side kind node.now) }
 {
     match kind {
         NthKind::Child | NthKind::OfType => node.previous_sibling(),

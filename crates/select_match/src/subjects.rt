@@ -34,7 +34,7 @@ pub struct Subject<'a> {
 impl<'a> Model for Subject<'a> {
     ghost use Rattle.std.specs.Prelude.{◌≡◌, map, option_map};
     ghost use Rattle.page_tree.specs.Zippers.{Zipper, coded_zipper};
-    ghost use Rattle.select_match.specs.Subjects.{KnowsPlaces, id_of, class_pieces};
+    ghost use Rattle.select_match.specs.Subjects.{KnowsPlaces, element_id, class_pieces};
 
     ghost Value = { Zipper };
 
@@ -42,7 +42,7 @@ impl<'a> Model for Subject<'a> {
 
     ghost view = { λ s. s.node };
 
-    ghost invariant = { λ s. (option_map (λ v. v.now) s.id ≡ id_of s.node) × (map (λ w. w.now) s.classes.items ≡ class_pieces s.node)
+    ghost invariant = { λ s. (option_map (λ v. v.now) s.id ≡ element_id s.node) × (map (λ w. w.now) s.classes.items ≡ class_pieces s.node)
         × KnowsPlaces s.places s.node };
 }
 

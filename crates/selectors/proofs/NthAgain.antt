@@ -14,8 +14,8 @@ use Rattle.css_tokens.proofs.RowForms.{passes_exact}
 use Rattle.css_tokens.proofs.NameForms.{true_lt}
 use Rattle.css_tokens.proofs.Ends.{and_true}
 use Rattle.selectors.specs.Forms.{◌>>=◌}
-use Rattle.selectors.specs.Nth.{skip_white, is_blank, decimal, signed, is_negative, number_at, ends_number, offset_if, digits_of, offset_of, after_n, step_of, linear_by, linear_of, is_letter, is_odd, is_even, nth_by, nth_of}
-use Rattle.selectors.specs.NthGrammar.{AreWhite, AreLetters, Writes, no_digits, one_more, IsNumber, IsSign, plus, minus, MaySign, unsigned, with_sign, IsInteger, IsStep, step_written, step_one, IsOffset, offset_zero, offset_written, IsFormula, odd, even, constant, linear, IsNth}
+use Rattle.selectors.specs.Nth.{skip_white, is_blank, decimal, nth_signed, is_negative, number_at, ends_number, offset_if, digits_of, offset_of, after_n, nth_step, linear_by, linear_of, is_nth_letter, is_odd, is_even, nth_by, nth_of}
+use Rattle.selectors.specs.NthGrammar.{AreWhite, AreLetters, Writes, no_digits, one_more, IsNthNumber, IsNthSign, plus, minus, MaySign, unsigned, with_sign, IsInteger, IsStep, step_written, step_one, IsOffset, offset_zero, offset_written, IsFormula, odd, even, constant, linear, IsNth}
 
 -- ---- runs of codes
 
@@ -109,7 +109,7 @@ number_again ds rest n writes fits stops =
     ∙ ap (λ (xs : List ℕ). some_number (decimal xs)) run.own
     ∙ ap some_number w.value
 
-digits_again : (negative : Bool) (ds after : List ℕ) (n : ℕ) → IsNumber ds n → AreWhite after → digits_of negative (ds ++ after) ≡ Some (signed negative n)
+digits_again : (negative : Bool) (ds after : List ℕ) (n : ℕ) → IsNthNumber ds n → AreWhite after → digits_of negative (ds ++ after) ≡ Some (nth_signed negative n)
 unfolding digits_of
 digits_again negative ds after n number white =
     let text = ds ++ after in
@@ -117,8 +117,8 @@ digits_again negative ds after n number white =
     let stops = white_no_digit_first after white in
     let run = run_is is_ascii_digit ds after w.are stops in
     let ends : ends_number text ≡ true = ap (λ (b : Bool). b && is_blank (drop (digits text) text)) (true_lt 0 (digits text) (omega (arith, run.len, number.some))) ∙ ap is_blank run.behind ∙ blank_again after white in
-    ap (λ (o : Option ℕ). o >>= λ m. offset_if (ends_number text) (signed negative m)) (number_again ds after n number.writes number.at_most_nine stops)
-    ∙ ap (λ (b : Bool). cond b (some_integer (signed negative n)) None) ends
+    ap (λ (o : Option ℕ). o >>= λ m. offset_if (ends_number text) (nth_signed negative m)) (number_again ds after n number.writes number.at_most_nine stops)
+    ∙ ap (λ (b : Bool). cond b (some_integer (nth_signed negative n)) None) ends
 
 -- ---- signs
 
@@ -128,18 +128,18 @@ record SignIs (sign : List ℕ) (n : ℕ) (z : ℤ) : Type 0 where
   negative : Bool
   is : sign ≡ mark ∷ []
   no_white : is_white mark ≡ false
-  value : signed negative n ≡ z
+  value : nth_signed negative n ≡ z
   offset : (rest : List ℕ) → offset_of (sign ++ rest) ≡ digits_of negative (skip_white rest)
   linear : (rest : List ℕ) → linear_of (sign ++ rest) ≡ linear_by negative rest
 
-sign_again : (sign : List ℕ) (n : ℕ) (z : ℤ) → IsSign sign n z → SignIs sign n z
+sign_again : (sign : List ℕ) (n : ℕ) (z : ℤ) → IsNthSign sign n z → SignIs sign n z
 unfolding offset_of linear_of
 sign_again sign n z (plus m) = record { mark = 43; negative = false; is = refl; no_white = refl; value = refl; offset = λ rest. refl; linear = λ rest. refl }
 sign_again sign n z (minus m) = record { mark = 45; negative = true; is = refl; no_white = refl; value = refl; offset = λ rest. refl; linear = λ rest. refl }
 
 record MaySignIs (sign : List ℕ) (n : ℕ) (z : ℤ) : Type 0 where
   negative : Bool
-  value : signed negative n ≡ z
+  value : nth_signed negative n ≡ z
   linear : (rest : List ℕ) → begins is_sign rest ≡ false → linear_of (sign ++ rest) ≡ linear_by negative rest
 
 no_minus : (c : ℕ) → is_sign c ≡ false → (c == 45) ≡ false
@@ -167,8 +167,8 @@ record Starts (text : List ℕ) : Type 0 where
   rest : List ℕ
   is : text ≡ c ∷ rest
   no_white : is_white c ≡ false
-  no_o : is_letter 111 c ≡ false
-  no_e : is_letter 101 c ≡ false
+  no_o : is_nth_letter 111 c ≡ false
+  no_e : is_nth_letter 101 c ≡ false
 
 starts_white : (text : List ℕ) → Starts text → begins is_white text ≡ false
 starts_white text s = ap (begins is_white) s.is ∙ s.no_white
@@ -176,16 +176,16 @@ starts_white text s = ap (begins is_white) s.is ∙ s.no_white
 starts_more : (text more : List ℕ) → Starts text → Starts (text ++ more)
 starts_more text more s = record { c = s.c; rest = s.rest ++ more; is = ap (λ (xs : List ℕ). xs ++ more) s.is; no_white = s.no_white; no_o = s.no_o; no_e = s.no_e }
 
-no_odd : (c : ℕ) (rest : List ℕ) → is_letter 111 c ≡ false → is_odd (c ∷ rest) ≡ false
+no_odd : (c : ℕ) (rest : List ℕ) → is_nth_letter 111 c ≡ false → is_odd (c ∷ rest) ≡ false
 no_odd c [] e = refl
 no_odd c (x ∷ []) e = refl
-no_odd c (x ∷ y ∷ rest) e = ap (λ (b : Bool). (b && is_letter 100 x) && (is_letter 100 y && is_blank rest)) e
+no_odd c (x ∷ y ∷ rest) e = ap (λ (b : Bool). (b && is_nth_letter 100 x) && (is_nth_letter 100 y && is_blank rest)) e
 
-no_even : (c : ℕ) (rest : List ℕ) → is_letter 101 c ≡ false → is_even (c ∷ rest) ≡ false
+no_even : (c : ℕ) (rest : List ℕ) → is_nth_letter 101 c ≡ false → is_even (c ∷ rest) ≡ false
 no_even c [] e = refl
 no_even c (x ∷ []) e = refl
 no_even c (x ∷ y ∷ []) e = refl
-no_even c (x ∷ y ∷ z ∷ rest) e = ap (λ (b : Bool). (b && is_letter 118 x) && ((is_letter 101 y && is_letter 110 z) && is_blank rest)) e
+no_even c (x ∷ y ∷ z ∷ rest) e = ap (λ (b : Bool). (b && is_nth_letter 118 x) && ((is_nth_letter 101 y && is_nth_letter 110 z) && is_blank rest)) e
 
 abbrev Read : Type 0
 Read = Option (ℤ × ℤ)
@@ -199,13 +199,13 @@ no_word text s =
     ap (λ (b : Bool). cond b (some_pair (pos 2) (pos 1)) (cond (is_even text) (some_pair (pos 2) (pos 0)) (linear_of text))) (ap is_odd s.is ∙ no_odd s.c s.rest s.no_o)
     ∙ ap (λ (b : Bool). cond b (some_pair (pos 2) (pos 0)) (linear_of text)) (ap is_even s.is ∙ no_even s.c s.rest s.no_e)
 
-digit_no_letter : (c : ℕ) → is_ascii_digit c ≡ true → (is_letter 111 c ≡ false) × (is_letter 101 c ≡ false)
+digit_no_letter : (c : ℕ) → is_ascii_digit c ≡ true → (is_nth_letter 111 c ≡ false) × (is_nth_letter 101 c ≡ false)
 digit_no_letter c e = (digit_no_o c e, digit_no_e c e)
   where
-    digit_no_o : (d : ℕ) → is_ascii_digit d ≡ true → is_letter 111 d ≡ false
+    digit_no_o : (d : ℕ) → is_ascii_digit d ≡ true → is_nth_letter 111 d ≡ false
     digit_no_o d f = grind (arith, nat_tests)
 
-    digit_no_e : (d : ℕ) → is_ascii_digit d ≡ true → is_letter 101 d ≡ false
+    digit_no_e : (d : ℕ) → is_ascii_digit d ≡ true → is_nth_letter 101 d ≡ false
     digit_no_e d f = grind (arith, nat_tests)
 
 digits_start : (ds : List ℕ) → 0 < length ds → list_all is_ascii_digit ds ≡ true → Starts ds
@@ -215,7 +215,7 @@ digits_start (c ∷ ds) some are =
     let none = digit_no_letter c first in
     record { c = c; rest = ds; is = refl; no_white = digit_no_white c first; no_o = none.0; no_e = none.1 }
 
-sign_starts : (sign rest : List ℕ) (n : ℕ) (z : ℤ) → IsSign sign n z → Starts (sign ++ rest)
+sign_starts : (sign rest : List ℕ) (n : ℕ) (z : ℤ) → IsNthSign sign n z → Starts (sign ++ rest)
 sign_starts sign rest n z (plus m) = record { c = 43; rest = rest; is = refl; no_white = refl; no_o = refl; no_e = refl }
 sign_starts sign rest n z (minus m) = record { c = 45; rest = rest; is = refl; no_white = refl; no_o = refl; no_e = refl }
 
@@ -233,12 +233,12 @@ digits_no_sign [] rest some are = absurd (omega arith)
 digits_no_sign (c ∷ ds) rest some are = digit_no_sign c (and_true (is_ascii_digit c) (list_all is_ascii_digit ds) are).0
 
 -- behind the sign: digits, and nothing but white space
-constant_by : (negative : Bool) (ds after : List ℕ) (n : ℕ) → IsNumber ds n → AreWhite after → linear_by negative (ds ++ after) ≡ Some (pos 0, signed negative n)
+constant_by : (negative : Bool) (ds after : List ℕ) (n : ℕ) → IsNthNumber ds n → AreWhite after → linear_by negative (ds ++ after) ≡ Some (pos 0, nth_signed negative n)
 constant_by negative ds after n number white =
     let text = ds ++ after in
     let run = run_is is_ascii_digit ds after (written ds n number.writes).are (white_no_digit_first after white) in
     let rest = drop (digits text) text in
-    let read = step_of negative text >>= λ a. after_n (drop 1 rest) >>= λ b. some_pair a b in
+    let read = nth_step negative text >>= λ a. after_n (drop 1 rest) >>= λ b. some_pair a b in
     ap (λ (b : Bool). cond b read (digits_of negative text >>= λ z. some_pair (pos 0) z)) (ap (begins (λ c. c == 110 || c == 78)) run.behind ∙ white_no_n_first after white)
     ∙ ap (λ (o : Option ℤ). o >>= λ z. some_pair (pos 0) z) (digits_again negative ds after n number white)
 
@@ -254,7 +254,7 @@ constant_again text after z i white =
 
 -- ---- behind the `n`
 
-number_no_white : (ds rest : List ℕ) (n : ℕ) → IsNumber ds n → begins is_white (ds ++ rest) ≡ false
+number_no_white : (ds rest : List ℕ) (n : ℕ) → IsNthNumber ds n → begins is_white (ds ++ rest) ≡ false
 number_no_white ds rest n number = starts_white (ds ++ rest) (starts_more ds rest (digits_start ds number.some (written ds n number.writes).are))
 
 offset_again : (text after : List ℕ) (b : ℤ) → IsOffset text b → AreWhite after → after_n (text ++ after) ≡ Some b
@@ -283,23 +283,23 @@ record StepIs (step rest : List ℕ) (a : ℤ) : Type 0 where
   unsigned : List ℕ
   linear : linear_of (step ++ rest) ≡ linear_by negative unsigned
   behind : drop (digits unsigned) unsigned ≡ rest
-  value : step_of negative unsigned ≡ Some a
+  value : nth_step negative unsigned ≡ Some a
 
-written_step : (negative : Bool) (ds rest : List ℕ) (n : ℕ) → IsNumber ds n → begins is_ascii_digit rest ≡ false → step_of negative (ds ++ rest) ≡ Some (signed negative n)
+written_step : (negative : Bool) (ds rest : List ℕ) (n : ℕ) → IsNthNumber ds n → begins is_ascii_digit rest ≡ false → nth_step negative (ds ++ rest) ≡ Some (nth_signed negative n)
 written_step negative ds rest n number stops =
     let run = run_is is_ascii_digit ds rest (written ds n number.writes).are stops in
     let some : (digits (ds ++ rest) == 0) ≡ false = not_zero (digits (ds ++ rest)) (omega (arith, run.len, number.some)) in
-    ap (λ (o : Option ℕ). o >>= λ m. some_integer (signed negative (cond (digits (ds ++ rest) == 0) 1 m))) (number_again ds rest n number.writes number.at_most_nine stops)
-    ∙ ap (λ (t : Bool). some_integer (signed negative (cond t 1 n))) some
+    ap (λ (o : Option ℕ). o >>= λ m. some_integer (nth_signed negative (cond (digits (ds ++ rest) == 0) 1 m))) (number_again ds rest n number.writes number.at_most_nine stops)
+    ∙ ap (λ (t : Bool). some_integer (nth_signed negative (cond t 1 n))) some
   where
     not_zero : (k : ℕ) → 0 < k → (k == 0) ≡ false
     not_zero k some = grind (arith, nat_tests)
 
-one_step : (negative : Bool) (rest : List ℕ) → begins is_ascii_digit rest ≡ false → step_of negative rest ≡ Some (signed negative 1)
+one_step : (negative : Bool) (rest : List ℕ) → begins is_ascii_digit rest ≡ false → nth_step negative rest ≡ Some (nth_signed negative 1)
 one_step negative rest stops =
     let zero : digits rest ≡ 0 = passes_exact is_ascii_digit [] rest refl stops in
-    ap (λ (o : Option ℕ). o >>= λ m. some_integer (signed negative (cond (digits rest == 0) 1 m))) (number_again [] rest 0 no_digits (omega arith) stops)
-    ∙ ap (λ (k : ℕ). some_integer (signed negative (cond (k == 0) 1 0))) zero
+    ap (λ (o : Option ℕ). o >>= λ m. some_integer (nth_signed negative (cond (digits rest == 0) 1 m))) (number_again [] rest 0 no_digits (omega arith) stops)
+    ∙ ap (λ (k : ℕ). some_integer (nth_signed negative (cond (k == 0) 1 0))) zero
 
 step_again : (step rest : List ℕ) (a : ℤ) → IsStep step a → begins is_ascii_digit rest ≡ false → begins is_sign rest ≡ false → StepIs step rest a
 step_again step rest a (step_written text z i) stops none =
@@ -343,17 +343,17 @@ no_letters (c ∷ rest) e = absurd (cc)
 letter_no_white : (c x : ℕ) → 97 ≤ x → to_ascii_lowercase c ≡ x → is_white c ≡ false
 letter_no_white c x small e = grind (arith, nat_tests)
 
-letter_is : (c x : ℕ) → to_ascii_lowercase c ≡ x → is_letter x c ≡ true
+letter_is : (c x : ℕ) → to_ascii_lowercase c ≡ x → is_nth_letter x c ≡ true
 letter_is c x e = eq-eqb (to_ascii_lowercase c) x e
 
 -- what the reader makes of a formula and the white space behind it
 abbrev IsRead : List ℕ → List ℕ → ℤ → ℤ → Type 0
 IsRead formula after a b = (begins is_white (formula ++ after) ≡ false) × (nth_by (formula ++ after) ≡ Some (a, b))
 
-odd_test : (a b c : ℕ) (after : List ℕ) → is_letter 111 a ≡ true → is_letter 100 b ≡ true → is_letter 100 c ≡ true → is_blank after ≡ true → is_odd (a ∷ b ∷ c ∷ after) ≡ true
+odd_test : (a b c : ℕ) (after : List ℕ) → is_nth_letter 111 a ≡ true → is_nth_letter 100 b ≡ true → is_nth_letter 100 c ≡ true → is_blank after ≡ true → is_odd (a ∷ b ∷ c ∷ after) ≡ true
 odd_test a b c after first second third blank =
-    ap (λ (t : Bool). (t && is_letter 100 b) && (is_letter 100 c && is_blank after)) first
-    ∙ ap (λ (t : Bool). t && (is_letter 100 c && is_blank after)) second
+    ap (λ (t : Bool). (t && is_nth_letter 100 b) && (is_nth_letter 100 c && is_blank after)) first
+    ∙ ap (λ (t : Bool). t && (is_nth_letter 100 c && is_blank after)) second
     ∙ ap (λ (t : Bool). t && is_blank after) third
     ∙ blank
 
@@ -368,11 +368,11 @@ odd_again letters after e white =
       ap (λ (b : Bool). cond b (some_pair (pos 2) (pos 1)) (cond (is_even (letters ++ after)) (some_pair (pos 2) (pos 0)) (linear_of (letters ++ after)))) (ap (λ (xs : List ℕ). is_odd (xs ++ after)) whole ∙ says),
     )
 
-even_test : (a b c d : ℕ) (after : List ℕ) → is_letter 101 a ≡ true → is_letter 118 b ≡ true → is_letter 101 c ≡ true → is_letter 110 d ≡ true → is_blank after ≡ true → is_even (a ∷ b ∷ c ∷ d ∷ after) ≡ true
+even_test : (a b c d : ℕ) (after : List ℕ) → is_nth_letter 101 a ≡ true → is_nth_letter 118 b ≡ true → is_nth_letter 101 c ≡ true → is_nth_letter 110 d ≡ true → is_blank after ≡ true → is_even (a ∷ b ∷ c ∷ d ∷ after) ≡ true
 even_test a b c d after first second third fourth blank =
-    ap (λ (t : Bool). (t && is_letter 118 b) && ((is_letter 101 c && is_letter 110 d) && is_blank after)) first
-    ∙ ap (λ (t : Bool). t && ((is_letter 101 c && is_letter 110 d) && is_blank after)) second
-    ∙ ap (λ (t : Bool). (t && is_letter 110 d) && is_blank after) third
+    ap (λ (t : Bool). (t && is_nth_letter 118 b) && ((is_nth_letter 101 c && is_nth_letter 110 d) && is_blank after)) first
+    ∙ ap (λ (t : Bool). t && ((is_nth_letter 101 c && is_nth_letter 110 d) && is_blank after)) second
+    ∙ ap (λ (t : Bool). (t && is_nth_letter 110 d) && is_blank after) third
     ∙ ap (λ (t : Bool). t && is_blank after) fourth
     ∙ blank
 
@@ -396,8 +396,8 @@ record IsN (c : ℕ) : Type 0 where
   letter : (c == 110 || c == 78) ≡ true
   no_digit : is_ascii_digit c ≡ false
   no_sign : is_sign c ≡ false
-  no_o : is_letter 111 c ≡ false
-  no_e : is_letter 101 c ≡ false
+  no_o : is_nth_letter 111 c ≡ false
+  no_e : is_nth_letter 101 c ≡ false
 
 n_letter : (c : ℕ) → to_ascii_lowercase c ≡ 110 → (c == 110 || c == 78) ≡ true
 n_letter c e = grind (arith, nat_tests)
@@ -423,7 +423,7 @@ linear_again step offset after c a b is_step e is_offset white =
     let starts : Starts (step ++ rest) = step_starts step rest a is_step first in
     let s = step_again step rest a is_step n.no_digit n.no_sign in
     let whole : (step ++ (c ∷ offset)) ++ after ≡ step ++ rest = append_assoc step (c ∷ offset) after in
-    let linear_read = step_of s.negative s.unsigned >>= λ x. after_n (drop 1 (drop (digits s.unsigned) s.unsigned)) >>= λ y. some_pair x y in (
+    let linear_read = nth_step s.negative s.unsigned >>= λ x. after_n (drop 1 (drop (digits s.unsigned) s.unsigned)) >>= λ y. some_pair x y in (
       ap (begins is_white) whole ∙ starts_white (step ++ rest) starts,
       ap nth_by whole
           ∙ no_word (step ++ rest) starts

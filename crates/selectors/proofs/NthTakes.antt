@@ -12,8 +12,8 @@ use Rattle.css_tokens.proofs.RowForms.{passes_cut}
 use Rattle.css_tokens.proofs.NameForms.{lt_true}
 use Rattle.css_tokens.proofs.Ends.{and_true}
 use Rattle.selectors.specs.Forms.{◌>>=◌}
-use Rattle.selectors.specs.Nth.{skip_white, is_blank, decimal, signed, is_negative, number_at, ends_number, offset_if, digits_of, offset_of, after_n, step_of, linear_by, linear_of, is_letter, is_odd, is_even, nth_by, nth_of}
-use Rattle.selectors.specs.NthGrammar.{AreWhite, AreLetters, Writes, no_digits, one_more, IsNumber, IsSign, plus, minus, MaySign, unsigned, with_sign, IsStep, step_written, step_one, IsOffset, offset_zero, offset_written, IsFormula, odd, even, constant, linear, IsNth}
+use Rattle.selectors.specs.Nth.{skip_white, is_blank, decimal, nth_signed, is_negative, number_at, ends_number, offset_if, digits_of, offset_of, after_n, nth_step, linear_by, linear_of, is_nth_letter, is_odd, is_even, nth_by, nth_of}
+use Rattle.selectors.specs.NthGrammar.{AreWhite, AreLetters, Writes, no_digits, one_more, IsNthNumber, IsNthSign, plus, minus, MaySign, unsigned, with_sign, IsStep, step_written, step_one, IsOffset, offset_zero, offset_written, IsFormula, odd, even, constant, linear, IsNth}
 use Rattle.selectors.proofs.Choices.{some_is, chosen, passed_test, bind_some}
 
 -- ---- runs of codes
@@ -108,15 +108,15 @@ record FoundDigits (negative : Bool) (text : List ℕ) (z : ℤ) : Type 0 where
   after : List ℕ
   n : ℕ
   is : text ≡ ds ++ after
-  number : IsNumber ds n
+  number : IsNthNumber ds n
   white : AreWhite after
-  value : signed negative n ≡ z
+  value : nth_signed negative n ≡ z
 
 digits_take : (negative : Bool) (text : List ℕ) (z : ℤ) → digits_of negative text ≡ Some z → FoundDigits negative text z
 unfolding digits_of
 digits_take negative text z e =
-    let b = bind_some (number_at text) (λ n. offset_if (ends_number text) (signed negative n)) z e in
-    let t = passed_test (ends_number text) (some_integer (signed negative b.0)) z b.2 in
+    let b = bind_some (number_at text) (λ n. offset_if (ends_number text) (nth_signed negative n)) z e in
+    let t = passed_test (ends_number text) (some_integer (nth_signed negative b.0)) z b.2 in
     let f = number_takes text b.0 b.1 in
     let ends = and_true (nat_lt 0 (digits text)) (is_blank (drop (digits text) text)) t.0 in
     record {
@@ -126,7 +126,7 @@ digits_take negative text z e =
       is = f.is;
       number = record { some = omega (arith, f.len, lt_true 0 (digits text) ends.0); at_most_nine = f.fits; writes = f.writes };
       white = blank_takes f.rest (ap is_blank (sym f.behind) ∙ ends.1);
-      value = some_is (signed negative b.0) z t.1;
+      value = some_is (nth_signed negative b.0) z t.1;
     }
 
 -- ---- signs
@@ -136,7 +136,7 @@ record FoundSign (text : List ℕ) : Type 0 where
   rest : List ℕ
   is : text ≡ sign ++ rest
   behind : drop (sign_len text) text ≡ rest
-  signs : (n : ℕ) → MaySign sign n (signed (is_negative text) n)
+  signs : (n : ℕ) → MaySign sign n (nth_signed (is_negative text) n)
 
 may_sign_takes : (text : List ℕ) → FoundSign text
 may_sign_takes [] = record { sign = []; rest = []; is = refl; behind = refl; signs = λ n. unsigned n }
@@ -145,19 +145,19 @@ may_sign_takes (c ∷ rest) = by_plus (c == 43) refl
     by_minus : (b : Bool) → (c == 43) ≡ false → (c == 45) ≡ b → FoundSign (c ∷ rest)
     by_minus true plain is =
         subst (λ (x : ℕ). FoundSign (x ∷ rest)) (sym (eqb-true c 45 is))
-        (record { sign = 45 ∷ []; rest = rest; is = refl; behind = refl; signs = λ n. with_sign (45 ∷ []) n (signed true n) (minus n) })
+        (record { sign = 45 ∷ []; rest = rest; is = refl; behind = refl; signs = λ n. with_sign (45 ∷ []) n (nth_signed true n) (minus n) })
     by_minus false plain other = record {
       sign = [];
       rest = c ∷ rest;
       is = refl;
       behind = ap (λ (b : Bool). drop (cond (b || c == 45) 1 0) (c ∷ rest)) plain ∙ ap (λ (b : Bool). drop (cond b 1 0) (c ∷ rest)) other;
-      signs = λ n. subst (λ (b : Bool). MaySign [] n (signed b n)) (sym other) (unsigned n);
+      signs = λ n. subst (λ (b : Bool). MaySign [] n (nth_signed b n)) (sym other) (unsigned n);
     }
 
     by_plus : (b : Bool) → (c == 43) ≡ b → FoundSign (c ∷ rest)
     by_plus true is =
         subst (λ (x : ℕ). FoundSign (x ∷ rest)) (sym (eqb-true c 43 is))
-        (record { sign = 43 ∷ []; rest = rest; is = refl; behind = refl; signs = λ n. with_sign (43 ∷ []) n (signed false n) (plus n) })
+        (record { sign = 43 ∷ []; rest = rest; is = refl; behind = refl; signs = λ n. with_sign (43 ∷ []) n (nth_signed false n) (plus n) })
     by_plus false plain = by_minus (c == 45) plain refl
 
 record FoundMark (text : List ℕ) : Type 0 where
@@ -165,7 +165,7 @@ record FoundMark (text : List ℕ) : Type 0 where
   rest : List ℕ
   is : text ≡ sign ++ rest
   behind : drop 1 text ≡ rest
-  signs : (n : ℕ) → IsSign sign n (signed (is_negative text) n)
+  signs : (n : ℕ) → IsNthSign sign n (nth_signed (is_negative text) n)
 
 sign_takes : (text : List ℕ) → begins is_sign text ≡ true → FoundMark text
 sign_takes [] e = absurd (cc)
@@ -212,7 +212,7 @@ written_takes text b e =
       after = f.after;
       is = whole;
       white = f.white;
-      form = offset_written w.front s.sign v.front f.ds (w.front ++ (s.sign ++ (v.front ++ f.ds))) f.n b refl w.are (subst (IsSign s.sign f.n) f.value (s.signs f.n)) v.are f.number;
+      form = offset_written w.front s.sign v.front f.ds (w.front ++ (s.sign ++ (v.front ++ f.ds))) f.n b refl w.are (subst (IsNthSign s.sign f.n) f.value (s.signs f.n)) v.are f.number;
     }
 
 offset_takes : (text : List ℕ) (b : ℤ) → after_n text ≡ Some b → FoundOffset text b
@@ -238,9 +238,9 @@ record FoundStep (sign text : List ℕ) (a : ℤ) : Type 0 where
   behind : drop (digits text) text ≡ rest
   form : IsStep (sign ++ ds) a
 
-step_takes : (negative : Bool) (sign text : List ℕ) (a : ℤ) → ((n : ℕ) → MaySign sign n (signed negative n)) → step_of negative text ≡ Some a → FoundStep sign text a
+step_takes : (negative : Bool) (sign text : List ℕ) (a : ℤ) → ((n : ℕ) → MaySign sign n (nth_signed negative n)) → nth_step negative text ≡ Some a → FoundStep sign text a
 step_takes negative sign text a signs e =
-    let b = bind_some (number_at text) (λ n. some_integer (signed negative (cond (digits text == 0) 1 n))) a e in
+    let b = bind_some (number_at text) (λ n. some_integer (nth_signed negative (cond (digits text == 0) 1 n))) a e in
     let f = number_takes text b.0 b.1 in
     by_count (digits text == 0) refl f b.2
   where
@@ -251,9 +251,9 @@ step_takes negative sign text a signs e =
     some_code : (k : ℕ) → (k == 0) ≡ false → 0 < k
     some_code k t = grind (arith, nat_tests)
 
-    by_count : (t : Bool) → (digits text == 0) ≡ t → {n : ℕ} (f : FoundNumber text n) → some_integer (signed negative (cond (digits text == 0) 1 n)) ≡ Some a → FoundStep sign text a
+    by_count : (t : Bool) → (digits text == 0) ≡ t → {n : ℕ} (f : FoundNumber text n) → some_integer (nth_signed negative (cond (digits text == 0) 1 n)) ≡ Some a → FoundStep sign text a
     by_count true zero {n = n} f value =
-        let one : signed negative 1 ≡ a = some_is (signed negative 1) a (ap (λ (t : Bool). some_integer (signed negative (cond t 1 n))) (sym zero) ∙ value) in
+        let one : nth_signed negative 1 ≡ a = some_is (nth_signed negative 1) a (ap (λ (t : Bool). some_integer (nth_signed negative (cond t 1 n))) (sym zero) ∙ value) in
         let none : f.ds ≡ [] = no_code f.ds (sym f.len ∙ eqb-true (digits text) 0 zero) in
         record {
           ds = f.ds;
@@ -263,7 +263,7 @@ step_takes negative sign text a signs e =
           form = subst (λ (xs : List ℕ). IsStep xs a) (sym (append-nil sign) ∙ ap (λ (xs : List ℕ). sign ++ xs) (sym none)) (step_one sign a (subst (MaySign sign 1) one (signs 1)));
         }
     by_count false some {n = n} f value =
-        let z : signed negative n ≡ a = some_is (signed negative n) a (ap (λ (t : Bool). some_integer (signed negative (cond t 1 n))) (sym some) ∙ value) in
+        let z : nth_signed negative n ≡ a = some_is (nth_signed negative n) a (ap (λ (t : Bool). some_integer (nth_signed negative (cond t 1 n))) (sym some) ∙ value) in
         record {
           ds = f.ds;
           rest = f.rest;
@@ -307,11 +307,11 @@ regroup : (sign ds formula after : List ℕ) → sign ++ (ds ++ (formula ++ afte
 regroup sign ds formula after = sym (append_assoc sign ds (formula ++ after)) ∙ sym (append_assoc (sign ++ ds) formula after)
 
 -- behind a sign or none: digits or none, `n` and what follows it
-steps_take : (negative : Bool) (sign text : List ℕ) (a b : ℤ) → ((n : ℕ) → MaySign sign n (signed negative n)) → begins (λ c. c == 110 || c == 78) (drop (digits text) text) ≡ true
-    → (step_of negative text >>= λ x. after_n (drop 1 (drop (digits text) text)) >>= λ y. some_pair x y) ≡ Some (a, b) → FoundFormula (sign ++ text) a b
+steps_take : (negative : Bool) (sign text : List ℕ) (a b : ℤ) → ((n : ℕ) → MaySign sign n (nth_signed negative n)) → begins (λ c. c == 110 || c == 78) (drop (digits text) text) ≡ true
+    → (nth_step negative text >>= λ x. after_n (drop 1 (drop (digits text) text)) >>= λ y. some_pair x y) ≡ Some (a, b) → FoundFormula (sign ++ text) a b
 steps_take negative sign text a b signs is_n e =
     let rest = drop (digits text) text in
-    let x = bind_some (step_of negative text) (λ x. after_n (drop 1 rest) >>= λ y. some_pair x y) (a, b) e in
+    let x = bind_some (nth_step negative text) (λ x. after_n (drop 1 rest) >>= λ y. some_pair x y) (a, b) e in
     let y = bind_some (after_n (drop 1 rest)) (λ y. some_pair x.0 y) (a, b) x.2 in
     let same = some_is {A = ℤ × ℤ} (x.0, y.0) (a, b) y.2 in
     let s = step_takes negative sign text x.0 signs x.1 in
@@ -329,7 +329,7 @@ steps_take negative sign text a b signs is_n e =
     }
 
 -- behind a sign or none: digits, and nothing but white space
-constant_takes : (negative : Bool) (sign text : List ℕ) (a b : ℤ) → ((n : ℕ) → MaySign sign n (signed negative n)) → (digits_of negative text >>= λ z. some_pair (pos 0) z) ≡ Some (a, b) → FoundFormula (sign ++ text) a b
+constant_takes : (negative : Bool) (sign text : List ℕ) (a b : ℤ) → ((n : ℕ) → MaySign sign n (nth_signed negative n)) → (digits_of negative text >>= λ z. some_pair (pos 0) z) ≡ Some (a, b) → FoundFormula (sign ++ text) a b
 constant_takes negative sign text a b signs e =
     let z = bind_some (digits_of negative text) (λ z. some_pair (pos 0) z) (a, b) e in
     let same = some_is {A = ℤ × ℤ} (pos 0, z.0) (a, b) z.2 in
@@ -348,12 +348,12 @@ unfolding linear_of
 linear_takes text a b e =
     let s = may_sign_takes text in
     let rest = drop (digits s.rest) s.rest in
-    let read = step_of (is_negative text) s.rest >>= λ x. after_n (drop 1 rest) >>= λ y. some_pair x y in
+    let read = nth_step (is_negative text) s.rest >>= λ x. after_n (drop 1 rest) >>= λ y. some_pair x y in
     subst (λ (xs : List ℕ). FoundFormula xs a b) (sym s.is)
     (by_case s (chosen (begins (λ c. c == 110 || c == 78) rest) read (digits_of (is_negative text) s.rest >>= λ z. some_pair (pos 0) z) (Some (a, b)) (ap (linear_by (is_negative text)) (sym s.behind) ∙ e)))
   where
     by_case : (s : FoundSign text)
-        → ((begins (λ c. c == 110 || c == 78) (drop (digits s.rest) s.rest) ≡ true) × ((step_of (is_negative text) s.rest >>= λ x. after_n (drop 1 (drop (digits s.rest) s.rest)) >>= λ y. some_pair x y) ≡ Some (a, b)))
+        → ((begins (λ c. c == 110 || c == 78) (drop (digits s.rest) s.rest) ≡ true) × ((nth_step (is_negative text) s.rest >>= λ x. after_n (drop 1 (drop (digits s.rest) s.rest)) >>= λ y. some_pair x y) ≡ Some (a, b)))
         ⊎ ((begins (λ c. c == 110 || c == 78) (drop (digits s.rest) s.rest) ≡ false) × ((digits_of (is_negative text) s.rest >>= λ z. some_pair (pos 0) z) ≡ Some (a, b))) → FoundFormula (s.sign ++ s.rest) a b
     by_case s (inl h) = steps_take (is_negative text) s.sign s.rest a b s.signs h.0 h.1
     by_case s (inr h) = constant_takes (is_negative text) s.sign s.rest a b s.signs h.1
@@ -365,9 +365,9 @@ odd_takes [] e = absurd (cc)
 odd_takes (x ∷ []) e = absurd (cc)
 odd_takes (x ∷ y ∷ []) e = absurd (cc)
 odd_takes (x ∷ y ∷ z ∷ rest) e =
-    let t = and_true (is_letter 111 x && is_letter 100 y) (is_letter 100 z && is_blank rest) e in
-    let u = and_true (is_letter 111 x) (is_letter 100 y) t.0 in
-    let v = and_true (is_letter 100 z) (is_blank rest) t.1 in
+    let t = and_true (is_nth_letter 111 x && is_nth_letter 100 y) (is_nth_letter 100 z && is_blank rest) e in
+    let u = and_true (is_nth_letter 111 x) (is_nth_letter 100 y) t.0 in
+    let v = and_true (is_nth_letter 100 z) (is_blank rest) t.1 in
     let first : to_ascii_lowercase x ≡ 111 = eqb-true (to_ascii_lowercase x) 111 u.0 in
     let second : to_ascii_lowercase y ≡ 100 = eqb-true (to_ascii_lowercase y) 100 u.1 in
     let third : to_ascii_lowercase z ≡ 100 = eqb-true (to_ascii_lowercase z) 100 v.0 in
@@ -380,10 +380,10 @@ even_takes (x ∷ []) e = absurd (cc)
 even_takes (x ∷ y ∷ []) e = absurd (cc)
 even_takes (x ∷ y ∷ z ∷ []) e = absurd (cc)
 even_takes (x ∷ y ∷ z ∷ w ∷ rest) e =
-    let t = and_true (is_letter 101 x && is_letter 118 y) ((is_letter 101 z && is_letter 110 w) && is_blank rest) e in
-    let u = and_true (is_letter 101 x) (is_letter 118 y) t.0 in
-    let v = and_true (is_letter 101 z && is_letter 110 w) (is_blank rest) t.1 in
-    let q = and_true (is_letter 101 z) (is_letter 110 w) v.0 in
+    let t = and_true (is_nth_letter 101 x && is_nth_letter 118 y) ((is_nth_letter 101 z && is_nth_letter 110 w) && is_blank rest) e in
+    let u = and_true (is_nth_letter 101 x) (is_nth_letter 118 y) t.0 in
+    let v = and_true (is_nth_letter 101 z && is_nth_letter 110 w) (is_blank rest) t.1 in
+    let q = and_true (is_nth_letter 101 z) (is_nth_letter 110 w) v.0 in
     let first : to_ascii_lowercase x ≡ 101 = eqb-true (to_ascii_lowercase x) 101 u.0 in
     let second : to_ascii_lowercase y ≡ 118 = eqb-true (to_ascii_lowercase y) 118 u.1 in
     let third : to_ascii_lowercase z ≡ 101 = eqb-true (to_ascii_lowercase z) 101 q.0 in

@@ -13,9 +13,9 @@ use Rattle.css_tokens.proofs.Cuts.{none_at_end, token_end, piece_first}
 use Rattle.css_tokens.proofs.RunSteps.{between_to_end}
 use Rattle.css_tokens.proofs.TableForms.{first_fits}
 use Rattle.selectors.specs.declared.words.Word.{Word}
-use Rattle.selectors.specs.Words.{reading, passed, word_of, words_by, words_after, words_of, is_mark}
+use Rattle.selectors.specs.Words.{word_reading, passed_over, word_of, words_by, words_after, words_of, is_mark}
 use Rattle.selectors.specs.Forms.{SelectorForm, ◌>>=◌}
-use Rattle.selectors.specs.Reading.{range_by, range_of, segments, put_first, selector_of, selectors_in, put_before, list_of, selectors_of, joined_of, selector_form}
+use Rattle.selectors.specs.Reading.{range_by, range_of, segments, put_first, selector_of, selectors_in, selector_before, selector_list_of, selectors_of, joined_of, selector_form}
 use Rattle.selectors.specs.Ranges.{IsRangeOf, AreBetween, AreTiles, ranges_of}
 use Rattle.selectors.proofs.Choices.{none_some, some_is, bind_some}
 
@@ -118,7 +118,7 @@ pub words_between : (text : List ℕ) (spaced : Bool) (from to : ℕ) (ts : List
 unfolding words_after
 words_between text spaced from to [] e = omega arith
 words_between text spaced from to (t ∷ ts) all =
-    words_one (passed t.kind spaced) text spaced from to t (λ s. words_after text s ts) all.0 all.1 (λ s. words_between text s t.end to ts all.2)
+    words_one (passed_over t.kind spaced) text spaced from to t (λ s. words_after text s ts) all.0 all.1 (λ s. words_between text s t.end to ts all.2)
 
 -- the last word, and the ranges up to it
 record ToLast (text : List ℕ) (from to : ℕ) (w : Word) (ws : List Word) (last : Word) : Type 0 where
@@ -180,11 +180,11 @@ segments_between text from to (w ∷ ws) all = by (is_mark 44 w.kind) (segments_
     by true more = (w.end, omega (arith, all.0, all.1.order), more)
     by false more = put_between text from to w (segments ws) all.0 all.1 more
 
-selector_range : (text : List ℕ) (own : List Word) (s : SelectorForm) → selector_of (reading text own) ≡ Some s → range_of own ≡ Some s.range
+selector_range : (text : List ℕ) (own : List Word) (s : SelectorForm) → selector_of (word_reading text own) ≡ Some s → range_of own ≡ Some s.range
 unfolding selector_of
 selector_range text own s e =
-    let a = bind_some (range_of own) (λ range. joined_of (reading text own) >>= λ whole. Some (selector_form range whole.0)) s e in
-    let b = bind_some (joined_of (reading text own)) (λ whole. Some (selector_form a.0 whole.0)) s a.2 in
+    let a = bind_some (range_of own) (λ range. joined_of (word_reading text own) >>= λ whole. Some (selector_form range whole.0)) s e in
+    let b = bind_some (joined_of (word_reading text own)) (λ whole. Some (selector_form a.0 whole.0)) s a.2 in
     let same = some_is {A = SelectorForm} (selector_form a.0 b.0.0) s b.2 in
     a.1 ∙ ap (λ (x : SelectorForm). Some x.range) same
 
@@ -194,11 +194,11 @@ selectors_between text from to [] ss e order =
     let same : [] ≡ ss = some_is {A = List SelectorForm} [] ss e in
     subst (λ (xs : List SelectorForm). AreBetween text from to (ranges_of xs)) same order
 selectors_between text from to (own ∷ others) ss e all =
-    let a = bind_some (selector_of (reading text own)) (λ s. put_before s (selectors_in text others)) ss e in
+    let a = bind_some (selector_of (word_reading text own)) (λ s. selector_before s (selectors_in text others)) ss e in
     let spans = range_spans text from all.0 own a.0.range (selector_range text own a.0 a.1) all.1 in
     by a.0 spans (selectors_in text others) a.2 (λ tail is. selectors_between text all.0 to others tail is all.2)
   where
-    by : (s : SelectorForm) → Spans text from all.0 own s.range → (o : Option (List SelectorForm)) → put_before s o ≡ Some ss
+    by : (s : SelectorForm) → Spans text from all.0 own s.range → (o : Option (List SelectorForm)) → selector_before s o ≡ Some ss
         → ((tail : List SelectorForm) → o ≡ Some tail → AreBetween text all.0 to (ranges_of tail)) → AreBetween text from to (ranges_of ss)
     by s spans None none more = absurd (none_some ss none)
     by s spans (Some tail) is more =
@@ -207,7 +207,7 @@ selectors_between text from to (own ∷ others) ss e all =
         (spans.starts, spans.is, between_from text all.0 s.range.end to (ranges_of tail) spans.ends (more tail refl))
 
 -- the selectors of a list stand one behind the other, where its words do
-pub list_between : (text : List ℕ) (from to : ℕ) (ws : List Word) (ss : List SelectorForm) → list_of (reading text ws) ≡ Some ss → AreWords text from to ws → AreBetween text from to (ranges_of ss)
+pub list_between : (text : List ℕ) (from to : ℕ) (ws : List Word) (ss : List SelectorForm) → selector_list_of (word_reading text ws) ≡ Some ss → AreWords text from to ws → AreBetween text from to (ranges_of ss)
 list_between text from to ws ss e all = selectors_between text from to (segments ws) ss e (segments_between text from to ws all)
 
 pub selectors_whole : (text : List ℕ) (ss : List SelectorForm) → IsUtf8 text → selectors_of text ≡ Some ss → AreBetween text 0 (length text) (ranges_of ss)

@@ -86,6 +86,6 @@ Fails Memory read = Unit {0}
 Fails Invalid read = read ≡ None
 
 -- A function and reading agree: a value, seen by view, is what reading gives; an error is one that fits what reading gives.
-abbrev pub Gives : {X Y : Type 0} → (X → Y) → Result X SelErr → Option Y → Type 0
-Gives view (Ok x) read = read ≡ Some (view x)
-Gives view (Err e) read = Fails e read
+abbrev pub GivesRead : {X Y : Type 0} → (X → Y) → Result X SelErr → Option Y → Type 0
+GivesRead view (Ok x) read = read ≡ Some (view x)
+GivesRead view (Err e) read = Fails e read

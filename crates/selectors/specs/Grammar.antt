@@ -11,7 +11,7 @@ use Rattle.selectors.specs.declared.selector.NthKind.{NthKind}
 use Rattle.selectors.specs.Words.{is_mark, words_of, between}
 use Rattle.selectors.specs.Forms.{TestForm, any, tag, id, class, attr, nth, never, is, is_not, compound_form, SelectorForm}
 use Rattle.selectors.specs.NthGrammar.{IsNth}
-use Rattle.selectors.specs.Reading.{value_of, id_of, string_of, lower_of, function_of, operator_of, pseudo_class, is_element, nth_kind, is_named, combinator_of, range_of, Item, Joined, segments}
+use Rattle.selectors.specs.Reading.{word_value, hash_value, string_of, lower_of, function_of, operator_of, pseudo_class, is_pseudo_element, nth_kind, is_named, combinator_of, range_of, Item, Joined, segments}
 
 -- `=`, or one of five characters and `=` with nothing between them
 pub data IsOperator : List Word → AttrOp → Type 0 where
@@ -20,18 +20,18 @@ pub data IsOperator : List Word → AttrOp → Type 0 where
 
 -- an ident or a string
 pub data IsOperand : List ℕ → Word → List ℕ → Type 0 where
-  ident : (text : List ℕ) (w : Word) → w.kind ≡ Ident → IsOperand text w (value_of text w)
+  ident : (text : List ℕ) (w : Word) → w.kind ≡ Ident → IsOperand text w (word_value text w)
   string : (text : List ℕ) (w : Word) → w.kind ≡ Str → IsOperand text w (string_of text w)
 
 -- a simple selector but a type, `*` and `:not`
 pub data IsTest : List ℕ → List Word → TestForm → Type 0 where
-  by_id : (text : List ℕ) (w : Word) → w.kind ≡ Id → IsTest text (w ∷ []) (id (id_of text w))
-  by_class : (text : List ℕ) (dot name : Word) → dot.kind ≡ Mark 46 → name.kind ≡ Ident → name.spaced ≡ false → IsTest text (dot ∷ name ∷ []) (class (value_of text name))
+  by_id : (text : List ℕ) (w : Word) → w.kind ≡ Id → IsTest text (w ∷ []) (id (hash_value text w))
+  by_class : (text : List ℕ) (dot name : Word) → dot.kind ≡ Mark 46 → name.kind ≡ Ident → name.spaced ≡ false → IsTest text (dot ∷ name ∷ []) (class (word_value text name))
   by_exists : (text : List ℕ) (open_bracket name close : Word) → open_bracket.kind ≡ Mark 91 → name.kind ≡ Ident → close.kind ≡ Mark 93
-      → IsTest text (open_bracket ∷ name ∷ close ∷ []) (attr (value_of text name) ops.Exists [])
+      → IsTest text (open_bracket ∷ name ∷ close ∷ []) (attr (word_value text name) ops.Exists [])
   by_compare : (text : List ℕ) (open_bracket name value close : Word) (operator all : List Word) (op : AttrOp) (operand : List ℕ)
       → all ≡ open_bracket ∷ name ∷ (operator ++ value ∷ close ∷ []) → open_bracket.kind ≡ Mark 91 → name.kind ≡ Ident → IsOperator operator op → IsOperand text value operand → close.kind ≡ Mark 93
-      → IsTest text all (attr (value_of text name) op operand)
+      → IsTest text all (attr (word_value text name) op operand)
   by_pseudo : (text : List ℕ) (colon name : Word) (t : TestForm) → colon.kind ≡ Mark 58 → name.kind ≡ Ident → name.spaced ≡ false → pseudo_class (lower_of text name) ≡ Some t
       → IsTest text (colon ∷ name ∷ []) t
   by_nth : (text : List ℕ) (colon function close : Word) (argument all : List Word) (kind : NthKind) (step offset : ℤ)
@@ -44,29 +44,29 @@ pub data IsTest : List ℕ → List Word → TestForm → Type 0 where
 
 -- what `:not` takes
 pub data IsArgument : List ℕ → List Word → TestForm → Type 0 where
-  a_tag : (text : List ℕ) (w : Word) → w.kind ≡ Ident → IsArgument text (w ∷ []) (tag (value_of text w))
+  a_tag : (text : List ℕ) (w : Word) → w.kind ≡ Ident → IsArgument text (w ∷ []) (tag (word_value text w))
   a_any : (text : List ℕ) (w : Word) → w.kind ≡ Mark 42 → IsArgument text (w ∷ []) any
   a_test : (text : List ℕ) (front : List Word) (t : TestForm) → IsTest text front t → IsArgument text front t
 
 -- a pseudo-element: two colons and a name, or one colon and one of the four old names
 pub data IsElement : List ℕ → List Word → Type 0 where
-  one_colon : (text : List ℕ) (colon name : Word) → colon.kind ≡ Mark 58 → name.kind ≡ Ident → name.spaced ≡ false → is_element (lower_of text name) ≡ true → IsElement text (colon ∷ name ∷ [])
+  one_colon : (text : List ℕ) (colon name : Word) → colon.kind ≡ Mark 58 → name.kind ≡ Ident → name.spaced ≡ false → is_pseudo_element (lower_of text name) ≡ true → IsElement text (colon ∷ name ∷ [])
   two_colons : (text : List ℕ) (colon second name : Word) → colon.kind ≡ Mark 58 → second.kind ≡ Mark 58 → second.spaced ≡ false → name.kind ≡ Ident → name.spaced ≡ false
-      → is_element (lower_of text name) ≡ true → IsElement text (colon ∷ second ∷ name ∷ [])
+      → is_pseudo_element (lower_of text name) ≡ true → IsElement text (colon ∷ second ∷ name ∷ [])
 
 -- a part of a compound: a simple selector, or a pseudo-element
-pub data IsItem : List ℕ → List Word → Item → Type 0 where
-  item_test : (text : List ℕ) (front : List Word) (t : TestForm) → IsTest text front t → IsItem text front (is t ∷ [], false)
+pub data IsCompoundItem : List ℕ → List Word → Item → Type 0 where
+  item_test : (text : List ℕ) (front : List Word) (t : TestForm) → IsTest text front t → IsCompoundItem text front (is t ∷ [], false)
   item_not : (text : List ℕ) (colon function close : Word) (argument all : List Word) (t : TestForm)
       → all ≡ colon ∷ function ∷ (argument ++ close ∷ []) → colon.kind ≡ Mark 58 → function.kind ≡ Function → function.spaced ≡ false → is_named (codes "not") (function_of text function) ≡ true
-      → IsArgument text argument t → close.kind ≡ Mark 41 → IsItem text all (is_not t ∷ [], false)
-  item_element : (text : List ℕ) (front : List Word) → IsElement text front → IsItem text front ([], true)
+      → IsArgument text argument t → close.kind ≡ Mark 41 → IsCompoundItem text all (is_not t ∷ [], false)
+  item_element : (text : List ℕ) (front : List Word) → IsElement text front → IsCompoundItem text front ([], true)
 
 -- a compound's first part
 pub data IsFirst : List ℕ → List Word → Item → Type 0 where
-  first_tag : (text : List ℕ) (w : Word) → w.kind ≡ Ident → IsFirst text (w ∷ []) (is (tag (value_of text w)) ∷ [], false)
+  first_tag : (text : List ℕ) (w : Word) → w.kind ≡ Ident → IsFirst text (w ∷ []) (is (tag (word_value text w)) ∷ [], false)
   first_any : (text : List ℕ) (w : Word) → w.kind ≡ Mark 42 → IsFirst text (w ∷ []) (is any ∷ [], false)
-  first_item : (text : List ℕ) (front : List Word) (x : Item) → IsItem text front x → IsFirst text front x
+  first_item : (text : List ℕ) (front : List Word) (x : Item) → IsCompoundItem text front x → IsFirst text front x
 
 -- parts one behind the other; none follows a part that is or ends in a pseudo-element
 pub data Run {X : Type 0} (R : List Word → List X × Bool → Type 0) : Bool → List Word → List X × Bool → Type 0 where
@@ -80,7 +80,7 @@ IsTight (w ∷ ws) = w.spaced ≡ false
 
 -- a part of a compound behind its first: an item with no white space before it
 abbrev pub IsNextItem : List ℕ → List Word → Item → Type 0
-IsNextItem text front x = IsTight front × IsItem text front x
+IsNextItem text front x = IsTight front × IsCompoundItem text front x
 
 -- all words are one compound: its first part and the parts that follow it tightly
 pub record IsCompound (text : List ℕ) (all : List Word) (x : Item) : Type 0 where

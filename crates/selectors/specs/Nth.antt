@@ -18,8 +18,8 @@ abbrev pub decimal : List ℕ → ℕ
 decimal ds = fold (λ n d. n * 10 + digit_value d) 0 ds
 
 -- the number, or its negative where the sign is minus
-abbrev pub signed : Bool → ℕ → ℤ
-signed negative n = if negative then neg_ℤ (pos n) else pos n
+abbrev pub nth_signed : Bool → ℕ → ℤ
+nth_signed negative n = if negative then neg_ℤ (pos n) else pos n
 
 -- the text begins with `-`
 abbrev pub is_negative : List ℕ → Bool
@@ -39,7 +39,7 @@ offset_if test z = if test then Some z else None
 
 -- digits with a sign before them
 unfoldable pub digits_of : Bool → List ℕ → Option ℤ
-digits_of negative text = number_at text >>= λ n. offset_if (ends_number text) (signed negative n)
+digits_of negative text = number_at text >>= λ n. offset_if (ends_number text) (nth_signed negative n)
 
 -- a sign, white space, digits
 unfoldable pub offset_of : List ℕ → Option ℤ
@@ -50,15 +50,15 @@ unfoldable pub after_n : List ℕ → Option ℤ
 after_n text = if is_blank text then Some (pos 0) else offset_of (skip_white text)
 
 -- the step before `n`: no digits stand for 1
-abbrev pub step_of : Bool → List ℕ → Option ℤ
-step_of negative text = number_at text >>= λ n. Some (signed negative (if digits text == 0 then 1 else n))
+abbrev pub nth_step : Bool → List ℕ → Option ℤ
+nth_step negative text = number_at text >>= λ n. Some (nth_signed negative (if digits text == 0 then 1 else n))
 
 -- behind the sign
 abbrev pub linear_by : Bool → List ℕ → Option (ℤ × ℤ)
 linear_by negative more =
     let rest = drop (digits more) more in
     if begins (λ c. c == 110 || c == 78) rest
-    then (step_of negative more >>= λ a. after_n (drop 1 rest) >>= λ b. Some (a, b))
+    then (nth_step negative more >>= λ a. after_n (drop 1 rest) >>= λ b. Some (a, b))
     else (digits_of negative more >>= λ b. Some (pos 0, b))
 
 -- a sign or none and digits; or a sign or none, digits or none, `n` and what follows it
@@ -66,17 +66,17 @@ unfoldable pub linear_of : List ℕ → Option (ℤ × ℤ)
 linear_of text = linear_by (is_negative text) (drop (sign_len text) text)
 
 -- the code is this small letter, in either case
-abbrev pub is_letter : ℕ → ℕ → Bool
-is_letter letter c = to_ascii_lowercase c == letter
+abbrev pub is_nth_letter : ℕ → ℕ → Bool
+is_nth_letter letter c = to_ascii_lowercase c == letter
 
 -- `odd`, in any ASCII case, and nothing but white space behind it
 abbrev pub is_odd : List ℕ → Bool
-is_odd (a ∷ b ∷ c ∷ rest) = (is_letter 111 a && is_letter 100 b) && (is_letter 100 c && is_blank rest)
+is_odd (a ∷ b ∷ c ∷ rest) = (is_nth_letter 111 a && is_nth_letter 100 b) && (is_nth_letter 100 c && is_blank rest)
 is_odd _ = false
 
 -- `even`
 abbrev pub is_even : List ℕ → Bool
-is_even (a ∷ b ∷ c ∷ d ∷ rest) = (is_letter 101 a && is_letter 118 b) && ((is_letter 101 c && is_letter 110 d) && is_blank rest)
+is_even (a ∷ b ∷ c ∷ d ∷ rest) = (is_nth_letter 101 a && is_nth_letter 118 b) && ((is_nth_letter 101 c && is_nth_letter 110 d) && is_blank rest)
 is_even _ = false
 
 -- step and offset of a text with no white space before it: `odd`, `even`, or an+b

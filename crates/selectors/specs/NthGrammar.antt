@@ -19,20 +19,20 @@ pub data Writes : List ℕ → ℕ → Type 0 where
   one_more : (front all : List ℕ) (n digit : ℕ) → all ≡ front ++ (48 + digit) ∷ [] → digit ≤ 9 → Writes front n → Writes all (10 * n + digit)
 
 -- a number: at least one digit, and at most nine, which is a limit of this project
-pub record IsNumber (digits : List ℕ) (n : ℕ) : Type 0 where
+pub record IsNthNumber (digits : List ℕ) (n : ℕ) : Type 0 where
   pub some : 0 < length digits
   pub at_most_nine : length digits ≤ 9
   pub writes : Writes digits n
 
 -- a sign, and what it makes of a number
-pub data IsSign : List ℕ → ℕ → ℤ → Type 0 where
-  plus : (n : ℕ) → IsSign (codes "+") n (pos n)
-  minus : (n : ℕ) → IsSign (codes "-") n (neg_ℤ (pos n))
+pub data IsNthSign : List ℕ → ℕ → ℤ → Type 0 where
+  plus : (n : ℕ) → IsNthSign (codes "+") n (pos n)
+  minus : (n : ℕ) → IsNthSign (codes "-") n (neg_ℤ (pos n))
 
 -- the same, where the sign may be missing
 pub data MaySign : List ℕ → ℕ → ℤ → Type 0 where
   unsigned : (n : ℕ) → MaySign [] n (pos n)
-  with_sign : (sign : List ℕ) (n : ℕ) (z : ℤ) → IsSign sign n z → MaySign sign n z
+  with_sign : (sign : List ℕ) (n : ℕ) (z : ℤ) → IsNthSign sign n z → MaySign sign n z
 
 -- an integer: a number, with a sign right before it or without
 pub record IsInteger (text : List ℕ) (z : ℤ) : Type 0 where
@@ -41,7 +41,7 @@ pub record IsInteger (text : List ℕ) (z : ℤ) : Type 0 where
   pub n : ℕ
   pub whole : text ≡ sign ++ digits
   pub signs : MaySign sign n z
-  pub number : IsNumber digits n
+  pub number : IsNthNumber digits n
 
 -- what stands before the `n`: an integer; or no digits, which count as 1, with a sign or without
 pub data IsStep : List ℕ → ℤ → Type 0 where
@@ -51,7 +51,7 @@ pub data IsStep : List ℕ → ℤ → Type 0 where
 -- what stands behind the `n`: nothing, which counts as 0; or a sign and a number, where white space may stand before both
 pub data IsOffset : List ℕ → ℤ → Type 0 where
   offset_zero : IsOffset [] (pos 0)
-  offset_written : (before sign between digits text : List ℕ) (n : ℕ) (b : ℤ) → text ≡ before ++ (sign ++ (between ++ digits)) → AreWhite before → IsSign sign n b → AreWhite between → IsNumber digits n → IsOffset text b
+  offset_written : (before sign between digits text : List ℕ) (n : ℕ) (b : ℤ) → text ≡ before ++ (sign ++ (between ++ digits)) → AreWhite before → IsNthSign sign n b → AreWhite between → IsNthNumber digits n → IsOffset text b
 
 -- an+b with no white space at its ends: `odd` is 2n+1, `even` is 2n, and an integer is 0n+b
 pub data IsFormula : List ℕ → ℤ → ℤ → Type 0 where

@@ -38,10 +38,10 @@ abbrev pub word_of : List ℕ → Bool → Token → Word
 word_of text spaced t = record { kind = word_kind t.kind (slice_index text t.start); start = t.start; end = t.end; spaced = spaced }
 
 -- Where a piece is passed over: whether what follows it is spaced, if the piece itself is. Any other piece is a word.
-abbrev pub passed : TokenKind → Bool → Option Bool
-passed tokens.Comment spaced = Some spaced
-passed tokens.WhiteSpace spaced = Some true
-passed _ spaced = None
+abbrev pub passed_over : TokenKind → Bool → Option Bool
+passed_over tokens.Comment spaced = Some spaced
+passed_over tokens.WhiteSpace spaced = Some true
+passed_over _ spaced = None
 
 -- the words from a piece on: the word w in front unless the piece is passed over, then those that follow
 abbrev pub words_by : Option Bool → Word → (Bool → List Word) → List Word
@@ -51,17 +51,17 @@ words_by (Some spaced) w more = more spaced
 -- the words of these pieces, the first with white space before it or not
 unfoldable pub words_after : List ℕ → Bool → List Token → List Word
 words_after text spaced [] = []
-words_after text spaced (t ∷ ts) = words_by (passed t.kind spaced) (word_of text spaced t) (λ s. words_after text s ts)
+words_after text spaced (t ∷ ts) = words_by (passed_over t.kind spaced) (word_of text spaced t) (λ s. words_after text s ts)
 
 -- the words of a whole text
 abbrev pub words_of : List ℕ → List Word
 words_of text = words_after text false (pieces text)
 
 -- a mark stands in front that the word's value lacks: `#` or a quote
-abbrev pub opens : WordKind → Bool
-opens Id = true
-opens Str = true
-opens _ = false
+abbrev pub opens_word : WordKind → Bool
+opens_word Id = true
+opens_word Str = true
+opens_word _ = false
 
 -- a function ends in `(`, a string in its quote unless the text ends before
 abbrev pub closes : List ℕ → Word → WordKind → Bool
@@ -74,29 +74,29 @@ pub record IsWordOf (text : List ℕ) (w : Word) : Type 0 where
   pub some : w.start < w.end
   pub front : IsCharBoundary text w.start
   pub back : IsCharBoundary text w.end
-  pub opened : opens w.kind ≡ true → IsCharBoundary text (w.start + 1)
+  pub opened : opens_word w.kind ≡ true → IsCharBoundary text (w.start + 1)
   pub closed : closes text w w.kind ≡ true → IsCharBoundary text (w.end - 1)
 
 -- a text, and those of its words that are still to come
-pub record Reading : Type 0 where
+pub record WordReading : Type 0 where
   pub text : List ℕ
   pub words : List Word
 
 -- the reading of this text with these words still to come
-abbrev pub reading : List ℕ → List Word → Reading
-reading text words = record { text = text; words = words }
+abbrev pub word_reading : List ℕ → List Word → WordReading
+word_reading text words = record { text = text; words = words }
 
 -- the first of these words and the reading behind it, if there is a word
-abbrev pub first_of : List ℕ → List Word → Option (Word × Reading)
-first_of text [] = None
-first_of text (w ∷ ws) = Some (w, reading text ws)
+abbrev pub first_word_of : List ℕ → List Word → Option (Word × WordReading)
+first_word_of text [] = None
+first_word_of text (w ∷ ws) = Some (w, word_reading text ws)
 
 -- the next word and the reading behind it, if there is one
-abbrev pub next_word : Reading → Option (Word × Reading)
-next_word r = first_of r.text r.words
+abbrev pub next_word : WordReading → Option (Word × WordReading)
+next_word r = first_word_of r.text r.words
 
 -- the next word, if there is one
-abbrev pub head : Reading → Option Word
+abbrev pub head : WordReading → Option Word
 head r = option_map (λ x. x.0) (next_word r)
 
 -- the text between two places, none where the second stands before the first

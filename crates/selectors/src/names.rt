@@ -2,7 +2,7 @@
 
 ghost use Rattle.std.specs.Prelude.{◌≡◌, Option, option_map};
 ghost use Rattle.selectors.specs.Forms.{test_seen};
-ghost use Rattle.selectors.specs.Reading.{is_never, first_child, pseudo_class, is_element, nth_kind};
+ghost use Rattle.selectors.specs.Reading.{is_never, first_child, pseudo_class, is_pseudo_element, nth_kind};
 
 use crate::selector::{NthKind, Test};
 
@@ -61,7 +61,7 @@ pub(crate) fn pseudo_class(name: &str) -> Option<Test>
 
 #[tactic(auto, unfolding(crate::specs::Reading::is_element))]
 pub(crate) fn is_element(name: &str) -> bool
-    ensures { result ≡ is_element name.now }
+    ensures { result ≡ is_pseudo_element name.now }
 {
     name == "before" || name == "after" || name == "first-line" || name == "first-letter"
 }

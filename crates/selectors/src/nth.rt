@@ -4,7 +4,7 @@ ghost use Rattle.std.specs.Prelude.{◌≡◌, ◌≤◌, length, Option, option
 ghost use Rattle.std.specs.Char.{digit_value};
 ghost use Rattle.css_tokens.specs.Codes.{begins, is_sign};
 ghost use Rattle.css_tokens.specs.Runs.{white_run, digits};
-ghost use Rattle.selectors.specs.Nth.{skip_white, is_blank, decimal, signed, number_at, ends_number, digits_of, offset_of, after_n, step_of, linear_by, linear_of, is_letter, is_odd, is_even, nth_by, nth_of};
+ghost use Rattle.selectors.specs.Nth.{skip_white, is_blank, decimal, nth_signed, number_at, ends_number, digits_of, offset_of, after_n, nth_step, linear_by, linear_of, is_nth_letter, is_odd, is_even, nth_by, nth_of};
 
 /// The places `step * n + offset` for n from 0.
 #[derive(Clone, Copy)]
@@ -63,7 +63,7 @@ fn decimal(digits: &[u8]) -> u32
 }
 
 fn signed(negative: bool, n: u32) -> i64
-    ensures { result ≡ signed negative n }
+    ensures { result ≡ nth_signed negative n }
 {
     if negative {
         -i64::from(n)
@@ -125,7 +125,7 @@ fn after_n(text: &[u8]) -> Option<i64>
 }
 
 fn step_of(negative: bool, text: &[u8]) -> Option<i64>
-    ensures { result ≡ step_of negative text.now }
+    ensures { result ≡ nth_step negative text.now }
 {
     let n = number_at(text)?;
     if digits_len(text) == 0 {
@@ -162,7 +162,7 @@ fn linear_of(text: &[u8]) -> Option<Linear>
 }
 
 fn is_letter(letter: u8, b: u8) -> bool
-    ensures { result ≡ is_letter letter b }
+    ensures { result ≡ is_nth_letter letter b }
 {
     b.to_ascii_lowercase() == letter
 }

@@ -2,11 +2,11 @@
 
 ghost use Rattle.std.specs.Prelude.{◌≡◌, ◌≤◌, ◌<◌, ◌++◌, ◌∷◌, [], List, map, IfOk, IsErrOf, length};
 ghost use Rattle.selectors.specs.Words.{words_of};
-ghost use Rattle.selectors.specs.Forms.{Gives, SelectorForm, simple_seen, compound_seen, selector_seen};
+ghost use Rattle.selectors.specs.Forms.{GivesRead, SelectorForm, simple_seen, compound_seen, selector_seen};
 ghost use Rattle.selectors.specs.Grammar.{IsSelectorList};
 ghost use Rattle.selectors.specs.Lists.{list_seen};
 ghost use Rattle.selectors.specs.Parts.{with_front};
-ghost use Rattle.selectors.specs.Reading.{item_seen, combinator_of, ends_compound, tests_at, joined_seen, compound_at, joint_at, joined_at, ends_selector, compounds_at, joined_of, selector_of, list_of, selectors_of};
+ghost use Rattle.selectors.specs.Reading.{compound_item_seen, combinator_of, ends_compound, tests_at, joined_seen, compound_at, joint_at, joined_at, ends_selector, compounds_at, joined_of, selector_of, selector_list_of, selectors_of};
 
 use crate::selector::{Compound, Joint, SelErr, Selector, SelectorList, Simple};
 use crate::simple::{first_at, item_at};
@@ -37,8 +37,8 @@ fn ends_compound(words: &Words) -> bool
 
 /// Adds a part of a compound to its tests, and answers whether it is a pseudo-element.
 fn push_item(tests: &mut Vec<Simple>, item: Option<Simple>) -> Result<bool, AllocError>
-    ensures tests { IfOk result (λ _. map simple_seen tests.new.items ≡ map simple_seen tests.old.items ++ (item_seen item).0) }
-    ensures element { IfOk result (λ e. e ≡ (item_seen item).1) }
+    ensures tests { IfOk result (λ _. map simple_seen tests.new.items ≡ map simple_seen tests.old.items ++ (compound_item_seen item).0) }
+    ensures element { IfOk result (λ e. e ≡ (compound_item_seen item).1) }
 {
     match item {
         Some(test) => {
@@ -70,7 +70,7 @@ fn tests_from(
     tests: &mut Vec<Simple>,
     first: bool,
 ) -> Result<bool, SelErr>
-    ensures reads { Gives (λ e. ((map simple_seen tests.new.items, e), words.new)) result (with_front (map simple_seen tests.old.items) (tests_at first words.old)) }
+    ensures reads { GivesRead (λ e. ((map simple_seen tests.new.items, e), words.new)) result (with_front (map simple_seen tests.old.items) (tests_at first words.old)) }
     ensures shorter { IfOk result (λ _. length words.new.words ≤ length words.old.words) }
 {
     let mut element = first;
@@ -87,7 +87,7 @@ fn tests_from(
 /// A compound, and whether it ends in a pseudo-element.
 #[tactic(auto, unfolding(crate::specs::Reading::compound_at))]
 fn compound_at(alloc: Global, words: &mut Words, joint: Joint) -> Result<(Compound, bool), SelErr>
-    ensures reads { Gives (λ x. (joined_seen x, words.new)) result (compound_at joint words.old) }
+    ensures reads { GivesRead (λ x. (joined_seen x, words.new)) result (compound_at joint words.old) }
     ensures shorter { IfOk result (λ _. length words.new.words < length words.old.words) }
 {
     let mut tests = Vec::new(alloc);
@@ -101,7 +101,7 @@ fn compound_at(alloc: Global, words: &mut Words, joint: Joint) -> Result<(Compou
 /// A combinator: a mark, or the white space before the next word.
 #[tactic(auto, unfolding(crate::specs::Reading::joint_at))]
 fn joint_at(words: &mut Words) -> Result<Joint, SelErr>
-    ensures reads { Gives (λ j. (j, words.new)) result (joint_at words.old) }
+    ensures reads { GivesRead (λ j. (j, words.new)) result (joint_at words.old) }
     ensures shorter { IfOk result (λ _. length words.new.words ≤ length words.old.words) }
 {
     let Some(word) = words.peek() else {
@@ -120,7 +120,7 @@ fn joint_at(words: &mut Words) -> Result<Joint, SelErr>
 
 #[tactic(auto, unfolding(crate::specs::Reading::joined_at))]
 fn joined_at(alloc: Global, words: &mut Words) -> Result<(Compound, bool), SelErr>
-    ensures reads { Gives (λ x. (joined_seen x, words.new)) result (joined_at words.old) }
+    ensures reads { GivesRead (λ x. (joined_seen x, words.new)) result (joined_at words.old) }
     ensures shorter { IfOk result (λ _. length words.new.words < length words.old.words) }
 {
     let joint = joint_at(words)?;
@@ -134,7 +134,7 @@ fn compounds_from(
     compounds: &mut Vec<Compound>,
     first: bool,
 ) -> Result<bool, SelErr>
-    ensures reads { Gives (λ e. ((map compound_seen compounds.new.items, e), words.new)) result (with_front (map compound_seen compounds.old.items) (compounds_at first words.old)) }
+    ensures reads { GivesRead (λ e. ((map compound_seen compounds.new.items, e), words.new)) result (with_front (map compound_seen compounds.old.items) (compounds_at first words.old)) }
     ensures shorter { IfOk result (λ _. length words.new.words ≤ length words.old.words) }
 {
     let mut element = first;
@@ -151,7 +151,7 @@ fn compounds_from(
 
 #[tactic(auto, unfolding(crate::specs::Reading::joined_of))]
 fn joined_of(alloc: Global, words: &mut Words) -> Result<(Vec<Compound>, bool), SelErr>
-    ensures { Gives (λ x. ((map compound_seen x.0.items, x.1), words.new)) result (joined_of words.old) }
+    ensures { GivesRead (λ x. ((map compound_seen x.0.items, x.1), words.new)) result (joined_of words.old) }
 {
     let mut compounds = Vec::new(alloc);
     let (first, is_element) = compound_at(alloc, words, Joint::Descendant)?;
@@ -164,7 +164,7 @@ fn joined_of(alloc: Global, words: &mut Words) -> Result<(Vec<Compound>, bool), 
 /// The selector that all of the words spell.
 #[tactic(auto, unfolding(crate::specs::Reading::selector_of))]
 fn selector_of(alloc: Global, words: &mut Words) -> Result<Selector, SelErr>
-    ensures { Gives selector_seen result (selector_of words.old) }
+    ensures { GivesRead selector_seen result (selector_of words.old) }
 {
     let Some(range) = words.range() else {
         return Err(SelErr::Invalid);
@@ -187,7 +187,7 @@ fn fitted(mut list: Vec<Selector>) -> SelectorList
 
 /// The selector list that the words spell, which may be a part of a longer text's. Its ranges are places of that text.
 pub fn read_list(alloc: Global, words: &mut Words) -> Result<SelectorList, SelErr>
-    ensures exact { Gives list_seen result (list_of words.old) }
+    ensures exact { GivesRead list_seen result (selector_list_of words.old) }
 {
     let mut list = Vec::new(alloc);
     'selectors: loop {
@@ -202,7 +202,7 @@ pub fn read_list(alloc: Global, words: &mut Words) -> Result<SelectorList, SelEr
 
 /// The selector list that a text spells.
 pub fn read_selectors(alloc: Global, text: &str) -> Result<SelectorList, SelErr>
-    ensures exact { Gives list_seen result (selectors_of text.now) }
+    ensures exact { GivesRead list_seen result (selectors_of text.now) }
     ensures found { IfOk result (λ l. IsSelectorList text.now (list_seen l)) }
     ensures invalid { IsErrOf result SelErr.Invalid → (ss : List SelectorForm) → IsSelectorList text.now ss → ⊥ }
 {

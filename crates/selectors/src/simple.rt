@@ -6,8 +6,8 @@ ghost use Rattle.std.specs.Prelude.{◌≡◌, ◌≤◌, ◌<◌, IfOk, string_
 ghost use Rattle.std.specs.Str.{IsCharBoundary};
 ghost use Rattle.selectors.specs.declared.words.WordKind.TheVariants as kinds;
 ghost use Rattle.selectors.specs.Words.{IsWordOf};
-ghost use Rattle.selectors.specs.Forms.{Gives, test_seen};
-ghost use Rattle.selectors.specs.Reading.{operator_of, equals_at, operator_at, operand_at, attribute_after, attribute_at, class_at, plain_from, nth_at, lang_at, function_at, named_at, called_at, pseudo_at, argument_from, not_at, item_seen, element_at, colon_named, colon_called, colon_at, item_from, item_at, first_at, first_from};
+ghost use Rattle.selectors.specs.Forms.{GivesRead, test_seen};
+ghost use Rattle.selectors.specs.Reading.{operator_of, equals_at, operator_at, operand_at, attribute_after, attribute_at, class_at, plain_from, nth_at, lang_at, function_at, named_at, called_at, pseudo_at, argument_from, not_at, compound_item_seen, element_at, colon_named, colon_called, colon_at, item_from, compound_item_at, first_part_at, first_from};
 
 use crate::names::{is_element, nth_kind, pseudo_class};
 use crate::nth::nth_of;
@@ -33,7 +33,7 @@ fn operator_of(kind: WordKind) -> Option<AttrOp>
 }
 
 fn equals_at(words: &mut Words, first: Word, op: AttrOp) -> Result<AttrOp, SelErr>
-    ensures reads { Gives (λ o. (o, words.new)) result (equals_at first op words.old) }
+    ensures reads { GivesRead (λ o. (o, words.new)) result (equals_at first op words.old) }
     ensures shorter { IfOk result (λ _. length words.new.words ≤ length words.old.words) }
 {
     let equals = next(words)?;
@@ -47,7 +47,7 @@ fn equals_at(words: &mut Words, first: Word, op: AttrOp) -> Result<AttrOp, SelEr
 /// `=`, or one of five characters and `=` right behind it.
 #[tactic(auto, unfolding(crate::specs::Reading::operator_at))]
 fn operator_at(words: &mut Words) -> Result<AttrOp, SelErr>
-    ensures reads { Gives (λ o. (o, words.new)) result (operator_at words.old) }
+    ensures reads { GivesRead (λ o. (o, words.new)) result (operator_at words.old) }
     ensures shorter { IfOk result (λ _. length words.new.words ≤ length words.old.words) }
 {
     let first = next(words)?;
@@ -63,7 +63,7 @@ fn operator_at(words: &mut Words) -> Result<AttrOp, SelErr>
 /// An ident or a string.
 #[tactic(auto, unfolding(crate::specs::Reading::operand_at))]
 fn operand_at(alloc: Global, words: &mut Words) -> Result<String, SelErr>
-    ensures reads { Gives (λ s. (string_bytes s, words.new)) result (operand_at words.old) }
+    ensures reads { GivesRead (λ s. (string_bytes s, words.new)) result (operand_at words.old) }
     ensures shorter { IfOk result (λ _. length words.new.words ≤ length words.old.words) }
 {
     let word = next(words)?;
@@ -77,7 +77,7 @@ fn operand_at(alloc: Global, words: &mut Words) -> Result<String, SelErr>
 /// After `[`.
 #[tactic(auto, unfolding(crate::specs::Reading::attribute_at))]
 fn attribute_at(alloc: Global, words: &mut Words) -> Result<Test, SelErr>
-    ensures reads { Gives (λ t. (test_seen t, words.new)) result (attribute_at words.old) }
+    ensures reads { GivesRead (λ t. (test_seen t, words.new)) result (attribute_at words.old) }
     ensures shorter { IfOk result (λ _. length words.new.words ≤ length words.old.words) }
 {
     let name = ident_at(alloc, words)?;
@@ -97,7 +97,7 @@ fn attribute_at(alloc: Global, words: &mut Words) -> Result<Test, SelErr>
 
 /// After `.`.
 fn class_at(alloc: Global, words: &mut Words) -> Result<Test, SelErr>
-    ensures reads { Gives (λ t. (test_seen t, words.new)) result (class_at words.old) }
+    ensures reads { GivesRead (λ t. (test_seen t, words.new)) result (class_at words.old) }
     ensures shorter { IfOk result (λ _. length words.new.words ≤ length words.old.words) }
 {
     Ok(Test::Class(tight_ident_at(alloc, words)?))
@@ -107,7 +107,7 @@ fn class_at(alloc: Global, words: &mut Words) -> Result<Test, SelErr>
 #[tactic(auto, unfolding(crate::specs::Reading::plain_from))]
 fn plain_from(alloc: Global, words: &mut Words, word: Word) -> Result<Test, SelErr>
     requires { IsWordOf words.old.text word }
-    ensures reads { Gives (λ t. (test_seen t, words.new)) result (plain_from word words.old) }
+    ensures reads { GivesRead (λ t. (test_seen t, words.new)) result (plain_from word words.old) }
     ensures shorter { IfOk result (λ _. length words.new.words ≤ length words.old.words) }
 {
     match word.kind {
@@ -122,7 +122,7 @@ fn plain_from(alloc: Global, words: &mut Words, word: Word) -> Result<Test, SelE
 #[tactic(auto, unfolding(crate::specs::Reading::nth_at))]
 fn nth_at(words: &mut Words, kind: NthKind, start: usize) -> Result<Test, SelErr>
     requires { IsCharBoundary words.old.text start }
-    ensures reads { Gives (λ t. (test_seen t, words.new)) result (nth_at kind start words.old) }
+    ensures reads { GivesRead (λ t. (test_seen t, words.new)) result (nth_at kind start words.old) }
     ensures shorter { IfOk result (λ _. length words.new.words ≤ length words.old.words) }
 {
     let close = closing_at(words)?;
@@ -139,7 +139,7 @@ fn nth_at(words: &mut Words, kind: NthKind, start: usize) -> Result<Test, SelErr
 /// After `:lang(`: an ident and `)`, with no white space.
 #[tactic(auto, unfolding(crate::specs::Reading::lang_at))]
 fn lang_at(alloc: Global, words: &mut Words) -> Result<Test, SelErr>
-    ensures reads { Gives (λ t. (test_seen t, words.new)) result (lang_at words.old) }
+    ensures reads { GivesRead (λ t. (test_seen t, words.new)) result (lang_at words.old) }
     ensures shorter { IfOk result (λ _. length words.new.words ≤ length words.old.words) }
 {
     let _language = tight_ident_at(alloc, words)?;
@@ -151,7 +151,7 @@ fn lang_at(alloc: Global, words: &mut Words) -> Result<Test, SelErr>
 #[tactic(auto, unfolding(crate::specs::Reading::function_at))]
 fn function_at(alloc: Global, words: &mut Words, name: &str, start: usize) -> Result<Test, SelErr>
     requires { IsCharBoundary words.old.text start }
-    ensures reads { Gives (λ t. (test_seen t, words.new)) result (function_at name.now start words.old) }
+    ensures reads { GivesRead (λ t. (test_seen t, words.new)) result (function_at name.now start words.old) }
     ensures shorter { IfOk result (λ _. length words.new.words ≤ length words.old.words) }
 {
     if name == "lang" {
@@ -166,7 +166,7 @@ fn function_at(alloc: Global, words: &mut Words, name: &str, start: usize) -> Re
 /// The pseudo-class that an ident names.
 fn named_at(alloc: Global, words: &Words, word: Word) -> Result<Test, SelErr>
     requires { IsWordOf words.now.text word }
-    ensures { Gives (λ t. (test_seen t, words.now)) result (named_at word words.now) }
+    ensures { GivesRead (λ t. (test_seen t, words.now)) result (named_at word words.now) }
 {
     let name = lower_of(alloc, words.text(), word)?;
     pseudo_class(name.as_str()).ok_or(SelErr::Invalid)
@@ -176,7 +176,7 @@ fn named_at(alloc: Global, words: &Words, word: Word) -> Result<Test, SelErr>
 fn called_at(alloc: Global, words: &mut Words, word: Word) -> Result<Test, SelErr>
     requires cut { IsWordOf words.old.text word }
     requires function { word.kind ≡ kinds.Function }
-    ensures reads { Gives (λ t. (test_seen t, words.new)) result (called_at word words.old) }
+    ensures reads { GivesRead (λ t. (test_seen t, words.new)) result (called_at word words.old) }
     ensures shorter { IfOk result (λ _. length words.new.words ≤ length words.old.words) }
 {
     let name = function_of(alloc, words.text(), word)?;
@@ -186,7 +186,7 @@ fn called_at(alloc: Global, words: &mut Words, word: Word) -> Result<Test, SelEr
 /// After `:`, a pseudo-class but `:not`.
 #[tactic(auto, unfolding(crate::specs::Reading::pseudo_at))]
 fn pseudo_at(alloc: Global, words: &mut Words) -> Result<Test, SelErr>
-    ensures reads { Gives (λ t. (test_seen t, words.new)) result (pseudo_at words.old) }
+    ensures reads { GivesRead (λ t. (test_seen t, words.new)) result (pseudo_at words.old) }
     ensures shorter { IfOk result (λ _. length words.new.words ≤ length words.old.words) }
 {
     let word = next(words)?;
@@ -204,7 +204,7 @@ fn pseudo_at(alloc: Global, words: &mut Words) -> Result<Test, SelErr>
 #[tactic(auto, unfolding(crate::specs::Reading::argument_from))]
 fn argument_from(alloc: Global, words: &mut Words, word: Word) -> Result<Test, SelErr>
     requires { IsWordOf words.old.text word }
-    ensures reads { Gives (λ t. (test_seen t, words.new)) result (argument_from word words.old) }
+    ensures reads { GivesRead (λ t. (test_seen t, words.new)) result (argument_from word words.old) }
     ensures shorter { IfOk result (λ _. length words.new.words ≤ length words.old.words) }
 {
     match word.kind {
@@ -218,7 +218,7 @@ fn argument_from(alloc: Global, words: &mut Words, word: Word) -> Result<Test, S
 /// After `:not(`.
 #[tactic(auto, unfolding(crate::specs::Reading::not_at))]
 fn not_at(alloc: Global, words: &mut Words) -> Result<Test, SelErr>
-    ensures reads { Gives (λ t. (test_seen t, words.new)) result (not_at words.old) }
+    ensures reads { GivesRead (λ t. (test_seen t, words.new)) result (not_at words.old) }
     ensures shorter { IfOk result (λ _. length words.new.words ≤ length words.old.words) }
 {
     let first = next(words)?;
@@ -230,7 +230,7 @@ fn not_at(alloc: Global, words: &mut Words) -> Result<Test, SelErr>
 /// After `::`.
 #[tactic(auto, unfolding(crate::specs::Reading::element_at))]
 fn element_at(alloc: Global, words: &mut Words) -> Result<Option<Simple>, SelErr>
-    ensures reads { Gives (λ s. (item_seen s, words.new)) result (element_at words.old) }
+    ensures reads { GivesRead (λ s. (compound_item_seen s, words.new)) result (element_at words.old) }
     ensures shorter { IfOk result (λ _. length words.new.words ≤ length words.old.words) }
 {
     let mut name = tight_ident_at(alloc, words)?;
@@ -245,7 +245,7 @@ fn element_at(alloc: Global, words: &mut Words) -> Result<Option<Simple>, SelErr
 /// A pseudo-class, or a pseudo-element with one colon.
 fn colon_named(alloc: Global, words: &Words, word: Word) -> Result<Option<Simple>, SelErr>
     requires { IsWordOf words.now.text word }
-    ensures { Gives (λ s. (item_seen s, words.now)) result (colon_named word words.now) }
+    ensures { GivesRead (λ s. (compound_item_seen s, words.now)) result (colon_named word words.now) }
 {
     let name = lower_of(alloc, words.text(), word)?;
     if is_element(name.as_str()) {
@@ -260,7 +260,7 @@ fn colon_named(alloc: Global, words: &Words, word: Word) -> Result<Option<Simple
 fn colon_called(alloc: Global, words: &mut Words, word: Word) -> Result<Option<Simple>, SelErr>
     requires cut { IsWordOf words.old.text word }
     requires function { word.kind ≡ kinds.Function }
-    ensures reads { Gives (λ s. (item_seen s, words.new)) result (colon_called word words.old) }
+    ensures reads { GivesRead (λ s. (compound_item_seen s, words.new)) result (colon_called word words.old) }
     ensures shorter { IfOk result (λ _. length words.new.words ≤ length words.old.words) }
 {
     let name = function_of(alloc, words.text(), word)?;
@@ -274,7 +274,7 @@ fn colon_called(alloc: Global, words: &mut Words, word: Word) -> Result<Option<S
 /// After `:`. No simple selector stands for a pseudo-element.
 #[tactic(auto, unfolding(crate::specs::Reading::colon_at))]
 fn colon_at(alloc: Global, words: &mut Words) -> Result<Option<Simple>, SelErr>
-    ensures reads { Gives (λ s. (item_seen s, words.new)) result (colon_at words.old) }
+    ensures reads { GivesRead (λ s. (compound_item_seen s, words.new)) result (colon_at words.old) }
     ensures shorter { IfOk result (λ _. length words.new.words ≤ length words.old.words) }
 {
     let word = next(words)?;
@@ -292,7 +292,7 @@ fn colon_at(alloc: Global, words: &mut Words) -> Result<Option<Simple>, SelErr>
 #[tactic(auto, unfolding(crate::specs::Reading::item_from))]
 fn item_from(alloc: Global, words: &mut Words, word: Word) -> Result<Option<Simple>, SelErr>
     requires { IsWordOf words.old.text word }
-    ensures reads { Gives (λ s. (item_seen s, words.new)) result (item_from word words.old) }
+    ensures reads { GivesRead (λ s. (compound_item_seen s, words.new)) result (item_from word words.old) }
     ensures shorter { IfOk result (λ _. length words.new.words ≤ length words.old.words) }
 {
     if word.is_mark(b':') {
@@ -304,7 +304,7 @@ fn item_from(alloc: Global, words: &mut Words, word: Word) -> Result<Option<Simp
 
 /// Part of a compound: a simple selector, or none where it is a pseudo-element.
 pub(crate) fn item_at(alloc: Global, words: &mut Words) -> Result<Option<Simple>, SelErr>
-    ensures reads { Gives (λ s. (item_seen s, words.new)) result (item_at words.old) }
+    ensures reads { GivesRead (λ s. (compound_item_seen s, words.new)) result (compound_item_at words.old) }
     ensures shorter { IfOk result (λ _. length words.new.words < length words.old.words) }
 {
     let word = next(words)?;
@@ -314,7 +314,7 @@ pub(crate) fn item_at(alloc: Global, words: &mut Words) -> Result<Option<Simple>
 #[tactic(auto, unfolding(crate::specs::Reading::first_from))]
 fn first_from(alloc: Global, words: &mut Words, word: Word) -> Result<Option<Simple>, SelErr>
     requires { IsWordOf words.old.text word }
-    ensures reads { Gives (λ s. (item_seen s, words.new)) result (first_from word words.old) }
+    ensures reads { GivesRead (λ s. (compound_item_seen s, words.new)) result (first_from word words.old) }
     ensures shorter { IfOk result (λ _. length words.new.words ≤ length words.old.words) }
 {
     match word.kind {
@@ -329,7 +329,7 @@ fn first_from(alloc: Global, words: &mut Words, word: Word) -> Result<Option<Sim
 
 /// The first part of a compound, which may also be a type or `*`.
 pub(crate) fn first_at(alloc: Global, words: &mut Words) -> Result<Option<Simple>, SelErr>
-    ensures reads { Gives (λ s. (item_seen s, words.new)) result (first_at words.old) }
+    ensures reads { GivesRead (λ s. (compound_item_seen s, words.new)) result (first_part_at words.old) }
     ensures shorter { IfOk result (λ _. length words.new.words < length words.old.words) }
 {
     let word = next(words)?;

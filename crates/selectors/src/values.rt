@@ -4,8 +4,8 @@ ghost use Rattle.std.specs.Prelude.{◌≡◌, ◌≤◌, ◌<◌, IfOk, IfSome,
 ghost use Rattle.std.specs.Str.{IsCharBoundary};
 ghost use Rattle.selectors.specs.declared.words.WordKind.TheVariants as kinds;
 ghost use Rattle.selectors.specs.Words.{IsWordOf, next_word, between};
-ghost use Rattle.selectors.specs.Forms.{Gives};
-ghost use Rattle.selectors.specs.Reading.{value_of, id_of, string_of, lower_of, function_of, take_mark, ident_at, tight_ident_at, tight_mark_at, closing_at};
+ghost use Rattle.selectors.specs.Forms.{GivesRead};
+ghost use Rattle.selectors.specs.Reading.{word_value, hash_value, string_of, lower_of, function_of, take_mark, ident_at, tight_ident_at, tight_mark_at, closing_at};
 
 use crate::selector::SelErr;
 use crate::words::{Word, WordKind, Words};
@@ -15,7 +15,7 @@ use std::alloc::{AllocError, Global};
 /// A name's value, escapes read.
 pub fn value_of(alloc: Global, text: &str, word: Word) -> Result<String, AllocError>
     requires { IsWordOf text.now word }
-    ensures { IfOk result (λ v. string_bytes v ≡ value_of text.now word) }
+    ensures { IfOk result (λ v. string_bytes v ≡ word_value text.now word) }
 {
     unescape(alloc, &text[word.start..word.end])
 }
@@ -23,7 +23,7 @@ pub fn value_of(alloc: Global, text: &str, word: Word) -> Result<String, AllocEr
 pub(crate) fn id_of(alloc: Global, text: &str, word: Word) -> Result<String, AllocError>
     requires cut { IsWordOf text.now word }
     requires id { word.kind ≡ kinds.Id }
-    ensures { IfOk result (λ v. string_bytes v ≡ id_of text.now word) }
+    ensures { IfOk result (λ v. string_bytes v ≡ hash_value text.now word) }
 {
     unescape(alloc, &text[word.start + 1..word.end])
 }
@@ -72,7 +72,7 @@ pub(crate) fn between(text: &str, start: usize, end: usize) -> &str
 }
 
 pub(crate) fn next(words: &mut Words) -> Result<Word, SelErr>
-    ensures reads { Gives (λ w. (w, words.new)) result (next_word words.old) }
+    ensures reads { GivesRead (λ w. (w, words.new)) result (next_word words.old) }
     ensures cut { IfOk result (IsWordOf words.new.text) }
     ensures shorter { IfOk result (λ _. length words.new.words < length words.old.words) }
 {
@@ -80,7 +80,7 @@ pub(crate) fn next(words: &mut Words) -> Result<Word, SelErr>
 }
 
 pub(crate) fn take_mark(words: &mut Words, mark: u8) -> Result<(), SelErr>
-    ensures reads { Gives (λ _. words.new) result (take_mark mark words.old) }
+    ensures reads { GivesRead (λ _. words.new) result (take_mark mark words.old) }
     ensures shorter { IfOk result (λ _. length words.new.words ≤ length words.old.words) }
 {
     let word = next(words)?;
@@ -92,7 +92,7 @@ pub(crate) fn take_mark(words: &mut Words, mark: u8) -> Result<(), SelErr>
 }
 
 pub(crate) fn take_tight_mark(words: &mut Words, mark: u8) -> Result<(), SelErr>
-    ensures reads { Gives (λ _. words.new) result (tight_mark_at mark words.old) }
+    ensures reads { GivesRead (λ _. words.new) result (tight_mark_at mark words.old) }
     ensures shorter { IfOk result (λ _. length words.new.words ≤ length words.old.words) }
 {
     if words.is_tight() {
@@ -104,7 +104,7 @@ pub(crate) fn take_tight_mark(words: &mut Words, mark: u8) -> Result<(), SelErr>
 
 #[tactic(auto, unfolding(crate::specs::Reading::ident_at))]
 pub(crate) fn ident_at(alloc: Global, words: &mut Words) -> Result<String, SelErr>
-    ensures reads { Gives (λ s. (string_bytes s, words.new)) result (ident_at words.old) }
+    ensures reads { GivesRead (λ s. (string_bytes s, words.new)) result (ident_at words.old) }
     ensures shorter { IfOk result (λ _. length words.new.words ≤ length words.old.words) }
 {
     let word = next(words)?;
@@ -115,7 +115,7 @@ pub(crate) fn ident_at(alloc: Global, words: &mut Words) -> Result<String, SelEr
 }
 
 pub(crate) fn tight_ident_at(alloc: Global, words: &mut Words) -> Result<String, SelErr>
-    ensures reads { Gives (λ s. (string_bytes s, words.new)) result (tight_ident_at words.old) }
+    ensures reads { GivesRead (λ s. (string_bytes s, words.new)) result (tight_ident_at words.old) }
     ensures shorter { IfOk result (λ _. length words.new.words ≤ length words.old.words) }
 {
     if words.is_tight() {
@@ -127,7 +127,7 @@ pub(crate) fn tight_ident_at(alloc: Global, words: &mut Words) -> Result<String,
 
 /// The first `)`.
 pub(crate) fn closing_at(words: &mut Words) -> Result<Word, SelErr>
-    ensures reads { Gives (λ w. (w, words.new)) result (closing_at words.old) }
+    ensures reads { GivesRead (λ w. (w, words.new)) result (closing_at words.old) }
     ensures cut { IfOk result (IsWordOf words.new.text) }
     ensures shorter { IfOk result (λ _. length words.new.words ≤ length words.old.words) }
 {

@@ -2,7 +2,7 @@
 
 ghost use Rattle.std.specs.Prelude.{◌≡◌, ◌≤◌, All, IfSome, IfNone, IfOk, false, length, option_map};
 ghost use Rattle.std.specs.List.{AllByRecursion, prefix_len};
-ghost use Rattle.selectors.specs.Words.{word_kind, word_of, passed, words_of, words_after, IsWordOf, reading, next_word, head, is_mark, is_no_comma, before_comma, from_comma};
+ghost use Rattle.selectors.specs.Words.{word_kind, word_of, passed_over, words_of, words_after, IsWordOf, word_reading, next_word, head, is_mark, is_no_comma, before_comma, from_comma};
 ghost use Rattle.css_tokens.specs.Marks.{IsPieceOf};
 ghost use Rattle.selectors.specs.Reading.{is_tight, first_is, range_of, is_over};
 
@@ -82,7 +82,7 @@ fn word_kind(kind: TokenKind, first: u8) -> WordKind
 
 /// Whether what follows is spaced, where a piece of this kind is passed over.
 fn passed(kind: TokenKind, spaced: bool) -> Option<bool>
-    ensures { result ≡ passed kind spaced }
+    ensures { result ≡ passed_over kind spaced }
 {
     match kind {
         TokenKind::Comment => Some(spaced),
@@ -125,11 +125,7 @@ pub fn all_words(alloc: Global, text: &str) -> Result<Vec<Word>, AllocError>
 }
 
 /// The words among some pieces of a text, in order.
-pub fn words_among(
-    alloc: Global,
-    text: &str,
-    pieces: &[Token],
-) -> Result<Vec<Word>, AllocError>
+pub fn words_among(alloc: Global, text: &str, pieces: &[Token]) -> Result<Vec<Word>, AllocError>
     requires { All (IsPieceOf text.now) pieces.now }
     ensures words { IfOk result (λ v. v.items ≡ words_after text.now false pieces.now) }
     ensures each { IfOk result (λ v. AllByRecursion (IsWordOf text.now) v.items) }
@@ -176,11 +172,11 @@ pub struct Words<'a> {
 
 impl<'a> Model for Words<'a> {
     ghost use Rattle.std.specs.List.{AllByRecursion};
-    ghost use Rattle.selectors.specs.Words.{Reading, reading, IsWordOf};
+    ghost use Rattle.selectors.specs.Words.{WordReading, word_reading, IsWordOf};
 
-    ghost Value = { Reading };
+    ghost Value = { WordReading };
 
-    ghost view = { λ w. reading w.text.now w.words.now };
+    ghost view = { λ w. word_reading w.text.now w.words.now };
 
     ghost invariant = { λ w. AllByRecursion (IsWordOf w.text.now) w.words.now };
 }
@@ -189,7 +185,7 @@ impl<'a> Words<'a> {
     /// The words of this text, from the first on.
     pub fn new(text: &'a str, words: &'a [Word]) -> Words<'a>
         requires { AllByRecursion (IsWordOf text.now) words.now }
-        ensures { result ≡ reading text.now words.now }
+        ensures { result ≡ word_reading text.now words.now }
     {
         Words { text, words }
     }
@@ -262,8 +258,8 @@ impl<'a> Words<'a> {
 
     /// Takes the words up to the first comma, which stays.
     pub fn until_comma(&mut self) -> Words<'a>
-        ensures own { result ≡ reading self.old.text (before_comma self.old.words) }
-        ensures rest { self.new ≡ reading self.old.text (from_comma self.old.words) }
+        ensures own { result ≡ word_reading self.old.text (before_comma self.old.words) }
+        ensures rest { self.new ≡ word_reading self.old.text (from_comma self.old.words) }
     {
         let all = self.words;
         let n = comma_place(all);

@@ -10,7 +10,7 @@ use Rattle.css_tokens.proofs.TableForms.{cuts_whole}
 use Rattle.selectors.proofs.Choices.{none_some}
 use Rattle.sheet_reader.specs.declared.sheet.Property.{Property}
 use Rattle.sheet_reader.specs.Declarations.{ItemForm, passed, at_rule, candidate, other, items_after, item_property, properties_in, declarations, style_of}
-use Rattle.sheet_reader.specs.Grammar.{is_ident, IsItem, passed_item, at_rule_item, candidate_item, other_item, AreItems}
+use Rattle.sheet_reader.specs.Grammar.{is_ident_kind, IsBodyItem, passed_item, at_rule_item, candidate_item, other_item, AreItems}
 use Rattle.sheet_reader.proofs.ItemForms.{items_spelled, items_only}
 use Rattle.sheet_laws.specs.Said.{AreSaid}
 use Rattle.sheet_laws.specs.Values.{ItemDeclares, declares, AreDeclarations}
@@ -30,11 +30,11 @@ IsWellItem (passed t) = Unit {0}
 IsWellItem (at_rule p) = Unit {0}
 IsWellItem (other ts) = Unit {0}
 
-ident_is : (kind : TokenKind) → is_ident kind ≡ true → kind ≡ tokens.Ident
+ident_is : (kind : TokenKind) → is_ident_kind kind ≡ true → kind ≡ tokens.Ident
 ident_is tokens.Ident e = refl
 ident_is _ e = absurd (cc)
 
-item_well : (x : ItemForm) (rest : List Token) → IsItem x rest → IsWellItem x
+item_well : (x : ItemForm) (rest : List Token) → IsBodyItem x rest → IsWellItem x
 item_well _ rest (passed_item t e) = tt
 item_well _ rest (at_rule_item _ _ _ _ _) = tt
 item_well _ rest (candidate_item t ts e _ _) = ident_is t.kind e

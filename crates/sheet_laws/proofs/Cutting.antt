@@ -8,7 +8,7 @@ use Rattle.css_tokens.specs.declared.token.Token.{Token}
 use Rattle.css_tokens.specs.Marks.{HasMarks}
 use Rattle.css_tokens.specs.Rows.{piece, first_piece, mark_kind}
 use Rattle.css_tokens.specs.Pieces.{pieces, pieces_after}
-use Rattle.css_tokens.specs.Table.{Row, comment_row, white_space_row, string_row, bad_string_row, hash_row, numeric_row, cdc_row, url_row, bad_url_row, ident_row, cdo_row, at_keyword_row, mark_row, FormOf, row_of, IsLongest, HasNone, NoneOf, IsFirstPiece, Cuts}
+use Rattle.css_tokens.specs.Table.{PieceRow, comment_row, white_space_row, string_row, bad_string_row, hash_row, numeric_row, cdc_row, url_row, bad_url_row, ident_row, cdo_row, at_keyword_row, mark_row, FormOf, row_of, IsLongest, HasNone, NoneOf, IsFirstPiece, Cuts}
 use Rattle.css_tokens.proofs.Cuts.{piece_first, none_at_end}
 use Rattle.css_tokens.proofs.Ends.{first_of_rest, first_whole}
 use Rattle.css_tokens.proofs.RowForms.{RowLaw, comment_row_law, white_row_law}
@@ -18,7 +18,7 @@ use Rattle.css_tokens.proofs.UrlForms.{url_row_law, bad_url_row_law}
 use Rattle.css_tokens.proofs.TableForms.{first_is_first, first_fits, cuts_whole}
 use Rattle.sheet_laws.specs.Solids.{StandBetween, is_character_kind}
 
-law_of : (row : Row) → RowLaw (FormOf row) (row_of row)
+law_of : (row : PieceRow) → RowLaw (FormOf row) (row_of row)
 law_of comment_row = comment_row_law
 law_of white_space_row = white_row_law
 law_of string_row = string_row_law
@@ -34,30 +34,30 @@ law_of at_keyword_row = at_keyword_row_law
 law_of mark_row = mark_row_law
 
 -- what a text begins with by a row is what the row gives
-row_given : (row : Row) (text : List ℕ) (kind : TokenKind) (n : ℕ) → IsLongest (FormOf row) text (piece kind n) → row_of row text ≡ Some (piece kind n)
+row_given : (row : PieceRow) (text : List ℕ) (kind : TokenKind) (n : ℕ) → IsLongest (FormOf row) text (piece kind n) → row_of row text ≡ Some (piece kind n)
 row_given row text kind n l =
     ap (row_of row) l.is ∙ (law_of row).only kind l.front l.rest l.form ∙ ap (λ (m : ℕ). Some (piece kind m)) (sym l.len)
 
-clashes : (row : Row) (text : List ℕ) (kind : TokenKind) (n : ℕ) → IsLongest (FormOf row) text (piece kind n) → HasNone (FormOf row) text → ⊥
+clashes : (row : PieceRow) (text : List ℕ) (kind : TokenKind) (n : ℕ) → IsLongest (FormOf row) text (piece kind n) → HasNone (FormOf row) text → ⊥
 clashes row text kind n l none = none kind l.front l.rest l.is l.form
 
 -- a piece of a text by a row
-record ByRow (row : Row) (text : List ℕ) : Type 0 where
+record ByRow (row : PieceRow) (text : List ℕ) : Type 0 where
   kind : TokenKind
   n : ℕ
   longest : IsLongest (FormOf row) text (piece kind n)
 
 -- the first row that has a piece is one
-same_row : (text : List ℕ) (before : List Row) (row : Row) (behind others : List Row) (other : Row) (left : List Row) → before ++ row ∷ behind ≡ others ++ other ∷ left
+same_row : (text : List ℕ) (before : List PieceRow) (row : PieceRow) (behind others : List PieceRow) (other : PieceRow) (left : List PieceRow) → before ++ row ∷ behind ≡ others ++ other ∷ left
     → NoneOf before text → NoneOf others text → ByRow row text → ByRow other text → row ≡ other
 same_row text [] row behind [] other left e none silent l m = cc
 same_row text [] row behind (x ∷ others) other left e none silent l m =
     let same : row ≡ x = cc in
-    let b : ByRow x text = subst (λ (r : Row). ByRow r text) same l in
+    let b : ByRow x text = subst (λ (r : PieceRow). ByRow r text) same l in
     absurd (clashes x text b.kind b.n b.longest silent.0)
 same_row text (x ∷ before) row behind [] other left e none silent l m =
     let same : other ≡ x = cc in
-    let b : ByRow x text = subst (λ (r : Row). ByRow r text) same m in
+    let b : ByRow x text = subst (λ (r : PieceRow). ByRow r text) same m in
     absurd (clashes x text b.kind b.n b.longest none.0)
 same_row text (x ∷ before) row behind (y ∷ others) other left e none silent l m =
     let below : before ++ row ∷ behind ≡ others ++ other ∷ left = cc in
@@ -67,7 +67,7 @@ one_piece : (text : List ℕ) (kind other : TokenKind) (n m : ℕ) → IsFirstPi
 one_piece text kind other n m f g =
     let same = same_row text f.earlier f.row f.later g.earlier g.row g.later (sym f.order ∙ g.order) f.none_earlier g.none_earlier
     (record { kind = kind; n = n; longest = f.longest }) (record { kind = other; n = m; longest = g.longest }) in
-    sym (row_given f.row text kind n f.longest) ∙ ap (λ (r : Row). row_of r text) same ∙ row_given g.row text other m g.longest
+    sym (row_given f.row text kind n f.longest) ∙ ap (λ (r : PieceRow). row_of r text) same ∙ row_given g.row text other m g.longest
 
 no_room : (text : List ℕ) (kind : TokenKind) (n : ℕ) → 0 < n → IsFirstPiece text (piece kind n) → text ≡ [] → ⊥
 no_room text kind n some f over =

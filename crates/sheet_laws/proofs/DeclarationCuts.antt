@@ -8,7 +8,7 @@ use Rattle.css_tokens.specs.declared.token.TokenKind.TheVariants as tokens
 use Rattle.selectors.specs.declared.words.Word.{Word}
 use Rattle.selectors.specs.Words.{word_of, words_after, is_mark}
 use Rattle.selectors.specs.Forms.{◌>>=◌}
-use Rattle.selectors.specs.Reading.{value_of, range_by, range_of, is_over}
+use Rattle.selectors.specs.Reading.{word_value, range_by, range_of, is_over}
 use Rattle.selectors.proofs.Choices.{none_some, some_is, bind_some, passed_test, failed_test}
 use Rattle.sheet_reader.specs.declared.sheet.Property.{Property}
 use Rattle.sheet_reader.specs.Forms.{range}
@@ -91,8 +91,8 @@ declaration_reads text ts p d =
     ap (λ (b : Bool). cond b None (declared_in text (words_after text false ts))) (none_bad ts d.no_bad d.matched)
     ∙ ap (λ (o : Option Range). o >>= λ whole. declared_by text (words_after text false ts) whole) (words_cover text false ts p.whole d.whole)
     ∙ ap (λ (ws : List Word). declared_by text ws p.whole) words
-    ∙ ap (λ (b : Bool). cond b (of (name_by (value_of text name)) (is_important text value) (plain_value (is_important text value) value)) None) (mark_of text 58 d.colon d.is_colon)
-    ∙ ap (λ (b : Bool). of (name_by (value_of text name)) b (plain_value b value)) i.flag
+    ∙ ap (λ (b : Bool). cond b (of (name_by (word_value text name)) (is_important text value) (plain_value (is_important text value) value)) None) (mark_of text 58 d.colon d.is_colon)
+    ∙ ap (λ (b : Bool). of (name_by (word_value text name)) b (plain_value b value)) i.flag
     ∙ (λ j. of (sym d.named j) p.important (i.rest j))
     ∙ ap (λ (b : Bool). cond b None (some_property (property p.name colon p.important plain p.whole))) kept
     ∙ ap (λ (r : Range). some_property (record { name = p.name; value = r; important = p.important; whole = p.whole })) (value_spans text d.plain d.colon colon p.value refl d.spans)
@@ -111,7 +111,7 @@ declared_from : (text : List ℕ) (t : Token) (ts : List Token) (p : Property) (
     → declared_by text (word_of text false t ∷ vs) whole ≡ Some p → IsDeclaration text (t ∷ ts) p
 declared_from text t ts p whole [] ident bad covers words e = absurd (none_some p e)
 declared_from text t ts p whole (colon ∷ value) ident bad covers words e =
-    let name = name_by (value_of text (word_of text false t)) in
+    let name = name_by (word_value text (word_of text false t)) in
     let c = word_stands text false ts [] colon value words in
     let a = passed_test (is_mark 58 colon.kind) (property_by name colon (is_important text value) (plain_value (is_important text value) value) whole) p e in
     let i = importance_found text c.behind (is_important text value) (ap (is_important text) c.rest) in

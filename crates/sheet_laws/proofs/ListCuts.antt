@@ -6,9 +6,9 @@ use Rattle.css_tokens.specs.Pieces.{pieces}
 use Rattle.selectors.specs.declared.words.Word.{Word}
 use Rattle.selectors.specs.declared.words.WordKind.{WordKind}
 use Rattle.selectors.specs.declared.words.WordKind.TheVariants.{Mark}
-use Rattle.selectors.specs.Words.{is_mark, reading, words_after}
+use Rattle.selectors.specs.Words.{is_mark, word_reading, words_after}
 use Rattle.selectors.specs.Forms.{SelectorForm}
-use Rattle.selectors.specs.Reading.{segments, put_first, list_of}
+use Rattle.selectors.specs.Reading.{segments, put_first, selector_list_of}
 use Rattle.selectors.specs.Grammar.{AreSelectors, IsSelectorList}
 use Rattle.selectors.proofs.GrammarAgain.{grammar_read}
 use Rattle.selectors.proofs.GrammarTakes.{grammar_spells}
@@ -85,12 +85,12 @@ between_listed (suc n) text ws ss few h = by (first_comma ws) (λ others rs less
 
 -- ---- pieces that are a selector list
 
-pub prelude_reads : (text : List ℕ) (ts : List Token) (ss : List SelectorForm) → AreSelectorList text ts ss → list_of (reading text (words_after text false ts)) ≡ Some ss
+pub prelude_reads : (text : List ℕ) (ts : List Token) (ss : List SelectorForm) → AreSelectorList text ts ss → selector_list_of (word_reading text (words_after text false ts)) ≡ Some ss
 prelude_reads text ts ss h =
-    ap (λ (ws : List Word). list_of (reading text ws)) (sym (words_only text false ts h.words h.are_words))
+    ap (λ (ws : List Word). selector_list_of (word_reading text ws)) (sym (words_only text false ts h.words h.are_words))
     ∙ list_again text (segments h.words) ss (listed_between text h.words ss h.listed)
 
-pub prelude_spells : (text : List ℕ) (ts : List Token) (ss : List SelectorForm) → list_of (reading text (words_after text false ts)) ≡ Some ss → AreSelectorList text ts ss
+pub prelude_spells : (text : List ℕ) (ts : List Token) (ss : List SelectorForm) → selector_list_of (word_reading text (words_after text false ts)) ≡ Some ss → AreSelectorList text ts ss
 prelude_spells text ts ss e =
     let ws = words_after text false ts in
     record {

@@ -4,9 +4,9 @@ use Rattle.std.specs.Prelude.{option_to_list}
 use Rattle.css_tokens.specs.declared.token.Token.{Token}
 use Rattle.css_tokens.specs.declared.token.Range.{Range}
 use Rattle.css_tokens.specs.Pieces.{pieces}
-use Rattle.selectors.specs.Words.{reading, words_after}
+use Rattle.selectors.specs.Words.{word_reading, words_after}
 use Rattle.selectors.specs.Forms.{SelectorForm, ◌>>=◌}
-use Rattle.selectors.specs.Reading.{range_of, list_of}
+use Rattle.selectors.specs.Reading.{range_of, selector_list_of}
 use Rattle.selectors.proofs.Choices.{none_some, some_is, bind_some}
 use Rattle.sheet_reader.specs.Forms.{range, RuleForm}
 use Rattle.sheet_reader.specs.Parts.{EndingForm, text_end, semicolon, block, PartForm, passed, at_rule, qualified, ending_pieces, part_pieces, parts}
@@ -28,7 +28,7 @@ pub record RuleIs (text : List ℕ) (prelude : List Token) (ending : EndingForm)
   pub close : Option Token
   pub is : ending ≡ block brace inside close
   pub span : range_of (words_after text false prelude) ≡ Some r.prelude
-  pub selectors : list_of (reading text (words_after text false prelude)) ≡ Some r.selectors
+  pub selectors : selector_list_of (word_reading text (words_after text false prelude)) ≡ Some r.selectors
   pub body : r.body ≡ range brace.end (body_end text close)
   pub properties : r.properties ≡ declarations text inside
 
@@ -39,8 +39,8 @@ rule_is text prelude (block brace inside close) r e =
     let words = words_after text false prelude in
     let body = range brace.end (body_end text close) in
     let of : Range → List SelectorForm → RuleForm = λ own selectors. record { prelude = own; selectors = selectors; body = body; properties = declarations text inside } in
-    let a = bind_some (range_of words) (λ own. list_of (reading text words) >>= λ selectors. Some (of own selectors)) r e in
-    let b = bind_some (list_of (reading text words)) (λ selectors. Some (of a.0 selectors)) r a.2 in
+    let a = bind_some (range_of words) (λ own. selector_list_of (word_reading text words) >>= λ selectors. Some (of own selectors)) r e in
+    let b = bind_some (selector_list_of (word_reading text words)) (λ selectors. Some (of a.0 selectors)) r a.2 in
     let same = some_is {A = RuleForm} (of a.0 b.0) r b.2 in
     record {
       brace = brace;
@@ -60,7 +60,7 @@ rule_again text prelude ending r f =
     let of : Range → List SelectorForm → RuleForm = λ own selectors. record { prelude = own; selectors = selectors; body = body; properties = declarations text f.inside } in
     let whole : of r.prelude r.selectors ≡ r = λ i. record { prelude = r.prelude; selectors = r.selectors; body = sym f.body i; properties = sym f.properties i } in
     ap (rule_by text prelude) f.is
-    ∙ ap (λ (o : Option Range). o >>= λ own. list_of (reading text words) >>= λ selectors. some_rule (of own selectors)) f.span
+    ∙ ap (λ (o : Option Range). o >>= λ own. selector_list_of (word_reading text words) >>= λ selectors. some_rule (of own selectors)) f.span
     ∙ ap (λ (o : Option (List SelectorForm)). o >>= λ selectors. some_rule (of r.prelude selectors)) f.selectors
     ∙ ap (λ (x : RuleForm). some_rule x) whole
   where

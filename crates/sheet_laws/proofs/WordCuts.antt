@@ -6,7 +6,7 @@ use Rattle.css_tokens.specs.declared.token.Range.{Range}
 use Rattle.css_tokens.specs.declared.token.TokenKind.{TokenKind}
 use Rattle.css_tokens.specs.declared.token.TokenKind.TheVariants as tokens
 use Rattle.selectors.specs.declared.words.Word.{Word}
-use Rattle.selectors.specs.Words.{word_of, passed, words_after}
+use Rattle.selectors.specs.Words.{word_of, passed_over, words_after}
 use Rattle.selectors.specs.Reading.{range_by, range_of}
 use Rattle.selectors.proofs.Choices.{none_some, some_is}
 use Rattle.selectors.proofs.WordForms.{passes, is_word}
@@ -22,12 +22,12 @@ abbrev spaced_by : TokenKind → Bool → Bool
 spaced_by tokens.WhiteSpace spaced = true
 spaced_by _ spaced = spaced
 
-passes_by : (k : TokenKind) (spaced : Bool) → is_blank_kind k ≡ true → passed k spaced ≡ Some (spaced_by k spaced)
+passes_by : (k : TokenKind) (spaced : Bool) → is_blank_kind k ≡ true → passed_over k spaced ≡ Some (spaced_by k spaced)
 passes_by tokens.Comment spaced e = refl
 passes_by tokens.WhiteSpace spaced e = refl
 passes_by _ spaced e = absurd (cc)
 
-stays_by : (k : TokenKind) (spaced : Bool) → is_blank_kind k ≡ false → passed k spaced ≡ None
+stays_by : (k : TokenKind) (spaced : Bool) → is_blank_kind k ≡ false → passed_over k spaced ≡ None
 stays_by tokens.Comment spaced e = absurd (cc)
 stays_by tokens.WhiteSpace spaced e = absurd (cc)
 stays_by _ spaced e = refl
@@ -184,14 +184,14 @@ words_spelled text spaced (t ∷ ts) = by t.kind refl (λ s. words_spelled text 
     solid e below = subst (AreWordsOf text spaced (t ∷ ts)) (sym (solid_first text spaced t ts e)) (word_and t e (below false))
 
     by : (k : TokenKind) → t.kind ≡ k → ((s : Bool) → AreWordsOf text s ts (words_after text s ts)) → AreWordsOf text spaced (t ∷ ts) (words_after text spaced (t ∷ ts))
-    by tokens.Comment e below = subst (AreWordsOf text spaced (t ∷ ts)) (sym (passes text spaced spaced t ts (ap (λ (k : TokenKind). passed k spaced) e))) (past_comment t e (below spaced))
-    by tokens.WhiteSpace e below = subst (AreWordsOf text spaced (t ∷ ts)) (sym (passes text spaced true t ts (ap (λ (k : TokenKind). passed k spaced) e))) (past_white t e (below true))
+    by tokens.Comment e below = subst (AreWordsOf text spaced (t ∷ ts)) (sym (passes text spaced spaced t ts (ap (λ (k : TokenKind). passed_over k spaced) e))) (past_comment t e (below spaced))
+    by tokens.WhiteSpace e below = subst (AreWordsOf text spaced (t ∷ ts)) (sym (passes text spaced true t ts (ap (λ (k : TokenKind). passed_over k spaced) e))) (past_white t e (below true))
     by _ e below = solid (ap is_blank_kind e) below
 
 pub words_only : (text : List ℕ) (spaced : Bool) (ts : List Token) (ws : List Word) → AreWordsOf text spaced ts ws → ws ≡ words_after text spaced ts
 words_only text spaced _ _ no_words = sym (none_left text spaced)
-words_only text spaced _ _ (past_comment {ts = ts} {ws = ws} t e more) = words_only text spaced ts ws more ∙ sym (passes text spaced spaced t ts (ap (λ (k : TokenKind). passed k spaced) e))
-words_only text spaced _ _ (past_white {ts = ts} {ws = ws} t e more) = words_only text true ts ws more ∙ sym (passes text spaced true t ts (ap (λ (k : TokenKind). passed k spaced) e))
+words_only text spaced _ _ (past_comment {ts = ts} {ws = ws} t e more) = words_only text spaced ts ws more ∙ sym (passes text spaced spaced t ts (ap (λ (k : TokenKind). passed_over k spaced) e))
+words_only text spaced _ _ (past_white {ts = ts} {ws = ws} t e more) = words_only text true ts ws more ∙ sym (passes text spaced true t ts (ap (λ (k : TokenKind). passed_over k spaced) e))
 words_only text spaced _ _ (word_and {ts = ts} {ws = ws} t e more) = ap (λ (vs : List Word). word_of text spaced t ∷ vs) (words_only text false ts ws more) ∙ sym (solid_first text spaced t ts e)
 
 -- ---- from the first to the last of them

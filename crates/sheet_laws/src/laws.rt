@@ -7,9 +7,9 @@ ghost use Rattle.css_tokens.specs.Pieces.{pieces};
 ghost use Rattle.css_tokens.specs.Rows.{mark_kind};
 ghost use Rattle.css_tokens.specs.Table.{Cuts};
 ghost use Rattle.selectors.specs.Forms.{SelectorForm};
-ghost use Rattle.selectors.specs.Words.{reading, words_after};
+ghost use Rattle.selectors.specs.Words.{word_reading, words_after};
 ghost use Rattle.selectors.specs.Grammar.{IsSelectorList};
-ghost use Rattle.selectors.specs.Reading.{list_of};
+ghost use Rattle.selectors.specs.Reading.{selector_list_of};
 ghost use Rattle.sheet_reader.specs.declared.sheet.Property.{Property};
 ghost use Rattle.sheet_reader.specs.declared.sheet.Sheet.{Sheet};
 ghost use Rattle.sheet_reader.specs.Forms.{range, RuleForm};
@@ -36,9 +36,9 @@ pub fn cut_law()
 /// Of all pieces of a text this says what `selectors` says of the text.
 pub fn prelude_law()
     ensures read { (text : List ℕ) (ts : List Token) (ss : List SelectorForm) → AreSelectorList text ts ss
-        → list_of (reading text (words_after text false ts)) ≡ Some ss }
+        → selector_list_of (word_reading text (words_after text false ts)) ≡ Some ss }
     ensures spelled { (text : List ℕ) (ts : List Token) (ss : List SelectorForm)
-        → list_of (reading text (words_after text false ts)) ≡ Some ss → AreSelectorList text ts ss }
+        → selector_list_of (word_reading text (words_after text false ts)) ≡ Some ss → AreSelectorList text ts ss }
     ensures rules { (text : List ℕ) (r : RuleForm) → Contains (sheet_of text).rules r → HasPrelude text r }
     ensures dropped { (text : List ℕ) (prelude : List Token) (ending : EndingForm)
         → ((ss : List SelectorForm) → AreSelectorList text prelude ss → ⊥) → rule_of text (qualified prelude ending) ≡ None }

@@ -7,7 +7,7 @@ use Rattle.std.proofs.lemmas.List.Elements.{All-nil, All-cons}
 use Rattle.std.specs.Map.{lookup, keys_of, remove_entry}
 use Rattle.indexmap.specs.IndexMap.{insert_entry}
 use Rattle.sheet_reader.specs.declared.book.SheetEntry.{SheetEntry}
-use Rattle.sheet_reader.specs.Books.{IsEntry, IsStored, entry_of, ids_of, changed, removed, entries_in, AreEntries}
+use Rattle.sheet_reader.specs.Books.{IsEntry, IsStored, entry_of, ids_of, book_changed, removed, entries_in, AreEntries}
 
 abbrev pub Entries : Type 0
 Entries = List (ℕ × SheetEntry)
@@ -86,14 +86,14 @@ inserted_last v (q ∷ es) all none =
     by true none rest = absurd (cc)
     by false none rest = ap (λ (xs : List SheetEntry). q.1 ∷ xs) (rest none)
 
-pub inserted_changed : (v : SheetEntry) (es : Entries) → AreEntries es → IsSome (entry_of v.id (entries_in es)) → entries_in (insert_entry nat_eq es v.id v) ≡ changed v (entries_in es)
+pub inserted_changed : (v : SheetEntry) (es : Entries) → AreEntries es → IsSome (entry_of v.id (entries_in es)) → entries_in (insert_entry nat_eq es v.id v) ≡ book_changed v (entries_in es)
 inserted_changed v [] all there = absurd (cc)
 inserted_changed v (q ∷ es) all there =
     ap (λ (k : ℕ). entries_in (cond (nat_eq v.id k) ((q.0, v) ∷ es) (q ∷ insert_entry nat_eq es v.id v))) all.0 ∙ by (nat_eq v.id q.1.id) there (inserted_changed v es all.2)
   where
     by : (b : Bool) → IsSome (cond b (Some q.1) (entry_of v.id (entries_in es)))
-        → (IsSome (entry_of v.id (entries_in es)) → entries_in (insert_entry nat_eq es v.id v) ≡ changed v (entries_in es))
-        → entries_in (cond b ((q.0, v) ∷ es) (q ∷ insert_entry nat_eq es v.id v)) ≡ cond b (v ∷ entries_in es) (q.1 ∷ changed v (entries_in es))
+        → (IsSome (entry_of v.id (entries_in es)) → entries_in (insert_entry nat_eq es v.id v) ≡ book_changed v (entries_in es))
+        → entries_in (cond b ((q.0, v) ∷ es) (q ∷ insert_entry nat_eq es v.id v)) ≡ cond b (v ∷ entries_in es) (q.1 ∷ book_changed v (entries_in es))
     by true there rest = refl
     by false there rest = ap (λ (xs : List SheetEntry). q.1 ∷ xs) (rest there)
 

@@ -10,7 +10,7 @@ use Rattle.sheet_reader.specs.Brackets.{open_after, stops_at, until_in, until}
 use Rattle.sheet_reader.specs.Parts.{ending_at, at_rule_at, ending_pieces}
 use Rattle.sheet_reader.specs.Declarations.{ItemForm, passed, candidate, other, item_by, item_at, item_pieces, items_after}
 use Rattle.sheet_reader.specs.Declarations as body
-use Rattle.sheet_reader.specs.Grammar.{outside, AreValues, EndsBefore, is_at_keyword, is_separator, is_ident, IsItem, passed_item, at_rule_item, candidate_item, other_item, AreItems}
+use Rattle.sheet_reader.specs.Grammar.{outside, AreValues, EndsBefore, is_at_keyword, is_separator, is_ident_kind, IsBodyItem, passed_item, at_rule_item, candidate_item, other_item, AreItems}
 use Rattle.sheet_reader.proofs.BracketLemmas.{go_on}
 use Rattle.sheet_reader.proofs.ValueForms.{until_is, until_splits}
 use Rattle.sheet_reader.proofs.PartLemmas.{items_step, item_some}
@@ -19,7 +19,7 @@ use Rattle.sheet_reader.proofs.GrammarForms.{rule_read, same_weaker, at_rule_aga
 record ItemRead (x : ItemForm) (all : List Token) : Type 0 where
   rest : List Token
   is : all ≡ item_pieces x ++ rest
-  form : IsItem x rest
+  form : IsBodyItem x rest
 
 at_rule_item_read : (t : Token) (ts : List Token) → t.kind ≡ tokens.AtKeyword → ItemRead (body.at_rule (at_rule_at t ts)) (t ∷ ts)
 at_rule_item_read t ts e =
@@ -43,12 +43,12 @@ value_read t ts goes =
       stopped = subst (λ (k : ℕ). EndsBefore (outside stops.Semicolon) (drop k (t ∷ ts))) n s.stopped;
     }
 
-candidate_read : (t : Token) (ts : List Token) (m : ℕ) → is_ident t.kind ≡ true → ValueRead t ts m → ItemRead (candidate (take (until stops.Semicolon (t ∷ ts)) (t ∷ ts))) (t ∷ ts)
+candidate_read : (t : Token) (ts : List Token) (m : ℕ) → is_ident_kind t.kind ≡ true → ValueRead t ts m → ItemRead (candidate (take (until stops.Semicolon (t ∷ ts)) (t ∷ ts))) (t ∷ ts)
 candidate_read t ts m kind v =
     let found : ItemRead (candidate (t ∷ take m ts)) (t ∷ ts) = record { rest = drop m ts; is = ap (λ (xs : List Token). t ∷ xs) (sym (take-append-drop m ts)); form = candidate_item t (take m ts) kind v.values v.stopped } in
     subst (λ (k : ℕ). ItemRead (candidate (take k (t ∷ ts))) (t ∷ ts)) (sym v.count) found
 
-other_read : (t : Token) (ts : List Token) (m : ℕ) → is_separator t.kind ≡ false → is_at_keyword t.kind ≡ false → is_ident t.kind ≡ false → ValueRead t ts m → ItemRead (other (take (until stops.Semicolon (t ∷ ts)) (t ∷ ts))) (t ∷ ts)
+other_read : (t : Token) (ts : List Token) (m : ℕ) → is_separator t.kind ≡ false → is_at_keyword t.kind ≡ false → is_ident_kind t.kind ≡ false → ValueRead t ts m → ItemRead (other (take (until stops.Semicolon (t ∷ ts)) (t ∷ ts))) (t ∷ ts)
 other_read t ts m a b c v =
     let found : ItemRead (other (t ∷ take m ts)) (t ∷ ts) = record { rest = drop m ts; is = ap (λ (xs : List Token). t ∷ xs) (sym (take-append-drop m ts)); form = other_item t (take m ts) a b c v.values v.stopped } in
     subst (λ (k : ℕ). ItemRead (other (take k (t ∷ ts))) (t ∷ ts)) (sym v.count) found
@@ -58,8 +58,8 @@ item_by_read tokens.Comment t ts e = record { rest = ts; is = refl; form = passe
 item_by_read tokens.WhiteSpace t ts e = record { rest = ts; is = refl; form = passed_item t (ap is_separator e) }
 item_by_read tokens.Semicolon t ts e = record { rest = ts; is = refl; form = passed_item t (ap is_separator e) }
 item_by_read tokens.AtKeyword t ts e = at_rule_item_read t ts e
-item_by_read tokens.Ident t ts e = candidate_read t ts (until_in stops.Semicolon (open_after [] t.kind) ts) (ap is_ident e) (value_read t ts (ap (stops_at stops.Semicolon) e))
-item_by_read _ t ts e = other_read t ts (until_in stops.Semicolon (open_after [] t.kind) ts) (ap is_separator e) (ap is_at_keyword e) (ap is_ident e) (value_read t ts (ap (stops_at stops.Semicolon) e))
+item_by_read tokens.Ident t ts e = candidate_read t ts (until_in stops.Semicolon (open_after [] t.kind) ts) (ap is_ident_kind e) (value_read t ts (ap (stops_at stops.Semicolon) e))
+item_by_read _ t ts e = other_read t ts (until_in stops.Semicolon (open_after [] t.kind) ts) (ap is_separator e) (ap is_at_keyword e) (ap is_ident_kind e) (value_read t ts (ap (stops_at stops.Semicolon) e))
 
 item_read : (t : Token) (ts : List Token) → ItemRead (item_at t ts) (t ∷ ts)
 unfolding item_at
@@ -90,11 +90,11 @@ separator_again tokens.WhiteSpace t ts e = refl
 separator_again tokens.Semicolon t ts e = refl
 separator_again _ t ts e = absurd (cc)
 
-ident_again : (kind : TokenKind) (t : Token) (ts : List Token) → is_ident kind ≡ true → item_by t ts kind ≡ candidate (take (until stops.Semicolon (t ∷ ts)) (t ∷ ts))
+ident_again : (kind : TokenKind) (t : Token) (ts : List Token) → is_ident_kind kind ≡ true → item_by t ts kind ≡ candidate (take (until stops.Semicolon (t ∷ ts)) (t ∷ ts))
 ident_again tokens.Ident t ts e = refl
 ident_again _ t ts e = absurd (cc)
 
-other_again : (kind : TokenKind) (t : Token) (ts : List Token) → is_separator kind ≡ false → is_at_keyword kind ≡ false → is_ident kind ≡ false → item_by t ts kind ≡ other (take (until stops.Semicolon (t ∷ ts)) (t ∷ ts))
+other_again : (kind : TokenKind) (t : Token) (ts : List Token) → is_separator kind ≡ false → is_at_keyword kind ≡ false → is_ident_kind kind ≡ false → item_by t ts kind ≡ other (take (until stops.Semicolon (t ∷ ts)) (t ∷ ts))
 other_again tokens.Comment t ts a b c = absurd (cc)
 other_again tokens.WhiteSpace t ts a b c = absurd (cc)
 other_again tokens.Semicolon t ts a b c = absurd (cc)
@@ -112,7 +112,7 @@ record ItemAgain (x : ItemForm) (all : List Token) : Type 0 where
   is : all ≡ t ∷ ts
   form : item_at t ts ≡ x
 
-item_again : (x : ItemForm) (rest : List Token) → IsItem x rest → ItemAgain x (item_pieces x ++ rest)
+item_again : (x : ItemForm) (rest : List Token) → IsBodyItem x rest → ItemAgain x (item_pieces x ++ rest)
 unfolding item_at
 item_again _ rest (passed_item t e) = record { t = t; ts = rest; is = refl; form = separator_again t.kind t rest e }
 item_again _ rest (at_rule_item keyword prelude ending e rule) = record {

@@ -10,9 +10,9 @@ use Rattle.css_tokens.specs.declared.token.TokenKind.{TokenKind}
 use Rattle.css_tokens.specs.declared.token.TokenKind.TheVariants as tokens
 use Rattle.css_tokens.specs.Pieces.{pieces}
 use Rattle.selectors.specs.declared.words.Word.{Word}
-use Rattle.selectors.specs.Words.{reading, words_after, is_mark}
+use Rattle.selectors.specs.Words.{word_reading, words_after, is_mark}
 use Rattle.selectors.specs.Forms.{SelectorForm, ◌>>=◌}
-use Rattle.selectors.specs.Reading.{value_of, range_of, list_of, is_over}
+use Rattle.selectors.specs.Reading.{word_value, range_of, selector_list_of, is_over}
 use Rattle.selectors.specs.Ranges.{IsRangeOf, AreBetween, AreTiles}
 use Rattle.selectors.proofs.Choices.{none_some, some_is, bind_some, passed_test, failed_test}
 use Rattle.selectors.proofs.RangeForms.{tiles_whole, tiles_order, tiles_cut, tiles_edge, between_order, between_from, range_at, AreWords, words_between, Spans, range_spans, list_between}
@@ -65,7 +65,7 @@ declared_words text from to (name ∷ []) whole p e s = absurd (none_some p e)
 declared_words text from to (name ∷ colon ∷ value) whole p e s =
     let important = is_important text value in
     let plain = plain_value important value in
-    let spelled = name_by (value_of text name) in
+    let spelled = name_by (word_value text name) in
     let a = passed_test (is_mark 58 colon.kind) (property_by spelled colon important plain whole) p e in
     let b = failed_test (is_over plain && not (is_custom spelled)) (Some (property spelled colon important plain whole)) p a.1 in
     let same = some_is {A = Property} (property spelled colon important plain whole) p b.1 in
@@ -122,8 +122,8 @@ styled : (text : List ℕ) (from seam start end : ℕ) (words : List Word) (insi
     → style_rule text words (range start end) inside ≡ Some r → RuleIn text from end r
 styled text from seam start end words inside r all behind own declared e =
     let of : Range → List SelectorForm → RuleForm = λ prelude selectors. record { prelude = prelude; selectors = selectors; body = range start end; properties = declarations text inside } in
-    let a = bind_some (range_of words) (λ prelude. list_of (reading text words) >>= λ selectors. Some (of prelude selectors)) r e in
-    let b = bind_some (list_of (reading text words)) (λ selectors. Some (of a.0 selectors)) r a.2 in
+    let a = bind_some (range_of words) (λ prelude. selector_list_of (word_reading text words) >>= λ selectors. Some (of prelude selectors)) r e in
+    let b = bind_some (selector_list_of (word_reading text words)) (λ selectors. Some (of a.0 selectors)) r a.2 in
     let same = some_is {A = RuleForm} (of a.0 b.0) r b.2 in
     let s = range_spans text from seam words a.0 a.1 all in
     let is : IsRuleOf text (of a.0 b.0) = record {

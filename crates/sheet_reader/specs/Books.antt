@@ -27,17 +27,17 @@ entry_of id [] = None
 entry_of id (e ∷ es) = if id == e.id then Some e else entry_of id es
 
 -- its place, from 0
-abbrev pub place_in : ℕ → List SheetEntry → Option ℕ
-place_in id es = position (nat_eq id) (ids_of es)
+abbrev pub entry_place : ℕ → List SheetEntry → Option ℕ
+entry_place id es = position (nat_eq id) (ids_of es)
 
 -- no two entries have one id
 abbrev pub AreApart : List SheetEntry → Type 0
 AreApart es = IsDistinct nat_eq (ids_of es)
 
 -- the entries, this one in the place of the one with its id
-abbrev pub changed : SheetEntry → List SheetEntry → List SheetEntry
-changed new [] = []
-changed new (e ∷ es) = if new.id == e.id then new ∷ es else e ∷ changed new es
+abbrev pub book_changed : SheetEntry → List SheetEntry → List SheetEntry
+book_changed new [] = []
+book_changed new (e ∷ es) = if new.id == e.id then new ∷ es else e ∷ book_changed new es
 
 -- the entries without the one with this id, the others in their order
 abbrev pub removed : ℕ → List SheetEntry → List SheetEntry

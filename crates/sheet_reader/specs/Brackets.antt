@@ -33,14 +33,14 @@ is_same Curly Curly = true
 is_same _ _ = false
 
 -- the open brackets without the innermost, where it is the one that is closed
-abbrev pub without : Bracket → List Bracket → List Bracket
-without b [] = []
-without b (first ∷ outer) = if is_same b first then outer else first ∷ outer
+abbrev pub brackets_without : Bracket → List Bracket → List Bracket
+brackets_without b [] = []
+brackets_without b (first ∷ outer) = if is_same b first then outer else first ∷ outer
 
 -- the brackets that are open behind a piece, by the bracket that it opens, or else the one that it closes, if any
 abbrev pub open_by : List Bracket → Option Bracket → Option Bracket → List Bracket
 open_by brackets (Some b) closes = b ∷ brackets
-open_by brackets None (Some b) = without b brackets
+open_by brackets None (Some b) = brackets_without b brackets
 open_by brackets None None = brackets
 
 -- the brackets that are open behind a piece, the innermost first. A closing bracket that closes none is a plain piece.

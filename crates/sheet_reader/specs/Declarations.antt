@@ -13,7 +13,7 @@ use Rattle.selectors.specs.declared.words.Word.{Word}
 use Rattle.selectors.specs.declared.words.WordKind.{WordKind}
 use Rattle.selectors.specs.declared.words.WordKind.TheVariants.{Ident}
 use Rattle.selectors.specs.Words.{words_after, is_mark}
-use Rattle.selectors.specs.Reading.{value_of, lower_of, range_of, is_over}
+use Rattle.selectors.specs.Reading.{word_value, lower_of, range_of, is_over}
 use Rattle.selectors.specs.Forms.{◌>>=◌}
 use Rattle.sheet_reader.specs.declared.sheet.Property.{Property}
 use Rattle.sheet_reader.specs.declared.brackets.Nesting.{Nesting}
@@ -118,7 +118,7 @@ property_by name colon important value whole =
 -- an ident, a colon and a value
 abbrev pub declared_by : List ℕ → List Word → Range → Option Property
 declared_by text (name ∷ colon ∷ value) whole =
-    if is_mark 58 colon.kind then property_by (name_by (value_of text name)) colon (is_important text value) (plain_value (is_important text value) value) whole else None
+    if is_mark 58 colon.kind then property_by (name_by (word_value text name)) colon (is_important text value) (plain_value (is_important text value) value) whole else None
 declared_by text _ whole = None
 
 -- the declaration that these words are, if they are one: its whole goes from the first word to the last one

@@ -26,23 +26,23 @@ abbrev pub is_closing : Bracket → TokenKind → Bool
 is_closing b kind = is_closing_by b (closed_by kind)
 
 -- the component values of this place end before such a piece
-abbrev pub ends : Place → TokenKind → Bool
-ends (outside stop) kind = stops_at stop kind
-ends (inside b) kind = is_closing b kind
+abbrev pub value_ends_before : Place → TokenKind → Bool
+value_ends_before (outside stop) kind = stops_at stop kind
+value_ends_before (inside b) kind = is_closing b kind
 
 -- Component values, and what follows them. One is a piece; or a function or an opening bracket, then component values, up to
 -- and with its own closing bracket or the text's end. Inside it other closing brackets are plain pieces.
 pub data AreValues : Place → List Token → List Token → Type 0 where
   no_values : {place : Place} {rest : List Token} → AreValues place [] rest
-  piece_and : {place : Place} {rest : List Token} (t : Token) (ts : List Token) → ends place t.kind ≡ false → opened_by t.kind ≡ None → AreValues place ts rest → AreValues place (t ∷ ts) rest
-  block_and : {place : Place} {rest all : List Token} (t close : Token) (within ts : List Token) (b : Bracket) → all ≡ t ∷ (within ++ close ∷ ts) → ends place t.kind ≡ false → opened_by t.kind ≡ Some b
+  piece_and : {place : Place} {rest : List Token} (t : Token) (ts : List Token) → value_ends_before place t.kind ≡ false → opened_by t.kind ≡ None → AreValues place ts rest → AreValues place (t ∷ ts) rest
+  block_and : {place : Place} {rest all : List Token} (t close : Token) (within ts : List Token) (b : Bracket) → all ≡ t ∷ (within ++ close ∷ ts) → value_ends_before place t.kind ≡ false → opened_by t.kind ≡ Some b
       → AreValues (inside b) within (close ∷ (ts ++ rest)) → is_closing b close.kind ≡ true → AreValues place ts rest → AreValues place all rest
-  open_block : {place : Place} {rest : List Token} (t : Token) (within : List Token) (b : Bracket) → ends place t.kind ≡ false → opened_by t.kind ≡ Some b → AreValues (inside b) within [] → rest ≡ [] → AreValues place (t ∷ within) rest
+  open_block : {place : Place} {rest : List Token} (t : Token) (within : List Token) (b : Bracket) → value_ends_before place t.kind ≡ false → opened_by t.kind ≡ Some b → AreValues (inside b) within [] → rest ≡ [] → AreValues place (t ∷ within) rest
 
 -- they end there: at the text's end, or before a piece that ends them
 abbrev pub EndsBefore : Place → List Token → Type 0
 EndsBefore place [] = Unit {0}
-EndsBefore place (t ∷ ts) = ends place t.kind ≡ true
+EndsBefore place (t ∷ ts) = value_ends_before place t.kind ≡ true
 
 -- a block's `{`, component values up to a `}`, and that `}` unless the text ends before; or a semicolon; or the text's end
 pub data IsEnding : EndingForm → List Token → Type 0 where
@@ -86,22 +86,22 @@ is_separator Semicolon = true
 is_separator _ = false
 
 -- an ident
-abbrev pub is_ident : TokenKind → Bool
-is_ident Ident = true
-is_ident _ = false
+abbrev pub is_ident_kind : TokenKind → Bool
+is_ident_kind Ident = true
+is_ident_kind _ = false
 
 -- an item of a body, and what follows it
-pub data IsItem : body.ItemForm → List Token → Type 0 where
-  passed_item : {rest : List Token} (t : Token) → is_separator t.kind ≡ true → IsItem (body.passed t) rest
-  at_rule_item : {rest : List Token} (keyword : Token) (prelude : List Token) (ending : EndingForm) → keyword.kind ≡ AtKeyword → IsRule stops.BlockOrSemicolon prelude ending rest → IsItem (body.at_rule (at_rule keyword prelude ending)) rest
-  candidate_item : {rest : List Token} (t : Token) (ts : List Token) → is_ident t.kind ≡ true → AreValues (outside stops.Semicolon) (t ∷ ts) rest → EndsBefore (outside stops.Semicolon) rest → IsItem (body.candidate (t ∷ ts)) rest
-  other_item : {rest : List Token} (t : Token) (ts : List Token) → is_separator t.kind ≡ false → is_at_keyword t.kind ≡ false → is_ident t.kind ≡ false
-      → AreValues (outside stops.Semicolon) (t ∷ ts) rest → EndsBefore (outside stops.Semicolon) rest → IsItem (body.other (t ∷ ts)) rest
+pub data IsBodyItem : body.ItemForm → List Token → Type 0 where
+  passed_item : {rest : List Token} (t : Token) → is_separator t.kind ≡ true → IsBodyItem (body.passed t) rest
+  at_rule_item : {rest : List Token} (keyword : Token) (prelude : List Token) (ending : EndingForm) → keyword.kind ≡ AtKeyword → IsRule stops.BlockOrSemicolon prelude ending rest → IsBodyItem (body.at_rule (at_rule keyword prelude ending)) rest
+  candidate_item : {rest : List Token} (t : Token) (ts : List Token) → is_ident_kind t.kind ≡ true → AreValues (outside stops.Semicolon) (t ∷ ts) rest → EndsBefore (outside stops.Semicolon) rest → IsBodyItem (body.candidate (t ∷ ts)) rest
+  other_item : {rest : List Token} (t : Token) (ts : List Token) → is_separator t.kind ≡ false → is_at_keyword t.kind ≡ false → is_ident_kind t.kind ≡ false
+      → AreValues (outside stops.Semicolon) (t ∷ ts) rest → EndsBefore (outside stops.Semicolon) rest → IsBodyItem (body.other (t ∷ ts)) rest
 
 -- the items of a body, one behind the other
 abbrev pub AreItems : List body.ItemForm → List Token → Type 0
 AreItems [] ts = ts ≡ []
-AreItems (x ∷ xs) ts = (rest : List Token) × (ts ≡ body.item_pieces x ++ rest) × IsItem x rest × AreItems xs rest
+AreItems (x ∷ xs) ts = (rest : List Token) × (ts ≡ body.item_pieces x ++ rest) × IsBodyItem x rest × AreItems xs rest
 
 -- each opening bracket and function has its own closing bracket, properly nested, and each closing bracket its opening one
 pub data AreNested : List Token → Type 0 where

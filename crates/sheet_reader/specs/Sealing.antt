@@ -24,13 +24,13 @@ is_closed_nesting Closed = true
 is_closed_nesting _ = false
 
 -- a piece is there and is of such a kind
-abbrev pub passes : (TokenKind → Bool) → Option Token → Bool
-passes p None = false
-passes p (Some t) = p t.kind
+abbrev pub kind_passes : (TokenKind → Bool) → Option Token → Bool
+kind_passes p None = false
+kind_passes p (Some t) = p t.kind
 
 -- the last piece is there and is of such a kind
 abbrev pub last_is : (TokenKind → Bool) → List Token → Bool
-last_is p ts = passes p (slice_get ts (length ts - 1))
+last_is p ts = kind_passes p (slice_get ts (length ts - 1))
 
 -- the pieces without the last one
 abbrev pub all_but_last : List Token → List Token

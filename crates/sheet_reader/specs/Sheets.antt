@@ -6,9 +6,9 @@ use Rattle.css_tokens.specs.declared.token.TokenKind.{TokenKind}
 use Rattle.css_tokens.specs.declared.token.TokenKind.TheVariants.{Comment}
 use Rattle.css_tokens.specs.Pieces.{pieces}
 use Rattle.selectors.specs.declared.words.Word.{Word}
-use Rattle.selectors.specs.Words.{reading, words_after}
+use Rattle.selectors.specs.Words.{word_reading, words_after}
 use Rattle.selectors.specs.Forms.{◌>>=◌}
-use Rattle.selectors.specs.Reading.{range_of, list_of}
+use Rattle.selectors.specs.Reading.{range_of, selector_list_of}
 use Rattle.sheet_reader.specs.declared.sheet.Sheet.{Sheet}
 use Rattle.sheet_reader.specs.Forms.{range, RuleForm}
 use Rattle.sheet_reader.specs.Parts.{PartForm, passed, at_rule, qualified, EndingForm, text_end, semicolon, block, parts}
@@ -22,7 +22,7 @@ body_end text None = length text
 -- the style rule whose prelude has these words, if they spell a selector list
 abbrev pub style_rule : List ℕ → List Word → Range → List Token → Option RuleForm
 style_rule text words body inside =
-    range_of words >>= λ prelude. list_of (reading text words) >>= λ selectors.
+    range_of words >>= λ prelude. selector_list_of (word_reading text words) >>= λ selectors.
     Some (record { prelude = prelude; selectors = selectors; body = body; properties = declarations text inside })
 
 -- the style rule with this prelude and this ending: none where it ends without a block, or the prelude is no selector list

@@ -2,7 +2,7 @@
 
 ghost use Rattle.std.specs.Prelude.{◌≡◌, All, ◌<◌, ◌++◌, ◌∷◌, [], length, None, Some, IsSome, IfSome, slice_get, option_copied, nat_eq, OnOk, OnErr, IfOk};
 ghost use Rattle.indexmap.specs.IndexMap.{get, shift_remove_entry};
-ghost use Rattle.sheet_reader.specs.Books.{IsEntry, IsStored, AreApart, entry_of, place_in, changed, removed};
+ghost use Rattle.sheet_reader.specs.Books.{IsEntry, IsStored, AreApart, entry_of, entry_place, book_changed, removed};
 
 use crate::rules::read_sheet;
 use crate::sheet::Sheet;
@@ -92,7 +92,7 @@ impl SheetBook {
 
     /// The place of the entry with this id, counted from 0.
     pub fn place_of(&self, id: u64) -> Option<usize>
-        ensures place { result ≡ place_in id self.now }
+        ensures place { result ≡ entry_place id self.now }
         ensures apart { AreApart self.now }
         ensures each { All IsStored self.now }
     {
@@ -134,7 +134,7 @@ impl SheetBook {
         requires entry { IsEntry entry }
         requires there { IsSome (entry_of entry.id self.old) }
         ensures old { entry_of entry.id self.old ≡ Some result }
-        ensures changed { self.new ≡ changed entry self.old }
+        ensures changed { self.new ≡ book_changed entry self.old }
     {
         // Read for the proof alone: a text is UTF-8.
         let _text = entry.text.as_str();

@@ -3,7 +3,7 @@
 ghost use Rattle.std.specs.Prelude.{◌≡◌, ◌<◌, ◌∷◌, ◌++◌, All, length, drop, slice_get, Some, IfOk, string_bytes, option_to_list};
 ghost use Rattle.css_tokens.specs.Marks.{IsPieceOf};
 ghost use Rattle.selectors.specs.Words.{IsWordOf};
-ghost use Rattle.selectors.specs.Reading.{value_of};
+ghost use Rattle.selectors.specs.Reading.{word_value};
 ghost use Rattle.std.specs.List.{AllByRecursion, list_any};
 ghost use Rattle.sheet_reader.specs.Seen.{item_seen};
 ghost use Rattle.sheet_reader.specs.Declarations.{names_important, is_important, plain_value, is_bad_kind, holds_bad, is_custom, name_by, value_range, property_by, declared_by, declaration_of, item_property, item_at, item_pieces, declarations, style_of};
@@ -132,7 +132,7 @@ fn is_custom(name: &str) -> bool
 
 fn name_of(alloc: Global, text: &str, word: Word) -> Result<String, AllocError>
     requires { IsWordOf text.now word }
-    ensures { IfOk result (λ name. string_bytes name ≡ name_by (value_of text.now word)) }
+    ensures { IfOk result (λ name. string_bytes name ≡ name_by (word_value text.now word)) }
 {
     let mut name = value_of(alloc, text, word)?;
     if !is_custom(name.as_str()) {

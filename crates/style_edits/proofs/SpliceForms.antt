@@ -9,7 +9,7 @@ use Rattle.std.proofs.lemmas.List.Elements.{All-nil, All-cons, All-head, All-tai
 use Rattle.selectors.specs.Ranges.{IsRangeOf}
 use Rattle.sheet_reader.specs.declared.book.SheetEntry.{SheetEntry}
 use Rattle.sheet_reader.specs.Forms.{range}
-use Rattle.sheet_reader.specs.Books.{IsEntry, IsStored, entry_of, changed}
+use Rattle.sheet_reader.specs.Books.{IsEntry, IsStored, entry_of, book_changed}
 use Rattle.style_edits.specs.declared.splice.Splice.{Splice}
 use Rattle.style_edits.specs.Splices.{spliced, with_text, spliced_entry, back_in, after_by, after_splice, back_by, back_splice, FitsIn, FitsSplice, TakesSplice}
 use Rattle.style_edits.proofs.BookForms.{entry_id, entry_again, some_there, entry_changed, changed_back}
@@ -91,9 +91,9 @@ entry_back s e own r =
 
 -- where a splice leads, told of the sheet that is found
 record Made (s : Splice) (book : List SheetEntry) (e : SheetEntry) : Type 0 where
-  after : after_splice s book ≡ changed (spliced_entry s e) book
+  after : after_splice s book ≡ book_changed (spliced_entry s e) book
   back : back_splice s book ≡ back_in s e
-  there : entry_of s.sheet (changed (spliced_entry s e) book) ≡ Some (spliced_entry s e)
+  there : entry_of s.sheet (book_changed (spliced_entry s e) book) ≡ Some (spliced_entry s e)
 
 made : (s : Splice) (book : List SheetEntry) (e : SheetEntry) → entry_of s.sheet book ≡ Some e → Made s book e
 made s book e found =
@@ -101,7 +101,7 @@ made s book e found =
     record {
       after = ap (after_by s book) found;
       back = ap (back_by s) found;
-      there = ap (λ (k : ℕ). entry_of k (changed (spliced_entry s e) book)) (sym id)
+      there = ap (λ (k : ℕ). entry_of k (book_changed (spliced_entry s e) book)) (sym id)
           ∙ entry_changed (spliced_entry s e) book (some_there (entry_of e.id book) e (entry_again s.sheet book e found));
     }
 
@@ -115,14 +115,14 @@ takes_back s book t =
     let r = t.fits.is in
     let k = edges e.text s.text s.start s.end t.stored.utf8 t.text r in
     let old = text_back e.text s.text s.start s.end r.order r.back.0 in
-    let own : TakesSplice (back_in s e) (changed (spliced_entry s e) book) = record {
+    let own : TakesSplice (back_in s e) (book_changed (spliced_entry s e) book) = record {
       sheet = spliced_entry s e;
       found = m.there;
       stored = record { entry = record { read = refl; some = t.stored.entry.some; id = t.stored.entry.id; short = t.fits.short }; utf8 = k.utf8 };
       fits = record { is = k.is; short = subst (λ (text : List ℕ). length text ≤ 2 ^ 24) (sym old) t.stored.entry.short };
       text = k.taken;
     } in
-    subst (TakesSplice (back_splice s book)) (sym m.after) (subst (λ (x : Splice). TakesSplice x (changed (spliced_entry s e) book)) (sym m.back) own)
+    subst (TakesSplice (back_splice s book)) (sym m.after) (subst (λ (x : Splice). TakesSplice x (book_changed (spliced_entry s e) book)) (sym m.back) own)
 
 pub leads_back : (s : Splice) (book : List SheetEntry) → TakesSplice s book → after_splice (back_splice s book) (after_splice s book) ≡ book
 leads_back s book t =
@@ -130,8 +130,8 @@ leads_back s book t =
     let m = made s book e t.found in
     let new = spliced_entry s e in
     (λ i. after_splice (m.back i) (m.after i))
-    ∙ ap (after_by (back_in s e) (changed new book)) m.there
-    ∙ ap (λ (x : SheetEntry). changed x (changed new book)) (entry_back s e t.stored.entry t.fits.is)
+    ∙ ap (after_by (back_in s e) (book_changed new book)) m.there
+    ∙ ap (λ (x : SheetEntry). book_changed x (book_changed new book)) (entry_back s e t.stored.entry t.fits.is)
     ∙ changed_back e new book refl (entry_again s.sheet book e t.found)
 
 pub back_back : (s : Splice) (book : List SheetEntry) → TakesSplice s book → back_splice (back_splice s book) (after_splice s book) ≡ s
@@ -147,13 +147,13 @@ back_back s book t =
     ∙ (λ i. record { sheet = s.sheet; start = s.start; end = p.middle i; text = text i })
 
 -- a book's entries are still such
-changed_stored : (new : SheetEntry) (book : List SheetEntry) → IsStored new → All IsStored book → All IsStored (changed new book)
+changed_stored : (new : SheetEntry) (book : List SheetEntry) → IsStored new → All IsStored book → All IsStored (book_changed new book)
 changed_stored new [] own all = All-nil IsStored
 changed_stored new (x ∷ book) own all = by (nat_eq new.id x.id) (All-head IsStored x book all) (All-tail IsStored x book all) (changed_stored new book own (All-tail IsStored x book all))
   where
-    by : (b : Bool) → IsStored x → All IsStored book → All IsStored (changed new book) → All IsStored (cond b (new ∷ book) (x ∷ changed new book))
+    by : (b : Bool) → IsStored x → All IsStored book → All IsStored (book_changed new book) → All IsStored (cond b (new ∷ book) (x ∷ book_changed new book))
     by true first others rest = All-cons IsStored new book own others
-    by false first others rest = All-cons IsStored x (changed new book) first rest
+    by false first others rest = All-cons IsStored x (book_changed new book) first rest
 
 pub stored_after : (s : Splice) (book : List SheetEntry) → TakesSplice s book → All IsStored book → All IsStored (after_splice s book)
 stored_after s book t all =

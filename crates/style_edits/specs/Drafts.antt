@@ -3,7 +3,7 @@ use Rattle.std.specs.Prelude.{◌≡◌, ℕ, [], ◌∷◌, ◌++◌, List, IsS
 use Rattle.std.specs.Str.{IsCharBoundary}
 use Rattle.css_tokens.specs.declared.token.Range.{Range}
 use Rattle.sheet_reader.specs.declared.book.SheetEntry.{SheetEntry}
-use Rattle.sheet_reader.specs.Books.{IsEntry, entry_of, changed}
+use Rattle.sheet_reader.specs.Books.{IsEntry, entry_of, book_changed}
 use Rattle.sheet_reader.specs.Positions.{position, position_of}
 use Rattle.style_edits.specs.declared.drafts.Draft.{Draft}
 use Rattle.style_edits.specs.declared.faults.SheetErr.{SheetErr}
@@ -46,7 +46,7 @@ pub record IsOld (book : List SheetEntry) (e : SheetEntry) : Type 0 where
 -- entries back in their places, the last one first
 abbrev pub olds_restored : List SheetEntry → List SheetEntry → List SheetEntry
 olds_restored [] book = book
-olds_restored (old ∷ olds) book = changed old (olds_restored olds book)
+olds_restored (old ∷ olds) book = book_changed old (olds_restored olds book)
 
 -- what edits come to behind others, whose splices back these are
 abbrev pub with_backs : List Splice → EditsOutcome → EditsOutcome

@@ -5,7 +5,7 @@ use Rattle.selectors.specs.Ranges.{IsRangeOf}
 use Rattle.sheet_reader.specs.declared.book.SheetEntry.{SheetEntry}
 use Rattle.sheet_reader.specs.Forms.{range}
 use Rattle.sheet_reader.specs.Sheets.{sheet_of}
-use Rattle.sheet_reader.specs.Books.{IsStored, entry_of, changed}
+use Rattle.sheet_reader.specs.Books.{IsStored, entry_of, book_changed}
 use Rattle.style_edits.specs.declared.splice.Splice.{Splice}
 
 -- a text with a new part in the place of the bytes from start to end
@@ -27,7 +27,7 @@ back_in s e = record { sheet = s.sheet; start = s.start; end = s.start + length 
 -- a book after a splice of the sheet that was found; as it was where there is none
 abbrev pub after_by : Splice → List SheetEntry → Option SheetEntry → List SheetEntry
 after_by s book None = book
-after_by s book (Some e) = changed (spliced_entry s e) book
+after_by s book (Some e) = book_changed (spliced_entry s e) book
 
 -- a book after a splice: each other sheet as it was, and each in its place
 abbrev pub after_splice : Splice → List SheetEntry → List SheetEntry

@@ -3,7 +3,7 @@
 ghost use Rattle.std.specs.Prelude.{◌≡◌, ◌≤◌, ◌^◌, length, Some, IfOk, IsSome, OnOk, OnErr, ◌++◌, ◌∷◌, [], string_bytes, true, false, nat_le};
 ghost use Rattle.std.specs.Str.{IsCharBoundary};
 ghost use Rattle.selectors.specs.Ranges.{IsRangeOf};
-ghost use Rattle.sheet_reader.specs.Books.{IsEntry, entry_of, changed};
+ghost use Rattle.sheet_reader.specs.Books.{IsEntry, entry_of, book_changed};
 ghost use Rattle.style_edits.specs.Splices.{spliced, spliced_entry, back_in};
 ghost use Rattle.style_edits.specs.Edits.{splice_at, placed_text};
 ghost use Rattle.style_edits.specs.Drafts.{Drafts};
@@ -112,7 +112,7 @@ pub(crate) fn placed(
 pub(crate) fn apply(book: &mut SheetBook, draft: Draft) -> Splice
     requires entry { IsEntry draft.entry }
     requires there { IsSome (entry_of draft.entry.id book.old) }
-    ensures changed { book.new ≡ changed draft.entry book.old }
+    ensures changed { book.new ≡ book_changed draft.entry book.old }
     ensures back { result ≡ draft.back }
 {
     book.change(draft.entry);

@@ -2,7 +2,7 @@
 use Rattle.std.proofs.Common.{◌≡◌, ◌+◌, ◌==◌, Bool, true, false, not, ◌&&◌, ◌||◌, cond, List, [], ◌∷◌, length, map, reverse, Some, None, refl, sym, ap, ◌∙◌, subst, append_assoc, arith}
 use Rattle.std.proofs.lemmas.List.{length-map, length-reverse, map-append, reverse-reverse}
 use Rattle.undo_marks.specs.Marks.{Marks, entry_count, onto_newest, handed_out, noted, noted_singly, edited, marked, crossed_over}
-use Rattle.undo_marks.specs.Changes.{Change, end_of, after_all, change_on, changes_on, back_all, AllTaken, LeadsOn, LeadHere, LeadFrom, IsHistory, backs_of, again_of, kept_of, KeptFor, AreBacks, IsUndo, IsRedo, IsNoUndo, IsNoRedo, StaysKept, KeepsOn}
+use Rattle.undo_marks.specs.Changes.{HistoryEntry, end_of, after_all, change_on, changes_on, back_all, AllTaken, LeadsOn, LeadHere, LeadFrom, IsHistory, backs_of, again_of, kept_of, KeptFor, AreBacks, IsUndo, IsRedo, IsNoUndo, IsNoRedo, StaysKept, KeepsOn}
 use Rattle.undo_marks.proofs.RunLemmas.{undo_group, redo_group, leads_append, leads_end}
 
 -- ---- notes
@@ -34,16 +34,16 @@ and-true false = refl
 module _ {P E : Type 0} (after : E → P → P) (back : E → P → E) (Takes : E → P → Type 0) where
   -- ---- what is kept
 
-  kept-onto_newest : (going : Bool) (past : List (List (Change P E))) (c : Change P E)
+  kept-onto_newest : (going : Bool) (past : List (List (HistoryEntry P E))) (c : HistoryEntry P E)
       → cond going (onto_newest (back c.edit c.before ∷ []) (map (backs_of back) past)) ((back c.edit c.before ∷ []) ∷ map (backs_of back) past) ≡ map (backs_of back) (cond going (onto_newest (c ∷ []) past) ((c ∷ []) ∷ past))
   kept-onto_newest false past c = refl
   kept-onto_newest true [] c = refl
-  kept-onto_newest true (g ∷ gs) c = ap (λ l. l ∷ map (backs_of back) gs) (sym (map-append (λ (e : Change P E). back e.edit e.before) g (c ∷ [])))
+  kept-onto_newest true (g ∷ gs) c = ap (λ l. l ∷ map (backs_of back) gs) (sym (map-append (λ (e : HistoryEntry P E). back e.edit e.before) g (c ∷ [])))
 
-  noted-kept_of : (m : Marks (Change P E)) (c : Change P E) → noted (back c.edit c.before) (kept_of back m) ≡ kept_of back (noted c m)
+  noted-kept_of : (m : Marks (HistoryEntry P E)) (c : HistoryEntry P E) → noted (back c.edit c.before) (kept_of back m) ≡ kept_of back (noted c m)
   noted-kept_of m c = λ i. record { past = kept-onto_newest m.going m.past c i; future = []; going = true; crossed = false }
 
-  crossed_over-kept_of : (m : Marks (Change P E)) → crossed_over (kept_of back m) ≡ kept_of back (crossed_over m)
+  crossed_over-kept_of : (m : Marks (HistoryEntry P E)) → crossed_over (kept_of back m) ≡ kept_of back (crossed_over m)
   crossed_over-kept_of m =
       let past = entry_count-map (backs_of back) (λ g. length-map g (λ e. back e.edit e.before)) m.past in
       let future = entry_count-map (again_of back) (λ g. length-reverse (map (λ e. e.edit) g) ∙ length-map g (λ e. e.edit)) m.future in
@@ -51,12 +51,12 @@ module _ {P E : Type 0} (after : E → P → P) (back : E → P → E) (Takes : 
 
   -- ---- where a noted entry leads
 
-  pub record LeadsOnTo (past : List (List (Change P E))) (page : P) : Type 0 where
+  pub record LeadsOnTo (past : List (List (HistoryEntry P E))) (page : P) : Type 0 where
     pub leads : LeadHere after Takes past page
     pub filled : past ≡ [] → ⊥
 
-  noted_leads : (going : Bool) (past : List (List (Change P E))) (page : P) (e : E) → LeadHere after Takes past page → Takes e page
-      → (let c : Change P E = change_on after e page in LeadsOnTo (cond going (onto_newest (c ∷ []) past) ((c ∷ []) ∷ past)) (after e page))
+  noted_leads : (going : Bool) (past : List (List (HistoryEntry P E))) (page : P) (e : E) → LeadHere after Takes past page → Takes e page
+      → (let c : HistoryEntry P E = change_on after e page in LeadsOnTo (cond going (onto_newest (c ∷ []) past) ((c ∷ []) ∷ past)) (after e page))
   noted_leads false past page e h t = record { leads = ((refl, record { taken = t; made = refl }, refl), h); filled = λ n. cc }
   noted_leads true [] page e h t = record { leads = ((refl, record { taken = t; made = refl }, refl), tt); filled = λ n. cc }
   noted_leads true ([] ∷ gs) page e h t = absurd h
@@ -65,7 +65,7 @@ module _ {P E : Type 0} (after : E → P → P) (back : E → P → E) (Takes : 
     filled = λ n. cc;
   }
 
-  kept_noted : (kept : Marks E) (m : Marks (Change P E)) (page : P) (e : E) → KeptFor after back Takes kept m page → Takes e page
+  kept_noted : (kept : Marks E) (m : Marks (HistoryEntry P E)) (page : P) (e : E) → KeptFor after back Takes kept m page → Takes e page
       → KeptFor after back Takes (noted (back e page) kept) (noted (change_on after e page) m) (after e page)
   kept_noted kept m page e k t =
       let l = noted_leads m.going m.past page e k.history.past t in
@@ -74,20 +74,20 @@ module _ {P E : Type 0} (after : E → P → P) (back : E → P → E) (Takes : 
         history = record { past = l.leads; future = tt; going = λ _. l.filled };
       }
 
-  kept_singly : (es : List E) (kept : Marks E) (m : Marks (Change P E)) (page : P) → KeptFor after back Takes kept m page → AllTaken after Takes es page
+  kept_singly : (es : List E) (kept : Marks E) (m : Marks (HistoryEntry P E)) (page : P) → KeptFor after back Takes kept m page → AllTaken after Takes es page
       → KeptFor after back Takes (noted_singly (back_all after back es page) kept) (noted_singly (changes_on after es page) m) (after_all after es page)
   kept_singly [] kept m page k t = k
   kept_singly (e ∷ es) kept m page k t = kept_singly es _ _ (after e page) (kept_noted kept m page e k t.0) t.1
 
   -- ---- undo and redo
 
-  undo_step : AreBacks after back Takes → (past future : List (List (Change P E))) (going crossed : Bool) (page : P) (es : List E)
-      → (let m : Marks (Change P E) = record { past = past; future = future; going = going; crossed = crossed } in
+  undo_step : AreBacks after back Takes → (past future : List (List (HistoryEntry P E))) (going crossed : Bool) (page : P) (es : List E)
+      → (let m : Marks (HistoryEntry P E) = record { past = past; future = future; going = going; crossed = crossed } in
       IsHistory after Takes m page → handed_out (map (backs_of back) past) ≡ Some es → IsUndo after back Takes es (kept_of back m) m page)
   undo_step laws [] future going crossed page es h out = absurd (cc)
   undo_step laws ([] ∷ gs) future going crossed page es h out = absurd h.past
   undo_step laws ((e ∷ g) ∷ gs) future going crossed page es h out =
-      let m : Marks (Change P E) = record { past = (e ∷ g) ∷ gs; future = future; going = going; crossed = crossed } in
+      let m : Marks (HistoryEntry P E) = record { past = (e ∷ g) ∷ gs; future = future; going = going; crossed = crossed } in
       let here : reverse (backs_of back (e ∷ g)) ≡ es = cc in
       let run = undo_group after back Takes laws (e ∷ g) e.before page h.past.0 in
       let end : page ≡ end_of g e.after = sym (leads_end after Takes (e ∷ g) e.before page h.past.0) in
@@ -106,15 +106,15 @@ module _ {P E : Type 0} (after : E → P → P) (back : E → P → E) (Takes : 
         };
       })
 
-  redo_step : (past future : List (List (Change P E))) (going crossed : Bool) (page : P) (es : List E)
-      → (let m : Marks (Change P E) = record { past = past; future = future; going = going; crossed = crossed } in
+  redo_step : (past future : List (List (HistoryEntry P E))) (going crossed : Bool) (page : P) (es : List E)
+      → (let m : Marks (HistoryEntry P E) = record { past = past; future = future; going = going; crossed = crossed } in
       IsHistory after Takes m page → handed_out (map (again_of back) future) ≡ Some es → IsRedo after back Takes es (kept_of back m) m page)
   redo_step past [] going crossed page es h out = absurd (cc)
   redo_step past ([] ∷ gs) going crossed page es h out = absurd h.future
   redo_step past ((e ∷ g) ∷ gs) going crossed page es h out =
-      let m : Marks (Change P E) = record { past = past; future = (e ∷ g) ∷ gs; going = going; crossed = crossed } in
+      let m : Marks (HistoryEntry P E) = record { past = past; future = (e ∷ g) ∷ gs; going = going; crossed = crossed } in
       let first : reverse (again_of back (e ∷ g)) ≡ es = cc in
-      let here : map (λ (c : Change P E). c.edit) (e ∷ g) ≡ es = sym (reverse-reverse (map (λ (c : Change P E). c.edit) (e ∷ g))) ∙ first in
+      let here : map (λ (c : HistoryEntry P E). c.edit) (e ∷ g) ≡ es = sym (reverse-reverse (map (λ (c : HistoryEntry P E). c.edit) (e ∷ g))) ∙ first in
       let run = redo_group after back Takes (e ∷ g) page (end_of g e.after) h.future.0 in
       subst (λ xs. IsRedo after back Takes xs (kept_of back m) m page) here
       (record {
@@ -131,8 +131,8 @@ module _ {P E : Type 0} (after : E → P → P) (back : E → P → E) (Takes : 
         };
       })
 
-  no_undo_step : (past future : List (List (Change P E))) (going crossed : Bool) (page : P)
-      → (let m : Marks (Change P E) = record { past = past; future = future; going = going; crossed = crossed } in
+  no_undo_step : (past future : List (List (HistoryEntry P E))) (going crossed : Bool) (page : P)
+      → (let m : Marks (HistoryEntry P E) = record { past = past; future = future; going = going; crossed = crossed } in
       handed_out (map (backs_of back) past) ≡ None → IsNoUndo after back Takes (kept_of back m) m page)
   no_undo_step [] future going crossed page out = record {
     none_saved = refl;
@@ -141,8 +141,8 @@ module _ {P E : Type 0} (after : E → P → P) (back : E → P → E) (Takes : 
   }
   no_undo_step (g ∷ gs) future going crossed page out = absurd (cc)
 
-  no_redo_step : (past future : List (List (Change P E))) (going crossed : Bool) (page : P)
-      → (let m : Marks (Change P E) = record { past = past; future = future; going = going; crossed = crossed } in
+  no_redo_step : (past future : List (List (HistoryEntry P E))) (going crossed : Bool) (page : P)
+      → (let m : Marks (HistoryEntry P E) = record { past = past; future = future; going = going; crossed = crossed } in
       handed_out (map (again_of back) future) ≡ None → IsNoRedo after back Takes (kept_of back m) m page)
   no_redo_step past [] going crossed page out = record {
     none_saved = refl;
@@ -153,7 +153,7 @@ module _ {P E : Type 0} (after : E → P → P) (back : E → P → E) (Takes : 
 
   -- ---- all changes
 
-  stays_kept : AreBacks after back Takes → (kept : Marks E) (m : Marks (Change P E)) (page : P) → KeptFor after back Takes kept m page
+  stays_kept : AreBacks after back Takes → (kept : Marks E) (m : Marks (HistoryEntry P E)) (page : P) → KeptFor after back Takes kept m page
       → StaysKept after back Takes kept m page
   stays_kept laws kept m page k = record {
     flags = (ap (λ x. x.going) k.edits, ap (λ x. x.crossed) k.edits);
@@ -193,21 +193,21 @@ module _ {P E : Type 0} (after : E → P → P) (back : E → P → E) (Takes : 
 -- ---- where more edits are taken
 
 module _ {P E : Type 0} (after : E → P → P) (back : E → P → E) (Takes More : E → P → Type 0) (more : (e : E) (page : P) → Takes e page → More e page) where
-  leads_grow : (g : List (Change P E)) (page end : P) → LeadsOn after Takes page g end → LeadsOn after More page g end
+  leads_grow : (g : List (HistoryEntry P E)) (page end : P) → LeadsOn after Takes page g end → LeadsOn after More page g end
   leads_grow [] page end h = h
   leads_grow (e ∷ es) page end h = (h.0, record { taken = more e.edit e.before h.1.taken; made = h.1.made }, leads_grow es e.after end h.2)
 
-  here_grow : (gs : List (List (Change P E))) (page : P) → LeadHere after Takes gs page → LeadHere after More gs page
+  here_grow : (gs : List (List (HistoryEntry P E))) (page : P) → LeadHere after Takes gs page → LeadHere after More gs page
   here_grow [] page h = tt
   here_grow ([] ∷ gs) page h = h
   here_grow ((e ∷ es) ∷ gs) page h = (leads_grow (e ∷ es) e.before page h.0, here_grow gs e.before h.1)
 
-  from_grow : (gs : List (List (Change P E))) (page : P) → LeadFrom after Takes gs page → LeadFrom after More gs page
+  from_grow : (gs : List (List (HistoryEntry P E))) (page : P) → LeadFrom after Takes gs page → LeadFrom after More gs page
   from_grow [] page h = tt
   from_grow ([] ∷ gs) page h = h
   from_grow ((e ∷ es) ∷ gs) page h = (leads_grow (e ∷ es) page (end_of es e.after) h.0, from_grow gs (end_of es e.after) h.1)
 
-  pub kept_grow : (kept : Marks E) (m : Marks (Change P E)) (page : P) → KeptFor after back Takes kept m page → KeptFor after back More kept m page
+  pub kept_grow : (kept : Marks E) (m : Marks (HistoryEntry P E)) (page : P) → KeptFor after back Takes kept m page → KeptFor after back More kept m page
   kept_grow kept m page k = record {
     edits = k.edits;
     history = record { past = here_grow m.past page k.history.past; future = from_grow m.future page k.history.future; going = k.history.going };

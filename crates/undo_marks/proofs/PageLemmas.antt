@@ -1,7 +1,7 @@
 -- Histories of saved pages.
 use Rattle.std.proofs.Common.{◌≡◌, ◌≤◌, ℕ, List, [], ◌∷◌, Some, refl, ap, subst, arith}
 use Rattle.node_tree.specs.Nodes.{Branch}
-use Rattle.page_tree.specs.Pages.{Row, State, IsValid}
+use Rattle.page_tree.specs.Pages.{PageRow, PageValue, IsValid}
 use Rattle.page_tree.specs.Edits.{after_tree, back_tree}
 use Rattle.page_tree.specs.declared.edits.TreeEdit.{TreeEdit}
 use Rattle.page_tree.proofs.EditLemmas.{valid-after}
@@ -10,10 +10,10 @@ use Rattle.page_tree.proofs.BackLemmas.{leads-back, can-later}
 use Rattle.page_tree.proofs.WholeLemmas.{whole-valid, valid-whole, whole-later}
 use Rattle.sheet_reader.specs.declared.book.SheetEntry.{SheetEntry}
 use Rattle.undo_marks.specs.Marks.{Marks, handed_out}
-use Rattle.undo_marks.specs.Changes.{Change, AreBacks, KeepsOn, AllTaken, pages_undone, page_undone, pages_redone, page_redone}
+use Rattle.undo_marks.specs.Changes.{HistoryEntry, AreBacks, KeepsOn, AllTaken, pages_undone, page_undone, pages_redone, page_redone}
 use Rattle.undo_marks.specs.Saved.{Saved}
 use Rattle.undo_marks.specs.SavedEdits.{sheets_after, splice_back, TakesSheet, TakesTree, page_after, way_back, TakesEdit, MeetsNoFault}
-use Rattle.undo_marks.specs.PageLaws.{IsKept, LeadsThrough, SaysOfEdits, SavedPagesLaw}
+use Rattle.undo_marks.specs.PageLaws.{KeepsPages, LeadsThrough, SaysOfEdits, SavedPagesLaw}
 use Rattle.undo_marks.specs.declared.inverse_lists.Inverse.{Inverse}
 use Rattle.undo_marks.specs.declared.inverse_lists.Inverse.TheVariants.{Tree, Sheet}
 use Rattle.undo_marks.proofs.HistoryLemmas.{keeps_on, kept_grow}
@@ -23,10 +23,10 @@ use Rattle.undo_marks.proofs.SheetLemmas.{after-saved, back-saved, taken-saved, 
 -- ---- edits of trees
 
 module _ (next : ℕ) where
-  abbrev page_of : Branch Row → State
+  abbrev page_of : Branch PageRow → PageValue
   page_of tree = record { tree = tree; next = next }
 
-  taken_back : (e : TreeEdit) (tree : Branch Row) → TakesTree next e tree → TakesTree next (back_tree e tree) (after_tree e tree)
+  taken_back : (e : TreeEdit) (tree : Branch PageRow) → TakesTree next e tree → TakesTree next (back_tree e tree) (after_tree e tree)
   taken_back e tree t = record {
     valid =
         subst (λ (n : ℕ). IsValid (record { tree = after_tree e tree; next = n })) (next-stays (page_of tree) e t.taken)
@@ -66,19 +66,19 @@ all_no_fault next (e ∷ es) page t = (no_fault next e page t.0, all_no_fault ne
 pages_keep_on : (next : ℕ) → KeepsOn page_after way_back (TakesEdit next)
 pages_keep_on next = keeps_on page_after way_back (TakesEdit next) (edits_are_backs next)
 
-undo_leads : (next : ℕ) (kept : Marks Inverse) (m : Marks (Change Saved Inverse)) (page : Saved) (es : List Inverse)
-    → IsKept next kept m page → handed_out kept.past ≡ Some es → LeadsThrough es page (pages_undone m.past) (page_undone m.past page)
+undo_leads : (next : ℕ) (kept : Marks Inverse) (m : Marks (HistoryEntry Saved Inverse)) (page : Saved) (es : List Inverse)
+    → KeepsPages next kept m page → handed_out kept.past ≡ Some es → LeadsThrough es page (pages_undone m.past) (page_undone m.past page)
 undo_leads next kept m page es k out =
     let u = ((pages_keep_on next).after_changes kept m page k).after_undo es out in
     record { no_fault = all_no_fault next es page u.taken; through = u.through; ends = u.ends }
 
-redo_leads : (next : ℕ) (kept : Marks Inverse) (m : Marks (Change Saved Inverse)) (page : Saved) (es : List Inverse)
-    → IsKept next kept m page → handed_out kept.future ≡ Some es → LeadsThrough es page (pages_redone m.future) (page_redone m.future page)
+redo_leads : (next : ℕ) (kept : Marks Inverse) (m : Marks (HistoryEntry Saved Inverse)) (page : Saved) (es : List Inverse)
+    → KeepsPages next kept m page → handed_out kept.future ≡ Some es → LeadsThrough es page (pages_redone m.future) (page_redone m.future page)
 redo_leads next kept m page es k out =
     let u = ((pages_keep_on next).after_changes kept m page k).after_redo es out in
     record { no_fault = all_no_fault next es page u.taken; through = u.through; ends = u.ends }
 
-says_of_edits : (page : State) (book : List SheetEntry) → SaysOfEdits page book
+says_of_edits : (page : PageValue) (book : List SheetEntry) → SaysOfEdits page book
 says_of_edits page book = record {
   tree_after = λ e. refl;
   tree_back = λ e. refl;

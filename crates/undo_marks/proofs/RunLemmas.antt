@@ -1,7 +1,7 @@
 -- A group of a history, taken back and done again.
 use Rattle.std.proofs.Common.{◌≡◌, List, [], ◌∷◌, ◌++◌, map, reverse, refl, sym, ap, ◌∙◌, subst}
 use Rattle.std.proofs.lemmas.Grind.{reverse_onto}
-use Rattle.undo_marks.specs.Changes.{Change, saved_after, saved_before, end_of, after_all, pages_on, back_all, AllTaken, IsChange, LeadsOn, backs_of, again_of, AreBacks}
+use Rattle.undo_marks.specs.Changes.{HistoryEntry, saved_after, saved_before, end_of, after_all, pages_on, back_all, AllTaken, IsChange, LeadsOn, backs_of, again_of, AreBacks}
 
 module _ {P E : Type 0} (after : E → P → P) (back : E → P → E) (Takes : E → P → Type 0) where
   -- From the page the edits meet no fault, lead to the end through these pages, and give these inverses.
@@ -44,7 +44,7 @@ module _ {P E : Type 0} (after : E → P → P) (back : E → P → E) (Takes : 
 
   -- ---- a group
 
-  last_back : AreBacks after back Takes → (e : Change P E) (page : P) → e.before ≡ page → IsChange after Takes e → RunsTo (back e.edit e.before ∷ []) e.after page (e.before ∷ []) (e.edit ∷ [])
+  last_back : AreBacks after back Takes → (e : HistoryEntry P E) (page : P) → e.before ≡ page → IsChange after Takes e → RunsTo (back e.edit e.before ∷ []) e.after page (e.before ∷ []) (e.edit ∷ [])
   last_back laws e page here c =
       let b : E = back e.edit e.before in
       let leads : after b e.after ≡ e.before = ap (after b) (sym c.made) ∙ laws.leads_back e.edit e.before c.taken in
@@ -57,7 +57,7 @@ module _ {P E : Type 0} (after : E → P → P) (back : E → P → E) (Takes : 
       }
 
   -- the inverses of a group, the last first, lead back through the pages saved before
-  pub undo_group : AreBacks after back Takes → (g : List (Change P E)) (page end : P) → LeadsOn after Takes page g end → RunsTo (reverse (backs_of back g)) end page (saved_before g) (again_of back g)
+  pub undo_group : AreBacks after back Takes → (g : List (HistoryEntry P E)) (page end : P) → LeadsOn after Takes page g end → RunsTo (reverse (backs_of back g)) end page (saved_before g) (again_of back g)
   undo_group laws [] page end h = record { taken = tt; ends = sym h; through = refl; gives = refl }
   undo_group laws (e ∷ es) page end h =
       runs_along _ _ end page _ _ _ _ (sym (reverse_onto (backs_of back es) (back e.edit e.before) [])) (sym (reverse_onto (map (λ c. c.before) es) e.before [])) (sym (reverse_onto (map (λ c. c.edit) es) e.edit []))
@@ -66,7 +66,7 @@ module _ {P E : Type 0} (after : E → P → P) (back : E → P → E) (Takes : 
       (last_back laws e page h.0 h.1))
 
   -- the edits of a group lead on through the pages saved after
-  pub redo_group : (g : List (Change P E)) (page end : P) → LeadsOn after Takes page g end → RunsTo (map (λ e. e.edit) g) page end (saved_after g) (backs_of back g)
+  pub redo_group : (g : List (HistoryEntry P E)) (page end : P) → LeadsOn after Takes page g end → RunsTo (map (λ e. e.edit) g) page end (saved_after g) (backs_of back g)
   redo_group [] page end h = record { taken = tt; ends = h; through = refl; gives = refl }
   redo_group (e ∷ es) page end h =
       let step : after e.edit page ≡ e.after = ap (after e.edit) (sym h.0) ∙ h.1.made in
@@ -82,10 +82,10 @@ module _ {P E : Type 0} (after : E → P → P) (back : E → P → E) (Takes : 
 -- ---- where a group leads
 
 module _ {P E : Type 0} (after : E → P → P) (Takes : E → P → Type 0) where
-  pub leads_append : (g h : List (Change P E)) (page middle end : P) → LeadsOn after Takes page g middle → LeadsOn after Takes middle h end → LeadsOn after Takes page (g ++ h) end
+  pub leads_append : (g h : List (HistoryEntry P E)) (page middle end : P) → LeadsOn after Takes page g middle → LeadsOn after Takes middle h end → LeadsOn after Takes page (g ++ h) end
   leads_append [] h page middle end a b = subst (λ p. LeadsOn after Takes p h end) (sym a) b
   leads_append (e ∷ es) h page middle end a b = (a.0, a.1, leads_append es h e.after middle end a.2 b)
 
-  pub leads_end : (g : List (Change P E)) (page end : P) → LeadsOn after Takes page g end → end_of g page ≡ end
+  pub leads_end : (g : List (HistoryEntry P E)) (page end : P) → LeadsOn after Takes page g end → end_of g page ≡ end
   leads_end [] page end h = h
   leads_end (e ∷ es) page end h = leads_end es e.after end h.2

@@ -1,7 +1,7 @@
 -- Where the edits of a tree and the splices of sheets keep the three laws, edits of either do.
 use Rattle.std.proofs.Common.{◌≡◌, List, ap}
 use Rattle.node_tree.specs.Nodes.{Branch}
-use Rattle.page_tree.specs.Pages.{Row}
+use Rattle.page_tree.specs.Pages.{PageRow}
 use Rattle.page_tree.specs.declared.edits.TreeEdit.{TreeEdit}
 use Rattle.style_edits.specs.declared.splice.Splice.{Splice}
 use Rattle.undo_marks.specs.declared.inverse_lists.Inverse.{Inverse}
@@ -10,7 +10,7 @@ use Rattle.undo_marks.specs.Saved.{SavedSheet, Saved, after_either, back_either,
 use Rattle.undo_marks.specs.Changes.{AreBacks}
 
 module _
-    (after : TreeEdit → Branch Row → Branch Row) (back : TreeEdit → Branch Row → TreeEdit) (Takes : TreeEdit → Branch Row → Type 0)
+    (after : TreeEdit → Branch PageRow → Branch PageRow) (back : TreeEdit → Branch PageRow → TreeEdit) (Takes : TreeEdit → Branch PageRow → Type 0)
     (spliced : Splice → List SavedSheet → List SavedSheet) (unspliced : Splice → List SavedSheet → Splice) (TakesSplice : Splice → List SavedSheet → Type 0)
     (tree : AreBacks after back Takes) (sheets : AreBacks spliced unspliced TakesSplice)
   where

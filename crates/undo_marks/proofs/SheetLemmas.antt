@@ -7,7 +7,7 @@ use Rattle.sheet_reader.specs.declared.book.Origin.TheVariants.{Regular}
 use Rattle.selectors.specs.Ranges.{IsRangeOf}
 use Rattle.sheet_reader.specs.Forms.{range}
 use Rattle.sheet_reader.specs.Sheets.{sheet_of}
-use Rattle.sheet_reader.specs.Books.{entry_of, changed}
+use Rattle.sheet_reader.specs.Books.{entry_of, book_changed}
 use Rattle.style_edits.specs.declared.splice.Splice.{Splice}
 use Rattle.style_edits.specs.Splices.{spliced, spliced_entry, back_in, after_by, after_splice, back_by, back_splice, FitsIn, FitsSplice, TakesSplice}
 use Rattle.style_edits.proofs.BookForms.{entry_id}
@@ -44,11 +44,11 @@ splice_step s x xs = by (nat_eq s.sheet x.id) refl
     behind is (Some e) found =
         let id : e.id ≡ s.sheet = entry_id s.sheet xs e found in
         let apart : nat_eq e.id x.id ≡ false = ap (λ (n : ℕ). nat_eq n x.id) id ∙ is in
-        ap (λ (c : Bool). cond c (spliced_entry s e ∷ xs) (x ∷ changed (spliced_entry s e) xs)) apart
+        ap (λ (c : Bool). cond c (spliced_entry s e ∷ xs) (x ∷ book_changed (spliced_entry s e) xs)) apart
 
     by : (b : Bool) → nat_eq s.sheet x.id ≡ b
         → after_by s (x ∷ xs) (cond b (Some x) (entry_of s.sheet xs)) ≡ cond b (spliced_entry s x ∷ xs) (x ∷ after_splice s xs)
-    by true is = ap (λ (c : Bool). cond c (spliced_entry s x ∷ xs) (x ∷ changed (spliced_entry s x) xs)) (eq-eqb x.id x.id refl)
+    by true is = ap (λ (c : Bool). cond c (spliced_entry s x ∷ xs) (x ∷ book_changed (spliced_entry s x) xs)) (eq-eqb x.id x.id refl)
     by false is = behind is (entry_of s.sheet xs) refl
 
 pub after-saved : (s : Splice) (book : List SheetEntry) → sheets_after s (saved_sheets book) ≡ saved_sheets (after_splice s book)

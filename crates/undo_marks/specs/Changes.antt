@@ -4,43 +4,43 @@ use Rattle.std.specs.Prelude.{◌≡◌, true, List, [], ◌∷◌, map, reverse
 use Rattle.undo_marks.specs.Marks.{Marks, no_marks, handed_out, noted, noted_singly, edited, marked, crossed_over, undone, redone, past_popped, future_popped, past_pushed, future_pushed}
 
 -- an entry of a history: the page before an edit, the edit, and the page after it
-pub record Change (P E : Type 0) : Type 0 where
+pub record HistoryEntry (P E : Type 0) : Type 0 where
   pub before : P
   pub edit : E
   pub after : P
 
 module _ {P E : Type 0} where
   -- the pages saved on the way through a group, from its start and from its end
-  abbrev pub saved_after : List (Change P E) → List P
+  abbrev pub saved_after : List (HistoryEntry P E) → List P
   saved_after g = map (λ e. e.after) g
 
-  abbrev pub saved_before : List (Change P E) → List P
+  abbrev pub saved_before : List (HistoryEntry P E) → List P
   saved_before g = reverse (map (λ e. e.before) g)
 
   -- the page saved before the first entry of the newest group, and the one saved after its last entry; where there is no
   -- group, the page as it is
-  abbrev pub start_of : List (Change P E) → P → P
+  abbrev pub start_of : List (HistoryEntry P E) → P → P
   start_of [] page = page
   start_of (e ∷ es) page = e.before
 
-  abbrev pub end_of : List (Change P E) → P → P
+  abbrev pub end_of : List (HistoryEntry P E) → P → P
   end_of [] page = page
   end_of (e ∷ es) page = end_of es e.after
 
-  abbrev pub page_undone : List (List (Change P E)) → P → P
+  abbrev pub page_undone : List (List (HistoryEntry P E)) → P → P
   page_undone [] page = page
   page_undone (g ∷ gs) page = start_of g page
 
-  abbrev pub page_redone : List (List (Change P E)) → P → P
+  abbrev pub page_redone : List (List (HistoryEntry P E)) → P → P
   page_redone [] page = page
   page_redone (g ∷ gs) page = end_of g page
 
   -- the pages that an undo and a redo lead through
-  abbrev pub pages_undone : List (List (Change P E)) → List P
+  abbrev pub pages_undone : List (List (HistoryEntry P E)) → List P
   pages_undone [] = []
   pages_undone (g ∷ gs) = saved_before g
 
-  abbrev pub pages_redone : List (List (Change P E)) → List P
+  abbrev pub pages_redone : List (List (HistoryEntry P E)) → List P
   pages_redone [] = []
   pages_redone (g ∷ gs) = saved_after g
 
@@ -58,10 +58,10 @@ module _ {P E : Type 0} (after : E → P → P) where
   pages_on (e ∷ es) page = after e page ∷ pages_on es (after e page)
 
   -- the entry that an edit makes, and those that edits make one after the other
-  abbrev pub change_on : E → P → Change P E
+  abbrev pub change_on : E → P → HistoryEntry P E
   change_on e page = record { before = page; edit = e; after = after e page }
 
-  abbrev pub changes_on : List E → P → List (Change P E)
+  abbrev pub changes_on : List E → P → List (HistoryEntry P E)
   changes_on [] page = []
   changes_on (e ∷ es) page = change_on e page ∷ changes_on es (after e page)
 
@@ -78,29 +78,29 @@ module _ {P E : Type 0} (after : E → P → P) (Takes : E → P → Type 0) whe
   AllTaken (e ∷ es) page = Takes e page × AllTaken es (after e page)
 
   -- the page saved after the edit is what the edit makes of the page saved before it, which takes it
-  pub record IsChange (e : Change P E) : Type 0 where
+  pub record IsChange (e : HistoryEntry P E) : Type 0 where
     pub taken : Takes e.edit e.before
     pub made : after e.edit e.before ≡ e.after
 
   -- the entries lead from the one page to the other
-  abbrev pub LeadsOn : P → List (Change P E) → P → Type 0
+  abbrev pub LeadsOn : P → List (HistoryEntry P E) → P → Type 0
   LeadsOn page [] end = page ≡ end
   LeadsOn page (e ∷ es) end = (e.before ≡ page) × IsChange e × LeadsOn e.after es end
 
   -- the groups lead to this page, the newest last; each has an entry
-  abbrev pub LeadHere : List (List (Change P E)) → P → Type 0
+  abbrev pub LeadHere : List (List (HistoryEntry P E)) → P → Type 0
   LeadHere [] page = Unit {0}
   LeadHere ([] ∷ gs) page = ⊥
   LeadHere ((e ∷ es) ∷ gs) page = LeadsOn e.before (e ∷ es) page × LeadHere gs e.before
 
   -- the groups lead on from this page, the first of them first; each has an entry
-  abbrev pub LeadFrom : List (List (Change P E)) → P → Type 0
+  abbrev pub LeadFrom : List (List (HistoryEntry P E)) → P → Type 0
   LeadFrom [] page = Unit {0}
   LeadFrom ([] ∷ gs) page = ⊥
   LeadFrom ((e ∷ es) ∷ gs) page = LeadsOn page (e ∷ es) (end_of es e.after) × LeadFrom gs (end_of es e.after)
 
   -- a history whose page this is
-  pub record IsHistory (m : Marks (Change P E)) (page : P) : Type 0 where
+  pub record IsHistory (m : Marks (HistoryEntry P E)) (page : P) : Type 0 where
     pub past : LeadHere m.past page
     pub future : LeadFrom m.future page
     pub going : m.going ≡ true → m.past ≡ [] → ⊥
@@ -110,18 +110,18 @@ module _ {P E : Type 0} (after : E → P → P) (Takes : E → P → Type 0) whe
 module _ {P E : Type 0} (back : E → P → E) where
   -- of a group of the past the inverses, in the order of its entries; of a group of the future the edits themselves, in the
   -- order in which taking the group back made them
-  abbrev pub backs_of : List (Change P E) → List E
+  abbrev pub backs_of : List (HistoryEntry P E) → List E
   backs_of g = map (λ e. back e.edit e.before) g
 
-  abbrev pub again_of : List (Change P E) → List E
+  abbrev pub again_of : List (HistoryEntry P E) → List E
   again_of g = reverse (map (λ e. e.edit) g)
 
-  abbrev pub kept_of : Marks (Change P E) → Marks E
+  abbrev pub kept_of : Marks (HistoryEntry P E) → Marks E
   kept_of m = record { past = map backs_of m.past; future = map again_of m.future; going = m.going; crossed = m.crossed }
 
 module _ {P E : Type 0} (after : E → P → P) (back : E → P → E) (Takes : E → P → Type 0) where
   -- The edits kept are those of the history that is promised, and so they lead through its saved pages; the flags are equal.
-  pub record KeptFor (kept : Marks E) (m : Marks (Change P E)) (page : P) : Type 0 where
+  pub record KeptFor (kept : Marks E) (m : Marks (HistoryEntry P E)) (page : P) : Type 0 where
     pub edits : kept ≡ kept_of back m
     pub history : IsHistory after Takes m page
 
@@ -134,32 +134,32 @@ module _ {P E : Type 0} (after : E → P → P) (back : E → P → E) (Takes : 
 
   -- What an undo hands out, applied in order to the page, meets no fault, leads through the saved pages to the one before the
   -- group, and with the inverses that it gives the history is kept on.
-  pub record IsUndo (es : List E) (kept : Marks E) (m : Marks (Change P E)) (page : P) : Type 0 where
+  pub record IsUndo (es : List E) (kept : Marks E) (m : Marks (HistoryEntry P E)) (page : P) : Type 0 where
     pub taken : AllTaken after Takes es page
     pub through : pages_on after es page ≡ pages_undone m.past
     pub ends : after_all after es page ≡ page_undone m.past page
     pub kept_on : KeptFor (future_pushed (back_all after back es page) (past_popped kept)) (undone m) (page_undone m.past page)
 
   -- the same of a redo
-  pub record IsRedo (es : List E) (kept : Marks E) (m : Marks (Change P E)) (page : P) : Type 0 where
+  pub record IsRedo (es : List E) (kept : Marks E) (m : Marks (HistoryEntry P E)) (page : P) : Type 0 where
     pub taken : AllTaken after Takes es page
     pub through : pages_on after es page ≡ pages_redone m.future
     pub ends : after_all after es page ≡ page_redone m.future page
     pub kept_on : KeptFor (past_pushed (back_all after back es page) (future_popped kept)) (redone m) (page_redone m.future page)
 
   -- There is nothing to take back, or to do again: the lists are empty together, and nothing changes.
-  pub record IsNoUndo (kept : Marks E) (m : Marks (Change P E)) (page : P) : Type 0 where
+  pub record IsNoUndo (kept : Marks E) (m : Marks (HistoryEntry P E)) (page : P) : Type 0 where
     pub none_saved : m.past ≡ []
     pub stays : undone m ≡ m
     pub kept_stays : past_popped kept ≡ kept
 
-  pub record IsNoRedo (kept : Marks E) (m : Marks (Change P E)) (page : P) : Type 0 where
+  pub record IsNoRedo (kept : Marks E) (m : Marks (HistoryEntry P E)) (page : P) : Type 0 where
     pub none_saved : m.future ≡ []
     pub stays : redone m ≡ m
     pub kept_stays : future_popped kept ≡ kept
 
   -- Where edits are kept for a history whose page this is, they are after each change of it.
-  pub record StaysKept (kept : Marks E) (m : Marks (Change P E)) (page : P) : Type 0 where
+  pub record StaysKept (kept : Marks E) (m : Marks (HistoryEntry P E)) (page : P) : Type 0 where
     pub flags : (kept.going ≡ m.going) × (kept.crossed ≡ m.crossed)
     pub after_note : (e : E) → Takes e page → KeptFor (noted (back e page) kept) (noted (change_on after e page) m) (after e page)
     -- edits that are noted singly are one edit with these entries
@@ -176,4 +176,4 @@ module _ {P E : Type 0} (after : E → P → P) (back : E → P → E) (Takes : 
   -- At the start, and after a load, nothing is kept for a history without entries, and what is kept stays so.
   pub record KeepsOn : Type 0 where
     pub at_start : (page : P) → KeptFor no_marks no_marks page
-    pub after_changes : (kept : Marks E) (m : Marks (Change P E)) (page : P) → KeptFor kept m page → StaysKept kept m page
+    pub after_changes : (kept : Marks E) (m : Marks (HistoryEntry P E)) (page : P) → KeptFor kept m page → StaysKept kept m page

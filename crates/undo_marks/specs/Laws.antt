@@ -1,7 +1,7 @@
 -- The law of histories.
 use Rattle.std.specs.Prelude.{◌≡◌, Bool, true}
 use Rattle.undo_marks.specs.Marks.{Marks}
-use Rattle.undo_marks.specs.Changes.{Change, AreBacks, KeepsOn, KeptFor}
+use Rattle.undo_marks.specs.Changes.{HistoryEntry, AreBacks, KeepsOn, KeptFor}
 use Rattle.undo_marks.specs.Saved.{Saved}
 use Rattle.undo_marks.specs.declared.inverse_lists.Inverse.{Inverse}
 
@@ -11,7 +11,7 @@ Passes takes e page = takes e page ≡ true
 
 -- Where more edits are taken, as when the next serial grows, edits kept for a history are kept for it still.
 pub record GrowsOn (after : Inverse → Saved → Saved) (back : Inverse → Saved → Inverse) (takes more : Inverse → Saved → Bool) : Type 0 where
-  pub kept_on : (kept : Marks Inverse) (m : Marks (Change Saved Inverse)) (page : Saved)
+  pub kept_on : (kept : Marks Inverse) (m : Marks (HistoryEntry Saved Inverse)) (page : Saved)
       → KeptFor after back (Passes takes) kept m page → KeptFor after back (Passes more) kept m page
 
 -- Whatever the page after an edit is, the edit that takes it back, and the test of which edits a page takes: where they keep

@@ -2,7 +2,7 @@
 use Rattle.std.specs.Prelude.{◌≡◌, ℕ, ◌+◌, ◌^◌, ◌<◌, ◌≤◌, ◌==◌, List, [], ◌∷◌, length, map, slice_range, Option, Some, None, if◌then◌else◌}
 use Rattle.std.specs.Str.{IsUtf8}
 use Rattle.node_tree.specs.Nodes.{Branch}
-use Rattle.page_tree.specs.Pages.{Row, IsValid}
+use Rattle.page_tree.specs.Pages.{PageRow, IsValid}
 use Rattle.page_tree.specs.Edits.{after_tree, back_tree}
 use Rattle.page_tree.specs.EditFaults.{CanApply, first_fault}
 use Rattle.page_tree.specs.declared.edits.TreeEdit.{TreeEdit}
@@ -22,7 +22,7 @@ abbrev pub saved_sheet : SheetEntry → SavedSheet
 saved_sheet e = record { number = e.id; text = e.text }
 
 -- the saved page of a page's tree and its book of sheets
-abbrev pub saved_of : Branch Row → List SheetEntry → Saved
+abbrev pub saved_of : Branch PageRow → List SheetEntry → Saved
 saved_of tree book = record { tree = tree; sheets = map saved_sheet book }
 
 -- ---- splices of saved sheets
@@ -67,7 +67,7 @@ pub record TakesSheet (s : Splice) (sheets : List SavedSheet) : Type 0 where
   pub text : IsUtf8 s.text
 
 -- a page of that tree and that next serial is valid, and takes the edit
-pub record TakesTree (next : ℕ) (e : TreeEdit) (tree : Branch Row) : Type 0 where
+pub record TakesTree (next : ℕ) (e : TreeEdit) (tree : Branch PageRow) : Type 0 where
   pub valid : IsValid (record { tree = tree; next = next })
   pub taken : CanApply next e tree
 

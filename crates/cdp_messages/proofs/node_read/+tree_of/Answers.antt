@@ -3,10 +3,10 @@ use Rattle.serde_json.specs.View.{view, items_view}
 use Rattle.serde_json.specs.declared.value.Value.{Value}
 use Rattle.node_tree.specs.Nodes.{Branch, nodes_of}
 use Rattle.cdp_messages.specs.Told.{Told}
-use Rattle.cdp_messages.specs.NodeData.{tree_of, trees_of}
+use Rattle.cdp_messages.specs.NodeData.{tree_told, trees_of}
 use Rattle.cdp_messages.specs.Raw.{object_in}
 use Rattle.cdp_messages.proofs.TreesRead.{tree_of-childless, trees_turn, trees_end, read_shown, read_hidden, item_depth, shallower, Gives-error}
-use Rattle.cdp_messages.proofs.node_read.+tree_of.Goals as goal
+use Rattle.cdp_messages.proofs.node_read.+tree_told.Goals as goal
 
 pub tree_of-trees_of-requires : goal.tree_of-trees_of-requires
 tree_of-trees_of-requires t c =
@@ -21,7 +21,7 @@ tree_of-returns-in_ok-tree-in-Ok-trees_of t c =
 pub tree_of-returns-in-Err-trees_of : goal.tree_of-returns-in-Err-trees_of
 tree_of-returns-in-Err-trees_of t c =
     let yes : c.in_ok-told.told ≡ true = search rules in
-    Gives-error {X = Vec (Branch Told) Global} (λ trees. nodes_of trees.items) (λ tree. tree) c.in-Err-trees_of.error (trees_of c.args.manner (items_view c.in-Some.values.now)) (tree_of c.args.manner c.args.top (view c.args.value.now))
+    Gives-error {X = Vec (Branch Told) Global} (λ trees. nodes_of trees.items) (λ tree. tree) c.in-Err-trees_of.error (trees_of c.args.manner (items_view c.in-Some.values.now)) (tree_told c.args.manner c.args.top (view c.args.value.now))
     (tree_of-childless c.args.manner c.args.top (view c.args.value.now) (object_in c.in-Ok.raw) (items_view c.in-Some.values.now) c.in-Ok.ensures (sym c.in_ok-told.ensures ∙ yes) (ap (option_map (λ (xs : Bor (List Value)). items_view xs.now)) c.in-Some.is))
     c.in-Err-trees_of.ensures
 

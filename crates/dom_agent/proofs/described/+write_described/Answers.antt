@@ -1,7 +1,7 @@
 use Rattle.std.proofs.Common.{◌++◌, ◌+◌, ◌*◌, ◌<◌, not, ◌&&◌, refl, sym, ap, subst, ◌∙◌, arith}
 use Rattle.node_tree.specs.Nodes.{Nodes, width, node_count, branch_count}
 use Rattle.node_tree.specs.Labels.{holds}
-use Rattle.page_tree.specs.Pages.{Row}
+use Rattle.page_tree.specs.Pages.{PageRow}
 use Rattle.page_tree.proofs.CursorLemmas.{from-end, child-smaller}
 use Rattle.node_binding.specs.Openings.{less, is_spent}
 use Rattle.cdp_messages.specs.Tokens.{data_tokens}
@@ -24,7 +24,7 @@ write_reached-returns-clause-ok t c =
     children_written (shows_children c.args.levels c.args.node.now.row) (nodes_data 0 (shown_to no_ids (less c.args.levels) c.args.node.now.children)) c.args.out.now.tokens
     (ap (λ k. holds k && not (is_spent c.args.levels)) (sym c.kind.ensures) ∙ sym c.is_reached.ensures ∙ c.if-not-is_reached.false) c.in_ok-children.ensures.ok
     (c.in_ok-write_below.ensures.ok
-    ∙ ap (λ (n : Nodes Row). c.children.new.self.tokens ++ data_tokens (nodes_data 0 (shown_to no_ids c.less-left.result n))) c.children-2.ensures
+    ∙ ap (λ (n : Nodes PageRow). c.children.new.self.tokens ++ data_tokens (nodes_data 0 (shown_to no_ids c.less-left.result n))) c.children-2.ensures
     ∙ ap (λ l. c.children.new.self.tokens ++ data_tokens (nodes_data 0 (shown_to no_ids l c.args.node.now.children))) c.less-left.ensures)
 
 pub write_below-loop-i-init : goal.write_below-loop-i-init

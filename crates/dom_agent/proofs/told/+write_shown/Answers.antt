@@ -1,6 +1,6 @@
 use Rattle.std.proofs.Common.{◌≡◌, ◌++◌, ◌+◌, ◌*◌, ◌<◌, unwrap_or, refl, sym, ap, subst, ◌∙◌, arith}
 use Rattle.node_tree.specs.Nodes.{Nodes, width, node_count, branch_count}
-use Rattle.page_tree.specs.Pages.{Row}
+use Rattle.page_tree.specs.Pages.{PageRow}
 use Rattle.page_tree.proofs.CursorLemmas.{from-end, child-smaller}
 use Rattle.node_binding.specs.Cuts.{opens, cut}
 use Rattle.node_binding.specs.Bindings.{opened_in, id_in}
@@ -26,7 +26,7 @@ write_opened-returns-clause-ok t c =
     let b = c.args.binding.now in
     children_written (opens (opened_in b) c.args.node.now.row) (nodes_data c.args.id (cut (opened_in b) (id_in b) c.args.node.now.children)) c.args.out.now.tokens (sym c.is_opened.ensures ∙ c.if-not-is_opened.false)
     c.in_ok-children.ensures.ok
-    (subst (λ (n : Nodes Row). c.write_children.new.out.tokens ≡ c.children.new.self.tokens ++ data_tokens (nodes_data c.args.id (cut (opened_in b) (id_in b) n))) c.children-2.ensures c.in_ok-write_children.ensures.ok)
+    (subst (λ (n : Nodes PageRow). c.write_children.new.out.tokens ≡ c.children.new.self.tokens ++ data_tokens (nodes_data c.args.id (cut (opened_in b) (id_in b) n))) c.children-2.ensures c.in_ok-write_children.ensures.ok)
 
 pub write_children-loop-i-init : goal.write_children-loop-i-init
 write_children-loop-i-init t c =

@@ -3,7 +3,7 @@ use Rattle.replay_script.specs.Forms.{act}
 use Rattle.back_end.specs.Steps.{acts}
 use Rattle.inspect_world.specs.RunStates.{run_turn}
 use Rattle.inspect_world.specs.World.{turned}
-use Rattle.inspect_replay.specs.Prints.{line_of}
+use Rattle.inspect_replay.specs.Prints.{numbered_line}
 use Rattle.inspect_replay.proofs.RunLemmas.{act-carries, act-stops}
 use Rattle.inspect_replay.proofs.FollowLemmas.{kept-run, some-printed}
 use Rattle.inspect_replay.proofs.run.carry_act.Goals as goal
@@ -16,7 +16,7 @@ returns-in-Ok-clause-runs g c =
 pub returns-in-Err-clause-runs : goal.returns-in-Err-clause-runs
 returns-in-Err-clause-runs g c =
     act-stops c.in-Err.stop (g.L.Link.honest c.args.link.now) (g.L.Link.honest c.change_page.new.link) (g.L.Link.up c.args.link.now) (g.L.Link.down c.args.link.now) (g.L.Link.up c.change_page.new.link) (g.L.Link.down c.change_page.new.link)
-    (g.K.Sink.taken c.args.out.now) c.args.ends.now c.change_page.new.self (line_of c.args.number (act c.args.change)) (λ w. turned run_turn (acts c.args.change) w) c.in-Err.ensures.steps
+    (g.K.Sink.taken c.args.out.now) c.args.ends.now c.change_page.new.self (numbered_line c.args.number (act c.args.change)) (λ w. turned run_turn (acts c.args.change) w) c.in-Err.ensures.steps
 
 pub returns-in-Ok-clause-follows : goal.returns-in-Ok-clause-follows
 returns-in-Ok-clause-follows g c = λ state0 up0 down0 run.

@@ -3,7 +3,7 @@ use Rattle.std.proofs.Common.{◌∙◌, sym, subst}
 use Rattle.replay_script.specs.Forms.{LineForm}
 use Rattle.replay_script.specs.Seen.{seen}
 use Rattle.inspect_replay.specs.Followed.{LineTells}
-use Rattle.inspect_replay.specs.Prints.{CarriesLine, line_of}
+use Rattle.inspect_replay.specs.Prints.{CarriesLine, numbered_line}
 use Rattle.inspect_replay.specs.Moments.{moment, scene}
 use Rattle.inspect_replay.proofs.LinesRun.{shows-styles, plain-line, stop-run}
 use Rattle.inspect_replay.proofs.LinesTell.{plain-tells}
@@ -18,14 +18,14 @@ returns-in-Some-clause-runs g c =
     let is = shows-styles (seen c.args.line) c.in-Some.ask (sym c.styles_ask.ensures ∙ c.in-Some.is) in
     subst (λ (form : LineForm). CarriesLine (scene (moment (g.L.Link.honest c.args.link.now) (g.L.Link.up c.args.link.now) (g.L.Link.down c.args.link.now) c.args.ends.now) (g.K.Sink.taken c.args.out.now))
     (scene (moment (g.L.Link.honest c.show_styles.new.link) (g.L.Link.up c.show_styles.new.link) (g.L.Link.down c.show_styles.new.link) c.show_styles.new.ends) (g.K.Sink.taken c.show_styles.new.out))
-    (line_of c.args.number form) c.show_styles.result) (sym is) c.show_styles.ensures.runs
+    (numbered_line c.args.number form) c.show_styles.result) (sym is) c.show_styles.ensures.runs
 
 pub returns-in-Some-clause-tells : goal.returns-in-Some-clause-tells
 returns-in-Some-clause-tells g c =
     let is = shows-styles (seen c.args.line) c.in-Some.ask (sym c.styles_ask.ensures ∙ c.in-Some.is) in
     subst (λ (form : LineForm). LineTells (moment (g.L.Link.honest c.args.link.now) (g.L.Link.up c.args.link.now) (g.L.Link.down c.args.link.now) c.args.ends.now)
     (moment (g.L.Link.honest c.show_styles.new.link) (g.L.Link.up c.show_styles.new.link) (g.L.Link.down c.show_styles.new.link) c.show_styles.new.ends)
-    (line_of c.args.number form) c.show_styles.result) (sym is) c.show_styles.ensures.tells
+    (numbered_line c.args.number form) c.show_styles.result) (sym is) c.show_styles.ensures.tells
 
 pub returns-in-Some-clause-follows : goal.returns-in-Some-clause-follows
 returns-in-Some-clause-follows g c = λ state0 up0 down0 run. c.show_styles.ensures.follows state0 up0 down0 (run-fewer state0 up0 down0 _ _ c.args.ends.now run)

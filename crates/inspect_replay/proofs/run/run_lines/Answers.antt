@@ -3,7 +3,7 @@ use Rattle.pipe_frames.proofs.WholeLemmas.{Appends-nil}
 use Rattle.std.proofs.Common.{◌≡◌, suc, refl, [], ◌∷◌, ap, arith, length}
 use Rattle.replay_script.specs.Seen.{seen}
 use Rattle.inspect_world.specs.Costs.{line_bytes}
-use Rattle.inspect_world.specs.Links.{started}
+use Rattle.inspect_world.specs.Links.{run_started}
 use Rattle.inspect_world.proofs.Inputs.{later_line}
 use Rattle.inspect_replay.specs.Moments.{moment}
 use Rattle.inspect_replay.specs.Followed.{fold_since}
@@ -70,8 +70,8 @@ loop-text-preserved g c =
           carried-on state0 up0 down0 _ _ (moment (g.L.Link.honest c.loop-text.link) (g.L.Link.up c.loop-text.link) (g.L.Link.down c.loop-text.link) c.loop-text.ends)
           (moment (g.L.Link.honest c.carry_out-carried.new.link) (g.L.Link.up c.carry_out-carried.new.link) (g.L.Link.down c.carry_out-carried.new.link) c.carry_out-carried.new.ends)
           c.args.lines c.loop-text.number c.in-Some.text.now more form before c.in-Ok.ensures.good c.in-Ok.ensures.form
-          (carried.follows (started state0 (length more) before.shown) up0 down0 line).0
-          (ok-lacks c.loop-text.number _ (carried.tells (started state0 (length more) before.shown) up0 down0 line).0),
+          (carried.follows (run_started state0 (length more) before.shown) up0 down0 line).0
+          (ok-lacks c.loop-text.number _ (carried.tells (run_started state0 (length more) before.shown) up0 down0 line).0),
       more-printed _ (g.K.Sink.taken c.loop-text.out) _ c.loop-text.invariant.7 carried.some,
     )
 
@@ -87,7 +87,7 @@ returns-in-Err-clause-follows g c = λ state0 up0 down0 run.
     c.in-Some.ensures.some (c.loop-text.invariant.6 state0 up0 down0 run) in (
       tt,
       read-folds c.in-Err.stop c.loop-text.number _ (fold_since up0 down0 (g.L.Link.up c.loop-text.link) (g.L.Link.down c.loop-text.link)) c.in-Err.ensures.bad
-          (run-good (started state0 (length (c.in-Some.text.now ∷ c.next_line.new.lines)) before.shown) up0 down0 (g.L.Link.up c.loop-text.link) (g.L.Link.down c.loop-text.link) c.loop-text.ends before.run),
+          (run-good (run_started state0 (length (c.in-Some.text.now ∷ c.next_line.new.lines)) before.shown) up0 down0 (g.L.Link.up c.loop-text.link) (g.L.Link.down c.loop-text.link) c.loop-text.ends before.run),
       read-tells c.in-Err.stop state0 up0 down0 _ _ c.args.lines c.loop-text.number c.in-Some.text.now c.next_line.new.lines c.loop-text.ends before c.in-Err.ensures.bad,
     )
 
@@ -99,9 +99,9 @@ returns-in-Err-carried-clause-follows g c = λ state0 up0 down0 run.
     let line = run-line state0 before.shown up0 down0 _ _ c.loop-text.ends (c.in-Some.text.now ∷ more) c.in-Some.text.now more refl before.run in
     let stops = c.in-Err-carried.ensures {u = tt} in (
       tt,
-      (stops.follows (started state0 (length more) before.shown) up0 down0 line).1,
+      (stops.follows (run_started state0 (length more) before.shown) up0 down0 line).1,
       line-stops c.in-Err-carried.stop state0 up0 down0 _ _ (fold_since up0 down0 (g.L.Link.up c.carry_out-carried.new.link) (g.L.Link.down c.carry_out-carried.new.link)) c.args.lines c.loop-text.number
-          c.in-Some.text.now more (seen c.in-Ok.line) c.loop-text.ends before c.in-Ok.ensures.good c.in-Ok.ensures.form (stops.tells (started state0 (length more) before.shown) up0 down0 line),
+          c.in-Some.text.now more (seen c.in-Ok.line) c.loop-text.ends before c.in-Ok.ensures.good c.in-Ok.ensures.form (stops.tells (run_started state0 (length more) before.shown) up0 down0 line),
     )
 
 pub returns-clause-follows : goal.returns-clause-follows
@@ -109,6 +109,6 @@ returns-clause-follows g c = λ state0 up0 down0 run.
     let new = moment (g.L.Link.honest c.loop-text.link) (g.L.Link.up c.loop-text.link) (g.L.Link.down c.loop-text.link) c.loop-text.ends in
     let all = carried-all state0 up0 down0 new c.args.lines c.loop-text.number c.loop-text.lines ((c.in_default.ensures {u = tt}).none refl) (c.loop-text.invariant.6 state0 up0 down0 run) in (
       all,
-      run-good (started state0 0 all.shown) up0 down0 (g.L.Link.up c.loop-text.link) (g.L.Link.down c.loop-text.link) c.loop-text.ends all.run,
+      run-good (run_started state0 0 all.shown) up0 down0 (g.L.Link.up c.loop-text.link) (g.L.Link.down c.loop-text.link) c.loop-text.ends all.run,
       carried-tells state0 up0 down0 new c.args.lines all,
     )

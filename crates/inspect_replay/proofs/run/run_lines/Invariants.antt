@@ -5,7 +5,7 @@ use Rattle.inspect_world.specs.Costs.{line_bytes}
 use Rattle.inspect_world.specs.World.{World}
 use Rattle.inspect_world.specs.RunStates.{RunState}
 use Rattle.back_end.specs.States.{State}
-use Rattle.inspect_world.specs.Links.{started}
+use Rattle.inspect_world.specs.Links.{run_started}
 use Rattle.inspect_replay.specs.Followed.{FollowsRun, PrintedSome}
 use Rattle.inspect_replay.specs.Runs.{InPlay}
 use Rattle.inspect_replay.proofs.LinesRun.{Running, whole_of}
@@ -23,7 +23,7 @@ invariant-loop-text g l =
     → InPlay (g.L.Link.honest l.initial.link) up0 down0 (g.L.Link.up l.initial.link) (g.L.Link.down l.initial.link) (line_bytes l.initial.lines) w l.initial.ends
     → Running (g.L.Link.honest l.link) up0 down0 (g.L.Link.up l.link) (g.L.Link.down l.link) (g.K.Sink.taken l.initial.out) (g.K.Sink.taken l.out)
     (whole_of l.initial.lines w) l.number l.lines l.ends)
-    × ((state0 : State) (up0 down0 : Pipe) → FollowsRun (started state0 (length l.initial.lines) []) up0 down0 (g.L.Link.up l.initial.link) (g.L.Link.down l.initial.link) l.initial.ends
+    × ((state0 : State) (up0 down0 : Pipe) → FollowsRun (run_started state0 (length l.initial.lines) []) up0 down0 (g.L.Link.up l.initial.link) (g.L.Link.down l.initial.link) l.initial.ends
     → Carried state0 up0 down0 (g.L.Link.up l.link) (g.L.Link.down l.link) l.initial.lines l.number l.lines l.ends)
     × PrintedSome (g.K.Sink.taken l.initial.out) (g.K.Sink.taken l.out)
 

@@ -8,7 +8,7 @@ use Rattle.inspect_replay.proofs.RunLemmas.{begins, play-begins}
 use Rattle.inspect_replay.proofs.LinesRun.{closed-took, closed-tells, closed-cause, stopped-took}
 use Rattle.inspect_replay.proofs.LinesTell.{closing-tells}
 use Rattle.back_end.specs.States.{loaded_state}
-use Rattle.inspect_world.specs.Links.{started}
+use Rattle.inspect_world.specs.Links.{run_started}
 use Rattle.inspect_replay.proofs.FollowLemmas.{run-first, ends-shown, in-order, no-more}
 use Rattle.inspect_replay.proofs.run.run_loaded.Goals as goal
 
@@ -50,7 +50,7 @@ returns-in-Ok-clause-refused g c =
     first.splitter first.front first.up first.down first.told first.told_pauses in
     let ran = c.in-Ok.ensures {u = c.in-Ok.field-0} in
     let carried = (ran.follows (loaded_state page) up down start).0 in
-    let shown = c.close.ensures.shown (started (loaded_state page) 0 carried.shown) up down carried.run in
+    let shown = c.close.ensures.shown (run_started (loaded_state page) 0 carried.shown) up down carried.run in
     shown.1
 
 pub returns-in-Ok-clause-closes : goal.returns-in-Ok-clause-closes
@@ -64,7 +64,7 @@ returns-in-Ok-clause-closes g c =
     first.splitter first.front first.up first.down first.told first.told_pauses in
     let ran = c.in-Ok.ensures {u = c.in-Ok.field-0} in
     let carried = (ran.follows (loaded_state page) up down start).0 in
-    let shown = c.close.ensures.shown (started (loaded_state page) 0 carried.shown) up down carried.run in
+    let shown = c.close.ensures.shown (run_started (loaded_state page) 0 carried.shown) up down carried.run in
     ends-shown c.close.result (g.K.Sink.taken c.args.out.now) (g.K.Sink.taken c.run_lines.new.out) (g.K.Sink.taken c.close.new.out)
     (g.L.Link.up c.args.link.now) (g.L.Link.down c.args.link.now) (g.L.Link.up c.close.new.link) (g.L.Link.down c.close.new.link) carried.shown ran.some shown.0
 
@@ -79,7 +79,7 @@ returns-in-Ok-clause-replies g c =
     first.splitter first.front first.up first.down first.told first.told_pauses in
     let ran = c.in-Ok.ensures {u = c.in-Ok.field-0} in
     let carried = (ran.follows (loaded_state page) up down start).0 in
-    let shown = c.close.ensures.shown (started (loaded_state page) 0 carried.shown) up down carried.run in
+    let shown = c.close.ensures.shown (run_started (loaded_state page) 0 carried.shown) up down carried.run in
     in-order c.close.result (g.K.Sink.taken c.run_lines.new.out) (g.K.Sink.taken c.close.new.out)
     (g.L.Link.up c.args.link.now) (g.L.Link.down c.args.link.now) (g.L.Link.up c.close.new.link) (g.L.Link.down c.close.new.link) carried.shown shown.0
 
@@ -94,7 +94,7 @@ returns-in-Ok-clause-less g c =
     first.splitter first.front first.up first.down first.told first.told_pauses in
     let ran = c.in-Ok.ensures {u = c.in-Ok.field-0} in
     let carried = (ran.follows (loaded_state page) up down start).0 in
-    let shown = c.close.ensures.shown (started (loaded_state page) 0 carried.shown) up down carried.run in
+    let shown = c.close.ensures.shown (run_started (loaded_state page) 0 carried.shown) up down carried.run in
     no-more c.close.result (g.K.Sink.taken c.run_lines.new.out) (g.K.Sink.taken c.close.new.out)
     (g.L.Link.up c.args.link.now) (g.L.Link.down c.args.link.now) (g.L.Link.up c.close.new.link) (g.L.Link.down c.close.new.link) carried.shown shown.0
 
@@ -120,7 +120,7 @@ returns-in-Ok-clause-tells g c =
     first.splitter first.front first.up first.down first.told first.told_pauses in
     let ran = c.in-Ok.ensures {u = c.in-Ok.field-0} in
     let carried = (ran.follows (loaded_state page) up down start).0 in
-    let shown = c.close.ensures.shown (started (loaded_state page) 0 carried.shown) up down carried.run in
+    let shown = c.close.ensures.shown (run_started (loaded_state page) 0 carried.shown) up down carried.run in
     closing-tells c.close.result _ _ _ _ (loaded_state page) up down _ _ _ _ _ c.args.lines carried c.close.ensures.cause shown.0
 
 pub returns-clause-tells : goal.returns-clause-tells

@@ -1,6 +1,6 @@
 -- After a settle the outline is that of the page.
 use Rattle.replay_script.specs.Forms.{show_front}
-use Rattle.inspect_replay.specs.Prints.{line_of}
+use Rattle.inspect_replay.specs.Prints.{numbered_line}
 use Rattle.inspect_replay.proofs.RunLemmas.{show-carries, show-stops}
 use Rattle.inspect_replay.proofs.FollowLemmas.{kept-run, some-printed}
 use Rattle.inspect_replay.proofs.run.show_front.Goals as goal
@@ -12,7 +12,7 @@ returns-in-Ok-clause-runs g c = λ number.
 
 pub returns-in-Err-clause-runs : goal.returns-in-Err-clause-runs
 returns-in-Err-clause-runs g c = λ number.
-    show-stops c.in-Err.stop (g.L.Link.honest c.args.link.now) (g.L.Link.honest c.settle.new.link) (g.L.Link.up c.args.link.now) (g.L.Link.down c.args.link.now) (g.L.Link.up c.settle.new.link) (g.L.Link.down c.settle.new.link) (g.K.Sink.taken c.args.out.now) c.args.ends.now c.settle.new.self (line_of number show_front)
+    show-stops c.in-Err.stop (g.L.Link.honest c.args.link.now) (g.L.Link.honest c.settle.new.link) (g.L.Link.up c.args.link.now) (g.L.Link.down c.args.link.now) (g.L.Link.up c.settle.new.link) (g.L.Link.down c.settle.new.link) (g.K.Sink.taken c.args.out.now) c.args.ends.now c.settle.new.self (numbered_line number show_front)
     (λ up0 down0 w left run. (c.in-Err.ensures.steps up0 down0 w left run).0)
 
 pub returns-in-Ok-clause-follows : goal.returns-in-Ok-clause-follows

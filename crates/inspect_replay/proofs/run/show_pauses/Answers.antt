@@ -1,14 +1,14 @@
 -- The pauses that came since they were told last are printed, and count as told.
 use Rattle.std.proofs.Common.{length, Ok, Err}
 use Rattle.replay_script.specs.Forms.{show_pauses}
-use Rattle.inspect_replay.specs.Prints.{line_of}
+use Rattle.inspect_replay.specs.Prints.{numbered_line}
 use Rattle.inspect_replay.proofs.RunLemmas.{Untold, show-stops, pauses-carried, pauses-stop}
 use Rattle.inspect_replay.proofs.FollowLemmas.{kept-run, told-run, some-printed}
 use Rattle.inspect_replay.proofs.run.show_pauses.Goals as goal
 
 pub returns-in-Err-clause-runs : goal.returns-in-Err-clause-runs
 returns-in-Err-clause-runs g c = λ number.
-    show-stops c.in-Err.stop (g.L.Link.honest c.args.link.now) (g.L.Link.honest c.settle.new.link) (g.L.Link.up c.args.link.now) (g.L.Link.down c.args.link.now) (g.L.Link.up c.settle.new.link) (g.L.Link.down c.settle.new.link) (g.K.Sink.taken c.args.out.now) c.args.ends.now c.settle.new.self (line_of number show_pauses)
+    show-stops c.in-Err.stop (g.L.Link.honest c.args.link.now) (g.L.Link.honest c.settle.new.link) (g.L.Link.up c.args.link.now) (g.L.Link.down c.args.link.now) (g.L.Link.up c.settle.new.link) (g.L.Link.down c.settle.new.link) (g.K.Sink.taken c.args.out.now) c.args.ends.now c.settle.new.self (numbered_line number show_pauses)
     (λ up0 down0 w left run. (c.in-Err.ensures.steps up0 down0 w left run).0)
 
 pub returns-in-Ok-print_pauses-clause-runs : goal.returns-in-Ok-print_pauses-clause-runs

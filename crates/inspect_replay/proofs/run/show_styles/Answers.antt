@@ -2,7 +2,7 @@
 use Rattle.std.proofs.Common.{option_map}
 use Rattle.replay_script.specs.Forms.{show_styles}
 use Rattle.inspect_replay.specs.Followed.{fold_since}
-use Rattle.inspect_replay.specs.Prints.{line_of}
+use Rattle.inspect_replay.specs.Prints.{numbered_line}
 use Rattle.inspect_replay.proofs.RunLemmas.{show-stops}
 use Rattle.inspect_replay.proofs.LinesRun.{stopped-line, settled-run, settled-stop}
 use Rattle.inspect_replay.proofs.LinesTell.{stopped-tells}
@@ -34,7 +34,7 @@ pub returns-in-Err-clause-runs : goal.returns-in-Err-clause-runs
 returns-in-Err-clause-runs g c =
     stopped-line c.in-Err.stop _ _ _ _ c.args.number (show_styles c.args.ask) (g.L.Link.honest c.args.link.now) (g.L.Link.honest c.settle.new.link) (g.L.Link.up c.args.link.now) (g.L.Link.down c.args.link.now)
     (g.L.Link.up c.settle.new.link) (g.L.Link.down c.settle.new.link) (g.K.Sink.taken c.args.out.now) (g.K.Sink.taken c.args.out.now) c.args.ends.now c.settle.new.self c.in-Err.ensures.cause
-    (show-stops c.in-Err.stop (g.L.Link.honest c.args.link.now) (g.L.Link.honest c.settle.new.link) (g.L.Link.up c.args.link.now) (g.L.Link.down c.args.link.now) (g.L.Link.up c.settle.new.link) (g.L.Link.down c.settle.new.link) (g.K.Sink.taken c.args.out.now) c.args.ends.now c.settle.new.self (line_of c.args.number (show_styles c.args.ask))
+    (show-stops c.in-Err.stop (g.L.Link.honest c.args.link.now) (g.L.Link.honest c.settle.new.link) (g.L.Link.up c.args.link.now) (g.L.Link.down c.args.link.now) (g.L.Link.up c.settle.new.link) (g.L.Link.down c.settle.new.link) (g.K.Sink.taken c.args.out.now) c.args.ends.now c.settle.new.self (numbered_line c.args.number (show_styles c.args.ask))
     (λ up0 down0 w left run. (c.in-Err.ensures.steps up0 down0 w left run).0))
 
 pub returns-in-Err-clause-tells : goal.returns-in-Err-clause-tells

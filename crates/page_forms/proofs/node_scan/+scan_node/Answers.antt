@@ -3,7 +3,7 @@ use Rattle.std.proofs.Common.{rules, ◌≡◌, ◌+◌, ◌-◌, ◌<◌, ◌�
 use Rattle.json.specs.Token.{end_object}
 use Rattle.node_tree.specs.Nodes.{nodes_of}
 use Rattle.node_tree.specs.declared.Kind.TheVariants.{Element}
-use Rattle.page_forms.specs.Spelt.{Spells}
+use Rattle.page_forms.specs.Spelt.{ReadsAs}
 use Rattle.page_forms.specs.NodeForms.{next_token, node_form, child_field}
 use Rattle.page_forms.proofs.SpeltLists.{nodes_turn, nodes_end, value_shorter}
 use Rattle.page_forms.proofs.SpeltObjects.{field_there, element_made, element_node, leaf_spelt}
@@ -37,12 +37,12 @@ scan_node-returns-in_ok-form-2 t c =
 pub scan_nodes-nodes-smaller : goal.scan_nodes-nodes-smaller
 scan_nodes-nodes-smaller t c =
     value_shorter (node_form c.args.levels c.args.top) c.nodes.reader c.scan_node.new.reader c.in_ok-node.node
-    (subst (λ ts. Spells (node_form c.args.levels c.args.top) ts c.in_ok-node.node c.scan_node.new.reader) c.nodes-test.ensures.1 c.in_ok-node.ensures)
+    (subst (λ ts. ReadsAs (node_form c.args.levels c.args.top) ts c.in_ok-node.node c.scan_node.new.reader) c.nodes-test.ensures.1 c.in_ok-node.ensures)
 
 pub scan_nodes-nodes-preserved : goal.scan_nodes-nodes-preserved
 scan_nodes-nodes-preserved t c =
     nodes_turn c.args.levels c.args.top c.args.reader.now c.nodes.reader c.scan_node.new.reader c.nodes.nodes.items c.push.new.self.items c.in_ok-node.node c.nodes.invariant
-    (subst (λ ts. Spells (node_form c.args.levels c.args.top) ts c.in_ok-node.node c.scan_node.new.reader) c.nodes-test.ensures.1 c.in_ok-node.ensures) c.in_ok-push.ensures.items
+    (subst (λ ts. ReadsAs (node_form c.args.levels c.args.top) ts c.in_ok-node.node c.scan_node.new.reader) c.nodes-test.ensures.1 c.in_ok-node.ensures) c.in_ok-push.ensures.items
 
 pub scan_nodes-returns : goal.scan_nodes-returns
 scan_nodes-returns t c = nodes_end c.args.levels c.args.top c.args.reader.now c.nodes.reader c.take_end_array.new.self c.nodes.nodes.items c.nodes.invariant c.nodes-test.ensures

@@ -1,6 +1,6 @@
 -- An edit that the page takes is carried out and answered; one that it does not is refused.
 use Rattle.std.proofs.Common.{◌≡◌, Some, None, ◌++◌, sym, ap, ◌∙◌}
-use Rattle.page_tree.specs.Pages.{State as PageValue}
+use Rattle.page_tree.specs.Pages.{PageValue}
 use Rattle.cdp_messages.specs.Moves.{frames_of_moves}
 use Rattle.back_end.specs.Plans.{node_edit_fault, node_put}
 use Rattle.back_end.specs.Steps.{refusing}

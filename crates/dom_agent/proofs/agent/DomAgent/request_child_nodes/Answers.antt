@@ -1,8 +1,8 @@
 use Rattle.std.proofs.Common.{ℕ, ◌<◌, ◌^◌, Option, sym, ap, subst, ◌∙◌, ◌++◌, map}
 use Rattle.std.specs.FinMap as map_of
 use Rattle.node_tree.specs.Nodes.{alone}
-use Rattle.page_tree.specs.Pages.{State}
-use Rattle.node_binding.specs.Bindings.{Bound, opened_in}
+use Rattle.page_tree.specs.Pages.{PageValue}
+use Rattle.node_binding.specs.Bindings.{BindingValue, opened_in}
 use Rattle.dom_agent.specs.Keepers.{binding_keeper}
 use Rattle.dom_agent.specs.Openings.{opening_of}
 use Rattle.dom_agent.specs.Requests.{requested, known_node, of_children, state_after, answer}
@@ -11,7 +11,7 @@ use Rattle.dom_agent.proofs.agent.DomAgent.request_child_nodes.Goals as goal
 
 pub open_all-requires-clause-containers : goal.open_all-requires-clause-containers
 open_all-requires-clause-containers c =
-    let page : State = c.args.page.now in
+    let page : PageValue = c.args.page.now in
     request_containers page c.valid.ensures c.self.inside.binding c.args.depth (map_of.get c.args.self.now.serials c.args.node) c.in-Some.found c.levels_asked-levels.result (map opening_of c.deref.result.now)
     (c.in-Some.ensures ∙ ap (λ m. known_node (binding_keeper (alone page.tree)) page.tree m (map_of.get c.args.self.now.serials c.args.node)) (sym c.self.view_is))
     c.levels_asked-levels.ensures
@@ -19,16 +19,16 @@ open_all-requires-clause-containers c =
 
 pub open_all-requires-clause-room : goal.open_all-requires-clause-room
 open_all-requires-clause-room c =
-    let page : State = c.args.page.now in
+    let page : PageValue = c.args.page.now in
     request_room page c.valid.ensures c.self.inside.binding c.args.depth (map_of.get c.args.self.now.serials c.args.node) c.in-Some.found c.levels_asked-levels.result (map opening_of c.deref.result.now)
     (c.in-Some.ensures ∙ ap (λ m. known_node (binding_keeper (alone page.tree)) page.tree m (map_of.get c.args.self.now.serials c.args.node)) (sym c.self.view_is))
     c.levels_asked-levels.ensures
     (ap (map opening_of) c.deref.ensures.value ∙ c.in_ok-request_node.ensures ∙ ap (λ l. map opening_of l ++ requested (opened_in c.self.inside.binding) c.levels_asked-levels.result (alone c.in-Some.found)) c.new-openings.ensures.items)
-    (subst (λ (m : Bound). m.next < 2 ^ 52) (sym c.self.view_is) c.requires.room)
+    (subst (λ (m : BindingValue). m.next < 2 ^ 52) (sym c.self.view_is) c.requires.room)
 
 pub returns-clause-known : goal.returns-clause-known
 returns-clause-known c =
-    let page : State = c.args.page.now in
+    let page : PageValue = c.args.page.now in
     let s : Option ℕ = map_of.get c.args.self.now.serials c.args.node in
     request_known page c.valid.ensures c.self.inside.binding c.args.depth s c.in-Some.found c.levels_asked-levels.result (map opening_of c.deref.result.now)
     (c.in-Some.ensures ∙ ap (λ m. known_node (binding_keeper (alone page.tree)) page.tree m s) (sym c.self.view_is))
@@ -39,7 +39,7 @@ returns-clause-known c =
 
 pub returns-clause-sent : goal.returns-clause-sent
 returns-clause-sent c =
-    let page : State = c.args.page.now in
+    let page : PageValue = c.args.page.now in
     let s : Option ℕ = map_of.get c.args.self.now.serials c.args.node in
     request_sent page c.valid.ensures c.self.inside.binding c.args.depth s c.in-Some.found c.levels_asked-levels.result (map opening_of c.deref.result.now)
     (c.in-Some.ensures ∙ ap (λ m. known_node (binding_keeper (alone page.tree)) page.tree m s) (sym c.self.view_is))

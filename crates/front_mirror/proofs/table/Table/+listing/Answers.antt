@@ -3,7 +3,7 @@ use Rattle.std.proofs.Common.{◌≡◌, ◌-◌, ◌++◌, ℕ, suc, refl, ap, 
 use Rattle.node_tree.specs.Nodes.{Nodes}
 use Rattle.node_tree.specs.Seen.{Seen, seen_id}
 use Rattle.cdp_messages.specs.Views.{keys}
-use Rattle.front_mirror.specs.Tables.{trees_in}
+use Rattle.front_mirror.specs.Tables.{table_trees}
 use Rattle.front_mirror.proofs.WalkLemmas.{said_turn, said_end, keys-beside}
 use Rattle.front_mirror.proofs.table.Table.+listing.Goals as goal
 
@@ -18,4 +18,4 @@ pub list_all-returns : goal.list_all-returns
 list_all-returns t c =
     let is : suc (c.args.levels - 1) ≡ c.args.levels = let h = c.loop-id.invariant.some in omega arith in
     said_end (λ (n : Nodes Seen). keys seen_id n) refl keys-beside c.args.self.now (c.args.levels - 1) c.args.roots.now c.loop-id.id-index c.loop-id.ids.items _ (omega (arith, c.loop-id-test.false)) c.loop-id.invariant.listed
-    ∙ ap (λ (l : ℕ). c.args.ids.now.items ++ keys seen_id (trees_in c.args.self.now l c.args.roots.now)) is
+    ∙ ap (λ (l : ℕ). c.args.ids.now.items ++ keys seen_id (table_trees c.args.self.now l c.args.roots.now)) is

@@ -2,7 +2,7 @@
 use Rattle.std.proofs.Common.{◌≡◌, ◌+◌, ◌-◌, ◌*◌, ◌<◌, ◌++◌, suc, drop}
 use Rattle.node_tree.specs.Seen.{seen_id}
 use Rattle.cdp_messages.specs.Views.{keys}
-use Rattle.front_mirror.specs.Tables.{trees_in}
+use Rattle.front_mirror.specs.Tables.{table_trees}
 use Rattle.front_mirror.proofs.table.Table.+listing.Given as goal
 
 abbrev pub decreases-list_one : goal.decreases-list_one
@@ -15,6 +15,6 @@ abbrev pub invariant-list_all-loop-id : goal.invariant-list_all-loop-id
 invariant-list_all-loop-id l = record {
   some : 0 < l.levels;
   listed :
-      l.ids.items ++ keys seen_id (trees_in l.self (suc (l.levels - 1)) (drop l.id-index l.roots))
-      ≡ l.initial.ids.items ++ keys seen_id (trees_in l.self (suc (l.levels - 1)) l.roots);
+      l.ids.items ++ keys seen_id (table_trees l.self (suc (l.levels - 1)) (drop l.id-index l.roots))
+      ≡ l.initial.ids.items ++ keys seen_id (table_trees l.self (suc (l.levels - 1)) l.roots);
 }

@@ -3,7 +3,7 @@ use Rattle.std.proofs.Common.{◌≡◌, ◌-◌, ◌++◌, ℕ, suc, refl, ap, 
 use Rattle.node_tree.specs.Nodes.{Nodes}
 use Rattle.node_tree.specs.Seen.{Seen}
 use Rattle.front_mirror.specs.Outline.{lines_at, seen_line}
-use Rattle.front_mirror.specs.Tables.{trees_in}
+use Rattle.front_mirror.specs.Tables.{table_trees}
 use Rattle.front_mirror.proofs.WalkLemmas.{said_turn, said_end, lines-beside}
 use Rattle.front_mirror.proofs.table.Table.+writing.Goals as goal
 
@@ -19,4 +19,4 @@ write_all-returns t c =
     let is : suc (c.args.levels - 1) ≡ c.args.levels = let h = c.loop-id.invariant.some in omega arith in
     said_end (λ (n : Nodes Seen). lines_at seen_line c.args.level n) refl (lines-beside c.args.level) c.args.self.now (c.args.levels - 1) c.args.roots.now c.loop-id.id-index c.loop-id.out.items _ (omega (arith, c.loop-id-test.false))
     c.loop-id.invariant.written
-    ∙ ap (λ (l : ℕ). c.args.out.now.items ++ lines_at seen_line c.args.level (trees_in c.args.self.now l c.args.roots.now)) is
+    ∙ ap (λ (l : ℕ). c.args.out.now.items ++ lines_at seen_line c.args.level (table_trees c.args.self.now l c.args.roots.now)) is

@@ -1,7 +1,7 @@
 -- The lines so far, before those of the nodes that are left.
 use Rattle.std.proofs.Common.{◌≡◌, ◌+◌, ◌-◌, ◌*◌, ◌<◌, ◌++◌, suc, drop}
 use Rattle.front_mirror.specs.Outline.{lines_at, seen_line}
-use Rattle.front_mirror.specs.Tables.{trees_in}
+use Rattle.front_mirror.specs.Tables.{table_trees}
 use Rattle.front_mirror.proofs.table.Table.+writing.Given as goal
 
 abbrev pub decreases-write_one : goal.decreases-write_one
@@ -14,6 +14,6 @@ abbrev pub invariant-write_all-loop-id : goal.invariant-write_all-loop-id
 invariant-write_all-loop-id l = record {
   some : 0 < l.levels;
   written :
-      l.out.items ++ lines_at seen_line l.level (trees_in l.self (suc (l.levels - 1)) (drop l.id-index l.roots))
-      ≡ l.initial.out.items ++ lines_at seen_line l.level (trees_in l.self (suc (l.levels - 1)) l.roots);
+      l.out.items ++ lines_at seen_line l.level (table_trees l.self (suc (l.levels - 1)) (drop l.id-index l.roots))
+      ≡ l.initial.out.items ++ lines_at seen_line l.level (table_trees l.self (suc (l.levels - 1)) l.roots);
 }

@@ -1,7 +1,7 @@
 -- A tree comes in, or all stays as it was.
 use Rattle.std.proofs.Common.{sym, ap, ◌∙◌}
 use Rattle.node_tree.specs.Nodes.{Branch}
-use Rattle.page_tree.specs.Pages.{Row}
+use Rattle.page_tree.specs.Pages.{PageRow}
 use Rattle.page_tree.proofs.ArenaSteps.{either_way}
 use Rattle.page_tree.proofs.ArenaEdits.{attach_key, attach_fresh, tree_attached, same_page, on_ok, on_err}
 use Rattle.page_tree.proofs.pages.Page.attach.Goals as goal
@@ -25,4 +25,4 @@ returns-clause-ok c =
 
 pub returns-clause-err : goal.returns-clause-err
 returns-clause-err c =
-    on_err c.attach.result _ _ (λ same. ap (λ (t : Branch Row). record { tree = t; next = c.self.inside.next }) (same_page c.self.inside.arena c.attach.new.self c.self.inside.root c.self.inside.next c.self.invariant same c.attach.ensures.filed).0 ∙ c.self.view_is) c.attach.ensures.err
+    on_err c.attach.result _ _ (λ same. ap (λ (t : Branch PageRow). record { tree = t; next = c.self.inside.next }) (same_page c.self.inside.arena c.attach.new.self c.self.inside.root c.self.inside.next c.self.invariant same c.attach.ensures.filed).0 ∙ c.self.view_is) c.attach.ensures.err

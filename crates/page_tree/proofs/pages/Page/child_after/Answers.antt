@@ -1,15 +1,15 @@
 -- The slot right after.
 use Rattle.std.proofs.Common.{ap, sym, ◌∙◌}
 use Rattle.std.specs.Option.{option_copied}
-use Rattle.page_tree.specs.Pages.{State}
+use Rattle.page_tree.specs.Pages.{PageValue}
 use Rattle.page_tree.proofs.PlaceLemmas.{reads-there}
 use Rattle.page_tree.proofs.FaultLemmas.{reads-next}
 use Rattle.page_tree.proofs.pages.Page.child_after.Goals as goal
 
 pub unreachable-requires : goal.unreachable-requires
-unreachable-requires c = reads-there c.self.inside.arena c.self.inside.root c.self.inside.next c.self.invariant c.args.self.now.tree (ap (λ (p : State). p.tree) c.self.view_is) c.args.parent c.requires (sym c.find.ensures ∙ ap (λ o. option_copied o) c.in-None.is)
+unreachable-requires c = reads-there c.self.inside.arena c.self.inside.root c.self.inside.next c.self.invariant c.args.self.now.tree (ap (λ (p : PageValue). p.tree) c.self.view_is) c.args.parent c.requires (sym c.find.ensures ∙ ap (λ o. option_copied o) c.in-None.is)
 
 pub returns : goal.returns
 returns c =
     c.next_sibling.ensures
-    ∙ reads-next c.self.inside.arena c.self.inside.root c.self.inside.next c.self.invariant c.args.self.now.tree (ap (λ (p : State). p.tree) c.self.view_is) c.args.parent c.in-Some.slot.now (sym c.find.ensures ∙ ap (λ o. option_copied o) c.in-Some.is) c.args.serial
+    ∙ reads-next c.self.inside.arena c.self.inside.root c.self.inside.next c.self.invariant c.args.self.now.tree (ap (λ (p : PageValue). p.tree) c.self.view_is) c.args.parent c.in-Some.slot.now (sym c.find.ensures ∙ ap (λ o. option_copied o) c.in-Some.is) c.args.serial

@@ -1,7 +1,7 @@
 -- A tree goes out, or all stays as it was.
 use Rattle.std.proofs.Common.{sym, ap, subst, ◌∙◌}
 use Rattle.std.specs.Option.{option_copied}
-use Rattle.page_tree.specs.Pages.{State, node_at}
+use Rattle.page_tree.specs.Pages.{PageValue, node_at}
 use Rattle.page_tree.specs.Arenas.{IsPage}
 use Rattle.page_tree.specs.declared.arenas.Arena.{Arena}
 use Rattle.page_tree.proofs.ArenaEdits.{detach_slot, detach_parent, detach_key, detach_tree, tree_detached, if_ok, if_both, if_way}
@@ -35,5 +35,5 @@ pub returns-clause-tree : goal.returns-clause-tree
 returns-clause-tree c =
     let at = sym c.find.ensures ∙ ap (λ o. option_copied o) c.in-Some.is in
     if_ok c.detach.result _ _
-    (λ w copied. detach_tree c.self.inside.arena c.self.inside.arena c.self.inside.root c.self.inside.next c.self.invariant c.args.self.now c.self.view_is c.args.serial c.in-Some.slot.now w at (copied c.in-Some.slot.now at) ∙ ap (λ (q : State). node_at c.args.serial q.tree) c.self.view_is)
+    (λ w copied. detach_tree c.self.inside.arena c.self.inside.arena c.self.inside.root c.self.inside.next c.self.invariant c.args.self.now c.self.view_is c.args.serial c.in-Some.slot.now w at (copied c.in-Some.slot.now at) ∙ ap (λ (q : PageValue). node_at c.args.serial q.tree) c.self.view_is)
     c.detach.ensures.tree

@@ -3,14 +3,14 @@ use Rattle.std.proofs.Common.{◌≡◌, ◌+◌, suc, nat_le, ap, ◌∙◌, ar
 use Rattle.node_tree.specs.Nodes.{Branch, alone, height}
 use Rattle.node_tree.proofs.NodeLemmas.{height-map_rows}
 use Rattle.page_tree.specs.Forms.{max_level}
-use Rattle.page_tree.specs.Pages.{Row, row_label, node_at, level_at}
+use Rattle.page_tree.specs.Pages.{PageRow, row_label, node_at, level_at}
 use Rattle.page_tree.specs.Edits.{form_at}
 use Rattle.page_tree.proofs.FaultLemmas.{low_below}
 use Rattle.page_tree.proofs.pages.Page.is_low_node.Goals as goal
 
 pub returns : goal.returns
 returns c =
-    let below = c.children.ensures ∙ ap (λ (b : Branch Row). b.children) c.node.ensures in
+    let below = c.children.ensures ∙ ap (λ (b : Branch PageRow). b.children) c.node.ensures in
     let level = level_at c.args.parent c.args.self.now.tree in
     let tall : suc (height c.children.result) ≡ height (alone (form_at c.args.node c.args.self.now.tree)) = omega (arith, ap height below, height-map_rows row_label (node_at c.args.node c.args.self.now.tree).children) in
     c.are_children_within.ensures

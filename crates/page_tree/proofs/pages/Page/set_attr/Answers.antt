@@ -2,7 +2,7 @@
 use Rattle.std.proofs.Common.{refl, sym, ap, ◌∙◌}
 use Rattle.node_tree.specs.Nodes.{Branch}
 use Rattle.node_tree.specs.Labels.{Label, value_of}
-use Rattle.page_tree.specs.Pages.{Row}
+use Rattle.page_tree.specs.Pages.{PageRow}
 use Rattle.page_tree.proofs.ArenaSteps.{either_way, filed_turned, filed_same}
 use Rattle.page_tree.proofs.ArenaEdits.{attr_there, attr_ascends, attr_set, label_here, same_page, on_ok, on_err, if_ok}
 use Rattle.page_tree.proofs.pages.Page.set_attr.Goals as goal
@@ -37,5 +37,5 @@ returns-clause-was c =
 pub returns-clause-err : goal.returns-clause-err
 returns-clause-err c =
     on_err c.set_attr.result _ _
-    (λ same. ap (λ (t : Branch Row). record { tree = t; next = c.self.inside.next }) (same_page c.self.inside.arena c.set_attr.new.self c.self.inside.root c.self.inside.next c.self.invariant same (filed_same c.self.inside.arena c.set_attr.new.self same c.set_attr.ensures.keys c.self.invariant.arena.files)).0 ∙ c.self.view_is)
+    (λ same. ap (λ (t : Branch PageRow). record { tree = t; next = c.self.inside.next }) (same_page c.self.inside.arena c.set_attr.new.self c.self.inside.root c.self.inside.next c.self.invariant same (filed_same c.self.inside.arena c.set_attr.new.self same c.set_attr.ensures.keys c.self.invariant.arena.files)).0 ∙ c.self.view_is)
     c.set_attr.ensures.err

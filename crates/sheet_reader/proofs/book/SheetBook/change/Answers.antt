@@ -1,7 +1,7 @@
 use Rattle.std.proofs.Common.{List, ap, sym, subst, ◌∙◌}
 use Rattle.std.specs.Prelude.{IsSome}
 use Rattle.sheet_reader.specs.declared.book.SheetEntry.{SheetEntry}
-use Rattle.sheet_reader.specs.Books.{entry_of, entries_in, changed, AreEntries}
+use Rattle.sheet_reader.specs.Books.{entry_of, entries_in, book_changed, AreEntries}
 use Rattle.sheet_reader.proofs.BookLemmas.{stored, Entries, found, missing, inserted_are, inserted_changed}
 use Rattle.sheet_reader.proofs.book.SheetBook.change.Goals as goal
 
@@ -16,7 +16,7 @@ pub returns-clause-changed : goal.returns-clause-changed
 returns-clause-changed c =
     ap (λ (es : Entries). entries_in es) c.in-Ok-Some.ensures.entries
     ∙ inserted_changed c.args.entry c.self.inside.entries.entries c.self.invariant (subst (λ (xs : List SheetEntry). IsSome (entry_of c.args.entry.id xs)) (sym c.self.view_is) c.requires.there)
-    ∙ ap (changed c.args.entry) c.self.view_is
+    ∙ ap (book_changed c.args.entry) c.self.view_is
 
 pub unreachable-requires : goal.unreachable-requires
 unreachable-requires c =
