@@ -12,7 +12,7 @@ use Rattle.page_tree.specs.EditFaults.{is_live, CanApply, edit_faults}
 use Rattle.page_tree.specs.declared.edits.TreeEdit.{TreeEdit}
 use Rattle.page_tree.specs.declared.edits.TreeEdit.TheVariants.{SetAttr, DropAttr, SetText, Attach, Detach}
 use Rattle.page_tree.proofs.EditLemmas.{clear}
-use Rattle.page_tree.proofs.FormedLemmas.{left}
+use Rattle.node_tree.proofs.PairLemmas.{left}
 use Rattle.node_binding.specs.Counts.{times}
 use Rattle.node_binding.specs.Cuts.{opens, known, cut}
 use Rattle.node_binding.specs.Sessions.{Session, session_ids, cut_by}

@@ -14,7 +14,7 @@ use Rattle.page_tree.specs.declared.edits.TreeEdit.{TreeEdit}
 use Rattle.page_tree.specs.declared.edits.TreeEdit.TheVariants.{SetAttr, DropAttr, SetText, Attach, Detach}
 use Rattle.page_tree.proofs.ChildLemmas.{tally-inserted, inserted-before, inserted-taken}
 use Rattle.page_tree.proofs.EditLemmas.{clear, changed, serial-live, Parted, parted}
-use Rattle.page_tree.proofs.FormedLemmas.{left}
+use Rattle.node_tree.proofs.PairLemmas.{left}
 use Rattle.page_tree.proofs.WholeLemmas.{whole-valid}
 use Rattle.dom_agent.proofs.SetLemmas.{there_once}
 use Rattle.dom_breakpoints.specs.declared.pauses.WatchKind.{WatchKind}

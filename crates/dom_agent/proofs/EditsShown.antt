@@ -13,7 +13,7 @@ use Rattle.page_tree.specs.Edits.{put_before, taken_out, relabelled, with_attrib
 use Rattle.page_tree.specs.EditFaults.{is_live, CanApply, edit_faults}
 use Rattle.page_tree.specs.declared.edits.TreeEdit.TheVariants.{SetAttr, DropAttr, SetText, Attach, Detach}
 use Rattle.page_tree.proofs.ChildLemmas.{Inserted, tally-inserted, inserted-taken}
-use Rattle.page_tree.proofs.FormedLemmas.{left}
+use Rattle.node_tree.proofs.PairLemmas.{left}
 use Rattle.page_tree.proofs.WholeLemmas.{Whole, whole-valid, inserted-sound}
 use Rattle.page_tree.proofs.EditLemmas.{clear, changed, serial-live, Parted, parted, fits-live, whole-after}
 use Rattle.page_tree.proofs.BackLemmas.{turned-node}

@@ -10,7 +10,7 @@ use Rattle.node_tree.specs.Keys.{tally}
 use Rattle.node_tree.specs.Labels.{Pair, is_document, is_element, holds, has_name, is_empty as is_nothing, is_ascending, is_formed_label, is_named_label}
 use Rattle.node_tree.specs.Seen.{Hold, Seen, leaf, counted, opened, is_opened}
 use Rattle.node_tree.proofs.NodeLemmas.{height-map_rows, width_le-node_count}
-use Rattle.page_tree.specs.Forms.{may_stand, is_bare as holds_none, are_formed, are_named}
+use Rattle.page_tree.specs.Forms.{may_stand, are_formed, are_named}
 use Rattle.page_tree.specs.Pages.{PageRow, row_label, row_serial, PageValue, IsValid, times_in}
 use Rattle.node_binding.specs.Counts.{times, last_standing}
 use Rattle.node_binding.specs.Cuts.{opens, known, hold_cut, seen_of, cut}
@@ -106,9 +106,9 @@ module _ (o : ℕ → Bool) (i : ℕ → ℕ) (small : (s : ℕ) → i s < 2 ^ 5
 
   pub formed_parts : (top : Bool) (r : PageRow) (c t : Nodes PageRow) → are_formed top (map_rows row_label (node r c t)) ≡ true → Parts top r c t
   formed_parts top r c t e =
-      let p4 = and_parts (is_formed_label r.label && may_stand top r.label.kind && (holds r.label.kind || holds_none (map_rows row_label c)) && are_formed false (map_rows row_label c)) (are_formed top (map_rows row_label t)) e in
-      let p3 = and_parts (is_formed_label r.label && may_stand top r.label.kind && (holds r.label.kind || holds_none (map_rows row_label c))) (are_formed false (map_rows row_label c)) p4.0 in
-      let p2 = and_parts (is_formed_label r.label && may_stand top r.label.kind) (holds r.label.kind || holds_none (map_rows row_label c)) p3.0 in
+      let p4 = and_parts (is_formed_label r.label && may_stand top r.label.kind && (holds r.label.kind || is_no_node (map_rows row_label c)) && are_formed false (map_rows row_label c)) (are_formed top (map_rows row_label t)) e in
+      let p3 = and_parts (is_formed_label r.label && may_stand top r.label.kind && (holds r.label.kind || is_no_node (map_rows row_label c))) (are_formed false (map_rows row_label c)) p4.0 in
+      let p2 = and_parts (is_formed_label r.label && may_stand top r.label.kind) (holds r.label.kind || is_no_node (map_rows row_label c)) p3.0 in
       let p1 = and_parts (is_formed_label r.label) (may_stand top r.label.kind) p2.0 in
       record { label = p1.0; stands = p1.1; below = p3.1; later = p4.1 }
 

@@ -153,7 +153,7 @@ mutual
 
 -- ---- a load without a fault
 
-all_clear : (a b c : Bool) → first_true {F = LoadFault} ((TooDeep, not a) ∷ (TooMany, not b) ∷ (BadName, not c) ∷ []) ≡ None → (a ≡ true) × (b ≡ true) × (c ≡ true)
+all_clear : (a b c : Bool) → first_true {A = LoadFault} ((TooDeep, not a) ∷ (TooMany, not b) ∷ (BadName, not c) ∷ []) ≡ None → (a ≡ true) × (b ≡ true) × (c ≡ true)
 all_clear true true true e = (refl, refl, refl)
 all_clear true true false e = absurd (cc)
 all_clear true false c e = absurd (cc)

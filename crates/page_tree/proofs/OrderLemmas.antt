@@ -4,9 +4,8 @@ use Rattle.std.specs.Ordering.{ordering_reverse}
 use Rattle.std.specs.Cmp.Lexicographic.{slice_cmp}
 use Rattle.std.proofs.lemmas.Cmp.{nat_list_cmp_total}
 use Rattle.node_tree.specs.Labels.{Pair, is_ascending, is_below, is_before}
+use Rattle.node_tree.proofs.PairLemmas.{both, left, right, same_name, lt_less, before_trans}
 use Rattle.page_tree.specs.Loads.{placed, is_taken, in_order}
-use Rattle.page_tree.proofs.FormedLemmas.{both, left, right}
-use Rattle.page_tree.proofs.PairLemmas.{same_name, lt_less, before_trans}
 
 -- each of these names is before the other
 abbrev all_before : List Pair → List ℕ → Bool
