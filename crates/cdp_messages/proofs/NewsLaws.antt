@@ -16,8 +16,8 @@ use Rattle.cdp_messages.specs.declared.down.PauseData.{PauseData}
 use Rattle.cdp_messages.specs.declared.down.PauseData.TheVariants as pause
 use Rattle.cdp_messages.specs.declared.event_names.EventName.{EventName}
 use Rattle.cdp_messages.specs.declared.event_names.EventName.TheVariants as name
-use Rattle.cdp_messages.specs.Events.{News, attribute_modified, attribute_removed, text_modified, count_updated, inserted, removed, set_children, document_updated, sheet_added, sheet_changed, sheet_removed, paused, event_name, all_events, event_named, shows_no_children, node_id, attribute_name, modified_kind, dropped_kind, data_kind, count_kind, inserted_kind, removed_kind, children_kind, added_kind, sheet_id_kind, empty_kind, watch_name, all_watches, watch, pause_fields, pause_by, pause_from, pause_kind, paused_kind, NewsForm, news_form_of, news_form, envelope, news_data, fits_news, news_by, news_of_name, news_inside, news_in}
-use Rattle.css_objects.specs.Styles.{empty_list, has_none}
+use Rattle.cdp_messages.specs.Events.{News, attribute_modified, attribute_removed, text_modified, count_updated, inserted, removed, set_children, document_updated, sheet_added, sheet_changed, sheet_removed, paused, event_name, all_events, event_named, shows_no_children, node_id, attribute_name, modified_kind, dropped_kind, data_kind, count_kind, inserted_kind, removed_kind, children_kind, added_kind, sheet_id_kind, empty_kind, watch_name, all_watches, watch, pause_fields, pause_by, pause_from, pause_kind, paused_kind, NewsForm, news_form_of, news_form, envelope, news_data, fits_news, news_by, news_of_name, news_inside, news_in, no_call_frames}
+use Rattle.css_objects.specs.Styles.{has_none}
 use Rattle.cdp_messages.proofs.Options.{and_then_some, map_some}
 use Rattle.cdp_messages.proofs.NodeTrees.{nodes_lawful, tree_lawful}
 
@@ -95,11 +95,11 @@ no_items_only : (ds : Items) (x : ⊤) → unit_if (has_none ds) ≡ Some x → 
 no_items_only no_items x e = refl
 no_items_only (item d ds) x e = absurd cc
 
-empty_list_lawful : LawfulKind empty_list
-empty_list_lawful = through_lawful (λ _. no_items) (λ ds. unit_if (has_none ds)) no_items_only (λ x. refl) any_items_lawful
+no_frames_lawful : LawfulKind no_call_frames
+no_frames_lawful = through_lawful (λ _. no_items) (λ ds. unit_if (has_none ds)) no_items_only (λ x. refl) any_items_lawful
 
 paused_lawful : LawfulKind paused_kind
-paused_lawful = object_lawful (and_need_lawful _ empty_list_lawful (and_need_lawful _ pause_lawful (and_need_lawful _ (only_text_lawful _) ends_lawful refl) refl) refl)
+paused_lawful = object_lawful (and_need_lawful _ no_frames_lawful (and_need_lawful _ pause_lawful (and_need_lawful _ (only_text_lawful _) ends_lawful refl) refl) refl)
 
 -- ---- by name
 

@@ -22,7 +22,7 @@ use Rattle.cdp_messages.specs.declared.event_names.EventName.TheVariants as name
 use Rattle.cdp_messages.specs.declared.node_rules.Manner.TheVariants.{Pushed}
 use Rattle.cdp_messages.specs.Told.{Told}
 use Rattle.cdp_messages.specs.NodeData.{tree_data, tree_told, tree_items, trees_told, fits_tree, fits_nodes}
-use Rattle.css_objects.specs.Styles.{empty_list}
+use Rattle.css_objects.specs.Styles.{has_none}
 
 -- what an event tells
 pub data News : Type 0 where
@@ -215,9 +215,13 @@ pause_kind =
     through (object_of (and_may (codes "insertion") flag (and_need (codes "nodeId") node_id (and_may (codes "targetNodeId") node_id (and_need (codes "type") watch ends)))))
     pause_fields pause_from
 
+-- an empty list of call frames
+abbrev pub no_call_frames : Kind ⊤
+no_call_frames = through any_items (λ _. no_items) (λ ds. unit_if (has_none ds))
+
 -- of `Debugger.paused`
 abbrev pub paused_kind : Kind (⊤ × (PauseData × (⊤ × ⊤)))
-paused_kind = object_of (and_need (codes "callFrames") empty_list (and_need (codes "data") pause_kind (and_need (codes "reason") (only_text (codes "DOM")) ends)))
+paused_kind = object_of (and_need (codes "callFrames") no_call_frames (and_need (codes "data") pause_kind (and_need (codes "reason") (only_text (codes "DOM")) ends)))
 
 -- ---- each event, written
 

@@ -8,8 +8,8 @@ ghost use Rattle.cdp_json.specs.Rows.{left_with, need, may};
 ghost use Rattle.css_objects.specs.Sheets.{header_kind, sheet_kind};
 ghost use Rattle.cdp_messages.specs.Answers.{GivesMessage};
 ghost use Rattle.cdp_messages.specs.declared.event_names.EventName.TheVariants as event_name;
-ghost use Rattle.cdp_messages.specs.Events.{news_of, node_id, attribute_name, bare_kind, watch, pause_by, pause_kind, sheet_id_kind, envelope, envelope_seen, children_fields, children_seen, inserted_fields, inserted_seen, news_by, news_from, news_in};
-ghost use Rattle.css_objects.specs.Styles.{empty_list, has_none};
+ghost use Rattle.cdp_messages.specs.Events.{news_of, node_id, attribute_name, bare_kind, watch, pause_by, pause_kind, sheet_id_kind, envelope, envelope_seen, children_fields, children_seen, inserted_fields, inserted_seen, news_by, news_from, news_in, no_call_frames};
+ghost use Rattle.css_objects.specs.Styles.{has_none};
 
 use crate::command::WatchWord;
 use crate::down::{DownErr, Event, PauseData};
@@ -357,7 +357,7 @@ fn has_none(items: &[Value]) -> bool
 
 fn empty_list_field(fields: &mut Cursor<'_>) -> bool
     ensures { option_map (left_with (left fields.new)) (if result then Some tt else None)
-        ≡ need empty_list.reads (codes "callFrames") (left fields.old) }
+        ≡ need no_call_frames.reads (codes "callFrames") (left fields.old) }
 {
     match fields.need_list("callFrames") {
         Some(items) => has_none(items),

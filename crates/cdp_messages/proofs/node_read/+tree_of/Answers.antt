@@ -6,7 +6,7 @@ use Rattle.cdp_messages.specs.Told.{Told}
 use Rattle.cdp_messages.specs.NodeData.{tree_told, trees_of}
 use Rattle.cdp_messages.specs.Raw.{object_in}
 use Rattle.cdp_messages.proofs.TreesRead.{tree_of-childless, trees_turn, trees_end, read_shown, read_hidden, item_depth, shallower, Gives-error}
-use Rattle.cdp_messages.proofs.node_read.+tree_told.Goals as goal
+use Rattle.cdp_messages.proofs.node_read.+tree_of.Goals as goal
 
 pub tree_of-trees_of-requires : goal.tree_of-trees_of-requires
 tree_of-trees_of-requires t c =
