@@ -9,6 +9,7 @@ use Rattle.cdp_json.specs.Kinds.{is_counted, is_signed, holds_of_some}
 use Rattle.css_objects.specs.Laws.{SelectorsHaveUtf8, StyleHasUtf8, RuleHasUtf8, MatchedHaveUtf8}
 use Rattle.node_tree.specs.Labels.{Pair, Label}
 use Rattle.node_tree.specs.Nodes.{Nodes, none, node, Branch, alone, height}
+use Rattle.node_tree.specs.Levels.{max_level, most_levels}
 use Rattle.node_tree.specs.Seen.{Seen}
 use Rattle.cdp_messages.specs.Told.{Told, told_nodes, told_branch}
 use Rattle.cdp_messages.specs.NodeData.{fits_tree}
@@ -152,9 +153,9 @@ body_height (Selectors selectors) = 0
 body_height (Rule rule) = 0
 body_height (Matched matched) = 0
 
--- a reply with nodes of 61 levels nests at most 124 deep
+-- a reply with nodes of as many levels as there may be nests at most 124 deep
 abbrev pub RepliesAreShallow : Type 0
-RepliesAreShallow = (id : ℕ) (body : ReplyBody) → body_height body ≤ 61 → Shallow (message_data (reply id (body_data body)))
+RepliesAreShallow = (id : ℕ) (body : ReplyBody) → body_height body ≤ most_levels → Shallow (message_data (reply id (body_data body)))
 
 -- how many levels of nodes an event tells
 abbrev pub news_height : News → ℕ
@@ -171,9 +172,9 @@ news_height (sheet_changed sheet) = 0
 news_height (sheet_removed sheet) = 0
 news_height (paused why) = 0
 
--- and so does an event with nodes of 60 levels
+-- and so does an event with nodes of one level less
 abbrev pub EventsAreShallow : Type 0
-EventsAreShallow = (n : News) → news_height n ≤ 60 → Shallow (news_data n)
+EventsAreShallow = (n : News) → news_height n ≤ max_level → Shallow (news_data n)
 
 -- an event is read as that event
 abbrev pub EventsAreRead : Type 0

@@ -6,13 +6,10 @@ use Rattle.css_objects.specs.declared.sheets.Header.{Header}
 use Rattle.css_objects.specs.declared.sheets.SheetOrigin.{SheetOrigin}
 use Rattle.css_objects.specs.Sheets.{is_sheet}
 use Rattle.node_tree.specs.Nodes.{Nodes, none, node, height, is_no_node}
+use Rattle.node_tree.specs.Levels.{most_levels}
 use Rattle.node_tree.specs.Labels.{is_document, is_formed_label, is_named_label}
 use Rattle.node_tree.specs.Keys.{tally}
 use Rattle.node_tree.specs.Seen.{Seen, is_opened, seen_id, seen_serial}
-
--- how many levels a tree may have: the document has level 0, and no node stands at a level above 60
-abbrev pub most_levels : ℕ
-most_levels = 61
 
 -- children stand below opened nodes alone
 abbrev pub is_bare : Nodes Seen → Bool

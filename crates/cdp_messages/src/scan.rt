@@ -4,6 +4,7 @@ ghost use Rattle.json.specs.Token.{begin_object, end_object, begin_array, key, n
 ghost use Rattle.serde_json.specs.Data.{array};
 ghost use Rattle.cdp_json.specs.Kinds.{whole, text as text_kind, is_counted, holds_of_some};
 ghost use Rattle.node_tree.specs.Nodes.{nodes_of, alone, height, width};
+ghost use Rattle.node_tree.specs.Levels.{most_levels};
 ghost use Rattle.cdp_messages.specs.Told.{shown_children};
 ghost use Rattle.cdp_messages.specs.NodeObject.{attribute_list, node_type, node_fields};
 ghost use Rattle.cdp_messages.specs.NodeData.{tree_data, tree_items, fits_tree, fits_nodes};
@@ -416,7 +417,7 @@ fn scan_reply(alloc: Global, reader: &mut Reader<'_>) -> Result<(u64, NodeTree),
     ensures read { IfOk result (λ p. reader.old ≡ data_tokens (message_data (reply p.0 (body_data (Root p.1))))) }
     ensures counted { IfOk result (λ p. is_counted p.0 ≡ true) }
     ensures fits { IfOk result (λ p. fits_tree true p.1 ≡ true) }
-    ensures shallow { IfOk result (λ p. height (alone p.1) ≤ 61) }
+    ensures shallow { IfOk result (λ p. height (alone p.1) ≤ most_levels) }
 {
     take_begin_object(reader)?;
     let id = whole_field(reader, "id")?;

@@ -15,7 +15,8 @@ use Rattle.node_tree.proofs.PairLemmas.{is_ascending-placed, names-placed, names
 use Rattle.cdp_messages.specs.Told.{seen_nodes}
 use Rattle.cdp_messages.specs.NodeData.{fits_nodes}
 use Rattle.cdp_messages.specs.Moves.{Change, shows, inserts, removes, counts, sets, drops, says, changed, suits_change, has_tree, put_after, without_tree, has_named_attribute}
-use Rattle.cdp_messages.specs.Views.{IsMirror, most_levels, is_bare, has_formed_labels, is_document_tree}
+use Rattle.cdp_messages.specs.Views.{IsMirror, is_bare, has_formed_labels, is_document_tree}
+use Rattle.node_tree.specs.Levels.{most_levels}
 use Rattle.front_mirror.specs.declared.faults.FrontKind.{FrontKind}
 use Rattle.front_mirror.specs.declared.edits.NodeEdit.{NodeEdit}
 use Rattle.front_mirror.specs.declared.edits.NodeEdit.TheVariants as edit

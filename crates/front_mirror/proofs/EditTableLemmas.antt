@@ -9,7 +9,8 @@ use Rattle.node_tree.specs.Seen.{Seen, is_opened, seen_id}
 use Rattle.node_tree.proofs.KeyLemmas.{height_above-at}
 use Rattle.node_tree.proofs.ChangeLemmas.{at-old}
 use Rattle.cdp_messages.specs.Told.{seen_branch}
-use Rattle.cdp_messages.specs.Views.{IsMirror, most_levels, is_in}
+use Rattle.cdp_messages.specs.Views.{IsMirror, is_in}
+use Rattle.node_tree.specs.Levels.{most_levels}
 use Rattle.cdp_messages.specs.Moves.{changed, suits_change, has_tree}
 use Rattle.front_mirror.specs.declared.edits.NodeEdit.{NodeEdit}
 use Rattle.front_mirror.specs.declared.edits.NodeEdit.TheVariants as edit

@@ -23,7 +23,8 @@ use Rattle.cdp_messages.specs.Events.{News, fits_news}
 use Rattle.cdp_messages.specs.Tellable.{suits_hold, suits_row, suits_below, suits_nodes, suits_tree}
 use Rattle.cdp_messages.specs.Laws.{PairsHaveUtf8, NodesHaveUtf8, NewsHaveUtf8, news_height}
 use Rattle.cdp_messages.specs.Moves.{Change, shows, inserts, removes, counts, sets, drops, says, changed, suits_change, has_tree, change_news, has_named_attribute, ChangesNode, SeenHaveUtf8, suits_view, IsTellable}
-use Rattle.cdp_messages.specs.Views.{IsView, most_levels, is_bare}
+use Rattle.cdp_messages.specs.Views.{IsView, is_bare}
+use Rattle.node_tree.specs.Levels.{most_levels}
 use Rattle.cdp_messages.proofs.TellableLaws.{fits-told_nodes, shown_children_fit}
 use Rattle.front_mirror.specs.declared.faults.FrontKind.{FrontKind}
 use Rattle.front_mirror.specs.declared.faults.FrontKind.TheVariants.{UnknownNode, NotChild, IdTaken, TooDeep}

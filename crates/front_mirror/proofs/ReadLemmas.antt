@@ -8,7 +8,8 @@ use Rattle.node_tree.specs.Labels.{is_element, has_value}
 use Rattle.node_tree.specs.Seen.{Seen, is_opened, shows_count, seen_id, seen_serial}
 use Rattle.node_tree.proofs.KeyLemmas.{has-find, found_key}
 use Rattle.cdp_messages.specs.Told.{count_in}
-use Rattle.cdp_messages.specs.Views.{IsMirror, most_levels, is_in}
+use Rattle.cdp_messages.specs.Views.{IsMirror, is_in}
+use Rattle.node_tree.specs.Levels.{most_levels}
 use Rattle.cdp_messages.specs.Moves.{Change, shows, inserts, removes, counts, sets, drops, says, suits_change}
 use Rattle.front_mirror.specs.declared.edits.NodeEdit.{NodeEdit}
 use Rattle.front_mirror.specs.declared.faults.FrontKind.{FrontKind}

@@ -9,7 +9,8 @@ use Rattle.cdp_messages.specs.Told.{Told, seen_nodes, told_nodes, told_branch}
 use Rattle.cdp_messages.specs.NodeObject.{fits_row, fits_place, is_counted_row, same, fits_hold}
 use Rattle.cdp_messages.specs.NodeData.{fits_below, fits_nodes, fits_tree}
 use Rattle.front_mirror.specs.Shown.{told_id, told_serial}
-use Rattle.cdp_messages.specs.Views.{IsView, IsMirror, most_levels, is_bare, has_formed_labels, keys, is_in, is_distinct}
+use Rattle.cdp_messages.specs.Views.{IsView, IsMirror, is_bare, has_formed_labels, keys, is_in, is_distinct}
+use Rattle.node_tree.specs.Levels.{most_levels}
 use Rattle.front_mirror.specs.Front.{is_kin, is_unique, root_fault}
 use Rattle.cdp_messages.proofs.NodeTrees.{fitting_parts, tree_parts}
 use Rattle.front_mirror.proofs.DistinctLemmas.{absent_and}

@@ -29,7 +29,8 @@ use Rattle.front_mirror.specs.declared.faults.FrontKind.{FrontKind}
 use Rattle.front_mirror.specs.declared.faults.FrontKind.TheVariants.{NotMessage, UnknownNode, NotChild, IdTaken, UnknownSheet, TooDeep}
 use Rattle.front_mirror.specs.declared.faults.FrontFault.{FrontFault}
 use Rattle.cdp_messages.specs.Moves.{Change, shows, inserts, removes, counts, sets, drops, says, changed, suits_change, paused_nodes}
-use Rattle.cdp_messages.specs.Views.{most_levels, keys, is_distinct}
+use Rattle.cdp_messages.specs.Views.{keys, is_distinct}
+use Rattle.node_tree.specs.Levels.{most_levels}
 use Rattle.css_objects.specs.declared.sheets.Header.{Header}
 use Rattle.front_mirror.specs.declared.sheets.KnownSheet.{KnownSheet}
 use Rattle.front_mirror.specs.Sheets.{told_sheet, has_sheet, marked_old, with_fetched, without_sheet}

@@ -3,7 +3,7 @@ ghost use Rattle.std.specs.Prelude.{◌≡◌, ◌&&◌, ◌==◌, ◌<◌, IfOk
 ghost use Rattle.node_tree.specs.Nodes.{nodes_of, Branch};
 ghost use Rattle.node_tree.specs.Keys.{spot};
 ghost use Rattle.node_tree.specs.Seen.{Seen, seen_id};
-ghost use Rattle.cdp_messages.specs.Views.{most_levels};
+ghost use Rattle.node_tree.specs.Levels.{most_levels};
 ghost use Rattle.front_mirror.specs.Tables.{mirror_row, IsFace};
 ghost use Rattle.front_mirror.specs.TableEdits.{suits_slot};
 ghost use Rattle.front_mirror.specs.Front.{any_node, clashes, is_unique, is_fresh, stands_low, takes_change, knows_named, change_fault};

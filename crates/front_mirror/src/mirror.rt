@@ -41,7 +41,8 @@ impl Model for Mirror {
 }
 
 impl Mirror {
-    ghost use Rattle.cdp_messages.specs.Views.{IsMirror, most_levels};
+    ghost use Rattle.cdp_messages.specs.Views.{IsMirror};
+    ghost use Rattle.node_tree.specs.Levels.{most_levels};
     ghost use Rattle.front_mirror.specs.Front.{root_fault};
     ghost use Rattle.front_mirror.specs.Edits.{fits_edit, edit_change, edit_told, spot_fault, with_changed};
 

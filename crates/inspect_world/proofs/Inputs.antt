@@ -18,7 +18,8 @@ use Rattle.cdp_messages.specs.Asked.{json_of}
 use Rattle.replay_script.specs.declared.line_kinds.LineKind.{LineKind}
 use Rattle.replay_script.specs.declared.line_kinds.LineKind.TheVariants as kind
 use Rattle.std.specs.List.{onto_first}
-use Rattle.replay_script.specs.Lines.{ends_line, lines_of}
+use Rattle.sheet_reader.specs.Positions.{is_line_feed}
+use Rattle.replay_script.specs.Lines.{lines_of}
 use Rattle.replay_script.specs.Kinds.{line_kind_name, all_line_kinds, sole_member, sole, styles_in, kind_said}
 use Rattle.replay_script.specs.Forms as forms
 use Rattle.replay_script.specs.Forms.{LineForm, load, ask, up, down, settle, show_front, show_page, show_sheets, show_replies, show_pauses, show_styles, ask_in, show_from, form_by, form_of, line_form}
@@ -221,7 +222,7 @@ length-cut false b lines n h = length-onto_first b lines n h
 
 pub length-lines_of : (input : List ℕ) → length (lines_of input) ≤ length input
 length-lines_of [] = omega arith
-length-lines_of (b ∷ more) = length-cut (ends_line b) b (lines_of more) (length more) (length-lines_of more)
+length-lines_of (b ∷ more) = length-cut (is_line_feed b) b (lines_of more) (length more) (length-lines_of more)
 
 -- and no more in them
 bytes-onto_first : (b : ℕ) (lines : List (List ℕ)) (n : ℕ) → line_bytes lines ≤ n → line_bytes (onto_first b lines) ≤ suc n
@@ -234,7 +235,7 @@ bytes-cut false b lines n h = bytes-onto_first b lines n h
 
 pub bytes-lines_of : (input : List ℕ) → line_bytes (lines_of input) ≤ length input
 bytes-lines_of [] = omega arith
-bytes-lines_of (b ∷ more) = bytes-cut (ends_line b) b (lines_of more) (length more) (bytes-lines_of more)
+bytes-lines_of (b ∷ more) = bytes-cut (is_line_feed b) b (lines_of more) (length more) (bytes-lines_of more)
 
 -- what the lines of an input are that is carried out
 pub input-script : (input : List ℕ) (page : LoadedPage) (lines : List LineForm) → script_forms input ≡ load page ∷ lines → Script page lines (length input)

@@ -1,4 +1,5 @@
 pub mod Nodes
+pub mod Levels
 pub mod Names
 pub mod Labels
 pub mod LabelChanges

@@ -11,7 +11,8 @@ use Rattle.node_tree.proofs.KeyLemmas.{height_above-at, found_key, find-stands, 
 use Rattle.node_tree.proofs.ChangeLemmas.{at-old, at-put_root, level-at, child_of, held}
 use Rattle.node_tree.specs.declared.Kind.{Kind}
 use Rattle.node_tree.specs.declared.Kind.TheVariants.{Document}
-use Rattle.page_tree.specs.Forms.{max_level, max_nodes, are_formed, are_named}
+use Rattle.page_tree.specs.Forms.{max_nodes, are_formed, are_named}
+use Rattle.node_tree.specs.Levels.{max_level}
 use Rattle.page_tree.specs.Pages.{PageRow, row_serial, row_label, find_in, node_at, parent_at, level_at}
 use Rattle.page_tree.specs.Loads.{placed}
 use Rattle.page_tree.specs.Edits.{pairs_without, with_attribute, without_attribute, with_value, relabelled, with_child, without_child, taken_out, changed_at, after_tree, after, next_after, label_at, children_at}

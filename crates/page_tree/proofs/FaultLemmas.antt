@@ -7,7 +7,8 @@ use Rattle.node_tree.specs.Nodes.{Nodes, none, node, Branch, alone, branch_count
 use Rattle.node_tree.specs.Labels.{Label, is_document}
 use Rattle.node_tree.specs.Arena.{Keeps}
 use Rattle.node_tree.proofs.KeyLemmas.{has-find}
-use Rattle.page_tree.specs.Forms.{max_level, max_nodes}
+use Rattle.page_tree.specs.Forms.{max_nodes}
+use Rattle.node_tree.specs.Levels.{max_level}
 use Rattle.page_tree.specs.Pages.{PageRow, row_serial, PageValue, find_in, node_at, parent_at, IsValid}
 use Rattle.page_tree.specs.Rooms.{room_after}
 use Rattle.page_tree.specs.Edits.{children_at, is_among, sibling_after}

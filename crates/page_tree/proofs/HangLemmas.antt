@@ -5,7 +5,7 @@ use Rattle.node_tree.proofs.ArenaLemmas.{kept_trees-keeps, keeps-width, keeps-tr
 use Rattle.node_tree.proofs.KeyLemmas.{height_above-at}
 use Rattle.node_tree.proofs.ChangeLemmas.{at-old}
 use Rattle.node_tree.proofs.NodeLemmas.{height-map_rows}
-use Rattle.page_tree.specs.Forms.{max_level}
+use Rattle.node_tree.specs.Levels.{max_level}
 use Rattle.page_tree.specs.Pages.{PageRow, row_label, node_at}
 use Rattle.page_tree.specs.Arenas.{page_slots, slot_row, slots_in, Stored, slot_of, trees_in, branch_in, Hangs, tree_of, IsPage}
 use Rattle.page_tree.specs.declared.slots.Slot.{Slot}

@@ -7,7 +7,7 @@ use Rattle.node_tree.specs.Keys.{first_of, tally, tally_in, find, level_of, At, 
 use Rattle.node_tree.proofs.NodeLemmas.{node_count-map_rows}
 use Rattle.node_tree.proofs.KeyLemmas.{tally_cases, tally_row, find-absent}
 use Rattle.node_tree.proofs.ChangeLemmas.{count-at, tally_in-at, child_of, child-key}
-use Rattle.page_tree.specs.Forms.{max_level}
+use Rattle.node_tree.specs.Levels.{max_level}
 use Rattle.page_tree.specs.Pages.{PageRow, row_serial, row_label, PageValue, node_at, parent_at, level_at, IsValid}
 use Rattle.page_tree.specs.Edits.{without_child, taken_out, changed_at, label_at, children_at, next_sibling, is_among, form_at, moved_before}
 use Rattle.page_tree.specs.EditFaults.{is_live, is_live_or_0, is_place, kind_at, may_hold, CanApply, edit_faults, move_faults, move_fault}

@@ -7,7 +7,7 @@ use Rattle.node_tree.specs.Keys.{first_of, level_of}
 use Rattle.node_tree.specs.Arena.{times, Keeps, IsArena}
 use Rattle.node_tree.proofs.NodeLemmas.{height-map_rows}
 use Rattle.node_tree.proofs.ArenaLemmas.{kept_trees-keeps, keeps-width, keeps-tree_at, keeps-up, IsAtKey, key-find, find-key}
-use Rattle.page_tree.specs.Forms.{max_level}
+use Rattle.node_tree.specs.Levels.{max_level}
 use Rattle.page_tree.specs.Pages.{PageRow, row_serial, row_label, IsValid, find_in, node_at, parent_at, level_at}
 use Rattle.page_tree.specs.Arenas.{page_slots, slot_row, slots_in, keys_in, Filed, Stored, Fresh, Grown, slot_of, climbed, first_tree, tree_of, IsPage, Looks}
 use Rattle.page_tree.specs.declared.slots.Slot.{Slot}

@@ -9,7 +9,8 @@ use Rattle.node_tree.specs.declared.Kind.TheVariants.{Document, Element, Text, C
 use Rattle.node_tree.proofs.NodeLemmas.{node_count-map_rows, height-map_rows}
 use Rattle.node_tree.proofs.KeyLemmas.{tally-at, height-at}
 use Rattle.node_tree.proofs.ChangeLemmas.{count-at}
-use Rattle.page_tree.specs.Forms.{max_level, max_nodes, may_stand, are_formed, are_named}
+use Rattle.page_tree.specs.Forms.{max_nodes, may_stand, are_formed, are_named}
+use Rattle.node_tree.specs.Levels.{max_level}
 use Rattle.page_tree.specs.Pages.{PageRow, row_serial, row_label, PageValue, IsValid}
 use Rattle.page_tree.specs.EditFaults.{may_hold}
 use Rattle.node_tree.proofs.PairLemmas.{both, left, right}

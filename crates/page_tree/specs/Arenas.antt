@@ -7,7 +7,7 @@ use Rattle.std.specs.BTreeMap as map
 use Rattle.slab.specs.Slab as slab
 use Rattle.node_tree.specs.Nodes.{Nodes, none, node, Branch, alone, width, height}
 use Rattle.node_tree.specs.Arena.{SlotForm, times, Keeps, kept_trees, IsFiled, IsArena, IsFresh, Grows, Shrinks, Comes, Turns}
-use Rattle.page_tree.specs.Forms.{max_level}
+use Rattle.node_tree.specs.Levels.{max_level}
 use Rattle.page_tree.specs.Pages.{PageRow, row_serial, document_label, IsValid}
 use Rattle.page_tree.specs.Zippers.{zipper_at}
 use Rattle.page_tree.specs.declared.slots.Slot.{Slot}

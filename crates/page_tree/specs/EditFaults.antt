@@ -4,7 +4,8 @@ use Rattle.node_tree.specs.Nodes.{Branch, alone, height, map_branch, branch_coun
 use Rattle.node_tree.specs.Names.{is_attribute_name}
 use Rattle.node_tree.specs.Labels.{Label, value_of, holds, has_value, is_document, is_doctype, is_element}
 use Rattle.node_tree.specs.declared.Kind.{Kind}
-use Rattle.page_tree.specs.Forms.{max_level, max_nodes, are_formed, are_named}
+use Rattle.page_tree.specs.Forms.{max_nodes, are_formed, are_named}
+use Rattle.node_tree.specs.Levels.{max_level}
 use Rattle.page_tree.specs.Pages.{PageRow, row_label, PageValue, find_in, node_at, level_at, times_in}
 use Rattle.node_tree.specs.Keys.{first_true}
 use Rattle.page_tree.specs.Edits.{label_at, children_at, is_among, form_at, moved_before, after}

@@ -1,12 +1,9 @@
 -- Which nodes may make up a page.
 use Rattle.std.specs.Prelude.{◌≡◌, ℕ, suc, ◌≤◌, Bool, true, false, not, ◌&&◌, ◌||◌}
 use Rattle.node_tree.specs.Nodes.{Nodes, none, node, node_count, height, is_no_node}
+use Rattle.node_tree.specs.Levels.{max_level}
 use Rattle.node_tree.specs.Labels.{Label, is_document, is_doctype, holds, is_formed_label, is_named_label}
 use Rattle.node_tree.specs.declared.Kind.{Kind}
-
--- the highest level of a node; the document has level 0
-abbrev pub max_level : ℕ
-max_level = 60
 
 -- the most nodes of a page, with the document
 abbrev pub max_nodes : ℕ

@@ -11,7 +11,8 @@ pub use Rattle.node_tree.specs.LabelChanges.{placed}
 use Rattle.node_tree.specs.Keys.{first_of, first_true}
 use Rattle.node_tree.specs.declared.Kind.{Kind}
 use Rattle.node_tree.specs.declared.Kind.TheVariants.{Element, Text, Comment, Doctype}
-use Rattle.page_tree.specs.Forms.{max_level, max_nodes, are_named}
+use Rattle.page_tree.specs.Forms.{max_nodes, are_named}
+use Rattle.node_tree.specs.Levels.{max_level}
 use Rattle.page_tree.specs.declared.forms.NodeForm.{NodeForm}
 use Rattle.page_tree.specs.declared.faults.LoadFault.{LoadFault}
 use Rattle.page_tree.specs.declared.faults.LoadFault.TheVariants.{BadForm, TooDeep, TooMany, BadName}

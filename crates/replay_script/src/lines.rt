@@ -1,5 +1,6 @@
 ghost use Rattle.std.specs.Prelude.{◌≡◌, ◌<◌, ◌∷◌, length, position};
-ghost use Rattle.replay_script.specs.Lines.{ends_line, lines_of, has_long_line, LinesLaw};
+ghost use Rattle.sheet_reader.specs.Positions.{is_line_feed};
+ghost use Rattle.replay_script.specs.Lines.{lines_of, has_long_line, LinesLaw};
 
 use std::marker::Model;
 
@@ -58,7 +59,7 @@ fn cut_line(bytes: &[u8]) -> (&[u8], &[u8])
 }
 
 fn line_end(bytes: &[u8]) -> Option<usize>
-    ensures { result ≡ position ends_line bytes.now }
+    ensures { result ≡ position is_line_feed bytes.now }
 {
     bytes.iter().position(|byte| *byte == b'\n')
 }

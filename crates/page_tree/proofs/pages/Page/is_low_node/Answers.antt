@@ -2,7 +2,7 @@
 use Rattle.std.proofs.Common.{◌≡◌, ◌+◌, suc, nat_le, ap, ◌∙◌, arith}
 use Rattle.node_tree.specs.Nodes.{Branch, alone, height}
 use Rattle.node_tree.proofs.NodeLemmas.{height-map_rows}
-use Rattle.page_tree.specs.Forms.{max_level}
+use Rattle.node_tree.specs.Levels.{max_level}
 use Rattle.page_tree.specs.Pages.{PageRow, row_label, node_at, level_at}
 use Rattle.page_tree.specs.Edits.{form_at}
 use Rattle.page_tree.proofs.FaultLemmas.{low_below}
