@@ -10,5 +10,3 @@ mod serial_sets;
 pub use breakpoints::Watches;
 pub use pauses::{Pause, WatchKind};
 
-#[cfg(test)]
-mod tests;

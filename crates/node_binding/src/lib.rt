@@ -12,5 +12,3 @@ pub use laws::binding_law;
 pub use levels::{is_container, is_reached, less, levels_of};
 pub use search::find_in;
 
-#[cfg(test)]
-mod tests;

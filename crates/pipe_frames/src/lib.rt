@@ -19,5 +19,3 @@ pub use outside::{Failed, Link, OutErr, Sink, Source};
 pub use standard::{StdSink, StdSource};
 pub use whole::{ReadErr, read_all, write_all};
 
-#[cfg(test)]
-mod tests;

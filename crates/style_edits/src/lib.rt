@@ -21,5 +21,3 @@ pub use rule_places::{RulePlace, edited_rule};
 pub use sheets::{add_sheet, drop_sheet};
 pub use splice::{Splice, put_back};
 
-#[cfg(test)]
-mod tests;

@@ -10,5 +10,3 @@ pub use histories::History;
 pub use inverse_lists::{Inverse, Inverses, Popped};
 pub use laws::{history_law, saved_pages_law};
 
-#[cfg(test)]
-mod tests;

@@ -1,4 +1,4 @@
-use crate::{Pause, WatchKind, Watches};
+use dom_breakpoints::{Pause, WatchKind, Watches};
 use page_tree::{Attributes, Kind, Page, Text, Tree, TreeEdit, read_nodes};
 use serde_json::Value;
 use std::alloc::{AllocError, Global};

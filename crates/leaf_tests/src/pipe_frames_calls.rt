@@ -1,4 +1,4 @@
-use crate::{
+use pipe_frames::{
     Failed, Link, LyingLink, MemLink, MemSink, MemSource, OutErr, ReadErr, Sink, Source, Splitter,
     StdSink, StdSource, frames_law, put_frame, read_all, write_all,
 };

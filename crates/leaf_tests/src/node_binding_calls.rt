@@ -1,4 +1,4 @@
-use crate::Binding;
+use node_binding::Binding;
 use page_tree::{Kind, Page, read_nodes};
 use serde_json::Value;
 use std::alloc::Global;

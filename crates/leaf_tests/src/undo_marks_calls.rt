@@ -1,8 +1,8 @@
-use crate::{History, Inverse, Popped};
 use page_tree::{Text, TreeEdit};
 use std::alloc::{AllocError, Global};
 use std::test::Fail;
 use style_edits::Splice;
+use undo_marks::{History, Inverse, Popped};
 
 fn note_attribute(alloc: Global, history: &mut History, name: &str) -> Result<(), AllocError> {
     let name = Text::copied(alloc, name)?;

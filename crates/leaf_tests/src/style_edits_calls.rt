@@ -1,18 +1,11 @@
-ghost use Rattle.std.specs.Prelude.{◌≡◌, ◌≤◌, ◌^◌, true, length};
-ghost use Rattle.selectors.specs.Ranges.{IsRangeOf};
-ghost use Rattle.sheet_reader.specs.Forms.{range};
-ghost use Rattle.style_edits.specs.Splices.{FitsSplice, spliced};
-
-use crate::drafts::is_short;
-use crate::{
-    LineRange, SheetErr, Splice, StyleEdit, add_rule, add_sheet, drop_sheet, put_back,
-    set_selector, set_styles, set_text,
-};
-use css_tokens::Range;
 use node_tree::Text;
 use sheet_reader::{Origin, SheetBook};
 use std::alloc::{AllocError, Global};
 use std::test::Fail;
+use style_edits::{
+    LineRange, SheetErr, StyleEdit, add_rule, add_sheet, drop_sheet, set_selector, set_styles,
+    set_text,
+};
 
 /// A book with the sheet 1.
 fn book_of(alloc: Global, origin: Origin, text: &str) -> Result<SheetBook, AllocError> {
@@ -269,52 +262,12 @@ fn a_prelude_becomes_another_list(rt: HostRuntime) -> Result<(), Fail> {
     Ok(())
 }
 
-fn fits_in(text: &str, splice: &Splice) -> bool
-    ensures range { result ≡ true → IsRangeOf text.now (range splice.now.start splice.now.end) }
-    ensures short { result ≡ true → length (spliced text.now splice.now.start splice.now.end splice.now.text) ≤ 2 ^ 24 }
-{
-    let part = Range {
-        start: splice.start,
-        end: splice.end,
-    };
-    if part.start > part.end {
-        return false;
-    }
-    if !text.is_char_boundary(part.start) {
-        return false;
-    }
-    if !text.is_char_boundary(part.end) {
-        return false;
-    }
-    is_short(text, part, splice.text.as_str())
-}
-
-fn fits(book: &SheetBook, splice: &Splice) -> bool
-    ensures { result ≡ true → FitsSplice splice.now book.now }
-{
-    match book.get(splice.sheet) {
-        Some(entry) => fits_in(entry.text.as_str(), splice),
-        None => false,
-    }
-}
-
-fn put(book: &mut SheetBook, splice: Splice) -> Result<Splice, AllocError> {
-    if !fits(book, &splice) {
-        return Err(AllocError);
-    }
-    put_back(book, splice)
-}
-
 #[test]
-fn splices_lead_back_and_forth(rt: HostRuntime) -> Result<(), Fail> {
-    let alloc = rt.alloc();
-    let mut book = book_of(alloc, Origin::Regular, "a{b:c}")?;
+fn the_splice_of_an_edit_leads_back(rt: HostRuntime) -> Result<(), Fail> {
+    let mut book = book_of(rt.alloc(), Origin::Regular, "a{b:c}")?;
     let back = set_text(&mut book, 1, "q{}")?;
     assert_eq!(rt; text_of(&book), "q{}");
-    let forth = put(&mut book, back)?;
-    assert_eq!(rt; (text_of(&book), forth.start, forth.end), ("a{b:c}", 0, 6));
-    put(&mut book, forth)?;
-    assert_eq!(rt; text_of(&book), "q{}");
+    assert_eq!(rt; (back.start, back.end, back.text.as_str()), (0, 3, "a{b:c}"));
     assert!(rt; drop_sheet(&mut book, 1).is_ok());
     assert!(rt; drop_sheet(&mut book, 1).is_err());
     Ok(())
