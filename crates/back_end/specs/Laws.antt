@@ -1,5 +1,6 @@
 -- What holds of each step.
-use Rattle.std.specs.Prelude.{◌≡◌, ℕ, ◌+◌, ◌*◌, ◌^◌, ◌≤◌, ◌<◌, Bool, true, List, [], ◌∷◌, length, codes, ⊤, Option, Some, None, IfSome, option_and_then, Result, Ok, Err}
+use Rattle.std.specs.Prelude.{◌≡◌, ℕ, ◌+◌, ◌*◌, ◌^◌, ◌≤◌, ◌<◌, Bool, true, List, [], ◌∷◌, length, codes, ⊤, Option, Some, None, IfSome}
+use Rattle.std.specs.Prelude.{option_and_then, Result, Ok, Err}
 use Rattle.std.specs.List.{flat_map}
 use Rattle.page_tree.specs.Forms.{max_nodes}
 use Rattle.page_forms.specs.Acts.{IsInsertable}
@@ -9,7 +10,8 @@ use Rattle.cdp_messages.specs.Asked.{asked, method_name}
 use Rattle.cdp_messages.specs.Laws.{answers}
 use Rattle.cdp_messages.specs.declared.effects.Effect.TheVariants.{NothingElse}
 use Rattle.cdp_messages.specs.Effects.{effect_of_method}
-use Rattle.cdp_messages.specs.Moves.{Move, change, clear, met, added, dropped, rewritten, root, texted, replied, all_off, sheets_off, failed, Course}
+use Rattle.cdp_messages.specs.Moves.{Move, change, clear, met, added, dropped, rewritten, root, texted, replied, all_off, sheets_off}
+use Rattle.cdp_messages.specs.Moves.{failed, Course}
 use Rattle.css_objects.specs.Sheets.{sheet_in}
 use Rattle.cdp_messages.specs.declared.command.Command.{Command}
 use Rattle.css_agent.specs.declared.asks.CssAsk.{CssAsk}
@@ -27,7 +29,8 @@ use Rattle.page_forms.specs.Sheets.{max_sheets}
 use Rattle.page_forms.specs.Pages.{CanLoadPage}
 use Rattle.back_end.specs.States.{State, IsState, view_of, saved_now}
 use Rattle.back_end.specs.Steps.{Step, Turn, acts, loads, frame_step, turn_step, undo_step, redo_step, undo_edits, redo_edits}
-use Rattle.back_end.specs.Servers.{Server, enables, disables, css_enables, css_disables, agent, css_agent, edits_tree, edits_sheets, ends_group, undoes, redoes, watches, unwatches, page_load, page_act, nobody, server_of}
+use Rattle.back_end.specs.Servers.{Server, enables, disables, css_enables, css_disables, agent, css_agent, edits_tree, edits_sheets}
+use Rattle.back_end.specs.Servers.{ends_group, undoes, redoes, watches, unwatches, page_load, page_act, nobody, server_of}
 use Rattle.back_end.specs.Texts.{PageHasTexts, ActHasTexts}
 
 -- ---- how many edits a history has
@@ -216,4 +219,5 @@ IsTurn (loads page) = CanLoadPage page × PageHasTexts page
 abbrev pub TurnsStepWell : Type 0
 TurnsStepWell =
     (state : State) (x : Turn) → IsState state → HasRoom state → IsTurn x
-    → StepsWell state (turn_step x state) × (flat_map reply_ids (turn_step x state).moves ≡ []) × KeepsAtMost 0 state (turn_step x state).state
+    → StepsWell state (turn_step x state) × (flat_map reply_ids (turn_step x state).moves ≡ [])
+    × KeepsAtMost 0 state (turn_step x state).state

@@ -18,7 +18,9 @@ use Rattle.cdp_messages.specs.declared.command.CommandErr.{CommandErr}
 use Rattle.cdp_messages.specs.declared.command.CommandErr.TheVariants as command_err
 use Rattle.cdp_messages.specs.declared.command.Param.TheVariants.{Params}
 use Rattle.cdp_messages.specs.declared.command.Why.{Why}
-use Rattle.cdp_messages.specs.declared.command.Why.TheVariants.{BadParam, NoNode, NotElement, NotText, IsDocument, NotChild, Inside, TooDeep, TooMany, BadName, NoAttr, NotContainer, NoSheet, NotMutable, BadRange, BadText, BadSelector, BadPlace, TooBig}
+use Rattle.cdp_messages.specs.declared.command.Why.TheVariants.{BadParam, NoNode, NotElement, NotText, IsDocument, NotChild, Inside}
+use Rattle.cdp_messages.specs.declared.command.Why.TheVariants.{TooDeep, TooMany, BadName, NoAttr, NotContainer, NoSheet, NotMutable}
+use Rattle.cdp_messages.specs.declared.command.Why.TheVariants.{BadRange, BadText, BadSelector, BadPlace, TooBig}
 use Rattle.back_end.specs.declared.faults.ActFault.{ActFault}
 use Rattle.back_end.specs.declared.faults.ActFault.TheVariants.{Edit, Sheet}
 use Rattle.back_end.specs.Plans.{act_fault}

@@ -12,7 +12,8 @@ use Rattle.style_edits.specs.declared.faults.SheetFault.TheVariants.{NoSheet, To
 use Rattle.style_edits.specs.Edits.{is_too_big}
 use Rattle.css_agent.specs.Asks.{sheet_named}
 use Rattle.page_forms.specs.declared.acts.Act.{Act}
-use Rattle.page_forms.specs.declared.acts.Act.TheVariants.{SetAttr, DropAttr, SetText, Insert, Remove, Move, AddSheet, DropSheet, ReplaceSheet}
+use Rattle.page_forms.specs.declared.acts.Act.TheVariants.{SetAttr, DropAttr, SetText, Insert, Remove, Move, AddSheet, DropSheet}
+use Rattle.page_forms.specs.declared.acts.Act.TheVariants.{ReplaceSheet}
 use Rattle.back_end.specs.declared.faults.ActFault.{ActFault}
 use Rattle.back_end.specs.declared.dom_edits.NodeEdit.{NodeEdit}
 use Rattle.back_end.specs.declared.dom_edits.NodeEdit.TheVariants.{One, MoveNode, CopyNode}

@@ -1,6 +1,7 @@
 -- The steps of a state: on each frame that comes up, and those that a script makes itself. A step gives the state after it, and
 -- the moves by which the client's view comes to what it is then.
-use Rattle.std.specs.Prelude.{ℕ, ◌+◌, Bool, true, false, not, ◌&&◌, ◌||◌, cond, List, [], ◌∷◌, ◌++◌, map, reverse, Option, Some, None, unwrap_or, option_map, Result, Ok, Err}
+use Rattle.std.specs.Prelude.{ℕ, ◌+◌, Bool, true, false, not, ◌&&◌, ◌||◌, cond, List, [], ◌∷◌, ◌++◌, map, reverse, Option, Some, None}
+use Rattle.std.specs.Prelude.{unwrap_or, option_map, Result, Ok, Err}
 use Rattle.std.specs.Char.{to_ascii_lowercase}
 use Rattle.node_tree.specs.Nodes.{Branch}
 use Rattle.node_tree.specs.Labels.{is_element}
@@ -18,7 +19,8 @@ use Rattle.cdp_messages.specs.declared.command.Why.TheVariants.{NoMethod, DomOff
 use Rattle.cdp_messages.specs.declared.command.Asked.{Asked}
 use Rattle.cdp_messages.specs.declared.command.Refused.{Refused}
 use Rattle.cdp_messages.specs.declared.dom_ask.DomAsk.{DomAsk}
-use Rattle.cdp_messages.specs.declared.dom_ask.DomAsk.TheVariants.{GetDocument, RequestChildNodes, PushByPath, PushBySerials, QuerySelector, QuerySelectorAll, GetAttributes, DescribeNode}
+use Rattle.cdp_messages.specs.declared.dom_ask.DomAsk.TheVariants.{GetDocument, RequestChildNodes, PushByPath, PushBySerials, QuerySelector}
+use Rattle.cdp_messages.specs.declared.dom_ask.DomAsk.TheVariants.{QuerySelectorAll, GetAttributes, DescribeNode}
 use Rattle.cdp_messages.specs.declared.command.WatchWord.{WatchWord}
 use Rattle.cdp_messages.specs.declared.command.WatchWord.TheVariants as word
 use Rattle.cdp_messages.specs.declared.down.PauseData.{PauseData}
@@ -28,7 +30,8 @@ use Rattle.cdp_messages.specs.declared.down.ReplyBody.TheVariants.{Nothing, Node
 use Rattle.cdp_messages.specs.Asked.{asked}
 use Rattle.sheet_reader.specs.declared.book.SheetEntry.{SheetEntry}
 use Rattle.cdp_messages.specs.Views.{ShownSheet, sheets_without, sheets_with_text}
-use Rattle.cdp_messages.specs.Moves.{Move, clear, met, rewritten, added, dropped, texted, replied, all_off, sheets_off, failed, frames_of_moves}
+use Rattle.cdp_messages.specs.Moves.{Move, clear, met, rewritten, added, dropped, texted, replied, all_off, sheets_off, failed}
+use Rattle.cdp_messages.specs.Moves.{frames_of_moves}
 use Rattle.css_agent.specs.declared.asks.CssAsk.{CssAsk}
 use Rattle.css_agent.specs.declared.asks.CssAsk.TheVariants as css
 use Rattle.css_agent.specs.Asks.{css_outcome, answer_move, sheet_named}
@@ -59,9 +62,11 @@ use Rattle.back_end.specs.declared.dom_edits.NodeEdit.{NodeEdit}
 use Rattle.back_end.specs.declared.dom_edits.NodeEdit.TheVariants.{One, MoveNode, CopyNode}
 use Rattle.back_end.specs.Sheets.{shown_sheet, SheetChange, leaves, comes}
 use Rattle.back_end.specs.States.{Side, Client, State, page_nodes, book_in, loaded_side, saved_now}
-use Rattle.back_end.specs.Plans.{Plan, node_edit_fault, node_edit_plan, node_put, Deed, edits, restyles, one_edit, edit_fault, act_fault, act_plan}
+use Rattle.back_end.specs.Plans.{Plan, node_edit_fault, node_edit_plan, node_put, Deed, edits, restyles, one_edit, edit_fault, act_fault}
+use Rattle.back_end.specs.Plans.{act_plan}
 use Rattle.back_end.specs.OwnMethods.{edit_why, sheet_why, load_asked, act_judged, act_asked}
-use Rattle.back_end.specs.Servers.{Server, enables, disables, css_enables, css_disables, agent, css_agent, edits_tree, edits_sheets, ends_group, undoes, redoes, watches, unwatches, page_load, page_act, nobody, server_of}
+use Rattle.back_end.specs.Servers.{Server, enables, disables, css_enables, css_disables, agent, css_agent, edits_tree, edits_sheets}
+use Rattle.back_end.specs.Servers.{ends_group, undoes, redoes, watches, unwatches, page_load, page_act, nobody, server_of}
 
 -- what a step makes: the state after it, and what it tells the client
 pub record Step : Type 0 where
@@ -133,7 +138,10 @@ edited_by e state = session_edited e state.side.page state.client.session
 
 -- the state with another page
 abbrev pub with_page : PageValue → State → State
-with_page page state = record { side = record { page = page; sheets = state.side.sheets; next_sheet = state.side.next_sheet }; client = state.client }
+with_page page state = record {
+  side = record { page = page; sheets = state.side.sheets; next_sheet = state.side.next_sheet };
+  client = state.client;
+}
 
 -- the client after an edit
 abbrev pub client_edited : TreeEdit → State → Client
@@ -231,7 +239,11 @@ splice_step s state =
     let text = text_under s.sheet (after_splice s (book_in state)) in
     record {
       state = record {
-        side = record { page = state.side.page; sheets = sheets_with_text s.sheet text state.side.sheets; next_sheet = state.side.next_sheet };
+        side = record {
+          page = state.side.page;
+          sheets = sheets_with_text s.sheet text state.side.sheets;
+          next_sheet = state.side.next_sheet;
+        };
         client = state.client;
       };
       moves = while_css state (rewritten s.sheet text ∷ []);
@@ -545,7 +557,8 @@ planned_by_client plan state = keeping (map (λ e. kept.Tree e) plan.edits) stat
 -- the step of an edit; of one that the page refuses
 abbrev pub unless_fault : ℕ → Option EditFault → NodeEdit → State → Step
 unless_fault id (Some f) edit state = refusing (Some id) (edit_why f) state
-unless_fault id None edit state = put_answer id (node_put edit state.side.page) (planned_by_client (node_edit_plan edit state.side.page) state)
+unless_fault id None edit state = put_answer id (node_put edit state.side.page)
+    (planned_by_client (node_edit_plan edit state.side.page) state)
 
 -- of one whose nodes are known
 abbrev pub node_edit_step : ℕ → Result NodeEdit Why → State → Step
@@ -561,7 +574,8 @@ tree_edit_step id edit state = node_edit_step id (edit_named (serial_now state) 
 -- the step of an edit that came to this
 abbrev pub restyled_step : ℕ → CssEdited → List Splice → State → Step
 restyled_step id (Err f) splices state = refusing (Some id) (sheet_why f) state
-restyled_step id (Ok done) splices state = replying id done.body (keeping (map (λ s. kept.Sheet s) splices) state (splice_steps splices state))
+restyled_step id (Ok done) splices state = replying id done.body
+    (keeping (map (λ s. kept.Sheet s) splices) state (splice_steps splices state))
 
 -- the step of a client's edit of sheets
 abbrev pub sheet_edit_step : ℕ → CssEdit → State → Step

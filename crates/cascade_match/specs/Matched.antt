@@ -43,7 +43,8 @@ source_of place e = record { place = place; id = e.id; origin = e.origin }
 -- the rule with its key and the places of its selectors that match; None where there are none
 abbrev pub entry_by : Source → ℕ → Spec → List ℕ → Option (Key × Hit)
 entry_by from rule weight [] = None
-entry_by from rule weight (p ∷ ps) = Some (key_of from.origin weight from.place rule, record { sheet = from.id; rule = rule; matching = p ∷ ps })
+entry_by from rule weight (p ∷ ps) = Some
+    (key_of from.origin weight from.place rule, record { sheet = from.id; rule = rule; matching = p ∷ ps })
 
 -- the rule at a place of a sheet with its key, if some selector of it matches
 abbrev pub keyed_rule : Source → ℕ → RuleForm → Zipper → Option (Key × Hit)

@@ -20,7 +20,9 @@ key_of origin spec sheet rule = record { origin = origin_rank origin; a = spec.a
 abbrev pub key_cmp : Key → Key → Ordering
 key_cmp x y =
     ordering_then (nat_cmp x.origin y.origin)
-    (ordering_then (nat_cmp x.a y.a) (ordering_then (nat_cmp x.b y.b) (ordering_then (nat_cmp x.c y.c) (ordering_then (nat_cmp x.sheet y.sheet) (nat_cmp x.rule y.rule)))))
+    (ordering_then (nat_cmp x.a y.a)
+    (ordering_then (nat_cmp x.b y.b)
+    (ordering_then (nat_cmp x.c y.c) (ordering_then (nat_cmp x.sheet y.sheet) (nat_cmp x.rule y.rule)))))
 
 -- less specific (Selectors 3, section 9)
 abbrev pub is_less : Spec → Spec → Bool

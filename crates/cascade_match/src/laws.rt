@@ -23,13 +23,16 @@ pub fn order_law()
 
 /// What stands in the matched list is what stands for the rules that apply to the node: each of them, and nothing else.
 pub fn standing_law()
-    ensures each { (book : List SheetEntry) (z : Zipper) (p : PlacedRule) → Applies book z p → IsIn (standing p z) (matched_entries book z) }
-    ensures only { (book : List SheetEntry) (z : Zipper) (e : Key × Hit) → IsIn e (matched_entries book z) → (p : PlacedRule) × Applies book z p × (e ≡ standing p z) }
+    ensures each { (book : List SheetEntry) (z : Zipper) (p : PlacedRule) → Applies book z p
+        → IsIn (standing p z) (matched_entries book z) }
+    ensures only { (book : List SheetEntry) (z : Zipper) (e : Key × Hit) → IsIn e (matched_entries book z)
+        → (p : PlacedRule) × Applies book z p × (e ≡ standing p z) }
 {}
 
 /// The places of the selectors that match are those of just these selectors.
 pub fn places_law()
-    ensures each { (ss : List SelectorForm) (z : Zipper) (i : ℕ) (s : SelectorForm) → slice_get ss i ≡ Some s → selector_matches s z ≡ true → IsIn i (places_matching ss z) }
+    ensures each { (ss : List SelectorForm) (z : Zipper) (i : ℕ) (s : SelectorForm) → slice_get ss i ≡ Some s → selector_matches s z ≡ true
+        → IsIn i (places_matching ss z) }
     ensures only { (ss : List SelectorForm) (z : Zipper) (i : ℕ) → IsIn i (places_matching ss z)
         → (s : SelectorForm) × (slice_get ss i ≡ Some s) × (selector_matches s z ≡ true) }
 {}
@@ -37,7 +40,8 @@ pub fn places_law()
 /// A declaration wins exactly where it is the greatest of all declarations of its name in all blocks, by rank, then by block,
 /// then by its place in the block. Each name that is declared has a winner, and no two.
 pub fn winner_law()
-    ensures greatest { (blocks : List Block) (d : PlacedDecl) → IsDeclared blocks d → (slice_get (wins blocks) (number_of blocks d) ≡ Some true) ↔ IsGreatest blocks d }
+    ensures greatest { (blocks : List Block) (d : PlacedDecl) → IsDeclared blocks d
+        → (slice_get (wins blocks) (number_of blocks d) ≡ Some true) ↔ IsGreatest blocks d }
     ensures some { (blocks : List Block) (d : PlacedDecl) → IsDeclared blocks d → (w : PlacedDecl) × IsWinner blocks w × (w.name ≡ d.name) }
     ensures one { (blocks : List Block) (d e : PlacedDecl) → IsWinner blocks d → IsWinner blocks e → d.name ≡ e.name → d ≡ e }
     ensures all { (blocks : List Block) → length (wins blocks) ≡ length (flat_map (λ b. b.declarations) blocks) }

@@ -1,6 +1,7 @@
 //! The style rules that match an element, in the order in which they count.
 
-ghost use Rattle.std.specs.Prelude.{◌≡◌, ◌<◌, ◌++◌, ◌∷◌, [], cond, map, fold, filter, length, IfOk, OnOk, IsSome, Some, slice_get, option_to_list};
+ghost use Rattle.std.specs.Prelude.{◌≡◌, ◌<◌, ◌++◌, ◌∷◌, [], cond, map, fold, filter, length, IfOk, OnOk, IsSome, Some, slice_get};
+ghost use Rattle.std.specs.Prelude.{option_to_list};
 ghost use Rattle.page_tree.specs.Pages.{find_in};
 ghost use Rattle.page_tree.specs.Zippers.{zipper_at};
 ghost use Rattle.selectors.specs.Lists.{list_seen};

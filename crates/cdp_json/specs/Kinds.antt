@@ -1,8 +1,10 @@
 -- A kind of value: how it is spelled as JSON, and how it is read. A larger kind is made of smaller ones.
-use Rattle.std.specs.Prelude.{ℕ, ◌^◌, ℤ, pos, negsuc, List, [], ◌∷◌, map, Bool, true, false, ◌&&◌, ◌||◌, nat_lt, int_lt, if◌then◌else◌, Option, Some, None, option_map, option_and_then, bytes_eq, ⊤}
+use Rattle.std.specs.Prelude.{ℕ, ◌^◌, ℤ, pos, negsuc, List, [], ◌∷◌, map, Bool, true, false, ◌&&◌, ◌||◌, nat_lt, int_lt, if◌then◌else◌}
+use Rattle.std.specs.Prelude.{Option, Some, None, option_map, option_and_then, bytes_eq, ⊤}
 use Rattle.std.specs.Ordering.{int_eq}
 use Rattle.std.specs.List.{list_all}
-use Rattle.serde_json.specs.Data.{Num, unsigned, negative, float, Data, boolean, number, string, array, object, Items, no_items, item, Members}
+use Rattle.serde_json.specs.Data.{Num, unsigned, negative, float, Data, boolean, number, string, array, object, Items, no_items, item}
+use Rattle.serde_json.specs.Data.{Members}
 use Rattle.serde_json.specs.Find.{as_bool, as_number, as_str, as_array, as_object, as_i64, of_integer}
 use Rattle.serde_json.specs.View.{items_of}
 use Rattle.cdp_json.specs.Plain.{is_plain, items_are_plain, members_are_plain}
@@ -116,12 +118,22 @@ any_object = record { spell = object; reads = as_object; fits = λ _. true; loos
 
 -- those of k that pass a test, as a rule across the fields of an object
 abbrev pub refined : {T : Type 0} → Kind T → (T → Bool) → Kind T
-refined k test = record { spell = k.spell; reads = λ d. option_and_then (if_holds test) (k.reads d); fits = λ x. k.fits x && test x; loose = k.loose }
+refined k test = record {
+  spell = k.spell;
+  reads = λ d. option_and_then (if_holds test) (k.reads d);
+  fits = λ x. k.fits x && test x;
+  loose = k.loose;
+}
 
 -- a value that is spelled as another
 abbrev pub through : {S T : Type 0} → Kind S → (T → S) → (S → Option T) → Kind T
 through k to from =
-    record { spell = λ x. k.spell (to x); reads = λ d. option_and_then from (k.reads d); fits = λ x. k.fits (to x); loose = option_map (λ test x. test (to x)) k.loose }
+    record {
+      spell = λ x. k.spell (to x);
+      reads = λ d. option_and_then from (k.reads d);
+      fits = λ x. k.fits (to x);
+      loose = option_map (λ test x. test (to x)) k.loose;
+    }
 
 -- the first of a list that has this name
 abbrev pub named : {T : Type 0} → (T → List ℕ) → List T → List ℕ → Option T

@@ -1,5 +1,6 @@
 -- Fields of an object that are looked up by their names, one after the other. What else stands in the object counts for nothing.
-use Rattle.std.specs.Prelude.{ℕ, List, [], ◌∷◌, Bool, true, not, ◌&&◌, Option, Some, None, option_map, option_and_then, Result, Ok, Err, bytes_eq, ⊤}
+use Rattle.std.specs.Prelude.{ℕ, List, [], ◌∷◌, Bool, true, not, ◌&&◌, Option, Some, None, option_map, option_and_then, Result, Ok, Err}
+use Rattle.std.specs.Prelude.{bytes_eq, ⊤}
 use Rattle.std.specs.List.{list_all}
 use Rattle.serde_json.specs.Data.{object, Members, no_members, put}
 use Rattle.serde_json.specs.Find.{as_object}
@@ -66,7 +67,12 @@ ok_value (Err e) = None
 
 -- an object that has these fields, beside any others; written with these alone
 abbrev pub object_with : {E T : Type 0} → Lookups E T → Kind T
-object_with l = record { spell = λ x. object (l.puts x); reads = λ d. option_and_then (λ ms. ok_value (l.gets ms)) (as_object d); fits = l.fits; loose = None }
+object_with l = record {
+  spell = λ x. object (l.puts x);
+  reads = λ d. option_and_then (λ ms. ok_value (l.gets ms)) (as_object d);
+  fits = l.fits;
+  loose = None;
+}
 
 -- the name is none of these
 abbrev pub is_none_of : List ℕ → List (List ℕ) → Bool

@@ -1,5 +1,6 @@
 -- The fields of an object, in the order of their names: how they are spelled, and how they are read one after another.
-use Rattle.std.specs.Prelude.{ℕ, List, [], ◌∷◌, Bool, true, false, ◌&&◌, if◌then◌else◌, Option, Some, None, option_map, option_and_then, is_some, bytes_eq, ⊤}
+use Rattle.std.specs.Prelude.{ℕ, List, [], ◌∷◌, Bool, true, false, ◌&&◌, if◌then◌else◌, Option, Some, None, option_map, option_and_then}
+use Rattle.std.specs.Prelude.{is_some, bytes_eq, ⊤}
 use Rattle.serde_json.specs.Data.{Data, object, Members, no_members, member}
 use Rattle.serde_json.specs.Find.{as_object}
 use Rattle.cdp_json.specs.Kinds.{Kind, holds_of_some, only_true}
@@ -121,4 +122,9 @@ and_true name row = record {
 
 -- an object with exactly these fields
 abbrev pub object_of : {T : Type 0} → Row T → Kind T
-object_of row = record { spell = λ x. object (members_of (row.writes x)); reads = λ d. option_and_then row.gets (as_object d); fits = row.fits; loose = row.loose }
+object_of row = record {
+  spell = λ x. object (members_of (row.writes x));
+  reads = λ d. option_and_then row.gets (as_object d);
+  fits = row.fits;
+  loose = row.loose;
+}

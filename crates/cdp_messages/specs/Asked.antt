@@ -103,7 +103,8 @@ asked bytes own = asked_value own (json_of bytes)
 
 -- the members of a command: its id, its method, and its parameters and its session where they are given
 abbrev pub request_row : Row (ℕ × (List ℕ × (Option Data × (Option Data × ⊤))))
-request_row = and_need (codes "id") whole (and_need (codes "method") text (and_may (codes "params") anything (and_may (codes "sessionId") anything ends)))
+request_row = and_need (codes "id") whole
+    (and_need (codes "method") text (and_may (codes "params") anything (and_may (codes "sessionId") anything ends)))
 
 -- a command as JSON
 abbrev pub request : Kind (ℕ × (List ℕ × (Option Data × (Option Data × ⊤))))

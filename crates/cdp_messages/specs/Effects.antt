@@ -7,7 +7,8 @@ use Rattle.cdp_messages.specs.declared.effects.Effect.TheVariants.{Document, She
 
 -- of a command without a result, by its method: the one ends all that is told, the other what is told of sheets
 abbrev pub effect_of_method : List ℕ → Effect
-effect_of_method method = cond (bytes_eq method (codes "DOM.disable")) AllOff (cond (bytes_eq method (codes "CSS.disable")) SheetsOff NothingElse)
+effect_of_method method = cond (bytes_eq method (codes "DOM.disable")) AllOff
+    (cond (bytes_eq method (codes "CSS.disable")) SheetsOff NothingElse)
 
 -- of an Ok reply to that method, with this result
 abbrev pub effect_of : List ℕ → ReplyBody → Effect

@@ -14,7 +14,10 @@ use Rattle.cdp_messages.specs.declared.command.WatchWord.TheVariants.{Subtree, A
 use Rattle.cdp_messages.specs.declared.down.Event.{Event}
 use Rattle.css_objects.specs.declared.sheets.Header.{Header}
 use Rattle.css_objects.specs.Sheets.{sheet_kind, header_kind}
-use Rattle.cdp_messages.specs.declared.down.Event.TheVariants.{AttributeModified, AttributeRemoved, CharacterDataModified, ChildNodeCountUpdated, ChildNodeInserted, ChildNodeRemoved, SetChildNodes, DocumentUpdated, StyleSheetAdded, StyleSheetChanged, StyleSheetRemoved, Paused}
+use Rattle.cdp_messages.specs.declared.down.Event.TheVariants.{AttributeModified, AttributeRemoved, CharacterDataModified}
+use Rattle.cdp_messages.specs.declared.down.Event.TheVariants.{ChildNodeCountUpdated, ChildNodeInserted, ChildNodeRemoved, SetChildNodes}
+use Rattle.cdp_messages.specs.declared.down.Event.TheVariants.{DocumentUpdated, StyleSheetAdded, StyleSheetChanged, StyleSheetRemoved}
+use Rattle.cdp_messages.specs.declared.down.Event.TheVariants.{Paused}
 use Rattle.cdp_messages.specs.declared.down.PauseData.{PauseData}
 use Rattle.cdp_messages.specs.declared.down.PauseData.TheVariants as pause
 use Rattle.cdp_messages.specs.declared.event_names.EventName.{EventName}
@@ -147,7 +150,8 @@ count_kind = object_of (and_need (codes "childNodeCount") whole (and_need (codes
 
 -- of `DOM.childNodeInserted`: the node, the id of its parent, and that of the sibling before it, or 0
 abbrev pub inserted_kind : Kind (Branch Told × (ℕ × (ℕ × ⊤)))
-inserted_kind = object_of (and_need (codes "node") bare_kind (and_need (codes "parentNodeId") node_id (and_need (codes "previousNodeId") whole ends)))
+inserted_kind = object_of (and_need (codes "node") bare_kind
+    (and_need (codes "parentNodeId") node_id (and_need (codes "previousNodeId") whole ends)))
 
 -- of `DOM.childNodeRemoved`
 abbrev pub removed_kind : Kind (ℕ × (ℕ × ⊤))
@@ -212,7 +216,8 @@ pause_from f = pause_by f.1.1.1.0 f.0 f.1.1.0 f.1.0
 -- a pause as JSON
 abbrev pub pause_kind : Kind PauseData
 pause_kind =
-    through (object_of (and_may (codes "insertion") flag (and_need (codes "nodeId") node_id (and_may (codes "targetNodeId") node_id (and_need (codes "type") watch ends)))))
+    through (object_of (and_may (codes "insertion") flag
+    (and_need (codes "nodeId") node_id (and_may (codes "targetNodeId") node_id (and_need (codes "type") watch ends)))))
     pause_fields pause_from
 
 -- an empty list of call frames
@@ -221,7 +226,8 @@ no_call_frames = through any_items (λ _. no_items) (λ ds. unit_if (has_none ds
 
 -- of `Debugger.paused`
 abbrev pub paused_kind : Kind (⊤ × (PauseData × (⊤ × ⊤)))
-paused_kind = object_of (and_need (codes "callFrames") no_call_frames (and_need (codes "data") pause_kind (and_need (codes "reason") (only_text (codes "DOM")) ends)))
+paused_kind = object_of (and_need (codes "callFrames") no_call_frames
+    (and_need (codes "data") pause_kind (and_need (codes "reason") (only_text (codes "DOM")) ends)))
 
 -- ---- each event, written
 
@@ -312,7 +318,8 @@ children_seen p = (items_view p.0.now, (p.1, tt))
 
 -- the parameters that tell a new child, with the node as JSON
 abbrev pub inserted_fields : Kind (Data × (ℕ × (ℕ × ⊤)))
-inserted_fields = object_of (and_need (codes "node") anything (and_need (codes "parentNodeId") node_id (and_need (codes "previousNodeId") whole ends)))
+inserted_fields = object_of (and_need (codes "node") anything
+    (and_need (codes "parentNodeId") node_id (and_need (codes "previousNodeId") whole ends)))
 
 -- these parameters as code holds them
 abbrev pub inserted_seen : Bor Value × (ℕ × ℕ) → Data × (ℕ × (ℕ × ⊤))

@@ -3,7 +3,8 @@ use Rattle.std.specs.Prelude.{◌≡◌, ◌⊎◌, ℕ, ℤ, Float, List, [], B
 use Rattle.std.specs.Coded.{Coded, code_by, coded×, coded⊎, coded_ℕ, coded_ℤ, coded_bool, coded_list, coded_option}
 use Rattle.std.proofs.Common.{inl, inr, ap, ap₂}
 use base.Stored.{coded_float}
-use Rattle.serde_json.specs.Data.{Num, unsigned, negative, float, Data, null, boolean, number, string, array, object, Items, no_items, item, Members, no_members, member}
+use Rattle.serde_json.specs.Data.{Num, unsigned, negative, float, Data, null, boolean, number, string, array, object, Items, no_items, item}
+use Rattle.serde_json.specs.Data.{Members, no_members, member}
 use Rattle.node_tree.specs.Nodes.{Nodes, none, node, coded_nodes}
 
 -- a number by its form
@@ -109,5 +110,6 @@ coded_symbol = coded_option (coded⊎ coded_bool (coded⊎ coded_number (coded�
 -- a value by its symbol and the rows of what stands inside
 abbrev pub coded_data : Coded Data
 coded_data =
-    code_by (Symbol × Nodes SymbolRow) (coded× coded_symbol (coded_nodes (coded× (coded_list coded_ℕ) coded_symbol))) (λ d. (symbol d, inside d))
+    code_by (Symbol × Nodes SymbolRow) (coded× coded_symbol (coded_nodes (coded× (coded_list coded_ℕ) coded_symbol)))
+    (λ d. (symbol d, inside d))
     (λ p. data_from p.0 (items_from p.1) (members_from p.1)) data_back

@@ -21,13 +21,18 @@ use Rattle.cdp_messages.specs.Methods.{is_own}
 use Rattle.cdp_messages.specs.declared.dom_ask.DomAsk.{DomAsk}
 use Rattle.cdp_messages.specs.DomAsks.{as_command, dom_ask_in}
 use Rattle.cdp_messages.specs.declared.down.ReplyBody.{ReplyBody}
-use Rattle.cdp_messages.specs.declared.down.ReplyBody.TheVariants.{Nothing, Root, Node, NodeId, NodeIds, Attributes, ClassNames, SheetText, Styles, Selectors, Rule, Matched}
-use Rattle.cdp_messages.specs.Asked.{asked, asked_by, command_of, method_of, method_name, parameters, fits_command, command_value, command_text}
-use Rattle.cdp_messages.specs.Events.{News, attribute_modified, attribute_removed, text_modified, count_updated, inserted, removed, set_children, document_updated, sheet_added, sheet_changed, sheet_removed, paused, is_object, news_data, fits_news}
+use Rattle.cdp_messages.specs.declared.down.ReplyBody.TheVariants.{Nothing, Root, Node, NodeId, NodeIds, Attributes, ClassNames, SheetText}
+use Rattle.cdp_messages.specs.declared.down.ReplyBody.TheVariants.{Styles, Selectors, Rule, Matched}
+use Rattle.cdp_messages.specs.Asked.{asked, asked_by, command_of, method_of, method_name, parameters, fits_command, command_value}
+use Rattle.cdp_messages.specs.Asked.{command_text}
+use Rattle.cdp_messages.specs.Events.{News, attribute_modified, attribute_removed, text_modified, count_updated, inserted, removed}
+use Rattle.cdp_messages.specs.Events.{set_children, document_updated, sheet_added, sheet_changed, sheet_removed, paused, is_object}
+use Rattle.cdp_messages.specs.Events.{news_data, fits_news}
 use Rattle.cdp_messages.specs.Methods.{method_named}
 use Rattle.cdp_messages.specs.declared.method.Method.{Method}
 use Rattle.cdp_messages.specs.Results.{result_form, is_form}
-use Rattle.cdp_messages.specs.Replies.{Message, reply, fault, event, event_text, message_data, fits_message, message_in, down_of, body_data, fits_body, form_of_body, result_of, reply_text, refusal_message, refused_text}
+use Rattle.cdp_messages.specs.Replies.{Message, reply, fault, event, event_text, message_data, fits_message, message_in, down_of, body_data}
+use Rattle.cdp_messages.specs.Replies.{fits_body, form_of_body, result_of, reply_text, refusal_message, refused_text}
 
 -- JSON nests as deep as it is read
 abbrev pub Shallow : Data → Type 0
@@ -35,13 +40,15 @@ Shallow d = depth d ≤ max_depth
 
 -- a frame that was written is asked as its method, its parameters and its session say
 abbrev pub AsksAreAsked : Type 0
-AsksAreAsked = (own : Bool) (id : ℕ) (method : List ℕ) (params session : Option Data) → is_counted id ≡ true → holds_of_some is_plain params ≡ true → holds_of_some is_plain session ≡ true
+AsksAreAsked = (own : Bool) (id : ℕ) (method : List ℕ) (params session : Option Data) → is_counted id ≡ true
+    → holds_of_some is_plain params ≡ true → holds_of_some is_plain session ≡ true
     → Shallow (command_value id method params session) → IsUtf8 (command_text id method params session)
     → asked (command_text id method params session) own ≡ asked_by id (command_of own method params session)
 
 -- a command with its parameters is that command, where its method is known
 abbrev pub ParametersAreRead : Type 0
-ParametersAreRead = (own : Bool) (c : Command) → fits_command c ≡ true → (is_own (method_of c) && not own) ≡ false → command_of own (method_name c) (Some (parameters c)) None ≡ Ok c
+ParametersAreRead = (own : Bool) (c : Command) → fits_command c ≡ true → (is_own (method_of c) && not own) ≡ false
+    → command_of own (method_name c) (Some (parameters c)) None ≡ Ok c
 
 -- the parameters of the protocol's commands are plain: those of our own two methods are as they were given
 abbrev pub ParametersArePlain : Type 0
@@ -49,13 +56,16 @@ ParametersArePlain = (c : Command) → fits_command c ≡ true → is_own (metho
 
 -- a command that was written with its parameters is asked as that command, where its method is known
 abbrev pub CommandsAreAsked : Type 0
-CommandsAreAsked = (own : Bool) (id : ℕ) (c : Command) → is_counted id ≡ true → fits_command c ≡ true → (is_own (method_of c) && not own) ≡ false → is_plain (parameters c) ≡ true
-    → Shallow (command_value id (method_name c) (Some (parameters c)) None) → IsUtf8 (command_text id (method_name c) (Some (parameters c)) None)
+CommandsAreAsked = (own : Bool) (id : ℕ) (c : Command) → is_counted id ≡ true → fits_command c ≡ true
+    → (is_own (method_of c) && not own) ≡ false → is_plain (parameters c) ≡ true
+    → Shallow (command_value id (method_name c) (Some (parameters c)) None)
+    → IsUtf8 (command_text id (method_name c) (Some (parameters c)) None)
     → asked (command_text id (method_name c) (Some (parameters c)) None) own ≡ Ok (record { id = id; command = c })
 
 -- a command that is asked by a method is one of that method, with its parameters in their ranges
 abbrev pub CommandsAreNamed : Type 0
-CommandsAreNamed = (own : Bool) (method : List ℕ) (params session : Option Data) (c : Command) → command_of own method params session ≡ Ok c → (method ≡ method_name c) × (fits_command c ≡ true)
+CommandsAreNamed = (own : Bool) (method : List ℕ) (params session : Option Data) (c : Command)
+    → command_of own method params session ≡ Ok c → (method ≡ method_name c) × (fits_command c ≡ true)
 
 -- what any bytes ask has an id below 2^53, and its parameters in their ranges
 abbrev pub AsksFit : Type 0
@@ -71,7 +81,8 @@ TextsHaveNoZero = (d : Data) → is_plain d ≡ true → All (λ byte. byte ≢ 
 
 -- a reply is read as that reply
 abbrev pub RepliesAreRead : Type 0
-RepliesAreRead = (id : ℕ) (body : ReplyBody) → is_counted id ≡ true → fits_body body ≡ true → Shallow (message_data (reply id (body_data body))) → IsUtf8 (reply_text id body)
+RepliesAreRead = (id : ℕ) (body : ReplyBody) → is_counted id ≡ true → fits_body body ≡ true
+    → Shallow (message_data (reply id (body_data body))) → IsUtf8 (reply_text id body)
     → down_of (reply_text id body) ≡ Some (reply id (body_data body))
 
 -- ---- UTF-8
@@ -136,7 +147,8 @@ ShownTreesFit = (b : Branch Seen) → suits_tree true b ≡ true → fits_tree t
 
 -- and so are shown children of a node with this id
 abbrev pub ShownChildrenFit : Type 0
-ShownChildrenFit = (parent : ℕ) (n : Nodes Seen) → is_counted parent ≡ true → 0 < parent → suits_nodes n ≡ true → fits_news (set_children parent (told_nodes parent n)) ≡ true
+ShownChildrenFit = (parent : ℕ) (n : Nodes Seen) → is_counted parent ≡ true → 0 < parent → suits_nodes n ≡ true
+    → fits_news (set_children parent (told_nodes parent n)) ≡ true
 
 -- how many levels of nodes a result tells
 abbrev pub body_height : ReplyBody → ℕ
@@ -186,7 +198,8 @@ RefusalsAreRead = (r : Refused) → holds_of_some is_counted r.id ≡ true → d
 
 -- the text of a message is read as that message: of one with any result that is an object, and of one with any code and any text
 abbrev pub MessagesAreRead : Type 0
-MessagesAreRead = (m : Message) → fits_message m ≡ true → is_plain (message_data m) ≡ true → Shallow (message_data m) → IsUtf8 (compact_text (message_data m))
+MessagesAreRead = (m : Message) → fits_message m ≡ true → is_plain (message_data m) ≡ true → Shallow (message_data m)
+    → IsUtf8 (compact_text (message_data m))
     → down_of (compact_text (message_data m)) ≡ Some m
 
 -- an error of any code and any text is read as that error
@@ -209,7 +222,8 @@ ObjectsAreEmpty = (method : List ℕ) (ms : Members) → answers method Nothing 
 
 -- a result is read as that result
 abbrev pub ResultsAreRead : Type 0
-ResultsAreRead = (method : List ℕ) (body : ReplyBody) → answers method body ≡ true → fits_body body ≡ true → result_of method (body_data body) ≡ Some body
+ResultsAreRead = (method : List ℕ) (body : ReplyBody) → answers method body ≡ true → fits_body body ≡ true
+    → result_of method (body_data body) ≡ Some body
 
 -- a message that is read is spelled so
 abbrev pub MessagesAreSpelled : Type 0

@@ -13,16 +13,19 @@ use Rattle.cdp_messages.specs.LabelChanges.{with_attribute, without_attribute, w
 use Rattle.node_tree.specs.Seen.{Seen, counted, opened, shows_count as is_shut, is_opened, seen_id}
 use Rattle.cdp_messages.specs.declared.command.Refused.{Refused}
 use Rattle.cdp_messages.specs.declared.down.ReplyBody.{ReplyBody}
-use Rattle.cdp_messages.specs.declared.down.ReplyBody.TheVariants.{Nothing, Root, Node, NodeId, NodeIds, Attributes, ClassNames, SheetText, Styles, Selectors, Rule, Matched}
+use Rattle.cdp_messages.specs.declared.down.ReplyBody.TheVariants.{Nothing, Root, Node, NodeId, NodeIds, Attributes, ClassNames, SheetText}
+use Rattle.cdp_messages.specs.declared.down.ReplyBody.TheVariants.{Styles, Selectors, Rule, Matched}
 use Rattle.cdp_messages.specs.declared.down.PauseData.{PauseData}
 use Rattle.cdp_messages.specs.declared.down.PauseData.TheVariants as pause
-use Rattle.cdp_messages.specs.Events.{News, attribute_modified, attribute_removed, text_modified, count_updated, inserted, removed, set_children, document_updated, paused, sheet_added, sheet_changed, sheet_removed}
+use Rattle.cdp_messages.specs.Events.{News, attribute_modified, attribute_removed, text_modified, count_updated, inserted, removed}
+use Rattle.cdp_messages.specs.Events.{set_children, document_updated, paused, sheet_added, sheet_changed, sheet_removed}
 use Rattle.pipe_frames.specs.Frames.{framed}
 use Rattle.cdp_messages.specs.Tellable.{suits_tree}
 use Rattle.cdp_messages.specs.Told.{told_nodes, told_branch}
 use Rattle.cdp_messages.specs.Replies.{Message, reply, event, message_data, refusal_message, body_data, fits_body}
 use Rattle.cdp_messages.specs.Laws.{LabelHasUtf8, BodyHasUtf8, body_height}
-use Rattle.cdp_messages.specs.Views.{ShownSheet, sheet_number, AreSheets, text_units, sheet_header, shows_sheet, shown_text, sheets_without, sheets_with_text, View, IsView, is_distinct}
+use Rattle.cdp_messages.specs.Views.{ShownSheet, sheet_number, AreSheets, text_units, sheet_header, shows_sheet, shown_text, sheets_without}
+use Rattle.cdp_messages.specs.Views.{sheets_with_text, View, IsView, is_distinct}
 
 -- ---- one shown node changes
 

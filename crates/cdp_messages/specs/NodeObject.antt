@@ -1,5 +1,6 @@
 -- One node as a JSON object: its fields, and what has to hold across them. Its children are left as the items of an array.
-use Rattle.std.specs.Prelude.{ℕ, ◌==◌, List, [], ◌∷◌, Bool, true, false, not, ◌&&◌, ◌||◌, cond, nat_lt, codes, Option, Some, None, option_map, is_some, unwrap_or, bytes_eq, ⊤}
+use Rattle.std.specs.Prelude.{ℕ, ◌==◌, List, [], ◌∷◌, Bool, true, false, not, ◌&&◌, ◌||◌, cond, nat_lt, codes, Option, Some, None}
+use Rattle.std.specs.Prelude.{option_map, is_some, unwrap_or, bytes_eq, ⊤}
 use Rattle.std.specs.Str.{str_to_ascii_uppercase}
 use Rattle.serde_json.specs.Data.{Data, object, Items, no_items, no_members, member}
 use Rattle.serde_json.specs.Events.{items_len}
@@ -104,8 +105,11 @@ of_fields f = record {
 -- an object with the fields of a node, by their values
 abbrev pub node_members : Option Data → Data → Option Data → Option Data → Data → Data → Data → Data → Data → Option Data → Data
 node_members a s c k l i n t v p = object
-    (maybe_member (codes "attributes") a (member (codes "backendNodeId") s (maybe_member (codes "childNodeCount") c (maybe_member (codes "children") k (member (codes "localName") l
-    (member (codes "nodeId") i (member (codes "nodeName") n (member (codes "nodeType") t (member (codes "nodeValue") v (maybe_member (codes "parentId") p no_members))))))))))
+    (maybe_member (codes "attributes") a
+    (member (codes "backendNodeId") s
+    (maybe_member (codes "childNodeCount") c (maybe_member (codes "children") k (member (codes "localName") l
+    (member (codes "nodeId") i (member (codes "nodeName") n
+    (member (codes "nodeType") t (member (codes "nodeValue") v (maybe_member (codes "parentId") p no_members))))))))))
 
 -- an object with these fields in these forms, whatever they say together
 abbrev pub node_fields : Description NodeObject
@@ -179,7 +183,12 @@ abbrev pub told_in : NodeObject → Told
 told_in o = record {
   parent = unwrap_or o.parent 0;
   count = unwrap_or o.count 0;
-  seen = record { id = o.id; serial = o.serial; label = label_in o; hold = hold_of (is_some o.children) (holds o.kind) (unwrap_or o.count 0) };
+  seen = record {
+    id = o.id;
+    serial = o.serial;
+    label = label_in o;
+    hold = hold_of (is_some o.children) (holds o.kind) (unwrap_or o.count 0);
+  };
 }
 
 -- the items of `children`, none where it is absent

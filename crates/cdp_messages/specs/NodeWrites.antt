@@ -42,18 +42,27 @@ told_by r = record {
 abbrev pub message_with : NodeMessage → Data → Data
 message_with (Root id) d = message_data (reply id (object (member (codes "root") d no_members)))
 message_with (Node id) d = message_data (reply id (object (member (codes "node") d no_members)))
-message_with (Children parent) d = envelope.spell (event_name SetChildNodes, (object (member (codes "nodes") d (member (codes "parentId") (whole.spell parent) no_members)), tt))
+message_with (Children parent) d = envelope.spell
+    (event_name SetChildNodes, (object (member (codes "nodes") d (member (codes "parentId") (whole.spell parent) no_members)), tt))
 message_with (Inserted parent previous) d =
-    envelope.spell
-    (event_name ChildNodeInserted, (object (member (codes "node") d (member (codes "parentNodeId") (whole.spell parent) (member (codes "previousNodeId") (whole.spell previous) no_members))), tt))
+    envelope.spell (
+      event_name ChildNodeInserted,
+      (
+        object (member (codes "node") d
+            (member (codes "parentNodeId") (whole.spell parent) (member (codes "previousNodeId") (whole.spell previous) no_members))),
+        tt,
+      ),
+    )
 
 -- a reply up to the one member of its result
 abbrev pub reply_opening : ℕ → List ℕ → List Token
-reply_opening id name = begin_object ∷ (field_tokens (codes "id") (Some (whole.spell id)) ++ key (codes "result") ∷ begin_object ∷ key name ∷ [])
+reply_opening id name = begin_object
+    ∷ (field_tokens (codes "id") (Some (whole.spell id)) ++ key (codes "result") ∷ begin_object ∷ key name ∷ [])
 
 -- an event of that method up to the first of its parameters
 abbrev pub event_opening : List ℕ → List ℕ → List Token
-event_opening method name = begin_object ∷ (field_tokens (codes "method") (Some (text.spell method)) ++ key (codes "params") ∷ begin_object ∷ key name ∷ [])
+event_opening method name = begin_object
+    ∷ (field_tokens (codes "method") (Some (text.spell method)) ++ key (codes "params") ∷ begin_object ∷ key name ∷ [])
 
 -- what is written before the nodes
 abbrev pub opening_tokens : NodeMessage → List Token
@@ -67,7 +76,8 @@ abbrev pub fields_behind : NodeMessage → List Token
 fields_behind (Root id) = []
 fields_behind (Node id) = []
 fields_behind (Children parent) = field_tokens (codes "parentId") (Some (whole.spell parent))
-fields_behind (Inserted parent previous) = field_tokens (codes "parentNodeId") (Some (whole.spell parent)) ++ field_tokens (codes "previousNodeId") (Some (whole.spell previous))
+fields_behind (Inserted parent previous) = field_tokens (codes "parentNodeId") (Some (whole.spell parent))
+    ++ field_tokens (codes "previousNodeId") (Some (whole.spell previous))
 
 -- what is written behind the nodes
 abbrev pub closing_tokens : NodeMessage → List Token

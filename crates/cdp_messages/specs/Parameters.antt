@@ -6,7 +6,13 @@ use Rattle.cdp_json.specs.Kinds.{Kind, whole, text, flag, through, list_of, as_d
 use Rattle.cdp_json.specs.Fields.{field_of}
 use Rattle.cdp_json.specs.Lookups.{then_ok, optional, Lookups, no_lookups, look_for, may_look_for, object_with}
 use Rattle.cdp_messages.specs.declared.command.Command.{Command}
-use Rattle.cdp_messages.specs.declared.command.Command.TheVariants.{DomEnable, DomDisable, GetDocument, RequestChildNodes, PushByPath, PushBySerials, QuerySelector, QuerySelectorAll, GetAttributes, DescribeNode, SetAttributeValue, RemoveAttribute, SetNodeValue, RemoveNode, MoveTo, CopyTo, MarkUndoableState, Undo, Redo, CssEnable, CssDisable, GetMatchedStyles, GetStyleSheetText, CollectClassNames, SetStyleTexts, SetRuleSelector, SetStyleSheetText, AddRule, SetBreakpoint, RemoveBreakpoint, ReplayLoad, ReplayAct}
+use Rattle.cdp_messages.specs.declared.command.Command.TheVariants.{DomEnable, DomDisable, GetDocument, RequestChildNodes, PushByPath}
+use Rattle.cdp_messages.specs.declared.command.Command.TheVariants.{PushBySerials, QuerySelector, QuerySelectorAll, GetAttributes}
+use Rattle.cdp_messages.specs.declared.command.Command.TheVariants.{DescribeNode, SetAttributeValue, RemoveAttribute, SetNodeValue}
+use Rattle.cdp_messages.specs.declared.command.Command.TheVariants.{RemoveNode, MoveTo, CopyTo, MarkUndoableState, Undo, Redo, CssEnable}
+use Rattle.cdp_messages.specs.declared.command.Command.TheVariants.{CssDisable, GetMatchedStyles, GetStyleSheetText, CollectClassNames}
+use Rattle.cdp_messages.specs.declared.command.Command.TheVariants.{SetStyleTexts, SetRuleSelector, SetStyleSheetText, AddRule}
+use Rattle.cdp_messages.specs.declared.command.Command.TheVariants.{SetBreakpoint, RemoveBreakpoint, ReplayLoad, ReplayAct}
 use Rattle.cdp_messages.specs.declared.command.Param.{Param}
 use Rattle.cdp_messages.specs.declared.command.Param.TheVariants as param
 use Rattle.cdp_messages.specs.declared.command.Why.{Why}
@@ -27,7 +33,8 @@ depth_number = record { spell = λ z. number (of_integer z); reads = as_depth; f
 
 -- a range in a sheet's text; where it is read, further fields count for nothing
 abbrev pub place_fields : Lookups ⊤ (ℕ × (ℕ × (ℕ × (ℕ × ⊤))))
-place_fields = look_for (codes "startLine") tt whole (look_for (codes "startColumn") tt whole (look_for (codes "endLine") tt whole (look_for (codes "endColumn") tt whole no_lookups)))
+place_fields = look_for (codes "startLine") tt whole
+    (look_for (codes "startColumn") tt whole (look_for (codes "endLine") tt whole (look_for (codes "endColumn") tt whole no_lookups)))
 
 -- a range as its fields
 abbrev pub place_parts : SourceRange → ℕ × (ℕ × (ℕ × (ℕ × ⊤)))
@@ -43,7 +50,8 @@ range_parameter = through (object_with place_fields) place_parts place_from
 
 -- one edit of a sheet; further fields count for nothing
 abbrev pub edit_fields : Lookups ⊤ (List ℕ × (SourceRange × (List ℕ × ⊤)))
-edit_fields = look_for (param_name param.StyleSheetId) tt text (look_for (param_name param.Range) tt range_parameter (look_for (param_name param.Text) tt text no_lookups))
+edit_fields = look_for (param_name param.StyleSheetId) tt text
+    (look_for (param_name param.Range) tt range_parameter (look_for (param_name param.Text) tt text no_lookups))
 
 -- an edit as its fields
 abbrev pub edit_parts : TextEdit → List ℕ × (SourceRange × (List ℕ × ⊤))
@@ -74,9 +82,11 @@ one_there p None (Some b) = Ok tt
 one_there p (Some a) b = Ok tt
 
 -- the second of two, and then what follows, where one of both is there
-abbrev pub with_second : {A B C : Type 0} → Param → Param → Kind B → Lookups Why C → Members → Option A → Result (Option A × (Option B × C)) Why
+abbrev pub with_second : {A B C : Type 0} → Param → Param → Kind B → Lookups Why C → Members → Option A
+    → Result (Option A × (Option B × C)) Why
 with_second p q l later ms a =
-    then_ok (optional (BadParam q) (field_of l.reads (param_name q) ms)) (λ b. then_ok (one_there p a b) (λ _. then_ok (later.gets ms) (λ c. Ok (a, (b, c)))))
+    then_ok (optional (BadParam q) (field_of l.reads (param_name q) ms))
+    (λ b. then_ok (one_there p a b) (λ _. then_ok (later.gets ms) (λ c. Ok (a, (b, c)))))
 
 -- one of two parameters, or both, before the others; where neither is there, the first is refused
 abbrev pub one_of : {A B C : Type 0} → Param → Kind A → Param → Kind B → Lookups Why C → Lookups Why (Option A × (Option B × C))

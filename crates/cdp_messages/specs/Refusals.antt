@@ -3,7 +3,11 @@ use Rattle.std.specs.Prelude.{ℕ, ℤ, negsuc, List, [], ◌++◌, codes}
 use Rattle.cdp_messages.specs.declared.command.Param.{Param}
 use Rattle.cdp_messages.specs.declared.command.Param.TheVariants as param
 use Rattle.cdp_messages.specs.declared.command.Why.{Why}
-use Rattle.cdp_messages.specs.declared.command.Why.TheVariants.{NotJson, NoId, BadRequest, NoSession, NoMethod, BadParam, DomOff, CssOff, UnknownNode, NotPushed, NoPath, BadQuery, Crossed, NoNode, NotElement, NotText, IsDocument, NotChild, Inside, TooDeep, TooMany, BadName, NoAttr, NotContainer, NoSheet, NotMutable, BadRange, BadText, BadSelector, BadPlace, TooBig}
+use Rattle.cdp_messages.specs.declared.command.Why.TheVariants.{NotJson, NoId, BadRequest, NoSession, NoMethod, BadParam, DomOff, CssOff}
+use Rattle.cdp_messages.specs.declared.command.Why.TheVariants.{UnknownNode, NotPushed, NoPath, BadQuery, Crossed, NoNode, NotElement}
+use Rattle.cdp_messages.specs.declared.command.Why.TheVariants.{NotText, IsDocument, NotChild, Inside, TooDeep, TooMany, BadName, NoAttr}
+use Rattle.cdp_messages.specs.declared.command.Why.TheVariants.{NotContainer, NoSheet, NotMutable, BadRange, BadText, BadSelector, BadPlace}
+use Rattle.cdp_messages.specs.declared.command.Why.TheVariants.{TooBig}
 
 -- a parameter's name in a command
 abbrev pub param_name : Param → List ℕ

@@ -12,7 +12,8 @@ use Rattle.cdp_messages.specs.declared.command.Refused.{Refused}
 use Rattle.cdp_messages.specs.declared.down.Down.{Down}
 use Rattle.cdp_messages.specs.declared.down.Down.TheVariants.{Reply, Fault, Event}
 use Rattle.cdp_messages.specs.declared.down.ReplyBody.{ReplyBody}
-use Rattle.cdp_messages.specs.declared.down.ReplyBody.TheVariants.{Nothing, Root, Node, NodeId, NodeIds, Attributes, ClassNames, SheetText, Styles, Selectors, Rule, Matched}
+use Rattle.cdp_messages.specs.declared.down.ReplyBody.TheVariants.{Nothing, Root, Node, NodeId, NodeIds, Attributes, ClassNames, SheetText}
+use Rattle.cdp_messages.specs.declared.down.ReplyBody.TheVariants.{Styles, Selectors, Rule, Matched}
 use Rattle.cdp_messages.specs.declared.method.Method.{Method}
 use Rattle.cdp_messages.specs.declared.result_forms.ResultForm.{ResultForm}
 use Rattle.cdp_messages.specs.declared.result_forms.ResultForm.TheVariants as form
@@ -88,7 +89,8 @@ fault_from p = fault p.1.0 p.0.0 p.0.1.0
 
 -- the message that a value spells
 abbrev pub message_in : Data → Option Message
-message_in d = first_of (option_map reply_from (reply_kind.reads d)) (first_of (option_map fault_from (fault_kind.reads d)) (option_map event (news_in d)))
+message_in d = first_of (option_map reply_from (reply_kind.reads d))
+    (first_of (option_map fault_from (fault_kind.reads d)) (option_map event (news_in d)))
 
 -- the message that these bytes are
 abbrev pub down_of : List ℕ → Option Message

@@ -8,7 +8,13 @@ use Rattle.node_tree.specs.Labels.{Pair, is_ascending}
 use Rattle.node_tree.specs.Names.{is_attribute_name}
 use Rattle.node_tree.specs.Nodes.{Branch}
 use Rattle.cdp_messages.specs.declared.method.Method.{Method}
-use Rattle.cdp_messages.specs.declared.method.Method.TheVariants.{DomEnable, DomDisable, GetDocument, RequestChildNodes, PushByPath, PushBySerials, QuerySelector, QuerySelectorAll, GetAttributes, DescribeNode, SetAttributeValue, RemoveAttribute, SetNodeValue, RemoveNode, MoveTo, CopyTo, MarkUndoableState, Undo, Redo, CssEnable, CssDisable, GetMatchedStyles, GetStyleSheetText, CollectClassNames, SetStyleTexts, SetRuleSelector, SetStyleSheetText, AddRule, SetBreakpoint, RemoveBreakpoint, ReplayLoad, ReplayAct}
+use Rattle.cdp_messages.specs.declared.method.Method.TheVariants.{DomEnable, DomDisable, GetDocument, RequestChildNodes, PushByPath}
+use Rattle.cdp_messages.specs.declared.method.Method.TheVariants.{PushBySerials, QuerySelector, QuerySelectorAll, GetAttributes}
+use Rattle.cdp_messages.specs.declared.method.Method.TheVariants.{DescribeNode, SetAttributeValue, RemoveAttribute, SetNodeValue}
+use Rattle.cdp_messages.specs.declared.method.Method.TheVariants.{RemoveNode, MoveTo, CopyTo, MarkUndoableState, Undo, Redo, CssEnable}
+use Rattle.cdp_messages.specs.declared.method.Method.TheVariants.{CssDisable, GetMatchedStyles, GetStyleSheetText, CollectClassNames}
+use Rattle.cdp_messages.specs.declared.method.Method.TheVariants.{SetStyleTexts, SetRuleSelector, SetStyleSheetText, AddRule, SetBreakpoint}
+use Rattle.cdp_messages.specs.declared.method.Method.TheVariants.{RemoveBreakpoint, ReplayLoad, ReplayAct}
 use Rattle.cdp_messages.specs.declared.node_rules.Manner.TheVariants.{Pushed, Described}
 use Rattle.cdp_messages.specs.declared.result_forms.ResultForm.{ResultForm}
 use Rattle.cdp_messages.specs.declared.result_forms.ResultForm.TheVariants as form

@@ -16,7 +16,8 @@ suits_hold opened container = container
 -- The document is at the top and alone there; ids and serials are from 1 to 2^53-1, and so is no count above; names have their forms.
 abbrev pub suits_row : Bool → Seen → ℕ → Bool
 suits_row top r count =
-    is_counted r.id && is_counted r.serial && is_counted count && nat_lt 0 r.id && nat_lt 0 r.serial && is_formed_label r.label && is_named_label r.label
+    is_counted r.id && is_counted r.serial && is_counted count && nat_lt 0 r.id && nat_lt 0 r.serial && is_formed_label r.label
+    && is_named_label r.label
     && same (is_document r.label.kind) top && suits_hold r.hold (holds r.label.kind)
 
 -- what is not opened shows no children

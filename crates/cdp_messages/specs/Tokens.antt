@@ -21,8 +21,10 @@ field_tokens name (Some d) = key name ∷ data_tokens d
 -- those of a node's object up to its children
 abbrev pub head_tokens : Told → List Token
 head_tokens r =
-    begin_object ∷ (field_tokens (codes "attributes") (option_map attribute_list.spell (only_if (is_element r.seen.label.kind) r.seen.label.attributes))
-    ++ (field_tokens (codes "backendNodeId") (Some (whole.spell r.seen.serial)) ++ field_tokens (codes "childNodeCount") (option_map whole.spell (only_if (holds r.seen.label.kind) r.count))))
+    begin_object ∷ (field_tokens (codes "attributes")
+    (option_map attribute_list.spell (only_if (is_element r.seen.label.kind) r.seen.label.attributes))
+    ++ (field_tokens (codes "backendNodeId") (Some (whole.spell r.seen.serial))
+    ++ field_tokens (codes "childNodeCount") (option_map whole.spell (only_if (holds r.seen.label.kind) r.count))))
 
 -- those of a node's object behind its children
 abbrev pub tail_tokens : Told → List Token

@@ -14,7 +14,8 @@ pub record Told : Type 0 where
 
 -- a told row by its numbers
 abbrev pub coded_told : Coded Told
-coded_told = code_by ((ℕ × ℕ) × Seen) (coded× (coded× coded_ℕ coded_ℕ) coded_seen) (λ r. ((r.parent, r.count), r.seen)) (λ p. record { parent = p.0.0; count = p.0.1; seen = p.1 }) (λ _. refl)
+coded_told = code_by ((ℕ × ℕ) × Seen) (coded× (coded× coded_ℕ coded_ℕ) coded_seen) (λ r. ((r.parent, r.count), r.seen))
+    (λ p. record { parent = p.0.0; count = p.0.1; seen = p.1 }) (λ _. refl)
 
 -- what a message says is shown below a node: its children, or else their number where it can have some
 abbrev pub hold_of : Bool → Bool → ℕ → Hold
@@ -28,7 +29,14 @@ shown_children (Some trees) = nodes_of trees.items
 -- a tree by its fields
 abbrev pub told_tree : ℕ → ℕ → ℕ → ℕ → Label → Option (Vec (Branch Told) Global) → Branch Told
 told_tree parent count id serial label o =
-    record { row = record { parent = parent; count = count; seen = record { id = id; serial = serial; label = label; hold = hold_of (is_some o) (holds label.kind) count } }; children = shown_children o }
+    record {
+      row = record {
+        parent = parent;
+        count = count;
+        seen = record { id = id; serial = serial; label = label; hold = hold_of (is_some o) (holds label.kind) count };
+      };
+      children = shown_children o;
+    }
 
 -- ---- from told to shown, and back
 
@@ -50,11 +58,15 @@ count_in opened c = width c
 -- shown trees, told under the parent of this id
 abbrev pub told_nodes : ℕ → Nodes Seen → Nodes Told
 told_nodes parent none = none
-told_nodes parent (node r c t) = node (record { parent = parent; count = count_in r.hold c; seen = r }) (told_nodes r.id c) (told_nodes parent t)
+told_nodes parent (node r c t) = node (record { parent = parent; count = count_in r.hold c; seen = r }) (told_nodes r.id c)
+    (told_nodes parent t)
 
 -- one shown tree, told under the parent of this id
 abbrev pub told_branch : ℕ → Branch Seen → Branch Told
-told_branch parent b = record { row = record { parent = parent; count = count_in b.row.hold b.children; seen = b.row }; children = told_nodes b.row.id b.children }
+told_branch parent b = record {
+  row = record { parent = parent; count = count_in b.row.hold b.children; seen = b.row };
+  children = told_nodes b.row.id b.children;
+}
 
 -- ---- laws
 

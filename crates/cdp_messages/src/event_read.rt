@@ -8,7 +8,9 @@ ghost use Rattle.cdp_json.specs.Rows.{left_with, need, may};
 ghost use Rattle.css_objects.specs.Sheets.{header_kind, sheet_kind};
 ghost use Rattle.cdp_messages.specs.Answers.{GivesMessage};
 ghost use Rattle.cdp_messages.specs.declared.event_names.EventName.TheVariants as event_name;
-ghost use Rattle.cdp_messages.specs.Events.{news_of, node_id, attribute_name, bare_kind, watch, pause_by, pause_kind, sheet_id_kind, envelope, envelope_seen, children_fields, children_seen, inserted_fields, inserted_seen, news_by, news_from, news_in, no_call_frames};
+ghost use Rattle.cdp_messages.specs.Events.{news_of, node_id, attribute_name, bare_kind, watch, pause_by, pause_kind, sheet_id_kind};
+ghost use Rattle.cdp_messages.specs.Events.{envelope, envelope_seen, children_fields, children_seen, inserted_fields, inserted_seen};
+ghost use Rattle.cdp_messages.specs.Events.{news_by, news_from, news_in, no_call_frames};
 ghost use Rattle.css_objects.specs.Styles.{has_none};
 
 use crate::command::WatchWord;

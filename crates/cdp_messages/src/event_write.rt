@@ -2,7 +2,8 @@
 ghost use Rattle.std.specs.Prelude.{◌≡◌, ◌++◌, IfOk, OnOk, OnErr, IsUtf8, false};
 ghost use Rattle.serde_json.specs.View.{view};
 ghost use Rattle.pipe_frames.specs.Frames.{framed};
-ghost use Rattle.cdp_messages.specs.Events.{news_of, watch as watched, event_name, envelope, modified_kind, dropped_kind, data_kind, count_kind, removed_kind, added_kind, sheet_id_kind, pause_kind, paused_kind, news_data};
+ghost use Rattle.cdp_messages.specs.Events.{news_of, watch as watched, event_name, envelope, modified_kind, dropped_kind, data_kind};
+ghost use Rattle.cdp_messages.specs.Events.{count_kind, removed_kind, added_kind, sheet_id_kind, pause_kind, paused_kind, news_data};
 ghost use Rattle.cdp_messages.specs.Replies.{event_text};
 ghost use Rattle.cdp_messages.specs.Forms.{event_said};
 

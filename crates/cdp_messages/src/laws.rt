@@ -1,5 +1,9 @@
 // The laws of the messages, which make no call.
-ghost use Rattle.cdp_messages.specs.Laws.{AsksAreAsked, AsksFit, CommandsAreAsked, ParametersAreRead, ParametersArePlain, CommandsAreNamed, DomAsksAreCommands, RepliesAreRead, RepliesAreShallow, EventsAreRead, EventsAreShallow, EventsAreUtf8, ShownChildrenFit, RefusalsAreRead, ResultsAreRead, MessagesAreRead, FaultsAreRead, ObjectsAreEmpty, MessagesAreSpelled, ResultsAreSpelled, OneMessage, OneResult, TextsHaveNoZero, RepliesAreUtf8, ShownTreesFit};
+ghost use Rattle.cdp_messages.specs.Laws.{AsksAreAsked, AsksFit, CommandsAreAsked, ParametersAreRead, ParametersArePlain, CommandsAreNamed};
+ghost use Rattle.cdp_messages.specs.Laws.{DomAsksAreCommands, RepliesAreRead, RepliesAreShallow, EventsAreRead, EventsAreShallow};
+ghost use Rattle.cdp_messages.specs.Laws.{EventsAreUtf8, ShownChildrenFit, RefusalsAreRead, ResultsAreRead, MessagesAreRead, FaultsAreRead};
+ghost use Rattle.cdp_messages.specs.Laws.{ObjectsAreEmpty, MessagesAreSpelled, ResultsAreSpelled, OneMessage, OneResult, TextsHaveNoZero};
+ghost use Rattle.cdp_messages.specs.Laws.{RepliesAreUtf8, ShownTreesFit};
 
 /// What a writer appends is read as what it was given, nothing else is read, and no value spells two messages.
 pub fn spell_law()

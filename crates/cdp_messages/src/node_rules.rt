@@ -1,7 +1,8 @@
 // What has to hold of a node that a message tells.
 ghost use Rattle.std.specs.Prelude.{◌≡◌, [], if◌then◌else◌, is_some, unwrap_or};
 ghost use Rattle.std.specs.List.{list_all};
-ghost use Rattle.node_tree.specs.Labels.{is_document, is_element, has_name, has_value, is_empty, is_before, is_ascending, is_formed_label, is_named_label};
+ghost use Rattle.node_tree.specs.Labels.{is_document, is_element, has_name, has_value, is_empty, is_before, is_ascending, is_formed_label};
+ghost use Rattle.node_tree.specs.Labels.{is_named_label};
 ghost use Rattle.node_tree.specs.Names.{is_attribute_name};
 ghost use Rattle.cdp_messages.specs.Told.{hold_of};
 ghost use Rattle.cdp_messages.specs.NodeObject.{fits_hold};

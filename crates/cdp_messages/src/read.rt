@@ -4,7 +4,8 @@ ghost use Rattle.serde_json.specs.Find.{as_object, get_member};
 ghost use Rattle.serde_json.specs.View.{view, members_view};
 ghost use Rattle.cdp_json.specs.Lookups.{then_ok};
 ghost use Rattle.cdp_messages.specs.Methods.{known_method};
-ghost use Rattle.cdp_messages.specs.Asked.{json_of, of_method, unless_session, or_bad_request, command_of, command_in, asked_in, asked_value, asked, fits_command};
+ghost use Rattle.cdp_messages.specs.Asked.{json_of, of_method, unless_session, or_bad_request, command_of, command_in, asked_in};
+ghost use Rattle.cdp_messages.specs.Asked.{asked_value, asked, fits_command};
 ghost use Rattle.cdp_messages.specs.Answers.{ReadsAsked, Commands};
 
 use crate::command::{Asked, Command, CommandErr, ReadErr, Refused, Why};

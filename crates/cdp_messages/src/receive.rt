@@ -6,7 +6,8 @@ ghost use Rattle.cdp_json.specs.Left.{left};
 ghost use Rattle.cdp_json.specs.Rows.{left_with, need};
 ghost use Rattle.cdp_messages.specs.Answers.{GivesMessage};
 ghost use Rattle.cdp_messages.specs.Events.{news_in};
-ghost use Rattle.cdp_messages.specs.Replies.{message_of, event, reply_kind, error_kind, error_seen, fault_kind, fault_from, message_in, down_of};
+ghost use Rattle.cdp_messages.specs.Replies.{message_of, event, reply_kind, error_kind, error_seen, fault_kind, fault_from, message_in};
+ghost use Rattle.cdp_messages.specs.Replies.{down_of};
 ghost use Rattle.node_tree.specs.Keys.{first_of};
 
 use crate::down::{Down, DownErr};

@@ -8,7 +8,13 @@ use Rattle.page_tree.specs.Zippers.{zipper_at}
 use Rattle.sheet_reader.specs.declared.book.SheetEntry.{SheetEntry}
 use Rattle.sheet_reader.specs.Books.{entry_of}
 use Rattle.cdp_messages.specs.declared.command.Command.{Command}
-use Rattle.cdp_messages.specs.declared.command.Command.TheVariants.{DomEnable, DomDisable, GetDocument, RequestChildNodes, PushByPath, PushBySerials, QuerySelector, QuerySelectorAll, GetAttributes, DescribeNode, SetAttributeValue, RemoveAttribute, SetNodeValue, RemoveNode, MoveTo, CopyTo, MarkUndoableState, Undo, Redo, CssEnable, CssDisable, GetMatchedStyles, GetStyleSheetText, CollectClassNames, SetStyleTexts, SetRuleSelector, SetStyleSheetText, AddRule, SetBreakpoint, RemoveBreakpoint, ReplayLoad, ReplayAct}
+use Rattle.cdp_messages.specs.declared.command.Command.TheVariants.{DomEnable, DomDisable, GetDocument, RequestChildNodes, PushByPath}
+use Rattle.cdp_messages.specs.declared.command.Command.TheVariants.{PushBySerials, QuerySelector, QuerySelectorAll, GetAttributes}
+use Rattle.cdp_messages.specs.declared.command.Command.TheVariants.{DescribeNode, SetAttributeValue, RemoveAttribute, SetNodeValue}
+use Rattle.cdp_messages.specs.declared.command.Command.TheVariants.{RemoveNode, MoveTo, CopyTo, MarkUndoableState, Undo, Redo, CssEnable}
+use Rattle.cdp_messages.specs.declared.command.Command.TheVariants.{CssDisable, GetMatchedStyles, GetStyleSheetText, CollectClassNames}
+use Rattle.cdp_messages.specs.declared.command.Command.TheVariants.{SetStyleTexts, SetRuleSelector, SetStyleSheetText, AddRule}
+use Rattle.cdp_messages.specs.declared.command.Command.TheVariants.{SetBreakpoint, RemoveBreakpoint, ReplayLoad, ReplayAct}
 use Rattle.cdp_messages.specs.declared.command.Why.{Why}
 use Rattle.cdp_messages.specs.declared.command.Why.TheVariants.{NoSheet}
 use Rattle.cdp_messages.specs.declared.down.ReplyBody.{ReplyBody}

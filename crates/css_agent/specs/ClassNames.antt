@@ -4,7 +4,8 @@ use Rattle.std.specs.List.{flat_map}
 use Rattle.std.specs.Ordering.{nat_cmp}
 use Rattle.std.specs.Cmp.Lexicographic.{slice_cmp}
 use Rattle.std.specs.BTreeSet.{insert_key}
-use Rattle.selectors.specs.Forms.{TestForm, any, tag, id, class, attr, root, empty, nth, only_child, only_of_type, never, SimpleForm, CompoundForm, SelectorForm}
+use Rattle.selectors.specs.Forms.{TestForm, any, tag, id, class, attr, root, empty, nth, only_child, only_of_type, never, SimpleForm}
+use Rattle.selectors.specs.Forms.{CompoundForm, SelectorForm}
 use Rattle.selectors.specs.Weight.{test_of}
 use Rattle.sheet_reader.specs.Forms.{RuleForm}
 use Rattle.sheet_reader.specs.Sheets.{sheet_of}

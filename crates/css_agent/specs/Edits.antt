@@ -18,7 +18,13 @@ use Rattle.style_edits.specs.Splices.{after_splice}
 use Rattle.style_edits.specs.Edits.{Found, style_splice, selector_splice, text_splice, rule_splice, edited, EditsOutcome, styles_edited}
 use Rattle.style_edits.specs.EditedRules.{edited_rule, edited_rules}
 use Rattle.cdp_messages.specs.declared.command.Command.{Command}
-use Rattle.cdp_messages.specs.declared.command.Command.TheVariants.{DomEnable, DomDisable, GetDocument, RequestChildNodes, PushByPath, PushBySerials, QuerySelector, QuerySelectorAll, GetAttributes, DescribeNode, SetAttributeValue, RemoveAttribute, SetNodeValue, RemoveNode, MoveTo, CopyTo, MarkUndoableState, Undo, Redo, CssEnable, CssDisable, GetMatchedStyles, GetStyleSheetText, CollectClassNames, SetStyleTexts, SetRuleSelector, SetStyleSheetText, AddRule, SetBreakpoint, RemoveBreakpoint, ReplayLoad, ReplayAct}
+use Rattle.cdp_messages.specs.declared.command.Command.TheVariants.{DomEnable, DomDisable, GetDocument, RequestChildNodes, PushByPath}
+use Rattle.cdp_messages.specs.declared.command.Command.TheVariants.{PushBySerials, QuerySelector, QuerySelectorAll, GetAttributes}
+use Rattle.cdp_messages.specs.declared.command.Command.TheVariants.{DescribeNode, SetAttributeValue, RemoveAttribute, SetNodeValue}
+use Rattle.cdp_messages.specs.declared.command.Command.TheVariants.{RemoveNode, MoveTo, CopyTo, MarkUndoableState, Undo, Redo, CssEnable}
+use Rattle.cdp_messages.specs.declared.command.Command.TheVariants.{CssDisable, GetMatchedStyles, GetStyleSheetText, CollectClassNames}
+use Rattle.cdp_messages.specs.declared.command.Command.TheVariants.{SetStyleTexts, SetRuleSelector, SetStyleSheetText, AddRule}
+use Rattle.cdp_messages.specs.declared.command.Command.TheVariants.{SetBreakpoint, RemoveBreakpoint, ReplayLoad, ReplayAct}
 use Rattle.cdp_messages.specs.declared.down.ReplyBody.{ReplyBody}
 use Rattle.cdp_messages.specs.declared.down.ReplyBody.TheVariants as body
 use Rattle.cdp_messages.specs.declared.edits.TextEdit.{TextEdit}
@@ -87,7 +93,12 @@ abbrev pub empty_rule : ℕ → Rule
 empty_rule sheet = record {
   origin = origin.Regular;
   selectors = record { selectors = []; text = [] };
-  style = record { properties = []; text = []; range = Some (record { start_line = 0; start_column = 0; end_line = 0; end_column = 0 }); sheet = Some sheet };
+  style = record {
+    properties = [];
+    text = [];
+    range = Some (record { start_line = 0; start_column = 0; end_line = 0; end_column = 0 });
+    sheet = Some sheet;
+  };
   sheet = sheet;
 }
 
@@ -140,7 +151,8 @@ rule_edited sheet rule_text location book = edited book (rule_splice (number_nam
 -- each command
 abbrev pub css_edited : List SheetEntry → CssEdit → CssEdited
 css_edited book (edit.SetStyleTexts edits) = styles_set edits book
-css_edited book (edit.SetRuleSelector sheet range selector) = one_done (λ r. body.Selectors r.selectors) (selector_edited sheet range selector book)
+css_edited book (edit.SetRuleSelector sheet range selector) = one_done (λ r. body.Selectors r.selectors)
+    (selector_edited sheet range selector book)
 css_edited book (edit.SetStyleSheetText sheet text) = one_done (λ r. body.Nothing) (text_edited sheet text book)
 css_edited book (edit.AddRule sheet rule_text location) = one_done (λ r. body.Rule r) (rule_edited sheet rule_text location book)
 

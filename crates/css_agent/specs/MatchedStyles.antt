@@ -26,7 +26,8 @@ told_match e places r = record { matching = places; rule = told_rule e r }
 
 -- the rule that was found, in the book that it was found in
 abbrev pub told_hit : List SheetEntry → Hit → Option RuleMatch
-told_hit book h = option_and_then (λ e. option_map (told_match e h.matching) (slice_get (sheet_of e.text).rules h.rule)) (entry_of h.sheet book)
+told_hit book h = option_and_then (λ e. option_map (told_match e h.matching) (slice_get (sheet_of e.text).rules h.rule))
+    (entry_of h.sheet book)
 
 -- the rules that match an element, in the order in which they count
 abbrev pub told_matches : List SheetEntry → Zipper → List RuleMatch
@@ -38,4 +39,8 @@ told_inherited book z = record { inline = told_inline z; rules = told_matches bo
 
 -- all of an element: its ancestors are those that are elements, from its parent upwards
 abbrev pub matched_styles : List SheetEntry → Zipper → Matched
-matched_styles book z = record { inline = told_inline z; rules = told_matches book z; inherited = map (told_inherited book) (elements (ancestors z)) }
+matched_styles book z = record {
+  inline = told_inline z;
+  rules = told_matches book z;
+  inherited = map (told_inherited book) (elements (ancestors z));
+}

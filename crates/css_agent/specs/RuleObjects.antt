@@ -21,7 +21,13 @@ use Rattle.css_agent.specs.Texts.{source_range, told_part}
 
 -- a declaration of a text: its name, the text of its value, the text of the whole, and its range where that is told
 abbrev pub property_with : Option SourceRange → List ℕ → Property → StyleProperty
-property_with range text p = record { name = p.name; value = told_part text p.value; important = p.important; text = told_part text p.whole; range = range }
+property_with range text p = record {
+  name = p.name;
+  value = told_part text p.value;
+  important = p.important;
+  text = told_part text p.whole;
+  range = range;
+}
 
 -- one in a sheet
 abbrev pub sheet_property : List ℕ → Property → StyleProperty

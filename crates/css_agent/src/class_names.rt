@@ -3,7 +3,8 @@ ghost use Rattle.std.specs.Prelude.{◌≡◌, map, option_map, option_to_list, 
 ghost use Rattle.selectors.specs.Forms.{simple_seen, compound_seen};
 ghost use Rattle.selectors.specs.Lists.{list_seen};
 ghost use Rattle.sheet_reader.specs.Forms.{rule_seen};
-ghost use Rattle.css_agent.specs.ClassNames.{class_of, classes_of_tests, classes_of_compounds, classes_of_selectors, classes_of_rules, with_names};
+ghost use Rattle.css_agent.specs.ClassNames.{class_of, classes_of_tests, classes_of_compounds, classes_of_selectors, classes_of_rules};
+ghost use Rattle.css_agent.specs.ClassNames.{with_names};
 
 use cdp_messages::Text;
 use selectors::{Compound, SelectorList, Simple, Test};

@@ -55,7 +55,8 @@ fn selector_set(
     range: SourceRange,
     selector: &str,
 ) -> Result<Done, SheetErr>
-    ensures done { IfOk result (λ d. one_done (λ r. Selectors r.selectors) (selector_edited sheet.now range selector.now book.old) ≡ Ok (css_done book.new d.backs.items d.body)) }
+    ensures done { IfOk result (λ d. one_done (λ r. Selectors r.selectors) (selector_edited sheet.now range selector.now book.old)
+        ≡ Ok (css_done book.new d.backs.items d.body)) }
     ensures fault { IfFault result (λ f. selector_edited sheet.now range selector.now book.old ≡ Err f) }
     ensures unchanged { IfFault result (λ f. book.new ≡ book.old) }
 {
@@ -68,7 +69,8 @@ fn selector_set(
 }
 
 fn text_set(alloc: Global, book: &mut SheetBook, sheet: &str, text: &str) -> Result<Done, SheetErr>
-    ensures done { IfOk result (λ d. one_done (λ r. Nothing) (text_edited sheet.now text.now book.old) ≡ Ok (css_done book.new d.backs.items d.body)) }
+    ensures done { IfOk result (λ d. one_done (λ r. Nothing) (text_edited sheet.now text.now book.old)
+        ≡ Ok (css_done book.new d.backs.items d.body)) }
     ensures fault { IfFault result (λ f. text_edited sheet.now text.now book.old ≡ Err f) }
     ensures unchanged { IfFault result (λ f. book.new ≡ book.old) }
 {
@@ -86,7 +88,8 @@ fn rule_added(
     rule_text: &str,
     location: SourceRange,
 ) -> Result<Done, SheetErr>
-    ensures done { IfOk result (λ d. one_done (λ r. Rule r) (rule_edited sheet.now rule_text.now location book.old) ≡ Ok (css_done book.new d.backs.items d.body)) }
+    ensures done { IfOk result (λ d. one_done (λ r. Rule r) (rule_edited sheet.now rule_text.now location book.old)
+        ≡ Ok (css_done book.new d.backs.items d.body)) }
     ensures fault { IfFault result (λ f. rule_edited sheet.now rule_text.now location book.old ≡ Err f) }
     ensures unchanged { IfFault result (λ f. book.new ≡ book.old) }
 {

@@ -62,7 +62,8 @@ pub(crate) fn rule_at(entry: &SheetEntry, place: usize) -> Option<&StyleRule>
 
 fn told_match(alloc: Global, entry: &SheetEntry, hit: &Hit) -> Result<Option<RuleMatch>, AllocError>
     requires { IsEntry entry.now }
-    ensures { IfOk result (λ o. o ≡ option_map (told_match entry.now hit.now.matching) (slice_get (sheet_of entry.now.text).rules hit.now.rule)) }
+    ensures { IfOk result (λ o. o ≡ option_map (told_match entry.now hit.now.matching)
+        (slice_get (sheet_of entry.now.text).rules hit.now.rule)) }
 {
     let Some(rule) = rule_at(entry, hit.rule) else {
         return Ok(None);
@@ -143,7 +144,8 @@ fn add_ancestor(
     node: NodeRef<'_>,
     entries: &mut Vec<Inherited>,
 ) -> Result<(), AllocError>
-    ensures { OnOk result (entries.new.items ≡ entries.old.items ++ cond (is_element_node node.entry) (told_inherited book.now node.entry ∷ []) []) }
+    ensures { OnOk result (entries.new.items
+        ≡ entries.old.items ++ cond (is_element_node node.entry) (told_inherited book.now node.entry ∷ []) []) }
 {
     if node.kind() == Kind::Element {
         entries.push(told_inherited(alloc, book, node)?)?;

@@ -7,7 +7,8 @@ ghost use Rattle.css_objects.specs.Selectors.{selector_kind, selectors_kind};
 ghost use Rattle.css_objects.specs.Styles.{property_kind, inline_kind, rule_style_kind};
 ghost use Rattle.css_objects.specs.Rules.{rule_kind, match_kind, inherited_kind, matched_kind};
 ghost use Rattle.css_objects.specs.Results.{sheet_text_result, class_names_result, styles_result, selectors_result, rule_result};
-ghost use Rattle.css_objects.specs.Laws.{IsSoundKind, SelectorHasUtf8, SelectorsHaveUtf8, PropertyHasUtf8, StyleHasUtf8, RuleHasUtf8, MatchHasUtf8, InheritedHasUtf8, MatchedHaveUtf8};
+ghost use Rattle.css_objects.specs.Laws.{IsSoundKind, SelectorHasUtf8, SelectorsHaveUtf8, PropertyHasUtf8, StyleHasUtf8, RuleHasUtf8};
+ghost use Rattle.css_objects.specs.Laws.{MatchHasUtf8, InheritedHasUtf8, MatchedHaveUtf8};
 
 /// Of each object and each result: it is spelled and read the same, no value spells two, its JSON is UTF-8 where its texts
 /// are, its numbers are whole, and it nests so many levels deep at most.

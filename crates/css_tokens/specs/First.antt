@@ -18,4 +18,5 @@ TellsFirst Pound c = c ≡ 35
 TellsFirst Less c = c ≡ 60
 TellsFirst At c = c ≡ 64
 TellsFirst Other c =
-    (((is_white c || is_quote c) || (is_ascii_digit c || is_ident_start c)) || (((c == 47 || c == 35) || (c == 43 || c == 45)) || ((c == 46 || c == 60) || (c == 64 || c == 92)))) ≡ false
+    (((is_white c || is_quote c) || (is_ascii_digit c || is_ident_start c))
+    || (((c == 47 || c == 35) || (c == 43 || c == 45)) || ((c == 46 || c == 60) || (c == 64 || c == 92)))) ≡ false

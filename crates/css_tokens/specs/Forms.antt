@@ -4,7 +4,8 @@ use Rattle.std.specs.Prelude.{◌≡◌, ◌⊎◌, ℕ, ◌<◌, ◌≤◌, tru
 use Rattle.std.specs.List.{list_all}
 use Rattle.std.specs.Char.{is_ascii_digit, is_ascii_hexdigit, to_ascii_lowercase}
 use Rattle.css_tokens.specs.declared.token.TokenKind.{TokenKind}
-use Rattle.css_tokens.specs.declared.token.TokenKind.TheVariants.{Comment, WhiteSpace, Str, BadString, Hash, Number, Percentage, Dimension, Cdc, Ident, Function, Url, BadUrl, Cdo, AtKeyword}
+use Rattle.css_tokens.specs.declared.token.TokenKind.TheVariants.{Comment, WhiteSpace, Str, BadString, Hash, Number, Percentage, Dimension}
+use Rattle.css_tokens.specs.declared.token.TokenKind.TheVariants.{Cdc, Ident, Function, Url, BadUrl, Cdo, AtKeyword}
 use Rattle.css_tokens.specs.Codes.{is_newline, is_white, is_ident, is_quote, begins}
 use Rattle.css_tokens.specs.Escapes.{begins_escape, unescaped}
 use Rattle.css_tokens.specs.Runs.{starts_ident, ends_url}
@@ -30,7 +31,8 @@ pub record AreHexDigits (digits rest : List ℕ) : Type 0 where
 
 -- an escape: `\` and hex digits and at most one white space; or `\` and one other code but a newline; or `\` at the text's end
 pub data IsEscape : List ℕ → List ℕ → Type 0 where
-  escape_hex : {escape rest : List ℕ} (digits white : List ℕ) → escape ≡ 92 ∷ (digits ++ white) → AreHexDigits digits (white ++ rest) → IsOneWhite white rest → IsEscape escape rest
+  escape_hex : {escape rest : List ℕ} (digits white : List ℕ) → escape ≡ 92 ∷ (digits ++ white) → AreHexDigits digits (white ++ rest)
+      → IsOneWhite white rest → IsEscape escape rest
   escape_code : {c : ℕ} {rest : List ℕ} → is_ascii_hexdigit c ≡ false → is_newline c ≡ false → IsEscape (92 ∷ c ∷ []) rest
   escape_end : IsEscape (92 ∷ []) []
 
@@ -126,7 +128,8 @@ AreDigits digits = (0 < length digits) × (list_all is_ascii_digit digits ≡ tr
 -- digits, or digits with `.` and digits, or `.` and digits
 pub data IsDecimal : List ℕ → Type 0 where
   decimal_whole : {digits : List ℕ} → AreDigits digits → IsDecimal digits
-  decimal_fraction : {all : List ℕ} (whole digits : List ℕ) → list_all is_ascii_digit whole ≡ true → AreDigits digits → all ≡ whole ++ 46 ∷ digits → IsDecimal all
+  decimal_fraction : {all : List ℕ} (whole digits : List ℕ) → list_all is_ascii_digit whole ≡ true → AreDigits digits
+      → all ≡ whole ++ 46 ∷ digits → IsDecimal all
 
 -- an optional sign
 pub data IsSign : List ℕ → Type 0 where
@@ -137,7 +140,8 @@ pub data IsSign : List ℕ → Type 0 where
 -- `e` or `E`, an optional sign, digits; or nothing
 pub data IsExponent : List ℕ → Type 0 where
   exponent_none : IsExponent []
-  exponent_some : {all : List ℕ} (mark : ℕ) (sign digits : List ℕ) → (mark == 69 || mark == 101) ≡ true → IsSign sign → AreDigits digits → all ≡ mark ∷ (sign ++ digits) → IsExponent all
+  exponent_some : {all : List ℕ} (mark : ℕ) (sign digits : List ℕ) → (mark == 69 || mark == 101) ≡ true → IsSign sign → AreDigits digits
+      → all ≡ mark ∷ (sign ++ digits) → IsExponent all
 
 -- what a number is
 pub record IsNumber (number : List ℕ) : Type 0 where
@@ -156,9 +160,12 @@ pub record IsLongestNumber (number rest : List ℕ) : Type 0 where
 
 -- a number; with `%` after it; with a name after it, where what follows starts an ident
 pub data NumericForm : TokenKind → List ℕ → List ℕ → Type 0 where
-  a_percentage : {piece rest : List ℕ} (number : List ℕ) → IsLongestNumber number (37 ∷ rest) → piece ≡ number ++ 37 ∷ [] → NumericForm Percentage piece rest
-  a_dimension : {piece rest : List ℕ} (number name : List ℕ) → IsLongestNumber number (name ++ rest) → piece ≡ number ++ name → starts_ident (name ++ rest) ≡ true → IsName name rest → NumericForm Dimension piece rest
-  a_number : {piece rest : List ℕ} → IsLongestNumber piece rest → begins (λ c. c == 37) rest ≡ false → starts_ident rest ≡ false → NumericForm Number piece rest
+  a_percentage : {piece rest : List ℕ} (number : List ℕ) → IsLongestNumber number (37 ∷ rest) → piece ≡ number ++ 37 ∷ []
+      → NumericForm Percentage piece rest
+  a_dimension : {piece rest : List ℕ} (number name : List ℕ) → IsLongestNumber number (name ++ rest) → piece ≡ number ++ name
+      → starts_ident (name ++ rest) ≡ true → IsName name rest → NumericForm Dimension piece rest
+  a_number : {piece rest : List ℕ} → IsLongestNumber piece rest → begins (λ c. c == 37) rest ≡ false → starts_ident rest ≡ false
+      → NumericForm Number piece rest
 
 -- `-->`
 pub record CdcForm (kind : TokenKind) (piece rest : List ℕ) : Type 0 where
@@ -170,7 +177,8 @@ pub data UrlUnit : List ℕ → List ℕ → Type 0 where
   url_code : {c : ℕ} {rest : List ℕ} → ends_url c ≡ false → (c == 92) ≡ false → UrlUnit (c ∷ []) rest
   url_escape : {unit rest : List ℕ} → IsEscape unit rest → UrlUnit unit rest
 
--- the name `url` in any case, `(`, white space, characters and escapes, white space: as much as there is, and no quote behind the first white space
+-- the name `url` in any case, `(`, white space, characters and escapes, white space: as much as there is, and no quote behind the first
+-- white space
 pub record OpensUrl (front rest : List ℕ) : Type 0 where
   pub name : List ℕ
   pub before : List ℕ

@@ -2,7 +2,8 @@
 use Rattle.std.specs.Prelude.{◌≡◌, ◌⊎◌, ℕ, ◌+◌, ◌-◌, ◌<◌, true, List, length, slice_index}
 use Rattle.std.specs.Str.{IsCharBoundary}
 use Rattle.css_tokens.specs.declared.token.TokenKind.{TokenKind}
-use Rattle.css_tokens.specs.declared.token.TokenKind.TheVariants.{Str, Hash, Function, AtKeyword, Colon, Semicolon, Comma, OpenSquare, CloseSquare, OpenRound, CloseRound, OpenCurly, CloseCurly, Delim}
+use Rattle.css_tokens.specs.declared.token.TokenKind.TheVariants.{Str, Hash, Function, AtKeyword, Colon, Semicolon, Comma, OpenSquare}
+use Rattle.css_tokens.specs.declared.token.TokenKind.TheVariants.{CloseSquare, OpenRound, CloseRound, OpenCurly, CloseCurly, Delim}
 use Rattle.css_tokens.specs.declared.token.Token.{Token}
 use Rattle.css_tokens.specs.Codes.{is_quote}
 use Rattle.css_tokens.specs.Pieces.{IsCutAt}
@@ -52,7 +53,8 @@ abbrev pub IsCutInside : TokenKind → List ℕ → ℕ → ℕ → Type 0
 IsCutInside (Hash flag) text start end = IsCharBoundary text (start + 1)
 IsCutInside AtKeyword text start end = IsCharBoundary text (start + 1)
 IsCutInside Function text start end = IsCharBoundary text (end - 1)
-IsCutInside Str text start end = IsCharBoundary text (start + 1) × (slice_index text (end - 1) ≡ slice_index text start → IsCharBoundary text (end - 1))
+IsCutInside Str text start end = IsCharBoundary text (start + 1)
+    × (slice_index text (end - 1) ≡ slice_index text start → IsCharBoundary text (end - 1))
 IsCutInside _ text start end = Unit {0}
 
 -- what holds of each piece of a text

@@ -1,9 +1,13 @@
 -- The table of pieces. Each row is a function of a text: the piece that the text begins with by that row, if there is one.
-use Rattle.std.specs.Prelude.{ℕ, ◌+◌, ◌<◌, ◌≤◌, Bool, true, ◌&&◌, ◌==◌, not, nat_lt, List, [], ◌∷◌, slice_index, take, drop, min, length, Option, Some, None, nat_eq, if◌then◌else◌}
+use Rattle.std.specs.Prelude.{ℕ, ◌+◌, ◌<◌, ◌≤◌, Bool, true, ◌&&◌, ◌==◌, not, nat_lt, List, [], ◌∷◌, slice_index, take, drop, min, length}
+use Rattle.std.specs.Prelude.{Option, Some, None, nat_eq, if◌then◌else◌}
 use Rattle.std.specs.List.{starts_with}
 use Rattle.std.specs.Char.{to_ascii_lowercase}
 use Rattle.css_tokens.specs.declared.token.TokenKind.{TokenKind}
-use Rattle.css_tokens.specs.declared.token.TokenKind.TheVariants.{Comment, WhiteSpace, Str, BadString, Hash, Number, Percentage, Dimension, Cdc, Ident, Function, Url, BadUrl, Cdo, AtKeyword, Colon, Semicolon, Comma, OpenSquare, CloseSquare, OpenRound, CloseRound, OpenCurly, CloseCurly, Delim}
+use Rattle.css_tokens.specs.declared.token.TokenKind.TheVariants.{Comment, WhiteSpace, Str, BadString, Hash, Number, Percentage, Dimension}
+use Rattle.css_tokens.specs.declared.token.TokenKind.TheVariants.{Cdc, Ident, Function, Url, BadUrl, Cdo, AtKeyword, Colon, Semicolon}
+use Rattle.css_tokens.specs.declared.token.TokenKind.TheVariants.{Comma, OpenSquare, CloseSquare, OpenRound, CloseRound, OpenCurly}
+use Rattle.css_tokens.specs.declared.token.TokenKind.TheVariants.{CloseCurly, Delim}
 use Rattle.css_tokens.specs.declared.token.Piece.{Piece}
 use Rattle.css_tokens.specs.Codes.{is_newline, is_white, is_quote, begins}
 use Rattle.css_tokens.specs.Escapes.{escape_tail, escape_value}
@@ -87,7 +91,8 @@ unfoldable pub opens_url : List ℕ → Bool
 opens_url text =
     let n = name_len text in
     let inner = drop (n + 1) text in
-    ((starts_ident text && begins (λ c. c == 40) (drop n text)) && is_url (take n text)) && not (begins is_quote (drop (white_run inner) inner))
+    ((starts_ident text && begins (λ c. c == 40) (drop n text)) && is_url (take n text))
+    && not (begins is_quote (drop (white_run inner) inner))
 
 -- after `url(`: white space, characters and escapes, white space
 unfoldable pub url_body_len : List ℕ → ℕ

@@ -3,8 +3,10 @@ use Rattle.std.specs.Prelude.{◌≡◌, ℕ, ◌-◌, ◌<◌, ◌≤◌, List,
 use Rattle.css_tokens.specs.declared.token.TokenKind.{TokenKind}
 use Rattle.css_tokens.specs.declared.token.Token.{Token}
 use Rattle.css_tokens.specs.declared.token.Piece.{Piece}
-use Rattle.css_tokens.specs.Rows.{piece, comment, white_space, string, bad_string, hash, numeric, cdc, url, bad_url, ident, cdo, at_keyword, mark}
-use Rattle.css_tokens.specs.Forms.{CommentForm, WhiteSpaceForm, StringForm, BadStringForm, HashForm, NumericForm, CdcForm, UrlForm, BadUrlForm, IdentForm, CdoForm, AtKeywordForm, MarkForm}
+use Rattle.css_tokens.specs.Rows.{piece, comment, white_space, string, bad_string, hash, numeric, cdc, url, bad_url, ident, cdo, at_keyword}
+use Rattle.css_tokens.specs.Rows.{mark}
+use Rattle.css_tokens.specs.Forms.{CommentForm, WhiteSpaceForm, StringForm, BadStringForm, HashForm, NumericForm, CdcForm, UrlForm}
+use Rattle.css_tokens.specs.Forms.{BadUrlForm, IdentForm, CdoForm, AtKeywordForm, MarkForm}
 
 -- the rows of the table of pieces, in its order
 pub data PieceRow : Type 0 where
@@ -95,4 +97,5 @@ pub record IsFirstPiece (text : List ℕ) (p : Piece) : Type 0 where
 -- tokens cut a text from a place to its end, one behind the other, each the first piece of the text from its start on
 abbrev pub Cuts : List ℕ → ℕ → List Token → Type 0
 Cuts text place [] = place ≡ length text
-Cuts text place (t ∷ ts) = (t.start ≡ place) × (t.start < t.end) × IsFirstPiece (drop place text) (piece t.kind (t.end - t.start)) × Cuts text t.end ts
+Cuts text place (t ∷ ts) = (t.start ≡ place) × (t.start < t.end) × IsFirstPiece (drop place text) (piece t.kind (t.end - t.start))
+    × Cuts text t.end ts

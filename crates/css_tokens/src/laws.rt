@@ -20,6 +20,8 @@ pub fn table_law()
 /// Cutting is local before `{`, `}` and `;`: where a text is a whole number of pieces before such a character, these stay
 /// the same pieces whatever stands behind that character. And a text of whole pieces and what follows it are cut apart.
 pub fn seam_law()
-    ensures stays { (c : ℕ) → is_stop c ≡ true → (rest other front : List ℕ) (ts : List Token) → IsWholeBefore (c ∷ rest) 0 front ts → IsWholeBefore (c ∷ other) 0 front ts }
-    ensures apart { (after front : List ℕ) (ts : List Token) → IsWholeBefore after 0 front ts → pieces (front ++ after) ≡ ts ++ pieces_after (length front) 0 after }
+    ensures stays { (c : ℕ) → is_stop c ≡ true → (rest other front : List ℕ) (ts : List Token) → IsWholeBefore (c ∷ rest) 0 front ts
+        → IsWholeBefore (c ∷ other) 0 front ts }
+    ensures apart { (after front : List ℕ) (ts : List Token) → IsWholeBefore after 0 front ts
+        → pieces (front ++ after) ≡ ts ++ pieces_after (length front) 0 after }
 {}

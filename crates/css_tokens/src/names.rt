@@ -1,7 +1,8 @@
 //! Idents, functions and urls: the rows of what begins with a name.
 
 ghost use Rattle.std.specs.Prelude.{◌≡◌, ◌≤◌, ◌<◌, ◌==◌, ◌+◌, true, drop, Some, length, IfSome};
-ghost use Rattle.css_tokens.specs.Rows.{IsFront, ◌or◌, letter_len, is_url, opens_url, url_body_len, open_url_len, url, bad_url, ident, closes_url};
+ghost use Rattle.css_tokens.specs.Rows.{IsFront, ◌or◌, letter_len, is_url, opens_url, url_body_len, open_url_len, url, bad_url, ident};
+ghost use Rattle.css_tokens.specs.Rows.{closes_url};
 ghost use Rattle.css_tokens.specs.Escapes.{escape_value};
 ghost use Rattle.css_tokens.specs.Codes.{is_quote, begins};
 ghost use Rattle.css_tokens.specs.Runs.{name_len, white_run, starts_ident};

@@ -13,12 +13,18 @@ shows_children levels r = holds r.label.kind && not (is_spent levels)
 
 -- a row shown to so many levels, with these ids, above the children c
 abbrev pub row_to : (ℕ → ℕ) → Option ℕ → PageRow → Nodes PageRow → Seen
-row_to ids levels r c = record { id = ids r.serial; serial = r.serial; label = r.label; hold = cond (holds r.label.kind) (cond (shows_children levels r) opened (counted (width c))) leaf }
+row_to ids levels r c = record {
+  id = ids r.serial;
+  serial = r.serial;
+  label = r.label;
+  hold = cond (holds r.label.kind) (cond (shows_children levels r) opened (counted (width c))) leaf;
+}
 
 -- trees shown to so many levels, with these ids: where levels are left a container has its children, and else their number
 abbrev pub shown_to : (ℕ → ℕ) → Option ℕ → Nodes PageRow → Nodes Seen
 shown_to ids levels none = none
-shown_to ids levels (node r c t) = node (row_to ids levels r c) (cond (shows_children levels r) (shown_to ids (less levels) c) none) (shown_to ids levels t)
+shown_to ids levels (node r c t) = node (row_to ids levels r c) (cond (shows_children levels r) (shown_to ids (less levels) c) none)
+    (shown_to ids levels t)
 
 -- what is shown below one node to so many levels
 abbrev pub kids_to : (ℕ → ℕ) → Option ℕ → Branch PageRow → Nodes Seen

@@ -31,13 +31,15 @@ EditKeepsSession =
 -- the binding stands for it
 abbrev pub EditKeepsBound : Type 0
 EditKeepsBound =
-    (page : PageValue) (e : TreeEdit) (w : Session) (b : BindingValue) → IsValid page → CanApply page.next e page.tree → BindingStandsFor page w b
+    (page : PageValue) (e : TreeEdit) (w : Session) (b : BindingValue) → IsValid page → CanApply page.next e page.tree
+    → BindingStandsFor page w b
     → BindingStandsFor (after e page) (session_edited e page w).state (binding_edited e page b).state
 
 -- and tells the same moves
 abbrev pub SameEditMoves : Type 0
 SameEditMoves =
-    (page : PageValue) (e : TreeEdit) (w : Session) (b : BindingValue) → IsValid page → CanApply page.next e page.tree → BindingStandsFor page w b
+    (page : PageValue) (e : TreeEdit) (w : Session) (b : BindingValue) → IsValid page → CanApply page.next e page.tree
+    → BindingStandsFor page w b
     → (binding_edited e page b).moves ≡ (session_edited e page w).moves
 
 -- by the moves of an edit the view of the page before comes to that of the page after, and messages can tell both
@@ -45,7 +47,8 @@ abbrev pub EditsAreMoves : Type 0
 EditsAreMoves =
     (page : PageValue) (e : TreeEdit) (w : Session) (sheets : List ShownSheet) → IsValid page → CanApply page.next e page.tree
     → IsSession (alone page.tree) w → CanTell page w → CanTell (after e page) (session_edited e page w).state → CanTellSheets sheets
-    → Course (session_edited e page w).moves (session_view w page sheets) (session_view (session_edited e page w).state (after e page) sheets)
+    → Course (session_edited e page w).moves (session_view w page sheets)
+    (session_view (session_edited e page w).state (after e page) sheets)
 
 -- at most one id is drawn
 abbrev pub EditDrawsOne : Type 0

@@ -31,7 +31,12 @@ id_before ids previous serial (node r c t) = cond (r.serial == serial) previous 
 -- a node with that id, none of whose children are shown
 abbrev pub unopened : ℕ → Branch PageRow → Branch Seen
 unopened id x = record {
-  row = record { id = id; serial = x.row.serial; label = x.row.label; hold = cond (holds x.row.label.kind) (counted (width x.children)) leaf };
+  row = record {
+    id = id;
+    serial = x.row.serial;
+    label = x.row.label;
+    hold = cond (holds x.row.label.kind) (counted (width x.children)) leaf;
+  };
   children = none;
 }
 

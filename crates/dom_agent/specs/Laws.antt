@@ -30,12 +30,15 @@ StaysSession = (page : PageValue) (c : DomAsk) (w : Session) → IsValid page �
 
 -- the binding stands for the session after the step
 abbrev pub StaysBound : Type 0
-StaysBound = (page : PageValue) (c : DomAsk) (w : Session) (b : BindingValue) → IsValid page → fits_ask c ≡ true → IsSession (alone page.tree) w
-    → Stands (alone page.tree) w b → Stands (alone page.tree) (state_after w (session_outcome page c w)) (state_after b (binding_outcome page c b))
+StaysBound = (page : PageValue) (c : DomAsk) (w : Session) (b : BindingValue) → IsValid page → fits_ask c ≡ true
+    → IsSession (alone page.tree) w
+    → Stands (alone page.tree) w b
+    → Stands (alone page.tree) (state_after w (session_outcome page c w)) (state_after b (binding_outcome page c b))
 
 -- and what is told are the moves of the step
 abbrev pub SameMoves : Type 0
-SameMoves = (page : PageValue) (c : DomAsk) (w : Session) (b : BindingValue) (id : ℕ) → IsValid page → fits_ask c ≡ true → IsSession (alone page.tree) w
+SameMoves = (page : PageValue) (c : DomAsk) (w : Session) (b : BindingValue) (id : ℕ) → IsValid page → fits_ask c ≡ true
+    → IsSession (alone page.tree) w
     → Stands (alone page.tree) w b → moves_of id (binding_outcome page c b) ≡ moves_of id (session_outcome page c w)
 
 -- no command draws more ids than the page has nodes

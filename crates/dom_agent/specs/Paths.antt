@@ -1,5 +1,6 @@
 -- Paths of nodes: an index and a node name for each level, from the document's children down.
-use Rattle.std.specs.Prelude.{ℕ, ◌+◌, ◌*◌, ◌-◌, ◌==◌, Bool, true, false, not, ◌&&◌, nat_le, cond, List, [], ◌∷◌, length, Option, Some, None, option_map, option_and_then, bytes_eq}
+use Rattle.std.specs.Prelude.{ℕ, ◌+◌, ◌*◌, ◌-◌, ◌==◌, Bool, true, false, not, ◌&&◌, nat_le, cond, List, [], ◌∷◌, length, Option, Some, None}
+use Rattle.std.specs.Prelude.{option_map, option_and_then, bytes_eq}
 use Rattle.std.specs.List.{list_all, onto_first}
 use Rattle.node_tree.specs.Nodes.{Nodes, Branch, tree_at}
 use Rattle.page_tree.specs.Pages.{PageRow}

@@ -1,5 +1,6 @@
 -- What each command of a client comes to: what becomes opened, what is told of it, and the reply.
-use Rattle.std.specs.Prelude.{ℕ, ℤ, pos, Bool, not, ◌&&◌, cond, List, [], ◌∷◌, ◌++◌, map, filter, Option, Some, None, unwrap_or, Result, Ok, Err}
+use Rattle.std.specs.Prelude.{ℕ, ℤ, pos, Bool, not, ◌&&◌, cond, List, [], ◌∷◌, ◌++◌, map, filter, Option, Some, None, unwrap_or, Result, Ok}
+use Rattle.std.specs.Prelude.{Err}
 use Rattle.node_tree.specs.Nodes.{Nodes, none, node, Branch, alone}
 use Rattle.node_tree.specs.Keys.{has, find}
 use Rattle.node_tree.specs.Labels.{holds, is_element}
@@ -8,7 +9,8 @@ use Rattle.page_tree.specs.Pages.{PageRow, row_serial}
 use Rattle.node_binding.specs.Cuts.{opens, seen_of, cut}
 use Rattle.node_binding.specs.Openings.{levels_of, less, is_spent}
 use Rattle.cdp_messages.specs.declared.dom_ask.DomAsk.{DomAsk}
-use Rattle.cdp_messages.specs.declared.dom_ask.DomAsk.TheVariants.{GetDocument, RequestChildNodes, PushByPath, PushBySerials, QuerySelector, QuerySelectorAll, GetAttributes, DescribeNode}
+use Rattle.cdp_messages.specs.declared.dom_ask.DomAsk.TheVariants.{GetDocument, RequestChildNodes, PushByPath, PushBySerials, QuerySelector}
+use Rattle.cdp_messages.specs.declared.dom_ask.DomAsk.TheVariants.{QuerySelectorAll, GetAttributes, DescribeNode}
 use Rattle.cdp_messages.specs.declared.command.Why.{Why}
 use Rattle.cdp_messages.specs.declared.command.Why.TheVariants.{UnknownNode, NotPushed, NoPath, NotElement}
 use Rattle.cdp_messages.specs.declared.down.ReplyBody.{ReplyBody}
@@ -37,7 +39,8 @@ pub record Showing : Type 0 where
 abbrev pub requested : (ℕ → Bool) → Option ℕ → Nodes PageRow → List Opening
 requested o d none = []
 requested o d (node r c t) =
-    cond (holds r.label.kind && not (is_spent d)) (cond (o r.serial) (requested o (less d) c) (record { levels = d; node = record { row = r; children = c } } ∷ [])) []
+    cond (holds r.label.kind && not (is_spent d))
+    (cond (o r.serial) (requested o (less d) c) (record { levels = d; node = record { row = r; children = c } } ∷ [])) []
     ++ requested o d t
 
 -- the proper ancestors of a node, from the top down

@@ -19,7 +19,8 @@ levels_asked depth = levels_of (unwrap_or depth (pos 1))
 -- after `DOM.getDocument` the containers of a level below the depth are opened, and nothing else
 abbrev pub DocumentOpens : Type 0
 DocumentOpens = (page : PageValue) (depth : Option ℤ) (pierce : Option Bool) (w : Session) → IsValid page
-    → (s : ℕ) → (is_open (state_after w (session_outcome page (GetDocument depth pierce) w)).opened s ≡ true) ↔ IsReached (levels_asked depth) page.tree s
+    → (s : ℕ) → (is_open (state_after w (session_outcome page (GetDocument depth pierce) w)).opened s ≡ true)
+    ↔ IsReached (levels_asked depth) page.tree s
 
 -- a request for the children of the known node x opens each container at or below it at a distance below the depth
 abbrev pub RequestOpens : Type 0
@@ -33,13 +34,15 @@ newly_known page w z = filter (λ s. not (knows w (alone page.tree) s)) (known_b
 
 -- and the nodes that become known by it get the next ids, in document order
 abbrev pub RequestPushes : Type 0
-RequestPushes = (page : PageValue) (id : ℕ) (depth : Option ℤ) (pierce : Option Bool) (w : Session) (x : Branch PageRow) → IsValid page → IsSession (alone page.tree) w
+RequestPushes = (page : PageValue) (id : ℕ) (depth : Option ℤ) (pierce : Option Bool) (w : Session) (x : Branch PageRow) → IsValid page
+    → IsSession (alone page.tree) w
     → known_node (session_keeper (alone page.tree)) page.tree w (serial_at w (alone page.tree) id) ≡ Some x
     → (let z = state_after w (session_outcome page (RequestChildNodes id depth pierce) w) in z.pushed ≡ w.pushed ++ newly_known page w z)
 
 -- a push of the node that a path leads to opens its proper ancestors
 abbrev pub PathOpens : Type 0
-PathOpens = (page : PageValue) (path : List ℕ) (w : Session) (x : Branch PageRow) → IsValid page → is_open w.opened page.tree.row.serial ≡ true → node_at_path path page.tree ≡ Some x
+PathOpens = (page : PageValue) (path : List ℕ) (w : Session) (x : Branch PageRow) → IsValid page
+    → is_open w.opened page.tree.row.serial ≡ true → node_at_path path page.tree ≡ Some x
     → OpensAlso w (state_after w (session_outcome page (PushByPath path) w)) (IsAncestor page.tree x.row.serial)
 
 -- a push of several nodes opens the proper ancestors of each; a serial that no node has opens nothing

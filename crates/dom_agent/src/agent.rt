@@ -8,11 +8,13 @@ ghost use Rattle.page_tree.specs.EditFaults.{first_fault, IsReady, RefusesEdit};
 ghost use Rattle.node_binding.specs.Openings.{IsDepth, levels_of};
 ghost use Rattle.node_binding.specs.Bindings.{empty_from, cleared, opened_in, id_in};
 ghost use Rattle.cdp_messages.specs.DomAsks.{fits_ask};
-ghost use Rattle.cdp_messages.specs.declared.dom_ask.DomAsk.TheVariants.{GetDocument, RequestChildNodes, PushByPath, PushBySerials, QuerySelector, QuerySelectorAll, GetAttributes, DescribeNode};
+ghost use Rattle.cdp_messages.specs.declared.dom_ask.DomAsk.TheVariants.{GetDocument, RequestChildNodes, PushByPath, PushBySerials};
+ghost use Rattle.cdp_messages.specs.declared.dom_ask.DomAsk.TheVariants.{QuerySelector, QuerySelectorAll, GetAttributes, DescribeNode};
 ghost use Rattle.cdp_messages.specs.Moves.{replied, failed, frames_of_moves};
 ghost use Rattle.dom_agent.specs.Keepers.{binding_keeper};
 ghost use Rattle.selectors.specs.Lists.{list_seen};
-ghost use Rattle.dom_agent.specs.Requests.{state_after, answer, pushed, all_pushed, with_id, with_ids, first_asked, all_asked, frames_told, known_node, named_node};
+ghost use Rattle.dom_agent.specs.Requests.{state_after, answer, pushed, all_pushed, with_id, with_ids, first_asked, all_asked, frames_told};
+ghost use Rattle.dom_agent.specs.Requests.{known_node, named_node};
 ghost use Rattle.dom_agent.specs.Laws.{binding_outcome};
 ghost use Rattle.dom_agent.specs.Edits.{OnFault};
 ghost use Rattle.dom_agent.specs.EditLaws.{binding_edited};
@@ -196,7 +198,8 @@ impl DomAgent {
         ensures known { OnOk result (self.new
             ≡ (pushed (binding_keeper (alone page.now.tree)) page.now.tree serial self.old).state) }
         ensures sent { OnOk result (out.new.items ≡ out.old.items
-            ++ answer id (with_id (binding_keeper (alone page.now.tree)) page.now.tree serial (pushed (binding_keeper (alone page.now.tree)) page.now.tree serial self.old))) }
+            ++ answer id (with_id (binding_keeper (alone page.now.tree)) page.now.tree serial
+            (pushed (binding_keeper (alone page.now.tree)) page.now.tree serial self.old))) }
     {
         open_above(self.alloc, &mut self.binding, page, serial, out)?;
         let node = self.binding.id_of(serial).unwrap_or(0);
@@ -234,7 +237,8 @@ impl DomAgent {
         ensures known { OnOk result (self.new
             ≡ (all_pushed (binding_keeper (alone page.now.tree)) page.now.tree serials.now self.old).progress.state) }
         ensures sent { OnOk result (out.new.items ≡ out.old.items
-            ++ answer id (with_ids (binding_keeper (alone page.now.tree)) page.now.tree (all_pushed (binding_keeper (alone page.now.tree)) page.now.tree serials.now self.old))) }
+            ++ answer id (with_ids (binding_keeper (alone page.now.tree)) page.now.tree
+            (all_pushed (binding_keeper (alone page.now.tree)) page.now.tree serials.now self.old))) }
     {
         let ids = push_all(self.alloc, &mut self.binding, page, serials, out)?;
         let body = ReplyBody::NodeIds(Numbers::new(ids));

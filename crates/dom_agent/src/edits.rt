@@ -8,7 +8,8 @@ ghost use Rattle.page_tree.specs.declared.edits.TreeEdit.TheVariants.{SetAttr, D
 ghost use Rattle.node_binding.specs.Bindings.{id_in};
 ghost use Rattle.cdp_messages.specs.Moves.{sets, drops, says, frames_of_moves};
 ghost use Rattle.dom_agent.specs.Keepers.{binding_keeper};
-ghost use Rattle.dom_agent.specs.Edits.{id_before, told_where_known, told_count, insertion, child_came, child_gone, edited, event_frames, OnFault};
+ghost use Rattle.dom_agent.specs.Edits.{id_before, told_where_known, told_count, insertion, child_came, child_gone, edited, event_frames};
+ghost use Rattle.dom_agent.specs.Edits.{OnFault};
 
 use crate::told::tell_inserted;
 use cdp_messages::{Event, write_event};
@@ -167,7 +168,8 @@ fn tell_child(
     ensures known { (n : Nodes PageRow) → OnOk result (binding.new
         ≡ (child_came (binding_keeper n) parent (node_at serial page.now.tree) (children_at parent page.now.tree) binding.old).state) }
     ensures sent { (n : Nodes PageRow) → OnOk result (out.new.items ≡ out.old.items
-        ++ frames_of_moves (child_came (binding_keeper n) parent (node_at serial page.now.tree) (children_at parent page.now.tree) binding.old).moves) }
+        ++ frames_of_moves (child_came (binding_keeper n) parent (node_at serial page.now.tree)
+        (children_at parent page.now.tree) binding.old).moves) }
 {
     if !binding.is_opened(parent) {
         let event = count_of_known(binding, page, parent);
@@ -232,7 +234,8 @@ fn is_document(kind: Kind) -> bool
 /// What the going of a node that is no document is to the client, told by the page that still has it.
 fn child_removed(binding: &Binding, page: &Page, serial: u64) -> Option<Event>
     requires { first_fault (Detach serial) page.now.tree ≡ None }
-    ensures { (n : Nodes PageRow) → event_frames result ≡ frames_of_moves (edited (binding_keeper n) (Detach serial) page.now.tree binding.now).moves }
+    ensures { (n : Nodes PageRow) → event_frames result
+        ≡ frames_of_moves (edited (binding_keeper n) (Detach serial) page.now.tree binding.now).moves }
 {
     page.valid();
     let parent = page.parent(serial);

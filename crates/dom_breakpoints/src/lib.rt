@@ -9,4 +9,3 @@ mod serial_sets;
 
 pub use breakpoints::Watches;
 pub use pauses::{Pause, WatchKind};
-

@@ -22,13 +22,15 @@ use Rattle.front_mirror.specs.Front.{FrontValue, FrontState}
 -- an ask by its parts
 abbrev pub coded_ask : Coded Ask
 coded_ask =
-    code_by (ℕ × (List ℕ × Option ℕ)) (coded× coded_ℕ (coded× (coded_list coded_ℕ) (coded_option coded_ℕ))) (λ a. (a.id, (a.method, a.sheet)))
+    code_by (ℕ × (List ℕ × Option ℕ)) (coded× coded_ℕ (coded× (coded_list coded_ℕ) (coded_option coded_ℕ)))
+    (λ a. (a.id, (a.method, a.sheet)))
     (λ p. record { id = p.0; method = p.1.0; sheet = p.1.1 }) (λ _. refl)
 
 -- a kept reply by its parts
 abbrev pub coded_kept : Coded Kept
 coded_kept =
-    code_by ((Option ℕ × Option (List ℕ)) × (List ℕ × Bool)) (coded× (coded× (coded_option coded_ℕ) (coded_option (coded_list coded_ℕ))) (coded× (coded_list coded_ℕ) coded_bool))
+    code_by ((Option ℕ × Option (List ℕ)) × (List ℕ × Bool))
+    (coded× (coded× (coded_option coded_ℕ) (coded_option (coded_list coded_ℕ))) (coded× (coded_list coded_ℕ) coded_bool))
     (λ k. ((k.id, k.method), (k.text, k.good)))
     (λ p. record { id = p.0.0; method = p.0.1; text = p.1.0; good = p.1.1 })
     (λ _. refl)
@@ -36,7 +38,8 @@ coded_kept =
 -- a sheet by its parts
 abbrev pub coded_sheet : Coded KnownSheet
 coded_sheet =
-    code_by ((ℕ × SheetOrigin) × (Option (List ℕ) × Bool)) (coded× (coded× coded_ℕ origin.the_row.coded) (coded× (coded_option (coded_list coded_ℕ)) coded_bool))
+    code_by ((ℕ × SheetOrigin) × (Option (List ℕ) × Bool))
+    (coded× (coded× coded_ℕ origin.the_row.coded) (coded× (coded_option (coded_list coded_ℕ)) coded_bool))
     (λ s. ((s.number, s.origin), (s.text, s.stale)))
     (λ p. record { number = p.0.0; origin = p.0.1; text = p.1.0; stale = p.1.1 })
     (λ _. refl)
@@ -52,11 +55,13 @@ coded_pause =
 -- a reply that told matched styles by its ask and the styles
 abbrev pub coded_matched : Coded MatchedReply
 coded_matched =
-    code_by (ℕ × Matched) (coded× coded_ℕ matched.the_row.coded) (λ r. (r.ask, r.matched)) (λ p. record { ask = p.0; matched = p.1 }) (λ _. refl)
+    code_by (ℕ × Matched) (coded× coded_ℕ matched.the_row.coded) (λ r. (r.ask, r.matched)) (λ p. record { ask = p.0; matched = p.1 })
+    (λ _. refl)
 
 -- a fault by its place and kind
 abbrev pub coded_fault : Coded FrontFault
-coded_fault = code_by (ℕ × FrontKind) (coded× coded_ℕ kind.the_row.coded) (λ f. (f.place, f.kind)) (λ p. record { place = p.0; kind = p.1 }) (λ _. refl)
+coded_fault = code_by (ℕ × FrontKind) (coded× coded_ℕ kind.the_row.coded) (λ f. (f.place, f.kind))
+    (λ p. record { place = p.0; kind = p.1 }) (λ _. refl)
 
 -- what a front shows, by its parts
 abbrev pub coded_value : Coded FrontValue
@@ -66,7 +71,15 @@ coded_value =
     (coded× (coded_nodes coded_seen) (coded× (coded_list coded_sheet) (coded_list coded_ask)))
     (coded× (coded× (coded_list coded_kept) (coded_list coded_pause)) (coded× (coded_list coded_matched) coded_ℕ)))
     (λ v. ((v.tree, (v.sheets, v.asks)), ((v.replies, v.pauses), (v.matched, v.taken))))
-    (λ p. record { tree = p.0.0; sheets = p.0.1.0; asks = p.0.1.1; replies = p.1.0.0; pauses = p.1.0.1; matched = p.1.1.0; taken = p.1.1.1 })
+    (λ p. record {
+      tree = p.0.0;
+      sheets = p.0.1.0;
+      asks = p.0.1.1;
+      replies = p.1.0.0;
+      pauses = p.1.0.1;
+      matched = p.1.1.0;
+      taken = p.1.1.1;
+    })
     (λ _. refl)
 
 -- a front by its parts

@@ -1,5 +1,6 @@
 -- The front end as a value, and the fold of the frames that come down.
-use Rattle.std.specs.Prelude.{ℕ, ◌+◌, ◌-◌, ◌^◌, ◌==◌, Bool, true, false, not, ◌&&◌, ◌||◌, cond, nat_le, List, [], ◌∷◌, ◌++◌, codes, Option, Some, None, option_map, option_and_then, Result, Ok, Err}
+use Rattle.std.specs.Prelude.{ℕ, ◌+◌, ◌-◌, ◌^◌, ◌==◌, Bool, true, false, not, ◌&&◌, ◌||◌, cond, nat_le, List, [], ◌∷◌, ◌++◌, codes, Option}
+use Rattle.std.specs.Prelude.{Some, None, option_map, option_and_then, Result, Ok, Err}
 use Rattle.serde_json.specs.Data.{Data}
 use Rattle.cdp_json.specs.Rows.{ends, and_need, object_of}
 use Rattle.css_objects.specs.Sheets.{sheet_kind}
@@ -20,7 +21,8 @@ use Rattle.cdp_messages.specs.declared.down.PauseData.{PauseData}
 use Rattle.cdp_messages.specs.declared.down.PauseData.TheVariants as pause
 use Rattle.cdp_messages.specs.Told.{Told, seen_nodes, seen_branch}
 use Rattle.cdp_messages.specs.Replies.{Message, reply, fault, event, down_of, result_of}
-use Rattle.cdp_messages.specs.Events.{News, attribute_modified, attribute_removed, text_modified, count_updated, inserted, removed, set_children, document_updated, paused, sheet_added, sheet_changed, sheet_removed}
+use Rattle.cdp_messages.specs.Events.{News, attribute_modified, attribute_removed, text_modified, count_updated, inserted, removed}
+use Rattle.cdp_messages.specs.Events.{set_children, document_updated, paused, sheet_added, sheet_changed, sheet_removed}
 use Rattle.front_mirror.specs.declared.replies.Ask.{Ask}
 use Rattle.front_mirror.specs.declared.replies.Kept.{Kept}
 use Rattle.front_mirror.specs.declared.replies.MatchedReply.{MatchedReply}
@@ -36,7 +38,8 @@ use Rattle.front_mirror.specs.declared.sheets.KnownSheet.{KnownSheet}
 use Rattle.front_mirror.specs.Sheets.{told_sheet, has_sheet, marked_old, with_fetched, without_sheet}
 use Rattle.front_mirror.specs.Shown.{told_id, told_serial}
 
--- The tree of the mirror, none where it is empty; the sheets, in the order in which they came; the asks that wait for a reply, in the order in which they were sent; the
+-- The tree of the mirror, none where it is empty; the sheets, in the order in which they came; the asks that wait for a reply, in the order
+-- in which they were sent; the
 -- replies, the pauses and the matched styles that came, in their order; and how many messages were taken.
 pub record FrontValue : Type 0 where
   pub tree : Nodes Seen
@@ -206,7 +209,8 @@ with_root v id frame root (Some kind) = Err kind
 -- after an Ok reply with this effect
 abbrev pub with_effect : FrontValue → ℕ → List ℕ → Effect → Result FrontValue FrontKind
 with_effect v id frame (effect.Document tree) = with_root v id frame tree (root_fault tree)
-with_effect v id frame (effect.SheetText text) = Ok (record (replied v id frame true v.tree) { sheets = sheets_fetched (fetched_sheet id v.asks) text v.sheets })
+with_effect v id frame (effect.SheetText text) = Ok
+    (record (replied v id frame true v.tree) { sheets = sheets_fetched (fetched_sheet id v.asks) text v.sheets })
 with_effect v id frame effect.AllOff = Ok (record (replied v id frame true none) { sheets = [] })
 with_effect v id frame effect.SheetsOff = Ok (record (replied v id frame true v.tree) { sheets = [] })
 with_effect v id frame effect.NothingElse = Ok (replied v id frame true v.tree)

@@ -6,7 +6,8 @@ use Rattle.cdp_messages.specs.declared.down.ReplyBody.{ReplyBody}
 use Rattle.cdp_messages.specs.declared.effects.Effect.{Effect}
 use Rattle.cdp_messages.specs.declared.effects.Effect.TheVariants as effect
 use Rattle.cdp_messages.specs.Effects.{effect_of}
-use Rattle.cdp_messages.specs.Moves.{Move, change, clear, met, added, dropped, rewritten, root, texted, replied, all_off, sheets_off, failed, move_text, CanBeTold, Moves, Course, answered_by}
+use Rattle.cdp_messages.specs.Moves.{Move, change, clear, met, added, dropped, rewritten, root, texted, replied, all_off, sheets_off}
+use Rattle.cdp_messages.specs.Moves.{failed, move_text, CanBeTold, Moves, Course, answered_by}
 use Rattle.cdp_messages.specs.Laws.{answers}
 use Rattle.cdp_messages.specs.Views.{ShownSheet, View}
 use Rattle.front_mirror.specs.declared.replies.Ask.{Ask}
@@ -14,7 +15,9 @@ use Rattle.front_mirror.specs.declared.replies.Kept.{Kept}
 use Rattle.front_mirror.specs.declared.replies.MatchedReply.{MatchedReply}
 use Rattle.front_mirror.specs.declared.pauses.SeenPause.{SeenPause}
 use Rattle.front_mirror.specs.declared.sheets.KnownSheet.{KnownSheet}
-use Rattle.front_mirror.specs.Front.{FrontValue, plain_ask, fetch_ask, method_waiting, fetched_sheet, asks_without, reply_kept, kept_reply, matched_told, seen_pause, take_frame, outcome, fold_frames, fold, FrontState, first_state, after_take, after_ask, after_fetch}
+use Rattle.front_mirror.specs.Front.{FrontValue, plain_ask, fetch_ask, method_waiting, fetched_sheet, asks_without, reply_kept, kept_reply}
+use Rattle.front_mirror.specs.Front.{matched_told, seen_pause, take_frame, outcome, fold_frames, fold, FrontState, first_state, after_take}
+use Rattle.front_mirror.specs.Front.{after_ask, after_fetch}
 
 -- the front with one ask more that waits
 abbrev pub ask_joined : FrontValue → Ask → FrontValue
@@ -210,7 +213,8 @@ pub record IsTaken (m : Move) (v : FrontValue) (w : View) : Type 0 where
 
 -- a front that has the view before a move has the view after it, once it took the message
 abbrev pub MoveGives : Type 0
-MoveGives = (m : Move) (u w : View) (v : FrontValue) → CanBeTold u → CanBeTold w → Moves m u w → Has v u → IsAwaited m v.asks → IsTaken m v w
+MoveGives = (m : Move) (u w : View) (v : FrontValue) → CanBeTold u → CanBeTold w → Moves m u w → Has v u → IsAwaited m v.asks
+    → IsTaken m v w
 
 -- ---- many moves
 
@@ -263,7 +267,8 @@ IsAnswer (failed r) ask = r.id ≡ Some ask.id
 pub data InTurn : List Move → List Ask → List Ask → Type 0 where
   rests : (asks : List Ask) → InTurn [] asks asks
   tells : (m : Move) (ms : List Move) (asks rest : List Ask) → answered_by m ≡ [] → InTurn ms asks rest → InTurn (m ∷ ms) asks rest
-  meets : (m : Move) (ms : List Move) (ask : Ask) (asks rest : List Ask) → IsAnswer m ask → InTurn ms asks rest → InTurn (m ∷ ms) (ask ∷ asks) rest
+  meets : (m : Move) (ms : List Move) (ask : Ask) (asks rest : List Ask) → IsAnswer m ask → InTurn ms asks rest
+      → InTurn (m ∷ ms) (ask ∷ asks) rest
 
 -- moves that answer the first asks one by one are awaited, and the rest waits after them
 abbrev pub TurnsAreAwaited : Type 0

@@ -136,7 +136,8 @@ TableLooks (Some slot) f = (b : Branch Seen) × (f ≡ Some b) × (mirror_row sl
 -- How many slots there are from the one of that id up, looked for no further than so many levels.
 abbrev pub table_climbed : Table → ℕ → Option ℕ → ℕ
 table_climbed t zero above = 0
-table_climbed t (suc levels) above = option_map_or (λ k. suc (table_climbed t levels (option_and_then (λ slot. slot.parent) (table_slots t k)))) above 0
+table_climbed t (suc levels) above = option_map_or
+    (λ k. suc (table_climbed t levels (option_and_then (λ slot. slot.parent) (table_slots t k)))) above 0
 
 -- ---- a node changed, with what comes and goes below it
 

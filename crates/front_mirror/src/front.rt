@@ -1,4 +1,5 @@
-ghost use Rattle.std.specs.Prelude.{◌≡◌, ◌<◌, ◌^◌, ◌+◌, ◌↔◌, ℕ, [], length, slice_get, codes, IsTrue, IsErr, Some, None, Ok, Err, true, option_map, option_copied, IfOk, OnOk, OnErr};
+ghost use Rattle.std.specs.Prelude.{◌≡◌, ◌<◌, ◌^◌, ◌+◌, ◌↔◌, ℕ, [], length, slice_get, codes, IsTrue, IsErr, Some, None, Ok, Err, true};
+ghost use Rattle.std.specs.Prelude.{option_map, option_copied, IfOk, OnOk, OnErr};
 ghost use Rattle.serde_json.specs.View.{view};
 ghost use Rattle.pipe_frames.specs.Frames.{framed};
 ghost use Rattle.cdp_messages.specs.Asked.{command_text, is_whole_where_there};
@@ -54,7 +55,14 @@ impl Model for Front {
 
     ghost coded = { coded_front };
 
-    ghost view = { λ f. record { value = known_value f.known; rest = f.splitter.rest; fault = f.fault; next = f.next; fetches = f.fetches; dead = f.is_dead } };
+    ghost view = { λ f. record {
+      value = known_value f.known;
+      rest = f.splitter.rest;
+      fault = f.fault;
+      next = f.next;
+      fetches = f.fetches;
+      dead = f.is_dead;
+    } };
 
     ghost invariant = { λ f. f.is_dead ≡ false → f.fault ≡ None → f.splitter.whole ≡ [] };
 }

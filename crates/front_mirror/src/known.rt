@@ -6,7 +6,10 @@ ghost use Rattle.cdp_messages.specs.NodeData.{fits_tree};
 ghost use Rattle.cdp_messages.specs.Moves.{paused_nodes};
 ghost use Rattle.cdp_messages.specs.Events.{news_of, fits_news};
 ghost use Rattle.front_mirror.specs.Known.{known_value, Takes};
-ghost use Rattle.front_mirror.specs.Front.{FrontValue, first_value, reply_kept, method_waiting, fetched_sheet, sheets_fetched, replied, refused, told, with_root, with_effect, with_reply, with_fault, with_change, with_pause, with_matched, with_added, with_sheet, told_sheets, with_news, take_frame, is_shown, halted, root_fault};
+ghost use Rattle.front_mirror.specs.Front.{FrontValue, first_value, reply_kept, method_waiting, fetched_sheet, sheets_fetched, replied};
+ghost use Rattle.front_mirror.specs.Front.{refused, told, with_root, with_effect, with_reply, with_fault, with_change, with_pause};
+ghost use Rattle.front_mirror.specs.Front.{with_matched, with_added, with_sheet, told_sheets, with_news, take_frame, is_shown, halted};
+ghost use Rattle.front_mirror.specs.Front.{root_fault};
 ghost use Rattle.front_mirror.specs.Sheets.{told_sheet, has_sheet, marked_old, without_sheet};
 ghost use Rattle.front_mirror.specs.Edits.{edit_told, fits_edit, fits_effect};
 

@@ -1,4 +1,5 @@
-ghost use Rattle.front_mirror.specs.Laws.{FoldGoesOn, AskJoins, FrontBegins, TakesFold, StaysFold, AsksFold, FetchesFold, MoveGives, CourseGives, TurnsAreAwaited};
+ghost use Rattle.front_mirror.specs.Laws.{FoldGoesOn, AskJoins, FrontBegins, TakesFold, StaysFold, AsksFold, FetchesFold, MoveGives};
+ghost use Rattle.front_mirror.specs.Laws.{CourseGives, TurnsAreAwaited};
 
 /// The law of the fold: it goes on from the fold of a shorter stream, and an ask or a fetch that is sent only joins those that wait.
 /// So a front is at all times the fold of the asks that it sent and the bytes that it took, in whatever pieces, or has the

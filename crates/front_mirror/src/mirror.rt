@@ -1,4 +1,5 @@
-ghost use Rattle.std.specs.Prelude.{◌≡◌, ◌≢◌, ◌↔◌, ◌<◌, ◌++◌, length, IsTrue, IsSome, is_some, Some, option_map, unwrap_or, slice_get, None, true, IfOk, IfSome, OnOk};
+ghost use Rattle.std.specs.Prelude.{◌≡◌, ◌≢◌, ◌↔◌, ◌<◌, ◌++◌, length, IsTrue, IsSome, is_some, Some, option_map, unwrap_or, slice_get};
+ghost use Rattle.std.specs.Prelude.{None, true, IfOk, IfSome, OnOk};
 ghost use Rattle.node_tree.specs.Nodes.{none, alone, width, tree_at, nodes_of};
 ghost use Rattle.std.specs.Option.{option_copied};
 ghost use Rattle.node_tree.specs.Keys.{has, find, parent_of, level_of, spot};

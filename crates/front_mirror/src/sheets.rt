@@ -1,7 +1,8 @@
 // The sheets that messages told of.
 ghost use Rattle.std.specs.Prelude.{◌≡◌, ◌<◌, ◌++◌, ◌∷◌, [], length, slice_get, nat_eq, Some, false, IfOk, OnOk, OnErr};
 ghost use Rattle.indexmap.specs.IndexMap.{shift_remove_entry};
-ghost use Rattle.front_mirror.specs.Sheets.{told_sheet, stale_sheet, fresh_sheet, has_sheet, marked_old, with_fetched, without_sheet, has_fresh_text, stale_of};
+ghost use Rattle.front_mirror.specs.Sheets.{told_sheet, stale_sheet, fresh_sheet, has_sheet, marked_old, with_fetched, without_sheet};
+ghost use Rattle.front_mirror.specs.Sheets.{has_fresh_text, stale_of};
 
 use cdp_messages::{Header, SheetOrigin};
 use indexmap::IndexMap;

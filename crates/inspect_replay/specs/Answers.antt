@@ -140,13 +140,22 @@ InReadOnly anywhen P = ⊤
 -- An input that is read within its limits, or the one reason why not.
 abbrev pub InputTells : Result (Vec ℕ Global) Stop → List ℕ → Type 0
 InputTells (Ok read) input = (read.items ≡ input) × (is_too_long input ≡ false)
-InputTells (Err stop) input = InReadOnly (says_of {T = Vec ℕ Global} (Err stop)).phase (OnTrue (says_of {T = Vec ℕ Global} (Err stop)).over (is_too_long input ≡ true))
+InputTells (Err stop) input = InReadOnly (says_of {T = Vec ℕ Global} (Err stop)).phase
+    (OnTrue (says_of {T = Vec ℕ Global} (Err stop)).over (is_too_long input ≡ true))
 
 -- the counts of a source, with no sink and no link
 abbrev pub source_counts : (before after : ℕ) → Counts
-source_counts before after = record { source_before = before; source_after = after; sink_before = 0; sink_after = 0; link_before = 0; link_after = 0 }
+source_counts before after = record {
+  source_before = before;
+  source_after = after;
+  sink_before = 0;
+  sink_after = 0;
+  link_before = 0;
+  link_after = 0;
+}
 
 -- reading stops by a fault of the source only where its count rose
 abbrev pub IsInputStop : (before after : ℕ) → Result (Vec ℕ Global) Stop → Type 0
 IsInputStop before after (Ok read) = ⊤
-IsInputStop before after (Err stop) = InReadOnly (says_of {T = Vec ℕ Global} (Err stop)).phase (PartRose (source_counts before after) (says_of {T = Vec ℕ Global} (Err stop)).failed)
+IsInputStop before after (Err stop) = InReadOnly (says_of {T = Vec ℕ Global} (Err stop)).phase
+    (PartRose (source_counts before after) (says_of {T = Vec ℕ Global} (Err stop)).failed)

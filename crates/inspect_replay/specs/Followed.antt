@@ -1,5 +1,6 @@
 -- What holds of a run over every link, whatever bytes it gives.
-use Rattle.std.specs.Prelude.{◌≡◌, ◌≤◌, ◌^◌, ℕ, List, [], ◌∷◌, ◌++◌, length, map, codes, All, Bool, true, Option, Some, None, Result, Ok, Err, IsOk, OnOk, ⊤}
+use Rattle.std.specs.Prelude.{◌≡◌, ◌≤◌, ◌^◌, ℕ, List, [], ◌∷◌, ◌++◌, length, map, codes, All, Bool, true, Option, Some, None, Result, Ok}
+use Rattle.std.specs.Prelude.{Err, IsOk, OnOk, ⊤}
 use Rattle.std.specs.Io.KnownBytes.{Appends}
 use Rattle.pipe_frames.specs.Pipe.{Pipe, sent_since, given_since}
 use Rattle.pipe_frames.specs.Frames.{frames_of}
@@ -55,7 +56,8 @@ pub record EndsShown (before after : Option (List ℕ)) (passed : Passed) : Type
 
 -- The replies that were sent down answer the whole frames that were given up, in their order, each with its frame's id.
 abbrev pub AnswersInOrder : (up0 down0 up down : Pipe) → Type 0
-AnswersInOrder up0 down0 up down = map (λ (t : ShownReply). t.id) (replies_in (sent_since down0 down)) ≡ map reply_id (frames_of (given_since up0 up)).whole
+AnswersInOrder up0 down0 up down = map (λ (t : ShownReply). t.id) (replies_in (sent_since down0 down))
+    ≡ map reply_id (frames_of (given_since up0 up)).whole
 
 -- Of each pipe no more bytes were given than were sent: a delivery asks for no more than are there.
 abbrev pub GivesNoMore : (up0 down0 up down : Pipe) → Type 0
@@ -141,6 +143,7 @@ pub record PrintedSome (before after : Option (List ℕ)) : Type 0 where
 abbrev pub ClosesShown : {T : Type 0} → Scene → Scene → Result T Stop → Type 0
 ClosesShown old new result =
     (state0 : Started) (up0 down0 : Pipe) → FollowsRun state0 up0 down0 old.now.up old.now.down old.now.ends
-    → OnOk result (EndsShown old.taken new.taken (fold_since up0 down0 new.now.up new.now.down) × AnswersInOrder up0 down0 new.now.up new.now.down
+    → OnOk result (EndsShown old.taken new.taken (fold_since up0 down0 new.now.up new.now.down)
+    × AnswersInOrder up0 down0 new.now.up new.now.down
     × GivesNoMore up0 down0 new.now.up new.now.down × AllCame (fold_since up0 down0 new.now.up new.now.down) state0.shown)
     × StopFolds result (fold_since up0 down0 new.now.up new.now.down)

@@ -29,7 +29,8 @@ numbered_line number form = record { number = number; form = form }
 -- a line is carried out, and prints what it prints
 abbrev pub CarriesOut : {T : Type 0} → Scene → Scene → NumberedLine → Result T Stop → Type 0
 CarriesOut old new line result =
-    (up0 down0 : Pipe) (more : ℕ) (w : World RunState) → InPlay old.now.honest up0 down0 old.now.up old.now.down (more + line_cost line.form) w old.now.ends
+    (up0 down0 : Pipe) (more : ℕ) (w : World RunState)
+    → InPlay old.now.honest up0 down0 old.now.up old.now.down (more + line_cost line.form) w old.now.ends
     → GoesWell result
     × OnOk result (InPlay new.now.honest up0 down0 new.now.up new.now.down more (after_line line.form w) new.now.ends)
     × Prints result old.taken new.taken (line_text line.number line.form w)
@@ -37,7 +38,8 @@ CarriesOut old new line result =
 -- the same of any line: one that shows what did not come is refused, and nothing is printed of it
 abbrev pub CarriesLine : {T : Type 0} → Scene → Scene → NumberedLine → Result T Stop → Type 0
 CarriesLine old new line result =
-    (up0 down0 : Pipe) (more : ℕ) (w : World RunState) → InPlay old.now.honest up0 down0 old.now.up old.now.down (more + line_cost line.form) w old.now.ends
+    (up0 down0 : Pipe) (more : ℕ) (w : World RunState)
+    → InPlay old.now.honest up0 down0 old.now.up old.now.down (more + line_cost line.form) w old.now.ends
     → OnOk result (InPlay new.now.honest up0 down0 new.now.up new.now.down more (after_line line.form w) new.now.ends)
     × RunTook result old.taken new.taken (line_text line.number line.form w)
     × RunTells result (numbered_or line.number (lacking line.form w) None)

@@ -7,7 +7,8 @@ use Rattle.front_mirror.specs.declared.faults.FrontFault.{FrontFault}
 use Rattle.inspect_replay.specs.declared.status.Status.{Status}
 use Rattle.inspect_replay.specs.declared.status.Status.TheVariants as status
 use Rattle.inspect_replay.specs.declared.stop.Stop.{Stop}
-use Rattle.inspect_replay.specs.declared.stop.Stop.TheVariants.{Line, TooLong, ReadFault, WriteFault, LinkFault, FrontRefused, NoRoom, Memory}
+use Rattle.inspect_replay.specs.declared.stop.Stop.TheVariants.{Line, TooLong, ReadFault, WriteFault, LinkFault, FrontRefused, NoRoom}
+use Rattle.inspect_replay.specs.declared.stop.Stop.TheVariants.{Memory}
 
 -- how far a call had come
 pub data Phase : Type 0 where

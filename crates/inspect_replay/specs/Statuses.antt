@@ -4,7 +4,8 @@ use Rattle.replay_script.specs.Names.{fault_name}
 use Rattle.front_mirror.specs.declared.faults.FrontKind.{FrontKind}
 use Rattle.front_mirror.specs.declared.faults.FrontKind.TheVariants.{NotMessage, UnknownNode, NotChild, IdTaken, UnknownSheet, TooDeep}
 use Rattle.inspect_replay.specs.declared.status.Status.{Status}
-use Rattle.inspect_replay.specs.declared.status.Status.TheVariants.{Done, Usage, Line, TooLong, ReadFault, WriteFault, LinkFault, FrontRefused, NoRoom, Memory}
+use Rattle.inspect_replay.specs.declared.status.Status.TheVariants.{Done, Usage, Line, TooLong, ReadFault, WriteFault, LinkFault}
+use Rattle.inspect_replay.specs.declared.status.Status.TheVariants.{FrontRefused, NoRoom, Memory}
 
 -- how a status line names the fault of a message
 abbrev pub kind_name : FrontKind → List ℕ

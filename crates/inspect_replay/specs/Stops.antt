@@ -15,7 +15,14 @@ AmidRun anywhen P = P
 -- the counts of a sink and of a link, with no source
 abbrev pub two_counts : (sink_before sink_after link_before link_after : ℕ) → Counts
 two_counts sink_before sink_after link_before link_after =
-    record { source_before = 0; source_after = 0; sink_before = sink_before; sink_after = sink_after; link_before = link_before; link_after = link_after }
+    record {
+      source_before = 0;
+      source_after = 0;
+      sink_before = sink_before;
+      sink_after = sink_after;
+      link_before = link_before;
+      link_after = link_after;
+    }
 
 -- a run over a sink and a link stops by a fault of the one or the other only where its count rose
 abbrev pub RoseFor : Counts → Stop → Type 0

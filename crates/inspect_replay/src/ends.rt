@@ -62,7 +62,8 @@ fn framed(alloc: Global, text: &str) -> Result<Vec<u8>, AllocError>
 
 impl Ends {
     ghost use Rattle.inspect_replay.specs.Stops.{HasStopCause};
-    ghost use Rattle.inspect_replay.specs.Runs.{Steps, Spends, TakesUp, AnswersAll, AnswersOne, SendsFetch, FetchesText, FetchesOne, FetchesAll, Refreshes};
+    ghost use Rattle.inspect_replay.specs.Runs.{Steps, Spends, TakesUp, AnswersAll, AnswersOne, SendsFetch, FetchesText, FetchesOne};
+    ghost use Rattle.inspect_replay.specs.Runs.{FetchesAll, Refreshes};
     ghost use Rattle.inspect_replay.specs.Moments.{moment};
     ghost use Rattle.inspect_replay.specs.Followed.{KeepsFollowing, LineFollows, KeepsFollowingWith, FollowsAnswers, FollowsAnswer};
 
@@ -250,7 +251,8 @@ impl Ends {
         ensures follows { LineFollows (moment (L.honest link.old) (L.up link.old) (L.down link.old) self.old)
             (moment (L.honest link.new) (L.up link.new) (L.down link.new) self.new) result }
         ensures steps { Spends least_line (moment (L.honest link.old) (L.up link.old) (L.down link.old) self.old)
-            (moment (L.honest link.new) (L.up link.new) (L.down link.new) self.new) result (λ w. turned run_turn (loads (loaded_page form)) w) }
+            (moment (L.honest link.new) (L.up link.new) (L.down link.new) self.new) result
+            (λ w. turned run_turn (loads (loaded_page form)) w) }
     {
         if !self.seat.has_room(&self.side) {
             return Err(Stop::NoRoom);

@@ -8,7 +8,8 @@ ghost use Rattle.inspect_world.specs.ScriptsFit.{UndoRestoresInRuns};
 ghost use Rattle.inspect_replay.specs.Words.{is_replay, is_serve};
 ghost use Rattle.inspect_replay.specs.declared.status.Status.TheVariants.{Done, Usage};
 ghost use Rattle.inspect_replay.specs.Followed.{StatusFolds, EndsShown, AnswersInOrder, GivesNoMore, fold_since};
-ghost use Rattle.inspect_replay.specs.Answers.{FitsLimits, TellsLine, Took, IsHonest, WritesNothing, StatusRose, InputTells, IsInputStop, ReadsAll, IsLate};
+ghost use Rattle.inspect_replay.specs.Answers.{FitsLimits, TellsLine, Took, IsHonest, WritesNothing, StatusRose, InputTells, IsInputStop};
+ghost use Rattle.inspect_replay.specs.Answers.{ReadsAll, IsLate};
 ghost use Rattle.inspect_replay.specs.Says.{status_of};
 ghost use Rattle.inspect_replay.specs.Serving.{ServeTook, IsServeStatus};
 

@@ -20,7 +20,8 @@ ghost use Rattle.inspect_replay.specs.Runs.{Spends};
 ghost use Rattle.inspect_replay.specs.Stops.{HasStopCause, HasRunCause};
 ghost use Rattle.inspect_replay.specs.Answers.{RunTells, RunTook};
 ghost use Rattle.inspect_replay.specs.Moments.{moment, scene};
-ghost use Rattle.inspect_replay.specs.Followed.{KeepsFollowing, LineFollows, LineTells, LinesFollow, PrintedSome, ClosesShown, StopFolds, fold_since, EndsShown, AnswersInOrder, GivesNoMore};
+ghost use Rattle.inspect_replay.specs.Followed.{KeepsFollowing, LineFollows, LineTells, LinesFollow, PrintedSome, ClosesShown, StopFolds};
+ghost use Rattle.inspect_replay.specs.Followed.{fold_since, EndsShown, AnswersInOrder, GivesNoMore};
 ghost use Rattle.inspect_replay.specs.Prints.{CarriesOut, CarriesLine, RunsLines, Closes, IsRead, numbered_line, load_of};
 
 use crate::ends::Ends;
@@ -47,8 +48,10 @@ fn show_front<K: Sink, L: Link>(
     ensures follows { KeepsFollowing (moment (L.honest link.old) (L.up link.old) (L.down link.old) ends.old)
         (moment (L.honest link.new) (L.up link.new) (L.down link.new) ends.new) result }
     ensures some { OnOk result (PrintedSome (K.taken out.old) (K.taken out.new)) }
-    ensures runs { (number : ℕ) → CarriesOut (scene (moment (L.honest link.old) (L.up link.old) (L.down link.old) ends.old) (K.taken out.old))
-        (scene (moment (L.honest link.new) (L.up link.new) (L.down link.new) ends.new) (K.taken out.new)) (numbered_line number show_front) result }
+    ensures runs { (number : ℕ) → CarriesOut
+        (scene (moment (L.honest link.old) (L.up link.old) (L.down link.old) ends.old) (K.taken out.old))
+        (scene (moment (L.honest link.new) (L.up link.new) (L.down link.new) ends.new) (K.taken out.new))
+        (numbered_line number show_front) result }
 {
     match ends.settle(link) {
         Ok(()) => print_outline(alloc, "# front", ends.mirror(), out),
@@ -68,8 +71,10 @@ fn show_replies<K: Sink, L: Link>(
     ensures follows { KeepsFollowing (moment (L.honest link.old) (L.up link.old) (L.down link.old) ends.old)
         (moment (L.honest link.new) (L.up link.new) (L.down link.new) ends.new) result }
     ensures some { OnOk result (PrintedSome (K.taken out.old) (K.taken out.new)) }
-    ensures runs { (number : ℕ) → CarriesOut (scene (moment (L.honest link.old) (L.up link.old) (L.down link.old) ends.old) (K.taken out.old))
-        (scene (moment (L.honest link.new) (L.up link.new) (L.down link.new) ends.new) (K.taken out.new)) (numbered_line number show_replies) result }
+    ensures runs { (number : ℕ) → CarriesOut
+        (scene (moment (L.honest link.old) (L.up link.old) (L.down link.old) ends.old) (K.taken out.old))
+        (scene (moment (L.honest link.new) (L.up link.new) (L.down link.new) ends.new) (K.taken out.new))
+        (numbered_line number show_replies) result }
 {
     match ends.settle(link) {
         Ok(()) => {}
@@ -98,8 +103,10 @@ fn show_sheets<K: Sink, L: Link>(
     ensures follows { KeepsFollowing (moment (L.honest link.old) (L.up link.old) (L.down link.old) ends.old)
         (moment (L.honest link.new) (L.up link.new) (L.down link.new) ends.new) result }
     ensures some { OnOk result (PrintedSome (K.taken out.old) (K.taken out.new)) }
-    ensures runs { (number : ℕ) → CarriesOut (scene (moment (L.honest link.old) (L.up link.old) (L.down link.old) ends.old) (K.taken out.old))
-        (scene (moment (L.honest link.new) (L.up link.new) (L.down link.new) ends.new) (K.taken out.new)) (numbered_line number show_sheets) result }
+    ensures runs { (number : ℕ) → CarriesOut
+        (scene (moment (L.honest link.old) (L.up link.old) (L.down link.old) ends.old) (K.taken out.old))
+        (scene (moment (L.honest link.new) (L.up link.new) (L.down link.new) ends.new) (K.taken out.new))
+        (numbered_line number show_sheets) result }
 {
     match ends.settle(link) {
         Ok(()) => print_sheets(alloc, ends.front(), out),
@@ -119,8 +126,10 @@ fn show_pauses<K: Sink, L: Link>(
     ensures follows { KeepsFollowing (moment (L.honest link.old) (L.up link.old) (L.down link.old) ends.old)
         (moment (L.honest link.new) (L.up link.new) (L.down link.new) ends.new) result }
     ensures some { OnOk result (PrintedSome (K.taken out.old) (K.taken out.new)) }
-    ensures runs { (number : ℕ) → CarriesOut (scene (moment (L.honest link.old) (L.up link.old) (L.down link.old) ends.old) (K.taken out.old))
-        (scene (moment (L.honest link.new) (L.up link.new) (L.down link.new) ends.new) (K.taken out.new)) (numbered_line number show_pauses) result }
+    ensures runs { (number : ℕ) → CarriesOut
+        (scene (moment (L.honest link.old) (L.up link.old) (L.down link.old) ends.old) (K.taken out.old))
+        (scene (moment (L.honest link.new) (L.up link.new) (L.down link.new) ends.new) (K.taken out.new))
+        (numbered_line number show_pauses) result }
 {
     match ends.settle(link) {
         Ok(()) => {}
@@ -154,7 +163,8 @@ fn show_styles<K: Sink, L: Link>(
         (moment (L.honest link.new) (L.up link.new) (L.down link.new) ends.new) (numbered_line number (show_styles ask)) result }
     ensures some { OnOk result (PrintedSome (K.taken out.old) (K.taken out.new)) }
     ensures runs { CarriesLine (scene (moment (L.honest link.old) (L.up link.old) (L.down link.old) ends.old) (K.taken out.old))
-        (scene (moment (L.honest link.new) (L.up link.new) (L.down link.new) ends.new) (K.taken out.new)) (numbered_line number (show_styles ask)) result }
+        (scene (moment (L.honest link.new) (L.up link.new) (L.down link.new) ends.new) (K.taken out.new))
+        (numbered_line number (show_styles ask)) result }
 {
     match ends.settle(link) {
         Ok(()) => print_matched(alloc, number, ask, ends.matched_reply(ask), out),
@@ -178,7 +188,8 @@ fn carry_act<K: Sink, L: Link>(
         (moment (L.honest link.new) (L.up link.new) (L.down link.new) ends.new) result }
     ensures some { OnOk result (PrintedSome (K.taken out.old) (K.taken out.new)) }
     ensures runs { CarriesOut (scene (moment (L.honest link.old) (L.up link.old) (L.down link.old) ends.old) (K.taken out.old))
-        (scene (moment (L.honest link.new) (L.up link.new) (L.down link.new) ends.new) (K.taken out.new)) (numbered_line number (act change)) result }
+        (scene (moment (L.honest link.new) (L.up link.new) (L.down link.new) ends.new) (K.taken out.new))
+        (numbered_line number (act change)) result }
 {
     match ends.change_page(link, change) {
         Ok(fault) => print_fault(alloc, number, fault, out),
@@ -230,7 +241,8 @@ fn carry_plain<K: Sink, L: Link>(
         (moment (L.honest link.new) (L.up link.new) (L.down link.new) ends.new) result }
     ensures some { OnOk result (PrintedSome (K.taken out.old) (K.taken out.new)) }
     ensures runs { CarriesOut (scene (moment (L.honest link.old) (L.up link.old) (L.down link.old) ends.old) (K.taken out.old))
-        (scene (moment (L.honest link.new) (L.up link.new) (L.down link.new) ends.new) (K.taken out.new)) (numbered_line number (seen line)) result }
+        (scene (moment (L.honest link.new) (L.up link.new) (L.down link.new) ends.new) (K.taken out.new))
+        (numbered_line number (seen line)) result }
 {
     match line {
         Line::Load(page) => ends.load_page(link, page),
@@ -267,7 +279,8 @@ fn carry_out<K: Sink, L: Link>(
         (moment (L.honest link.new) (L.up link.new) (L.down link.new) ends.new) (numbered_line number (seen line)) result }
     ensures some { OnOk result (PrintedSome (K.taken out.old) (K.taken out.new)) }
     ensures runs { CarriesLine (scene (moment (L.honest link.old) (L.up link.old) (L.down link.old) ends.old) (K.taken out.old))
-        (scene (moment (L.honest link.new) (L.up link.new) (L.down link.new) ends.new) (K.taken out.new)) (numbered_line number (seen line)) result }
+        (scene (moment (L.honest link.new) (L.up link.new) (L.down link.new) ends.new) (K.taken out.new))
+        (numbered_line number (seen line)) result }
 {
     match line.styles_ask() {
         Some(ask) => show_styles(alloc, number, ask, ends, out, link),
@@ -374,7 +387,8 @@ fn close<K: Sink, L: Link>(
     ensures cause { HasStopCause (K.faults out.old) (K.faults out.new) (L.faults link.old) (L.faults link.new) result }
     ensures shown { ClosesShown (scene (moment (L.honest link.old) (L.up link.old) (L.down link.old) ends.old) (K.taken out.old))
         (scene (moment (L.honest link.new) (L.up link.new) (L.down link.new) ends.new) (K.taken out.new)) result }
-    ensures runs { Closes (scene (moment (L.honest link.old) (L.up link.old) (L.down link.old) ends.old) (K.taken out.old)) (K.taken out.new) result }
+    ensures runs { Closes (scene (moment (L.honest link.old) (L.up link.old) (L.down link.old) ends.old) (K.taken out.old))
+        (K.taken out.new) result }
 {
     match ends.settle(link) {
         Ok(()) => print_outline(alloc, "# end", ends.mirror(), out),
@@ -401,7 +415,8 @@ fn run_loaded<K: Sink, L: Link>(
     ensures honest { L.honest link.old → L.honest link.new }
     ensures cause { HasRunCause (K.faults out.old) (K.faults out.new) (L.faults link.old) (L.faults link.new) result }
     ensures refused { StopFolds result (fold_since (L.up link.old) (L.down link.old) (L.up link.new) (L.down link.new)) }
-    ensures closes { OnOk result (EndsShown (K.taken out.old) (K.taken out.new) (fold_since (L.up link.old) (L.down link.old) (L.up link.new) (L.down link.new))) }
+    ensures closes { OnOk result (EndsShown (K.taken out.old) (K.taken out.new)
+        (fold_since (L.up link.old) (L.down link.old) (L.up link.new) (L.down link.new))) }
     ensures replies { OnOk result (AnswersInOrder (L.up link.old) (L.down link.old) (L.up link.new) (L.down link.new)) }
     ensures less { OnOk result (GivesNoMore (L.up link.old) (L.down link.old) (L.up link.new) (L.down link.new)) }
     ensures took { L.honest link.old → IsLevel (L.up link.old) → IsLevel (L.down link.old)
@@ -429,7 +444,8 @@ pub(crate) fn run_script<K: Sink, L: Link>(
     ensures honest { L.honest link.old → L.honest link.new }
     ensures cause { HasRunCause (K.faults out.old) (K.faults out.new) (L.faults link.old) (L.faults link.new) result }
     ensures refused { StopFolds result (fold_since (L.up link.old) (L.down link.old) (L.up link.new) (L.down link.new)) }
-    ensures closes { OnOk result (EndsShown (K.taken out.old) (K.taken out.new) (fold_since (L.up link.old) (L.down link.old) (L.up link.new) (L.down link.new))) }
+    ensures closes { OnOk result (EndsShown (K.taken out.old) (K.taken out.new)
+        (fold_since (L.up link.old) (L.down link.old) (L.up link.new) (L.down link.new))) }
     ensures replies { OnOk result (AnswersInOrder (L.up link.old) (L.down link.old) (L.up link.new) (L.down link.new)) }
     ensures less { OnOk result (GivesNoMore (L.up link.old) (L.down link.old) (L.up link.new) (L.down link.new)) }
     ensures took { L.honest link.old → IsLevel (L.up link.old) → IsLevel (L.down link.old)

@@ -20,7 +20,8 @@ pub(crate) struct Service {
 }
 
 impl Service {
-    ghost use Rattle.inspect_replay.specs.Serving.{IsServing, SoFar, Serves, AnswersFrames, TakesPiece, HasServed, HasServeCause, HasWriteCause, PieceServed, serve_moment};
+    ghost use Rattle.inspect_replay.specs.Serving.{IsServing, SoFar, Serves, AnswersFrames, TakesPiece, HasServed, HasServeCause};
+    ghost use Rattle.inspect_replay.specs.Serving.{HasWriteCause, PieceServed, serve_moment};
 
     /// The back end of a page of one document without children, which has the serial 1.
     pub(crate) fn new(alloc: Global) -> Result<Service, AllocError>
@@ -38,7 +39,8 @@ impl Service {
     /// Answers one frame: the answer is written before the call ends.
     fn answer<K: Sink>(&mut self, frame: &[u8], out: &mut K) -> Result<(), Stop>
         ensures same { self.new.splitter ≡ self.old.splitter }
-        ensures answers { AnswersFrames (serve_moment self.old (K.taken out.old)) (serve_moment self.new (K.taken out.new)) (frame.now ∷ []) result }
+        ensures answers { AnswersFrames (serve_moment self.old (K.taken out.old)) (serve_moment self.new (K.taken out.new))
+            (frame.now ∷ []) result }
         ensures cause { HasWriteCause (K.faults out.old) (K.faults out.new) result }
     {
         if !self.seat.has_room(&self.side) {
@@ -57,7 +59,8 @@ impl Service {
     /// Answers the frames that are whole, one after the other.
     fn answer_whole<K: Sink>(&mut self, out: &mut K) -> Result<(), Stop>
         ensures none { OnOk result (self.new.splitter ≡ record { whole = []; rest = self.old.splitter.rest }) }
-        ensures answers { AnswersFrames (serve_moment self.old (K.taken out.old)) (serve_moment self.new (K.taken out.new)) self.old.splitter.whole result }
+        ensures answers { AnswersFrames (serve_moment self.old (K.taken out.old))
+            (serve_moment self.new (K.taken out.new)) self.old.splitter.whole result }
         ensures cause { HasWriteCause (K.faults out.old) (K.faults out.new) result }
     {
         while let Some(frame) = self.splitter.next() {
@@ -89,7 +92,8 @@ impl Service {
     ) -> Result<usize, Stop>
         requires { 0 < length buf.old }
         ensures served { (so_far : SoFar) → Serves so_far (serve_moment self.old (K.taken out.old))
-            → PieceServed so_far (serve_moment self.new (K.taken out.new)) (record { before = S.left src.old; after = S.left src.new; most = length buf.new }) result }
+            → PieceServed so_far (serve_moment self.new (K.taken out.new))
+            (record { before = S.left src.old; after = S.left src.new; most = length buf.new }) result }
         ensures cause { HasServeCause (record {
           source_before = S.faults src.old;
           source_after = S.faults src.new;

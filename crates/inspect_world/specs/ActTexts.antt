@@ -1,7 +1,8 @@
 -- What a line prints whose act is refused.
 use Rattle.std.specs.Prelude.{ℕ, List, [], ◌∷◌, ◌++◌, codes, decimal, Option, Some, None}
 use Rattle.page_tree.specs.declared.edit_faults.EditFault.{EditFault}
-use Rattle.page_tree.specs.declared.edit_faults.EditFault.TheVariants.{NoNode, NotElement, NotText, IsDocument, NotChild, Inside, TooDeep, TooMany, BadName, NoAttr, NotContainer}
+use Rattle.page_tree.specs.declared.edit_faults.EditFault.TheVariants.{NoNode, NotElement, NotText, IsDocument, NotChild, Inside, TooDeep}
+use Rattle.page_tree.specs.declared.edit_faults.EditFault.TheVariants.{TooMany, BadName, NoAttr, NotContainer}
 use Rattle.style_edits.specs.declared.faults.SheetFault.{SheetFault}
 use Rattle.style_edits.specs.declared.faults.SheetFault.TheVariants as sheet_fault
 use Rattle.back_end.specs.declared.faults.ActFault.{ActFault}

@@ -6,7 +6,8 @@ use Rattle.cdp_messages.specs.Asked.{command_of}
 use Rattle.back_end.specs.Servers.{server_of}
 use Rattle.back_end.specs.Laws.{most_edits}
 use Rattle.replay_script.specs.Forms as forms
-use Rattle.replay_script.specs.Forms.{AskForm, LineForm, load, ask, up, down, settle, show_front, show_page, show_sheets, show_replies, show_pauses, show_styles}
+use Rattle.replay_script.specs.Forms.{AskForm, LineForm, load, ask, up, down, settle, show_front, show_page, show_sheets, show_replies}
+use Rattle.replay_script.specs.Forms.{show_pauses, show_styles}
 
 -- how many edits a command comes to at most; a refusal comes to none
 abbrev pub edits_commanded : Result Command Why → ℕ

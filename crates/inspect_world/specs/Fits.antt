@@ -1,5 +1,6 @@
 -- A front end that shows the state of the page, and waits for the answers that are to come.
-use Rattle.std.specs.Prelude.{⊤, map, ◌≡◌, ◌≤◌, ℕ, ◌+◌, ◌*◌, ◌^◌, List, [], ◌∷◌, ◌++◌, length, drop, Option, Some, None, is_some, option_and_then, codes, false, cond, nat_lt, bytes_eq, Err}
+use Rattle.std.specs.Prelude.{⊤, map, ◌≡◌, ◌≤◌, ℕ, ◌+◌, ◌*◌, ◌^◌, List, [], ◌∷◌, ◌++◌, length, drop, Option, Some, None, is_some}
+use Rattle.std.specs.Prelude.{option_and_then, codes, false, cond, nat_lt, bytes_eq, Err}
 use Rattle.serde_json.specs.Data.{Data, Members}
 use Rattle.serde_json.specs.Find.{get_member, as_str, as_object}
 use Rattle.std.specs.Str.Parse.{digits_value}
@@ -51,7 +52,8 @@ ask_by frame id method = record { id = id; method = method; sheet = sheet_asked 
 -- the ask that an object is
 abbrev pub ask_of : Members → Option Ask
 ask_of frame =
-    option_and_then (λ id. option_and_then (λ method. Some (ask_by frame id method)) (option_and_then as_str (get_member (codes "method") frame)))
+    option_and_then (λ id. option_and_then (λ method. Some (ask_by frame id method))
+    (option_and_then as_str (get_member (codes "method") frame)))
     (option_and_then as_whole (get_member (codes "id") frame))
 
 -- the ask that a frame is: an object with an id and a method
@@ -136,7 +138,8 @@ asks_among (frame ∷ frames) = option_to_list (ask_of_frame frame) ++ asks_amon
 pub data IsNext (n : Spent) (text : List ℕ) : Spent → Type 0 where
   next_ask : (method : List ℕ) (edits : ℕ) → ask_of_frame text ≡ Some (ask_with method (n.asks + 1)) → edits_of_frame text ≤ edits
       → n.asks + n.raws + 1 ≤ most_frames → n.edits + edits ≤ most_bytes → IsNext n text (one_ask edits n)
-  next_fetch : (sheet : ℕ) → ask_of_frame text ≡ Some (fetch_ask n.fetches sheet) → n.fetches + 1 ≤ most_fetches → IsNext n text (one_fetch n)
+  next_fetch : (sheet : ℕ) → ask_of_frame text ≡ Some (fetch_ask n.fetches sheet) → n.fetches + 1 ≤ most_fetches
+      → IsNext n text (one_fetch n)
   next_raw : IsBare text → n.asks + n.raws + 1 ≤ most_frames → IsNext n text (one_raw n)
 
 -- after n the script may make this step by itself

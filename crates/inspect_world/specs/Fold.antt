@@ -65,5 +65,6 @@ pub record FitsWith {S F E : Type 0} (take : F → List ℕ → Result F E) (joi
   pub down_whole : (frames_of (sent w.down)).rest ≡ []
 
 -- the same, where each frame that is whole at the state is answered
-abbrev pub Fits : {S F E : Type 0} → (F → List ℕ → Result F E) → (F → List ℕ → F) → (Spent → F → S → List (List ℕ) → Type 0) → F → World S → Type 0
+abbrev pub Fits : {S F E : Type 0} → (F → List ℕ → Result F E) → (F → List ℕ → F) → (Spent → F → S → List (List ℕ) → Type 0) → F → World S
+    → Type 0
 Fits take join Fit start w = FitsWith take join Fit start w (awaited w.up)

@@ -6,7 +6,8 @@ use Rattle.front_mirror.specs.Outline.{outline_text, seen_line, node_line}
 use Rattle.replay_script.specs.declared.faults.LineFault.{LineFault}
 use Rattle.page_forms.specs.Pages.{LoadedPage}
 use Rattle.replay_script.specs.Forms as forms
-use Rattle.replay_script.specs.Forms.{AskForm, LineForm, load, ask, up, down, settle, show_front, show_page, show_sheets, show_replies, show_pauses, show_styles}
+use Rattle.replay_script.specs.Forms.{AskForm, LineForm, load, ask, up, down, settle, show_front, show_page, show_sheets, show_replies}
+use Rattle.replay_script.specs.Forms.{show_pauses, show_styles}
 use Rattle.node_tree.specs.Keys.{first_of}
 use Rattle.css_objects.specs.declared.rules.Matched.{Matched}
 use Rattle.cdp_messages.specs.declared.down.PauseData.{PauseData}

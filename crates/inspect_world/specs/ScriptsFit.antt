@@ -7,7 +7,8 @@ use Rattle.cdp_json.specs.Plain.{is_plain}
 use Rattle.cdp_messages.specs.Asked.{command_value, command_text}
 use Rattle.cdp_messages.specs.Laws.{Shallow}
 use Rattle.replay_script.specs.Forms as forms
-use Rattle.replay_script.specs.Forms.{AskForm, LineForm, load, ask, up, down, settle, show_front, show_page, show_sheets, show_replies, show_pauses, show_styles}
+use Rattle.replay_script.specs.Forms.{AskForm, LineForm, load, ask, up, down, settle, show_front, show_page, show_sheets, show_replies}
+use Rattle.replay_script.specs.Forms.{show_pauses, show_styles}
 use Rattle.replay_script.specs.Script.{script_forms}
 use Rattle.pipe_frames.specs.Frames.{IsText, frames_of}
 use Rattle.front_mirror.specs.Front.{FrontValue, first_value, take_frame}

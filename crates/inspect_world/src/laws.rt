@@ -1,7 +1,8 @@
 // The law of the run, which makes no call.
 ghost use Rattle.inspect_world.specs.Fits.{IsPlainFrame};
 ghost use Rattle.inspect_world.specs.FreshRuns.{front_fetcher, FreshLinesFit, FreshInputsFit, RefreshedShows};
-ghost use Rattle.inspect_world.specs.ScriptsFit.{LinesFit, InputsFit, UndoRestoresInRuns, BareFramesFit, TurnsFit, DeliveriesFit, SettledShows};
+ghost use Rattle.inspect_world.specs.ScriptsFit.{LinesFit, InputsFit, UndoRestoresInRuns, BareFramesFit, TurnsFit, DeliveriesFit};
+ghost use Rattle.inspect_world.specs.ScriptsFit.{SettledShows};
 
 /// While the lines of a script are carried out, the bytes that the ends have sent, folded whole, meet no fault at the front
 /// end, and give exactly what the client sees of the page. The same holds with the fetches of the settles and their replies

@@ -267,7 +267,10 @@ fn the_splice_of_an_edit_leads_back(rt: HostRuntime) -> Result<(), Fail> {
     let mut book = book_of(rt.alloc(), Origin::Regular, "a{b:c}")?;
     let back = set_text(&mut book, 1, "q{}")?;
     assert_eq!(rt; text_of(&book), "q{}");
-    assert_eq!(rt; (back.start, back.end, back.text.as_str()), (0, 3, "a{b:c}"));
+    assert_eq!(rt;
+        (back.start, back.end, back.text.as_str()),
+        (0, 3, "a{b:c}")
+    );
     assert!(rt; drop_sheet(&mut book, 1).is_ok());
     assert!(rt; drop_sheet(&mut book, 1).is_err());
     Ok(())

@@ -20,7 +20,8 @@ pub record BindingValue : Type 0 where
 -- a binding by its parts
 abbrev pub coded_bound : Coded BindingValue
 coded_bound =
-    code_by ((set.FinSet nat_cmp × map.FinMap nat_cmp ℕ) × (map.FinMap nat_cmp ℕ × ℕ)) (coded× (coded× (set.code coded_ℕ) (map.code coded_ℕ coded_ℕ)) (coded× (map.code coded_ℕ coded_ℕ) coded_ℕ))
+    code_by ((set.FinSet nat_cmp × map.FinMap nat_cmp ℕ) × (map.FinMap nat_cmp ℕ × ℕ))
+    (coded× (coded× (set.code coded_ℕ) (map.code coded_ℕ coded_ℕ)) (coded× (map.code coded_ℕ coded_ℕ) coded_ℕ))
     (λ b. ((b.opened, b.ids), (b.serials, b.next)))
     (λ p. record { opened = p.0.0; ids = p.0.1; serials = p.1.0; next = p.1.1 })
     (λ _. refl)
@@ -78,7 +79,12 @@ opened_down d x b = all_bound (levelled (less d) x.children) (all_opened (contai
 
 -- s has no id, and is not opened
 abbrev pub forgotten : ℕ → BindingValue → BindingValue
-forgotten s b = record { opened = set.remove b.opened s; ids = map.remove b.ids s; serials = ids_without (map.get b.ids s) b.serials; next = b.next }
+forgotten s b = record {
+  opened = set.remove b.opened s;
+  ids = map.remove b.ids s;
+  serials = ids_without (map.get b.ids s) b.serials;
+  next = b.next;
+}
 
 -- none of the nodes
 abbrev pub all_forgotten : Nodes PageRow → BindingValue → BindingValue

@@ -6,7 +6,8 @@ use Rattle.page_tree.specs.Pages.{PageRow, PageValue, IsValid, find_in, node_at}
 use Rattle.page_tree.specs.Edits.{after, changed_at, relabelled}
 use Rattle.page_tree.specs.declared.edits.TreeEdit.TheVariants.{Attach, Detach}
 use Rattle.node_binding.specs.Openings.{is_spent, opened_also}
-use Rattle.node_binding.specs.Sessions.{Session, IsSession, CanOpen, session_of, begun, reset, document_opened, grown, attached, detached, is_open}
+use Rattle.node_binding.specs.Sessions.{Session, IsSession, CanOpen, session_of, begun, reset, document_opened, grown, attached, detached}
+use Rattle.node_binding.specs.Sessions.{is_open}
 use Rattle.node_binding.specs.Bindings.{BindingValue, Stands, empty_from, cleared, started, opened_down, with_bound, all_forgotten}
 
 -- The session is one with the page, and the binding has its opened set and its ids.
@@ -20,40 +21,48 @@ BindingBegins = (page : PageValue) → BindingStandsFor page begun (empty_from 1
 
 -- a reset binding stands for the reset session with every page
 abbrev pub Resets : Type 0
-Resets = (page other : PageValue) (w : Session) (b : BindingValue) → BindingStandsFor page w b → BindingStandsFor other (reset w) (cleared b)
+Resets = (page other : PageValue) (w : Session) (b : BindingValue) → BindingStandsFor page w b
+    → BindingStandsFor other (reset w) (cleared b)
 
 -- the document is opened, also of another page than the one before
 abbrev pub Starts : Type 0
-Starts = (d : Option ℕ) (page other : PageValue) (w : Session) (b : BindingValue) → is_spent d ≡ false → IsValid other → BindingStandsFor page w b
+Starts = (d : Option ℕ) (page other : PageValue) (w : Session) (b : BindingValue) → is_spent d ≡ false → IsValid other
+    → BindingStandsFor page w b
     → BindingStandsFor other (document_opened d (alone other.tree) w) (started d (alone other.tree) b)
 
 -- a container x that is known and not opened is opened by d levels
 abbrev pub OpensDown : Type 0
-OpensDown = (d : Option ℕ) (page : PageValue) (x : Branch PageRow) (o : ℕ → Bool) (pushed : List ℕ) (since : ℕ) (b : BindingValue) → is_spent d ≡ false → IsValid page → CanOpen (alone page.tree) o x
+OpensDown = (d : Option ℕ) (page : PageValue) (x : Branch PageRow) (o : ℕ → Bool) (pushed : List ℕ) (since : ℕ) (b : BindingValue)
+    → is_spent d ≡ false → IsValid page → CanOpen (alone page.tree) o x
     → BindingStandsFor page (session_of o pushed since) b
     → BindingStandsFor page (grown o (opened_also d x o) (alone page.tree) (session_of o pushed since)) (opened_down d x b)
 
 -- After an attach of x below an opened parent, which leaves the page valid, x gets the next id. It is not opened, nor is
 -- anything below it.
 abbrev pub BindsChild : Type 0
-BindsChild = (page : PageValue) (parent before : ℕ) (x : Branch PageRow) (w : Session) (b : BindingValue) → IsValid page → IsValid (after (Attach parent before x) page) → is_open w.opened parent ≡ true
+BindsChild = (page : PageValue) (parent before : ℕ) (x : Branch PageRow) (w : Session) (b : BindingValue) → IsValid page
+    → IsValid (after (Attach parent before x) page) → is_open w.opened parent ≡ true
     → BindingStandsFor page w b
     → BindingStandsFor (after (Attach parent before x) page) (attached x.row.serial w) (with_bound x.row.serial b)
 
 -- an attach below a node that is not opened changes nothing
 abbrev pub PassesAttach : Type 0
-PassesAttach = (page : PageValue) (parent before : ℕ) (x : Branch PageRow) (w : Session) (b : BindingValue) → IsValid page → IsValid (after (Attach parent before x) page) → IsSome (find_in parent page.tree)
+PassesAttach = (page : PageValue) (parent before : ℕ) (x : Branch PageRow) (w : Session) (b : BindingValue) → IsValid page
+    → IsValid (after (Attach parent before x) page) → IsSome (find_in parent page.tree)
     → is_open w.opened parent ≡ false
     → BindingStandsFor page w b → BindingStandsFor (after (Attach parent before x) page) w b
 
 -- A detach of a node that is not the document: neither it nor what is below it is known or opened any more.
 abbrev pub Forgets : Type 0
-Forgets = (page : PageValue) (serial : ℕ) (w : Session) (b : BindingValue) → IsValid page → IsSome (find_in serial page.tree) → serial ≢ page.tree.row.serial
+Forgets = (page : PageValue) (serial : ℕ) (w : Session) (b : BindingValue) → IsValid page → IsSome (find_in serial page.tree)
+    → serial ≢ page.tree.row.serial
     → BindingStandsFor page w b
-    → BindingStandsFor (after (Detach serial) page) (detached (node_at serial page.tree) w) (all_forgotten (alone (node_at serial page.tree)) b)
+    → BindingStandsFor (after (Detach serial) page) (detached (node_at serial page.tree) w)
+    (all_forgotten (alone (node_at serial page.tree)) b)
 
 -- another label of the same kind changes nothing
 abbrev pub PassesLabel : Type 0
-PassesLabel = (page : PageValue) (serial : ℕ) (label : Label → Label) (w : Session) (b : BindingValue) → ((l : Label) → (label l).kind ≡ l.kind) → IsValid page → IsSome (find_in serial page.tree)
+PassesLabel = (page : PageValue) (serial : ℕ) (label : Label → Label) (w : Session) (b : BindingValue)
+    → ((l : Label) → (label l).kind ≡ l.kind) → IsValid page → IsSome (find_in serial page.tree)
     → BindingStandsFor page w b
     → BindingStandsFor (record page { tree = changed_at serial (relabelled label) page.tree }) w b

@@ -1,5 +1,6 @@
 -- What becomes opened. A distance counts levels downwards; `Some d` levels, or all of them, `None`.
-use Rattle.std.specs.Prelude.{◌≡◌, ℕ, zero, suc, ◌≤◌, pos, negsuc, ℤ, Bool, true, false, cond, not, ◌&&◌, ◌||◌, List, [], ◌∷◌, ◌++◌, Option, Some, None}
+use Rattle.std.specs.Prelude.{◌≡◌, ℕ, zero, suc, ◌≤◌, pos, negsuc, ℤ, Bool, true, false, cond, not, ◌&&◌, ◌||◌, List, [], ◌∷◌, ◌++◌, Option}
+use Rattle.std.specs.Prelude.{Some, None}
 use Rattle.node_tree.specs.Nodes.{Nodes, none, node, Branch, alone}
 use Rattle.node_tree.specs.Keys.{has}
 use Rattle.node_tree.specs.Labels.{holds}
@@ -31,7 +32,8 @@ is_spent (Some (suc d)) = false
 -- the containers at a distance below d, in document order
 abbrev pub containers_within : Option ℕ → Nodes PageRow → List ℕ
 containers_within d none = []
-containers_within d (node r c t) = cond (holds r.label.kind && not (is_spent d)) (r.serial ∷ containers_within (less d) c) [] ++ containers_within d t
+containers_within d (node r c t) = cond (holds r.label.kind && not (is_spent d)) (r.serial ∷ containers_within (less d) c) []
+    ++ containers_within d t
 
 -- the nodes that are known once these are opened, in document order
 abbrev pub levelled : Option ℕ → Nodes PageRow → List ℕ

@@ -1,5 +1,6 @@
 -- What one client's session has of the page: what is opened, and the ids.
-use Rattle.std.specs.Prelude.{◌≡◌, ℕ, ◌≤◌, ◌<◌, Bool, true, false, cond, ◌==◌, List, [], ◌∷◌, ◌++◌, option_map, length, drop, find, Option, Some, None, IfSome}
+use Rattle.std.specs.Prelude.{◌≡◌, ℕ, ◌≤◌, ◌<◌, Bool, true, false, cond, ◌==◌, List, [], ◌∷◌, ◌++◌, option_map, length, drop, find, Option}
+use Rattle.std.specs.Prelude.{Some, None, IfSome}
 use Rattle.node_tree.specs.Nodes.{Nodes, none, Branch}
 use Rattle.node_tree.specs.Keys.{find as find_node}
 use Rattle.node_tree.specs.Labels.{holds}

@@ -5,7 +5,8 @@ ghost use Rattle.node_tree.specs.Nodes.{alone, node_count};
 ghost use Rattle.node_tree.specs.Labels.{holds};
 ghost use Rattle.page_tree.specs.Pages.{find_in, node_at};
 ghost use Rattle.node_binding.specs.Openings.{IsDepth, is_spent, levels_of};
-ghost use Rattle.node_binding.specs.Bindings.{empty_from, cleared, started, revealed, opened_down, with_bound, with_opened, forgotten, all_forgotten};
+ghost use Rattle.node_binding.specs.Bindings.{empty_from, cleared, started, revealed, opened_down, with_bound, with_opened, forgotten};
+ghost use Rattle.node_binding.specs.Bindings.{all_forgotten};
 
 use crate::levels::{is_reached, less, levels_of};
 use crate::tables::{NumberMap, NumberSet};

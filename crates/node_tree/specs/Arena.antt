@@ -26,7 +26,8 @@ module _ {Slot Row : Type 0} (form : SlotForm Slot Row) where
     Keeps none above (k ∷ ks) = ⊥
     Keeps (node r c t) above [] = ⊥
     Keeps (node r c t) above (k ∷ ks) =
-        (slot : Slot) × (slots k ≡ Some slot) × (form.parent slot ≡ above) × (form.row slot ≡ r) × Keeps c (Some k) (form.children slot) × Keeps t above ks
+        (slot : Slot) × (slots k ≡ Some slot) × (form.parent slot ≡ above) × (form.row slot ≡ r) × Keeps c (Some k) (form.children slot)
+        × Keeps t above ks
 
     -- one tree
     abbrev pub KeepsOne : Branch Row → Option ℕ → ℕ → Type 0

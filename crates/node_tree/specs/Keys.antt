@@ -62,7 +62,8 @@ module _ {R : Type 0} (key : R → ℕ) (x : ℕ) where
   -- it and its level
   abbrev pub spot : ℕ → Nodes R → Option (Spot R)
   spot level none = None
-  spot level (node r c t) = cond (key r == x) (Some (record { branch = record { row = r; children = c }; level = level })) (first_of (spot (suc level) c) (spot level t))
+  spot level (node r c t) = cond (key r == x) (Some (record { branch = record { row = r; children = c }; level = level }))
+      (first_of (spot (suc level) c) (spot level t))
 
   -- w in its place
   abbrev pub put : Branch R → Nodes R → Nodes R

@@ -35,7 +35,8 @@ coded_kind = kind.the_row.coded
 -- a label by its parts
 abbrev pub coded_label : Coded Label
 coded_label =
-    code_by ((Kind × List ℕ) × (List ℕ × List Pair)) (coded× (coded× coded_kind coded_bytes) (coded× coded_bytes coded_pairs)) (λ l. ((l.kind, l.name), (l.value, l.attributes)))
+    code_by ((Kind × List ℕ) × (List ℕ × List Pair)) (coded× (coded× coded_kind coded_bytes) (coded× coded_bytes coded_pairs))
+    (λ l. ((l.kind, l.name), (l.value, l.attributes)))
     (λ p. record { kind = p.0.0; name = p.0.1; value = p.1.0; attributes = p.1.1 })
     (λ _. refl)
 

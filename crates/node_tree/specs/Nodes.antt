@@ -116,4 +116,5 @@ module _ {R : Type 0} where
 
   -- one tree by its row and its children
   abbrev pub coded_branch : Coded R → Coded (Branch R)
-  coded_branch code = code_by (R × Nodes R) (coded× code (coded_nodes code)) (λ b. (b.row, b.children)) (λ p. record { row = p.0; children = p.1 }) (λ _. refl)
+  coded_branch code = code_by (R × Nodes R) (coded× code (coded_nodes code)) (λ b. (b.row, b.children))
+      (λ p. record { row = p.0; children = p.1 }) (λ _. refl)

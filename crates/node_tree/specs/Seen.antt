@@ -63,6 +63,7 @@ coded_hold = code_by (Option (Option ℕ)) (coded_option (coded_option coded_ℕ
 -- a shown row by its parts
 abbrev pub coded_seen : Coded Seen
 coded_seen =
-    code_by ((ℕ × ℕ) × (Label × Hold)) (coded× (coded× coded_ℕ coded_ℕ) (coded× coded_label coded_hold)) (λ r. ((r.id, r.serial), (r.label, r.hold)))
+    code_by ((ℕ × ℕ) × (Label × Hold)) (coded× (coded× coded_ℕ coded_ℕ) (coded× coded_label coded_hold))
+    (λ r. ((r.id, r.serial), (r.label, r.hold)))
     (λ p. record { id = p.0.0; serial = p.0.1; label = p.1.0; hold = p.1.1 })
     (λ _. refl)

@@ -7,7 +7,8 @@ use Rattle.node_tree.specs.Keys.{first_of}
 use Rattle.page_tree.specs.Loads.{node_in}
 use Rattle.page_tree.specs.EditFaults.{CanInsert}
 use Rattle.page_forms.specs.declared.acts.Act.{Act}
-use Rattle.page_forms.specs.declared.acts.Act.TheVariants.{SetAttr, DropAttr, SetText, Insert, Remove, Move, AddSheet, DropSheet, ReplaceSheet}
+use Rattle.page_forms.specs.declared.acts.Act.TheVariants.{SetAttr, DropAttr, SetText, Insert, Remove, Move, AddSheet, DropSheet}
+use Rattle.page_forms.specs.declared.acts.Act.TheVariants.{ReplaceSheet}
 use Rattle.page_forms.specs.SheetActs.{add_sheet_row, drop_sheet_row, replace_sheet_row}
 
 -- an object of this row

@@ -1,5 +1,6 @@
 -- A page that is loaded, as JSON spells it: `{"document":[NODE,..],"sheets":[SHEET,..]}`, with nothing else; `sheets` may be absent.
-use Rattle.std.specs.Prelude.{◌≡◌, List, [], ◌∷◌, codes, Bool, true, ◌&&◌, not, Option, None, Some, option_map, option_and_then, Result, Ok, Err, ⊤}
+use Rattle.std.specs.Prelude.{◌≡◌, List, [], ◌∷◌, codes, Bool, true, ◌&&◌, not, Option, None, Some, option_map, option_and_then, Result, Ok}
+use Rattle.std.specs.Prelude.{Err, ⊤}
 use Rattle.serde_json.specs.Data.{Data}
 use Rattle.cdp_json.specs.Kinds.{anything}
 use Rattle.cdp_json.specs.Rows.{Row, ends, and_need, and_may, object_of}

@@ -6,7 +6,8 @@ use Rattle.node_tree.specs.Nodes.{Nodes, none, node, Branch}
 use Rattle.node_tree.specs.Labels.{Label}
 use Rattle.cdp_messages.specs.Laws.{LabelHasUtf8}
 use Rattle.page_forms.specs.declared.acts.Act.{Act}
-use Rattle.page_forms.specs.declared.acts.Act.TheVariants.{SetAttr, DropAttr, SetText, Insert, Remove, Move, AddSheet, DropSheet, ReplaceSheet}
+use Rattle.page_forms.specs.declared.acts.Act.TheVariants.{SetAttr, DropAttr, SetText, Insert, Remove, Move, AddSheet, DropSheet}
+use Rattle.page_forms.specs.declared.acts.Act.TheVariants.{ReplaceSheet}
 use Rattle.page_forms.specs.Acts.{act_in}
 use Rattle.page_forms.specs.Pages.{LoadedPage, page_in}
 use Rattle.page_forms.specs.declared.sheets.SheetForm.{SheetForm}

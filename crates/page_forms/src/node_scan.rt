@@ -5,7 +5,8 @@ ghost use Rattle.node_tree.specs.Nodes.{nodes_of};
 ghost use Rattle.node_tree.specs.declared.Kind.TheVariants.{Doctype};
 ghost use Rattle.page_tree.specs.Loads.{labelled, node_spelled};
 ghost use Rattle.page_forms.specs.Spelt.{ReadsAs, SpellsItems, SpellsField};
-ghost use Rattle.page_forms.specs.NodeForms.{leaf, text_field, text_data, element_tokens, next_token, pairs_form, attributes_form, attribute_field, node_form, nodes_form, child_field};
+ghost use Rattle.page_forms.specs.NodeForms.{leaf, text_field, text_data, element_tokens, next_token, pairs_form, attributes_form};
+ghost use Rattle.page_forms.specs.NodeForms.{attribute_field, node_form, nodes_form, child_field};
 
 use crate::tokens::{
     ScanErr, take_any_key, take_begin_array, take_begin_object, take_end_object, take_text,

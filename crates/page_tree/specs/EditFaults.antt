@@ -1,5 +1,6 @@
 -- Why an edit of a page is refused, and which edits a page takes.
-use Rattle.std.specs.Prelude.{◌≡◌, ℕ, ◌+◌, ◌<◌, ◌≤◌, ◌==◌, ◌||◌, ◌&&◌, Bool, true, not, nat_le, List, [], ◌∷◌, Option, Some, None, is_some, Result, Ok, Err}
+use Rattle.std.specs.Prelude.{◌≡◌, ℕ, ◌+◌, ◌<◌, ◌≤◌, ◌==◌, ◌||◌, ◌&&◌, Bool, true, not, nat_le, List, [], ◌∷◌, Option, Some, None, is_some}
+use Rattle.std.specs.Prelude.{Result, Ok, Err}
 use Rattle.node_tree.specs.Nodes.{Branch, alone, height, map_branch, branch_count}
 use Rattle.node_tree.specs.Names.{is_attribute_name}
 use Rattle.node_tree.specs.Labels.{Label, value_of, holds, has_value, is_document, is_doctype, is_element}
@@ -12,7 +13,8 @@ use Rattle.page_tree.specs.Edits.{label_at, children_at, is_among, form_at, move
 use Rattle.page_tree.specs.declared.edits.TreeEdit.{TreeEdit}
 use Rattle.page_tree.specs.declared.edits.TreeEdit.TheVariants.{SetAttr, DropAttr, SetText, Attach, Detach}
 use Rattle.page_tree.specs.declared.edit_faults.EditFault.{EditFault}
-use Rattle.page_tree.specs.declared.edit_faults.EditFault.TheVariants.{NoNode, NotElement, NotText, IsDocument, NotChild, Inside, TooDeep, TooMany, BadName, NoAttr, NotContainer}
+use Rattle.page_tree.specs.declared.edit_faults.EditFault.TheVariants.{NoNode, NotElement, NotText, IsDocument, NotChild, Inside, TooDeep}
+use Rattle.page_tree.specs.declared.edit_faults.EditFault.TheVariants.{TooMany, BadName, NoAttr, NotContainer}
 use Rattle.page_tree.specs.declared.edit_faults.EditErr.{EditErr}
 use Rattle.page_tree.specs.declared.edit_faults.EditErr.TheVariants.{Fault, Memory}
 

@@ -18,7 +18,8 @@ may_stand top kind = not (is_document kind) && (top || not (is_doctype kind))
 -- right below the document.
 abbrev pub are_formed : Bool → Nodes Label → Bool
 are_formed top none = true
-are_formed top (node l c t) = is_formed_label l && may_stand top l.kind && (holds l.kind || is_no_node c) && are_formed false c && are_formed top t
+are_formed top (node l c t) = is_formed_label l && may_stand top l.kind && (holds l.kind || is_no_node c) && are_formed false c
+    && are_formed top t
 
 -- all names have their forms
 abbrev pub are_named : Nodes Label → Bool

@@ -1,5 +1,6 @@
 -- The nodes of a load, as JSON spells them, and the first fault of a load.
-use Rattle.std.specs.Prelude.{◌≡◌, ℕ, suc, ◌+◌, ◌==◌, ◌||◌, Bool, true, false, not, nat_le, cond, List, [], ◌∷◌, Option, Some, None, Result, Ok, Err, is_some, option_map, option_and_then, codes, bytes_eq, Vec}
+use Rattle.std.specs.Prelude.{◌≡◌, ℕ, suc, ◌+◌, ◌==◌, ◌||◌, Bool, true, false, not, nat_le, cond, List, [], ◌∷◌, Option, Some, None, Result}
+use Rattle.std.specs.Prelude.{Ok, Err, is_some, option_map, option_and_then, codes, bytes_eq, Vec}
 use Rattle.std.specs.declared.alloc.Global.{Global}
 use Rattle.std.specs.Option.{option_map_or}
 use Rattle.serde_json.specs.Data.{Data, null, boolean, number, string, array, object, Items, no_items, item, Members, no_members, member}
@@ -25,7 +26,8 @@ use Rattle.page_tree.specs.declared.faults.LoadErr.TheVariants.{Fault, Memory}
 abbrev pub pairs_of : Items → Option (List Pair)
 pairs_of no_items = Some []
 pairs_of (item n no_items) = None
-pairs_of (item n (item v ds)) = option_and_then (λ name. option_and_then (λ value. option_map (λ ps. (name, value) ∷ ps) (pairs_of ds)) (as_str v)) (as_str n)
+pairs_of (item n (item v ds)) = option_and_then
+    (λ name. option_and_then (λ value. option_map (λ ps. (name, value) ∷ ps) (pairs_of ds)) (as_str v)) (as_str n)
 
 -- some pair has the name
 abbrev pub is_taken : List ℕ → List Pair → Bool

@@ -22,7 +22,8 @@ row_label r = r.label
 
 -- a row by its parts
 abbrev pub coded_row : Coded PageRow
-coded_row = code_by (ℕ × Label) (coded× coded_ℕ coded_label) (λ r. (r.serial, r.label)) (λ p. record { serial = p.0; label = p.1 }) (λ _. refl)
+coded_row = code_by (ℕ × Label) (coded× coded_ℕ coded_label) (λ r. (r.serial, r.label)) (λ p. record { serial = p.0; label = p.1 })
+    (λ _. refl)
 
 -- a page: the document with all below it, and the serial that the next new node gets
 pub record PageValue : Type 0 where
@@ -31,7 +32,8 @@ pub record PageValue : Type 0 where
 
 -- a page by its parts
 abbrev pub coded_state : Coded PageValue
-coded_state = code_by (Branch PageRow × ℕ) (coded× (coded_branch coded_row) coded_ℕ) (λ p. (p.tree, p.next)) (λ p. record { tree = p.0; next = p.1 }) (λ _. refl)
+coded_state = code_by (Branch PageRow × ℕ) (coded× (coded_branch coded_row) coded_ℕ) (λ p. (p.tree, p.next))
+    (λ p. record { tree = p.0; next = p.1 }) (λ _. refl)
 
 -- ---- nodes by serial
 
@@ -79,4 +81,10 @@ numbered first (node l c t) = node (record { serial = first; label = l }) (numbe
 
 -- the page of these nodes, whose document has the serial `first`
 abbrev pub loaded : ℕ → Nodes Label → PageValue
-loaded first nodes = record { tree = record { row = record { serial = first; label = document_label }; children = numbered (first + 1) nodes }; next = first + 1 + node_count nodes }
+loaded first nodes = record {
+  tree = record {
+    row = record { serial = first; label = document_label };
+    children = numbered (first + 1) nodes;
+  };
+  next = first + 1 + node_count nodes;
+}

@@ -21,7 +21,8 @@ pub record Zipper : Type 0 where
 -- a node among its siblings, by its parts
 abbrev pub coded_generation : Coded Generation
 coded_generation =
-    code_by (Branch PageRow × (List (Branch PageRow) × Nodes PageRow)) (coded× (coded_branch coded_row) (coded× (coded_list (coded_branch coded_row)) (coded_nodes coded_row)))
+    code_by (Branch PageRow × (List (Branch PageRow) × Nodes PageRow))
+    (coded× (coded_branch coded_row) (coded× (coded_list (coded_branch coded_row)) (coded_nodes coded_row)))
     (λ g. (g.branch, (g.before, g.after)))
     (λ p. record { branch = p.0; before = p.1.0; after = p.1.1 })
     (λ _. refl)
@@ -36,7 +37,8 @@ zipper_of g above = record { branch = g.branch; before = g.before; after = g.aft
 
 -- a zipper by its parts
 abbrev pub coded_zipper : Coded Zipper
-coded_zipper = code_by (Generation × List Generation) (coded× coded_generation (coded_list coded_generation)) (λ z. (generation_of z, z.above)) (λ p. zipper_of p.0 p.1) (λ _. refl)
+coded_zipper = code_by (Generation × List Generation) (coded× coded_generation (coded_list coded_generation))
+    (λ z. (generation_of z, z.above)) (λ p. zipper_of p.0 p.1) (λ _. refl)
 
 -- the serial of the node
 abbrev pub serial_of : Zipper → ℕ
@@ -56,7 +58,8 @@ ancestors z = ancestors_in z.above
 -- the siblings before these nodes, the nearest first
 abbrev pub earlier_in : List Generation → List (Branch PageRow) → Nodes PageRow → List Zipper
 earlier_in above [] here = []
-earlier_in above (b ∷ before) here = record { branch = b; before = before; after = here; above = above } ∷ earlier_in above before (node b.row b.children here)
+earlier_in above (b ∷ before) here = record { branch = b; before = before; after = here; above = above }
+    ∷ earlier_in above before (node b.row b.children here)
 
 -- the siblings before a node, the nearest first
 abbrev pub earlier : Zipper → List Zipper
@@ -65,7 +68,8 @@ earlier z = earlier_in z.above z.before (node z.branch.row z.branch.children z.a
 -- these nodes, which have siblings before them, in order
 abbrev pub in_row : List Generation → List (Branch PageRow) → Nodes PageRow → List Zipper
 in_row above before none = []
-in_row above before (node r c t) = record { branch = record { row = r; children = c }; before = before; after = t; above = above } ∷ in_row above (record { row = r; children = c } ∷ before) t
+in_row above before (node r c t) = record { branch = record { row = r; children = c }; before = before; after = t; above = above }
+    ∷ in_row above (record { row = r; children = c } ∷ before) t
 
 -- the siblings after a node, in order
 abbrev pub later : Zipper → List Zipper
@@ -103,7 +107,8 @@ abbrev pub all_in : List Generation → List (Branch PageRow) → Nodes PageRow 
 all_in above before none = []
 all_in above before (node r c t) =
     record { branch = record { row = r; children = c }; before = before; after = t; above = above }
-    ∷ (all_in (record { branch = record { row = r; children = c }; before = before; after = t } ∷ above) [] c ++ all_in above (record { row = r; children = c } ∷ before) t)
+    ∷ (all_in (record { branch = record { row = r; children = c }; before = before; after = t } ∷ above) [] c
+    ++ all_in above (record { row = r; children = c } ∷ before) t)
 
 -- all below a node, in document order
 abbrev pub below : Zipper → List Zipper

@@ -3,7 +3,8 @@ ghost use Rattle.std.specs.Option.{option_copied, option_map_or};
 ghost use Rattle.node_tree.specs.Nodes.{alone, nodes_of, node_count};
 ghost use Rattle.node_tree.specs.Keys.{tally};
 ghost use Rattle.page_tree.specs.Pages.{row_serial};
-ghost use Rattle.page_tree.specs.Arenas.{slots_in, keys_in, Filed, Stored, stored_trees, Fresh, Grown, Shrunk, Came, Turned, SameSlots, listed, slot_row, slot_of, climbed, place_in, sibling_keys, sibling_slot};
+ghost use Rattle.page_tree.specs.Arenas.{slots_in, keys_in, Filed, Stored, stored_trees, Fresh, Grown, Shrunk, Came, Turned, SameSlots};
+ghost use Rattle.page_tree.specs.Arenas.{listed, slot_row, slot_of, climbed, place_in, sibling_keys, sibling_slot};
 
 use crate::slots::{Keys, Slot};
 use crate::trees::Tree;
@@ -210,7 +211,8 @@ impl Arena {
     /// The tree of a slot, so many levels below it, copied.
     #[cycle(nesting)]
     pub fn nested(&self, alloc: Global, slot: &Slot, levels: u64) -> Result<Tree, AllocError>
-        ensures { IfOk result (λ tree. tree ≡ record { row = slot_row slot.now; children = stored_trees self.now levels slot.now.children }) }
+        ensures { IfOk result (λ tree. tree
+            ≡ record { row = slot_row slot.now; children = stored_trees self.now levels slot.now.children }) }
     {
         let children = self.nested_all(alloc, &slot.children, levels)?;
         Ok(Tree {

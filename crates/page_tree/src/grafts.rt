@@ -4,7 +4,8 @@ ghost use Rattle.node_tree.specs.Nodes.{alone};
 ghost use Rattle.node_tree.specs.Labels.{is_ascending, value_of};
 ghost use Rattle.page_tree.specs.Loads.{placed};
 ghost use Rattle.page_tree.specs.Edits.{pairs_without};
-ghost use Rattle.page_tree.specs.Arenas.{slots_in, Filed, Fresh, Grown, Turned, SameSlots, slot_of, slot_row, stored_trees, is_numbered, place_in, first_in, next_in, without_child_key, Grafted, Cut};
+ghost use Rattle.page_tree.specs.Arenas.{slots_in, Filed, Fresh, Grown, Turned, SameSlots, slot_of, slot_row, stored_trees, is_numbered};
+ghost use Rattle.page_tree.specs.Arenas.{place_in, first_in, next_in, without_child_key, Grafted, Cut};
 ghost use Rattle.page_tree.specs.declared.slots.Slot.{Slot};
 
 use crate::arenas::{Arena, list_serials};
@@ -81,7 +82,8 @@ impl Arena {
     ) -> Result<Option<Text>, AllocError>
         requires { (slot : Slot) → slots_in self.old key ≡ Some slot → is_ascending slot.attributes ≡ true }
         ensures keys { self.new.keys ≡ self.old.keys }
-        ensures ok { OnOk result (Turned self.old self.new key (λ slot. record slot { attributes = placed (name, value) slot.attributes })) }
+        ensures ok { OnOk result (Turned self.old self.new key
+            (λ slot. record slot { attributes = placed (name, value) slot.attributes })) }
         ensures was { IfOk result (λ was. (slot : Slot) → slots_in self.old key ≡ Some slot → was ≡ value_of name slot.attributes) }
         ensures err { OnErr result (SameSlots self.old self.new) }
     {

@@ -1,7 +1,8 @@
 ghost use Rattle.std.specs.Prelude.{◌≡◌, [], codes, option_map, IfOk};
 ghost use Rattle.serde_json.specs.View.{view};
 ghost use Rattle.node_tree.specs.declared.Kind.TheVariants.{Doctype};
-ghost use Rattle.page_tree.specs.Loads.{property_count, times_of, text_at, text_alone, attributes_at, element_name, element_label, labelled, label_spelled};
+ghost use Rattle.page_tree.specs.Loads.{property_count, times_of, text_at, text_alone, attributes_at, element_name, element_label};
+ghost use Rattle.page_tree.specs.Loads.{labelled, label_spelled};
 
 use crate::attributes::read_attributes;
 use node_tree::{Attributes, Kind, Text};

@@ -7,7 +7,8 @@ ghost use Rattle.page_tree.specs.Forms.{max_nodes};
 ghost use Rattle.node_tree.specs.Levels.{max_level};
 ghost use Rattle.page_tree.specs.Pages.{row_label, find_in, level_at};
 ghost use Rattle.page_tree.specs.Edits.{children_at, is_among, form_at, sibling_after, moved_before};
-ghost use Rattle.page_tree.specs.EditFaults.{is_live_or_0, is_place, is_low_below, has_room, may_hold, is_inside, first_fault, insert_fault, move_fault, copy_fault, CanInsert};
+ghost use Rattle.page_tree.specs.EditFaults.{is_live_or_0, is_place, is_low_below, has_room, may_hold, is_inside, first_fault};
+ghost use Rattle.page_tree.specs.EditFaults.{insert_fault, move_fault, copy_fault, CanInsert};
 
 use crate::edit_faults::EditFault;
 use crate::edits::TreeEdit;

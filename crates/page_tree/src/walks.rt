@@ -52,7 +52,8 @@ fn copy_label(
     node: &Node,
     children: Vec<Tree>,
 ) -> Result<Tree, AllocError>
-    ensures { IfOk result (λ tree. tree ≡ record { row = record { serial = serial; label = node.now.row.label }; children = nodes_of children.items }) }
+    ensures { IfOk result (λ tree. tree
+        ≡ record { row = record { serial = serial; label = node.now.row.label }; children = nodes_of children.items }) }
 {
     Ok(Tree {
         serial,

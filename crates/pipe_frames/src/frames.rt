@@ -156,7 +156,8 @@ pub fn put_frame(text: &[u8], out: &mut Vec<u8>) -> Result<(), AllocError>
     ensures err { OnErr result (out.new.items ≡ out.old.items) }
 
     // After whole frames the text is one frame more.
-    ensures last { (frames_of out.old.items).rest ≡ [] → OnOk result (frames_of out.new.items ≡ with_frame (frames_of out.old.items) text.now) }
+    ensures last { (frames_of out.old.items).rest ≡ []
+        → OnOk result (frames_of out.new.items ≡ with_frame (frames_of out.old.items) text.now) }
 {
     let start = out.len();
     out.extend_from_slice(text)?;

@@ -18,4 +18,3 @@ pub use memory::{MemLink, MemSink, MemSource};
 pub use outside::{Failed, Link, OutErr, Sink, Source};
 pub use standard::{StdSink, StdSource};
 pub use whole::{ReadErr, read_all, write_all};
-

@@ -89,7 +89,8 @@ impl Link for LyingLink {
     }
 
     fn get_down(&mut self, max: usize, into: &mut Vec<u8>) -> Result<usize, OutErr>
-        ensures down { Gets (lying_pipe self.old.place self.old.to self.old.down) (lying_pipe self.new.place self.new.to self.new.down) max into.old.items into.new.items result }
+        ensures down { Gets (lying_pipe self.old.place self.old.to self.old.down)
+            (lying_pipe self.new.place self.new.to self.new.down) max into.old.items into.new.items result }
         ensures count { IfOk result (λ n. n ≡ min max (length (waiting (pipe_of self.old.down)))) }
         ensures same { self.new ≡ record self.old { down = self.new.down } }
         ensures memory { OnErr result (result ≡ Err OutErr.Memory) }

@@ -5,7 +5,8 @@ use Rattle.serde_json.specs.Data.{Data}
 use Rattle.serde_json.specs.View.{view}
 use Rattle.serde_json.specs.declared.value.Value.{Value}
 use Rattle.page_forms.specs.Pages.{loaded_page}
-use Rattle.replay_script.specs.Forms.{AskForm, LineForm, load, act, ask, raw, up, down, settle, show_front, show_page, show_sheets, show_replies, show_pauses, show_styles}
+use Rattle.replay_script.specs.Forms.{AskForm, LineForm, load, act, ask, raw, up, down, settle, show_front, show_page, show_sheets}
+use Rattle.replay_script.specs.Forms.{show_replies, show_pauses, show_styles}
 use Rattle.replay_script.specs.declared.line_kinds.LineKind.{LineKind}
 use Rattle.replay_script.specs.declared.faults.LineErr.{LineErr}
 use Rattle.replay_script.specs.declared.faults.LineErr.TheVariants.{Fault, Memory}

@@ -1,5 +1,6 @@
 -- What each form of a line that is carried out keeps: what is loaded, changed and sent may be.
-use Rattle.std.specs.Prelude.{◌≡◌, ◌≢◌, All, ℕ, List, codes, Bool, true, Option, Some, None, option_and_then, Err, IsTrue, IsUtf8, option_map, ⊤}
+use Rattle.std.specs.Prelude.{◌≡◌, ◌≢◌, All, ℕ, List, codes, Bool, true, Option, Some, None, option_and_then, Err, IsTrue, IsUtf8}
+use Rattle.std.specs.Prelude.{option_map, ⊤}
 use Rattle.serde_json.specs.Find.{get_member, as_object}
 use Rattle.serde_json.specs.View.{view}
 use Rattle.cdp_json.specs.Kinds.{as_whole, is_counted, holds_of_some}
@@ -13,7 +14,8 @@ use Rattle.cdp_messages.specs.Laws.{Shallow}
 use Rattle.cdp_messages.specs.declared.command.Why.{Why}
 use Rattle.replay_script.specs.declared.forms.Line.{Line}
 use Rattle.replay_script.specs.declared.forms.Line.TheVariants as line
-use Rattle.replay_script.specs.Forms.{AskForm, LineForm, load, act, ask, raw, up, down, settle, show_front, show_page, show_sheets, show_replies, show_pauses, show_styles, line_form}
+use Rattle.replay_script.specs.Forms.{AskForm, LineForm, load, act, ask, raw, up, down, settle, show_front, show_page, show_sheets}
+use Rattle.replay_script.specs.Forms.{show_replies, show_pauses, show_styles, line_form}
 use Rattle.replay_script.specs.Faults.{line_fault}
 
 -- ---- a load and an act

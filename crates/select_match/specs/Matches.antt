@@ -5,7 +5,8 @@ use Rattle.std.specs.List.{list_any, list_all}
 use Rattle.selectors.specs.declared.selector.Joint.{Joint}
 use Rattle.selectors.specs.declared.selector.Joint.TheVariants.{Descendant, Child, Next, Later}
 use Rattle.selectors.specs.declared.selector.NthKind.TheVariants as sides
-use Rattle.selectors.specs.Forms.{TestForm, any, tag, id, class, attr, root, empty, nth, only_child, only_of_type, never, SimpleForm, is, is_not, CompoundForm, SelectorForm}
+use Rattle.selectors.specs.Forms.{TestForm, any, tag, id, class, attr, root, empty, nth, only_child, only_of_type, never, SimpleForm, is}
+use Rattle.selectors.specs.Forms.{is_not, CompoundForm, SelectorForm}
 use Rattle.node_tree.specs.Labels.{value_of}
 use Rattle.page_tree.specs.Zippers.{Zipper, ancestors, earlier, children_of, parent_of, below}
 use Rattle.select_match.specs.Texts.{same_name, has_word, compares, has_attribute, value_passes}

@@ -6,14 +6,20 @@ use Rattle.page_tree.specs.Zippers.{Zipper}
 use Rattle.node_tree.specs.Labels.{value_of}
 use Rattle.selectors.specs.declared.selector.NthKind.{NthKind}
 use Rattle.selectors.specs.declared.selector.NthKind.TheVariants.{Child, LastChild, OfType, LastOfType}
-use Rattle.selectors.specs.Forms.{TestForm, any, tag, id, class, attr, root, empty, nth, only_child, only_of_type, never, SimpleForm, is, is_not}
+use Rattle.selectors.specs.Forms.{TestForm, any, tag, id, class, attr, root, empty, nth, only_child, only_of_type, never, SimpleForm, is}
+use Rattle.selectors.specs.Forms.{is_not}
 use Rattle.select_match.specs.declared.places.ElementPlaces.{ElementPlaces}
 use Rattle.select_match.specs.declared.places.KnownPlaces.{KnownPlaces}
 use Rattle.select_match.specs.Elements.{attributes_of, index}
 
 -- the four places of an element among its siblings
 abbrev pub element_places : Zipper → ElementPlaces
-element_places z = record { child = index Child z; last_child = index LastChild z; of_type = index OfType z; last_of_type = index LastOfType z }
+element_places z = record {
+  child = index Child z;
+  last_child = index LastChild z;
+  of_type = index OfType z;
+  last_of_type = index LastOfType z;
+}
 
 -- one of them
 abbrev pub element_place : NthKind → ElementPlaces → ℕ

@@ -26,7 +26,8 @@ pub fn not_law()
 /// 6.3.1 and 6.3.2).
 pub fn operand_law()
     ensures word { (value : List ℕ) → compares operators.Word [] value ≡ false }
-    ensures spaced { (operand value : List ℕ) → list_any is_ascii_whitespace operand ≡ true → compares operators.Word operand value ≡ false }
+    ensures spaced { (operand value : List ℕ) → list_any is_ascii_whitespace operand ≡ true
+        → compares operators.Word operand value ≡ false }
     ensures prefix { (value : List ℕ) → compares operators.Prefix [] value ≡ false }
     ensures suffix { (value : List ℕ) → compares operators.Suffix [] value ≡ false }
     ensures part { (value : List ℕ) → compares operators.Part [] value ≡ false }

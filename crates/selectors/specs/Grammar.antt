@@ -11,7 +11,8 @@ use Rattle.selectors.specs.declared.selector.NthKind.{NthKind}
 use Rattle.selectors.specs.Words.{is_mark, words_of, between}
 use Rattle.selectors.specs.Forms.{TestForm, any, tag, id, class, attr, nth, never, is, is_not, compound_form, SelectorForm}
 use Rattle.selectors.specs.NthGrammar.{IsNth}
-use Rattle.selectors.specs.Reading.{word_value, hash_value, string_of, lower_of, function_of, operator_of, pseudo_class, is_pseudo_element, nth_kind, is_named, combinator_of, range_of, Item, Joined, segments}
+use Rattle.selectors.specs.Reading.{word_value, hash_value, string_of, lower_of, function_of, operator_of, pseudo_class, is_pseudo_element}
+use Rattle.selectors.specs.Reading.{nth_kind, is_named, combinator_of, range_of, Item, Joined, segments}
 
 -- `=`, or one of five characters and `=` with nothing between them
 pub data IsOperator : List Word → AttrOp → Type 0 where
@@ -26,19 +27,25 @@ pub data IsOperand : List ℕ → Word → List ℕ → Type 0 where
 -- a simple selector but a type, `*` and `:not`
 pub data IsTest : List ℕ → List Word → TestForm → Type 0 where
   by_id : (text : List ℕ) (w : Word) → w.kind ≡ Id → IsTest text (w ∷ []) (id (hash_value text w))
-  by_class : (text : List ℕ) (dot name : Word) → dot.kind ≡ Mark 46 → name.kind ≡ Ident → name.spaced ≡ false → IsTest text (dot ∷ name ∷ []) (class (word_value text name))
+  by_class : (text : List ℕ) (dot name : Word) → dot.kind ≡ Mark 46 → name.kind ≡ Ident → name.spaced ≡ false
+      → IsTest text (dot ∷ name ∷ []) (class (word_value text name))
   by_exists : (text : List ℕ) (open_bracket name close : Word) → open_bracket.kind ≡ Mark 91 → name.kind ≡ Ident → close.kind ≡ Mark 93
       → IsTest text (open_bracket ∷ name ∷ close ∷ []) (attr (word_value text name) ops.Exists [])
   by_compare : (text : List ℕ) (open_bracket name value close : Word) (operator all : List Word) (op : AttrOp) (operand : List ℕ)
-      → all ≡ open_bracket ∷ name ∷ (operator ++ value ∷ close ∷ []) → open_bracket.kind ≡ Mark 91 → name.kind ≡ Ident → IsOperator operator op → IsOperand text value operand → close.kind ≡ Mark 93
+      → all ≡ open_bracket ∷ name ∷ (operator ++ value ∷ close ∷ []) → open_bracket.kind ≡ Mark 91 → name.kind ≡ Ident
+      → IsOperator operator op → IsOperand text value operand → close.kind ≡ Mark 93
       → IsTest text all (attr (word_value text name) op operand)
-  by_pseudo : (text : List ℕ) (colon name : Word) (t : TestForm) → colon.kind ≡ Mark 58 → name.kind ≡ Ident → name.spaced ≡ false → pseudo_class (lower_of text name) ≡ Some t
+  by_pseudo : (text : List ℕ) (colon name : Word) (t : TestForm) → colon.kind ≡ Mark 58 → name.kind ≡ Ident → name.spaced ≡ false
+      → pseudo_class (lower_of text name) ≡ Some t
       → IsTest text (colon ∷ name ∷ []) t
   by_nth : (text : List ℕ) (colon function close : Word) (argument all : List Word) (kind : NthKind) (step offset : ℤ)
-      → all ≡ colon ∷ function ∷ (argument ++ close ∷ []) → colon.kind ≡ Mark 58 → function.kind ≡ Function → function.spaced ≡ false → nth_kind (function_of text function) ≡ Some kind
-      → AllByRecursion (λ w. is_mark 41 w.kind ≡ false) argument → close.kind ≡ Mark 41 → IsNth (between text function.end close.start) step offset
+      → all ≡ colon ∷ function ∷ (argument ++ close ∷ []) → colon.kind ≡ Mark 58 → function.kind ≡ Function → function.spaced ≡ false
+      → nth_kind (function_of text function) ≡ Some kind
+      → AllByRecursion (λ w. is_mark 41 w.kind ≡ false) argument → close.kind ≡ Mark 41
+      → IsNth (between text function.end close.start) step offset
       → IsTest text all (nth kind step offset)
-  by_lang : (text : List ℕ) (colon function language close : Word) → colon.kind ≡ Mark 58 → function.kind ≡ Function → function.spaced ≡ false → is_named (codes "lang") (function_of text function) ≡ true
+  by_lang : (text : List ℕ) (colon function language close : Word) → colon.kind ≡ Mark 58 → function.kind ≡ Function
+      → function.spaced ≡ false → is_named (codes "lang") (function_of text function) ≡ true
       → language.kind ≡ Ident → language.spaced ≡ false → close.kind ≡ Mark 41 → close.spaced ≡ false
       → IsTest text (colon ∷ function ∷ language ∷ close ∷ []) never
 
@@ -50,15 +57,18 @@ pub data IsArgument : List ℕ → List Word → TestForm → Type 0 where
 
 -- a pseudo-element: two colons and a name, or one colon and one of the four old names
 pub data IsElement : List ℕ → List Word → Type 0 where
-  one_colon : (text : List ℕ) (colon name : Word) → colon.kind ≡ Mark 58 → name.kind ≡ Ident → name.spaced ≡ false → is_pseudo_element (lower_of text name) ≡ true → IsElement text (colon ∷ name ∷ [])
-  two_colons : (text : List ℕ) (colon second name : Word) → colon.kind ≡ Mark 58 → second.kind ≡ Mark 58 → second.spaced ≡ false → name.kind ≡ Ident → name.spaced ≡ false
+  one_colon : (text : List ℕ) (colon name : Word) → colon.kind ≡ Mark 58 → name.kind ≡ Ident → name.spaced ≡ false
+      → is_pseudo_element (lower_of text name) ≡ true → IsElement text (colon ∷ name ∷ [])
+  two_colons : (text : List ℕ) (colon second name : Word) → colon.kind ≡ Mark 58 → second.kind ≡ Mark 58 → second.spaced ≡ false
+      → name.kind ≡ Ident → name.spaced ≡ false
       → is_pseudo_element (lower_of text name) ≡ true → IsElement text (colon ∷ second ∷ name ∷ [])
 
 -- a part of a compound: a simple selector, or a pseudo-element
 pub data IsCompoundItem : List ℕ → List Word → Item → Type 0 where
   item_test : (text : List ℕ) (front : List Word) (t : TestForm) → IsTest text front t → IsCompoundItem text front (is t ∷ [], false)
   item_not : (text : List ℕ) (colon function close : Word) (argument all : List Word) (t : TestForm)
-      → all ≡ colon ∷ function ∷ (argument ++ close ∷ []) → colon.kind ≡ Mark 58 → function.kind ≡ Function → function.spaced ≡ false → is_named (codes "not") (function_of text function) ≡ true
+      → all ≡ colon ∷ function ∷ (argument ++ close ∷ []) → colon.kind ≡ Mark 58 → function.kind ≡ Function → function.spaced ≡ false
+      → is_named (codes "not") (function_of text function) ≡ true
       → IsArgument text argument t → close.kind ≡ Mark 41 → IsCompoundItem text all (is_not t ∷ [], false)
   item_element : (text : List ℕ) (front : List Word) → IsElement text front → IsCompoundItem text front ([], true)
 
@@ -71,7 +81,8 @@ pub data IsFirst : List ℕ → List Word → Item → Type 0 where
 -- parts one behind the other; none follows a part that is or ends in a pseudo-element
 pub data Run {X : Type 0} (R : List Word → List X × Bool → Type 0) : Bool → List Word → List X × Bool → Type 0 where
   done : (element : Bool) → Run R element [] ([], element)
-  more : (front rest all : List Word) (x y : List X × Bool) → all ≡ front ++ rest → R front x → Run R x.1 rest y → Run R false all (x.0 ++ y.0, y.1)
+  more : (front rest all : List Word) (x y : List X × Bool) → all ≡ front ++ rest → R front x → Run R x.1 rest y
+      → Run R false all (x.0 ++ y.0, y.1)
 
 -- a part with no white space before it
 abbrev pub IsTight : List Word → Type 0

@@ -22,4 +22,5 @@ moved_selector from to s = record { compounds = s.compounds; pseudo_element = s.
 
 -- both places lie at or behind `from`, and where they are moved to are places
 abbrev pub CanMove : ℕ → ℕ → Range → Type 0
-CanMove from to range = (from ≤ range.start) × (from ≤ range.end) × (moved from to range.start < 2 ^ 64) × (moved from to range.end < 2 ^ 64)
+CanMove from to range = (from ≤ range.start) × (from ≤ range.end) × (moved from to range.start < 2 ^ 64)
+    × (moved from to range.end < 2 ^ 64)

@@ -1,5 +1,6 @@
 -- The text an+b.
-use Rattle.std.specs.Prelude.{ℕ, ℤ, pos, neg_ℤ, ◌+◌, ◌*◌, Bool, false, ◌&&◌, ◌||◌, ◌==◌, nat_lt, nat_le, List, ◌∷◌, take, drop, length, fold, Option, Some, None, if◌then◌else◌}
+use Rattle.std.specs.Prelude.{ℕ, ℤ, pos, neg_ℤ, ◌+◌, ◌*◌, Bool, false, ◌&&◌, ◌||◌, ◌==◌, nat_lt, nat_le, List, ◌∷◌, take, drop, length}
+use Rattle.std.specs.Prelude.{fold, Option, Some, None, if◌then◌else◌}
 use Rattle.std.specs.Char.{digit_value, to_ascii_lowercase}
 use Rattle.css_tokens.specs.Codes.{is_sign, begins}
 use Rattle.selectors.specs.Forms.{◌>>=◌}
@@ -76,7 +77,8 @@ is_odd _ = false
 
 -- `even`
 abbrev pub is_even : List ℕ → Bool
-is_even (a ∷ b ∷ c ∷ d ∷ rest) = (is_nth_letter 101 a && is_nth_letter 118 b) && ((is_nth_letter 101 c && is_nth_letter 110 d) && is_blank rest)
+is_even (a ∷ b ∷ c ∷ d ∷ rest) = (is_nth_letter 101 a && is_nth_letter 118 b)
+    && ((is_nth_letter 101 c && is_nth_letter 110 d) && is_blank rest)
 is_even _ = false
 
 -- step and offset of a text with no white space before it: `odd`, `even`, or an+b

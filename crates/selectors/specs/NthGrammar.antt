@@ -16,7 +16,8 @@ AreLetters word letters = map to_ascii_lowercase letters ≡ word
 -- decimal digits and the number that they write; no digits write 0 (CSS Syntax 3, section 4.3.13)
 pub data Writes : List ℕ → ℕ → Type 0 where
   no_digits : Writes [] 0
-  one_more : (front all : List ℕ) (n digit : ℕ) → all ≡ front ++ (48 + digit) ∷ [] → digit ≤ 9 → Writes front n → Writes all (10 * n + digit)
+  one_more : (front all : List ℕ) (n digit : ℕ) → all ≡ front ++ (48 + digit) ∷ [] → digit ≤ 9 → Writes front n
+      → Writes all (10 * n + digit)
 
 -- a number: at least one digit, and at most nine, which is a limit of this project
 pub record IsNthNumber (digits : List ℕ) (n : ℕ) : Type 0 where
@@ -51,14 +52,16 @@ pub data IsStep : List ℕ → ℤ → Type 0 where
 -- what stands behind the `n`: nothing, which counts as 0; or a sign and a number, where white space may stand before both
 pub data IsOffset : List ℕ → ℤ → Type 0 where
   offset_zero : IsOffset [] (pos 0)
-  offset_written : (before sign between digits text : List ℕ) (n : ℕ) (b : ℤ) → text ≡ before ++ (sign ++ (between ++ digits)) → AreWhite before → IsNthSign sign n b → AreWhite between → IsNthNumber digits n → IsOffset text b
+  offset_written : (before sign between digits text : List ℕ) (n : ℕ) (b : ℤ) → text ≡ before ++ (sign ++ (between ++ digits))
+      → AreWhite before → IsNthSign sign n b → AreWhite between → IsNthNumber digits n → IsOffset text b
 
 -- an+b with no white space at its ends: `odd` is 2n+1, `even` is 2n, and an integer is 0n+b
 pub data IsFormula : List ℕ → ℤ → ℤ → Type 0 where
   odd : (letters : List ℕ) → AreLetters (codes "odd") letters → IsFormula letters (pos 2) (pos 1)
   even : (letters : List ℕ) → AreLetters (codes "even") letters → IsFormula letters (pos 2) (pos 0)
   constant : (text : List ℕ) (b : ℤ) → IsInteger text b → IsFormula text (pos 0) b
-  linear : (step letter offset text : List ℕ) (a b : ℤ) → text ≡ step ++ (letter ++ offset) → IsStep step a → AreLetters (codes "n") letter → IsOffset offset b → IsFormula text a b
+  linear : (step letter offset text : List ℕ) (a b : ℤ) → text ≡ step ++ (letter ++ offset) → IsStep step a → AreLetters (codes "n") letter
+      → IsOffset offset b → IsFormula text a b
 
 -- an+b, with white space at its ends or none
 pub record IsNth (text : List ℕ) (a b : ℤ) : Type 0 where

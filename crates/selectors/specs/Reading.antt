@@ -1,5 +1,6 @@
 -- Which selector list, if any, a text spells, read from left to right.
-use Rattle.std.specs.Prelude.{ℕ, ◌+◌, ◌-◌, nat_lt, pos, Bool, true, false, ◌&&◌, ◌||◌, ◌==◌, not, List, [], ◌∷◌, map, slice_index, slice_get, length, Option, Some, None, is_some, codes, if◌then◌else◌}
+use Rattle.std.specs.Prelude.{ℕ, ◌+◌, ◌-◌, nat_lt, pos, Bool, true, false, ◌&&◌, ◌||◌, ◌==◌, not, List, [], ◌∷◌, map, slice_index}
+use Rattle.std.specs.Prelude.{slice_get, length, Option, Some, None, is_some, codes, if◌then◌else◌}
 use Rattle.std.specs.Char.{to_ascii_lowercase}
 use Rattle.std.specs.Str.{bytes_eq}
 use Rattle.css_tokens.specs.Escapes.{unescaped}
@@ -16,7 +17,8 @@ use Rattle.selectors.specs.declared.selector.Compound.{Compound}
 use Rattle.selectors.specs.declared.selector.NthKind.{NthKind}
 use Rattle.selectors.specs.declared.selector.NthKind.TheVariants as nths
 use Rattle.selectors.specs.Words.{WordReading, word_reading, next_word, head, is_mark, words_of, between}
-use Rattle.selectors.specs.Forms.{simple_seen, compound_seen, TestForm, any, tag, id, class, attr, root, empty, nth, only_child, only_of_type, never, SimpleForm, is, is_not, CompoundForm, compound_form, SelectorForm, ◌>>=◌}
+use Rattle.selectors.specs.Forms.{simple_seen, compound_seen, TestForm, any, tag, id, class, attr, root, empty, nth, only_child}
+use Rattle.selectors.specs.Forms.{only_of_type, never, SimpleForm, is, is_not, CompoundForm, compound_form, SelectorForm, ◌>>=◌}
 use Rattle.selectors.specs.Nth.{nth_of}
 use Rattle.selectors.specs.Parts.{with_front, many}
 
@@ -114,7 +116,8 @@ exists_at name r = take_mark 93 r >>= λ rest. Some (attr name ops.Exists [], re
 
 -- after the name, an operator, an operand and `]`
 abbrev pub compare_at : List ℕ → WordReading → Option (TestForm × WordReading)
-compare_at name r = operator_at r >>= λ op. operand_at op.1 >>= λ operand. take_mark 93 operand.1 >>= λ rest. Some (attr name op.0 operand.0, rest)
+compare_at name r = operator_at r >>= λ op. operand_at op.1 >>= λ operand. take_mark 93 operand.1 >>= λ rest. Some
+    (attr name op.0 operand.0, rest)
 
 -- after the name
 abbrev pub attribute_after : List ℕ → WordReading → Option (TestForm × WordReading)
@@ -315,7 +318,8 @@ first_part_at r = next_word r >>= λ w. first_from w.0 w.1
 
 -- the combinator that a mark is: `>`, `+` or `~`
 abbrev pub combinator_of : WordKind → Option Joint
-combinator_of (Mark c) = if c == 62 then Some joints.Child else (if c == 43 then Some joints.Next else (if c == 126 then Some joints.Later else None))
+combinator_of (Mark c) = if c == 62 then Some joints.Child else
+    (if c == 43 then Some joints.Next else (if c == 126 then Some joints.Later else None))
 combinator_of _ = None
 
 -- a compound ends before this word: there is none, white space stands before it, or it is a combinator

@@ -47,4 +47,5 @@ element_count pseudo_element = if pseudo_element then 1 else 0
 
 -- a selector's specificity: ids; classes, attribute selectors and pseudo-classes; types and pseudo-elements
 abbrev pub specificity_of : SelectorForm → Spec
-specificity_of s = spec_of (in_compounds ids s.compounds) (in_compounds classes s.compounds) (in_compounds types s.compounds + element_count s.pseudo_element)
+specificity_of s = spec_of (in_compounds ids s.compounds) (in_compounds classes s.compounds)
+    (in_compounds types s.compounds + element_count s.pseudo_element)

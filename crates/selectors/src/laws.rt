@@ -28,5 +28,6 @@ pub fn nth_law()
 /// one behind the other; and the text can be cut where each of them begins and ends.
 pub fn usable_law()
     ensures pieces { (text : List ℕ) → IsUtf8 text → AreTiles text 0 (length text) (pieces text) }
-    ensures selectors { (text : List ℕ) (ss : List SelectorForm) → IsUtf8 text → selectors_of text ≡ Some ss → AreBetween text 0 (length text) (ranges_of ss) }
+    ensures selectors { (text : List ℕ) (ss : List SelectorForm) → IsUtf8 text → selectors_of text ≡ Some ss
+        → AreBetween text 0 (length text) (ranges_of ss) }
 {}

@@ -6,7 +6,8 @@ ghost use Rattle.selectors.specs.Forms.{GivesRead, SelectorForm, simple_seen, co
 ghost use Rattle.selectors.specs.Grammar.{IsSelectorList};
 ghost use Rattle.selectors.specs.Lists.{list_seen};
 ghost use Rattle.selectors.specs.Parts.{with_front};
-ghost use Rattle.selectors.specs.Reading.{compound_item_seen, combinator_of, ends_compound, tests_at, joined_seen, compound_at, joint_at, joined_at, ends_selector, compounds_at, joined_of, selector_of, selector_list_of, selectors_of};
+ghost use Rattle.selectors.specs.Reading.{compound_item_seen, combinator_of, ends_compound, tests_at, joined_seen, compound_at, joint_at};
+ghost use Rattle.selectors.specs.Reading.{joined_at, ends_selector, compounds_at, joined_of, selector_of, selector_list_of, selectors_of};
 
 use crate::selector::{Compound, Joint, SelErr, Selector, SelectorList, Simple};
 use crate::simple::{first_at, item_at};
@@ -50,7 +51,8 @@ fn push_item(tests: &mut Vec<Simple>, item: Option<Simple>) -> Result<bool, Allo
 }
 
 fn push_compound(compounds: &mut Vec<Compound>, compound: Compound) -> Result<(), AllocError>
-    ensures { IfOk result (λ _. map compound_seen compounds.new.items ≡ map compound_seen compounds.old.items ++ compound_seen compound ∷ []) }
+    ensures { IfOk result (λ _. map compound_seen compounds.new.items
+        ≡ map compound_seen compounds.old.items ++ compound_seen compound ∷ []) }
 {
     compounds.push(compound)?;
     Ok(())
@@ -70,7 +72,8 @@ fn tests_from(
     tests: &mut Vec<Simple>,
     first: bool,
 ) -> Result<bool, SelErr>
-    ensures reads { GivesRead (λ e. ((map simple_seen tests.new.items, e), words.new)) result (with_front (map simple_seen tests.old.items) (tests_at first words.old)) }
+    ensures reads { GivesRead (λ e. ((map simple_seen tests.new.items, e), words.new)) result
+        (with_front (map simple_seen tests.old.items) (tests_at first words.old)) }
     ensures shorter { IfOk result (λ _. length words.new.words ≤ length words.old.words) }
 {
     let mut element = first;
@@ -134,7 +137,8 @@ fn compounds_from(
     compounds: &mut Vec<Compound>,
     first: bool,
 ) -> Result<bool, SelErr>
-    ensures reads { GivesRead (λ e. ((map compound_seen compounds.new.items, e), words.new)) result (with_front (map compound_seen compounds.old.items) (compounds_at first words.old)) }
+    ensures reads { GivesRead (λ e. ((map compound_seen compounds.new.items, e), words.new)) result
+        (with_front (map compound_seen compounds.old.items) (compounds_at first words.old)) }
     ensures shorter { IfOk result (λ _. length words.new.words ≤ length words.old.words) }
 {
     let mut element = first;

@@ -5,7 +5,8 @@ ghost use Rattle.std.specs.Str.{IsCharBoundary};
 ghost use Rattle.selectors.specs.declared.words.WordKind.TheVariants as kinds;
 ghost use Rattle.selectors.specs.Words.{IsWordOf, next_word, between};
 ghost use Rattle.selectors.specs.Forms.{GivesRead};
-ghost use Rattle.selectors.specs.Reading.{word_value, hash_value, string_of, lower_of, function_of, take_mark, ident_at, tight_ident_at, tight_mark_at, closing_at};
+ghost use Rattle.selectors.specs.Reading.{word_value, hash_value, string_of, lower_of, function_of, take_mark, ident_at, tight_ident_at};
+ghost use Rattle.selectors.specs.Reading.{tight_mark_at, closing_at};
 
 use crate::selector::SelErr;
 use crate::words::{Word, WordKind, Words};

@@ -57,7 +57,8 @@ fn tests_weight(tests: &[Simple]) -> Spec
 }
 
 fn compounds_weight(compounds: &[Compound]) -> Spec
-    ensures { let cs = map compound_seen compounds.now in result ≡ spec_of (in_compounds ids cs) (in_compounds classes cs) (in_compounds types cs) }
+    ensures { let cs = map compound_seen compounds.now in result
+        ≡ spec_of (in_compounds ids cs) (in_compounds classes cs) (in_compounds types cs) }
 {
     let mut total = Spec { a: 0, b: 0, c: 0 };
     for compound in compounds {

@@ -2,7 +2,8 @@
 
 ghost use Rattle.std.specs.Prelude.{◌≡◌, ◌≤◌, All, IfSome, IfNone, IfOk, false, length, option_map};
 ghost use Rattle.std.specs.List.{AllByRecursion, prefix_len};
-ghost use Rattle.selectors.specs.Words.{word_kind, word_of, passed_over, words_of, words_after, IsWordOf, word_reading, next_word, head, is_mark, is_no_comma, before_comma, from_comma};
+ghost use Rattle.selectors.specs.Words.{word_kind, word_of, passed_over, words_of, words_after, IsWordOf, word_reading, next_word, head};
+ghost use Rattle.selectors.specs.Words.{is_mark, is_no_comma, before_comma, from_comma};
 ghost use Rattle.css_tokens.specs.Marks.{IsPieceOf};
 ghost use Rattle.selectors.specs.Reading.{is_tight, first_is, range_of, is_over};
 

@@ -4,7 +4,8 @@ use Rattle.std.specs.List.{AllByRecursion}
 use Rattle.css_tokens.specs.declared.token.Token.{Token}
 use Rattle.css_tokens.specs.declared.token.Range.{Range}
 use Rattle.css_tokens.specs.declared.token.TokenKind.{TokenKind}
-use Rattle.css_tokens.specs.declared.token.TokenKind.TheVariants.{Colon, Semicolon, Comma, OpenSquare, CloseSquare, OpenRound, CloseRound, OpenCurly, CloseCurly, Delim}
+use Rattle.css_tokens.specs.declared.token.TokenKind.TheVariants.{Colon, Semicolon, Comma, OpenSquare, CloseSquare, OpenRound, CloseRound}
+use Rattle.css_tokens.specs.declared.token.TokenKind.TheVariants.{OpenCurly, CloseCurly, Delim}
 use Rattle.selectors.specs.Words.{between}
 use Rattle.sheet_reader.specs.Forms.{range}
 use Rattle.sheet_reader.specs.Lone.{is_blank_piece}

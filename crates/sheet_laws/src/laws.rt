@@ -54,7 +54,8 @@ pub fn declaration_law()
     ensures declared { (text : List ℕ) (t : Token) (ts : List Token) (p : Property) → t.kind ≡ Ident
         → declaration_of text (t ∷ ts) ≡ Some p → IsDeclaration text (t ∷ ts) p }
     ensures body { (text : List ℕ) (body : List Token) → AreDeclarations text body (declarations text body) }
-    ensures body_only { (text : List ℕ) (body : List Token) (ps : List Property) → AreDeclarations text body ps → ps ≡ declarations text body }
+    ensures body_only { (text : List ℕ) (body : List Token) (ps : List Property) → AreDeclarations text body ps
+        → ps ≡ declarations text body }
     ensures style { (text : List ℕ) → IsStyle text (style_of text) }
     ensures style_only { (text : List ℕ) (ps : List Property) → IsStyle text ps → ps ≡ style_of text }
     ensures important { (text : List ℕ) (front value plain : List Token) → EndsImportant text value plain

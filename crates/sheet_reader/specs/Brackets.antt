@@ -2,7 +2,8 @@
 use Rattle.std.specs.Prelude.{ℕ, suc, Bool, true, false, ◌&&◌, List, [], ◌∷◌, Option, Some, None, if◌then◌else◌}
 use Rattle.css_tokens.specs.declared.token.Token.{Token}
 use Rattle.css_tokens.specs.declared.token.TokenKind.{TokenKind}
-use Rattle.css_tokens.specs.declared.token.TokenKind.TheVariants.{Function, OpenRound, OpenSquare, OpenCurly, CloseRound, CloseSquare, CloseCurly, Semicolon}
+use Rattle.css_tokens.specs.declared.token.TokenKind.TheVariants.{Function, OpenRound, OpenSquare, OpenCurly, CloseRound, CloseSquare}
+use Rattle.css_tokens.specs.declared.token.TokenKind.TheVariants.{CloseCurly, Semicolon}
 use Rattle.sheet_reader.specs.declared.brackets.Bracket.{Bracket}
 use Rattle.sheet_reader.specs.declared.brackets.Bracket.TheVariants.{Round, Square, Curly}
 use Rattle.sheet_reader.specs.declared.brackets.Stop.{Stop}

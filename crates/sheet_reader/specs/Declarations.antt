@@ -1,5 +1,6 @@
 -- Declarations (CSS Syntax 3, 5.4.4 to 5.4.6, this project's profile).
-use Rattle.std.specs.Prelude.{ℕ, zero, suc, ◌-◌, nat_lt, Bool, true, false, ◌&&◌, ◌||◌, ◌==◌, not, List, [], ◌∷◌, ◌++◌, map, take, length, slice_get, Option, Some, None, option_to_list, codes, if◌then◌else◌}
+use Rattle.std.specs.Prelude.{ℕ, zero, suc, ◌-◌, nat_lt, Bool, true, false, ◌&&◌, ◌||◌, ◌==◌, not, List, [], ◌∷◌, ◌++◌, map, take, length}
+use Rattle.std.specs.Prelude.{slice_get, Option, Some, None, option_to_list, codes, if◌then◌else◌}
 use Rattle.std.specs.Char.{to_ascii_lowercase}
 use Rattle.std.specs.Str.{bytes_eq}
 use Rattle.std.specs.List.{list_any}
@@ -71,7 +72,8 @@ is_important_by text _ _ = false
 
 -- the last two words are `!` and the ident `important` in any case
 abbrev pub is_important : List ℕ → List Word → Bool
-is_important text value = nat_lt 1 (length value) && is_important_by text (slice_get value (length value - 2)) (slice_get value (length value - 1))
+is_important text value = nat_lt 1 (length value)
+    && is_important_by text (slice_get value (length value - 2)) (slice_get value (length value - 1))
 
 -- the value without them
 abbrev pub plain_value : Bool → List Word → List Word
@@ -108,7 +110,12 @@ value_range colon None = range colon.end colon.end
 
 -- the declaration with this name, the range of this value, this importance and this range as a whole
 abbrev pub property : List ℕ → Word → Bool → List Word → Range → Property
-property name colon important value whole = record { name = name; value = value_range colon (range_of value); important = important; whole = whole }
+property name colon important value whole = record {
+  name = name;
+  value = value_range colon (range_of value);
+  important = important;
+  whole = whole;
+}
 
 -- a value that is empty is none, unless the name begins with `--`
 abbrev pub property_by : List ℕ → Word → Bool → List Word → Range → Option Property
@@ -118,7 +125,8 @@ property_by name colon important value whole =
 -- an ident, a colon and a value
 abbrev pub declared_by : List ℕ → List Word → Range → Option Property
 declared_by text (name ∷ colon ∷ value) whole =
-    if is_mark 58 colon.kind then property_by (name_by (word_value text name)) colon (is_important text value) (plain_value (is_important text value) value) whole else None
+    if is_mark 58 colon.kind then property_by (name_by (word_value text name)) colon (is_important text value)
+    (plain_value (is_important text value) value) whole else None
 declared_by text _ whole = None
 
 -- the declaration that these words are, if they are one: its whole goes from the first word to the last one

@@ -8,7 +8,8 @@ use Rattle.sheet_reader.specs.declared.brackets.Bracket.{Bracket}
 use Rattle.sheet_reader.specs.declared.brackets.Stop.{Stop}
 use Rattle.sheet_reader.specs.declared.brackets.Stop.TheVariants as stops
 use Rattle.sheet_reader.specs.Brackets.{opened_by, closed_by, is_same, stops_at}
-use Rattle.sheet_reader.specs.Parts.{EndingForm, text_end, semicolon, block, PartForm, passed, at_rule, qualified, is_passed, ending_pieces, part_pieces}
+use Rattle.sheet_reader.specs.Parts.{EndingForm, text_end, semicolon, block, PartForm, passed, at_rule, qualified, is_passed, ending_pieces}
+use Rattle.sheet_reader.specs.Parts.{part_pieces}
 use Rattle.sheet_reader.specs.Declarations as body
 
 -- where component values stand: outside brackets, up to what stops them there, or inside a bracket, up to its own closing one
@@ -34,10 +35,14 @@ value_ends_before (inside b) kind = is_closing b kind
 -- and with its own closing bracket or the text's end. Inside it other closing brackets are plain pieces.
 pub data AreValues : Place → List Token → List Token → Type 0 where
   no_values : {place : Place} {rest : List Token} → AreValues place [] rest
-  piece_and : {place : Place} {rest : List Token} (t : Token) (ts : List Token) → value_ends_before place t.kind ≡ false → opened_by t.kind ≡ None → AreValues place ts rest → AreValues place (t ∷ ts) rest
-  block_and : {place : Place} {rest all : List Token} (t close : Token) (within ts : List Token) (b : Bracket) → all ≡ t ∷ (within ++ close ∷ ts) → value_ends_before place t.kind ≡ false → opened_by t.kind ≡ Some b
-      → AreValues (inside b) within (close ∷ (ts ++ rest)) → is_closing b close.kind ≡ true → AreValues place ts rest → AreValues place all rest
-  open_block : {place : Place} {rest : List Token} (t : Token) (within : List Token) (b : Bracket) → value_ends_before place t.kind ≡ false → opened_by t.kind ≡ Some b → AreValues (inside b) within [] → rest ≡ [] → AreValues place (t ∷ within) rest
+  piece_and : {place : Place} {rest : List Token} (t : Token) (ts : List Token) → value_ends_before place t.kind ≡ false
+      → opened_by t.kind ≡ None → AreValues place ts rest → AreValues place (t ∷ ts) rest
+  block_and : {place : Place} {rest all : List Token} (t close : Token) (within ts : List Token) (b : Bracket)
+      → all ≡ t ∷ (within ++ close ∷ ts) → value_ends_before place t.kind ≡ false → opened_by t.kind ≡ Some b
+      → AreValues (inside b) within (close ∷ (ts ++ rest)) → is_closing b close.kind ≡ true → AreValues place ts rest
+      → AreValues place all rest
+  open_block : {place : Place} {rest : List Token} (t : Token) (within : List Token) (b : Bracket) → value_ends_before place t.kind ≡ false
+      → opened_by t.kind ≡ Some b → AreValues (inside b) within [] → rest ≡ [] → AreValues place (t ∷ within) rest
 
 -- they end there: at the text's end, or before a piece that ends them
 abbrev pub EndsBefore : Place → List Token → Type 0
@@ -48,8 +53,10 @@ EndsBefore place (t ∷ ts) = value_ends_before place t.kind ≡ true
 pub data IsEnding : EndingForm → List Token → Type 0 where
   at_text_end : {rest : List Token} → rest ≡ [] → IsEnding text_end rest
   at_semicolon : {rest : List Token} (t : Token) → t.kind ≡ Semicolon → IsEnding (semicolon t) rest
-  in_block : {rest : List Token} (first close : Token) (within : List Token) → first.kind ≡ OpenCurly → AreValues (outside stops.BlockEnd) within (close ∷ rest) → close.kind ≡ CloseCurly → IsEnding (block first within (Some close)) rest
-  in_open_block : {rest : List Token} (first : Token) (within : List Token) → first.kind ≡ OpenCurly → AreValues (outside stops.BlockEnd) within [] → rest ≡ [] → IsEnding (block first within None) rest
+  in_block : {rest : List Token} (first close : Token) (within : List Token) → first.kind ≡ OpenCurly
+      → AreValues (outside stops.BlockEnd) within (close ∷ rest) → close.kind ≡ CloseCurly → IsEnding (block first within (Some close)) rest
+  in_open_block : {rest : List Token} (first : Token) (within : List Token) → first.kind ≡ OpenCurly
+      → AreValues (outside stops.BlockEnd) within [] → rest ≡ [] → IsEnding (block first within None) rest
 
 -- an at-keyword
 abbrev pub is_at_keyword : TokenKind → Bool
@@ -70,8 +77,10 @@ pub record IsRule (stop : Stop) (prelude : List Token) (ending : EndingForm) (re
 -- a part of a sheet, and what follows it
 pub data IsPart : PartForm → List Token → Type 0 where
   passed_part : {rest : List Token} (t : Token) → is_passed t.kind ≡ true → IsPart (passed t) rest
-  at_rule_part : {rest : List Token} (keyword : Token) (prelude : List Token) (ending : EndingForm) → keyword.kind ≡ AtKeyword → IsRule stops.BlockOrSemicolon prelude ending rest → IsPart (at_rule keyword prelude ending) rest
-  qualified_part : {rest : List Token} (prelude : List Token) (ending : EndingForm) → BeginsQualified (prelude ++ ending_pieces ending) → IsRule stops.Block prelude ending rest → IsPart (qualified prelude ending) rest
+  at_rule_part : {rest : List Token} (keyword : Token) (prelude : List Token) (ending : EndingForm) → keyword.kind ≡ AtKeyword
+      → IsRule stops.BlockOrSemicolon prelude ending rest → IsPart (at_rule keyword prelude ending) rest
+  qualified_part : {rest : List Token} (prelude : List Token) (ending : EndingForm) → BeginsQualified (prelude ++ ending_pieces ending)
+      → IsRule stops.Block prelude ending rest → IsPart (qualified prelude ending) rest
 
 -- the parts of a sheet, one behind the other
 abbrev pub AreParts : List PartForm → List Token → Type 0
@@ -93,10 +102,15 @@ is_ident_kind _ = false
 -- an item of a body, and what follows it
 pub data IsBodyItem : body.ItemForm → List Token → Type 0 where
   passed_item : {rest : List Token} (t : Token) → is_separator t.kind ≡ true → IsBodyItem (body.passed t) rest
-  at_rule_item : {rest : List Token} (keyword : Token) (prelude : List Token) (ending : EndingForm) → keyword.kind ≡ AtKeyword → IsRule stops.BlockOrSemicolon prelude ending rest → IsBodyItem (body.at_rule (at_rule keyword prelude ending)) rest
-  candidate_item : {rest : List Token} (t : Token) (ts : List Token) → is_ident_kind t.kind ≡ true → AreValues (outside stops.Semicolon) (t ∷ ts) rest → EndsBefore (outside stops.Semicolon) rest → IsBodyItem (body.candidate (t ∷ ts)) rest
-  other_item : {rest : List Token} (t : Token) (ts : List Token) → is_separator t.kind ≡ false → is_at_keyword t.kind ≡ false → is_ident_kind t.kind ≡ false
-      → AreValues (outside stops.Semicolon) (t ∷ ts) rest → EndsBefore (outside stops.Semicolon) rest → IsBodyItem (body.other (t ∷ ts)) rest
+  at_rule_item : {rest : List Token} (keyword : Token) (prelude : List Token) (ending : EndingForm) → keyword.kind ≡ AtKeyword
+      → IsRule stops.BlockOrSemicolon prelude ending rest → IsBodyItem (body.at_rule (at_rule keyword prelude ending)) rest
+  candidate_item : {rest : List Token} (t : Token) (ts : List Token) → is_ident_kind t.kind ≡ true
+      → AreValues (outside stops.Semicolon) (t ∷ ts) rest → EndsBefore (outside stops.Semicolon) rest
+      → IsBodyItem (body.candidate (t ∷ ts)) rest
+  other_item : {rest : List Token} (t : Token) (ts : List Token) → is_separator t.kind ≡ false → is_at_keyword t.kind ≡ false
+      → is_ident_kind t.kind ≡ false
+      → AreValues (outside stops.Semicolon) (t ∷ ts) rest → EndsBefore (outside stops.Semicolon) rest
+      → IsBodyItem (body.other (t ∷ ts)) rest
 
 -- the items of a body, one behind the other
 abbrev pub AreItems : List body.ItemForm → List Token → Type 0
@@ -107,4 +121,5 @@ AreItems (x ∷ xs) ts = (rest : List Token) × (ts ≡ body.item_pieces x ++ re
 pub data AreNested : List Token → Type 0 where
   none_nested : AreNested []
   plain_and : (t : Token) (ts : List Token) → opened_by t.kind ≡ None → closed_by t.kind ≡ None → AreNested ts → AreNested (t ∷ ts)
-  nested_and : {all : List Token} (t close : Token) (within ts : List Token) (b : Bracket) → all ≡ t ∷ (within ++ close ∷ ts) → opened_by t.kind ≡ Some b → AreNested within → is_closing b close.kind ≡ true → AreNested ts → AreNested all
+  nested_and : {all : List Token} (t close : Token) (within ts : List Token) (b : Bracket) → all ≡ t ∷ (within ++ close ∷ ts)
+      → opened_by t.kind ≡ Some b → AreNested within → is_closing b close.kind ≡ true → AreNested ts → AreNested all

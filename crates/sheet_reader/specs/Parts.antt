@@ -1,5 +1,6 @@
 -- The top-level parts of a sheet (CSS Syntax 3, 5.4.1 to 5.4.3), as a list of pieces is cut into them.
-use Rattle.std.specs.Prelude.{ℕ, zero, suc, ◌-◌, Bool, true, false, List, [], ◌∷◌, ◌++◌, take, drop, length, slice_get, Option, option_to_list, if◌then◌else◌}
+use Rattle.std.specs.Prelude.{ℕ, zero, suc, ◌-◌, Bool, true, false, List, [], ◌∷◌, ◌++◌, take, drop, length, slice_get, Option}
+use Rattle.std.specs.Prelude.{option_to_list, if◌then◌else◌}
 use Rattle.css_tokens.specs.declared.token.Token.{Token}
 use Rattle.css_tokens.specs.declared.token.TokenKind.{TokenKind}
 use Rattle.css_tokens.specs.declared.token.TokenKind.TheVariants.{Comment, WhiteSpace, Cdo, Cdc, AtKeyword, Semicolon}

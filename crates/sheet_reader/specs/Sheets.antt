@@ -1,5 +1,6 @@
 -- What a sheet says: its style rules, and the places where a rule may be added.
-use Rattle.std.specs.Prelude.{ℕ, ◌+◌, ◌-◌, nat_le, Bool, false, ◌&&◌, ◌==◌, List, [], ◌∷◌, ◌++◌, slice_index, length, Option, Some, None, option_to_list, if◌then◌else◌}
+use Rattle.std.specs.Prelude.{ℕ, ◌+◌, ◌-◌, nat_le, Bool, false, ◌&&◌, ◌==◌, List, [], ◌∷◌, ◌++◌, slice_index, length, Option, Some, None}
+use Rattle.std.specs.Prelude.{option_to_list, if◌then◌else◌}
 use Rattle.css_tokens.specs.declared.token.Token.{Token}
 use Rattle.css_tokens.specs.declared.token.Range.{Range}
 use Rattle.css_tokens.specs.declared.token.TokenKind.{TokenKind}
@@ -27,7 +28,8 @@ style_rule text words body inside =
 
 -- the style rule with this prelude and this ending: none where it ends without a block, or the prelude is no selector list
 abbrev pub rule_by : List ℕ → List Token → EndingForm → Option RuleForm
-rule_by text prelude (block first inside close) = style_rule text (words_after text false prelude) (range first.end (body_end text close)) inside
+rule_by text prelude (block first inside close) = style_rule text (words_after text false prelude)
+    (range first.end (body_end text close)) inside
 rule_by text prelude (semicolon t) = None
 rule_by text prelude text_end = None
 

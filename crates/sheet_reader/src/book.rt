@@ -1,6 +1,7 @@
 //! A book of style sheets: texts with their readings, in order.
 
-ghost use Rattle.std.specs.Prelude.{◌≡◌, All, ◌<◌, ◌++◌, ◌∷◌, [], length, None, Some, IsSome, IfSome, slice_get, option_copied, nat_eq, OnOk, OnErr, IfOk};
+ghost use Rattle.std.specs.Prelude.{◌≡◌, All, ◌<◌, ◌++◌, ◌∷◌, [], length, None, Some, IsSome, IfSome, slice_get, option_copied, nat_eq};
+ghost use Rattle.std.specs.Prelude.{OnOk, OnErr, IfOk};
 ghost use Rattle.indexmap.specs.IndexMap.{get, shift_remove_entry};
 ghost use Rattle.sheet_reader.specs.Books.{IsEntry, IsStored, AreApart, entry_of, entry_place, book_changed, removed};
 

@@ -2,7 +2,8 @@
 //! open ones are kept in a list.
 
 ghost use Rattle.std.specs.Prelude.{◌≡◌, ◌≤◌, ◌&&◌, [], length, OnOk, IfOk};
-ghost use Rattle.sheet_reader.specs.Brackets.{opened_by, closed_by, is_same, open_after, is_none_open, is_innermost, is_stray, stops_at, until, nesting};
+ghost use Rattle.sheet_reader.specs.Brackets.{opened_by, closed_by, is_same, open_after, is_none_open, is_innermost, is_stray, stops_at};
+ghost use Rattle.sheet_reader.specs.Brackets.{until, nesting};
 
 use css_tokens::{Token, TokenKind};
 use std::alloc::{AllocError, Global};

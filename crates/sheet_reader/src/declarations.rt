@@ -6,7 +6,9 @@ ghost use Rattle.selectors.specs.Words.{IsWordOf};
 ghost use Rattle.selectors.specs.Reading.{word_value};
 ghost use Rattle.std.specs.List.{AllByRecursion, list_any};
 ghost use Rattle.sheet_reader.specs.Seen.{item_seen};
-ghost use Rattle.sheet_reader.specs.Declarations.{names_important, is_important, plain_value, is_bad_kind, holds_bad, is_custom, name_by, value_range, property_by, declared_by, declaration_of, item_property, item_at, item_pieces, declarations, style_of};
+ghost use Rattle.sheet_reader.specs.Declarations.{names_important, is_important, plain_value, is_bad_kind, holds_bad, is_custom, name_by};
+ghost use Rattle.sheet_reader.specs.Declarations.{value_range, property_by, declared_by, declaration_of, item_property, item_at};
+ghost use Rattle.sheet_reader.specs.Declarations.{item_pieces, declarations, style_of};
 
 use crate::brackets::{Nesting, Stop, nesting_of, until};
 use crate::parts::{Part, at_rule_at, behind, part_len};

@@ -33,7 +33,8 @@ pub fn nesting_law()
 /// position, so `byte_at` answers the byte whose `position` it is asked for.
 pub fn position_law()
     ensures units { (c : ℕ) → sum_by units_at (encode_utf8 c) ≡ units_of c }
-    ensures one_place { (text : List ℕ) (b k : ℕ) → IsCharBoundary text b → IsCharBoundary text k → position_of text b ≡ position_of text k → b ≡ k }
+    ensures one_place { (text : List ℕ) (b k : ℕ) → IsCharBoundary text b → IsCharBoundary text k → position_of text b ≡ position_of text k
+        → b ≡ k }
 {}
 
 /// Ranges can be used: in the reading of a text, as a sheet and as a body, each range begins and ends where the text can be cut

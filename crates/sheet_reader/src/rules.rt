@@ -6,7 +6,8 @@ ghost use Rattle.selectors.specs.Words.{words_after};
 ghost use Rattle.sheet_reader.specs.Seen.{part_seen, ending_seen};
 ghost use Rattle.sheet_reader.specs.Parts.{part_pieces, ending_pieces};
 ghost use Rattle.sheet_reader.specs.Forms.{rule_seen};
-ghost use Rattle.sheet_reader.specs.Sheets.{body_end, style_rule, rule_by, rule_of, is_closed_comment, passed_place, ending_place, place_of, sheet_of};
+ghost use Rattle.sheet_reader.specs.Sheets.{body_end, style_rule, rule_by, rule_of, is_closed_comment, passed_place, ending_place};
+ghost use Rattle.sheet_reader.specs.Sheets.{place_of, sheet_of};
 
 use crate::declarations::read_body;
 use crate::lists::{Places, Properties, StyleRules};
@@ -145,7 +146,8 @@ fn place_of(text: &str, part: Part) -> Option<usize>
 }
 
 fn push_rule(rules: &mut Vec<StyleRule>, rule: Option<StyleRule>) -> Result<(), AllocError>
-    ensures { IfOk result (λ _. map rule_seen rules.new.items ≡ map rule_seen rules.old.items ++ option_to_list (option_map rule_seen rule)) }
+    ensures { IfOk result (λ _. map rule_seen rules.new.items
+        ≡ map rule_seen rules.old.items ++ option_to_list (option_map rule_seen rule)) }
 {
     if let Some(rule) = rule {
         rules.push(rule)?;

@@ -1,7 +1,8 @@
 //! Sealed texts: those that may be put into a body, or between rules, and change nothing of what follows.
 
 ghost use Rattle.std.specs.Prelude.{◌≡◌, IfOk};
-ghost use Rattle.sheet_reader.specs.Sealing.{is_white_kind, is_close_kind, is_closed_nesting, last_is, all_but_last, ends_sealed, is_sealed};
+ghost use Rattle.sheet_reader.specs.Sealing.{is_white_kind, is_close_kind, is_closed_nesting, last_is, all_but_last, ends_sealed};
+ghost use Rattle.sheet_reader.specs.Sealing.{is_sealed};
 
 use crate::brackets::{Nesting, nesting_of};
 use css_tokens::{Token, TokenKind, all_tokens};

@@ -2,7 +2,8 @@
 
 ghost use Rattle.std.specs.Prelude.{◌≡◌, All, ◌++◌, ◌∷◌, [], List, Ok, Err, Some, IfOk, OnOk, OnErr, MatchResult, IsSome};
 ghost use Rattle.sheet_reader.specs.Books.{IsEntry, entry_of, book_changed};
-ghost use Rattle.style_edits.specs.Edits.{style_in, selector_in, text_in, rule_in, client_sheet, style_splice, selector_splice, text_splice, rule_splice, edited, styles_edited, IfFault, whole_range};
+ghost use Rattle.style_edits.specs.Edits.{style_in, selector_in, text_in, rule_in, client_sheet, style_splice, selector_splice};
+ghost use Rattle.style_edits.specs.Edits.{text_splice, rule_splice, edited, styles_edited, IfFault, whole_range};
 ghost use Rattle.style_edits.specs.Drafts.{Drafts, IsOld, olds_restored, with_backs};
 ghost use Rattle.style_edits.specs.EditedRules.{edited_rules};
 

@@ -13,9 +13,12 @@ ghost use Rattle.style_edits.specs.Edits.{HasText, FindsSplices, LeadBack, style
 /// leads to the book before it, and is itself taken back by the splice again.
 pub fn splice_law()
     ensures fits { (s : Splice) (book : List SheetEntry) → TakesSplice s book → FitsSplice s book }
-    ensures takes_back { (s : Splice) (book : List SheetEntry) → TakesSplice s book → TakesSplice (back_splice s book) (after_splice s book) }
-    ensures leads_back { (s : Splice) (book : List SheetEntry) → TakesSplice s book → after_splice (back_splice s book) (after_splice s book) ≡ book }
-    ensures back_back { (s : Splice) (book : List SheetEntry) → TakesSplice s book → back_splice (back_splice s book) (after_splice s book) ≡ s }
+    ensures takes_back { (s : Splice) (book : List SheetEntry) → TakesSplice s book
+        → TakesSplice (back_splice s book) (after_splice s book) }
+    ensures leads_back { (s : Splice) (book : List SheetEntry) → TakesSplice s book
+        → after_splice (back_splice s book) (after_splice s book) ≡ book }
+    ensures back_back { (s : Splice) (book : List SheetEntry) → TakesSplice s book
+        → back_splice (back_splice s book) (after_splice s book) ≡ s }
 {}
 
 /// The splice of an edit that has no fault can be made in the book. And where edits are made one after the other, the splices

@@ -20,4 +20,3 @@ pub use lines::LineRange;
 pub use rule_places::{RulePlace, edited_rule};
 pub use sheets::{add_sheet, drop_sheet};
 pub use splice::{Splice, put_back};
-

@@ -25,7 +25,8 @@ pub struct LineRange {
 /// The bytes with these lines and columns; none where a line has no such column, or the text no such line.
 fn bytes_at(text: &str, lines: LineRange) -> Option<Range>
     ensures there { IfSome result (IsAt text.now lines) }
-    ensures none { IfNone result ((r : Range) → IsCharBoundary text.now r.start → IsCharBoundary text.now r.end → is_at text.now lines r ≡ false) }
+    ensures none { IfNone result ((r : Range) → IsCharBoundary text.now r.start → IsCharBoundary text.now r.end
+        → is_at text.now lines r ≡ false) }
 {
     let start = byte_at(text, lines.start_line, lines.start_column)?;
     let end = byte_at(text, lines.end_line, lines.end_column)?;

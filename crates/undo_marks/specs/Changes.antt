@@ -1,7 +1,8 @@
 -- Histories by saved pages, over any pages and edits: P is a page, E an edit, `after` gives the page after an edit, `back`
 -- the edit that takes it back, and `Takes` says that a page takes an edit without a fault.
 use Rattle.std.specs.Prelude.{◌≡◌, true, List, [], ◌∷◌, map, reverse, Some, None}
-use Rattle.undo_marks.specs.Marks.{Marks, no_marks, handed_out, noted, noted_singly, edited, marked, crossed_over, undone, redone, past_popped, future_popped, past_pushed, future_pushed}
+use Rattle.undo_marks.specs.Marks.{Marks, no_marks, handed_out, noted, noted_singly, edited, marked, crossed_over, undone, redone}
+use Rattle.undo_marks.specs.Marks.{past_popped, future_popped, past_pushed, future_pushed}
 
 -- an entry of a history: the page before an edit, the edit, and the page after it
 pub record HistoryEntry (P E : Type 0) : Type 0 where

@@ -1,5 +1,6 @@
 -- A history: groups of what was done, groups of what was taken back, and two flags.
-use Rattle.std.specs.Prelude.{ℕ, ◌+◌, ◌==◌, Bool, true, false, not, ◌&&◌, ◌||◌, cond, List, [], ◌∷◌, ◌++◌, length, reverse, Option, Some, None, is_none, refl}
+use Rattle.std.specs.Prelude.{ℕ, ◌+◌, ◌==◌, Bool, true, false, not, ◌&&◌, ◌||◌, cond, List, [], ◌∷◌, ◌++◌, length, reverse, Option, Some}
+use Rattle.std.specs.Prelude.{None, is_none, refl}
 use Rattle.std.specs.Coded.{Coded, code_by, coded×, coded_list, coded_bool}
 
 -- the two lists and the two flags of a history

@@ -8,7 +8,8 @@ use Rattle.sheet_reader.specs.declared.book.SheetEntry.{SheetEntry}
 use Rattle.style_edits.specs.declared.splice.Splice.{Splice}
 use Rattle.style_edits.specs.Splices.{TakesSplice, FitsSplice, after_splice, back_splice}
 use Rattle.undo_marks.specs.Marks.{Marks, handed_out}
-use Rattle.undo_marks.specs.Changes.{HistoryEntry, KeptFor, KeepsOn, AllTaken, pages_on, after_all, pages_undone, page_undone, pages_redone, page_redone}
+use Rattle.undo_marks.specs.Changes.{HistoryEntry, KeptFor, KeepsOn, AllTaken, pages_on, after_all, pages_undone, page_undone, pages_redone}
+use Rattle.undo_marks.specs.Changes.{page_redone}
 use Rattle.undo_marks.specs.Saved.{Saved}
 use Rattle.undo_marks.specs.SavedEdits.{saved_of, page_after, way_back, TakesEdit, MeetsNoFault}
 use Rattle.undo_marks.specs.declared.inverse_lists.Inverse.{Inverse}

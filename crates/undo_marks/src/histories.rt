@@ -1,5 +1,6 @@
 ghost use Rattle.std.specs.Prelude.{◌≡◌, ◌+◌, None, OnOk, OnErr};
-ghost use Rattle.undo_marks.specs.Marks.{no_marks, entry_count, handed_out, noted, marked, crossed_over, past_popped, future_popped, past_pushed, future_pushed};
+ghost use Rattle.undo_marks.specs.Marks.{no_marks, entry_count, handed_out, noted, marked, crossed_over, past_popped, future_popped};
+ghost use Rattle.undo_marks.specs.Marks.{past_pushed, future_pushed};
 
 use crate::groups::Groups;
 use crate::inverse_lists::{Inverse, Inverses, Popped};

@@ -9,4 +9,3 @@ mod laws;
 pub use histories::History;
 pub use inverse_lists::{Inverse, Inverses, Popped};
 pub use laws::{history_law, saved_pages_law};
-
