@@ -22,10 +22,12 @@ use Rattle.back_end.proofs.TurnAnswers.{events-answer, turn-events}
 
 -- ---- events answer nothing
 
-pub flat-append : (ms ks : List Move) → flat_map reply_ids ms ≡ [] → flat_map reply_ids (ms ++ ks) ≡ flat_map reply_ids ms ++ flat_map reply_ids ks
+pub flat-append : (ms ks : List Move) → flat_map reply_ids ms ≡ []
+    → flat_map reply_ids (ms ++ ks) ≡ flat_map reply_ids ms ++ flat_map reply_ids ks
 flat-append [] ks h = refl
 flat-append (m ∷ ms) ks h = at (reply_ids m) h (λ rest. flat-append ms ks rest) where
-  at : (ids : List (Option ℕ)) → ids ++ flat_map reply_ids ms ≡ [] → (flat_map reply_ids ms ≡ [] → flat_map reply_ids (ms ++ ks) ≡ flat_map reply_ids ms ++ flat_map reply_ids ks)
+  at : (ids : List (Option ℕ)) → ids ++ flat_map reply_ids ms ≡ []
+      → (flat_map reply_ids ms ≡ [] → flat_map reply_ids (ms ++ ks) ≡ flat_map reply_ids ms ++ flat_map reply_ids ks)
       → ids ++ flat_map reply_ids (ms ++ ks) ≡ (ids ++ flat_map reply_ids ms) ++ flat_map reply_ids ks
   at [] rest later = later rest
   at (id ∷ ids) rest later = absurd cc
@@ -39,7 +41,8 @@ openings-answer : (xs : List Showing) (ms : List Move) → flat_map reply_ids (o
 openings-answer [] ms = refl
 openings-answer (x ∷ xs) ms = openings-answer xs ms
 
-openings-may : (method : List ℕ) (xs : List Showing) (ms : List Move) → MayAnswerAll method ms → MayAnswerAll method (opening_moves xs ++ ms)
+openings-may : (method : List ℕ) (xs : List Showing) (ms : List Move) → MayAnswerAll method ms
+    → MayAnswerAll method (opening_moves xs ++ ms)
 openings-may method [] ms h = h
 openings-may method (x ∷ xs) ms h = (tt, openings-may method xs ms h)
 
@@ -70,7 +73,8 @@ ask-ends-nothing (ask.GetAttributes id) = refl
 ask-ends-nothing (ask.DescribeNode id serial depth pierce) = refl
 
 -- a document answers one ask alone
-root-asked : (asked : DomAsk) (b : Branch Seen) → answers (ask_name asked) (Root (told_branch 0 b)) ≡ true → ask_name asked ≡ codes "DOM.getDocument"
+root-asked : (asked : DomAsk) (b : Branch Seen) → answers (ask_name asked) (Root (told_branch 0 b)) ≡ true
+    → ask_name asked ≡ codes "DOM.getDocument"
 root-asked (ask.GetDocument depth pierce) b e = refl
 root-asked (ask.RequestChildNodes id depth pierce) b e = absurd cc
 root-asked (ask.PushByPath path) b e = absurd cc

@@ -21,15 +21,18 @@ pub record Answered (method : List ℕ) (sheet : Option ℕ) (id most : ℕ) (be
   pub texts : TellTextOf sheet done.moves
 
 -- events, and then a reply
-pub once-last : (id : ℕ) (ms : List Move) (m : Move) → AreEvents ms → reply_ids m ≡ Some id ∷ [] → flat_map reply_ids (ms ++ m ∷ []) ≡ Some id ∷ []
+pub once-last : (id : ℕ) (ms : List Move) (m : Move) → AreEvents ms → reply_ids m ≡ Some id ∷ []
+    → flat_map reply_ids (ms ++ m ∷ []) ≡ Some id ∷ []
 once-last id ms m are is =
     let quiet : flat_map reply_ids ms ≡ [] = events-answer ms are in
     let own : flat_map reply_ids (m ∷ []) ≡ Some id ∷ [] = ap (λ ids. ids ++ []) is in
     flat-append ms (m ∷ []) quiet ∙ ap (λ ids. ids ++ flat_map reply_ids (m ∷ [])) quiet ∙ own
 
 -- a step of events that is answered by a result of the method
-pub reply-answered : (method : List ℕ) (sheet : Option ℕ) (id most : ℕ) (body : ReplyBody) (before : State) (done : Step) → MayAnswer method (replied 0 body) → AreEvents done.moves
-    → StepsWell before (replying id body done) → KeepsAtMost most before done.state → Answered method sheet id most before (replying id body done)
+pub reply-answered : (method : List ℕ) (sheet : Option ℕ) (id most : ℕ) (body : ReplyBody) (before : State) (done : Step)
+    → MayAnswer method (replied 0 body) → AreEvents done.moves
+    → StepsWell before (replying id body done) → KeepsAtMost most before done.state
+    → Answered method sheet id most before (replying id body done)
 reply-answered method sheet id most body before done can are well few = record {
   well = well;
   few = few;
@@ -39,7 +42,8 @@ reply-answered method sheet id most body before done can are well few = record {
 }
 
 -- nothing is done
-pub refusal-answered : (method : List ℕ) (sheet : Option ℕ) (id most : ℕ) (why : Why) (state : State) → IsState state → HasRoom state → is_counted id ≡ true
+pub refusal-answered : (method : List ℕ) (sheet : Option ℕ) (id most : ℕ) (why : Why) (state : State) → IsState state → HasRoom state
+    → is_counted id ≡ true
     → Answered method sheet id most state (refusing (Some id) why state)
 refusal-answered method sheet id most why state is room small =
     let well = stays-with (failed (record { id = Some id; why = why })) state is.now (room-numbers state room) (refl, small) in

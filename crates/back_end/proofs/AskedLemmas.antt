@@ -11,7 +11,13 @@ use Rattle.cdp_json.specs.declared.fields.Field.TheVariants.{Is, Missing, WrongK
 use Rattle.cdp_json.specs.Fields.{field_if, field_from, field_of}
 use Rattle.cdp_json.proofs.Options.{and_then_some, if_some}
 use Rattle.cdp_messages.specs.declared.command.Command.{Command}
-use Rattle.cdp_messages.specs.declared.command.Command.TheVariants.{DomEnable, DomDisable, GetDocument, RequestChildNodes, PushByPath, PushBySerials, QuerySelector, QuerySelectorAll, GetAttributes, DescribeNode, SetAttributeValue, RemoveAttribute, SetNodeValue, RemoveNode, MoveTo, CopyTo, MarkUndoableState, Undo, Redo, CssEnable, CssDisable, GetMatchedStyles, GetStyleSheetText, CollectClassNames, SetStyleTexts, SetRuleSelector, SetStyleSheetText, AddRule, SetBreakpoint, RemoveBreakpoint, ReplayLoad, ReplayAct}
+use Rattle.cdp_messages.specs.declared.command.Command.TheVariants.{DomEnable, DomDisable, GetDocument, RequestChildNodes, PushByPath}
+use Rattle.cdp_messages.specs.declared.command.Command.TheVariants.{PushBySerials, QuerySelector, QuerySelectorAll, GetAttributes}
+use Rattle.cdp_messages.specs.declared.command.Command.TheVariants.{DescribeNode, SetAttributeValue, RemoveAttribute, SetNodeValue}
+use Rattle.cdp_messages.specs.declared.command.Command.TheVariants.{RemoveNode, MoveTo, CopyTo, MarkUndoableState, Undo, Redo, CssEnable}
+use Rattle.cdp_messages.specs.declared.command.Command.TheVariants.{CssDisable, GetMatchedStyles, GetStyleSheetText, CollectClassNames}
+use Rattle.cdp_messages.specs.declared.command.Command.TheVariants.{SetStyleTexts, SetRuleSelector, SetStyleSheetText, AddRule}
+use Rattle.cdp_messages.specs.declared.command.Command.TheVariants.{SetBreakpoint, RemoveBreakpoint, ReplayLoad, ReplayAct}
 use Rattle.cdp_messages.specs.declared.command.Asked.{Asked}
 use Rattle.cdp_messages.specs.declared.command.Refused.{Refused}
 use Rattle.cdp_messages.specs.declared.command.Why.{Why}
@@ -83,7 +89,8 @@ part-ask (ReplayLoad params) = refl
 part-ask (ReplayAct params) = refl
 
 -- so what a command that is for others asks of the agent, fits where the command does
-pub others-fit : (c : Command) (ask : Option DomAsk) → part_of c ≡ part.Others ask → fits_command c ≡ true → IfSome ask (λ a. fits_ask a ≡ true)
+pub others-fit : (c : Command) (ask : Option DomAsk) → part_of c ≡ part.Others ask → fits_command c ≡ true
+    → IfSome ask (λ a. fits_ask a ≡ true)
 others-fit c ask is fits = ask-fits c ask (sym (ap ask_of_part is) ∙ part-ask c) fits
 
 -- ---- ids
@@ -110,13 +117,16 @@ field-whole (Some d) id e =
 -- the id of a refusal is below 2^53, where it has one
 refused-same : (id : Option ℕ) (why : Why) (r : Refused) → ◌≡◌ {A = Result Asked Refused} (Err (refusal id why)) (Err r)
     → holds_of_some is_counted id ≡ true → holds_of_some is_counted r.id ≡ true
-refused-same id why r e counted = let same : refusal id why ≡ r = cc in ap (λ (x : Refused). holds_of_some is_counted x.id) (sym same) ∙ counted
+refused-same id why r e counted = let same : refusal id why
+    ≡ r = cc in ap (λ (x : Refused). holds_of_some is_counted x.id) (sym same) ∙ counted
 
-refused-by : (id : ℕ) (result : Result Command Why) (r : Refused) → is_counted id ≡ true → asked_by id result ≡ Err r → holds_of_some is_counted r.id ≡ true
+refused-by : (id : ℕ) (result : Result Command Why) (r : Refused) → is_counted id ≡ true → asked_by id result ≡ Err r
+    → holds_of_some is_counted r.id ≡ true
 refused-by id (Ok c) r counted e = let no : ◌≡◌ {A = Result Asked Refused} (Ok (record { id = id; command = c })) (Err r) = e in absurd cc
 refused-by id (Err why) r counted e = refused-same (Some id) why r e counted
 
-refused-field : (f : Field ℕ) (result : Result Command Why) (r : Refused) → ((id : ℕ) → f ≡ Is id → is_counted id ≡ true) → with_id f result ≡ Err r
+refused-field : (f : Field ℕ) (result : Result Command Why) (r : Refused) → ((id : ℕ) → f ≡ Is id → is_counted id ≡ true)
+    → with_id f result ≡ Err r
     → holds_of_some is_counted r.id ≡ true
 refused-field Missing result r counted e = refused-same None _ r e refl
 refused-field WrongKind result r counted e = refused-same None _ r e refl

@@ -48,11 +48,13 @@ first-of : {T : Type 0} (P : T → Type 0) (x : T) (rest : Option (List T)) → 
 first-of P x None p all = tt
 first-of P x (Some xs) p all = All-cons P x xs p all
 
-one-item : {T : Type 0} (P : T → Type 0) (o : Option T) (rest : Option (List T)) → IfSome P o → IfSome (All P) rest → IfSome (All P) (option_and_then (λ x. and_first x rest) o)
+one-item : {T : Type 0} (P : T → Type 0) (o : Option T) (rest : Option (List T)) → IfSome P o → IfSome (All P) rest
+    → IfSome (All P) (option_and_then (λ x. and_first x rest) o)
 one-item P None rest p all = tt
 one-item P (Some x) rest p all = first-of P x rest p all
 
-items-read : {T : Type 0} (reads : Data → Option T) (P : T → Type 0) → Reads reads P → (ds : Items) → ItemsHaveUtf8 ds → IfSome (All P) (read_items reads ds)
+items-read : {T : Type 0} (reads : Data → Option T) (P : T → Type 0) → Reads reads P → (ds : Items) → ItemsHaveUtf8 ds
+    → IfSome (All P) (read_items reads ds)
 items-read reads P good no_items u = All-nil P
 items-read reads P good (item d ds) u = one-item P (reads d) (read_items reads ds) (good d u.0) (items-read reads P good ds u.1)
 
@@ -72,7 +74,8 @@ IfGiven P (Err e) = ⊤
 abbrev pub Gives : {E T : Type 0} → Lookups E T → (T → Type 0) → Type 0
 Gives l P = (ms : Members) → MembersHaveUtf8 ms → IfGiven P (l.gets ms)
 
-found : (o : Ordering) (here : Data) (later : Option Data) → HasUtf8 here → IfSome HasUtf8 later → IfSome HasUtf8 (match_ordering o later (Some here) later)
+found : (o : Ordering) (here : Data) (later : Option Data) → HasUtf8 here → IfSome HasUtf8 later
+    → IfSome HasUtf8 (match_ordering o later (Some here) later)
 found Less here later u v = v
 found Equal here later u v = u
 found Greater here later u v = v
@@ -84,18 +87,21 @@ member-texts k (member l e ms) u = found (slice_cmp nat_cmp k l) e (get_member k
 pub gives-all : (E : Type 0) → Gives (no_lookups {E = E}) Any
 gives-all E ms u = tt
 
-pub gives-field : {E A B : Type 0} (name : List ℕ) (e : E) (k : Kind A) (later : Lookups E B) (P : A → Type 0) (Q : B → Type 0) → Reads k.reads P → Gives later Q
+pub gives-field : {E A B : Type 0} (name : List ℕ) (e : E) (k : Kind A) (later : Lookups E B) (P : A → Type 0) (Q : B → Type 0)
+    → Reads k.reads P → Gives later Q
     → Gives (look_for name e k later) (λ x. P x.0 × Q x.1)
 gives-field {E} {A} {B} name e k later P Q good rest ms u = at (get_member name ms) (member-texts name ms u) where
   last : (a : A) → P a → (r : Result B E) → IfGiven Q r → IfGiven (λ (x : A × B). P x.0 × Q x.1) (then_ok r (λ b. Ok (a, b)))
   last a p (Ok b) q = (p, q)
   last a p (Err f) q = tt
 
-  here : (o : Option A) → IfSome P o → IfGiven (λ (x : A × B). P x.0 × Q x.1) (then_ok (required e (field_from (λ d. o) (Some null))) (with_later later.gets ms))
+  here : (o : Option A) → IfSome P o
+      → IfGiven (λ (x : A × B). P x.0 × Q x.1) (then_ok (required e (field_from (λ d. o) (Some null))) (with_later later.gets ms))
   here None p = tt
   here (Some a) p = last a p (later.gets ms) (rest ms u)
 
-  at : (o : Option Data) → IfSome HasUtf8 o → IfGiven (λ (x : A × B). P x.0 × Q x.1) (then_ok (required e (field_from k.reads o)) (with_later later.gets ms))
+  at : (o : Option Data) → IfSome HasUtf8 o
+      → IfGiven (λ (x : A × B). P x.0 × Q x.1) (then_ok (required e (field_from k.reads o)) (with_later later.gets ms))
   at None v = tt
   at (Some d) v = here (k.reads d) (good d v)
 
@@ -107,17 +113,21 @@ EditTexts x = IsUtf8 x.0 × (Any x.1.0 × (IsUtf8 x.1.1.0 × Any x.1.1.1))
 
 edit-gives : Gives edit_fields EditTexts
 edit-gives =
-    gives-field (param_name param.StyleSheetId) tt text (look_for (param_name param.Range) tt range_parameter (look_for (param_name param.Text) tt text no_lookups)) IsUtf8
+    gives-field (param_name param.StyleSheetId) tt text
+    (look_for (param_name param.Range) tt range_parameter (look_for (param_name param.Text) tt text no_lookups)) IsUtf8
     (λ (x : SourceRange × (List ℕ × ⊤)). Any x.0 × (IsUtf8 x.1.0 × Any x.1.1)) reads-text
-    (gives-field (param_name param.Range) tt range_parameter (look_for (param_name param.Text) tt text no_lookups) Any (λ (x : List ℕ × ⊤). IsUtf8 x.0 × Any x.1) (reads-any range_parameter.reads)
+    (gives-field (param_name param.Range) tt range_parameter (look_for (param_name param.Text) tt text no_lookups) Any
+    (λ (x : List ℕ × ⊤). IsUtf8 x.0 × Any x.1) (reads-any range_parameter.reads)
     (gives-field (param_name param.Text) tt text no_lookups IsUtf8 Any reads-text (gives-all ⊤)))
 
 pub reads-edit : Reads text_edit.reads HasEditText
 reads-edit d u = at (as_object d) (object_utf8 d u) where
-  made : (r : Result (List ℕ × (SourceRange × (List ℕ × ⊤))) ⊤) → IfGiven EditTexts r → IfSome HasEditText (option_and_then edit_from (ok_value r))
+  made : (r : Result (List ℕ × (SourceRange × (List ℕ × ⊤))) ⊤) → IfGiven EditTexts r
+      → IfSome HasEditText (option_and_then edit_from (ok_value r))
   made (Ok x) g = g.1.1.0
   made (Err e) g = tt
 
-  at : (o : Option Members) → IfSome MembersHaveUtf8 o → IfSome HasEditText (option_and_then edit_from (option_and_then (λ ms. ok_value (edit_fields.gets ms)) o))
+  at : (o : Option Members) → IfSome MembersHaveUtf8 o
+      → IfSome HasEditText (option_and_then edit_from (option_and_then (λ ms. ok_value (edit_fields.gets ms)) o))
   at None v = tt
   at (Some ms) v = made (edit_fields.gets ms) (edit-gives ms v)

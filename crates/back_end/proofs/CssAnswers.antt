@@ -55,38 +55,56 @@ names-fit names = both (any-texts names) refl
 stored : (state : State) → HoldsNow state → HasNumbers state → AllByRecursion IsStored (book_in state)
 stored state is low = book-stored state.side.next_sheet state.side.sheets (omega (arith, low.sheets)) is.sheets
 
-styles-answer : (id : ℕ) (ask : CssAsk) (target : ℕ) (r : Result ℕ Why) (state : State) → ask ≡ css.GetMatchedStyles target → HoldsNow state → HasNumbers state → is_counted id ≡ true
+styles-answer : (id : ℕ) (ask : CssAsk) (target : ℕ) (r : Result ℕ Why) (state : State) → ask ≡ css.GetMatchedStyles target
+    → HoldsNow state → HasNumbers state → is_counted id ≡ true
     → Moves (node_answer id (css.GetMatchedStyles target) r state) (view_of state) (view_of state)
 styles-answer id ask target (Err why) state same is low small = (refl, small)
 styles-answer id ask target (Ok serial) state same is low small =
     let tree = state.side.page.tree in
-    let told = styles-told (book_in state) (zipper_at serial tree) (stored state is low) (zipper-has serial tree (rows-have (alone tree) is.texts)) in
+    let told = styles-told (book_in state) (zipper_at serial tree) (stored state is low)
+    (zipper-has serial tree (rows-have (alone tree) is.texts)) in
     (refl, record { id_fits = small; plain = refl; fits = told.0; texts = told.1; levels = omega arith })
 
-text-answer : (id : ℕ) (sheet : List ℕ) (o : Option SheetEntry) (state : State) → sheet_named sheet (book_in state) ≡ o → state.client.css_on ≡ true → is_counted id ≡ true
+text-answer : (id : ℕ) (sheet : List ℕ) (o : Option SheetEntry) (state : State) → sheet_named sheet (book_in state) ≡ o
+    → state.client.css_on ≡ true → is_counted id ≡ true
     → Moves (text_answer id o) (view_of state) (view_of state)
 text-answer id sheet None state e on small = (refl, small)
 text-answer id sheet (Some x) state e on small =
     (refl, ap (λ (b : Bool). shown_text x.id (cond b state.side.sheets [])) on ∙ (named-is sheet state.side.sheets x e).text, small)
 
-names-answer : (id : ℕ) (sheet : List ℕ) (o : Option SheetEntry) (state : State) → sheet_named sheet (book_in state) ≡ o → HoldsNow state → HasNumbers state → is_counted id ≡ true
+names-answer : (id : ℕ) (sheet : List ℕ) (o : Option SheetEntry) (state : State) → sheet_named sheet (book_in state) ≡ o → HoldsNow state
+    → HasNumbers state → is_counted id ≡ true
     → Moves (answer_move id (if_sheet (λ e. ClassNames (class_names e.text)) o)) (view_of state) (view_of state)
 names-answer id sheet None state e is low small = (refl, small)
 names-answer id sheet (Some x) state e is low small =
-    let own : IsStored x = entry-stored x.id (book_in state) x (stored state is low) (named-is sheet state.side.sheets x e).found in
-    (refl, record { id_fits = small; plain = refl; fits = names-fit (class_names x.text); texts = class-names-utf8 x.text own.utf8; levels = omega arith })
+    let own : IsStored x = entry-stored x.id (book_in state) x (stored state is low) (named-is sheet state.side.sheets x e).found in (
+      refl,
+      record {
+        id_fits = small;
+        plain = refl;
+        fits = names-fit (class_names x.text);
+        texts = class-names-utf8 x.text own.utf8;
+        levels = omega arith;
+      },
+    )
 
-css-moves : (id : ℕ) (ask : CssAsk) (state : State) → HoldsNow state → HasNumbers state → state.client.css_on ≡ true → is_counted id ≡ true → Moves (css_answer id ask state) (view_of state) (view_of state)
-css-moves id (css.GetMatchedStyles target) state is low on small = styles-answer id (css.GetMatchedStyles target) target (element_named target state) state refl is low small
-css-moves id (css.GetStyleSheetText sheet) state is low on small = text-answer id sheet (sheet_named sheet (book_in state)) state refl on small
-css-moves id (css.CollectClassNames sheet) state is low on small = names-answer id sheet (sheet_named sheet (book_in state)) state refl is low small
+css-moves : (id : ℕ) (ask : CssAsk) (state : State) → HoldsNow state → HasNumbers state → state.client.css_on ≡ true → is_counted id ≡ true
+    → Moves (css_answer id ask state) (view_of state) (view_of state)
+css-moves id (css.GetMatchedStyles target) state is low on small = styles-answer id (css.GetMatchedStyles target) target
+    (element_named target state) state refl is low small
+css-moves id (css.GetStyleSheetText sheet) state is low on small = text-answer id sheet
+    (sheet_named sheet (book_in state)) state refl on small
+css-moves id (css.CollectClassNames sheet) state is low on small = names-answer id sheet
+    (sheet_named sheet (book_in state)) state refl is low small
 
-pub css-well : (id : ℕ) (ask : CssAsk) (state : State) → HoldsNow state → HasNumbers state → state.client.css_on ≡ true → is_counted id ≡ true → Well state (css_step id ask state) 0 0 0
+pub css-well : (id : ℕ) (ask : CssAsk) (state : State) → HoldsNow state → HasNumbers state → state.client.css_on ≡ true
+    → is_counted id ≡ true → Well state (css_step id ask state) 0 0 0
 css-well id ask state is low on small = stays-with (css_answer id ask state) state is low (css-moves id ask state is low on small)
 
 -- ---- what it answers
 
-node-once : (id : ℕ) (target : ℕ) (r : Result ℕ Why) (state : State) → reply_ids (node_answer id (css.GetMatchedStyles target) r state) ≡ Some id ∷ []
+node-once : (id : ℕ) (target : ℕ) (r : Result ℕ Why) (state : State)
+    → reply_ids (node_answer id (css.GetMatchedStyles target) r state) ≡ Some id ∷ []
 node-once id target (Err why) state = refl
 node-once id target (Ok serial) state = refl
 
@@ -94,7 +112,8 @@ text-once : (id : ℕ) (o : Option SheetEntry) → reply_ids (text_answer id o) 
 text-once id None = refl
 text-once id (Some x) = refl
 
-names-once : (id : ℕ) (o : Option SheetEntry) → reply_ids (answer_move id (if_sheet (λ e. ClassNames (class_names e.text)) o)) ≡ Some id ∷ []
+names-once : (id : ℕ) (o : Option SheetEntry)
+    → reply_ids (answer_move id (if_sheet (λ e. ClassNames (class_names e.text)) o)) ≡ Some id ∷ []
 names-once id None = refl
 names-once id (Some x) = refl
 
@@ -106,7 +125,8 @@ answer-once id (css.CollectClassNames sheet) state = names-once id (sheet_named 
 pub css-once : (id : ℕ) (ask : CssAsk) (state : State) → flat_map reply_ids (css_step id ask state).moves ≡ Some id ∷ []
 css-once id ask state = rw (answer-once id ask state) refl
 
-node-may : (id : ℕ) (target : ℕ) (r : Result ℕ Why) (state : State) → MayAnswer (codes "CSS.getMatchedStylesForNode") (node_answer id (css.GetMatchedStyles target) r state)
+node-may : (id : ℕ) (target : ℕ) (r : Result ℕ Why) (state : State)
+    → MayAnswer (codes "CSS.getMatchedStylesForNode") (node_answer id (css.GetMatchedStyles target) r state)
 node-may id target (Err why) state = tt
 node-may id target (Ok serial) state = (refl, refl)
 
@@ -114,7 +134,8 @@ text-may : (id : ℕ) (o : Option SheetEntry) → MayAnswer (codes "CSS.getStyle
 text-may id None = tt
 text-may id (Some x) = refl
 
-names-may : (id : ℕ) (o : Option SheetEntry) → MayAnswer (codes "CSS.collectClassNames") (answer_move id (if_sheet (λ e. ClassNames (class_names e.text)) o))
+names-may : (id : ℕ) (o : Option SheetEntry)
+    → MayAnswer (codes "CSS.collectClassNames") (answer_move id (if_sheet (λ e. ClassNames (class_names e.text)) o))
 names-may id None = tt
 names-may id (Some x) = (refl, refl)
 
@@ -123,19 +144,24 @@ css-may id (css.GetMatchedStyles target) state = (node-may id target (element_na
 css-may id (css.GetStyleSheetText sheet) state = (text-may id (sheet_named sheet (book_in state)), tt)
 css-may id (css.CollectClassNames sheet) state = (names-may id (sheet_named sheet (book_in state)), tt)
 
-node-text : (sheet : Option ℕ) (id : ℕ) (target : ℕ) (r : Result ℕ Why) (state : State) → TellsTextOf sheet (node_answer id (css.GetMatchedStyles target) r state)
+node-text : (sheet : Option ℕ) (id : ℕ) (target : ℕ) (r : Result ℕ Why) (state : State)
+    → TellsTextOf sheet (node_answer id (css.GetMatchedStyles target) r state)
 node-text sheet id target (Err why) state = tt
 node-text sheet id target (Ok serial) state = tt
 
-text-text : (id : ℕ) (sheet : List ℕ) (o : Option SheetEntry) (state : State) → sheet_named sheet (book_in state) ≡ o → TellsTextOf (text_asked (GetStyleSheetText sheet)) (text_answer id o)
+text-text : (id : ℕ) (sheet : List ℕ) (o : Option SheetEntry) (state : State) → sheet_named sheet (book_in state) ≡ o
+    → TellsTextOf (text_asked (GetStyleSheetText sheet)) (text_answer id o)
 text-text id sheet None state e = tt
 text-text id sheet (Some x) state e = (named-is sheet state.side.sheets x e).told
 
-names-text : (sheet : Option ℕ) (id : ℕ) (o : Option SheetEntry) → TellsTextOf sheet (answer_move id (if_sheet (λ e. ClassNames (class_names e.text)) o))
+names-text : (sheet : Option ℕ) (id : ℕ) (o : Option SheetEntry)
+    → TellsTextOf sheet (answer_move id (if_sheet (λ e. ClassNames (class_names e.text)) o))
 names-text sheet id None = tt
 names-text sheet id (Some x) = tt
 
 pub css-text : (id : ℕ) (ask : CssAsk) (state : State) → TellTextOf (text_asked (css_command ask)) (css_step id ask state).moves
-css-text id (css.GetMatchedStyles target) state = (node-text (text_asked (GetMatchedStyles target)) id target (element_named target state) state, tt)
+css-text id (css.GetMatchedStyles target) state =
+    (node-text (text_asked (GetMatchedStyles target)) id target (element_named target state) state, tt)
 css-text id (css.GetStyleSheetText sheet) state = (text-text id sheet (sheet_named sheet (book_in state)) state refl, tt)
-css-text id (css.CollectClassNames sheet) state = (names-text (text_asked (CollectClassNames sheet)) id (sheet_named sheet (book_in state)), tt)
+css-text id (css.CollectClassNames sheet) state =
+    (names-text (text_asked (CollectClassNames sheet)) id (sheet_named sheet (book_in state)), tt)

@@ -1,5 +1,6 @@
 -- A frame that is no refusal has eight bytes at least, and asks for no more edits than it is long.
-use Rattle.std.proofs.Common.{◌≡◌, ℕ, suc, ◌+◌, ◌≤◌, Bool, true, false, cond, List, [], ◌∷◌, length, codes, Option, Some, None, Result, Ok, Err, refl, sym, ap, ◌∙◌, subst, arith}
+use Rattle.std.proofs.Common.{◌≡◌, ℕ, suc, ◌+◌, ◌≤◌, Bool, true, false, cond, List, [], ◌∷◌, length, codes, Option, Some, None, Result, Ok}
+use Rattle.std.proofs.Common.{Err, refl, sym, ap, ◌∙◌, subst, arith}
 use Rattle.std.specs.Ordering.{nat_cmp, match_ordering}
 use Rattle.std.specs.declared.cmp.Ordering.{Ordering}
 use Rattle.std.specs.declared.cmp.Ordering.TheVariants.{Less, Equal, Greater}
@@ -16,7 +17,13 @@ use Rattle.cdp_json.specs.Fields.{field_if, field_from, field_of}
 use Rattle.cdp_json.specs.Lookups.{then_ok, required, Lookups, no_lookups, with_later}
 use Rattle.cdp_json.proofs.Options.{and_then_some}
 use Rattle.cdp_messages.specs.declared.command.Command.{Command}
-use Rattle.cdp_messages.specs.declared.command.Command.TheVariants.{DomEnable, DomDisable, GetDocument, RequestChildNodes, PushByPath, PushBySerials, QuerySelector, QuerySelectorAll, GetAttributes, DescribeNode, SetAttributeValue, RemoveAttribute, SetNodeValue, RemoveNode, MoveTo, CopyTo, MarkUndoableState, Undo, Redo, CssEnable, CssDisable, GetMatchedStyles, GetStyleSheetText, CollectClassNames, SetStyleTexts, SetRuleSelector, SetStyleSheetText, AddRule, SetBreakpoint, RemoveBreakpoint, ReplayLoad, ReplayAct}
+use Rattle.cdp_messages.specs.declared.command.Command.TheVariants.{DomEnable, DomDisable, GetDocument, RequestChildNodes, PushByPath}
+use Rattle.cdp_messages.specs.declared.command.Command.TheVariants.{PushBySerials, QuerySelector, QuerySelectorAll, GetAttributes}
+use Rattle.cdp_messages.specs.declared.command.Command.TheVariants.{DescribeNode, SetAttributeValue, RemoveAttribute, SetNodeValue}
+use Rattle.cdp_messages.specs.declared.command.Command.TheVariants.{RemoveNode, MoveTo, CopyTo, MarkUndoableState, Undo, Redo, CssEnable}
+use Rattle.cdp_messages.specs.declared.command.Command.TheVariants.{CssDisable, GetMatchedStyles, GetStyleSheetText, CollectClassNames}
+use Rattle.cdp_messages.specs.declared.command.Command.TheVariants.{SetStyleTexts, SetRuleSelector, SetStyleSheetText, AddRule}
+use Rattle.cdp_messages.specs.declared.command.Command.TheVariants.{SetBreakpoint, RemoveBreakpoint, ReplayLoad, ReplayAct}
 use Rattle.cdp_messages.specs.declared.command.Param.{Param}
 use Rattle.cdp_messages.specs.declared.command.Param.TheVariants as param
 use Rattle.cdp_messages.specs.declared.command.Why.{Why}
@@ -27,8 +34,11 @@ use Rattle.cdp_messages.specs.declared.method.Method.{Method}
 use Rattle.cdp_messages.specs.declared.method.Method.TheVariants as method
 use Rattle.cdp_messages.specs.Methods.{known_method}
 use Rattle.cdp_messages.specs.Refusals.{param_name}
-use Rattle.cdp_messages.specs.Parameters.{text_edit, range_parameter, needed, allowed, depth_fields, children_fields, path_field, serials_field, node_field, query_fields, describe_fields, sheet_field, edits_field, watch_fields, reads_with, command_by}
-use Rattle.cdp_messages.specs.Asked.{json_of, of_method, command_for, unless_session, or_bad_request, params_of, command_of, method_in, command_in, asked_by, with_id, asked_in, asked_value, asked}
+use Rattle.cdp_messages.specs.Parameters.{text_edit, range_parameter, needed, allowed, depth_fields, children_fields, path_field}
+use Rattle.cdp_messages.specs.Parameters.{serials_field, node_field, query_fields, describe_fields, sheet_field, edits_field, watch_fields}
+use Rattle.cdp_messages.specs.Parameters.{reads_with, command_by}
+use Rattle.cdp_messages.specs.Asked.{json_of, of_method, command_for, unless_session, or_bad_request, params_of, command_of, method_in}
+use Rattle.cdp_messages.specs.Asked.{command_in, asked_by, with_id, asked_in, asked_value, asked}
 use Rattle.back_end.specs.Servers.{server_of}
 use Rattle.back_end.specs.Laws.{most_edits, edits_asked}
 use Rattle.back_end.proofs.FrameSizes.{data_size, items_size, members_size, read-long}
@@ -47,7 +57,8 @@ data_size-one (string s) = omega arith
 data_size-one (array ds) = omega arith
 data_size-one (object ms) = omega arith
 
-member_at : (o : Ordering) (e d : Data) (rest : Option Data) (n : ℕ) → (rest ≡ Some d → 2 + data_size d ≤ n) → match_ordering o rest (Some e) rest ≡ Some d
+member_at : (o : Ordering) (e d : Data) (rest : Option Data) (n : ℕ) → (rest ≡ Some d → 2 + data_size d ≤ n)
+    → match_ordering o rest (Some e) rest ≡ Some d
     → 2 + data_size d ≤ 2 + (data_size e + n)
 member_at Less e d rest n later is = let h = later is in omega arith
 member_at Equal e d rest n later is = let same : e ≡ d = cc in let h : data_size e ≡ data_size d = ap data_size same in omega arith
@@ -73,7 +84,8 @@ two_at Greater Equal e c d more_c more_d n other fc fd both ic id = let h = fc i
 two_at Greater Less e c d more_c more_d n other fc fd both ic id = let h = both ic id in omega arith
 two_at Greater Greater e c d more_c more_d n other fc fd both ic id = let h = both ic id in omega arith
 
-two-members : (k l : List ℕ) (ms : Members) (c d : Data) → (k ≡ l → ⊥) → get_member k ms ≡ Some c → get_member l ms ≡ Some d → 6 ≤ members_size ms
+two-members : (k l : List ℕ) (ms : Members) (c d : Data) → (k ≡ l → ⊥) → get_member k ms ≡ Some c → get_member l ms ≡ Some d
+    → 6 ≤ members_size ms
 two-members k l no_members c d other is_c is_d = absurd cc
 two-members k l (member m e ms) c d other is_c is_d =
     two_at (slice_cmp nat_cmp k m) (slice_cmp nat_cmp l m) e c d (get_member k ms) (get_member l ms) (members_size ms)
@@ -83,9 +95,11 @@ two-members k l (member m e ms) c d other is_c is_d =
 -- ---- parameters
 
 -- an array is as large as the list that is read of it at least
-first-few : {T : Type 0} (x : T) (rest : Option (List T)) (xs : List T) (n : ℕ) → ((ys : List T) → rest ≡ Some ys → length ys ≤ n) → and_first x rest ≡ Some xs → length xs ≤ suc n
+first-few : {T : Type 0} (x : T) (rest : Option (List T)) (xs : List T) (n : ℕ) → ((ys : List T) → rest ≡ Some ys → length ys ≤ n)
+    → and_first x rest ≡ Some xs → length xs ≤ suc n
 first-few x None xs n few is = absurd cc
-first-few x (Some ys) xs n few is = let same : x ∷ ys ≡ xs = cc in let h = few ys refl in let e : suc (length ys) ≡ length xs = ap length same in omega arith
+first-few x (Some ys) xs n few is = let same : x ∷ ys ≡ xs = cc in let h = few ys refl in let e : suc (length ys)
+    ≡ length xs = ap length same in omega arith
 
 items-few : {T : Type 0} (reads : Data → Option T) (ds : Items) (xs : List T) → read_items reads ds ≡ Some xs → length xs ≤ items_size ds
 items-few {T} reads no_items xs is = let same : ◌≡◌ {A = List T} [] xs = cc in let e : 0 ≡ length xs = ap length same in omega arith
@@ -116,7 +130,8 @@ then-is : {A B E : Type 0} (r : Result A E) (f : A → Result B E) (y : B) → t
 then-is (Ok x) f y e = (x, refl, e)
 then-is {A} {B} {E} (Err why) f y e = let no : ◌≡◌ {A = Result B E} (Err why) (Ok y) = e in absurd cc
 
-field-is : {T : Type 0} (reads : Data → Option T) (o : Option Data) (x : T) → field_from reads o ≡ Is x → (d : Data) × (o ≡ Some d) × (reads d ≡ Some x)
+field-is : {T : Type 0} (reads : Data → Option T) (o : Option Data) (x : T) → field_from reads o ≡ Is x
+    → (d : Data) × (o ≡ Some d) × (reads d ≡ Some x)
 field-is reads None x e = let no : ◌≡◌ {A = Field _} Missing (Is x) = e in absurd cc
 field-is reads (Some d) x e = (d, refl, there (reads d) e)
   where
@@ -131,13 +146,15 @@ required-is why (Is y) x e = let same : y ≡ x = cc in ap Is same
 
 -- a first parameter that has to be there
 needs-one : {A B C : Type 0} (p : Param) (k : Kind A) (later : Lookups Why B) (makes : A × B → C) (ms : Members) (c : C)
-    → then_ok ((needed p k later).gets ms) (λ x. Ok (makes x)) ≡ Ok c → (d : Data) × (x : A × B) × (get_member (param_name p) ms ≡ Some d) × (k.reads d ≡ Some x.0) × (makes x ≡ c)
+    → then_ok ((needed p k later).gets ms) (λ x. Ok (makes x)) ≡ Ok c
+    → (d : Data) × (x : A × B) × (get_member (param_name p) ms ≡ Some d) × (k.reads d ≡ Some x.0) × (makes x ≡ c)
 needs-one {A} {B} {C} p k later makes ms c is =
     let all = then-is ((needed p k later).gets ms) (λ x. Ok (makes x)) c is in
     let first = then-is (required (BadParam p) (field_of k.reads (param_name p) ms)) (with_later later.gets ms) all.0 all.1 in
     let rest = then-is (later.gets ms) (λ b. Ok (first.0, b)) all.0 first.2 in
     let pair : ◌≡◌ {A = A × B} (first.0, rest.0) all.0 = cc in
-    let found = field-is k.reads (get_member (param_name p) ms) first.0 (required-is (BadParam p) (field_of k.reads (param_name p) ms) first.0 first.1) in
+    let found = field-is k.reads (get_member (param_name p) ms) first.0
+    (required-is (BadParam p) (field_of k.reads (param_name p) ms) first.0 first.1) in
     let made : makes all.0 ≡ c = cc in
     (found.0, all.0, found.1, found.2 ∙ ap (λ (x : A × B). Some x.0) pair, made)
 
@@ -145,7 +162,8 @@ needs-one {A} {B} {C} p k later makes ms c is =
 
 -- a command that keeps two edits at most
 edits-two : {A B : Type 0} (p : Param) (k : Kind A) (later : Lookups Why B) (makes : A × B → Command) (ms : Members) (c : Command)
-    → ((x : A × B) → edits_of (makes x) ≤ 2) → then_ok ((needed p k later).gets ms) (λ x. Ok (makes x)) ≡ Ok c → edits_of c ≤ members_size ms
+    → ((x : A × B) → edits_of (makes x) ≤ 2) → then_ok ((needed p k later).gets ms) (λ x. Ok (makes x)) ≡ Ok c
+    → edits_of c ≤ members_size ms
 edits-two p k later makes ms c few is =
     let all = needs-one p k later makes ms c is in
     let size = member-size (param_name p) ms all.0 all.2 in
@@ -162,7 +180,8 @@ edits-none fields makes ms c none is =
     omega arith
 
 -- and one that is read of nothing
-edits-bare : (made c : Command) (ms : Members) → edits_of made ≤ 0 → ◌≡◌ {A = Result Command Why} (Ok made) (Ok c) → edits_of c ≤ members_size ms
+edits-bare : (made c : Command) (ms : Members) → edits_of made ≤ 0 → ◌≡◌ {A = Result Command Why} (Ok made) (Ok c)
+    → edits_of c ≤ members_size ms
 edits-bare made c ms none is = let same : made ≡ c = cc in let zero = subst (λ e. edits_of e ≤ 0) same none in omega arith
 
 edits-texts : (ms : Members) (c : Command) → reads_with edits_field (λ x. SetStyleTexts x.0) ms ≡ Ok c → edits_of c ≤ members_size ms
@@ -187,12 +206,19 @@ edits-by method.QuerySelector ms c is = edits-none query_fields (λ x. QuerySele
 edits-by method.QuerySelectorAll ms c is = edits-none query_fields (λ x. QuerySelectorAll x.0 x.1.0) ms c (λ x. omega arith) is
 edits-by method.GetAttributes ms c is = edits-none node_field (λ x. GetAttributes x.0) ms c (λ x. omega arith) is
 edits-by method.DescribeNode ms c is = edits-none describe_fields (λ x. DescribeNode x.0 x.1.0 x.1.1.0 x.1.1.1.0) ms c (λ x. omega arith) is
-edits-by method.SetAttributeValue ms c is = edits-two param.NodeId whole (needed param.Name text (needed param.Value text no_lookups)) (λ x. SetAttributeValue x.0 x.1.0 x.1.1.0) ms c (λ x. omega arith) is
-edits-by method.RemoveAttribute ms c is = edits-two param.NodeId whole (needed param.Name text no_lookups) (λ x. RemoveAttribute x.0 x.1.0) ms c (λ x. omega arith) is
-edits-by method.SetNodeValue ms c is = edits-two param.NodeId whole (needed param.Value text no_lookups) (λ x. SetNodeValue x.0 x.1.0) ms c (λ x. omega arith) is
+edits-by method.SetAttributeValue ms c is = edits-two param.NodeId whole (needed param.Name text (needed param.Value text no_lookups))
+    (λ x. SetAttributeValue x.0 x.1.0 x.1.1.0) ms c (λ x. omega arith) is
+edits-by method.RemoveAttribute ms c is = edits-two param.NodeId whole (needed param.Name text no_lookups)
+    (λ x. RemoveAttribute x.0 x.1.0) ms c (λ x. omega arith) is
+edits-by method.SetNodeValue ms c is = edits-two param.NodeId whole (needed param.Value text no_lookups) (λ x. SetNodeValue x.0 x.1.0) ms c
+    (λ x. omega arith) is
 edits-by method.RemoveNode ms c is = edits-two param.NodeId whole no_lookups (λ x. RemoveNode x.0) ms c (λ x. omega arith) is
-edits-by method.MoveTo ms c is = edits-two param.NodeId whole (needed param.TargetNodeId whole (allowed param.InsertBeforeNodeId whole no_lookups)) (λ x. MoveTo x.0 x.1.0 x.1.1.0) ms c (λ x. omega arith) is
-edits-by method.CopyTo ms c is = edits-two param.NodeId whole (needed param.TargetNodeId whole (allowed param.InsertBeforeNodeId whole no_lookups)) (λ x. CopyTo x.0 x.1.0 x.1.1.0) ms c (λ x. omega arith) is
+edits-by method.MoveTo ms c is = edits-two param.NodeId whole
+    (needed param.TargetNodeId whole (allowed param.InsertBeforeNodeId whole no_lookups)) (λ x. MoveTo x.0 x.1.0 x.1.1.0) ms c
+    (λ x. omega arith) is
+edits-by method.CopyTo ms c is = edits-two param.NodeId whole
+    (needed param.TargetNodeId whole (allowed param.InsertBeforeNodeId whole no_lookups)) (λ x. CopyTo x.0 x.1.0 x.1.1.0) ms c
+    (λ x. omega arith) is
 edits-by method.MarkUndoableState ms c is = edits-bare MarkUndoableState c ms (omega arith) is
 edits-by method.Undo ms c is = edits-bare Undo c ms (omega arith) is
 edits-by method.Redo ms c is = edits-bare Redo c ms (omega arith) is
@@ -202,9 +228,14 @@ edits-by method.GetMatchedStyles ms c is = edits-none node_field (λ x. GetMatch
 edits-by method.GetStyleSheetText ms c is = edits-none sheet_field (λ x. GetStyleSheetText x.0) ms c (λ x. omega arith) is
 edits-by method.CollectClassNames ms c is = edits-none sheet_field (λ x. CollectClassNames x.0) ms c (λ x. omega arith) is
 edits-by method.SetStyleTexts ms c is = edits-texts ms c is
-edits-by method.SetRuleSelector ms c is = edits-two param.StyleSheetId text (needed param.Range range_parameter (needed param.Selector text no_lookups)) (λ x. SetRuleSelector x.0 x.1.0 x.1.1.0) ms c (λ x. omega arith) is
-edits-by method.SetStyleSheetText ms c is = edits-two param.StyleSheetId text (needed param.Text text no_lookups) (λ x. SetStyleSheetText x.0 x.1.0) ms c (λ x. omega arith) is
-edits-by method.AddRule ms c is = edits-two param.StyleSheetId text (needed param.RuleText text (needed param.Location range_parameter no_lookups)) (λ x. AddRule x.0 x.1.0 x.1.1.0) ms c (λ x. omega arith) is
+edits-by method.SetRuleSelector ms c is = edits-two param.StyleSheetId text
+    (needed param.Range range_parameter (needed param.Selector text no_lookups)) (λ x. SetRuleSelector x.0 x.1.0 x.1.1.0) ms c
+    (λ x. omega arith) is
+edits-by method.SetStyleSheetText ms c is = edits-two param.StyleSheetId text (needed param.Text text no_lookups)
+    (λ x. SetStyleSheetText x.0 x.1.0) ms c (λ x. omega arith) is
+edits-by method.AddRule ms c is = edits-two param.StyleSheetId text
+    (needed param.RuleText text (needed param.Location range_parameter no_lookups)) (λ x. AddRule x.0 x.1.0 x.1.1.0) ms c
+    (λ x. omega arith) is
 edits-by method.SetBreakpoint ms c is = edits-none watch_fields (λ x. SetBreakpoint x.0 x.1.0) ms c (λ x. omega arith) is
 edits-by method.RemoveBreakpoint ms c is = edits-none watch_fields (λ x. RemoveBreakpoint x.0 x.1.0) ms c (λ x. omega arith) is
 edits-by method.ReplayLoad ms c is = edits-bare (ReplayLoad (object ms)) c ms (omega arith) is
@@ -223,7 +254,8 @@ params-small : (params : Option Data) (ms : Members) → params_of params ≡ Ok
 params-small None ms is = let same : no_members ≡ ms = cc in let e : 0 ≡ members_size ms = ap members_size same in omega arith
 params-small (Some d) ms is = small (as_object d) (object-size d ms) is
   where
-    small : (o : Option Members) → (o ≡ Some ms → data_size d ≡ 2 + members_size ms) → or_bad_request o ≡ Ok ms → members_size ms ≤ data_size d
+    small : (o : Option Members) → (o ≡ Some ms → data_size d ≡ 2 + members_size ms) → or_bad_request o ≡ Ok ms
+        → members_size ms ≤ data_size d
     small None size is = let no : ◌≡◌ {A = Result Members Why} (or_bad_request None) (Ok ms) = is in absurd cc
     small (Some ns) size is = let same : ns ≡ ms = cc in let e = size (ap Some same) in omega arith
 
@@ -232,7 +264,8 @@ unless-is None r x e = e
 unless-is {A} (Some s) r x e = let no : ◌≡◌ {A = Result A Why} (unless_session (Some s) r) (Ok x) = e in absurd cc
 
 -- a command keeps no more edits than its parameters are large
-pub edits-params : (own : Bool) (method : List ℕ) (params session : Option Data) (c : Command) → command_of own method params session ≡ Ok c → edits_of c ≤ params_size params
+pub edits-params : (own : Bool) (method : List ℕ) (params session : Option Data) (c : Command)
+    → command_of own method params session ≡ Ok c → edits_of c ≤ params_size params
 edits-params own method params session c is =
     let ps = then-is (params_of params) (λ ms. unless_session session (command_for own method ms)) c is in
     let few = edits-method (known_method own method) ps.0 c (unless-is session (command_for own method ps.0) c ps.2) in
@@ -262,7 +295,8 @@ method-in WrongKind m e = let no : ◌≡◌ {A = Result (List ℕ) Why} (method
 method-in (Is n) m e = let same : n ≡ m = cc in ap Is same
 
 by-id : (id : ℕ) (r : Result Command Why) (a : Asked) → asked_by id r ≡ Ok a → (id ≡ a.id) × (r ≡ Ok a.command)
-by-id id (Ok c) a e = let same : ◌≡◌ {A = Asked} (record { id = id; command = c }) a = cc in (ap (λ (x : Asked). x.id) same, ap (λ (x : Asked). Ok x.command) same)
+by-id id (Ok c) a e = let same : ◌≡◌ {A = Asked} (record { id = id; command = c }) a = cc in
+    (ap (λ (x : Asked). x.id) same, ap (λ (x : Asked). Ok x.command) same)
 by-id id (Err why) a e = let no : ◌≡◌ {A = Result Asked Refused} (asked_by id (Err why)) (Ok a) = e in absurd cc
 
 with-id : (f : Field ℕ) (r : Result Command Why) (a : Asked) → with_id f r ≡ Ok a → (f ≡ Is a.id) × (r ≡ Ok a.command)
@@ -270,11 +304,13 @@ with-id Missing r a e = let no : ◌≡◌ {A = Result Asked Refused} (with_id M
 with-id WrongKind r a e = let no : ◌≡◌ {A = Result Asked Refused} (with_id WrongKind r) (Ok a) = e in absurd cc
 with-id (Is id) r a e = let p = by-id id r a e in (ap Is p.0, p.1)
 
-object-frame : (own : Bool) (frame : List ℕ) (d : Data) (o : Option Members) (a : Asked) → read frame ≡ Some d → as_object d ≡ o → asked_in own o ≡ Ok a → IsFrameOf own frame a
+object-frame : (own : Bool) (frame : List ℕ) (d : Data) (o : Option Members) (a : Asked) → read frame ≡ Some d → as_object d ≡ o
+    → asked_in own o ≡ Ok a → IsFrameOf own frame a
 object-frame own frame d None a is there e = let no : ◌≡◌ {A = Result Asked Refused} (asked_in own None) (Ok a) = e in absurd cc
 object-frame own frame d (Some ms) a is there e =
     let p = with-id (field_of as_whole (codes "id") ms) (command_in own ms) a e in
-    let q = then-is (method_in (field_of as_str (codes "method") ms)) (λ method. command_of own method (get_member (codes "params") ms) (get_member (codes "sessionId") ms)) a.command p.1 in
+    let q = then-is (method_in (field_of as_str (codes "method") ms))
+    (λ method. command_of own method (get_member (codes "params") ms) (get_member (codes "sessionId") ms)) a.command p.1 in
     record {
       value = d;
       members = ms;
@@ -286,7 +322,8 @@ object-frame own frame d (Some ms) a is there e =
       command_is = q.2;
     }
 
-value-frame : (own : Bool) (frame : List ℕ) (o : Option Data) (a : Asked) → json_of frame ≡ o → asked_value own o ≡ Ok a → IsFrameOf own frame a
+value-frame : (own : Bool) (frame : List ℕ) (o : Option Data) (a : Asked) → json_of frame ≡ o → asked_value own o ≡ Ok a
+    → IsFrameOf own frame a
 value-frame own frame None a is e = let no : ◌≡◌ {A = Result Asked Refused} (asked_value own None) (Ok a) = e in absurd cc
 value-frame own frame (Some d) a is e = object-frame own frame d (as_object d) a (utf8-read (is_utf8 frame) (read frame) d is) refl e
 
@@ -322,7 +359,8 @@ command-few : (own : Bool) (frame : List ℕ) (a : Asked) → asked frame own �
 command-few own frame a e =
     let f = frame-of own frame a e in
     let size = frame-size own frame a f in
-    let few = edits-params own f.method (get_member (codes "params") f.members) (get_member (codes "sessionId") f.members) a.command f.command_is in
+    let few = edits-params own f.method (get_member (codes "params") f.members)
+    (get_member (codes "sessionId") f.members) a.command f.command_is in
     let within = params-within f.members (get_member (codes "params") f.members) refl in
     omega arith
 

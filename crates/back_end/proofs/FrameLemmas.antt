@@ -1,5 +1,6 @@
 -- The step on a frame: the state after it is valid, its moves lead on, and it is answered once.
-use Rattle.std.proofs.Common.{◌≡◌, codes, ℕ, ◌+◌, ◌≤◌, Bool, true, false, not, ◌&&◌, ◌||◌, cond, List, [], ◌∷◌, ◌++◌, length, Option, Some, None, Result, Ok, Err, refl, sym, ◌∙◌, ap, subst, arith}
+use Rattle.std.proofs.Common.{◌≡◌, codes, ℕ, ◌+◌, ◌≤◌, Bool, true, false, not, ◌&&◌, ◌||◌, cond, List, [], ◌∷◌, ◌++◌, length, Option, Some}
+use Rattle.std.proofs.Common.{None, Result, Ok, Err, refl, sym, ◌∙◌, ap, subst, arith}
 use Rattle.std.specs.List.{flat_map}
 use Rattle.serde_json.specs.Data.{Data}
 use Rattle.cdp_json.specs.Kinds.{is_counted, holds_of_some}
@@ -9,7 +10,13 @@ use Rattle.page_tree.specs.Pages.{PageValue, IsValid}
 use Rattle.node_binding.specs.Sessions.{Session, IsSession, is_open, reset}
 use Rattle.node_binding.proofs.StartLemmas.{count-alone}
 use Rattle.cdp_messages.specs.declared.command.Command.{Command}
-use Rattle.cdp_messages.specs.declared.command.Command.TheVariants.{DomEnable, DomDisable, GetDocument, RequestChildNodes, PushByPath, PushBySerials, QuerySelector, QuerySelectorAll, GetAttributes, DescribeNode, SetAttributeValue, RemoveAttribute, SetNodeValue, RemoveNode, MoveTo, CopyTo, MarkUndoableState, Undo, Redo, CssEnable, CssDisable, GetMatchedStyles, GetStyleSheetText, CollectClassNames, SetStyleTexts, SetRuleSelector, SetStyleSheetText, AddRule, SetBreakpoint, RemoveBreakpoint, ReplayLoad, ReplayAct}
+use Rattle.cdp_messages.specs.declared.command.Command.TheVariants.{DomEnable, DomDisable, GetDocument, RequestChildNodes, PushByPath}
+use Rattle.cdp_messages.specs.declared.command.Command.TheVariants.{PushBySerials, QuerySelector, QuerySelectorAll, GetAttributes}
+use Rattle.cdp_messages.specs.declared.command.Command.TheVariants.{DescribeNode, SetAttributeValue, RemoveAttribute, SetNodeValue}
+use Rattle.cdp_messages.specs.declared.command.Command.TheVariants.{RemoveNode, MoveTo, CopyTo, MarkUndoableState, Undo, Redo, CssEnable}
+use Rattle.cdp_messages.specs.declared.command.Command.TheVariants.{CssDisable, GetMatchedStyles, GetStyleSheetText, CollectClassNames}
+use Rattle.cdp_messages.specs.declared.command.Command.TheVariants.{SetStyleTexts, SetRuleSelector, SetStyleSheetText, AddRule}
+use Rattle.cdp_messages.specs.declared.command.Command.TheVariants.{SetBreakpoint, RemoveBreakpoint, ReplayLoad, ReplayAct}
 use Rattle.cdp_messages.specs.declared.command.Asked.{Asked}
 use Rattle.cdp_messages.specs.declared.command.Refused.{Refused}
 use Rattle.cdp_messages.specs.declared.command.Why.{Why}
@@ -41,13 +48,19 @@ use Rattle.back_end.specs.Texts.{HasTreeTexts}
 use Rattle.back_end.proofs.TreeSteps.{AsksFor, tree-edit-answered}
 use Rattle.back_end.specs.States.{State, page_nodes, book_in, sheets_shown, view_of, HoldsNow, HasHistory, IsState}
 use Rattle.back_end.specs.OwnMethods.{load_asked, act_asked}
-use Rattle.back_end.specs.Steps.{Step, with_client, refusing, client_reset, moves_come, Turn, acts, loads, turn_step, ask_needs_on, needs_on, needs_css, turns_on, client_served, agent_step, css_step, serial_now, watch_kind, watch_step, own_step, sheet_edit_step, server_step, command_step, asked_step}
-use Rattle.back_end.specs.Servers.{Server, enables, disables, css_enables, css_disables, agent, css_agent, edits_tree, edits_sheets, ends_group, undoes, redoes, watches, unwatches, page_load, page_act, nobody, by_agent, server_of, HasServedTexts}
-use Rattle.back_end.specs.Laws.{reply_ids, MayAnswer, HasRoom, StepsWell, KeepsAtMost, most_splices, most_edits, edits_asked, MayAnswerAll, text_asked, TellTextOf, IsAnswered, IsTurn, FramesStepWell}
+use Rattle.back_end.specs.Steps.{Step, with_client, refusing, client_reset, moves_come, Turn, acts, loads, turn_step, ask_needs_on}
+use Rattle.back_end.specs.Steps.{needs_on, needs_css, turns_on, client_served, agent_step, css_step, serial_now, watch_kind, watch_step}
+use Rattle.back_end.specs.Steps.{own_step, sheet_edit_step, server_step, command_step, asked_step}
+use Rattle.back_end.specs.Servers.{Server, enables, disables, css_enables, css_disables, agent, css_agent, edits_tree, edits_sheets}
+use Rattle.back_end.specs.Servers.{ends_group, undoes, redoes, watches, unwatches, page_load, page_act, nobody, by_agent, server_of}
+use Rattle.back_end.specs.Servers.{HasServedTexts}
+use Rattle.back_end.specs.Laws.{reply_ids, MayAnswer, HasRoom, StepsWell, KeepsAtMost, most_splices, most_edits, edits_asked, MayAnswerAll}
+use Rattle.back_end.specs.Laws.{text_asked, TellTextOf, IsAnswered, IsTurn, FramesStepWell}
 use Rattle.back_end.proofs.AskedLemmas.{AskedFits, frame-fits}
 use Rattle.back_end.proofs.OwnTexts.{AskedTexts, frame-texts}
 use Rattle.back_end.proofs.OwnLemmas.{load-turn, act-turn, answering-well, answering-once}
-use Rattle.back_end.proofs.TurnAnswers.{AreEvents, events-answer, events-may, events-text, may-append, texts-append, come-are-events, turn-events}
+use Rattle.back_end.proofs.TurnAnswers.{AreEvents, events-answer, events-may, events-text, may-append, texts-append, come-are-events}
+use Rattle.back_end.proofs.TurnAnswers.{turn-events}
 use Rattle.back_end.proofs.AnswerLemmas.{flat-append, outcome-answers, outcome-may, outcome-text}
 use Rattle.back_end.proofs.CssAnswers.{css_command, css-well, css-once, css-may, css-text}
 use Rattle.back_end.proofs.SheetSteps.{css-on-well, css-off-well}
@@ -77,7 +90,8 @@ still-off true k = absurd cc
 still-off false k = refl
 
 -- where DOM is off after an ask that was carried out, nothing is known
-pub off-after : (c : DomAsk) (state : State) → HoldsNow state → (ask_needs_on c && not state.client.dom_on) ≡ false → (state.client.dom_on || turns_on c) ≡ false
+pub off-after : (c : DomAsk) (state : State) → HoldsNow state → (ask_needs_on c && not state.client.dom_on) ≡ false
+    → (state.client.dom_on || turns_on c) ≡ false
     → (state_after state.client.session (session_outcome state.side.page c state.client.session)).opened ≡ None
 off-after (ask.GetDocument depth pierce) state is h k = turns-off state.client.dom_on k
 off-after (ask.RequestChildNodes id depth pierce) state is h k = refuses-off state.client.dom_on h k
@@ -88,7 +102,9 @@ off-after (ask.QuerySelectorAll id text) state is h k = refuses-off state.client
 off-after (ask.GetAttributes id) state is h k = refuses-off state.client.dom_on h k
 off-after (ask.DescribeNode id serial depth pierce) state is h k =
     let w : Session = state.client.session in
-    ap (λ (z : Session). z.opened) (description-keeps (session_keeper (page_nodes state)) state.side.page.tree depth (named_node (session_keeper (page_nodes state)) state.side.page.tree w id serial) w)
+    ap (λ (z : Session). z.opened)
+    (description-keeps (session_keeper (page_nodes state)) state.side.page.tree depth
+    (named_node (session_keeper (page_nodes state)) state.side.page.tree w id serial) w)
     ∙ is.off (still-off state.client.dom_on k)
 
 -- where an ask that was carried out leaves DOM off, it was off
@@ -97,7 +113,8 @@ was-off true turns h = absurd cc
 was-off false turns h = refl
 
 -- where nothing is known after an ask, nothing was
-goes-unknown : (page : PageValue) (valid : IsValid page) (c : DomAsk) (w : Session) (o : Outcome Session) → IsSession (alone page.tree) w → OutcomeGoes page c w o
+goes-unknown : (page : PageValue) (valid : IsValid page) (c : DomAsk) (w : Session) (o : Outcome Session) → IsSession (alone page.tree) w
+    → OutcomeGoes page c w o
     → (state_after w o).opened ≡ None → w.opened ≡ None
 goes-unknown page valid c w (shows_root z b) session g h = absurd g
 goes-unknown page valid c w (refused why) session g h = h
@@ -105,12 +122,16 @@ goes-unknown page valid c w (served p body) session g h = at w.opened refl where
   at : (o : Option (ℕ → Bool)) → w.opened ≡ o → w.opened ≡ None
   at None is = is
   at (Some o) is =
-      let root : o page.tree.row.serial ≡ true = root-opened page valid o w.pushed w.since (subst (λ (z : Session). IsSession (alone page.tree) z) (sym (session-is w (o, is))) session) in
-      let still : is_open p.state.opened page.tree.row.serial ≡ true = g.0.grows page.tree.row.serial (ap (λ z. is_open z page.tree.row.serial) is ∙ root) in
+      let root : o page.tree.row.serial
+      ≡ true = root-opened page valid o w.pushed w.since
+      (subst (λ (z : Session). IsSession (alone page.tree) z) (sym (session-is w (o, is))) session) in
+      let still : is_open p.state.opened page.tree.row.serial
+      ≡ true = g.0.grows page.tree.row.serial (ap (λ z. is_open z page.tree.row.serial) is ∙ root) in
       let no : false ≡ true = sym (ap (λ z. is_open z page.tree.row.serial) h) ∙ still in
       absurd cc
 
-pub unknown-before : (page : PageValue) (ask : DomAsk) (w : Session) → IsValid page → IsSession (alone page.tree) w → (state_after w (session_outcome page ask w)).opened ≡ None → w.opened ≡ None
+pub unknown-before : (page : PageValue) (ask : DomAsk) (w : Session) → IsValid page → IsSession (alone page.tree) w
+    → (state_after w (session_outcome page ask w)).opened ≡ None → w.opened ≡ None
 unknown-before page ask w valid session =
     either_ask (λ c. (state_after w (session_outcome page c w)).opened ≡ None → w.opened ≡ None)
     (λ depth pierce h. shown-not _ h)
@@ -121,7 +142,8 @@ unknown-before page ask w valid session =
     shown-not o h = absurd cc
 
 -- the state after an ask, by what it came to
-pub served-is : (ask : DomAsk) (o : Outcome Session) (state : State) → HoldsNow state → ((state.client.dom_on || turns_on ask) ≡ false → (state_after state.client.session o).opened ≡ None)
+pub served-is : (ask : DomAsk) (o : Outcome Session) (state : State) → HoldsNow state
+    → ((state.client.dom_on || turns_on ask) ≡ false → (state_after state.client.session o).opened ≡ None)
     → ((state_after state.client.session o).opened ≡ None → state.client.session.opened ≡ None)
     → IsSession (page_nodes state) (state_after state.client.session o) → HoldsNow (with_client (client_served ask o state.client) state)
 served-is ask (shows_root w b) state is off unknown session = record {
@@ -156,7 +178,8 @@ served-is ask (refused why) state is off unknown session = record {
 }
 
 served-view : (ask : DomAsk) (o : Outcome Session) (state : State)
-    → seen_by (state_after state.client.session o) state.side.page (sheets_shown state) ≡ view_of (with_client (client_served ask o state.client) state)
+    → seen_by (state_after state.client.session o) state.side.page (sheets_shown state)
+    ≡ view_of (with_client (client_served ask o state.client) state)
 served-view ask (shows_root w b) state = refl
 served-view ask (served p body) state = refl
 served-view ask (refused why) state = refl
@@ -175,17 +198,21 @@ agent-well id ask state is room small fits on =
     let o : Outcome Session = session_outcome page ask w in
     let low : HasNumbers state = room-numbers state room in
     let can : CanTell page w = can-tell state is low in
-    let few : length (state_after w o).pushed ≤ length w.pushed + node_count (page_nodes state) = draws_few page ask w is.page fits is.session in
+    let few : length (state_after w o).pushed
+    ≤ length w.pushed + node_count (page_nodes state) = draws_few page ask w is.page fits is.session in
     let count : node_count (page_nodes state) ≤ 100000 = count-alone page is.page in
     record {
-      now = served-is ask o state is (off-after ask state is on) (unknown-before page ask w is.page is.session) (stays_session page ask w is.page fits is.session);
-      course = subst (λ v. Course (moves_of id o) (view_of state) v) (served-view ask o state) (steps_are_moves page ask w id (sheets_shown state) is.page fits is.session can small (can-sheets state is low));
+      now = served-is ask o state is (off-after ask state is on) (unknown-before page ask w is.page is.session)
+          (stays_session page ask w is.page fits is.session);
+      course = subst (λ v. Course (moves_of id o) (view_of state) v) (served-view ask o state)
+          (steps_are_moves page ask w id (sheets_shown state) is.page fits is.session can small (can-sheets state is low));
       few_ids = omega (arith, few, count, served-pushed ask o state);
       few_serials = omega arith;
       few_sheets = omega arith;
     }
 
-agent-recalls : (ask : DomAsk) (o : Outcome Session) (state : State) → HasHistory state → Recalls state (with_client (client_served ask o state.client) state) 0 0
+agent-recalls : (ask : DomAsk) (o : Outcome Session) (state : State) → HasHistory state
+    → Recalls state (with_client (client_served ask o state.client) state) 0 0
 agent-recalls ask (shows_root w b) state history = recalls-same state _ history refl refl (omega arith)
 agent-recalls ask (served p body) state history = recalls-same state _ history refl refl (omega arith)
 agent-recalls ask (refused why) state history = recalls-same state _ history refl refl (omega arith)
@@ -205,7 +232,8 @@ enabled-is state is = record {
   none_watched = is.none_watched;
 }
 
-enables-well : (id : ℕ) (state : State) → HoldsNow state → HasRoom state → is_counted id ≡ true → Well state (server_step id enables state) 0 0 0
+enables-well : (id : ℕ) (state : State) → HoldsNow state → HasRoom state → is_counted id ≡ true
+    → Well state (server_step id enables state) 0 0 0
 enables-well id state is room small =
     let told : CanBeTold (view_of state) = told-view state is (room-numbers state room) in
     record {
@@ -224,12 +252,14 @@ and-false : (b : Bool) → (b && false) ≡ false
 and-false true = refl
 and-false false = refl
 
-disables-well : (id : ℕ) (state : State) → HoldsNow state → HasRoom state → is_counted id ≡ true → Well state (server_step id disables state) 0 0 0
+disables-well : (id : ℕ) (state : State) → HoldsNow state → HasRoom state → is_counted id ≡ true
+    → Well state (server_step id disables state) 0 0 0
 disables-well id state is room small =
     let after : State = with_client (client_reset false state.client) state in
     let done : HoldsNow after = disabled-is state is in
     let told : CanBeTold (view_of state) = told-view state is (room-numbers state room) in
-    let told_after : CanBeTold (view_of after) = told-view after done (record { ids = omega (arith, room.ids); serials = omega (arith, room.serials); sheets = omega (arith, room.sheets) }) in
+    let told_after : CanBeTold (view_of after) = told-view after done
+    (record { ids = omega (arith, room.ids); serials = omega (arith, room.serials); sheets = omega (arith, room.sheets) }) in
     let unseen : view_of after ≡ record { tree = none; sheets = [] } =
     ap (λ (b : Bool). seen_by (reset state.client.session) state.side.page (cond b state.side.sheets [])) (and-false state.client.css_on) in
     record {
@@ -244,8 +274,12 @@ disables-well id state is room small =
 refusing-well : (r : Refused) (state : State) → IsState state → HasRoom state → holds_of_some is_counted r.id ≡ true
     → StepsWell state (record { state = state; moves = failed r ∷ [] }) × KeepsAtMost 0 state state
 refusing-well r state is room small =
-    let recalls : Recalls state state 0 0 = recalls-same state state is.history refl refl (omega arith) in
-    (steps-well {ids = 0} (omega arith) (omega arith) (more (omega arith) (omega arith) (omega arith) (stays-with (failed r) state is.now (room-numbers state room) (refl, small))) recalls, recalls.few_edits)
+    let recalls : Recalls state state 0 0 = recalls-same state state is.history refl refl (omega arith) in (
+      steps-well {ids = 0} (omega arith) (omega arith)
+          (more (omega arith) (omega arith) (omega arith)
+          (stays-with (failed r) state is.now (room-numbers state room) (refl, small))) recalls,
+      recalls.few_edits,
+    )
 
 -- ---- a command
 
@@ -253,13 +287,22 @@ refusing-well r state is room small =
 abbrev Serves : State → Step → ℕ → Command → ℕ → Type 0
 Serves state done id c most = Answered (method_name c) (text_asked c) id most state done
 
-serves-refusal : (id : ℕ) (why : Why) (c : Command) (most : ℕ) (state : State) → IsState state → HasRoom state → is_counted id ≡ true → Serves state (refusing (Some id) why state) id c most
+serves-refusal : (id : ℕ) (why : Why) (c : Command) (most : ℕ) (state : State) → IsState state → HasRoom state → is_counted id ≡ true
+    → Serves state (refusing (Some id) why state) id c most
 serves-refusal id why c most state is room small = refusal-answered (method_name c) (text_asked c) id most why state is room small
 
 -- a step that keeps no edit
-serves-plain : {state : State} {done : Step} {id ids : ℕ} (c : Command) → ids ≤ 500000 → Well state done ids 100001 1000 → Recalls state done.state 0 0
-    → flat_map reply_ids done.moves ≡ Some id ∷ [] → MayAnswerAll (method_name c) done.moves → TellTextOf (text_asked c) done.moves → Serves state done id c 0
-serves-plain c low well recalls once may texts = record { well = steps-well (omega (arith, low)) (omega arith) well recalls; few = recalls.few_edits; once = once; may = may; texts = texts }
+serves-plain : {state : State} {done : Step} {id ids : ℕ} (c : Command) → ids ≤ 500000 → Well state done ids 100001 1000
+    → Recalls state done.state 0 0
+    → flat_map reply_ids done.moves ≡ Some id ∷ [] → MayAnswerAll (method_name c) done.moves → TellTextOf (text_asked c) done.moves
+    → Serves state done id c 0
+serves-plain c low well recalls once may texts = record {
+  well = steps-well (omega (arith, low)) (omega arith) well recalls;
+  few = recalls.few_edits;
+  once = once;
+  may = may;
+  texts = texts;
+}
 
 -- a server that a replay has
 data IsServer (c : Command) : Server → Type 0 where
@@ -281,8 +324,10 @@ data IsServer (c : Command) : Server → Type 0 where
   is_nobody : IsServer c nobody
 
 -- what one of our own two methods comes to
-serves-own : {A : Type 0} (turn_of : A → Turn) (id : ℕ) (r : Result A Why) (c : Command) (state : State) → ((a : A) → r ≡ Ok a → IsTurn (turn_of a))
-    → MayAnswer (method_name c) (replied 0 Nothing) → IsState state → HasRoom state → is_counted id ≡ true → Serves state (own_step turn_of id r state) id c 0
+serves-own : {A : Type 0} (turn_of : A → Turn) (id : ℕ) (r : Result A Why) (c : Command) (state : State)
+    → ((a : A) → r ≡ Ok a → IsTurn (turn_of a))
+    → MayAnswer (method_name c) (replied 0 Nothing) → IsState state → HasRoom state → is_counted id ≡ true
+    → Serves state (own_step turn_of id r state) id c 0
 serves-own turn_of id (Ok a) c state can h is room small =
     let events = turn-events (turn_of a) state in
     let done = answering-well id (turn_of a) state is room small (can a refl) in
@@ -290,37 +335,46 @@ serves-own turn_of id (Ok a) c state can h is room small =
       well = done.0;
       few = done.1;
       once = answering-once id (turn_of a) state;
-      may = may-append (method_name c) (turn_step (turn_of a) state).moves (replied id Nothing ∷ []) (events-may (method_name c) (turn_step (turn_of a) state).moves events) (h, tt);
-      texts = texts-append (text_asked c) (turn_step (turn_of a) state).moves (replied id Nothing ∷ []) (events-text (text_asked c) (turn_step (turn_of a) state).moves events) (tt, tt);
+      may = may-append (method_name c) (turn_step (turn_of a) state).moves (replied id Nothing ∷ [])
+          (events-may (method_name c) (turn_step (turn_of a) state).moves events) (h, tt);
+      texts = texts-append (text_asked c) (turn_step (turn_of a) state).moves (replied id Nothing ∷ [])
+          (events-text (text_asked c) (turn_step (turn_of a) state).moves events) (tt, tt);
     }
 serves-own turn_of id (Err why) c state can h is room small = serves-refusal id why c 0 state is room small
 
 -- what a change of the watches of a node comes to, where the node is known
-serves-watch : (id : ℕ) (change : ℕ → Watched → Watched) (node : ℕ) (c : Command) (state : State) → AddsOne change → MayAnswer (method_name c) (replied 0 Nothing)
+serves-watch : (id : ℕ) (change : ℕ → Watched → Watched) (node : ℕ) (c : Command) (state : State) → AddsOne change
+    → MayAnswer (method_name c) (replied 0 Nothing)
     → IsState state → HasRoom state → is_counted id ≡ true → Serves state (watch_step id change (serial_now state node) state) id c 0
 serves-watch id change node c state adds h is room small = at (serial_now state node) refl where
   at : (o : Option ℕ) → serial_now state node ≡ o → Serves state (watch_step id change o state) id c 0
   at None e = serves-refusal id UnknownNode c 0 state is room small
   at (Some serial) e =
-      serves-plain {ids = 0} c (omega arith) (more (omega arith) (omega arith) (omega arith) (watch-well id change state node serial adds e is.now (room-numbers state room) small))
+      serves-plain {ids = 0} c (omega arith)
+      (more (omega arith) (omega arith) (omega arith)
+      (watch-well id change state node serial adds e is.now (room-numbers state room) small))
       (recalls-same state _ is.history refl refl (omega arith)) refl (h, tt) (tt, tt)
 
 -- a command is refused while a domain is off that it needs, and else carried out
 command-serves : (id : ℕ) (c : Command) (server : Server) (most : ℕ) (state : State) → IsState state → HasRoom state → is_counted id ≡ true
-    → ((needs_on server && not state.client.dom_on) ≡ false → (needs_css server && not state.client.css_on) ≡ false → Serves state (server_step id server state) id c most)
+    → ((needs_on server && not state.client.dom_on) ≡ false → (needs_css server && not state.client.css_on) ≡ false
+    → Serves state (server_step id server state) id c most)
     → Serves state (command_step id server state) id c most
-command-serves id c server most state is room small goes_on = at (needs_on server && not state.client.dom_on) refl (needs_css server && not state.client.css_on) refl where
-  at : (a : Bool) → (needs_on server && not state.client.dom_on) ≡ a → (b : Bool) → (needs_css server && not state.client.css_on) ≡ b
-      → Serves state (cond a (refusing (Some id) DomOff state) (cond b (refusing (Some id) CssOff state) (server_step id server state))) id c most
-  at true e b f = serves-refusal id DomOff c most state is room small
-  at false e true f = serves-refusal id CssOff c most state is room small
-  at false e false f = goes_on e f
+command-serves id c server most state is room small goes_on = at (needs_on server && not state.client.dom_on) refl
+    (needs_css server && not state.client.css_on) refl where
+      at : (a : Bool) → (needs_on server && not state.client.dom_on) ≡ a → (b : Bool) → (needs_css server && not state.client.css_on) ≡ b
+          → Serves state (cond a (refusing (Some id) DomOff state)
+          (cond b (refusing (Some id) CssOff state) (server_step id server state))) id c most
+      at true e b f = serves-refusal id DomOff c most state is room small
+      at false e true f = serves-refusal id CssOff c most state is room small
+      at false e false f = goes_on e f
 
 on-by : (b : Bool) → (true && not b) ≡ false → b ≡ true
 on-by true e = refl
 on-by false e = absurd cc
 
-css-once-on : (id : ℕ) (b : Bool) (sheets : List ShownSheet) → flat_map reply_ids (cond b [] (moves_come sheets) ++ replied id Nothing ∷ []) ≡ Some id ∷ []
+css-once-on : (id : ℕ) (b : Bool) (sheets : List ShownSheet)
+    → flat_map reply_ids (cond b [] (moves_come sheets) ++ replied id Nothing ∷ []) ≡ Some id ∷ []
 css-once-on id b sheets = at b where
   quiet : flat_map reply_ids (moves_come sheets) ≡ []
   quiet = events-answer (moves_come sheets) (come-are-events sheets)
@@ -336,16 +390,21 @@ on-events false sheets = come-are-events sheets
 serves : (id : ℕ) (c : Command) (server : Server) (state : State) → IsServer c server → IsState state → HasRoom state → is_counted id ≡ true
     → Serves state (command_step id server state) id c (most_edits server)
 serves id c _ state (is_enables h) is room small =
-    command-serves id c enables 0 state is room small (λ dom css. serves-plain {ids = 0} c (omega arith) (more (omega arith) (omega arith) (omega arith) (enables-well id state is.now room small))
+    command-serves id c enables 0 state is room small
+    (λ dom css. serves-plain {ids = 0} c (omega arith)
+    (more (omega arith) (omega arith) (omega arith) (enables-well id state is.now room small))
     (recalls-same state _ is.history refl refl (omega arith)) refl (h, tt) (tt, tt))
 serves id c _ state (is_disables h) is room small =
-    command-serves id c disables 0 state is room small (λ dom css. serves-plain {ids = 0} c (omega arith) (more (omega arith) (omega arith) (omega arith) (disables-well id state is.now room small))
+    command-serves id c disables 0 state is room small
+    (λ dom css. serves-plain {ids = 0} c (omega arith)
+    (more (omega arith) (omega arith) (omega arith) (disables-well id state is.now room small))
     (recalls-none state _ refl) refl (h, tt) (tt, tt))
 serves id c _ state (is_css_enables h) is room small =
     let events = on-events state.client.css_on state.side.sheets in
     let first = cond state.client.css_on [] (moves_come state.side.sheets) in
     command-serves id c css_enables 0 state is room small (λ dom css. serves-plain {ids = 0} c (omega arith)
-    (more (omega arith) (omega arith) (omega arith) (css-on-well id state is.now (room-numbers state room) (on-by state.client.dom_on dom) small))
+    (more (omega arith) (omega arith) (omega arith)
+    (css-on-well id state is.now (room-numbers state room) (on-by state.client.dom_on dom) small))
     (recalls-same state _ is.history refl refl (omega arith))
     (css-once-on id state.client.css_on state.side.sheets)
     (may-append (method_name c) first (replied id Nothing ∷ []) (events-may (method_name c) first events) (h, tt))
@@ -360,20 +419,24 @@ serves id c _ state (is_agent ask h fits) is room small =
     (agent-recalls ask (session_outcome state.side.page ask state.client.session) state is.history)
     (outcome-answers id (session_outcome state.side.page ask state.client.session))
     (subst (λ method. MayAnswerAll method (agent_step id ask state).moves) (sym h)
-    (outcome-may id ask (session_outcome state.side.page ask state.client.session) (replies_answer state.side.page ask state.client.session is.now.page fits is.now.session)))
+    (outcome-may id ask (session_outcome state.side.page ask state.client.session)
+    (replies_answer state.side.page ask state.client.session is.now.page fits is.now.session)))
     (outcome-text (text_asked c) id (session_outcome state.side.page ask state.client.session)))
 serves id c _ state (is_css ask h) is room small =
     command-serves id c (css_agent ask) 0 state is room small (λ dom css. serves-plain {ids = 0} c (omega arith)
-    (more (omega arith) (omega arith) (omega arith) (css-well id ask state is.now (room-numbers state room) (on-by state.client.css_on css) small))
+    (more (omega arith) (omega arith) (omega arith)
+    (css-well id ask state is.now (room-numbers state room) (on-by state.client.css_on css) small))
     (recalls-same state state is.history refl refl (omega arith))
     (css-once id ask state)
     (subst (λ d. MayAnswerAll (method_name d) (css_step id ask state).moves) (sym h) (css-may id ask state))
     (subst (λ d. TellTextOf (text_asked d) (css_step id ask state).moves) (sym h) (css-text id ask state)))
 serves id c _ state (is_sheet_edit x h u) is room small =
     command-serves id c (edits_sheets x) (most_splices x) state is room small (λ dom css.
-    subst (λ method. Answered method (text_asked c) id (most_splices x) state (sheet_edit_step id x state)) (sym h) (sheet-edit-answered id x state (text_asked c) is room u small))
+    subst (λ method. Answered method (text_asked c) id (most_splices x) state (sheet_edit_step id x state)) (sym h)
+    (sheet-edit-answered id x state (text_asked c) is room u small))
 serves id c _ state (is_tree_edit edit asks texts) is room small =
-    command-serves id c (edits_tree edit) 2 state is room small (λ dom css. tree-edit-answered (method_name c) (text_asked c) id edit state texts asks is room small)
+    command-serves id c (edits_tree edit) 2 state is room small
+    (λ dom css. tree-edit-answered (method_name c) (text_asked c) id edit state texts asks is room small)
 serves id c _ state (is_ends_group h) is room small =
     command-serves id c ends_group 0 state is room small (λ dom css. mark-answered (method_name c) (text_asked c) id state h is room small)
 serves id c _ state (is_undoes h) is room small =
@@ -381,12 +444,16 @@ serves id c _ state (is_undoes h) is room small =
 serves id c _ state (is_redoes h) is room small =
     command-serves id c redoes 0 state is room small (λ dom css. redo-answered (method_name c) (text_asked c) id state h is room small)
 serves id c _ state (is_watches node word h) is room small =
-    command-serves id c (watches node word) 0 state is room small (λ dom css. serves-watch id (with_watch (watch_kind word)) node c state (with-adds (watch_kind word)) h is room small)
+    command-serves id c (watches node word) 0 state is room small
+    (λ dom css. serves-watch id (with_watch (watch_kind word)) node c state (with-adds (watch_kind word)) h is room small)
 serves id c _ state (is_unwatches node word h) is room small =
-    command-serves id c (unwatches node word) 0 state is room small (λ dom css. serves-watch id (without_watch (watch_kind word)) node c state (without-adds (watch_kind word)) h is room small)
-serves id c _ state (is_load params h u) is room small = serves-own loads id (load_asked params) c state (λ page e. load-turn params page u e) h is room small
+    command-serves id c (unwatches node word) 0 state is room small
+    (λ dom css. serves-watch id (without_watch (watch_kind word)) node c state (without-adds (watch_kind word)) h is room small)
+serves id c _ state (is_load params h u) is room small = serves-own loads id (load_asked params) c state
+    (λ page e. load-turn params page u e) h is room small
 serves id c _ state (is_act params h u) is room small =
-    serves-own acts id (act_asked params state.side.page (book_in state)) c state (λ act e. act-turn params state.side.page (book_in state) act u e) h is room small
+    serves-own acts id (act_asked params state.side.page (book_in state)) c state
+    (λ act e. act-turn params state.side.page (book_in state) act u e) h is room small
 serves id c _ state is_nobody is room small = serves-refusal id NoMethod c 0 state is room small
 
 by-agent : (c : Command) → fits_command c ≡ true → IsServer c (by_agent (dom_ask_in c))
@@ -435,6 +502,9 @@ server-is (ReplayAct params) fits texts = is_act params (refl, refl) texts
 
 pub frame-steps-well : FramesStepWell
 frame-steps-well own state frame is room = at (asked frame own) (frame-fits own frame) (frame-texts own frame) where
-  at : (r : Result Asked Refused) → AskedFits r → AskedTexts r → StepsWell state (asked_step r state) × IsAnswered r (asked_step r state).moves × KeepsAtMost (edits_asked r) state (asked_step r state).state
-  at (Ok a) fits texts = let s = serves a.id a.command (server_of a.command) state (server-is a.command fits.1 texts) is room fits.0 in (s.well, (s.once, s.may, s.texts), s.few)
+  at : (r : Result Asked Refused) → AskedFits r → AskedTexts r
+      → StepsWell state (asked_step r state) × IsAnswered r (asked_step r state).moves
+      × KeepsAtMost (edits_asked r) state (asked_step r state).state
+  at (Ok a) fits texts = let s = serves a.id a.command (server_of a.command) state (server-is a.command fits.1 texts) is room fits.0 in
+      (s.well, (s.once, s.may, s.texts), s.few)
   at (Err r) fits texts = let w = refusing-well r state is room fits in (w.0, refl, w.1)

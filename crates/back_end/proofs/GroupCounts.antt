@@ -1,5 +1,6 @@
 -- How many edits a history has after each change of it.
-use Rattle.std.proofs.Common.{◌≡◌, ℕ, ◌+◌, ◌≤◌, Bool, true, false, cond, List, [], ◌∷◌, ◌++◌, length, map, reverse, Option, Some, None, refl, sym, ap, ◌∙◌, subst, length-append, arith}
+use Rattle.std.proofs.Common.{◌≡◌, ℕ, ◌+◌, ◌≤◌, Bool, true, false, cond, List, [], ◌∷◌, ◌++◌, length, map, reverse, Option, Some, None}
+use Rattle.std.proofs.Common.{refl, sym, ap, ◌∙◌, subst, length-append, arith}
 use Rattle.std.proofs.lemmas.List.{reverse-append, length-reverse, length-map}
 use Rattle.undo_marks.specs.Marks.{Marks, entry_count, onto_newest, edited, undone, redone}
 use Rattle.undo_marks.specs.Changes.{HistoryEntry as Entry, changes_on, backs_of}
@@ -83,7 +84,8 @@ trees-append : (xs ys : List Noted) → tree_edits_in (xs ++ ys) ≡ tree_edits_
 trees-append [] ys = omega arith
 trees-append (x ∷ xs) ys = omega (arith, trees-append xs ys)
 
-onto-trees : (xs : List Noted) (past : List (List Noted)) → tree_edits_among (onto_newest xs past) ≡ tree_edits_among past + tree_edits_in xs
+onto-trees : (xs : List Noted) (past : List (List Noted))
+    → tree_edits_among (onto_newest xs past) ≡ tree_edits_among past + tree_edits_in xs
 onto-trees xs [] = omega arith
 onto-trees xs (g ∷ gs) = omega (arith, trees-append g xs)
 
@@ -91,11 +93,13 @@ onto-count : (xs : List Noted) (past : List (List Noted)) → entry_count (onto_
 onto-count xs [] = omega arith
 onto-count xs (g ∷ gs) = omega (arith, length-append g xs)
 
-past-trees : (going : Bool) (xs : List Noted) (past : List (List Noted)) → tree_edits_among (cond going (onto_newest xs past) (xs ∷ past)) ≡ tree_edits_among past + tree_edits_in xs
+past-trees : (going : Bool) (xs : List Noted) (past : List (List Noted))
+    → tree_edits_among (cond going (onto_newest xs past) (xs ∷ past)) ≡ tree_edits_among past + tree_edits_in xs
 past-trees true xs past = onto-trees xs past
 past-trees false xs past = omega arith
 
-past-count : (going : Bool) (xs : List Noted) (past : List (List Noted)) → entry_count (cond going (onto_newest xs past) (xs ∷ past)) ≡ entry_count past + length xs
+past-count : (going : Bool) (xs : List Noted) (past : List (List Noted))
+    → entry_count (cond going (onto_newest xs past) (xs ∷ past)) ≡ entry_count past + length xs
 past-count true xs past = onto-count xs past
 past-count false xs past = omega arith
 
@@ -151,17 +155,22 @@ no-edits es e = let no : ◌≡◌ {A = Option (List Inverse)} None (Some es) = 
 pub undo-few : (m : Marks Noted) (es : List Inverse) → undo_edits m ≡ Some es → FewEdits es m
 undo-few m es e = at m.past m.future m.going m.crossed e where
   at : (past future : List (List Noted)) (going crossed : Bool)
-      → (let m : Marks Noted = record { past = past; future = future; going = going; crossed = crossed } in undo_edits m ≡ Some es → FewEdits es m)
+      → (let m : Marks Noted = record { past = past; future = future; going = going; crossed = crossed } in undo_edits m ≡ Some es
+      → FewEdits es m)
   at [] future going crossed e = no-edits es e
   at (g ∷ gs) future going crossed e =
       let m : Marks Noted = record { past = g ∷ gs; future = future; going = going; crossed = crossed } in
       subst (λ (xs : List Inverse). FewEdits xs m) (same-edits (reverse (backs_of way_back g)) es e)
-      (record { trees = omega (arith, undo-trees g); count = omega (arith, length-reverse (backs_of way_back g), length-map g (λ (x : Noted). way_back x.edit x.before)) })
+      (record {
+        trees = omega (arith, undo-trees g);
+        count = omega (arith, length-reverse (backs_of way_back g), length-map g (λ (x : Noted). way_back x.edit x.before));
+      })
 
 pub redo-few : (m : Marks Noted) (es : List Inverse) → redo_edits m ≡ Some es → FewEdits es m
 redo-few m es e = at m.past m.future m.going m.crossed e where
   at : (past future : List (List Noted)) (going crossed : Bool)
-      → (let m : Marks Noted = record { past = past; future = future; going = going; crossed = crossed } in redo_edits m ≡ Some es → FewEdits es m)
+      → (let m : Marks Noted = record { past = past; future = future; going = going; crossed = crossed } in redo_edits m ≡ Some es
+      → FewEdits es m)
   at past [] going crossed e = no-edits es e
   at past (g ∷ gs) going crossed e =
       let m : Marks Noted = record { past = past; future = g ∷ gs; going = going; crossed = crossed } in

@@ -1,5 +1,6 @@
 -- The history of a client's edits: for each change of the state, the edits that are kept for it then.
-use Rattle.std.proofs.Common.{◌≡◌, ◌≤◌, ℕ, Bool, true, false, cond, bytes_eq, List, [], ◌∷◌, map, reverse, Option, Some, None, refl, sym, ap, ◌∙◌, subst}
+use Rattle.std.proofs.Common.{◌≡◌, ◌≤◌, ℕ, Bool, true, false, cond, bytes_eq, List, [], ◌∷◌, map, reverse, Option, Some, None, refl, sym}
+use Rattle.std.proofs.Common.{ap, ◌∙◌, subst}
 use Rattle.std.specs.Str.{IsUtf8}
 use Rattle.std.proofs.lemmas.List.{reverse-reverse}
 use Rattle.cdp_json.proofs.ReadTexts.{IfSome}
@@ -11,8 +12,10 @@ use Rattle.page_tree.specs.declared.edits.TreeEdit.{TreeEdit}
 use Rattle.page_tree.specs.declared.edits.TreeEdit.TheVariants.{SetAttr, DropAttr, SetText, Attach, Detach}
 use Rattle.cdp_messages.specs.Laws.{PairsHaveUtf8}
 use Rattle.dom_agent.specs.Laws.{RowsHaveUtf8}
-use Rattle.undo_marks.specs.Marks.{Marks, no_marks, handed_out, noted_singly, edited, marked, crossed_over, undone, redone, past_popped, future_popped, past_pushed, future_pushed}
-use Rattle.undo_marks.specs.Changes.{HistoryEntry as Entry, page_undone, page_redone, after_all, changes_on, back_all, AllTaken, backs_of, again_of, kept_of, KeptFor, AreBacks, IsUndo, IsRedo, KeepsOn}
+use Rattle.undo_marks.specs.Marks.{Marks, no_marks, handed_out, noted_singly, edited, marked, crossed_over, undone, redone, past_popped}
+use Rattle.undo_marks.specs.Marks.{future_popped, past_pushed, future_pushed}
+use Rattle.undo_marks.specs.Changes.{HistoryEntry as Entry, page_undone, page_redone, after_all, changes_on, back_all, AllTaken, backs_of}
+use Rattle.undo_marks.specs.Changes.{again_of, kept_of, KeptFor, AreBacks, IsUndo, IsRedo, KeepsOn}
 use Rattle.undo_marks.specs.Saved.{Saved}
 use Rattle.undo_marks.specs.SavedEdits.{page_after, way_back}
 use Rattle.undo_marks.specs.declared.inverse_lists.Inverse.{Inverse}
@@ -41,10 +44,12 @@ restored-texts serial name (Some value) has old = (has, old)
 pub back-texts : (e : TreeEdit) (tree : Branch PageRow) → EditHasTexts e → RowsHaveUtf8 (alone tree) → EditHasTexts (back_tree e tree)
 back-texts (SetAttr serial name value) tree has us =
     let node = node_at-texts serial tree us in
-    restored-texts serial name (value_of name (label_at serial tree).attributes) has.0 (value-texts name (label_at serial tree).attributes node.0.2)
+    restored-texts serial name (value_of name (label_at serial tree).attributes) has.0
+    (value-texts name (label_at serial tree).attributes node.0.2)
 back-texts (DropAttr serial name) tree has us =
     let node = node_at-texts serial tree us in
-    restored-texts serial name (value_of name (label_at serial tree).attributes) has (value-texts name (label_at serial tree).attributes node.0.2)
+    restored-texts serial name (value_of name (label_at serial tree).attributes) has
+    (value-texts name (label_at serial tree).attributes node.0.2)
 back-texts (SetText serial value) tree has us = let node = node_at-texts serial tree us in node.0.1
 back-texts (Attach parent before w) tree has us = tt
 back-texts (Detach serial) tree has us = node_at-texts serial tree us
@@ -79,8 +84,10 @@ well-later next later h e page t = record { taken = taken_later next later h e p
 abbrev pub KeepsFor : ℕ → Marks Inverse → Marks (Entry Saved Inverse) → Saved → Type 0
 KeepsFor next h m page = KeptFor page_after way_back (TakesWell next) h m page
 
-pub keeps-later : (next later : ℕ) (h : Marks Inverse) (m : Marks (Entry Saved Inverse)) (page : Saved) → next ≤ later → KeepsFor next h m page → KeepsFor later h m page
-keeps-later next later h m page low k = kept_grow page_after way_back (TakesWell next) (TakesWell later) (well-later next later low) h m page k
+pub keeps-later : (next later : ℕ) (h : Marks Inverse) (m : Marks (Entry Saved Inverse)) (page : Saved) → next ≤ later
+    → KeepsFor next h m page → KeepsFor later h m page
+keeps-later next later h m page low k = kept_grow page_after way_back (TakesWell next) (TakesWell later)
+    (well-later next later low) h m page k
 
 -- what a valid state keeps
 abbrev pub kept_in : State → Marks Inverse
@@ -90,7 +97,8 @@ pub history-kept : (state : State) → HasHistory state → Keeps (kept_in state
 history-kept state h = record { edits = refl; history = h }
 
 -- the history and the page stay, and the next serial may go on
-pub keeps-same : (h : Marks Inverse) (before after : State) → Keeps h before → after.client.marks ≡ before.client.marks → saved_now after ≡ saved_now before
+pub keeps-same : (h : Marks Inverse) (before after : State) → Keeps h before → after.client.marks ≡ before.client.marks
+    → saved_now after ≡ saved_now before
     → before.side.page.next ≤ after.side.page.next → Keeps h after
 keeps-same h before after k marks saved low =
     let next = after.side.page.next in
@@ -101,7 +109,8 @@ keeps-same h before after k marks saved low =
 
 -- a client's edits are noted by the edits that lead back
 pub keeps-edited : (h : Marks Inverse) (es : List Inverse) (state : State) (done : Step) → Keeps h state
-    → AllTaken page_after (TakesWell done.state.side.page.next) es (saved_now state) → saved_now done.state ≡ after_all page_after es (saved_now state)
+    → AllTaken page_after (TakesWell done.state.side.page.next) es (saved_now state)
+    → saved_now done.state ≡ after_all page_after es (saved_now state)
     → state.side.page.next ≤ done.state.side.page.next
     → Keeps (noted_singly (back_all page_after way_back es (saved_now state)) h) (keeping es state done).state
 keeps-edited h es state done k taken saved low =
@@ -110,14 +119,16 @@ keeps-edited h es state done k taken saved low =
     let page = saved_now state in
     let grown : KeepsFor next h m page = keeps-later state.side.page.next next h m page low k in
     let backs = noted_singly (back_all page_after way_back es page) h in
-    let noted : KeepsFor next backs (edited (changes_on page_after es page) m) (after_all page_after es page) = ((keeps-on next).after_changes h m page grown).after_notes es taken in
+    let noted : KeepsFor next backs (edited (changes_on page_after es page) m) (after_all page_after es page) =
+    ((keeps-on next).after_changes h m page grown).after_notes es taken in
     subst (λ (p : Saved). KeepsFor next backs (edited (changes_on page_after es page) m) p) (sym saved) noted
 
 pub keeps-marked : (h : Marks Inverse) (state : State) → Keeps h state → Keeps (marked h) (with_marks (marked state.client.marks) state)
 keeps-marked h state k = ((keeps-on state.side.page.next).after_changes h state.client.marks (saved_now state) k).after_mark
 
 -- a change that is not the client's empties it, whatever the page is then
-pub keeps-crossed : (h : Marks Inverse) (before after : State) → Keeps h before → after.client.marks ≡ before.client.marks → Keeps (crossed_over h) (with_crossed after)
+pub keeps-crossed : (h : Marks Inverse) (before after : State) → Keeps h before → after.client.marks ≡ before.client.marks
+    → Keeps (crossed_over h) (with_crossed after)
 keeps-crossed h before after k marks =
     let next = before.side.page.next in
     let crossed : KeepsFor next (crossed_over h) (crossed_over before.client.marks) (saved_now before) =
@@ -136,24 +147,29 @@ keeps-cleared state marks =
 -- ---- undo and redo
 
 -- what is handed out of what is kept is what the state's undo carries out
-undo-out : (m : Marks (Entry Saved Inverse)) (past : List (List (Entry Saved Inverse))) (es : List Inverse) → handed_out (map (backs_of way_back) past) ≡ Some es
+undo-out : (m : Marks (Entry Saved Inverse)) (past : List (List (Entry Saved Inverse))) (es : List Inverse)
+    → handed_out (map (backs_of way_back) past) ≡ Some es
     → undo_edits (record m { past = past }) ≡ Some es
 undo-out m [] es out = absurd cc
 undo-out m (g ∷ gs) es out = out
 
-undo-none : (m : Marks (Entry Saved Inverse)) (past : List (List (Entry Saved Inverse))) → handed_out (map (backs_of way_back) past) ≡ None → undo_edits (record m { past = past }) ≡ None
+undo-none : (m : Marks (Entry Saved Inverse)) (past : List (List (Entry Saved Inverse))) → handed_out (map (backs_of way_back) past) ≡ None
+    → undo_edits (record m { past = past }) ≡ None
 undo-none m [] out = refl
 undo-none m (g ∷ gs) out = absurd cc
 
-redo-out : (m : Marks (Entry Saved Inverse)) (future : List (List (Entry Saved Inverse))) (es : List Inverse) → handed_out (map (again_of way_back) future) ≡ Some es
+redo-out : (m : Marks (Entry Saved Inverse)) (future : List (List (Entry Saved Inverse))) (es : List Inverse)
+    → handed_out (map (again_of way_back) future) ≡ Some es
     → redo_edits (record m { future = future }) ≡ Some es
 redo-out m [] es out = absurd cc
 redo-out m (g ∷ gs) es out =
-    let twice : reverse (reverse (map (λ (e : Entry Saved Inverse). e.edit) g)) ≡ map (λ (e : Entry Saved Inverse). e.edit) g = reverse-reverse (map (λ (e : Entry Saved Inverse). e.edit) g) in
+    let twice : reverse (reverse (map (λ (e : Entry Saved Inverse). e.edit) g))
+    ≡ map (λ (e : Entry Saved Inverse). e.edit) g = reverse-reverse (map (λ (e : Entry Saved Inverse). e.edit) g) in
     let first : reverse (reverse (map (λ (e : Entry Saved Inverse). e.edit) g)) ≡ es = cc in
     ap (λ (l : List Inverse). Some l) (sym twice ∙ first)
 
-redo-none : (m : Marks (Entry Saved Inverse)) (future : List (List (Entry Saved Inverse))) → handed_out (map (again_of way_back) future) ≡ None → redo_edits (record m { future = future }) ≡ None
+redo-none : (m : Marks (Entry Saved Inverse)) (future : List (List (Entry Saved Inverse)))
+    → handed_out (map (again_of way_back) future) ≡ None → redo_edits (record m { future = future }) ≡ None
 redo-none m [] out = refl
 redo-none m (g ∷ gs) out = absurd cc
 
@@ -163,14 +179,16 @@ pub record Undoes (h : Marks Inverse) (es : List Inverse) (state : State) : Type
   pub taken : AllTaken page_after (TakesWell state.side.page.next) es (saved_now state)
   pub ends : after_all page_after es (saved_now state) ≡ page_undone state.client.marks.past (saved_now state)
   pub kept : (after : State) → saved_now after ≡ after_all page_after es (saved_now state) → state.side.page.next ≤ after.side.page.next
-      → Keeps (future_pushed (back_all page_after way_back es (saved_now state)) (past_popped h)) (with_marks (undone state.client.marks) after)
+      → Keeps (future_pushed (back_all page_after way_back es (saved_now state)) (past_popped h))
+      (with_marks (undone state.client.marks) after)
 
 pub record Redoes (h : Marks Inverse) (es : List Inverse) (state : State) : Type 0 where
   pub edits : redo_edits state.client.marks ≡ Some es
   pub taken : AllTaken page_after (TakesWell state.side.page.next) es (saved_now state)
   pub ends : after_all page_after es (saved_now state) ≡ page_redone state.client.marks.future (saved_now state)
   pub kept : (after : State) → saved_now after ≡ after_all page_after es (saved_now state) → state.side.page.next ≤ after.side.page.next
-      → Keeps (past_pushed (back_all page_after way_back es (saved_now state)) (future_popped h)) (with_marks (redone state.client.marks) after)
+      → Keeps (past_pushed (back_all page_after way_back es (saved_now state)) (future_popped h))
+      (with_marks (redone state.client.marks) after)
 
 pub undo-hands : (h : Marks Inverse) (es : List Inverse) (state : State) → Keeps h state → handed_out h.past ≡ Some es → Undoes h es state
 undo-hands h es state k out =
@@ -184,7 +202,9 @@ undo-hands h es state k out =
       taken = u.taken;
       ends = u.ends;
       kept = λ after saved low.
-          let grown : KeepsFor after.side.page.next kept_on (undone m) (page_undone m.past page) = keeps-later next after.side.page.next kept_on (undone m) (page_undone m.past page) low u.kept_on in
+          let grown : KeepsFor after.side.page.next kept_on (undone m)
+          (page_undone m.past page) = keeps-later next after.side.page.next kept_on (undone m)
+          (page_undone m.past page) low u.kept_on in
           subst (λ (p : Saved). KeepsFor after.side.page.next kept_on (undone m) p) (sym (saved ∙ u.ends)) grown;
     }
 
@@ -200,7 +220,9 @@ redo-hands h es state k out =
       taken = u.taken;
       ends = u.ends;
       kept = λ after saved low.
-          let grown : KeepsFor after.side.page.next kept_on (redone m) (page_redone m.future page) = keeps-later next after.side.page.next kept_on (redone m) (page_redone m.future page) low u.kept_on in
+          let grown : KeepsFor after.side.page.next kept_on (redone m)
+          (page_redone m.future page) = keeps-later next after.side.page.next kept_on (redone m)
+          (page_redone m.future page) low u.kept_on in
           subst (λ (p : Saved). KeepsFor after.side.page.next kept_on (redone m) p) (sym (saved ∙ u.ends)) grown;
     }
 

@@ -1,5 +1,6 @@
 -- A desk and a history that stand for a state do so after each command, of what edits nothing, and of a script's changes.
-use Rattle.std.proofs.Common.{◌≡◌, ℕ, Bool, true, false, cond, not, ◌&&◌, List, [], ◌∷◌, ◌++◌, Option, Some, None, Result, refl, sym, ap, ◌∙◌, subst, arith}
+use Rattle.std.proofs.Common.{◌≡◌, ℕ, Bool, true, false, cond, not, ◌&&◌, List, [], ◌∷◌, ◌++◌, Option, Some, None, Result, refl, sym, ap}
+use Rattle.std.proofs.Common.{◌∙◌, subst, arith}
 use Rattle.page_tree.specs.declared.edits.TreeEdit.{TreeEdit}
 use Rattle.node_binding.specs.Sessions.{Session}
 use Rattle.cdp_messages.specs.declared.command.Why.{Why}
@@ -27,7 +28,9 @@ use Rattle.back_end.specs.Plans.{Deed, edits, restyles, act_fault, act_plan}
 use Rattle.back_end.specs.Servers.{Server, disables, agent, watches, unwatches, by_agent, by_part}
 use Rattle.back_end.specs.declared.parts.SeatPart.{SeatPart}
 use Rattle.back_end.specs.declared.parts.SeatPart.TheVariants as part
-use Rattle.back_end.specs.Steps.{Step, refusing, with_page, client_served, push_step, push_steps, pause_step, script_step, script_steps, sheet_step, sheet_steps, deed_step, planned_step, act_step, load_step, watch_kind, watch_step, serial_now, needs_on, needs_css, server_step, command_step}
+use Rattle.back_end.specs.Steps.{Step, refusing, with_page, client_served, push_step, push_steps, pause_step, script_step, script_steps}
+use Rattle.back_end.specs.Steps.{sheet_step, sheet_steps, deed_step, planned_step, act_step, load_step, watch_kind, watch_step, serial_now}
+use Rattle.back_end.specs.Steps.{needs_on, needs_css, server_step, command_step}
 use Rattle.dom_breakpoints.specs.Watched.{with_watch, without_watch}
 use Rattle.cdp_messages.specs.declared.command.WatchWord.{WatchWord}
 use Rattle.back_end.specs.Seats.{DeskStandsFor, BothStandFor}
@@ -49,17 +52,21 @@ stayed state = record { marks = refl; side = refl }
 pub stays-kept : (h : Marks Inverse) (before after : State) → Stays before after → Keeps h before → Keeps h after
 stays-kept h before after stays k =
     let same : after.side.page.next ≡ before.side.page.next = ap (λ (side : Side). side.page.next) stays.side in
-    keeps-same h before after k stays.marks (ap (λ (side : Side). saved_of side.page.tree (as_book side.sheets)) stays.side) (omega (arith, same))
+    keeps-same h before after k stays.marks (ap (λ (side : Side). saved_of side.page.tree (as_book side.sheets)) stays.side)
+    (omega (arith, same))
 
 -- a command that may be refused before
-command-stays : (id : ℕ) (server : Server) (state : State) → Stays state (server_step id server state).state → Stays state (command_step id server state).state
+command-stays : (id : ℕ) (server : Server) (state : State) → Stays state (server_step id server state).state
+    → Stays state (command_step id server state).state
 command-stays id server state stays = at (needs_on server && not state.client.dom_on) (needs_css server && not state.client.css_on) where
-  at : (a b : Bool) → Stays state (cond a (refusing (Some id) DomOff state) (cond b (refusing (Some id) CssOff state) (server_step id server state))).state
+  at : (a b : Bool) → Stays state
+      (cond a (refusing (Some id) DomOff state) (cond b (refusing (Some id) CssOff state) (server_step id server state))).state
   at true b = stayed state
   at false true = stayed state
   at false false = stays
 
-stays-both : (d d1 : Desk) (s s1 : PageSide) (h : Marks Inverse) (state : State) (id : ℕ) (server : Server) → Stays state (server_step id server state).state → BothStandFor d h s state
+stays-both : (d d1 : Desk) (s s1 : PageSide) (h : Marks Inverse) (state : State) (id : ℕ) (server : Server)
+    → Stays state (server_step id server state).state → BothStandFor d h s state
     → DeskStandsFor d1 s1 (command_step id server state).state → BothStandFor d1 h s1 (command_step id server state).state
 stays-both d d1 s s1 h state id server stays both stands = record {
   stands = stands;
@@ -73,7 +80,8 @@ agent-stays id ask state = record { marks = at (session_outcome state.side.page 
   at (served p body) = refl
   at (refused why) = refl
 
-watch-stays : (id : ℕ) (change : ℕ → Watched → Watched) (found : Option ℕ) (state : State) → Stays state (watch_step id change found state).state
+watch-stays : (id : ℕ) (change : ℕ → Watched → Watched) (found : Option ℕ) (state : State)
+    → Stays state (watch_step id change found state).state
 watch-stays id change None state = stayed state
 watch-stays id change (Some node) state = record { marks = refl; side = refl }
 
@@ -112,48 +120,63 @@ unwatches-alone node word id state = unwatches-stay id node word state
 pub others-alone : (ask : Option DomAsk) → LeavesAlone (part.Others ask)
 others-alone ask id state = others-stay id ask state
 
-pub plain-both : {T E : Type 0} (result : Result T E) (d d1 : Desk) (s s1 : PageSide) (h : Marks Inverse) (state : State) (id : ℕ) (p q : SeatPart) → p ≡ q → LeavesAlone p → BothStandFor d h s state
-    → OnOk result (DeskStandsFor d1 s1 (command_step id (by_part p) state).state) → OnOk result (BothStandFor d1 h s1 (command_step id (by_part q) state).state)
+pub plain-both : {T E : Type 0} (result : Result T E) (d d1 : Desk) (s s1 : PageSide) (h : Marks Inverse) (state : State) (id : ℕ)
+    (p q : SeatPart) → p ≡ q → LeavesAlone p → BothStandFor d h s state
+    → OnOk result (DeskStandsFor d1 s1 (command_step id (by_part p) state).state)
+    → OnOk result (BothStandFor d1 h s1 (command_step id (by_part q) state).state)
 plain-both result d d1 s s1 h state id p q is alone both done =
     subst (λ (x : SeatPart). OnOk result (BothStandFor d1 h s1 (command_step id (by_part x) state).state)) is
     (on_ok result _ _ done (stays-both d d1 s s1 h state id (by_part p) (alone id state) both))
 
-pub part-both : {T E : Type 0} (result : Result T E) (d1 : Desk) (s1 : PageSide) (h1 : Marks Inverse) (state : State) (id : ℕ) (p q : SeatPart) → p ≡ q
-    → OnOk result (BothStandFor d1 h1 s1 (command_step id (by_part p) state).state) → OnOk result (BothStandFor d1 h1 s1 (command_step id (by_part q) state).state)
-part-both result d1 s1 h1 state id p q is done = subst (λ (x : SeatPart). OnOk result (BothStandFor d1 h1 s1 (command_step id (by_part x) state).state)) is done
+pub part-both : {T E : Type 0} (result : Result T E) (d1 : Desk) (s1 : PageSide) (h1 : Marks Inverse) (state : State) (id : ℕ)
+    (p q : SeatPart) → p ≡ q
+    → OnOk result (BothStandFor d1 h1 s1 (command_step id (by_part p) state).state)
+    → OnOk result (BothStandFor d1 h1 s1 (command_step id (by_part q) state).state)
+part-both result d1 s1 h1 state id p q is done = subst
+    (λ (x : SeatPart). OnOk result (BothStandFor d1 h1 s1 (command_step id (by_part x) state).state)) is done
 
 pub part-sent : {T E : Type 0} (result : Result T E) (state : State) (id : ℕ) (p q : SeatPart) (old new : List ℕ) → p ≡ q
-    → OnOk result (new ≡ old ++ frames_of_moves (command_step id (by_part p) state).moves) → OnOk result (new ≡ old ++ frames_of_moves (command_step id (by_part q) state).moves)
-part-sent result state id p q old new is done = subst (λ (x : SeatPart). OnOk result (new ≡ old ++ frames_of_moves (command_step id (by_part x) state).moves)) is done
+    → OnOk result (new ≡ old ++ frames_of_moves (command_step id (by_part p) state).moves)
+    → OnOk result (new ≡ old ++ frames_of_moves (command_step id (by_part q) state).moves)
+part-sent result state id p q old new is done = subst
+    (λ (x : SeatPart). OnOk result (new ≡ old ++ frames_of_moves (command_step id (by_part x) state).moves)) is done
 
 -- a step that is a refusal
-refused-both : (d : Desk) (h : Marks Inverse) (s : PageSide) (state : State) (done : Step) (id : Option ℕ) (why : Why) → done ≡ refusing id why state → BothStandFor d h s state
+refused-both : (d : Desk) (h : Marks Inverse) (s : PageSide) (state : State) (done : Step) (id : Option ℕ) (why : Why)
+    → done ≡ refusing id why state → BothStandFor d h s state
     → BothStandFor d h s done.state
 refused-both d h s state done id why is both = subst (λ (x : Step). BothStandFor d h s x.state) (sym is) both
 
 -- one since DOM is off, and one since CSS is
-pub off-both : (d : Desk) (h : Marks Inverse) (s : PageSide) (state : State) (id : ℕ) (server : Server) → needs_on server ≡ true → BothStandFor d h s state → d.is_on ≡ false
+pub off-both : (d : Desk) (h : Marks Inverse) (s : PageSide) (state : State) (id : ℕ) (server : Server) → needs_on server ≡ true
+    → BothStandFor d h s state → d.is_on ≡ false
     → BothStandFor d h s (command_step id server state).state
 off-both d h s state id server needs both was =
-    let off : (needs_on server && not state.client.dom_on) ≡ true = ap (λ a. a && not state.client.dom_on) needs ∙ ap (λ b. not b) (sym both.stands.on_is ∙ was) in
+    let off : (needs_on server && not state.client.dom_on)
+    ≡ true = ap (λ a. a && not state.client.dom_on) needs ∙ ap (λ b. not b) (sym both.stands.on_is ∙ was) in
     refused-both d h s state (command_step id server state) (Some id) DomOff (off-is id server state off) both
 
-pub css-off-both : (d : Desk) (h : Marks Inverse) (s : PageSide) (state : State) (id : ℕ) (server : Server) → needs_css server ≡ true → BothStandFor d h s state → d.is_on ≡ true → d.css ≡ false
+pub css-off-both : (d : Desk) (h : Marks Inverse) (s : PageSide) (state : State) (id : ℕ) (server : Server) → needs_css server ≡ true
+    → BothStandFor d h s state → d.is_on ≡ true → d.css ≡ false
     → BothStandFor d h s (command_step id server state).state
 css-off-both d h s state id server needs both on was =
-    let off : (needs_css server && not state.client.css_on) ≡ true = ap (λ a. a && not state.client.css_on) needs ∙ ap (λ b. not b) (sym both.stands.css_is ∙ was) in
-    refused-both d h s state (command_step id server state) (Some id) CssOff (css-off-is id server state (dom-on server d s state both.stands on) off) both
+    let off : (needs_css server && not state.client.css_on)
+    ≡ true = ap (λ a. a && not state.client.css_on) needs ∙ ap (λ b. not b) (sym both.stands.css_is ∙ was) in
+    refused-both d h s state (command_step id server state) (Some id) CssOff
+    (css-off-is id server state (dom-on server d s state both.stands on) off) both
 
 -- ---- `DOM.disable`
 
-pub disabled-both : (d d1 : Desk) (h1 : Marks Inverse) (s s1 : PageSide) (state : State) (id : ℕ) → DeskStandsFor d s state → d.is_on ≡ true → h1 ≡ no_marks → DeskStandsFor d1 s1 (command_step id disables state).state
+pub disabled-both : (d d1 : Desk) (h1 : Marks Inverse) (s s1 : PageSide) (state : State) (id : ℕ) → DeskStandsFor d s state
+    → d.is_on ≡ true → h1 ≡ no_marks → DeskStandsFor d1 s1 (command_step id disables state).state
     → BothStandFor d1 h1 s1 (command_step id disables state).state
 disabled-both d d1 h1 s s1 state id before on none stands =
     let after = (command_step id disables state).state in
     record {
       stands = stands;
       kept = subst (λ (h : Marks Inverse). Keeps h after) (sym none)
-          (keeps-cleared after (ap (λ (done : Step). done.state.client.marks) (on-is id disables state (dom-on disables d s state before on) refl)));
+          (keeps-cleared after (ap (λ (done : Step). done.state.client.marks)
+          (on-is id disables state (dom-on disables d s state before on) refl)));
     }
 
 -- ---- a script's changes
@@ -169,7 +192,8 @@ pause-marks (Some p) state = push-marks p.target (push_step p.node state).state
 
 scripts-marks : (es : List TreeEdit) (state : State) → (script_steps es state).state.client.marks ≡ state.client.marks
 scripts-marks [] state = refl
-scripts-marks (e ∷ es) state = scripts-marks es (script_step e state).state ∙ pause-marks (pause_of state.client.watched state.side.page.tree e) state
+scripts-marks (e ∷ es) state = scripts-marks es (script_step e state).state ∙ pause-marks
+    (pause_of state.client.watched state.side.page.tree e) state
 
 sheets-marks : (cs : List SheetChange) (state : State) → (sheet_steps cs state).state.client.marks ≡ state.client.marks
 sheets-marks [] state = refl
@@ -177,17 +201,21 @@ sheets-marks (c ∷ cs) state = sheets-marks cs (sheet_step c state).state
 
 deed-kept : (h : Marks Inverse) (deed : Deed) (state : State) → Keeps h state → Keeps (crossed_over h) (deed_step deed state).state
 deed-kept h (edits plan) state k =
-    keeps-crossed h state (script_steps plan.edits (with_page plan.page state)).state k (scripts-marks plan.edits (with_page plan.page state))
+    keeps-crossed h state (script_steps plan.edits (with_page plan.page state)).state k
+    (scripts-marks plan.edits (with_page plan.page state))
 deed-kept h (restyles changes) state k = keeps-crossed h state (sheet_steps changes state).state k (sheets-marks changes state)
 
 -- an act that is carried out empties the history
-pub acted-kept : (h : Marks Inverse) (state : State) (act : Act) → act_fault act state.side.page (book_in state) ≡ None → Keeps h state → Keeps (crossed_over h) (act_step act state).state
+pub acted-kept : (h : Marks Inverse) (state : State) (act : Act) → act_fault act state.side.page (book_in state) ≡ None → Keeps h state
+    → Keeps (crossed_over h) (act_step act state).state
 acted-kept h state act none k =
-    subst (λ (o : Option ActFault). Keeps (crossed_over h) (planned_step o (act_plan act state.side.page (book_in state)) state).state) (sym none)
+    subst (λ (o : Option ActFault). Keeps (crossed_over h) (planned_step o (act_plan act state.side.page (book_in state)) state).state)
+    (sym none)
     (deed-kept h (act_plan act state.side.page (book_in state)) state k)
 
 -- one that is refused leaves it
-pub unacted-kept : (h : Marks Inverse) (state : State) (act : Act) (f : ActFault) → act_fault act state.side.page (book_in state) ≡ Some f → Keeps h state → Keeps h (act_step act state).state
+pub unacted-kept : (h : Marks Inverse) (state : State) (act : Act) (f : ActFault) → act_fault act state.side.page (book_in state) ≡ Some f
+    → Keeps h state → Keeps h (act_step act state).state
 unacted-kept h state act f some k =
     subst (λ (o : Option ActFault). Keeps h (planned_step o (act_plan act state.side.page (book_in state)) state).state) (sym some) k
 

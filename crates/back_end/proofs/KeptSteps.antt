@@ -19,7 +19,8 @@ pub record Recalls (before after : State) (trees more : ℕ) : Type 0 where
   pub few_edits : edits_kept after ≤ edits_kept before + more
 
 -- a step that is well and has a history
-pub steps-well : {before : State} {done : Step} {ids trees more : ℕ} → ids ≤ 500000 + tree_edits before → trees ≤ 2 → Well before done ids 100001 1000 → Recalls before done.state trees more → StepsWell before done
+pub steps-well : {before : State} {done : Step} {ids trees more : ℕ} → ids ≤ 500000 + tree_edits before → trees ≤ 2
+    → Well before done ids 100001 1000 → Recalls before done.state trees more → StepsWell before done
 steps-well few least well recalls = record {
   is_state = record { now = well.now; history = recalls.history };
   course = well.course;
@@ -40,7 +41,8 @@ after-numbers before done room well = record {
 -- ---- steps by what they do to the history
 
 -- nothing, and the page stays
-pub recalls-same : (before after : State) → HasHistory before → after.client.marks ≡ before.client.marks → saved_now after ≡ saved_now before → before.side.page.next ≤ after.side.page.next
+pub recalls-same : (before after : State) → HasHistory before → after.client.marks ≡ before.client.marks
+    → saved_now after ≡ saved_now before → before.side.page.next ≤ after.side.page.next
     → Recalls before after 0 0
 recalls-same before after history marks saved low = record {
   history = (keeps-same (kept_in before) before after (history-kept before history) marks saved low).history;
@@ -49,7 +51,8 @@ recalls-same before after history marks saved low = record {
 }
 
 -- nothing after what was done before
-pub recalls-on : {before after : State} {trees more : ℕ} (later : State) → Recalls before after trees more → later.client.marks ≡ after.client.marks → saved_now later ≡ saved_now after
+pub recalls-on : {before after : State} {trees more : ℕ} (later : State) → Recalls before after trees more
+    → later.client.marks ≡ after.client.marks → saved_now later ≡ saved_now after
     → after.side.page.next ≤ later.side.page.next → Recalls before later trees more
 recalls-on {after = after} later recalls marks saved low =
     let same : Recalls after later 0 0 = recalls-same after later recalls.history marks saved low in
@@ -59,7 +62,8 @@ recalls-on {after = after} later recalls marks saved low =
       few_edits = omega (arith, same.few_edits, recalls.few_edits);
     }
 
-pub recalls-more : {before after : State} {trees more t m : ℕ} → trees ≤ t → more ≤ m → Recalls before after trees more → Recalls before after t m
+pub recalls-more : {before after : State} {trees more t m : ℕ} → trees ≤ t → more ≤ m → Recalls before after trees more
+    → Recalls before after t m
 recalls-more least most recalls = record {
   history = recalls.history;
   few_trees = omega (arith, recalls.few_trees, least);
@@ -69,7 +73,8 @@ recalls-more least most recalls = record {
 -- all is forgotten
 pub recalls-none : (before after : State) → after.client.marks ≡ no_marks → Recalls before after 0 0
 recalls-none before after marks = record {
-  history = subst (λ (m : Marks (Entry Saved Inverse)). IsHistory page_after (TakesWell after.side.page.next) m (saved_now after)) (sym marks) (record { past = tt; future = tt; going = λ t n. cc });
+  history = subst (λ (m : Marks (Entry Saved Inverse)). IsHistory page_after (TakesWell after.side.page.next) m (saved_now after))
+      (sym marks) (record { past = tt; future = tt; going = λ t n. cc });
   few_trees = omega (arith, ap trees_of marks);
   few_edits = omega (arith, ap count_of marks);
 }
@@ -83,7 +88,8 @@ recalls-crossed before after = record {
 }
 
 -- a client's edits are kept
-pub recalls-edited : (es : List Inverse) (before : State) (done : Step) → HasHistory before → AllTaken page_after (TakesWell done.state.side.page.next) es (saved_now before)
+pub recalls-edited : (es : List Inverse) (before : State) (done : Step) → HasHistory before
+    → AllTaken page_after (TakesWell done.state.side.page.next) es (saved_now before)
     → saved_now done.state ≡ after_all page_after es (saved_now before) → before.side.page.next ≤ done.state.side.page.next
     → Recalls before (keeping es before done).state (trees_in es) (length es)
 recalls-edited es before done history taken saved low =

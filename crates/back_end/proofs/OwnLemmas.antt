@@ -1,5 +1,6 @@
 -- What our own two methods come to is a step that a script may make, and then the reply.
-use Rattle.std.proofs.Common.{◌≡◌, ◌∙◌, ℕ, Bool, true, false, cond, List, [], ◌∷◌, ◌++◌, Option, Some, None, Result, Ok, Err, refl, sym, ap, arith}
+use Rattle.std.proofs.Common.{◌≡◌, ◌∙◌, ℕ, Bool, true, false, cond, List, [], ◌∷◌, ◌++◌, Option, Some, None, Result, Ok, Err, refl, sym, ap}
+use Rattle.std.proofs.Common.{arith}
 use Rattle.std.specs.Prelude.{option_map}
 use Rattle.std.specs.List.{flat_map}
 use Rattle.serde_json.specs.Data.{Data}
@@ -51,12 +52,14 @@ unmapped f (Some a) e = absurd cc
 
 -- ---- a load
 
-form-turn : (params : Data) (o : Option LoadedPage) (page : LoadedPage) → HasUtf8 params → page_in params ≡ o → load_form o ≡ Ok page → IsTurn (loads page)
+form-turn : (params : Data) (o : Option LoadedPage) (page : LoadedPage) → HasUtf8 params → page_in params ≡ o → load_form o ≡ Ok page
+    → IsTurn (loads page)
 form-turn params None page u is e = no-ok _ page e
 form-turn params (Some found) page u is e =
     let p = unless-is (option_map load_why (first_page_fault (Some found))) found page e in
     let spelt : page_in params ≡ Some page = is ∙ ap (λ n. Some n) p.1 in
-    let clear : first_page_fault (Some page) ≡ None = ap (λ n. first_page_fault (Some n)) (sym p.1) ∙ unmapped load_why (first_page_fault (Some found)) p.0 in
+    let clear : first_page_fault (Some page)
+    ≡ None = ap (λ n. first_page_fault (Some n)) (sym p.1) ∙ unmapped load_why (first_page_fault (Some found)) p.0 in
     (can_load_page params page spelt (ap first_page_fault spelt ∙ clear), pages_have_texts params page u spelt)
 
 pub load-turn : (params : Data) (page : LoadedPage) → HasUtf8 params → load_asked params ≡ Ok page → IsTurn (loads page)
@@ -64,7 +67,8 @@ load-turn params page u e = form-turn params (page_in params) page u refl (whole
 
 -- ---- an act
 
-spelt-turn : (params : Data) (o : Option Act) (page : PageValue) (book : List SheetEntry) (act : Act) → HasUtf8 params → act_in params ≡ o → then_ok (act_form o) (act_judged page book) ≡ Ok act
+spelt-turn : (params : Data) (o : Option Act) (page : PageValue) (book : List SheetEntry) (act : Act) → HasUtf8 params → act_in params ≡ o
+    → then_ok (act_form o) (act_judged page book) ≡ Ok act
     → IsTurn (acts act)
 spelt-turn params None page book act u is e = no-ok _ act e
 spelt-turn params (Some found) page book act u is e =
@@ -72,7 +76,8 @@ spelt-turn params (Some found) page book act u is e =
     let spelt : act_in params ≡ Some act = is ∙ ap (λ a. Some a) p.1 in
     (act-insertable params act spelt, acts_have_texts params act u spelt)
 
-pub act-turn : (params : Data) (page : PageValue) (book : List SheetEntry) (act : Act) → HasUtf8 params → act_asked params page book ≡ Ok act → IsTurn (acts act)
+pub act-turn : (params : Data) (page : PageValue) (book : List SheetEntry) (act : Act) → HasUtf8 params
+    → act_asked params page book ≡ Ok act → IsTurn (acts act)
 act-turn params page book act u e = at (has_float params) e where
   at : (b : Bool) → then_ok (cond b (Err (BadParam Params)) (act_form (act_in params))) (act_judged page book) ≡ Ok act → IsTurn (acts act)
   at true h = no-ok _ act h

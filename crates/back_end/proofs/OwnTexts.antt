@@ -18,7 +18,12 @@ use Rattle.cdp_json.proofs.ReadTexts.{IfSome, read_utf8}
 use Rattle.page_forms.proofs.NodeTexts.{object_utf8}
 use Rattle.cdp_messages.specs.declared.command.Asked.{Asked}
 use Rattle.cdp_messages.specs.declared.command.Command.{Command}
-use Rattle.cdp_messages.specs.declared.command.Command.TheVariants.{GetDocument, RequestChildNodes, PushByPath, PushBySerials, QuerySelector, QuerySelectorAll, GetAttributes, DescribeNode, SetAttributeValue, RemoveAttribute, SetNodeValue, RemoveNode, MoveTo, CopyTo, GetMatchedStyles, GetStyleSheetText, CollectClassNames, SetStyleTexts, SetRuleSelector, SetStyleSheetText, AddRule, SetBreakpoint, RemoveBreakpoint}
+use Rattle.cdp_messages.specs.declared.command.Command.TheVariants.{GetDocument, RequestChildNodes, PushByPath, PushBySerials}
+use Rattle.cdp_messages.specs.declared.command.Command.TheVariants.{QuerySelector, QuerySelectorAll, GetAttributes, DescribeNode}
+use Rattle.cdp_messages.specs.declared.command.Command.TheVariants.{SetAttributeValue, RemoveAttribute, SetNodeValue, RemoveNode, MoveTo}
+use Rattle.cdp_messages.specs.declared.command.Command.TheVariants.{CopyTo, GetMatchedStyles, GetStyleSheetText, CollectClassNames}
+use Rattle.cdp_messages.specs.declared.command.Command.TheVariants.{SetStyleTexts, SetRuleSelector, SetStyleSheetText, AddRule}
+use Rattle.cdp_messages.specs.declared.command.Command.TheVariants.{SetBreakpoint, RemoveBreakpoint}
 use Rattle.cdp_messages.specs.declared.command.Refused.{Refused}
 use Rattle.cdp_messages.specs.declared.command.Why.{Why}
 use Rattle.cdp_messages.specs.declared.method.Method.{Method}
@@ -32,9 +37,12 @@ use Rattle.cdp_messages.specs.declared.command.Why.TheVariants.{BadParam}
 use Rattle.cdp_messages.specs.Refusals.{param_name}
 use Rattle.css_objects.specs.declared.ranges.SourceRange.{SourceRange}
 use Rattle.css_agent.specs.EditLaws.{HasEditText}
-use Rattle.back_end.proofs.CommandTexts.{Any, reads-any, reads-text, reads-list, IfGiven, Gives, member-texts, gives-all, gives-field, reads-edit}
-use Rattle.cdp_messages.specs.Parameters.{command_by, reads_with, needed, attribute_fields, name_fields, value_fields, edits_field, set_selector_fields, sheet_text_fields, add_rule_fields, range_parameter, text_edit}
-use Rattle.cdp_messages.specs.Asked.{json_of, of_method, command_for, unless_session, or_bad_request, params_of, command_of, method_in, command_in, asked_by, with_id, asked_in, asked_value, asked}
+use Rattle.back_end.proofs.CommandTexts.{Any, reads-any, reads-text, reads-list, IfGiven, Gives, member-texts, gives-all, gives-field}
+use Rattle.back_end.proofs.CommandTexts.{reads-edit}
+use Rattle.cdp_messages.specs.Parameters.{command_by, reads_with, needed, attribute_fields, name_fields, value_fields, edits_field}
+use Rattle.cdp_messages.specs.Parameters.{set_selector_fields, sheet_text_fields, add_rule_fields, range_parameter, text_edit}
+use Rattle.cdp_messages.specs.Asked.{json_of, of_method, command_for, unless_session, or_bad_request, params_of, command_of, method_in}
+use Rattle.cdp_messages.specs.Asked.{command_in, asked_by, with_id, asked_in, asked_value, asked}
 use Rattle.back_end.specs.Servers.{by_agent, server_of, HasServedTexts}
 
 -- what is asked, if anything is, has UTF-8 texts where it is one of our own two methods
@@ -54,22 +62,26 @@ agents : (o : Option DomAsk) → HasServedTexts (by_agent o)
 agents None = tt
 agents (Some ask) = tt
 
-by-agents : {T : Type 0} (r : Result T Why) (makes : T → Command) → ((x : T) → HasServedTexts (server_of (makes x))) → CommandTexts (then_ok r (λ x. Ok (makes x)))
+by-agents : {T : Type 0} (r : Result T Why) (makes : T → Command) → ((x : T) → HasServedTexts (server_of (makes x)))
+    → CommandTexts (then_ok r (λ x. Ok (makes x)))
 by-agents (Ok x) makes has = has x
 by-agents (Err why) makes has = tt
 
 -- one whose parameters bring texts
-given : {T : Type 0} (fields : Lookups Why T) (makes : T → Command) (P : T → Type 0) (ms : Members) → MembersHaveUtf8 ms → Gives fields P → ((x : T) → P x → HasServedTexts (server_of (makes x)))
+given : {T : Type 0} (fields : Lookups Why T) (makes : T → Command) (P : T → Type 0) (ms : Members) → MembersHaveUtf8 ms → Gives fields P
+    → ((x : T) → P x → HasServedTexts (server_of (makes x)))
     → CommandTexts (reads_with fields makes ms)
 given fields makes P ms u gives has = at (fields.gets ms) (gives ms u) where
   at : (r : Result _ Why) → IfGiven P r → CommandTexts (then_ok r (λ x. Ok (makes x)))
   at (Ok x) g = has x g
   at (Err why) g = tt
 
-needed-text : {B : Type 0} (p : Param) (later : Lookups Why B) (Q : B → Type 0) → Gives later Q → Gives (needed p text later) (λ x. IsUtf8 x.0 × Q x.1)
+needed-text : {B : Type 0} (p : Param) (later : Lookups Why B) (Q : B → Type 0) → Gives later Q
+    → Gives (needed p text later) (λ x. IsUtf8 x.0 × Q x.1)
 needed-text p later Q rest = gives-field (param_name p) (BadParam p) text later IsUtf8 Q reads-text rest
 
-needed-any : {A B : Type 0} (p : Param) (k : Kind A) (later : Lookups Why B) (Q : B → Type 0) → Gives later Q → Gives (needed p k later) (λ x. Any x.0 × Q x.1)
+needed-any : {A B : Type 0} (p : Param) (k : Kind A) (later : Lookups Why B) (Q : B → Type 0) → Gives later Q
+    → Gives (needed p k later) (λ x. Any x.0 × Q x.1)
 needed-any p k later Q rest = gives-field (param_name p) (BadParam p) k later Any Q (reads-any k.reads) rest
 
 -- what the parameters of each give
@@ -88,32 +100,42 @@ attribute-gives =
     (needed-text param.Name (needed param.Value text no_lookups) OneText (last-text param.Value))
 
 edits-give : Gives edits_field (λ x. All HasEditText x.0 × Any x.1)
-edits-give = gives-field (param_name param.Edits) (BadParam param.Edits) (list_of text_edit) no_lookups (All HasEditText) Any (reads-list text_edit HasEditText reads-edit) (gives-all Why)
+edits-give = gives-field (param_name param.Edits) (BadParam param.Edits) (list_of text_edit) no_lookups (All HasEditText) Any
+    (reads-list text_edit HasEditText reads-edit) (gives-all Why)
 
 selector-gives : Gives set_selector_fields (λ x. IsUtf8 x.0 × (Any x.1.0 × OneText x.1.1))
 selector-gives =
-    needed-text param.StyleSheetId (needed param.Range range_parameter (needed param.Selector text no_lookups)) (λ (x : SourceRange × (List ℕ × ⊤)). Any x.0 × OneText x.1)
+    needed-text param.StyleSheetId (needed param.Range range_parameter (needed param.Selector text no_lookups))
+    (λ (x : SourceRange × (List ℕ × ⊤)). Any x.0 × OneText x.1)
     (needed-any param.Range range_parameter (needed param.Selector text no_lookups) OneText (last-text param.Selector))
 
 rule-gives : Gives add_rule_fields (λ x. IsUtf8 x.0 × (IsUtf8 x.1.0 × (Any x.1.1.0 × Any x.1.1.1)))
 rule-gives =
-    needed-text param.StyleSheetId (needed param.RuleText text (needed param.Location range_parameter no_lookups)) (λ (x : List ℕ × (SourceRange × ⊤)). IsUtf8 x.0 × (Any x.1.0 × Any x.1.1))
-    (needed-text param.RuleText (needed param.Location range_parameter no_lookups) (λ (x : SourceRange × ⊤). Any x.0 × Any x.1) (needed-any param.Location range_parameter no_lookups Any (gives-all Why)))
+    needed-text param.StyleSheetId (needed param.RuleText text (needed param.Location range_parameter no_lookups))
+    (λ (x : List ℕ × (SourceRange × ⊤)). IsUtf8 x.0 × (Any x.1.0 × Any x.1.1))
+    (needed-text param.RuleText (needed param.Location range_parameter no_lookups) (λ (x : SourceRange × ⊤). Any x.0 × Any x.1)
+    (needed-any param.Location range_parameter no_lookups Any (gives-all Why)))
 
 by-method : (m : Method) (ms : Members) → MembersHaveUtf8 ms → CommandTexts (command_by m ms)
 by-method method.DomEnable ms u = tt
 by-method method.DomDisable ms u = tt
 by-method method.GetDocument ms u = by-agents _ (λ x. GetDocument x.0 x.1.0) (λ x. agents (dom_ask_in (GetDocument x.0 x.1.0)))
-by-method method.RequestChildNodes ms u = by-agents _ (λ x. RequestChildNodes x.0 x.1.0 x.1.1.0) (λ x. agents (dom_ask_in (RequestChildNodes x.0 x.1.0 x.1.1.0)))
+by-method method.RequestChildNodes ms u = by-agents _ (λ x. RequestChildNodes x.0 x.1.0 x.1.1.0)
+    (λ x. agents (dom_ask_in (RequestChildNodes x.0 x.1.0 x.1.1.0)))
 by-method method.PushByPath ms u = by-agents _ (λ x. PushByPath x.0) (λ x. agents (dom_ask_in (PushByPath x.0)))
 by-method method.PushBySerials ms u = by-agents _ (λ x. PushBySerials x.0) (λ x. agents (dom_ask_in (PushBySerials x.0)))
 by-method method.QuerySelector ms u = by-agents _ (λ x. QuerySelector x.0 x.1.0) (λ x. agents (dom_ask_in (QuerySelector x.0 x.1.0)))
-by-method method.QuerySelectorAll ms u = by-agents _ (λ x. QuerySelectorAll x.0 x.1.0) (λ x. agents (dom_ask_in (QuerySelectorAll x.0 x.1.0)))
+by-method method.QuerySelectorAll ms u = by-agents _ (λ x. QuerySelectorAll x.0 x.1.0)
+    (λ x. agents (dom_ask_in (QuerySelectorAll x.0 x.1.0)))
 by-method method.GetAttributes ms u = by-agents _ (λ x. GetAttributes x.0) (λ x. agents (dom_ask_in (GetAttributes x.0)))
-by-method method.DescribeNode ms u = by-agents _ (λ x. DescribeNode x.0 x.1.0 x.1.1.0 x.1.1.1.0) (λ x. agents (dom_ask_in (DescribeNode x.0 x.1.0 x.1.1.0 x.1.1.1.0)))
-by-method method.SetAttributeValue ms u = given attribute_fields (λ x. SetAttributeValue x.0 x.1.0 x.1.1.0) (λ x. Any x.0 × TwoTexts x.1) ms u attribute-gives (λ x g. (g.1.0, g.1.1.0))
-by-method method.RemoveAttribute ms u = given name_fields (λ x. RemoveAttribute x.0 x.1.0) (λ x. Any x.0 × OneText x.1) ms u (needed-any param.NodeId whole (needed param.Name text no_lookups) OneText (last-text param.Name)) (λ x g. g.1.0)
-by-method method.SetNodeValue ms u = given value_fields (λ x. SetNodeValue x.0 x.1.0) (λ x. Any x.0 × OneText x.1) ms u (needed-any param.NodeId whole (needed param.Value text no_lookups) OneText (last-text param.Value)) (λ x g. g.1.0)
+by-method method.DescribeNode ms u = by-agents _ (λ x. DescribeNode x.0 x.1.0 x.1.1.0 x.1.1.1.0)
+    (λ x. agents (dom_ask_in (DescribeNode x.0 x.1.0 x.1.1.0 x.1.1.1.0)))
+by-method method.SetAttributeValue ms u = given attribute_fields (λ x. SetAttributeValue x.0 x.1.0 x.1.1.0)
+    (λ x. Any x.0 × TwoTexts x.1) ms u attribute-gives (λ x g. (g.1.0, g.1.1.0))
+by-method method.RemoveAttribute ms u = given name_fields (λ x. RemoveAttribute x.0 x.1.0) (λ x. Any x.0 × OneText x.1) ms u
+    (needed-any param.NodeId whole (needed param.Name text no_lookups) OneText (last-text param.Name)) (λ x g. g.1.0)
+by-method method.SetNodeValue ms u = given value_fields (λ x. SetNodeValue x.0 x.1.0) (λ x. Any x.0 × OneText x.1) ms u
+    (needed-any param.NodeId whole (needed param.Value text no_lookups) OneText (last-text param.Value)) (λ x g. g.1.0)
 by-method method.RemoveNode ms u = by-agents _ (λ x. RemoveNode x.0) (λ x. tt)
 by-method method.MoveTo ms u = by-agents _ (λ x. MoveTo x.0 x.1.0 x.1.1.0) (λ x. tt)
 by-method method.CopyTo ms u = by-agents _ (λ x. CopyTo x.0 x.1.0 x.1.1.0) (λ x. tt)
@@ -125,10 +147,14 @@ by-method method.CssDisable ms u = tt
 by-method method.GetMatchedStyles ms u = by-agents _ (λ x. GetMatchedStyles x.0) (λ x. tt)
 by-method method.GetStyleSheetText ms u = by-agents _ (λ x. GetStyleSheetText x.0) (λ x. tt)
 by-method method.CollectClassNames ms u = by-agents _ (λ x. CollectClassNames x.0) (λ x. tt)
-by-method method.SetStyleTexts ms u = given edits_field (λ x. SetStyleTexts x.0) (λ x. All HasEditText x.0 × Any x.1) ms u edits-give (λ x g. g.0)
-by-method method.SetRuleSelector ms u = given set_selector_fields (λ x. SetRuleSelector x.0 x.1.0 x.1.1.0) (λ x. IsUtf8 x.0 × (Any x.1.0 × OneText x.1.1)) ms u selector-gives (λ x g. g.1.1.0)
-by-method method.SetStyleSheetText ms u = given sheet_text_fields (λ x. SetStyleSheetText x.0 x.1.0) TwoTexts ms u (needed-text param.StyleSheetId (needed param.Text text no_lookups) OneText (last-text param.Text)) (λ x g. g.1.0)
-by-method method.AddRule ms u = given add_rule_fields (λ x. AddRule x.0 x.1.0 x.1.1.0) (λ x. IsUtf8 x.0 × (IsUtf8 x.1.0 × (Any x.1.1.0 × Any x.1.1.1))) ms u rule-gives (λ x g. g.1.0)
+by-method method.SetStyleTexts ms u = given edits_field (λ x. SetStyleTexts x.0) (λ x. All HasEditText x.0 × Any x.1) ms u edits-give
+    (λ x g. g.0)
+by-method method.SetRuleSelector ms u = given set_selector_fields (λ x. SetRuleSelector x.0 x.1.0 x.1.1.0)
+    (λ x. IsUtf8 x.0 × (Any x.1.0 × OneText x.1.1)) ms u selector-gives (λ x g. g.1.1.0)
+by-method method.SetStyleSheetText ms u = given sheet_text_fields (λ x. SetStyleSheetText x.0 x.1.0) TwoTexts ms u
+    (needed-text param.StyleSheetId (needed param.Text text no_lookups) OneText (last-text param.Text)) (λ x g. g.1.0)
+by-method method.AddRule ms u = given add_rule_fields (λ x. AddRule x.0 x.1.0 x.1.1.0)
+    (λ x. IsUtf8 x.0 × (IsUtf8 x.1.0 × (Any x.1.1.0 × Any x.1.1.1))) ms u rule-gives (λ x g. g.1.0)
 by-method method.SetBreakpoint ms u = by-agents _ (λ x. SetBreakpoint x.0 x.1.0) (λ x. tt)
 by-method method.RemoveBreakpoint ms u = by-agents _ (λ x. RemoveBreakpoint x.0 x.1.0) (λ x. tt)
 by-method method.ReplayLoad ms u = u
@@ -157,7 +183,8 @@ sessions-texts : (session : Option Data) (r : Result Command Why) → CommandTex
 sessions-texts None r u = u
 sessions-texts (Some d) r u = tt
 
-command-texts : (own : Bool) (name : List ℕ) (params session : Option Data) → IfSome HasUtf8 params → CommandTexts (command_of own name params session)
+command-texts : (own : Bool) (name : List ℕ) (params session : Option Data) → IfSome HasUtf8 params
+    → CommandTexts (command_of own name params session)
 command-texts own name params session u = at (params_of params) (params-texts params u) where
   at : (r : Result Members Why) → ParamsTexts r → CommandTexts (then_ok r (λ ps. unless_session session (command_for own name ps)))
   at (Ok ms) v = sessions-texts session (command_for own name ms) (method-texts (known_method own name) ms v)
@@ -165,8 +192,10 @@ command-texts own name params session u = at (params_of params) (params-texts pa
 
 in-frame : (own : Bool) (frame : Members) → MembersHaveUtf8 frame → CommandTexts (command_in own frame)
 in-frame own frame u = at (method_in (field_of as_str (codes "method") frame)) where
-  at : (r : Result (List ℕ) Why) → CommandTexts (then_ok r (λ name. command_of own name (get_member (codes "params") frame) (get_member (codes "sessionId") frame)))
-  at (Ok name) = command-texts own name (get_member (codes "params") frame) (get_member (codes "sessionId") frame) (member-texts (codes "params") frame u)
+  at : (r : Result (List ℕ) Why)
+      → CommandTexts (then_ok r (λ name. command_of own name (get_member (codes "params") frame) (get_member (codes "sessionId") frame)))
+  at (Ok name) = command-texts own name (get_member (codes "params") frame) (get_member (codes "sessionId") frame)
+      (member-texts (codes "params") frame u)
   at (Err why) = tt
 
 by-id : (id : ℕ) (r : Result Command Why) → CommandTexts r → AskedTexts (asked_by id r)

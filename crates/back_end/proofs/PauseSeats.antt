@@ -1,5 +1,6 @@
 -- A pause that a seat tells is the step of the state.
-use Rattle.std.proofs.Common.{◌≡◌, ℕ, ◌+◌, ◌<◌, Bool, true, List, [], ◌∷◌, ◌++◌, Option, Some, None, refl, sym, ◌∙◌, ap, subst, append-nil, append_assoc, arith}
+use Rattle.std.proofs.Common.{◌≡◌, ℕ, ◌+◌, ◌<◌, Bool, true, List, [], ◌∷◌, ◌++◌, Option, Some, None, refl, sym, ◌∙◌, ap, subst, append-nil}
+use Rattle.std.proofs.Common.{append_assoc, arith}
 use Rattle.std.specs.Prelude.{is_some}
 use Rattle.std.proofs.lemmas.List.Concat.{flat_map-append}
 use Rattle.node_tree.specs.Nodes.{Nodes, Branch}
@@ -33,25 +34,31 @@ use Rattle.back_end.specs.States.{State, page_nodes, HoldsNow}
 use Rattle.back_end.specs.Steps.{push_step, id_now, pause_step, edit_step, pause_before, script_step}
 use Rattle.back_end.specs.declared.desk.Desk.{Desk}
 use Rattle.back_end.specs.declared.side.PageSide.{PageSide}
-use Rattle.back_end.specs.Seats.{DeskStandsFor, CanPush, attribute_pause, removal_pause, subtree_watch_pause, IsPause, by_attribute, by_removal, by_subtree}
+use Rattle.back_end.specs.Seats.{DeskStandsFor, CanPush, attribute_pause, removal_pause, subtree_watch_pause, IsPause, by_attribute}
+use Rattle.back_end.specs.Seats.{by_removal, by_subtree}
 use Rattle.back_end.proofs.PauseSteps.{edit-pause, watched-begun, push-knows}
 use Rattle.back_end.proofs.PushSteps.{IsBegun, is-begun, session-is, opened_by, push-opened, push-is}
 
 -- ---- ids stay
 
 module _ (n : Nodes PageRow) (distinct : AreDistinct n) (document : Branch PageRow) (s : ℕ) where
-  ids-openings : (xs : List Opening) (o : ℕ → Bool) (pushed : List ℕ) (since : ℕ) → IsSession n (session_of o pushed since) → AreOpenings n o xs → 0 < times s (known o n)
-      → session_ids (session_of o pushed since) s ≡ session_ids (all_opened (session_keeper n) document xs (session_of o pushed since)).state s
+  ids-openings : (xs : List Opening) (o : ℕ → Bool) (pushed : List ℕ) (since : ℕ) → IsSession n (session_of o pushed since)
+      → AreOpenings n o xs → 0 < times s (known o n)
+      → session_ids (session_of o pushed since) s
+      ≡ session_ids (all_opened (session_keeper n) document xs (session_of o pushed since)).state s
   ids-openings [] o pushed since session are h = refl
   ids-openings (y ∷ ys) o pushed since session are h =
       let p : ℕ → Bool = opened_also y.levels y.node o in
       let z : Session = grown o p n (session_of o pushed since) in
-      let still : times s (known p n) ≡ times s (known o n) + times s (shown_anew o p n) = times-anew o p (opened-grows o y.levels y.node) s n in
+      let still : times s (known p n)
+      ≡ times s (known o n) + times s (shown_anew o p n) = times-anew o p (opened-grows o y.levels y.node) s n in
       ids-stay y.levels n y.node o pushed since distinct are.0 are.1 session s h
-      ∙ ids-openings ys p z.pushed z.since (IsSession-opened y.levels n y.node o pushed since distinct are.0 are.1 session) are.2 (omega (arith, still, h))
+      ∙ ids-openings ys p z.pushed z.since (IsSession-opened y.levels n y.node o pushed since distinct are.0 are.1 session) are.2
+      (omega (arith, still, h))
 
 -- the id of a known node stays when another one becomes known
-pub push-keeps-id : (serial : ℕ) (state : State) (begun : IsBegun state.client.session) (s : ℕ) → HoldsNow state → 0 < times s (known begun.0 (page_nodes state))
+pub push-keeps-id : (serial : ℕ) (state : State) (begun : IsBegun state.client.session) (s : ℕ) → HoldsNow state
+    → 0 < times s (known begun.0 (page_nodes state))
     → id_now state s ≡ id_now (push_step serial state).state s
 push-keeps-id serial state begun s is h =
     let page = state.side.page in
@@ -60,23 +67,33 @@ push-keeps-id serial state begun s is h =
     let same : session_of begun.0 w.pushed w.since ≡ w = session-is w begun in
     let distinct = distinct-alone page is.page in
     subst (λ (z : Session). session_ids z s ≡ session_ids (pushed (session_keeper n) page.tree serial z).state s) same
-    (ids-openings n distinct page.tree s (pushing begun.0 serial n) begun.0 w.pushed w.since (subst (λ (z : Session). IsSession n z) (sym same) is.session)
+    (ids-openings n distinct page.tree s (pushing begun.0 serial n) begun.0 w.pushed w.since
+    (subst (λ (z : Session). IsSession n z) (sym same) is.session)
     (pushing-are n distinct begun.0 serial n begun.0 (containers-page page is.page) distinct (roots_in_view begun.0 n) (λ k h. refl)) h)
 
 -- ---- what a seat can push
 
 -- a watched node of the state
-pub watched-can : (state : State) (kind : WatchKind) (s : ℕ) → HoldsNow state → is_watched kind state.client.watched s ≡ true → CanPush s state
-watched-can state kind s is h = record { begun = ap (λ (o : Option (ℕ → Bool)). is_some o) (watched-begun state kind s is h).1; there = is.watched kind s h }
+pub watched-can : (state : State) (kind : WatchKind) (s : ℕ) → HoldsNow state → is_watched kind state.client.watched s ≡ true
+    → CanPush s state
+watched-can state kind s is h = record {
+  begun = ap (λ (o : Option (ℕ → Bool)). is_some o) (watched-begun state kind s is h).1;
+  there = is.watched kind s h;
+}
 
 -- after a push any node of the page
-pub after-can : (serial s : ℕ) (state : State) → CanPush serial state → has row_serial s (page_nodes state) ≡ true → CanPush s (push_step serial state).state
+pub after-can : (serial s : ℕ) (state : State) → CanPush serial state → has row_serial s (page_nodes state) ≡ true
+    → CanPush s (push_step serial state).state
 after-can serial s state can there =
-    record { begun = ap (λ (o : Option (ℕ → Bool)). is_some o) (push-opened serial state (is-begun state.client.session can.begun)); there = there }
+    record {
+      begun = ap (λ (o : Option (ℕ → Bool)). is_some o) (push-opened serial state (is-begun state.client.session can.begun));
+      there = there;
+    }
 
 -- ---- what is sent
 
-frames-joined : (old first new : List ℕ) (ms ks : List Move) → first ≡ old ++ frames_of_moves ms → new ≡ first ++ frames_of_moves ks → new ≡ old ++ frames_of_moves (ms ++ ks)
+frames-joined : (old first new : List ℕ) (ms ks : List Move) → first ≡ old ++ frames_of_moves ms → new ≡ first ++ frames_of_moves ks
+    → new ≡ old ++ frames_of_moves (ms ++ ks)
 frames-joined old first new ms ks one two =
     two ∙ ap (λ (bs : List ℕ). bs ++ frames_of_moves ks) one ∙ append_assoc old (frames_of_moves ms) (frames_of_moves ks)
     ∙ ap (λ bs. old ++ bs) (sym (flat_map-append (λ (m : Move). framed (move_text m)) ms ks))
@@ -101,9 +118,11 @@ pub removal-sent : (state : State) (node id : ℕ) (old first new : List ℕ) �
 removal-sent state node id old first new id_is one two = own-sent state node id told_pause.Removed old first new id_is one two
 
 -- one by a subtree watch
-pub subtree-sent : (state : State) (node target id target_id : ℕ) (insertion : Bool) (old first second new : List ℕ) → HoldsNow state → CanPush node state
+pub subtree-sent : (state : State) (node target id target_id : ℕ) (insertion : Bool) (old first second new : List ℕ) → HoldsNow state
+    → CanPush node state
     → id ≡ id_now (push_step node state).state node → target_id ≡ id_now (push_step target (push_step node state).state).state target
-    → first ≡ old ++ frames_of_moves (push_step node state).moves → second ≡ first ++ frames_of_moves (push_step target (push_step node state).state).moves
+    → first ≡ old ++ frames_of_moves (push_step node state).moves
+    → second ≡ first ++ frames_of_moves (push_step target (push_step node state).state).moves
     → new ≡ second ++ frames_of_moves (met (told_pause.Subtree id target_id insertion) ∷ [])
     → new ≡ old ++ frames_of_moves (pause_step (Some (subtree_watch_pause node target insertion)) state).moves
 subtree-sent state node target id target_id insertion old first second new is can id_is target_is one two three =
@@ -112,8 +131,10 @@ subtree-sent state node target id target_id insertion old first second new is ca
     let begun_after : IsBegun after.client.session = (opened_by node state begun.0, push-opened node state begun) in
     let last : State = (push_step target after).state in
     let stays : id_now after node ≡ id_now last node =
-    push-keeps-id target after begun_after node (push-is node state is begun) (push-knows node state begun begun_after.0 is can.there (λ k h. h)) in
-    frames-joined old second new ((push_step node state).moves ++ (push_step target after).moves) (met (told_pause.Subtree (id_now last node) (id_now last target) insertion) ∷ [])
+    push-keeps-id target after begun_after node (push-is node state is begun)
+    (push-knows node state begun begun_after.0 is can.there (λ k h. h)) in
+    frames-joined old second new ((push_step node state).moves ++ (push_step target after).moves)
+    (met (told_pause.Subtree (id_now last node) (id_now last target) insertion) ∷ [])
     (frames-joined old first second (push_step node state).moves (push_step target after).moves one two)
     (three ∙ ap (λ (i : ℕ). second ++ frames_of_moves (met (told_pause.Subtree i target_id insertion) ∷ [])) (id_is ∙ stays)
     ∙ ap (λ (i : ℕ). second ++ frames_of_moves (met (told_pause.Subtree (id_now last node) i insertion) ∷ [])) target_is)
@@ -121,7 +142,8 @@ subtree-sent state node target id target_id insertion old first second new is ca
 -- ---- which pause it is
 
 module _ {w : Watched} {n : Nodes PageRow} where
-  pub attribute-is : (p : Pause) → p.kind ≡ Attribute → IsPause w n p → (p ≡ attribute_pause p.node) × (is_watched Attribute w p.node ≡ true)
+  pub attribute-is : (p : Pause) → p.kind ≡ Attribute → IsPause w n p
+      → (p ≡ attribute_pause p.node) × (is_watched Attribute w p.node ≡ true)
   attribute-is _ e (by_attribute s h) = (refl, h)
   attribute-is _ e (by_removal s h) = absurd cc
   attribute-is _ e (by_subtree s target insertion h there) = absurd cc
@@ -146,33 +168,43 @@ module _ {w : Watched} {n : Nodes PageRow} where
 
 -- ---- the pause that an edit comes to at a seat
 
-pub pause-here : (d : Desk) (s : PageSide) (state : State) (e : TreeEdit) (page : PageValue) (o : Option Pause) → DeskStandsFor d s state → page ≡ s.page → o ≡ pause_of d.watches page.tree e
+pub pause-here : (d : Desk) (s : PageSide) (state : State) (e : TreeEdit) (page : PageValue) (o : Option Pause) → DeskStandsFor d s state
+    → page ≡ s.page → o ≡ pause_of d.watches page.tree e
     → pause_of state.client.watched state.side.page.tree e ≡ o
 pause-here d s state e page o stands page_is is =
-    sym (is ∙ ap (λ (p : PageValue). pause_of d.watches p.tree e) (page_is ∙ stands.page_is) ∙ ap (λ w. pause_of w state.side.page.tree e) stands.watches_are)
+    sym (is ∙ ap (λ (p : PageValue). pause_of d.watches p.tree e) (page_is ∙ stands.page_is) ∙ ap
+    (λ w. pause_of w state.side.page.tree e) stands.watches_are)
 
-pub edit-is-pause : (d : Desk) (s : PageSide) (state : State) (e : TreeEdit) (p : Pause) → DeskStandsFor d s state → CanApply s.page.next e s.page.tree
+pub edit-is-pause : (d : Desk) (s : PageSide) (state : State) (e : TreeEdit) (p : Pause) → DeskStandsFor d s state
+    → CanApply s.page.next e s.page.tree
     → pause_of state.client.watched state.side.page.tree e ≡ Some p → IsPause state.client.watched (page_nodes state) p
 edit-is-pause d s state e p stands can is =
-    edit-pause e state.client.watched state.side.page.next state.side.page.tree p (subst (λ (page : PageValue). CanApply page.next e page.tree) stands.page_is can) is
+    edit-pause e state.client.watched state.side.page.next state.side.page.tree p
+    (subst (λ (page : PageValue). CanApply page.next e page.tree) stands.page_is can) is
 
 -- the same pause
-pub told-stands : (d1 : Desk) (s : PageSide) (state : State) (p q : Pause) → p ≡ q → DeskStandsFor d1 s (pause_step (Some q) state).state → DeskStandsFor d1 s (pause_step (Some p) state).state
+pub told-stands : (d1 : Desk) (s : PageSide) (state : State) (p q : Pause) → p ≡ q → DeskStandsFor d1 s (pause_step (Some q) state).state
+    → DeskStandsFor d1 s (pause_step (Some p) state).state
 told-stands d1 s state p q same stands = subst (λ (x : Pause). DeskStandsFor d1 s (pause_step (Some x) state).state) (sym same) stands
 
-pub told-sent : (state : State) (p q : Pause) (old new : List ℕ) → p ≡ q → new ≡ old ++ frames_of_moves (pause_step (Some q) state).moves → new ≡ old ++ frames_of_moves (pause_step (Some p) state).moves
+pub told-sent : (state : State) (p q : Pause) (old new : List ℕ) → p ≡ q → new ≡ old ++ frames_of_moves (pause_step (Some q) state).moves
+    → new ≡ old ++ frames_of_moves (pause_step (Some p) state).moves
 told-sent state p q old new same sent = sent ∙ ap (λ (x : Pause). old ++ frames_of_moves (pause_step (Some x) state).moves) (sym same)
 
 -- before an edit
-pub before-stands : (d1 : Desk) (s : PageSide) (state : State) (e : TreeEdit) (o : Option Pause) → pause_of state.client.watched state.side.page.tree e ≡ o
+pub before-stands : (d1 : Desk) (s : PageSide) (state : State) (e : TreeEdit) (o : Option Pause)
+    → pause_of state.client.watched state.side.page.tree e ≡ o
     → DeskStandsFor d1 s (pause_step o state).state → DeskStandsFor d1 s (pause_before e state).state
 before-stands d1 s state e o is stands = subst (λ (x : Option Pause). DeskStandsFor d1 s (pause_step x state).state) (sym is) stands
 
-pub before-sent : (state : State) (e : TreeEdit) (o : Option Pause) (old new : List ℕ) → pause_of state.client.watched state.side.page.tree e ≡ o
+pub before-sent : (state : State) (e : TreeEdit) (o : Option Pause) (old new : List ℕ)
+    → pause_of state.client.watched state.side.page.tree e ≡ o
     → new ≡ old ++ frames_of_moves (pause_step o state).moves → new ≡ old ++ frames_of_moves (pause_before e state).moves
 before-sent state e o old new is sent = sent ∙ ap (λ (x : Option Pause). old ++ frames_of_moves (pause_step x state).moves) (sym is)
 
 -- an edit after its pause
 pub script-sent : (state : State) (e : TreeEdit) (old first new : List ℕ) → first ≡ old ++ frames_of_moves (pause_before e state).moves
-    → new ≡ first ++ frames_of_moves (edit_step e (pause_before e state).state).moves → new ≡ old ++ frames_of_moves (script_step e state).moves
-script-sent state e old first new one two = frames-joined old first new (pause_before e state).moves (edit_step e (pause_before e state).state).moves one two
+    → new ≡ first ++ frames_of_moves (edit_step e (pause_before e state).state).moves
+    → new ≡ old ++ frames_of_moves (script_step e state).moves
+script-sent state e old first new one two = frames-joined old first new (pause_before e state).moves
+    (edit_step e (pause_before e state).state).moves one two

@@ -1,5 +1,6 @@
 -- A pause: its nodes become known, and then it is told; the step is well.
-use Rattle.std.proofs.Common.{◌≡◌, ℕ, ◌+◌, ◌^◌, ◌<◌, ◌≤◌, ◌==◌, Bool, true, false, cond, List, [], ◌∷◌, find, length, Option, Some, None, refl, sym, ◌∙◌, ap, subst, arith}
+use Rattle.std.proofs.Common.{◌≡◌, ℕ, ◌+◌, ◌^◌, ◌<◌, ◌≤◌, ◌==◌, Bool, true, false, cond, List, [], ◌∷◌, find, length, Option, Some, None}
+use Rattle.std.proofs.Common.{refl, sym, ◌∙◌, ap, subst, arith}
 use Rattle.std.specs.Prelude.{option_map}
 use Rattle.std.proofs.lemmas.Bool.{eq-eqb, eqb-true, not-false}
 use Rattle.node_tree.specs.Nodes.{Nodes, none, node, Branch, alone}
@@ -49,16 +50,19 @@ module _ (w : Watched) (n : Nodes PageRow) where
   removal-pause : (s : ℕ) (p : Pause) → own_pause Removed w s ≡ Some p → IsPause w n p
   removal-pause s p e = one-pause _ p (is_watched Removed w s) (λ h. by_removal s h) e
 
-  subtree-pause : (target : ℕ) (insertion : Bool) (line : List ℕ) (p : Pause) → has row_serial target n ≡ true → subtree_pause w target insertion line ≡ Some p → IsPause w n p
+  subtree-pause : (target : ℕ) (insertion : Bool) (line : List ℕ) (p : Pause) → has row_serial target n ≡ true
+      → subtree_pause w target insertion line ≡ Some p → IsPause w n p
   subtree-pause target insertion line p there e = at (find (is_watched Subtree w) line) refl e where
     at : (o : Option ℕ) → find (is_watched Subtree w) line ≡ o
-        → option_map (λ nearest. record { kind = Subtree; node = nearest; target = Some target; insertion = insertion }) o ≡ Some p → IsPause w n p
+        → option_map (λ nearest. record { kind = Subtree; node = nearest; target = Some target; insertion = insertion }) o ≡ Some p
+        → IsPause w n p
     at None h e = absurd cc
     at (Some s) h e =
         let same : ◌≡◌ {A = Pause} (record { kind = Subtree; node = s; target = Some target; insertion = insertion }) p = cc in
         subst (IsPause w n) same (by_subtree s target insertion (find-there (is_watched Subtree w) line s h).1 there)
 
-  first-pause : (o u : Option Pause) (p : Pause) → (o ≡ Some p → IsPause w n p) → (u ≡ Some p → IsPause w n p) → first_of o u ≡ Some p → IsPause w n p
+  first-pause : (o u : Option Pause) (p : Pause) → (o ≡ Some p → IsPause w n p) → (u ≡ Some p → IsPause w n p) → first_of o u ≡ Some p
+      → IsPause w n p
   first-pause None u p f g e = g e
   first-pause (Some x) u p f g e = f e
 
@@ -66,7 +70,8 @@ live-there : (s : ℕ) (tree : Branch PageRow) → is_live s tree ≡ true → h
 live-there s tree live = has-find row_serial s (alone tree) ∙ live
 
 -- the pause that an edit comes to
-pub edit-pause : (e : TreeEdit) (w : Watched) (next : ℕ) (tree : Branch PageRow) (p : Pause) → CanApply next e tree → pause_of w tree e ≡ Some p → IsPause w (alone tree) p
+pub edit-pause : (e : TreeEdit) (w : Watched) (next : ℕ) (tree : Branch PageRow) (p : Pause) → CanApply next e tree
+    → pause_of w tree e ≡ Some p → IsPause w (alone tree) p
 edit-pause (SetAttr s name value) w next tree p can e = attribute-pause w (alone tree) s p e
 edit-pause (DropAttr s name) w next tree p can e = attribute-pause w (alone tree) s p e
 edit-pause (SetText s value) w next tree p can e =
@@ -81,7 +86,8 @@ edit-pause (Detach s) w next tree p can e =
     (subtree-pause w (alone tree) s false (ancestors_at s tree) p (live-there s tree live)) e
 
 -- where a node is watched, something is opened
-pub watched-begun : (state : State) (kind : WatchKind) (s : ℕ) → HoldsNow state → is_watched kind state.client.watched s ≡ true → IsBegun state.client.session
+pub watched-begun : (state : State) (kind : WatchKind) (s : ℕ) → HoldsNow state → is_watched kind state.client.watched s ≡ true
+    → IsBegun state.client.session
 watched-begun state kind s is h = at state.client.session.opened refl where
   at : (o : Option (ℕ → Bool)) → state.client.session.opened ≡ o → IsBegun state.client.session
   at (Some o) e = (o, e)
@@ -90,7 +96,8 @@ watched-begun state kind s is h = at state.client.session.opened refl where
 -- ---- known nodes are seen
 
 module _ (o : ℕ → Bool) (i : ℕ → ℕ) (s : ℕ) where
-  seen-step : (same seen open_now : Bool) (a c d : ℕ) (below : Nodes Seen) → (same ≡ true → seen ≡ true) → a ≤ tally seen_id (i s) below → c ≤ d
+  seen-step : (same seen open_now : Bool) (a c d : ℕ) (below : Nodes Seen) → (same ≡ true → seen ≡ true) → a ≤ tally seen_id (i s) below
+      → c ≤ d
       → cond {A = ℕ} same 1 0 + (cond {A = ℕ} open_now a 0 + c) ≤ cond {A = ℕ} seen 1 0 + tally seen_id (i s) (cond open_now below none) + d
   seen-step true true true a c d below f h k = omega arith
   seen-step true true false a c d below f h k = omega arith
@@ -104,22 +111,27 @@ module _ (o : ℕ → Bool) (i : ℕ → ℕ) (s : ℕ) where
   known-seen none = omega arith
   known-seen (node r c t) =
       rw (times-known o i s r c t)
-      (seen-step (r.serial == s) (i r.serial == i s) (opens o r) _ _ _ (cut o i c) (λ e. eq-eqb (i r.serial) (i s) (ap i (eqb-true r.serial s e))) (known-seen c) (known-seen t))
+      (seen-step (r.serial == s) (i r.serial == i s) (opens o r) _ _ _ (cut o i c)
+      (λ e. eq-eqb (i r.serial) (i s) (ap i (eqb-true r.serial s e))) (known-seen c) (known-seen t))
 
   pub seen-known : (n : Nodes PageRow) → 0 < times s (known o n) → has seen_id (i s) (cut o i n) ≡ true
   seen-known n h = has-there seen_id (i s) (cut o i n) (omega (arith, h, known-seen n))
 
 -- a node that was pushed is known where at least as much is opened
-pub push-knows : (serial : ℕ) (state : State) (begun : IsBegun state.client.session) (q : ℕ → Bool) → HoldsNow state → has row_serial serial (page_nodes state) ≡ true
+pub push-knows : (serial : ℕ) (state : State) (begun : IsBegun state.client.session) (q : ℕ → Bool) → HoldsNow state
+    → has row_serial serial (page_nodes state) ≡ true
     → ((k : ℕ) → opened_by serial state begun.0 k ≡ true → q k ≡ true) → 0 < times serial (known q (page_nodes state))
 push-knows serial state begun q is there all =
-    pushed-known begun.0 serial q (page_nodes state) begun.0 (containers-page state.side.page is.page) (distinct-alone state.side.page is.page) (λ k h. refl) all there
+    pushed-known begun.0 serial q (page_nodes state) begun.0 (containers-page state.side.page is.page)
+    (distinct-alone state.side.page is.page) (λ k h. refl) all there
 
 -- and its client sees it
-shown-id : (state : State) (begun : IsBegun state.client.session) (s : ℕ) → 0 < times s (known begun.0 (page_nodes state)) → has seen_id (id_now state s) (view_of state).tree ≡ true
+shown-id : (state : State) (begun : IsBegun state.client.session) (s : ℕ) → 0 < times s (known begun.0 (page_nodes state))
+    → has seen_id (id_now state s) (view_of state).tree ≡ true
 shown-id state begun s h =
     let w : Session = state.client.session in
-    ap (λ (o : Option (ℕ → Bool)). has seen_id (session_ids w s) (cut_by o (session_ids w) (page_nodes state))) begun.1 ∙ seen-known begun.0 (session_ids w) s (page_nodes state) h
+    ap (λ (o : Option (ℕ → Bool)). has seen_id (session_ids w s)
+    (cut_by o (session_ids w) (page_nodes state))) begun.1 ∙ seen-known begun.0 (session_ids w) s (page_nodes state) h
 
 -- ---- the step
 
@@ -128,7 +140,8 @@ pub record Pauses (state : State) (done : Step) : Type 0 where
   pub well : Well state done 200000 0 0
   pub side : done.state.side ≡ state.side
 
-low-after : {before : State} {done : Step} (ids : ℕ) → HasNumbers before → Well before done ids 0 0 → length before.client.session.pushed + ids < 2 ^ 52 → HasNumbers done.state
+low-after : {before : State} {done : Step} (ids : ℕ) → HasNumbers before → Well before done ids 0 0
+    → length before.client.session.pushed + ids < 2 ^ 52 → HasNumbers done.state
 low-after ids low well few = record {
   ids = omega (arith, few, well.few_ids);
   serials = omega (arith, low.serials, well.few_serials);
@@ -136,24 +149,30 @@ low-after ids low well few = record {
 }
 
 -- by a watch of the node itself
-own-pauses : (state : State) (p : Pause) → p.target ≡ None → HoldsNow state → HasNumbers state → length state.client.session.pushed + 200000 < 2 ^ 52 → IsBegun state.client.session
-    → has row_serial p.node (page_nodes state) ≡ true → paused_nodes (pause_data p.kind p (id_now (push_step p.node state).state)) ≡ id_now (push_step p.node state).state p.node ∷ []
+own-pauses : (state : State) (p : Pause) → p.target ≡ None → HoldsNow state → HasNumbers state
+    → length state.client.session.pushed + 200000 < 2 ^ 52 → IsBegun state.client.session
+    → has row_serial p.node (page_nodes state) ≡ true
+    → paused_nodes (pause_data p.kind p (id_now (push_step p.node state).state)) ≡ id_now (push_step p.node state).state p.node ∷ []
     → Pauses state (followed_by (followed_by (push_step p.node state) (push_steps None)) (met_step p))
 own-pauses state p alone_is is low few begun there names =
     let after = (push_step p.node state).state in
     let first : Well state (push_step p.node state) 100000 0 0 = push-well p.node state is low begun in
     let next : HasNumbers after = low-after 100000 low first (omega (arith, few)) in
     let begun_after : IsBegun after.client.session = (opened_by p.node state begun.0, push-opened p.node state begun) in
-    let seen : has seen_id (id_now after p.node) (view_of after).tree ≡ true = shown-id after begun_after p.node (push-knows p.node state begun begun_after.0 is there (λ k h. h)) in
-    let shown : AreShown (paused_nodes (pause_data p.kind p (id_now after))) (view_of after).tree = subst (λ ids. AreShown ids (view_of after).tree) (sym names) (seen, tt) in
+    let seen : has seen_id (id_now after p.node) (view_of after).tree
+    ≡ true = shown-id after begun_after p.node (push-knows p.node state begun begun_after.0 is there (λ k h. h)) in
+    let shown : AreShown (paused_nodes (pause_data p.kind p (id_now after))) (view_of after).tree = subst
+    (λ ids. AreShown ids (view_of after).tree) (sym names) (seen, tt) in
     record {
       well = more (omega arith) (omega arith) (omega arith)
-          (then-well (then-well first (stays after first.now next)) (stays-with (met (pause_data p.kind p (id_now after))) after first.now next (refl, shown)));
+          (then-well (then-well first (stays after first.now next))
+          (stays-with (met (pause_data p.kind p (id_now after))) after first.now next (refl, shown)));
       side = refl;
     }
 
 -- by a subtree watch
-subtree-pauses : (state : State) (s target : ℕ) (insertion : Bool) → HoldsNow state → HasNumbers state → length state.client.session.pushed + 200000 < 2 ^ 52 → IsBegun state.client.session
+subtree-pauses : (state : State) (s target : ℕ) (insertion : Bool) → HoldsNow state → HasNumbers state
+    → length state.client.session.pushed + 200000 < 2 ^ 52 → IsBegun state.client.session
     → has row_serial s (page_nodes state) ≡ true → has row_serial target (page_nodes state) ≡ true
     → Pauses state (pause_step (Some (record { kind = Subtree; node = s; target = Some target; insertion = insertion })) state)
 subtree-pauses state s target insertion is low few begun there aimed =
@@ -163,29 +182,37 @@ subtree-pauses state s target insertion is low few begun there aimed =
     let begun_after : IsBegun after.client.session = (opened_by s state begun.0, push-opened s state begun) in
     let last = (push_step target after).state in
     let second : Well after (push_step target after) 100000 0 0 = push-well target after first.now next begun_after in
-    let both : Well state (followed_by (push_step s state) (push_step target)) 200000 0 0 = more (omega arith) (omega arith) (omega arith) (then-well first second) in
+    let both : Well state (followed_by (push_step s state) (push_step target)) 200000 0 0 = more (omega arith) (omega arith) (omega arith)
+    (then-well first second) in
     let low_last : HasNumbers last = low-after 200000 low both few in
     let begun_last : IsBegun last.client.session = (opened_by target after begun_after.0, push-opened target after begun_after) in
     let o : ℕ → Bool = begun_after.0 in
-    let node_seen = shown-id last begun_last s (push-knows s state begun begun_last.0 is there (λ k h. opened_all-grows o (pushing o target (page_nodes state)) k h)) in
+    let node_seen = shown-id last begun_last s
+    (push-knows s state begun begun_last.0 is there (λ k h. opened_all-grows o (pushing o target (page_nodes state)) k h)) in
     let target_seen = shown-id last begun_last target (push-knows target after begun_after begun_last.0 first.now aimed (λ k h. h)) in
     let p : Pause = record { kind = Subtree; node = s; target = Some target; insertion = insertion } in
     record {
-      well = more (omega arith) (omega arith) (omega arith) (then-well both (stays-with (met (pause_data Subtree p (id_now last))) last both.now low_last (refl, (node_seen, (target_seen, tt)))));
+      well = more (omega arith) (omega arith) (omega arith)
+          (then-well both (stays-with (met (pause_data Subtree p (id_now last))) last both.now low_last
+          (refl, (node_seen, (target_seen, tt)))));
       side = refl;
     }
 
-pub pauses : (state : State) (p : Pause) → HoldsNow state → HasNumbers state → length state.client.session.pushed + 200000 < 2 ^ 52 → IsPause state.client.watched (page_nodes state) p
+pub pauses : (state : State) (p : Pause) → HoldsNow state → HasNumbers state → length state.client.session.pushed + 200000 < 2 ^ 52
+    → IsPause state.client.watched (page_nodes state) p
     → Pauses state (pause_step (Some p) state)
 pauses state _ is low few (by_attribute s h) =
-    own-pauses state (record { kind = Attribute; node = s; target = None; insertion = false }) refl is low few (watched-begun state Attribute s is h) (is.watched Attribute s h) refl
+    own-pauses state (record { kind = Attribute; node = s; target = None; insertion = false }) refl is low few
+    (watched-begun state Attribute s is h) (is.watched Attribute s h) refl
 pauses state _ is low few (by_removal s h) =
-    own-pauses state (record { kind = Removed; node = s; target = None; insertion = false }) refl is low few (watched-begun state Removed s is h) (is.watched Removed s h) refl
+    own-pauses state (record { kind = Removed; node = s; target = None; insertion = false }) refl is low few
+    (watched-begun state Removed s is h) (is.watched Removed s h) refl
 pauses state _ is low few (by_subtree s target insertion h aimed) =
     subtree-pauses state s target insertion is low few (watched-begun state Subtree s is h) (is.watched Subtree s h) aimed
 
 -- the pause before an edit, if it comes to one
-pub edit-pauses : (state : State) (e : TreeEdit) → HoldsNow state → HasNumbers state → length state.client.session.pushed + 200000 < 2 ^ 52 → CanApply state.side.page.next e state.side.page.tree
+pub edit-pauses : (state : State) (e : TreeEdit) → HoldsNow state → HasNumbers state → length state.client.session.pushed + 200000 < 2 ^ 52
+    → CanApply state.side.page.next e state.side.page.tree
     → Pauses state (pause_step (pause_of state.client.watched state.side.page.tree e) state)
 edit-pauses state e is low few can = at (pause_of state.client.watched state.side.page.tree e) refl where
   at : (o : Option Pause) → pause_of state.client.watched state.side.page.tree e ≡ o → Pauses state (pause_step o state)

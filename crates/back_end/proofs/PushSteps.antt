@@ -65,8 +65,12 @@ begun-edited (SetAttr serial name value) page w h = h
 begun-edited (DropAttr serial name) page w h = h
 begun-edited (SetText serial value) page w h = h
 begun-edited (Attach parent before x) page w h = came-begun (is_open w.opened parent) _ _ h h
-begun-edited (Detach serial) page w h =
-    (opened_without (node_at serial page.tree) h.0, ap (λ (o : Option (ℕ → Bool)). (session_edited (Detach serial) page (record { opened = o; pushed = w.pushed; since = w.since })).state.opened) h.1)
+begun-edited (Detach serial) page w h = (
+  opened_without (node_at serial page.tree) h.0,
+  ap
+      (λ (o : Option (ℕ → Bool)). (session_edited (Detach serial) page
+      (record { opened = o; pushed = w.pushed; since = w.since })).state.opened) h.1,
+)
 
 -- ---- pushes
 
@@ -76,15 +80,18 @@ push-goes serial state is begun =
     let n = page_nodes state in
     let w : Session = state.client.session in
     let same : session_of begun.0 w.pushed w.since ≡ w = session-is w begun in
-    subst (λ (z : Session). Goes n z (pushed (session_keeper n) state.side.page.tree serial z).state (pushed (session_keeper n) state.side.page.tree serial z).shown) same
-    (goes-pushed state.side.page.tree (distinct-alone state.side.page is.page) (containers-page state.side.page is.page) serial begun.0 w.pushed w.since
+    subst (λ (z : Session). Goes n z (pushed (session_keeper n) state.side.page.tree serial z).state
+    (pushed (session_keeper n) state.side.page.tree serial z).shown) same
+    (goes-pushed state.side.page.tree (distinct-alone state.side.page is.page)
+    (containers-page state.side.page is.page) serial begun.0 w.pushed w.since
     (subst (λ (z : Session). IsSession n z) (sym same) is.session))
 
 -- what is opened after a push, where this was
 abbrev pub opened_by : ℕ → State → (ℕ → Bool) → ℕ → Bool
 opened_by serial state o = opened_all o (pushing o serial (page_nodes state))
 
-pub push-opened : (serial : ℕ) (state : State) (begun : IsBegun state.client.session) → (push_step serial state).state.client.session.opened ≡ Some (opened_by serial state begun.0)
+pub push-opened : (serial : ℕ) (state : State) (begun : IsBegun state.client.session)
+    → (push_step serial state).state.client.session.opened ≡ Some (opened_by serial state begun.0)
 push-opened serial state begun =
     let n = page_nodes state in
     let w : Session = state.client.session in
@@ -107,7 +114,8 @@ push-is serial state is begun = record {
   none_watched = λ h. not-begun (push_of serial state).state (push-begun serial state begun) h;
 }
 
-pub push-well : (serial : ℕ) (state : State) → HoldsNow state → HasNumbers state → IsBegun state.client.session → Well state (push_step serial state) 100000 0 0
+pub push-well : (serial : ℕ) (state : State) → HoldsNow state → HasNumbers state → IsBegun state.client.session
+    → Well state (push_step serial state) 100000 0 0
 push-well serial state is low begun =
     let page = state.side.page in
     let n = page_nodes state in
@@ -118,7 +126,8 @@ push-well serial state is low begun =
     let few : length p.state.pushed ≤ length w.pushed + node_count n = goes-few n w p.state p.shown g in
     record {
       now = push-is serial state is begun;
-      course = g.course (length w.pushed + node_count n) (sheets_shown state) (can_say page w (sheets_shown state) is.page (can-tell state is low) (can-sheets state is low)) few;
+      course = g.course (length w.pushed + node_count n) (sheets_shown state)
+          (can_say page w (sheets_shown state) is.page (can-tell state is low) (can-sheets state is low)) few;
       few_ids = omega (arith, few, count);
       few_serials = omega arith;
       few_sheets = omega arith;

@@ -1,5 +1,6 @@
 -- The answer of a seat to a command is the step of the state.
-use Rattle.std.proofs.Common.{◌≡◌, ℕ, List, [], ◌++◌, Bool, true, false, not, ◌&&◌, ◌||◌, cond, Some, Result, Ok, Err, refl, sym, ◌∙◌, ap, subst, append-nil}
+use Rattle.std.proofs.Common.{◌≡◌, ℕ, List, [], ◌++◌, Bool, true, false, not, ◌&&◌, ◌||◌, cond, Some, Result, Ok, Err, refl, sym, ◌∙◌, ap}
+use Rattle.std.proofs.Common.{subst, append-nil}
 use Rattle.std.specs.Result.{OnOk}
 use Rattle.page_tree.specs.Pages.{PageValue}
 use Rattle.node_binding.specs.Bindings.{Stands, cleared}
@@ -8,7 +9,8 @@ use Rattle.node_binding.proofs.StandsLemmas.{Stands-reset}
 use Rattle.cdp_messages.specs.DomAsks.{fits_ask}
 use Rattle.cdp_messages.specs.Moves.{frames_of_moves}
 use Rattle.cdp_messages.specs.declared.dom_ask.DomAsk.{DomAsk}
-use Rattle.cdp_messages.specs.declared.dom_ask.DomAsk.TheVariants.{GetDocument, RequestChildNodes, PushByPath, PushBySerials, QuerySelector, QuerySelectorAll, GetAttributes, DescribeNode}
+use Rattle.cdp_messages.specs.declared.dom_ask.DomAsk.TheVariants.{GetDocument, RequestChildNodes, PushByPath, PushBySerials, QuerySelector}
+use Rattle.cdp_messages.specs.declared.dom_ask.DomAsk.TheVariants.{QuerySelectorAll, GetAttributes, DescribeNode}
 use Rattle.cdp_messages.specs.declared.command.Why.TheVariants.{DomOff, CssOff}
 use Rattle.dom_agent.specs.Laws.{session_outcome, binding_outcome}
 use Rattle.dom_agent.specs.Requests.{Outcome, shows_root, served, refused, state_after, answer}
@@ -22,7 +24,8 @@ use Rattle.undo_marks.specs.declared.inverse_lists.Inverse.{Inverse}
 use Rattle.back_end.specs.Sheets.{NumberedBook}
 use Rattle.back_end.specs.States.{Client, State, page_nodes}
 use Rattle.back_end.specs.Servers.{Server, enables, disables, agent}
-use Rattle.back_end.specs.Steps.{Step, refusing, with_marks, ask_needs_on, needs_on, needs_css, turns_on, client_served, server_step, command_step}
+use Rattle.back_end.specs.Steps.{Step, refusing, with_marks, ask_needs_on, needs_on, needs_css, turns_on, client_served, server_step}
+use Rattle.back_end.specs.Steps.{command_step}
 use Rattle.back_end.specs.declared.desk.Desk.{Desk}
 use Rattle.back_end.specs.declared.side.PageSide.{PageSide}
 use Rattle.back_end.specs.Seats.{DeskStandsFor}
@@ -36,7 +39,8 @@ on_ok (Err fault) P Q p f = tt
 -- ---- a state with another history
 
 -- a desk knows nothing of the history
-pub marks-stands : (marks : Marks (Entry Saved Inverse)) (d : Desk) (s : PageSide) (state : State) → DeskStandsFor d s state → DeskStandsFor d s (with_marks marks state)
+pub marks-stands : (marks : Marks (Entry Saved Inverse)) (d : Desk) (s : PageSide) (state : State) → DeskStandsFor d s state
+    → DeskStandsFor d s (with_marks marks state)
 marks-stands marks d s state stands = record {
   now = record {
     page = stands.now.page;
@@ -60,22 +64,28 @@ marks-stands marks d s state stands = record {
 -- ---- a command that needs DOM on, or does not
 
 -- one that is refused, since DOM is off
-pub off-is : (id : ℕ) (server : Server) (state : State) → (needs_on server && not state.client.dom_on) ≡ true → command_step id server state ≡ refusing (Some id) DomOff state
+pub off-is : (id : ℕ) (server : Server) (state : State) → (needs_on server && not state.client.dom_on) ≡ true
+    → command_step id server state ≡ refusing (Some id) DomOff state
 off-is id server state off =
-    ap (λ t. cond t (refusing (Some id) DomOff state) (cond (needs_css server && not state.client.css_on) (refusing (Some id) CssOff state) (server_step id server state))) off
+    ap (λ t. cond t (refusing (Some id) DomOff state)
+    (cond (needs_css server && not state.client.css_on) (refusing (Some id) CssOff state) (server_step id server state))) off
 
 -- one that is refused, since CSS is off
-pub css-off-is : (id : ℕ) (server : Server) (state : State) → (needs_on server && not state.client.dom_on) ≡ false → (needs_css server && not state.client.css_on) ≡ true
+pub css-off-is : (id : ℕ) (server : Server) (state : State) → (needs_on server && not state.client.dom_on) ≡ false
+    → (needs_css server && not state.client.css_on) ≡ true
     → command_step id server state ≡ refusing (Some id) CssOff state
 css-off-is id server state on off =
-    ap (λ t. cond t (refusing (Some id) DomOff state) (cond (needs_css server && not state.client.css_on) (refusing (Some id) CssOff state) (server_step id server state))) on
+    ap (λ t. cond t (refusing (Some id) DomOff state)
+    (cond (needs_css server && not state.client.css_on) (refusing (Some id) CssOff state) (server_step id server state))) on
     ∙ ap (λ t. cond t (refusing (Some id) CssOff state) (server_step id server state)) off
 
 -- one that is carried out
-pub on-is : (id : ℕ) (server : Server) (state : State) → (needs_on server && not state.client.dom_on) ≡ false → (needs_css server && not state.client.css_on) ≡ false
+pub on-is : (id : ℕ) (server : Server) (state : State) → (needs_on server && not state.client.dom_on) ≡ false
+    → (needs_css server && not state.client.css_on) ≡ false
     → command_step id server state ≡ server_step id server state
 on-is id server state on css_on =
-    ap (λ t. cond t (refusing (Some id) DomOff state) (cond (needs_css server && not state.client.css_on) (refusing (Some id) CssOff state) (server_step id server state))) on
+    ap (λ t. cond t (refusing (Some id) DomOff state)
+    (cond (needs_css server && not state.client.css_on) (refusing (Some id) CssOff state) (server_step id server state))) on
     ∙ ap (λ t. cond t (refusing (Some id) CssOff state) (server_step id server state)) css_on
 
 -- whether it is refused, as the state has it
@@ -96,7 +106,8 @@ served-on c (refused why) client off = refl
 
 still-on : (c : DomAsk) (page : PageValue) (client : Client) (on : Bool) → turns_on c ≡ false → on ≡ client.dom_on
     → (on || turns_on c) ≡ (client_served c (session_outcome page c client.session) client).dom_on
-still-on c page client on off is = ap (λ t. on || t) off ∙ or-false on ∙ is ∙ sym (served-on c (session_outcome page c client.session) client off)
+still-on c page client on off is = ap (λ t. on || t) off ∙ or-false on ∙ is ∙ sym
+    (served-on c (session_outcome page c client.session) client off)
 
 on-after : (c : DomAsk) (page : PageValue) (client : Client) (on : Bool) → on ≡ client.dom_on
     → (on || turns_on c) ≡ (client_served c (session_outcome page c client.session) client).dom_on
@@ -126,7 +137,8 @@ served-session c (refused why) client = refl
 
 pub asked-stands : (d d1 : Desk) (s s1 : PageSide) (state : State) (id : ℕ) (c : DomAsk) (page : PageValue)
     → fits_ask c ≡ true → false ≡ (ask_needs_on c && not d.is_on) → DeskStandsFor d s state
-    → s1.page ≡ s.page → s1.sheets ≡ s.sheets → page ≡ s.page → d1.is_on ≡ (d.is_on || turns_on c) → d1.css ≡ d.css → d1.watches ≡ d.watches → d1.agent ≡ state_after d.agent (binding_outcome page c d.agent)
+    → s1.page ≡ s.page → s1.sheets ≡ s.sheets → page ≡ s.page → d1.is_on ≡ (d.is_on || turns_on c) → d1.css ≡ d.css
+    → d1.watches ≡ d.watches → d1.agent ≡ state_after d.agent (binding_outcome page c d.agent)
     → DeskStandsFor d1 s1 (command_step id (agent c) state).state
 asked-stands d d1 s s1 state id c page fits is_off stands same_side sheets_is same_page on_is css_is watches_is agent_is =
     let w = state.client.session in
@@ -137,14 +149,17 @@ asked-stands d d1 s s1 state id c page fits is_off stands same_side sheets_is sa
     let agent_now : state_after d.agent (binding_outcome state.side.page c d.agent) ≡ d1.agent =
     sym (agent_is ∙ ap (λ page. state_after d.agent (binding_outcome page c d.agent)) (same_page ∙ stands.page_is)) in
     subst (λ (done : Step). DeskStandsFor d1 s1 done.state) (sym (on-is id (agent c) state on refl)) (record {
-      now = served-is c o state stands.now (off-after c state stands.now on) (unknown-before state.side.page c w stands.now.page stands.now.session) (stays_session state.side.page c w stands.now.page fits stands.now.session);
+      now = served-is c o state stands.now (off-after c state stands.now on)
+          (unknown-before state.side.page c w stands.now.page stands.now.session)
+          (stays_session state.side.page c w stands.now.page fits stands.now.session);
       page_is = same_side ∙ stands.page_is;
       sheets_are = ap (λ (b : NumberedBook). b.entries) sheets_is ∙ stands.sheets_are;
       next_is = ap (λ (b : NumberedBook). b.next) sheets_is ∙ stands.next_is;
       on_is = on_is ∙ on-after c state.side.page state.client d.is_on stands.on_is;
       css_is = css_is ∙ stands.css_is ∙ served-css c o state.client;
       watches_are = watches_is ∙ stands.watches_are ∙ served-watches c o state.client;
-      stands = subst (λ z. Stands (page_nodes state) z d1.agent) (served-session c o state.client) (subst (λ a. Stands (page_nodes state) (state_after w o) a) agent_now bound);
+      stands = subst (λ z. Stands (page_nodes state) z d1.agent) (served-session c o state.client)
+          (subst (λ a. Stands (page_nodes state) (state_after w o) a) agent_now bound);
     })
 
 pub asked-sent : (d : Desk) (s : PageSide) (state : State) (id : ℕ) (c : DomAsk) (page : PageValue) (old new : List ℕ)
@@ -153,25 +168,30 @@ pub asked-sent : (d : Desk) (s : PageSide) (state : State) (id : ℕ) (c : DomAs
 asked-sent d s state id c page old new fits is_off stands same_page sent =
     let on : (ask_needs_on c && not state.client.dom_on) ≡ false = same-on c d.is_on state.client.dom_on false stands.on_is is_off in
     sent ∙ ap (λ page. old ++ answer id (binding_outcome page c d.agent)) (same_page ∙ stands.page_is)
-    ∙ ap (λ ms. old ++ frames_of_moves ms) (same_moves state.side.page c state.client.session d.agent id stands.now.page fits stands.now.session stands.stands)
+    ∙ ap (λ ms. old ++ frames_of_moves ms)
+    (same_moves state.side.page c state.client.session d.agent id stands.now.page fits stands.now.session stands.stands)
     ∙ ap (λ (done : Step). old ++ frames_of_moves done.moves) (sym (on-is id (agent c) state on refl))
 
 -- an ask that is refused
-pub refused-stands : (d : Desk) (s : PageSide) (state : State) (id : ℕ) (c : DomAsk) → true ≡ (ask_needs_on c && not d.is_on) → DeskStandsFor d s state
+pub refused-stands : (d : Desk) (s : PageSide) (state : State) (id : ℕ) (c : DomAsk) → true ≡ (ask_needs_on c && not d.is_on)
+    → DeskStandsFor d s state
     → DeskStandsFor d s (command_step id (agent c) state).state
 refused-stands d s state id c is_off stands =
     let off : (ask_needs_on c && not state.client.dom_on) ≡ true = same-on c d.is_on state.client.dom_on true stands.on_is is_off in
     subst (λ (done : Step). DeskStandsFor d s done.state) (sym (off-is id (agent c) state off)) stands
 
-pub refused-sent : (d : Desk) (s : PageSide) (state : State) (id : ℕ) (c : DomAsk) (old new : List ℕ) → true ≡ (ask_needs_on c && not d.is_on) → DeskStandsFor d s state
-    → new ≡ old ++ frames_of_moves (refusing (Some id) DomOff state).moves → new ≡ old ++ frames_of_moves (command_step id (agent c) state).moves
+pub refused-sent : (d : Desk) (s : PageSide) (state : State) (id : ℕ) (c : DomAsk) (old new : List ℕ)
+    → true ≡ (ask_needs_on c && not d.is_on) → DeskStandsFor d s state
+    → new ≡ old ++ frames_of_moves (refusing (Some id) DomOff state).moves
+    → new ≡ old ++ frames_of_moves (command_step id (agent c) state).moves
 refused-sent d s state id c old new is_off stands sent =
     let off : (ask_needs_on c && not state.client.dom_on) ≡ true = same-on c d.is_on state.client.dom_on true stands.on_is is_off in
     sent ∙ ap (λ (done : Step). old ++ frames_of_moves done.moves) (sym (off-is id (agent c) state off))
 
 -- ---- the seat's own commands
 
-pub enabled-stands : (d d1 : Desk) (s s1 : PageSide) (state : State) (id : ℕ) → DeskStandsFor d s state → s1.page ≡ s.page → s1.sheets ≡ s.sheets → d1.is_on ≡ true → d1.css ≡ d.css → d1.watches ≡ d.watches → d1.agent ≡ d.agent
+pub enabled-stands : (d d1 : Desk) (s s1 : PageSide) (state : State) (id : ℕ) → DeskStandsFor d s state → s1.page ≡ s.page
+    → s1.sheets ≡ s.sheets → d1.is_on ≡ true → d1.css ≡ d.css → d1.watches ≡ d.watches → d1.agent ≡ d.agent
     → DeskStandsFor d1 s1 (server_step id enables state).state
 enabled-stands d d1 s s1 state id stands same sheets_is on css_is watches_is agent_is = record {
   now = enabled-is state stands.now;
@@ -195,10 +215,12 @@ and-false : (b : Bool) → (b && false) ≡ false
 and-false true = refl
 and-false false = refl
 
-pub disabled-stands : (d d1 : Desk) (s s1 : PageSide) (state : State) (id : ℕ) → DeskStandsFor d s state → d.is_on ≡ true → s1.page ≡ s.page → s1.sheets ≡ s.sheets → d1.is_on ≡ false
+pub disabled-stands : (d d1 : Desk) (s s1 : PageSide) (state : State) (id : ℕ) → DeskStandsFor d s state → d.is_on ≡ true
+    → s1.page ≡ s.page → s1.sheets ≡ s.sheets → d1.is_on ≡ false
     → d1.css ≡ false → d1.watches ≡ unwatched → d1.agent ≡ cleared d.agent → DeskStandsFor d1 s1 (command_step id disables state).state
 disabled-stands d d1 s s1 state id stands was same sheets_is off css_off watches_is agent_is =
-    subst (λ (done : Step). DeskStandsFor d1 s1 done.state) (sym (on-is id disables state (disable-on d.is_on state.client.dom_on stands.on_is was) refl)) (record {
+    subst (λ (done : Step). DeskStandsFor d1 s1 done.state)
+    (sym (on-is id disables state (disable-on d.is_on state.client.dom_on stands.on_is was) refl)) (record {
       now = disabled-is state stands.now;
       page_is = same ∙ stands.page_is;
       sheets_are = ap (λ (b : NumberedBook). b.entries) sheets_is ∙ stands.sheets_are;
@@ -206,15 +228,20 @@ disabled-stands d d1 s s1 state id stands was same sheets_is off css_off watches
       on_is = off;
       css_is = css_off ∙ sym (and-false state.client.css_on);
       watches_are = watches_is;
-      stands = subst (λ a. Stands (page_nodes state) (reset state.client.session) a) (sym agent_is) (Stands-reset (page_nodes state) (page_nodes state) state.client.session d.agent stands.stands);
+      stands = subst (λ a. Stands (page_nodes state) (reset state.client.session) a) (sym agent_is)
+          (Stands-reset (page_nodes state) (page_nodes state) state.client.session d.agent stands.stands);
     })
 
 pub disabled-sent : (d : Desk) (s : PageSide) (state : State) (id : ℕ) (old middle new : List ℕ) → DeskStandsFor d s state → d.is_on ≡ true
-    → middle ≡ old ++ frames_of_moves (server_step id disables state).moves → new ≡ middle ++ [] → new ≡ old ++ frames_of_moves (command_step id disables state).moves
+    → middle ≡ old ++ frames_of_moves (server_step id disables state).moves → new ≡ middle ++ []
+    → new ≡ old ++ frames_of_moves (command_step id disables state).moves
 disabled-sent d s state id old middle new stands was sent more =
-    more ∙ append-nil middle ∙ sent ∙ ap (λ (done : Step). old ++ frames_of_moves done.moves) (sym (on-is id disables state (disable-on d.is_on state.client.dom_on stands.on_is was) refl))
+    more ∙ append-nil middle ∙ sent ∙ ap (λ (done : Step). old ++ frames_of_moves done.moves)
+    (sym (on-is id disables state (disable-on d.is_on state.client.dom_on stands.on_is was) refl))
 
 pub off-sent : (d : Desk) (s : PageSide) (state : State) (id : ℕ) (old new : List ℕ) → DeskStandsFor d s state → d.is_on ≡ false
-    → new ≡ old ++ frames_of_moves (refusing (Some id) DomOff state).moves → new ≡ old ++ frames_of_moves (command_step id disables state).moves
+    → new ≡ old ++ frames_of_moves (refusing (Some id) DomOff state).moves
+    → new ≡ old ++ frames_of_moves (command_step id disables state).moves
 off-sent d s state id old new stands was sent =
-    sent ∙ ap (λ (done : Step). old ++ frames_of_moves done.moves) (sym (off-is id disables state (disable-off d.is_on state.client.dom_on stands.on_is was)))
+    sent ∙ ap (λ (done : Step). old ++ frames_of_moves done.moves)
+    (sym (off-is id disables state (disable-off d.is_on state.client.dom_on stands.on_is was)))

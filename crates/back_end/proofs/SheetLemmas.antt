@@ -1,5 +1,7 @@
 -- A page's sheets: their numbers, what comes and goes, and the book that they are.
-use Rattle.std.proofs.Common.{◌≡◌, ℕ, zero, suc, ◌+◌, ◌^◌, ◌<◌, ◌≤◌, ◌==◌, Bool, true, false, cond, not, ◌&&◌, ◌||◌, nat_eq, nat_lt, nat_le, List, [], ◌∷◌, ◌++◌, length, map, drop, Option, Some, None, Result, Err, get_or, refl, sym, ap, ◌∙◌, subst, append-nil, append_assoc, length-append, arith}
+use Rattle.std.proofs.Common.{◌≡◌, ℕ, zero, suc, ◌+◌, ◌^◌, ◌<◌, ◌≤◌, ◌==◌, Bool, true, false, cond, not, ◌&&◌, ◌||◌, nat_eq, nat_lt, nat_le}
+use Rattle.std.proofs.Common.{List, [], ◌∷◌, ◌++◌, length, map, drop, Option, Some, None, Result, Err, get_or, refl, sym, ap, ◌∙◌, subst}
+use Rattle.std.proofs.Common.{append-nil, append_assoc, length-append, arith}
 use Rattle.std.specs.Prelude.{IsSome, option_and_then, slice_get}
 use Rattle.std.specs.List.{AllByRecursion, list_all}
 use Rattle.std.specs.Str.{IsUtf8}
@@ -26,7 +28,8 @@ use Rattle.css_agent.specs.Asks.{sheet_named}
 use Rattle.cascade_match.proofs.MatchLemmas.{drop-at}
 use Rattle.css_agent.proofs.TellableStyles.{both, sheet-number}
 use Rattle.dom_agent.specs.Laws.{CanTellSheets}
-use Rattle.back_end.specs.Sheets.{origin_in_book, entry_of_sheet, as_book, shown_sheet, numbered_sheets, AscendBetween, AreSheetTexts, AreSheetsBelow, NumberedBook, AreBelow}
+use Rattle.back_end.specs.Sheets.{origin_in_book, entry_of_sheet, as_book, shown_sheet, numbered_sheets, AscendBetween, AreSheetTexts}
+use Rattle.back_end.specs.Sheets.{AreSheetsBelow, NumberedBook, AreBelow}
 
 -- ---- tests
 
@@ -61,7 +64,8 @@ ascend-front : (least next : ℕ) (xs ys : List ShownSheet) → AscendBetween le
 ascend-front least next [] ys all = ascend-order least next ys all
 ascend-front least next (x ∷ xs) ys all = (all.0, ascend-front (x.number + 1) next xs ys all.1)
 
-ascend-last : (least next : ℕ) (origin : Origin) (text : List ℕ) (ss : List ShownSheet) → AscendBetween least next ss → AscendBetween least (next + 1) (ss ++ shown_sheet next origin text ∷ [])
+ascend-last : (least next : ℕ) (origin : Origin) (text : List ℕ) (ss : List ShownSheet) → AscendBetween least next ss
+    → AscendBetween least (next + 1) (ss ++ shown_sheet next origin text ∷ [])
 ascend-last least next origin text [] all = (all, omega arith)
 ascend-last least next origin text (s ∷ ss) all = (all.0, ascend-last (s.number + 1) next origin text ss all.1)
 
@@ -83,15 +87,23 @@ ascend-distinct least next [] all = refl
 ascend-distinct least next (s ∷ ss) all =
     both (ap (λ b. not b) (not-among s.number (s.number + 1) next ss (omega arith) all.1)) (ascend-distinct (s.number + 1) next ss all.1)
 
-are-sheets : (least next : ℕ) (ss : List ShownSheet) → 1 ≤ least → next ≤ 2 ^ 53 → AscendBetween least next ss → AreSheetTexts ss → AreSheets ss
+are-sheets : (least next : ℕ) (ss : List ShownSheet) → 1 ≤ least → next ≤ 2 ^ 53 → AscendBetween least next ss → AreSheetTexts ss
+    → AreSheets ss
 are-sheets least next [] some low all texts = tt
 are-sheets least next (s ∷ ss) some low all texts =
-    let above = ascend-order (s.number + 1) next ss all.1 in
-    (sheet-number s.number (omega (arith, some, all.0)) (omega (arith, above, low)), texts.0, are-sheets (s.number + 1) next ss (omega arith) low all.1 texts.2)
+    let above = ascend-order (s.number + 1) next ss all.1 in (
+      sheet-number s.number (omega (arith, some, all.0)) (omega (arith, above, low)),
+      texts.0,
+      are-sheets (s.number + 1) next ss
+          (omega arith) low all.1 texts.2,
+    )
 
 -- messages can tell a page's sheets
 pub can-tell-sheets : (next : ℕ) (ss : List ShownSheet) → next ≤ 2 ^ 53 → AreSheetsBelow next ss → CanTellSheets ss
-can-tell-sheets next ss low is = record { are = are-sheets 1 next ss (omega arith) low is.numbers is.texts; apart = ascend-distinct 1 next ss is.numbers }
+can-tell-sheets next ss low is = record {
+  are = are-sheets 1 next ss (omega arith) low is.numbers is.texts;
+  apart = ascend-distinct 1 next ss is.numbers;
+}
 
 -- ---- what comes and goes
 
@@ -182,18 +194,21 @@ and-right : (a b : Bool) → (a && b) ≡ true → b ≡ true
 and-right true b e = e
 and-right false b e = absurd cc
 
-numbered-texts : (next : ℕ) (fs : List SheetForm) → list_all is_short fs ≡ true → SheetsHaveTexts fs → AreSheetTexts (numbered_sheets next fs)
+numbered-texts : (next : ℕ) (fs : List SheetForm) → list_all is_short fs ≡ true → SheetsHaveTexts fs
+    → AreSheetTexts (numbered_sheets next fs)
 numbered-texts next [] short texts = tt
 numbered-texts next (f ∷ fs) short texts = (
   All-head (λ (x : SheetForm). IsUtf8 x.text) f fs texts,
   leb-true (length f.text) max_sheet_bytes (and-left (is_short f) (list_all is_short fs) short),
-  numbered-texts (next + 1) fs (and-right (is_short f) (list_all is_short fs) short) (All-tail (λ (x : SheetForm). IsUtf8 x.text) f fs texts),
+  numbered-texts (next + 1) fs (and-right (is_short f) (list_all is_short fs) short)
+      (All-tail (λ (x : SheetForm). IsUtf8 x.text) f fs texts),
 )
 
 pub sheets-few : (fs : List SheetForm) → can_hold_sheets fs ≡ true → length fs ≤ max_sheets
 sheets-few fs can = leb-true (length fs) max_sheets (and-left (nat_le (length fs) max_sheets) (list_all is_short fs) can)
 
-pub sheets-loaded : (next : ℕ) (fs : List SheetForm) → 1 ≤ next → can_hold_sheets fs ≡ true → SheetsHaveTexts fs → AreSheetsBelow (next + length fs) (numbered_sheets next fs)
+pub sheets-loaded : (next : ℕ) (fs : List SheetForm) → 1 ≤ next → can_hold_sheets fs ≡ true → SheetsHaveTexts fs
+    → AreSheetsBelow (next + length fs) (numbered_sheets next fs)
 sheets-loaded next fs some can texts =
     let count = numbered-count next fs in
     let few = sheets-few fs can in
@@ -209,16 +224,20 @@ origin-back : (origin : Origin) → origin_in_book (told_origin origin) ≡ orig
 origin-back UserAgent = refl
 origin-back Regular = refl
 
-pub book-last : (next : ℕ) (origin : Origin) (text : List ℕ) (ss : List ShownSheet) → as_book (ss ++ shown_sheet next origin text ∷ []) ≡ as_book ss ++ new_sheet next origin text ∷ []
+pub book-last : (next : ℕ) (origin : Origin) (text : List ℕ) (ss : List ShownSheet)
+    → as_book (ss ++ shown_sheet next origin text ∷ []) ≡ as_book ss ++ new_sheet next origin text ∷ []
 book-last next origin text ss =
-    map-append entry_of_sheet ss (shown_sheet next origin text ∷ []) ∙ ap (λ (o : Origin). as_book ss ++ new_sheet next o text ∷ []) (origin-back origin)
+    map-append entry_of_sheet ss (shown_sheet next origin text ∷ []) ∙ ap (λ (o : Origin). as_book ss ++ new_sheet next o text ∷ [])
+    (origin-back origin)
 
 pub book-without : (n : ℕ) (ss : List ShownSheet) → removed n (as_book ss) ≡ as_book (sheets_without n ss)
 book-without n [] = refl
 book-without n (s ∷ ss) =
-    ap (λ (b : Bool). cond b (as_book ss) (entry_of_sheet s ∷ removed n (as_book ss))) (same-test n s.number) ∙ at (s.number == n) (book-without n ss)
+    ap (λ (b : Bool). cond b (as_book ss) (entry_of_sheet s ∷ removed n (as_book ss))) (same-test n s.number) ∙ at (s.number == n)
+    (book-without n ss)
   where
-    at : (b : Bool) → removed n (as_book ss) ≡ as_book (sheets_without n ss) → cond b (as_book ss) (entry_of_sheet s ∷ removed n (as_book ss)) ≡ as_book (cond b ss (s ∷ sheets_without n ss))
+    at : (b : Bool) → removed n (as_book ss) ≡ as_book (sheets_without n ss)
+        → cond b (as_book ss) (entry_of_sheet s ∷ removed n (as_book ss)) ≡ as_book (cond b ss (s ∷ sheets_without n ss))
     at true more = refl
     at false more = ap (λ (es : List SheetEntry). entry_of_sheet s ∷ es) more
 
@@ -229,7 +248,8 @@ book-count (s ∷ ss) = ap (λ n. suc n) (book-count ss)
 -- each is as a book has it
 pub book-stored : (next : ℕ) (ss : List ShownSheet) → next ≤ 2 ^ 53 → AreSheetsBelow next ss → AllByRecursion IsStored (as_book ss)
 book-stored next ss low is = at 1 ss (omega arith) is.numbers is.texts where
-  at : (least : ℕ) (ss : List ShownSheet) → 1 ≤ least → AscendBetween least next ss → AreSheetTexts ss → AllByRecursion IsStored (as_book ss)
+  at : (least : ℕ) (ss : List ShownSheet) → 1 ≤ least → AscendBetween least next ss → AreSheetTexts ss
+      → AllByRecursion IsStored (as_book ss)
   at least [] some all texts = tt
   at least (s ∷ ss) some all texts =
       let above = ascend-order (s.number + 1) next ss all.1 in (
@@ -251,7 +271,8 @@ pub record StandsIn (n : ℕ) (e : SheetEntry) (ss : List ShownSheet) : Type 0 w
 pub entry-stands : (n : ℕ) (ss : List ShownSheet) (e : SheetEntry) → entry_of n (as_book ss) ≡ Some e → StandsIn n e ss
 entry-stands n [] e h = absurd cc
 entry-stands n (s ∷ ss) e h = at (n == s.number) refl h (λ k. entry-stands n ss e k) where
-  at : (b : Bool) → (n == s.number) ≡ b → cond b (Some (entry_of_sheet s)) (entry_of n (as_book ss)) ≡ Some e → (entry_of n (as_book ss) ≡ Some e → StandsIn n e ss) → StandsIn n e (s ∷ ss)
+  at : (b : Bool) → (n == s.number) ≡ b → cond b (Some (entry_of_sheet s)) (entry_of n (as_book ss)) ≡ Some e
+      → (entry_of n (as_book ss) ≡ Some e → StandsIn n e ss) → StandsIn n e (s ∷ ss)
   at true t k more =
       let same : entry_of_sheet s ≡ e = cc in
       let is : s.number ≡ n = grind (arith, nat_tests) in
@@ -270,7 +291,8 @@ entry-stands n (s ∷ ss) e h = at (n == s.number) refl h (λ k. entry-stands n 
         text = ap (λ (b : Bool). cond b (Some s.text) (shown_text n ss)) test ∙ rest.text;
       }
 
-named-by : (o : Option ℕ) (book : List SheetEntry) (e : SheetEntry) → option_and_then (λ id. entry_of id book) o ≡ Some e → (n : ℕ) × (o ≡ Some n) × (entry_of n book ≡ Some e)
+named-by : (o : Option ℕ) (book : List SheetEntry) (e : SheetEntry) → option_and_then (λ id. entry_of id book) o ≡ Some e
+    → (n : ℕ) × (o ≡ Some n) × (entry_of n book ≡ Some e)
 named-by None book e h = absurd cc
 named-by (Some n) book e h = (n, refl, h)
 
@@ -326,7 +348,8 @@ below-absent next [] all = refl
 below-absent next (e ∷ es) all =
     ap (λ (b : Bool). cond b (Some e) (entry_of next es)) (below-absent-test next e.id all.0) ∙ below-absent next es all.1
 
-pub below-last : (next : ℕ) (origin : Origin) (text : List ℕ) (es : List SheetEntry) → AreBelow next es → AreBelow (next + 1) (es ++ new_sheet next origin text ∷ [])
+pub below-last : (next : ℕ) (origin : Origin) (text : List ℕ) (es : List SheetEntry) → AreBelow next es
+    → AreBelow (next + 1) (es ++ new_sheet next origin text ∷ [])
 below-last next origin text [] all = (omega arith, tt)
 below-last next origin text (e ∷ es) all = (omega (arith, all.0), below-last next origin text es all.1)
 
@@ -341,7 +364,8 @@ below-removed n next (e ∷ es) all = at (n == e.id) (below-removed n next es al
 pub one-fewer : (n : ℕ) (es : List SheetEntry) → IsSome (entry_of n es) → suc (length (removed n es)) ≡ length es
 one-fewer n [] there = absurd cc
 one-fewer n (e ∷ es) there = at (n == e.id) there (λ k. one-fewer n es k) where
-  at : (b : Bool) → IsSome (cond b (Some e) (entry_of n es)) → (IsSome (entry_of n es) → suc (length (removed n es)) ≡ length es) → suc (length (cond b es (e ∷ removed n es))) ≡ length (e ∷ es)
+  at : (b : Bool) → IsSome (cond b (Some e) (entry_of n es)) → (IsSome (entry_of n es) → suc (length (removed n es)) ≡ length es)
+      → suc (length (cond b es (e ∷ removed n es))) ≡ length (e ∷ es)
   at true k more = refl
   at false k more = ap (λ m. suc m) (more k)
 
@@ -350,29 +374,41 @@ one-fewer n (e ∷ es) there = at (n == e.id) there (λ k. one-fewer n es k) whe
 -- The sheets so far, and those that are left, make up the whole; and so do the numbers.
 abbrev pub LoadedSoFar : ℕ → List SheetForm → ℕ → NumberedBook → Type 0
 LoadedSoFar next forms i book =
-    (book.entries ++ as_book (numbered_sheets book.next (drop i forms)) ≡ as_book (numbered_sheets next forms)) × (book.next + length (drop i forms) ≡ next + length forms)
+    (book.entries ++ as_book (numbered_sheets book.next (drop i forms)) ≡ as_book (numbered_sheets next forms))
+    × (book.next + length (drop i forms) ≡ next + length forms)
 
-pub loaded-turn : (next i : ℕ) (forms : List SheetForm) (f : SheetForm) (book later : NumberedBook) → slice_get forms i ≡ Some f → LoadedSoFar next forms i book
-    → later ≡ record { entries = book.entries ++ new_sheet book.next f.origin f.text ∷ []; next = book.next + 1 } → LoadedSoFar next forms (i + 1) later
+pub loaded-turn : (next i : ℕ) (forms : List SheetForm) (f : SheetForm) (book later : NumberedBook) → slice_get forms i ≡ Some f
+    → LoadedSoFar next forms i book
+    → later ≡ record { entries = book.entries ++ new_sheet book.next f.origin f.text ∷ []; next = book.next + 1 }
+    → LoadedSoFar next forms (i + 1) later
 loaded-turn next i forms f book later at inv is =
     let split : drop i forms ≡ f ∷ drop (i + 1) forms = drop-at forms i f at in
     let rest = as_book (numbered_sheets (book.next + 1) (drop (i + 1) forms)) in
     let own : new_sheet book.next f.origin f.text ∷ rest ≡ as_book (numbered_sheets book.next (drop i forms)) =
-    ap (λ (o : Origin). new_sheet book.next o f.text ∷ rest) (sym (origin-back f.origin)) ∙ ap (λ (fs : List SheetForm). as_book (numbered_sheets book.next fs)) (sym split) in
+    ap (λ (o : Origin). new_sheet book.next o f.text ∷ rest) (sym (origin-back f.origin)) ∙ ap
+    (λ (fs : List SheetForm). as_book (numbered_sheets book.next fs)) (sym split) in
     let count : length (drop i forms) ≡ suc (length (drop (i + 1) forms)) = ap (λ (fs : List SheetForm). length fs) split in
-    let done : LoadedSoFar next forms (i + 1) (record { entries = book.entries ++ new_sheet book.next f.origin f.text ∷ []; next = book.next + 1 }) =
-    (append_assoc book.entries (new_sheet book.next f.origin f.text ∷ []) rest ∙ ap (λ (es : List SheetEntry). book.entries ++ es) own ∙ inv.0, omega (arith, count, inv.1)) in
+    let done : LoadedSoFar next forms (i + 1)
+    (record { entries = book.entries ++ new_sheet book.next f.origin f.text ∷ []; next = book.next + 1 }) = (
+      append_assoc book.entries (new_sheet book.next f.origin f.text ∷ []) rest ∙ ap
+          (λ (es : List SheetEntry). book.entries ++ es) own ∙ inv.0,
+      omega (arith, count, inv.1),
+    ) in
     subst (LoadedSoFar next forms (i + 1)) (sym is) done
 
-pub loaded-room : (next i : ℕ) (forms : List SheetForm) (book : NumberedBook) → next < 2 ^ 51 → can_hold_sheets forms ≡ true → LoadedSoFar next forms i book → book.next < 2 ^ 52
+pub loaded-room : (next i : ℕ) (forms : List SheetForm) (book : NumberedBook) → next < 2 ^ 51 → can_hold_sheets forms ≡ true
+    → LoadedSoFar next forms i book → book.next < 2 ^ 52
 loaded-room next i forms book room can inv = let few = sheets-few forms can in omega (arith, room, few, inv.1)
 
-pub loaded-end : (next i : ℕ) (forms : List SheetForm) (book : NumberedBook) → length forms ≤ i → LoadedSoFar next forms i book → book ≡ record { entries = as_book (numbered_sheets next forms); next = next + length forms }
+pub loaded-end : (next i : ℕ) (forms : List SheetForm) (book : NumberedBook) → length forms ≤ i → LoadedSoFar next forms i book
+    → book ≡ record { entries = as_book (numbered_sheets next forms); next = next + length forms }
 loaded-end next i forms book over inv =
     let nothing : drop i forms ≡ [] = drop-over forms i over in
     let entries : book.entries ≡ as_book (numbered_sheets next forms) =
-    sym (append-nil book.entries) ∙ ap (λ (fs : List SheetForm). book.entries ++ as_book (numbered_sheets book.next fs)) (sym nothing) ∙ inv.0 in
-    let count : book.next ≡ next + length forms = let none_left = ap (λ (fs : List SheetForm). length fs) nothing in omega (arith, none_left, inv.1) in
+    sym (append-nil book.entries) ∙ ap (λ (fs : List SheetForm). book.entries ++ as_book (numbered_sheets book.next fs))
+    (sym nothing) ∙ inv.0 in
+    let count : book.next ≡ next + length forms = let none_left = ap (λ (fs : List SheetForm). length fs) nothing in omega
+    (arith, none_left, inv.1) in
     λ j. record { entries = entries j; next = count j }
   where
     drop-over : (fs : List SheetForm) (i : ℕ) → length fs ≤ i → drop i fs ≡ []
@@ -381,21 +417,26 @@ loaded-end next i forms book over inv =
     drop-over (f ∷ fs) zero over = absurd (omega (arith, over))
     drop-over (f ∷ fs) (suc i) over = drop-over fs i (omega (arith, over))
 
-short-at : (forms : List SheetForm) (i : ℕ) (f : SheetForm) → list_all is_short forms ≡ true → slice_get forms i ≡ Some f → length f.text ≤ max_sheet_bytes
+short-at : (forms : List SheetForm) (i : ℕ) (f : SheetForm) → list_all is_short forms ≡ true → slice_get forms i ≡ Some f
+    → length f.text ≤ max_sheet_bytes
 short-at [] i f all at = absurd cc
 short-at (x ∷ xs) zero f all at =
     let same : x ≡ f = cc in
-    subst (λ (y : SheetForm). length y.text ≤ max_sheet_bytes) same (leb-true (length x.text) max_sheet_bytes (and-left (is_short x) (list_all is_short xs) all))
+    subst (λ (y : SheetForm). length y.text ≤ max_sheet_bytes) same
+    (leb-true (length x.text) max_sheet_bytes (and-left (is_short x) (list_all is_short xs) all))
 short-at (x ∷ xs) (suc i) f all at = short-at xs i f (and-right (is_short x) (list_all is_short xs) all) at
 
 -- each fits
-pub loaded-fits : (next i : ℕ) (forms : List SheetForm) (f : SheetForm) (book : NumberedBook) → can_hold_sheets forms ≡ true → slice_get forms i ≡ Some f → LoadedSoFar next forms i book
+pub loaded-fits : (next i : ℕ) (forms : List SheetForm) (f : SheetForm) (book : NumberedBook) → can_hold_sheets forms ≡ true
+    → slice_get forms i ≡ Some f → LoadedSoFar next forms i book
     → is_too_big f.text book.entries ≡ true → ⊥
 loaded-fits next i forms f book can at inv big =
     let short = short-at forms i f (and-right (nat_le (length forms) max_sheets) (list_all is_short forms) can) at in
     let few = sheets-few forms can in
-    let split : length (drop i forms) ≡ suc (length (drop (i + 1) forms)) = ap (λ (fs : List SheetForm). length fs) (drop-at forms i f at) in
-    let all : length (book.entries ++ as_book (numbered_sheets book.next (drop i forms))) ≡ length (as_book (numbered_sheets next forms)) = ap (λ (es : List SheetEntry). length es) inv.0 in
+    let split : length (drop i forms)
+    ≡ suc (length (drop (i + 1) forms)) = ap (λ (fs : List SheetForm). length fs) (drop-at forms i f at) in
+    let all : length (book.entries ++ as_book (numbered_sheets book.next (drop i forms)))
+    ≡ length (as_book (numbered_sheets next forms)) = ap (λ (es : List SheetEntry). length es) inv.0 in
     let sum = length-append book.entries (as_book (numbered_sheets book.next (drop i forms))) in
     let left = book-count (numbered_sheets book.next (drop i forms)) in
     let left_forms = numbered-count book.next (drop i forms) in
@@ -421,34 +462,41 @@ got [] i f inside is = absurd (omega (arith, inside))
 got (x ∷ xs) zero f inside is = ap (λ (y : SheetForm). Some y) (sym is)
 got (x ∷ xs) (suc i) f inside is = got xs i f (omega (arith, inside)) is
 
-pub loaded-step : (next i : ℕ) (forms : List SheetForm) (f : SheetForm) (text : List ℕ) (book later : NumberedBook) → i < length forms → f ≡ get_or forms i f → text ≡ f.text → LoadedSoFar next forms i book
-    → later ≡ record { entries = book.entries ++ new_sheet book.next f.origin text ∷ []; next = book.next + 1 } → LoadedSoFar next forms (i + 1) later
+pub loaded-step : (next i : ℕ) (forms : List SheetForm) (f : SheetForm) (text : List ℕ) (book later : NumberedBook) → i < length forms
+    → f ≡ get_or forms i f → text ≡ f.text → LoadedSoFar next forms i book
+    → later ≡ record { entries = book.entries ++ new_sheet book.next f.origin text ∷ []; next = book.next + 1 }
+    → LoadedSoFar next forms (i + 1) later
 loaded-step next i forms f text book later inside at said inv is =
     loaded-turn next i forms f book later (got forms i f inside at) inv
     (is ∙ ap (λ (t : List ℕ). record { entries = book.entries ++ new_sheet book.next f.origin t ∷ []; next = book.next + 1 }) said)
 
 -- no sheet of a page that may be loaded is too big
-pub loaded-fault : (next i : ℕ) (forms : List SheetForm) (f : SheetForm) (text : List ℕ) (book : NumberedBook) (result : Result Unit SheetErr) (error : SheetErr) (fault : SheetFault)
+pub loaded-fault : (next i : ℕ) (forms : List SheetForm) (f : SheetForm) (text : List ℕ) (book : NumberedBook)
+    (result : Result Unit SheetErr) (error : SheetErr) (fault : SheetFault)
     → can_hold_sheets forms ≡ true → i < length forms → f ≡ get_or forms i f → text ≡ f.text → LoadedSoFar next forms i book
     → result ≡ Err error → error ≡ Fault fault → IfFault result (λ g. (g ≡ TooBig) × (is_too_big text book.entries ≡ true)) → ⊥
 loaded-fault next i forms f text book result error fault can inside at said inv failed is faulty =
-    let big = subst (λ (r : Result Unit SheetErr). IfFault r (λ g. (g ≡ TooBig) × (is_too_big text book.entries ≡ true))) (failed ∙ ap (λ (e : SheetErr). Err e) is) faulty in
+    let big = subst (λ (r : Result Unit SheetErr). IfFault r (λ g. (g ≡ TooBig) × (is_too_big text book.entries ≡ true)))
+    (failed ∙ ap (λ (e : SheetErr). Err e) is) faulty in
     loaded-fits next i forms f book can (got forms i f inside at) inv (ap (λ (t : List ℕ). is_too_big t book.entries) (sym said) ∙ big.1)
 
 -- what the code keeps of its book
 abbrev pub KeepsNumbers : ℕ → List SheetEntry → Type 0
 KeepsNumbers next es = (0 < next) × AreBelow next es
 
-pub added-kept : (next : ℕ) (origin : Origin) (text : List ℕ) (es new : List SheetEntry) → KeepsNumbers next es → new ≡ es ++ new_sheet next origin text ∷ [] → KeepsNumbers (next + 1) new
+pub added-kept : (next : ℕ) (origin : Origin) (text : List ℕ) (es new : List SheetEntry) → KeepsNumbers next es
+    → new ≡ es ++ new_sheet next origin text ∷ [] → KeepsNumbers (next + 1) new
 added-kept next origin text es new keeps is = subst (KeepsNumbers (next + 1)) (sym is) (omega arith, below-last next origin text es keeps.1)
 
 pub removed-kept : (n next : ℕ) (es new : List SheetEntry) → KeepsNumbers next es → new ≡ removed n es → KeepsNumbers next new
 removed-kept n next es new keeps is = subst (KeepsNumbers next) (sym is) (keeps.0, below-removed n next es keeps.1)
 
 -- one fewer leaves room for one
-pub rest-full : (text : List ℕ) (es : List SheetEntry) (n : ℕ) → IsSome (entry_of n es) → (nat_lt max_sheet_bytes (length text) || nat_lt 1000 (length es)) ≡ is_too_big text (removed n es)
+pub rest-full : (text : List ℕ) (es : List SheetEntry) (n : ℕ) → IsSome (entry_of n es)
+    → (nat_lt max_sheet_bytes (length text) || nat_lt 1000 (length es)) ≡ is_too_big text (removed n es)
 rest-full text es n there =
-    ap (λ (b : Bool). nat_lt max_sheet_bytes (length text) || b) (ap (λ (m : ℕ). nat_lt 1000 m) (sym (one-fewer n es there)) ∙ same (length (removed n es)))
+    ap (λ (b : Bool). nat_lt max_sheet_bytes (length text) || b)
+    (ap (λ (m : ℕ). nat_lt 1000 m) (sym (one-fewer n es there)) ∙ same (length (removed n es)))
   where
     same : (m : ℕ) → nat_lt 1000 (suc m) ≡ nat_le 1000 m
     same m = at (nat_lt 1000 (suc m)) refl (nat_le 1000 m) refl where
@@ -458,7 +506,8 @@ rest-full text es n there =
       at true e false f = grind (arith, nat_tests)
       at false e true f = grind (arith, nat_tests)
 
-pub rest-else : (text : List ℕ) (es book : List SheetEntry) (n count : ℕ) (long : Bool) → IsSome (entry_of n es) → book ≡ es → count ≡ length book → long ≡ nat_lt max_sheet_bytes (length text) → long ≡ false
+pub rest-else : (text : List ℕ) (es book : List SheetEntry) (n count : ℕ) (long : Bool) → IsSome (entry_of n es) → book ≡ es
+    → count ≡ length book → long ≡ nat_lt max_sheet_bytes (length text) → long ≡ false
     → nat_lt 1000 count ≡ is_too_big text (removed n es)
 rest-else text es book n count long there same is said short =
     ap (λ (m : ℕ). nat_lt 1000 m) (is ∙ ap (λ (xs : List SheetEntry). length xs) same)

@@ -1,5 +1,6 @@
 -- What a seat does with sheets, and with the domain CSS, is the step of the state.
-use Rattle.std.proofs.Common.{◌≡◌, ◌⊎◌, inl, inr, ℕ, ◌+◌, ◌-◌, ◌==◌, Bool, true, false, cond, not, ◌&&◌, List, [], ◌∷◌, ◌++◌, length, map, drop, Option, Some, None, Result, Ok, Err, refl, sym, ap, ◌∙◌, subst, append-nil, append_assoc, arith}
+use Rattle.std.proofs.Common.{◌≡◌, ◌⊎◌, inl, inr, ℕ, ◌+◌, ◌-◌, ◌==◌, Bool, true, false, cond, not, ◌&&◌, List, [], ◌∷◌, ◌++◌, length, map}
+use Rattle.std.proofs.Common.{drop, Option, Some, None, Result, Ok, Err, refl, sym, ap, ◌∙◌, subst, append-nil, append_assoc, arith}
 use Rattle.std.specs.Prelude.{IsSome, is_some, slice_get, option_and_then}
 use Rattle.std.specs.FinMap as finite
 use Rattle.std.specs.Str.{IsUtf8}
@@ -45,7 +46,9 @@ use Rattle.back_end.specs.States.{State, page_nodes, book_in}
 use Rattle.back_end.specs.Plans.{Deed, restyles, size_fault, drop_fault, replace_fault, dropping, replacing}
 use Rattle.dom_breakpoints.specs.Watched.{unwatched}
 use Rattle.back_end.specs.Servers.{Server, css_enables, css_disables, css_agent}
-use Rattle.back_end.specs.Steps.{Step, refusing, with_crossed, planned_step, act_step, sheet_step, sheet_move, moves_gone, moves_come, load_step, needs_on, needs_css, element_serial, element_named, node_answer, text_answer, css_step, command_step}
+use Rattle.back_end.specs.Steps.{Step, refusing, with_crossed, planned_step, act_step, sheet_step, sheet_move, moves_gone, moves_come}
+use Rattle.back_end.specs.Steps.{load_step, needs_on, needs_css, element_serial, element_named, node_answer, text_answer, css_step}
+use Rattle.back_end.specs.Steps.{command_step}
 use Rattle.back_end.specs.Seats.{DeskStandsFor}
 use Rattle.back_end.specs.Texts.{PageHasTexts}
 use Rattle.back_end.proofs.SheetLemmas.{own-test, book-last, book-without, fits-beside, entry-stands}
@@ -76,15 +79,18 @@ gone-frames [] = refl
 gone-frames (s ∷ ss) = ap (λ (ms : List Move). dropped s.number ∷ ms) (gone-frames ss)
 
 -- an event that tells a move, while the domain is on
-pub told-frames : (on : Bool) (m : Move) (n : News) → message_of m ≡ event n → message_frames (event_messages on n) ≡ frames_of_moves (cond on (m ∷ []) [])
+pub told-frames : (on : Bool) (m : Move) (n : News) → message_of m ≡ event n
+    → message_frames (event_messages on n) ≡ frames_of_moves (cond on (m ∷ []) [])
 told-frames true m n is = ap (λ (t : Message). message_frame t ++ []) (sym is)
 told-frames false m n is = refl
 
-comes-on : (was : Bool) (ss : List ShownSheet) → message_frames (turn_messages was true (as_book ss)) ≡ frames_of_moves (cond was [] (moves_come ss))
+comes-on : (was : Bool) (ss : List ShownSheet)
+    → message_frames (turn_messages was true (as_book ss)) ≡ frames_of_moves (cond was [] (moves_come ss))
 comes-on true ss = refl
 comes-on false ss = come-frames ss
 
-comes-anew : (on : Bool) (ss : List ShownSheet) → message_frames (turn_messages false on (as_book ss)) ≡ frames_of_moves (cond on (moves_come ss) [])
+comes-anew : (on : Bool) (ss : List ShownSheet)
+    → message_frames (turn_messages false on (as_book ss)) ≡ frames_of_moves (cond on (moves_come ss) [])
 comes-anew true ss = come-frames ss
 comes-anew false ss = refl
 
@@ -96,50 +102,64 @@ frames-append ms ks = flat_map-append (λ (m : Move). framed (move_text m)) ms k
 test-is : (needs was on : Bool) (t : Bool) → was ≡ on → (needs && not was) ≡ t → (needs && not on) ≡ t
 test-is needs was on t is e = ap (λ b. needs && not b) (sym is) ∙ e
 
-pub dom-off-stands : (d : Desk) (s : PageSide) (state : State) (id : ℕ) (server : Server) → needs_on server ≡ true → DeskStandsFor d s state → d.is_on ≡ false
+pub dom-off-stands : (d : Desk) (s : PageSide) (state : State) (id : ℕ) (server : Server) → needs_on server ≡ true
+    → DeskStandsFor d s state → d.is_on ≡ false
     → DeskStandsFor d s (command_step id server state).state
 dom-off-stands d s state id server needs stands was =
-    let off : (needs_on server && not state.client.dom_on) ≡ true = ap (λ a. a && not state.client.dom_on) needs ∙ ap (λ b. not b) (sym stands.on_is ∙ was) in
+    let off : (needs_on server && not state.client.dom_on)
+    ≡ true = ap (λ a. a && not state.client.dom_on) needs ∙ ap (λ b. not b) (sym stands.on_is ∙ was) in
     subst (λ (done : Step). DeskStandsFor d s done.state) (sym (off-is id server state off)) stands
 
-pub dom-off-sent : (d : Desk) (s : PageSide) (state : State) (id : ℕ) (server : Server) (old new : List ℕ) → needs_on server ≡ true → DeskStandsFor d s state → d.is_on ≡ false
-    → new ≡ old ++ frames_of_moves (refusing (Some id) DomOff state).moves → new ≡ old ++ frames_of_moves (command_step id server state).moves
+pub dom-off-sent : (d : Desk) (s : PageSide) (state : State) (id : ℕ) (server : Server) (old new : List ℕ) → needs_on server ≡ true
+    → DeskStandsFor d s state → d.is_on ≡ false
+    → new ≡ old ++ frames_of_moves (refusing (Some id) DomOff state).moves
+    → new ≡ old ++ frames_of_moves (command_step id server state).moves
 dom-off-sent d s state id server old new needs stands was sent =
-    let off : (needs_on server && not state.client.dom_on) ≡ true = ap (λ a. a && not state.client.dom_on) needs ∙ ap (λ b. not b) (sym stands.on_is ∙ was) in
+    let off : (needs_on server && not state.client.dom_on)
+    ≡ true = ap (λ a. a && not state.client.dom_on) needs ∙ ap (λ b. not b) (sym stands.on_is ∙ was) in
     sent ∙ ap (λ (done : Step). old ++ frames_of_moves done.moves) (sym (off-is id server state off))
 
-pub dom-on : (server : Server) (d : Desk) (s : PageSide) (state : State) → DeskStandsFor d s state → d.is_on ≡ true → (needs_on server && not state.client.dom_on) ≡ false
+pub dom-on : (server : Server) (d : Desk) (s : PageSide) (state : State) → DeskStandsFor d s state → d.is_on ≡ true
+    → (needs_on server && not state.client.dom_on) ≡ false
 dom-on server d s state stands was = ap (λ b. needs_on server && not b) (sym stands.on_is ∙ was) ∙ at (needs_on server) where
   at : (a : Bool) → (a && false) ≡ false
   at true = refl
   at false = refl
 
-css-refused : (server : Server) (d : Desk) (s : PageSide) (state : State) → needs_css server ≡ true → DeskStandsFor d s state → d.css ≡ false → (needs_css server && not state.client.css_on) ≡ true
+css-refused : (server : Server) (d : Desk) (s : PageSide) (state : State) → needs_css server ≡ true → DeskStandsFor d s state
+    → d.css ≡ false → (needs_css server && not state.client.css_on) ≡ true
 css-refused server d s state needs stands was = ap (λ a. a && not state.client.css_on) needs ∙ ap (λ b. not b) (sym stands.css_is ∙ was)
 
-pub css-taken : (server : Server) (d : Desk) (s : PageSide) (state : State) → DeskStandsFor d s state → d.css ≡ true → (needs_css server && not state.client.css_on) ≡ false
+pub css-taken : (server : Server) (d : Desk) (s : PageSide) (state : State) → DeskStandsFor d s state → d.css ≡ true
+    → (needs_css server && not state.client.css_on) ≡ false
 css-taken server d s state stands was = ap (λ b. needs_css server && not b) (sym stands.css_is ∙ was) ∙ at (needs_css server) where
   at : (a : Bool) → (a && false) ≡ false
   at true = refl
   at false = refl
 
-pub css-off-stands : (d : Desk) (s : PageSide) (state : State) (id : ℕ) (server : Server) → needs_css server ≡ true → DeskStandsFor d s state → d.is_on ≡ true → d.css ≡ false
+pub css-off-stands : (d : Desk) (s : PageSide) (state : State) (id : ℕ) (server : Server) → needs_css server ≡ true
+    → DeskStandsFor d s state → d.is_on ≡ true → d.css ≡ false
     → DeskStandsFor d s (command_step id server state).state
 css-off-stands d s state id server needs stands on off =
-    subst (λ (done : Step). DeskStandsFor d s done.state) (sym (css-refused-is id server state (dom-on server d s state stands on) (css-refused server d s state needs stands off))) stands
+    subst (λ (done : Step). DeskStandsFor d s done.state)
+    (sym (css-refused-is id server state (dom-on server d s state stands on) (css-refused server d s state needs stands off))) stands
 
-pub css-off-sent : (d : Desk) (s : PageSide) (state : State) (id : ℕ) (server : Server) (old new : List ℕ) → needs_css server ≡ true → DeskStandsFor d s state → d.is_on ≡ true → d.css ≡ false
-    → new ≡ old ++ frames_of_moves (refusing (Some id) CssOff state).moves → new ≡ old ++ frames_of_moves (command_step id server state).moves
+pub css-off-sent : (d : Desk) (s : PageSide) (state : State) (id : ℕ) (server : Server) (old new : List ℕ) → needs_css server ≡ true
+    → DeskStandsFor d s state → d.is_on ≡ true → d.css ≡ false
+    → new ≡ old ++ frames_of_moves (refusing (Some id) CssOff state).moves
+    → new ≡ old ++ frames_of_moves (command_step id server state).moves
 css-off-sent d s state id server old new needs stands on off sent =
     sent ∙ ap (λ (done : Step). old ++ frames_of_moves done.moves)
     (sym (css-refused-is id server state (dom-on server d s state stands on) (css-refused server d s state needs stands off)))
 
 -- ---- `CSS.enable` and `CSS.disable`
 
-pub css-enabled-stands : (d d1 : Desk) (s : PageSide) (state : State) (id : ℕ) → DeskStandsFor d s state → d.is_on ≡ true → d1.is_on ≡ d.is_on → d1.css ≡ true → d1.watches ≡ d.watches → d1.agent ≡ d.agent
+pub css-enabled-stands : (d d1 : Desk) (s : PageSide) (state : State) (id : ℕ) → DeskStandsFor d s state → d.is_on ≡ true
+    → d1.is_on ≡ d.is_on → d1.css ≡ true → d1.watches ≡ d.watches → d1.agent ≡ d.agent
     → DeskStandsFor d1 s (command_step id css_enables state).state
 css-enabled-stands d d1 s state id stands was on_is css_is watches_is agent_is =
-    subst (λ (done : Step). DeskStandsFor d1 s done.state) (sym (on-is id css_enables state (dom-on css_enables d s state stands was) refl)) (record {
+    subst (λ (done : Step). DeskStandsFor d1 s done.state)
+    (sym (on-is id css_enables state (dom-on css_enables d s state stands was) refl)) (record {
       now = css-on-is state stands.now (sym stands.on_is ∙ was);
       page_is = stands.page_is;
       sheets_are = stands.sheets_are;
@@ -150,7 +170,8 @@ css-enabled-stands d d1 s state id stands was on_is css_is watches_is agent_is =
       stands = subst (λ a. Stands (page_nodes state) state.client.session a) (sym agent_is) stands.stands;
     })
 
-pub css-enabled-sent : (d : Desk) (s : PageSide) (state : State) (id : ℕ) (book : List SheetEntry) (old middle new : List ℕ) → DeskStandsFor d s state → d.is_on ≡ true → book ≡ s.sheets.entries
+pub css-enabled-sent : (d : Desk) (s : PageSide) (state : State) (id : ℕ) (book : List SheetEntry) (old middle new : List ℕ)
+    → DeskStandsFor d s state → d.is_on ≡ true → book ≡ s.sheets.entries
     → middle ≡ old ++ message_frames (turn_messages d.css true book) → new ≡ middle ++ framed (reply_text id Nothing)
     → new ≡ old ++ frames_of_moves (command_step id css_enables state).moves
 css-enabled-sent d s state id book old middle new stands was book_is first last =
@@ -163,13 +184,16 @@ css-enabled-sent d s state id book old middle new stands was book_is first last 
     ∙ ap (λ bs. bs ++ frames_of_moves (replied id Nothing ∷ [])) same
     ∙ append_assoc old (frames_of_moves ms) (frames_of_moves (replied id Nothing ∷ []))
     ∙ ap (λ bs. old ++ bs) (sym (frames-append ms (replied id Nothing ∷ [])))
-    ∙ ap (λ (done : Step). old ++ frames_of_moves done.moves) (sym (on-is id css_enables state (dom-on css_enables d s state stands was) refl))
+    ∙ ap (λ (done : Step). old ++ frames_of_moves done.moves)
+    (sym (on-is id css_enables state (dom-on css_enables d s state stands was) refl))
 
-pub css-disabled-stands : (d d1 : Desk) (s : PageSide) (state : State) (id : ℕ) → DeskStandsFor d s state → d.is_on ≡ true → d.css ≡ true → d1.is_on ≡ d.is_on → d1.css ≡ false → d1.watches ≡ d.watches → d1.agent ≡ d.agent
+pub css-disabled-stands : (d d1 : Desk) (s : PageSide) (state : State) (id : ℕ) → DeskStandsFor d s state → d.is_on ≡ true → d.css ≡ true
+    → d1.is_on ≡ d.is_on → d1.css ≡ false → d1.watches ≡ d.watches → d1.agent ≡ d.agent
     → DeskStandsFor d1 s (command_step id css_disables state).state
 css-disabled-stands d d1 s state id stands was css_was on_is css_is watches_is agent_is =
     subst (λ (done : Step). DeskStandsFor d1 s done.state)
-    (sym (on-is id css_disables state (dom-on css_disables d s state stands was) (css-taken css_disables d s state stands css_was))) (record {
+    (sym (on-is id css_disables state (dom-on css_disables d s state stands was) (css-taken css_disables d s state stands css_was)))
+    (record {
       now = css-off-is state stands.now;
       page_is = stands.page_is;
       sheets_are = stands.sheets_are;
@@ -180,8 +204,10 @@ css-disabled-stands d d1 s state id stands was css_was on_is css_is watches_is a
       stands = subst (λ a. Stands (page_nodes state) state.client.session a) (sym agent_is) stands.stands;
     })
 
-pub css-disabled-sent : (d : Desk) (s : PageSide) (state : State) (id : ℕ) (old middle new : List ℕ) → DeskStandsFor d s state → d.is_on ≡ true → d.css ≡ true
-    → middle ≡ old ++ framed (reply_text id Nothing) → new ≡ middle ++ [] → new ≡ old ++ frames_of_moves (command_step id css_disables state).moves
+pub css-disabled-sent : (d : Desk) (s : PageSide) (state : State) (id : ℕ) (old middle new : List ℕ) → DeskStandsFor d s state
+    → d.is_on ≡ true → d.css ≡ true
+    → middle ≡ old ++ framed (reply_text id Nothing) → new ≡ middle ++ []
+    → new ≡ old ++ frames_of_moves (command_step id css_disables state).moves
 css-disabled-sent d s state id old middle new stands was css_was first last =
     last ∙ append-nil middle ∙ first ∙ ap (λ bs. old ++ bs) (sym (append-nil (framed (reply_text id Nothing))))
     ∙ ap (λ (done : Step). old ++ frames_of_moves done.moves)
@@ -189,34 +215,43 @@ css-disabled-sent d s state id old middle new stands was css_was first last =
 
 -- ---- what the CSS agent is asked
 
-pub styles-stand : (d : Desk) (s : PageSide) (state : State) (id : ℕ) (ask : CssAsk) → DeskStandsFor d s state → d.is_on ≡ true → d.css ≡ true
+pub styles-stand : (d : Desk) (s : PageSide) (state : State) (id : ℕ) (ask : CssAsk) → DeskStandsFor d s state → d.is_on ≡ true
+    → d.css ≡ true
     → DeskStandsFor d s (command_step id (css_agent ask) state).state
 styles-stand d s state id ask stands was css_was =
     subst (λ (done : Step). DeskStandsFor d s done.state)
-    (sym (on-is id (css_agent ask) state (dom-on (css_agent ask) d s state stands was) (css-taken (css_agent ask) d s state stands css_was))) stands
+    (sym (on-is id (css_agent ask) state (dom-on (css_agent ask) d s state stands was)
+    (css-taken (css_agent ask) d s state stands css_was))) stands
 
-pub styles-sent : (d : Desk) (s : PageSide) (state : State) (id : ℕ) (ask : CssAsk) (old new : List ℕ) → DeskStandsFor d s state → d.is_on ≡ true → d.css ≡ true
-    → new ≡ old ++ frames_of_moves (css_step id ask state).moves → new ≡ old ++ frames_of_moves (command_step id (css_agent ask) state).moves
+pub styles-sent : (d : Desk) (s : PageSide) (state : State) (id : ℕ) (ask : CssAsk) (old new : List ℕ) → DeskStandsFor d s state
+    → d.is_on ≡ true → d.css ≡ true
+    → new ≡ old ++ frames_of_moves (css_step id ask state).moves
+    → new ≡ old ++ frames_of_moves (command_step id (css_agent ask) state).moves
 styles-sent d s state id ask old new stands was css_was sent =
     sent ∙ ap (λ (done : Step). old ++ frames_of_moves done.moves)
-    (sym (on-is id (css_agent ask) state (dom-on (css_agent ask) d s state stands was) (css-taken (css_agent ask) d s state stands css_was)))
+    (sym (on-is id (css_agent ask) state (dom-on (css_agent ask) d s state stands was)
+    (css-taken (css_agent ask) d s state stands css_was)))
 
 -- the text of a sheet, as a reply and as the move that it is
-text-frames : (id : ℕ) (o : Option SheetEntry) → frames_of_moves (answer_move id (if_sheet (λ e. SheetText e.text) o) ∷ []) ≡ frames_of_moves (text_answer id o ∷ [])
+text-frames : (id : ℕ) (o : Option SheetEntry)
+    → frames_of_moves (answer_move id (if_sheet (λ e. SheetText e.text) o) ∷ []) ≡ frames_of_moves (text_answer id o ∷ [])
 text-frames id None = refl
 text-frames id (Some e) = refl
 
-same-node : (page : PageValue) (w : Session) (b : BindingValue) (o : Option ℕ) → known_node (binding_keeper (alone page.tree)) page.tree b o ≡ known_node (session_keeper (alone page.tree)) page.tree w o
+same-node : (page : PageValue) (w : Session) (b : BindingValue) (o : Option ℕ)
+    → known_node (binding_keeper (alone page.tree)) page.tree b o ≡ known_node (session_keeper (alone page.tree)) page.tree w o
 same-node page w b None = refl
 same-node page w b (Some serial) = refl
 
 -- an ask that names no node
-plain-asked : (d : Desk) (s : PageSide) (state : State) (id : ℕ) (ask : CssAsk) (page : PageValue) (book : List SheetEntry) (old new : List ℕ) → DeskStandsFor d s state
+plain-asked : (d : Desk) (s : PageSide) (state : State) (id : ℕ) (ask : CssAsk) (page : PageValue) (book : List SheetEntry)
+    (old new : List ℕ) → DeskStandsFor d s state
     → page ≡ s.page → book ≡ s.sheets.entries → new ≡ old ++ frames_of_moves (answer_move id (css_outcome page.tree book 0 ask) ∷ [])
     → new ≡ old ++ frames_of_moves (answer_move id (css_outcome state.side.page.tree (book_in state) 0 ask) ∷ [])
 plain-asked d s state id ask page book old new stands page_is book_is sent =
     sent ∙ ap (λ (p : PageValue). old ++ frames_of_moves (answer_move id (css_outcome p.tree book 0 ask) ∷ [])) (page_is ∙ stands.page_is)
-    ∙ ap (λ (b : List SheetEntry). old ++ frames_of_moves (answer_move id (css_outcome state.side.page.tree b 0 ask) ∷ [])) (book_is ∙ stands.sheets_are)
+    ∙ ap (λ (b : List SheetEntry). old ++ frames_of_moves (answer_move id (css_outcome state.side.page.tree b 0 ask) ∷ []))
+    (book_is ∙ stands.sheets_are)
 
 -- the ask names no node
 abbrev NamesNone : CssAsk → Type 0
@@ -225,56 +260,75 @@ NamesNone (css.GetStyleSheetText sheet) = Unit {0}
 NamesNone (css.CollectClassNames sheet) = Unit {0}
 
 plain-frames : (id : ℕ) (ask : CssAsk) (state : State) → NamesNone ask
-    → frames_of_moves (answer_move id (css_outcome state.side.page.tree (book_in state) 0 ask) ∷ []) ≡ frames_of_moves (css_step id ask state).moves
+    → frames_of_moves (answer_move id (css_outcome state.side.page.tree (book_in state) 0 ask) ∷ [])
+    ≡ frames_of_moves (css_step id ask state).moves
 plain-frames id (css.GetMatchedStyles target) state none = absurd none
 plain-frames id (css.GetStyleSheetText sheet) state none = text-frames id (sheet_named sheet (book_in state))
 plain-frames id (css.CollectClassNames sheet) state none = refl
 
-pub plain-sent : (d : Desk) (s : PageSide) (state : State) (id : ℕ) (ask : CssAsk) (page : PageValue) (book : List SheetEntry) (old new : List ℕ) → DeskStandsFor d s state
-    → ((x : List ℕ) × (ask ≡ css.GetStyleSheetText x)) ⊎ ((x : List ℕ) × (ask ≡ css.CollectClassNames x)) → page ≡ s.page → book ≡ s.sheets.entries
-    → new ≡ old ++ frames_of_moves (answer_move id (css_outcome page.tree book 0 ask) ∷ []) → new ≡ old ++ frames_of_moves (css_step id ask state).moves
+pub plain-sent : (d : Desk) (s : PageSide) (state : State) (id : ℕ) (ask : CssAsk) (page : PageValue) (book : List SheetEntry)
+    (old new : List ℕ) → DeskStandsFor d s state
+    → ((x : List ℕ) × (ask ≡ css.GetStyleSheetText x)) ⊎ ((x : List ℕ) × (ask ≡ css.CollectClassNames x)) → page ≡ s.page
+    → book ≡ s.sheets.entries
+    → new ≡ old ++ frames_of_moves (answer_move id (css_outcome page.tree book 0 ask) ∷ [])
+    → new ≡ old ++ frames_of_moves (css_step id ask state).moves
 plain-sent d s state id ask page book old new stands is page_is book_is sent =
-    plain-asked d s state id ask page book old new stands page_is book_is sent ∙ ap (λ (bs : List ℕ). old ++ bs) (plain-frames id ask state (names is))
+    plain-asked d s state id ask page book old new stands page_is book_is sent ∙ ap (λ (bs : List ℕ). old ++ bs)
+    (plain-frames id ask state (names is))
   where
     names : ((x : List ℕ) × (ask ≡ css.GetStyleSheetText x)) ⊎ ((x : List ℕ) × (ask ≡ css.CollectClassNames x)) → NamesNone ask
     names (inl h) = subst NamesNone (sym h.1) tt
     names (inr h) = subst NamesNone (sym h.1) tt
 
 -- the node that is named
-pub element-is : (d : Desk) (s : PageSide) (state : State) (page : PageValue) (named : ℕ) (r : Result ℕ Why) → DeskStandsFor d s state → page ≡ s.page
-    → r ≡ element_serial (known_node (binding_keeper (alone page.tree)) page.tree d.agent (finite.get d.agent.serials named)) → element_named named state ≡ r
+pub element-is : (d : Desk) (s : PageSide) (state : State) (page : PageValue) (named : ℕ) (r : Result ℕ Why) → DeskStandsFor d s state
+    → page ≡ s.page
+    → r ≡ element_serial (known_node (binding_keeper (alone page.tree)) page.tree d.agent (finite.get d.agent.serials named))
+    → element_named named state ≡ r
 element-is d s state page named r stands page_is is =
     let w = state.client.session in
     let b = d.agent in
-    sym (is ∙ ap (λ (p : PageValue). element_serial (known_node (binding_keeper (alone p.tree)) p.tree b (finite.get b.serials named))) (page_is ∙ stands.page_is)
-    ∙ ap (λ (o : Option ℕ). element_serial (known_node (binding_keeper (page_nodes state)) state.side.page.tree b o)) (stands.stands.serials_are named)
+    sym (is ∙ ap (λ (p : PageValue). element_serial (known_node (binding_keeper (alone p.tree)) p.tree b (finite.get b.serials named)))
+    (page_is ∙ stands.page_is)
+    ∙ ap (λ (o : Option ℕ). element_serial (known_node (binding_keeper (page_nodes state)) state.side.page.tree b o))
+    (stands.stands.serials_are named)
     ∙ ap element_serial (same-node state.side.page w b (serial_at w (page_nodes state) named)))
 
-pub node-asked : (d : Desk) (s : PageSide) (state : State) (id named serial : ℕ) (page : PageValue) (book : List SheetEntry) (old new : List ℕ) → DeskStandsFor d s state
+pub node-asked : (d : Desk) (s : PageSide) (state : State) (id named serial : ℕ) (page : PageValue) (book : List SheetEntry)
+    (old new : List ℕ) → DeskStandsFor d s state
     → page ≡ s.page → book ≡ s.sheets.entries → element_named named state ≡ Ok serial
     → new ≡ old ++ frames_of_moves (answer_move id (css_outcome page.tree book serial (css.GetMatchedStyles named)) ∷ [])
     → new ≡ old ++ frames_of_moves (css_step id (css.GetMatchedStyles named) state).moves
 node-asked d s state id named serial page book old new stands page_is book_is is sent =
-    sent ∙ ap (λ (p : PageValue). old ++ frames_of_moves (answer_move id (css_outcome p.tree book serial (css.GetMatchedStyles named)) ∷ [])) (page_is ∙ stands.page_is)
-    ∙ ap (λ (b : List SheetEntry). old ++ frames_of_moves (answer_move id (css_outcome state.side.page.tree b serial (css.GetMatchedStyles named)) ∷ [])) (book_is ∙ stands.sheets_are)
+    sent ∙ ap (λ (p : PageValue). old
+    ++ frames_of_moves (answer_move id (css_outcome p.tree book serial (css.GetMatchedStyles named)) ∷ [])) (page_is ∙ stands.page_is)
+    ∙ ap (λ (b : List SheetEntry). old
+    ++ frames_of_moves (answer_move id (css_outcome state.side.page.tree b serial (css.GetMatchedStyles named)) ∷ []))
+    (book_is ∙ stands.sheets_are)
     ∙ ap (λ (r : Result ℕ Why). old ++ frames_of_moves (node_answer id (css.GetMatchedStyles named) r state ∷ [])) (sym is)
 
 pub node-refused : (state : State) (id named : ℕ) (why : Why) (old new : List ℕ) → element_named named state ≡ Err why
-    → new ≡ old ++ frames_of_moves (refusing (Some id) why state).moves → new ≡ old ++ frames_of_moves (css_step id (css.GetMatchedStyles named) state).moves
-node-refused state id named why old new is sent = sent ∙ ap (λ (r : Result ℕ Why). old ++ frames_of_moves (node_answer id (css.GetMatchedStyles named) r state ∷ [])) (sym is)
+    → new ≡ old ++ frames_of_moves (refusing (Some id) why state).moves
+    → new ≡ old ++ frames_of_moves (css_step id (css.GetMatchedStyles named) state).moves
+node-refused state id named why old new is sent = sent ∙ ap
+    (λ (r : Result ℕ Why). old ++ frames_of_moves (node_answer id (css.GetMatchedStyles named) r state ∷ [])) (sym is)
 
 -- ---- one change of the sheets
 
-pub came-stands : (d : Desk) (s s1 : PageSide) (state : State) (origin : Origin) (text : List ℕ) → DeskStandsFor d s state → IsUtf8 text → is_too_big text s.sheets.entries ≡ false
-    → s1.page ≡ s.page → s1.sheets ≡ record { entries = s.sheets.entries ++ new_sheet s.sheets.next origin text ∷ []; next = s.sheets.next + 1 }
+pub came-stands : (d : Desk) (s s1 : PageSide) (state : State) (origin : Origin) (text : List ℕ) → DeskStandsFor d s state → IsUtf8 text
+    → is_too_big text s.sheets.entries ≡ false
+    → s1.page ≡ s.page → s1.sheets
+    ≡ record { entries = s.sheets.entries ++ new_sheet s.sheets.next origin text ∷ []; next = s.sheets.next + 1 }
     → DeskStandsFor d s1 (sheet_step (comes origin text) state).state
 came-stands d s s1 state origin text stands utf8 fits page_is sheets_is =
     let here : is_too_big text (book_in state) ≡ false = ap (is_too_big text) (sym stands.sheets_are) ∙ fits in
     record {
       now = change-is (comes origin text) state stands.now (fits-beside text state.side.sheets utf8 here);
       page_is = page_is ∙ stands.page_is;
-      sheets_are = ap (λ (b : NumberedBook). b.entries) sheets_is ∙ ap (λ (es : List SheetEntry). es ++ new_sheet s.sheets.next origin text ∷ []) stands.sheets_are
-          ∙ ap (λ n. book_in state ++ new_sheet n origin text ∷ []) stands.next_is ∙ sym (book-last state.side.next_sheet origin text state.side.sheets);
+      sheets_are = ap (λ (b : NumberedBook). b.entries) sheets_is ∙ ap
+          (λ (es : List SheetEntry). es ++ new_sheet s.sheets.next origin text ∷ []) stands.sheets_are
+          ∙ ap (λ n. book_in state ++ new_sheet n origin text ∷ []) stands.next_is ∙ sym
+          (book-last state.side.next_sheet origin text state.side.sheets);
       next_is = ap (λ (b : NumberedBook). b.next) sheets_is ∙ ap (λ n. n + 1) stands.next_is;
       on_is = stands.on_is;
       css_is = stands.css_is;
@@ -303,29 +357,38 @@ pub came-sent : (d : Desk) (s : PageSide) (state : State) (origin : Origin) (tex
     → new ≡ old ++ message_frames (event_messages d.css (sheet_added (told_header (new_sheet s.sheets.next origin text))))
     → new ≡ old ++ frames_of_moves (sheet_step (comes origin text) state).moves
 came-sent d s state origin text old new stands sent =
-    sent ∙ ap (λ (b : Bool). old ++ message_frames (event_messages b (sheet_added (told_header (new_sheet s.sheets.next origin text))))) stands.css_is
-    ∙ ap (λ n. old ++ message_frames (event_messages state.client.css_on (sheet_added (told_header (new_sheet n origin text))))) stands.next_is
-    ∙ ap (λ (bs : List ℕ). old ++ bs) (told-frames state.client.css_on (sheet_move (comes origin text) state.side) (sheet_added (told_header (new_sheet state.side.next_sheet origin text))) refl)
+    sent ∙ ap (λ (b : Bool). old ++ message_frames
+    (event_messages b (sheet_added (told_header (new_sheet s.sheets.next origin text))))) stands.css_is
+    ∙ ap (λ n. old ++ message_frames
+    (event_messages state.client.css_on (sheet_added (told_header (new_sheet n origin text))))) stands.next_is
+    ∙ ap (λ (bs : List ℕ). old ++ bs)
+    (told-frames state.client.css_on (sheet_move (comes origin text) state.side)
+    (sheet_added (told_header (new_sheet state.side.next_sheet origin text))) refl)
 
-pub left-stands : (d : Desk) (s s1 : PageSide) (state : State) (number : ℕ) → DeskStandsFor d s state → IsSome (entry_of number s.sheets.entries)
+pub left-stands : (d : Desk) (s s1 : PageSide) (state : State) (number : ℕ) → DeskStandsFor d s state
+    → IsSome (entry_of number s.sheets.entries)
     → s1.page ≡ s.page → s1.sheets ≡ record { entries = removed number s.sheets.entries; next = s.sheets.next }
     → DeskStandsFor d s1 (sheet_step (leaves number) state).state
-left-stands d s s1 state number stands there page_is sheets_is = at (entry_of number (book_in state)) refl (subst (λ (es : List SheetEntry). IsSome (entry_of number es)) stands.sheets_are there) where
-  at : (o : Option SheetEntry) → entry_of number (book_in state) ≡ o → IsSome o → DeskStandsFor d s1 (sheet_step (leaves number) state).state
-  at None e some = absurd cc
-  at (Some x) e some = record {
-    now = change-is (leaves number) state stands.now (entry-stands number state.side.sheets x e).shows;
-    page_is = page_is ∙ stands.page_is;
-    sheets_are = ap (λ (b : NumberedBook). b.entries) sheets_is ∙ ap (removed number) stands.sheets_are ∙ book-without number state.side.sheets;
-    next_is = ap (λ (b : NumberedBook). b.next) sheets_is ∙ stands.next_is;
-    on_is = stands.on_is;
-    css_is = stands.css_is;
-    watches_are = stands.watches_are;
-    stands = stands.stands;
-  }
+left-stands d s s1 state number stands there page_is sheets_is = at (entry_of number (book_in state)) refl
+    (subst (λ (es : List SheetEntry). IsSome (entry_of number es)) stands.sheets_are there) where
+      at : (o : Option SheetEntry) → entry_of number (book_in state) ≡ o → IsSome o
+          → DeskStandsFor d s1 (sheet_step (leaves number) state).state
+      at None e some = absurd cc
+      at (Some x) e some = record {
+        now = change-is (leaves number) state stands.now (entry-stands number state.side.sheets x e).shows;
+        page_is = page_is ∙ stands.page_is;
+        sheets_are = ap (λ (b : NumberedBook). b.entries) sheets_is ∙ ap
+            (removed number) stands.sheets_are ∙ book-without number state.side.sheets;
+        next_is = ap (λ (b : NumberedBook). b.next) sheets_is ∙ stands.next_is;
+        on_is = stands.on_is;
+        css_is = stands.css_is;
+        watches_are = stands.watches_are;
+        stands = stands.stands;
+      }
 
 pub left-sent : (d : Desk) (s : PageSide) (state : State) (number : ℕ) (old new : List ℕ) → DeskStandsFor d s state
-    → new ≡ old ++ message_frames (event_messages d.css (sheet_removed number)) → new ≡ old ++ frames_of_moves (sheet_step (leaves number) state).moves
+    → new ≡ old ++ message_frames (event_messages d.css (sheet_removed number))
+    → new ≡ old ++ frames_of_moves (sheet_step (leaves number) state).moves
 left-sent d s state number old new stands sent =
     sent ∙ ap (λ (b : Bool). old ++ message_frames (event_messages b (sheet_removed number))) stands.css_is
     ∙ ap (λ (bs : List ℕ). old ++ bs) (told-frames state.client.css_on (dropped number) (sheet_removed number) refl)
@@ -336,23 +399,30 @@ crossed : (d : Desk) (s : PageSide) (state : State) → DeskStandsFor d s state 
 crossed d s state stands = marks-stands (crossed_over state.client.marks) d s state stands
 
 -- one change, where there is no fault
-once-stands : (d : Desk) (s : PageSide) (state : State) (o : Option ActFault) (c : SheetChange) → o ≡ None → DeskStandsFor d s (sheet_step c state).state
+once-stands : (d : Desk) (s : PageSide) (state : State) (o : Option ActFault) (c : SheetChange) → o ≡ None
+    → DeskStandsFor d s (sheet_step c state).state
     → DeskStandsFor d s (planned_step o (restyles (c ∷ [])) state).state
 once-stands d s state o c fits stands =
-    subst (λ (f : Option ActFault). DeskStandsFor d s (planned_step f (restyles (c ∷ [])) state).state) (sym fits) (crossed d s (sheet_step c state).state stands)
+    subst (λ (f : Option ActFault). DeskStandsFor d s (planned_step f (restyles (c ∷ [])) state).state) (sym fits)
+    (crossed d s (sheet_step c state).state stands)
 
-once-sent : (state : State) (o : Option ActFault) (c : SheetChange) (old new : List ℕ) → o ≡ None → new ≡ old ++ frames_of_moves (sheet_step c state).moves
+once-sent : (state : State) (o : Option ActFault) (c : SheetChange) (old new : List ℕ) → o ≡ None
+    → new ≡ old ++ frames_of_moves (sheet_step c state).moves
     → new ≡ old ++ frames_of_moves (planned_step o (restyles (c ∷ [])) state).moves
 once-sent state o c old new fits sent =
     sent ∙ ap (λ (ms : List Move). old ++ frames_of_moves ms) (sym (append-nil (sheet_step c state).moves))
     ∙ ap (λ (f : Option ActFault). old ++ frames_of_moves (planned_step f (restyles (c ∷ [])) state).moves) (sym fits)
 
 -- a fault changes nothing
-faulty-stands : (d : Desk) (s : PageSide) (state : State) (o : Option ActFault) (f : ActFault) (deed : Deed) → o ≡ Some f → DeskStandsFor d s state → DeskStandsFor d s (planned_step o deed state).state
-faulty-stands d s state o f deed is stands = subst (λ (g : Option ActFault). DeskStandsFor d s (planned_step g deed state).state) (sym is) stands
+faulty-stands : (d : Desk) (s : PageSide) (state : State) (o : Option ActFault) (f : ActFault) (deed : Deed) → o ≡ Some f
+    → DeskStandsFor d s state → DeskStandsFor d s (planned_step o deed state).state
+faulty-stands d s state o f deed is stands = subst (λ (g : Option ActFault). DeskStandsFor d s (planned_step g deed state).state)
+    (sym is) stands
 
-faulty-sent : (state : State) (o : Option ActFault) (f : ActFault) (deed : Deed) (old : List ℕ) → o ≡ Some f → old ≡ old ++ frames_of_moves (planned_step o deed state).moves
-faulty-sent state o f deed old is = sym (append-nil old) ∙ ap (λ (g : Option ActFault). old ++ frames_of_moves (planned_step g deed state).moves) (sym is)
+faulty-sent : (state : State) (o : Option ActFault) (f : ActFault) (deed : Deed) (old : List ℕ) → o ≡ Some f
+    → old ≡ old ++ frames_of_moves (planned_step o deed state).moves
+faulty-sent state o f deed old is = sym (append-nil old) ∙ ap
+    (λ (g : Option ActFault). old ++ frames_of_moves (planned_step g deed state).moves) (sym is)
 
 big-is : (text : List ℕ) (es : List SheetEntry) → is_too_big text es ≡ true → size_fault text es ≡ Some (Sheet TooBig)
 big-is text es e = ap (λ (b : Bool). cond b (Some (Sheet TooBig)) None) e
@@ -361,105 +431,147 @@ small-is : (text : List ℕ) (es : List SheetEntry) → is_too_big text es ≡ f
 small-is text es e = ap (λ (b : Bool). cond b (Some (Sheet TooBig)) None) e
 
 -- a sheet is added
-pub added-stands : (d d1 : Desk) (s s1 : PageSide) (state : State) (origin : Origin) (text : List ℕ) → DeskStandsFor d s state → is_too_big text s.sheets.entries ≡ false
-    → DeskStandsFor d1 s1 (sheet_step (comes origin text) state).state → DeskStandsFor d1 s1 (act_step (act.AddSheet origin text) state).state
+pub added-stands : (d d1 : Desk) (s s1 : PageSide) (state : State) (origin : Origin) (text : List ℕ) → DeskStandsFor d s state
+    → is_too_big text s.sheets.entries ≡ false
+    → DeskStandsFor d1 s1 (sheet_step (comes origin text) state).state
+    → DeskStandsFor d1 s1 (act_step (act.AddSheet origin text) state).state
 added-stands d d1 s s1 state origin text before fits stands =
-    once-stands d1 s1 state (size_fault text (book_in state)) (comes origin text) (small-is text (book_in state) (ap (is_too_big text) (sym before.sheets_are) ∙ fits)) stands
+    once-stands d1 s1 state (size_fault text (book_in state)) (comes origin text)
+    (small-is text (book_in state) (ap (is_too_big text) (sym before.sheets_are) ∙ fits)) stands
 
-pub added-sent : (d : Desk) (s : PageSide) (state : State) (origin : Origin) (text old new : List ℕ) → DeskStandsFor d s state → is_too_big text s.sheets.entries ≡ false
-    → new ≡ old ++ frames_of_moves (sheet_step (comes origin text) state).moves → new ≡ old ++ frames_of_moves (act_step (act.AddSheet origin text) state).moves
+pub added-sent : (d : Desk) (s : PageSide) (state : State) (origin : Origin) (text old new : List ℕ) → DeskStandsFor d s state
+    → is_too_big text s.sheets.entries ≡ false
+    → new ≡ old ++ frames_of_moves (sheet_step (comes origin text) state).moves
+    → new ≡ old ++ frames_of_moves (act_step (act.AddSheet origin text) state).moves
 added-sent d s state origin text old new before fits sent =
-    once-sent state (size_fault text (book_in state)) (comes origin text) old new (small-is text (book_in state) (ap (is_too_big text) (sym before.sheets_are) ∙ fits)) sent
+    once-sent state (size_fault text (book_in state)) (comes origin text) old new
+    (small-is text (book_in state) (ap (is_too_big text) (sym before.sheets_are) ∙ fits)) sent
 
-pub unadded-stands : (d : Desk) (s : PageSide) (state : State) (origin : Origin) (text : List ℕ) → DeskStandsFor d s state → is_too_big text s.sheets.entries ≡ true
+pub unadded-stands : (d : Desk) (s : PageSide) (state : State) (origin : Origin) (text : List ℕ) → DeskStandsFor d s state
+    → is_too_big text s.sheets.entries ≡ true
     → DeskStandsFor d s (act_step (act.AddSheet origin text) state).state
 unadded-stands d s state origin text stands big =
-    faulty-stands d s state (size_fault text (book_in state)) (Sheet TooBig) (restyles (comes origin text ∷ [])) (big-is text (book_in state) (ap (is_too_big text) (sym stands.sheets_are) ∙ big)) stands
+    faulty-stands d s state (size_fault text (book_in state)) (Sheet TooBig) (restyles (comes origin text ∷ []))
+    (big-is text (book_in state) (ap (is_too_big text) (sym stands.sheets_are) ∙ big)) stands
 
-pub unadded-sent : (d : Desk) (s : PageSide) (state : State) (origin : Origin) (text old : List ℕ) → DeskStandsFor d s state → is_too_big text s.sheets.entries ≡ true
+pub unadded-sent : (d : Desk) (s : PageSide) (state : State) (origin : Origin) (text old : List ℕ) → DeskStandsFor d s state
+    → is_too_big text s.sheets.entries ≡ true
     → old ≡ old ++ frames_of_moves (act_step (act.AddSheet origin text) state).moves
 unadded-sent d s state origin text old stands big =
-    faulty-sent state (size_fault text (book_in state)) (Sheet TooBig) (restyles (comes origin text ∷ [])) old (big-is text (book_in state) (ap (is_too_big text) (sym stands.sheets_are) ∙ big))
+    faulty-sent state (size_fault text (book_in state)) (Sheet TooBig) (restyles (comes origin text ∷ [])) old
+    (big-is text (book_in state) (ap (is_too_big text) (sym stands.sheets_are) ∙ big))
 
 -- the sheet that is meant is that of the state
-named-here : (d : Desk) (s : PageSide) (state : State) (sheet : List ℕ) (o : Option SheetEntry) → DeskStandsFor d s state → sheet_named sheet s.sheets.entries ≡ o → sheet_named sheet (book_in state) ≡ o
+named-here : (d : Desk) (s : PageSide) (state : State) (sheet : List ℕ) (o : Option SheetEntry) → DeskStandsFor d s state
+    → sheet_named sheet s.sheets.entries ≡ o → sheet_named sheet (book_in state) ≡ o
 named-here d s state sheet o stands is = ap (sheet_named sheet) (sym stands.sheets_are) ∙ is
 
 -- a sheet goes
-pub dropped-stands : (d : Desk) (s s1 : PageSide) (state : State) (sheet : List ℕ) (e : SheetEntry) → DeskStandsFor d s state → sheet_named sheet s.sheets.entries ≡ Some e
+pub dropped-stands : (d : Desk) (s s1 : PageSide) (state : State) (sheet : List ℕ) (e : SheetEntry) → DeskStandsFor d s state
+    → sheet_named sheet s.sheets.entries ≡ Some e
     → DeskStandsFor d s1 (sheet_step (leaves e.id) state).state → DeskStandsFor d s1 (act_step (act.DropSheet sheet) state).state
 dropped-stands d s s1 state sheet e before is stands =
-    subst (λ (o : Option SheetEntry). DeskStandsFor d s1 (planned_step (drop_fault o) (restyles (dropping o)) state).state) (sym (named-here d s state sheet (Some e) before is))
+    subst (λ (o : Option SheetEntry). DeskStandsFor d s1 (planned_step (drop_fault o) (restyles (dropping o)) state).state)
+    (sym (named-here d s state sheet (Some e) before is))
     (once-stands d s1 state None (leaves e.id) refl stands)
 
-pub dropped-sent : (d : Desk) (s : PageSide) (state : State) (sheet : List ℕ) (e : SheetEntry) (old new : List ℕ) → DeskStandsFor d s state → sheet_named sheet s.sheets.entries ≡ Some e
-    → new ≡ old ++ frames_of_moves (sheet_step (leaves e.id) state).moves → new ≡ old ++ frames_of_moves (act_step (act.DropSheet sheet) state).moves
+pub dropped-sent : (d : Desk) (s : PageSide) (state : State) (sheet : List ℕ) (e : SheetEntry) (old new : List ℕ) → DeskStandsFor d s state
+    → sheet_named sheet s.sheets.entries ≡ Some e
+    → new ≡ old ++ frames_of_moves (sheet_step (leaves e.id) state).moves
+    → new ≡ old ++ frames_of_moves (act_step (act.DropSheet sheet) state).moves
 dropped-sent d s state sheet e old new before is sent =
     once-sent state None (leaves e.id) old new refl sent
-    ∙ ap (λ (o : Option SheetEntry). old ++ frames_of_moves (planned_step (drop_fault o) (restyles (dropping o)) state).moves) (sym (named-here d s state sheet (Some e) before is))
+    ∙ ap (λ (o : Option SheetEntry). old ++ frames_of_moves (planned_step (drop_fault o) (restyles (dropping o)) state).moves)
+    (sym (named-here d s state sheet (Some e) before is))
 
-pub undropped-stands : (d : Desk) (s : PageSide) (state : State) (sheet : List ℕ) → DeskStandsFor d s state → sheet_named sheet s.sheets.entries ≡ None
+pub undropped-stands : (d : Desk) (s : PageSide) (state : State) (sheet : List ℕ) → DeskStandsFor d s state
+    → sheet_named sheet s.sheets.entries ≡ None
     → DeskStandsFor d s (act_step (act.DropSheet sheet) state).state
 undropped-stands d s state sheet stands is =
-    subst (λ (o : Option SheetEntry). DeskStandsFor d s (planned_step (drop_fault o) (restyles (dropping o)) state).state) (sym (named-here d s state sheet None stands is)) stands
+    subst (λ (o : Option SheetEntry). DeskStandsFor d s (planned_step (drop_fault o) (restyles (dropping o)) state).state)
+    (sym (named-here d s state sheet None stands is)) stands
 
-pub undropped-sent : (d : Desk) (s : PageSide) (state : State) (sheet old : List ℕ) → DeskStandsFor d s state → sheet_named sheet s.sheets.entries ≡ None
+pub undropped-sent : (d : Desk) (s : PageSide) (state : State) (sheet old : List ℕ) → DeskStandsFor d s state
+    → sheet_named sheet s.sheets.entries ≡ None
     → old ≡ old ++ frames_of_moves (act_step (act.DropSheet sheet) state).moves
 undropped-sent d s state sheet old stands is =
     sym (append-nil old)
-    ∙ ap (λ (o : Option SheetEntry). old ++ frames_of_moves (planned_step (drop_fault o) (restyles (dropping o)) state).moves) (sym (named-here d s state sheet None stands is))
+    ∙ ap (λ (o : Option SheetEntry). old ++ frames_of_moves (planned_step (drop_fault o) (restyles (dropping o)) state).moves)
+    (sym (named-here d s state sheet None stands is))
 
 -- ---- a sheet in the place of another
 
-pub replaced-stands : (d d1 : Desk) (s s1 : PageSide) (state : State) (sheet text : List ℕ) (e : SheetEntry) → DeskStandsFor d s state → sheet_named sheet s.sheets.entries ≡ Some e
-    → is_too_big text (removed e.id s.sheets.entries) ≡ false → DeskStandsFor d1 s1 (sheet_step (comes e.origin text) (sheet_step (leaves e.id) state).state).state
+pub replaced-stands : (d d1 : Desk) (s s1 : PageSide) (state : State) (sheet text : List ℕ) (e : SheetEntry) → DeskStandsFor d s state
+    → sheet_named sheet s.sheets.entries ≡ Some e
+    → is_too_big text (removed e.id s.sheets.entries) ≡ false
+    → DeskStandsFor d1 s1 (sheet_step (comes e.origin text) (sheet_step (leaves e.id) state).state).state
     → DeskStandsFor d1 s1 (act_step (act.ReplaceSheet sheet text) state).state
 replaced-stands d d1 s s1 state sheet text e before is fits stands =
-    let here : size_fault text (removed e.id (book_in state)) ≡ None = small-is text (removed e.id (book_in state)) (ap (λ (es : List SheetEntry). is_too_big text (removed e.id es)) (sym before.sheets_are) ∙ fits) in
-    subst (λ (o : Option SheetEntry). DeskStandsFor d1 s1 (planned_step (replace_fault text (book_in state) o) (restyles (replacing text o)) state).state) (sym (named-here d s state sheet (Some e) before is))
-    (subst (λ (f : Option ActFault). DeskStandsFor d1 s1 (planned_step f (restyles (leaves e.id ∷ comes e.origin text ∷ [])) state).state) (sym here)
+    let here : size_fault text (removed e.id (book_in state))
+    ≡ None = small-is text (removed e.id (book_in state))
+    (ap (λ (es : List SheetEntry). is_too_big text (removed e.id es)) (sym before.sheets_are) ∙ fits) in
+    subst (λ (o : Option SheetEntry). DeskStandsFor d1 s1
+    (planned_step (replace_fault text (book_in state) o) (restyles (replacing text o)) state).state)
+    (sym (named-here d s state sheet (Some e) before is))
+    (subst (λ (f : Option ActFault). DeskStandsFor d1 s1 (planned_step f (restyles (leaves e.id ∷ comes e.origin text ∷ [])) state).state)
+    (sym here)
     (crossed d1 s1 (sheet_step (comes e.origin text) (sheet_step (leaves e.id) state).state).state stands))
 
-pub replaced-sent : (d : Desk) (s : PageSide) (state : State) (sheet text : List ℕ) (e : SheetEntry) (old middle new : List ℕ) → DeskStandsFor d s state → sheet_named sheet s.sheets.entries ≡ Some e
+pub replaced-sent : (d : Desk) (s : PageSide) (state : State) (sheet text : List ℕ) (e : SheetEntry) (old middle new : List ℕ)
+    → DeskStandsFor d s state → sheet_named sheet s.sheets.entries ≡ Some e
     → is_too_big text (removed e.id s.sheets.entries) ≡ false → middle ≡ old ++ frames_of_moves (sheet_step (leaves e.id) state).moves
     → new ≡ middle ++ frames_of_moves (sheet_step (comes e.origin text) (sheet_step (leaves e.id) state).state).moves
     → new ≡ old ++ frames_of_moves (act_step (act.ReplaceSheet sheet text) state).moves
 replaced-sent d s state sheet text e old middle new before is fits first second =
-    let here : size_fault text (removed e.id (book_in state)) ≡ None = small-is text (removed e.id (book_in state)) (ap (λ (es : List SheetEntry). is_too_big text (removed e.id es)) (sym before.sheets_are) ∙ fits) in
+    let here : size_fault text (removed e.id (book_in state))
+    ≡ None = small-is text (removed e.id (book_in state))
+    (ap (λ (es : List SheetEntry). is_too_big text (removed e.id es)) (sym before.sheets_are) ∙ fits) in
     let one = (sheet_step (leaves e.id) state).moves in
     let last = (sheet_step (comes e.origin text) (sheet_step (leaves e.id) state).state).moves in
     second ∙ ap (λ (bs : List ℕ). bs ++ frames_of_moves last) first
     ∙ append_assoc old (frames_of_moves one) (frames_of_moves last)
     ∙ ap (λ (bs : List ℕ). old ++ bs) (sym (frames-append one last))
     ∙ ap (λ (ms : List Move). old ++ frames_of_moves (one ++ ms)) (sym (append-nil last))
-    ∙ ap (λ (f : Option ActFault). old ++ frames_of_moves (planned_step f (restyles (leaves e.id ∷ comes e.origin text ∷ [])) state).moves) (sym here)
-    ∙ ap (λ (o : Option SheetEntry). old ++ frames_of_moves (planned_step (replace_fault text (book_in state) o) (restyles (replacing text o)) state).moves) (sym (named-here d s state sheet (Some e) before is))
+    ∙ ap (λ (f : Option ActFault). old ++ frames_of_moves (planned_step f (restyles (leaves e.id ∷ comes e.origin text ∷ [])) state).moves)
+    (sym here)
+    ∙ ap (λ (o : Option SheetEntry). old
+    ++ frames_of_moves (planned_step (replace_fault text (book_in state) o) (restyles (replacing text o)) state).moves)
+    (sym (named-here d s state sheet (Some e) before is))
 
-pub unreplaced-stands : (d : Desk) (s : PageSide) (state : State) (sheet text : List ℕ) (o : Option SheetEntry) (f : ActFault) → DeskStandsFor d s state → sheet_named sheet s.sheets.entries ≡ o
+pub unreplaced-stands : (d : Desk) (s : PageSide) (state : State) (sheet text : List ℕ) (o : Option SheetEntry) (f : ActFault)
+    → DeskStandsFor d s state → sheet_named sheet s.sheets.entries ≡ o
     → replace_fault text s.sheets.entries o ≡ Some f → DeskStandsFor d s (act_step (act.ReplaceSheet sheet text) state).state
 unreplaced-stands d s state sheet text o f stands is fault =
     let here : replace_fault text (book_in state) (sheet_named sheet (book_in state)) ≡ Some f =
-    ap (λ (es : List SheetEntry). replace_fault text es (sheet_named sheet es)) (sym stands.sheets_are) ∙ ap (replace_fault text s.sheets.entries) is ∙ fault in
-    faulty-stands d s state (replace_fault text (book_in state) (sheet_named sheet (book_in state))) f (restyles (replacing text (sheet_named sheet (book_in state)))) here stands
+    ap (λ (es : List SheetEntry). replace_fault text es (sheet_named sheet es)) (sym stands.sheets_are) ∙ ap
+    (replace_fault text s.sheets.entries) is ∙ fault in
+    faulty-stands d s state (replace_fault text (book_in state) (sheet_named sheet (book_in state))) f
+    (restyles (replacing text (sheet_named sheet (book_in state)))) here stands
 
-pub unreplaced-sent : (d : Desk) (s : PageSide) (state : State) (sheet text : List ℕ) (o : Option SheetEntry) (f : ActFault) (old : List ℕ) → DeskStandsFor d s state → sheet_named sheet s.sheets.entries ≡ o
+pub unreplaced-sent : (d : Desk) (s : PageSide) (state : State) (sheet text : List ℕ) (o : Option SheetEntry) (f : ActFault) (old : List ℕ)
+    → DeskStandsFor d s state → sheet_named sheet s.sheets.entries ≡ o
     → replace_fault text s.sheets.entries o ≡ Some f → old ≡ old ++ frames_of_moves (act_step (act.ReplaceSheet sheet text) state).moves
 unreplaced-sent d s state sheet text o f old stands is fault =
     let here : replace_fault text (book_in state) (sheet_named sheet (book_in state)) ≡ Some f =
-    ap (λ (es : List SheetEntry). replace_fault text es (sheet_named sheet es)) (sym stands.sheets_are) ∙ ap (replace_fault text s.sheets.entries) is ∙ fault in
-    faulty-sent state (replace_fault text (book_in state) (sheet_named sheet (book_in state))) f (restyles (replacing text (sheet_named sheet (book_in state)))) old here
+    ap (λ (es : List SheetEntry). replace_fault text es (sheet_named sheet es)) (sym stands.sheets_are) ∙ ap
+    (replace_fault text s.sheets.entries) is ∙ fault in
+    faulty-sent state (replace_fault text (book_in state) (sheet_named sheet (book_in state))) f
+    (restyles (replacing text (sheet_named sheet (book_in state)))) old here
 
 -- the fault of one that does not fit, and of one that does
-pub big-fault : (sheet text : List ℕ) (es : List SheetEntry) (e : SheetEntry) → sheet_named sheet es ≡ Some e → is_too_big text (removed e.id es) ≡ true
+pub big-fault : (sheet text : List ℕ) (es : List SheetEntry) (e : SheetEntry) → sheet_named sheet es ≡ Some e
+    → is_too_big text (removed e.id es) ≡ true
     → Some (Sheet TooBig) ≡ replace_fault text es (sheet_named sheet es)
 big-fault sheet text es e is big = sym (ap (replace_fault text es) is ∙ big-is text (removed e.id es) big)
 
-pub fits-fault : (sheet text : List ℕ) (es : List SheetEntry) (e : SheetEntry) → sheet_named sheet es ≡ Some e → is_too_big text (removed e.id es) ≡ false
+pub fits-fault : (sheet text : List ℕ) (es : List SheetEntry) (e : SheetEntry) → sheet_named sheet es ≡ Some e
+    → is_too_big text (removed e.id es) ≡ false
     → None ≡ replace_fault text es (sheet_named sheet es)
 fits-fault sheet text es e is fits = sym (ap (replace_fault text es) is ∙ small-is text (removed e.id es) fits)
 
 -- the sheet that was found in the book
-pub named-found : (sheet : List ℕ) (book entries : List SheetEntry) (e : SheetEntry) → Some e ≡ sheet_named sheet book → book ≡ entries → sheet_named sheet entries ≡ Some e
+pub named-found : (sheet : List ℕ) (book entries : List SheetEntry) (e : SheetEntry) → Some e ≡ sheet_named sheet book → book ≡ entries
+    → sheet_named sheet entries ≡ Some e
 named-found sheet book entries e found same = ap (sheet_named sheet) (sym same) ∙ sym found
 
 found-there : (id : ℕ) (es : List SheetEntry) (e : SheetEntry) → entry_of id es ≡ Some e → IsSome (entry_of e.id es)
@@ -469,7 +581,8 @@ found-there id (x ∷ xs) e k = at (id == x.id) k (λ r. found-there id xs e r) 
   either true r = refl
   either false r = r
 
-  at : (b : Bool) → cond b (Some x) (entry_of id xs) ≡ Some e → (entry_of id xs ≡ Some e → IsSome (entry_of e.id xs)) → IsSome (entry_of e.id (x ∷ xs))
+  at : (b : Bool) → cond b (Some x) (entry_of id xs) ≡ Some e → (entry_of id xs ≡ Some e → IsSome (entry_of e.id xs))
+      → IsSome (entry_of e.id (x ∷ xs))
   at true r more =
       let same : x ≡ e = cc in
       subst (λ (y : SheetEntry). IsSome (cond (y.id == x.id) (Some x) (entry_of y.id xs))) same
@@ -484,9 +597,12 @@ named-there sheet es e h = at (sheet_in sheet) h where
 
 -- ---- loads
 
-pub load-stands : (d d1 : Desk) (s s1 : PageSide) (state : State) (page : LoadedPage) → DeskStandsFor d s state → CanLoadPage page → PageHasTexts page
-    → s1.page ≡ loaded s.page.next page.nodes → s1.sheets.entries ≡ as_book (numbered_sheets s.sheets.next page.sheets) → s1.sheets.next ≡ s.sheets.next + length page.sheets
-    → d1.is_on ≡ d.is_on → d1.css ≡ d.css → d1.watches ≡ unwatched → d1.agent ≡ cleared d.agent → DeskStandsFor d1 s1 (load_step page state).state
+pub load-stands : (d d1 : Desk) (s s1 : PageSide) (state : State) (page : LoadedPage) → DeskStandsFor d s state → CanLoadPage page
+    → PageHasTexts page
+    → s1.page ≡ loaded s.page.next page.nodes → s1.sheets.entries ≡ as_book (numbered_sheets s.sheets.next page.sheets)
+    → s1.sheets.next ≡ s.sheets.next + length page.sheets
+    → d1.is_on ≡ d.is_on → d1.css ≡ d.css → d1.watches ≡ unwatched → d1.agent ≡ cleared d.agent
+    → DeskStandsFor d1 s1 (load_step page state).state
 load-stands d d1 s s1 state page stands can texts page_is sheets_are next_is on_is css_is watches_is agent_is = record {
   now = load-is state page stands.now can texts;
   page_is = page_is ∙ ap (λ (p : PageValue). loaded p.next page.nodes) stands.page_is;
@@ -504,9 +620,11 @@ load-stands d d1 s s1 state page stands can texts page_is sheets_are next_is on_
     both-on true false off = off refl
     both-on false on off = refl
 
-pub load-sent : (d : Desk) (s : PageSide) (state : State) (page : LoadedPage) (old_book new_book : List SheetEntry) (out first second last : List ℕ) → DeskStandsFor d s state
+pub load-sent : (d : Desk) (s : PageSide) (state : State) (page : LoadedPage) (old_book new_book : List SheetEntry)
+    (out first second last : List ℕ) → DeskStandsFor d s state
     → old_book ≡ s.sheets.entries → new_book ≡ as_book (numbered_sheets s.sheets.next page.sheets)
-    → first ≡ out ++ frames_of_moves (cond d.is_on (clear ∷ []) []) → second ≡ first ++ frames_of_moves (cond d.css (map (λ e. dropped e.id) old_book) [])
+    → first ≡ out ++ frames_of_moves (cond d.is_on (clear ∷ []) [])
+    → second ≡ first ++ frames_of_moves (cond d.css (map (λ e. dropped e.id) old_book) [])
     → last ≡ second ++ message_frames (turn_messages false d.css new_book)
     → last ≡ out ++ frames_of_moves (load_step page state).moves
 load-sent d s state page old_book new_book out first second last stands old_is new_is one two three =
@@ -515,11 +633,14 @@ load-sent d s state page old_book new_book out first second last stands old_is n
     let gone = moves_gone state.side.sheets in
     let come = moves_come (load_step page state).state.side.sheets in
     let top : List Move = cond on (clear ∷ []) [] in
-    let first_is : first ≡ out ++ frames_of_moves top = one ∙ ap (λ (b : Bool). out ++ frames_of_moves (cond b (clear ∷ []) [])) stands.on_is in
+    let first_is : first ≡ out ++ frames_of_moves top = one ∙ ap
+    (λ (b : Bool). out ++ frames_of_moves (cond b (clear ∷ []) [])) stands.on_is in
     let second_is : second ≡ first ++ frames_of_moves (cond css_on gone []) =
     two ∙ ap (λ (b : Bool). first ++ frames_of_moves (cond b (map (λ e. dropped e.id) old_book) [])) stands.css_is
-    ∙ ap (λ (ms : List Move). first ++ frames_of_moves (cond css_on ms [])) (ap (λ (es : List SheetEntry). map (λ e. dropped e.id) es) (old_is ∙ stands.sheets_are) ∙ gone-frames state.side.sheets) in
-    let new_here : new_book ≡ as_book (load_step page state).state.side.sheets = new_is ∙ ap (λ n. as_book (numbered_sheets n page.sheets)) stands.next_is in
+    ∙ ap (λ (ms : List Move). first ++ frames_of_moves (cond css_on ms []))
+    (ap (λ (es : List SheetEntry). map (λ e. dropped e.id) es) (old_is ∙ stands.sheets_are) ∙ gone-frames state.side.sheets) in
+    let new_here : new_book ≡ as_book (load_step page state).state.side.sheets = new_is ∙ ap
+    (λ n. as_book (numbered_sheets n page.sheets)) stands.next_is in
     let last_is : last ≡ second ++ frames_of_moves (cond css_on come []) =
     three ∙ ap (λ (b : Bool). second ++ message_frames (turn_messages false b new_book)) stands.css_is
     ∙ ap (λ (es : List SheetEntry). second ++ message_frames (turn_messages false css_on es)) new_here
@@ -531,15 +652,18 @@ load-sent d s state page old_book new_book out first second last stands old_is n
     ∙ append_assoc out (frames_of_moves top) (frames_of_moves (cond css_on (gone ++ come) []))
     ∙ ap (λ (bs : List ℕ). out ++ bs) (sym (frames-append top (cond css_on (gone ++ come) [])))
   where
-    sheets-told : (b : Bool) (gone come : List Move) → frames_of_moves (cond b gone []) ++ frames_of_moves (cond b come []) ≡ frames_of_moves (cond b (gone ++ come) [])
+    sheets-told : (b : Bool) (gone come : List Move)
+        → frames_of_moves (cond b gone []) ++ frames_of_moves (cond b come []) ≡ frames_of_moves (cond b (gone ++ come) [])
     sheets-told true gone come = sym (frames-append gone come)
     sheets-told false gone come = refl
 
 -- ---- sheets that go, in code
 
 -- the sheet at a place goes, and those behind it are left
-pub gone-turn : (book : List SheetEntry) (i : ℕ) (e : SheetEntry) (before after : List ℕ) → slice_get book i ≡ Some e → after ≡ before ++ framed (event_text (sheet_removed e.id))
-    → after ++ frames_of_moves (map (λ e. dropped e.id) (drop (i + 1) book)) ≡ before ++ frames_of_moves (map (λ e. dropped e.id) (drop i book))
+pub gone-turn : (book : List SheetEntry) (i : ℕ) (e : SheetEntry) (before after : List ℕ) → slice_get book i ≡ Some e
+    → after ≡ before ++ framed (event_text (sheet_removed e.id))
+    → after ++ frames_of_moves (map (λ e. dropped e.id) (drop (i + 1) book))
+    ≡ before ++ frames_of_moves (map (λ e. dropped e.id) (drop i book))
 gone-turn book i e before after at sent =
     let rest = frames_of_moves (map (λ e. dropped e.id) (drop (i + 1) book)) in
     ap (λ (bs : List ℕ). bs ++ rest) sent
@@ -548,7 +672,8 @@ gone-turn book i e before after at sent =
 
 -- ---- the node that an ask names, in code
 
-pub element-found : (b : BindingValue) (tree : Branch PageRow) (o : Option ℕ) (serial : ℕ) (found : Branch PageRow) → o ≡ Some serial → find_in serial tree ≡ Some found → is_element found.row.label.kind ≡ true
+pub element-found : (b : BindingValue) (tree : Branch PageRow) (o : Option ℕ) (serial : ℕ) (found : Branch PageRow) → o ≡ Some serial
+    → find_in serial tree ≡ Some found → is_element found.row.label.kind ≡ true
     → ◌≡◌ {A = Result ℕ Why} (Ok serial) (element_serial (known_node (binding_keeper (alone tree)) tree b o))
 element-found b tree o serial found named is element =
     let own : found.row.serial ≡ serial = found_key row_serial serial (alone tree) found is in

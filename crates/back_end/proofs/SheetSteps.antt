@@ -1,5 +1,6 @@
 -- Sheets come and go: what a client sees of them changes by moves.
-use Rattle.std.proofs.Common.{◌≡◌, ℕ, ◌+◌, ◌^◌, ◌<◌, ◌≤◌, Bool, true, false, cond, ◌&&◌, ◌||◌, List, [], ◌∷◌, ◌++◌, length, None, refl, sym, ap, ◌∙◌, subst, append-nil, append_assoc, arith}
+use Rattle.std.proofs.Common.{◌≡◌, ℕ, ◌+◌, ◌^◌, ◌<◌, ◌≤◌, Bool, true, false, cond, ◌&&◌, ◌||◌, List, [], ◌∷◌, ◌++◌, length, None, refl, sym}
+use Rattle.std.proofs.Common.{ap, ◌∙◌, subst, append-nil, append_assoc, arith}
 use Rattle.std.specs.Prelude.{⊤}
 use Rattle.node_tree.specs.Nodes.{Nodes, none}
 use Rattle.node_tree.specs.Seen.{Seen}
@@ -8,15 +9,18 @@ use Rattle.page_tree.specs.Pages.{PageValue}
 use Rattle.node_binding.specs.Sessions.{Session, reset}
 use Rattle.cdp_messages.specs.declared.down.ReplyBody.TheVariants.{Nothing}
 use Rattle.cdp_messages.specs.Views.{ShownSheet, View, text_units, shows_sheet, sheets_without}
-use Rattle.cdp_messages.specs.Moves.{Move as Told, clear as cleared, added, dropped, replied, sheets_off, CanBeTold, Moves, Course, ends, goes}
+use Rattle.cdp_messages.specs.Moves.{Move as Told, clear as cleared, added, dropped, replied, sheets_off, CanBeTold, Moves, Course, ends}
+use Rattle.cdp_messages.specs.Moves.{goes}
 use Rattle.css_agent.proofs.TellableStyles.{counted, units-few}
 use Rattle.dom_agent.specs.Laws.{CanTellSheets, session_view as seen_by}
 use Rattle.dom_agent.proofs.StepLemmas.{course-join}
 use Rattle.page_forms.specs.Sheets.{max_sheet_bytes}
 use Rattle.back_end.specs.Sheets.{SheetChange, leaves, comes, AreSheetsBelow}
 use Rattle.back_end.specs.States.{State, view_of, HoldsNow}
-use Rattle.back_end.specs.Steps.{with_client, side_changed, sheet_move, sheet_step, sheet_steps, moves_gone, moves_come, css_on_step, css_off_step}
-use Rattle.back_end.proofs.SheetLemmas.{own-test, can-tell-sheets, below-front, below-tail, below-none, texts-of-back, FitsBeside, sheets-come, sheets-leave}
+use Rattle.back_end.specs.Steps.{with_client, side_changed, sheet_move, sheet_step, sheet_steps, moves_gone, moves_come, css_on_step}
+use Rattle.back_end.specs.Steps.{css_off_step}
+use Rattle.back_end.proofs.SheetLemmas.{own-test, can-tell-sheets, below-front, below-tail, below-none, texts-of-back, FitsBeside}
+use Rattle.back_end.proofs.SheetLemmas.{sheets-come, sheets-leave}
 use Rattle.back_end.proofs.WellSteps.{Well, HasNumbers, told-with, told-view, stays, then-well, more}
 
 -- a view of this tree and these sheets
@@ -33,10 +37,12 @@ units-counted text short = let few = units-few text in counted (text_units text)
 -- ---- several sheets, one after the other
 
 -- each comes
-pub come-course : (tree : Nodes Seen) (next : ℕ) (front ss : List ShownSheet) → TellsWith tree → next ≤ 2 ^ 53 → AreSheetsBelow next (front ++ ss)
+pub come-course : (tree : Nodes Seen) (next : ℕ) (front ss : List ShownSheet) → TellsWith tree → next ≤ 2 ^ 53
+    → AreSheetsBelow next (front ++ ss)
     → Course (moves_come ss) (seen tree front) (seen tree (front ++ ss))
 come-course tree next front [] told low is =
-    let here : Course [] (seen tree front) (seen tree front) = ends (seen tree front) (told front (can-tell-sheets next front low (below-front next front [] is))) in
+    let here : Course [] (seen tree front) (seen tree front) = ends (seen tree front)
+    (told front (can-tell-sheets next front low (below-front next front [] is))) in
     subst (λ (sheets : List ShownSheet). Course [] (seen tree front) (seen tree sheets)) (sym (append-nil front)) here
 come-course tree next front (s ∷ ss) told low is =
     let texts = texts-of-back next front (s ∷ ss) is in
@@ -45,15 +51,18 @@ come-course tree next front (s ∷ ss) told low is =
     let later : Course (moves_come ss) (seen tree (front ++ s ∷ [])) (seen tree (front ++ s ∷ ss)) =
     subst (λ (sheets : List ShownSheet). Course (moves_come ss) (seen tree (front ++ s ∷ [])) (seen tree sheets)) joined
     (come-course tree next (front ++ s ∷ []) ss told low (subst (AreSheetsBelow next) (sym joined) is)) in
-    goes (added s) (moves_come ss) (seen tree front) (seen tree (front ++ s ∷ [])) (seen tree (front ++ s ∷ ss)) here (refl, units-counted s.text texts.1) later
+    goes (added s) (moves_come ss) (seen tree front) (seen tree (front ++ s ∷ [])) (seen tree (front ++ s ∷ ss)) here
+    (refl, units-counted s.text texts.1) later
 
 -- each goes
-gone-course : (tree : Nodes Seen) (next : ℕ) (ss : List ShownSheet) → TellsWith tree → next ≤ 2 ^ 53 → AreSheetsBelow next ss → Course (moves_gone ss) (seen tree ss) (seen tree [])
+gone-course : (tree : Nodes Seen) (next : ℕ) (ss : List ShownSheet) → TellsWith tree → next ≤ 2 ^ 53 → AreSheetsBelow next ss
+    → Course (moves_gone ss) (seen tree ss) (seen tree [])
 gone-course tree next [] told low is = ends (seen tree []) (told [] (can-tell-sheets next [] low is))
 gone-course tree next (s ∷ ss) told low is =
     let first : sheets_without s.number (s ∷ ss) ≡ ss = ap (λ (b : Bool). cond b ss (s ∷ sheets_without s.number ss)) (own-test s.number) in
     let shows : shows_sheet s.number (s ∷ ss) ≡ true = ap (λ (b : Bool). b || shows_sheet s.number ss) (own-test s.number) in
-    goes (dropped s.number) (moves_gone ss) (seen tree (s ∷ ss)) (seen tree ss) (seen tree []) (told (s ∷ ss) (can-tell-sheets next (s ∷ ss) low is))
+    goes (dropped s.number) (moves_gone ss) (seen tree (s ∷ ss)) (seen tree ss) (seen tree [])
+    (told (s ∷ ss) (can-tell-sheets next (s ∷ ss) low is))
     (ap (seen tree) (sym first), shows) (gone-course tree next ss told low (below-tail next s ss is))
 
 -- ---- one change
@@ -68,7 +77,8 @@ pub side-below : (c : SheetChange) (state : State) → AreSheetsBelow state.side
 side-below (leaves n) state is can = sheets-leave state.side.next_sheet n state.side.sheets is
 side-below (comes origin text) state is can = sheets-come state.side.next_sheet origin text state.side.sheets can is
 
-change-moves : (c : SheetChange) (state : State) (tree : Nodes Seen) → CanChange c state.side.sheets → Moves (sheet_move c state.side) (seen tree state.side.sheets) (seen tree (side_changed c state.side).sheets)
+change-moves : (c : SheetChange) (state : State) (tree : Nodes Seen) → CanChange c state.side.sheets
+    → Moves (sheet_move c state.side) (seen tree state.side.sheets) (seen tree (side_changed c state.side).sheets)
 change-moves (leaves n) state tree can = (refl, can)
 change-moves (comes origin text) state tree can = (refl, units-counted text can.short)
 
@@ -104,22 +114,31 @@ change-few (comes origin text) state = omega arith
 
 -- a change while the domain is on, and while it is off
 pub change-course : (w : Session) (page : PageValue) (old new : List ShownSheet) (m : Told) (on : Bool)
-    → ((sheets : List ShownSheet) → CanTellSheets sheets → CanBeTold (seen_by w page sheets)) → CanTellSheets old → CanTellSheets new → CanTellSheets []
-    → ((tree : Nodes Seen) → Moves m (seen tree old) (seen tree new)) → Course (cond on (m ∷ []) []) (seen_by w page (cond on old [])) (seen_by w page (cond on new []))
+    → ((sheets : List ShownSheet) → CanTellSheets sheets → CanBeTold (seen_by w page sheets)) → CanTellSheets old → CanTellSheets new
+    → CanTellSheets []
+    → ((tree : Nodes Seen) → Moves m (seen tree old) (seen tree new))
+    → Course (cond on (m ∷ []) []) (seen_by w page (cond on old [])) (seen_by w page (cond on new []))
 change-course w page old new m true told can later nothing moves =
-    goes m [] (seen_by w page old) (seen_by w page new) (seen_by w page new) (told old can) (moves _) (ends (seen_by w page new) (told new later))
+    goes m [] (seen_by w page old) (seen_by w page new) (seen_by w page new) (told old can) (moves _)
+    (ends (seen_by w page new) (told new later))
 change-course w page old new m false told can later nothing moves = ends (seen_by w page []) (told [] nothing)
 
-pub change-well : (c : SheetChange) (state : State) → HoldsNow state → HasNumbers state → state.side.next_sheet < 2 ^ 52 → CanChange c state.side.sheets → Well state (sheet_step c state) 0 0 1
+pub change-well : (c : SheetChange) (state : State) → HoldsNow state → HasNumbers state → state.side.next_sheet < 2 ^ 52
+    → CanChange c state.side.sheets → Well state (sheet_step c state) 0 0 1
 change-well c state is low room can =
     let few = change-few c state in
-    let later : AreSheetsBelow (side_changed c state.side).next_sheet (side_changed c state.side).sheets = side-below c state is.sheets can in
+    let later : AreSheetsBelow (side_changed c state.side).next_sheet
+    (side_changed c state.side).sheets = side-below c state is.sheets can in
     let old_can = can-tell-sheets state.side.next_sheet state.side.sheets (omega (arith, low.sheets)) is.sheets in
-    let new_can = can-tell-sheets (side_changed c state.side).next_sheet (side_changed c state.side).sheets (omega (arith, few, room)) later in
-    let nothing = can-tell-sheets state.side.next_sheet [] (omega (arith, low.sheets)) (below-none state.side.next_sheet state.side.sheets is.sheets) in
+    let new_can = can-tell-sheets (side_changed c state.side).next_sheet (side_changed c state.side).sheets
+    (omega (arith, few, room)) later in
+    let nothing = can-tell-sheets state.side.next_sheet [] (omega (arith, low.sheets))
+    (below-none state.side.next_sheet state.side.sheets is.sheets) in
     let same = page-kept c state in
-    let course : Course (cond state.client.css_on (sheet_move c state.side ∷ []) []) (view_of state) (seen_by state.client.session state.side.page (cond state.client.css_on (side_changed c state.side).sheets [])) =
-    change-course state.client.session state.side.page state.side.sheets (side_changed c state.side).sheets (sheet_move c state.side) state.client.css_on
+    let course : Course (cond state.client.css_on (sheet_move c state.side ∷ []) []) (view_of state)
+    (seen_by state.client.session state.side.page (cond state.client.css_on (side_changed c state.side).sheets [])) =
+    change-course state.client.session state.side.page state.side.sheets (side_changed c state.side).sheets
+    (sheet_move c state.side) state.client.css_on
     (λ sheets k. told-with state sheets is low k) old_can new_can nothing (λ tree. change-moves c state tree can) in
     record {
       now = change-is c state is can;
@@ -140,7 +159,8 @@ CanChangeAll (c ∷ cs) state = CanChange c state.side.sheets × CanChangeAll cs
 ids-kept : (c : SheetChange) (state : State) → (sheet_step c state).state.client ≡ state.client
 ids-kept c state = refl
 
-pub changes-well : (cs : List SheetChange) (state : State) → HoldsNow state → HasNumbers state → state.side.next_sheet + length cs < 2 ^ 52 → CanChangeAll cs state
+pub changes-well : (cs : List SheetChange) (state : State) → HoldsNow state → HasNumbers state → state.side.next_sheet + length cs < 2 ^ 52
+    → CanChangeAll cs state
     → Well state (sheet_steps cs state) 0 0 (length cs)
 changes-well [] state is low room can = stays state is low
 changes-well (c ∷ cs) state is low room can =
@@ -150,7 +170,8 @@ changes-well (c ∷ cs) state is low room can =
       serials = omega (arith, low.serials, first.few_serials);
       sheets = omega (arith, first.few_sheets, room);
     } in
-    more (omega arith) (omega arith) (omega arith) (then-well first (changes-well cs (sheet_step c state).state first.now next (omega (arith, first.few_sheets, room)) can.1))
+    more (omega arith) (omega arith) (omega arith)
+    (then-well first (changes-well cs (sheet_step c state).state first.now next (omega (arith, first.few_sheets, room)) can.1))
 
 -- ---- a load
 
@@ -162,9 +183,11 @@ pub load-course : (w z : Session) (page new_page : PageValue) (old new : List Sh
     → ((sheets : List ShownSheet) → CanTellSheets sheets → CanBeTold (seen_by w page sheets)) → TellsWith none
     → next ≤ 2 ^ 53 → last ≤ 2 ^ 53 → AreSheetsBelow next old → AreSheetsBelow last new
     → (on ≡ false → w.opened ≡ None) → (on ≡ false → css ≡ false)
-    → Course (cond on (cleared ∷ []) [] ++ cond css (moves_gone old ++ moves_come new) []) (seen_by w page (cond css old [])) (seen_by (reset z) new_page (cond (css && on) new []))
+    → Course (cond on (cleared ∷ []) [] ++ cond css (moves_gone old ++ moves_come new) []) (seen_by w page (cond css old []))
+    (seen_by (reset z) new_page (cond (css && on) new []))
 load-course w z page new_page old new next last true true told empty low lower is later off css_off =
-    goes cleared (moves_gone old ++ moves_come new) (seen_by w page old) (nothing_seen old) (nothing_seen new) (told old (can-tell-sheets next old low is)) refl
+    goes cleared (moves_gone old ++ moves_come new) (seen_by w page old) (nothing_seen old) (nothing_seen new)
+    (told old (can-tell-sheets next old low is)) refl
     (course-join (gone-course none next old empty low is) (come-course none last [] new empty lower later))
 load-course w z page new_page old new next last true false told empty low lower is later off css_off =
     let can = can-tell-sheets next [] low (below-none next old is) in
@@ -182,7 +205,8 @@ load-course w z page new_page old new next last false false told empty low lower
 
 -- ---- the domain comes on, and goes off
 
-pub css-on-is : (state : State) → HoldsNow state → state.client.dom_on ≡ true → HoldsNow (with_client (record state.client { css_on = true }) state)
+pub css-on-is : (state : State) → HoldsNow state → state.client.dom_on ≡ true
+    → HoldsNow (with_client (record state.client { css_on = true }) state)
 css-on-is state is on = record {
   page = is.page;
   texts = is.texts;
@@ -197,7 +221,8 @@ css-on-is state is on = record {
     no : true ≡ false → ⊥
     no e = cc
 
-on-course : (w : Session) (page : PageValue) (sheets : List ShownSheet) (next id : ℕ) (css : Bool) → ((ss : List ShownSheet) → CanTellSheets ss → CanBeTold (seen_by w page ss))
+on-course : (w : Session) (page : PageValue) (sheets : List ShownSheet) (next id : ℕ) (css : Bool)
+    → ((ss : List ShownSheet) → CanTellSheets ss → CanBeTold (seen_by w page ss))
     → next ≤ 2 ^ 53 → AreSheetsBelow next sheets → is_counted id ≡ true
     → Course (cond css [] (moves_come sheets) ++ replied id Nothing ∷ []) (seen_by w page (cond css sheets [])) (seen_by w page sheets)
 on-course w page sheets next id css told low is small = at css where
@@ -208,14 +233,17 @@ on-course w page sheets next id css told low is small = at css where
   last = goes (replied id Nothing) [] (seen_by w page sheets) (seen_by w page sheets) (seen_by w page sheets) can
       (refl, record { id_fits = small; plain = refl; fits = refl; texts = tt; levels = omega arith }) (ends (seen_by w page sheets) can)
 
-  at : (css : Bool) → Course (cond css [] (moves_come sheets) ++ replied id Nothing ∷ []) (seen_by w page (cond css sheets [])) (seen_by w page sheets)
+  at : (css : Bool) → Course (cond css [] (moves_come sheets) ++ replied id Nothing ∷ []) (seen_by w page (cond css sheets []))
+      (seen_by w page sheets)
   at true = last
   at false = course-join (come-course _ next [] sheets told low is) last
 
-pub css-on-well : (id : ℕ) (state : State) → HoldsNow state → HasNumbers state → state.client.dom_on ≡ true → is_counted id ≡ true → Well state (css_on_step id state) 0 0 0
+pub css-on-well : (id : ℕ) (state : State) → HoldsNow state → HasNumbers state → state.client.dom_on ≡ true → is_counted id ≡ true
+    → Well state (css_on_step id state) 0 0 0
 css-on-well id state is low on small = record {
   now = css-on-is state is on;
-  course = on-course state.client.session state.side.page state.side.sheets state.side.next_sheet id state.client.css_on (λ ss k. told-with state ss is low k) (omega (arith, low.sheets)) is.sheets small;
+  course = on-course state.client.session state.side.page state.side.sheets state.side.next_sheet id state.client.css_on
+      (λ ss k. told-with state ss is low k) (omega (arith, low.sheets)) is.sheets small;
   few_ids = omega arith;
   few_serials = omega arith;
   few_sheets = omega arith;
@@ -233,13 +261,16 @@ css-off-is state is = record {
   none_watched = is.none_watched;
 }
 
-pub css-off-well : (id : ℕ) (state : State) → HoldsNow state → HasNumbers state → is_counted id ≡ true → Well state (css_off_step id state) 0 0 0
+pub css-off-well : (id : ℕ) (state : State) → HoldsNow state → HasNumbers state → is_counted id ≡ true
+    → Well state (css_off_step id state) 0 0 0
 css-off-well id state is low small =
     let after : State = with_client (record state.client { css_on = false }) state in
-    let none_can = can-tell-sheets state.side.next_sheet [] (omega (arith, low.sheets)) (below-none state.side.next_sheet state.side.sheets is.sheets) in
+    let none_can = can-tell-sheets state.side.next_sheet [] (omega (arith, low.sheets))
+    (below-none state.side.next_sheet state.side.sheets is.sheets) in
     record {
       now = css-off-is state is;
-      course = goes (sheets_off id) [] (view_of state) (view_of after) (view_of after) (told-view state is low) (refl, small) (ends (view_of after) (told-with state [] is low none_can));
+      course = goes (sheets_off id) [] (view_of state) (view_of after) (view_of after) (told-view state is low) (refl, small)
+          (ends (view_of after) (told-with state [] is low none_can));
       few_ids = omega arith;
       few_serials = omega arith;
       few_sheets = omega arith;

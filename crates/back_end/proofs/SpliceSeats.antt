@@ -1,5 +1,6 @@
 -- What a seat does on a client's edit of sheets is the step of the state.
-use Rattle.std.proofs.Common.{◌≡◌, ℕ, ◌^◌, ◌<◌, ◌==◌, Bool, true, false, cond, List, [], ◌∷◌, ◌++◌, map, All, Option, Some, None, Result, Ok, Err, refl, sym, ap, ◌∙◌, subst, arith}
+use Rattle.std.proofs.Common.{◌≡◌, ℕ, ◌^◌, ◌<◌, ◌==◌, Bool, true, false, cond, List, [], ◌∷◌, ◌++◌, map, All, Option, Some, None, Result}
+use Rattle.std.proofs.Common.{Ok, Err, refl, sym, ap, ◌∙◌, subst, arith}
 use Rattle.std.specs.List.{AllByRecursion}
 use Rattle.std.specs.Result.{OnOk, OnErr}
 use Rattle.std.proofs.lemmas.Bool.Decides.{nat_tests}
@@ -46,7 +47,8 @@ record Did (book : List SheetEntry) (x : CssEdit) (new : List SheetEntry) (backs
   leads : done.book ≡ new
   answers : done.backs ≡ backs
 
-did : (book : List SheetEntry) (x : CssEdit) (new : List SheetEntry) (backs : List Splice) → edit_splices (css_edited book x) ≡ Ok (new, backs) → Did book x new backs
+did : (book : List SheetEntry) (x : CssEdit) (new : List SheetEntry) (backs : List Splice)
+    → edit_splices (css_edited book x) ≡ Ok (new, backs) → Did book x new backs
 did book x new backs h = at (css_edited book x) refl h where
   at : (r : CssEdited) → css_edited book x ≡ r → edit_splices r ≡ Ok (new, backs) → Did book x new backs
   at (Err f) e k = absurd cc
@@ -60,7 +62,8 @@ did book x new backs h = at (css_edited book x) refl h where
       }
 
 -- what holds of a fault holds of the one that was answered
-pub in_fault : {A : Type 0} (result : Result A SheetErr) (f : SheetFault) (P : SheetFault → Type 0) → result ≡ Err (Fault f) → IfFault result P → P f
+pub in_fault : {A : Type 0} (result : Result A SheetErr) (f : SheetFault) (P : SheetFault → Type 0) → result ≡ Err (Fault f)
+    → IfFault result P → P f
 in_fault {A = A} result f P is holds = subst (λ (r : Result A SheetErr). IfFault r P) is holds
 
 -- ---- numbers in code
@@ -88,11 +91,13 @@ below-splices (s ∷ ss) next es all = below-splices ss next (after_splice s es)
 -- by one splice, or none
 pub put-below : {T E : Type 0} (result : Result T E) (x : Splice) (next : ℕ) (old new : List SheetEntry) → (0 < next) × AreBelow next old
     → OnOk result (new ≡ after_splice x old) → OnErr result (new ≡ old) → (0 < next) × AreBelow next new
-put-below (Ok value) x next old new is done kept = (is.0, subst (λ (es : List SheetEntry). AreBelow next es) (sym done) (below-splice x next old is.1))
+put-below (Ok value) x next old new is done kept =
+    (is.0, subst (λ (es : List SheetEntry). AreBelow next es) (sym done) (below-splice x next old is.1))
 put-below (Err fault) x next old new is done kept = (is.0, subst (λ (es : List SheetEntry). AreBelow next es) (sym kept) is.1)
 
 -- the numbers are those of before
-pub edited-below : (x : CssEdit) (next : ℕ) (old new : List SheetEntry) (backs : List Splice) → edit_splices (css_edited old x) ≡ Ok (new, backs) → AreBelow next old → AreBelow next new
+pub edited-below : (x : CssEdit) (next : ℕ) (old new : List SheetEntry) (backs : List Splice)
+    → edit_splices (css_edited old x) ≡ Ok (new, backs) → AreBelow next old → AreBelow next new
 edited-below x next old new backs h all =
     let d = did old x new backs h in
     let led = css-leads x old d.done d.is in
@@ -110,13 +115,17 @@ stored-below es all = at es (stored-all es all) where
 -- what the command comes to, while both domains are on
 step-is : (d : Desk) (s : PageSide) (state : State) (id : ℕ) (x : CssEdit) → DeskStandsFor d s state → d.is_on ≡ true → d.css ≡ true
     → command_step id (edits_sheets x) state ≡ sheet_edit_step id x state
-step-is d s state id x stands on css = on-is id (edits_sheets x) state (dom-on (edits_sheets x) d s state stands on) (css-taken (edits_sheets x) d s state stands css)
+step-is d s state id x stands on css = on-is id (edits_sheets x) state (dom-on (edits_sheets x) d s state stands on)
+    (css-taken (edits_sheets x) d s state stands css)
 
-edited-here : (s : PageSide) (book : List SheetEntry) (x : CssEdit) (r : CssEdited) → s.sheets.entries ≡ book → css_edited s.sheets.entries x ≡ r → css_edited book x ≡ r
+edited-here : (s : PageSide) (book : List SheetEntry) (x : CssEdit) (r : CssEdited) → s.sheets.entries ≡ book
+    → css_edited s.sheets.entries x ≡ r → css_edited book x ≡ r
 edited-here s book x r same is = ap (λ (es : List SheetEntry). css_edited es x) (sym same) ∙ is
 
-pub restyled-both : (d : Desk) (h h1 : Marks Inverse) (s s1 : PageSide) (state : State) (id : ℕ) (x : CssEdit) (backs : List Splice) → BothStandFor d h s state → HasNumbersLeft d s → HasEditTexts x
-    → d.is_on ≡ true → d.css ≡ true → edit_splices (css_edited s.sheets.entries x) ≡ Ok (s1.sheets.entries, backs) → s1.page ≡ s.page → s1.sheets.next ≡ s.sheets.next
+pub restyled-both : (d : Desk) (h h1 : Marks Inverse) (s s1 : PageSide) (state : State) (id : ℕ) (x : CssEdit) (backs : List Splice)
+    → BothStandFor d h s state → HasNumbersLeft d s → HasEditTexts x
+    → d.is_on ≡ true → d.css ≡ true → edit_splices (css_edited s.sheets.entries x) ≡ Ok (s1.sheets.entries, backs) → s1.page ≡ s.page
+    → s1.sheets.next ≡ s.sheets.next
     → h1 ≡ noted_singly (map (λ s. Sheet s) backs) h → BothStandFor d h1 s1 (command_step id (edits_sheets x) state).state
 restyled-both d h h1 s s1 state id x backs both room texts on css edited page_is next_is noted =
     let stands = both.stands in
@@ -139,12 +148,16 @@ restyled-both d h h1 s s1 state id x backs both room texts on css edited page_is
     } in
     let kept = restyled-kept h h1 state ss backs both.kept stands.now done.taken (sym made.answers ∙ done.backs) noted in
     let all = keeping (map (λ s. Sheet s) ss) state (splice_steps ss state) in
-    subst (λ (x : Step). BothStandFor d h1 s1 x.state) (sym (step-is d s state id x stands on css ∙ ap (λ (r : CssEdited). restyled_step id r ss state) here))
+    subst (λ (x : Step). BothStandFor d h1 s1 x.state)
+    (sym (step-is d s state id x stands on css ∙ ap (λ (r : CssEdited). restyled_step id r ss state) here))
     (record { stands = marks-stands all.state.client.marks d s1 (splice_steps ss state).state own; kept = kept })
 
-pub restyled-sent : (d : Desk) (s : PageSide) (state : State) (id : ℕ) (x : CssEdit) (new : List SheetEntry) (backs : List Splice) (before after : List ℕ)
-    → DeskStandsFor d s state → HasNumbersLeft d s → HasEditTexts x → d.is_on ≡ true → d.css ≡ true → edit_splices (css_edited s.sheets.entries x) ≡ Ok (new, backs)
-    → after ≡ before ++ frames_of_moves (edit_moves id s.sheets.entries x) → after ≡ before ++ frames_of_moves (command_step id (edits_sheets x) state).moves
+pub restyled-sent : (d : Desk) (s : PageSide) (state : State) (id : ℕ) (x : CssEdit) (new : List SheetEntry) (backs : List Splice)
+    (before after : List ℕ)
+    → DeskStandsFor d s state → HasNumbersLeft d s → HasEditTexts x → d.is_on ≡ true → d.css ≡ true
+    → edit_splices (css_edited s.sheets.entries x) ≡ Ok (new, backs)
+    → after ≡ before ++ frames_of_moves (edit_moves id s.sheets.entries x)
+    → after ≡ before ++ frames_of_moves (command_step id (edits_sheets x) state).moves
 restyled-sent d s state id x new backs before after stands room texts on css h sent =
     let made = did s.sheets.entries x new backs h in
     let here : css_edited (book_in state) x ≡ Ok made.done = edited-here s (book_in state) x (Ok made.done) stands.sheets_are made.is in
@@ -156,23 +169,29 @@ restyled-sent d s state id x new backs before after stands room texts on css h s
     ∙ ap (λ (es : List SheetEntry). before ++ frames_of_moves (edit_moves id es x)) stands.sheets_are
     ∙ ap (λ (r : CssEdited). before ++ frames_of_moves (moves_with_reply id (splice_moves ss (book_in state)) r)) here
     ∙ ap (λ (ms : List Move). before ++ frames_of_moves (ms ++ replied id made.done.body ∷ [])) (sym told)
-    ∙ ap (λ (done : Step). before ++ frames_of_moves done.moves) (sym (step-is d s state id x stands on css ∙ ap (λ (r : CssEdited). restyled_step id r ss state) here))
+    ∙ ap (λ (done : Step). before ++ frames_of_moves done.moves)
+    (sym (step-is d s state id x stands on css ∙ ap (λ (r : CssEdited). restyled_step id r ss state) here))
 
 -- ---- a fault
 
-fault-is : (d : Desk) (s : PageSide) (state : State) (id : ℕ) (x : CssEdit) (f : SheetFault) → DeskStandsFor d s state → d.is_on ≡ true → d.css ≡ true
+fault-is : (d : Desk) (s : PageSide) (state : State) (id : ℕ) (x : CssEdit) (f : SheetFault) → DeskStandsFor d s state → d.is_on ≡ true
+    → d.css ≡ true
     → css_edited s.sheets.entries x ≡ Err f → command_step id (edits_sheets x) state ≡ refusing (Some id) (sheet_why f) state
 fault-is d s state id x f stands on css h =
     step-is d s state id x stands on css
-    ∙ ap (λ (r : CssEdited). restyled_step id r (css_splices (book_in state) x) state) (edited-here s (book_in state) x (Err f) stands.sheets_are h)
+    ∙ ap (λ (r : CssEdited). restyled_step id r (css_splices (book_in state) x) state)
+    (edited-here s (book_in state) x (Err f) stands.sheets_are h)
 
-pub unrestyled-both : (d : Desk) (h : Marks Inverse) (s s1 : PageSide) (state : State) (id : ℕ) (x : CssEdit) (f : SheetFault) → BothStandFor d h s state → d.is_on ≡ true → d.css ≡ true
-    → css_edited s.sheets.entries x ≡ Err f → s1.page ≡ s.page → s1.sheets ≡ s.sheets → BothStandFor d h s1 (command_step id (edits_sheets x) state).state
+pub unrestyled-both : (d : Desk) (h : Marks Inverse) (s s1 : PageSide) (state : State) (id : ℕ) (x : CssEdit) (f : SheetFault)
+    → BothStandFor d h s state → d.is_on ≡ true → d.css ≡ true
+    → css_edited s.sheets.entries x ≡ Err f → s1.page ≡ s.page → s1.sheets ≡ s.sheets
+    → BothStandFor d h s1 (command_step id (edits_sheets x) state).state
 unrestyled-both d h s s1 state id x f both on css is page_is sheets_is =
     subst (λ (done : Step). BothStandFor d h s1 done.state) (sym (fault-is d s state id x f both.stands on css is))
     (record { stands = stayed-stands d d s s1 state refl refl refl refl page_is sheets_is both.stands; kept = both.kept })
 
-pub unrestyled-sent : (d : Desk) (s : PageSide) (state : State) (id : ℕ) (x : CssEdit) (f : SheetFault) (before after : List ℕ) → DeskStandsFor d s state → d.is_on ≡ true → d.css ≡ true
+pub unrestyled-sent : (d : Desk) (s : PageSide) (state : State) (id : ℕ) (x : CssEdit) (f : SheetFault) (before after : List ℕ)
+    → DeskStandsFor d s state → d.is_on ≡ true → d.css ≡ true
     → css_edited s.sheets.entries x ≡ Err f → after ≡ before ++ frames_of_moves (refusing (Some id) (sheet_why f) state).moves
     → after ≡ before ++ frames_of_moves (command_step id (edits_sheets x) state).moves
 unrestyled-sent d s state id x f before after stands on css h sent =
@@ -180,7 +199,8 @@ unrestyled-sent d s state id x f before after stands on css h sent =
 
 -- the refusal is written behind what was there before
 pub why-sent : (id : ℕ) (state : State) (why : Why) (f : SheetFault) (kept before after : List ℕ) → why ≡ sheet_why f → kept ≡ before
-    → after ≡ kept ++ frames_of_moves (refusing (Some id) why state).moves → after ≡ before ++ frames_of_moves (refusing (Some id) (sheet_why f) state).moves
+    → after ≡ kept ++ frames_of_moves (refusing (Some id) why state).moves
+    → after ≡ before ++ frames_of_moves (refusing (Some id) (sheet_why f) state).moves
 why-sent id state why f kept before after is same sent =
     sent ∙ ap (λ (bs : List ℕ). bs ++ frames_of_moves (refusing (Some id) why state).moves) same
     ∙ ap (λ (w : Why). before ++ frames_of_moves (refusing (Some id) w state).moves) is

@@ -1,6 +1,7 @@
 -- A client's edit of sheets: each splice leads to a state, the sheets after it are the book after it, and its moves lead on; and the
 -- command is answered once.
-use Rattle.std.proofs.Common.{◌≡◌, ℕ, ◌+◌, ◌^◌, ◌<◌, ◌≤◌, ◌==◌, Bool, true, false, cond, List, [], ◌∷◌, ◌++◌, length, map, take, drop, suc, Option, Some, Ok, Err, refl, sym, ap, ◌∙◌, subst, arith}
+use Rattle.std.proofs.Common.{◌≡◌, ℕ, ◌+◌, ◌^◌, ◌<◌, ◌≤◌, ◌==◌, Bool, true, false, cond, List, [], ◌∷◌, ◌++◌, length, map, take, drop, suc}
+use Rattle.std.proofs.Common.{Option, Some, Ok, Err, refl, sym, ap, ◌∙◌, subst, arith}
 use Rattle.std.specs.Prelude.{unwrap_or, option_map}
 use Rattle.std.specs.Str.{IsUtf8}
 use Rattle.std.proofs.lemmas.List.{length-map}
@@ -22,7 +23,8 @@ use Rattle.cdp_messages.specs.Views.{ShownSheet, shows_sheet, sheets_with_text}
 use Rattle.cdp_messages.specs.Moves.{Move, rewritten, replied}
 use Rattle.css_agent.specs.declared.edits.CssEdit.{CssEdit}
 use Rattle.css_agent.specs.declared.edits.CssEdit.TheVariants as edit
-use Rattle.css_agent.specs.Edits.{CssDone, CssEdited, css_edited, style_edit, one_splice, splices_on, style_splices, css_splices, splice_moves, text_under}
+use Rattle.css_agent.specs.Edits.{CssDone, CssEdited, css_edited, style_edit, one_splice, splices_on, style_splices, css_splices}
+use Rattle.css_agent.specs.Edits.{splice_moves, text_under}
 use Rattle.css_agent.specs.EditLaws.{HasEditTexts, AllTake, IsDone, css_edit_name}
 use Rattle.css_agent.proofs.EditResults.{edits-done}
 use Rattle.css_agent.proofs.DoneLemmas.{all-stored}
@@ -62,25 +64,31 @@ text-put n text (s ∷ ss) e h = at (n == s.number) refl h (λ k. text-put n tex
   text_in : Option SheetEntry → List ℕ
   text_in o = unwrap_or (option_map (λ x. x.text) o) []
 
-  at : (b : Bool) → (n == s.number) ≡ b → cond b (Some (entry_of_sheet s)) (entry_of n (as_book ss)) ≡ Some e → (entry_of n (as_book ss) ≡ Some e → TextPut n text e ss)
+  at : (b : Bool) → (n == s.number) ≡ b → cond b (Some (entry_of_sheet s)) (entry_of n (as_book ss)) ≡ Some e
+      → (entry_of n (as_book ss) ≡ Some e → TextPut n text e ss)
       → TextPut n text e (s ∷ ss)
   at true t k later =
       let same : entry_of_sheet s ≡ e = cc in
       let test : (s.number == n) ≡ true = same-test s.number n ∙ t in
       let is : sheets_with_text n text (s ∷ ss) ≡ put ∷ ss = ap (λ (b : Bool). cond b (put ∷ ss) (s ∷ sheets_with_text n text ss)) test in
       let own : book_changed (with_text (entry_of_sheet s) text) (as_book (s ∷ ss)) ≡ as_book (put ∷ ss) =
-      ap (λ (b : Bool). cond b (entry_of_sheet put ∷ as_book ss) (entry_of_sheet s ∷ book_changed (entry_of_sheet put) (as_book ss))) (own-test s.number) in
+      ap (λ (b : Bool). cond b (entry_of_sheet put ∷ as_book ss) (entry_of_sheet s ∷ book_changed (entry_of_sheet put) (as_book ss)))
+      (own-test s.number) in
       record {
-        book = ap (λ (x : SheetEntry). book_changed (with_text x text) (as_book (s ∷ ss))) (sym same) ∙ own ∙ ap (λ (xs : List ShownSheet). as_book xs) (sym is);
-        told = ap (λ (xs : List ShownSheet). text_under n (as_book xs)) is ∙ ap (λ (b : Bool). text_in (cond b (Some (entry_of_sheet put)) (entry_of n (as_book ss)))) t;
+        book = ap (λ (x : SheetEntry). book_changed (with_text x text) (as_book (s ∷ ss))) (sym same) ∙ own ∙ ap
+            (λ (xs : List ShownSheet). as_book xs) (sym is);
+        told = ap (λ (xs : List ShownSheet). text_under n (as_book xs)) is ∙ ap
+            (λ (b : Bool). text_in (cond b (Some (entry_of_sheet put)) (entry_of n (as_book ss)))) t;
       }
   at false t k later =
       let test : (s.number == n) ≡ false = same-test s.number n ∙ t in
       let rest = later k in
       let id : e.id ≡ n = entry_id n (as_book ss) e k in
-      let is : sheets_with_text n text (s ∷ ss) ≡ s ∷ sheets_with_text n text ss = ap (λ (b : Bool). cond b (put ∷ ss) (s ∷ sheets_with_text n text ss)) test in
+      let is : sheets_with_text n text (s ∷ ss)
+      ≡ s ∷ sheets_with_text n text ss = ap (λ (b : Bool). cond b (put ∷ ss) (s ∷ sheets_with_text n text ss)) test in
       record {
-        book = ap (λ (m : ℕ). cond (m == s.number) (with_text e text ∷ as_book ss) (entry_of_sheet s ∷ book_changed (with_text e text) (as_book ss))) id
+        book = ap (λ (m : ℕ). cond (m == s.number) (with_text e text ∷ as_book ss)
+            (entry_of_sheet s ∷ book_changed (with_text e text) (as_book ss))) id
             ∙ ap (λ (b : Bool). cond b (with_text e text ∷ as_book ss) (entry_of_sheet s ∷ book_changed (with_text e text) (as_book ss))) t
             ∙ ap (λ (es : List SheetEntry). entry_of_sheet s ∷ es) rest.book
             ∙ ap (λ (xs : List ShownSheet). as_book xs) (sym is);
@@ -89,31 +97,41 @@ text-put n text (s ∷ ss) e h = at (n == s.number) refl h (λ k. text-put n tex
             ∙ rest.told;
       }
 
-ascend-put : (n : ℕ) (text : List ℕ) (least next : ℕ) (ss : List ShownSheet) → AscendBetween least next ss → AscendBetween least next (sheets_with_text n text ss)
+ascend-put : (n : ℕ) (text : List ℕ) (least next : ℕ) (ss : List ShownSheet) → AscendBetween least next ss
+    → AscendBetween least next (sheets_with_text n text ss)
 ascend-put n text least next [] all = all
 ascend-put n text least next (s ∷ ss) all = at (s.number == n) (ascend-put n text (s.number + 1) next ss all.1) where
-  at : (b : Bool) → AscendBetween (s.number + 1) next (sheets_with_text n text ss) → AscendBetween least next (cond b (record s { text = text } ∷ ss) (s ∷ sheets_with_text n text ss))
+  at : (b : Bool) → AscendBetween (s.number + 1) next (sheets_with_text n text ss)
+      → AscendBetween least next (cond b (record s { text = text } ∷ ss) (s ∷ sheets_with_text n text ss))
   at true later = (all.0, all.1)
   at false later = (all.0, later)
 
-texts-put : (n : ℕ) (text : List ℕ) (ss : List ShownSheet) → IsUtf8 text → length text ≤ max_sheet_bytes → AreSheetTexts ss → AreSheetTexts (sheets_with_text n text ss)
+texts-put : (n : ℕ) (text : List ℕ) (ss : List ShownSheet) → IsUtf8 text → length text ≤ max_sheet_bytes → AreSheetTexts ss
+    → AreSheetTexts (sheets_with_text n text ss)
 texts-put n text [] utf8 short all = tt
 texts-put n text (s ∷ ss) utf8 short all = at (s.number == n) (texts-put n text ss utf8 short all.2) where
-  at : (b : Bool) → AreSheetTexts (sheets_with_text n text ss) → AreSheetTexts (cond b (record s { text = text } ∷ ss) (s ∷ sheets_with_text n text ss))
+  at : (b : Bool) → AreSheetTexts (sheets_with_text n text ss)
+      → AreSheetTexts (cond b (record s { text = text } ∷ ss) (s ∷ sheets_with_text n text ss))
   at true later = (utf8, short, all.2)
   at false later = (all.0, all.1, later)
 
 count-put : (n : ℕ) (text : List ℕ) (ss : List ShownSheet) → length (sheets_with_text n text ss) ≡ length ss
 count-put n text [] = refl
 count-put n text (s ∷ ss) = at (s.number == n) (count-put n text ss) where
-  at : (b : Bool) → length (sheets_with_text n text ss) ≡ length ss → length (cond b (record s { text = text } ∷ ss) (s ∷ sheets_with_text n text ss)) ≡ length (s ∷ ss)
+  at : (b : Bool) → length (sheets_with_text n text ss) ≡ length ss
+      → length (cond b (record s { text = text } ∷ ss) (s ∷ sheets_with_text n text ss)) ≡ length (s ∷ ss)
   at true later = refl
   at false later = ap (λ m. suc m) later
 
-sheets-put : (next n : ℕ) (text : List ℕ) (ss : List ShownSheet) → IsUtf8 text → length text ≤ max_sheet_bytes → AreSheetsBelow next ss → AreSheetsBelow next (sheets_with_text n text ss)
+sheets-put : (next n : ℕ) (text : List ℕ) (ss : List ShownSheet) → IsUtf8 text → length text ≤ max_sheet_bytes → AreSheetsBelow next ss
+    → AreSheetsBelow next (sheets_with_text n text ss)
 sheets-put next n text ss utf8 short is =
     let count = count-put n text ss in
-    record { numbers = ascend-put n text 1 next ss is.numbers; few = omega (arith, count, is.few); texts = texts-put n text ss utf8 short is.texts }
+    record {
+      numbers = ascend-put n text 1 next ss is.numbers;
+      few = omega (arith, count, is.few);
+      texts = texts-put n text ss utf8 short is.texts;
+    }
 
 -- ---- one splice
 
@@ -129,8 +147,10 @@ splice-puts s ss t =
     let e = t.sheet in
     let new : List ℕ = spliced e.text s.start s.end s.text in
     let p = text-put s.sheet new ss e t.found in
-    let whole : after_splice s (as_book ss) ≡ as_book (sheets_with_text s.sheet new ss) = ap (λ (o : Option SheetEntry). after_by s (as_book ss) o) t.found ∙ p.book in
-    let text : text_under s.sheet (after_splice s (as_book ss)) ≡ new = ap (λ (es : List SheetEntry). text_under s.sheet es) whole ∙ p.told in
+    let whole : after_splice s (as_book ss)
+    ≡ as_book (sheets_with_text s.sheet new ss) = ap (λ (o : Option SheetEntry). after_by s (as_book ss) o) t.found ∙ p.book in
+    let text : text_under s.sheet (after_splice s (as_book ss))
+    ≡ new = ap (λ (es : List SheetEntry). text_under s.sheet es) whole ∙ p.told in
     let front = IsUtf8-take e.text s.start t.stored.utf8 t.fits.is.front in
     let behind = IsUtf8-append s.text (drop s.end e.text) t.text (IsUtf8-drop e.text s.end t.stored.utf8 t.fits.is.back) in
     let utf8 : IsUtf8 new = IsUtf8-append (take s.start e.text) (s.text ++ drop s.end e.text) front behind in
@@ -141,10 +161,12 @@ splice-puts s ss t =
       shows = (entry-stands s.sheet ss e t.found).shows;
     }
 
-splice-below : (s : Splice) (state : State) → HoldsNow state → TakesSplice s (book_in state) → AreSheetsBelow state.side.next_sheet (splice_step s state).state.side.sheets
+splice-below : (s : Splice) (state : State) → HoldsNow state → TakesSplice s (book_in state)
+    → AreSheetsBelow state.side.next_sheet (splice_step s state).state.side.sheets
 splice-below s state is t =
     let p = splice-puts s state.side.sheets t in
-    sheets-put state.side.next_sheet s.sheet (text_under s.sheet (after_splice s (book_in state))) state.side.sheets p.utf8 p.short is.sheets
+    sheets-put state.side.next_sheet s.sheet
+    (text_under s.sheet (after_splice s (book_in state))) state.side.sheets p.utf8 p.short is.sheets
 
 pub splice-is : (s : Splice) (state : State) → HoldsNow state → TakesSplice s (book_in state) → HoldsNow (splice_step s state).state
 splice-is s state is t = record {
@@ -159,10 +181,12 @@ splice-is s state is t = record {
 }
 
 -- the sheets after a splice are the book after it
-pub splice-book : (s : Splice) (state : State) → TakesSplice s (book_in state) → after_splice s (book_in state) ≡ book_in (splice_step s state).state
+pub splice-book : (s : Splice) (state : State) → TakesSplice s (book_in state)
+    → after_splice s (book_in state) ≡ book_in (splice_step s state).state
 splice-book s state t = (splice-puts s state.side.sheets t).book
 
-pub splice-well : (s : Splice) (state : State) → HoldsNow state → HasNumbers state → TakesSplice s (book_in state) → Well state (splice_step s state) 0 0 0
+pub splice-well : (s : Splice) (state : State) → HoldsNow state → HasNumbers state → TakesSplice s (book_in state)
+    → Well state (splice_step s state) 0 0 0
 splice-well s state is low t =
     let p = splice-puts s state.side.sheets t in
     let next = state.side.next_sheet in
@@ -172,7 +196,8 @@ splice-well s state is low t =
     let nothing = can-tell-sheets next [] (omega (arith, low.sheets)) (below-none next state.side.sheets is.sheets) in
     record {
       now = splice-is s state is t;
-      course = change-course state.client.session state.side.page state.side.sheets (splice_step s state).state.side.sheets (rewritten s.sheet text) state.client.css_on
+      course = change-course state.client.session state.side.page state.side.sheets (splice_step s state).state.side.sheets
+          (rewritten s.sheet text) state.client.css_on
           (λ sheets k. told-with state sheets is low k) old new nothing (λ tree. (refl, p.shows));
       few_ids = omega arith;
       few_serials = omega arith;
@@ -182,7 +207,8 @@ splice-well s state is low t =
 -- ---- splices, one after the other
 
 -- each can be made where the ones before it led
-taken-on : (s : Splice) (ss : List Splice) (state : State) → AllTake (s ∷ ss) (book_in state) → AllTake ss (book_in (splice_step s state).state)
+taken-on : (s : Splice) (ss : List Splice) (state : State) → AllTake (s ∷ ss) (book_in state)
+    → AllTake ss (book_in (splice_step s state).state)
 taken-on s ss state all = subst (λ (book : List SheetEntry). AllTake ss book) (splice-book s state all.0) all.1
 
 -- what becomes of a state by splices
@@ -205,11 +231,13 @@ restyled (s ∷ ss) state is all =
       book = later.book ∙ ap (λ (book : List SheetEntry). after_splices ss book) (sym (splice-book s state all.0));
     }
 
-splices-well : (ss : List Splice) (state : State) → HoldsNow state → HasNumbers state → AllTake ss (book_in state) → Well state (splice_steps ss state) 0 0 0
+splices-well : (ss : List Splice) (state : State) → HoldsNow state → HasNumbers state → AllTake ss (book_in state)
+    → Well state (splice_steps ss state) 0 0 0
 splices-well [] state is low all = stays state is low
 splices-well (s ∷ ss) state is low all =
     let next : HasNumbers (splice_step s state).state = record { ids = low.ids; serials = low.serials; sheets = low.sheets } in
-    then-well (splice-well s state is low all.0) (splices-well ss (splice_step s state).state (splice-is s state is all.0) next (taken-on s ss state all))
+    then-well (splice-well s state is low all.0)
+    (splices-well ss (splice_step s state).state (splice-is s state is all.0) next (taken-on s ss state all))
 
 pub splice-events : (s : Splice) (state : State) → AreEvents (splice_step s state).moves
 splice-events s state = at state.client.css_on where
@@ -220,21 +248,25 @@ splice-events s state = at state.client.css_on where
 splices-events : (ss : List Splice) (state : State) → AreEvents (splice_steps ss state).moves
 splices-events [] state = tt
 splices-events (s ∷ ss) state =
-    events-append (splice_step s state).moves (splice_steps ss (splice_step s state).state).moves (splice-events s state) (splices-events ss (splice_step s state).state)
+    events-append (splice_step s state).moves (splice_steps ss (splice_step s state).state).moves (splice-events s state)
+    (splices-events ss (splice_step s state).state)
 
 -- while the domain CSS is on, they are told by the moves of these splices
-pub splices-told : (ss : List Splice) (state : State) → state.client.css_on ≡ true → AllTake ss (book_in state) → (splice_steps ss state).moves ≡ splice_moves ss (book_in state)
+pub splices-told : (ss : List Splice) (state : State) → state.client.css_on ≡ true → AllTake ss (book_in state)
+    → (splice_steps ss state).moves ≡ splice_moves ss (book_in state)
 splices-told [] state on all = refl
 splices-told (s ∷ ss) state on all =
     let text = text_under s.sheet (after_splice s (book_in state)) in
     let later = splices-told ss (splice_step s state).state on (taken-on s ss state all) in
     ap (λ (b : Bool). cond b (rewritten s.sheet text ∷ []) [] ++ (splice_steps ss (splice_step s state).state).moves) on
-    ∙ ap (λ (ms : List Move). rewritten s.sheet text ∷ ms) (later ∙ ap (λ (book : List SheetEntry). splice_moves ss book) (sym (splice-book s state all.0)))
+    ∙ ap (λ (ms : List Move). rewritten s.sheet text ∷ ms)
+    (later ∙ ap (λ (book : List SheetEntry). splice_moves ss book) (sym (splice-book s state all.0)))
 
 -- ---- splices are kept
 
 -- a splice makes of the saved page what the book says
-pub splice-saved : (s : Splice) (state : State) → TakesSplice s (book_in state) → saved_now (splice_step s state).state ≡ page_after (Sheet s) (saved_now state)
+pub splice-saved : (s : Splice) (state : State) → TakesSplice s (book_in state)
+    → saved_now (splice_step s state).state ≡ page_after (Sheet s) (saved_now state)
 splice-saved s state t =
     let book : after_splice s (book_in state) ≡ book_in (splice_step s state).state = splice-book s state t in
     let sheets : map saved_sheet (book_in (splice_step s state).state) ≡ sheets_after s (map saved_sheet (book_in state)) =
@@ -245,19 +277,24 @@ splice-saved s state t =
 abbrev pub as_kept : List Splice → List Inverse
 as_kept ss = map (λ s. Sheet s) ss
 
-pub splices-saved : (ss : List Splice) (state : State) → AllTake ss (book_in state) → saved_now (splice_steps ss state).state ≡ after_all page_after (as_kept ss) (saved_now state)
+pub splices-saved : (ss : List Splice) (state : State) → AllTake ss (book_in state)
+    → saved_now (splice_steps ss state).state ≡ after_all page_after (as_kept ss) (saved_now state)
 splices-saved [] state all = refl
 splices-saved (s ∷ ss) state all =
-    splices-saved ss (splice_step s state).state (taken-on s ss state all) ∙ ap (λ (p : Saved). after_all page_after (as_kept ss) p) (splice-saved s state all.0)
+    splices-saved ss (splice_step s state).state (taken-on s ss state all) ∙ ap (λ (p : Saved). after_all page_after (as_kept ss) p)
+    (splice-saved s state all.0)
 
 -- and each is taken by the saved page
-pub splices-taken : (next : ℕ) (tree : Branch PageRow) (ss : List Splice) (book : List SheetEntry) → RowsHaveUtf8 (alone tree) → AllTake ss book
+pub splices-taken : (next : ℕ) (tree : Branch PageRow) (ss : List Splice) (book : List SheetEntry) → RowsHaveUtf8 (alone tree)
+    → AllTake ss book
     → AllTaken page_after (TakesWell next) (as_kept ss) (saved_of tree book)
 splices-taken next tree [] book texts all = tt
 splices-taken next tree (s ∷ ss) book texts all =
-    let rest : AllTaken page_after (TakesWell next) (as_kept ss) (saved_of tree (after_splice s book)) = splices-taken next tree ss (after_splice s book) texts all.1 in (
+    let rest : AllTaken page_after (TakesWell next) (as_kept ss) (saved_of tree (after_splice s book)) = splices-taken next tree ss
+    (after_splice s book) texts all.1 in (
       record { taken = taken-saved s book all.0; texts = texts; own = all.0.text },
-      subst (λ (sheets : List SavedSheet). AllTaken page_after (TakesWell next) (as_kept ss) (record { tree = tree; sheets = sheets })) (sym (after-saved s book)) rest,
+      subst (λ (sheets : List SavedSheet). AllTaken page_after (TakesWell next) (as_kept ss) (record { tree = tree; sheets = sheets }))
+          (sym (after-saved s book)) rest,
     )
 
 no-trees : (ss : List Splice) → trees_in (as_kept ss) ≡ 0
@@ -269,7 +306,8 @@ one-few : (r : SpliceFound) → length (one_splice r) ≤ 1
 one-few (Ok s) = omega arith
 one-few (Err f) = omega arith
 
-on-few : (r : SpliceFound) (n : ℕ) (book : List SheetEntry) (rest : List SheetEntry → List Splice) → ((next : List SheetEntry) → length (rest next) ≤ n) → length (splices_on r book rest) ≤ suc n
+on-few : (r : SpliceFound) (n : ℕ) (book : List SheetEntry) (rest : List SheetEntry → List Splice)
+    → ((next : List SheetEntry) → length (rest next) ≤ n) → length (splices_on r book rest) ≤ suc n
 on-few (Ok s) n book rest few = omega (arith, few (after_splice s book))
 on-few (Err f) n book rest few = omega arith
 
@@ -286,16 +324,19 @@ splices-few (edit.AddRule sheet rule_text location) book = one-few _
 
 -- ---- an edit
 
-pub edit-done : (x : CssEdit) (d : CssDone) (state : State) → HoldsNow state → state.side.next_sheet ≤ 2 ^ 53 → HasEditTexts x → css_edited (book_in state) x ≡ Ok d
+pub edit-done : (x : CssEdit) (d : CssDone) (state : State) → HoldsNow state → state.side.next_sheet ≤ 2 ^ 53 → HasEditTexts x
+    → css_edited (book_in state) x ≡ Ok d
     → IsDone (book_in state) x d
-edit-done x d state is low texts e = edits-done (book_in state) x d (all-stored (book_in state) (book-stored state.side.next_sheet state.side.sheets low is.sheets)) texts e
+edit-done x d state is low texts e = edits-done (book_in state) x d
+    (all-stored (book_in state) (book-stored state.side.next_sheet state.side.sheets low is.sheets)) texts e
 
 -- the client's step by these splices
 abbrev pub spliced_by_client : List Splice → State → Step
 spliced_by_client ss state = keeping (as_kept ss) state (splice_steps ss state)
 
 -- the history is kept on
-pub splices-recall : (ss : List Splice) (state : State) → IsState state → AllTake ss (book_in state) → Recalls state (spliced_by_client ss state).state 0 (length ss)
+pub splices-recall : (ss : List Splice) (state : State) → IsState state → AllTake ss (book_in state)
+    → Recalls state (spliced_by_client ss state).state 0 (length ss)
 splices-recall ss state is all =
     let done : Step = splice_steps ss state in
     let after = restyled ss state is.now all in
@@ -312,7 +353,8 @@ plain-effect (edit.SetStyleSheetText sheet text) = refl
 plain-effect (edit.AddRule sheet rule_text location) = refl
 
 -- it is answered once, by a result of its method
-pub sheet-edit-answered : (id : ℕ) (x : CssEdit) (state : State) (sheet : Option ℕ) → IsState state → HasRoom state → HasEditTexts x → is_counted id ≡ true
+pub sheet-edit-answered : (id : ℕ) (x : CssEdit) (state : State) (sheet : Option ℕ) → IsState state → HasRoom state → HasEditTexts x
+    → is_counted id ≡ true
     → Answered (css_edit_name x) sheet id (most_splices x) state (sheet_edit_step id x state)
 sheet-edit-answered id x state sheet is room texts small = at (css_edited (book_in state) x) refl where
   ss : List Splice
@@ -321,7 +363,8 @@ sheet-edit-answered id x state sheet is room texts small = at (css_edited (book_
   low : HasNumbers state
   low = room-numbers state room
 
-  at : (r : CssEdited) → css_edited (book_in state) x ≡ r → Answered (css_edit_name x) sheet id (most_splices x) state (restyled_step id r ss state)
+  at : (r : CssEdited) → css_edited (book_in state) x ≡ r
+      → Answered (css_edit_name x) sheet id (most_splices x) state (restyled_step id r ss state)
   at (Err f) e = refusal-answered (css_edit_name x) sheet id (most_splices x) (sheet_why f) state is room small
   at (Ok d) e =
       let done = edit-done x d state is.now (omega (arith, low.sheets)) texts e in
@@ -334,6 +377,7 @@ sheet-edit-answered id x state sheet is room texts small = at (css_edited (book_
       } in
       let made : Well state kept 0 0 0 = well-marked kept.state.client.marks (splices-well ss state is.now low done.taken) in
       let well = then-well made (stays-with (replied id d.body) kept.state made.now next (refl, done.plain id small)) in
-      let recalls : Recalls state kept.state 0 (most_splices x) = recalls-more (omega arith) (splices-few x (book_in state)) (splices-recall ss state is done.taken) in
+      let recalls : Recalls state kept.state 0 (most_splices x) = recalls-more (omega arith) (splices-few x (book_in state))
+      (splices-recall ss state is done.taken) in
       reply-answered (css_edit_name x) sheet id (most_splices x) d.body state kept (done.answers, plain-effect x) (splices-events ss state)
       (steps-well {ids = 0} (omega arith) (omega arith) (more (omega arith) (omega arith) (omega arith) well) recalls) recalls.few_edits

@@ -1,5 +1,6 @@
 -- What a script does: its step is well.
-use Rattle.std.proofs.Common.{◌≡◌, ℕ, suc, ◌+◌, ◌*◌, ◌^◌, ◌<◌, ◌≤◌, Bool, true, false, not, ◌&&◌, cond, nat_le, List, [], ◌∷◌, length, Option, Some, None, refl, sym, ◌∙◌, ap, subst, arith}
+use Rattle.std.proofs.Common.{◌≡◌, ℕ, suc, ◌+◌, ◌*◌, ◌^◌, ◌<◌, ◌≤◌, Bool, true, false, not, ◌&&◌, cond, nat_le, List, [], ◌∷◌, length}
+use Rattle.std.proofs.Common.{Option, Some, None, refl, sym, ◌∙◌, ap, subst, arith}
 use Rattle.std.specs.Prelude.{⊤, option_map}
 use Rattle.std.specs.FinSet as set
 use Rattle.std.specs.Ordering.{nat_cmp}
@@ -16,7 +17,8 @@ use Rattle.page_tree.specs.declared.edits.TreeEdit.{TreeEdit}
 use Rattle.page_tree.specs.declared.edits.TreeEdit.TheVariants as edit
 use Rattle.page_tree.specs.declared.edit_faults.EditFault.{EditFault}
 use Rattle.page_forms.specs.declared.acts.Act.{Act}
-use Rattle.page_forms.specs.declared.acts.Act.TheVariants.{SetAttr, DropAttr, SetText, Insert, Remove, Move, AddSheet, DropSheet, ReplaceSheet}
+use Rattle.page_forms.specs.declared.acts.Act.TheVariants.{SetAttr, DropAttr, SetText, Insert, Remove, Move, AddSheet, DropSheet}
+use Rattle.page_forms.specs.declared.acts.Act.TheVariants.{ReplaceSheet}
 use Rattle.page_forms.specs.Acts.{IsInsertable}
 use Rattle.page_forms.specs.Pages.{LoadedPage, CanLoadPage}
 use Rattle.page_tree.proofs.EditLemmas.{valid-after, clear}
@@ -47,8 +49,10 @@ use Rattle.back_end.specs.declared.faults.ActFault.{ActFault}
 use Rattle.back_end.specs.declared.faults.ActFault.TheVariants.{Sheet}
 use Rattle.back_end.specs.Sheets.{as_book, AreSheetsBelow}
 use Rattle.back_end.specs.States.{Side, Client, State, book_in, sheets_shown, view_of, loaded_side, AreAmong, HoldsNow, HasHistory, IsState}
-use Rattle.back_end.specs.Plans.{Plan, Deed, edits, restyles, edit_fault, size_fault, drop_fault, replace_fault, dropping, replacing, act_fault, act_plan}
-use Rattle.back_end.specs.Steps.{Step, with_page, watched_after, edit_step, pause_step, script_step, script_steps, with_crossed, crossing, deed_step, sheet_steps, planned_step, act_step, client_reset, load_step, Turn, acts, loads, turn_step}
+use Rattle.back_end.specs.Plans.{Plan, Deed, edits, restyles, edit_fault, size_fault, drop_fault, replace_fault, dropping, replacing}
+use Rattle.back_end.specs.Plans.{act_fault, act_plan}
+use Rattle.back_end.specs.Steps.{Step, with_page, watched_after, edit_step, pause_step, script_step, script_steps, with_crossed, crossing}
+use Rattle.back_end.specs.Steps.{deed_step, sheet_steps, planned_step, act_step, client_reset, load_step, Turn, acts, loads, turn_step}
 use Rattle.back_end.specs.Texts.{PageHasTexts, ActHasTexts, EditHasTexts}
 use Rattle.back_end.specs.Laws.{HasRoom, StepsWell, KeepsAtMost, IsTurn}
 use Rattle.back_end.proofs.TextLemmas.{node_at-texts, after-texts, numbered-texts, branch-texts}
@@ -77,7 +81,8 @@ edited-off (edit.Detach serial) page w h = ap (option_map (opened_without (node_
 no-serials : (root : ℕ) (tree : Branch PageRow) → outside root tree set.empty ≡ set.empty
 no-serials root tree =
     set.same_set nat_cmp_total set.nat_cmp-IsAntisymmetric (outside root tree set.empty) set.empty
-    (λ q. set.contains-retain set.empty (λ serial. not (is_within serial root tree)) q (λ x e. ap (λ s. not (is_within s root tree)) (sym (set.nat_cmp-IsAntisymmetric q x e)))
+    (λ q. set.contains-retain set.empty (λ serial. not (is_within serial root tree)) q
+    (λ x e. ap (λ s. not (is_within s root tree)) (sym (set.nat_cmp-IsAntisymmetric q x e)))
     ∙ ap (λ b. b && not (is_within q root tree)) (set.contains-empty nat_cmp q) ∙ sym (set.contains-empty nat_cmp q))
 
 none-left : (root : ℕ) (tree : Branch PageRow) → without_subtree root tree unwatched ≡ unwatched
@@ -99,7 +104,8 @@ unwatched-after (edit.Attach parent before x) state h = h
 unwatched-after (edit.Detach serial) state h = ap (without_subtree serial state.side.page.tree) h ∙ none-left serial state.side.page.tree
 
 -- what holds after an edit
-pub edit-is : (state : State) (e : TreeEdit) → HoldsNow state → CanApply state.side.page.next e state.side.page.tree → EditHasTexts e → HoldsNow (edit_step e state).state
+pub edit-is : (state : State) (e : TreeEdit) → HoldsNow state → CanApply state.side.page.next e state.side.page.tree → EditHasTexts e
+    → HoldsNow (edit_step e state).state
 edit-is state e is can texts =
     let page = state.side.page in
     let w = state.client.session in
@@ -123,7 +129,12 @@ edit-well state e is low ids can texts =
     let few : length (session_edited e page w).state.pushed ≤ length w.pushed + 1 = edit_draws_one page e w in
     let done : HoldsNow (edit_step e state).state = edit-is state e is can texts in
     let count : node_count (alone (after e page).tree) ≤ 100000 = count-alone (after e page) done.page in
-    let later : CanTell (after e page) (session_edited e page w).state = record { serials = omega (arith, next, low.serials); ids = omega (arith, few, count, ids); texts = done.texts } in
+    let later : CanTell (after e page)
+    (session_edited e page w).state = record {
+      serials = omega (arith, next, low.serials);
+      ids = omega (arith, few, count, ids);
+      texts = done.texts;
+    } in
     record {
       now = done;
       course = edits_are_moves page e w (sheets_shown state) is.page can is.session (can-tell state is low) later (can-sheets state is low);
@@ -152,12 +163,15 @@ script-well state e is low ids can texts =
       serials = omega (arith, low.serials, well.few_serials);
       sheets = omega (arith, low.sheets, well.few_sheets);
     } in
-    let still : CanApply paused.state.side.page.next e paused.state.side.page.tree = subst (λ (side : Side). CanApply side.page.next e side.page.tree) (sym p.side) can in (
-      more (omega arith) (omega arith) (omega arith) (then-well well (edit-well paused.state e well.now next (omega (arith, ids, well.few_ids)) still texts)),
+    let still : CanApply paused.state.side.page.next e paused.state.side.page.tree = subst
+    (λ (side : Side). CanApply side.page.next e side.page.tree) (sym p.side) can in (
+      more (omega arith) (omega arith) (omega arith)
+          (then-well well (edit-well paused.state e well.now next (omega (arith, ids, well.few_ids)) still texts)),
       ap (λ (side : Side). after e side.page) p.side,
     )
 
-scripts-well : (es : List TreeEdit) (state : State) → HoldsNow state → HasNumbers state → 200001 * length es + length state.client.session.pushed < 2 ^ 52
+scripts-well : (es : List TreeEdit) (state : State) → HoldsNow state → HasNumbers state
+    → 200001 * length es + length state.client.session.pushed < 2 ^ 52
     → CanApplyAll es state.side.page → EditsHaveTexts es → Well state (script_steps es state) (200001 * length es) 0 0
 scripts-well [] state is low ids can texts = more (omega arith) (omega arith) (omega arith) (stays state is low)
 scripts-well (e ∷ es) state is low ids can texts =
@@ -211,7 +225,8 @@ planned-edit state e is can texts = record {
 room-is : (a b : ℕ) → nat_le (a + b) 100000 ≡ true → b ≤ 100000
 room-is a b h = let low : a + b ≤ 100000 = leb-true (a + b) 100000 h in omega (arith, low)
 
-form-few : (state : State) (parent before : ℕ) (form : Branch Label) → insert_fault parent before form state.side.page.tree ≡ None → branch_count form ≤ 100000
+form-few : (state : State) (parent before : ℕ) (form : Branch Label) → insert_fault parent before form state.side.page.tree ≡ None
+    → branch_count form ≤ 100000
 form-few state parent before form h =
     let all = clear (attach_faults parent before form state.side.page.tree) h in
     room-is (branch_count state.side.page.tree) (branch_count form) (negated _ all.1.1.1.0)
@@ -236,24 +251,31 @@ fits-size text book e = at (is_too_big text book) e where
   at false e = refl
 
 -- a sheet that is there goes
-drops-can : (sheet : List ℕ) (state : State) (o : Option SheetEntry) → sheet_named sheet (book_in state) ≡ o → drop_fault o ≡ None → CanChangeAll (dropping o) state × (length (dropping o) ≤ 2)
+drops-can : (sheet : List ℕ) (state : State) (o : Option SheetEntry) → sheet_named sheet (book_in state) ≡ o → drop_fault o ≡ None
+    → CanChangeAll (dropping o) state × (length (dropping o) ≤ 2)
 drops-can sheet state None e fits = absurd cc
 drops-can sheet state (Some x) e fits = (((named-is sheet state.side.sheets x e).shows, tt), omega arith)
 
 -- and another comes in its place
-replaces-can : (sheet text : List ℕ) (state : State) (o : Option SheetEntry) → IsUtf8 text → sheet_named sheet (book_in state) ≡ o → replace_fault text (book_in state) o ≡ None
+replaces-can : (sheet text : List ℕ) (state : State) (o : Option SheetEntry) → IsUtf8 text → sheet_named sheet (book_in state) ≡ o
+    → replace_fault text (book_in state) o ≡ None
     → CanChangeAll (replacing text o) state × (length (replacing text o) ≤ 2)
 replaces-can sheet text state None utf8 e fits = absurd cc
 replaces-can sheet text state (Some x) utf8 e fits =
     let rest : is_too_big text (as_book (sheets_without x.id state.side.sheets)) ≡ false =
-    subst (λ (book : List SheetEntry). is_too_big text book ≡ false) (book-without x.id state.side.sheets) (fits-size text (removed x.id (book_in state)) fits) in
+    subst (λ (book : List SheetEntry). is_too_big text book ≡ false) (book-without x.id state.side.sheets)
+    (fits-size text (removed x.id (book_in state)) fits) in
     (((named-is sheet state.side.sheets x e).shows, (fits-beside text (sheets_without x.id state.side.sheets) utf8 rest, tt)), omega arith)
 
-can-do : (state : State) (act : Act) → HoldsNow state → IsInsertable act → ActHasTexts act → act_fault act state.side.page (book_in state) ≡ None
+can-do : (state : State) (act : Act) → HoldsNow state → IsInsertable act → ActHasTexts act
+    → act_fault act state.side.page (book_in state) ≡ None
     → CanDo (act_plan act state.side.page (book_in state)) state
-can-do state (SetAttr serial name value) is can texts h = planned-edit state (edit.SetAttr serial name value) is (record { fits = unmapped _ h; ready = tt }) texts
-can-do state (DropAttr serial name) is can texts h = planned-edit state (edit.DropAttr serial name) is (record { fits = unmapped _ h; ready = tt }) texts
-can-do state (SetText serial value) is can texts h = planned-edit state (edit.SetText serial value) is (record { fits = unmapped _ h; ready = tt }) texts
+can-do state (SetAttr serial name value) is can texts h = planned-edit state (edit.SetAttr serial name value) is
+    (record { fits = unmapped _ h; ready = tt }) texts
+can-do state (DropAttr serial name) is can texts h = planned-edit state (edit.DropAttr serial name) is
+    (record { fits = unmapped _ h; ready = tt }) texts
+can-do state (SetText serial value) is can texts h = planned-edit state (edit.SetText serial value) is
+    (record { fits = unmapped _ h; ready = tt }) texts
 can-do state (Insert parent before form) is can texts h =
     let fits : insert_fault parent before form state.side.page.tree ≡ None = unmapped _ h in
     let few : branch_count form ≤ 100000 = form-few state parent before form fits in
@@ -276,12 +298,14 @@ can-do state (Move serial parent before) is can texts h = record {
   texts = (tt, (node_at-texts serial state.side.page.tree is.texts, tt));
   short = omega arith;
 }
-can-do state (AddSheet origin text) is can texts h = ((fits-beside text state.side.sheets texts (fits-size text (book_in state) h), tt), omega arith)
+can-do state (AddSheet origin text) is can texts h =
+    ((fits-beside text state.side.sheets texts (fits-size text (book_in state) h), tt), omega arith)
 can-do state (DropSheet sheet) is can texts h = drops-can sheet state (sheet_named sheet (book_in state)) refl h
 can-do state (ReplaceSheet sheet text) is can texts h = replaces-can sheet text state (sheet_named sheet (book_in state)) texts.1 refl h
 
 -- a state with the plan's page
-pub with-page-is : (state : State) (page : PageValue) → HoldsNow state → IsValid page → page.tree ≡ state.side.page.tree → HoldsNow (with_page page state)
+pub with-page-is : (state : State) (page : PageValue) → HoldsNow state → IsValid page → page.tree ≡ state.side.page.tree
+    → HoldsNow (with_page page state)
 with-page-is state page is valid same = record {
   page = valid;
   texts = subst (λ tree. RowsHaveUtf8 (alone tree)) (sym same) is.texts;
@@ -302,7 +326,8 @@ pub crossed-is : (state : State) → HoldsNow state → HoldsNow (with_crossed s
 crossed-is state is = now-marked (crossed_over state.client.marks) state is
 
 -- a step that is not the client's is as well as the step itself
-crossing-well : {before : State} {done : Step} {ids serials sheets : ℕ} → Well before done ids serials sheets → Well before (crossing done) ids serials sheets
+crossing-well : {before : State} {done : Step} {ids serials sheets : ℕ} → Well before done ids serials sheets
+    → Well before (crossing done) ids serials sheets
 crossing-well {done = done} well = record {
   now = crossed-is done.state well.now;
   course = well.course;
@@ -311,7 +336,8 @@ crossing-well {done = done} well = record {
   few_sheets = well.few_sheets;
 }
 
-plan-well : (state : State) (plan : Plan) → HoldsNow state → HasRoom state → Planned state plan → Well state (deed_step (edits plan) state) 400002 100000 1
+plan-well : (state : State) (plan : Plan) → HoldsNow state → HasRoom state → Planned state plan
+    → Well state (deed_step (edits plan) state) 400002 100000 1
 plan-well state plan is room p =
     let begun : HoldsNow (with_page plan.page state) = with-page-is state plan.page is p.page p.same in
     let low : HasNumbers (with_page plan.page state) = record {
@@ -330,15 +356,18 @@ plan-well state plan is room p =
       few_sheets = omega (arith, done.few_sheets);
     }
 
-deed-well : (state : State) (deed : Deed) → HoldsNow state → HasRoom state → CanDo deed state → Well state (deed_step deed state) 400002 100000 2
+deed-well : (state : State) (deed : Deed) → HoldsNow state → HasRoom state → CanDo deed state
+    → Well state (deed_step deed state) 400002 100000 2
 deed-well state (edits plan) is room can = more (omega arith) (omega arith) (omega arith) (plan-well state plan is room can)
 deed-well state (restyles changes) is room can =
     more (omega arith) (omega arith) can.1
     (crossing-well (changes-well changes state is (room-numbers state room) (omega (arith, room.sheets, can.1)) can.0))
 
-act-well : (state : State) (act : Act) → HoldsNow state → HasRoom state → IsInsertable act → ActHasTexts act → Well state (act_step act state) 400002 100000 2
+act-well : (state : State) (act : Act) → HoldsNow state → HasRoom state → IsInsertable act → ActHasTexts act
+    → Well state (act_step act state) 400002 100000 2
 act-well state act is room can texts = at (act_fault act state.side.page (book_in state)) refl where
-  at : (o : Option ActFault) → act_fault act state.side.page (book_in state) ≡ o → Well state (planned_step o (act_plan act state.side.page (book_in state)) state) 400002 100000 2
+  at : (o : Option ActFault) → act_fault act state.side.page (book_in state) ≡ o
+      → Well state (planned_step o (act_plan act state.side.page (book_in state)) state) 400002 100000 2
   at None h = deed-well state (act_plan act state.side.page (book_in state)) is room (can-do state act is can texts h)
   at (Some f) h = more (omega arith) (omega arith) (omega arith) (stays state is (room-numbers state room))
 
@@ -349,7 +378,8 @@ and-false true = refl
 and-false false = refl
 
 -- the client of a page that went
-pub reset-is : (state : State) (side : Side) (on : Bool) → IsValid side.page → RowsHaveUtf8 (alone side.page.tree) → AreSheetsBelow side.next_sheet side.sheets
+pub reset-is : (state : State) (side : Side) (on : Bool) → IsValid side.page → RowsHaveUtf8 (alone side.page.tree)
+    → AreSheetsBelow side.next_sheet side.sheets
     → HoldsNow (record { side = side; client = client_reset on state.client })
 reset-is state side on valid texts sheets = record {
   page = valid;
@@ -377,7 +407,8 @@ nothing-told sheets can = record {
 -- the next serial is at least 1
 pub page-least : (page : PageValue) → IsValid page → 1 ≤ page.next
 page-least page valid =
-    let below = (whole-valid page valid).below page.tree.row.serial (tally_row row_serial page.tree.row.serial page.tree.row page.tree.children none refl) in
+    let below = (whole-valid page valid).below page.tree.row.serial
+    (tally_row row_serial page.tree.row.serial page.tree.row page.tree.children none refl) in
     omega (arith, below)
 
 next-least : (state : State) → HoldsNow state → 1 ≤ state.side.page.next
@@ -386,14 +417,19 @@ next-least state is = page-least state.side.page is.page
 pub loaded-is : (serial number : ℕ) (page : LoadedPage) (client : Client) → 1 ≤ serial → 1 ≤ number → CanLoadPage page → PageHasTexts page
     → HoldsNow (record { side = loaded_side serial number page; client = client_reset client.dom_on client })
 loaded-is serial number page client least some can texts =
-    reset-is (record { side = loaded_side serial number page; client = client }) (loaded_side serial number page) client.dom_on (loaded_valid serial page.nodes least can.nodes)
-    ((IsUtf8-nil, IsUtf8-nil, tt), numbered-texts (serial + 1) page.nodes texts.nodes, tt) (sheets-loaded number page.sheets some can.sheets texts.sheets)
+    reset-is (record { side = loaded_side serial number page; client = client }) (loaded_side serial number page) client.dom_on
+    (loaded_valid serial page.nodes least can.nodes)
+    ((IsUtf8-nil, IsUtf8-nil, tt), numbered-texts (serial + 1) page.nodes texts.nodes, tt)
+    (sheets-loaded number page.sheets some can.sheets texts.sheets)
 
-pub load-is : (state : State) (page : LoadedPage) → HoldsNow state → CanLoadPage page → PageHasTexts page → HoldsNow (load_step page state).state
+pub load-is : (state : State) (page : LoadedPage) → HoldsNow state → CanLoadPage page → PageHasTexts page
+    → HoldsNow (load_step page state).state
 load-is state page is can texts =
-    loaded-is state.side.page.next state.side.next_sheet page state.client (next-least state is) (ascend-order 1 state.side.next_sheet state.side.sheets is.sheets.numbers) can texts
+    loaded-is state.side.page.next state.side.next_sheet page state.client (next-least state is)
+    (ascend-order 1 state.side.next_sheet state.side.sheets is.sheets.numbers) can texts
 
-load-well : (state : State) (page : LoadedPage) → HoldsNow state → HasRoom state → CanLoadPage page → PageHasTexts page → Well state (load_step page state) 0 100001 1000
+load-well : (state : State) (page : LoadedPage) → HoldsNow state → HasRoom state → CanLoadPage page → PageHasTexts page
+    → Well state (load_step page state) 0 100001 1000
 load-well state page is room can texts =
     let nodes : suc (node_count page.nodes) ≤ 100000 = can.nodes.room in
     let few = sheets-few page.sheets can.sheets in
@@ -401,9 +437,11 @@ load-well state page is room can texts =
     let low = room-numbers state room in
     record {
       now = done;
-      course = load-course state.client.session state.client.session state.side.page (load_step page state).state.side.page state.side.sheets (load_step page state).state.side.sheets
+      course = load-course state.client.session state.client.session state.side.page
+          (load_step page state).state.side.page state.side.sheets (load_step page state).state.side.sheets
           state.side.next_sheet (load_step page state).state.side.next_sheet state.client.dom_on state.client.css_on
-          (λ sheets k. told-with state sheets is low k) nothing-told (omega (arith, low.sheets)) (omega (arith, room.sheets, few)) is.sheets done.sheets is.off is.css_off;
+          (λ sheets k. told-with state sheets is low k) nothing-told (omega (arith, low.sheets))
+          (omega (arith, room.sheets, few)) is.sheets done.sheets is.off is.css_off;
       few_ids = omega arith;
       few_serials = omega (arith, nodes);
       few_sheets = omega (arith, few);
@@ -413,18 +451,20 @@ load-well state page is room can texts =
 
 -- nothing that a script does is kept
 turn-recalls : (x : Turn) (state : State) → HasHistory state → Recalls state (turn_step x state).state 0 0
-turn-recalls (acts act) state history = at (act_fault act state.side.page (book_in state)) (act_plan act state.side.page (book_in state)) where
-  at : (o : Option ActFault) (deed : Deed) → Recalls state (planned_step o deed state).state 0 0
-  at None (edits plan) = recalls-crossed state (script_steps plan.edits (with_page plan.page state)).state
-  at None (restyles changes) = recalls-crossed state (sheet_steps changes state).state
-  at (Some f) deed = recalls-same state state history refl refl (omega arith)
+turn-recalls (acts act) state history = at (act_fault act state.side.page (book_in state))
+    (act_plan act state.side.page (book_in state)) where
+      at : (o : Option ActFault) (deed : Deed) → Recalls state (planned_step o deed state).state 0 0
+      at None (edits plan) = recalls-crossed state (script_steps plan.edits (with_page plan.page state)).state
+      at None (restyles changes) = recalls-crossed state (sheet_steps changes state).state
+      at (Some f) deed = recalls-same state state history refl refl (omega arith)
 turn-recalls (loads page) state history = recalls-none state (load_step page state).state refl
 
 turn-well : (state : State) (x : Turn) → HoldsNow state → HasRoom state → IsTurn x → Well state (turn_step x state) 500000 100001 1000
 turn-well state (acts act) is room can = more (omega arith) (omega arith) (omega arith) (act-well state act is room can.0 can.1)
 turn-well state (loads page) is room can = more (omega arith) (omega arith) (omega arith) (load-well state page is room can.0 can.1)
 
-pub turn-steps-well : (state : State) (x : Turn) → IsState state → HasRoom state → IsTurn x → StepsWell state (turn_step x state) × KeepsAtMost 0 state (turn_step x state).state
+pub turn-steps-well : (state : State) (x : Turn) → IsState state → HasRoom state → IsTurn x
+    → StepsWell state (turn_step x state) × KeepsAtMost 0 state (turn_step x state).state
 turn-steps-well state x is room can =
     let recalls = turn-recalls x state is.history in
     (steps-well {ids = 500000} (omega arith) (omega arith) (turn-well state x is.now room can) recalls, recalls.few_edits)

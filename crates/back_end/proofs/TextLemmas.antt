@@ -1,5 +1,6 @@
 -- The texts of a page stay UTF-8 when it is edited with UTF-8 texts.
-use Rattle.std.proofs.Common.{ℕ, ◌+◌, ◌==◌, cond, List, [], ◌∷◌, Bool, true, false, bytes_eq, Option, Some, None, Ordering, Less, Equal, Greater, nat_cmp}
+use Rattle.std.proofs.Common.{ℕ, ◌+◌, ◌==◌, cond, List, [], ◌∷◌, Bool, true, false, bytes_eq, Option, Some, None, Ordering, Less, Equal}
+use Rattle.std.proofs.Common.{Greater, nat_cmp}
 use Rattle.std.specs.Prelude.{unwrap_or}
 use Rattle.std.specs.Ordering.{match_ordering}
 use Rattle.std.specs.Cmp.Lexicographic.{slice_cmp}
@@ -10,7 +11,8 @@ use Rattle.node_tree.specs.Labels.{Pair, Label}
 use Rattle.node_tree.specs.Keys as keys
 use Rattle.node_tree.specs.Keys.{first_of}
 use Rattle.page_tree.specs.Pages.{PageRow, row_label, row_serial, find_in, node_at, parent_at, numbered}
-use Rattle.page_tree.specs.Edits.{pairs_without, with_attribute, without_attribute, with_value, relabelled, put_before, taken_out, with_child, without_child, put_in, changed_at, after_tree, form_at, numbered_branch}
+use Rattle.page_tree.specs.Edits.{pairs_without, with_attribute, without_attribute, with_value, relabelled, put_before, taken_out}
+use Rattle.page_tree.specs.Edits.{with_child, without_child, put_in, changed_at, after_tree, form_at, numbered_branch}
 use Rattle.page_tree.specs.declared.edits.TreeEdit.{TreeEdit}
 use Rattle.page_tree.specs.declared.edits.TreeEdit.TheVariants.{SetAttr, DropAttr, SetText, Attach, Detach}
 use Rattle.cdp_messages.specs.Laws.{PairsHaveUtf8, LabelHasUtf8}
@@ -20,7 +22,8 @@ use Rattle.back_end.specs.Texts.{HaveTexts, FormHasTexts, EditHasTexts}
 
 -- ---- labels
 
-placed-at : (o : Ordering) (p q : Pair) (qs : List Pair) → IsUtf8 p.0 → IsUtf8 p.1 → IsUtf8 q.0 → IsUtf8 q.1 → PairsHaveUtf8 qs → PairsHaveUtf8 (placed p qs)
+placed-at : (o : Ordering) (p q : Pair) (qs : List Pair) → IsUtf8 p.0 → IsUtf8 p.1 → IsUtf8 q.0 → IsUtf8 q.1 → PairsHaveUtf8 qs
+    → PairsHaveUtf8 (placed p qs)
     → PairsHaveUtf8 (match_ordering o (p ∷ q ∷ qs) ((q.0, p.1) ∷ qs) (q ∷ placed p qs))
 placed-at Less p q qs pn pv qn qv us later = (pn, pv, (qn, qv, us))
 placed-at Equal p q qs pn pv qn qv us later = (qn, pv, us)
@@ -60,7 +63,8 @@ found-texts : (serial : ℕ) (n : Nodes PageRow) → RowsHaveUtf8 n → IfSome T
 found-texts serial none us = tt
 found-texts serial (node r c t) us = at (r.serial == serial) (found-texts serial c us.1) (found-texts serial t us.2) where
   at : (b : Bool) → IfSome TextTree (keys.find row_serial serial c) → IfSome TextTree (keys.find row_serial serial t)
-      → IfSome TextTree (cond b (Some (record { row = r; children = c })) (first_of (keys.find row_serial serial c) (keys.find row_serial serial t)))
+      → IfSome TextTree (cond b (Some (record { row = r; children = c }))
+      (first_of (keys.find row_serial serial c) (keys.find row_serial serial t)))
   at true below beside = (us.0, us.1, tt)
   at false below beside = found-either (keys.find row_serial serial c) (keys.find row_serial serial t) below beside
 
@@ -72,14 +76,17 @@ pub node_at-texts : (serial : ℕ) (tree : Branch PageRow) → TextTree tree →
 node_at-texts serial tree us = or-tree (find_in serial tree) tree (found-texts serial (alone tree) us) us
 
 -- another tree in the place of one
-put-texts : (serial : ℕ) (w : Branch PageRow) (n : Nodes PageRow) → TextTree w → RowsHaveUtf8 n → RowsHaveUtf8 (keys.put row_serial serial w n)
+put-texts : (serial : ℕ) (w : Branch PageRow) (n : Nodes PageRow) → TextTree w → RowsHaveUtf8 n
+    → RowsHaveUtf8 (keys.put row_serial serial w n)
 put-texts serial w none u us = tt
-put-texts serial w (node r c t) u us = at (r.serial == serial) (keys.has row_serial serial c) (put-texts serial w c u us.1) (put-texts serial w t u us.2) where
-  at : (b d : Bool) → RowsHaveUtf8 (keys.put row_serial serial w c) → RowsHaveUtf8 (keys.put row_serial serial w t)
-      → RowsHaveUtf8 (cond b (node w.row w.children t) (cond d (node r (keys.put row_serial serial w c) t) (node r c (keys.put row_serial serial w t))))
-  at true d below beside = (u.0, u.1, us.2)
-  at false true below beside = (us.0, below, us.2)
-  at false false below beside = (us.0, us.1, beside)
+put-texts serial w (node r c t) u us = at (r.serial == serial) (keys.has row_serial serial c) (put-texts serial w c u us.1)
+    (put-texts serial w t u us.2) where
+      at : (b d : Bool) → RowsHaveUtf8 (keys.put row_serial serial w c) → RowsHaveUtf8 (keys.put row_serial serial w t)
+          → RowsHaveUtf8 (cond b (node w.row w.children t)
+          (cond d (node r (keys.put row_serial serial w c) t) (node r c (keys.put row_serial serial w t))))
+      at true d below beside = (u.0, u.1, us.2)
+      at false true below beside = (us.0, below, us.2)
+      at false false below beside = (us.0, us.1, beside)
 
 put_in-texts : (serial : ℕ) (w tree : Branch PageRow) → TextTree w → TextTree tree → TextTree (put_in serial w tree)
 put_in-texts serial w tree u us = at (tree.row.serial == serial) where
@@ -87,18 +94,22 @@ put_in-texts serial w tree u us = at (tree.row.serial == serial) where
   at true = u
   at false = (us.0, put-texts serial w tree.children u us.1, tt)
 
-changed-texts : (serial : ℕ) (change : Branch PageRow → Branch PageRow) (tree : Branch PageRow) → ((b : Branch PageRow) → TextTree b → TextTree (change b)) → TextTree tree
+changed-texts : (serial : ℕ) (change : Branch PageRow → Branch PageRow) (tree : Branch PageRow)
+    → ((b : Branch PageRow) → TextTree b → TextTree (change b)) → TextTree tree
     → TextTree (changed_at serial change tree)
 changed-texts serial change tree keeps us =
     put_in-texts serial (change (node_at serial tree)) tree (keeps (node_at serial tree) (node_at-texts serial tree us)) us
 
-relabelled-texts : (f : Label → Label) → ((l : Label) → LabelHasUtf8 l → LabelHasUtf8 (f l)) → (b : Branch PageRow) → TextTree b → TextTree (relabelled f b)
+relabelled-texts : (f : Label → Label) → ((l : Label) → LabelHasUtf8 l → LabelHasUtf8 (f l)) → (b : Branch PageRow) → TextTree b
+    → TextTree (relabelled f b)
 relabelled-texts f keeps b us = (keeps b.row.label us.0, us.1, tt)
 
-put_before-texts : (before : ℕ) (w : Branch PageRow) (n : Nodes PageRow) → TextTree w → RowsHaveUtf8 n → RowsHaveUtf8 (put_before before w n)
+put_before-texts : (before : ℕ) (w : Branch PageRow) (n : Nodes PageRow) → TextTree w → RowsHaveUtf8 n
+    → RowsHaveUtf8 (put_before before w n)
 put_before-texts before w none u us = u
 put_before-texts before w (node r c t) u us = at (r.serial == before) (put_before-texts before w t u us.2) where
-  at : (b : Bool) → RowsHaveUtf8 (put_before before w t) → RowsHaveUtf8 (cond b (node w.row w.children (node r c t)) (node r c (put_before before w t)))
+  at : (b : Bool) → RowsHaveUtf8 (put_before before w t)
+      → RowsHaveUtf8 (cond b (node w.row w.children (node r c t)) (node r c (put_before before w t)))
   at true later = (u.0, u.1, us)
   at false later = (us.0, us.1, later)
 
@@ -128,7 +139,8 @@ after-texts (Detach serial) tree has us =
 
 pub numbered-texts : (first : ℕ) (n : Nodes Label) → HaveTexts n → RowsHaveUtf8 (numbered first n)
 numbered-texts first none texts = tt
-numbered-texts first (node l c t) texts = (texts.0, numbered-texts (first + 1) c texts.1, numbered-texts (first + 1 + node_count c) t texts.2)
+numbered-texts first (node l c t) texts =
+    (texts.0, numbered-texts (first + 1) c texts.1, numbered-texts (first + 1 + node_count c) t texts.2)
 
 pub branch-texts : (first : ℕ) (form : Branch Label) → FormHasTexts form → TextTree (numbered_branch first form)
 branch-texts first form texts = (texts.0, numbered-texts (first + 1) form.children texts.1, tt)

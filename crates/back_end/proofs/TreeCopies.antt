@@ -8,7 +8,8 @@ use Rattle.page_tree.proofs.CursorLemmas.{from-next}
 pub copies-start : (n : Nodes PageRow) (done : List (Branch PageRow)) → done ≡ [] → beside (nodes_of done) (from 0 n) ≡ n
 copies-start n done empty = ap (λ (l : List (Branch PageRow)). beside (nodes_of l) (from 0 n)) empty ∙ from-zero n
 
-pub copies-turn : (n : Nodes PageRow) (i : ℕ) (b : Branch PageRow) → i < width n → tree_at i n ≡ Some b → (done new : List (Branch PageRow)) (below : Nodes PageRow) (tree : Branch PageRow)
+pub copies-turn : (n : Nodes PageRow) (i : ℕ) (b : Branch PageRow) → i < width n → tree_at i n ≡ Some b
+    → (done new : List (Branch PageRow)) (below : Nodes PageRow) (tree : Branch PageRow)
     → beside (nodes_of done) (from i n) ≡ n → below ≡ b.children → tree ≡ record { row = b.row; children = below } → new ≡ done ++ tree ∷ []
     → beside (nodes_of new) (from (i + 1) n) ≡ n
 copies-turn n i b inside at done new below tree so_far below_is tree_is pushed =
@@ -20,5 +21,7 @@ copies-turn n i b inside at done new below tree so_far below_is tree_is pushed =
     ∙ ap (λ (m : Nodes PageRow). beside (nodes_of done) m) (sym (from-next n i b inside at))
     ∙ so_far
 
-pub copies-end : (n : Nodes PageRow) (i : ℕ) (done : List (Branch PageRow)) → from i n ≡ none → beside (nodes_of done) (from i n) ≡ n → nodes_of done ≡ n
-copies-end n i done ended so_far = sym (beside-none (nodes_of done)) ∙ ap (λ (m : Nodes PageRow). beside (nodes_of done) m) (sym ended) ∙ so_far
+pub copies-end : (n : Nodes PageRow) (i : ℕ) (done : List (Branch PageRow)) → from i n ≡ none → beside (nodes_of done) (from i n) ≡ n
+    → nodes_of done ≡ n
+copies-end n i done ended so_far = sym (beside-none (nodes_of done)) ∙ ap (λ (m : Nodes PageRow). beside (nodes_of done) m)
+    (sym ended) ∙ so_far

@@ -1,5 +1,6 @@
 -- A client's edit of the tree: its step is well, and answers its command once.
-use Rattle.std.proofs.Common.{◌≡◌, ℕ, ◌+◌, ◌^◌, ◌<◌, ◌≤◌, Bool, true, false, not, nat_le, List, [], ◌∷◌, length, map, Option, Some, None, Result, Ok, Err, refl, sym, ◌∙◌, ap, subst, arith, lt-ltb}
+use Rattle.std.proofs.Common.{◌≡◌, ℕ, ◌+◌, ◌^◌, ◌<◌, ◌≤◌, Bool, true, false, not, nat_le, List, [], ◌∷◌, length, map, Option, Some, None}
+use Rattle.std.proofs.Common.{Result, Ok, Err, refl, sym, ◌∙◌, ap, subst, arith, lt-ltb}
 use Rattle.std.specs.Prelude.{⊤}
 use Rattle.std.proofs.lemmas.Bool.{and_from, leb-true}
 use Rattle.std.proofs.lemmas.List.{length-map}
@@ -35,7 +36,9 @@ use Rattle.undo_marks.specs.declared.inverse_lists.Inverse.{Inverse}
 use Rattle.undo_marks.specs.declared.inverse_lists.Inverse.TheVariants.{Tree}
 use Rattle.back_end.specs.States.{State, page_nodes, book_in, view_of, HoldsNow, saved_now, TakesWell, IsState}
 use Rattle.back_end.specs.Plans.{Plan, node_edit_fault, node_edit_plan, node_put}
-use Rattle.back_end.specs.Steps.{Step, with_page, edit_step, edit_steps, push_step, followed_by, id_now, serial_now, of_node, put_node, before_by, lowered, edit_named, put_answer, plan_step, planned_by_client, unless_fault, node_edit_step, tree_edit_step}
+use Rattle.back_end.specs.Steps.{Step, with_page, edit_step, edit_steps, push_step, followed_by, id_now, serial_now, of_node, put_node}
+use Rattle.back_end.specs.Steps.{before_by, lowered, edit_named, put_answer, plan_step, planned_by_client, unless_fault, node_edit_step}
+use Rattle.back_end.specs.Steps.{tree_edit_step}
 use Rattle.back_end.specs.Texts.{EditHasTexts, HasTreeTexts, IsPlainEdit}
 use Rattle.back_end.specs.Laws.{HasRoom, MayAnswer}
 use Rattle.back_end.proofs.TextLemmas.{after-texts, node_at-texts, branch-texts, form-texts}
@@ -49,10 +52,16 @@ use Rattle.back_end.proofs.AnsweredSteps.{Answered, reply-answered, refusal-answ
 
 -- ---- edits, one after the other
 
-after-first : (state : State) (e : TreeEdit) → HasNumbers state → Well state (edit_step e state) 1 0 0 → 1 + length state.client.session.pushed < 2 ^ 52 → HasNumbers (edit_step e state).state
-after-first state e low first ids = record { ids = omega (arith, ids, first.few_ids); serials = omega (arith, low.serials, first.few_serials); sheets = omega (arith, low.sheets, first.few_sheets) }
+after-first : (state : State) (e : TreeEdit) → HasNumbers state → Well state (edit_step e state) 1 0 0
+    → 1 + length state.client.session.pushed < 2 ^ 52 → HasNumbers (edit_step e state).state
+after-first state e low first ids = record {
+  ids = omega (arith, ids, first.few_ids);
+  serials = omega (arith, low.serials, first.few_serials);
+  sheets = omega (arith, low.sheets, first.few_sheets);
+}
 
-pub all-well : (es : List TreeEdit) (state : State) → HoldsNow state → HasNumbers state → length es + length state.client.session.pushed < 2 ^ 52
+pub all-well : (es : List TreeEdit) (state : State) → HoldsNow state → HasNumbers state
+    → length es + length state.client.session.pushed < 2 ^ 52
     → CanApplyAll es state.side.page → EditsHaveTexts es → Well state (edit_steps es state) (length es) 0 0
 all-well [] state is low ids can texts = stays state is low
 all-well (e ∷ es) state is low ids can texts =
@@ -117,45 +126,65 @@ no-ok why e h = let no : ◌≡◌ {A = Result NodeEdit Why} (Err why) (Ok e) = 
 same-ok : (d e : NodeEdit) → ◌≡◌ {A = Result NodeEdit Why} (Ok d) (Ok e) → d ≡ e
 same-ok d e h = cc
 
-one-named : (P : NodeEdit → Type 0) (edit : ℕ → NodeEdit) (serials : ℕ → Option ℕ) (node : ℕ) (o : Option ℕ) (e : NodeEdit) → serials node ≡ o → ((s : ℕ) → P (edit s))
+one-named : (P : NodeEdit → Type 0) (edit : ℕ → NodeEdit) (serials : ℕ → Option ℕ) (node : ℕ) (o : Option ℕ) (e : NodeEdit)
+    → serials node ≡ o → ((s : ℕ) → P (edit s))
     → of_node edit o ≡ Ok e → P e × HasKnown serials
 one-named P edit serials node None e is has h = no-ok UnknownNode e h
 one-named P edit serials node (Some s) e is has h = (subst P (same-ok (edit s) e h) (has s), record { id = node; serial = s; is = is })
 
-put-named : (P : NodeEdit → Type 0) (edit : ℕ → ℕ → ℕ → NodeEdit) (serials : ℕ → Option ℕ) (node : ℕ) (o p q : Option ℕ) (e : NodeEdit) → serials node ≡ o → ((s t b : ℕ) → P (edit s t b))
+put-named : (P : NodeEdit → Type 0) (edit : ℕ → ℕ → ℕ → NodeEdit) (serials : ℕ → Option ℕ) (node : ℕ) (o p q : Option ℕ) (e : NodeEdit)
+    → serials node ≡ o → ((s t b : ℕ) → P (edit s t b))
     → put_node edit o p q ≡ Ok e → P e × HasKnown serials
 put-named P edit serials node None p q e is has h = no-ok UnknownNode e h
 put-named P edit serials node (Some s) None q e is has h = no-ok UnknownNode e h
 put-named P edit serials node (Some s) (Some t) None e is has h = no-ok UnknownNode e h
-put-named P edit serials node (Some s) (Some t) (Some b) e is has h = (subst P (same-ok (edit s t b) e h) (has s t b), record { id = node; serial = s; is = is })
+put-named P edit serials node (Some s) (Some t) (Some b) e is has h =
+    (subst P (same-ok (edit s t b) e h) (has s t b), record { id = node; serial = s; is = is })
 
-named-is : (method : List ℕ) (serials : ℕ → Option ℕ) (edit : DomEdit) (e : NodeEdit) → HasTreeTexts edit → AsksFor method edit → edit_named serials edit ≡ Ok e → IsNamed method e × HasKnown serials
+named-is : (method : List ℕ) (serials : ℕ → Option ℕ) (edit : DomEdit) (e : NodeEdit) → HasTreeTexts edit → AsksFor method edit
+    → edit_named serials edit ≡ Ok e → IsNamed method e × HasKnown serials
 named-is method serials (dom.SetAttributeValue node name value) e texts asks h =
     one-named (IsNamed method) (λ s. One (SetAttr s name value)) serials node (serials node) e refl (λ s. (texts, λ next tree. tt, asks)) h
 named-is method serials (dom.RemoveAttribute node name) e texts asks h =
     one-named (IsNamed method) (λ s. One (DropAttr s name)) serials node (serials node) e refl (λ s. (texts, λ next tree. tt, asks)) h
-named-is method serials (dom.SetNodeValue node value) e texts asks h = one-named (IsNamed method) (λ s. One (SetText s value)) serials node (serials node) e refl (λ s. (texts, λ next tree. tt, asks)) h
-named-is method serials (dom.RemoveNode node) e texts asks h = one-named (IsNamed method) (λ s. One (Detach s)) serials node (serials node) e refl (λ s. (tt, λ next tree. tt, asks)) h
-named-is method serials (dom.MoveTo node target before) e texts asks h = put-named (IsNamed method) MoveNode serials node (serials node) (serials target) (before_by serials before) e refl (λ s t b. asks) h
-named-is method serials (dom.CopyTo node target before) e texts asks h = put-named (IsNamed method) CopyNode serials node (serials node) (serials target) (before_by serials before) e refl (λ s t b. asks) h
+named-is method serials (dom.SetNodeValue node value) e texts asks h = one-named (IsNamed method) (λ s. One (SetText s value)) serials node
+    (serials node) e refl (λ s. (texts, λ next tree. tt, asks)) h
+named-is method serials (dom.RemoveNode node) e texts asks h = one-named (IsNamed method) (λ s. One (Detach s)) serials node
+    (serials node) e refl (λ s. (tt, λ next tree. tt, asks)) h
+named-is method serials (dom.MoveTo node target before) e texts asks h = put-named (IsNamed method) MoveNode serials node (serials node)
+    (serials target) (before_by serials before) e refl (λ s t b. asks) h
+named-is method serials (dom.CopyTo node target before) e texts asks h = put-named (IsNamed method) CopyNode serials node (serials node)
+    (serials target) (before_by serials before) e refl (λ s t b. asks) h
 
 -- what the code carries out
-pub named-plain : (serials : ℕ → Option ℕ) (edit : DomEdit) (e : NodeEdit) → HasTreeTexts edit → edit_named serials edit ≡ Ok e → IsPlainEdit e
-named-plain serials (dom.SetAttributeValue node name value) e texts h = (one-named IsPlainEdit (λ s. One (SetAttr s name value)) serials node (serials node) e refl (λ s. (texts, λ next tree. tt)) h).0
-named-plain serials (dom.RemoveAttribute node name) e texts h = (one-named IsPlainEdit (λ s. One (DropAttr s name)) serials node (serials node) e refl (λ s. (texts, λ next tree. tt)) h).0
-named-plain serials (dom.SetNodeValue node value) e texts h = (one-named IsPlainEdit (λ s. One (SetText s value)) serials node (serials node) e refl (λ s. (texts, λ next tree. tt)) h).0
-named-plain serials (dom.RemoveNode node) e texts h = (one-named IsPlainEdit (λ s. One (Detach s)) serials node (serials node) e refl (λ s. (tt, λ next tree. tt)) h).0
-named-plain serials (dom.MoveTo node target before) e texts h = (put-named IsPlainEdit MoveNode serials node (serials node) (serials target) (before_by serials before) e refl (λ s t b. tt) h).0
-named-plain serials (dom.CopyTo node target before) e texts h = (put-named IsPlainEdit CopyNode serials node (serials node) (serials target) (before_by serials before) e refl (λ s t b. tt) h).0
+pub named-plain : (serials : ℕ → Option ℕ) (edit : DomEdit) (e : NodeEdit) → HasTreeTexts edit → edit_named serials edit ≡ Ok e
+    → IsPlainEdit e
+named-plain serials (dom.SetAttributeValue node name value) e texts h =
+    (one-named IsPlainEdit (λ s. One (SetAttr s name value)) serials node (serials node) e refl (λ s. (texts, λ next tree. tt)) h).0
+named-plain serials (dom.RemoveAttribute node name) e texts h =
+    (one-named IsPlainEdit (λ s. One (DropAttr s name)) serials node (serials node) e refl (λ s. (texts, λ next tree. tt)) h).0
+named-plain serials (dom.SetNodeValue node value) e texts h =
+    (one-named IsPlainEdit (λ s. One (SetText s value)) serials node (serials node) e refl (λ s. (texts, λ next tree. tt)) h).0
+named-plain serials (dom.RemoveNode node) e texts h =
+    (one-named IsPlainEdit (λ s. One (Detach s)) serials node (serials node) e refl (λ s. (tt, λ next tree. tt)) h).0
+named-plain serials (dom.MoveTo node target before) e texts h =
+    (put-named IsPlainEdit MoveNode serials node (serials node) (serials target) (before_by serials before) e refl (λ s t b. tt) h).0
+named-plain serials (dom.CopyTo node target before) e texts h =
+    (put-named IsPlainEdit CopyNode serials node (serials node) (serials target) (before_by serials before) e refl (λ s t b. tt) h).0
 
 -- an edit is named only where some node is known
 pub named-known : (serials : ℕ → Option ℕ) (edit : DomEdit) (e : NodeEdit) → edit_named serials edit ≡ Ok e → HasKnown serials
-named-known serials (dom.SetAttributeValue node name value) e h = (one-named (λ x. ⊤) (λ s. One (SetAttr s name value)) serials node (serials node) e refl (λ s. tt) h).1
-named-known serials (dom.RemoveAttribute node name) e h = (one-named (λ x. ⊤) (λ s. One (DropAttr s name)) serials node (serials node) e refl (λ s. tt) h).1
-named-known serials (dom.SetNodeValue node value) e h = (one-named (λ x. ⊤) (λ s. One (SetText s value)) serials node (serials node) e refl (λ s. tt) h).1
+named-known serials (dom.SetAttributeValue node name value) e h =
+    (one-named (λ x. ⊤) (λ s. One (SetAttr s name value)) serials node (serials node) e refl (λ s. tt) h).1
+named-known serials (dom.RemoveAttribute node name) e h =
+    (one-named (λ x. ⊤) (λ s. One (DropAttr s name)) serials node (serials node) e refl (λ s. tt) h).1
+named-known serials (dom.SetNodeValue node value) e h =
+    (one-named (λ x. ⊤) (λ s. One (SetText s value)) serials node (serials node) e refl (λ s. tt) h).1
 named-known serials (dom.RemoveNode node) e h = (one-named (λ x. ⊤) (λ s. One (Detach s)) serials node (serials node) e refl (λ s. tt) h).1
-named-known serials (dom.MoveTo node target before) e h = (put-named (λ x. ⊤) MoveNode serials node (serials node) (serials target) (before_by serials before) e refl (λ s t b. tt) h).1
-named-known serials (dom.CopyTo node target before) e h = (put-named (λ x. ⊤) CopyNode serials node (serials node) (serials target) (before_by serials before) e refl (λ s t b. tt) h).1
+named-known serials (dom.MoveTo node target before) e h =
+    (put-named (λ x. ⊤) MoveNode serials node (serials node) (serials target) (before_by serials before) e refl (λ s t b. tt) h).1
+named-known serials (dom.CopyTo node target before) e h =
+    (put-named (λ x. ⊤) CopyNode serials node (serials node) (serials target) (before_by serials before) e refl (λ s t b. tt) h).1
 
 -- ---- plans
 
@@ -163,7 +192,8 @@ room-is : (a b : ℕ) → nat_le (a + b) 100000 ≡ true → b ≤ 100000
 room-is a b h = let low : a + b ≤ 100000 = leb-true (a + b) 100000 h in omega (arith, low)
 
 -- the nodes of a copy are few
-pub copy-few : (serial parent before : ℕ) (tree : Branch PageRow) → copy_fault serial parent before tree ≡ None → branch_count (form_at serial tree) ≤ 100000
+pub copy-few : (serial parent before : ℕ) (tree : Branch PageRow) → copy_fault serial parent before tree ≡ None
+    → branch_count (form_at serial tree) ≤ 100000
 copy-few serial parent before tree h =
     let tests = clear (copy_faults serial parent before tree) h in
     room-is (branch_count tree) (branch_count (form_at serial tree)) (negated _ tests.1.1.1.1.0)
@@ -172,8 +202,10 @@ copy-few serial parent before tree h =
     negated true e = refl
     negated false e = absurd cc
 
-pub node-edit-planned : (method : List ℕ) (state : State) (e : NodeEdit) → HoldsNow state → IsNamed method e → node_edit_fault e state.side.page ≡ None → Planned state (node_edit_plan e state.side.page)
-node-edit-planned method state (One e) is named fits = planned-edit state e is (record { fits = fits; ready = named.1 state.side.page.next state.side.page.tree }) named.0
+pub node-edit-planned : (method : List ℕ) (state : State) (e : NodeEdit) → HoldsNow state → IsNamed method e
+    → node_edit_fault e state.side.page ≡ None → Planned state (node_edit_plan e state.side.page)
+node-edit-planned method state (One e) is named fits = planned-edit state e is
+    (record { fits = fits; ready = named.1 state.side.page.next state.side.page.tree }) named.0
 node-edit-planned method state (MoveNode serial parent before) is named fits = record {
   page = is.page;
   same = refl;
@@ -191,11 +223,16 @@ node-edit-planned method state (CopyNode serial parent before) is named fits =
       low = omega arith;
       serials = omega (arith, few);
       taken = (copy-leads state.side.page serial parent before is.page fits).taken;
-      texts = (branch-texts state.side.page.next (form_at serial state.side.page.tree) (form-texts serial state.side.page.tree is.texts), tt);
+      texts = (
+        branch-texts state.side.page.next (form_at serial state.side.page.tree)
+            (form-texts serial state.side.page.tree is.texts),
+        tt,
+      );
       short = omega arith;
     }
 
-pub plan-page-well : (state : State) (plan : Plan) → HoldsNow state → HasRoom state → Planned state plan → Well state (plan_step plan state) 2 100000 0
+pub plan-page-well : (state : State) (plan : Plan) → HoldsNow state → HasRoom state → Planned state plan
+    → Well state (plan_step plan state) 2 100000 0
 plan-page-well state plan is room p =
     let begun : HoldsNow (with_page plan.page state) = with-page-is state plan.page is p.page p.same in
     let low : HasNumbers (with_page plan.page state) = record {
@@ -203,10 +240,12 @@ plan-page-well state plan is room p =
       serials = omega (arith, room.serials, p.serials);
       sheets = omega (arith, room.sheets);
     } in
-    let done : Well (with_page plan.page state) (plan_step plan state) (length plan.edits) 0 0 = all-well plan.edits (with_page plan.page state) begun low (omega (arith, room.ids, p.short)) p.taken p.texts in
+    let done : Well (with_page plan.page state) (plan_step plan state) (length plan.edits) 0 0 = all-well plan.edits
+    (with_page plan.page state) begun low (omega (arith, room.ids, p.short)) p.taken p.texts in
     record {
       now = done.now;
-      course = subst (λ v. Course (plan_step plan state).moves v (view_of (plan_step plan state).state)) (same-view state plan.page p.same) done.course;
+      course = subst (λ v. Course (plan_step plan state).moves v (view_of (plan_step plan state).state))
+          (same-view state plan.page p.same) done.course;
       few_ids = omega (arith, done.few_ids, p.short);
       few_serials = omega (arith, done.few_serials, p.serials);
       few_sheets = omega (arith, done.few_sheets);
@@ -218,27 +257,32 @@ plan-page-well state plan is room p =
 abbrev pub trees_kept : List TreeEdit → List Inverse
 trees_kept es = map (λ e. Tree e) es
 
-pub trees-saved : (es : List TreeEdit) (state : State) → saved_now (edit_steps es state).state ≡ after_all page_after (trees_kept es) (saved_now state)
+pub trees-saved : (es : List TreeEdit) (state : State)
+    → saved_now (edit_steps es state).state ≡ after_all page_after (trees_kept es) (saved_now state)
 trees-saved [] state = refl
 trees-saved (e ∷ es) state = trees-saved es (edit_step e state).state
 
-pub trees-next : (es : List TreeEdit) (state : State) → CanApplyAll es state.side.page → (edit_steps es state).state.side.page.next ≡ state.side.page.next
+pub trees-next : (es : List TreeEdit) (state : State) → CanApplyAll es state.side.page
+    → (edit_steps es state).state.side.page.next ≡ state.side.page.next
 trees-next [] state can = refl
 trees-next (e ∷ es) state can = trees-next es (edit_step e state).state can.1 ∙ next-stays state.side.page e can.0
 
 -- each is taken by the saved page
-pub trees-taken : (es : List TreeEdit) (page : PageValue) (book : List SheetEntry) → IsValid page → RowsHaveUtf8 (alone page.tree) → CanApplyAll es page → EditsHaveTexts es
+pub trees-taken : (es : List TreeEdit) (page : PageValue) (book : List SheetEntry) → IsValid page → RowsHaveUtf8 (alone page.tree)
+    → CanApplyAll es page → EditsHaveTexts es
     → AllTaken page_after (TakesWell page.next) (trees_kept es) (saved_of page.tree book)
 trees-taken [] page book valid texts can has = tt
 trees-taken (e ∷ es) page book valid texts can has =
     let rest : AllTaken page_after (TakesWell (after e page).next) (trees_kept es) (saved_of (after e page).tree book) =
     trees-taken es (after e page) book (valid-after page e valid can.0) (after-texts e page.tree has.0 texts) can.1 has.1 in (
       record { taken = record { valid = valid; taken = can.0 }; texts = texts; own = has.0 },
-      subst (λ (n : ℕ). AllTaken page_after (TakesWell n) (trees_kept es) (saved_of (after e page).tree book)) (next-stays page e can.0) rest,
+      subst (λ (n : ℕ). AllTaken page_after (TakesWell n) (trees_kept es) (saved_of (after e page).tree book))
+          (next-stays page e can.0) rest,
     )
 
 -- the history is kept on
-pub plan-recalls : (state : State) (plan : Plan) → IsState state → Planned state plan → Recalls state (planned_by_client plan state).state 2 2
+pub plan-recalls : (state : State) (plan : Plan) → IsState state → Planned state plan
+    → Recalls state (planned_by_client plan state).state 2 2
 plan-recalls state plan is p =
     let es = plan.edits in
     let first : State = with_page plan.page state in
@@ -246,7 +290,8 @@ plan-recalls state plan is p =
     let next : done.state.side.page.next ≡ plan.page.next = trees-next es first p.taken in
     let begun : HoldsNow first = with-page-is state plan.page is.now p.page p.same in
     let page : saved_now first ≡ saved_now state = λ i. record { tree = p.same i; sheets = (saved_now state).sheets } in
-    let there : AllTaken page_after (TakesWell plan.page.next) (trees_kept es) (saved_now first) = trees-taken es plan.page (book_in state) p.page begun.texts p.taken p.texts in
+    let there : AllTaken page_after (TakesWell plan.page.next) (trees_kept es) (saved_now first) = trees-taken es plan.page
+    (book_in state) p.page begun.texts p.taken p.texts in
     let here : AllTaken page_after (TakesWell plan.page.next) (trees_kept es) (saved_now state) =
     subst (λ (s : Saved). AllTaken page_after (TakesWell plan.page.next) (trees_kept es) s) page there in
     let taken : AllTaken page_after (TakesWell done.state.side.page.next) (trees_kept es) (saved_now state) =
@@ -259,30 +304,35 @@ plan-recalls state plan is p =
 
 -- ---- the answer
 
-numbers-after : {before : State} {done : Step} {ids : ℕ} → HasRoom before → ids ≤ 200000 → Well before done ids 100000 0 → HasNumbers done.state
+numbers-after : {before : State} {done : Step} {ids : ℕ} → HasRoom before → ids ≤ 200000 → Well before done ids 100000 0
+    → HasNumbers done.state
 numbers-after room most well = record {
   ids = omega (arith, room.ids, most, well.few_ids);
   serials = omega (arith, room.serials, well.few_serials);
   sheets = omega (arith, room.sheets, well.few_sheets);
 }
 
-answer-well : (id : ℕ) (put : Option ℕ) (before : State) (done : Step) → HasRoom before → IsBegun done.state.client.session → is_counted id ≡ true → Well before done 2 100000 0
+answer-well : (id : ℕ) (put : Option ℕ) (before : State) (done : Step) → HasRoom before → IsBegun done.state.client.session
+    → is_counted id ≡ true → Well before done 2 100000 0
     → Well before (put_answer id put done) 100002 100000 0
 answer-well id None before done room begun small well =
     more (omega arith) (omega arith) (omega arith) (well-answered id small (numbers-after room (omega arith) well) well)
 answer-well id (Some serial) before done room begun small well =
-    let pushed : Well done.state (push_step serial done.state) 100000 0 0 = push-well serial done.state well.now (numbers-after room (omega arith) well) begun in
+    let pushed : Well done.state (push_step serial done.state) 100000 0 0 = push-well serial done.state well.now
+    (numbers-after room (omega arith) well) begun in
     let shown : Well before (followed_by done (push_step serial)) 100002 100000 0 = then-well well pushed in
     let low : HasNumbers (push_step serial done.state).state = numbers-after room (omega arith) shown in
     let w : Session = (push_step serial done.state).state.client.session in
-    let below : session_ids w serial ≤ length w.pushed = ids-below (page_nodes (push_step serial done.state).state) w serial shown.now.session in
+    let below : session_ids w serial
+    ≤ length w.pushed = ids-below (page_nodes (push_step serial done.state).state) w serial shown.now.session in
     more (omega arith) (omega arith) (omega arith)
     (then-well shown (stays-with (replied id (NodeId (session_ids w serial))) (push_step serial done.state).state shown.now low (
       refl,
       record {
         id_fits = small;
         plain = refl;
-        fits = and_from (is_small (session_ids w serial)) true (lt-ltb (session_ids w serial) (2 ^ 53) (omega (arith, below, low.ids))) refl;
+        fits = and_from (is_small (session_ids w serial)) true
+            (lt-ltb (session_ids w serial) (2 ^ 53) (omega (arith, below, low.ids))) refl;
         texts = tt;
         levels = omega arith;
       },
@@ -301,37 +351,46 @@ may-put method (MoveNode node parent before) page named = named
 may-put method (CopyNode node parent before) page named = named
 
 -- the history is that of the edit, whatever becomes known behind it
-put-recalls : (id : ℕ) (put : Option ℕ) (before : State) (done : Step) → Recalls before done.state 2 2 → Recalls before (put_answer id put done).state 2 2
+put-recalls : (id : ℕ) (put : Option ℕ) (before : State) (done : Step) → Recalls before done.state 2 2
+    → Recalls before (put_answer id put done).state 2 2
 put-recalls id None before done recalls = recalls
 put-recalls id (Some serial) before done recalls = recalls-on (push_step serial done.state).state recalls refl refl (omega arith)
 
-answer-answered : (method : List ℕ) (sheet : Option ℕ) (id : ℕ) (put : Option ℕ) (before : State) (done : Step) → MayPut method put → AreEvents done.moves → Well before (put_answer id put done) 100002 100000 0
+answer-answered : (method : List ℕ) (sheet : Option ℕ) (id : ℕ) (put : Option ℕ) (before : State) (done : Step) → MayPut method put
+    → AreEvents done.moves → Well before (put_answer id put done) 100002 100000 0
     → Recalls before (put_answer id put done).state 2 2 → Answered method sheet id 2 before (put_answer id put done)
 answer-answered method sheet id None before done can are well recalls =
-    reply-answered method sheet id 2 Nothing before done can are (steps-well {ids = 100002} (omega arith) (omega arith) (more (omega arith) (omega arith) (omega arith) well) recalls) recalls.few_edits
+    reply-answered method sheet id 2 Nothing before done can are
+    (steps-well {ids = 100002} (omega arith) (omega arith)
+    (more (omega arith) (omega arith) (omega arith) well) recalls) recalls.few_edits
 answer-answered method sheet id (Some serial) before done can are well recalls =
     let shown : Step = followed_by done (push_step serial) in
     let events : AreEvents shown.moves = events-append done.moves (push_step serial done.state).moves are (openings-events _) in
     reply-answered method sheet id 2 (NodeId (id_now shown.state serial)) before shown (can (id_now shown.state serial)) events
     (steps-well {ids = 100002} (omega arith) (omega arith) (more (omega arith) (omega arith) (omega arith) well) recalls) recalls.few_edits
 
-unless-answered : (method : List ℕ) (sheet : Option ℕ) (id : ℕ) (fault : Option EditFault) (e : NodeEdit) (state : State) → node_edit_fault e state.side.page ≡ fault → IsNamed method e → IsBegun state.client.session
+unless-answered : (method : List ℕ) (sheet : Option ℕ) (id : ℕ) (fault : Option EditFault) (e : NodeEdit) (state : State)
+    → node_edit_fault e state.side.page ≡ fault → IsNamed method e → IsBegun state.client.session
     → IsState state → HasRoom state → is_counted id ≡ true → Answered method sheet id 2 state (unless_fault id fault e state)
-unless-answered method sheet id (Some f) e state fits named begun is room small = refusal-answered method sheet id 2 (edit_why f) state is room small
+unless-answered method sheet id (Some f) e state fits named begun is room small = refusal-answered method sheet id 2
+    (edit_why f) state is room small
 unless-answered method sheet id None e state fits named begun is room small =
     let page = state.side.page in
     let plan : Plan = node_edit_plan e page in
     let p : Planned state plan = node-edit-planned method state e is.now named fits in
     let done : Step = planned_by_client plan state in
     let well : Well state done 2 100000 0 = well-marked done.state.client.marks (plan-page-well state plan is.now room p) in
-    answer-answered method sheet id (node_put e page) state done (may-put method e page named) (all-events plan.edits (with_page plan.page state))
+    answer-answered method sheet id (node_put e page) state done (may-put method e page named)
+    (all-events plan.edits (with_page plan.page state))
     (answer-well id (node_put e page) state done room (begun-after plan.edits (with_page plan.page state) begun) small well)
     (put-recalls id (node_put e page) state done (plan-recalls state plan is p))
 
-pub tree-edit-answered : (method : List ℕ) (sheet : Option ℕ) (id : ℕ) (edit : DomEdit) (state : State) → HasTreeTexts edit → AsksFor method edit → IsState state → HasRoom state → is_counted id ≡ true
+pub tree-edit-answered : (method : List ℕ) (sheet : Option ℕ) (id : ℕ) (edit : DomEdit) (state : State) → HasTreeTexts edit
+    → AsksFor method edit → IsState state → HasRoom state → is_counted id ≡ true
     → Answered method sheet id 2 state (tree_edit_step id edit state)
 tree-edit-answered method sheet id edit state texts asks is room small = at (edit_named (serial_now state) (lowered edit)) refl where
-  at : (r : Result NodeEdit Why) → edit_named (serial_now state) (lowered edit) ≡ r → Answered method sheet id 2 state (node_edit_step id r state)
+  at : (r : Result NodeEdit Why) → edit_named (serial_now state) (lowered edit) ≡ r
+      → Answered method sheet id 2 state (node_edit_step id r state)
   at (Err why) h = refusal-answered method sheet id 2 why state is room small
   at (Ok e) h =
       let named = named-is method (serial_now state) (lowered edit) e (lowered-texts edit texts) (lowered-asks method edit asks) h in

@@ -9,7 +9,8 @@ use Rattle.page_tree.specs.declared.edits.TreeEdit.TheVariants.{SetAttr, DropAtt
 use Rattle.page_forms.specs.declared.acts.Act.{Act}
 use Rattle.node_binding.specs.Sessions.{Session, knows, is_open}
 use Rattle.cdp_messages.specs.Views.{ShownSheet}
-use Rattle.cdp_messages.specs.Moves.{Move, change, clear, met, added, dropped, rewritten, root, texted, replied, all_off, sheets_off, failed}
+use Rattle.cdp_messages.specs.Moves.{Move, change, clear, met, added, dropped, rewritten, root, texted, replied, all_off, sheets_off}
+use Rattle.cdp_messages.specs.Moves.{failed}
 use Rattle.dom_agent.specs.Keepers.{session_keeper}
 use Rattle.dom_agent.specs.Requests.{Showing, pushed, opening_moves}
 use Rattle.dom_agent.specs.Edits.{Edited}
@@ -20,7 +21,9 @@ use Rattle.back_end.specs.declared.faults.ActFault.{ActFault}
 use Rattle.back_end.specs.Sheets.{SheetChange, leaves, comes}
 use Rattle.back_end.specs.States.{Side, State, page_nodes, book_in}
 use Rattle.back_end.specs.Plans.{Deed, edits, restyles, act_fault, act_plan}
-use Rattle.back_end.specs.Steps.{edit_step, push_step, push_steps, met_step, followed_by, pause_step, script_step, script_steps, with_page, sheet_move, sheet_step, sheet_steps, moves_gone, moves_come, deed_step, planned_step, act_step, load_step, Turn, acts, loads, turn_step}
+use Rattle.back_end.specs.Steps.{edit_step, push_step, push_steps, met_step, followed_by, pause_step, script_step, script_steps, with_page}
+use Rattle.back_end.specs.Steps.{sheet_move, sheet_step, sheet_steps, moves_gone, moves_come, deed_step, planned_step, act_step, load_step}
+use Rattle.back_end.specs.Steps.{Turn, acts, loads, turn_step}
 use Rattle.back_end.specs.Laws.{reply_ids, MayAnswerAll, TellTextOf}
 
 -- a move that an event tells
@@ -108,7 +111,8 @@ one-event true ms are = are
 one-event false ms are = tt
 
 came-events : (b d : Bool) (s z : Session) (m k : Move) → IsEvent m → IsEvent k
-    → AreEvents (cond {A = Edited Session} b (record { state = s; moves = m ∷ [] }) (record { state = z; moves = cond d (k ∷ []) [] })).moves
+    → AreEvents (cond {A = Edited Session} b (record { state = s; moves = m ∷ [] })
+    (record { state = z; moves = cond d (k ∷ []) [] })).moves
 came-events true d s z m k h j = (h, tt)
 came-events false d s z m k h j = one-event d (k ∷ []) (j, tt)
 
@@ -132,7 +136,8 @@ openings-events [] = tt
 openings-events (x ∷ xs) = (tt, openings-events xs)
 
 push-events : (serial : ℕ) (state : State) → AreEvents (push_step serial state).moves
-push-events serial state = openings-events (pushed (session_keeper (page_nodes state)) state.side.page.tree serial state.client.session).shown
+push-events serial state = openings-events
+    (pushed (session_keeper (page_nodes state)) state.side.page.tree serial state.client.session).shown
 
 pushes-events : (serial : Option ℕ) (state : State) → AreEvents (push_steps serial state).moves
 pushes-events None state = tt
@@ -144,13 +149,15 @@ pause-events (Some p) state =
     let first = push_step p.node state in
     let second = followed_by first (push_steps p.target) in
     events-append second.moves (met_step p second.state).moves
-    (events-append first.moves (push_steps p.target first.state).moves (push-events p.node state) (pushes-events p.target first.state)) (tt, tt)
+    (events-append first.moves (push_steps p.target first.state).moves (push-events p.node state) (pushes-events p.target first.state))
+    (tt, tt)
 
 script-events : (e : TreeEdit) (state : State) → AreEvents (script_step e state).moves
 script-events e state =
     let pause : Option Pause = pause_of state.client.watched state.side.page.tree e in
     let paused = pause_step pause state in
-    events-append paused.moves (edit_step e paused.state).moves (pause-events pause state) (edit-events e paused.state.side.page paused.state.client.session)
+    events-append paused.moves (edit_step e paused.state).moves (pause-events pause state)
+    (edit-events e paused.state.side.page paused.state.client.session)
 
 scripts-events : (es : List TreeEdit) (state : State) → AreEvents (script_steps es state).moves
 scripts-events [] state = tt
@@ -168,7 +175,8 @@ changes-events : (cs : List SheetChange) (state : State) → AreEvents (sheet_st
 changes-events [] state = tt
 changes-events (c ∷ cs) state =
     events-append (sheet_step c state).moves (sheet_steps cs (sheet_step c state).state).moves
-    (one-event state.client.css_on (sheet_move c state.side ∷ []) (change-event c state.side, tt)) (changes-events cs (sheet_step c state).state)
+    (one-event state.client.css_on (sheet_move c state.side ∷ []) (change-event c state.side, tt))
+    (changes-events cs (sheet_step c state).state)
 
 pub gone-are-events : (ss : List ShownSheet) → AreEvents (moves_gone ss)
 gone-are-events [] = tt
@@ -197,4 +205,5 @@ turn-events (loads page) state =
     let new = (load_step page state).state.side.sheets in
     events-append (cond state.client.dom_on (clear ∷ []) []) (cond state.client.css_on (moves_gone old ++ moves_come new) [])
     (one-event state.client.dom_on (clear ∷ []) (tt, tt))
-    (one-event state.client.css_on (moves_gone old ++ moves_come new) (events-append (moves_gone old) (moves_come new) (gone-are-events old) (come-are-events new)))
+    (one-event state.client.css_on (moves_gone old ++ moves_come new)
+    (events-append (moves_gone old) (moves_come new) (gone-are-events old) (come-are-events new)))

@@ -1,5 +1,6 @@
 -- What a seat does on an undo and a redo is the step of the state.
-use Rattle.std.proofs.Common.{◌≡◌, ◌≤◌, ℕ, ◌+◌, ◌^◌, ◌<◌, Bool, true, false, cond, not, ◌&&◌, List, [], ◌∷◌, ◌++◌, length, map, reverse, Option, Some, None, refl, sym, ap, ◌∙◌, subst, append-nil, append_assoc, arith}
+use Rattle.std.proofs.Common.{◌≡◌, ◌≤◌, ℕ, ◌+◌, ◌^◌, ◌<◌, Bool, true, false, cond, not, ◌&&◌, List, [], ◌∷◌, ◌++◌, length, map, reverse}
+use Rattle.std.proofs.Common.{Option, Some, None, refl, sym, ap, ◌∙◌, subst, append-nil, append_assoc, arith}
 use Rattle.std.proofs.Math.Logic.{∥∥₁_map}
 use Rattle.std.proofs.lemmas.List.{length-reverse}
 use Rattle.std.proofs.lemmas.List.Concat.{flat_map-append}
@@ -19,7 +20,8 @@ use Rattle.cdp_messages.specs.Replies.{reply_text}
 use Rattle.cdp_messages.specs.Moves.{Move, rewritten, frames_of_moves, move_text}
 use Rattle.css_agent.specs.Told.{event_messages, message_frames}
 use Rattle.css_agent.specs.Edits.{text_under}
-use Rattle.undo_marks.specs.Marks.{Marks, entry_count, handed_out, marked, past_popped, future_popped, past_pushed, future_pushed, undone, redone}
+use Rattle.undo_marks.specs.Marks.{Marks, entry_count, handed_out, marked, past_popped, future_popped, past_pushed, future_pushed, undone}
+use Rattle.undo_marks.specs.Marks.{redone}
 use Rattle.undo_marks.specs.Changes.{HistoryEntry as Entry, after_all, back_all, AllTaken}
 use Rattle.undo_marks.specs.Saved.{Saved}
 use Rattle.undo_marks.specs.SavedEdits.{saved_sheet, saved_of, page_after, way_back, TakesSheet}
@@ -31,7 +33,8 @@ use Rattle.back_end.specs.declared.side.PageSide.{PageSide}
 use Rattle.back_end.specs.Sheets.{NumberedBook}
 use Rattle.back_end.specs.States.{State, book_in, TakesWell, saved_now, Keeps}
 use Rattle.back_end.specs.Servers.{Server, ends_group, undoes, redoes}
-use Rattle.back_end.specs.Steps.{Step, telling_first, idle, refusing, answering, with_marks, kept_step, kept_steps, splice_step, undo_edits, redo_edits, taken_step, needs_on, needs_css, server_step, command_step}
+use Rattle.back_end.specs.Steps.{Step, telling_first, idle, refusing, answering, with_marks, kept_step, kept_steps, splice_step, undo_edits}
+use Rattle.back_end.specs.Steps.{redo_edits, taken_step, needs_on, needs_css, server_step, command_step}
 use Rattle.back_end.specs.Seats.{DeskStandsFor, BothStandFor}
 use Rattle.back_end.proofs.HistoryLemmas.{keeps-marked, undo-hands, redo-hands, undo-hands-none, redo-hands-none}
 use Rattle.back_end.proofs.SpliceSteps.{restyled}
@@ -78,12 +81,21 @@ way-start all d s out taken = record {
   taken = taken;
   backs_are = refl;
   saved = refl;
-  steps = λ state stands takes. record { mid = state; told = []; stands = stands; taken = takes; whole = refl; sent = sym (append-nil out) };
+  steps = λ state stands takes. record {
+    mid = state;
+    told = [];
+    stands = stands;
+    taken = takes;
+    whole = refl;
+    sent = sym (append-nil out);
+  };
 }
 
-pub way-begin : (all rest backs : List Inverse) (d : Desk) (s : PageSide) (out : List ℕ) → rest ≡ all → backs ≡ [] → ∥ TakesAll s all ∥₁ → Way all rest d d s s backs out out
+pub way-begin : (all rest backs : List Inverse) (d : Desk) (s : PageSide) (out : List ℕ) → rest ≡ all → backs ≡ [] → ∥ TakesAll s all ∥₁
+    → Way all rest d d s s backs out out
 way-begin all rest backs d s out rest_is empty taken =
-    subst (λ (l : List Inverse). Way all l d d s s backs out out) (sym rest_is) (subst (λ (l : List Inverse). Way all all d d s s l out out) (sym empty) (way-start all d s out taken))
+    subst (λ (l : List Inverse). Way all l d d s s backs out out) (sym rest_is)
+    (subst (λ (l : List Inverse). Way all all d d s s l out out) (sym empty) (way-start all d s out taken))
 
 frames-append : (ms ks : List Move) → frames_of_moves (ms ++ ks) ≡ frames_of_moves ms ++ frames_of_moves ks
 frames-append ms ks = flat_map-append (λ (m : Move). framed (move_text m)) ms ks
@@ -95,18 +107,22 @@ pub record Turned (e back : Inverse) (d d1 : Desk) (s s1 : PageSide) (out new : 
   pub next : s1.page.next ≡ s.page.next
   pub numbers : s1.sheets.next ≡ s.sheets.next
   pub back_is : back ≡ way_back e (saved_at s)
-  pub stands : (state : State) → DeskStandsFor d s state → TakesWell s.page.next e (saved_at s) → DeskStandsFor d1 s1 (kept_step e state).state
+  pub stands : (state : State) → DeskStandsFor d s state → TakesWell s.page.next e (saved_at s)
+      → DeskStandsFor d1 s1 (kept_step e state).state
   pub sent : (state : State) → DeskStandsFor d s state → new ≡ out ++ frames_of_moves (kept_step e state).moves
 
 -- the rest is taken then
-rest-taken : (e back : Inverse) (rest : List Inverse) (d d1 : Desk) (s s1 : PageSide) (out new : List ℕ) → Turned e back d d1 s s1 out new → TakesAll s (e ∷ rest) → TakesAll s1 rest
+rest-taken : (e back : Inverse) (rest : List Inverse) (d d1 : Desk) (s s1 : PageSide) (out new : List ℕ) → Turned e back d d1 s s1 out new
+    → TakesAll s (e ∷ rest) → TakesAll s1 rest
 rest-taken e back rest d d1 s s1 out new t takes =
     subst (λ (n : ℕ). AllTaken page_after (TakesWell n) rest (saved_at s1)) (sym t.next)
     (subst (λ (p : Saved). AllTaken page_after (TakesWell s.page.next) rest p) (sym t.saved) takes.1)
 
 -- one more
-way-on : (all rest : List Inverse) (e : Inverse) (d0 d d1 : Desk) (s0 s s1 : PageSide) (backs backs1 : List Inverse) (back : Inverse) (old out new : List ℕ)
-    → Way all (e ∷ rest) d0 d s0 s backs old out → Turned e back d d1 s s1 out new → backs1 ≡ backs ++ back ∷ [] → Way all rest d0 d1 s0 s1 backs1 old new
+way-on : (all rest : List Inverse) (e : Inverse) (d0 d d1 : Desk) (s0 s s1 : PageSide) (backs backs1 : List Inverse) (back : Inverse)
+    (old out new : List ℕ)
+    → Way all (e ∷ rest) d0 d s0 s backs old out → Turned e back d d1 s s1 out new → backs1 ≡ backs ++ back ∷ []
+    → Way all rest d0 d1 s0 s1 backs1 old new
 way-on all rest e d0 d d1 s0 s s1 backs backs1 back old out new w t pushed = record {
   ids = omega (arith, w.ids, t.few);
   next = t.next ∙ w.next;
@@ -136,10 +152,13 @@ way-on all rest e d0 d d1 s0 s s1 backs backs1 back old out new w t pushed = rec
 }
 
 -- a step of the loop, by what is left
-pub way-turn : (all rest later : List Inverse) (e : Inverse) (d0 d d1 : Desk) (s0 s s1 : PageSide) (backs backs1 : List Inverse) (back : Inverse) (old out new : List ℕ)
-    → rest ≡ e ∷ later → Way all rest d0 d s0 s backs old out → Turned e back d d1 s s1 out new → backs1 ≡ backs ++ back ∷ [] → Way all later d0 d1 s0 s1 backs1 old new
+pub way-turn : (all rest later : List Inverse) (e : Inverse) (d0 d d1 : Desk) (s0 s s1 : PageSide) (backs backs1 : List Inverse)
+    (back : Inverse) (old out new : List ℕ)
+    → rest ≡ e ∷ later → Way all rest d0 d s0 s backs old out → Turned e back d d1 s s1 out new → backs1 ≡ backs ++ back ∷ []
+    → Way all later d0 d1 s0 s1 backs1 old new
 way-turn all rest later e d0 d d1 s0 s s1 backs backs1 back old out new is w t pushed =
-    way-on all later e d0 d d1 s0 s s1 backs backs1 back old out new (subst (λ (l : List Inverse). Way all l d0 d s0 s backs old out) is w) t pushed
+    way-on all later e d0 d d1 s0 s s1 backs backs1 back old out new
+    (subst (λ (l : List Inverse). Way all l d0 d s0 s backs old out) is w) t pushed
 
 -- the page takes the next edit, and ids are left for it
 pub way-next : (all rest later : List Inverse) (e : Inverse) (d0 d : Desk) (s0 s : PageSide) (backs : List Inverse) (old out : List ℕ)
@@ -159,17 +178,20 @@ pub record Ended (all : List Inverse) (d0 d : Desk) (s0 s : PageSide) (backs : L
   pub stands : (state : State) → DeskStandsFor d0 s0 state → TakesAll s0 all → DeskStandsFor d s (kept_steps all state).state
   pub sent : (state : State) → DeskStandsFor d0 s0 state → TakesAll s0 all → out ≡ old ++ frames_of_moves (kept_steps all state).moves
 
-pub way-end : (all rest : List Inverse) (d0 d : Desk) (s0 s : PageSide) (backs : List Inverse) (old out : List ℕ) → length rest ≡ 0 → Way all rest d0 d s0 s backs old out
+pub way-end : (all rest : List Inverse) (d0 d : Desk) (s0 s : PageSide) (backs : List Inverse) (old out : List ℕ) → length rest ≡ 0
+    → Way all rest d0 d s0 s backs old out
     → Ended all d0 d s0 s backs old out
 way-end all (e ∷ rest) d0 d s0 s backs old out empty w = absurd (omega arith)
 way-end all [] d0 d s0 s backs old out empty w = record {
   saved = w.saved;
   next = w.next;
   backs_are = sym (append-nil backs) ∙ w.backs_are;
-  stands = λ state before takes. let r = w.steps state before takes in subst (λ (done : Step). DeskStandsFor d s done.state) (sym r.whole) r.stands;
+  stands = λ state before takes. let r = w.steps state before takes in subst (λ (done : Step). DeskStandsFor d s done.state)
+      (sym r.whole) r.stands;
   sent = λ state before takes.
       let r = w.steps state before takes in
-      r.sent ∙ ap (λ (ms : List Move). old ++ frames_of_moves ms) (sym (append-nil r.told)) ∙ ap (λ (done : Step). old ++ frames_of_moves done.moves) (sym r.whole);
+      r.sent ∙ ap (λ (ms : List Move). old ++ frames_of_moves ms) (sym (append-nil r.told)) ∙ ap
+      (λ (done : Step). old ++ frames_of_moves done.moves) (sym r.whole);
 }
 
 -- ---- one edit
@@ -180,53 +202,66 @@ tree-taken next e t page is takes = subst (λ (x : Inverse). TakesWell next x pa
 pub sheet-taken : (next : ℕ) (e : Inverse) (s : Splice) (page : Saved) → e ≡ Sheet s → TakesWell next e page → TakesWell next (Sheet s) page
 sheet-taken next e s page is takes = subst (λ (x : Inverse). TakesWell next x page) is takes
 
-pub tree-can : (s : PageSide) (e : Inverse) (t : TreeEdit) → e ≡ Tree t → ∥ TakesWell s.page.next e (saved_at s) ∥₁ → CanApply s.page.next t s.page.tree
+pub tree-can : (s : PageSide) (e : Inverse) (t : TreeEdit) → e ≡ Tree t → ∥ TakesWell s.page.next e (saved_at s) ∥₁
+    → CanApply s.page.next t s.page.tree
 tree-can s e t is takes =
     can-apply s.page.next t s.page.tree
     (∥∥₁_map takes (λ (x : TakesWell s.page.next e (saved_at s)). (tree-taken s.page.next e t (saved_at s) is x).taken.taken))
 
-pub sheet-fits : (s : PageSide) (e : Inverse) (x : Splice) → e ≡ Sheet x → ∥ TakesWell s.page.next e (saved_at s) ∥₁ → FitsSplice x s.sheets.entries
+pub sheet-fits : (s : PageSide) (e : Inverse) (x : Splice) → e ≡ Sheet x → ∥ TakesWell s.page.next e (saved_at s) ∥₁
+    → FitsSplice x s.sheets.entries
 sheet-fits s e x is takes =
     fits-splice x s.sheets.entries
-    (∥∥₁_map takes (λ (t : TakesWell s.page.next e (saved_at s)). fits-saved x s.sheets.entries (sheet-taken s.page.next e x (saved_at s) is t).taken))
+    (∥∥₁_map takes (λ (t : TakesWell s.page.next e (saved_at s)). fits-saved x s.sheets.entries
+    (sheet-taken s.page.next e x (saved_at s) is t).taken))
 
-pub tree-saved : (s s1 : PageSide) (e : Inverse) (t : TreeEdit) → e ≡ Tree t → s1.page ≡ after t s.page → s1.sheets ≡ s.sheets → saved_at s1 ≡ page_after e (saved_at s)
+pub tree-saved : (s s1 : PageSide) (e : Inverse) (t : TreeEdit) → e ≡ Tree t → s1.page ≡ after t s.page → s1.sheets ≡ s.sheets
+    → saved_at s1 ≡ page_after e (saved_at s)
 tree-saved s s1 e t is page_is sheets_is =
     ap (λ (p : PageValue). saved_of p.tree s1.sheets.entries) page_is
     ∙ ap (λ (b : NumberedBook). saved_of (after t s.page).tree b.entries) sheets_is
     ∙ ap (λ (x : Inverse). page_after x (saved_at s)) (sym is)
 
-pub tree-next : (s s1 : PageSide) (t : TreeEdit) → CanApply s.page.next t s.page.tree → s1.page ≡ after t s.page → s1.page.next ≡ s.page.next
+pub tree-next : (s s1 : PageSide) (t : TreeEdit) → CanApply s.page.next t s.page.tree → s1.page ≡ after t s.page
+    → s1.page.next ≡ s.page.next
 tree-next s s1 t can page_is = ap (λ (p : PageValue). p.next) page_is ∙ next-stays s.page t can
 
-pub tree-back : (s : PageSide) (e : Inverse) (t back : TreeEdit) → e ≡ Tree t → back ≡ back_tree t s.page.tree → Tree back ≡ way_back e (saved_at s)
+pub tree-back : (s : PageSide) (e : Inverse) (t back : TreeEdit) → e ≡ Tree t → back ≡ back_tree t s.page.tree
+    → Tree back ≡ way_back e (saved_at s)
 tree-back s e t back is back_is = ap (λ (x : TreeEdit). Tree x) back_is ∙ ap (λ (x : Inverse). way_back x (saved_at s)) (sym is)
 
-pub sheet-saved : (s s1 : PageSide) (e : Inverse) (x : Splice) → e ≡ Sheet x → s1.page ≡ s.page → s1.sheets.entries ≡ after_splice x s.sheets.entries → saved_at s1 ≡ page_after e (saved_at s)
+pub sheet-saved : (s s1 : PageSide) (e : Inverse) (x : Splice) → e ≡ Sheet x → s1.page ≡ s.page
+    → s1.sheets.entries ≡ after_splice x s.sheets.entries → saved_at s1 ≡ page_after e (saved_at s)
 sheet-saved s s1 e x is page_is entries =
     ap (λ (p : PageValue). saved_of p.tree s1.sheets.entries) page_is
     ∙ ap (λ (b : List SheetEntry). saved_of s.page.tree b) entries
     ∙ (λ i. record { tree = s.page.tree; sheets = sym (after-saved x s.sheets.entries) i })
     ∙ ap (λ (y : Inverse). page_after y (saved_at s)) (sym is)
 
-pub sheet-back : (s : PageSide) (e : Inverse) (x back : Splice) → e ≡ Sheet x → back ≡ back_splice x s.sheets.entries → Sheet back ≡ way_back e (saved_at s)
+pub sheet-back : (s : PageSide) (e : Inverse) (x back : Splice) → e ≡ Sheet x → back ≡ back_splice x s.sheets.entries
+    → Sheet back ≡ way_back e (saved_at s)
 sheet-back s e x back is back_is =
     ap (λ (y : Splice). Sheet y) (back_is ∙ sym (back-saved x s.sheets.entries)) ∙ ap (λ (y : Inverse). way_back y (saved_at s)) (sym is)
 
-pub step-stands : (d : Desk) (s : PageSide) (state : State) (e f : Inverse) → e ≡ f → DeskStandsFor d s (kept_step f state).state → DeskStandsFor d s (kept_step e state).state
+pub step-stands : (d : Desk) (s : PageSide) (state : State) (e f : Inverse) → e ≡ f → DeskStandsFor d s (kept_step f state).state
+    → DeskStandsFor d s (kept_step e state).state
 step-stands d s state e f is stands = subst (λ (x : Inverse). DeskStandsFor d s (kept_step x state).state) (sym is) stands
 
-pub step-sent : (state : State) (e f : Inverse) (old new : List ℕ) → e ≡ f → new ≡ old ++ frames_of_moves (kept_step f state).moves → new ≡ old ++ frames_of_moves (kept_step e state).moves
+pub step-sent : (state : State) (e f : Inverse) (old new : List ℕ) → e ≡ f → new ≡ old ++ frames_of_moves (kept_step f state).moves
+    → new ≡ old ++ frames_of_moves (kept_step e state).moves
 step-sent state e f old new is sent = sent ∙ ap (λ (x : Inverse). old ++ frames_of_moves (kept_step x state).moves) (sym is)
 
 -- ---- a splice
 
-takes-here : (d : Desk) (s : PageSide) (state : State) (x : Splice) → DeskStandsFor d s state → TakesSheet x (map saved_sheet s.sheets.entries) → TakesSplice x (book_in state)
+takes-here : (d : Desk) (s : PageSide) (state : State) (x : Splice) → DeskStandsFor d s state
+    → TakesSheet x (map saved_sheet s.sheets.entries) → TakesSplice x (book_in state)
 takes-here d s state x stands t =
     takes-splice x state.side.sheets (subst (λ (book : List SheetEntry). TakesSheet x (map saved_sheet book)) stands.sheets_are t)
 
-pub put-stands : (d : Desk) (s s1 : PageSide) (state : State) (x : Splice) → DeskStandsFor d s state → TakesSheet x (map saved_sheet s.sheets.entries)
-    → s1.page ≡ s.page → s1.sheets ≡ record { entries = after_splice x s.sheets.entries; next = s.sheets.next } → DeskStandsFor d s1 (splice_step x state).state
+pub put-stands : (d : Desk) (s s1 : PageSide) (state : State) (x : Splice) → DeskStandsFor d s state
+    → TakesSheet x (map saved_sheet s.sheets.entries)
+    → s1.page ≡ s.page → s1.sheets ≡ record { entries = after_splice x s.sheets.entries; next = s.sheets.next }
+    → DeskStandsFor d s1 (splice_step x state).state
 put-stands d s s1 state x stands t page_is sheets_is =
     let after = restyled (x ∷ []) state stands.now (takes-here d s state x stands t, tt) in
     record {
@@ -259,29 +294,37 @@ handed-few (g ∷ gs) es out =
 
 -- the page at the desk is the state's
 here-saved : (d : Desk) (s : PageSide) (state : State) → DeskStandsFor d s state → saved_at s ≡ saved_now state
-here-saved d s state stands = ap (λ (p : PageValue). saved_of p.tree s.sheets.entries) stands.page_is ∙ ap (saved_of state.side.page.tree) stands.sheets_are
+here-saved d s state stands = ap (λ (p : PageValue). saved_of p.tree s.sheets.entries) stands.page_is ∙ ap
+    (saved_of state.side.page.tree) stands.sheets_are
 
 -- at the desk the edits are taken
-taken-here : (d : Desk) (s : PageSide) (state : State) (es : List Inverse) → DeskStandsFor d s state → AllTaken page_after (TakesWell state.side.page.next) es (saved_now state)
+taken-here : (d : Desk) (s : PageSide) (state : State) (es : List Inverse) → DeskStandsFor d s state
+    → AllTaken page_after (TakesWell state.side.page.next) es (saved_now state)
     → AllTaken page_after (TakesWell s.page.next) es (saved_at s)
 taken-here d s state es stands taken =
     let next : state.side.page.next ≡ s.page.next = ap (λ (p : PageValue). p.next) (sym stands.page_is) in
     subst (λ (n : ℕ). AllTaken page_after (TakesWell n) es (saved_at s)) next
     (subst (λ (p : Saved). AllTaken page_after (TakesWell state.side.page.next) es p) (sym (here-saved d s state stands)) taken)
 
-pub undo-taken : (d : Desk) (h : Marks Inverse) (s : PageSide) (es : List Inverse) → handed_out h.past ≡ Some es → ∥ ((state : State) × BothStandFor d h s state) ∥₁ → ∥ TakesAll s es ∥₁
+pub undo-taken : (d : Desk) (h : Marks Inverse) (s : PageSide) (es : List Inverse) → handed_out h.past ≡ Some es
+    → ∥ ((state : State) × BothStandFor d h s state) ∥₁ → ∥ TakesAll s es ∥₁
 undo-taken d h s es out standing =
-    ∥∥₁_map standing (λ (x : ((state : State) × BothStandFor d h s state)). taken-here d s x.0 es x.1.stands (undo-hands h es x.0 x.1.kept out).taken)
+    ∥∥₁_map standing (λ (x : ((state : State) × BothStandFor d h s state)). taken-here d s x.0 es x.1.stands
+    (undo-hands h es x.0 x.1.kept out).taken)
 
-pub redo-taken : (d : Desk) (h : Marks Inverse) (s : PageSide) (es : List Inverse) → handed_out h.future ≡ Some es → ∥ ((state : State) × BothStandFor d h s state) ∥₁ → ∥ TakesAll s es ∥₁
+pub redo-taken : (d : Desk) (h : Marks Inverse) (s : PageSide) (es : List Inverse) → handed_out h.future ≡ Some es
+    → ∥ ((state : State) × BothStandFor d h s state) ∥₁ → ∥ TakesAll s es ∥₁
 redo-taken d h s es out standing =
-    ∥∥₁_map standing (λ (x : ((state : State) × BothStandFor d h s state)). taken-here d s x.0 es x.1.stands (redo-hands h es x.0 x.1.kept out).taken)
+    ∥∥₁_map standing (λ (x : ((state : State) × BothStandFor d h s state)). taken-here d s x.0 es x.1.stands
+    (redo-hands h es x.0 x.1.kept out).taken)
 
 -- the same for a state that is known
-pub undo-takes : (d : Desk) (h : Marks Inverse) (s : PageSide) (state : State) (es : List Inverse) → handed_out h.past ≡ Some es → BothStandFor d h s state → TakesAll s es
+pub undo-takes : (d : Desk) (h : Marks Inverse) (s : PageSide) (state : State) (es : List Inverse) → handed_out h.past ≡ Some es
+    → BothStandFor d h s state → TakesAll s es
 undo-takes d h s state es out both = taken-here d s state es both.stands (undo-hands h es state both.kept out).taken
 
-pub redo-takes : (d : Desk) (h : Marks Inverse) (s : PageSide) (state : State) (es : List Inverse) → handed_out h.future ≡ Some es → BothStandFor d h s state → TakesAll s es
+pub redo-takes : (d : Desk) (h : Marks Inverse) (s : PageSide) (state : State) (es : List Inverse) → handed_out h.future ≡ Some es
+    → BothStandFor d h s state → TakesAll s es
 redo-takes d h s state es out both = taken-here d s state es both.stands (redo-hands h es state both.kept out).taken
 
 -- a command of these that is carried out
@@ -290,13 +333,16 @@ record IsTaking (server : Server) (out : Option (List Inverse)) (marks : Marks (
   plain : needs_css server ≡ false
   step : (id : ℕ) → server_step id server state ≡ taken_step id out marks state
 
-undo-is : (o : Option (List Inverse)) (state : State) → undo_edits state.client.marks ≡ o → IsTaking undoes o (undone state.client.marks) state
+undo-is : (o : Option (List Inverse)) (state : State) → undo_edits state.client.marks ≡ o
+    → IsTaking undoes o (undone state.client.marks) state
 undo-is o state is = record { needs = refl; plain = refl; step = λ id. ap (λ x. taken_step id x (undone state.client.marks) state) is }
 
-redo-is : (o : Option (List Inverse)) (state : State) → redo_edits state.client.marks ≡ o → IsTaking redoes o (redone state.client.marks) state
+redo-is : (o : Option (List Inverse)) (state : State) → redo_edits state.client.marks ≡ o
+    → IsTaking redoes o (redone state.client.marks) state
 redo-is o state is = record { needs = refl; plain = refl; step = λ id. ap (λ x. taken_step id x (redone state.client.marks) state) is }
 
-module _ (d : Desk) (s : PageSide) (state : State) (id : ℕ) (server : Server) (out : Option (List Inverse)) (marks : Marks (Entry Saved Inverse)) (before : DeskStandsFor d s state) (on : d.is_on ≡ true)
+module _ (d : Desk) (s : PageSide) (state : State) (id : ℕ) (server : Server) (out : Option (List Inverse))
+    (marks : Marks (Entry Saved Inverse)) (before : DeskStandsFor d s state) (on : d.is_on ≡ true)
     (is : IsTaking server out marks state) where
   taking : command_step id server state ≡ taken_step id out marks state
   taking = on-is id server state (dom-on server d s state before on) (ap (λ b. b && not state.client.css_on) is.plain) ∙ is.step id
@@ -315,24 +361,33 @@ module _ (d : Desk) (s : PageSide) (state : State) (id : ℕ) (server : Server) 
 
   -- the edits are carried out
   carried : (es : List Inverse) → out ≡ Some es
-      → command_step id server state ≡ answering id (record { state = with_marks marks (kept_steps es state).state; moves = (kept_steps es state).moves })
+      → command_step id server state
+      ≡ answering id (record { state = with_marks marks (kept_steps es state).state; moves = (kept_steps es state).moves })
   carried es some = taking ∙ ap (λ (o : Option (List Inverse)). taken_step id o marks state) some
 
-  nothing-both : (h : Marks Inverse) → out ≡ None → state.client.marks.crossed ≡ false → Keeps h state → BothStandFor d h s (command_step id server state).state
-  nothing-both h none free k = subst (λ (done : Step). BothStandFor d h s done.state) (sym (nothing none free)) (record { stands = before; kept = k })
+  nothing-both : (h : Marks Inverse) → out ≡ None → state.client.marks.crossed ≡ false → Keeps h state
+      → BothStandFor d h s (command_step id server state).state
+  nothing-both h none free k = subst (λ (done : Step). BothStandFor d h s done.state) (sym (nothing none free))
+      (record { stands = before; kept = k })
 
-  nothing-sent : (old new : List ℕ) → out ≡ None → state.client.marks.crossed ≡ false → new ≡ old ++ framed (reply_text id Nothing) → new ≡ old ++ frames_of_moves (command_step id server state).moves
+  nothing-sent : (old new : List ℕ) → out ≡ None → state.client.marks.crossed ≡ false → new ≡ old ++ framed (reply_text id Nothing)
+      → new ≡ old ++ frames_of_moves (command_step id server state).moves
   nothing-sent old new none free sent =
-      sent ∙ ap (λ bs. old ++ bs) (sym (append-nil (framed (reply_text id Nothing)))) ∙ ap (λ (done : Step). old ++ frames_of_moves done.moves) (sym (nothing none free))
+      sent ∙ ap (λ bs. old ++ bs) (sym (append-nil (framed (reply_text id Nothing)))) ∙ ap
+      (λ (done : Step). old ++ frames_of_moves done.moves) (sym (nothing none free))
 
-  emptied-both : (h : Marks Inverse) → out ≡ None → state.client.marks.crossed ≡ true → Keeps h state → BothStandFor d h s (command_step id server state).state
-  emptied-both h none crossed k = subst (λ (done : Step). BothStandFor d h s done.state) (sym (emptied none crossed)) (record { stands = before; kept = k })
+  emptied-both : (h : Marks Inverse) → out ≡ None → state.client.marks.crossed ≡ true → Keeps h state
+      → BothStandFor d h s (command_step id server state).state
+  emptied-both h none crossed k = subst (λ (done : Step). BothStandFor d h s done.state) (sym (emptied none crossed))
+      (record { stands = before; kept = k })
 
-  emptied-sent : (old new : List ℕ) → out ≡ None → state.client.marks.crossed ≡ true → new ≡ old ++ frames_of_moves (refusing (Some id) Crossed state).moves
+  emptied-sent : (old new : List ℕ) → out ≡ None → state.client.marks.crossed ≡ true
+      → new ≡ old ++ frames_of_moves (refusing (Some id) Crossed state).moves
       → new ≡ old ++ frames_of_moves (command_step id server state).moves
   emptied-sent old new none crossed sent = sent ∙ ap (λ (done : Step). old ++ frames_of_moves done.moves) (sym (emptied none crossed))
 
-  carried-both : (d1 : Desk) (s1 : PageSide) (h1 : Marks Inverse) (es : List Inverse) → out ≡ Some es → DeskStandsFor d1 s1 (kept_steps es state).state
+  carried-both : (d1 : Desk) (s1 : PageSide) (h1 : Marks Inverse) (es : List Inverse) → out ≡ Some es
+      → DeskStandsFor d1 s1 (kept_steps es state).state
       → Keeps h1 (with_marks marks (kept_steps es state).state) → BothStandFor d1 h1 s1 (command_step id server state).state
   carried-both d1 s1 h1 es some stands k =
       subst (λ (done : Step). BothStandFor d1 h1 s1 done.state) (sym (carried es some))
@@ -341,13 +396,16 @@ module _ (d : Desk) (s : PageSide) (state : State) (id : ℕ) (server : Server) 
   carried-sent : (es : List Inverse) (old middle new : List ℕ) → out ≡ Some es → middle ≡ old ++ frames_of_moves (kept_steps es state).moves
       → new ≡ middle ++ framed (reply_text id Nothing) → new ≡ old ++ frames_of_moves (command_step id server state).moves
   carried-sent es old middle new some first last =
-      answered-sent id (kept_steps es state).moves old middle new first last ∙ ap (λ (done : Step). old ++ frames_of_moves done.moves) (sym (carried es some))
+      answered-sent id (kept_steps es state).moves old middle new first last ∙ ap (λ (done : Step). old ++ frames_of_moves done.moves)
+      (sym (carried es some))
 
 -- what the edits came to, for a state that the desk stood for
 module _ (d d1 : Desk) (s s1 : PageSide) (state : State) (es : List Inverse) (before : DeskStandsFor d s state)
-    (stands : DeskStandsFor d1 s1 (kept_steps es state).state) (saved : saved_at s1 ≡ after_all page_after es (saved_at s)) (next : s1.page.next ≡ s.page.next) where
+    (stands : DeskStandsFor d1 s1 (kept_steps es state).state) (saved : saved_at s1 ≡ after_all page_after es (saved_at s))
+    (next : s1.page.next ≡ s.page.next) where
   led-saved : saved_now (kept_steps es state).state ≡ after_all page_after es (saved_now state)
-  led-saved = sym (here-saved d1 s1 (kept_steps es state).state stands) ∙ saved ∙ ap (λ (p : Saved). after_all page_after es p) (here-saved d s state before)
+  led-saved = sym (here-saved d1 s1 (kept_steps es state).state stands) ∙ saved ∙ ap (λ (p : Saved). after_all page_after es p)
+      (here-saved d s state before)
 
   led-next : state.side.page.next ≤ (kept_steps es state).state.side.page.next
   led-next =
@@ -355,101 +413,130 @@ module _ (d d1 : Desk) (s s1 : PageSide) (state : State) (es : List Inverse) (be
       let then : s.page.next ≡ state.side.page.next = ap (λ (p : PageValue). p.next) before.page_is in
       omega (arith, now, then, next)
 
-backs-here : (d : Desk) (s : PageSide) (state : State) (es backs : List Inverse) → DeskStandsFor d s state → backs ≡ back_all page_after way_back es (saved_at s)
+backs-here : (d : Desk) (s : PageSide) (state : State) (es backs : List Inverse) → DeskStandsFor d s state
+    → backs ≡ back_all page_after way_back es (saved_at s)
     → backs ≡ back_all page_after way_back es (saved_now state)
 backs-here d s state es backs before is = is ∙ ap (λ (p : Saved). back_all page_after way_back es p) (here-saved d s state before)
 
-pub undone-both : (d d1 : Desk) (h h1 : Marks Inverse) (s s1 : PageSide) (state : State) (id : ℕ) (es backs : List Inverse) → BothStandFor d h s state → d.is_on ≡ true → handed_out h.past ≡ Some es
+pub undone-both : (d d1 : Desk) (h h1 : Marks Inverse) (s s1 : PageSide) (state : State) (id : ℕ) (es backs : List Inverse)
+    → BothStandFor d h s state → d.is_on ≡ true → handed_out h.past ≡ Some es
     → DeskStandsFor d1 s1 (kept_steps es state).state → saved_at s1 ≡ after_all page_after es (saved_at s) → s1.page.next ≡ s.page.next
-    → backs ≡ back_all page_after way_back es (saved_at s) → h1 ≡ future_pushed backs (past_popped h) → BothStandFor d1 h1 s1 (command_step id undoes state).state
+    → backs ≡ back_all page_after way_back es (saved_at s) → h1 ≡ future_pushed backs (past_popped h)
+    → BothStandFor d1 h1 s1 (command_step id undoes state).state
 undone-both d d1 h h1 s s1 state id es backs both on out stands saved next backs_is h_is =
     let u = undo-hands h es state both.kept out in
     let after = (kept_steps es state).state in
     let same : h1 ≡ future_pushed (back_all page_after way_back es (saved_now state)) (past_popped h) =
     h_is ∙ ap (λ (l : List Inverse). future_pushed l (past_popped h)) (backs-here d s state es backs both.stands backs_is) in
-    carried-both d s state id undoes (Some es) (undone state.client.marks) both.stands on (undo-is (Some es) state u.edits) d1 s1 h1 es refl stands
+    carried-both d s state id undoes (Some es) (undone state.client.marks) both.stands on
+    (undo-is (Some es) state u.edits) d1 s1 h1 es refl stands
     (subst (λ (x : Marks Inverse). Keeps x (with_marks (undone state.client.marks) after)) (sym same)
     (u.kept after (led-saved d d1 s s1 state es both.stands stands saved next) (led-next d d1 s s1 state es both.stands stands saved next)))
 
-pub redone-both : (d d1 : Desk) (h h1 : Marks Inverse) (s s1 : PageSide) (state : State) (id : ℕ) (es backs : List Inverse) → BothStandFor d h s state → d.is_on ≡ true → handed_out h.future ≡ Some es
+pub redone-both : (d d1 : Desk) (h h1 : Marks Inverse) (s s1 : PageSide) (state : State) (id : ℕ) (es backs : List Inverse)
+    → BothStandFor d h s state → d.is_on ≡ true → handed_out h.future ≡ Some es
     → DeskStandsFor d1 s1 (kept_steps es state).state → saved_at s1 ≡ after_all page_after es (saved_at s) → s1.page.next ≡ s.page.next
-    → backs ≡ back_all page_after way_back es (saved_at s) → h1 ≡ past_pushed backs (future_popped h) → BothStandFor d1 h1 s1 (command_step id redoes state).state
+    → backs ≡ back_all page_after way_back es (saved_at s) → h1 ≡ past_pushed backs (future_popped h)
+    → BothStandFor d1 h1 s1 (command_step id redoes state).state
 redone-both d d1 h h1 s s1 state id es backs both on out stands saved next backs_is h_is =
     let u = redo-hands h es state both.kept out in
     let after = (kept_steps es state).state in
     let same : h1 ≡ past_pushed (back_all page_after way_back es (saved_now state)) (future_popped h) =
     h_is ∙ ap (λ (l : List Inverse). past_pushed l (future_popped h)) (backs-here d s state es backs both.stands backs_is) in
-    carried-both d s state id redoes (Some es) (redone state.client.marks) both.stands on (redo-is (Some es) state u.edits) d1 s1 h1 es refl stands
+    carried-both d s state id redoes (Some es) (redone state.client.marks) both.stands on
+    (redo-is (Some es) state u.edits) d1 s1 h1 es refl stands
     (subst (λ (x : Marks Inverse). Keeps x (with_marks (redone state.client.marks) after)) (sym same)
     (u.kept after (led-saved d d1 s s1 state es both.stands stands saved next) (led-next d d1 s s1 state es both.stands stands saved next)))
 
-pub undone-sent : (d : Desk) (h : Marks Inverse) (s : PageSide) (state : State) (id : ℕ) (es : List Inverse) (old middle new : List ℕ) → BothStandFor d h s state → d.is_on ≡ true → handed_out h.past ≡ Some es
-    → middle ≡ old ++ frames_of_moves (kept_steps es state).moves → new ≡ middle ++ framed (reply_text id Nothing) → new ≡ old ++ frames_of_moves (command_step id undoes state).moves
+pub undone-sent : (d : Desk) (h : Marks Inverse) (s : PageSide) (state : State) (id : ℕ) (es : List Inverse) (old middle new : List ℕ)
+    → BothStandFor d h s state → d.is_on ≡ true → handed_out h.past ≡ Some es
+    → middle ≡ old ++ frames_of_moves (kept_steps es state).moves → new ≡ middle ++ framed (reply_text id Nothing)
+    → new ≡ old ++ frames_of_moves (command_step id undoes state).moves
 undone-sent d h s state id es old middle new both on out first last =
-    carried-sent d s state id undoes (Some es) (undone state.client.marks) both.stands on (undo-is (Some es) state (undo-hands h es state both.kept out).edits) es old middle new refl first last
+    carried-sent d s state id undoes (Some es) (undone state.client.marks) both.stands on
+    (undo-is (Some es) state (undo-hands h es state both.kept out).edits) es old middle new refl first last
 
-pub redone-sent : (d : Desk) (h : Marks Inverse) (s : PageSide) (state : State) (id : ℕ) (es : List Inverse) (old middle new : List ℕ) → BothStandFor d h s state → d.is_on ≡ true → handed_out h.future ≡ Some es
-    → middle ≡ old ++ frames_of_moves (kept_steps es state).moves → new ≡ middle ++ framed (reply_text id Nothing) → new ≡ old ++ frames_of_moves (command_step id redoes state).moves
+pub redone-sent : (d : Desk) (h : Marks Inverse) (s : PageSide) (state : State) (id : ℕ) (es : List Inverse) (old middle new : List ℕ)
+    → BothStandFor d h s state → d.is_on ≡ true → handed_out h.future ≡ Some es
+    → middle ≡ old ++ frames_of_moves (kept_steps es state).moves → new ≡ middle ++ framed (reply_text id Nothing)
+    → new ≡ old ++ frames_of_moves (command_step id redoes state).moves
 redone-sent d h s state id es old middle new both on out first last =
-    carried-sent d s state id redoes (Some es) (redone state.client.marks) both.stands on (redo-is (Some es) state (redo-hands h es state both.kept out).edits) es old middle new refl first last
+    carried-sent d s state id redoes (Some es) (redone state.client.marks) both.stands on
+    (redo-is (Some es) state (redo-hands h es state both.kept out).edits) es old middle new refl first last
 
-module _ (d : Desk) (h h1 : Marks Inverse) (s : PageSide) (state : State) (id : ℕ) (both : BothStandFor d h s state) (on : d.is_on ≡ true) where
+module _ (d : Desk) (h h1 : Marks Inverse) (s : PageSide) (state : State) (id : ℕ) (both : BothStandFor d h s state)
+    (on : d.is_on ≡ true) where
   -- nothing is left to take back
   module _ (out : handed_out h.past ≡ None) where
     pub unundone-both : h.crossed ≡ false → h1 ≡ past_popped h → BothStandFor d h1 s (command_step id undoes state).state
     unundone-both free is =
         let u = undo-hands-none h state both.kept out in
-        nothing-both d s state id undoes None (undone state.client.marks) both.stands on (undo-is None state u.edits) h1 refl (sym u.crossed ∙ free) (subst (λ (x : Marks Inverse). Keeps x state) (sym is) u.kept)
+        nothing-both d s state id undoes None (undone state.client.marks) both.stands on (undo-is None state u.edits) h1 refl
+        (sym u.crossed ∙ free) (subst (λ (x : Marks Inverse). Keeps x state) (sym is) u.kept)
 
-    pub unundone-sent : h.crossed ≡ false → (old new : List ℕ) → new ≡ old ++ framed (reply_text id Nothing) → new ≡ old ++ frames_of_moves (command_step id undoes state).moves
+    pub unundone-sent : h.crossed ≡ false → (old new : List ℕ) → new ≡ old ++ framed (reply_text id Nothing)
+        → new ≡ old ++ frames_of_moves (command_step id undoes state).moves
     unundone-sent free old new sent =
         let u = undo-hands-none h state both.kept out in
-        nothing-sent d s state id undoes None (undone state.client.marks) both.stands on (undo-is None state u.edits) old new refl (sym u.crossed ∙ free) sent
+        nothing-sent d s state id undoes None (undone state.client.marks) both.stands on (undo-is None state u.edits) old new refl
+        (sym u.crossed ∙ free) sent
 
     pub barred-undo-both : h.crossed ≡ true → h1 ≡ past_popped h → BothStandFor d h1 s (command_step id undoes state).state
     barred-undo-both crossed is =
         let u = undo-hands-none h state both.kept out in
-        emptied-both d s state id undoes None (undone state.client.marks) both.stands on (undo-is None state u.edits) h1 refl (sym u.crossed ∙ crossed) (subst (λ (x : Marks Inverse). Keeps x state) (sym is) u.kept)
+        emptied-both d s state id undoes None (undone state.client.marks) both.stands on (undo-is None state u.edits) h1 refl
+        (sym u.crossed ∙ crossed) (subst (λ (x : Marks Inverse). Keeps x state) (sym is) u.kept)
 
-    pub barred-undo-sent : h.crossed ≡ true → (old new : List ℕ) → new ≡ old ++ frames_of_moves (refusing (Some id) Crossed state).moves → new ≡ old ++ frames_of_moves (command_step id undoes state).moves
+    pub barred-undo-sent : h.crossed ≡ true → (old new : List ℕ) → new ≡ old ++ frames_of_moves (refusing (Some id) Crossed state).moves
+        → new ≡ old ++ frames_of_moves (command_step id undoes state).moves
     barred-undo-sent crossed old new sent =
         let u = undo-hands-none h state both.kept out in
-        emptied-sent d s state id undoes None (undone state.client.marks) both.stands on (undo-is None state u.edits) old new refl (sym u.crossed ∙ crossed) sent
+        emptied-sent d s state id undoes None (undone state.client.marks) both.stands on (undo-is None state u.edits) old new refl
+        (sym u.crossed ∙ crossed) sent
 
   -- or to do again
   module _ (out : handed_out h.future ≡ None) where
     pub unredone-both : h.crossed ≡ false → h1 ≡ future_popped h → BothStandFor d h1 s (command_step id redoes state).state
     unredone-both free is =
         let u = redo-hands-none h state both.kept out in
-        nothing-both d s state id redoes None (redone state.client.marks) both.stands on (redo-is None state u.edits) h1 refl (sym u.crossed ∙ free) (subst (λ (x : Marks Inverse). Keeps x state) (sym is) u.kept)
+        nothing-both d s state id redoes None (redone state.client.marks) both.stands on (redo-is None state u.edits) h1 refl
+        (sym u.crossed ∙ free) (subst (λ (x : Marks Inverse). Keeps x state) (sym is) u.kept)
 
-    pub unredone-sent : h.crossed ≡ false → (old new : List ℕ) → new ≡ old ++ framed (reply_text id Nothing) → new ≡ old ++ frames_of_moves (command_step id redoes state).moves
+    pub unredone-sent : h.crossed ≡ false → (old new : List ℕ) → new ≡ old ++ framed (reply_text id Nothing)
+        → new ≡ old ++ frames_of_moves (command_step id redoes state).moves
     unredone-sent free old new sent =
         let u = redo-hands-none h state both.kept out in
-        nothing-sent d s state id redoes None (redone state.client.marks) both.stands on (redo-is None state u.edits) old new refl (sym u.crossed ∙ free) sent
+        nothing-sent d s state id redoes None (redone state.client.marks) both.stands on (redo-is None state u.edits) old new refl
+        (sym u.crossed ∙ free) sent
 
     pub barred-redo-both : h.crossed ≡ true → h1 ≡ future_popped h → BothStandFor d h1 s (command_step id redoes state).state
     barred-redo-both crossed is =
         let u = redo-hands-none h state both.kept out in
-        emptied-both d s state id redoes None (redone state.client.marks) both.stands on (redo-is None state u.edits) h1 refl (sym u.crossed ∙ crossed) (subst (λ (x : Marks Inverse). Keeps x state) (sym is) u.kept)
+        emptied-both d s state id redoes None (redone state.client.marks) both.stands on (redo-is None state u.edits) h1 refl
+        (sym u.crossed ∙ crossed) (subst (λ (x : Marks Inverse). Keeps x state) (sym is) u.kept)
 
-    pub barred-redo-sent : h.crossed ≡ true → (old new : List ℕ) → new ≡ old ++ frames_of_moves (refusing (Some id) Crossed state).moves → new ≡ old ++ frames_of_moves (command_step id redoes state).moves
+    pub barred-redo-sent : h.crossed ≡ true → (old new : List ℕ) → new ≡ old ++ frames_of_moves (refusing (Some id) Crossed state).moves
+        → new ≡ old ++ frames_of_moves (command_step id redoes state).moves
     barred-redo-sent crossed old new sent =
         let u = redo-hands-none h state both.kept out in
-        emptied-sent d s state id redoes None (redone state.client.marks) both.stands on (redo-is None state u.edits) old new refl (sym u.crossed ∙ crossed) sent
+        emptied-sent d s state id redoes None (redone state.client.marks) both.stands on (redo-is None state u.edits) old new refl
+        (sym u.crossed ∙ crossed) sent
 
 -- ---- a mark
 
-pub marked-both : (d : Desk) (h h1 : Marks Inverse) (s : PageSide) (state : State) (id : ℕ) → BothStandFor d h s state → d.is_on ≡ true → h1 ≡ marked h → BothStandFor d h1 s (command_step id ends_group state).state
+pub marked-both : (d : Desk) (h h1 : Marks Inverse) (s : PageSide) (state : State) (id : ℕ) → BothStandFor d h s state → d.is_on ≡ true
+    → h1 ≡ marked h → BothStandFor d h1 s (command_step id ends_group state).state
 marked-both d h h1 s state id both on is =
     let marks = marked state.client.marks in
-    subst (λ (done : Step). BothStandFor d h1 s done.state) (sym (on-is id ends_group state (dom-on ends_group d s state both.stands on) refl))
+    subst (λ (done : Step). BothStandFor d h1 s done.state)
+    (sym (on-is id ends_group state (dom-on ends_group d s state both.stands on) refl))
     (record {
       stands = marks-stands marks d s state both.stands;
       kept = subst (λ (x : Marks Inverse). Keeps x (with_marks marks state)) (sym is) (keeps-marked h state both.kept);
     })
 
-pub marked-sent : (d : Desk) (s : PageSide) (state : State) (id : ℕ) (old new : List ℕ) → DeskStandsFor d s state → d.is_on ≡ true → new ≡ old ++ framed (reply_text id Nothing)
+pub marked-sent : (d : Desk) (s : PageSide) (state : State) (id : ℕ) (old new : List ℕ) → DeskStandsFor d s state → d.is_on ≡ true
+    → new ≡ old ++ framed (reply_text id Nothing)
     → new ≡ old ++ frames_of_moves (command_step id ends_group state).moves
 marked-sent d s state id old new stands on sent =
     sent ∙ ap (λ bs. old ++ bs) (sym (append-nil (framed (reply_text id Nothing))))

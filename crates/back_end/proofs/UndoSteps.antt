@@ -1,5 +1,6 @@
 -- An undo and a redo: each edit out of the history is made, the page is the saved one then, and the step is well.
-use Rattle.std.proofs.Common.{◌≡◌, ℕ, suc, ◌+◌, ◌^◌, ◌<◌, ◌≤◌, ◌==◌, Bool, true, false, cond, List, [], ◌∷◌, length, map, Option, Some, None, refl, sym, ap, ◌∙◌, subst, arith}
+use Rattle.std.proofs.Common.{◌≡◌, ℕ, suc, ◌+◌, ◌^◌, ◌<◌, ◌≤◌, ◌==◌, Bool, true, false, cond, List, [], ◌∷◌, length, map, Option, Some}
+use Rattle.std.proofs.Common.{None, refl, sym, ap, ◌∙◌, subst, arith}
 use Rattle.std.specs.Prelude.{IfSome}
 use Rattle.std.specs.Str.{IsUtf8}
 use Rattle.cdp_json.specs.Kinds.{is_counted}
@@ -24,14 +25,16 @@ use Rattle.undo_marks.specs.declared.inverse_lists.Inverse.{Inverse}
 use Rattle.undo_marks.specs.declared.inverse_lists.Inverse.TheVariants.{Tree, Sheet}
 use Rattle.back_end.specs.Sheets.{entry_of_sheet, as_book}
 use Rattle.back_end.specs.States.{State, saved_now, HoldsNow, TakesWell, HasHistory, IsState}
-use Rattle.back_end.specs.Steps.{Step, with_marks, refusing, answering, idle, kept_step, kept_steps, undo_edits, redo_edits, taken_step, undo_step, redo_step, mark_step}
+use Rattle.back_end.specs.Steps.{Step, with_marks, refusing, answering, idle, kept_step, kept_steps, undo_edits, redo_edits, taken_step}
+use Rattle.back_end.specs.Steps.{undo_step, redo_step, mark_step}
 use Rattle.back_end.specs.Laws.{HasRoom, MayAnswer, UndoRestores}
 use Rattle.back_end.proofs.WellSteps.{Well, HasNumbers, room-numbers, stays, then-well, more, well-marked, well-answered}
 use Rattle.back_end.proofs.StepLemmas.{edit-is, edit-well}
 use Rattle.back_end.proofs.SpliceSteps.{splice-is, splice-well, splice-events, splice-saved}
 use Rattle.back_end.proofs.TurnAnswers.{AreEvents, events-append, edit-events}
 use Rattle.back_end.proofs.HistoryLemmas.{kept_in, history-kept, Undoes, Redoes, undo-hands, redo-hands, undo-hands-none, redo-hands-none}
-use Rattle.back_end.proofs.GroupCounts.{trees_in, trees-in-length, SameCounts, undone-counts, redone-counts, FewEdits, undo-few, redo-few, no-past, no-future}
+use Rattle.back_end.proofs.GroupCounts.{trees_in, trees-in-length, SameCounts, undone-counts, redone-counts, FewEdits, undo-few, redo-few}
+use Rattle.back_end.proofs.GroupCounts.{no-past, no-future}
 use Rattle.back_end.proofs.KeptSteps.{Recalls, recalls-same, recalls-marked, steps-well}
 use Rattle.back_end.proofs.AnsweredSteps.{Answered, reply-answered, refusal-answered}
 
@@ -46,7 +49,8 @@ record Found (n : ℕ) (ss : List ShownSheet) (x : SavedSheet) : Type 0 where
 found-saved : (n : ℕ) (ss : List ShownSheet) (x : SavedSheet) → sheet_at n (map saved_sheet (as_book ss)) ≡ Some x → Found n ss x
 found-saved n [] x h = let no : ◌≡◌ {A = Option SavedSheet} None (Some x) = h in absurd cc
 found-saved n (s ∷ ss) x h = at (n == s.number) refl h (λ k. found-saved n ss x k) where
-  at : (b : Bool) → (n == s.number) ≡ b → cond b (Some (saved_sheet (entry_of_sheet s))) (sheet_at n (map saved_sheet (as_book ss))) ≡ Some x
+  at : (b : Bool) → (n == s.number) ≡ b
+      → cond b (Some (saved_sheet (entry_of_sheet s))) (sheet_at n (map saved_sheet (as_book ss))) ≡ Some x
       → (sheet_at n (map saved_sheet (as_book ss)) ≡ Some x → Found n ss x) → Found n (s ∷ ss) x
   at true t k later = record {
     entry = entry_of_sheet s;
@@ -132,7 +136,8 @@ kept-one (Sheet s) state is t =
     }
 
 -- the others are taken where it led
-pub taken-rest : (e : Inverse) (es : List Inverse) (state : State) → HoldsNow state → AllTakenIn (e ∷ es) state → AllTakenIn es (kept_step e state).state
+pub taken-rest : (e : Inverse) (es : List Inverse) (state : State) → HoldsNow state → AllTakenIn (e ∷ es) state
+    → AllTakenIn es (kept_step e state).state
 taken-rest e es state is all =
     let one = kept-one e state is all.0 in
     subst (λ (n : ℕ). AllTaken page_after (TakesWell n) es (saved_now (kept_step e state).state)) (sym one.next)
@@ -155,12 +160,14 @@ kept-steps (e ∷ es) state is all =
 
 -- ---- it is well
 
-one-well : (e : Inverse) (state : State) → HoldsNow state → HasNumbers state → suc (length state.client.session.pushed) < 2 ^ 52 → TakenIn e state
+one-well : (e : Inverse) (state : State) → HoldsNow state → HasNumbers state → suc (length state.client.session.pushed) < 2 ^ 52
+    → TakenIn e state
     → Well state (kept_step e state) (trees_in (e ∷ [])) 0 0
 one-well (Tree e) state is low ids t = edit-well state e is low ids t.taken.taken t.own
 one-well (Sheet s) state is low ids t = splice-well s state is low (takes-splice s state.side.sheets t.taken)
 
-pub kept-well : (es : List Inverse) (state : State) → HoldsNow state → HasNumbers state → length es + length state.client.session.pushed < 2 ^ 52 → AllTakenIn es state
+pub kept-well : (es : List Inverse) (state : State) → HoldsNow state → HasNumbers state
+    → length es + length state.client.session.pushed < 2 ^ 52 → AllTakenIn es state
     → Well state (kept_steps es state) (trees_in es) 0 0
 kept-well [] state is low ids all = stays state is low
 kept-well (e ∷ es) state is low ids all =
@@ -172,7 +179,8 @@ kept-well (e ∷ es) state is low ids all =
       sheets = omega (arith, low.sheets, first.few_sheets);
     } in
     more (omega arith) (omega arith) (omega arith)
-    (then-well first (kept-well es (kept_step e state).state first.now next (omega (arith, ids, few, first.few_ids)) (taken-rest e es state is all)))
+    (then-well first (kept-well es (kept_step e state).state first.now next (omega (arith, ids, few, first.few_ids))
+    (taken-rest e es state is all)))
 
 one-events : (e : Inverse) (state : State) → AreEvents (kept_step e state).moves
 one-events (Tree e) state = edit-events e state.side.page state.client.session
@@ -181,14 +189,16 @@ one-events (Sheet s) state = splice-events s state
 pub kept-events : (es : List Inverse) (state : State) → AreEvents (kept_steps es state).moves
 kept-events [] state = tt
 kept-events (e ∷ es) state =
-    events-append (kept_step e state).moves (kept_steps es (kept_step e state).state).moves (one-events e state) (kept-events es (kept_step e state).state)
+    events-append (kept_step e state).moves (kept_steps es (kept_step e state).state).moves (one-events e state)
+    (kept-events es (kept_step e state).state)
 
 -- ---- what is carried out, and the history then
 
 -- the history hands out these edits, and it is this one where they led
 pub record Hands (es : List Inverse) (marks : Marks (Entry Saved Inverse)) (state : State) : Type 0 where
   pub taken : AllTakenIn es state
-  pub history : (later : State) → saved_now later ≡ after_all page_after es (saved_now state) → state.side.page.next ≤ later.side.page.next → HasHistory (with_marks marks later)
+  pub history : (later : State) → saved_now later ≡ after_all page_after es (saved_now state) → state.side.page.next ≤ later.side.page.next
+      → HasHistory (with_marks marks later)
   pub counts : SameCounts state.client.marks marks
   pub few : FewEdits es state.client.marks
 
@@ -225,12 +235,15 @@ redo-either P state h nothing some = at (handed_out (kept_in state).future) refl
 
 -- ---- the steps
 
-taken-answered : (method : List ℕ) (sheet : Option ℕ) (id : ℕ) (es : List Inverse) (marks : Marks (Entry Saved Inverse)) (state : State) → MayAnswer method (replied 0 Nothing)
-    → IsState state → HasRoom state → is_counted id ≡ true → Hands es marks state → Answered method sheet id 0 state (taken_step id (Some es) marks state)
+taken-answered : (method : List ℕ) (sheet : Option ℕ) (id : ℕ) (es : List Inverse) (marks : Marks (Entry Saved Inverse)) (state : State)
+    → MayAnswer method (replied 0 Nothing)
+    → IsState state → HasRoom state → is_counted id ≡ true → Hands es marks state
+    → Answered method sheet id 0 state (taken_step id (Some es) marks state)
 taken-answered method sheet id es marks state can is room small hands =
     let low : HasNumbers state = room-numbers state room in
     let k : Kept es state (kept_steps es state).state = kept-steps es state is.now hands.taken in
-    let made : Well state (kept_steps es state) (trees_in es) 0 0 = kept-well es state is.now low (omega (arith, room.ids, room.edits, hands.few.count)) hands.taken in
+    let made : Well state (kept_steps es state) (trees_in es) 0 0 = kept-well es state is.now low
+    (omega (arith, room.ids, room.edits, hands.few.count)) hands.taken in
     let done : Step = record { state = with_marks marks (kept_steps es state).state; moves = (kept_steps es state).moves } in
     let well : Well state done (trees_in es) 0 0 = well-marked marks made in
     let later : HasNumbers done.state = record {
@@ -244,10 +257,12 @@ taken-answered method sheet id es marks state can is room small hands =
       few_edits = omega (arith, hands.counts.count);
     } in
     reply-answered method sheet id 0 Nothing state done can (kept-events es state)
-    (steps-well {ids = trees_in es} (omega (arith, hands.few.trees)) (omega arith) (more (omega arith) (omega arith) (omega arith) (well-answered id small later well)) recalls) recalls.few_edits
+    (steps-well {ids = trees_in es} (omega (arith, hands.few.trees)) (omega arith)
+    (more (omega arith) (omega arith) (omega arith) (well-answered id small later well)) recalls) recalls.few_edits
 
 -- where there are none
-nothing-answered : (method : List ℕ) (sheet : Option ℕ) (id : ℕ) (marks : Marks (Entry Saved Inverse)) (state : State) → MayAnswer method (replied 0 Nothing)
+nothing-answered : (method : List ℕ) (sheet : Option ℕ) (id : ℕ) (marks : Marks (Entry Saved Inverse)) (state : State)
+    → MayAnswer method (replied 0 Nothing)
     → IsState state → HasRoom state → is_counted id ≡ true → Answered method sheet id 0 state (taken_step id None marks state)
 nothing-answered method sheet id marks state can is room small = at state.client.marks.crossed where
   low : HasNumbers state
@@ -260,23 +275,27 @@ nothing-answered method sheet id marks state can is room small = at state.client
   at true = refusal-answered method sheet id 0 Crossed state is room small
   at false =
       reply-answered method sheet id 0 Nothing state (idle state) can tt
-      (steps-well {ids = 0} (omega arith) (omega arith) (more (omega arith) (omega arith) (omega arith) (well-answered id small low (stays state is.now low))) recalls) recalls.few_edits
+      (steps-well {ids = 0} (omega arith) (omega arith)
+      (more (omega arith) (omega arith) (omega arith) (well-answered id small low (stays state is.now low))) recalls) recalls.few_edits
 
-pub undo-answered : (method : List ℕ) (sheet : Option ℕ) (id : ℕ) (state : State) → MayAnswer method (replied 0 Nothing) → IsState state → HasRoom state → is_counted id ≡ true
+pub undo-answered : (method : List ℕ) (sheet : Option ℕ) (id : ℕ) (state : State) → MayAnswer method (replied 0 Nothing) → IsState state
+    → HasRoom state → is_counted id ≡ true
     → Answered method sheet id 0 state (undo_step id state)
 undo-answered method sheet id state can is room small =
     undo-either (λ o. Answered method sheet id 0 state (taken_step id o (undone state.client.marks) state)) state is.history
     (λ e. nothing-answered method sheet id (undone state.client.marks) state can is room small)
     (λ es u. taken-answered method sheet id es (undone state.client.marks) state can is room small (hands-undo es state u))
 
-pub redo-answered : (method : List ℕ) (sheet : Option ℕ) (id : ℕ) (state : State) → MayAnswer method (replied 0 Nothing) → IsState state → HasRoom state → is_counted id ≡ true
+pub redo-answered : (method : List ℕ) (sheet : Option ℕ) (id : ℕ) (state : State) → MayAnswer method (replied 0 Nothing) → IsState state
+    → HasRoom state → is_counted id ≡ true
     → Answered method sheet id 0 state (redo_step id state)
 redo-answered method sheet id state can is room small =
     redo-either (λ o. Answered method sheet id 0 state (taken_step id o (redone state.client.marks) state)) state is.history
     (λ e. nothing-answered method sheet id (redone state.client.marks) state can is room small)
     (λ es u. taken-answered method sheet id es (redone state.client.marks) state can is room small (hands-redo es state u))
 
-pub mark-answered : (method : List ℕ) (sheet : Option ℕ) (id : ℕ) (state : State) → MayAnswer method (replied 0 Nothing) → IsState state → HasRoom state → is_counted id ≡ true
+pub mark-answered : (method : List ℕ) (sheet : Option ℕ) (id : ℕ) (state : State) → MayAnswer method (replied 0 Nothing) → IsState state
+    → HasRoom state → is_counted id ≡ true
     → Answered method sheet id 0 state (mark_step id state)
 mark-answered method sheet id state can is room small =
     let low : HasNumbers state = room-numbers state room in
@@ -285,23 +304,27 @@ mark-answered method sheet id state can is room small =
     let later : HasNumbers done.state = record { ids = low.ids; serials = low.serials; sheets = low.sheets } in
     let recalls : Recalls state done.state 0 0 = recalls-marked state is.history in
     reply-answered method sheet id 0 Nothing state done can tt
-    (steps-well {ids = 0} (omega arith) (omega arith) (more (omega arith) (omega arith) (omega arith) (well-answered id small later well)) recalls) recalls.few_edits
+    (steps-well {ids = 0} (omega arith) (omega arith)
+    (more (omega arith) (omega arith) (omega arith) (well-answered id small later well)) recalls) recalls.few_edits
 
 -- ---- the law
 
-faultless : (next : ℕ) (es : List Inverse) (page : Saved) → AllTaken page_after (TakesWell next) es page → AllTaken page_after MeetsNoFault es page
+faultless : (next : ℕ) (es : List Inverse) (page : Saved) → AllTaken page_after (TakesWell next) es page
+    → AllTaken page_after MeetsNoFault es page
 faultless next [] page all = tt
 faultless next (Tree e ∷ es) page all = (all.0.taken.taken.fits, faultless next es (page_after (Tree e) page) all.1)
 faultless next (Sheet s ∷ es) page all = (all.0.taken, faultless next es (page_after (Sheet s) page) all.1)
 
 -- where nothing is handed out, nothing changes
-nothing-page : (id : ℕ) (marks : Marks (Entry Saved Inverse)) (state : State) → saved_now (taken_step id None marks state).state ≡ saved_now state
+nothing-page : (id : ℕ) (marks : Marks (Entry Saved Inverse)) (state : State)
+    → saved_now (taken_step id None marks state).state ≡ saved_now state
 nothing-page id marks state = at state.client.marks.crossed where
   at : (b : Bool) → saved_now (cond b (refusing (Some id) Crossed state) (answering id (idle state))).state ≡ saved_now state
   at true = refl
   at false = refl
 
-nothing-marks : (id : ℕ) (marks : Marks (Entry Saved Inverse)) (state : State) → (taken_step id None marks state).state.client.marks ≡ state.client.marks
+nothing-marks : (id : ℕ) (marks : Marks (Entry Saved Inverse)) (state : State)
+    → (taken_step id None marks state).state.client.marks ≡ state.client.marks
 nothing-marks id marks state = at state.client.marks.crossed where
   at : (b : Bool) → (cond b (refusing (Some id) Crossed state) (answering id (idle state))).state.client.marks ≡ state.client.marks
   at true = refl
@@ -314,20 +337,26 @@ undo-restores state is =
     record {
       undone_page = λ id.
           undo-either (λ o. saved_now (taken_step id o (undone m) state).state ≡ page_undone m.past page) state is.history
-          (λ e. nothing-page id (undone m) state ∙ ap (λ (past : List (List (Entry Saved Inverse))). page_undone past page) (sym (no-past m e)))
+          (λ e. nothing-page id (undone m) state ∙ ap (λ (past : List (List (Entry Saved Inverse))). page_undone past page)
+          (sym (no-past m e)))
           (λ es u. (kept-steps es state is.now u.taken).saved ∙ u.ends);
       undone_marks = λ id.
           undo-either (λ o. (taken_step id o (undone m) state).state.client.marks ≡ undone m) state is.history
-          (λ e. nothing-marks id (undone m) state ∙ ap (λ (past : List (List (Entry Saved Inverse))). taken_back past m) (sym (no-past m e)))
+          (λ e. nothing-marks id (undone m) state ∙ ap (λ (past : List (List (Entry Saved Inverse))). taken_back past m)
+          (sym (no-past m e)))
           (λ es u. refl);
-      undo_faultless = undo-either (λ o. IfSome o (λ es. AllTaken page_after MeetsNoFault es page)) state is.history (λ e. tt) (λ es u. faultless state.side.page.next es page u.taken);
+      undo_faultless = undo-either (λ o. IfSome o (λ es. AllTaken page_after MeetsNoFault es page)) state is.history (λ e. tt)
+          (λ es u. faultless state.side.page.next es page u.taken);
       redone_page = λ id.
           redo-either (λ o. saved_now (taken_step id o (redone m) state).state ≡ page_redone m.future page) state is.history
-          (λ e. nothing-page id (redone m) state ∙ ap (λ (future : List (List (Entry Saved Inverse))). page_redone future page) (sym (no-future m e)))
+          (λ e. nothing-page id (redone m) state ∙ ap (λ (future : List (List (Entry Saved Inverse))). page_redone future page)
+          (sym (no-future m e)))
           (λ es u. (kept-steps es state is.now u.taken).saved ∙ u.ends);
       redone_marks = λ id.
           redo-either (λ o. (taken_step id o (redone m) state).state.client.marks ≡ redone m) state is.history
-          (λ e. nothing-marks id (redone m) state ∙ ap (λ (future : List (List (Entry Saved Inverse))). done_again future m) (sym (no-future m e)))
+          (λ e. nothing-marks id (redone m) state ∙ ap (λ (future : List (List (Entry Saved Inverse))). done_again future m)
+          (sym (no-future m e)))
           (λ es u. refl);
-      redo_faultless = redo-either (λ o. IfSome o (λ es. AllTaken page_after MeetsNoFault es page)) state is.history (λ e. tt) (λ es u. faultless state.side.page.next es page u.taken);
+      redo_faultless = redo-either (λ o. IfSome o (λ es. AllTaken page_after MeetsNoFault es page)) state is.history (λ e. tt)
+          (λ es u. faultless state.side.page.next es page u.taken);
     }

@@ -21,8 +21,10 @@ pub record Changes (server : Server) (change : ℕ → Watched → Watched) (nod
   pub plain : needs_css server ≡ false
   pub adds : AddsOne change
 
-module _ (d : Desk) (s : PageSide) (state : State) (id : ℕ) (server : Server) (change : ℕ → Watched → Watched) (node : ℕ) (changes : Changes server change node) (stands : DeskStandsFor d s state) where
-  step-is : (found : Option ℕ) → d.is_on ≡ true → found ≡ map.get d.agent.serials node → command_step id server state ≡ watch_step id change found state
+module _ (d : Desk) (s : PageSide) (state : State) (id : ℕ) (server : Server) (change : ℕ → Watched → Watched) (node : ℕ)
+    (changes : Changes server change node) (stands : DeskStandsFor d s state) where
+  step-is : (found : Option ℕ) → d.is_on ≡ true → found ≡ map.get d.agent.serials node
+      → command_step id server state ≡ watch_step id change found state
   step-is found was is =
       on-is id server state (dom-on server d s state stands was) (ap (λ b. b && not state.client.css_on) changes.plain)
       ∙ changes.step id state
@@ -31,12 +33,14 @@ module _ (d : Desk) (s : PageSide) (state : State) (id : ℕ) (server : Server) 
   pub unknown-stands : d.is_on ≡ true → None ≡ map.get d.agent.serials node → DeskStandsFor d s (command_step id server state).state
   unknown-stands was is = subst (λ (done : Step). DeskStandsFor d s done.state) (sym (step-is None was is)) stands
 
-  pub unknown-sent : (old new : List ℕ) → d.is_on ≡ true → None ≡ map.get d.agent.serials node → new ≡ old ++ frames_of_moves (refusing (Some id) UnknownNode state).moves
+  pub unknown-sent : (old new : List ℕ) → d.is_on ≡ true → None ≡ map.get d.agent.serials node
+      → new ≡ old ++ frames_of_moves (refusing (Some id) UnknownNode state).moves
       → new ≡ old ++ frames_of_moves (command_step id server state).moves
   unknown-sent old new was is sent = sent ∙ ap (λ (done : Step). old ++ frames_of_moves done.moves) (sym (step-is None was is))
 
   pub changed-stands : (d1 : Desk) (serial : ℕ) → d.is_on ≡ true → Some serial ≡ map.get d.agent.serials node
-      → d1.is_on ≡ d.is_on → d1.css ≡ d.css → d1.watches ≡ change serial d.watches → d1.agent ≡ d.agent → DeskStandsFor d1 s (command_step id server state).state
+      → d1.is_on ≡ d.is_on → d1.css ≡ d.css → d1.watches ≡ change serial d.watches → d1.agent ≡ d.agent
+      → DeskStandsFor d1 s (command_step id server state).state
   changed-stands d1 serial was is on_is css_is watches_is agent_is =
       subst (λ (done : Step). DeskStandsFor d1 s done.state) (sym (step-is (Some serial) was is)) (record {
         now = watches-are change state node serial changes.adds (sym (is ∙ stands.stands.serials_are node)) stands.now;

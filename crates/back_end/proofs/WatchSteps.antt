@@ -1,5 +1,6 @@
 -- A watch is set, or taken away: the step is well.
-use Rattle.std.proofs.Common.{◌≡◌, ℕ, ◌<◌, ◌==◌, Bool, true, false, not, ◌||◌, [], Option, Some, None, ◌⊎◌, inl, inr, ⊎_elim, refl, sym, ◌∙◌, subst, arith}
+use Rattle.std.proofs.Common.{◌≡◌, ℕ, ◌<◌, ◌==◌, Bool, true, false, not, ◌||◌, [], Option, Some, None, ◌⊎◌, inl, inr, ⊎_elim, refl, sym}
+use Rattle.std.proofs.Common.{◌∙◌, subst, arith}
 use Rattle.std.specs.FinSet as set
 use Rattle.std.specs.Ordering.{nat_cmp, eq_by_cmp}
 use Rattle.std.specs.Cmp.{nat_cmp_total, Equal-is}
@@ -27,7 +28,8 @@ use Rattle.back_end.proofs.WellSteps.{Well, HasNumbers, told-view}
 
 -- what is watched after a change of the watches of one node was watched before, or is that node
 abbrev pub AddsOne : (ℕ → Watched → Watched) → Type 0
-AddsOne change = (kind : WatchKind) (node s : ℕ) (w : Watched) → is_watched kind (change node w) s ≡ true → (s ≡ node) ⊎ (is_watched kind w s ≡ true)
+AddsOne change = (kind : WatchKind) (node s : ℕ) (w : Watched) → is_watched kind (change node w) s ≡ true
+    → (s ≡ node) ⊎ (is_watched kind w s ≡ true)
 
 either-set : (a b : Bool) → (a || b) ≡ true → (a ≡ true) ⊎ (b ≡ true)
 either-set true b h = inl refl
@@ -39,7 +41,8 @@ inserted serials node s h =
     (either-set (eq_by_cmp nat_cmp s node) (set.contains serials s) (sym (set.contains-insert nat_cmp_total serials node s) ∙ h))
 
 removed : (serials : Serials) (node s : ℕ) → set.contains (set.remove serials node) s ≡ true → set.contains serials s ≡ true
-removed serials node s h = (and_parts (not (eq_by_cmp nat_cmp s node)) (set.contains serials s) (sym (set.contains-remove nat_cmp_total serials node s) ∙ h)).1
+removed serials node s h = (and_parts (not (eq_by_cmp nat_cmp s node)) (set.contains serials s)
+    (sym (set.contains-remove nat_cmp_total serials node s) ∙ h)).1
 
 pub with-adds : (kind : WatchKind) → AddsOne (with_watch kind)
 with-adds Subtree Subtree node s w h = inserted w.subtree node s h
@@ -82,7 +85,8 @@ known-there state id serial h =
 abbrev pub with_watches : Watched → State → State
 with_watches watched state = with_client (record state.client { watched = watched }) state
 
-pub watches-are : (change : ℕ → Watched → Watched) (state : State) (id serial : ℕ) → AddsOne change → serial_now state id ≡ Some serial → HoldsNow state
+pub watches-are : (change : ℕ → Watched → Watched) (state : State) (id serial : ℕ) → AddsOne change → serial_now state id ≡ Some serial
+    → HoldsNow state
     → HoldsNow (with_watches (change serial state.client.watched) state)
 watches-are change state id serial adds h is = record {
   page = is.page;
@@ -92,12 +96,14 @@ watches-are change state id serial adds h is = record {
   off = is.off;
   css_off = is.css_off;
   watched = λ kind s e.
-      ⊎_elim (λ same. subst (λ (k : ℕ). has row_serial k (page_nodes state) ≡ true) (sym same) (known-there state id serial h)) (λ was. is.watched kind s was)
+      ⊎_elim (λ same. subst (λ (k : ℕ). has row_serial k (page_nodes state) ≡ true) (sym same) (known-there state id serial h))
+      (λ was. is.watched kind s was)
       (adds kind serial s state.client.watched e);
   none_watched = λ e. not-begun state.client.session (begun-known state.client.session state id serial h) e;
 }
 
-pub watch-well : (id : ℕ) (change : ℕ → Watched → Watched) (state : State) (node serial : ℕ) → AddsOne change → serial_now state node ≡ Some serial
+pub watch-well : (id : ℕ) (change : ℕ → Watched → Watched) (state : State) (node serial : ℕ) → AddsOne change
+    → serial_now state node ≡ Some serial
     → HoldsNow state → HasNumbers state → is_counted id ≡ true → Well state (watch_step id change (Some serial) state) 0 0 0
 watch-well id change state node serial adds h is low small =
     let told : CanBeTold (view_of state) = told-view state is low in

@@ -1,4 +1,5 @@
--- A step is well: what holds of a state at each moment holds after it, its moves lead from the view before to the view after, and it draws few numbers.
+-- A step is well: what holds of a state at each moment holds after it, its moves lead from the view before to the view after, and it draws
+-- few numbers.
 use Rattle.std.proofs.Common.{◌≡◌, ℕ, ◌+◌, ◌^◌, ◌<◌, ◌≤◌, Bool, true, false, cond, List, [], ◌∷◌, ◌++◌, length, refl, arith}
 use Rattle.cdp_json.specs.Kinds.{is_counted}
 use Rattle.node_tree.specs.Nodes.{node_count}
@@ -34,7 +35,11 @@ pub record HasNumbers (state : State) : Type 0 where
   pub sheets : state.side.next_sheet ≤ 2 ^ 52
 
 pub room-numbers : (state : State) → HasRoom state → HasNumbers state
-room-numbers state room = record { ids = omega (arith, room.ids); serials = omega (arith, room.serials); sheets = omega (arith, room.sheets) }
+room-numbers state room = record {
+  ids = omega (arith, room.ids);
+  serials = omega (arith, room.serials);
+  sheets = omega (arith, room.sheets);
+}
 
 -- ---- what can be told of a state
 
@@ -53,7 +58,8 @@ can-tell state is low =
     record { serials = omega (arith, low.serials); ids = omega (arith, low.ids, few); texts = is.texts }
 
 -- the page with any sheets
-pub told-with : (state : State) (sheets : List ShownSheet) → HoldsNow state → HasNumbers state → CanTellSheets sheets → CanBeTold (seen_by state.client.session state.side.page sheets)
+pub told-with : (state : State) (sheets : List ShownSheet) → HoldsNow state → HasNumbers state → CanTellSheets sheets
+    → CanBeTold (seen_by state.client.session state.side.page sheets)
 told-with state sheets is low can =
     can_say state.side.page state.client.session sheets is.page (can-tell state is low) can state.client.session is.session (omega arith)
 
@@ -119,7 +125,8 @@ now-marked marks state is = record {
 }
 
 -- the same of a step
-pub well-marked : {before : State} {done : Step} {ids serials sheets : ℕ} (marks : Marks (Entry Saved Inverse)) → Well before done ids serials sheets
+pub well-marked : {before : State} {done : Step} {ids serials sheets : ℕ} (marks : Marks (Entry Saved Inverse))
+    → Well before done ids serials sheets
     → Well before (record { state = with_marks marks done.state; moves = done.moves }) ids serials sheets
 well-marked {done = done} marks well = record {
   now = now-marked marks done.state well.now;
@@ -130,8 +137,10 @@ well-marked {done = done} marks well = record {
 }
 
 -- a step, and then the empty result
-pub well-answered : {before : State} {done : Step} {ids serials sheets : ℕ} (id : ℕ) → is_counted id ≡ true → HasNumbers done.state → Well before done ids serials sheets
+pub well-answered : {before : State} {done : Step} {ids serials sheets : ℕ} (id : ℕ) → is_counted id ≡ true → HasNumbers done.state
+    → Well before done ids serials sheets
     → Well before (answering id done) ids serials sheets
 well-answered {done = done} id small low well =
     more (omega arith) (omega arith) (omega arith)
-    (then-well well (stays-with (replied id Nothing) done.state well.now low (refl, record { id_fits = small; plain = refl; fits = refl; texts = tt; levels = omega arith })))
+    (then-well well (stays-with (replied id Nothing) done.state well.now low
+    (refl, record { id_fits = small; plain = refl; fits = refl; texts = tt; levels = omega arith })))

@@ -1,5 +1,6 @@
 -- The rules that apply are those that stand in the matched list.
-use Rattle.std.proofs.Common.{◌≡◌, ◌⊎◌, ℕ, zero, suc, ◌+◌, Bool, true, false, cond, ◌||◌, List, [], ◌∷◌, Option, Some, None, subst, refl, sym, ap, ◌∙◌, inl, inr, arith}
+use Rattle.std.proofs.Common.{◌≡◌, ◌⊎◌, ℕ, zero, suc, ◌+◌, Bool, true, false, cond, ◌||◌, List, [], ◌∷◌, Option, Some, None, subst, refl}
+use Rattle.std.proofs.Common.{sym, ap, ◌∙◌, inl, inr, arith}
 use Rattle.std.specs.declared.cmp.Ordering.{Ordering}
 use Rattle.std.specs.declared.cmp.Ordering.TheVariants.{Less, Equal, Greater}
 use Rattle.std.specs.Ordering.{nat_cmp, match_ordering, ordering_then}
@@ -18,7 +19,8 @@ use Rattle.sheet_reader.specs.Forms.{RuleForm}
 use Rattle.cascade_match.specs.declared.keys.Key.{Key}
 use Rattle.cascade_match.specs.declared.hits.Hit.{Hit}
 use Rattle.cascade_match.specs.Precedence.{key_of, key_cmp}
-use Rattle.cascade_match.specs.Matched.{places_from, places_matching, greatest, Source, source_of, entry_by, keyed_rule, entries_of_rules, entries_of_sheets, all_entered, matched_entries}
+use Rattle.cascade_match.specs.Matched.{places_from, places_matching, greatest, Source, source_of, entry_by, keyed_rule, entries_of_rules}
+use Rattle.cascade_match.specs.Matched.{entries_of_sheets, all_entered, matched_entries}
 use Rattle.cascade_match.specs.Standing.{PlacedRule, Applies, standing}
 
 -- ---- places of selectors
@@ -32,10 +34,18 @@ pub record PlacedFrom (i : ℕ) (ss : List SelectorForm) (z : Zipper) (p : ℕ) 
   pub matches : selector_matches selector z ≡ true
 
 further : (i : ℕ) (s : SelectorForm) (ss : List SelectorForm) (z : Zipper) (p : ℕ) → PlacedFrom (i + 1) ss z p → PlacedFrom i (s ∷ ss) z p
-further i s ss z p h = record { offset = suc h.offset; selector = h.selector; there = h.there; is = (let at : p ≡ i + 1 + h.offset = h.is in omega arith); matches = h.matches }
+further i s ss z p h = record {
+  offset = suc h.offset;
+  selector = h.selector;
+  there = h.there;
+  is = (let at : p ≡ i + 1 + h.offset = h.is in omega arith);
+  matches = h.matches;
+}
 
-one_place : (i : ℕ) (s : SelectorForm) (ss : List SelectorForm) (z : Zipper) (p : ℕ) → (IsIn p (places_from (i + 1) ss z) → PlacedFrom (i + 1) ss z p)
-    → (b : Bool) → selector_matches s z ≡ b → IsIn p (cond b (i ∷ places_from (i + 1) ss z) (places_from (i + 1) ss z)) → PlacedFrom i (s ∷ ss) z p
+one_place : (i : ℕ) (s : SelectorForm) (ss : List SelectorForm) (z : Zipper) (p : ℕ)
+    → (IsIn p (places_from (i + 1) ss z) → PlacedFrom (i + 1) ss z p)
+    → (b : Bool) → selector_matches s z ≡ b → IsIn p (cond b (i ∷ places_from (i + 1) ss z) (places_from (i + 1) ss z))
+    → PlacedFrom i (s ∷ ss) z p
 one_place i s ss z p rest true e (at_head _) = record { offset = 0; selector = s; there = refl; is = omega arith; matches = e }
 one_place i s ss z p rest true e (in_tail _ _ j) = further i s ss z p (rest j)
 one_place i s ss z p rest false e j = further i s ss z p (rest j)
@@ -44,7 +54,8 @@ pub places-from : (i : ℕ) (ss : List SelectorForm) (z : Zipper) (p : ℕ) → 
 places-from i [] z p there = elim there [ ]
 places-from i (s ∷ ss) z p there = one_place i s ss z p (λ j. places-from (i + 1) ss z p j) (selector_matches s z) refl there
 
-pub places-of : (i k p : ℕ) (ss : List SelectorForm) (z : Zipper) (s : SelectorForm) → p ≡ i + k → slice_get ss k ≡ Some s → selector_matches s z ≡ true → IsIn p (places_from i ss z)
+pub places-of : (i k p : ℕ) (ss : List SelectorForm) (z : Zipper) (s : SelectorForm) → p ≡ i + k → slice_get ss k ≡ Some s
+    → selector_matches s z ≡ true → IsIn p (places_from i ss z)
 places-of i k p [] z s is at e = absurd (cc)
 places-of i zero p (x ∷ ss) z s is at e =
     let same : x ≡ s = cc in
@@ -70,25 +81,32 @@ some_place : (i : ℕ) (ss : List SelectorForm) (z : Zipper) → list_matches ss
 some_place i [] z = refl
 some_place i (s ∷ ss) z = by (selector_matches s z) (some_place (i + 1) ss z)
   where
-    by : (b : Bool) → list_matches ss z ≡ has_some (places_from (i + 1) ss z) → (b || list_matches ss z) ≡ has_some (cond b (i ∷ places_from (i + 1) ss z) (places_from (i + 1) ss z))
+    by : (b : Bool) → list_matches ss z ≡ has_some (places_from (i + 1) ss z)
+        → (b || list_matches ss z) ≡ has_some (cond b (i ∷ places_from (i + 1) ss z) (places_from (i + 1) ss z))
     by true h = refl
     by false h = h
 
-made : (from : Source) (rule : ℕ) (weight : Spec) (ps : List ℕ) → has_some ps ≡ true → entry_by from rule weight ps ≡ Some (key_of from.origin weight from.place rule, record { sheet = from.id; rule = rule; matching = ps })
+made : (from : Source) (rule : ℕ) (weight : Spec) (ps : List ℕ) → has_some ps ≡ true
+    → entry_by from rule weight ps
+    ≡ Some (key_of from.origin weight from.place rule, record { sheet = from.id; rule = rule; matching = ps })
 made from rule weight [] e = absurd (cc)
 made from rule weight (p ∷ ps) e = refl
 
-has_made : (from : Source) (rule : ℕ) (weight : Spec) (ps : List ℕ) (e : Key × Hit) → entry_by from rule weight ps ≡ Some e → has_some ps ≡ true
+has_made : (from : Source) (rule : ℕ) (weight : Spec) (ps : List ℕ) (e : Key × Hit) → entry_by from rule weight ps ≡ Some e
+    → has_some ps ≡ true
 has_made from rule weight [] e at = absurd (cc)
 has_made from rule weight (p ∷ ps) e at = refl
 
 -- a rule that some selector matches has an entry
 pub entry-made : (place rule : ℕ) (s : SheetEntry) (r : RuleForm) (z : Zipper) → list_matches r.selectors z ≡ true
     → keyed_rule (source_of place s) rule r z ≡ Some (standing (record { sheet = place; entry = s; rule = rule; form = r }) z)
-entry-made place rule s r z e = made (source_of place s) rule (greatest r.selectors z) (places_matching r.selectors z) (sym (some_place 0 r.selectors z) ∙ e)
+entry-made place rule s r z e = made (source_of place s) rule (greatest r.selectors z) (places_matching r.selectors z)
+    (sym (some_place 0 r.selectors z) ∙ e)
 
-entry_matches : (from : Source) (rule : ℕ) (r : RuleForm) (z : Zipper) (e : Key × Hit) → keyed_rule from rule r z ≡ Some e → list_matches r.selectors z ≡ true
-entry_matches from rule r z e at = some_place 0 r.selectors z ∙ has_made from rule (greatest r.selectors z) (places_matching r.selectors z) e at
+entry_matches : (from : Source) (rule : ℕ) (r : RuleForm) (z : Zipper) (e : Key × Hit) → keyed_rule from rule r z ≡ Some e
+    → list_matches r.selectors z ≡ true
+entry_matches from rule r z e at = some_place 0 r.selectors z ∙ has_made from rule (greatest r.selectors z)
+    (places_matching r.selectors z) e at
 
 same_some : {A : Type 0} (x y : A) → Some x ≡ Some y → x ≡ y
 same_some x y e = cc
@@ -111,17 +129,25 @@ pub record RuleFrom (from : Source) (i : ℕ) (rs : List RuleForm) (z : Zipper) 
   pub there : slice_get rs offset ≡ Some form
   pub entry : keyed_rule from (i + offset) form z ≡ Some e
 
-further_rule : (from : Source) (i : ℕ) (r : RuleForm) (rs : List RuleForm) (z : Zipper) (e : Key × Hit) → RuleFrom from (i + 1) rs z e → RuleFrom from i (r ∷ rs) z e
+further_rule : (from : Source) (i : ℕ) (r : RuleForm) (rs : List RuleForm) (z : Zipper) (e : Key × Hit) → RuleFrom from (i + 1) rs z e
+    → RuleFrom from i (r ∷ rs) z e
 further_rule from i r rs z e h =
     let at : i + 1 + h.offset ≡ i + suc h.offset = omega arith in
     record { offset = suc h.offset; form = h.form; there = h.there; entry = sym (ap (λ (n : ℕ). keyed_rule from n h.form z) at) ∙ h.entry }
 
-first_rule : (from : Source) (i : ℕ) (r : RuleForm) (rs : List RuleForm) (z : Zipper) (e : Key × Hit) → IsIn e (option_to_list (keyed_rule from i r z)) → RuleFrom from i (r ∷ rs) z e
+first_rule : (from : Source) (i : ℕ) (r : RuleForm) (rs : List RuleForm) (z : Zipper) (e : Key × Hit)
+    → IsIn e (option_to_list (keyed_rule from i r z)) → RuleFrom from i (r ∷ rs) z e
 first_rule from i r rs z e j =
     let first : i ≡ i + 0 = omega arith in
-    record { offset = 0; form = r; there = refl; entry = sym (ap (λ (n : ℕ). keyed_rule from n r z) first) ∙ in_option (keyed_rule from i r z) e j }
+    record {
+      offset = 0;
+      form = r;
+      there = refl;
+      entry = sym (ap (λ (n : ℕ). keyed_rule from n r z) first) ∙ in_option (keyed_rule from i r z) e j;
+    }
 
-rules-from : (from : Source) (i : ℕ) (rs : List RuleForm) (z : Zipper) (e : Key × Hit) → IsIn e (entries_of_rules from i rs z) → RuleFrom from i rs z e
+rules-from : (from : Source) (i : ℕ) (rs : List RuleForm) (z : Zipper) (e : Key × Hit) → IsIn e (entries_of_rules from i rs z)
+    → RuleFrom from i rs z e
 rules-from from i [] z e there = elim there [ ]
 rules-from from i (r ∷ rs) z e there =
     elim (IsIn-append (option_to_list (keyed_rule from i r z)) (entries_of_rules from (i + 1) rs z) there) [
@@ -129,13 +155,16 @@ rules-from from i (r ∷ rs) z e there =
       | inr j ↦ further_rule from i r rs z e (rules-from from (i + 1) rs z e j)
     ]
 
-rules-of : (from : Source) (i k n : ℕ) (rs : List RuleForm) (z : Zipper) (r : RuleForm) (e : Key × Hit) → n ≡ i + k → slice_get rs k ≡ Some r → keyed_rule from n r z ≡ Some e → IsIn e (entries_of_rules from i rs z)
+rules-of : (from : Source) (i k n : ℕ) (rs : List RuleForm) (z : Zipper) (r : RuleForm) (e : Key × Hit) → n ≡ i + k
+    → slice_get rs k ≡ Some r → keyed_rule from n r z ≡ Some e → IsIn e (entries_of_rules from i rs z)
 rules-of from i k n [] z r e is at made = absurd (cc)
 rules-of from i zero n (x ∷ rs) z r e is at made =
     let same : x ≡ r = cc in
     let here : i ≡ n = omega arith in
-    IsIn-append_left _ (option_in (keyed_rule from i x z) e (ap (λ (m : ℕ). keyed_rule from m x z) here ∙ ap (λ (t : RuleForm). keyed_rule from n t z) same ∙ made))
-rules-of from i (suc k) n (x ∷ rs) z r e is at made = IsIn-append_right (option_to_list (keyed_rule from i x z)) (rules-of from (i + 1) k n rs z r e (omega arith) at made)
+    IsIn-append_left _ (option_in (keyed_rule from i x z) e
+    (ap (λ (m : ℕ). keyed_rule from m x z) here ∙ ap (λ (t : RuleForm). keyed_rule from n t z) same ∙ made))
+rules-of from i (suc k) n (x ∷ rs) z r e is at made = IsIn-append_right (option_to_list (keyed_rule from i x z))
+    (rules-of from (i + 1) k n rs z r e (omega arith) at made)
 
 pub record SheetFrom (i : ℕ) (book : List SheetEntry) (z : Zipper) (e : Key × Hit) : Type 0 where
   pub offset : ℕ
@@ -143,15 +172,27 @@ pub record SheetFrom (i : ℕ) (book : List SheetEntry) (z : Zipper) (e : Key ×
   pub there : slice_get book offset ≡ Some entry
   pub rules : IsIn e (entries_of_rules (source_of (i + offset) entry) 0 entry.reading.rules z)
 
-further_sheet : (i : ℕ) (s : SheetEntry) (book : List SheetEntry) (z : Zipper) (e : Key × Hit) → SheetFrom (i + 1) book z e → SheetFrom i (s ∷ book) z e
+further_sheet : (i : ℕ) (s : SheetEntry) (book : List SheetEntry) (z : Zipper) (e : Key × Hit) → SheetFrom (i + 1) book z e
+    → SheetFrom i (s ∷ book) z e
 further_sheet i s book z e h =
     let at : i + 1 + h.offset ≡ i + suc h.offset = omega arith in
-    record { offset = suc h.offset; entry = h.entry; there = h.there; rules = subst (λ (n : ℕ). IsIn e (entries_of_rules (source_of n h.entry) 0 h.entry.reading.rules z)) at h.rules }
+    record {
+      offset = suc h.offset;
+      entry = h.entry;
+      there = h.there;
+      rules = subst (λ (n : ℕ). IsIn e (entries_of_rules (source_of n h.entry) 0 h.entry.reading.rules z)) at h.rules;
+    }
 
-first_sheet : (i : ℕ) (s : SheetEntry) (book : List SheetEntry) (z : Zipper) (e : Key × Hit) → IsIn e (entries_of_rules (source_of i s) 0 s.reading.rules z) → SheetFrom i (s ∷ book) z e
+first_sheet : (i : ℕ) (s : SheetEntry) (book : List SheetEntry) (z : Zipper) (e : Key × Hit)
+    → IsIn e (entries_of_rules (source_of i s) 0 s.reading.rules z) → SheetFrom i (s ∷ book) z e
 first_sheet i s book z e j =
     let first : i ≡ i + 0 = omega arith in
-    record { offset = 0; entry = s; there = refl; rules = subst (λ (n : ℕ). IsIn e (entries_of_rules (source_of n s) 0 s.reading.rules z)) first j }
+    record {
+      offset = 0;
+      entry = s;
+      there = refl;
+      rules = subst (λ (n : ℕ). IsIn e (entries_of_rules (source_of n s) 0 s.reading.rules z)) first j;
+    }
 
 sheets-from : (i : ℕ) (book : List SheetEntry) (z : Zipper) (e : Key × Hit) → IsIn e (entries_of_sheets i book z) → SheetFrom i book z e
 sheets-from i [] z e there = elim there [ ]
@@ -161,13 +202,16 @@ sheets-from i (s ∷ book) z e there =
       | inr j ↦ further_sheet i s book z e (sheets-from (i + 1) book z e j)
     ]
 
-sheets-of : (i k n : ℕ) (book : List SheetEntry) (z : Zipper) (s : SheetEntry) (e : Key × Hit) → n ≡ i + k → slice_get book k ≡ Some s → IsIn e (entries_of_rules (source_of n s) 0 s.reading.rules z) → IsIn e (entries_of_sheets i book z)
+sheets-of : (i k n : ℕ) (book : List SheetEntry) (z : Zipper) (s : SheetEntry) (e : Key × Hit) → n ≡ i + k → slice_get book k ≡ Some s
+    → IsIn e (entries_of_rules (source_of n s) 0 s.reading.rules z) → IsIn e (entries_of_sheets i book z)
 sheets-of i k n [] z s e is at made = absurd (cc)
 sheets-of i zero n (x ∷ book) z s e is at made =
     let same : s ≡ x = cc in
     let here : n ≡ i = omega arith in
-    IsIn-append_left _ (subst (λ (t : SheetEntry). IsIn e (entries_of_rules (source_of i t) 0 t.reading.rules z)) same (subst (λ (m : ℕ). IsIn e (entries_of_rules (source_of m s) 0 s.reading.rules z)) here made))
-sheets-of i (suc k) n (x ∷ book) z s e is at made = IsIn-append_right (entries_of_rules (source_of i x) 0 x.reading.rules z) (sheets-of (i + 1) k n book z s e (omega arith) at made)
+    IsIn-append_left _ (subst (λ (t : SheetEntry). IsIn e (entries_of_rules (source_of i t) 0 t.reading.rules z)) same
+    (subst (λ (m : ℕ). IsIn e (entries_of_rules (source_of m s) 0 s.reading.rules z)) here made))
+sheets-of i (suc k) n (x ∷ book) z s e is at made = IsIn-append_right (entries_of_rules (source_of i x) 0 x.reading.rules z)
+    (sheets-of (i + 1) k n book z s e (omega arith) at made)
 
 -- the rule of which an entry is
 pub record Stands (book : List SheetEntry) (z : Zipper) (e : Key × Hit) : Type 0 where
@@ -182,7 +226,8 @@ stands-from book z e there =
     let sheet : 0 + s.offset ≡ s.offset = omega arith in
     let rule : 0 + r.offset ≡ r.offset = omega arith in
     let matches = entry_matches (source_of (0 + s.offset) s.entry) (0 + r.offset) r.form z e r.entry in
-    let entry = sym (ap (λ (n : ℕ). keyed_rule (source_of n s.entry) (0 + r.offset) r.form z) sheet ∙ ap (λ (n : ℕ). keyed_rule (source_of s.offset s.entry) n r.form z) rule) ∙ r.entry in
+    let entry = sym (ap (λ (n : ℕ). keyed_rule (source_of n s.entry) (0 + r.offset) r.form z) sheet ∙ ap
+    (λ (n : ℕ). keyed_rule (source_of s.offset s.entry) n r.form z) rule) ∙ r.entry in
     record {
       placed = record { sheet = s.offset; entry = s.entry; rule = r.offset; form = r.form };
       applies = record { sheet = s.there; rule = r.there; matches = matches };
@@ -192,7 +237,8 @@ stands-from book z e there =
 pub stands-of : (book : List SheetEntry) (z : Zipper) (p : PlacedRule) → Applies book z p → IsIn (standing p z) (entries_of_sheets 0 book z)
 stands-of book z p applies =
     sheets-of 0 p.sheet p.sheet book z p.entry (standing p z) (omega arith) applies.sheet
-    (rules-of (source_of p.sheet p.entry) 0 p.rule p.rule p.entry.reading.rules z p.form (standing p z) (omega arith) applies.rule (entry-made p.sheet p.rule p.entry p.form z applies.matches))
+    (rules-of (source_of p.sheet p.entry) 0 p.rule p.rule p.entry.reading.rules z p.form (standing p z) (omega arith) applies.rule
+    (entry-made p.sheet p.rule p.entry p.form z applies.matches))
 
 -- ---- an entry put in its place
 
@@ -220,7 +266,8 @@ module _ (k : Key) (v : Hit) where
   abbrev beside : (Key × Hit) → List (Key × Hit) → Ordering → List (Key × Hit)
   beside e es o = match_ordering o ((k, v) ∷ e ∷ es) ((e.0, v) ∷ es) (e ∷ insert_entry key_cmp es k v)
 
-  put_beside : (e : Key × Hit) (es : List (Key × Hit)) → IsIn (k, v) (insert_entry key_cmp es k v) → (o : Ordering) → key_cmp k e.0 ≡ o → IsIn (k, v) (beside e es o)
+  put_beside : (e : Key × Hit) (es : List (Key × Hit)) → IsIn (k, v) (insert_entry key_cmp es k v) → (o : Ordering) → key_cmp k e.0 ≡ o
+      → IsIn (k, v) (beside e es o)
   put_beside e es rest Less is = at_head _
   put_beside e es rest Equal is = subst (λ (w : Key). IsIn (k, v) ((w, v) ∷ es)) (key-exact k e.0 is) (at_head es)
   put_beside e es rest Greater is = in_tail e _ rest
@@ -229,12 +276,15 @@ module _ (k : Key) (v : Hit) where
   put-in [] = at_head []
   put-in (e ∷ es) = put_beside e es (put-in es) (key_cmp k e.0) refl
 
-  head_stays : (e : Key × Hit) (es : List (Key × Hit)) → (e.0 ≡ k → e ≡ (k, v)) → (o : Ordering) → key_cmp k e.0 ≡ o → IsIn e (beside e es o)
+  head_stays : (e : Key × Hit) (es : List (Key × Hit)) → (e.0 ≡ k → e ≡ (k, v)) → (o : Ordering) → key_cmp k e.0 ≡ o
+      → IsIn e (beside e es o)
   head_stays e es same Less is = in_tail (k, v) _ (at_head es)
-  head_stays e es same Equal is = subst (λ (w : Hit). IsIn e ((e.0, w) ∷ es)) (ap (λ (w : Key × Hit). w.1) (same (sym (key-exact k e.0 is)))) (at_head es)
+  head_stays e es same Equal is = subst (λ (w : Hit). IsIn e ((e.0, w) ∷ es))
+      (ap (λ (w : Key × Hit). w.1) (same (sym (key-exact k e.0 is)))) (at_head es)
   head_stays e es same Greater is = at_head _
 
-  tail_stays : (e x : Key × Hit) (es : List (Key × Hit)) → IsIn x es → IsIn x (insert_entry key_cmp es k v) → (o : Ordering) → IsIn x (beside e es o)
+  tail_stays : (e x : Key × Hit) (es : List (Key × Hit)) → IsIn x es → IsIn x (insert_entry key_cmp es k v) → (o : Ordering)
+      → IsIn x (beside e es o)
   tail_stays e x es there rest Less = in_tail (k, v) _ (in_tail e es there)
   tail_stays e x es there rest Equal = in_tail (e.0, v) _ there
   tail_stays e x es there rest Greater = in_tail e _ rest
@@ -249,7 +299,8 @@ module _ (k : Key) (v : Hit) where
   behind_first e x es (at_head _) = at_head _
   behind_first e x es (in_tail _ _ j) = in_tail (k, v) _ (in_tail e _ j)
 
-  from_beside : (e x : Key × Hit) (es : List (Key × Hit)) → (IsIn x (insert_entry key_cmp es k v) → IsIn x ((k, v) ∷ es)) → (o : Ordering) → key_cmp k e.0 ≡ o → IsIn x (beside e es o) → IsIn x ((k, v) ∷ e ∷ es)
+  from_beside : (e x : Key × Hit) (es : List (Key × Hit)) → (IsIn x (insert_entry key_cmp es k v) → IsIn x ((k, v) ∷ es)) → (o : Ordering)
+      → key_cmp k e.0 ≡ o → IsIn x (beside e es o) → IsIn x ((k, v) ∷ e ∷ es)
   from_beside e x es rest Less is j = j
   from_beside e x es rest Equal is j = behind_first e x es (subst (λ (w : Key). IsIn x ((w, v) ∷ es)) (sym (key-exact k e.0 is)) j)
   from_beside e x es rest Greater is (at_head _) = in_tail (k, v) _ (at_head es)
@@ -277,25 +328,31 @@ ApartFrom x es = (y : Key × Hit) → IsIn y es → x.0 ≡ y.0 → x ≡ y
 
 pub all-keeps : (sorted es : List (Key × Hit)) (x : Key × Hit) → ApartFrom x es → IsIn x sorted → IsIn x (all_entered sorted es)
 all-keeps sorted [] x apart there = there
-all-keeps sorted (e ∷ es) x apart there = all-keeps (insert_entry key_cmp sorted e.0 e.1) es x (λ y j. apart y (in_tail e _ j)) (put-keeps e.0 e.1 sorted x there (λ same. apart e (at_head es) same))
+all-keeps sorted (e ∷ es) x apart there = all-keeps (insert_entry key_cmp sorted e.0 e.1) es x (λ y j. apart y (in_tail e _ j))
+    (put-keeps e.0 e.1 sorted x there (λ same. apart e (at_head es) same))
 
 pub all-of : (sorted es : List (Key × Hit)) (x : Key × Hit) → ApartFrom x es → IsIn x es → IsIn x (all_entered sorted es)
 all-of sorted [] x apart there = elim there [ ]
-all-of sorted (e ∷ es) x apart (at_head _) = all-keeps (insert_entry key_cmp sorted e.0 e.1) es e (λ y j. apart y (in_tail e _ j)) (put-in e.0 e.1 sorted)
+all-of sorted (e ∷ es) x apart (at_head _) = all-keeps (insert_entry key_cmp sorted e.0 e.1) es e (λ y j. apart y (in_tail e _ j))
+    (put-in e.0 e.1 sorted)
 all-of sorted (e ∷ es) x apart (in_tail _ _ j) = all-of (insert_entry key_cmp sorted e.0 e.1) es x (λ y i. apart y (in_tail e _ i)) j
 
 -- ---- the whole
 
-same_sheet : (book : List SheetEntry) (z : Zipper) (p q : PlacedRule) → Applies book z p → Applies book z q → p.sheet ≡ q.sheet → p.entry ≡ q.entry
+same_sheet : (book : List SheetEntry) (z : Zipper) (p q : PlacedRule) → Applies book z p → Applies book z q → p.sheet ≡ q.sheet
+    → p.entry ≡ q.entry
 same_sheet book z p q one other e = same_some p.entry q.entry (sym one.sheet ∙ ap (λ (n : ℕ). slice_get book n) e ∙ other.sheet)
 
 -- the key tells the places, and so the rule
-pub apart-standing : (book : List SheetEntry) (z : Zipper) (p q : PlacedRule) → Applies book z p → Applies book z q → (standing p z).0 ≡ (standing q z).0 → standing p z ≡ standing q z
+pub apart-standing : (book : List SheetEntry) (z : Zipper) (p q : PlacedRule) → Applies book z p → Applies book z q
+    → (standing p z).0 ≡ (standing q z).0 → standing p z ≡ standing q z
 apart-standing book z p q one other e =
     let sheet : p.sheet ≡ q.sheet = ap (λ (k : Key). k.sheet) e in
     let rule : p.rule ≡ q.rule = ap (λ (k : Key). k.rule) e in
     let entry : p.entry ≡ q.entry = same_sheet book z p q one other sheet in
-    let form : p.form ≡ q.form = same_some p.form q.form (sym one.rule ∙ ap (λ (s : SheetEntry). slice_get s.reading.rules p.rule) entry ∙ ap (λ (n : ℕ). slice_get q.entry.reading.rules n) rule ∙ other.rule) in
+    let form : p.form ≡ q.form = same_some p.form q.form
+    (sym one.rule ∙ ap (λ (s : SheetEntry). slice_get s.reading.rules p.rule) entry ∙ ap
+    (λ (n : ℕ). slice_get q.entry.reading.rules n) rule ∙ other.rule) in
     λ i. standing (record { sheet = sheet i; entry = entry i; rule = rule i; form = form i }) z
 
 pub each-applied : (book : List SheetEntry) (z : Zipper) (p : PlacedRule) → Applies book z p → IsIn (standing p z) (matched_entries book z)

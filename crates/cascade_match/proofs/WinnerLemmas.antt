@@ -1,6 +1,9 @@
 -- A winner is the greatest of its name.
-use Rattle.std.proofs.Common.{◌≡◌, ◌⊎◌, ℕ, zero, suc, ◌+◌, ◌-◌, ◌<◌, ◌≤◌, nat_lt, Bool, true, false, not, ◌&&◌, ◌||◌, List, [], ◌∷◌, ◌++◌, map, take, length, Option, Some, subst, refl, sym, ap, ◌∙◌, inl, inr, arith, append_assoc, append-nil, length-append}
-use Rattle.std.proofs.lemmas.Bool.{cases_lt, cases_order, and_parts, and_from, and_cases, or_parts, or_from, ltb-true, ltb-false, le-ltb, lt-ltb, not_from_false}
+use Rattle.std.proofs.Common.{◌≡◌, ◌⊎◌, ℕ, zero, suc, ◌+◌, ◌-◌, ◌<◌, ◌≤◌, nat_lt, Bool, true, false, not, ◌&&◌, ◌||◌, List, [], ◌∷◌, ◌++◌}
+use Rattle.std.proofs.Common.{map, take, length, Option, Some, subst, refl, sym, ap, ◌∙◌, inl, inr, arith, append_assoc, append-nil}
+use Rattle.std.proofs.Common.{length-append}
+use Rattle.std.proofs.lemmas.Bool.{cases_lt, cases_order, and_parts, and_from, and_cases, or_parts, or_from, ltb-true, ltb-false, le-ltb}
+use Rattle.std.proofs.lemmas.Bool.{lt-ltb, not_from_false}
 use Rattle.std.proofs.lemmas.List.{length-map}
 use Rattle.std.proofs.lemmas.Option.{slice_get_within}
 use Rattle.std.proofs.lemmas.Slice.Eq.{bytes_eq-Decides}
@@ -33,7 +36,12 @@ module _ {A : Type 0} where
   cut : (xs : List A) (i : ℕ) (x : A) → slice_get xs i ≡ Some x → Cut xs i x
   cut [] i x e = absurd (cc)
   cut (y ∷ xs) zero x e = let same : y ≡ x = cc in record { front = []; back = xs; is = ap (λ (w : A). w ∷ xs) same; long = refl }
-  cut (y ∷ xs) (suc i) x e = let h = cut xs i x e in record { front = y ∷ h.front; back = h.back; is = ap (λ (l : List A). y ∷ l) h.is; long = ap suc h.long }
+  cut (y ∷ xs) (suc i) x e = let h = cut xs i x e in record {
+    front = y ∷ h.front;
+    back = h.back;
+    is = ap (λ (l : List A). y ∷ l) h.is;
+    long = ap suc h.long;
+  }
 
   any-at : (test : A → Bool) (xs : List A) (i : ℕ) (x : A) → list_any test xs ≡ false → slice_get xs i ≡ Some x → test x ≡ false
   any-at test [] i x none e = absurd (cc)
@@ -64,13 +72,15 @@ module _ {A B : Type 0} (f : A → B) where
 
 -- lists, one behind the other
 module _ {A B : Type 0} (f : A → List B) where
-  flat-at : (xs : List A) (b p i : ℕ) (x : A) (y : B) → slice_get xs b ≡ Some x → slice_get (f x) p ≡ Some y → i ≡ length (flat_map f (take b xs)) + p → slice_get (flat_map f xs) i ≡ Some y
+  flat-at : (xs : List A) (b p i : ℕ) (x : A) (y : B) → slice_get xs b ≡ Some x → slice_get (f x) p ≡ Some y
+      → i ≡ length (flat_map f (take b xs)) + p → slice_get (flat_map f xs) i ≡ Some y
   flat-at [] b p i x y at e is = absurd (cc)
   flat-at (w ∷ xs) zero p i x y at e is =
       let same : w ≡ x = cc in
       let here : i ≡ p = omega arith in
       let inside = slice_get_within (f x) p y e in
-      ap (λ (n : ℕ). slice_get (f w ++ flat_map f xs) n) here ∙ ap (λ (v : A). slice_get (f v ++ flat_map f xs) p) same ∙ get-front (f x) (flat_map f xs) p inside ∙ e
+      ap (λ (n : ℕ). slice_get (f w ++ flat_map f xs) n) here ∙ ap (λ (v : A). slice_get (f v ++ flat_map f xs) p) same ∙ get-front (f x)
+      (flat_map f xs) p inside ∙ e
   flat-at (w ∷ xs) (suc b) p i x y at e is =
       let k = length (flat_map f (take b xs)) + p in
       let long = length-append (f w) (flat_map f (take b xs)) in
@@ -88,7 +98,14 @@ module _ {A B : Type 0} (f : A → List B) where
   flat-of : (xs : List A) (i : ℕ) (y : B) → slice_get (flat_map f xs) i ≡ Some y → Flat xs i y
   flat-of [] i y e = absurd (cc)
   flat-of (w ∷ xs) i y e = elim (cases_lt i (length (f w))) [
-    | inl here ↦ record { outer = 0; inner = i; item = w; there = refl; inside = sym (get-front (f w) (flat_map f xs) i here) ∙ e; is = omega arith }
+    | inl here ↦ record {
+      outer = 0;
+      inner = i;
+      item = w;
+      there = refl;
+      inside = sym (get-front (f w) (flat_map f xs) i here) ∙ e;
+      is = omega arith;
+    }
     | inr there ↦ behind (λ k there. flat-of xs k y there) (i - length (f w)) (omega arith)
   ]
     where
@@ -99,7 +116,8 @@ module _ {A B : Type 0} (f : A → List B) where
           let at : k ≡ length (flat_map f (take h.outer xs)) + h.inner = h.is in
           record { outer = suc h.outer; inner = h.inner; item = h.item; there = h.there; inside = h.inside; is = omega arith }
 
-  flat-order : (xs : List A) (b c p : ℕ) (x : A) (y : B) → b < c → slice_get xs b ≡ Some x → slice_get (f x) p ≡ Some y → length (flat_map f (take b xs)) + p < length (flat_map f (take c xs))
+  flat-order : (xs : List A) (b c p : ℕ) (x : A) (y : B) → b < c → slice_get xs b ≡ Some x → slice_get (f x) p ≡ Some y
+      → length (flat_map f (take b xs)) + p < length (flat_map f (take c xs))
   flat-order [] b c p x y less at e = absurd (cc)
   flat-order (w ∷ xs) b zero p x y less at e = absurd (omega arith)
   flat-order (w ∷ xs) zero (suc c) p x y less at e =
@@ -115,9 +133,11 @@ module _ {A B : Type 0} (f : A → List B) where
 
 -- ---- winners among candidates
 
-wins-at : (before front : List Candidate) (r : Candidate) (back : List Candidate) → slice_get (wins_from before (front ++ r ∷ back)) (length front) ≡ Some (is_winner (before ++ front) r back)
+wins-at : (before front : List Candidate) (r : Candidate) (back : List Candidate)
+    → slice_get (wins_from before (front ++ r ∷ back)) (length front) ≡ Some (is_winner (before ++ front) r back)
 wins-at before [] r back = ap (λ (l : List Candidate). Some (is_winner l r back)) (sym (append-nil before))
-wins-at before (x ∷ front) r back = wins-at (before ++ x ∷ []) front r back ∙ ap (λ (l : List Candidate). Some (is_winner l r back)) (append_assoc before (x ∷ []) front)
+wins-at before (x ∷ front) r back = wins-at (before ++ x ∷ []) front r back ∙ ap (λ (l : List Candidate). Some (is_winner l r back))
+    (append_assoc before (x ∷ []) front)
 
 length-wins : (before xs : List Candidate) → length (wins_from before xs) ≡ length xs
 length-wins before [] = refl
@@ -173,21 +193,26 @@ module _ (xs : List Candidate) (n : ℕ) (r : Candidate) (there : slice_get xs n
 
   told : slice_get (wins_from [] xs) n ≡ Some (is_winner whole.front r whole.back)
   told =
-      ap (λ (l : List Candidate). slice_get (wins_from [] l) n) whole.is ∙ ap (λ (i : ℕ). slice_get (wins_from [] (whole.front ++ r ∷ whole.back)) i) (sym whole.long) ∙ wins-at [] whole.front r whole.back
+      ap (λ (l : List Candidate). slice_get (wins_from [] l) n) whole.is ∙ ap
+      (λ (i : ℕ). slice_get (wins_from [] (whole.front ++ r ∷ whole.back)) i) (sym whole.long) ∙ wins-at [] whole.front r whole.back
 
   at_front : (j : ℕ) → j < n → slice_get xs j ≡ slice_get whole.front j
-  at_front j less = ap (λ (l : List Candidate). slice_get l j) whole.is ∙ get-front whole.front (r ∷ whole.back) j (let inside : j < length whole.front = omega (arith, whole.long) in inside)
+  at_front j less = ap (λ (l : List Candidate). slice_get l j) whole.is ∙ get-front whole.front (r ∷ whole.back) j
+      (let inside : j < length whole.front = omega (arith, whole.long) in inside)
 
   at_back : (j k : ℕ) → j ≡ n + suc k → slice_get xs j ≡ slice_get whole.back k
-  at_back j k e = ap (λ (l : List Candidate). slice_get l j) whole.is ∙ get-behind whole.front (r ∷ whole.back) j (suc k) (let at : j ≡ length whole.front + suc k = omega (arith, whole.long) in at)
+  at_back j k e = ap (λ (l : List Candidate). slice_get l j) whole.is ∙ get-behind whole.front (r ∷ whole.back) j (suc k)
+      (let at : j ≡ length whole.front + suc k = omega (arith, whole.long) in at)
 
   pub best-of : slice_get (wins_from [] xs) n ≡ Some true → IsBest xs n r
   best-of won j x at same =
       let is = same_winner (sym told ∙ won) in
       let parts = and_parts (not (list_any (outranks r) whole.front)) (not (list_any (overrides r) whole.back)) is in (
-        λ less. no-outranks r x (any-at (outranks r) whole.front j x (not_true (list_any (outranks r) whole.front) parts.0) (sym (at_front j less) ∙ at)) same,
+        λ less. no-outranks r x (any-at (outranks r) whole.front j x (not_true (list_any (outranks r) whole.front) parts.0)
+            (sym (at_front j less) ∙ at)) same,
         λ less. let k = j - suc n in
-            no-overrides r x (any-at (overrides r) whole.back k x (not_true (list_any (overrides r) whole.back) parts.1) (sym (at_back j k (omega arith)) ∙ at)) same,
+            no-overrides r x (any-at (overrides r) whole.back k x (not_true (list_any (overrides r) whole.back) parts.1)
+            (sym (at_back j k (omega arith)) ∙ at)) same,
       )
 
   pub of-best : IsBest xs n r → slice_get (wins_from [] xs) n ≡ Some true
@@ -195,8 +220,10 @@ module _ (xs : List Candidate) (n : ℕ) (r : Candidate) (there : slice_get xs n
       let before = any-of (outranks r) whole.front (λ j x at.
       let less : j < n = (let inside = slice_get_within whole.front j x at in omega (arith, whole.long)) in
       outranks-no r x (λ same. (best j x (at_front j less ∙ at) same).0 less)) in
-      let after = any-of (overrides r) whole.back (λ k x at. overrides-no r x (λ same. (best (n + suc k) x (at_back (n + suc k) k refl ∙ at) same).1 (omega arith))) in
-      told ∙ ap Some (and_from (not (list_any (outranks r) whole.front)) (not (list_any (overrides r) whole.back)) (not_from_false (list_any (outranks r) whole.front) before) (not_from_false (list_any (overrides r) whole.back) after))
+      let after = any-of (overrides r) whole.back
+      (λ k x at. overrides-no r x (λ same. (best (n + suc k) x (at_back (n + suc k) k refl ∙ at) same).1 (omega arith))) in
+      told ∙ ap Some (and_from (not (list_any (outranks r) whole.front)) (not (list_any (overrides r) whole.back))
+      (not_from_false (list_any (outranks r) whole.front) before) (not_from_false (list_any (overrides r) whole.back) after))
 
 -- a name that is there has a best
 pub record Best (q : List ℕ) (xs : List Candidate) : Type 0 where
@@ -206,7 +233,8 @@ pub record Best (q : List ℕ) (xs : List Candidate) : Type 0 where
   pub name : best.name ≡ q
   pub is : IsBest xs place best
 
-first-best : (q : List ℕ) (x : Candidate) (xs : List Candidate) → x.name ≡ q → ((j : ℕ) (y : Candidate) → slice_get xs j ≡ Some y → y.name ≡ q → y.rank < x.rank) → Best q (x ∷ xs)
+first-best : (q : List ℕ) (x : Candidate) (xs : List Candidate) → x.name ≡ q
+    → ((j : ℕ) (y : Candidate) → slice_get xs j ≡ Some y → y.name ≡ q → y.rank < x.rank) → Best q (x ∷ xs)
 first-best q x xs same low = record { place = 0; best = x; there = refl; name = same; is = each }
   where
     each : IsBest (x ∷ xs) 0 x
@@ -217,26 +245,35 @@ later-best : (q : List ℕ) (x : Candidate) (xs : List Candidate) (b : Best q xs
 later-best q x xs b low = record { place = suc b.place; best = b.best; there = b.there; name = b.name; is = each }
   where
     each : IsBest (x ∷ xs) (suc b.place) b.best
-    each zero y at e = let same : x ≡ y = cc in (λ less. subst (λ (w : Candidate). w.rank ≤ b.best.rank) same (low (ap (λ (w : Candidate). w.name) same ∙ e ∙ b.name)), λ less. absurd (omega arith))
+    each zero y at e = let same : x
+        ≡ y = cc in (
+          λ less. subst (λ (w : Candidate). w.rank ≤ b.best.rank) same
+              (low (ap (λ (w : Candidate). w.name) same ∙ e ∙ b.name)),
+          λ less. absurd (omega arith),
+        )
     each (suc j) y at e = let rest = b.is j y at e in (λ less. rest.0 (omega arith), λ less. rest.1 (omega arith))
 
 pub best-there : (q : List ℕ) (xs : List Candidate) → list_any (λ x. bytes_eq x.name q) xs ≡ true → Best q xs
 best-there q [] e = absurd (cc)
 best-there q (x ∷ xs) e = by (λ there. best-there q xs there) (bytes_eq x.name q) (list_any (λ y. bytes_eq y.name q) xs) refl refl
   where
-    none_more : list_any (λ y. bytes_eq y.name q) xs ≡ false → (j : ℕ) (y : Candidate) → slice_get xs j ≡ Some y → y.name ≡ q → y.rank < x.rank
-    none_more none j y at same = let other = any-at (λ (w : Candidate). bytes_eq w.name q) xs j y none at in let is = same_names y.name q same in absurd (cc)
+    none_more : list_any (λ y. bytes_eq y.name q) xs ≡ false → (j : ℕ) (y : Candidate) → slice_get xs j ≡ Some y → y.name ≡ q
+        → y.rank < x.rank
+    none_more none j y at same = let other = any-at
+        (λ (w : Candidate). bytes_eq w.name q) xs j y none at in let is = same_names y.name q same in absurd (cc)
 
     highest : (b : Best q xs) → b.best.rank < x.rank → (j : ℕ) (y : Candidate) → slice_get xs j ≡ Some y → y.name ≡ q → y.rank < x.rank
     highest b less j y at same = elim (cases_order j b.place) [
-      | inl here ↦ let it : Some y ≡ Some b.best = sym at ∙ ap (λ (n : ℕ). slice_get xs n) here ∙ b.there in let equal : y ≡ b.best = cc in subst (λ (w : Candidate). w.rank < x.rank) (sym equal) less
+      | inl here ↦ let it : Some y ≡ Some b.best = sym at ∙ ap (λ (n : ℕ). slice_get xs n) here ∙ b.there in let equal : y
+          ≡ b.best = cc in subst (λ (w : Candidate). w.rank < x.rank) (sym equal) less
       | inr other ↦ elim other [
         | inl before ↦ let low = (b.is j y at (same ∙ sym b.name)).0 before in omega arith
         | inr after ↦ let low = (b.is j y at (same ∙ sym b.name)).1 after in omega arith
       ]
     ]
 
-    by : (list_any (λ y. bytes_eq y.name q) xs ≡ true → Best q xs) → (here more : Bool) → bytes_eq x.name q ≡ here → list_any (λ y. bytes_eq y.name q) xs ≡ more → Best q (x ∷ xs)
+    by : (list_any (λ y. bytes_eq y.name q) xs ≡ true → Best q xs) → (here more : Bool) → bytes_eq x.name q ≡ here
+        → list_any (λ y. bytes_eq y.name q) xs ≡ more → Best q (x ∷ xs)
     by rest here true same there =
         let b = rest there in
         elim (cases_lt b.best.rank x.rank) [
@@ -248,7 +285,8 @@ best-there q (x ∷ xs) e = by (λ there. best-there q xs there) (bytes_eq x.nam
         named true same b less = first-best q x xs ((bytes_eq-Decides x.name q).0 same) (highest b less)
         named false same b less = later-best q x xs b (λ is. let yes = same_names x.name q is in absurd (cc))
     by rest true false same there = first-best q x xs ((bytes_eq-Decides x.name q).0 same) (none_more there)
-    by rest false false same there = let wrong : (bytes_eq x.name q || list_any (λ y. bytes_eq y.name q) xs) ≡ false = or_from (bytes_eq x.name q) (list_any (λ y. bytes_eq y.name q) xs) same there in absurd (cc)
+    by rest false false same there = let wrong : (bytes_eq x.name q || list_any (λ y. bytes_eq y.name q) xs)
+        ≡ false = or_from (bytes_eq x.name q) (list_any (λ y. bytes_eq y.name q) xs) same there in absurd (cc)
 
 -- ---- declarations by their places
 
@@ -279,7 +317,8 @@ module _ (blocks : List Block) where
   number-is d = let same = same-count (take d.block blocks) in omega arith
 
   pub number-there : (d : PlacedDecl) → IsDeclared blocks d → slice_get (candidates blocks) (number_of blocks d) ≡ Some (as_candidate d)
-  number-there d h = flat-at block_candidates blocks d.block d.place (number_of blocks d) h.among (as_candidate d) h.block (inner-of d h) (number-is d)
+  number-there d h = flat-at block_candidates blocks d.block d.place (number_of blocks d) h.among (as_candidate d) h.block (inner-of d h)
+      (number-is d)
 
   record Numbered (n : ℕ) (x : Candidate) : Type 0 where
     decl : PlacedDecl
@@ -299,16 +338,21 @@ module _ (blocks : List Block) where
         is = m.2;
       }
 
-  before-number : (d e : PlacedDecl) → IsDeclared blocks d → (d.block < e.block) ⊎ ((d.block ≡ e.block) × (d.place < e.place)) → number_of blocks d < number_of blocks e
+  before-number : (d e : PlacedDecl) → IsDeclared blocks d → (d.block < e.block) ⊎ ((d.block ≡ e.block) × (d.place < e.place))
+      → number_of blocks d < number_of blocks e
   before-number d e h (inl less) =
       let order = flat-order block_candidates blocks d.block e.block d.place h.among (as_candidate d) less h.block (inner-of d h) in
       omega (arith, number-is d, number-is e)
   before-number d e h (inr (same, less)) =
-      let at : length (flat_map block_candidates (take d.block blocks)) ≡ length (flat_map block_candidates (take e.block blocks)) = ap (λ (n : ℕ). length (flat_map block_candidates (take n blocks))) same in
+      let at : length (flat_map block_candidates (take d.block blocks))
+      ≡ length (flat_map block_candidates (take e.block blocks)) = ap
+      (λ (n : ℕ). length (flat_map block_candidates (take n blocks))) same in
       omega (arith, number-is d, number-is e)
 
   -- where two declarations stand to one another
-  order-of : (d e : PlacedDecl) → ((d.block ≡ e.block) × (d.place ≡ e.place)) ⊎ (((d.block < e.block) ⊎ ((d.block ≡ e.block) × (d.place < e.place))) ⊎ ((e.block < d.block) ⊎ ((e.block ≡ d.block) × (e.place < d.place))))
+  order-of : (d e : PlacedDecl) → ((d.block ≡ e.block) × (d.place ≡ e.place))
+      ⊎ (((d.block < e.block) ⊎ ((d.block ≡ e.block) × (d.place < e.place)))
+      ⊎ ((e.block < d.block) ⊎ ((e.block ≡ d.block) × (e.place < d.place))))
   order-of d e = elim (cases_order d.block e.block) [
     | inl same ↦ elim (cases_order d.place e.place) [
       | inl equal ↦ inl (same, equal)
@@ -319,8 +363,11 @@ module _ (blocks : List Block) where
 
   same-decl : (d e : PlacedDecl) → IsDeclared blocks d → IsDeclared blocks e → d.block ≡ e.block → d.place ≡ e.place → d ≡ e
   same-decl d e h k block place =
-      let at : number_of blocks d ≡ number_of blocks e = ap (λ (n : ℕ). length (flat_map (λ b. b.declarations) (take n blocks)) + d.place) block ∙ ap (λ (n : ℕ). length (flat_map (λ b. b.declarations) (take e.block blocks)) + n) place in
-      let both : Some (as_candidate d) ≡ Some (as_candidate e) = sym (number-there d h) ∙ ap (λ (n : ℕ). slice_get (candidates blocks) n) at ∙ number-there e k in
+      let at : number_of blocks d ≡ number_of blocks e = ap
+      (λ (n : ℕ). length (flat_map (λ b. b.declarations) (take n blocks)) + d.place) block ∙ ap
+      (λ (n : ℕ). length (flat_map (λ b. b.declarations) (take e.block blocks)) + n) place in
+      let both : Some (as_candidate d)
+      ≡ Some (as_candidate e) = sym (number-there d h) ∙ ap (λ (n : ℕ). slice_get (candidates blocks) n) at ∙ number-there e k in
       let same : as_candidate d ≡ as_candidate e = same_candidate (as_candidate d) (as_candidate e) both in
       λ i. record { block = block i; place = place i; name = (same i).name; rank = (same i).rank }
     where
@@ -329,7 +376,8 @@ module _ (blocks : List Block) where
 
   pub greatest-of : (d : PlacedDecl) → IsDeclared blocks d → slice_get (wins blocks) (number_of blocks d) ≡ Some true → IsGreatest blocks d
   greatest-of d h won e k same =
-      let best = best-of (candidates blocks) (number_of blocks d) (as_candidate d) (number-there d h) won (number_of blocks e) (as_candidate e) (number-there e k) same in
+      let best = best-of (candidates blocks) (number_of blocks d) (as_candidate d) (number-there d h) won (number_of blocks e)
+      (as_candidate e) (number-there e k) same in
       elim (order-of e d) [
         | inl at ↦ inl (same-decl e d k h at.0 at.1)
         | inr other ↦ elim other [
@@ -339,13 +387,19 @@ module _ (blocks : List Block) where
       ]
     where
       before : e.rank ≤ d.rank → (e.block < d.block) ⊎ ((e.block ≡ d.block) × (e.place < d.place)) → IsBelow e d
-      before low less = elim (cases_lt e.rank d.rank) [ inl lower ↦ inl lower | inr high ↦ inr ((let equal : e.rank ≡ d.rank = omega arith in equal), less) ]
+      before low less = elim (cases_lt e.rank d.rank) [
+        | inl lower ↦ inl lower
+        | inr high ↦ inr
+            ((let equal : e.rank ≡ d.rank = omega arith in equal), less)
+      ]
 
   pub of-greatest : (d : PlacedDecl) → IsDeclared blocks d → IsGreatest blocks d → slice_get (wins blocks) (number_of blocks d) ≡ Some true
   of-greatest d h greatest = of-best (candidates blocks) (number_of blocks d) (as_candidate d) (number-there d h) each
     where
-      by : (e : PlacedDecl) → IsDeclared blocks e → (e ≡ d) ⊎ IsBelow e d → (number_of blocks e < number_of blocks d → e.rank ≤ d.rank) × (number_of blocks d < number_of blocks e → e.rank < d.rank)
-      by e k (inl same) = let at = ap (λ (w : PlacedDecl). number_of blocks w) same in (λ less. absurd (omega arith), λ less. absurd (omega arith))
+      by : (e : PlacedDecl) → IsDeclared blocks e → (e ≡ d) ⊎ IsBelow e d
+          → (number_of blocks e < number_of blocks d → e.rank ≤ d.rank) × (number_of blocks d < number_of blocks e → e.rank < d.rank)
+      by e k (inl same) = let at = ap (λ (w : PlacedDecl). number_of blocks w) same in
+          (λ less. absurd (omega arith), λ less. absurd (omega arith))
       by e k (inr (inl lower)) = (λ less. omega arith, λ less. lower)
       by e k (inr (inr (equal, less))) = let order = before-number e d k less in (λ _. omega arith, λ more. absurd (omega arith))
 
@@ -363,10 +417,15 @@ module _ (blocks : List Block) where
   pub winner-there : (d : PlacedDecl) → IsDeclared blocks d → (w : PlacedDecl) × IsWinner blocks w × (w.name ≡ d.name)
   winner-there d h =
       let xs = candidates blocks in
-      let b = best-there d.name xs (any-here (λ (x : Candidate). bytes_eq x.name d.name) xs (number_of blocks d) (as_candidate d) (number-there d h) (same_names d.name d.name refl)) in
+      let b = best-there d.name xs (any-here (λ (x : Candidate). bytes_eq x.name d.name) xs (number_of blocks d) (as_candidate d)
+      (number-there d h) (same_names d.name d.name refl)) in
       let m = numbered b.place b.best b.there in
-      let won : slice_get (wins blocks) b.place ≡ Some true = of-best xs b.place b.best b.there b.is in
-      (m.decl, record { declared = m.declared; told = ap (λ (n : ℕ). slice_get (wins blocks) n) m.number ∙ won }, ap (λ (w : Candidate). w.name) m.is ∙ b.name)
+      let won : slice_get (wins blocks) b.place ≡ Some true = of-best xs b.place b.best b.there b.is in (
+        m.decl,
+        record { declared = m.declared; told = ap (λ (n : ℕ). slice_get (wins blocks) n) m.number ∙ won },
+        ap
+            (λ (w : Candidate). w.name) m.is ∙ b.name,
+      )
 
   not_both : (d e : PlacedDecl) → IsBelow d e → IsBelow e d → ⊥
   not_both d e (inl a) (inl b) = omega arith

@@ -1,13 +1,17 @@
 -- Each kind spells and reads the same.
-use Rattle.std.proofs.Common.{◌≡◌, ℕ, ◌^◌, ◌<◌, pos, negsuc, List, [], ◌∷◌, map, Bool, true, false, nat_lt, Option, Some, None, option_map, option_and_then, bytes_eq, refl, sym, ap, ap₂, ◌∙◌, subst, arith, ltb-true, lt-ltb}
+use Rattle.std.proofs.Common.{◌≡◌, ℕ, ◌^◌, ◌<◌, pos, negsuc, List, [], ◌∷◌, map, Bool, true, false, nat_lt, Option, Some, None, option_map}
+use Rattle.std.proofs.Common.{option_and_then, bytes_eq, refl, sym, ap, ap₂, ◌∙◌, subst, arith, ltb-true, lt-ltb}
 use Rattle.std.proofs.lemmas.Slice.Eq.{bytes_eq-Decides}
 use Rattle.std.specs.Prelude.{if◌then◌else◌, ⊤, ℤ}
 use Rattle.std.specs.List.{list_all}
-use Rattle.serde_json.specs.Data.{unsigned, negative, float, Data, null, boolean, number, string, array, object, Items, no_items, item, Members}
+use Rattle.serde_json.specs.Data.{unsigned, negative, float, Data, null, boolean, number, string, array, object, Items, no_items, item}
+use Rattle.serde_json.specs.Data.{Members}
 use Rattle.serde_json.specs.Find.{of_integer}
 use Rattle.serde_json.specs.View.{items_of}
 use Rattle.cdp_json.specs.Plain.{is_plain, items_are_plain}
-use Rattle.cdp_json.specs.Kinds.{Kind, passes, if_holds, is_counted, as_whole, is_signed, as_signed, as_true, whole, signed, text, flag, only_true, anything, any_items, any_object, refined, through, named, choice, only_text, and_first, read_items, list_of}
+use Rattle.cdp_json.specs.Kinds.{Kind, passes, if_holds, is_counted, as_whole, is_signed, as_signed, as_true, whole, signed, text, flag}
+use Rattle.cdp_json.specs.Kinds.{only_true, anything, any_items, any_object, refined, through, named, choice, only_text, and_first}
+use Rattle.cdp_json.specs.Kinds.{read_items, list_of}
 use Rattle.cdp_json.specs.Lawful.{LawfulKind}
 use Rattle.cdp_json.specs.Faithful.{FaithfulKind}
 use Rattle.cdp_json.proofs.Options.{both, both_parts, if_some, and_then_some, map_some}
@@ -138,7 +142,8 @@ refined_lawful {T} {k} test law = record {
   plain = λ x f l. law.plain x (both_parts (k.fits x) (test x) f).0 l;
 }
 
-passes-through : {S T : Type 0} (o : Option (S → Bool)) (to : T → S) (x : T) → passes (option_map (λ test y. test (to y)) o) x ≡ passes o (to x)
+passes-through : {S T : Type 0} (o : Option (S → Bool)) (to : T → S) (x : T)
+    → passes (option_map (λ test y. test (to y)) o) x ≡ passes o (to x)
 passes-through None to x = refl
 passes-through (Some test) to x = refl
 
@@ -166,7 +171,8 @@ named_is name [] s x e = absurd cc
 named_is name (y ∷ xs) s x e = named_at name y xs s x _ refl (named_is name xs s x) e
 
 -- each value is the first of its name
-pub choice_lawful : {T : Type 0} (name : T → List ℕ) (all : List T) → ((x : T) → named name all (name x) ≡ Some x) → LawfulKind (choice name all)
+pub choice_lawful : {T : Type 0} (name : T → List ℕ) (all : List T) → ((x : T) → named name all (name x) ≡ Some x)
+    → LawfulKind (choice name all)
 choice_lawful name all first = through_lawful name (named name all) (named_is name all) first text_lawful
 
 apart : (k s : List ℕ) (b : Bool) → bytes_eq k s ≡ b → (s ≡ k → ⊥) → b ≡ false
@@ -191,7 +197,8 @@ only_text_lawful s = choice_lawful (λ _. s) (tt ∷ []) (λ x. rw (same_name s)
 
 -- ---- lists
 
-items_take : {T : Type 0} {k : Kind T} → LawfulKind k → (ds : Items) (xs : List T) → read_items k.reads ds ≡ Some xs → (items_of (map k.spell xs) ≡ ds) × (list_all k.fits xs ≡ true)
+items_take : {T : Type 0} {k : Kind T} → LawfulKind k → (ds : Items) (xs : List T) → read_items k.reads ds ≡ Some xs
+    → (items_of (map k.spell xs) ≡ ds) × (list_all k.fits xs ≡ true)
 items_take {T} {k} law no_items xs e =
     let same : [] ≡ xs = cc in
     subst (λ (ys : List T). (items_of (map k.spell ys) ≡ no_items) × (list_all k.fits ys ≡ true)) same (refl, refl)
@@ -200,16 +207,20 @@ items_take {T} {k} law (item d ds) xs e =
     let q = map_some (λ ys. p.0 ∷ ys) (read_items k.reads ds) xs p.2 in
     let first = law.takes d p.0 p.1 in
     let rest = items_take law ds q.0 q.1 in
-    subst (λ (ys : List T). (items_of (map k.spell ys) ≡ item d ds) × (list_all k.fits ys ≡ true)) q.2 (ap₂ item first.0 rest.0, both first.1 rest.1)
+    subst (λ (ys : List T). (items_of (map k.spell ys) ≡ item d ds) × (list_all k.fits ys ≡ true)) q.2
+    (ap₂ item first.0 rest.0, both first.1 rest.1)
 
-items_again : {T : Type 0} (k : Kind T) → ((x : T) → k.fits x ≡ true → k.reads (k.spell x) ≡ Some x) → (xs : List T) → list_all k.fits xs ≡ true → read_items k.reads (items_of (map k.spell xs)) ≡ Some xs
+items_again : {T : Type 0} (k : Kind T) → ((x : T) → k.fits x ≡ true → k.reads (k.spell x) ≡ Some x) → (xs : List T)
+    → list_all k.fits xs ≡ true → read_items k.reads (items_of (map k.spell xs)) ≡ Some xs
 items_again k again [] f = refl
 items_again k again (x ∷ xs) f =
     let p = both_parts (k.fits x) (list_all k.fits xs) f in
     rw (again x p.0, items_again k again xs p.1)
 
-items_plain : {T : Type 0} (k : Kind T) → ((x : T) → k.fits x ≡ true → passes k.loose x ≡ true → is_plain (k.spell x) ≡ true) → (loose : Option (T → Bool)) → k.loose ≡ loose
-    → (xs : List T) → list_all k.fits xs ≡ true → passes (option_map list_all loose) xs ≡ true → items_are_plain (items_of (map k.spell xs)) ≡ true
+items_plain : {T : Type 0} (k : Kind T) → ((x : T) → k.fits x ≡ true → passes k.loose x ≡ true → is_plain (k.spell x) ≡ true)
+    → (loose : Option (T → Bool)) → k.loose ≡ loose
+    → (xs : List T) → list_all k.fits xs ≡ true → passes (option_map list_all loose) xs ≡ true
+    → items_are_plain (items_of (map k.spell xs)) ≡ true
 items_plain k plain loose is [] f l = refl
 items_plain k plain None is (x ∷ xs) f l =
     let p = both_parts (k.fits x) (list_all k.fits xs) f in
@@ -235,7 +246,8 @@ list_lawful {T} {k} law = record {
 pub faithful : {T : Type 0} {k : Kind T} → LawfulKind k → FaithfulKind k
 faithful law = record { fit = λ d x e. (law.takes d x e).1; again = law.again; plain = law.plain }
 
-items_fit : {T : Type 0} (k : Kind T) → ((d : Data) (x : T) → k.reads d ≡ Some x → k.fits x ≡ true) → (ds : Items) (xs : List T) → read_items k.reads ds ≡ Some xs → list_all k.fits xs ≡ true
+items_fit : {T : Type 0} (k : Kind T) → ((d : Data) (x : T) → k.reads d ≡ Some x → k.fits x ≡ true) → (ds : Items) (xs : List T)
+    → read_items k.reads ds ≡ Some xs → list_all k.fits xs ≡ true
 items_fit {T} k fit no_items xs e = let same : [] ≡ xs = cc in subst (λ (ys : List T). list_all k.fits ys ≡ true) same refl
 items_fit {T} k fit (item d ds) xs e =
     let p = and_then_some (λ x. and_first x (read_items k.reads ds)) (k.reads d) xs e in

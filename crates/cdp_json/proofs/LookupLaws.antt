@@ -1,5 +1,6 @@
 -- Fields that are looked up say what was put, and no field is in another's way.
-use Rattle.std.proofs.Common.{◌≡◌, ℕ, List, true, false, not, ◌&&◌, Option, Some, None, Result, Ok, Err, Ordering, Less, Equal, Greater, bytes_eq, nat_cmp, refl, sym, ap, ◌∙◌, subst}
+use Rattle.std.proofs.Common.{◌≡◌, ℕ, List, true, false, not, ◌&&◌, Option, Some, None, Result, Ok, Err, Ordering, Less, Equal, Greater}
+use Rattle.std.proofs.Common.{bytes_eq, nat_cmp, refl, sym, ap, ◌∙◌, subst}
 use Rattle.std.proofs.lemmas.Cmp.{nat_list_cmp_total}
 use Rattle.std.proofs.lemmas.Slice.Eq.{bytes_eq-Decides}
 use Rattle.std.specs.Cmp.Lexicographic.{slice_cmp}
@@ -11,7 +12,8 @@ use Rattle.cdp_json.specs.Plain.{starts_after, is_plain, members_are_plain}
 use Rattle.node_tree.specs.Labels.{is_before}
 use Rattle.cdp_json.specs.Kinds.{Kind, passes, holds_of_some, any_object}
 use Rattle.cdp_json.specs.Fields.{field_from, field_if}
-use Rattle.cdp_json.specs.Lookups.{then_ok, optional, required, Lookups, no_lookups, with_later, look_for, may_look_for, ok_value, object_with, is_none_of}
+use Rattle.cdp_json.specs.Lookups.{then_ok, optional, required, Lookups, no_lookups, with_later, look_for, may_look_for, ok_value}
+use Rattle.cdp_json.specs.Lookups.{object_with, is_none_of}
 use Rattle.cdp_json.specs.Faithful.{FaithfulKind, FaithfulLookups}
 use Rattle.cdp_json.proofs.Options.{both, both_parts, and_then_some}
 
@@ -27,15 +29,18 @@ starts_put : (l k : List ℕ) (d : Data) (ms : Members) → is_before l k ≡ tr
 starts_put l k d no_members p q = p
 starts_put l k d (member m e ms) p q = starts_put_at l k m d e ms (put k d ms) (slice_cmp nat_cmp k m) p q
 
-put_plain_at : (k l : List ℕ) (d e : Data) (ms : Members) (o : Ordering) → slice_cmp nat_cmp k l ≡ o → is_plain d ≡ true → is_plain e ≡ true → starts_after l ms ≡ true → members_are_plain ms ≡ true
-    → members_are_plain (put k d ms) ≡ true → members_are_plain (match_ordering o (member k d (member l e ms)) (member l d ms) (member l e (put k d ms))) ≡ true
+put_plain_at : (k l : List ℕ) (d e : Data) (ms : Members) (o : Ordering) → slice_cmp nat_cmp k l ≡ o → is_plain d ≡ true
+    → is_plain e ≡ true → starts_after l ms ≡ true → members_are_plain ms ≡ true
+    → members_are_plain (put k d ms) ≡ true
+    → members_are_plain (match_ordering o (member k d (member l e ms)) (member l d ms) (member l e (put k d ms))) ≡ true
 put_plain_at k l d e ms Less is p q s r later = both p (both (ap is_lt is) (both q (both s r)))
 put_plain_at k l d e ms Equal is p q s r later = both p (both s r)
 put_plain_at k l d e ms Greater is p q s r later =
     let above : slice_cmp nat_cmp l k ≡ Less = nat_list_cmp_total.antisymm l k ∙ ap ordering_reverse is in
     both q (both (starts_put l k d ms (ap is_lt above) s) later)
 
-pub put_plain : (k : List ℕ) (d : Data) (ms : Members) → is_plain d ≡ true → members_are_plain ms ≡ true → members_are_plain (put k d ms) ≡ true
+pub put_plain : (k : List ℕ) (d : Data) (ms : Members) → is_plain d ≡ true → members_are_plain ms ≡ true
+    → members_are_plain (put k d ms) ≡ true
 put_plain k d no_members p r = both p (both refl refl)
 put_plain k d (member l e ms) p r =
     let q = both_parts (is_plain e) _ r in
@@ -52,17 +57,21 @@ pub same_ok : {A E : Type 0} (x y : A) → ◌≡◌ {A = Result A E} (Ok x) (Ok
 same_ok x y e = cc
 
 pub other_name : (a b : List ℕ) → not (bytes_eq a b) ≡ true → b ≡ a → ⊥
-other_name a b e same = let is : bytes_eq a b ≡ true = (bytes_eq-Decides a b).1 (sym same) in let no : false ≡ true = sym (ap not is) ∙ e in absurd cc
+other_name a b e same = let is : bytes_eq a b ≡ true = (bytes_eq-Decides a b).1 (sym same) in let no : false
+    ≡ true = sym (ap not is) ∙ e in absurd cc
 
-required_is : {A E : Type 0} (k : Kind A) (e : E) (o : Option Data) (x : A) → required e (field_from k.reads o) ≡ Ok x → (d : Data) × (k.reads d ≡ Some x)
+required_is : {A E : Type 0} (k : Kind A) (e : E) (o : Option Data) (x : A) → required e (field_from k.reads o) ≡ Ok x
+    → (d : Data) × (k.reads d ≡ Some x)
 required_is {A} {E} k e None x h = let no : ◌≡◌ {A = Result A E} (Err e) (Ok x) = h in absurd cc
 required_is {A} {E} k e (Some d) x h = at (k.reads d) refl h where
   at : (o : Option A) → k.reads d ≡ o → required e (field_if o) ≡ Ok x → (d : Data) × (k.reads d ≡ Some x)
   at None is g = let no : ◌≡◌ {A = Result A E} (Err e) (Ok x) = g in absurd cc
   at (Some y) is g = (d, is ∙ ap Some (same_ok y x g))
 
-optional_fits : {A E : Type 0} (k : Kind A) → ((d : Data) (x : A) → k.reads d ≡ Some x → k.fits x ≡ true) → (e : E) (o : Option Data) (x : Option A) → optional e (field_from k.reads o) ≡ Ok x → holds_of_some k.fits x ≡ true
-optional_fits {A} {E} k fit e None x h = let same : None ≡ x = same_ok None x h in subst (λ (y : Option A). holds_of_some k.fits y ≡ true) same refl
+optional_fits : {A E : Type 0} (k : Kind A) → ((d : Data) (x : A) → k.reads d ≡ Some x → k.fits x ≡ true)
+    → (e : E) (o : Option Data) (x : Option A) → optional e (field_from k.reads o) ≡ Ok x → holds_of_some k.fits x ≡ true
+optional_fits {A} {E} k fit e None x h = let same : None
+    ≡ x = same_ok None x h in subst (λ (y : Option A). holds_of_some k.fits y ≡ true) same refl
 optional_fits {A} {E} k fit e (Some d) x h = at (k.reads d) refl h where
   at : (o : Option A) → k.reads d ≡ o → optional e (field_if o) ≡ Ok x → holds_of_some k.fits x ≡ true
   at None is g = let no : ◌≡◌ {A = Result (Option A) E} (Err e) (Ok x) = g in absurd cc
@@ -71,16 +80,24 @@ optional_fits {A} {E} k fit e (Some d) x h = at (k.reads d) refl h where
 -- ---- the fields
 
 pub no_lookups_faithful : {E : Type 0} → FaithfulLookups (no_lookups {E = E})
-no_lookups_faithful = record { fit = λ ms x e. refl; again = λ x f. refl; plain = λ x f. refl; skips = λ name d ms n. refl; absent = λ name x n. refl }
+no_lookups_faithful = record {
+  fit = λ ms x e. refl;
+  again = λ x f. refl;
+  plain = λ x f. refl;
+  skips = λ name d ms n. refl;
+  absent = λ name x n. refl;
+}
 
-pub look_for_faithful : {E A B : Type 0} {k : Kind A} {later : Lookups E B} (name : List ℕ) (e : E) → k.loose ≡ None → FaithfulKind k → FaithfulLookups later → is_none_of name later.names ≡ true
+pub look_for_faithful : {E A B : Type 0} {k : Kind A} {later : Lookups E B} (name : List ℕ) (e : E) → k.loose ≡ None → FaithfulKind k
+    → FaithfulLookups later → is_none_of name later.names ≡ true
     → FaithfulLookups (look_for name e k later)
 look_for_faithful {E} {A} {B} {k} {later} name e tight law laws apart = record {
   fit = λ ms x h.
       let p = then_ok_some (required e (field_from k.reads (get_member name ms))) (with_later later.gets ms) x h in
       let q = then_ok_some (later.gets ms) (λ b. Ok (p.0, b)) x p.2 in
       let r = required_is k e (get_member name ms) p.0 p.1 in
-      subst (λ (y : A × B). (k.fits y.0 && later.fits y.1) ≡ true) (same_ok (p.0, q.0) x q.2) (both (law.fit r.0 p.0 r.1) (laws.fit ms q.0 q.1));
+      subst (λ (y : A × B). (k.fits y.0 && later.fits y.1) ≡ true) (same_ok (p.0, q.0) x q.2)
+      (both (law.fit r.0 p.0 r.1) (laws.fit ms q.0 q.1));
   again = λ x f.
       let p = both_parts (k.fits x.0) (later.fits x.1) f in
       let ms = put name (k.spell x.0) (later.puts x.1) in
@@ -92,15 +109,20 @@ look_for_faithful {E} {A} {B} {k} {later} name e tight law laws apart = record {
       put_plain name (k.spell x.0) (later.puts x.1) (law.plain x.0 p.0 (ap (λ o. passes o x.0) tight)) (laws.plain x.1 p.1);
   skips = λ other d ms n.
       let p = both_parts (not (bytes_eq other name)) _ n in
-      ap (λ o. then_ok (required e (field_from k.reads o)) (with_later later.gets (put other d ms))) (get_member-put_other name other d ms (other_name other name p.0))
-      ∙ ap (λ r. then_ok (required e (field_from k.reads (get_member name ms))) (λ a. then_ok r (λ b. Ok (a, b)))) (laws.skips other d ms p.1);
+      ap (λ o. then_ok (required e (field_from k.reads o)) (with_later later.gets (put other d ms)))
+      (get_member-put_other name other d ms (other_name other name p.0))
+      ∙ ap (λ r. then_ok (required e (field_from k.reads (get_member name ms))) (λ a. then_ok r (λ b. Ok (a, b))))
+      (laws.skips other d ms p.1);
   absent = λ other x n.
       let p = both_parts (not (bytes_eq other name)) _ n in
-      get_member-put_other other name (k.spell x.0) (later.puts x.1) (λ same. other_name other name p.0 (sym same)) ∙ laws.absent other x.1 p.1;
+      get_member-put_other other name (k.spell x.0) (later.puts x.1)
+      (λ same. other_name other name p.0 (sym same)) ∙ laws.absent other x.1 p.1;
 }
 
-may_again : {E A B : Type 0} (k : Kind A) (later : Lookups E B) (name : List ℕ) (e : E) → FaithfulKind k → FaithfulLookups later → is_none_of name later.names ≡ true
-    → (x : Option A) (b : B) → holds_of_some k.fits x ≡ true → later.fits b ≡ true → (may_look_for name e k later).gets ((may_look_for name e k later).puts (x, b)) ≡ Ok (x, b)
+may_again : {E A B : Type 0} (k : Kind A) (later : Lookups E B) (name : List ℕ) (e : E) → FaithfulKind k → FaithfulLookups later
+    → is_none_of name later.names ≡ true
+    → (x : Option A) (b : B) → holds_of_some k.fits x ≡ true → later.fits b ≡ true
+    → (may_look_for name e k later).gets ((may_look_for name e k later).puts (x, b)) ≡ Ok (x, b)
 may_again k later name e law laws apart None b f g =
     ap (λ o. then_ok (optional e (field_from k.reads o)) (with_later later.gets (later.puts b))) (laws.absent name b apart)
     ∙ ap (λ r. then_ok r (λ c. Ok (None, c))) (laws.again b g)
@@ -110,17 +132,23 @@ may_again k later name e law laws apart (Some a) b f g =
     ∙ ap (λ o. then_ok (optional e (field_if o)) (with_later later.gets ms)) (law.again a f)
     ∙ ap (λ r. then_ok r (λ c. Ok (Some a, c))) (laws.skips name (k.spell a) (later.puts b) apart ∙ laws.again b g)
 
-may_plain : {E A B : Type 0} (k : Kind A) (later : Lookups E B) (name : List ℕ) (e : E) → k.loose ≡ None → FaithfulKind k → FaithfulLookups later
-    → (x : Option A) (b : B) → holds_of_some k.fits x ≡ true → later.fits b ≡ true → members_are_plain ((may_look_for name e k later).puts (x, b)) ≡ true
+may_plain : {E A B : Type 0} (k : Kind A) (later : Lookups E B) (name : List ℕ) (e : E) → k.loose ≡ None → FaithfulKind k
+    → FaithfulLookups later
+    → (x : Option A) (b : B) → holds_of_some k.fits x ≡ true → later.fits b ≡ true
+    → members_are_plain ((may_look_for name e k later).puts (x, b)) ≡ true
 may_plain k later name e tight law laws None b f g = laws.plain b g
-may_plain k later name e tight law laws (Some a) b f g = put_plain name (k.spell a) (later.puts b) (law.plain a f (ap (λ o. passes o a) tight)) (laws.plain b g)
+may_plain k later name e tight law laws (Some a) b f g = put_plain name (k.spell a) (later.puts b)
+    (law.plain a f (ap (λ o. passes o a) tight)) (laws.plain b g)
 
-may_absent : {E A B : Type 0} (k : Kind A) (later : Lookups E B) (name : List ℕ) (e : E) → FaithfulLookups later → (other : List ℕ) (x : Option A) (b : B) → not (bytes_eq other name) ≡ true
+may_absent : {E A B : Type 0} (k : Kind A) (later : Lookups E B) (name : List ℕ) (e : E) → FaithfulLookups later
+    → (other : List ℕ) (x : Option A) (b : B) → not (bytes_eq other name) ≡ true
     → is_none_of other later.names ≡ true → get_member other ((may_look_for name e k later).puts (x, b)) ≡ None
 may_absent k later name e laws other None b n m = laws.absent other b m
-may_absent k later name e laws other (Some a) b n m = get_member-put_other other name (k.spell a) (later.puts b) (λ same. other_name other name n (sym same)) ∙ laws.absent other b m
+may_absent k later name e laws other (Some a) b n m = get_member-put_other other name (k.spell a) (later.puts b)
+    (λ same. other_name other name n (sym same)) ∙ laws.absent other b m
 
-pub may_look_for_faithful : {E A B : Type 0} {k : Kind A} {later : Lookups E B} (name : List ℕ) (e : E) → k.loose ≡ None → FaithfulKind k → FaithfulLookups later → is_none_of name later.names ≡ true
+pub may_look_for_faithful : {E A B : Type 0} {k : Kind A} {later : Lookups E B} (name : List ℕ) (e : E) → k.loose ≡ None → FaithfulKind k
+    → FaithfulLookups later → is_none_of name later.names ≡ true
     → FaithfulLookups (may_look_for name e k later)
 may_look_for_faithful {E} {A} {B} {k} {later} name e tight law laws apart = record {
   fit = λ ms x h.
@@ -136,8 +164,10 @@ may_look_for_faithful {E} {A} {B} {k} {later} name e tight law laws apart = reco
       may_plain k later name e tight law laws x.0 x.1 p.0 p.1;
   skips = λ other d ms n.
       let p = both_parts (not (bytes_eq other name)) _ n in
-      ap (λ o. then_ok (optional e (field_from k.reads o)) (with_later later.gets (put other d ms))) (get_member-put_other name other d ms (other_name other name p.0))
-      ∙ ap (λ r. then_ok (optional e (field_from k.reads (get_member name ms))) (λ a. then_ok r (λ b. Ok (a, b)))) (laws.skips other d ms p.1);
+      ap (λ o. then_ok (optional e (field_from k.reads o)) (with_later later.gets (put other d ms)))
+      (get_member-put_other name other d ms (other_name other name p.0))
+      ∙ ap (λ r. then_ok (optional e (field_from k.reads (get_member name ms))) (λ a. then_ok r (λ b. Ok (a, b))))
+      (laws.skips other d ms p.1);
   absent = λ other x n.
       let p = both_parts (not (bytes_eq other name)) _ n in
       may_absent k later name e laws other x.0 x.1 p.0 p.1;

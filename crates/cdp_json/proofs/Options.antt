@@ -13,7 +13,8 @@ pub if_some : {T : Type 0} (b : Bool) (x y : T) → (if b then Some x else None)
 if_some true x y e = (refl, cc)
 if_some false x y e = absurd cc
 
-pub and_then_some : {A B : Type 0} (f : A → Option B) (o : Option A) (y : B) → option_and_then f o ≡ Some y → (x : A) × (o ≡ Some x) × (f x ≡ Some y)
+pub and_then_some : {A B : Type 0} (f : A → Option B) (o : Option A) (y : B) → option_and_then f o ≡ Some y
+    → (x : A) × (o ≡ Some x) × (f x ≡ Some y)
 and_then_some f None y e = absurd cc
 and_then_some f (Some x) y e = (x, refl, e)
 

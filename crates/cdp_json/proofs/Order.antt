@@ -1,5 +1,6 @@
 -- Members that go in with ascending names stand in that order.
-use Rattle.std.proofs.Common.{◌≡◌, ℕ, List, [], ◌∷◌, ◌++◌, map, Bool, true, ◌&&◌, Option, Some, None, Ordering, Less, Equal, Greater, nat_cmp, refl, ap, ◌∙◌}
+use Rattle.std.proofs.Common.{◌≡◌, ℕ, List, [], ◌∷◌, ◌++◌, map, Bool, true, ◌&&◌, Option, Some, None, Ordering, Less, Equal, Greater}
+use Rattle.std.proofs.Common.{nat_cmp, refl, ap, ◌∙◌}
 use Rattle.std.proofs.lemmas.Cmp.{nat_list_cmp_total}
 use Rattle.std.specs.Cmp.Lexicographic.{slice_cmp}
 use Rattle.std.specs.Ordering.{is_lt, ordering_reverse}
@@ -61,7 +62,8 @@ names_tail (member l d ms) k ks h =
     let p = both_parts (is_before_all l (k ∷ ks)) (before_names ms (k ∷ ks)) h in
     both (both_parts (is_before l k) (is_before_all l ks) p.0).1 (names_tail ms k ks p.1)
 
-before_names-joined : (ms ns : Members) (ks : List (List ℕ)) → before_names ms ks ≡ true → before_names ns ks ≡ true → before_names (joined ms ns) ks ≡ true
+before_names-joined : (ms ns : Members) (ks : List (List ℕ)) → before_names ms ks ≡ true → before_names ns ks ≡ true
+    → before_names (joined ms ns) ks ≡ true
 before_names-joined no_members ns ks p q = q
 before_names-joined (member l d ms) ns ks p q =
     let r = both_parts (is_before_all l ks) (before_names ms ks) p in
@@ -76,16 +78,20 @@ joined_none (member k d ms) = ap (member k d) (joined_none ms)
 
 -- what is to be shown of the fields fs, after the members that stand already
 abbrev GoInOrder : List Written → Type 0
-GoInOrder fs = (done : Members) → names_ascend fs ≡ true → before_names done (names_of fs) ≡ true → put_all fs done ≡ joined done (members_of fs)
+GoInOrder fs = (done : Members) → names_ascend fs ≡ true → before_names done (names_of fs) ≡ true
+    → put_all fs done ≡ joined done (members_of fs)
 
-put_one : (k : List ℕ) (o : Option Data) (fs : List Written) → GoInOrder fs → (done : Members) → (is_before_all k (names_of fs) && names_ascend fs) ≡ true → before_names done (k ∷ names_of fs) ≡ true
+put_one : (k : List ℕ) (o : Option Data) (fs : List Written) → GoInOrder fs → (done : Members)
+    → (is_before_all k (names_of fs) && names_ascend fs) ≡ true → before_names done (k ∷ names_of fs) ≡ true
     → put_all fs (put_some k o done) ≡ joined done (maybe_member k o (members_of fs))
-put_one k None fs rest done a b = rest done (both_parts (is_before_all k (names_of fs)) (names_ascend fs) a).1 (names_tail done k (names_of fs) b)
+put_one k None fs rest done a b = rest done (both_parts (is_before_all k (names_of fs)) (names_ascend fs) a).1
+    (names_tail done k (names_of fs) b)
 put_one k (Some d) fs rest done a b =
     let p = both_parts (is_before_all k (names_of fs)) (names_ascend fs) a in
     let longer = joined done (member k d no_members) in
     let before = before_names-joined done (member k d no_members) (names_of fs) (names_tail done k (names_of fs) b) (both p.0 refl) in
-    ap (put_all fs) (put_last k d done (names_head done k (names_of fs) b)) ∙ rest longer p.1 before ∙ joined-assoc done (member k d no_members) (members_of fs)
+    ap (put_all fs) (put_last k d done (names_head done k (names_of fs) b)) ∙ rest longer p.1 before ∙ joined-assoc done
+    (member k d no_members) (members_of fs)
 
 put_all-joined : (fs : List Written) → GoInOrder fs
 put_all-joined [] done a b = joined_none done

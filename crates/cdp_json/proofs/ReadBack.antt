@@ -1,5 +1,6 @@
 -- The text of a plain value is UTF-8, and is read as that value.
-use Rattle.std.proofs.Common.{◌≡◌, ℕ, ◌^◌, ◌<◌, ◌≤◌, pos, negsuc, List, [], ◌∷◌, ◌++◌, Bool, true, false, ◌&&◌, ◌||◌, Some, option_map, option_and_then, IsUtf8, decimal, refl, sym, ap, ◌∙◌, arith, append-nil, ltb-true}
+use Rattle.std.proofs.Common.{◌≡◌, ℕ, ◌^◌, ◌<◌, ◌≤◌, pos, negsuc, List, [], ◌∷◌, ◌++◌, Bool, true, false, ◌&&◌, ◌||◌, Some, option_map}
+use Rattle.std.proofs.Common.{option_and_then, IsUtf8, decimal, refl, sym, ap, ◌∙◌, arith, append-nil, ltb-true}
 use Rattle.std.proofs.lemmas.Fmt.{IsAscii-decimal, IsAscii-signed}
 use Rattle.std.proofs.lemmas.Str.{IsUtf8-append, IsUtf8-nil, IsUtf8-from_ascii}
 use Rattle.json.specs.Json as json
@@ -10,13 +11,16 @@ use Rattle.json.proofs.Printed.Decimals.{IsNumber-decimal, IsNumber-signed_decim
 use Rattle.json.proofs.Printed.Tokens.{tokens-print}
 use Rattle.json.proofs.Printed.Trees.{value-json_tokens, ArePrintable-json_tokens}
 use Rattle.json.proofs.Printed.Utf8.{IsUtf8-are_ascii, IsUtf8-quoted, IsUtf8-boolean}
-use Rattle.serde_json.specs.Data.{Num, unsigned, negative, float, Data, null, boolean, number, string, array, object, Items, no_items, item, Members, no_members, member, put, depth, items_depth, members_depth}
+use Rattle.serde_json.specs.Data.{Num, unsigned, negative, float, Data, null, boolean, number, string, array, object, Items, no_items, item}
+use Rattle.serde_json.specs.Data.{Members, no_members, member, put, depth, items_depth, members_depth}
 use Rattle.serde_json.specs.Find.{is_float}
 use Rattle.serde_json.specs.Read.{number_of, of_json, of_items, of_members, max_depth}
-use Rattle.serde_json.specs.Written.{number_text, outline, items_outline, members_outline, has_float, items_have_float, members_have_float, comma_if, compact_text, items_text, members_text}
+use Rattle.serde_json.specs.Written.{number_text, outline, items_outline, members_outline, has_float, items_have_float, members_have_float}
+use Rattle.serde_json.specs.Written.{comma_if, compact_text, items_text, members_text}
 use Rattle.serde_json.proofs.Numbers.{number_of-decimal, number_of-negative}
 use Rattle.serde_json.proofs.Texts.{print-outline}
-use Rattle.cdp_json.specs.Plain.{starts_after, number_is_plain, is_plain, items_are_plain, members_are_plain, HasUtf8, ItemsHaveUtf8, MembersHaveUtf8, ReadsBack, KeepsUtf8}
+use Rattle.cdp_json.specs.Plain.{starts_after, number_is_plain, is_plain, items_are_plain, members_are_plain, HasUtf8, ItemsHaveUtf8}
+use Rattle.cdp_json.specs.Plain.{MembersHaveUtf8, ReadsBack, KeepsUtf8}
 use Rattle.node_tree.specs.Labels.{is_before}
 use Rattle.cdp_json.proofs.Options.{both, both_parts}
 use Rattle.cdp_json.proofs.Order.{joined, joined-assoc, joined_none, before_through, all_before, put_last}
@@ -46,7 +50,8 @@ starts_later : (l k : List ℕ) (ms : Members) → is_before l k ≡ true → st
 starts_later l k no_members p q = refl
 starts_later l k (member m d ms) p q = before_through l k m p q
 
-all_start-later : (done : Members) (k : List ℕ) (d : Data) (ms : Members) → all_start done (member k d ms) ≡ true → starts_after k ms ≡ true → all_start (joined done (member k d no_members)) ms ≡ true
+all_start-later : (done : Members) (k : List ℕ) (d : Data) (ms : Members) → all_start done (member k d ms) ≡ true
+    → starts_after k ms ≡ true → all_start (joined done (member k d no_members)) ms ≡ true
 all_start-later no_members k d ms h s = both s refl
 all_start-later (member l e done) k d ms h s =
     let p = both_parts (is_before l k) (all_start done (member k d ms)) h in
@@ -67,7 +72,8 @@ mutual
       let q = both_parts (is_plain d) (items_are_plain ds) p in
       rw (reads_outline d q.0, reads_items ds q.1)
 
-  reads_members : (ms done : Members) → members_are_plain ms ≡ true → all_start done ms ≡ true → of_members (members_outline ms) done ≡ Some (joined done ms)
+  reads_members : (ms done : Members) → members_are_plain ms ≡ true → all_start done ms ≡ true
+      → of_members (members_outline ms) done ≡ Some (joined done ms)
   reads_members no_members done p s = ap Some (joined_none done)
   reads_members (member k d ms) done p s =
       let q = both_parts (is_plain d) (starts_after k ms && members_are_plain ms) p in
@@ -124,12 +130,14 @@ mutual
   members_depth-outline (member k d ms) = omega (arith, depth-outline d, members_depth-outline ms)
 
 pub tokens-compact_text : (d : Data) → is_plain d ≡ true → tokens (compact_text d) ≡ tree.json_tokens (outline d)
-tokens-compact_text d p = ap tokens (sym (print-outline d)) ∙ tokens-print (tree.json_tokens (outline d)) (ArePrintable-json_tokens (outline d) (has_numbers d p))
+tokens-compact_text d p = ap tokens (sym (print-outline d)) ∙ tokens-print (tree.json_tokens (outline d))
+    (ArePrintable-json_tokens (outline d) (has_numbers d p))
 
 pub read-compact_text : ReadsBack
 read-compact_text d p shallow =
     let whole = value-json_tokens (outline d) max_depth [] (omega (arith, depth-outline d)) in
-    ap (λ ts. option_and_then of_json (option_and_then (λ r. json.if_last r.0 r.1) (json.value max_depth ts))) (tokens-compact_text d p ∙ sym (append-nil (tree.json_tokens (outline d))))
+    ap (λ ts. option_and_then of_json (option_and_then (λ r. json.if_last r.0 r.1) (json.value max_depth ts)))
+    (tokens-compact_text d p ∙ sym (append-nil (tree.json_tokens (outline d))))
     ∙ ap (λ r. option_and_then of_json (option_and_then (λ q. json.if_last q.0 q.1) r)) whole
     ∙ reads_outline d p
 
@@ -138,7 +146,8 @@ read-compact_text d p shallow =
 utf8_number : (n : Num) → number_is_plain n ≡ true → IsUtf8 (number_text n)
 utf8_number (unsigned n) p = IsUtf8-from_ascii (decimal n) (IsAscii-decimal n (ltb-true n (2 ^ 64) p))
 utf8_number (negative (pos n)) p = absurd cc
-utf8_number (negative (negsuc n)) p = let below : n < 2 ^ 63 = ltb-true n (2 ^ 63) p in IsUtf8-from_ascii _ (IsAscii-signed (negsuc n) below)
+utf8_number (negative (negsuc n)) p = let below : n < 2 ^ 63 = ltb-true n (2 ^ 63) p in IsUtf8-from_ascii _
+    (IsAscii-signed (negsuc n) below)
 utf8_number (float x) p = absurd cc
 
 utf8_comma : (later : Bool) → IsUtf8 (comma_if later)
@@ -172,7 +181,8 @@ mutual
       let rest = compact_text d ++ members_text true ms in
       IsUtf8-append (comma_if later) (quoted k ++ 58 ∷ rest) (utf8_comma later)
       (IsUtf8-append (quoted k) (58 ∷ rest) (IsUtf8-quoted k u.0)
-      (utf8_after 58 rest (IsUtf8-are_ascii (58 ∷ []) refl) (IsUtf8-append (compact_text d) (members_text true ms) (IsUtf8-compact d q.0 u.1) (IsUtf8-members true ms r.1 u.2))))
+      (utf8_after 58 rest (IsUtf8-are_ascii (58 ∷ []) refl)
+      (IsUtf8-append (compact_text d) (members_text true ms) (IsUtf8-compact d q.0 u.1) (IsUtf8-members true ms r.1 u.2))))
 
 pub IsUtf8-compact_text : KeepsUtf8
 IsUtf8-compact_text = IsUtf8-compact

@@ -1,5 +1,7 @@
 -- The value that is read from a text: where its numbers are whole, it is plain, so its own text gives it back.
-use Rattle.std.proofs.Common.{◌≡◌, ℕ, zero, suc, ◌^◌, ◌==◌, List, drop, Bool, true, false, ◌&&◌, ◌||◌, nat_lt, nat_le, cond, pos, Option, Some, None, option_and_then, option_map, Ordering, Less, Equal, Greater, nat_cmp, refl, ◌∙◌, ap, subst, arith, lt-ltb}
+use Rattle.std.proofs.Common.{◌≡◌, ℕ, zero, suc, ◌^◌, ◌==◌, List, drop, Bool, true, false, ◌&&◌, ◌||◌, nat_lt, nat_le, cond, pos, Option}
+use Rattle.std.proofs.Common.{Some, None, option_and_then, option_map, Ordering, Less, Equal, Greater, nat_cmp, refl, ◌∙◌, ap, subst, arith}
+use Rattle.std.proofs.Common.{lt-ltb}
 use Rattle.std.specs.Prelude.{⊤, Float, slice_index}
 use Rattle.std.specs.Float.{binary64, float_is_finite}
 use Rattle.std.specs.Float.Numeral.{minus, Parts, scan_numeral as scan, numeral_digits as digits_of, nearest_float as nearest}
@@ -35,16 +37,19 @@ tame_float : (b : Bool) (x : Float) → IfSome TameNumber (cond b (Some (float x
 tame_float true x = refl
 tame_float false x = tt
 
-tame_choice : (b c : Bool) (n : Num) (x : Float) → (b ≡ true → number_is_plain n ≡ true) → is_float n ≡ false → IfSome TameNumber (cond b (Some n) (cond c (Some (float x)) None))
+tame_choice : (b c : Bool) (n : Num) (x : Float) → (b ≡ true → number_is_plain n ≡ true) → is_float n ≡ false
+    → IfSome TameNumber (cond b (Some n) (cond c (Some (float x)) None))
 tame_choice true c n x is whole = ap (λ f. f || number_is_plain n) whole ∙ is refl
 tame_choice false c n x is whole = tame_float c x
 
 tame_from : (sign : Bool) (p : Parts) → IfSome TameNumber (number_from sign p)
 tame_from false p =
-    tame_choice (is_integer p && nat_lt (digits_of p) (2 ^ 64)) (float_is_finite (nearest binary64 false p)) (unsigned (digits_of p)) (nearest binary64 false p)
+    tame_choice (is_integer p && nat_lt (digits_of p) (2 ^ 64)) (float_is_finite (nearest binary64 false p)) (unsigned (digits_of p))
+    (nearest binary64 false p)
     (λ e. (both_parts (is_integer p) (nat_lt (digits_of p) (2 ^ 64)) e).1) refl
 tame_from true p =
-    tame_choice (is_integer p && nat_lt 0 (digits_of p) && nat_le (digits_of p) (2 ^ 63)) (float_is_finite (nearest binary64 true p)) (negative (neg_ℤ (pos (digits_of p)))) (nearest binary64 true p)
+    tame_choice (is_integer p && nat_lt 0 (digits_of p) && nat_le (digits_of p) (2 ^ 63)) (float_is_finite (nearest binary64 true p))
+    (negative (neg_ℤ (pos (digits_of p)))) (nearest binary64 true p)
     (λ e.
     let q = both_parts (is_integer p && nat_lt 0 (digits_of p)) (nat_le (digits_of p) (2 ^ 63)) e in
     below_signed (digits_of p) (both_parts (is_integer p) (nat_lt 0 (digits_of p)) q.0).1 q.1) refl
@@ -56,7 +61,8 @@ tame_either false x y p q = q
 tame_number : (s : List ℕ) → IfSome TameNumber (number_of s)
 unfolding number_of
 tame_number s =
-    tame_either (slice_index s 0 == minus) (number_from true (scan (drop 1 s))) (number_from false (scan s)) (tame_from true (scan (drop 1 s))) (tame_from false (scan s))
+    tame_either (slice_index s 0 == minus) (number_from true (scan (drop 1 s))) (number_from false (scan s))
+    (tame_from true (scan (drop 1 s))) (tame_from false (scan s))
 
 -- ---- values
 
@@ -93,7 +99,8 @@ starts_put l k d (member m e ms) p q = starts_at (slice_cmp nat_cmp k m) l k m d
 before_turned : (k l : List ℕ) → slice_cmp nat_cmp k l ≡ Greater → is_before l k ≡ true
 before_turned k l e = ap is_lt (nat_list_cmp_total.antisymm l k ∙ ap ordering_reverse e)
 
-put_at : (o : Ordering) (k l : List ℕ) (d e : Data) (ms later : Members) → slice_cmp nat_cmp k l ≡ o → Tame d → Tame e → starts_after l ms ≡ true → MembersTame ms
+put_at : (o : Ordering) (k l : List ℕ) (d e : Data) (ms later : Members) → slice_cmp nat_cmp k l ≡ o → Tame d → Tame e
+    → starts_after l ms ≡ true → MembersTame ms
     → (is_before l k ≡ true → starts_after l later ≡ true) → MembersTame later
     → MembersTame (match_ordering o (member k d (member l e ms)) (member l d ms) (member l e later))
 put_at Less k l d e ms later is td te s tm starts tl = (td, ap is_lt is, (te, s, tm))
@@ -103,7 +110,8 @@ put_at Greater k l d e ms later is td te s tm starts tl = (te, starts (before_tu
 put_tame : (k : List ℕ) (d : Data) (ms : Members) → Tame d → MembersTame ms → MembersTame (put k d ms)
 put_tame k d no_members td tm = (td, refl, tt)
 put_tame k d (member l e ms) td tm =
-    put_at (slice_cmp nat_cmp k l) k l d e ms (put k d ms) refl td tm.0 tm.1 tm.2 (λ p. starts_put l k d ms p tm.1) (put_tame k d ms td tm.2)
+    put_at (slice_cmp nat_cmp k l) k l d e ms (put k d ms) refl td tm.0 tm.1 tm.2 (λ p. starts_put l k d ms p tm.1)
+    (put_tame k d ms td tm.2)
 
 mutual
   json_tame : (j : Json) → IfSome Tame (of_json j)
@@ -112,7 +120,8 @@ mutual
   json_tame (json.number s) = map_keeps TameNumber Tame values.number (λ n t. t) (number_of s) (tame_number s)
   json_tame (json.string s) = tt
   json_tame (json.array js) = map_keeps ItemsTame Tame values.array (λ ds t. t) (of_items js) (items_tame js)
-  json_tame (json.object ms) = map_keeps MembersTame Tame values.object (λ ds t. t) (of_members ms no_members) (members_tame ms no_members tt)
+  json_tame (json.object ms) = map_keeps MembersTame Tame values.object (λ ds t. t) (of_members ms no_members)
+      (members_tame ms no_members tt)
 
   items_tame : (js : json.Items) → IfSome ItemsTame (of_items js)
   items_tame json.no_items = tt

@@ -1,12 +1,14 @@
 -- The value that is read from UTF-8: each of its texts and names is UTF-8.
-use Rattle.std.proofs.Common.{◌≡◌, ℕ, zero, suc, List, [], ◌∷◌, length, Option, Some, None, option_and_then, option_map, Ordering, Less, Equal, Greater, nat_cmp, IsUtf8, subst}
+use Rattle.std.proofs.Common.{◌≡◌, ℕ, zero, suc, List, [], ◌∷◌, length, Option, Some, None, option_and_then, option_map, Ordering, Less}
+use Rattle.std.proofs.Common.{Equal, Greater, nat_cmp, IsUtf8, subst}
 use Rattle.std.specs.Prelude.{⊤}
 use Rattle.std.specs.Ordering.{match_ordering}
 use Rattle.std.specs.Cmp.Lexicographic.{slice_cmp}
 use Rattle.json.specs.Token.{Token, begin_object, end_object, begin_array, end_array, key, string, number, boolean, null, bad}
 use Rattle.json.specs.Lex.{tokens}
 use Rattle.json.specs.Json as json
-use Rattle.json.specs.Json.{Json, Parse, parse_map, after_end_array, read_key, items_step, members_step, items, members, value_with, value, if_last}
+use Rattle.json.specs.Json.{Json, Parse, parse_map, after_end_array, read_key, items_step, members_step, items, members, value_with, value}
+use Rattle.json.specs.Json.{if_last}
 use Rattle.serde_json.specs.Data as values
 use Rattle.serde_json.specs.Data.{Data, Items, Members, no_members, member, put}
 use Rattle.serde_json.specs.Read.{number_of, of_json, of_items, of_members, max_depth, read}
@@ -39,11 +41,13 @@ Gives Q (Some p) = Q p.0 × TextTokens p.1
 abbrev Keeps : {A : Type 0} → (A → Type 0) → Parse A → Type 0
 Keeps Q p = (ts : List Token) → TextTokens ts → Gives Q (p ts)
 
-mapped : {A B : Type 0} (P : A → Type 0) (Q : B → Type 0) (f : A → B) → ((a : A) → P a → Q (f a)) → (o : Option (A × List Token)) → Gives P o → Gives Q (parse_map f o)
+mapped : {A B : Type 0} (P : A → Type 0) (Q : B → Type 0) (f : A → B) → ((a : A) → P a → Q (f a)) → (o : Option (A × List Token))
+    → Gives P o → Gives Q (parse_map f o)
 mapped P Q f g None h = tt
 mapped P Q f g (Some p) h = (g p.0 h.0, h.1)
 
-and_more : {B : Type 0} (Q : B → Type 0) (f : Json → B → B) → ((j : Json) (b : B) → TextJson j → Q b → Q (f j b)) → (more : Parse B) → Keeps Q more
+and_more : {B : Type 0} (Q : B → Type 0) (f : Json → B → B) → ((j : Json) (b : B) → TextJson j → Q b → Q (f j b)) → (more : Parse B)
+    → Keeps Q more
     → (o : Option (Json × List Token)) → Gives TextJson o → Gives Q (option_and_then (λ q. parse_map (f q.0) (more q.1)) o)
 and_more Q f g more keeps None h = tt
 and_more Q f g more keeps (Some q) h = mapped Q Q (f q.0) (λ b. g q.0 b h.0) _ (keeps q.1 h.1)
@@ -84,7 +88,8 @@ naming (null ∷ ts) h = tt
 naming (bad ∷ ts) h = tt
 
 module _ (p : Parse Json) (keeps : Keeps TextJson p) where
-  item_turn : (more : Parse json.Items) → Keeps TextItems more → (ts : List Token) → TextTokens ts → (o : Option (List Token)) → Rest o → Gives TextItems (items_step p more ts o)
+  item_turn : (more : Parse json.Items) → Keeps TextItems more → (ts : List Token) → TextTokens ts → (o : Option (List Token)) → Rest o
+      → Gives TextItems (items_step p more ts o)
   item_turn more again ts h (Some r) q = (tt, q)
   item_turn more again ts h None q = and_more TextItems json.item (λ j b x y. (x, y)) more again (p ts) (keeps ts h)
 
@@ -104,7 +109,8 @@ module _ (p : Parse Json) (keeps : Keeps TextJson p) where
   Keeps-members zero ts h = tt
   Keeps-members (suc n) ts h = member_turn (members p n) (Keeps-members n) (read_key ts) (naming ts h)
 
-Keeps-value_with : (a : Parse json.Items) (o : Parse json.Members) → Keeps TextItems a → Keeps TextMembers o → Keeps TextJson (value_with a o)
+Keeps-value_with : (a : Parse json.Items) (o : Parse json.Members) → Keeps TextItems a → Keeps TextMembers o
+    → Keeps TextJson (value_with a o)
 Keeps-value_with a o p q [] h = tt
 Keeps-value_with a o p q (begin_object ∷ ts) h = mapped TextMembers TextJson json.object (λ m x. x) _ (q ts h.1)
 Keeps-value_with a o p q (end_object ∷ ts) h = tt
@@ -130,11 +136,13 @@ abbrev pub IfSome : {A : Type 0} → (A → Type 0) → Option A → Type 0
 IfSome Q None = ⊤
 IfSome Q (Some x) = Q x
 
-pub map_keeps : {A B : Type 0} (P : A → Type 0) (Q : B → Type 0) (f : A → B) → ((a : A) → P a → Q (f a)) → (o : Option A) → IfSome P o → IfSome Q (option_map f o)
+pub map_keeps : {A B : Type 0} (P : A → Type 0) (Q : B → Type 0) (f : A → B) → ((a : A) → P a → Q (f a)) → (o : Option A) → IfSome P o
+    → IfSome Q (option_map f o)
 map_keeps P Q f g None h = tt
 map_keeps P Q f g (Some x) h = g x h
 
-pub then_keeps : {A B : Type 0} (P : A → Type 0) (Q : B → Type 0) (f : A → Option B) → ((a : A) → P a → IfSome Q (f a)) → (o : Option A) → IfSome P o → IfSome Q (option_and_then f o)
+pub then_keeps : {A B : Type 0} (P : A → Type 0) (Q : B → Type 0) (f : A → Option B) → ((a : A) → P a → IfSome Q (f a)) → (o : Option A)
+    → IfSome P o → IfSome Q (option_and_then f o)
 then_keeps P Q f g None h = tt
 then_keeps P Q f g (Some x) h = g x h
 
@@ -142,7 +150,8 @@ any_number : (o : Option values.Num) → IfSome HasUtf8 (option_map values.numbe
 any_number None = tt
 any_number (Some n) = tt
 
-put_at : (o : Ordering) (k l : List ℕ) (d e : Data) (ms : Members) → IsUtf8 k → HasUtf8 d → IsUtf8 l → HasUtf8 e → MembersHaveUtf8 ms → MembersHaveUtf8 (put k d ms)
+put_at : (o : Ordering) (k l : List ℕ) (d e : Data) (ms : Members) → IsUtf8 k → HasUtf8 d → IsUtf8 l → HasUtf8 e → MembersHaveUtf8 ms
+    → MembersHaveUtf8 (put k d ms)
     → MembersHaveUtf8 (match_ordering o (member k d (member l e ms)) (member l d ms) (member l e (put k d ms)))
 put_at Less k l d e ms uk ud ul ue um up = (uk, ud, (ul, ue, um))
 put_at Equal k l d e ms uk ud ul ue um up = (ul, ud, um)
@@ -159,15 +168,18 @@ mutual
   json_utf8 (json.number s) h = any_number (number_of s)
   json_utf8 (json.string s) h = h
   json_utf8 (json.array js) h = map_keeps ItemsHaveUtf8 HasUtf8 values.array (λ ds u. u) (of_items js) (items_utf8 js h)
-  json_utf8 (json.object ms) h = map_keeps MembersHaveUtf8 HasUtf8 values.object (λ ds u. u) (of_members ms no_members) (members_utf8 ms no_members h tt)
+  json_utf8 (json.object ms) h = map_keeps MembersHaveUtf8 HasUtf8 values.object (λ ds u. u) (of_members ms no_members)
+      (members_utf8 ms no_members h tt)
 
   items_utf8 : (js : json.Items) → TextItems js → IfSome ItemsHaveUtf8 (of_items js)
   items_utf8 json.no_items h = tt
   items_utf8 (json.item j js) h =
       then_keeps HasUtf8 ItemsHaveUtf8 (λ d. option_map (values.item d) (of_items js))
-      (λ d u. map_keeps ItemsHaveUtf8 ItemsHaveUtf8 (values.item d) (λ ds v. (u, v)) (of_items js) (items_utf8 js h.1)) (of_json j) (json_utf8 j h.0)
+      (λ d u. map_keeps ItemsHaveUtf8 ItemsHaveUtf8 (values.item d) (λ ds v. (u, v)) (of_items js) (items_utf8 js h.1)) (of_json j)
+      (json_utf8 j h.0)
 
-  members_utf8 : (ms : json.Members) (found : Members) → TextMembers ms → MembersHaveUtf8 found → IfSome MembersHaveUtf8 (of_members ms found)
+  members_utf8 : (ms : json.Members) (found : Members) → TextMembers ms → MembersHaveUtf8 found
+      → IfSome MembersHaveUtf8 (of_members ms found)
   members_utf8 json.no_members found h u = u
   members_utf8 (json.member k j ms) found h u =
       then_keeps HasUtf8 MembersHaveUtf8 (λ d. of_members ms (put k d found))

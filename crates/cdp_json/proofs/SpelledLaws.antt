@@ -15,6 +15,8 @@ pub one_spelling : {T : Type 0} {k : Kind T} → LawfulKind k → (x y : T) → 
 one_spelling {T} {k} law x y f g e = same_some x y (sym (law.again x f) ∙ ap k.reads e ∙ law.again y g)
 
 -- the text of what was spelled is read as it
-pub read-spelled : {T : Type 0} {k : Kind T} → LawfulKind k → (x : T) → k.fits x ≡ true → passes k.loose x ≡ true → depth (k.spell x) ≤ max_depth
+pub read-spelled : {T : Type 0} {k : Kind T} → LawfulKind k → (x : T) → k.fits x ≡ true → passes k.loose x ≡ true
+    → depth (k.spell x) ≤ max_depth
     → option_and_then k.reads (read (compact_text (k.spell x))) ≡ Some x
-read-spelled {T} {k} law x f l shallow = ap (option_and_then k.reads) (read-compact_text (k.spell x) (law.plain x f l) shallow) ∙ law.again x f
+read-spelled {T} {k} law x f l shallow = ap (option_and_then k.reads)
+    (read-compact_text (k.spell x) (law.plain x f l) shallow) ∙ law.again x f

@@ -1,17 +1,23 @@
 -- The tokens of JSON that is UTF-8: each of their texts is UTF-8.
-use Rattle.std.proofs.Common.{◌≡◌, ℕ, suc, ◌+◌, ◌-◌, ◌*◌, ◌<◌, ◌≤◌, ◌==◌, nat_lt, Bool, true, false, cond, ◌&&◌, List, [], ◌∷◌, ◌++◌, length, get_or, take, drop, append_assoc, append-nil, Option, Some, None, option_and_then, IsUtf8, refl, sym, ap, ◌∙◌, inl, inr, subst, arith, ltb-true, length-append}
+use Rattle.std.proofs.Common.{◌≡◌, ℕ, suc, ◌+◌, ◌-◌, ◌*◌, ◌<◌, ◌≤◌, ◌==◌, nat_lt, Bool, true, false, cond, ◌&&◌, List, [], ◌∷◌, ◌++◌}
+use Rattle.std.proofs.Common.{length, get_or, take, drop, append_assoc, append-nil, Option, Some, None, option_and_then, IsUtf8, refl, sym}
+use Rattle.std.proofs.Common.{ap, ◌∙◌, inl, inr, subst, arith, ltb-true, length-append}
 use Rattle.std.specs.Prelude.{⊤}
 use Rattle.std.specs.Char.{IsScalar, InScalarRange, digit_value, is_digit, encode_utf8}
 use Rattle.std.proofs.Math.Seq.{get_or-append_seam, take-append_seam, drop-append_seam}
 use Rattle.std.proofs.lemmas.Bool.{cases_lt}
 use Rattle.std.proofs.lemmas.Bool.Decides.{nat_tests}
-use Rattle.std.proofs.lemmas.Str.{IsUtf8-append, IsUtf8-encode, IsUtf8-from_ascii, IsUtf8-take, IsUtf8-drop, IsCharBoundary-before_ascii, IsCharBoundary-after_ascii}
+use Rattle.std.proofs.lemmas.Str.{IsUtf8-append, IsUtf8-encode, IsUtf8-from_ascii, IsUtf8-take, IsUtf8-drop, IsCharBoundary-before_ascii}
+use Rattle.std.proofs.lemmas.Str.{IsCharBoundary-after_ascii}
 use Rattle.std.proofs.lemmas.Str.Ascii.{IsAscii-nil, IsAscii-cons}
-use Rattle.json.specs.Text.{code_unit, short_escape, is_high_surrogate, is_low_surrogate, surrogate_pair, Within, plain, after_backslash, after_u, after_high, prepend, content}
+use Rattle.json.specs.Text.{code_unit, short_escape, is_high_surrogate, is_low_surrogate, surrogate_pair, Within, plain, after_backslash}
+use Rattle.json.specs.Text.{after_u, after_high, prepend, content}
 use Rattle.json.specs.Token.{Token, begin_object, end_object, begin_array, end_array, key, string, number, boolean, null, bad}
 use Rattle.json.specs.Word.{head, is_operator, is_space, ends_word, after_number, number_before, word}
-use Rattle.json.specs.Lex.{Lexeme, token, comma, colon, Class, quote, backslash, operator, space, other, class, operator_lexeme, string_token, Mode, between, in_word, in_string, in_escape, lex_byte, lex}
-use Rattle.json.specs.Lex.{Place, fresh, after_value, after_comma, after_key, begins_colon, may_begin, may_close, if_allowed, place_token, punctuate, tokens}
+use Rattle.json.specs.Lex.{Lexeme, token, comma, colon, Class, quote, backslash, operator, space, other, class, operator_lexeme}
+use Rattle.json.specs.Lex.{string_token, Mode, between, in_word, in_string, in_escape, lex_byte, lex}
+use Rattle.json.specs.Lex.{Place, fresh, after_value, after_comma, after_key, begins_colon, may_begin, may_close, if_allowed, place_token}
+use Rattle.json.specs.Lex.{punctuate, tokens}
 use Rattle.cdp_json.proofs.Options.{both_parts, and_then_some, map_some}
 
 -- ---- the content of a string
@@ -27,7 +33,8 @@ around p x xs u small =
     let before : take (length p) bs ≡ p = take-append_seam p (x ∷ xs) in
     let one : length (p ++ x ∷ []) ≡ length p + 1 = length-append p (x ∷ []) in
     let after : drop (length p + 1) bs ≡ xs =
-    ap (λ n. drop n bs) (sym one) ∙ ap (drop (length (p ++ x ∷ []))) (sym (append_assoc p (x ∷ []) xs)) ∙ drop-append_seam (p ++ x ∷ []) xs in (
+    ap (λ n. drop n bs) (sym one) ∙ ap (drop (length (p ++ x ∷ []))) (sym (append_assoc p (x ∷ []) xs)) ∙ drop-append_seam
+    (p ++ x ∷ []) xs in (
       subst IsUtf8 before (IsUtf8-take bs (length p) u (IsCharBoundary-before_ascii bs (length p) within ascii)),
       subst IsUtf8 after (IsUtf8-drop bs (length p + 1) u (IsCharBoundary-after_ascii bs (length p) u within ascii)),
     )
@@ -136,7 +143,8 @@ ascii_one : (c : ℕ) → c < 128 → IsUtf8 (c ∷ [])
 ascii_one c small = IsUtf8-from_ascii (c ∷ []) (IsAscii-cons c [] small IsAscii-nil)
 
 escaped_byte : (x : ℕ) (xs s : List ℕ) → Keeps plain xs → Keeps after_u xs → IsUtf8 (x ∷ xs)
-    → (a : Bool) → (x == 117) ≡ a → cond a (content after_u xs) (option_and_then (λ c. prepend (c ∷ []) (content plain xs)) (short_escape x)) ≡ Some s → IsUtf8 s
+    → (a : Bool) → (x == 117) ≡ a → cond a (content after_u xs)
+    (option_and_then (λ c. prepend (c ∷ []) (content plain xs)) (short_escape x)) ≡ Some s → IsUtf8 s
 escaped_byte x xs s later unit u true is e =
     let ascii : x < 128 = grind (arith, nat_tests) in
     unit s (after_one x xs u ascii) e
@@ -159,14 +167,16 @@ unit_alone v xs s later pair u small false false is_h is_l e =
     then_plain (encode_utf8 v) xs s later (IsUtf8-encode v (alone_scalar v small is_h is_l)) u e
 
 unit_low : (h l : ℕ) (xs s : List ℕ) → Keeps plain xs → is_high_surrogate h ≡ true → IsUtf8 xs
-    → (low : Bool) → is_low_surrogate l ≡ low → cond low (prepend (encode_utf8 (surrogate_pair h l)) (content plain xs)) None ≡ Some s → IsUtf8 s
+    → (low : Bool) → is_low_surrogate l ≡ low → cond low (prepend (encode_utf8 (surrogate_pair h l)) (content plain xs)) None ≡ Some s
+    → IsUtf8 s
 unit_low h l xs s later high u true is e =
     then_plain (encode_utf8 (surrogate_pair h l)) xs s later (IsUtf8-encode (surrogate_pair h l) (pair_scalar h l high is)) u e
 unit_low h l xs s later high u false is e = absurd cc
 
 low_byte : (h x y a b c d : ℕ) (xs s : List ℕ) → Keeps plain xs → is_high_surrogate h ≡ true → IsUtf8 (x ∷ y ∷ a ∷ b ∷ c ∷ d ∷ xs)
     → (t : Bool) → ((x == 92) && (y == 117)) ≡ t
-    → cond t (option_and_then (λ l. cond (is_low_surrogate l) (prepend (encode_utf8 (surrogate_pair h l)) (content plain xs)) None) (code_unit a b c d)) None ≡ Some s → IsUtf8 s
+    → cond t (option_and_then (λ l. cond (is_low_surrogate l) (prepend (encode_utf8 (surrogate_pair h l)) (content plain xs)) None)
+    (code_unit a b c d)) None ≡ Some s → IsUtf8 s
 low_byte h x y a b c d xs s later high u false is e = absurd cc
 low_byte h x y a b c d xs s later high u true is e =
     let p = both_parts (x == 92) (y == 117) is in
@@ -174,15 +184,18 @@ low_byte h x y a b c d xs s later high u true is e =
     let is_y : (y == 117) ≡ true = p.1 in
     let hx : x < 128 = grind (arith, nat_tests) in
     let hy : y < 128 = grind (arith, nat_tests) in
-    let q = and_then_some (λ l. cond (is_low_surrogate l) (prepend (encode_utf8 (surrogate_pair h l)) (content plain xs)) None) (code_unit a b c d) s e in
+    let q = and_then_some (λ l. cond (is_low_surrogate l) (prepend (encode_utf8 (surrogate_pair h l)) (content plain xs)) None)
+    (code_unit a b c d) s e in
     let unit = unit_of a b c d q.0 q.1 in
     let rest : IsUtf8 (a ∷ b ∷ c ∷ d ∷ xs) = after_one y (a ∷ b ∷ c ∷ d ∷ xs) (after_one x (y ∷ a ∷ b ∷ c ∷ d ∷ xs) u hx) hy in
-    unit_low h q.0 xs s later high (after_four a b c d xs rest unit.first unit.second unit.third unit.fourth) (is_low_surrogate q.0) refl q.2
+    unit_low h q.0 xs s later high (after_four a b c d xs rest unit.first unit.second unit.third unit.fourth)
+    (is_low_surrogate q.0) refl q.2
 
 keeps : (w : Within) (xs : List ℕ) → Keeps w xs
 unfolding content
 keeps plain [] = λ p s u e. absurd cc
-keeps plain (x ∷ xs) = λ p s u e. plain_byte x xs p s (keeps plain xs) (keeps after_backslash xs) u (x == 34) (x == 92) (nat_lt x 32) refl refl e
+keeps plain (x ∷ xs) = λ p s u e. plain_byte x xs p s (keeps plain xs) (keeps after_backslash xs) u (x == 34) (x == 92)
+    (nat_lt x 32) refl refl e
 keeps after_backslash [] = λ s u e. absurd cc
 keeps after_backslash (x ∷ xs) = λ s u e. escaped_byte x xs s (keeps plain xs) (keeps after_u xs) u (x == 117) refl e
 keeps after_u [] = λ s u e. absurd cc
@@ -190,9 +203,11 @@ keeps after_u (a ∷ []) = λ s u e. absurd cc
 keeps after_u (a ∷ b ∷ []) = λ s u e. absurd cc
 keeps after_u (a ∷ b ∷ c ∷ []) = λ s u e. absurd cc
 keeps after_u (a ∷ b ∷ c ∷ d ∷ xs) = λ s u e.
-    let q = and_then_some (λ v. cond (is_high_surrogate v) (content (after_high v) xs) (cond (is_low_surrogate v) None (prepend (encode_utf8 v) (content plain xs)))) (code_unit a b c d) s e in
+    let q = and_then_some (λ v. cond (is_high_surrogate v) (content (after_high v) xs)
+    (cond (is_low_surrogate v) None (prepend (encode_utf8 v) (content plain xs)))) (code_unit a b c d) s e in
     let unit = unit_of a b c d q.0 q.1 in
-    unit_alone q.0 xs s (keeps plain xs) (λ h. keeps (after_high h) xs) (after_four a b c d xs u unit.first unit.second unit.third unit.fourth) unit.small
+    unit_alone q.0 xs s (keeps plain xs) (λ h. keeps (after_high h) xs)
+    (after_four a b c d xs u unit.first unit.second unit.third unit.fourth) unit.small
     (is_high_surrogate q.0) (is_low_surrogate q.0) refl refl q.2
 keeps (after_high h) [] = λ s high u e. absurd cc
 keeps (after_high h) (x ∷ []) = λ s high u e. absurd cc
@@ -254,7 +269,9 @@ mark false x y p q = q
 
 marks : (x : ℕ) → TextLexeme (operator_lexeme x)
 marks x =
-    mark (x == 123) (token begin_object) _ tt (mark (x == 125) (token end_object) _ tt (mark (x == 91) (token begin_array) _ tt (mark (x == 93) (token end_array) _ tt (mark (x == 44) comma colon tt tt))))
+    mark (x == 123) (token begin_object) _ tt
+    (mark (x == 125) (token end_object) _ tt
+    (mark (x == 91) (token begin_array) _ tt (mark (x == 93) (token end_array) _ tt (mark (x == 44) comma colon tt tt))))
 
 text_of : (o : Option (List ℕ)) → ((s : List ℕ) → o ≡ Some s → IsUtf8 s) → TextToken (string_token o)
 text_of None is = tt
@@ -265,7 +282,8 @@ abbrev Suffixes : List ℕ → Type 0
 Suffixes [] = ⊤
 Suffixes (x ∷ xs) = (x < 128 → IsUtf8 xs) × Suffixes xs
 
-byte : (m : Mode) (c : Class) (x : ℕ) (xs : List ℕ) (k : Mode → List Lexeme) → (c ≡ quote → IsUtf8 xs) → ((n : Mode) → Lexemes (k n)) → Lexemes (lex_byte m c x xs k)
+byte : (m : Mode) (c : Class) (x : ℕ) (xs : List ℕ) (k : Mode → List Lexeme) → (c ≡ quote → IsUtf8 xs) → ((n : Mode) → Lexemes (k n))
+    → Lexemes (lex_byte m c x xs k)
 byte between quote x xs k u h = (text_of (content plain xs) (λ s e. content_utf8 xs s (u refl) e), h in_string)
 byte between backslash x xs k u h = (tt, h in_word)
 byte between operator x xs k u h = (marks x, h between)
@@ -299,13 +317,19 @@ lexemes (x ∷ xs) u m = byte m (class x) x xs (λ n. lex n xs) (λ e. u.0 (clas
 
 suffixes_from : (p xs : List ℕ) → IsUtf8 (p ++ xs) → Suffixes xs
 suffixes_from p [] u = tt
-suffixes_from p (x ∷ xs) u = (λ small. (around p x xs u small).1, suffixes_from (p ++ x ∷ []) xs (subst IsUtf8 (sym (append_assoc p (x ∷ []) xs)) u))
+suffixes_from p (x ∷ xs) u = (
+  λ small. (around p x xs u small).1,
+  suffixes_from (p ++ x ∷ []) xs
+      (subst IsUtf8 (sym (append_assoc p (x ∷ []) xs)) u),
+)
 
-allowed : (b : Bool) (t : Token) (k : Place → List Token) (next : Place) → TextToken t → TextTokens (k next) → TextTokens (if_allowed b t k next)
+allowed : (b : Bool) (t : Token) (k : Place → List Token) (next : Place) → TextToken t → TextTokens (k next)
+    → TextTokens (if_allowed b t k next)
 allowed true t k next p q = (p, q)
 allowed false t k next p q = (tt, tt)
 
-placed : (p : Place) (t : Token) (b : Bool) (k : Place → List Token) → TextToken t → ((n : Place) → TextTokens (k n)) → TextTokens (place_token p t b k)
+placed : (p : Place) (t : Token) (b : Bool) (k : Place → List Token) → TextToken t → ((n : Place) → TextTokens (k n))
+    → TextTokens (place_token p t b k)
 placed p begin_object b k q h = allowed (may_begin p) begin_object k fresh q (h fresh)
 placed p end_object b k q h = allowed (may_close p) end_object k after_value q (h after_value)
 placed p begin_array b k q h = allowed (may_begin p) begin_array k fresh q (h fresh)

@@ -1,5 +1,6 @@
 -- What is asked by a command that was written.
-use Rattle.std.proofs.Common.{◌≡◌, ℕ, ◌^◌, ◌<◌, ℤ, pos, negsuc, List, Bool, true, false, ◌||◌, ◌&&◌, not, cond, nat_lt, Option, Some, None, option_and_then, Result, Ok, Err, bytes_eq, refl, sym, ap, subst, ◌∙◌, arith, ltb-true, lt-ltb}
+use Rattle.std.proofs.Common.{◌≡◌, ℕ, ◌^◌, ◌<◌, ℤ, pos, negsuc, List, Bool, true, false, ◌||◌, ◌&&◌, not, cond, nat_lt, Option, Some, None}
+use Rattle.std.proofs.Common.{option_and_then, Result, Ok, Err, bytes_eq, refl, sym, ap, subst, ◌∙◌, arith, ltb-true, lt-ltb}
 use Rattle.std.proofs.lemmas.Bool.Decides.{Decides-int_eq}
 use Rattle.std.specs.Ordering.{int_eq}
 use Rattle.std.specs.Prelude.{int_lt, codes, is_some, IfOk, ⊤}
@@ -12,11 +13,19 @@ use Rattle.cdp_json.specs.Kinds.{Kind, as_whole, is_counted, holds_of_some, if_h
 use Rattle.cdp_json.specs.Lawful.{LawfulKind}
 use Rattle.cdp_json.specs.Lookups.{then_ok, optional, Lookups, no_lookups}
 use Rattle.cdp_json.specs.Faithful.{FaithfulKind, FaithfulLookups}
-use Rattle.cdp_json.proofs.KindLaws.{named_is, whole_lawful, text_lawful, flag_lawful, anything_lawful, list_faithful, through_faithful, faithful}
-use Rattle.cdp_json.proofs.LookupLaws.{then_ok_some, same_ok, other_name, no_lookups_faithful, look_for_faithful, may_look_for_faithful, object_with_faithful}
+use Rattle.cdp_json.proofs.KindLaws.{named_is, whole_lawful, text_lawful, flag_lawful, anything_lawful, list_faithful, through_faithful}
+use Rattle.cdp_json.proofs.KindLaws.{faithful}
+use Rattle.cdp_json.proofs.LookupLaws.{then_ok_some, same_ok, other_name, no_lookups_faithful, look_for_faithful, may_look_for_faithful}
+use Rattle.cdp_json.proofs.LookupLaws.{object_with_faithful}
 use Rattle.cdp_json.proofs.RowLaws.{ends_lawful, and_need_lawful, and_may_lawful, object_lawful}
 use Rattle.cdp_messages.specs.declared.command.Command.{Command}
-use Rattle.cdp_messages.specs.declared.command.Command.TheVariants.{DomEnable, DomDisable, GetDocument, RequestChildNodes, PushByPath, PushBySerials, QuerySelector, QuerySelectorAll, GetAttributes, DescribeNode, SetAttributeValue, RemoveAttribute, SetNodeValue, RemoveNode, MoveTo, CopyTo, MarkUndoableState, Undo, Redo, CssEnable, CssDisable, GetMatchedStyles, GetStyleSheetText, CollectClassNames, SetStyleTexts, SetRuleSelector, SetStyleSheetText, AddRule, SetBreakpoint, RemoveBreakpoint, ReplayLoad, ReplayAct}
+use Rattle.cdp_messages.specs.declared.command.Command.TheVariants.{DomEnable, DomDisable, GetDocument, RequestChildNodes, PushByPath}
+use Rattle.cdp_messages.specs.declared.command.Command.TheVariants.{PushBySerials, QuerySelector, QuerySelectorAll, GetAttributes}
+use Rattle.cdp_messages.specs.declared.command.Command.TheVariants.{DescribeNode, SetAttributeValue, RemoveAttribute, SetNodeValue}
+use Rattle.cdp_messages.specs.declared.command.Command.TheVariants.{RemoveNode, MoveTo, CopyTo, MarkUndoableState, Undo, Redo, CssEnable}
+use Rattle.cdp_messages.specs.declared.command.Command.TheVariants.{CssDisable, GetMatchedStyles, GetStyleSheetText, CollectClassNames}
+use Rattle.cdp_messages.specs.declared.command.Command.TheVariants.{SetStyleTexts, SetRuleSelector, SetStyleSheetText, AddRule}
+use Rattle.cdp_messages.specs.declared.command.Command.TheVariants.{SetBreakpoint, RemoveBreakpoint, ReplayLoad, ReplayAct}
 use Rattle.cdp_messages.specs.declared.command.Asked.{Asked}
 use Rattle.cdp_messages.specs.declared.command.Refused.{Refused}
 use Rattle.cdp_messages.specs.declared.command.Param.{Param}
@@ -28,8 +37,14 @@ use Rattle.cdp_messages.specs.declared.method.Method.{Method}
 use Rattle.cdp_messages.specs.declared.method.Method.TheVariants as method
 use Rattle.css_objects.specs.declared.ranges.SourceRange.{SourceRange}
 use Rattle.cdp_messages.specs.Methods.{name_of, all_methods, method_named, is_own, if_known, known_method}
-use Rattle.cdp_messages.specs.Parameters.{depth_number, place_fields, place_parts, place_from, range_parameter, edit_fields, edit_parts, edit_from, text_edit, allowed, one_there, one_of, depth_fields, children_fields, path_field, serials_field, node_field, query_fields, describe_fields, attribute_fields, name_fields, value_fields, move_fields, sheet_field, edits_field, set_selector_fields, sheet_text_fields, add_rule_fields, watch_fields, reads_with, command_by, Form, form, parameters_form}
-use Rattle.cdp_messages.specs.Asked.{refusal, of_method, command_for, params_of, unless_session, command_of, method_in, command_in, with_id, asked_in, asked_value, asked_by, json_of, method_of, method_name, parameters, fits_command, command_value, request}
+use Rattle.cdp_messages.specs.Parameters.{depth_number, place_fields, place_parts, place_from, range_parameter, edit_fields, edit_parts}
+use Rattle.cdp_messages.specs.Parameters.{edit_from, text_edit, allowed, one_there, one_of, depth_fields, children_fields, path_field}
+use Rattle.cdp_messages.specs.Parameters.{serials_field, node_field, query_fields, describe_fields, attribute_fields, name_fields}
+use Rattle.cdp_messages.specs.Parameters.{value_fields, move_fields, sheet_field, edits_field, set_selector_fields, sheet_text_fields}
+use Rattle.cdp_messages.specs.Parameters.{add_rule_fields, watch_fields, reads_with, command_by, Form, form, parameters_form}
+use Rattle.cdp_messages.specs.Asked.{refusal, of_method, command_for, params_of, unless_session, command_of, method_in, command_in, with_id}
+use Rattle.cdp_messages.specs.Asked.{asked_in, asked_value, asked_by, json_of, method_of, method_name, parameters, fits_command}
+use Rattle.cdp_messages.specs.Asked.{command_value, request}
 use Rattle.cdp_messages.specs.Laws.{AsksAreAsked, CommandsAreAsked, ParametersAreRead, ParametersArePlain, CommandsAreNamed, AsksFit}
 use Rattle.cdp_messages.specs.Answers.{ReadsAsked}
 use Rattle.cdp_messages.specs.Events.{is_object, watch}
@@ -84,7 +99,9 @@ text_faithful = faithful text_lawful
 
 place_fields_faithful : FaithfulLookups place_fields
 place_fields_faithful =
-    look_for_faithful _ _ refl whole_faithful (look_for_faithful _ _ refl whole_faithful (look_for_faithful _ _ refl whole_faithful (look_for_faithful _ _ refl whole_faithful nothing_more refl) refl) refl) refl
+    look_for_faithful _ _ refl whole_faithful
+    (look_for_faithful _ _ refl whole_faithful
+    (look_for_faithful _ _ refl whole_faithful (look_for_faithful _ _ refl whole_faithful nothing_more refl) refl) refl) refl
 
 place_only : (s : ℕ × (ℕ × (ℕ × (ℕ × ⊤)))) (x : SourceRange) → place_from s ≡ Some x → place_parts x ≡ s
 place_only s x e = ap place_parts (same_place _ x e) where
@@ -95,7 +112,8 @@ place_faithful : FaithfulKind range_parameter
 place_faithful = through_faithful place_parts place_from place_only (λ x. refl) (object_with_faithful place_fields_faithful)
 
 edit_fields_faithful : FaithfulLookups edit_fields
-edit_fields_faithful = look_for_faithful _ _ refl text_faithful (look_for_faithful _ _ refl place_faithful (look_for_faithful _ _ refl text_faithful nothing_more refl) refl) refl
+edit_fields_faithful = look_for_faithful _ _ refl text_faithful
+    (look_for_faithful _ _ refl place_faithful (look_for_faithful _ _ refl text_faithful nothing_more refl) refl) refl
 
 edit_only : (s : List ℕ × (SourceRange × (List ℕ × ⊤))) (x : TextEdit) → edit_from s ≡ Some x → edit_parts x ≡ s
 edit_only s x e = ap edit_parts (same_edit _ x e) where
@@ -111,7 +129,8 @@ watch_faithful = faithful watch_lawful
 -- ---- one of two parameters
 
 -- what is read of the two, and of the others
-abbrev one_gets : {A B C : Type 0} → Param → Result (Option A) Why → Result (Option B) Why → Result C Why → Result (Option A × (Option B × C)) Why
+abbrev one_gets : {A B C : Type 0} → Param → Result (Option A) Why → Result (Option B) Why → Result C Why
+    → Result (Option A × (Option B × C)) Why
 one_gets p ra rb rc = then_ok ra (λ a. then_ok rb (λ b. then_ok (one_there p a b) (λ _. then_ok rc (λ c. Ok (a, (b, c))))))
 
 abbrev both_gets : {A B C : Type 0} → Result (Option A) Why → Result (Option B) Why → Result C Why → Result (Option A × (Option B × C)) Why
@@ -123,16 +142,20 @@ one_is x = is_some x.0 || is_some x.1.0
 no_ok : {T P : Type 0} (why : Why) (x : T) → ◌≡◌ {A = Result T Why} (Err why) (Ok x) → P
 no_ok {T} {P} why x e = let no : ◌≡◌ {A = Result T Why} (Err why) (Ok x) = e in absurd cc
 
-one_down : {A B C : Type 0} (p : Param) (ra : Result (Option A) Why) (rb : Result (Option B) Why) (rc : Result C Why) (x : Option A × (Option B × C)) → one_gets p ra rb rc ≡ Ok x → (both_gets ra rb rc ≡ Ok x) × (one_is x ≡ true)
+one_down : {A B C : Type 0} (p : Param) (ra : Result (Option A) Why) (rb : Result (Option B) Why) (rc : Result C Why)
+    (x : Option A × (Option B × C)) → one_gets p ra rb rc ≡ Ok x → (both_gets ra rb rc ≡ Ok x) × (one_is x ≡ true)
 one_down p (Err why) rb rc x e = no_ok why x e
 one_down p (Ok a) (Err why) rc x e = no_ok why x e
 one_down p (Ok None) (Ok None) rc x e = no_ok (BadParam p) x e
 one_down p (Ok None) (Ok (Some b)) (Err why) x e = no_ok why x e
 one_down p (Ok (Some a)) (Ok b) (Err why) x e = no_ok why x e
-one_down {A} {B} {C} p (Ok None) (Ok (Some b)) (Ok c) x e = (e, subst (λ (y : Option A × (Option B × C)). one_is y ≡ true) (same_ok (None, (Some b, c)) x e) refl)
-one_down {A} {B} {C} p (Ok (Some a)) (Ok b) (Ok c) x e = (e, subst (λ (y : Option A × (Option B × C)). one_is y ≡ true) (same_ok (Some a, (b, c)) x e) refl)
+one_down {A} {B} {C} p (Ok None) (Ok (Some b)) (Ok c) x e =
+    (e, subst (λ (y : Option A × (Option B × C)). one_is y ≡ true) (same_ok (None, (Some b, c)) x e) refl)
+one_down {A} {B} {C} p (Ok (Some a)) (Ok b) (Ok c) x e =
+    (e, subst (λ (y : Option A × (Option B × C)). one_is y ≡ true) (same_ok (Some a, (b, c)) x e) refl)
 
-one_up : {A B C : Type 0} (p : Param) (ra : Result (Option A) Why) (rb : Result (Option B) Why) (rc : Result C Why) (x : Option A × (Option B × C)) → both_gets ra rb rc ≡ Ok x → one_is x ≡ true → one_gets p ra rb rc ≡ Ok x
+one_up : {A B C : Type 0} (p : Param) (ra : Result (Option A) Why) (rb : Result (Option B) Why) (rc : Result C Why)
+    (x : Option A × (Option B × C)) → both_gets ra rb rc ≡ Ok x → one_is x ≡ true → one_gets p ra rb rc ≡ Ok x
 one_up p (Err why) rb rc x e t = no_ok why x e
 one_up p (Ok a) (Err why) rc x e t = no_ok why x e
 one_up p (Ok a) (Ok b) (Err why) x e t = no_ok why x e
@@ -141,15 +164,18 @@ one_up {A} {B} {C} p (Ok None) (Ok None) (Ok c) x e t =
 one_up p (Ok None) (Ok (Some b)) (Ok c) x e t = e
 one_up p (Ok (Some a)) (Ok b) (Ok c) x e t = e
 
-one_of_faithful : {A B C : Type 0} {later : Lookups Why C} (p : Param) (k : Kind A) (q : Param) (l : Kind B) → FaithfulLookups (allowed p k (allowed q l later)) → FaithfulLookups later → FaithfulLookups (one_of p k q l later)
+one_of_faithful : {A B C : Type 0} {later : Lookups Why C} (p : Param) (k : Kind A) (q : Param) (l : Kind B)
+    → FaithfulLookups (allowed p k (allowed q l later)) → FaithfulLookups later → FaithfulLookups (one_of p k q l later)
 one_of_faithful {A} {B} {C} {later} p k q l law laws = record {
   fit = λ ms x e.
-      let r = one_down p (optional (BadParam p) (field_from k.reads (get_member (param_name p) ms))) (optional (BadParam q) (field_from l.reads (get_member (param_name q) ms))) (later.gets ms) x e in
+      let r = one_down p (optional (BadParam p) (field_from k.reads (get_member (param_name p) ms)))
+      (optional (BadParam q) (field_from l.reads (get_member (param_name q) ms))) (later.gets ms) x e in
       both r.1 (law.fit ms x r.0);
   again = λ x f.
       let t = both_parts (one_is x) _ f in
       let ms = (allowed p k (allowed q l later)).puts x in
-      one_up p (optional (BadParam p) (field_from k.reads (get_member (param_name p) ms))) (optional (BadParam q) (field_from l.reads (get_member (param_name q) ms))) (later.gets ms) x (law.again x t.1) t.0;
+      one_up p (optional (BadParam p) (field_from k.reads (get_member (param_name p) ms)))
+      (optional (BadParam q) (field_from l.reads (get_member (param_name q) ms))) (later.gets ms) x (law.again x t.1) t.0;
   plain = λ x f. law.plain x (both_parts (one_is x) _ f).1;
   skips = λ other d ms n.
       let n1 = both_parts (not (bytes_eq other (param_name p))) _ n in
@@ -187,10 +213,12 @@ query_fields_faithful = look_for_faithful _ _ refl whole_faithful (look_for_fait
 describe_fields_faithful : FaithfulLookups describe_fields
 describe_fields_faithful =
     one_of_faithful param.NodeId whole param.BackendNodeId whole
-    (may_look_for_faithful _ _ refl whole_faithful (may_look_for_faithful _ _ refl whole_faithful depth_fields_faithful refl) refl) depth_fields_faithful
+    (may_look_for_faithful _ _ refl whole_faithful
+    (may_look_for_faithful _ _ refl whole_faithful depth_fields_faithful refl) refl) depth_fields_faithful
 
 attribute_fields_faithful : FaithfulLookups attribute_fields
-attribute_fields_faithful = look_for_faithful _ _ refl whole_faithful (look_for_faithful _ _ refl text_faithful (look_for_faithful _ _ refl text_faithful nothing_more refl) refl) refl
+attribute_fields_faithful = look_for_faithful _ _ refl whole_faithful
+    (look_for_faithful _ _ refl text_faithful (look_for_faithful _ _ refl text_faithful nothing_more refl) refl) refl
 
 name_fields_faithful : FaithfulLookups name_fields
 name_fields_faithful = look_for_faithful _ _ refl whole_faithful (look_for_faithful _ _ refl text_faithful nothing_more refl) refl
@@ -199,7 +227,8 @@ value_fields_faithful : FaithfulLookups value_fields
 value_fields_faithful = look_for_faithful _ _ refl whole_faithful (look_for_faithful _ _ refl text_faithful nothing_more refl) refl
 
 move_fields_faithful : FaithfulLookups move_fields
-move_fields_faithful = look_for_faithful _ _ refl whole_faithful (look_for_faithful _ _ refl whole_faithful (may_look_for_faithful _ _ refl whole_faithful nothing_more refl) refl) refl
+move_fields_faithful = look_for_faithful _ _ refl whole_faithful
+    (look_for_faithful _ _ refl whole_faithful (may_look_for_faithful _ _ refl whole_faithful nothing_more refl) refl) refl
 
 sheet_field_faithful : FaithfulLookups sheet_field
 sheet_field_faithful = look_for_faithful _ _ refl text_faithful nothing_more refl
@@ -208,24 +237,28 @@ edits_field_faithful : FaithfulLookups edits_field
 edits_field_faithful = look_for_faithful _ _ refl (list_faithful edit_faithful) nothing_more refl
 
 selector_fields_faithful : FaithfulLookups set_selector_fields
-selector_fields_faithful = look_for_faithful _ _ refl text_faithful (look_for_faithful _ _ refl place_faithful (look_for_faithful _ _ refl text_faithful nothing_more refl) refl) refl
+selector_fields_faithful = look_for_faithful _ _ refl text_faithful
+    (look_for_faithful _ _ refl place_faithful (look_for_faithful _ _ refl text_faithful nothing_more refl) refl) refl
 
 sheet_text_fields_faithful : FaithfulLookups sheet_text_fields
 sheet_text_fields_faithful = look_for_faithful _ _ refl text_faithful (look_for_faithful _ _ refl text_faithful nothing_more refl) refl
 
 rule_fields_faithful : FaithfulLookups add_rule_fields
-rule_fields_faithful = look_for_faithful _ _ refl text_faithful (look_for_faithful _ _ refl text_faithful (look_for_faithful _ _ refl place_faithful nothing_more refl) refl) refl
+rule_fields_faithful = look_for_faithful _ _ refl text_faithful
+    (look_for_faithful _ _ refl text_faithful (look_for_faithful _ _ refl place_faithful nothing_more refl) refl) refl
 
 watch_fields_faithful : FaithfulLookups watch_fields
 watch_fields_faithful = look_for_faithful _ _ refl whole_faithful (look_for_faithful _ _ refl watch_faithful nothing_more refl) refl
 
 -- ---- a command that is written is read
 
-read_again : {T : Type 0} {fields : Lookups Why T} → FaithfulLookups fields → (makes : T → Command) (x : T) → fields.fits x ≡ true → reads_with fields makes (fields.puts x) ≡ Ok (makes x)
+read_again : {T : Type 0} {fields : Lookups Why T} → FaithfulLookups fields → (makes : T → Command) (x : T) → fields.fits x ≡ true
+    → reads_with fields makes (fields.puts x) ≡ Ok (makes x)
 read_again law makes x f = ap (λ r. then_ok r (λ y. Ok (makes y))) (law.again x f)
 
 -- an object that a command keeps as it is
-kept_again : (m : Method) (makes : Data → Command) → ((ms : Members) → command_by m ms ≡ Ok (makes (object ms))) → (d : Data) → is_object d ≡ true → then_ok (params_of (Some d)) (command_by m) ≡ Ok (makes d)
+kept_again : (m : Method) (makes : Data → Command) → ((ms : Members) → command_by m ms ≡ Ok (makes (object ms))) → (d : Data)
+    → is_object d ≡ true → then_ok (params_of (Some d)) (command_by m) ≡ Ok (makes d)
 kept_again m makes is (object ms) f = is ms
 kept_again m makes is null f = absurd cc
 kept_again m makes is (boolean b) f = absurd cc
@@ -237,19 +270,25 @@ command_again : (c : Command) → fits_command c ≡ true → then_ok (params_of
 command_again DomEnable f = refl
 command_again DomDisable f = refl
 command_again (GetDocument depth pierce) f = read_again depth_fields_faithful (λ x. GetDocument x.0 x.1.0) (depth, (pierce, tt)) f
-command_again (RequestChildNodes node depth pierce) f = read_again children_fields_faithful (λ x. RequestChildNodes x.0 x.1.0 x.1.1.0) (node, (depth, (pierce, tt))) f
+command_again (RequestChildNodes node depth pierce) f = read_again children_fields_faithful (λ x. RequestChildNodes x.0 x.1.0 x.1.1.0)
+    (node, (depth, (pierce, tt))) f
 command_again (PushByPath path) f = read_again path_field_faithful (λ x. PushByPath x.0) (path, tt) f
 command_again (PushBySerials serials) f = read_again serials_field_faithful (λ x. PushBySerials x.0) (serials, tt) f
 command_again (QuerySelector node selector) f = read_again query_fields_faithful (λ x. QuerySelector x.0 x.1.0) (node, (selector, tt)) f
-command_again (QuerySelectorAll node selector) f = read_again query_fields_faithful (λ x. QuerySelectorAll x.0 x.1.0) (node, (selector, tt)) f
+command_again (QuerySelectorAll node selector) f = read_again query_fields_faithful (λ x. QuerySelectorAll x.0 x.1.0)
+    (node, (selector, tt)) f
 command_again (GetAttributes node) f = read_again node_field_faithful (λ x. GetAttributes x.0) (node, tt) f
-command_again (DescribeNode id serial depth pierce) f = read_again describe_fields_faithful (λ x. DescribeNode x.0 x.1.0 x.1.1.0 x.1.1.1.0) (id, (serial, (depth, (pierce, tt)))) f
-command_again (SetAttributeValue node name value) f = read_again attribute_fields_faithful (λ x. SetAttributeValue x.0 x.1.0 x.1.1.0) (node, (name, (value, tt))) f
+command_again (DescribeNode id serial depth pierce) f = read_again describe_fields_faithful (λ x. DescribeNode x.0 x.1.0 x.1.1.0 x.1.1.1.0)
+    (id, (serial, (depth, (pierce, tt)))) f
+command_again (SetAttributeValue node name value) f = read_again attribute_fields_faithful (λ x. SetAttributeValue x.0 x.1.0 x.1.1.0)
+    (node, (name, (value, tt))) f
 command_again (RemoveAttribute node name) f = read_again name_fields_faithful (λ x. RemoveAttribute x.0 x.1.0) (node, (name, tt)) f
 command_again (SetNodeValue node value) f = read_again value_fields_faithful (λ x. SetNodeValue x.0 x.1.0) (node, (value, tt)) f
 command_again (RemoveNode node) f = read_again node_field_faithful (λ x. RemoveNode x.0) (node, tt) f
-command_again (MoveTo node target before) f = read_again move_fields_faithful (λ x. MoveTo x.0 x.1.0 x.1.1.0) (node, (target, (before, tt))) f
-command_again (CopyTo node target before) f = read_again move_fields_faithful (λ x. CopyTo x.0 x.1.0 x.1.1.0) (node, (target, (before, tt))) f
+command_again (MoveTo node target before) f = read_again move_fields_faithful (λ x. MoveTo x.0 x.1.0 x.1.1.0)
+    (node, (target, (before, tt))) f
+command_again (CopyTo node target before) f = read_again move_fields_faithful (λ x. CopyTo x.0 x.1.0 x.1.1.0)
+    (node, (target, (before, tt))) f
 command_again MarkUndoableState f = refl
 command_again Undo f = refl
 command_again Redo f = refl
@@ -259,9 +298,12 @@ command_again (GetMatchedStyles node) f = read_again node_field_faithful (λ x. 
 command_again (GetStyleSheetText sheet) f = read_again sheet_field_faithful (λ x. GetStyleSheetText x.0) (sheet, tt) f
 command_again (CollectClassNames sheet) f = read_again sheet_field_faithful (λ x. CollectClassNames x.0) (sheet, tt) f
 command_again (SetStyleTexts edits) f = read_again edits_field_faithful (λ x. SetStyleTexts x.0) (edits, tt) f
-command_again (SetRuleSelector sheet range selector) f = read_again selector_fields_faithful (λ x. SetRuleSelector x.0 x.1.0 x.1.1.0) (sheet, (range, (selector, tt))) f
-command_again (SetStyleSheetText sheet text) f = read_again sheet_text_fields_faithful (λ x. SetStyleSheetText x.0 x.1.0) (sheet, (text, tt)) f
-command_again (AddRule sheet rule_text location) f = read_again rule_fields_faithful (λ x. AddRule x.0 x.1.0 x.1.1.0) (sheet, (rule_text, (location, tt))) f
+command_again (SetRuleSelector sheet range selector) f = read_again selector_fields_faithful (λ x. SetRuleSelector x.0 x.1.0 x.1.1.0)
+    (sheet, (range, (selector, tt))) f
+command_again (SetStyleSheetText sheet text) f = read_again sheet_text_fields_faithful (λ x. SetStyleSheetText x.0 x.1.0)
+    (sheet, (text, tt)) f
+command_again (AddRule sheet rule_text location) f = read_again rule_fields_faithful (λ x. AddRule x.0 x.1.0 x.1.1.0)
+    (sheet, (rule_text, (location, tt))) f
 command_again (SetBreakpoint node kind) f = read_again watch_fields_faithful (λ x. SetBreakpoint x.0 x.1.0) (node, (kind, tt)) f
 command_again (RemoveBreakpoint node kind) f = read_again watch_fields_faithful (λ x. RemoveBreakpoint x.0 x.1.0) (node, (kind, tt)) f
 command_again (ReplayLoad params) f = kept_again method.ReplayLoad ReplayLoad (λ ms. refl) params f
@@ -305,7 +347,8 @@ known_again : (own : Bool) (m : Method) → (is_own m && not own) ≡ false → 
 known_again own m open_to = ap (option_and_then (if_known own)) (named_again m) ∙ ap (λ b. cond b None (Some m)) open_to
 
 pub parameters_are_read : ParametersAreRead
-parameters_are_read own c f open_to = ap (λ o. then_ok (params_of (Some (parameters c))) (of_method o)) (known_again own (method_of c) open_to) ∙ command_again c f
+parameters_are_read own c f open_to = ap (λ o. then_ok (params_of (Some (parameters c))) (of_method o))
+    (known_again own (method_of c) open_to) ∙ command_again c f
 
 -- ---- what is read fits
 
@@ -314,7 +357,8 @@ pub record IsOf (m : Method) (c : Command) : Type 0 where
   pub method_is : method_of c ≡ m
   pub fits : fits_command c ≡ true
 
-read_fits : {T : Type 0} {fields : Lookups Why T} → FaithfulLookups fields → (m : Method) (makes : T → Command) → ((x : T) → parameters_form (makes x) ≡ form m fields x) → (ms : Members) (c : Command) → reads_with fields makes ms ≡ Ok c → IsOf m c
+read_fits : {T : Type 0} {fields : Lookups Why T} → FaithfulLookups fields → (m : Method) (makes : T → Command)
+    → ((x : T) → parameters_form (makes x) ≡ form m fields x) → (ms : Members) (c : Command) → reads_with fields makes ms ≡ Ok c → IsOf m c
 read_fits {T} {fields} law m makes is ms c e =
     let p = then_ok_some (fields.gets ms) (λ x. Ok (makes x)) c e in
     subst (IsOf m) (same_ok (makes p.0) c p.2)
@@ -327,33 +371,48 @@ command_fits : (m : Method) (ms : Members) (c : Command) → command_by m ms ≡
 command_fits method.DomEnable ms c e = made method.DomEnable DomEnable c (record { method_is = refl; fits = refl }) e
 command_fits method.DomDisable ms c e = made method.DomDisable DomDisable c (record { method_is = refl; fits = refl }) e
 command_fits method.GetDocument ms c e = read_fits depth_fields_faithful method.GetDocument (λ x. GetDocument x.0 x.1.0) (λ x. refl) ms c e
-command_fits method.RequestChildNodes ms c e = read_fits children_fields_faithful method.RequestChildNodes (λ x. RequestChildNodes x.0 x.1.0 x.1.1.0) (λ x. refl) ms c e
+command_fits method.RequestChildNodes ms c e = read_fits children_fields_faithful method.RequestChildNodes
+    (λ x. RequestChildNodes x.0 x.1.0 x.1.1.0) (λ x. refl) ms c e
 command_fits method.PushByPath ms c e = read_fits path_field_faithful method.PushByPath (λ x. PushByPath x.0) (λ x. refl) ms c e
 command_fits method.PushBySerials ms c e = read_fits serials_field_faithful method.PushBySerials (λ x. PushBySerials x.0) (λ x. refl) ms c e
-command_fits method.QuerySelector ms c e = read_fits query_fields_faithful method.QuerySelector (λ x. QuerySelector x.0 x.1.0) (λ x. refl) ms c e
-command_fits method.QuerySelectorAll ms c e = read_fits query_fields_faithful method.QuerySelectorAll (λ x. QuerySelectorAll x.0 x.1.0) (λ x. refl) ms c e
+command_fits method.QuerySelector ms c e = read_fits query_fields_faithful method.QuerySelector (λ x. QuerySelector x.0 x.1.0)
+    (λ x. refl) ms c e
+command_fits method.QuerySelectorAll ms c e = read_fits query_fields_faithful method.QuerySelectorAll (λ x. QuerySelectorAll x.0 x.1.0)
+    (λ x. refl) ms c e
 command_fits method.GetAttributes ms c e = read_fits node_field_faithful method.GetAttributes (λ x. GetAttributes x.0) (λ x. refl) ms c e
-command_fits method.DescribeNode ms c e = read_fits describe_fields_faithful method.DescribeNode (λ x. DescribeNode x.0 x.1.0 x.1.1.0 x.1.1.1.0) (λ x. refl) ms c e
-command_fits method.SetAttributeValue ms c e = read_fits attribute_fields_faithful method.SetAttributeValue (λ x. SetAttributeValue x.0 x.1.0 x.1.1.0) (λ x. refl) ms c e
-command_fits method.RemoveAttribute ms c e = read_fits name_fields_faithful method.RemoveAttribute (λ x. RemoveAttribute x.0 x.1.0) (λ x. refl) ms c e
-command_fits method.SetNodeValue ms c e = read_fits value_fields_faithful method.SetNodeValue (λ x. SetNodeValue x.0 x.1.0) (λ x. refl) ms c e
+command_fits method.DescribeNode ms c e = read_fits describe_fields_faithful method.DescribeNode
+    (λ x. DescribeNode x.0 x.1.0 x.1.1.0 x.1.1.1.0) (λ x. refl) ms c e
+command_fits method.SetAttributeValue ms c e = read_fits attribute_fields_faithful method.SetAttributeValue
+    (λ x. SetAttributeValue x.0 x.1.0 x.1.1.0) (λ x. refl) ms c e
+command_fits method.RemoveAttribute ms c e = read_fits name_fields_faithful method.RemoveAttribute (λ x. RemoveAttribute x.0 x.1.0)
+    (λ x. refl) ms c e
+command_fits method.SetNodeValue ms c e = read_fits value_fields_faithful method.SetNodeValue (λ x. SetNodeValue x.0 x.1.0)
+    (λ x. refl) ms c e
 command_fits method.RemoveNode ms c e = read_fits node_field_faithful method.RemoveNode (λ x. RemoveNode x.0) (λ x. refl) ms c e
 command_fits method.MoveTo ms c e = read_fits move_fields_faithful method.MoveTo (λ x. MoveTo x.0 x.1.0 x.1.1.0) (λ x. refl) ms c e
 command_fits method.CopyTo ms c e = read_fits move_fields_faithful method.CopyTo (λ x. CopyTo x.0 x.1.0 x.1.1.0) (λ x. refl) ms c e
-command_fits method.MarkUndoableState ms c e = made method.MarkUndoableState MarkUndoableState c (record { method_is = refl; fits = refl }) e
+command_fits method.MarkUndoableState ms c e = made method.MarkUndoableState MarkUndoableState c
+    (record { method_is = refl; fits = refl }) e
 command_fits method.Undo ms c e = made method.Undo Undo c (record { method_is = refl; fits = refl }) e
 command_fits method.Redo ms c e = made method.Redo Redo c (record { method_is = refl; fits = refl }) e
 command_fits method.CssEnable ms c e = made method.CssEnable CssEnable c (record { method_is = refl; fits = refl }) e
 command_fits method.CssDisable ms c e = made method.CssDisable CssDisable c (record { method_is = refl; fits = refl }) e
-command_fits method.GetMatchedStyles ms c e = read_fits node_field_faithful method.GetMatchedStyles (λ x. GetMatchedStyles x.0) (λ x. refl) ms c e
-command_fits method.GetStyleSheetText ms c e = read_fits sheet_field_faithful method.GetStyleSheetText (λ x. GetStyleSheetText x.0) (λ x. refl) ms c e
-command_fits method.CollectClassNames ms c e = read_fits sheet_field_faithful method.CollectClassNames (λ x. CollectClassNames x.0) (λ x. refl) ms c e
+command_fits method.GetMatchedStyles ms c e = read_fits node_field_faithful method.GetMatchedStyles (λ x. GetMatchedStyles x.0)
+    (λ x. refl) ms c e
+command_fits method.GetStyleSheetText ms c e = read_fits sheet_field_faithful method.GetStyleSheetText (λ x. GetStyleSheetText x.0)
+    (λ x. refl) ms c e
+command_fits method.CollectClassNames ms c e = read_fits sheet_field_faithful method.CollectClassNames (λ x. CollectClassNames x.0)
+    (λ x. refl) ms c e
 command_fits method.SetStyleTexts ms c e = read_fits edits_field_faithful method.SetStyleTexts (λ x. SetStyleTexts x.0) (λ x. refl) ms c e
-command_fits method.SetRuleSelector ms c e = read_fits selector_fields_faithful method.SetRuleSelector (λ x. SetRuleSelector x.0 x.1.0 x.1.1.0) (λ x. refl) ms c e
-command_fits method.SetStyleSheetText ms c e = read_fits sheet_text_fields_faithful method.SetStyleSheetText (λ x. SetStyleSheetText x.0 x.1.0) (λ x. refl) ms c e
+command_fits method.SetRuleSelector ms c e = read_fits selector_fields_faithful method.SetRuleSelector
+    (λ x. SetRuleSelector x.0 x.1.0 x.1.1.0) (λ x. refl) ms c e
+command_fits method.SetStyleSheetText ms c e = read_fits sheet_text_fields_faithful method.SetStyleSheetText
+    (λ x. SetStyleSheetText x.0 x.1.0) (λ x. refl) ms c e
 command_fits method.AddRule ms c e = read_fits rule_fields_faithful method.AddRule (λ x. AddRule x.0 x.1.0 x.1.1.0) (λ x. refl) ms c e
-command_fits method.SetBreakpoint ms c e = read_fits watch_fields_faithful method.SetBreakpoint (λ x. SetBreakpoint x.0 x.1.0) (λ x. refl) ms c e
-command_fits method.RemoveBreakpoint ms c e = read_fits watch_fields_faithful method.RemoveBreakpoint (λ x. RemoveBreakpoint x.0 x.1.0) (λ x. refl) ms c e
+command_fits method.SetBreakpoint ms c e = read_fits watch_fields_faithful method.SetBreakpoint (λ x. SetBreakpoint x.0 x.1.0)
+    (λ x. refl) ms c e
+command_fits method.RemoveBreakpoint ms c e = read_fits watch_fields_faithful method.RemoveBreakpoint (λ x. RemoveBreakpoint x.0 x.1.0)
+    (λ x. refl) ms c e
 command_fits method.ReplayLoad ms c e = made method.ReplayLoad (ReplayLoad (object ms)) c (record { method_is = refl; fits = refl }) e
 command_fits method.ReplayAct ms c e = made method.ReplayAct (ReplayAct (object ms)) c (record { method_is = refl; fits = refl }) e
 
@@ -367,7 +426,8 @@ known_some own n m e = at (is_own n && not own) refl e where
   at true is h = absurd cc
   at false is h = cc
 
-command_for_fits : (own : Bool) (name : List ℕ) (ms : Members) (c : Command) → command_for own name ms ≡ Ok c → (name ≡ method_name c) × (fits_command c ≡ true)
+command_for_fits : (own : Bool) (name : List ℕ) (ms : Members) (c : Command) → command_for own name ms ≡ Ok c
+    → (name ≡ method_name c) × (fits_command c ≡ true)
 command_for_fits own name ms c e =
     let r = of_method_fits (known_method own name) ms c e in
     let p = and_then_some (if_known own) (method_named name) r.0 r.1 in
@@ -396,11 +456,13 @@ AskFits a = (is_counted a.id ≡ true) × (fits_command a.command ≡ true)
 no_asked : {P : Type 0} (r : Refused) (a : Asked) → ◌≡◌ {A = Result Asked Refused} (Err r) (Ok a) → P
 no_asked r a e = let no : ◌≡◌ {A = Result Asked Refused} (Err r) (Ok a) = e in absurd cc
 
-asked_by_fits : (id : ℕ) (r : Result Command Why) (a : Asked) → is_counted id ≡ true → ((c : Command) → r ≡ Ok c → fits_command c ≡ true) → asked_by id r ≡ Ok a → AskFits a
+asked_by_fits : (id : ℕ) (r : Result Command Why) (a : Asked) → is_counted id ≡ true → ((c : Command) → r ≡ Ok c → fits_command c ≡ true)
+    → asked_by id r ≡ Ok a → AskFits a
 asked_by_fits id (Ok c) a counted fits e = subst AskFits (same_ok (record { id = id; command = c }) a e) (counted, fits c refl)
 asked_by_fits id (Err why) a counted fits e = no_asked (refusal (Some id) why) a e
 
-with_id_fits : (o : Option Data) (r : Result Command Why) (a : Asked) → ((c : Command) → r ≡ Ok c → fits_command c ≡ true) → with_id (field_from as_whole o) r ≡ Ok a → AskFits a
+with_id_fits : (o : Option Data) (r : Result Command Why) (a : Asked) → ((c : Command) → r ≡ Ok c → fits_command c ≡ true)
+    → with_id (field_from as_whole o) r ≡ Ok a → AskFits a
 with_id_fits None r a fits e = no_asked (refusal None NoId) a e
 with_id_fits (Some d) r a fits e = at (as_whole d) refl e where
   at : (o : Option ℕ) → as_whole d ≡ o → with_id (field_if o) r ≡ Ok a → AskFits a
@@ -418,21 +480,25 @@ asked_value_fits own (Some d) a e = asked_in_fits own (as_object d) a e
 pub asks_fit : AsksFit
 asks_fit own bytes a e = asked_value_fits own (json_of bytes) a e
 
-pub answers_fit : (own : Bool) (o : Option Data) (r : Result Asked ReadErr) → ReadsAsked r (asked_value own o) → IfOk r (λ a. fits_command a.command ≡ true)
+pub answers_fit : (own : Bool) (o : Option Data) (r : Result Asked ReadErr) → ReadsAsked r (asked_value own o)
+    → IfOk r (λ a. fits_command a.command ≡ true)
 answers_fit own o (Ok a) is = (asked_value_fits own o a is).1
 answers_fit own o (Err e) is = tt
 
 -- ---- frames
 
 request_lawful : LawfulKind request
-request_lawful = object_lawful (and_need_lawful _ whole_lawful (and_need_lawful _ text_lawful (and_may_lawful _ anything_lawful (and_may_lawful _ anything_lawful ends_lawful refl) refl) refl) refl)
+request_lawful = object_lawful
+    (and_need_lawful _ whole_lawful
+    (and_need_lawful _ text_lawful (and_may_lawful _ anything_lawful (and_may_lawful _ anything_lawful ends_lawful refl) refl) refl) refl)
 
 any_fits : (o : Option Data) → holds_of_some (λ (d : Data). true) o ≡ true
 any_fits None = refl
 any_fits (Some d) = refl
 
 -- a frame is plain where its parameters and its session are
-pub ask_plain : (id : ℕ) (method : List ℕ) (params session : Option Data) → is_counted id ≡ true → holds_of_some is_plain params ≡ true → holds_of_some is_plain session ≡ true
+pub ask_plain : (id : ℕ) (method : List ℕ) (params session : Option Data) → is_counted id ≡ true → holds_of_some is_plain params ≡ true
+    → holds_of_some is_plain session ≡ true
     → is_plain (command_value id method params session) ≡ true
 ask_plain id method params session c p s =
     request_lawful.plain (id, (method, (params, (session, tt)))) (both c (both (any_fits params) (both (any_fits session) refl))) (both p s)
@@ -446,7 +512,8 @@ value_asked own id method (Some p) (Some s) c = rw c
 
 pub asks_are_asked : AsksAreAsked
 asks_are_asked own id method params session c p s shallow utf8 =
-    ap (asked_value own) (json_of-compact_text (command_value id method params session) (ask_plain id method params session c p s) shallow utf8) ∙ value_asked own id method params session c
+    ap (asked_value own) (json_of-compact_text (command_value id method params session)
+    (ask_plain id method params session c p s) shallow utf8) ∙ value_asked own id method params session c
 
 -- ---- whole commands
 
@@ -486,4 +553,5 @@ parameters_are_plain (ReplayAct params) f other = absurd cc
 
 pub commands_are_asked : CommandsAreAsked
 commands_are_asked own id c counted f open_to plain shallow utf8 =
-    asks_are_asked own id (method_name c) (Some (parameters c)) None counted plain refl shallow utf8 ∙ ap (asked_by id) (parameters_are_read own c f open_to)
+    asks_are_asked own id (method_name c) (Some (parameters c)) None counted plain refl shallow utf8 ∙ ap (asked_by id)
+    (parameters_are_read own c f open_to)

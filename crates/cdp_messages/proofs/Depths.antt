@@ -1,11 +1,13 @@
 -- How deep the JSON of a message nests.
-use Rattle.std.proofs.Common.{ℕ, suc, ◌+◌, ◌*◌, ◌≤◌, max, List, [], ◌∷◌, Bool, true, false, nat_lt, map, Option, Some, None, option_map, arith}
+use Rattle.std.proofs.Common.{ℕ, suc, ◌+◌, ◌*◌, ◌≤◌, max, List, [], ◌∷◌, Bool, true, false, nat_lt, map, Option, Some, None, option_map}
+use Rattle.std.proofs.Common.{arith}
 use Rattle.std.specs.Prelude.{codes, ⊤}
 use Rattle.serde_json.specs.Data.{Data, string, Items, Members, no_members, member, depth, items_depth, members_depth}
 use Rattle.serde_json.specs.View.{items_of}
 use Rattle.cdp_json.specs.Kinds.{whole, any_items}
 use Rattle.cdp_json.specs.Rows.{maybe_member}
-use Rattle.css_objects.proofs.Objects.{header_sound, class_names_sound, sheet_text_sound, styles_sound, new_selectors_sound, new_rule_sound, matched_sound}
+use Rattle.css_objects.proofs.Objects.{header_sound, class_names_sound, sheet_text_sound, styles_sound, new_selectors_sound, new_rule_sound}
+use Rattle.css_objects.proofs.Objects.{matched_sound}
 use Rattle.css_objects.specs.Results.{sheet_text_result, class_names_result, styles_result, selectors_result, rule_result}
 use Rattle.css_objects.specs.Rules.{matched_kind}
 use Rattle.css_objects.specs.Sheets.{header_kind}
@@ -15,8 +17,10 @@ use Rattle.node_tree.specs.Seen.{is_opened}
 use Rattle.cdp_messages.specs.Told.{Told}
 use Rattle.cdp_messages.specs.NodeObject.{flat, attribute_list, node_type, node_name, local_name, only_if, node_data}
 use Rattle.cdp_messages.specs.NodeData.{tree_items, tree_data}
-use Rattle.cdp_messages.specs.declared.down.ReplyBody.TheVariants.{Nothing, Root, Node, NodeId, NodeIds, Attributes, ClassNames, SheetText, Styles, Selectors, Rule, Matched}
-use Rattle.cdp_messages.specs.Events.{attribute_modified, attribute_removed, text_modified, count_updated, inserted, removed, set_children, document_updated, sheet_added, sheet_changed, sheet_removed, paused}
+use Rattle.cdp_messages.specs.declared.down.ReplyBody.TheVariants.{Nothing, Root, Node, NodeId, NodeIds, Attributes, ClassNames, SheetText}
+use Rattle.cdp_messages.specs.declared.down.ReplyBody.TheVariants.{Styles, Selectors, Rule, Matched}
+use Rattle.cdp_messages.specs.Events.{attribute_modified, attribute_removed, text_modified, count_updated, inserted, removed, set_children}
+use Rattle.cdp_messages.specs.Events.{document_updated, sheet_added, sheet_changed, sheet_removed, paused}
 use Rattle.cdp_messages.specs.declared.down.PauseData.TheVariants as pause
 use Rattle.cdp_messages.specs.Laws.{RepliesAreShallow, EventsAreShallow}
 
@@ -28,7 +32,8 @@ Within x (Some d) = depth d ≤ x
 within_member : (x : ℕ) (k : List ℕ) (d : Data) (ms : Members) → depth d ≤ x → members_depth ms ≤ x → members_depth (member k d ms) ≤ x
 within_member x k d ms h r = omega arith
 
-within_maybe : (x : ℕ) (k : List ℕ) (o : Option Data) (ms : Members) → Within x o → members_depth ms ≤ x → members_depth (maybe_member k o ms) ≤ x
+within_maybe : (x : ℕ) (k : List ℕ) (o : Option Data) (ms : Members) → Within x o → members_depth ms ≤ x
+    → members_depth (maybe_member k o ms) ≤ x
 within_maybe x k None ms h r = r
 within_maybe x k (Some d) ms h r = omega arith
 
@@ -63,16 +68,21 @@ node_depth r ds =
     let m2 = maybe_member (codes "childNodeCount") (option_map whole.spell (only_if (holds k) r.count)) m3 in
     let m1 = member (codes "backendNodeId") (whole.spell r.seen.serial) m2 in
     let m0 = maybe_member (codes "attributes") (option_map attribute_list.spell (only_if (is_element k) r.seen.label.attributes)) m1 in
-    let e9 : members_depth m9 ≤ x = within_maybe x (codes "parentId") p1 no_members (whole_within x (nat_lt 0 r.parent) r.parent) (omega arith) in
+    let e9 : members_depth m9 ≤ x = within_maybe x (codes "parentId") p1 no_members (whole_within x (nat_lt 0 r.parent) r.parent)
+    (omega arith) in
     let e4 : members_depth m4 ≤ x =
-    within_member x (codes "localName") (string (local_name r.seen.label)) m5 (omega arith) (within_member x (codes "nodeId") (whole.spell r.seen.id) m6 (omega arith)
-    (within_member x (codes "nodeName") (string (node_name r.seen.label)) m7 (omega arith) (within_member x (codes "nodeType") (node_type.spell k) m8 (omega arith)
+    within_member x (codes "localName") (string (local_name r.seen.label)) m5 (omega arith)
+    (within_member x (codes "nodeId") (whole.spell r.seen.id) m6 (omega arith)
+    (within_member x (codes "nodeName") (string (node_name r.seen.label)) m7 (omega arith)
+    (within_member x (codes "nodeType") (node_type.spell k) m8 (omega arith)
     (within_member x (codes "nodeValue") (string r.seen.label.value) m9 (omega arith) e9)))) in
     let e0 : members_depth m0 ≤ x =
-    within_maybe x (codes "attributes") (option_map attribute_list.spell (only_if (is_element k) r.seen.label.attributes)) m1 (attributes_within x (is_element k) r.seen.label.attributes (omega arith))
+    within_maybe x (codes "attributes") (option_map attribute_list.spell (only_if (is_element k) r.seen.label.attributes)) m1
+    (attributes_within x (is_element k) r.seen.label.attributes (omega arith))
     (within_member x (codes "backendNodeId") (whole.spell r.seen.serial) m2 (omega arith)
     (within_maybe x (codes "childNodeCount") (option_map whole.spell (only_if (holds k) r.count)) m3 (whole_within x (holds k) r.count)
-    (within_maybe x (codes "children") (option_map any_items.spell (only_if (is_opened r.seen.hold) ds)) m4 (children_within (is_opened r.seen.hold) ds) e4))) in
+    (within_maybe x (codes "children") (option_map any_items.spell (only_if (is_opened r.seen.hold) ds)) m4
+    (children_within (is_opened r.seen.hold) ds) e4))) in
     up (members_depth m0) (items_depth ds) e0 where
       up : (m i : ℕ) → m ≤ suc i → suc m ≤ 2 + i
       up m i h = omega arith
@@ -111,12 +121,16 @@ replies_are_shallow id (NodeIds ns) h = shallow (items_depth (items_of (map whol
 replies_are_shallow id (Attributes pairs) h = shallow (items_depth (items_of (map string (flat pairs)))) (texts_depth (flat pairs)) where
   shallow : (d : ℕ) → d ≤ 0 → suc (max 0 (max (suc (max (suc d) 0)) 0)) ≤ 127
   shallow d p = omega arith
-replies_are_shallow id (ClassNames names) h = result_above (depth (class_names_result.spell names)) 2 (class_names_sound.shallow names) (omega arith)
-replies_are_shallow id (SheetText text) h = result_above (depth (sheet_text_result.spell text)) 1 (sheet_text_sound.shallow text) (omega arith)
+replies_are_shallow id (ClassNames names) h = result_above (depth (class_names_result.spell names)) 2 (class_names_sound.shallow names)
+    (omega arith)
+replies_are_shallow id (SheetText text) h = result_above (depth (sheet_text_result.spell text)) 1 (sheet_text_sound.shallow text)
+    (omega arith)
 replies_are_shallow id (Styles styles) h = result_above (depth (styles_result.spell styles)) 6 (styles_sound.shallow styles) (omega arith)
-replies_are_shallow id (Selectors selectors) h = result_above (depth (selectors_result.spell selectors)) 5 (new_selectors_sound.shallow selectors) (omega arith)
+replies_are_shallow id (Selectors selectors) h = result_above (depth (selectors_result.spell selectors)) 5
+    (new_selectors_sound.shallow selectors) (omega arith)
 replies_are_shallow id (Rule rule) h = result_above (depth (rule_result.spell rule)) 6 (new_rule_sound.shallow rule) (omega arith)
-replies_are_shallow id (Matched matched) h = result_above (depth (matched_kind.spell matched)) 10 (matched_sound.shallow matched) (omega arith)
+replies_are_shallow id (Matched matched) h = result_above (depth (matched_kind.spell matched)) 10 (matched_sound.shallow matched)
+    (omega arith)
 
 pub events_are_shallow : EventsAreShallow
 events_are_shallow (attribute_modified id m value) h = omega arith

@@ -1,5 +1,6 @@
 -- The laws of the messages.
-use Rattle.std.proofs.Common.{◌≡◌, ℕ, ◌≤◌, List, [], Bool, true, false, Option, Some, None, option_map, option_and_then, refl, sym, ap, ◌∙◌, subst, arith}
+use Rattle.std.proofs.Common.{◌≡◌, ℕ, ◌≤◌, List, [], Bool, true, false, Option, Some, None, option_map, option_and_then, refl, sym, ap, ◌∙◌}
+use Rattle.std.proofs.Common.{subst, arith}
 use Rattle.std.specs.Prelude.{codes, IsUtf8, ℤ, ◌⊎◌, ⊤}
 use Rattle.std.proofs.lemmas.Slice.Eq.{bytes_eq-Decides}
 use Rattle.std.proofs.Common.{inl, inr}
@@ -15,16 +16,22 @@ use Rattle.cdp_json.specs.Rows.{unit_if}
 use Rattle.cdp_json.proofs.KindLaws.{same_name, whole_lawful, signed_lawful, text_lawful, anything_lawful, refined_lawful, list_lawful}
 use Rattle.cdp_json.proofs.RowLaws.{ends_lawful, and_need_lawful, and_may_lawful, object_lawful}
 use Rattle.cdp_json.proofs.ReadBack.{read-compact_text, IsUtf8-compact_text}
-use Rattle.css_objects.proofs.Objects.{class_names_sound, sheet_text_sound, styles_sound, new_selectors_sound, new_rule_sound, matched_sound}
+use Rattle.css_objects.proofs.Objects.{class_names_sound, sheet_text_sound, styles_sound, new_selectors_sound, new_rule_sound}
+use Rattle.css_objects.proofs.Objects.{matched_sound}
 use Rattle.css_objects.specs.Results.{sheet_text_result, class_names_result, styles_result, selectors_result, rule_result}
 use Rattle.css_objects.specs.Rules.{matched_kind}
 use Rattle.cdp_messages.specs.declared.command.Param.{Param}
 use Rattle.cdp_messages.specs.declared.command.Param.TheVariants as param
 use Rattle.cdp_messages.specs.declared.command.Why.{Why}
-use Rattle.cdp_messages.specs.declared.command.Why.TheVariants.{NotJson, NoId, BadRequest, NoSession, NoMethod, BadParam, DomOff, CssOff, UnknownNode, NotPushed, NoPath, BadQuery, Crossed, NoNode, NotElement, NotText, IsDocument, NotChild, Inside, TooDeep, TooMany, BadName, NoAttr, NotContainer, NoSheet, NotMutable, BadRange, BadText, BadSelector, BadPlace, TooBig}
+use Rattle.cdp_messages.specs.declared.command.Why.TheVariants.{NotJson, NoId, BadRequest, NoSession, NoMethod, BadParam, DomOff, CssOff}
+use Rattle.cdp_messages.specs.declared.command.Why.TheVariants.{UnknownNode, NotPushed, NoPath, BadQuery, Crossed, NoNode, NotElement}
+use Rattle.cdp_messages.specs.declared.command.Why.TheVariants.{NotText, IsDocument, NotChild, Inside, TooDeep, TooMany, BadName, NoAttr}
+use Rattle.cdp_messages.specs.declared.command.Why.TheVariants.{NotContainer, NoSheet, NotMutable, BadRange, BadText, BadSelector, BadPlace}
+use Rattle.cdp_messages.specs.declared.command.Why.TheVariants.{TooBig}
 use Rattle.cdp_messages.specs.declared.command.Refused.{Refused}
 use Rattle.cdp_messages.specs.declared.down.ReplyBody.{ReplyBody}
-use Rattle.cdp_messages.specs.declared.down.ReplyBody.TheVariants.{Nothing, Root, Node, NodeId, NodeIds, Attributes, ClassNames, SheetText, Styles, Selectors, Rule, Matched}
+use Rattle.cdp_messages.specs.declared.down.ReplyBody.TheVariants.{Nothing, Root, Node, NodeId, NodeIds, Attributes, ClassNames, SheetText}
+use Rattle.cdp_messages.specs.declared.down.ReplyBody.TheVariants.{Styles, Selectors, Rule, Matched}
 use Rattle.cdp_messages.specs.declared.method.Method.{Method}
 use Rattle.cdp_messages.specs.declared.result_forms.ResultForm.{ResultForm}
 use Rattle.cdp_messages.specs.declared.result_forms.ResultForm.TheVariants as form
@@ -34,12 +41,17 @@ use Rattle.cdp_messages.specs.declared.node_rules.Manner.TheVariants.{Pushed, De
 use Rattle.cdp_messages.specs.NodeData.{fits_tree, fits_described_tree}
 use Rattle.cdp_messages.specs.Asked.{json_of, request}
 use Rattle.cdp_messages.specs.Events.{is_object, news_in}
-use Rattle.cdp_messages.specs.Replies.{Message, reply, fault, event, reply_kind, error_kind, fault_kind, reply_from, fault_from, message_data, fits_message, message_in, body_data, fits_body, form_of_body, result_by, result_of_method, result_of, refusal_message}
+use Rattle.cdp_messages.specs.Replies.{Message, reply, fault, event, reply_kind, error_kind, fault_kind, reply_from, fault_from}
+use Rattle.cdp_messages.specs.Replies.{message_data, fits_message, message_in, body_data, fits_body, form_of_body, result_by}
+use Rattle.cdp_messages.specs.Replies.{result_of_method, result_of, refusal_message}
 use Rattle.node_tree.specs.Keys.{first_of}
 use Rattle.cdp_messages.specs.Methods.{method_named}
-use Rattle.cdp_messages.specs.Results.{nothing_kind, root_kind, node_kind, id_kind, ids_kind, are_attributes, attributes_kind, result_form, first_field, all_forms, is_form}
+use Rattle.cdp_messages.specs.Results.{nothing_kind, root_kind, node_kind, id_kind, ids_kind, are_attributes, attributes_kind, result_form}
+use Rattle.cdp_messages.specs.Results.{first_field, all_forms, is_form}
 use Rattle.cdp_messages.specs.NodeObject.{flat}
-use Rattle.cdp_messages.specs.Laws.{RepliesAreRead, EventsAreRead, RefusalsAreRead, MessagesAreRead, FaultsAreRead, ObjectsAreEmpty, has_result, answers, ResultsAreRead, MessagesAreSpelled, Spells, ResultsAreSpelled, OneMessage, OneResult}
+use Rattle.cdp_messages.specs.Laws.{RepliesAreRead, EventsAreRead, RefusalsAreRead, MessagesAreRead, FaultsAreRead, ObjectsAreEmpty}
+use Rattle.cdp_messages.specs.Laws.{has_result, answers, ResultsAreRead, MessagesAreSpelled, Spells, ResultsAreSpelled, OneMessage}
+use Rattle.cdp_messages.specs.Laws.{OneResult}
 use Rattle.cdp_messages.proofs.Options.{both, both_parts, map_some}
 use Rattle.cdp_messages.proofs.FrameBytes.{json_is}
 use Rattle.cdp_messages.proofs.NodeObjects.{attributes_lawful, flat_fits}
@@ -49,7 +61,8 @@ use Rattle.cdp_messages.proofs.NewsLaws.{news_again, news_take, news_plain}
 -- ---- the descriptions are lawful
 
 pub reply_lawful : LawfulKind reply_kind
-reply_lawful = object_lawful (and_need_lawful _ whole_lawful (and_need_lawful _ (refined_lawful is_object anything_lawful) ends_lawful refl) refl)
+reply_lawful = object_lawful (and_need_lawful _ whole_lawful
+    (and_need_lawful _ (refined_lawful is_object anything_lawful) ends_lawful refl) refl)
 
 pub error_lawful : LawfulKind error_kind
 error_lawful = object_lawful (and_need_lawful _ signed_lawful (and_need_lawful _ text_lawful ends_lawful refl) refl)
@@ -61,7 +74,9 @@ pub root_lawful : LawfulKind root_kind
 root_lawful = object_lawful (and_need_lawful _ document_lawful ends_lawful refl)
 
 pub request_lawful : LawfulKind request
-request_lawful = object_lawful (and_need_lawful _ whole_lawful (and_need_lawful _ text_lawful (and_may_lawful _ anything_lawful (and_may_lawful _ anything_lawful ends_lawful refl) refl) refl) refl)
+request_lawful = object_lawful
+    (and_need_lawful _ whole_lawful
+    (and_need_lawful _ text_lawful (and_may_lawful _ anything_lawful (and_may_lawful _ anything_lawful ends_lawful refl) refl) refl) refl)
 
 pub id_lawful : LawfulKind id_kind
 id_lawful = object_lawful (and_need_lawful _ whole_lawful ends_lawful refl)
@@ -80,9 +95,11 @@ ids_lawful = object_lawful (and_need_lawful _ (list_lawful whole_lawful) ends_la
 pub message_again : (m : Message) → fits_message m ≡ true → message_in (message_data m) ≡ Some m
 message_again (reply id result) f =
     let d = message_data (reply id result) in
-    ap (λ o. first_of (option_map reply_from o) (first_of (option_map fault_from (fault_kind.reads d)) (option_map event (news_in d)))) (reply_lawful.again (id, (result, tt)) f)
+    ap (λ o. first_of (option_map reply_from o) (first_of (option_map fault_from (fault_kind.reads d)) (option_map event (news_in d))))
+    (reply_lawful.again (id, (result, tt)) f)
 message_again (fault id code said) f =
-    ap (λ o. first_of (option_map fault_from o) (option_map event (news_in (message_data (fault id code said))))) (fault_lawful.again ((code, (said, tt)), (id, tt)) f)
+    ap (λ o. first_of (option_map fault_from o) (option_map event (news_in (message_data (fault id code said)))))
+    (fault_lawful.again ((code, (said, tt)), (id, tt)) f)
 message_again (event n) f = ap (option_map event) (news_again n f)
 
 or_else_some : {A : Type 0} (o p : Option A) (x : A) → first_of o p ≡ Some x → (o ≡ Some x) ⊎ (p ≡ Some x)
@@ -92,19 +109,22 @@ or_else_some (Some y) p x e = inl e
 abbrev IsSpelled : Data → Message → Type 0
 IsSpelled d m = (message_data m ≡ d) × (fits_message m ≡ true)
 
-other_spelled : (d : Data) (m : Message) → first_of (option_map fault_from (fault_kind.reads d)) (option_map event (news_in d)) ≡ Some m → IsSpelled d m
-other_spelled d m e = elim (or_else_some (option_map fault_from (fault_kind.reads d)) (option_map event (news_in d)) m e) as (λ _. IsSpelled d m) [
-  | inl r ↦
-      let p = map_some fault_from (fault_kind.reads d) m r in
-      subst (IsSpelled d) p.2 (fault_lawful.takes d p.0 p.1)
-  | inr r ↦
-      let p = map_some event (news_in d) m r in
-      subst (IsSpelled d) p.2 (news_take d p.0 p.1)
-]
+other_spelled : (d : Data) (m : Message) → first_of (option_map fault_from (fault_kind.reads d)) (option_map event (news_in d)) ≡ Some m
+    → IsSpelled d m
+other_spelled d m e = elim (or_else_some (option_map fault_from (fault_kind.reads d)) (option_map event (news_in d)) m e) as
+    (λ _. IsSpelled d m) [
+      | inl r ↦
+          let p = map_some fault_from (fault_kind.reads d) m r in
+          subst (IsSpelled d) p.2 (fault_lawful.takes d p.0 p.1)
+      | inr r ↦
+          let p = map_some event (news_in d) m r in
+          subst (IsSpelled d) p.2 (news_take d p.0 p.1)
+    ]
 
 pub messages_are_spelled : MessagesAreSpelled
 messages_are_spelled d m e =
-    elim (or_else_some (option_map reply_from (reply_kind.reads d)) (first_of (option_map fault_from (fault_kind.reads d)) (option_map event (news_in d))) m e) as (λ _. IsSpelled d m) [
+    elim (or_else_some (option_map reply_from (reply_kind.reads d))
+    (first_of (option_map fault_from (fault_kind.reads d)) (option_map event (news_in d))) m e) as (λ _. IsSpelled d m) [
       | inl r ↦
           let p = map_some reply_from (reply_kind.reads d) m r in
           subst (IsSpelled d) p.2 (reply_lawful.takes d p.0 p.1)
@@ -135,7 +155,8 @@ form_again form.Rule = refl
 form_again form.Matched = refl
 
 same_form : (f g : ResultForm) → first_field f ≡ first_field g → f ≡ g
-same_form f g e = let same : ◌≡◌ {A = Option ResultForm} (Some f) (Some g) = sym (form_again f) ∙ ap (named first_field all_forms) e ∙ form_again g in cc
+same_form f g e = let same : ◌≡◌ {A = Option ResultForm} (Some f) (Some g) = sym (form_again f) ∙ ap
+    (named first_field all_forms) e ∙ form_again g in cc
 
 form_itself : (f : ResultForm) → is_form f f ≡ true
 form_itself f = same_name (first_field f)
@@ -156,12 +177,14 @@ by_again (Rule rule) f = ap (option_map (λ x. Rule x)) (new_rule_sound.lawful.a
 by_again (Matched matched) f = ap (option_map (λ x. Matched x)) (matched_sound.lawful.again matched f)
 
 -- a method with such a result
-has_form : (o : Option Method) (body : ReplyBody) → has_result o body ≡ true → (m : Method) × (o ≡ Some m) × (result_form m ≡ form_of_body body)
+has_form : (o : Option Method) (body : ReplyBody) → has_result o body ≡ true
+    → (m : Method) × (o ≡ Some m) × (result_form m ≡ form_of_body body)
 has_form None body e = absurd cc
 has_form (Some m) body e = (m, refl, same_form (result_form m) (form_of_body body) ((bytes_eq-Decides _ _).0 e))
 
 -- what is read of a method with such a result is what its form reads
-read_by_form : (method : List ℕ) (body : ReplyBody) (d : Data) → answers method body ≡ true → result_of method d ≡ result_by (form_of_body body) d
+read_by_form : (method : List ℕ) (body : ReplyBody) (d : Data) → answers method body ≡ true
+    → result_of method d ≡ result_by (form_of_body body) d
 read_by_form method body d a =
     let p = has_form (method_named method) body a in
     ap (λ o. result_of_method o d) p.1 ∙ ap (λ f. result_by f d) p.2
@@ -205,7 +228,8 @@ by_takes form.NodeIds d body e =
 by_takes form.Attributes d body e =
     let p = map_some (λ x. Attributes x.0) (attributes_kind.reads d) body e in
     let t = attribute_result_lawful.takes d p.0 p.1 in
-    subst (IsRead form.Attributes d) p.2 (record { spells = sym t.0; fits = (both_parts _ (are_attributes p.0.0) (both_parts _ true t.1).0).1; form = refl })
+    subst (IsRead form.Attributes d) p.2
+    (record { spells = sym t.0; fits = (both_parts _ (are_attributes p.0.0) (both_parts _ true t.1).0).1; form = refl })
 by_takes form.ClassNames d body e =
     let p = map_some (λ x. ClassNames x) (class_names_result.reads d) body e in
     let t = class_names_sound.lawful.takes d p.0 p.1 in
@@ -231,7 +255,8 @@ by_takes form.Matched d body e =
     let t = matched_sound.lawful.takes d p.0 p.1 in
     subst (IsRead form.Matched d) p.2 (record { spells = sym t.0; fits = t.1; form = refl })
 
-method_takes : (o : Option Method) (d : Data) (body : ReplyBody) → result_of_method o d ≡ Some body → Spells body d × (fits_body body ≡ true) × (has_result o body ≡ true)
+method_takes : (o : Option Method) (d : Data) (body : ReplyBody) → result_of_method o d ≡ Some body
+    → Spells body d × (fits_body body ≡ true) × (has_result o body ≡ true)
 method_takes None d body e = absurd cc
 method_takes (Some m) d body e =
     let t = by_takes (result_form m) d body e in
@@ -269,17 +294,20 @@ told_by_name (Matched matched) = refl
 
 pub one_result : OneResult
 one_result a b fa fb e =
-    let form : form_of_body a ≡ form_of_body b = same_form (form_of_body a) (form_of_body b) (sym (told_by_name a) ∙ ap first_name_in e ∙ told_by_name b) in
+    let form : form_of_body a ≡ form_of_body b = same_form (form_of_body a) (form_of_body b)
+    (sym (told_by_name a) ∙ ap first_name_in e ∙ told_by_name b) in
     let same : ◌≡◌ {A = Option ReplyBody} (Some a) (Some b) = sym (by_again a fa) ∙ (λ i. result_by (form i) (e i)) ∙ by_again b fb in
     cc
 
 -- ---- texts
 
 -- the text of a plain value is that value
-pub json_of-compact_text : (d : Data) → is_plain d ≡ true → depth d ≤ max_depth → IsUtf8 (compact_text d) → json_of (compact_text d) ≡ Some d
+pub json_of-compact_text : (d : Data) → is_plain d ≡ true → depth d ≤ max_depth → IsUtf8 (compact_text d)
+    → json_of (compact_text d) ≡ Some d
 json_of-compact_text d p s u = json_is (compact_text d) d u (read-compact_text d p s)
 
-sound_plain : {T : Type 0} {k : Kind T} {P : T → Type 0} {n : ℕ} → IsSoundKind k P n → (x : T) → k.fits x ≡ true → is_plain (k.spell x) ≡ true
+sound_plain : {T : Type 0} {k : Kind T} {P : T → Type 0} {n : ℕ} → IsSoundKind k P n → (x : T) → k.fits x ≡ true
+    → is_plain (k.spell x) ≡ true
 sound_plain {T} {k} s x f = s.lawful.plain x f (ap (λ o. passes o x) s.tight)
 
 pub body_plain : (body : ReplyBody) → fits_body body ≡ true → is_plain (body_data body) ≡ true
@@ -313,7 +341,8 @@ body_object (Matched matched) = refl
 pub reply_fits : (id : ℕ) (body : ReplyBody) → is_counted id ≡ true → fits_message (reply id (body_data body)) ≡ true
 reply_fits id body c = both c (both (body_object body) refl)
 
-pub reply_plain : (id : ℕ) (body : ReplyBody) → is_counted id ≡ true → fits_body body ≡ true → is_plain (message_data (reply id (body_data body))) ≡ true
+pub reply_plain : (id : ℕ) (body : ReplyBody) → is_counted id ≡ true → fits_body body ≡ true
+    → is_plain (message_data (reply id (body_data body))) ≡ true
 reply_plain id body c f = reply_lawful.plain (id, (body_data body, tt)) (reply_fits id body c) (body_plain body f)
 
 pub messages_are_read : MessagesAreRead
@@ -418,9 +447,16 @@ refusal_fits : (r : Refused) → holds_of_some is_counted r.id ≡ true → fits
 refusal_fits r c = both (both (code_fits r.why) refl) (both c refl)
 
 fault_utf8 : (id : Option ℕ) (code : ℤ) (said : List ℕ) → IsUtf8 said → HasUtf8 (message_data (fault id code said))
-fault_utf8 None code said u = (IsUtf8-are_ascii (codes "error") refl, (IsUtf8-are_ascii (codes "code") refl, tt, (IsUtf8-are_ascii (codes "message") refl, u, tt)), tt)
-fault_utf8 (Some id) code said u =
-    (IsUtf8-are_ascii (codes "error") refl, (IsUtf8-are_ascii (codes "code") refl, tt, (IsUtf8-are_ascii (codes "message") refl, u, tt)), (IsUtf8-are_ascii (codes "id") refl, tt, tt))
+fault_utf8 None code said u = (
+  IsUtf8-are_ascii (codes "error") refl,
+  (IsUtf8-are_ascii (codes "code") refl, tt, (IsUtf8-are_ascii (codes "message") refl, u, tt)),
+  tt,
+)
+fault_utf8 (Some id) code said u = (
+  IsUtf8-are_ascii (codes "error") refl,
+  (IsUtf8-are_ascii (codes "code") refl, tt, (IsUtf8-are_ascii (codes "message") refl, u, tt)),
+  (IsUtf8-are_ascii (codes "id") refl, tt, tt),
+)
 
 fault_shallow : (id : Option ℕ) (code : ℤ) (said : List ℕ) → depth (message_data (fault id code said)) ≤ max_depth
 fault_shallow None code said = omega arith

@@ -7,7 +7,8 @@ use Rattle.cdp_json.specs.Plain.{is_plain}
 use Rattle.cdp_json.specs.Kinds.{Kind, named}
 use Rattle.cdp_json.specs.Rows.{unit_if}
 use Rattle.cdp_json.specs.Lawful.{LawfulKind}
-use Rattle.cdp_json.proofs.KindLaws.{named_is, whole_lawful, text_lawful, flag_lawful, anything_lawful, any_items_lawful, refined_lawful, through_lawful, choice_lawful, only_text_lawful}
+use Rattle.cdp_json.proofs.KindLaws.{named_is, whole_lawful, text_lawful, flag_lawful, anything_lawful, any_items_lawful, refined_lawful}
+use Rattle.cdp_json.proofs.KindLaws.{through_lawful, choice_lawful, only_text_lawful}
 use Rattle.cdp_json.proofs.RowLaws.{ends_lawful, and_need_lawful, and_may_lawful, object_lawful}
 use Rattle.css_objects.proofs.Objects.{sheet_sound, header_sound}
 use Rattle.cdp_messages.specs.declared.command.WatchWord.{WatchWord}
@@ -16,7 +17,13 @@ use Rattle.cdp_messages.specs.declared.down.PauseData.{PauseData}
 use Rattle.cdp_messages.specs.declared.down.PauseData.TheVariants as pause
 use Rattle.cdp_messages.specs.declared.event_names.EventName.{EventName}
 use Rattle.cdp_messages.specs.declared.event_names.EventName.TheVariants as name
-use Rattle.cdp_messages.specs.Events.{News, attribute_modified, attribute_removed, text_modified, count_updated, inserted, removed, set_children, document_updated, sheet_added, sheet_changed, sheet_removed, paused, event_name, all_events, event_named, shows_no_children, node_id, attribute_name, modified_kind, dropped_kind, data_kind, count_kind, inserted_kind, removed_kind, children_kind, added_kind, sheet_id_kind, empty_kind, watch_name, all_watches, watch, pause_fields, pause_by, pause_from, pause_kind, paused_kind, NewsForm, news_form_of, news_form, envelope, news_data, fits_news, news_by, news_of_name, news_inside, news_in, no_call_frames}
+use Rattle.cdp_messages.specs.Events.{News, attribute_modified, attribute_removed, text_modified, count_updated, inserted, removed}
+use Rattle.cdp_messages.specs.Events.{set_children, document_updated, sheet_added, sheet_changed, sheet_removed, paused, event_name}
+use Rattle.cdp_messages.specs.Events.{all_events, event_named, shows_no_children, node_id, attribute_name, modified_kind, dropped_kind}
+use Rattle.cdp_messages.specs.Events.{data_kind, count_kind, inserted_kind, removed_kind, children_kind, added_kind, sheet_id_kind}
+use Rattle.cdp_messages.specs.Events.{empty_kind, watch_name, all_watches, watch, pause_fields, pause_by, pause_from, pause_kind}
+use Rattle.cdp_messages.specs.Events.{paused_kind, NewsForm, news_form_of, news_form, envelope, news_data, fits_news, news_by, news_of_name}
+use Rattle.cdp_messages.specs.Events.{news_inside, news_in, no_call_frames}
 use Rattle.css_objects.specs.Styles.{has_none}
 use Rattle.cdp_messages.proofs.Options.{and_then_some, map_some}
 use Rattle.cdp_messages.proofs.NodeTrees.{nodes_lawful, tree_lawful}
@@ -33,7 +40,8 @@ attribute_name_lawful : LawfulKind attribute_name
 attribute_name_lawful = refined_lawful is_attribute_name text_lawful
 
 modified_lawful : LawfulKind modified_kind
-modified_lawful = object_lawful (and_need_lawful _ attribute_name_lawful (and_need_lawful _ node_id_lawful (and_need_lawful _ text_lawful ends_lawful refl) refl) refl)
+modified_lawful = object_lawful
+    (and_need_lawful _ attribute_name_lawful (and_need_lawful _ node_id_lawful (and_need_lawful _ text_lawful ends_lawful refl) refl) refl)
 
 dropped_lawful : LawfulKind dropped_kind
 dropped_lawful = object_lawful (and_need_lawful _ attribute_name_lawful (and_need_lawful _ node_id_lawful ends_lawful refl) refl)
@@ -45,7 +53,9 @@ count_lawful : LawfulKind count_kind
 count_lawful = object_lawful (and_need_lawful _ whole_lawful (and_need_lawful _ node_id_lawful ends_lawful refl) refl)
 
 inserted_lawful : LawfulKind inserted_kind
-inserted_lawful = object_lawful (and_need_lawful _ (refined_lawful shows_no_children tree_lawful) (and_need_lawful _ node_id_lawful (and_need_lawful _ whole_lawful ends_lawful refl) refl) refl)
+inserted_lawful = object_lawful
+    (and_need_lawful _ (refined_lawful shows_no_children tree_lawful)
+    (and_need_lawful _ node_id_lawful (and_need_lawful _ whole_lawful ends_lawful refl) refl) refl)
 
 removed_lawful : LawfulKind removed_kind
 removed_lawful = object_lawful (and_need_lawful _ node_id_lawful (and_need_lawful _ node_id_lawful ends_lawful refl) refl)
@@ -70,7 +80,8 @@ first_watch Removed = refl
 pub watch_lawful : LawfulKind watch
 watch_lawful = choice_lawful watch_name all_watches first_watch
 
-pause_only : (w : WatchWord) (insertion : Option Bool) (target : Option ℕ) (node : ℕ) (x : PauseData) → pause_by w insertion target node ≡ Some x → pause_fields x ≡ (insertion, (node, (target, (w, tt))))
+pause_only : (w : WatchWord) (insertion : Option Bool) (target : Option ℕ) (node : ℕ) (x : PauseData)
+    → pause_by w insertion target node ≡ Some x → pause_fields x ≡ (insertion, (node, (target, (w, tt))))
 pause_only Subtree (Some b) (Some t) node x e = ap pause_fields (sym (same_some (pause.Subtree node t b) x e))
 pause_only Subtree (Some b) None node x e = absurd cc
 pause_only Subtree None t node x e = absurd cc
@@ -89,7 +100,9 @@ pause_back (pause.Removed node) = refl
 pause_lawful : LawfulKind pause_kind
 pause_lawful =
     through_lawful pause_fields pause_from (λ f x e. pause_only f.1.1.1.0 f.0 f.1.1.0 f.1.0 x e) pause_back
-    (object_lawful (and_may_lawful _ flag_lawful (and_need_lawful _ node_id_lawful (and_may_lawful _ node_id_lawful (and_need_lawful _ watch_lawful ends_lawful refl) refl) refl) refl))
+    (object_lawful (and_may_lawful _ flag_lawful
+    (and_need_lawful _ node_id_lawful
+    (and_may_lawful _ node_id_lawful (and_need_lawful _ watch_lawful ends_lawful refl) refl) refl) refl))
 
 no_items_only : (ds : Items) (x : ⊤) → unit_if (has_none ds) ≡ Some x → no_items ≡ ds
 no_items_only no_items x e = refl
@@ -99,7 +112,8 @@ no_frames_lawful : LawfulKind no_call_frames
 no_frames_lawful = through_lawful (λ _. no_items) (λ ds. unit_if (has_none ds)) no_items_only (λ x. refl) any_items_lawful
 
 paused_lawful : LawfulKind paused_kind
-paused_lawful = object_lawful (and_need_lawful _ no_frames_lawful (and_need_lawful _ pause_lawful (and_need_lawful _ (only_text_lawful _) ends_lawful refl) refl) refl)
+paused_lawful = object_lawful (and_need_lawful _ no_frames_lawful
+    (and_need_lawful _ pause_lawful (and_need_lawful _ (only_text_lawful _) ends_lawful refl) refl) refl)
 
 -- ---- by name
 
@@ -118,11 +132,13 @@ named_again name.StyleSheetRemoved = refl
 named_again name.Paused = refl
 
 by_again : (n : News) → fits_news n ≡ true → news_by (news_form n).name (news_form n).params ≡ Some n
-by_again (attribute_modified node m value) f = ap (option_map (λ x. attribute_modified x.1.0 x.0 x.1.1.0)) (modified_lawful.again (m, (node, (value, tt))) f)
+by_again (attribute_modified node m value) f = ap (option_map (λ x. attribute_modified x.1.0 x.0 x.1.1.0))
+    (modified_lawful.again (m, (node, (value, tt))) f)
 by_again (attribute_removed node m) f = ap (option_map (λ x. attribute_removed x.1.0 x.0)) (dropped_lawful.again (m, (node, tt)) f)
 by_again (text_modified node value) f = ap (option_map (λ x. text_modified x.1.0 x.0)) (data_lawful.again (value, (node, tt)) f)
 by_again (count_updated node count) f = ap (option_map (λ x. count_updated x.1.0 x.0)) (count_lawful.again (count, (node, tt)) f)
-by_again (inserted parent previous node) f = ap (option_map (λ x. inserted x.1.0 x.1.1.0 x.0)) (inserted_lawful.again (node, (parent, (previous, tt))) f)
+by_again (inserted parent previous node) f = ap (option_map (λ x. inserted x.1.0 x.1.1.0 x.0))
+    (inserted_lawful.again (node, (parent, (previous, tt))) f)
 by_again (removed parent node) f = ap (option_map (λ x. removed x.1.0 x.0)) (removed_lawful.again (node, (parent, tt)) f)
 by_again (set_children parent nodes) f = ap (option_map (λ x. set_children x.1.0 x.0)) (children_lawful.again (nodes, (parent, tt)) f)
 by_again document_updated f = refl
@@ -151,15 +167,21 @@ pub record IsForm (n : EventName) (d : Data) (x : News) : Type 0 where
   pub params_are : (news_form x).params ≡ d
   pub fits : fits_news x ≡ true
 
-taken : {T : Type 0} {k : Kind T} → LawfulKind k → (n : EventName) (makes : T → News) → ((y : T) → news_form (makes y) ≡ news_form_of n k y) → (d : Data) (x : News) → option_map makes (k.reads d) ≡ Some x → IsForm n d x
+taken : {T : Type 0} {k : Kind T} → LawfulKind k → (n : EventName) (makes : T → News)
+    → ((y : T) → news_form (makes y) ≡ news_form_of n k y) → (d : Data) (x : News) → option_map makes (k.reads d) ≡ Some x → IsForm n d x
 taken {T} {k} law n makes is d x e =
     let p = map_some makes (k.reads d) x e in
     let t = law.takes d p.0 p.1 in
     subst (IsForm n d) p.2
-    (record { name_is = ap (λ (f : NewsForm). f.name) (is p.0); params_are = ap (λ (f : NewsForm). f.params) (is p.0) ∙ t.0; fits = ap (λ (f : NewsForm). f.fits) (is p.0) ∙ t.1 })
+    (record {
+      name_is = ap (λ (f : NewsForm). f.name) (is p.0);
+      params_are = ap (λ (f : NewsForm). f.params) (is p.0) ∙ t.0;
+      fits = ap (λ (f : NewsForm). f.fits) (is p.0) ∙ t.1;
+    })
 
 by_takes : (n : EventName) (d : Data) (x : News) → news_by n d ≡ Some x → IsForm n d x
-by_takes name.AttributeModified d x e = taken modified_lawful name.AttributeModified (λ y. attribute_modified y.1.0 y.0 y.1.1.0) (λ y. refl) d x e
+by_takes name.AttributeModified d x e = taken modified_lawful name.AttributeModified (λ y. attribute_modified y.1.0 y.0 y.1.1.0)
+    (λ y. refl) d x e
 by_takes name.AttributeRemoved d x e = taken dropped_lawful name.AttributeRemoved (λ y. attribute_removed y.1.0 y.0) (λ y. refl) d x e
 by_takes name.CharacterDataModified d x e = taken data_lawful name.CharacterDataModified (λ y. text_modified y.1.0 y.0) (λ y. refl) d x e
 by_takes name.ChildNodeCountUpdated d x e = taken count_lawful name.ChildNodeCountUpdated (λ y. count_updated y.1.0 y.0) (λ y. refl) d x e

@@ -1,5 +1,6 @@
 -- A told row and its object say the same.
-use Rattle.std.proofs.Common.{◌≡◌, ℕ, ◌==◌, List, [], ◌∷◌, Bool, true, false, not, ◌||◌, cond, nat_lt, Option, Some, None, bytes_eq, refl, sym, ap, ◌∙◌, arith, ◌≤◌, ltb-false, eqb-true}
+use Rattle.std.proofs.Common.{◌≡◌, ℕ, ◌==◌, List, [], ◌∷◌, Bool, true, false, not, ◌||◌, cond, nat_lt, Option, Some, None, bytes_eq, refl}
+use Rattle.std.proofs.Common.{sym, ap, ◌∙◌, arith, ◌≤◌, ltb-false, eqb-true}
 use Rattle.std.specs.Prelude.{is_some, unwrap_or}
 use Rattle.std.specs.List.{list_all}
 use Rattle.std.proofs.lemmas.Slice.Eq.{bytes_eq-Decides}
@@ -12,12 +13,16 @@ use Rattle.cdp_json.proofs.KindLaws.{whole_lawful, text_lawful, any_items_lawful
 use Rattle.cdp_json.proofs.RowLaws.{ends_lawful, and_need_lawful, and_may_lawful, object_lawful}
 use Rattle.node_tree.specs.declared.Kind.{Kind}
 use Rattle.node_tree.specs.declared.Kind.TheVariants.{Document, Element, Text, Comment, Doctype}
-use Rattle.node_tree.specs.Labels.{Pair, Label, is_document, is_element, holds, has_name, has_value, is_empty, is_ascending, is_formed_label, is_named_label}
+use Rattle.node_tree.specs.Labels.{Pair, Label, is_document, is_element, holds, has_name, has_value, is_empty, is_ascending}
+use Rattle.node_tree.specs.Labels.{is_formed_label, is_named_label}
 use Rattle.node_tree.specs.Seen.{Hold, leaf, counted, opened, is_opened}
 use Rattle.cdp_messages.specs.declared.node_rules.Manner.{Manner}
 use Rattle.cdp_messages.specs.declared.node_rules.Manner.TheVariants.{Pushed, Described}
 use Rattle.cdp_messages.specs.Told.{Told, hold_of}
-use Rattle.cdp_messages.specs.NodeObject.{NodeObject, flat, paired, attribute_list, type_number, first_numbered, kind_of_type, node_type, Fields, fields_of, of_fields, node_fields, node_name, local_name, only_if, object_for, name_in, label_in, told_in, children_shown, same, fits_hold, fits_place, fits_told, is_counted_row, row_fits, agrees, tells, node_object}
+use Rattle.cdp_messages.specs.NodeObject.{NodeObject, flat, paired, attribute_list, type_number, first_numbered, kind_of_type, node_type}
+use Rattle.cdp_messages.specs.NodeObject.{Fields, fields_of, of_fields, node_fields, node_name, local_name, only_if, object_for, name_in}
+use Rattle.cdp_messages.specs.NodeObject.{label_in, told_in, children_shown, same, fits_hold, fits_place, fits_told, is_counted_row}
+use Rattle.cdp_messages.specs.NodeObject.{row_fits, agrees, tells, node_object}
 
 -- ---- the fields are lawful
 
@@ -52,7 +57,8 @@ kind_of-type_number Comment = refl
 kind_of-type_number Doctype = refl
 
 type_lawful : LawfulKind node_type
-type_lawful = through_lawful type_number kind_of_type (numbered_is type_number (Element ∷ Text ∷ Comment ∷ Document ∷ Doctype ∷ [])) kind_of-type_number whole_lawful
+type_lawful = through_lawful type_number kind_of_type
+    (numbered_is type_number (Element ∷ Text ∷ Comment ∷ Document ∷ Doctype ∷ [])) kind_of-type_number whole_lawful
 
 of_fields_only : (f : Fields) (o : NodeObject) → Some (of_fields f) ≡ Some o → fields_of o ≡ f
 of_fields_only f o e = let is : of_fields f ≡ o = cc in ap fields_of (sym is)
@@ -81,7 +87,8 @@ only_if-unwrap None false d e = refl
 only_if-unwrap (Some x) true d e = refl
 only_if-unwrap (Some x) false d e = absurd cc
 
-opened-hold_of : (o : Option Items) (container : Bool) (n : ℕ) → only_if (is_opened (hold_of (is_some o) container n)) (unwrap_or o no_items) ≡ o
+opened-hold_of : (o : Option Items) (container : Bool) (n : ℕ)
+    → only_if (is_opened (hold_of (is_some o) container n)) (unwrap_or o no_items) ≡ o
 opened-hold_of None true n = refl
 opened-hold_of None false n = refl
 opened-hold_of (Some ds) container n = refl
@@ -94,10 +101,18 @@ same_text : (a b : List ℕ) → bytes_eq a b ≡ true → b ≡ a
 same_text a b e = sym ((bytes_eq-Decides a b).0 e)
 
 -- an object by its fields
-object_is : (o : NodeObject) (attributes : Option (List Pair)) (count : Option ℕ) (children : Option Items) (local name : List ℕ) (parent : Option ℕ)
+object_is : (o : NodeObject) (attributes : Option (List Pair)) (count : Option ℕ) (children : Option Items) (local name : List ℕ)
+    (parent : Option ℕ)
     → attributes ≡ o.attributes → count ≡ o.count → children ≡ o.children → local ≡ o.local_name → name ≡ o.name → parent ≡ o.parent
     → record o { attributes = attributes; count = count; children = children; local_name = local; name = name; parent = parent } ≡ o
-object_is o attributes count children local name parent a c k l n p = λ i. record o { attributes = a i; count = c i; children = k i; local_name = l i; name = n i; parent = p i }
+object_is o attributes count children local name parent a c k l n p = λ i. record o {
+  attributes = a i;
+  count = c i;
+  children = k i;
+  local_name = l i;
+  name = n i;
+  parent = p i;
+}
 
 pub object_for-told_in : (m : Manner) (top : Bool) (o : NodeObject) → tells m top o ≡ true → object_for (told_in o) (children_shown o) ≡ o
 object_for-told_in m top o t =
@@ -107,7 +122,8 @@ object_for-told_in m top o t =
     let p3 = both_parts _ (bytes_eq o.local_name (local_name (label_in o))) p4.0 in
     let p2 = both_parts (same (is_some o.attributes) (is_element o.kind)) (same (is_some o.count) (holds o.kind)) p3.0 in
     object_is o _ _ _ _ _ _ (only_if-unwrap o.attributes (is_element o.kind) [] p2.0) (only_if-unwrap o.count (holds o.kind) 0 p2.1)
-    (opened-hold_of o.children (holds o.kind) (unwrap_or o.count 0)) (same_text o.local_name _ p3.1) (same_text o.name _ p4.1) (positive_only o.parent p5.1)
+    (opened-hold_of o.children (holds o.kind) (unwrap_or o.count 0)) (same_text o.local_name _ p3.1) (same_text o.name _ p4.1)
+    (positive_only o.parent p5.1)
 
 -- ---- the row that its object tells
 
@@ -128,7 +144,8 @@ formed_attributes true ps e = refl
 formed_attributes false ps e = sym (empty_is ps e)
 
 formed_name : (k : Kind) (name value : List ℕ) (ps : List Pair) → cond (has_name k) true (is_empty name) ≡ true
-    → name_in k (local_name (record { kind = k; name = name; value = value; attributes = ps })) (node_name (record { kind = k; name = name; value = value; attributes = ps })) ≡ name
+    → name_in k (local_name (record { kind = k; name = name; value = value; attributes = ps }))
+    (node_name (record { kind = k; name = name; value = value; attributes = ps })) ≡ name
 formed_name Document name value ps e = sym (empty_is name e)
 formed_name Element name value ps e = refl
 formed_name Text name value ps e = sym (empty_is name e)
@@ -143,7 +160,8 @@ kept_hold (counted n) true count width ds e = ap counted (sym (eqb-true n count 
 kept_hold (counted n) false count width ds e = absurd cc
 kept_hold opened container count width ds e = refl
 
-kept_count : (h : Hold) (container : Bool) (count width : ℕ) → fits_hold h container count width ≡ true → unwrap_or (only_if container count) 0 ≡ count
+kept_count : (h : Hold) (container : Bool) (count width : ℕ) → fits_hold h container count width ≡ true
+    → unwrap_or (only_if container count) 0 ≡ count
 kept_count leaf true count width e = absurd cc
 kept_count leaf false count width e = sym (eqb-true count 0 e)
 kept_count (counted n) true count width e = refl
@@ -188,18 +206,30 @@ standing Described top width r f =
     record { formed = p2.1; named = p3.1; hold = p6.1 }
 
 -- the row is told again
-told_is : (r : Told) (parent count : ℕ) (name : List ℕ) (attributes : List Pair) (hold : Hold) → parent ≡ r.parent → count ≡ r.count → name ≡ r.seen.label.name → attributes ≡ r.seen.label.attributes → hold ≡ r.seen.hold
-    → record r { parent = parent; count = count; seen = record r.seen { label = record r.seen.label { name = name; attributes = attributes }; hold = hold } } ≡ r
+told_is : (r : Told) (parent count : ℕ) (name : List ℕ) (attributes : List Pair) (hold : Hold) → parent ≡ r.parent → count ≡ r.count
+    → name ≡ r.seen.label.name → attributes ≡ r.seen.label.attributes → hold ≡ r.seen.hold
+    → record r {
+      parent = parent;
+      count = count;
+      seen = record r.seen { label = record r.seen.label { name = name; attributes = attributes }; hold = hold };
+    } ≡ r
 told_is r parent count name attributes hold p c n a h =
-    λ i. record r { parent = p i; count = c i; seen = record r.seen { label = record r.seen.label { name = n i; attributes = a i }; hold = h i } }
+    λ i. record r {
+      parent = p i;
+      count = c i;
+      seen = record r.seen { label = record r.seen.label { name = n i; attributes = a i }; hold = h i };
+    }
 
-pub told_in-object_for : (m : Manner) (top : Bool) (width : ℕ) (r : Told) (ds : Items) → fits_told m top width r ≡ true → told_in (object_for r ds) ≡ r
+pub told_in-object_for : (m : Manner) (top : Bool) (width : ℕ) (r : Told) (ds : Items) → fits_told m top width r ≡ true
+    → told_in (object_for r ds) ≡ r
 told_in-object_for m top width r ds f =
     let p = standing m top width r f in
     let l = r.seen.label in
     let q2 = both_parts _ (cond (has_value l.kind) true (is_empty l.value)) p.formed in
-    let q1 = both_parts (cond (is_element l.kind) (is_ascending l.attributes) (is_empty l.attributes)) (cond (has_name l.kind) true (is_empty l.name)) q2.0 in
-    told_is r _ _ _ _ _ (positive r.parent) (kept_count r.seen.hold (holds l.kind) r.count width p.hold) (formed_name l.kind l.name l.value l.attributes q1.1)
+    let q1 = both_parts (cond (is_element l.kind) (is_ascending l.attributes) (is_empty l.attributes))
+    (cond (has_name l.kind) true (is_empty l.name)) q2.0 in
+    told_is r _ _ _ _ _ (positive r.parent) (kept_count r.seen.hold (holds l.kind) r.count width p.hold)
+    (formed_name l.kind l.name l.value l.attributes q1.1)
     (formed_attributes (is_element l.kind) l.attributes q1.0) (kept_hold r.seen.hold (holds l.kind) r.count width ds p.hold)
 
 -- ---- such an object tells a node
@@ -217,7 +247,8 @@ positive_there n = there _ refl where
 pub agrees-object_for : (r : Told) (ds : Items) → told_in (object_for r ds) ≡ r → agrees (object_for r ds) ≡ true
 agrees-object_for r ds e =
     let l : label_in (object_for r ds) ≡ r.seen.label = ap (λ (t : Told). t.seen.label) e in
-    both (both (both (both (same_there (is_element r.seen.label.kind) r.seen.label.attributes) (same_there (holds r.seen.label.kind) r.count))
+    both (both (both (both (same_there (is_element r.seen.label.kind) r.seen.label.attributes)
+    (same_there (holds r.seen.label.kind) r.count))
     (ap (λ (m : Label). bytes_eq (local_name r.seen.label) (local_name m)) l ∙ same_name (local_name r.seen.label)))
     (ap (λ (m : Label). bytes_eq (node_name r.seen.label) (node_name m)) l ∙ same_name (node_name r.seen.label)))
     (positive_there r.parent)
@@ -237,10 +268,12 @@ same_place Described top width r ds w f =
     let p6 = both_parts _ (fits_hold r.seen.hold (holds r.seen.label.kind) r.count width) f in
     both p6.0 (same_hold r.seen.hold (holds r.seen.label.kind) r.count width ds w p6.1)
 
-pub tells-object_for : (m : Manner) (top : Bool) (width : ℕ) (r : Told) (ds : Items) → items_len ds ≡ width → fits_told m top width r ≡ true → tells m top (object_for r ds) ≡ true
+pub tells-object_for : (m : Manner) (top : Bool) (width : ℕ) (r : Told) (ds : Items) → items_len ds ≡ width
+    → fits_told m top width r ≡ true → tells m top (object_for r ds) ≡ true
 tells-object_for m top width r ds w f =
     let e = told_in-object_for m top width r ds f in
-    both (agrees-object_for r ds e) (ap (fits_told m top (items_len (children_shown (object_for r ds)))) e ∙ same_place m top width r ds w f)
+    both (agrees-object_for r ds e)
+    (ap (fits_told m top (items_len (children_shown (object_for r ds)))) e ∙ same_place m top width r ds w f)
 
 -- its fields fit
 
@@ -285,11 +318,13 @@ fields_fit : (r : Told) (ds : Items) → is_counted_row r ≡ true → node_fiel
 fields_fit r ds f =
     let c = counted_parts r f in
     let k = r.seen.label.kind in
-    both (attributes_fit (is_element k) r.seen.label.attributes) (both c.serial (both (counted_only (holds k) r.count c.count) (both (items_fit (is_opened r.seen.hold) ds)
+    both (attributes_fit (is_element k) r.seen.label.attributes)
+    (both c.serial (both (counted_only (holds k) r.count c.count) (both (items_fit (is_opened r.seen.hold) ds)
     (both refl (both c.id (both refl (both (type_fits k) (both refl (both (counted_only (nat_lt 0 r.parent) r.parent c.parent) refl)))))))))
 
 -- a row that fits has an object that is read
-pub object_fits : (m : Manner) (top : Bool) (width : ℕ) (r : Told) (ds : Items) → items_len ds ≡ width → row_fits m top width r ≡ true → (node_object m top).fits (object_for r ds) ≡ true
+pub object_fits : (m : Manner) (top : Bool) (width : ℕ) (r : Told) (ds : Items) → items_len ds ≡ width → row_fits m top width r ≡ true
+    → (node_object m top).fits (object_for r ds) ≡ true
 object_fits m top width r ds w f =
     let p = both_parts (is_counted_row r) (fits_told m top width r) f in
     both (fields_fit r ds p.0) (tells-object_for m top width r ds w p.1)

@@ -13,8 +13,11 @@ use Rattle.node_tree.specs.Labels.{holds}
 use Rattle.cdp_messages.specs.declared.node_rules.Manner.{Manner}
 use Rattle.cdp_messages.specs.declared.node_rules.Manner.TheVariants.{Pushed, Described}
 use Rattle.cdp_messages.specs.Told.{Told, hold_of}
-use Rattle.cdp_messages.specs.NodeObject.{NodeObject, Fields, attribute_list, node_type, agrees, node_row, fields_of, node_fields, node_data, object_for, told_in, children_shown, only_if, row_fits, fits_told, is_counted_row, tells, node_object}
-use Rattle.cdp_messages.specs.NodeData.{tree_items, tree_data, fits_below, nodes_fit, fits_nodes, tree_fits, fits_tree, over, tree_before, tree_told, children_told, trees_told, trees_of}
+use Rattle.cdp_messages.specs.NodeObject.{NodeObject, Fields, attribute_list, node_type, agrees, node_row, fields_of, node_fields}
+use Rattle.cdp_messages.specs.NodeObject.{node_data, object_for, told_in, children_shown, only_if, row_fits, fits_told, is_counted_row}
+use Rattle.cdp_messages.specs.NodeObject.{tells, node_object}
+use Rattle.cdp_messages.specs.NodeData.{tree_items, tree_data, fits_below, nodes_fit, fits_nodes, tree_fits, fits_tree, over, tree_before}
+use Rattle.cdp_messages.specs.NodeData.{tree_told, children_told, trees_told, trees_of}
 use Rattle.cdp_messages.specs.Events.{nodes_kind, tree_kind}
 use Rattle.cdp_messages.specs.Results.{document_kind, described_kind}
 use Rattle.cdp_messages.proofs.Options.{both, both_parts}
@@ -28,7 +31,8 @@ trees_of_some m (Some ds) = trees_of m ds
 
 pub children_of-members : (m : Manner) (f : Fields) → children_told m (members_of (node_row.writes f)) ≡ trees_of_some m f.1.1.1.0
 children_of-members m (a, (s, (c, (k, (l, (i, (n, (t, (v, (p, u)))))))))) = at a c k p where
-  at : (a' : _) (c' : Option ℕ) (k' : Option Items) (p' : Option ℕ) → children_told m (members_of (node_row.writes (a', (s, (c', (k', (l, (i, (n, (t, (v, (p', u)))))))))))) ≡ trees_of_some m k'
+  at : (a' : _) (c' : Option ℕ) (k' : Option Items) (p' : Option ℕ)
+      → children_told m (members_of (node_row.writes (a', (s, (c', (k', (l, (i, (n, (t, (v, (p', u)))))))))))) ≡ trees_of_some m k'
   at None None None None = refl
   at None None None (Some p') = refl
   at None None (Some ds) p' = refl
@@ -49,17 +53,20 @@ items_len-tree_items none = refl
 items_len-tree_items (node r c t) = ap suc (items_len-tree_items t)
 
 -- the children that a row shows
-shown_again : (m : Manner) (opened : Bool) (c : Nodes Told) → cond opened true (is_no_node c) ≡ true → trees_of m (tree_items c) ≡ Some c → trees_of_some m (only_if opened (tree_items c)) ≡ Some c
+shown_again : (m : Manner) (opened : Bool) (c : Nodes Told) → cond opened true (is_no_node c) ≡ true → trees_of m (tree_items c) ≡ Some c
+    → trees_of_some m (only_if opened (tree_items c)) ≡ Some c
 shown_again m true c b e = e
 shown_again m false none b e = refl
 shown_again m false (node r c t) b e = absurd cc
 
-branch_again : (m : Manner) (top : Bool) (r : Told) (c : Nodes Told) → row_fits m top (width c) r ≡ true → fits_below r c ≡ true → trees_of m (tree_items c) ≡ Some c
+branch_again : (m : Manner) (top : Bool) (r : Told) (c : Nodes Told) → row_fits m top (width c) r ≡ true → fits_below r c ≡ true
+    → trees_of m (tree_items c) ≡ Some c
     → tree_told m top (node_data r (tree_items c)) ≡ Some (record { row = r; children = c })
 branch_again m top r c f b e =
     let fits = object_fits m top (width c) r (tree_items c) (items_len-tree_items c) f in
     let place = (both_parts (is_counted_row r) (fits_told m top (width c) r) f).1 in
-    ap₂ over ((object_lawful_at m top).again (object_for r (tree_items c)) fits) (children_of-members m (fields_of (object_for r (tree_items c))) ∙ shown_again m (is_opened r.seen.hold) c b e)
+    ap₂ over ((object_lawful_at m top).again (object_for r (tree_items c)) fits)
+    (children_of-members m (fields_of (object_for r (tree_items c))) ∙ shown_again m (is_opened r.seen.hold) c b e)
     ∙ ap (λ t. Some (record { row = t; children = c })) (told_in-object_for m top (width c) r (tree_items c) place)
 
 -- the parts of the test of trees side by side
@@ -120,7 +127,8 @@ child_items (member k d ms) = cond (bytes_eq (codes "children") k) (items_in d) 
 
 child_items-members : (f : Fields) → child_items (members_of (node_row.writes f)) ≡ unwrap_or f.1.1.1.0 no_items
 child_items-members (a, (s, (c, (k, (l, (i, (n, (t, (v, (p, u)))))))))) = at a c k p where
-  at : (a' : _) (c' : Option ℕ) (k' : Option Items) (p' : Option ℕ) → child_items (members_of (node_row.writes (a', (s, (c', (k', (l, (i, (n, (t, (v, (p', u)))))))))))) ≡ unwrap_or k' no_items
+  at : (a' : _) (c' : Option ℕ) (k' : Option Items) (p' : Option ℕ)
+      → child_items (members_of (node_row.writes (a', (s, (c', (k', (l, (i, (n, (t, (v, (p', u)))))))))))) ≡ unwrap_or k' no_items
   at None None None None = refl
   at None None None (Some p') = refl
   at None None (Some ds) p' = refl
@@ -170,7 +178,8 @@ no_items_none : (n : Nodes Told) → tree_items n ≡ no_items → is_no_node n 
 no_items_none none e = refl
 no_items_none (node r c t) e = absurd cc
 
-hidden_below : (o : Option Items) (container : Bool) (count : ℕ) (n : Nodes Told) → o ≡ None → is_no_node n ≡ true → cond (is_opened (hold_of (is_some o) container count)) true (is_no_node n) ≡ true
+hidden_below : (o : Option Items) (container : Bool) (count : ℕ) (n : Nodes Told) → o ≡ None → is_no_node n ≡ true
+    → cond (is_opened (hold_of (is_some o) container count)) true (is_no_node n) ≡ true
 hidden_below None true count n is e = e
 hidden_below None false count n is e = e
 hidden_below (Some ds) container count n is e = absurd cc
@@ -184,7 +193,8 @@ below_told x n e = at x.children refl where
 pub object_inside : (ms ns : Members) → object ms ≡ object ns → ms ≡ ns
 object_inside ms ns e = cc
 
-object_take : (m : Manner) (top : Bool) (ms : Members) (b : Branch Told) → ((n : Nodes Told) → children_told m ms ≡ Some n → (tree_items n ≡ child_items ms) × (nodes_fit m n ≡ true))
+object_take : (m : Manner) (top : Bool) (ms : Members) (b : Branch Told)
+    → ((n : Nodes Told) → children_told m ms ≡ Some n → (tree_items n ≡ child_items ms) × (nodes_fit m n ≡ true))
     → over ((node_object m top).reads (object ms)) (children_told m ms) ≡ Some b → (tree_data b ≡ object ms) × (tree_fits m top b ≡ true)
 object_take m top ms b rec e =
     let p = over_some _ _ b e in
@@ -193,7 +203,8 @@ object_take m top ms b rec e =
     let t = (object_lawful_at m top).takes (object ms) x p.2 in
     let f = both_parts (node_fields.fits x) (tells m top x) t.1 in
     let r = rec n p.3 in
-    let kids : tree_items n ≡ children_shown x = r.0 ∙ ap child_items (sym (object_inside (members_of (node_row.writes (fields_of x))) ms t.0)) ∙ child_items-members (fields_of x) in
+    let kids : tree_items n ≡ children_shown x = r.0 ∙ ap child_items
+    (sym (object_inside (members_of (node_row.writes (fields_of x))) ms t.0)) ∙ child_items-members (fields_of x) in
     let place = (both_parts (agrees x) (fits_told m top (items_len (children_shown x)) (told_in x)) f.1).1 in
     let wide : items_len (children_shown x) ≡ width n = ap items_len (sym kids) ∙ items_len-tree_items n in
     subst (λ (z : Branch Told). (tree_data z ≡ object ms) × (tree_fits m top z ≡ true)) p.4 (
@@ -211,7 +222,8 @@ member_take m true here later ds es n first rest e = first e
 member_take m false here later ds es n first rest e = rest e
 
 mutual
-  pub tree_take : (m : Manner) (top : Bool) (d : Data) (b : Branch Told) → tree_told m top d ≡ Some b → (tree_data b ≡ d) × (tree_fits m top b ≡ true)
+  pub tree_take : (m : Manner) (top : Bool) (d : Data) (b : Branch Told) → tree_told m top d ≡ Some b
+      → (tree_data b ≡ d) × (tree_fits m top b ≡ true)
   tree_take m top null b e = absurd cc
   tree_take m top (boolean x) b e = absurd cc
   tree_take m top (number x) b e = absurd cc
@@ -219,9 +231,11 @@ mutual
   tree_take m top (array x) b e = absurd cc
   tree_take m top (object ms) b e = object_take m top ms b (children_take m ms) e
 
-  children_take : (m : Manner) (ms : Members) (n : Nodes Told) → children_told m ms ≡ Some n → (tree_items n ≡ child_items ms) × (nodes_fit m n ≡ true)
+  children_take : (m : Manner) (ms : Members) (n : Nodes Told) → children_told m ms ≡ Some n
+      → (tree_items n ≡ child_items ms) × (nodes_fit m n ≡ true)
   children_take m no_members n e = none_taken m n cc
-  children_take m (member k d ms) n e = member_take m (bytes_eq (codes "children") k) (trees_told m d) (children_told m ms) (items_in d) (child_items ms) n (array_take m d n) (children_take m ms n) e
+  children_take m (member k d ms) n e = member_take m (bytes_eq (codes "children") k) (trees_told m d) (children_told m ms) (items_in d)
+      (child_items ms) n (array_take m d n) (children_take m ms n) e
 
   array_take : (m : Manner) (d : Data) (n : Nodes Told) → trees_told m d ≡ Some n → (tree_items n ≡ items_in d) × (nodes_fit m n ≡ true)
   array_take m null n e = absurd cc
@@ -242,14 +256,17 @@ mutual
 
 -- ---- a tree is plain JSON
 
-children_plain : (opened : Bool) (ds : Items) → items_are_plain ds ≡ true → passes (Some (holds_of_some items_are_plain)) (only_if opened ds) ≡ true
+children_plain : (opened : Bool) (ds : Items) → items_are_plain ds ≡ true
+    → passes (Some (holds_of_some items_are_plain)) (only_if opened ds) ≡ true
 children_plain true ds e = e
 children_plain false ds e = refl
 
-node_plain : (m : Manner) (top : Bool) (r : Told) (c : Nodes Told) → row_fits m top (width c) r ≡ true → items_are_plain (tree_items c) ≡ true → is_plain (node_data r (tree_items c)) ≡ true
+node_plain : (m : Manner) (top : Bool) (r : Told) (c : Nodes Told) → row_fits m top (width c) r ≡ true
+    → items_are_plain (tree_items c) ≡ true → is_plain (node_data r (tree_items c)) ≡ true
 node_plain m top r c f e =
     let fits = object_fits m top (width c) r (tree_items c) (items_len-tree_items c) f in
-    fields_lawful.plain (object_for r (tree_items c)) (both_parts (node_fields.fits (object_for r (tree_items c))) _ fits).0 (children_plain (is_opened r.seen.hold) (tree_items c) e)
+    fields_lawful.plain (object_for r (tree_items c)) (both_parts (node_fields.fits (object_for r (tree_items c))) _ fits).0
+    (children_plain (is_opened r.seen.hold) (tree_items c) e)
 
 pub trees_plain : (m : Manner) (n : Nodes Told) → nodes_fit m n ≡ true → items_are_plain (tree_items n) ≡ true
 trees_plain m none f = refl
@@ -282,4 +299,8 @@ document_lawful = record { takes = tree_take Pushed true; again = tree_again Pus
 
 -- a node that is described alone
 pub described_lawful : LawfulKind described_kind
-described_lawful = record { takes = tree_take Described true; again = tree_again Described true; plain = λ b f l. tree_plain Described true b f }
+described_lawful = record {
+  takes = tree_take Described true;
+  again = tree_again Described true;
+  plain = λ b f l. tree_plain Described true b f;
+}

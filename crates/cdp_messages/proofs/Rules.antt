@@ -9,7 +9,8 @@ use Rattle.cdp_messages.specs.NodeObject.{fits_hold}
 abbrev pub fits_shown : Option ℕ → Bool → ℕ → Bool
 fits_shown o container count = fits_hold (hold_of (is_some o) container count) container count (unwrap_or o 0)
 
-pub fits_shown-some : (o : Option ℕ) (width : ℕ) (container : Bool) (count : ℕ) → Some width ≡ o → container ≡ true → (count == width) ≡ fits_shown o container count
+pub fits_shown-some : (o : Option ℕ) (width : ℕ) (container : Bool) (count : ℕ) → Some width ≡ o → container ≡ true
+    → (count == width) ≡ fits_shown o container count
 fits_shown-some o width container count e t = ap (λ b. b && (count == width)) (sym t) ∙ ap (λ p. fits_shown p container count) e
 
 -- pairs that follow one of this name, if any, in order

@@ -1,5 +1,6 @@
 -- The text of a message is UTF-8 where the texts of its nodes are.
-use Rattle.std.proofs.Common.{◌≡◌, ℕ, ◌-◌, ◌==◌, ◌<◌, ◌≤◌, List, [], ◌∷◌, Bool, true, false, cond, ◌&&◌, ◌||◌, ◌⊎◌, inl, inr, nat_lt, map, length, Option, Some, None, option_map, refl, arith, lt-ltb, eqb-true}
+use Rattle.std.proofs.Common.{◌≡◌, ℕ, ◌-◌, ◌==◌, ◌<◌, ◌≤◌, List, [], ◌∷◌, Bool, true, false, cond, ◌&&◌, ◌||◌, ◌⊎◌, inl, inr, nat_lt, map}
+use Rattle.std.proofs.Common.{length, Option, Some, None, option_map, refl, arith, lt-ltb, eqb-true}
 use Rattle.std.specs.Prelude.{codes, IsUtf8, nat_le, ⊤}
 use Rattle.std.specs.Char.{to_ascii_uppercase}
 use Rattle.std.specs.List.{list_all}
@@ -13,7 +14,8 @@ use Rattle.cdp_json.specs.Kinds.{whole, any_items}
 use Rattle.cdp_json.specs.Rows.{maybe_member}
 use Rattle.cdp_json.proofs.ReadBack.{IsUtf8-compact_text}
 use Rattle.css_objects.specs.Sheets.{is_sheet, header_kind}
-use Rattle.css_objects.proofs.Objects.{sheet_sound, header_sound, class_names_sound, sheet_text_sound, styles_sound, new_selectors_sound, new_rule_sound, matched_sound}
+use Rattle.css_objects.proofs.Objects.{sheet_sound, header_sound, class_names_sound, sheet_text_sound, styles_sound, new_selectors_sound}
+use Rattle.css_objects.proofs.Objects.{new_rule_sound, matched_sound}
 use Rattle.node_tree.specs.declared.Kind.{Kind}
 use Rattle.node_tree.specs.declared.Kind.TheVariants.{Document, Element, Text, Comment, Doctype}
 use Rattle.node_tree.specs.Labels.{Pair, is_element, holds, has_name, is_named_label}
@@ -21,13 +23,17 @@ use Rattle.node_tree.specs.Names.{is_letter, is_name_byte, is_element_name}
 use Rattle.node_tree.specs.Nodes.{Nodes, none, node, Branch, alone, width}
 use Rattle.node_tree.specs.Seen.{is_opened}
 use Rattle.cdp_messages.specs.declared.down.ReplyBody.{ReplyBody}
-use Rattle.cdp_messages.specs.declared.down.ReplyBody.TheVariants.{Nothing, Root, Node, NodeId, NodeIds, Attributes, ClassNames, SheetText, Styles, Selectors, Rule, Matched}
+use Rattle.cdp_messages.specs.declared.down.ReplyBody.TheVariants.{Nothing, Root, Node, NodeId, NodeIds, Attributes, ClassNames, SheetText}
+use Rattle.cdp_messages.specs.declared.down.ReplyBody.TheVariants.{Styles, Selectors, Rule, Matched}
 use Rattle.cdp_messages.specs.declared.node_rules.Manner.{Manner}
 use Rattle.cdp_messages.specs.declared.node_rules.Manner.TheVariants.{Pushed, Described}
 use Rattle.cdp_messages.specs.Told.{Told}
-use Rattle.cdp_messages.specs.NodeObject.{flat, attribute_list, node_type, name_shown, local_name_of, node_name, local_name, only_if, node_data, is_counted_row, fits_told, row_fits}
+use Rattle.cdp_messages.specs.NodeObject.{flat, attribute_list, node_type, name_shown, local_name_of, node_name, local_name, only_if}
+use Rattle.cdp_messages.specs.NodeObject.{node_data, is_counted_row, fits_told, row_fits}
 use Rattle.cdp_messages.specs.NodeData.{tree_items, tree_data, nodes_fit, fits_nodes, tree_fits, fits_tree}
-use Rattle.cdp_messages.specs.Events.{News, attribute_modified, attribute_removed, text_modified, count_updated, inserted, removed, set_children, document_updated, sheet_added, sheet_changed, sheet_removed, paused, event_name, shows_no_children, pause_kind, news_form, news_data, fits_news}
+use Rattle.cdp_messages.specs.Events.{News, attribute_modified, attribute_removed, text_modified, count_updated, inserted, removed}
+use Rattle.cdp_messages.specs.Events.{set_children, document_updated, sheet_added, sheet_changed, sheet_removed, paused, event_name}
+use Rattle.cdp_messages.specs.Events.{shows_no_children, pause_kind, news_form, news_data, fits_news}
 use Rattle.cdp_messages.specs.declared.down.PauseData.{PauseData}
 use Rattle.cdp_messages.specs.declared.down.PauseData.TheVariants as pause
 use Rattle.cdp_messages.specs.declared.event_names.EventName.{EventName}
@@ -107,7 +113,8 @@ abbrev IfThere : Option Data → Type 0
 IfThere None = ⊤
 IfThere (Some d) = HasUtf8 d
 
-utf8_maybe : (k : List ℕ) (o : Option Data) (ms : Members) → IsUtf8 k → IfThere o → MembersHaveUtf8 ms → MembersHaveUtf8 (maybe_member k o ms)
+utf8_maybe : (k : List ℕ) (o : Option Data) (ms : Members) → IsUtf8 k → IfThere o → MembersHaveUtf8 ms
+    → MembersHaveUtf8 (maybe_member k o ms)
 utf8_maybe k None ms u h r = r
 utf8_maybe k (Some d) ms u h r = (u, h, r)
 
@@ -127,23 +134,28 @@ children_utf8 : (b : Bool) (ds : Items) → ItemsHaveUtf8 ds → IfThere (option
 children_utf8 true ds u = u
 children_utf8 false ds u = tt
 
-node_utf8 : (r : Told) (ds : Items) → is_named_label r.seen.label ≡ true → LabelHasUtf8 r.seen.label → ItemsHaveUtf8 ds → HasUtf8 (node_data r ds)
+node_utf8 : (r : Told) (ds : Items) → is_named_label r.seen.label ≡ true → LabelHasUtf8 r.seen.label → ItemsHaveUtf8 ds
+    → HasUtf8 (node_data r ds)
 node_utf8 r ds f u below =
     let l = r.seen.label in
     let k = l.kind in
     let named = (both_parts (cond (has_name k) (is_element_name l.name) true) _ f).0 in
     let p1 = option_map whole.spell (only_if (nat_lt 0 r.parent) r.parent) in
     let m9 = maybe_member (codes "parentId") p1 no_members in
-    let m4 = member (codes "localName") (string (local_name l)) (member (codes "nodeId") (whole.spell r.seen.id) (member (codes "nodeName") (string (node_name l))
+    let m4 = member (codes "localName") (string (local_name l))
+    (member (codes "nodeId") (whole.spell r.seen.id) (member (codes "nodeName") (string (node_name l))
     (member (codes "nodeType") (node_type.spell k) (member (codes "nodeValue") (string l.value) m9)))) in
     let m3 = maybe_member (codes "children") (option_map any_items.spell (only_if (is_opened r.seen.hold) ds)) m4 in
     let m2 = maybe_member (codes "childNodeCount") (option_map whole.spell (only_if (holds k) r.count)) m3 in
     let m1 = member (codes "backendNodeId") (whole.spell r.seen.serial) m2 in
-    utf8_maybe (codes "attributes") (option_map attribute_list.spell (only_if (is_element k) l.attributes)) m1 (IsUtf8-are_ascii (codes "attributes") refl) (attributes_utf8 (is_element k) l.attributes u.2) (
+    utf8_maybe (codes "attributes") (option_map attribute_list.spell (only_if (is_element k) l.attributes)) m1
+    (IsUtf8-are_ascii (codes "attributes") refl) (attributes_utf8 (is_element k) l.attributes u.2) (
       IsUtf8-are_ascii (codes "backendNodeId") refl,
       tt,
-      utf8_maybe (codes "childNodeCount") (option_map whole.spell (only_if (holds k) r.count)) m3 (IsUtf8-are_ascii (codes "childNodeCount") refl) (whole_utf8 (holds k) r.count)
-          (utf8_maybe (codes "children") (option_map any_items.spell (only_if (is_opened r.seen.hold) ds)) m4 (IsUtf8-are_ascii (codes "children") refl) (children_utf8 (is_opened r.seen.hold) ds below) (
+      utf8_maybe (codes "childNodeCount") (option_map whole.spell (only_if (holds k) r.count)) m3
+          (IsUtf8-are_ascii (codes "childNodeCount") refl) (whole_utf8 (holds k) r.count)
+          (utf8_maybe (codes "children") (option_map any_items.spell (only_if (is_opened r.seen.hold) ds)) m4
+          (IsUtf8-are_ascii (codes "children") refl) (children_utf8 (is_opened r.seen.hold) ds below) (
             IsUtf8-are_ascii (codes "localName") refl,
             local_utf8 k l.name u.0,
             (
@@ -158,7 +170,8 @@ node_utf8 r ds f u below =
                   (
                     IsUtf8-are_ascii (codes "nodeValue") refl,
                     u.1,
-                    utf8_maybe (codes "parentId") p1 no_members (IsUtf8-are_ascii (codes "parentId") refl) (whole_utf8 (nat_lt 0 r.parent) r.parent) tt,
+                    utf8_maybe (codes "parentId") p1 no_members (IsUtf8-are_ascii (codes "parentId") refl)
+                        (whole_utf8 (nat_lt 0 r.parent) r.parent) tt,
                   ),
                 ),
               ),
@@ -208,28 +221,63 @@ pause_utf8 : (why : PauseData) → HasUtf8 (pause_kind.spell why)
 pause_utf8 (pause.Subtree id target insertion) = (
   IsUtf8-are_ascii (codes "insertion") refl,
   tt,
-  (IsUtf8-are_ascii (codes "nodeId") refl, tt, (IsUtf8-are_ascii (codes "targetNodeId") refl, tt, (IsUtf8-are_ascii (codes "type") refl, IsUtf8-are_ascii (codes "subtree-modified") refl, tt))),
+  (
+    IsUtf8-are_ascii (codes "nodeId") refl,
+    tt,
+    (
+      IsUtf8-are_ascii (codes "targetNodeId") refl,
+      tt,
+      (IsUtf8-are_ascii (codes "type") refl, IsUtf8-are_ascii (codes "subtree-modified") refl, tt),
+    ),
+  ),
 )
-pause_utf8 (pause.Attribute id) = (IsUtf8-are_ascii (codes "nodeId") refl, tt, (IsUtf8-are_ascii (codes "type") refl, IsUtf8-are_ascii (codes "attribute-modified") refl, tt))
-pause_utf8 (pause.Removed id) = (IsUtf8-are_ascii (codes "nodeId") refl, tt, (IsUtf8-are_ascii (codes "type") refl, IsUtf8-are_ascii (codes "node-removed") refl, tt))
+pause_utf8 (pause.Attribute id) = (
+  IsUtf8-are_ascii (codes "nodeId") refl,
+  tt,
+  (IsUtf8-are_ascii (codes "type") refl, IsUtf8-are_ascii (codes "attribute-modified") refl, tt),
+)
+pause_utf8 (pause.Removed id) =
+    (IsUtf8-are_ascii (codes "nodeId") refl, tt, (IsUtf8-are_ascii (codes "type") refl, IsUtf8-are_ascii (codes "node-removed") refl, tt))
 
 params_utf8 : (n : News) → fits_news n ≡ true → NewsHaveUtf8 n → HasUtf8 (news_form n).params
-params_utf8 (attribute_modified id m value) f u = (IsUtf8-are_ascii (codes "name") refl, u.0, (IsUtf8-are_ascii (codes "nodeId") refl, tt, (IsUtf8-are_ascii (codes "value") refl, u.1, tt)))
+params_utf8 (attribute_modified id m value) f u = (
+  IsUtf8-are_ascii (codes "name") refl,
+  u.0,
+  (IsUtf8-are_ascii (codes "nodeId") refl, tt, (IsUtf8-are_ascii (codes "value") refl, u.1, tt)),
+)
 params_utf8 (attribute_removed id m) f u = (IsUtf8-are_ascii (codes "name") refl, u, (IsUtf8-are_ascii (codes "nodeId") refl, tt, tt))
-params_utf8 (text_modified id value) f u = (IsUtf8-are_ascii (codes "characterData") refl, u, (IsUtf8-are_ascii (codes "nodeId") refl, tt, tt))
-params_utf8 (count_updated id count) f u = (IsUtf8-are_ascii (codes "childNodeCount") refl, tt, (IsUtf8-are_ascii (codes "nodeId") refl, tt, tt))
+params_utf8 (text_modified id value) f u =
+    (IsUtf8-are_ascii (codes "characterData") refl, u, (IsUtf8-are_ascii (codes "nodeId") refl, tt, tt))
+params_utf8 (count_updated id count) f u =
+    (IsUtf8-are_ascii (codes "childNodeCount") refl, tt, (IsUtf8-are_ascii (codes "nodeId") refl, tt, tt))
 params_utf8 (inserted parent previous b) f u = (
   IsUtf8-are_ascii (codes "node") refl,
-  tree_utf8 Pushed false b (both_parts (fits_tree false b) (shows_no_children b) (both_parts (fits_tree false b && shows_no_children b) _ f).0).0 u,
+  tree_utf8 Pushed false b (both_parts (fits_tree false b) (shows_no_children b)
+      (both_parts (fits_tree false b && shows_no_children b) _ f).0).0 u,
   (IsUtf8-are_ascii (codes "parentNodeId") refl, tt, (IsUtf8-are_ascii (codes "previousNodeId") refl, tt, tt)),
 )
 params_utf8 (removed parent id) f u = (IsUtf8-are_ascii (codes "nodeId") refl, tt, (IsUtf8-are_ascii (codes "parentNodeId") refl, tt, tt))
-params_utf8 (set_children parent nodes) f u = (IsUtf8-are_ascii (codes "nodes") refl, trees_utf8 Pushed nodes (both_parts (fits_nodes nodes) _ f).0 u, (IsUtf8-are_ascii (codes "parentId") refl, tt, tt))
+params_utf8 (set_children parent nodes) f u = (
+  IsUtf8-are_ascii (codes "nodes") refl,
+  trees_utf8 Pushed nodes (both_parts (fits_nodes nodes) _ f).0 u,
+  (IsUtf8-are_ascii (codes "parentId") refl, tt, tt),
+)
 params_utf8 document_updated f u = tt
-params_utf8 (sheet_added header) f u = (IsUtf8-are_ascii (codes "header") refl, header_sound.utf8 header (both_parts (header_kind.fits header) true f).0 tt, tt)
-params_utf8 (sheet_changed sheet) f u = (IsUtf8-are_ascii (codes "styleSheetId") refl, sheet_sound.utf8 sheet (both_parts (is_sheet sheet) true f).0 tt, tt)
-params_utf8 (sheet_removed sheet) f u = (IsUtf8-are_ascii (codes "styleSheetId") refl, sheet_sound.utf8 sheet (both_parts (is_sheet sheet) true f).0 tt, tt)
-params_utf8 (paused why) f u = (IsUtf8-are_ascii (codes "callFrames") refl, tt, (IsUtf8-are_ascii (codes "data") refl, pause_utf8 why, (IsUtf8-are_ascii (codes "reason") refl, IsUtf8-are_ascii (codes "DOM") refl, tt)))
+params_utf8 (sheet_added header) f u =
+    (IsUtf8-are_ascii (codes "header") refl, header_sound.utf8 header (both_parts (header_kind.fits header) true f).0 tt, tt)
+params_utf8 (sheet_changed sheet) f u =
+    (IsUtf8-are_ascii (codes "styleSheetId") refl, sheet_sound.utf8 sheet (both_parts (is_sheet sheet) true f).0 tt, tt)
+params_utf8 (sheet_removed sheet) f u =
+    (IsUtf8-are_ascii (codes "styleSheetId") refl, sheet_sound.utf8 sheet (both_parts (is_sheet sheet) true f).0 tt, tt)
+params_utf8 (paused why) f u = (
+  IsUtf8-are_ascii (codes "callFrames") refl,
+  tt,
+  (
+    IsUtf8-are_ascii (codes "data") refl,
+    pause_utf8 why,
+    (IsUtf8-are_ascii (codes "reason") refl, IsUtf8-are_ascii (codes "DOM") refl, tt),
+  ),
+)
 
 event_name_utf8 : (n : EventName) → IsUtf8 (event_name n)
 event_name_utf8 name.AttributeModified = IsUtf8-are_ascii (event_name name.AttributeModified) refl
@@ -246,7 +294,11 @@ event_name_utf8 name.StyleSheetRemoved = IsUtf8-are_ascii (event_name name.Style
 event_name_utf8 name.Paused = IsUtf8-are_ascii (event_name name.Paused) refl
 
 news_utf8 : (n : News) → fits_news n ≡ true → NewsHaveUtf8 n → HasUtf8 (news_data n)
-news_utf8 n f u = (IsUtf8-are_ascii (codes "method") refl, event_name_utf8 (news_form n).name, (IsUtf8-are_ascii (codes "params") refl, params_utf8 n f u, tt))
+news_utf8 n f u = (
+  IsUtf8-are_ascii (codes "method") refl,
+  event_name_utf8 (news_form n).name,
+  (IsUtf8-are_ascii (codes "params") refl, params_utf8 n f u, tt),
+)
 
 pub events_are_utf8 : EventsAreUtf8
 events_are_utf8 n f u = IsUtf8-compact_text (news_data n) (news_plain n f) (news_utf8 n f u)

@@ -1,5 +1,6 @@
 -- Tokens that are written one after the other.
-use Rattle.std.proofs.Common.{◌≡◌, ℕ, ◌+◌, ◌<◌, ◌≤◌, List, [], ◌∷◌, ◌++◌, length, get_or, take, map, Option, Some, None, Result, Ok, Err, Vec, Global, OnOk, IsOk, IsUtf8, append_assoc, refl, sym, ap, ap₂, ◌∙◌, subst, add-one}
+use Rattle.std.proofs.Common.{◌≡◌, ℕ, ◌+◌, ◌<◌, ◌≤◌, List, [], ◌∷◌, ◌++◌, length, get_or, take, map, Option, Some, None, Result, Ok, Err}
+use Rattle.std.proofs.Common.{Vec, Global, OnOk, IsOk, IsUtf8, append_assoc, refl, sym, ap, ap₂, ◌∙◌, subst, add-one}
 use Rattle.std.specs.Prelude.{codes, nat_lt, flat_map, option_map}
 use Rattle.std.proofs.Math.Seq.{take-suc}
 use Rattle.std.proofs.lemmas.List.{take_all, flat_map_more}
@@ -18,11 +19,13 @@ use Rattle.node_tree.specs.Nodes.{Branch, nodes_of}
 use Rattle.node_tree.specs.Seen.{is_opened}
 use Rattle.pipe_frames.specs.Frames.{framed}
 use Rattle.cdp_messages.specs.Told.{Told, told_tree}
-use Rattle.cdp_messages.specs.NodeObject.{flat, attribute_list, type_number, node_name, local_name, only_if, node_data, node_members, node_fields, node_object_with}
+use Rattle.cdp_messages.specs.NodeObject.{flat, attribute_list, type_number, node_name, local_name, only_if, node_data, node_members}
+use Rattle.cdp_messages.specs.NodeObject.{node_fields, node_object_with}
 use Rattle.cdp_messages.specs.NodeData.{tree_items, tree_data}
 use Rattle.cdp_messages.specs.Events.{event_name}
 use Rattle.cdp_messages.specs.Tokens.{data_tokens, field_tokens, head_tokens, tail_tokens}
-use Rattle.cdp_messages.specs.NodeWrites.{unshown, message_with, reply_opening, event_opening, opening_tokens, fields_behind, closing_tokens}
+use Rattle.cdp_messages.specs.NodeWrites.{unshown, message_with, reply_opening, event_opening, opening_tokens, fields_behind}
+use Rattle.cdp_messages.specs.NodeWrites.{closing_tokens}
 use Rattle.cdp_messages.specs.declared.event_names.EventName.TheVariants.{ChildNodeInserted, SetChildNodes}
 use Rattle.cdp_messages.specs.declared.node_writer.NodeMessage.{NodeMessage}
 use Rattle.cdp_messages.specs.declared.node_writer.NodeMessage.TheVariants.{Root, Node, Children, Inserted}
@@ -34,24 +37,30 @@ pub after : (old xs ys : List Token) {mid new : List Token} → mid ≡ old ++ x
 after old xs ys first rest = rest ∙ ap (λ ts. ts ++ ys) first ∙ append_assoc old xs ys
 
 -- the same, where the second call is the last
-pub after_last : {E : Type 0} (old xs ys : List Token) (r : Result (Unit {0}) E) (new : List Token) {mid : List Token} → mid ≡ old ++ xs → OnOk r (new ≡ mid ++ ys) → OnOk r (new ≡ old ++ (xs ++ ys))
+pub after_last : {E : Type 0} (old xs ys : List Token) (r : Result (Unit {0}) E) (new : List Token) {mid : List Token} → mid ≡ old ++ xs
+    → OnOk r (new ≡ mid ++ ys) → OnOk r (new ≡ old ++ (xs ++ ys))
 after_last old xs ys (Ok u) new first rest = after old xs ys first rest
 after_last old xs ys (Err e) new first rest = tt
 
 -- a node's object behind its children; some of its texts are known by other names
 pub tail_written : (old : List Token) (r : Told) {local name value : List ℕ} {number : ℕ} {t1 t2 t3 t4 t5 t6 new : List Token}
     → local ≡ local_name r.seen.label → name ≡ node_name r.seen.label → number ≡ type_number r.seen.label.kind → value ≡ r.seen.label.value
-    → t1 ≡ old ++ field_tokens (codes "localName") (Some (text.spell local)) → t2 ≡ t1 ++ field_tokens (codes "nodeId") (Some (whole.spell r.seen.id))
-    → t3 ≡ t2 ++ field_tokens (codes "nodeName") (Some (text.spell name)) → t4 ≡ t3 ++ field_tokens (codes "nodeType") (Some (whole.spell number))
-    → t5 ≡ t4 ++ field_tokens (codes "nodeValue") (Some (text.spell value)) → t6 ≡ t5 ++ field_tokens (codes "parentId") (option_map whole.spell (only_if (nat_lt 0 r.parent) r.parent))
+    → t1 ≡ old ++ field_tokens (codes "localName") (Some (text.spell local))
+    → t2 ≡ t1 ++ field_tokens (codes "nodeId") (Some (whole.spell r.seen.id))
+    → t3 ≡ t2 ++ field_tokens (codes "nodeName") (Some (text.spell name))
+    → t4 ≡ t3 ++ field_tokens (codes "nodeType") (Some (whole.spell number))
+    → t5 ≡ t4 ++ field_tokens (codes "nodeValue") (Some (text.spell value))
+    → t6 ≡ t5 ++ field_tokens (codes "parentId") (option_map whole.spell (only_if (nat_lt 0 r.parent) r.parent))
     → new ≡ t6 ++ end_object ∷ [] → new ≡ old ++ tail_tokens r
 tail_written old r el en et ev e1 e2 e3 e4 e5 e6 e7 = rw (e7, e6, e5, e4, e3, e2, e1, el, en, et, ev) (simp append_assoc)
 
 -- a node's object up to its children
 pub head_written : (old : List Token) (r : Told) {t1 t2 t3 new : List Token} → t1 ≡ old ++ begin_object ∷ []
-    → t2 ≡ t1 ++ field_tokens (codes "attributes") (option_map attribute_list.spell (only_if (is_element r.seen.label.kind) r.seen.label.attributes))
+    → t2 ≡ t1 ++ field_tokens (codes "attributes")
+    (option_map attribute_list.spell (only_if (is_element r.seen.label.kind) r.seen.label.attributes))
     → t3 ≡ t2 ++ field_tokens (codes "backendNodeId") (Some (whole.spell r.seen.serial))
-    → new ≡ t3 ++ field_tokens (codes "childNodeCount") (option_map whole.spell (only_if (holds r.seen.label.kind) r.count)) → new ≡ old ++ head_tokens r
+    → new ≡ t3 ++ field_tokens (codes "childNodeCount") (option_map whole.spell (only_if (holds r.seen.label.kind) r.count))
+    → new ≡ old ++ head_tokens r
 head_written old r e1 e2 e3 e4 = rw (e4, e3, e2, e1) (simp append_assoc)
 
 -- ---- the members of an object
@@ -60,7 +69,8 @@ head_written old r e1 e2 e3 e4 = rw (e4, e3, e2, e1) (simp append_assoc)
 abbrev pub rest_tokens : Members → List Token
 rest_tokens ms = members_tokens (members_outline ms)
 
-field_first : (k : List ℕ) (o : Option Data) (ms : Members) (ts : List Token) → rest_tokens ms ≡ ts → rest_tokens (maybe_member k o ms) ≡ field_tokens k o ++ ts
+field_first : (k : List ℕ) (o : Option Data) (ms : Members) (ts : List Token) → rest_tokens ms ≡ ts
+    → rest_tokens (maybe_member k o ms) ≡ field_tokens k o ++ ts
 field_first k None ms ts e = e
 field_first k (Some d) ms ts e = ap (λ r. field_tokens k (Some d) ++ r) e
 
@@ -70,9 +80,13 @@ regroup b x y z r = ap (λ ts. b ∷ ts) (sym (append_assoc x (y ++ z) r ∙ ap 
 -- a node's object by its fields
 pub object_tokens : (a : Option Data) (s : Data) (c k : Option Data) (l i n t v : Data) (p : Option Data)
     → data_tokens (node_members a s c k l i n t v p)
-    ≡ (begin_object ∷ (field_tokens (codes "attributes") a ++ (field_tokens (codes "backendNodeId") (Some s) ++ field_tokens (codes "childNodeCount") c)))
-    ++ (field_tokens (codes "children") k ++ (field_tokens (codes "localName") (Some l) ++ (field_tokens (codes "nodeId") (Some i) ++ (field_tokens (codes "nodeName") (Some n)
-    ++ (field_tokens (codes "nodeType") (Some t) ++ (field_tokens (codes "nodeValue") (Some v) ++ (field_tokens (codes "parentId") p ++ end_object ∷ [])))))))
+    ≡ (begin_object ∷ (field_tokens (codes "attributes") a
+    ++ (field_tokens (codes "backendNodeId") (Some s) ++ field_tokens (codes "childNodeCount") c)))
+    ++ (field_tokens (codes "children") k
+    ++ (field_tokens (codes "localName") (Some l)
+    ++ (field_tokens (codes "nodeId") (Some i) ++ (field_tokens (codes "nodeName") (Some n)
+    ++ (field_tokens (codes "nodeType") (Some t)
+    ++ (field_tokens (codes "nodeValue") (Some v) ++ (field_tokens (codes "parentId") p ++ end_object ∷ [])))))))
 object_tokens a s c k l i n t v p =
     let t9 = field_tokens (codes "parentId") p ++ end_object ∷ [] in
     let m9 = maybe_member (codes "parentId") p no_members in
@@ -102,36 +116,49 @@ object_tokens a s c k l i n t v p =
     let t1 = field_tokens (codes "backendNodeId") (Some s) ++ t2 in
     let e1 : rest_tokens m1 ≡ t1 = field_first (codes "backendNodeId") (Some s) m2 t2 e2 in
     ap (λ ts. begin_object ∷ ts) (field_first (codes "attributes") a m1 t1 e1)
-    ∙ regroup begin_object (field_tokens (codes "attributes") a) (field_tokens (codes "backendNodeId") (Some s)) (field_tokens (codes "childNodeCount") c) t3
+    ∙ regroup begin_object (field_tokens (codes "attributes") a) (field_tokens (codes "backendNodeId") (Some s))
+    (field_tokens (codes "childNodeCount") c) t3
 
 -- a node's object by its row and its children, where they are shown
-row_tokens : (r : Told) (k : Option Items) → data_tokens (node_fields.spell (node_object_with r k)) ≡ head_tokens r ++ (field_tokens (codes "children") (option_map array k) ++ tail_tokens r)
+row_tokens : (r : Told) (k : Option Items)
+    → data_tokens (node_fields.spell (node_object_with r k))
+    ≡ head_tokens r ++ (field_tokens (codes "children") (option_map array k) ++ tail_tokens r)
 row_tokens r k = object_tokens _ _ _ _ _ _ _ _ _ _
 
 -- the same of a told row, over the items of its children
-pub node_tokens : (r : Told) (ds : Items) → data_tokens (node_data r ds) ≡ head_tokens r ++ (field_tokens (codes "children") (option_map array (only_if (is_opened r.seen.hold) ds)) ++ tail_tokens r)
+pub node_tokens : (r : Told) (ds : Items)
+    → data_tokens (node_data r ds)
+    ≡ head_tokens r ++ (field_tokens (codes "children") (option_map array (only_if (is_opened r.seen.hold) ds)) ++ tail_tokens r)
 node_tokens r ds = row_tokens r (only_if (is_opened r.seen.hold) ds)
 
-pub tree_tokens : (parent count id serial : ℕ) (label : Label) (o : Option (Vec (Branch Told) Global)) (b : Branch Told) → told_tree parent count id serial label o ≡ b
-    → head_tokens b.row ++ (field_tokens (codes "children") (option_map array (option_map written_items o)) ++ tail_tokens b.row) ≡ data_tokens (tree_data b)
+pub tree_tokens : (parent count id serial : ℕ) (label : Label) (o : Option (Vec (Branch Told) Global)) (b : Branch Told)
+    → told_tree parent count id serial label o ≡ b
+    → head_tokens b.row ++ (field_tokens (codes "children") (option_map array (option_map written_items o)) ++ tail_tokens b.row)
+    ≡ data_tokens (tree_data b)
 tree_tokens parent count id serial label o b e =
-    sym (row_tokens b.row (option_map written_items o)) ∙ ap data_tokens (tree_written parent count id serial label o b (option_map written_items o) e refl)
+    sym (row_tokens b.row (option_map written_items o)) ∙ ap data_tokens
+    (tree_written parent count id serial label o b (option_map written_items o) e refl)
 
 -- a node whose children are written, and one whose children are not shown
-pub shown_written : (parent count id serial : ℕ) (label : Label) (o : Option (Vec (Branch Told) Global)) (ts : Vec (Branch Told) Global) (b : Branch Told) (r : Told) (old : List Token) {t1 t2 t3 new : List Token}
-    → told_tree parent count id serial label o ≡ b → o ≡ Some ts → r ≡ unshown b.row → t1 ≡ old ++ head_tokens r → t2 ≡ t1 ++ key (codes "children") ∷ []
+pub shown_written : (parent count id serial : ℕ) (label : Label) (o : Option (Vec (Branch Told) Global)) (ts : Vec (Branch Told) Global)
+    (b : Branch Told) (r : Told) (old : List Token) {t1 t2 t3 new : List Token}
+    → told_tree parent count id serial label o ≡ b → o ≡ Some ts → r ≡ unshown b.row → t1 ≡ old ++ head_tokens r
+    → t2 ≡ t1 ++ key (codes "children") ∷ []
     → t3 ≡ t2 ++ data_tokens (array (tree_items (nodes_of ts.items))) → new ≡ t3 ++ tail_tokens r → new ≡ old ++ data_tokens (tree_data b)
 shown_written parent count id serial label o ts b r old {t1 = t1} {t2 = t2} {t3 = t3} {new = new} told is same head e2 e3 tail =
     let e1 : t1 ≡ old ++ head_tokens b.row = head ∙ ap (λ x. old ++ head_tokens x) same in
     let e4 : new ≡ t3 ++ tail_tokens b.row = tail ∙ ap (λ x. t3 ++ tail_tokens x) same in
-    let written = tree_tokens parent count id serial label (Some ts) b (subst (λ x. told_tree parent count id serial label x ≡ b) is told) in
+    let written = tree_tokens parent count id serial label (Some ts) b
+    (subst (λ x. told_tree parent count id serial label x ≡ b) is told) in
     after old (head_tokens b.row) (field_tokens (codes "children") (Some (array (tree_items (nodes_of ts.items)))) ++ tail_tokens b.row) e1
     (after t1 (key (codes "children") ∷ []) (data_tokens (array (tree_items (nodes_of ts.items))) ++ tail_tokens b.row) e2
     (after t2 (data_tokens (array (tree_items (nodes_of ts.items)))) (tail_tokens b.row) e3 e4))
     ∙ ap (λ xs. old ++ xs) written
 
-pub hidden_written : (parent count id serial : ℕ) (label : Label) (o : Option (Vec (Branch Told) Global)) (b : Branch Told) (r : Told) (old : List Token) {t1 new : List Token}
-    → told_tree parent count id serial label o ≡ b → o ≡ None → r ≡ unshown b.row → t1 ≡ old ++ head_tokens r → new ≡ t1 ++ tail_tokens r → new ≡ old ++ data_tokens (tree_data b)
+pub hidden_written : (parent count id serial : ℕ) (label : Label) (o : Option (Vec (Branch Told) Global)) (b : Branch Told) (r : Told)
+    (old : List Token) {t1 new : List Token}
+    → told_tree parent count id serial label o ≡ b → o ≡ None → r ≡ unshown b.row → t1 ≡ old ++ head_tokens r → new ≡ t1 ++ tail_tokens r
+    → new ≡ old ++ data_tokens (tree_data b)
 hidden_written parent count id serial label o b r old {t1 = t1} {new = new} told is same head tail =
     let e1 : t1 ≡ old ++ head_tokens b.row = head ∙ ap (λ x. old ++ head_tokens x) same in
     let e2 : new ≡ t1 ++ tail_tokens b.row = tail ∙ ap (λ x. t1 ++ tail_tokens x) same in
@@ -146,25 +173,31 @@ pair_tokens p = string p.0 ∷ string p.1 ∷ []
 abbrev pub branch_tokens : Branch Told → List Token
 branch_tokens b = data_tokens (tree_data b)
 
-pub pairs_tokens : (ps : List Pair) → items_tokens (items_outline (items_of (map values.string (flat ps)))) ≡ flat_map pair_tokens ps ++ end_array ∷ []
+pub pairs_tokens : (ps : List Pair)
+    → items_tokens (items_outline (items_of (map values.string (flat ps)))) ≡ flat_map pair_tokens ps ++ end_array ∷ []
 pairs_tokens [] = refl
 pairs_tokens (p ∷ ps) = ap (λ ts. string p.0 ∷ string p.1 ∷ ts) (pairs_tokens ps)
 
-pub branches_tokens : (bs : List (Branch Told)) → items_tokens (items_outline (tree_items (nodes_of bs))) ≡ flat_map branch_tokens bs ++ end_array ∷ []
+pub branches_tokens : (bs : List (Branch Told))
+    → items_tokens (items_outline (tree_items (nodes_of bs))) ≡ flat_map branch_tokens bs ++ end_array ∷ []
 branches_tokens [] = refl
-branches_tokens (b ∷ bs) = ap (λ ts. branch_tokens b ++ ts) (branches_tokens bs) ∙ sym (append_assoc (branch_tokens b) (flat_map branch_tokens bs) (end_array ∷ []))
+branches_tokens (b ∷ bs) = ap (λ ts. branch_tokens b ++ ts) (branches_tokens bs) ∙ sym
+    (append_assoc (branch_tokens b) (flat_map branch_tokens bs) (end_array ∷ []))
 
 -- a turn of a loop that writes items
-pub items_turn : {A : Type 0} (f : A → List Token) (start now next : List Token) (xs : List A) (x : A) (i : ℕ) → i < length xs → x ≡ get_or xs i x → next ≡ now ++ f x
+pub items_turn : {A : Type 0} (f : A → List Token) (start now next : List Token) (xs : List A) (x : A) (i : ℕ) → i < length xs
+    → x ≡ get_or xs i x → next ≡ now ++ f x
     → now ≡ start ++ flat_map f (take i xs) → next ≡ start ++ flat_map f (take (i + 1) xs)
 items_turn f start now next xs x i below at step so =
     let more : take i xs ++ x ∷ [] ≡ take (i + 1) xs = sym (rw add-one (take-suc xs i x below ∙ ap (λ y. take i xs ++ y ∷ []) (sym at))) in
     step ∙ ap (λ ts. ts ++ f x) so ∙ flat_map_more f start (take i xs) x ∙ ap (λ ys. start ++ flat_map f ys) more
 
-items_end : {A : Type 0} (f : A → List Token) (old start now last : List Token) (xs : List A) (i : ℕ) → length xs ≤ i → start ≡ old ++ begin_array ∷ []
+items_end : {A : Type 0} (f : A → List Token) (old start now last : List Token) (xs : List A) (i : ℕ) → length xs ≤ i
+    → start ≡ old ++ begin_array ∷ []
     → now ≡ start ++ flat_map f (take i xs) → last ≡ now ++ end_array ∷ [] → last ≡ old ++ (begin_array ∷ (flat_map f xs ++ end_array ∷ []))
 items_end f old start now last xs i all begun so framed =
-    after old (begin_array ∷ []) _ begun (after start (flat_map f xs) (end_array ∷ []) (so ∙ ap (λ ys. start ++ flat_map f ys) (take_all i xs all)) framed)
+    after old (begin_array ∷ []) _ begun
+    (after start (flat_map f xs) (end_array ∷ []) (so ∙ ap (λ ys. start ++ flat_map f ys) (take_all i xs all)) framed)
 
 pub pairs_end : (old start now last : List Token) (ps qs : List Pair) (i : ℕ) → length ps ≤ i → ps ≡ qs → start ≡ old ++ begin_array ∷ []
     → now ≡ start ++ flat_map pair_tokens (take i ps) → last ≡ now ++ end_array ∷ [] → last ≡ old ++ data_tokens (attribute_list.spell qs)
@@ -172,25 +205,30 @@ pairs_end old start now last ps qs i all same begun so framed =
     items_end pair_tokens old start now last ps i all begun so framed
     ∙ ap (λ ts. old ++ (begin_array ∷ ts)) (sym (pairs_tokens ps)) ∙ ap (λ rs. old ++ data_tokens (attribute_list.spell rs)) same
 
-pub branches_end : (old start now last : List Token) (bs cs : List (Branch Told)) (i : ℕ) → length bs ≤ i → bs ≡ cs → start ≡ old ++ begin_array ∷ []
-    → now ≡ start ++ flat_map branch_tokens (take i bs) → last ≡ now ++ end_array ∷ [] → last ≡ old ++ data_tokens (array (tree_items (nodes_of cs)))
+pub branches_end : (old start now last : List Token) (bs cs : List (Branch Told)) (i : ℕ) → length bs ≤ i → bs ≡ cs
+    → start ≡ old ++ begin_array ∷ []
+    → now ≡ start ++ flat_map branch_tokens (take i bs) → last ≡ now ++ end_array ∷ []
+    → last ≡ old ++ data_tokens (array (tree_items (nodes_of cs)))
 branches_end old start now last bs cs i all same begun so framed =
     items_end branch_tokens old start now last bs i all begun so framed
-    ∙ ap (λ ts. old ++ (begin_array ∷ ts)) (sym (branches_tokens bs)) ∙ ap (λ ds. old ++ data_tokens (array (tree_items (nodes_of ds)))) same
+    ∙ ap (λ ts. old ++ (begin_array ∷ ts)) (sym (branches_tokens bs)) ∙ ap
+    (λ ds. old ++ data_tokens (array (tree_items (nodes_of ds)))) same
 
 -- ---- a frame
 
 text_is : (ts : List Token) {us : List Token} (d : Data) → us ≡ [] → ts ≡ us ++ data_tokens d → print ts ≡ compact_text d
 text_is ts d none e = ap print (e ∙ ap (λ us. us ++ data_tokens d) none) ∙ print-outline d
 
-pub frame_is : {E : Type 0} (written result : Result (Unit {0}) E) (old before now : List ℕ) (us ts : List Token) (d : Data) → us ≡ [] → OnOk written (ts ≡ us ++ data_tokens d) → OnOk result (IsOk written)
+pub frame_is : {E : Type 0} (written result : Result (Unit {0}) E) (old before now : List ℕ) (us ts : List Token) (d : Data) → us ≡ []
+    → OnOk written (ts ≡ us ++ data_tokens d) → OnOk result (IsOk written)
     → before ≡ old → OnOk result (now ≡ before ++ framed (print ts)) → OnOk result (now ≡ old ++ framed (compact_text d))
 frame_is (Ok u) (Ok w) old before now us ts d begun e done b n = n ∙ ap₂ (λ xs ys. xs ++ framed ys) b (text_is ts d begun e)
 frame_is (Ok u) (Err x) old before now us ts d begun e done b n = tt
 frame_is (Err x) (Ok w) old before now us ts d begun e done b n = absurd cc
 frame_is (Err x) (Err y) old before now us ts d begun e done b n = tt
 
-pub frame_utf8 : {E : Type 0} (written result : Result (Unit {0}) E) (us ts : List Token) (d : Data) → us ≡ [] → OnOk written (ts ≡ us ++ data_tokens d) → OnOk result (IsOk written)
+pub frame_utf8 : {E : Type 0} (written result : Result (Unit {0}) E) (us ts : List Token) (d : Data) → us ≡ []
+    → OnOk written (ts ≡ us ++ data_tokens d) → OnOk result (IsOk written)
     → OnOk result (IsUtf8 (print ts)) → OnOk result (IsUtf8 (compact_text d))
 frame_utf8 (Ok u) (Ok w) us ts d begun e done b = subst IsUtf8 (text_is ts d begun e) b
 frame_utf8 (Ok u) (Err x) us ts d begun e done b = tt
@@ -198,13 +236,17 @@ frame_utf8 (Err x) (Ok w) us ts d begun e done b = absurd cc
 frame_utf8 (Err x) (Err y) us ts d begun e done b = tt
 
 -- a frame that was written behind what it begins with
-pub frame_sent : {E : Type 0} (written result : Result (Unit {0}) E) (old before now : List ℕ) (us ts : List Token) (d : Data) → us ≡ [] → OnOk written (ts ≡ us ++ data_tokens d) → before ≡ old
-    → (OnOk written (ts ≡ data_tokens d) → OnOk result (now ≡ before ++ framed (compact_text d))) → OnOk result (now ≡ old ++ framed (compact_text d))
-frame_sent (Err x) result old before now us ts d begun e b done = subst (λ (l : List ℕ). OnOk result (now ≡ l ++ framed (compact_text d))) b (done tt)
+pub frame_sent : {E : Type 0} (written result : Result (Unit {0}) E) (old before now : List ℕ) (us ts : List Token) (d : Data) → us ≡ []
+    → OnOk written (ts ≡ us ++ data_tokens d) → before ≡ old
+    → (OnOk written (ts ≡ data_tokens d) → OnOk result (now ≡ before ++ framed (compact_text d)))
+    → OnOk result (now ≡ old ++ framed (compact_text d))
+frame_sent (Err x) result old before now us ts d begun e b done = subst
+    (λ (l : List ℕ). OnOk result (now ≡ l ++ framed (compact_text d))) b (done tt)
 frame_sent (Ok u) result old before now us ts d begun e b done =
     subst (λ (l : List ℕ). OnOk result (now ≡ l ++ framed (compact_text d))) b (done (e ∙ ap (λ xs. xs ++ data_tokens d) begun))
 
-pub sent_utf8 : {E : Type 0} (written result : Result (Unit {0}) E) (us ts : List Token) (d : Data) → us ≡ [] → OnOk written (ts ≡ us ++ data_tokens d)
+pub sent_utf8 : {E : Type 0} (written result : Result (Unit {0}) E) (us ts : List Token) (d : Data) → us ≡ []
+    → OnOk written (ts ≡ us ++ data_tokens d)
     → (OnOk written (ts ≡ data_tokens d) → OnOk result (IsUtf8 (compact_text d))) → OnOk result (IsUtf8 (compact_text d))
 sent_utf8 (Err x) result us ts d begun e done = done tt
 sent_utf8 (Ok u) result us ts d begun e done = done (e ∙ ap (λ xs. xs ++ data_tokens d) begun)
@@ -212,32 +254,44 @@ sent_utf8 (Ok u) result us ts d begun e done = done (e ∙ ap (λ xs. xs ++ data
 -- ---- messages with nodes, after each of the calls that write them
 
 -- a reply up to the one member of its result
-pub reply_opened : (old : List Token) (id : ℕ) (name : List ℕ) {t1 t2 t3 t4 new : List Token} → t1 ≡ old ++ begin_object ∷ [] → t2 ≡ t1 ++ field_tokens (codes "id") (Some (whole.spell id))
+pub reply_opened : (old : List Token) (id : ℕ) (name : List ℕ) {t1 t2 t3 t4 new : List Token} → t1 ≡ old ++ begin_object ∷ []
+    → t2 ≡ t1 ++ field_tokens (codes "id") (Some (whole.spell id))
     → t3 ≡ t2 ++ key (codes "result") ∷ [] → t4 ≡ t3 ++ begin_object ∷ [] → new ≡ t4 ++ key name ∷ [] → new ≡ old ++ reply_opening id name
 reply_opened old id name e1 e2 e3 e4 e5 = rw (e5, e4, e3, e2, e1) (simp append_assoc)
 
 -- an event up to the first of its parameters
-pub event_opened : (old : List Token) (method name : List ℕ) {shown : List ℕ} {t1 t2 t3 t4 new : List Token} → shown ≡ method → t1 ≡ old ++ begin_object ∷ []
-    → t2 ≡ t1 ++ field_tokens (codes "method") (Some (text.spell shown)) → t3 ≡ t2 ++ key (codes "params") ∷ [] → t4 ≡ t3 ++ begin_object ∷ [] → new ≡ t4 ++ key name ∷ []
+pub event_opened : (old : List Token) (method name : List ℕ) {shown : List ℕ} {t1 t2 t3 t4 new : List Token} → shown ≡ method
+    → t1 ≡ old ++ begin_object ∷ []
+    → t2 ≡ t1 ++ field_tokens (codes "method") (Some (text.spell shown)) → t3 ≡ t2 ++ key (codes "params") ∷ []
+    → t4 ≡ t3 ++ begin_object ∷ [] → new ≡ t4 ++ key name ∷ []
     → new ≡ old ++ event_opening method name
 event_opened old method name is e1 e2 e3 e4 e5 = rw (e5, e4, e3, e2, e1, is) (simp append_assoc)
 
 -- a message behind its nodes
-pub message_closed : (old : List Token) (m : NodeMessage) {t1 t2 new : List Token} → t1 ≡ old ++ fields_behind m → t2 ≡ t1 ++ end_object ∷ [] → new ≡ t2 ++ end_object ∷ [] → new ≡ old ++ closing_tokens m
+pub message_closed : (old : List Token) (m : NodeMessage) {t1 t2 new : List Token} → t1 ≡ old ++ fields_behind m
+    → t2 ≡ t1 ++ end_object ∷ [] → new ≡ t2 ++ end_object ∷ [] → new ≡ old ++ closing_tokens m
 message_closed old m e1 e2 e3 = rw (e3, e2, e1) (simp append_assoc)
 
 -- the parts of a message
 message_tokens : (m : NodeMessage) (d : Data) → opening_tokens m ++ (data_tokens d ++ closing_tokens m) ≡ data_tokens (message_with m d)
-message_tokens (Root id) d = ap (λ ts. reply_opening id (codes "root") ++ ts) (sym (append_assoc (data_tokens d) (end_object ∷ []) (end_object ∷ [])))
-message_tokens (Node id) d = ap (λ ts. reply_opening id (codes "node") ++ ts) (sym (append_assoc (data_tokens d) (end_object ∷ []) (end_object ∷ [])))
+message_tokens (Root id) d = ap (λ ts. reply_opening id (codes "root") ++ ts)
+    (sym (append_assoc (data_tokens d) (end_object ∷ []) (end_object ∷ [])))
+message_tokens (Node id) d = ap (λ ts. reply_opening id (codes "node") ++ ts)
+    (sym (append_assoc (data_tokens d) (end_object ∷ []) (end_object ∷ [])))
 message_tokens (Children parent) d =
-    ap (λ ts. event_opening (event_name SetChildNodes) (codes "nodes") ++ ts) (sym (append_assoc (data_tokens d) (field_tokens (codes "parentId") (Some (whole.spell parent)) ++ end_object ∷ []) (end_object ∷ [])))
+    ap (λ ts. event_opening (event_name SetChildNodes) (codes "nodes") ++ ts)
+    (sym (append_assoc (data_tokens d) (field_tokens (codes "parentId") (Some (whole.spell parent)) ++ end_object ∷ [])
+    (end_object ∷ [])))
 message_tokens (Inserted parent previous) d =
     ap (λ ts. event_opening (event_name ChildNodeInserted) (codes "node") ++ ts)
-    (sym (append_assoc (data_tokens d) (field_tokens (codes "parentNodeId") (Some (whole.spell parent)) ++ (field_tokens (codes "previousNodeId") (Some (whole.spell previous)) ++ end_object ∷ [])) (end_object ∷ [])))
+    (sym (append_assoc (data_tokens d)
+    (field_tokens (codes "parentNodeId") (Some (whole.spell parent))
+    ++ (field_tokens (codes "previousNodeId") (Some (whole.spell previous)) ++ end_object ∷ [])) (end_object ∷ [])))
 
 -- a message whose nodes were written between its opening and its closing
-pub message_written : (old : List Token) (m : NodeMessage) (d : Data) {t1 t2 new : List Token} → t1 ≡ old ++ opening_tokens m → t2 ≡ t1 ++ data_tokens d → new ≡ t2 ++ closing_tokens m
+pub message_written : (old : List Token) (m : NodeMessage) (d : Data) {t1 t2 new : List Token} → t1 ≡ old ++ opening_tokens m
+    → t2 ≡ t1 ++ data_tokens d → new ≡ t2 ++ closing_tokens m
     → new ≡ old ++ data_tokens (message_with m d)
 message_written old m d {t1 = t1} e1 e2 e3 =
-    after old (opening_tokens m) (data_tokens d ++ closing_tokens m) e1 (after t1 (data_tokens d) (closing_tokens m) e2 e3) ∙ ap (λ ts. old ++ ts) (message_tokens m d)
+    after old (opening_tokens m) (data_tokens d ++ closing_tokens m) e1 (after t1 (data_tokens d) (closing_tokens m) e2 e3) ∙ ap
+    (λ ts. old ++ ts) (message_tokens m d)

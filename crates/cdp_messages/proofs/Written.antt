@@ -16,12 +16,17 @@ abbrev pub written_items : Vec (Branch Told) Global → Items
 written_items ts = tree_items (nodes_of ts.items)
 
 written_at : (parent count id serial : ℕ) (label : Label) (o : Option (Vec (Branch Told) Global))
-    → node_fields.spell (node_object_with (told_tree parent count id serial label o).row (option_map written_items o)) ≡ tree_data (told_tree parent count id serial label o)
-written_at parent count id serial label None = ap (λ k. node_fields.spell (node_object_with (told_tree parent count id serial label None).row k)) (hidden (holds label.kind) count _)
+    → node_fields.spell (node_object_with (told_tree parent count id serial label o).row (option_map written_items o))
+    ≡ tree_data (told_tree parent count id serial label o)
+written_at parent count id serial label None = ap
+    (λ k. node_fields.spell (node_object_with (told_tree parent count id serial label None).row k)) (hidden (holds label.kind) count _)
 written_at parent count id serial label (Some ts) = refl
 
-pub tree_written : (parent count id serial : ℕ) (label : Label) (o : Option (Vec (Branch Told) Global)) (b : Branch Told) (list : Option Items)
-    → told_tree parent count id serial label o ≡ b → list ≡ option_map written_items o → node_fields.spell (node_object_with b.row list) ≡ tree_data b
+pub tree_written : (parent count id serial : ℕ) (label : Label) (o : Option (Vec (Branch Told) Global)) (b : Branch Told)
+    (list : Option Items)
+    → told_tree parent count id serial label o ≡ b → list ≡ option_map written_items o
+    → node_fields.spell (node_object_with b.row list) ≡ tree_data b
 tree_written parent count id serial label o b list e l =
     ap (λ k. node_fields.spell (node_object_with b.row k)) l
-    ∙ subst (λ (t : Branch Told). node_fields.spell (node_object_with t.row (option_map written_items o)) ≡ tree_data t) e (written_at parent count id serial label o)
+    ∙ subst (λ (t : Branch Told). node_fields.spell (node_object_with t.row (option_map written_items o)) ≡ tree_data t) e
+    (written_at parent count id serial label o)

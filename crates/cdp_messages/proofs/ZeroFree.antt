@@ -1,5 +1,6 @@
 -- No text of JSON has a zero byte.
-use Rattle.std.proofs.Common.{◌≡◌, ℕ, suc, ◌+◌, ◌/◌, ◌%◌, ◌^◌, ◌<◌, ◌≤◌, pos, negsuc, List, [], ◌∷◌, ◌++◌, length, get_or, Bool, true, false, cond, nat_lt, decimal, refl, arith, ltb-true, ltb-false}
+use Rattle.std.proofs.Common.{◌≡◌, ℕ, suc, ◌+◌, ◌/◌, ◌%◌, ◌^◌, ◌<◌, ◌≤◌, pos, negsuc, List, [], ◌∷◌, ◌++◌, length, get_or, Bool, true}
+use Rattle.std.proofs.Common.{false, cond, nat_lt, decimal, refl, arith, ltb-true, ltb-false}
 use Rattle.std.specs.Prelude.{◌≢◌}
 use Rattle.std.specs.Char.{digit_char}
 use Rattle.std.specs.List.{AllByRecursion}
@@ -7,7 +8,8 @@ use Rattle.std.proofs.lemmas.List.Elements.{All-from_recursion}
 use Rattle.std.proofs.lemmas.Fmt.{decimal_is_IsNumeral}
 use Rattle.std.proofs.lemmas.Str.Parse.{digit_at}
 use Rattle.json.specs.Print.{escape_letter, escape_byte, escape, quoted}
-use Rattle.serde_json.specs.Data.{Num, unsigned, negative, float, Data, null, boolean, number, string, array, object, Items, no_items, item, Members, no_members, member}
+use Rattle.serde_json.specs.Data.{Num, unsigned, negative, float, Data, null, boolean, number, string, array, object, Items, no_items, item}
+use Rattle.serde_json.specs.Data.{Members, no_members, member}
 use Rattle.serde_json.specs.Written.{number_text, comma_if, compact_text, items_text, members_text}
 use Rattle.cdp_json.specs.Plain.{number_is_plain, is_plain, items_are_plain, starts_after, members_are_plain}
 use Rattle.cdp_messages.specs.Laws.{TextsHaveNoZero}
@@ -83,7 +85,9 @@ mutual
   members_above later (member k d ms) p =
       let q = both_parts (is_plain d) _ p in
       let r = both_parts (starts_after k ms) (members_are_plain ms) q.1 in
-      above-append (comma_if later) _ (comma_above later) (above-append (quoted k) _ (quoted_above k) (omega arith, above-append (compact_text d) _ (text_above d q.0) (members_above true ms r.1)))
+      above-append (comma_if later) _ (comma_above later)
+      (above-append (quoted k) _ (quoted_above k)
+      (omega arith, above-append (compact_text d) _ (text_above d q.0) (members_above true ms r.1)))
 
 not_zero : (xs : List ℕ) → Above xs → AllByRecursion (λ byte. byte ≢ 0) xs
 not_zero [] p = tt

@@ -12,7 +12,8 @@ use Rattle.style_edits.specs.declared.faults.SheetFault.{SheetFault}
 use Rattle.style_edits.specs.declared.rule_places.RulePlace.{RulePlace}
 use Rattle.style_edits.specs.declared.splice.Splice.{Splice}
 use Rattle.style_edits.specs.Splices.{after_splice, back_splice, after_splices, TakesSplice}
-use Rattle.style_edits.specs.Edits.{Found, EditsOutcome, HasText, style_splice, selector_splice, text_splice, rule_splice, edited, with_back, go_on, styles_edited}
+use Rattle.style_edits.specs.Edits.{Found, EditsOutcome, HasText, style_splice, selector_splice, text_splice, rule_splice, edited}
+use Rattle.style_edits.specs.Edits.{with_back, go_on, styles_edited}
 use Rattle.style_edits.specs.EditedRules.{edited_rule, edited_rules}
 use Rattle.style_edits.proofs.SpliceForms.{stored_after}
 use Rattle.style_edits.proofs.FoundForms.{style_found, selector_found, text_found, rule_found}
@@ -21,7 +22,8 @@ use Rattle.cdp_messages.specs.declared.down.ReplyBody.TheVariants as body
 use Rattle.cdp_messages.specs.declared.edits.TextEdit.{TextEdit}
 use Rattle.css_agent.specs.declared.edits.CssEdit.{CssEdit}
 use Rattle.css_agent.specs.declared.edits.CssEdit.TheVariants as edit
-use Rattle.css_agent.specs.Edits.{number_named, line_range, style_edit, told_at, CssDone, css_done, styles_done, one_done, css_edited, one_splice, splices_on, style_splices, css_splices}
+use Rattle.css_agent.specs.Edits.{number_named, line_range, style_edit, told_at, CssDone, css_done, styles_done, one_done, css_edited}
+use Rattle.css_agent.specs.Edits.{one_splice, splices_on, style_splices, css_splices}
 use Rattle.css_agent.specs.EditLaws.{HasEditText, HasEditTexts, edit_count, AllTake, back_splices}
 
 -- ---- lists whose elements all have a property
@@ -36,7 +38,8 @@ all-stored (e ∷ es) all = All-cons IsStored e es all.0 (all-stored es all.1)
 
 pub texts-all : (edits : List TextEdit) → All HasEditText edits → All HasText (map style_edit edits)
 texts-all [] all = All-nil HasText
-texts-all (x ∷ xs) all = All-cons HasText (style_edit x) (map style_edit xs) (All-head HasEditText x xs all) (texts-all xs (All-tail HasEditText x xs all))
+texts-all (x ∷ xs) all = All-cons HasText (style_edit x) (map style_edit xs) (All-head HasEditText x xs all)
+    (texts-all xs (All-tail HasEditText x xs all))
 
 -- ---- the book after splices, and those that lead back
 
@@ -46,7 +49,8 @@ pub record Leads (ss backs : List Splice) (count : ℕ) (book new : List SheetEn
   pub back : backs ≡ back_splices ss book
   pub each : length ss ≡ count
 
-style-leads : (xs : List StyleEdit) (book new : List SheetEntry) (backs : List Splice) → styles_edited xs book ≡ Ok (new, backs) → Leads (style_splices xs book) backs (length xs) book new
+style-leads : (xs : List StyleEdit) (book new : List SheetEntry) (backs : List Splice) → styles_edited xs book ≡ Ok (new, backs)
+    → Leads (style_splices xs book) backs (length xs) book new
 unfolding styles_edited style_splices
 style-leads [] book new backs h =
     let same : ◌≡◌ {A = List SheetEntry × List Splice} (book, []) (new, backs) = cc in
@@ -58,9 +62,11 @@ style-leads [] book new backs h =
 style-leads (x ∷ xs) book new backs h = by (style_splice x book) h (λ next end bs e. style-leads xs next end bs e)
   where
     Led : Type 0
-    Led = (next end : List SheetEntry) (bs : List Splice) → styles_edited xs next ≡ Ok (end, bs) → Leads (style_splices xs next) bs (length xs) next end
+    Led = (next end : List SheetEntry) (bs : List Splice) → styles_edited xs next ≡ Ok (end, bs)
+        → Leads (style_splices xs next) bs (length xs) next end
 
-    rest : (s : Splice) (o : EditsOutcome) → styles_edited xs (after_splice s book) ≡ o → with_back (back_splice s book) o ≡ Ok (new, backs) → Led
+    rest : (s : Splice) (o : EditsOutcome) → styles_edited xs (after_splice s book) ≡ o
+        → with_back (back_splice s book) o ≡ Ok (new, backs) → Led
         → Leads (s ∷ style_splices xs (after_splice s book)) backs (length (x ∷ xs)) book new
     rest s (Err f) is k more = absurd (cc)
     rest s (Ok r) is k more =
@@ -77,7 +83,8 @@ style-leads (x ∷ xs) book new backs h = by (style_splice x book) h (λ next en
     by (Err f) k more = absurd (cc)
     by (Ok s) k more = rest s (styles_edited xs (after_splice s book)) refl k more
 
-one-leads : (told : Rule → ReplyBody) (found : Found) (book : List SheetEntry) (d : CssDone) → one_done told (edited book found) ≡ Ok d → Leads (one_splice found) d.backs 1 book d.book
+one-leads : (told : Rule → ReplyBody) (found : Found) (book : List SheetEntry) (d : CssDone) → one_done told (edited book found) ≡ Ok d
+    → Leads (one_splice found) d.backs 1 book d.book
 one-leads told (Err f) book d h = absurd (cc)
 one-leads told (Ok s) book d h =
     let next = after_splice s book in
@@ -94,7 +101,8 @@ pub record StylesDone (edits : List TextEdit) (book : List SheetEntry) (d : CssD
   pub done : styles_edited (map style_edit edits) book ≡ Ok (d.book, d.backs)
   pub told : d.body ≡ body.Styles (map (λ p. (told_at d.book p).style) (edited_rules (map style_edit edits) book))
 
-pub styles-are-done : (edits : List TextEdit) (book : List SheetEntry) (d : CssDone) → css_edited book (edit.SetStyleTexts edits) ≡ Ok d → StylesDone edits book d
+pub styles-are-done : (edits : List TextEdit) (book : List SheetEntry) (d : CssDone) → css_edited book (edit.SetStyleTexts edits) ≡ Ok d
+    → StylesDone edits book d
 styles-are-done edits book d h = by (styles_edited (map style_edit edits) book) refl h
   where
     rules : List RulePlace
@@ -106,7 +114,8 @@ styles-are-done edits book d h = by (styles_edited (map style_edit edits) book) 
         let same : css_done made.0 made.1 (body.Styles (map (λ p. (told_at made.0 p).style) rules)) ≡ d = cc in
         subst (λ (x : CssDone). StylesDone edits book x) same (record { done = is; told = refl })
 
-pub css-leads : (x : CssEdit) (book : List SheetEntry) (d : CssDone) → css_edited book x ≡ Ok d → Leads (css_splices book x) d.backs (edit_count x) book d.book
+pub css-leads : (x : CssEdit) (book : List SheetEntry) (d : CssDone) → css_edited book x ≡ Ok d
+    → Leads (css_splices book x) d.backs (edit_count x) book d.book
 css-leads (edit.SetStyleTexts edits) book d h =
     subst (λ (n : ℕ). Leads (style_splices (map style_edit edits) book) d.backs n book d.book) (length-map edits style_edit)
     (style-leads (map style_edit edits) book d.book d.backs (styles-are-done edits book d h).done)
@@ -118,16 +127,19 @@ css-leads (edit.AddRule sheet rule_text location) book d h =
 
 -- ---- splices that can be made
 
-pub splices-stored : (ss : List Splice) (book : List SheetEntry) → All IsStored book → AllTake ss book → All IsStored (after_splices ss book)
+pub splices-stored : (ss : List Splice) (book : List SheetEntry) → All IsStored book → AllTake ss book
+    → All IsStored (after_splices ss book)
 splices-stored [] book all take = all
 splices-stored (s ∷ ss) book all take = splices-stored ss (after_splice s book) (stored_after s book take.0 all) take.1
 
 styles-take : (xs : List StyleEdit) (book : List SheetEntry) → All IsStored book → All HasText xs → AllTake (style_splices xs book) book
 unfolding style_splices
 styles-take [] book all texts = tt
-styles-take (x ∷ xs) book all texts = by (style_splice x book) refl (λ next stored. styles-take xs next stored (All-tail HasText x xs texts))
+styles-take (x ∷ xs) book all texts = by (style_splice x book) refl
+    (λ next stored. styles-take xs next stored (All-tail HasText x xs texts))
   where
-    by : (found : Found) → style_splice x book ≡ found → ((next : List SheetEntry) → All IsStored next → AllTake (style_splices xs next) next)
+    by : (found : Found) → style_splice x book ≡ found
+        → ((next : List SheetEntry) → All IsStored next → AllTake (style_splices xs next) next)
         → AllTake (splices_on found book (λ next. style_splices xs next)) book
     by (Err f) is more = tt
     by (Ok s) is more =

@@ -1,5 +1,6 @@
 -- The result of an edit can be spelled.
-use Rattle.std.proofs.Common.{◌≡◌, ℕ, suc, Bool, true, ◌&&◌, List, [], ◌∷◌, All, length, map, Option, Some, None, Result, Ok, Err, refl, sym, ap, subst, ◌∙◌, arith}
+use Rattle.std.proofs.Common.{◌≡◌, ℕ, suc, Bool, true, ◌&&◌, List, [], ◌∷◌, All, length, map, Option, Some, None, Result, Ok, Err, refl}
+use Rattle.std.proofs.Common.{sym, ap, subst, ◌∙◌, arith}
 use Rattle.std.specs.Prelude.{slice_get, option_map, option_and_then, unwrap_or}
 use Rattle.std.specs.List.{AllByRecursion, list_all}
 use Rattle.std.proofs.lemmas.Str.{IsUtf8-nil}
@@ -27,7 +28,13 @@ use Rattle.style_edits.specs.EditedRules.{place_by, edited_rule, rules_on, edite
 use Rattle.style_edits.proofs.BookForms.{entry_id}
 use Rattle.style_edits.proofs.SpliceForms.{stored_after}
 use Rattle.style_edits.proofs.FoundForms.{style_found, selector_found, text_found, rule_found}
-use Rattle.cdp_messages.specs.declared.command.Command.TheVariants.{DomEnable, DomDisable, GetDocument, RequestChildNodes, PushByPath, PushBySerials, QuerySelector, QuerySelectorAll, GetAttributes, DescribeNode, SetAttributeValue, RemoveAttribute, SetNodeValue, RemoveNode, MoveTo, CopyTo, MarkUndoableState, Undo, Redo, CssEnable, CssDisable, GetMatchedStyles, GetStyleSheetText, CollectClassNames, SetStyleTexts, SetRuleSelector, SetStyleSheetText, AddRule, SetBreakpoint, RemoveBreakpoint, ReplayLoad, ReplayAct}
+use Rattle.cdp_messages.specs.declared.command.Command.TheVariants.{DomEnable, DomDisable, GetDocument, RequestChildNodes, PushByPath}
+use Rattle.cdp_messages.specs.declared.command.Command.TheVariants.{PushBySerials, QuerySelector, QuerySelectorAll, GetAttributes}
+use Rattle.cdp_messages.specs.declared.command.Command.TheVariants.{DescribeNode, SetAttributeValue, RemoveAttribute, SetNodeValue}
+use Rattle.cdp_messages.specs.declared.command.Command.TheVariants.{RemoveNode, MoveTo, CopyTo, MarkUndoableState, Undo, Redo, CssEnable}
+use Rattle.cdp_messages.specs.declared.command.Command.TheVariants.{CssDisable, GetMatchedStyles, GetStyleSheetText, CollectClassNames}
+use Rattle.cdp_messages.specs.declared.command.Command.TheVariants.{SetStyleTexts, SetRuleSelector, SetStyleSheetText, AddRule}
+use Rattle.cdp_messages.specs.declared.command.Command.TheVariants.{SetBreakpoint, RemoveBreakpoint, ReplayLoad, ReplayAct}
 use Rattle.cdp_messages.specs.declared.down.ReplyBody.{ReplyBody}
 use Rattle.cdp_messages.specs.declared.down.ReplyBody.TheVariants as body
 use Rattle.cdp_messages.specs.declared.edits.TextEdit.{TextEdit}
@@ -37,10 +44,12 @@ use Rattle.cdp_messages.specs.Moves.{IsPlainReply}
 use Rattle.css_agent.specs.declared.edits.CssEdit.{CssEdit}
 use Rattle.css_agent.specs.declared.edits.CssEdit.TheVariants as edit
 use Rattle.css_agent.specs.RuleObjects.{told_rule}
-use Rattle.css_agent.specs.Edits.{number_named, line_range, style_edit, found_at, empty_rule, told_at, CssDone, css_done, one_done, css_edited, splices_on, style_splices, css_splices}
+use Rattle.css_agent.specs.Edits.{number_named, line_range, style_edit, found_at, empty_rule, told_at, CssDone, css_done, one_done}
+use Rattle.css_agent.specs.Edits.{css_edited, splices_on, style_splices, css_splices}
 use Rattle.css_agent.specs.EditLaws.{HasEditTexts, css_edit_name, edit_count, TellsStyles, IsDone, EditsAreDone, EditsAreNamed}
 use Rattle.css_agent.proofs.SheetNames.{rules-named}
-use Rattle.css_agent.proofs.TellableStyles.{both, sheet-number, IsTold, prelude-fits, style-fits, rule-fits, rule-utf8, stored-told, entry-stored, rule-at}
+use Rattle.css_agent.proofs.TellableStyles.{both, sheet-number, IsTold, prelude-fits, style-fits, rule-fits, rule-utf8, stored-told}
+use Rattle.css_agent.proofs.TellableStyles.{entry-stored, rule-at}
 use Rattle.css_agent.proofs.DoneLemmas.{stored-all, texts-all, StylesDone, styles-are-done, css-leads, css-takes, splices-stored}
 
 -- ---- the rule that an edit made
@@ -65,15 +74,22 @@ empty-told sheet is =
 found-told : (book : List SheetEntry) (p : RulePlace) → AllByRecursion IsStored book → is_sheet p.sheet ≡ true → RuleTold (told_at book p)
 found-told book p all number = by-sheet (entry_of p.sheet book) refl
   where
-    by-rule : (e : SheetEntry) → IsStored e → (o : Option RuleForm) → slice_get (sheet_of e.text).rules p.rule ≡ o → RuleTold (unwrap_or (option_map (told_rule e) o) (empty_rule p.sheet))
+    by-rule : (e : SheetEntry) → IsStored e → (o : Option RuleForm) → slice_get (sheet_of e.text).rules p.rule ≡ o
+        → RuleTold (unwrap_or (option_map (told_rule e) o) (empty_rule p.sheet))
     by-rule e is None k = empty-told p.sheet number
     by-rule e is (Some r) k =
         let own = rule-at e.text (sheet_of e.text).rules p.rule r (sheet_usable e.text is.utf8).each (rules-named e.text is.utf8) k in
         let told = stored-told e is in
-        record { whole = rule-fits e r told; style = style-fits e r told; selectors = prelude-fits e r told; utf8 = rule-utf8 e r told own.0 own.1.properties }
+        record {
+          whole = rule-fits e r told;
+          style = style-fits e r told;
+          selectors = prelude-fits e r told;
+          utf8 = rule-utf8 e r told own.0 own.1.properties;
+        }
 
     by-sheet : (o : Option SheetEntry) → entry_of p.sheet book ≡ o
-        → RuleTold (unwrap_or (option_and_then (λ e. option_map (told_rule e) (slice_get (sheet_of e.text).rules p.rule)) o) (empty_rule p.sheet))
+        → RuleTold (unwrap_or (option_and_then (λ e. option_map (told_rule e) (slice_get (sheet_of e.text).rules p.rule)) o)
+        (empty_rule p.sheet))
     by-sheet None k = empty-told p.sheet number
     by-sheet (Some e) k = by-rule e (entry-stored p.sheet book e all k) (slice_get (sheet_of e.text).rules p.rule) refl
 
@@ -82,7 +98,8 @@ place-sheet : (back : Splice) (o : Option SheetEntry) → (place_by back o).shee
 place-sheet back None = refl
 place-sheet back (Some e) = refl
 
-splice-number : (s : Splice) (book : List SheetEntry) → TakesSplice s book → is_sheet (edited_rule (after_splice s book) (back_splice s book)).sheet ≡ true
+splice-number : (s : Splice) (book : List SheetEntry) → TakesSplice s book
+    → is_sheet (edited_rule (after_splice s book) (back_splice s book)).sheet ≡ true
 splice-number s book take =
     let own : is_sheet take.sheet.id ≡ true = sheet-number take.sheet.id take.stored.entry.some take.stored.entry.id in
     let id : take.sheet.id ≡ s.sheet = entry_id s.sheet book take.sheet take.found in
@@ -91,7 +108,8 @@ splice-number s book take =
     place-sheet (back_splice s book) (entry_of (back_splice s book).sheet (after_splice s book)) ∙ back in
     ap (λ (n : ℕ). is_sheet n) (place ∙ sym id) ∙ own
 
-one-told : (s : Splice) (book : List SheetEntry) → All IsStored book → TakesSplice s book → RuleTold (told_at (after_splice s book) (edited_rule (after_splice s book) (back_splice s book)))
+one-told : (s : Splice) (book : List SheetEntry) → All IsStored book → TakesSplice s book
+    → RuleTold (told_at (after_splice s book) (edited_rule (after_splice s book) (back_splice s book)))
 one-told s book all take =
     let next = after_splice s book in
     found-told next (edited_rule next (back_splice s book)) (stored-all next (stored_after s book take all)) (splice-number s book take)
@@ -105,7 +123,8 @@ AreNumbered ps = AllByRecursion (λ p. is_sheet p.sheet ≡ true) ps
 rules-numbered : (xs : List StyleEdit) (book : List SheetEntry) → All IsStored book → All HasText xs → AreNumbered (edited_rules xs book)
 unfolding edited_rules
 rules-numbered [] book all texts = tt
-rules-numbered (x ∷ xs) book all texts = by (style_splice x book) refl (λ next stored. rules-numbered xs next stored (All-tail HasText x xs texts))
+rules-numbered (x ∷ xs) book all texts = by (style_splice x book) refl
+    (λ next stored. rules-numbered xs next stored (All-tail HasText x xs texts))
   where
     by : (found : Found) → style_splice x book ≡ found → ((next : List SheetEntry) → All IsStored next → AreNumbered (edited_rules xs next))
         → AreNumbered (rules_on (edited book found) (λ next. edited_rules xs next))
@@ -119,7 +138,8 @@ record StylesTold (ss : List Style) : Type 0 where
   fits : list_all rule_style_kind.fits ss ≡ true
   utf8 : AllByRecursion StyleHasUtf8 ss
 
-styles-told : (book : List SheetEntry) (ps : List RulePlace) → AllByRecursion IsStored book → AreNumbered ps → StylesTold (map (λ p. (told_at book p).style) ps)
+styles-told : (book : List SheetEntry) (ps : List RulePlace) → AllByRecursion IsStored book → AreNumbered ps
+    → StylesTold (map (λ p. (told_at book p).style) ps)
 styles-told book [] all numbered = record { fits = refl; utf8 = tt }
 styles-told book (p ∷ ps) all numbered =
     let own = found-told book p all numbered.0 in
@@ -132,7 +152,8 @@ rules-count [] book = refl
 rules-count (x ∷ xs) book = by (style_splice x book) (λ next. rules-count xs next)
   where
     by : (found : Found) → ((next : List SheetEntry) → length (edited_rules xs next) ≡ length (style_splices xs next))
-        → length (rules_on (edited book found) (λ next. edited_rules xs next)) ≡ length (splices_on found book (λ next. style_splices xs next))
+        → length (rules_on (edited book found) (λ next. edited_rules xs next))
+        ≡ length (splices_on found book (λ next. style_splices xs next))
     by (Err f) more = refl
     by (Ok s) more = ap (λ (n : ℕ). suc n) (more (after_splice s book))
 
@@ -144,7 +165,8 @@ pub record ResultTold (x : CssEdit) (result : ReplyBody) : Type 0 where
   pub answers : answers (css_edit_name x) result ≡ true
   pub styles : TellsStyles (edit_count x) result
 
-one-result : (x : CssEdit) (told : Rule → ReplyBody) (found : Found) (book : List SheetEntry) (d : CssDone) → All IsStored book → ((s : Splice) → found ≡ Ok s → TakesSplice s book)
+one-result : (x : CssEdit) (told : Rule → ReplyBody) (found : Found) (book : List SheetEntry) (d : CssDone) → All IsStored book
+    → ((s : Splice) → found ≡ Ok s → TakesSplice s book)
     → ((r : Rule) → RuleTold r → ResultTold x (told r)) → one_done told (edited book found) ≡ Ok d → ResultTold x d.body
 one-result x told (Err f) book d all takes can h = absurd (cc)
 one-result x told (Ok s) book d all takes can h =
@@ -154,14 +176,16 @@ one-result x told (Ok s) book d all takes can h =
     let same : css_done next (back ∷ []) (told rule) ≡ d = cc in
     subst (λ (y : CssDone). ResultTold x y.body) same (can rule (one-told s book all (takes s refl)))
 
-pub result-told : (x : CssEdit) (book : List SheetEntry) (d : CssDone) → All IsStored book → HasEditTexts x → css_edited book x ≡ Ok d → ResultTold x d.body
+pub result-told : (x : CssEdit) (book : List SheetEntry) (d : CssDone) → All IsStored book → HasEditTexts x → css_edited book x ≡ Ok d
+    → ResultTold x d.body
 result-told (edit.SetStyleTexts edits) book d all texts h =
     let x = edit.SetStyleTexts edits in
     let xs = map style_edit edits in
     let is = styles-are-done edits book d h in
     let ss = map (λ p. (told_at d.book p).style) (edited_rules xs book) in
     let led = css-leads x book d h in
-    let new : All IsStored d.book = subst (λ (b : List SheetEntry). All IsStored b) (sym led.there) (splices-stored (css_splices book x) book all (css-takes x book all texts)) in
+    let new : All IsStored d.book = subst (λ (b : List SheetEntry). All IsStored b) (sym led.there)
+    (splices-stored (css_splices book x) book all (css-takes x book all texts)) in
     let told = styles-told d.book (edited_rules xs book) (stored-all d.book new) (rules-numbered xs book all (texts-all edits texts)) in
     let own : ResultTold x (body.Styles ss) = record {
       plain = λ id small. record { id_fits = small; plain = refl; fits = both told.fits refl; texts = told.utf8; levels = omega arith };
@@ -170,10 +194,17 @@ result-told (edit.SetStyleTexts edits) book d all texts h =
     } in
     subst (λ (b : ReplyBody). ResultTold x b) (sym is.told) own
 result-told (edit.SetRuleSelector sheet range selector) book d all utf8 h =
-    one-result (edit.SetRuleSelector sheet range selector) (λ r. body.Selectors r.selectors) (selector_splice (number_named sheet) (line_range range) selector book) book d all
+    one-result (edit.SetRuleSelector sheet range selector) (λ r. body.Selectors r.selectors)
+    (selector_splice (number_named sheet) (line_range range) selector book) book d all
     (λ s k. selector_found (number_named sheet) (line_range range) selector book s all utf8 k)
     (λ r told. record {
-      plain = λ id small. record { id_fits = small; plain = refl; fits = both told.selectors refl; texts = told.utf8.0; levels = omega arith };
+      plain = λ id small. record {
+        id_fits = small;
+        plain = refl;
+        fits = both told.selectors refl;
+        texts = told.utf8.0;
+        levels = omega arith;
+      };
       answers = refl;
       styles = tt;
     }) h
@@ -186,7 +217,8 @@ result-told (edit.SetStyleSheetText sheet text) book d all utf8 h =
       styles = tt;
     }) h
 result-told (edit.AddRule sheet rule_text location) book d all utf8 h =
-    one-result (edit.AddRule sheet rule_text location) (λ r. body.Rule r) (rule_splice (number_named sheet) (line_range location) rule_text book) book d all
+    one-result (edit.AddRule sheet rule_text location) (λ r. body.Rule r)
+    (rule_splice (number_named sheet) (line_range location) rule_text book) book d all
     (λ s k. rule_found (number_named sheet) (line_range location) rule_text book s all utf8 k)
     (λ r told. record {
       plain = λ id small. record { id_fits = small; plain = refl; fits = both told.whole refl; texts = told.utf8; levels = omega arith };
@@ -238,9 +270,12 @@ edits-named (GetMatchedStyles id) x h = absurd cc
 edits-named (GetStyleSheetText sheet) x h = absurd cc
 edits-named (CollectClassNames sheet) x h = absurd cc
 edits-named (SetStyleTexts edits) x h = let same : edit.SetStyleTexts edits ≡ x = cc in ap (λ (y : CssEdit). css_edit_name y) same
-edits-named (SetRuleSelector sheet range selector) x h = let same : edit.SetRuleSelector sheet range selector ≡ x = cc in ap (λ (y : CssEdit). css_edit_name y) same
-edits-named (SetStyleSheetText sheet text) x h = let same : edit.SetStyleSheetText sheet text ≡ x = cc in ap (λ (y : CssEdit). css_edit_name y) same
-edits-named (AddRule sheet rule_text location) x h = let same : edit.AddRule sheet rule_text location ≡ x = cc in ap (λ (y : CssEdit). css_edit_name y) same
+edits-named (SetRuleSelector sheet range selector) x h = let same : edit.SetRuleSelector sheet range selector
+    ≡ x = cc in ap (λ (y : CssEdit). css_edit_name y) same
+edits-named (SetStyleSheetText sheet text) x h = let same : edit.SetStyleSheetText sheet text
+    ≡ x = cc in ap (λ (y : CssEdit). css_edit_name y) same
+edits-named (AddRule sheet rule_text location) x h = let same : edit.AddRule sheet rule_text location
+    ≡ x = cc in ap (λ (y : CssEdit). css_edit_name y) same
 edits-named (SetBreakpoint node kind) x h = absurd cc
 edits-named (RemoveBreakpoint node kind) x h = absurd cc
 edits-named (ReplayLoad params) x h = absurd cc

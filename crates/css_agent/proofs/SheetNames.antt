@@ -1,5 +1,6 @@
 -- What a sheet and a style attribute say: the names in them are UTF-8, and a rule has no more selectors than its sheet has bytes.
-use Rattle.std.proofs.Common.{◌≡◌, ℕ, suc, ◌+◌, ◌≤◌, Bool, true, false, cond, not, ◌&&◌, List, [], ◌∷◌, ◌++◌, length, map, Option, Some, None, refl, sym, ap, ◌∙◌, subst, length-append, arith}
+use Rattle.std.proofs.Common.{◌≡◌, ℕ, suc, ◌+◌, ◌≤◌, Bool, true, false, cond, not, ◌&&◌, List, [], ◌∷◌, ◌++◌, length, map, Option, Some}
+use Rattle.std.proofs.Common.{None, refl, sym, ap, ◌∙◌, subst, length-append, arith}
 use Rattle.std.specs.List.{AllByRecursion}
 use Rattle.std.specs.Option.{option_to_list}
 use Rattle.std.specs.Char.{to_ascii_lowercase}
@@ -11,7 +12,8 @@ use Rattle.css_tokens.specs.Pieces.{pieces, IsCutAt}
 use Rattle.selectors.specs.declared.words.Word.{Word}
 use Rattle.selectors.specs.Words.{word_reading, passed_over, word_of, words_by, words_after, is_mark}
 use Rattle.selectors.specs.Forms.{SelectorForm, ◌>>=◌}
-use Rattle.selectors.specs.Reading.{word_value, range_of, segments, put_first, selector_of, selectors_in, selector_before, selector_list_of, is_over}
+use Rattle.selectors.specs.Reading.{word_value, range_of, segments, put_first, selector_of, selectors_in, selector_before, selector_list_of}
+use Rattle.selectors.specs.Reading.{is_over}
 use Rattle.selectors.specs.Ranges.{AreTiles}
 use Rattle.selectors.proofs.Choices.{none_some, some_is, passed_test, failed_test, bind_some}
 use Rattle.selectors.proofs.RangeForms.{tiles_whole}
@@ -19,7 +21,9 @@ use Rattle.sheet_reader.specs.declared.sheet.Property.{Property}
 use Rattle.sheet_reader.specs.Forms.{range, RuleForm}
 use Rattle.sheet_reader.specs.Parts.{PartForm, passed as passed_part, at_rule, qualified, text_end, semicolon, block, part_pieces, parts}
 use Rattle.sheet_reader.specs.Declarations as body
-use Rattle.sheet_reader.specs.Declarations.{ItemForm, items_after, item_pieces, is_custom, is_important, plain_value, name_by, property, property_by, declared_by, declared_in, declaration_of, holds_bad, item_property, properties_in, declarations, style_of}
+use Rattle.sheet_reader.specs.Declarations.{ItemForm, items_after, item_pieces, is_custom, is_important, plain_value, name_by, property}
+use Rattle.sheet_reader.specs.Declarations.{property_by, declared_by, declared_in, declaration_of, holds_bad, item_property, properties_in}
+use Rattle.sheet_reader.specs.Declarations.{declarations, style_of}
 use Rattle.sheet_reader.specs.Sheets.{body_end, style_rule, rule_of, rules_in, sheet_of}
 use Rattle.sheet_reader.specs.Grammar.{AreParts, AreItems}
 use Rattle.sheet_reader.proofs.ItemForms.{items_spelled}
@@ -50,7 +54,8 @@ words-cut : (text : List ℕ) (spaced : Bool) (ts : List Token) → AreCutAt tex
 unfolding words_after
 words-cut text spaced [] cut = tt
 words-cut text spaced (t ∷ ts) cut = at (passed_over t.kind spaced) (λ s. words-cut text s ts cut.1) where
-  at : (o : Option Bool) → ((s : Bool) → AreCutOut text (words_after text s ts)) → AreCutOut text (words_by o (word_of text spaced t) (λ s. words_after text s ts))
+  at : (o : Option Bool) → ((s : Bool) → AreCutOut text (words_after text s ts))
+      → AreCutOut text (words_by o (word_of text spaced t) (λ s. words_after text s ts))
   at None more = (record { order = omega (arith, cut.0.0); front = cut.0.1; back = cut.0.2 }, more false)
   at (Some s) more = more s
 
@@ -58,7 +63,8 @@ words-few : (text : List ℕ) (spaced : Bool) (ts : List Token) → length (word
 unfolding words_after
 words-few text spaced [] = omega arith
 words-few text spaced (t ∷ ts) = at (passed_over t.kind spaced) (λ s. words-few text s ts) where
-  at : (o : Option Bool) → ((s : Bool) → length (words_after text s ts) ≤ length ts) → length (words_by o (word_of text spaced t) (λ s. words_after text s ts)) ≤ length (t ∷ ts)
+  at : (o : Option Bool) → ((s : Bool) → length (words_after text s ts) ≤ length ts)
+      → length (words_by o (word_of text spaced t) (λ s. words_after text s ts)) ≤ length (t ∷ ts)
   at None more = let few = more false in omega (arith, few)
   at (Some s) more = let few = more s in omega (arith, few)
 
@@ -73,22 +79,27 @@ unfolding segments
 segments-few [] = (omega arith, omega arith)
 segments-few (w ∷ ws) = at (is_mark 44 w.kind) (segments-few ws) where
   at : (b : Bool) → (1 ≤ length (segments ws)) × (length (segments ws) ≤ length ws + 1)
-      → (1 ≤ length (cond b ([] ∷ segments ws) (put_first w (segments ws)))) × (length (cond b ([] ∷ segments ws) (put_first w (segments ws))) ≤ length (w ∷ ws) + 1)
+      → (1 ≤ length (cond b ([] ∷ segments ws) (put_first w (segments ws))))
+      × (length (cond b ([] ∷ segments ws) (put_first w (segments ws))) ≤ length (w ∷ ws) + 1)
   at true few = (omega arith, omega (arith, few.1))
   at false few = let same = put-few w (segments ws) few.0 in (omega (arith, same, few.0), omega (arith, same, few.1))
 
-selectors-few : (text : List ℕ) (segs : List (List Word)) (ss : List SelectorForm) → selectors_in text segs ≡ Some ss → length ss ≡ length segs
+selectors-few : (text : List ℕ) (segs : List (List Word)) (ss : List SelectorForm) → selectors_in text segs ≡ Some ss
+    → length ss ≡ length segs
 unfolding selectors_in
 selectors-few text [] ss e = ap (λ (xs : List SelectorForm). length xs) (sym (some_is {A = List SelectorForm} [] ss e))
 selectors-few text (own ∷ others) ss e =
     let a = bind_some (selector_of (word_reading text own)) (λ s. selector_before s (selectors_in text others)) ss e in
     at a.0 (selectors_in text others) a.2 (λ tail h. selectors-few text others tail h)
   where
-    at : (s : SelectorForm) (o : Option (List SelectorForm)) → selector_before s o ≡ Some ss → ((tail : List SelectorForm) → o ≡ Some tail → length tail ≡ length others) → length ss ≡ suc (length others)
+    at : (s : SelectorForm) (o : Option (List SelectorForm)) → selector_before s o ≡ Some ss
+        → ((tail : List SelectorForm) → o ≡ Some tail → length tail ≡ length others) → length ss ≡ suc (length others)
     at s None e more = absurd (none_some ss e)
-    at s (Some tail) e more = ap (λ (xs : List SelectorForm). length xs) (sym (some_is {A = List SelectorForm} (s ∷ tail) ss e)) ∙ ap (λ n. suc n) (more tail refl)
+    at s (Some tail) e more = ap (λ (xs : List SelectorForm). length xs) (sym (some_is {A = List SelectorForm} (s ∷ tail) ss e)) ∙ ap
+        (λ n. suc n) (more tail refl)
 
-list-few : (text : List ℕ) (ws : List Word) (ss : List SelectorForm) → selector_list_of (word_reading text ws) ≡ Some ss → length ss ≤ length ws + 1
+list-few : (text : List ℕ) (ws : List Word) (ss : List SelectorForm) → selector_list_of (word_reading text ws) ≡ Some ss
+    → length ss ≤ length ws + 1
 list-few text ws ss e = let same = selectors-few text (segments ws) ss e in let few = segments-few ws in omega (arith, same, few.1)
 
 -- ---- declarations
@@ -103,7 +114,8 @@ name-utf8 value utf8 = at (is_custom value) where
   at true = utf8
   at false = lowered value utf8
 
-words-named : (text : List ℕ) (ws : List Word) (whole : Range) (p : Property) → IsUtf8 text → AreCutOut text ws → declared_by text ws whole ≡ Some p → PropertyNamed p
+words-named : (text : List ℕ) (ws : List Word) (whole : Range) (p : Property) → IsUtf8 text → AreCutOut text ws
+    → declared_by text ws whole ≡ Some p → PropertyNamed p
 words-named text [] whole p utf8 cut e = absurd (none_some p e)
 words-named text (name ∷ []) whole p utf8 cut e = absurd (none_some p e)
 words-named text (name ∷ colon ∷ value) whole p utf8 cut e =
@@ -115,24 +127,28 @@ words-named text (name ∷ colon ∷ value) whole p utf8 cut e =
     let same = some_is {A = Property} (property own colon important plain whole) p b.1 in
     subst PropertyNamed same (name-utf8 (word_value text name) (value-utf8 text name utf8 cut.0))
 
-declaration-named : (text : List ℕ) (ts : List Token) (p : Property) → IsUtf8 text → AreCutAt text ts → declaration_of text ts ≡ Some p → PropertyNamed p
+declaration-named : (text : List ℕ) (ts : List Token) (p : Property) → IsUtf8 text → AreCutAt text ts → declaration_of text ts ≡ Some p
+    → PropertyNamed p
 unfolding declaration_of
 declaration-named text ts p utf8 cut e =
     let a = failed_test (holds_bad ts) (declared_in text (words_after text false ts)) p e in
     let b = bind_some (range_of (words_after text false ts)) (λ whole. declared_by text (words_after text false ts) whole) p a.1 in
     words-named text (words_after text false ts) b.0 p utf8 (words-cut text false ts cut) b.2
 
-one-named : (text : List ℕ) (o : Option Property) (ps : List Property) → ((p : Property) → o ≡ Some p → PropertyNamed p) → AllByRecursion PropertyNamed ps → AllByRecursion PropertyNamed (option_to_list o ++ ps)
+one-named : (text : List ℕ) (o : Option Property) (ps : List Property) → ((p : Property) → o ≡ Some p → PropertyNamed p)
+    → AllByRecursion PropertyNamed ps → AllByRecursion PropertyNamed (option_to_list o ++ ps)
 one-named text None ps own all = all
 one-named text (Some p) ps own all = (own p refl, all)
 
-item-named : (text : List ℕ) (item : ItemForm) (p : Property) → IsUtf8 text → AreCutAt text (item_pieces item) → item_property text item ≡ Some p → PropertyNamed p
+item-named : (text : List ℕ) (item : ItemForm) (p : Property) → IsUtf8 text → AreCutAt text (item_pieces item)
+    → item_property text item ≡ Some p → PropertyNamed p
 item-named text (body.candidate ts) p utf8 cut e = declaration-named text ts p utf8 cut e
 item-named text (body.passed t) p utf8 cut e = absurd (none_some p e)
 item-named text (body.at_rule x) p utf8 cut e = absurd (none_some p e)
 item-named text (body.other ts) p utf8 cut e = absurd (none_some p e)
 
-items-named : (text : List ℕ) (items : List ItemForm) (ts : List Token) → IsUtf8 text → AreCutAt text ts → AreItems items ts → AllByRecursion PropertyNamed (properties_in text items)
+items-named : (text : List ℕ) (items : List ItemForm) (ts : List Token) → IsUtf8 text → AreCutAt text ts → AreItems items ts
+    → AllByRecursion PropertyNamed (properties_in text items)
 unfolding properties_in
 items-named text [] ts utf8 cut is = tt
 items-named text (item ∷ items) ts utf8 cut is =
@@ -141,7 +157,8 @@ items-named text (item ∷ items) ts utf8 cut is =
     (λ p e. item-named text item p utf8 (all-left (IsCutAt text) (item_pieces item) is.0 all) e)
     (items-named text items is.0 utf8 (all-right (IsCutAt text) (item_pieces item) is.0 all) is.3)
 
-declarations-named : (text : List ℕ) (ts : List Token) → IsUtf8 text → AreCutAt text ts → AllByRecursion PropertyNamed (declarations text ts)
+declarations-named : (text : List ℕ) (ts : List Token) → IsUtf8 text → AreCutAt text ts
+    → AllByRecursion PropertyNamed (declarations text ts)
 declarations-named text ts utf8 cut = items-named text (items_after 0 ts) ts utf8 cut (items_spelled ts)
 
 -- the declarations of a `style` attribute
@@ -156,11 +173,13 @@ pub record RuleNamed (most : ℕ) (r : RuleForm) : Type 0 where
   pub properties : AllByRecursion PropertyNamed r.properties
   pub few : length r.selectors ≤ most + 1
 
-styled-named : (text : List ℕ) (prelude inside : List Token) (own : Range) (r : RuleForm) → IsUtf8 text → AreCutAt text prelude → AreCutAt text inside
+styled-named : (text : List ℕ) (prelude inside : List Token) (own : Range) (r : RuleForm) → IsUtf8 text → AreCutAt text prelude
+    → AreCutAt text inside
     → style_rule text (words_after text false prelude) own inside ≡ Some r → RuleNamed (length prelude) r
 styled-named text prelude inside own r utf8 front within e =
     let ws = words_after text false prelude in
-    let of : Range → List SelectorForm → RuleForm = λ a ss. record { prelude = a; selectors = ss; body = own; properties = declarations text inside } in
+    let of : Range → List SelectorForm
+    → RuleForm = λ a ss. record { prelude = a; selectors = ss; body = own; properties = declarations text inside } in
     let a = bind_some (range_of ws) (λ a. selector_list_of (word_reading text ws) >>= λ ss. Some (of a ss)) r e in
     let b = bind_some (selector_list_of (word_reading text ws)) (λ ss. Some (of a.0 ss)) r a.2 in
     let same = some_is {A = RuleForm} (of a.0 b.0) r b.2 in
@@ -176,7 +195,8 @@ styled-named text prelude inside own r utf8 front within e =
 more-named : (few most : ℕ) (r : RuleForm) → few ≤ most → RuleNamed few r → RuleNamed most r
 more-named few most r less is = record { selectors = is.selectors; properties = is.properties; few = omega (arith, less, is.few) }
 
-part-named : (text : List ℕ) (p : PartForm) (r : RuleForm) → IsUtf8 text → AreCutAt text (part_pieces p) → rule_of text p ≡ Some r → RuleNamed (length (part_pieces p)) r
+part-named : (text : List ℕ) (p : PartForm) (r : RuleForm) → IsUtf8 text → AreCutAt text (part_pieces p) → rule_of text p ≡ Some r
+    → RuleNamed (length (part_pieces p)) r
 unfolding rule_of
 part-named text (passed_part t) r utf8 cut e = absurd (none_some r e)
 part-named text (at_rule keyword prelude ending) r utf8 cut e = absurd (none_some r e)
@@ -186,23 +206,29 @@ part-named text (qualified prelude (block first inside close)) r utf8 cut e =
     let back = all-right (IsCutAt text) prelude (first ∷ (inside ++ option_to_list close)) cut in
     let count = length-append prelude (first ∷ (inside ++ option_to_list close)) in
     more-named (length prelude) (length (prelude ++ first ∷ (inside ++ option_to_list close))) r (omega (arith, count))
-    (styled-named text prelude inside (range first.end (body_end text close)) r utf8 (all-left (IsCutAt text) prelude (first ∷ (inside ++ option_to_list close)) cut)
+    (styled-named text prelude inside (range first.end (body_end text close)) r utf8
+    (all-left (IsCutAt text) prelude (first ∷ (inside ++ option_to_list close)) cut)
     (all-left (IsCutAt text) inside (option_to_list close) back.1) e)
 
-one-rule : (most : ℕ) (o : Option RuleForm) (rs : List RuleForm) → ((r : RuleForm) → o ≡ Some r → RuleNamed most r) → AllByRecursion (RuleNamed most) rs → AllByRecursion (RuleNamed most) (option_to_list o ++ rs)
+one-rule : (most : ℕ) (o : Option RuleForm) (rs : List RuleForm) → ((r : RuleForm) → o ≡ Some r → RuleNamed most r)
+    → AllByRecursion (RuleNamed most) rs → AllByRecursion (RuleNamed most) (option_to_list o ++ rs)
 one-rule most None rs own all = all
 one-rule most (Some r) rs own all = (own r refl, all)
 
-parts-named : (text : List ℕ) (most : ℕ) (ps : List PartForm) (ts : List Token) → IsUtf8 text → length ts ≤ most → AreCutAt text ts → AreParts ps ts → AllByRecursion (RuleNamed most) (rules_in text ps)
+parts-named : (text : List ℕ) (most : ℕ) (ps : List PartForm) (ts : List Token) → IsUtf8 text → length ts ≤ most → AreCutAt text ts
+    → AreParts ps ts → AllByRecursion (RuleNamed most) (rules_in text ps)
 unfolding rules_in
 parts-named text most [] ts utf8 few cut is = tt
 parts-named text most (p ∷ ps) ts utf8 few cut is =
     let all = subst (AreCutAt text) is.1 cut in
-    let count : length ts ≡ length (part_pieces p) + length is.0 = ap (λ (xs : List Token). length xs) is.1 ∙ length-append (part_pieces p) is.0 in
+    let count : length ts ≡ length (part_pieces p)
+    + length is.0 = ap (λ (xs : List Token). length xs) is.1 ∙ length-append (part_pieces p) is.0 in
     one-rule most (rule_of text p) (rules_in text ps)
-    (λ r e. more-named (length (part_pieces p)) most r (omega (arith, count, few)) (part-named text p r utf8 (all-left (IsCutAt text) (part_pieces p) is.0 all) e))
+    (λ r e. more-named (length (part_pieces p)) most r (omega (arith, count, few))
+    (part-named text p r utf8 (all-left (IsCutAt text) (part_pieces p) is.0 all) e))
     (parts-named text most ps is.0 utf8 (omega (arith, count, few)) (all-right (IsCutAt text) (part_pieces p) is.0 all) is.3)
 
 -- the rules of a sheet
 pub rules-named : (text : List ℕ) → IsUtf8 text → AllByRecursion (RuleNamed (length text)) (sheet_of text).rules
-rules-named text utf8 = parts-named text (length text) (parts (pieces text)) (pieces text) utf8 (pieces-few text utf8) (pieces-cut text utf8) (parts_spelled (pieces text))
+rules-named text utf8 = parts-named text (length text) (parts (pieces text)) (pieces text) utf8 (pieces-few text utf8)
+    (pieces-cut text utf8) (parts_spelled (pieces text))

@@ -1,5 +1,6 @@
 -- Rules found and ancestors walked, one after the other.
-use Rattle.std.proofs.Common.{◌≡◌, ℕ, zero, suc, ◌+◌, ◌<◌, subst, All, Bool, true, false, cond, List, [], ◌∷◌, ◌++◌, map, take, drop, length, get_or, arith, Option, Some, None, refl, sym, ap, ◌∙◌}
+use Rattle.std.proofs.Common.{◌≡◌, ℕ, zero, suc, ◌+◌, ◌<◌, subst, All, Bool, true, false, cond, List, [], ◌∷◌, ◌++◌, map, take, drop}
+use Rattle.std.proofs.Common.{length, get_or, arith, Option, Some, None, refl, sym, ap, ◌∙◌}
 use Rattle.std.specs.List.{filter_map, cons_option, slice_get}
 use Rattle.std.specs.Borrow.{Bor}
 use Rattle.std.specs.Option.{option_to_list, option_map}
@@ -29,28 +30,33 @@ one-found None front rest = append_assoc front [] rest
 one-found (Some y) front rest = append_assoc front (y ∷ []) rest
 
 -- what the element at a place gives, and then what those behind it give
-pub found-turn : {X Y : Type 0} (f : X → Option Y) (xs : List X) (i : ℕ) (x : X) (before after : List Y) → i < length xs → x ≡ get_or xs i x → after ≡ before ++ option_to_list (f x)
+pub found-turn : {X Y : Type 0} (f : X → Option Y) (xs : List X) (i : ℕ) (x : X) (before after : List Y) → i < length xs
+    → x ≡ get_or xs i x → after ≡ before ++ option_to_list (f x)
     → after ++ filter_map f (drop (i + 1) xs) ≡ before ++ filter_map f (drop i xs)
 found-turn {X = X} {Y = Y} f xs i x before after inside is e =
     ap (λ (l : List Y). l ++ filter_map f (drop (i + 1) xs)) e ∙ one-found (f x) before (filter_map f (drop (i + 1) xs))
     ∙ sym (ap (λ (l : List X). before ++ filter_map f l) (drop_more xs i x inside ∙ ap (λ (y : X). y ∷ drop (i + 1) xs) (sym is)))
 
 one-more : (book : List SheetEntry) (b : Bool) (front : List Inherited) (z : Zipper) (rest : List Zipper)
-    → (front ++ cond b (told_inherited book z ∷ []) []) ++ map (told_inherited book) rest ≡ front ++ map (told_inherited book) (cond b (z ∷ rest) rest)
+    → (front ++ cond b (told_inherited book z ∷ []) []) ++ map (told_inherited book) rest
+    ≡ front ++ map (told_inherited book) (cond b (z ∷ rest) rest)
 one-more book true front z rest = append_assoc front (told_inherited book z ∷ []) (map (told_inherited book) rest)
 one-more book false front z rest = append_assoc front [] (map (told_inherited book) rest)
 
 -- an ancestor, and then those above it
-pub ancestors-turn : (book : List SheetEntry) (at : Option Zipper) (q : Zipper) (next : Option Zipper) (before after : List Inherited) → at ≡ Some q → next ≡ parent_of q
+pub ancestors-turn : (book : List SheetEntry) (at : Option Zipper) (q : Zipper) (next : Option Zipper) (before after : List Inherited)
+    → at ≡ Some q → next ≡ parent_of q
     → after ≡ before ++ cond (is_element_node q) (told_inherited book q ∷ []) []
-    → after ++ map (told_inherited book) (elements (from ancestors next)) ≡ before ++ map (told_inherited book) (elements (from ancestors at))
+    → after ++ map (told_inherited book) (elements (from ancestors next))
+    ≡ before ++ map (told_inherited book) (elements (from ancestors at))
 ancestors-turn book at q next before after e f made =
     ap (λ (l : List Inherited). l ++ map (told_inherited book) (elements (from ancestors next))) made
     ∙ one-more book (is_element_node q) before q (elements (from ancestors next))
     ∙ sym (ap (λ (l : List Zipper). before ++ map (told_inherited book) (elements l)) (walk-step ancestors ancestors-from at q next e f))
 
 -- the selectors of a rule stand each where the text can be cut
-pub each-between : (text : List ℕ) (from to : ℕ) (ss : List SelectorForm) → AreBetween text from to (ranges_of ss) → All (λ s. IsRangeOf text s.range) ss
+pub each-between : (text : List ℕ) (from to : ℕ) (ss : List SelectorForm) → AreBetween text from to (ranges_of ss)
+    → All (λ s. IsRangeOf text s.range) ss
 each-between text from to [] b = All-nil (λ s. IsRangeOf text s.range)
 each-between text from to (s ∷ ss) b = All-cons (λ s. IsRangeOf text s.range) s ss b.1 (each-between text s.range.end to ss b.2)
 
@@ -65,17 +71,20 @@ twice None = refl
 twice (Some r) = refl
 
 -- the rule at a place of a sheet of a book
-pub rule-here : (e : SheetEntry) (xs : List StyleRule) (i : ℕ) (o : Option (Bor StyleRule)) → IsEntry e → map rule_seen xs ≡ e.reading.rules → option_map (λ r. r.now) o ≡ slice_get xs i
+pub rule-here : (e : SheetEntry) (xs : List StyleRule) (i : ℕ) (o : Option (Bor StyleRule)) → IsEntry e
+    → map rule_seen xs ≡ e.reading.rules → option_map (λ r. r.now) o ≡ slice_get xs i
     → option_map (λ r. rule_seen r.now) o ≡ slice_get (sheet_of e.text).rules i
 rule-here e xs i o own read at =
     twice o ∙ ap (λ (p : Option StyleRule). option_map rule_seen p) at ∙ sym (slice_get-map rule_seen xs i)
     ∙ ap (λ (rs : List RuleForm). slice_get rs i) (read ∙ ap (λ (s : Sheet). s.rules) own.read)
 
 -- and it can be cut out of the sheet's text
-pub rule-usable : (e : SheetEntry) (text : List ℕ) (i : ℕ) (o : Option (Bor StyleRule)) → text ≡ e.text → IsUtf8 text → option_map (λ r. rule_seen r.now) o ≡ slice_get (sheet_of e.text).rules i
+pub rule-usable : (e : SheetEntry) (text : List ℕ) (i : ℕ) (o : Option (Bor StyleRule)) → text ≡ e.text → IsUtf8 text
+    → option_map (λ r. rule_seen r.now) o ≡ slice_get (sheet_of e.text).rules i
     → IfSome o (λ r. IsRuleOf e.text (rule_seen r.now))
 rule-usable e text i None is utf8 at = tt
-rule-usable e text i (Some r) is utf8 at = all-at (IsRuleOf e.text) (sheet_of e.text).rules i (rule_seen r.now) (sym at) (sheet_usable e.text (subst IsUtf8 is utf8)).each
+rule-usable e text i (Some r) is utf8 at = all-at (IsRuleOf e.text) (sheet_of e.text).rules i (rule_seen r.now) (sym at)
+    (sheet_usable e.text (subst IsUtf8 is utf8)).each
 
 take-suc : {X : Type 0} (xs : List X) (i : ℕ) (x : X) → slice_get xs i ≡ Some x → take (suc i) xs ≡ take i xs ++ x ∷ []
 take-suc [] i x e = absurd (cc)
@@ -83,8 +92,10 @@ take-suc (y ∷ ys) zero x e = let same : y ≡ x = cc in ap (λ w. w ∷ []) sa
 take-suc (y ∷ ys) (suc i) x e = ap (λ w. y ∷ w) (take-suc ys i x e)
 
 -- one more is told, that at a place
-pub told-at : {X Y : Type 0} (f : X → Y) (xs : List X) (i : ℕ) (x : X) (before after : List Y) → slice_get xs i ≡ Some x → before ≡ map f (take i xs) → after ≡ before ++ f x ∷ []
+pub told-at : {X Y : Type 0} (f : X → Y) (xs : List X) (i : ℕ) (x : X) (before after : List Y) → slice_get xs i ≡ Some x
+    → before ≡ map f (take i xs) → after ≡ before ++ f x ∷ []
     → after ≡ map f (take (i + 1) xs)
 told-at {X = X} {Y = Y} f xs i x before after at is e =
     let one : suc i ≡ i + 1 = omega arith in
-    e ∙ ap (λ (l : List Y). l ++ f x ∷ []) is ∙ sym (map-append f (take i xs) (x ∷ [])) ∙ ap (λ (l : List X). map f l) (sym (take-suc xs i x at)) ∙ ap (λ (n : ℕ). map f (take n xs)) one
+    e ∙ ap (λ (l : List Y). l ++ f x ∷ []) is ∙ sym (map-append f (take i xs) (x ∷ [])) ∙ ap (λ (l : List X). map f l)
+    (sym (take-suc xs i x at)) ∙ ap (λ (n : ℕ). map f (take n xs)) one

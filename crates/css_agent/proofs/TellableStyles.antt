@@ -1,5 +1,7 @@
 -- What the domain tells can be spelled: numbers of messages, UTF-8 texts, and the forms of its objects.
-use Rattle.std.proofs.Common.{◌≡◌, ℕ, zero, suc, ◌+◌, ◌*◌, ◌^◌, ◌<◌, ◌≤◌, ◌==◌, Bool, true, false, cond, not, ◌&&◌, nat_lt, nat_cmp, codes, List, [], ◌∷◌, ◌++◌, length, map, take, reverse, Option, Some, None, Ordering, Less, Equal, Greater, refl, sym, ap, subst, arith}
+use Rattle.std.proofs.Common.{◌≡◌, ℕ, zero, suc, ◌+◌, ◌*◌, ◌^◌, ◌<◌, ◌≤◌, ◌==◌, Bool, true, false, cond, not, ◌&&◌, nat_lt, nat_cmp, codes}
+use Rattle.std.proofs.Common.{List, [], ◌∷◌, ◌++◌, length, map, take, reverse, Option, Some, None, Ordering, Less, Equal, Greater, refl}
+use Rattle.std.proofs.Common.{sym, ap, subst, arith}
 use Rattle.std.specs.Prelude.{⊤, All, IfSome, slice_get, option_map, option_to_list, option_and_then, unwrap_or}
 use Rattle.std.specs.List.{AllByRecursion, list_all, filter_map, cons_option, sum_by, prefix_len, find}
 use Rattle.std.specs.Ordering.{match_ordering}
@@ -26,7 +28,8 @@ use Rattle.css_objects.specs.Ranges.{range_kind}
 use Rattle.css_objects.specs.Selectors.{weight_kind, selector_kind, selectors_kind}
 use Rattle.css_objects.specs.Styles.{property_kind, is_ranged, is_rangeless, inline_kind, rule_style_kind}
 use Rattle.css_objects.specs.Rules.{rule_kind, starts_above, ascend, match_kind, inherited_kind, matched_kind}
-use Rattle.css_objects.specs.Laws.{SelectorHasUtf8, PropertyHasUtf8, StyleHasUtf8, RuleHasUtf8, MatchHasUtf8, InheritedHasUtf8, MatchedHaveUtf8}
+use Rattle.css_objects.specs.Laws.{SelectorHasUtf8, PropertyHasUtf8, StyleHasUtf8, RuleHasUtf8, MatchHasUtf8, InheritedHasUtf8}
+use Rattle.css_objects.specs.Laws.{MatchedHaveUtf8}
 use Rattle.selectors.specs.declared.weight.Spec.{Spec}
 use Rattle.selectors.specs.Forms.{SimpleForm, CompoundForm, SelectorForm}
 use Rattle.selectors.specs.Weight.{ids, classes, types, in_compounds, bounded, element_count as pseudo, specificity_of}
@@ -45,8 +48,10 @@ use Rattle.select_match.specs.Elements.{attributes_of, is_element_node, elements
 use Rattle.cascade_match.specs.declared.keys.Key.{Key}
 use Rattle.cascade_match.specs.declared.hits.Hit.{Hit}
 use Rattle.cascade_match.specs.Precedence.{key_cmp}
-use Rattle.cascade_match.specs.Matched.{places_from, Source, source_of, entry_by, entries_of_rules, entries_of_sheets, all_entered, matched_entries, matched_of, greatest, places_matching}
-use Rattle.css_agent.specs.ClassNames.{class_of, classes_of_tests, classes_of_compounds, classes_of_selectors, classes_of_rules, with_name, with_names, class_names}
+use Rattle.cascade_match.specs.Matched.{places_from, Source, source_of, entry_by, entries_of_rules, entries_of_sheets, all_entered}
+use Rattle.cascade_match.specs.Matched.{matched_entries, matched_of, greatest, places_matching}
+use Rattle.css_agent.specs.ClassNames.{class_of, classes_of_tests, classes_of_compounds, classes_of_selectors, classes_of_rules, with_name}
+use Rattle.css_agent.specs.ClassNames.{with_names, class_names}
 use Rattle.css_agent.specs.Texts.{source_range, told_part}
 use Rattle.css_agent.specs.RuleObjects.{property_with, sheet_property, inline_property, inline_style, told_weight, told_selector, told_rule}
 use Rattle.css_agent.specs.MatchedStyles.{told_inline, told_match, told_hit, told_matches, told_inherited, matched_styles}
@@ -81,7 +86,8 @@ units-low c = at (nat_lt c 128) (nat_lt c 192) (nat_lt c 240) where
 
 pub units-few : (xs : List ℕ) → sum_by units_at xs ≤ 2 * length xs
 units-few [] = omega arith
-units-few (x ∷ xs) = let step = sum_by-cons units_at x xs in let low = units-low x in let more = units-few xs in omega (arith, step, low, more)
+units-few (x ∷ xs) = let step = sum_by-cons units_at x xs in let low = units-low x in let more = units-few xs in omega
+    (arith, step, low, more)
 
 -- a text of at most 2^24 bytes has few lines and columns
 line-low : (text : List ℕ) (n : ℕ) → length text ≤ 2 ^ 24 → is_counted (position_of text n).line ≡ true
@@ -104,7 +110,8 @@ column-low text n short =
 
 range-fits : (text : List ℕ) (r : Range) → length text ≤ 2 ^ 24 → range_kind.fits (source_range text r) ≡ true
 range-fits text r short =
-    both (column-low text r.end short) (both (line-low text r.end short) (both (column-low text r.start short) (both (line-low text r.start short) refl)))
+    both (column-low text r.end short)
+    (both (line-low text r.end short) (both (column-low text r.start short) (both (line-low text r.start short) refl)))
 
 part-utf8 : (text : List ℕ) (r : Range) → IsUtf8 text → IsRangeOf text r → IsUtf8 (told_part text r)
 part-utf8 text r utf8 is = IsUtf8-between text r.start r.end utf8 is.order is.front is.back
@@ -114,22 +121,29 @@ part-utf8 text r utf8 is = IsUtf8-between text r.start r.end utf8 is.order is.fr
 abbrev ArePropertiesOf : List ℕ → List Property → Type 0
 ArePropertiesOf text ps = All (IsPropertyOf text) ps
 
-property-utf8 : (o : Option SourceRange) (text : List ℕ) (p : Property) → IsUtf8 text → IsPropertyOf text p → PropertyNamed p → PropertyHasUtf8 (property_with o text p)
+property-utf8 : (o : Option SourceRange) (text : List ℕ) (p : Property) → IsUtf8 text → IsPropertyOf text p → PropertyNamed p
+    → PropertyHasUtf8 (property_with o text p)
 property-utf8 o text p utf8 is named = (named, part-utf8 text p.whole utf8 is.whole, part-utf8 text p.value utf8 is.value)
 
-properties-utf8 : (o : Property → Option SourceRange) (text : List ℕ) (ps : List Property) → IsUtf8 text → ArePropertiesOf text ps → AllByRecursion PropertyNamed ps
+properties-utf8 : (o : Property → Option SourceRange) (text : List ℕ) (ps : List Property) → IsUtf8 text → ArePropertiesOf text ps
+    → AllByRecursion PropertyNamed ps
     → AllByRecursion PropertyHasUtf8 (map (λ p. property_with (o p) text p) ps)
 properties-utf8 o text [] utf8 all named = tt
-properties-utf8 o text (p ∷ ps) utf8 all named =
-    (property-utf8 (o p) text p utf8 (All-head (IsPropertyOf text) p ps all) named.0, properties-utf8 o text ps utf8 (All-tail (IsPropertyOf text) p ps all) named.1)
+properties-utf8 o text (p ∷ ps) utf8 all named = (
+  property-utf8 (o p) text p utf8 (All-head (IsPropertyOf text) p ps all) named.0,
+  properties-utf8 o text ps utf8
+      (All-tail (IsPropertyOf text) p ps all) named.1,
+)
 
-sheet-properties-fit : (text : List ℕ) (ps : List Property) → length text ≤ 2 ^ 24 → (list_all property_kind.fits (map (sheet_property text) ps) ≡ true) × (list_all is_ranged (map (sheet_property text) ps) ≡ true)
+sheet-properties-fit : (text : List ℕ) (ps : List Property) → length text ≤ 2 ^ 24
+    → (list_all property_kind.fits (map (sheet_property text) ps) ≡ true) × (list_all is_ranged (map (sheet_property text) ps) ≡ true)
 sheet-properties-fit text [] short = (refl, refl)
 sheet-properties-fit text (p ∷ ps) short =
     let more = sheet-properties-fit text ps short in
     (both (both (range-fits text p.whole short) refl) more.0, more.1)
 
-inline-properties-fit : (text : List ℕ) (ps : List Property) → (list_all property_kind.fits (map (inline_property text) ps) ≡ true) × (list_all is_rangeless (map (inline_property text) ps) ≡ true)
+inline-properties-fit : (text : List ℕ) (ps : List Property)
+    → (list_all property_kind.fits (map (inline_property text) ps) ≡ true) × (list_all is_rangeless (map (inline_property text) ps) ≡ true)
 inline-properties-fit text [] = (refl, refl)
 inline-properties-fit text (p ∷ ps) = inline-properties-fit text ps
 
@@ -142,15 +156,18 @@ inline-utf8 text utf8 = (properties-utf8 (λ _. None) text (style_of text) utf8 
 -- ---- rules
 
 weight-fits : (s : SelectorForm) → weight_kind.fits (told_weight (specificity_of s)) ≡ true
-weight-fits s = both (low (in_compounds ids s.compounds)) (both (low (in_compounds classes s.compounds)) (both (low (in_compounds types s.compounds + pseudo s.pseudo_element)) refl)) where
-  low : (n : ℕ) → is_counted (bounded n) ≡ true
-  low n = counted (bounded n) (omega arith)
+weight-fits s = both (low (in_compounds ids s.compounds))
+    (both (low (in_compounds classes s.compounds)) (both (low (in_compounds types s.compounds + pseudo s.pseudo_element)) refl)) where
+      low : (n : ℕ) → is_counted (bounded n) ≡ true
+      low n = counted (bounded n) (omega arith)
 
-selectors-fit : (text : List ℕ) (ss : List SelectorForm) → length text ≤ 2 ^ 24 → list_all selector_kind.fits (map (told_selector text) ss) ≡ true
+selectors-fit : (text : List ℕ) (ss : List SelectorForm) → length text ≤ 2 ^ 24
+    → list_all selector_kind.fits (map (told_selector text) ss) ≡ true
 selectors-fit text [] short = refl
 selectors-fit text (s ∷ ss) short = both (both (range-fits text s.range short) (both (weight-fits s) refl)) (selectors-fit text ss short)
 
-selectors-utf8 : (text : List ℕ) (from to : ℕ) (ss : List SelectorForm) → IsUtf8 text → AreBetween text from to (ranges_of ss) → AllByRecursion SelectorHasUtf8 (map (told_selector text) ss)
+selectors-utf8 : (text : List ℕ) (from to : ℕ) (ss : List SelectorForm) → IsUtf8 text → AreBetween text from to (ranges_of ss)
+    → AllByRecursion SelectorHasUtf8 (map (told_selector text) ss)
 selectors-utf8 text from to [] utf8 all = tt
 selectors-utf8 text from to (s ∷ ss) utf8 all = (part-utf8 text s.range utf8 all.1, selectors-utf8 text s.range.end to ss utf8 all.2)
 
@@ -173,7 +190,8 @@ style-fits e r is =
 pub rule-fits : (e : SheetEntry) (r : RuleForm) → IsTold e → rule_kind.fits (told_rule e r) ≡ true
 rule-fits e r is = both (prelude-fits e r is) (both (style-fits e r is) (both (sheet-number e.id is.some is.low) refl))
 
-pub rule-utf8 : (e : SheetEntry) (r : RuleForm) → IsTold e → IsRuleOf e.text r → AllByRecursion PropertyNamed r.properties → RuleHasUtf8 (told_rule e r)
+pub rule-utf8 : (e : SheetEntry) (r : RuleForm) → IsTold e → IsRuleOf e.text r → AllByRecursion PropertyNamed r.properties
+    → RuleHasUtf8 (told_rule e r)
 rule-utf8 e r is own named = (
   (selectors-utf8 e.text r.prelude.start r.prelude.end r.selectors is.utf8 own.selectors, part-utf8 e.text r.prelude is.utf8 own.prelude),
   (properties-utf8 (λ p. Some (source_range e.text p.whole)) e.text r.properties is.utf8 own.each named, part-utf8 e.text r.body is.utf8 own.body),
@@ -186,10 +204,12 @@ abbrev HitFits : Hit → Type 0
 HitFits h = (list_all is_counted h.matching ≡ true) × (ascend h.matching ≡ true)
 
 places-fit : (i : ℕ) (ss : List SelectorForm) (z : Zipper) → i + length ss < 2 ^ 53
-    → (list_all is_counted (places_from i ss z) ≡ true) × (ascend (places_from i ss z) ≡ true) × ((n : ℕ) → n < i → starts_above n (places_from i ss z) ≡ true)
+    → (list_all is_counted (places_from i ss z) ≡ true) × (ascend (places_from i ss z) ≡ true)
+    × ((n : ℕ) → n < i → starts_above n (places_from i ss z) ≡ true)
 places-fit i [] z low = (refl, refl, λ n less. refl)
 places-fit i (s ∷ ss) z low = at (selector_matches s z) (places-fit (i + 1) ss z (omega (arith, low))) where
-  at : (b : Bool) → (list_all is_counted (places_from (i + 1) ss z) ≡ true) × (ascend (places_from (i + 1) ss z) ≡ true) × ((n : ℕ) → n < i + 1 → starts_above n (places_from (i + 1) ss z) ≡ true)
+  at : (b : Bool) → (list_all is_counted (places_from (i + 1) ss z) ≡ true) × (ascend (places_from (i + 1) ss z) ≡ true)
+      × ((n : ℕ) → n < i + 1 → starts_above n (places_from (i + 1) ss z) ≡ true)
       → (list_all is_counted (cond b (i ∷ places_from (i + 1) ss z) (places_from (i + 1) ss z)) ≡ true)
       × (ascend (cond b (i ∷ places_from (i + 1) ss z) (places_from (i + 1) ss z)) ≡ true)
       × ((n : ℕ) → n < i → starts_above n (cond b (i ∷ places_from (i + 1) ss z) (places_from (i + 1) ss z)) ≡ true)
@@ -202,39 +222,47 @@ places-fit i (s ∷ ss) z low = at (selector_matches s z) (places-fit (i + 1) ss
 abbrev EntryFits : Key × Hit → Type 0
 EntryFits e = HitFits e.1
 
-found-fits : (from : Source) (rule : ℕ) (weight : Spec) (ps : List ℕ) (rest : List (Key × Hit)) → (list_all is_counted ps ≡ true) × (ascend ps ≡ true) → AllByRecursion EntryFits rest
+found-fits : (from : Source) (rule : ℕ) (weight : Spec) (ps : List ℕ) (rest : List (Key × Hit))
+    → (list_all is_counted ps ≡ true) × (ascend ps ≡ true) → AllByRecursion EntryFits rest
     → AllByRecursion EntryFits (option_to_list (entry_by from rule weight ps) ++ rest)
 found-fits from rule weight [] rest own all = all
 found-fits from rule weight (p ∷ ps) rest own all = (own, all)
 
-rules-fit : (from : Source) (i most : ℕ) (rs : List RuleForm) (z : Zipper) → most + 1 < 2 ^ 53 → AllByRecursion (RuleNamed most) rs → AllByRecursion EntryFits (entries_of_rules from i rs z)
+rules-fit : (from : Source) (i most : ℕ) (rs : List RuleForm) (z : Zipper) → most + 1 < 2 ^ 53 → AllByRecursion (RuleNamed most) rs
+    → AllByRecursion EntryFits (entries_of_rules from i rs z)
 rules-fit from i most [] z low all = tt
 rules-fit from i most (r ∷ rs) z low all =
     let few = all.0.few in
     let own = places-fit 0 r.selectors z (omega (arith, low, few)) in
-    found-fits from i (greatest r.selectors z) (places_matching r.selectors z) (entries_of_rules from (i + 1) rs z) (own.0, own.1) (rules-fit from (i + 1) most rs z low all.1)
+    found-fits from i (greatest r.selectors z) (places_matching r.selectors z) (entries_of_rules from (i + 1) rs z) (own.0, own.1)
+    (rules-fit from (i + 1) most rs z low all.1)
 
 pub stored-told : (e : SheetEntry) → IsStored e → IsTold e
 stored-told e is = record { some = is.entry.some; low = is.entry.id; short = is.entry.short; utf8 = is.utf8 }
 
-sheets-fit : (place : ℕ) (es : List SheetEntry) (z : Zipper) → AllByRecursion IsStored es → AllByRecursion EntryFits (entries_of_sheets place es z)
+sheets-fit : (place : ℕ) (es : List SheetEntry) (z : Zipper) → AllByRecursion IsStored es
+    → AllByRecursion EntryFits (entries_of_sheets place es z)
 sheets-fit place [] z all = tt
 sheets-fit place (e ∷ es) z all =
     let short = all.0.entry.short in
     all-append EntryFits (entries_of_rules (source_of place e) 0 e.reading.rules z) (entries_of_sheets (place + 1) es z)
-    (subst (λ (rs : List RuleForm). AllByRecursion EntryFits (entries_of_rules (source_of place e) 0 rs z)) (ap (λ s. s.rules) (sym all.0.entry.read))
+    (subst (λ (rs : List RuleForm). AllByRecursion EntryFits (entries_of_rules (source_of place e) 0 rs z))
+    (ap (λ s. s.rules) (sym all.0.entry.read))
     (rules-fit (source_of place e) 0 (length e.text) (sheet_of e.text).rules z (omega (arith, short)) (rules-named e.text all.0.utf8)))
     (sheets-fit (place + 1) es z all.1)
 
-put-fits : (sorted : List (Key × Hit)) (k : Key) (h : Hit) → HitFits h → AllByRecursion EntryFits sorted → AllByRecursion EntryFits (insert_entry key_cmp sorted k h)
+put-fits : (sorted : List (Key × Hit)) (k : Key) (h : Hit) → HitFits h → AllByRecursion EntryFits sorted
+    → AllByRecursion EntryFits (insert_entry key_cmp sorted k h)
 put-fits [] k h own all = (own, tt)
 put-fits (e ∷ es) k h own all = at (key_cmp k e.0) (put-fits es k h own all.1) where
-  at : (o : Ordering) → AllByRecursion EntryFits (insert_entry key_cmp es k h) → AllByRecursion EntryFits (match_ordering o ((k, h) ∷ e ∷ es) ((e.0, h) ∷ es) (e ∷ insert_entry key_cmp es k h))
+  at : (o : Ordering) → AllByRecursion EntryFits (insert_entry key_cmp es k h)
+      → AllByRecursion EntryFits (match_ordering o ((k, h) ∷ e ∷ es) ((e.0, h) ∷ es) (e ∷ insert_entry key_cmp es k h))
   at Less more = (own, (all.0, all.1))
   at Equal more = (own, all.1)
   at Greater more = (all.0, more)
 
-all-fit : (sorted es : List (Key × Hit)) → AllByRecursion EntryFits sorted → AllByRecursion EntryFits es → AllByRecursion EntryFits (all_entered sorted es)
+all-fit : (sorted es : List (Key × Hit)) → AllByRecursion EntryFits sorted → AllByRecursion EntryFits es
+    → AllByRecursion EntryFits (all_entered sorted es)
 all-fit sorted [] own all = own
 all-fit sorted (e ∷ es) own all = all-fit (insert_entry key_cmp sorted e.0 e.1) es (put-fits sorted e.0 e.1 all.0 own) all.1
 
@@ -251,35 +279,42 @@ hits-fit book z all = hits-of (matched_entries book z) (all-fit [] (entries_of_s
 abbrev MatchTold : RuleMatch → Type 0
 MatchTold m = (match_kind.fits m ≡ true) × MatchHasUtf8 m
 
-pub entry-stored : (id : ℕ) (book : List SheetEntry) (e : SheetEntry) → AllByRecursion IsStored book → entry_of id book ≡ Some e → IsStored e
+pub entry-stored : (id : ℕ) (book : List SheetEntry) (e : SheetEntry) → AllByRecursion IsStored book → entry_of id book ≡ Some e
+    → IsStored e
 entry-stored id [] e all h = absurd cc
 entry-stored id (x ∷ xs) e all h = at (id == x.id) h (λ k. entry-stored id xs e all.1 k) where
   at : (b : Bool) → cond b (Some x) (entry_of id xs) ≡ Some e → (entry_of id xs ≡ Some e → IsStored e) → IsStored e
   at true k more = let same : x ≡ e = cc in subst IsStored same all.0
   at false k more = more k
 
-pub rule-at : {most : ℕ} (text : List ℕ) (rs : List RuleForm) (i : ℕ) (r : RuleForm) → All (IsRuleOf text) rs → AllByRecursion (RuleNamed most) rs → slice_get rs i ≡ Some r → IsRuleOf text r × RuleNamed most r
+pub rule-at : {most : ℕ} (text : List ℕ) (rs : List RuleForm) (i : ℕ) (r : RuleForm) → All (IsRuleOf text) rs
+    → AllByRecursion (RuleNamed most) rs → slice_get rs i ≡ Some r → IsRuleOf text r × RuleNamed most r
 rule-at text [] i r all named e = absurd cc
-rule-at {most} text (x ∷ xs) zero r all named e = let same : x ≡ r = cc in subst (λ y. IsRuleOf text y × RuleNamed most y) same (All-head (IsRuleOf text) x xs all, named.0)
+rule-at {most} text (x ∷ xs) zero r all named e = let same : x
+    ≡ r = cc in subst (λ y. IsRuleOf text y × RuleNamed most y) same (All-head (IsRuleOf text) x xs all, named.0)
 rule-at text (x ∷ xs) (suc i) r all named e = rule-at text xs i r (All-tail (IsRuleOf text) x xs all) named.1 e
 
 hit-told : (book : List SheetEntry) (h : Hit) → AllByRecursion IsStored book → HitFits h → IfSome (told_hit book h) MatchTold
 hit-told book h all fits = by-sheet (entry_of h.sheet book) refl where
-  by-rule : (e : SheetEntry) → IsStored e → (o : Option RuleForm) → slice_get (sheet_of e.text).rules h.rule ≡ o → IfSome (option_map (told_match e h.matching) o) MatchTold
+  by-rule : (e : SheetEntry) → IsStored e → (o : Option RuleForm) → slice_get (sheet_of e.text).rules h.rule ≡ o
+      → IfSome (option_map (told_match e h.matching) o) MatchTold
   by-rule e is None k = tt
   by-rule e is (Some r) k =
       let own = rule-at e.text (sheet_of e.text).rules h.rule r (sheet_usable e.text is.utf8).each (rules-named e.text is.utf8) k in
       let told = stored-told e is in
       (both (both fits.0 fits.1) (both (rule-fits e r told) refl), rule-utf8 e r told own.0 own.1.properties)
 
-  by-sheet : (o : Option SheetEntry) → entry_of h.sheet book ≡ o → IfSome (option_and_then (λ e. option_map (told_match e h.matching) (slice_get (sheet_of e.text).rules h.rule)) o) MatchTold
+  by-sheet : (o : Option SheetEntry) → entry_of h.sheet book ≡ o
+      → IfSome (option_and_then (λ e. option_map (told_match e h.matching) (slice_get (sheet_of e.text).rules h.rule)) o) MatchTold
   by-sheet None k = tt
   by-sheet (Some e) k = by-rule e (entry-stored h.sheet book e all k) (slice_get (sheet_of e.text).rules h.rule) refl
 
-among-told : (book : List SheetEntry) (hs : List Hit) → AllByRecursion IsStored book → AllByRecursion HitFits hs → AllByRecursion MatchTold (filter_map (told_hit book) hs)
+among-told : (book : List SheetEntry) (hs : List Hit) → AllByRecursion IsStored book → AllByRecursion HitFits hs
+    → AllByRecursion MatchTold (filter_map (told_hit book) hs)
 among-told book [] all fits = tt
 among-told book (h ∷ hs) all fits = at (told_hit book h) (hit-told book h all fits.0) (among-told book hs all fits.1) where
-  at : (o : Option RuleMatch) → IfSome o MatchTold → AllByRecursion MatchTold (filter_map (told_hit book) hs) → AllByRecursion MatchTold (cons_option o (filter_map (told_hit book) hs))
+  at : (o : Option RuleMatch) → IfSome o MatchTold → AllByRecursion MatchTold (filter_map (told_hit book) hs)
+      → AllByRecursion MatchTold (cons_option o (filter_map (told_hit book) hs))
   at None own more = more
   at (Some m) own more = (own, more)
 
@@ -325,26 +360,34 @@ inline-told z own = at (value_of (codes "style") (attributes_of z)) (value-found
 abbrev InheritedTold : Inherited → Type 0
 InheritedTold i = (inherited_kind.fits i ≡ true) × InheritedHasUtf8 i
 
-entry-told : (o : Option Style) (ms : List RuleMatch) → IfSome o (λ s. (inline_kind.fits s ≡ true) × StyleHasUtf8 s) → AllByRecursion MatchTold ms → InheritedTold (record { inline = o; rules = ms })
+entry-told : (o : Option Style) (ms : List RuleMatch) → IfSome o (λ s. (inline_kind.fits s ≡ true) × StyleHasUtf8 s)
+    → AllByRecursion MatchTold ms → InheritedTold (record { inline = o; rules = ms })
 entry-told None ms own all = (both (matches-fit ms all) refl, (tt, matches-utf8 ms all))
 entry-told (Some s) ms own all = (both own.0 (both (matches-fit ms all) refl), (own.1, matches-utf8 ms all))
 
-matched-told : (o : Option Style) (ms : List RuleMatch) (is : List Inherited) → IfSome o (λ s. (inline_kind.fits s ≡ true) × StyleHasUtf8 s) → AllByRecursion MatchTold ms
+matched-told : (o : Option Style) (ms : List RuleMatch) (is : List Inherited)
+    → IfSome o (λ s. (inline_kind.fits s ≡ true) × StyleHasUtf8 s) → AllByRecursion MatchTold ms
     → (list_all inherited_kind.fits is ≡ true) × AllByRecursion InheritedHasUtf8 is
-    → (matched_kind.fits (record { inline = o; rules = ms; inherited = is }) ≡ true) × MatchedHaveUtf8 (record { inline = o; rules = ms; inherited = is })
+    → (matched_kind.fits (record { inline = o; rules = ms; inherited = is }) ≡ true)
+    × MatchedHaveUtf8 (record { inline = o; rules = ms; inherited = is })
 matched-told None ms is own all above = (both above.0 (both (matches-fit ms all) refl), (above.1, tt, matches-utf8 ms all))
-matched-told (Some s) ms is own all above = (both above.0 (both own.0 (both (matches-fit ms all) refl)), (above.1, own.1, matches-utf8 ms all))
+matched-told (Some s) ms is own all above =
+    (both above.0 (both own.0 (both (matches-fit ms all) refl)), (above.1, own.1, matches-utf8 ms all))
 
-above-told : (book : List SheetEntry) (gs : List Generation) → AllByRecursion IsStored book → AllByRecursion (λ g. RowHasValues g.branch.row) gs
-    → (list_all inherited_kind.fits (map (told_inherited book) (elements (ancestors_in gs))) ≡ true) × AllByRecursion InheritedHasUtf8 (map (told_inherited book) (elements (ancestors_in gs)))
+above-told : (book : List SheetEntry) (gs : List Generation) → AllByRecursion IsStored book
+    → AllByRecursion (λ g. RowHasValues g.branch.row) gs
+    → (list_all inherited_kind.fits (map (told_inherited book) (elements (ancestors_in gs))) ≡ true)
+    × AllByRecursion InheritedHasUtf8 (map (told_inherited book) (elements (ancestors_in gs)))
 above-told book [] all values = (refl, tt)
 above-told book (g ∷ gs) all values = at (is_element_node z) (above-told book gs all values.1) where
   z : Zipper
   z = record { branch = g.branch; before = g.before; after = g.after; above = gs }
 
   at : (b : Bool)
-      → (list_all inherited_kind.fits (map (told_inherited book) (elements (ancestors_in gs))) ≡ true) × AllByRecursion InheritedHasUtf8 (map (told_inherited book) (elements (ancestors_in gs)))
-      → (list_all inherited_kind.fits (map (told_inherited book) (cond b (z ∷ elements (ancestors_in gs)) (elements (ancestors_in gs)))) ≡ true)
+      → (list_all inherited_kind.fits (map (told_inherited book) (elements (ancestors_in gs))) ≡ true)
+      × AllByRecursion InheritedHasUtf8 (map (told_inherited book) (elements (ancestors_in gs)))
+      → (list_all inherited_kind.fits (map (told_inherited book) (cond b (z ∷ elements (ancestors_in gs)) (elements (ancestors_in gs))))
+      ≡ true)
       × AllByRecursion InheritedHasUtf8 (map (told_inherited book) (cond b (z ∷ elements (ancestors_in gs)) (elements (ancestors_in gs))))
   at true more =
       let own = entry-told (told_inline z) (told_matches book z) (inline-told z values.0) (matches-told book z all) in
@@ -352,9 +395,11 @@ above-told book (g ∷ gs) all values = at (is_element_node z) (above-told book 
   at false more = more
 
 -- matched styles can be told
-pub styles-told : (book : List SheetEntry) (z : Zipper) → AllByRecursion IsStored book → HasValues z → (matched_kind.fits (matched_styles book z) ≡ true) × MatchedHaveUtf8 (matched_styles book z)
+pub styles-told : (book : List SheetEntry) (z : Zipper) → AllByRecursion IsStored book → HasValues z
+    → (matched_kind.fits (matched_styles book z) ≡ true) × MatchedHaveUtf8 (matched_styles book z)
 styles-told book z all values =
-    matched-told (told_inline z) (told_matches book z) (map (told_inherited book) (elements (ancestors z))) (inline-told z values.own) (matches-told book z all) (above-told book z.above all values.above)
+    matched-told (told_inline z) (told_matches book z) (map (told_inherited book) (elements (ancestors z))) (inline-told z values.own)
+    (matches-told book z all) (above-told book z.above all values.above)
 
 -- ---- the nodes of a page
 
@@ -363,7 +408,8 @@ abbrev pub NodesHaveValues : Nodes PageRow → Type 0
 NodesHaveValues none = ⊤
 NodesHaveValues (node r c t) = RowHasValues r × NodesHaveValues c × NodesHaveValues t
 
-nodes-have : (above : List Generation) (before : List (Branch PageRow)) (n : Nodes PageRow) → AllByRecursion (λ g. RowHasValues g.branch.row) above → NodesHaveValues n → AllByRecursion HasValues (all_in above before n)
+nodes-have : (above : List Generation) (before : List (Branch PageRow)) (n : Nodes PageRow)
+    → AllByRecursion (λ g. RowHasValues g.branch.row) above → NodesHaveValues n → AllByRecursion HasValues (all_in above before n)
 nodes-have above before none high has = tt
 nodes-have above before (node r c t) high has =
     let g : Generation = record { branch = record { row = r; children = c }; before = before; after = t } in (
@@ -381,26 +427,31 @@ found-has p (z ∷ zs) all = at (p z) (found-has p zs all.1) where
 
 -- each node of a page has them where all nodes have
 pub zipper-has : (serial : ℕ) (tree : Branch PageRow) → NodesHaveValues (alone tree) → HasValues (zipper_at serial tree)
-zipper-has serial tree has = at (find (has_serial serial) (zippers tree)) (found-has (has_serial serial) (zippers tree) (nodes-have [] [] (alone tree) tt has)) where
-  at : (o : Option Zipper) → IfSome o HasValues → HasValues (unwrap_or o (root_of tree))
-  at None own = record { own = has.0; above = tt }
-  at (Some z) own = own
+zipper-has serial tree has = at (find (has_serial serial) (zippers tree))
+    (found-has (has_serial serial) (zippers tree) (nodes-have [] [] (alone tree) tt has)) where
+      at : (o : Option Zipper) → IfSome o HasValues → HasValues (unwrap_or o (root_of tree))
+      at None own = record { own = has.0; above = tt }
+      at (Some z) own = own
 
 -- ---- names of classes
 
-names-utf8 : (names : List (List ℕ)) (name : List ℕ) → AllByRecursion IsUtf8 names → IsUtf8 name → AllByRecursion IsUtf8 (with_name names name)
+names-utf8 : (names : List (List ℕ)) (name : List ℕ) → AllByRecursion IsUtf8 names → IsUtf8 name
+    → AllByRecursion IsUtf8 (with_name names name)
 names-utf8 [] name all own = (own, tt)
 names-utf8 (x ∷ xs) name all own = at (slice_cmp nat_cmp name x) (names-utf8 xs name all.1 own) where
-  at : (o : Ordering) → AllByRecursion IsUtf8 (with_name xs name) → AllByRecursion IsUtf8 (match_ordering o (name ∷ x ∷ xs) (x ∷ xs) (x ∷ with_name xs name))
+  at : (o : Ordering) → AllByRecursion IsUtf8 (with_name xs name)
+      → AllByRecursion IsUtf8 (match_ordering o (name ∷ x ∷ xs) (x ∷ xs) (x ∷ with_name xs name))
   at Less more = (own, (all.0, all.1))
   at Equal more = all
   at Greater more = (all.0, more)
 
-more-utf8 : (names more : List (List ℕ)) → AllByRecursion IsUtf8 names → AllByRecursion IsUtf8 more → AllByRecursion IsUtf8 (with_names names more)
+more-utf8 : (names more : List (List ℕ)) → AllByRecursion IsUtf8 names → AllByRecursion IsUtf8 more
+    → AllByRecursion IsUtf8 (with_names names more)
 more-utf8 names [] all later = all
 more-utf8 names (n ∷ ns) all later = more-utf8 (with_name names n) ns (names-utf8 names n all later.0) later.1
 
-one-name : (o : Option (List ℕ)) (rest : List (List ℕ)) → IfSome o IsUtf8 → AllByRecursion IsUtf8 rest → AllByRecursion IsUtf8 (option_to_list o ++ rest)
+one-name : (o : Option (List ℕ)) (rest : List (List ℕ)) → IfSome o IsUtf8 → AllByRecursion IsUtf8 rest
+    → AllByRecursion IsUtf8 (option_to_list o ++ rest)
 one-name None rest own all = all
 one-name (Some n) rest own all = (own, all)
 
@@ -410,16 +461,20 @@ tests-utf8 (s ∷ ss) all = one-name (class_of s) (classes_of_tests ss) all.0 (t
 
 compounds-utf8 : (cs : List CompoundForm) → AllByRecursion CompoundNamed cs → AllByRecursion IsUtf8 (classes_of_compounds cs)
 compounds-utf8 [] all = tt
-compounds-utf8 (c ∷ cs) all = all-append IsUtf8 (classes_of_tests c.tests) (classes_of_compounds cs) (tests-utf8 c.tests all.0) (compounds-utf8 cs all.1)
+compounds-utf8 (c ∷ cs) all = all-append IsUtf8 (classes_of_tests c.tests) (classes_of_compounds cs) (tests-utf8 c.tests all.0)
+    (compounds-utf8 cs all.1)
 
 classes-utf8 : (ss : List SelectorForm) → AllByRecursion SelectorNamed ss → AllByRecursion IsUtf8 (classes_of_selectors ss)
 classes-utf8 [] all = tt
-classes-utf8 (s ∷ ss) all = all-append IsUtf8 (classes_of_compounds s.compounds) (classes_of_selectors ss) (compounds-utf8 s.compounds all.0) (classes-utf8 ss all.1)
+classes-utf8 (s ∷ ss) all = all-append IsUtf8 (classes_of_compounds s.compounds) (classes_of_selectors ss)
+    (compounds-utf8 s.compounds all.0) (classes-utf8 ss all.1)
 
 rules-utf8 : (most : ℕ) (rs : List RuleForm) → AllByRecursion (RuleNamed most) rs → AllByRecursion IsUtf8 (classes_of_rules rs)
 rules-utf8 most [] all = tt
-rules-utf8 most (r ∷ rs) all = all-append IsUtf8 (classes_of_selectors r.selectors) (classes_of_rules rs) (classes-utf8 r.selectors all.0.selectors) (rules-utf8 most rs all.1)
+rules-utf8 most (r ∷ rs) all = all-append IsUtf8 (classes_of_selectors r.selectors) (classes_of_rules rs)
+    (classes-utf8 r.selectors all.0.selectors) (rules-utf8 most rs all.1)
 
 -- the names of a sheet's classes are UTF-8
 pub class-names-utf8 : (text : List ℕ) → IsUtf8 text → AllByRecursion IsUtf8 (class_names text)
-class-names-utf8 text utf8 = more-utf8 [] (classes_of_rules (sheet_of text).rules) tt (rules-utf8 (length text) (sheet_of text).rules (rules-named text utf8))
+class-names-utf8 text utf8 = more-utf8 [] (classes_of_rules (sheet_of text).rules) tt
+    (rules-utf8 (length text) (sheet_of text).rules (rules-named text utf8))

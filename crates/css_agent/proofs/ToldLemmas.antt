@@ -7,7 +7,8 @@ use Rattle.cascade_match.proofs.MatchLemmas.{drop-at}
 use Rattle.css_agent.specs.Told.{added_message, message_frames, message_frame}
 
 -- the sheet at a place is told, and those behind it are left
-pub told-turn : (book : List SheetEntry) (i : ℕ) (e : SheetEntry) (before after : List ℕ) → slice_get book i ≡ Some e → after ≡ before ++ message_frames (added_message e ∷ [])
+pub told-turn : (book : List SheetEntry) (i : ℕ) (e : SheetEntry) (before after : List ℕ) → slice_get book i ≡ Some e
+    → after ≡ before ++ message_frames (added_message e ∷ [])
     → after ++ message_frames (map added_message (drop (i + 1) book)) ≡ before ++ message_frames (map added_message (drop i book))
 told-turn book i e before after at sent =
     let rest = message_frames (map added_message (drop (i + 1) book)) in

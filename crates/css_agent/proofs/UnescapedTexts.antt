@@ -1,5 +1,6 @@
 -- What a text says with its escapes replaced is UTF-8, where the text is.
-use Rattle.std.proofs.Common.{◌≡◌, ℕ, zero, suc, ◌+◌, ◌-◌, ◌≤◌, ◌==◌, Bool, true, false, cond, ◌&&◌, List, [], ◌∷◌, length, take, drop, refl, sym, subst, length-drop, arith}
+use Rattle.std.proofs.Common.{◌≡◌, ℕ, zero, suc, ◌+◌, ◌-◌, ◌≤◌, ◌==◌, Bool, true, false, cond, ◌&&◌, List, [], ◌∷◌, length, take, drop}
+use Rattle.std.proofs.Common.{refl, sym, subst, length-drop, arith}
 use Rattle.std.specs.Char.{is_ascii_hexdigit, encode_utf8}
 use Rattle.std.specs.Str.{IsUtf8}
 use lib.Utf8.{scalar}
@@ -8,7 +9,8 @@ use Rattle.std.proofs.lemmas.List.Sums.{prefix_len-le-length}
 use Rattle.std.proofs.lemmas.Bool.Decides.{nat_tests}
 use Rattle.std.proofs.lemmas.Str.{IsUtf8-nil, IsUtf8-append, IsUtf8-take, IsUtf8-drop, IsUtf8-between, IsUtf8-encode}
 use Rattle.css_tokens.specs.Codes.{is_newline, is_white, begins}
-use Rattle.css_tokens.specs.Escapes.{newline_len, white_len, hex_len, escape_tail, begins_escape, is_coded, escape_bytes, escape_value, hex_value, character_of, unescaped, unescaped_after, Replaces}
+use Rattle.css_tokens.specs.Escapes.{newline_len, white_len, hex_len, escape_tail, begins_escape, is_coded, escape_bytes, escape_value}
+use Rattle.css_tokens.specs.Escapes.{hex_value, character_of, unescaped, unescaped_after, Replaces}
 use Rattle.css_tokens.proofs.Unescaping.{by_line, by_code, by_character, by_plain, plain_len, back_cut, same_code}
 
 -- ---- how far an escape goes
@@ -94,27 +96,32 @@ unescaped-all : (k : ℕ) (rest : List ℕ) → length rest ≤ k → IsUtf8 res
 unfolding unescaped_after
 unescaped-all k [] few utf8 = IsUtf8-nil
 unescaped-all zero (c ∷ tail) few utf8 = absurd (omega (arith, few))
-unescaped-all (suc k) (c ∷ tail) few utf8 = at (c == 92) refl (begins is_newline tail) refl (is_coded tail) refl (λ r. unescaped-all k r) where
-  at : (a : Bool) → (c == 92) ≡ a → (b : Bool) → begins is_newline tail ≡ b → (d : Bool) → is_coded tail ≡ d
-      → ((r : List ℕ) → length r ≤ k → IsUtf8 r → IsUtf8 (unescaped r)) → IsUtf8 (unescaped (c ∷ tail))
-  at true back true newline d coded later =
-      stepped [] (c ∷ tail) (1 + newline_len tail) k IsUtf8-nil utf8 few
-      (by_line [] (c ∷ tail) (newline_len tail) utf8 (omega arith) (same_code c 92 back) newline refl (newline-fits tail)) later
-  at true back false newline true coded later =
-      let begun : begins_escape (c ∷ tail) ≡ true = rw (back, newline) refl in
-      stepped (escape_bytes tail) (c ∷ tail) (1 + escape_tail tail) k (value-utf8 tail coded) utf8 few
-      (by_code [] (escape_bytes tail) (escape_bytes tail) (c ∷ tail) (escape_tail tail) utf8 begun coded refl refl (escape-fits tail) refl) later
-  at true back false newline false coded later =
-      let begun : begins_escape (c ∷ tail) ≡ true = rw (back, newline) refl in
-      let n = plain_len (drop 1 tail) in
-      let r : Replaces [] (take (1 + n) tail) (c ∷ tail) (2 + n) = by_character [] (take (1 + n) tail) (c ∷ tail) n utf8 begun coded refl refl in
-      let count : 2 + n - 1 ≡ 1 + n = omega arith in
-      let here : IsUtf8 (take (1 + n) tail) = subst (λ (m : ℕ). IsUtf8 (take m tail)) count (IsUtf8-between (c ∷ tail) 1 (2 + n) utf8 (omega arith) (back_cut (c ∷ tail) utf8 begun) r.cut) in
-      stepped (take (1 + n) tail) (c ∷ tail) (2 + n) k here utf8 few r later
-  at false other b newline d coded later =
-      let n = plain_len (c ∷ tail) in
-      let r : Replaces [] (take n (c ∷ tail)) (c ∷ tail) n = by_plain [] (take n (c ∷ tail)) (c ∷ tail) n (omega arith) (not-back c other) refl refl in
-      stepped (take n (c ∷ tail)) (c ∷ tail) n k (IsUtf8-take (c ∷ tail) n utf8 r.cut) utf8 few r later
+unescaped-all (suc k) (c ∷ tail) few utf8 = at (c == 92) refl (begins is_newline tail) refl (is_coded tail) refl
+    (λ r. unescaped-all k r) where
+      at : (a : Bool) → (c == 92) ≡ a → (b : Bool) → begins is_newline tail ≡ b → (d : Bool) → is_coded tail ≡ d
+          → ((r : List ℕ) → length r ≤ k → IsUtf8 r → IsUtf8 (unescaped r)) → IsUtf8 (unescaped (c ∷ tail))
+      at true back true newline d coded later =
+          stepped [] (c ∷ tail) (1 + newline_len tail) k IsUtf8-nil utf8 few
+          (by_line [] (c ∷ tail) (newline_len tail) utf8 (omega arith) (same_code c 92 back) newline refl (newline-fits tail)) later
+      at true back false newline true coded later =
+          let begun : begins_escape (c ∷ tail) ≡ true = rw (back, newline) refl in
+          stepped (escape_bytes tail) (c ∷ tail) (1 + escape_tail tail) k (value-utf8 tail coded) utf8 few
+          (by_code [] (escape_bytes tail) (escape_bytes tail) (c ∷ tail) (escape_tail tail) utf8 begun coded refl refl
+          (escape-fits tail) refl) later
+      at true back false newline false coded later =
+          let begun : begins_escape (c ∷ tail) ≡ true = rw (back, newline) refl in
+          let n = plain_len (drop 1 tail) in
+          let r : Replaces [] (take (1 + n) tail) (c ∷ tail) (2 + n) = by_character [] (take (1 + n) tail)
+          (c ∷ tail) n utf8 begun coded refl refl in
+          let count : 2 + n - 1 ≡ 1 + n = omega arith in
+          let here : IsUtf8 (take (1 + n) tail) = subst (λ (m : ℕ). IsUtf8 (take m tail)) count
+          (IsUtf8-between (c ∷ tail) 1 (2 + n) utf8 (omega arith) (back_cut (c ∷ tail) utf8 begun) r.cut) in
+          stepped (take (1 + n) tail) (c ∷ tail) (2 + n) k here utf8 few r later
+      at false other b newline d coded later =
+          let n = plain_len (c ∷ tail) in
+          let r : Replaces [] (take n (c ∷ tail)) (c ∷ tail) n = by_plain [] (take n (c ∷ tail)) (c ∷ tail) n (omega arith)
+          (not-back c other) refl refl in
+          stepped (take n (c ∷ tail)) (c ∷ tail) n k (IsUtf8-take (c ∷ tail) n utf8 r.cut) utf8 few r later
 
 pub unescaped-utf8 : (text : List ℕ) → IsUtf8 text → IsUtf8 (unescaped text)
 unescaped-utf8 text utf8 = unescaped-all (length text) text (omega arith) utf8

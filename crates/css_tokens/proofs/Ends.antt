@@ -1,18 +1,26 @@
 -- Where pieces end: beside an ASCII code, so that the text may be cut there.
-use Rattle.std.proofs.Common.{◌≡◌, ◌⊎◌, inl, inr, ℕ, zero, suc, ◌+◌, ◌-◌, ◌<◌, ◌≤◌, ◌==◌, Bool, true, false, cond, ◌||◌, ◌&&◌, not, List, [], ◌∷◌, length, drop, slice_index, Option, Some, None, min, nat_eq, nat_lt, refl, ap, sym, ◌∙◌, subst, lit<, arith}
+use Rattle.std.proofs.Common.{◌≡◌, ◌⊎◌, inl, inr, ℕ, zero, suc, ◌+◌, ◌-◌, ◌<◌, ◌≤◌, ◌==◌, Bool, true, false, cond, ◌||◌, ◌&&◌, not, List}
+use Rattle.std.proofs.Common.{[], ◌∷◌, length, drop, slice_index, Option, Some, None, min, nat_eq, nat_lt, refl, ap, sym, ◌∙◌, subst, lit<}
+use Rattle.std.proofs.Common.{arith}
 use Rattle.std.specs.List.{starts_with}
 use Rattle.std.proofs.lemmas.List.{drop-drop, length-drop, get_or-drop, get_or_past}
 use Rattle.std.proofs.lemmas.List.Sums.{prefix_len_passes}
 use Rattle.std.proofs.lemmas.Bool.Decides.{nat_tests}
 use Rattle.css_tokens.specs.declared.token.Piece.{Piece}
 use Rattle.css_tokens.specs.declared.token.TokenKind.{TokenKind}
-use Rattle.css_tokens.specs.declared.token.TokenKind.TheVariants.{Comment, WhiteSpace, BadString, Number, Percentage, Dimension, Cdc, Cdo, Ident, Url, BadUrl, Str, Hash, Function, AtKeyword, Colon, Semicolon, Comma, OpenSquare, CloseSquare, OpenRound, CloseRound, OpenCurly, CloseCurly, Delim}
+use Rattle.css_tokens.specs.declared.token.TokenKind.TheVariants.{Comment, WhiteSpace, BadString, Number, Percentage, Dimension, Cdc, Cdo}
+use Rattle.css_tokens.specs.declared.token.TokenKind.TheVariants.{Ident, Url, BadUrl, Str, Hash, Function, AtKeyword, Colon, Semicolon}
+use Rattle.css_tokens.specs.declared.token.TokenKind.TheVariants.{Comma, OpenSquare, CloseSquare, OpenRound, CloseRound, OpenCurly}
+use Rattle.css_tokens.specs.declared.token.TokenKind.TheVariants.{CloseCurly, Delim}
 use Rattle.css_tokens.specs.Marks.{HasMarks}
 use Rattle.css_tokens.specs.Codes.{begins, is_ident, is_ident_start, is_newline, is_quote, is_white}
 use Rattle.css_tokens.specs.Escapes.{begins_escape, escape_len}
-use Rattle.css_tokens.specs.Runs.{run, run_after, unit_then, name_unit, comment_unit, string_unit, bad_url_unit, name_len, starts_ident, white_run, number_len}
+use Rattle.css_tokens.specs.Runs.{run, run_after, unit_then, name_unit, comment_unit, string_unit, bad_url_unit, name_len, starts_ident}
+use Rattle.css_tokens.specs.Runs.{white_run, number_len}
 use Rattle.css_tokens.proofs.Named.{name_some}
-use Rattle.css_tokens.specs.Rows.{up_to_and_with, ◌or◌, when, piece, open_string_len, open_url_len, opens_url, closes_url, first_piece, comment, white_space, string, bad_string, hash, numeric, cdc, url, bad_url, ident, cdo, at_keyword, mark, mark_kind}
+use Rattle.css_tokens.specs.Rows.{up_to_and_with, ◌or◌, when, piece, open_string_len, open_url_len, opens_url, closes_url, first_piece}
+use Rattle.css_tokens.specs.Rows.{comment, white_space, string, bad_string, hash, numeric, cdc, url, bad_url, ident, cdo, at_keyword, mark}
+use Rattle.css_tokens.specs.Rows.{mark_kind}
 
 -- a code beside the place is ASCII; past the text's end the code is 0
 abbrev pub IsBesideAscii : List ℕ → ℕ → Type 0
@@ -47,7 +55,8 @@ closed_low : (text : List ℕ) (m : ℕ) → slice_index (drop m text) 0 < 128 �
 closed_low text m low =
     elim (cases m (length text)) [
       | inl more ↦ let is : min (m + 1) (length text) - 1 ≡ m = omega arith in inr (rw is (omega (arith, first_of_rest text m)))
-      | inr past ↦ let is : min (m + 1) (length text) ≡ length text = omega arith in inl (rw is (rw (get_or_past text (length text) 0 (omega arith)) (lit< tt)))
+      | inr past ↦ let is : min (m + 1) (length text)
+          ≡ length text = omega arith in inl (rw is (rw (get_or_past text (length text) 0 (omega arith)) (lit< tt)))
     ]
   where
     cases : (a b : ℕ) → (a < b) ⊎ (b ≤ a)
@@ -66,7 +75,8 @@ name_low (c ∷ rest) none = ident_low c (by_unit (is_ident c) (escape_len (c �
     by_unit false n e = refl
 
 name_end_low : (text : List ℕ) (at : ℕ) → IsBesideAscii text (at + name_len (drop at text))
-name_end_low text at = next_low text (at + name_len (drop at text)) (name_low (drop (at + name_len (drop at text)) text) (run_stops_at name_unit refl text at))
+name_end_low text at = next_low text (at + name_len (drop at text))
+    (name_low (drop (at + name_len (drop at text)) text) (run_stops_at name_unit refl text at))
 
 start_low : (rest : List ℕ) → starts_ident rest ≡ false → slice_index rest 0 < 128
 start_low [] none = lit< tt
@@ -140,7 +150,8 @@ comment_low (c ∷ d ∷ rest) none = inr (by_slash d (by_both (c == 42) (d == 4
 past_low : (text : List ℕ) (n : ℕ) → length text ≤ n → slice_index text n < 128
 past_low text n past = rw (get_or_past text n 0 past) (lit< tt)
 
-two_closed_low : (text : List ℕ) (m : ℕ) → (drop m text ≡ []) ⊎ ((slice_index (drop m text) 1 ≡ 47) × (2 ≤ length (drop m text))) → IsBesideAscii text (min (m + 2) (length text))
+two_closed_low : (text : List ℕ) (m : ℕ) → (drop m text ≡ []) ⊎ ((slice_index (drop m text) 1 ≡ 47) × (2 ≤ length (drop m text)))
+    → IsBesideAscii text (min (m + 2) (length text))
 two_closed_low text m (inl none) =
     let all : length (drop m text) ≡ 0 = ap length none in
     let is : min (m + 2) (length text) ≡ length text = omega (arith, length-drop m text) in
@@ -172,7 +183,8 @@ white_whole text p found =
 hash_whole : AreWhole hash
 unfolding hash
 hash_whole text p found =
-    let h = when_some (begins (λ c. c == 35) text && nat_lt 0 (name_len (drop 1 text))) (piece (Hash (starts_ident (drop 1 text))) (1 + name_len (drop 1 text))) p found in
+    let h = when_some (begins (λ c. c == 35) text && nat_lt 0 (name_len (drop 1 text)))
+    (piece (Hash (starts_ident (drop 1 text))) (1 + name_len (drop 1 text))) p found in
     let t = and_true (begins (λ c. c == 35) text) _ h.0 in
     let first = begins_is 35 text t.0 in
     let some : 0 < name_len (drop 1 text) = lt_true _ _ t.1 in
@@ -192,13 +204,16 @@ at_keyword_whole text p found =
     subst (IsWhole text) h.1
     (record { beside = name_end_low text 1; marks = record { is = first.0; some = omega arith } })
 
-pub string_stops : (quote : ℕ) (rest : List ℕ) → string_unit quote rest ≡ 0 → begins is_newline rest ≡ false → (rest ≡ []) ⊎ ((slice_index rest 0 ≡ quote) × (0 < length rest))
+pub string_stops : (quote : ℕ) (rest : List ℕ) → string_unit quote rest ≡ 0 → begins is_newline rest ≡ false
+    → (rest ≡ []) ⊎ ((slice_index rest 0 ≡ quote) × (0 < length rest))
 unfolding escape_len
 string_stops quote [] none no_line = inl refl
 string_stops quote (c ∷ rest) none no_line =
     inr (same c quote (by_tests (c == quote) (is_newline c) (c == 92) (begins is_newline rest) _ _ none no_line), omega arith)
   where
-    by_tests : (quote newline back line : Bool) (m n : ℕ) → cond (quote || newline) 0 (cond back (cond line (1 + m) (cond (back && not line) (1 + n) 0)) 1) ≡ 0 → newline ≡ false → quote ≡ true
+    by_tests : (quote newline back line : Bool) (m n : ℕ)
+        → cond (quote || newline) 0 (cond back (cond line (1 + m) (cond (back && not line) (1 + n) 0)) 1) ≡ 0 → newline ≡ false
+        → quote ≡ true
     by_tests true newline back line m n e f = refl
     by_tests false true back line m n e f = cc
     by_tests false false true true m n e f = absurd (omega arith)
@@ -212,7 +227,9 @@ less : (a b : ℕ) → (a < b) ⊎ (b ≤ a)
 less a b = grind arith
 
 -- past the open string stands its quote, or the text ends
-string_at : (text : List ℕ) (quote m : ℕ) → slice_index text 0 ≡ quote → is_quote quote ≡ true → 0 < m → (drop m text ≡ []) ⊎ ((slice_index (drop m text) 0 ≡ quote) × (0 < length (drop m text))) → 0 < length text → IsWhole text (piece Str (min (m + 1) (length text)))
+string_at : (text : List ℕ) (quote m : ℕ) → slice_index text 0 ≡ quote → is_quote quote ≡ true → 0 < m
+    → (drop m text ≡ []) ⊎ ((slice_index (drop m text) 0 ≡ quote) × (0 < length (drop m text))) → 0 < length text
+    → IsWhole text (piece Str (min (m + 1) (length text)))
 string_at text quote m first is_a_quote some (inl none) there =
     let all : length (drop m text) ≡ 0 = ap length none in
     let is : min (m + 1) (length text) ≡ length text = omega (arith, length-drop m text) in
@@ -226,7 +243,11 @@ string_at text quote m first is_a_quote some (inr closed) there =
     let low : quote < 128 = quote_low quote is_a_quote in
     record {
       beside = inr (omega (arith, last));
-      marks = record { quote = rw first is_a_quote; some = omega arith; closed = inl (last ∙ sym first, omega (arith, length-drop m text, closed.1)) };
+      marks = record {
+        quote = rw first is_a_quote;
+        some = omega arith;
+        closed = inl (last ∙ sym first, omega (arith, length-drop m text, closed.1));
+      };
     }
 
 begins_first : (p : ℕ → Bool) (text : List ℕ) → begins p text ≡ true → (p (slice_index text 0) ≡ true) × (0 < length text)
@@ -242,7 +263,8 @@ string_whole text p found =
     let t = and_true (begins is_quote text) _ h.0 in
     let first = begins_first is_quote text t.0 in
     subst (IsWhole text) h.1
-    (string_at text quote m refl first.0 (omega arith) (string_stops quote (drop m text) (run_stops_at (string_unit quote) refl text 1) (not_true _ t.1)) first.1)
+    (string_at text quote m refl first.0 (omega arith)
+    (string_stops quote (drop m text) (run_stops_at (string_unit quote) refl text 1) (not_true _ t.1)) first.1)
 
 bad_string_whole : AreWhole bad_string
 unfolding bad_string
@@ -284,7 +306,10 @@ bad_url_whole text p found =
     let n = open_url_len text in
     let m = n + run bad_url_unit (drop n text) in
     let h = when_some (opens_url text && not (closes_url (drop n text))) (piece BadUrl (up_to_and_with m 1 text)) p found in
-    subst (IsWhole text) h.1 (record { beside = closed_low text m (bad_url_low (drop m text) (run_stops_at bad_url_unit refl text n)); marks = tt })
+    subst (IsWhole text) h.1 (record {
+      beside = closed_low text m (bad_url_low (drop m text) (run_stops_at bad_url_unit refl text n));
+      marks = tt;
+    })
 
 last_low : (text : List ℕ) (n m : ℕ) → slice_index (drop n text) 0 ≡ m → m < 128 → IsBesideAscii text (n + 1)
 last_low text n m is low = let same : n + 1 - 1 ≡ n = omega arith in inr (rw same (omega (arith, first_of_rest text n)))
@@ -296,12 +321,16 @@ numeric_whole text p found =
     let rest = drop n text in
     let h = when_some (nat_lt 0 n) _ p found in
     subst (IsWhole text) h.1
-    (elim (begins (λ c. c == 37) rest) as (λ b. begins (λ c. c == 37) rest ≡ b → IsWhole text (cond b (piece Percentage (n + 1)) (cond (starts_ident rest) (piece Dimension (n + name_len rest)) (piece Number n)))) [
+    (elim (begins (λ c. c == 37) rest) as
+    (λ b. begins (λ c. c == 37) rest ≡ b
+    → IsWhole text (cond b (piece Percentage (n + 1))
+    (cond (starts_ident rest) (piece Dimension (n + name_len rest)) (piece Number n)))) [
       | true ↦ λ percent. record { beside = last_low text n 37 (begins_is 37 rest percent).0 (lit< tt); marks = tt }
-      | false ↦ λ _. elim (starts_ident rest) as (λ b. starts_ident rest ≡ b → IsWhole text (cond b (piece Dimension (n + name_len rest)) (piece Number n))) [
-        | true ↦ λ _. record { beside = name_end_low text n; marks = tt }
-        | false ↦ λ none. record { beside = next_low text n (start_low rest none); marks = tt }
-      ] refl
+      | false ↦ λ _. elim (starts_ident rest) as
+          (λ b. starts_ident rest ≡ b → IsWhole text (cond b (piece Dimension (n + name_len rest)) (piece Number n))) [
+            | true ↦ λ _. record { beside = name_end_low text n; marks = tt }
+            | false ↦ λ none. record { beside = next_low text n (start_low rest none); marks = tt }
+          ] refl
     ] refl)
 
 ident_whole : AreWhole ident
@@ -311,10 +340,15 @@ ident_whole text p found =
     let h = when_some (starts_ident text) _ p found in
     let some = name_some text h.0 in
     subst (IsWhole text) h.1
-    (elim (begins (λ c. c == 40) (drop n text)) as (λ b. begins (λ c. c == 40) (drop n text) ≡ b → IsWhole text (cond b (piece Function (n + 1)) (piece Ident n))) [
+    (elim (begins (λ c. c == 40) (drop n text)) as
+    (λ b. begins (λ c. c == 40) (drop n text) ≡ b → IsWhole text (cond b (piece Function (n + 1)) (piece Ident n))) [
       | true ↦ λ round. record {
         beside = last_low text n 40 (begins_is 40 (drop n text) round).0 (lit< tt);
-        marks = record { is = let same : n + 1 - 1 ≡ n = omega arith in rw same (sym (first_of_rest text n) ∙ (begins_is 40 (drop n text) round).0); some = omega arith };
+        marks = record {
+          is = let same : n + 1 - 1
+              ≡ n = omega arith in rw same (sym (first_of_rest text n) ∙ (begins_is 40 (drop n text) round).0);
+          some = omega arith;
+        };
       }
       | false ↦ λ _. record { beside = next_low text n (name_low (drop n text) (run_stops name_unit refl text)); marks = tt }
     ] refl)
@@ -395,7 +429,10 @@ mark_whole [] p none found = cc
 mark_whole (c ∷ rest) p none found =
     let is : piece (mark_kind c) 1 ≡ p = cc in
     subst (IsWhole (c ∷ rest)) is
-    (record { beside = inr (start_low (c ∷ rest) (starts_none (c ∷ rest) none)); marks = mark_marks (mark_kind c) (c ∷ rest) refl (mark_alone c) })
+    (record {
+      beside = inr (start_low (c ∷ rest) (starts_none (c ∷ rest) none));
+      marks = mark_marks (mark_kind c) (c ∷ rest) refl (mark_alone c);
+    })
 
 -- the first of two rows that applies
 by_or : {P : Type 0} (a b : Option Piece) (p : Piece) → (a or b) ≡ Some p → (a ≡ Some p → P) → (a ≡ None → b ≡ Some p → P) → P

@@ -1,20 +1,24 @@
 -- The functions of escapes, newlines and the white space of an escape compute their forms.
-use Rattle.std.proofs.Common.{◌≡◌, ℕ, zero, suc, ◌+◌, ◌<◌, ◌≤◌, ◌==◌, Bool, true, false, cond, ◌&&◌, not, List, [], ◌∷◌, ◌++◌, length, take, drop, refl, ap, sym, ◌∙◌, subst, append_assoc, length-append, lit<, arith}
+use Rattle.std.proofs.Common.{◌≡◌, ℕ, zero, suc, ◌+◌, ◌<◌, ◌≤◌, ◌==◌, Bool, true, false, cond, ◌&&◌, not, List, [], ◌∷◌, ◌++◌, length, take}
+use Rattle.std.proofs.Common.{drop, refl, ap, sym, ◌∙◌, subst, append_assoc, length-append, lit<, arith}
 use Rattle.std.specs.List.{list_all, prefix_len}
 use Rattle.std.specs.Char.{is_ascii_hexdigit}
 use Rattle.std.proofs.Math.Seq.{drop-append_seam}
 use Rattle.std.proofs.lemmas.Bool.Decides.{nat_tests}
 use Rattle.css_tokens.specs.Codes.{is_newline, is_white, begins}
 use Rattle.css_tokens.specs.Escapes.{newline_len, white_len, hex_len, escape_tail, escape_len, begins_escape}
-use Rattle.css_tokens.specs.Forms.{IsNewline, line_crlf, line_code, IsOneWhite, white_none, white_crlf, white_code, AreHexDigits, IsEscape, escape_hex, escape_code, escape_end}
+use Rattle.css_tokens.specs.Forms.{IsNewline, line_crlf, line_code, IsOneWhite, white_none, white_crlf, white_code, AreHexDigits, IsEscape}
+use Rattle.css_tokens.specs.Forms.{escape_hex, escape_code, escape_end}
 use Rattle.css_tokens.proofs.RunForms.{Cut, Computes}
 use Rattle.css_tokens.proofs.Ends.{and_true, not_true}
 use Rattle.css_tokens.proofs.Unescaping.{same_code}
 
-pub cut_at : (Form : List ℕ → List ℕ → Type 0) (front rest : List ℕ) (n : ℕ) → n ≡ length front → Form front rest → Cut Form (front ++ rest) n
+pub cut_at : (Form : List ℕ → List ℕ → Type 0) (front rest : List ℕ) (n : ℕ) → n ≡ length front → Form front rest
+    → Cut Form (front ++ rest) n
 cut_at Form front rest n len form = record { front = front; rest = rest; is = refl; len = len; form = form }
 
-crlf_cut : (Form : List ℕ → List ℕ → Type 0) → ((rest : List ℕ) → Form (13 ∷ 10 ∷ []) rest) → (c d : ℕ) (rest : List ℕ) → (c == 13 && d == 10) ≡ true → Cut Form (c ∷ d ∷ rest) 2
+crlf_cut : (Form : List ℕ → List ℕ → Type 0) → ((rest : List ℕ) → Form (13 ∷ 10 ∷ []) rest) → (c d : ℕ) (rest : List ℕ)
+    → (c == 13 && d == 10) ≡ true → Cut Form (c ∷ d ∷ rest) 2
 crlf_cut Form form c d rest both =
     let t = and_true (c == 13) (d == 10) both in
     let first : c ≡ 13 = same_code c 13 t.0 in
@@ -38,7 +42,8 @@ newline_cut (c ∷ d ∷ rest) line =
       | false ↦ λ one. cut_at IsNewline (c ∷ []) (d ∷ rest) 1 refl (line_code line one)
     ] refl)
 
-pub newline_only : (line rest : List ℕ) → IsNewline line rest → (begins is_newline (line ++ rest) ≡ true) × (newline_len (line ++ rest) ≡ length line)
+pub newline_only : (line rest : List ℕ) → IsNewline line rest
+    → (begins is_newline (line ++ rest) ≡ true) × (newline_len (line ++ rest) ≡ length line)
 newline_only line rest line_crlf = (refl, refl)
 newline_only line rest (line_code newline one) = (newline, rw (newline, one) refl)
 
@@ -80,7 +85,8 @@ white_only white rest white_crlf = refl
 white_only white rest (white_code is single) = rw (single, is) refl
 
 -- hex digits, of which at most k are taken
-pub hex_exact : (k : ℕ) (digits rest : List ℕ) → length digits ≤ k → list_all is_ascii_hexdigit digits ≡ true → (length digits < k → begins is_ascii_hexdigit rest ≡ false) → prefix_len is_ascii_hexdigit (take k (digits ++ rest)) ≡ length digits
+pub hex_exact : (k : ℕ) (digits rest : List ℕ) → length digits ≤ k → list_all is_ascii_hexdigit digits ≡ true
+    → (length digits < k → begins is_ascii_hexdigit rest ≡ false) → prefix_len is_ascii_hexdigit (take k (digits ++ rest)) ≡ length digits
 hex_exact zero [] rest few hex all = refl
 hex_exact (suc k) [] [] few hex all = refl
 hex_exact (suc k) [] (c ∷ rest) few hex all = let stops : is_ascii_hexdigit c ≡ false = all (omega arith) in rw stops refl
@@ -88,17 +94,20 @@ hex_exact zero (d ∷ digits) rest few hex all = absurd (omega arith)
 hex_exact (suc k) (d ∷ digits) rest few hex all =
     let t = and_true (is_ascii_hexdigit d) (list_all is_ascii_hexdigit digits) hex in
     let first : is_ascii_hexdigit d ≡ true = t.0 in
-    let more : prefix_len is_ascii_hexdigit (take k (digits ++ rest)) ≡ length digits = hex_exact k digits rest (omega arith) t.1 (λ less. all (omega arith)) in
+    let more : prefix_len is_ascii_hexdigit (take k (digits ++ rest))
+    ≡ length digits = hex_exact k digits rest (omega arith) t.1 (λ less. all (omega arith)) in
     rw first (omega arith)
 
 abbrev pub AreDigitsUpTo : ℕ → List ℕ → List ℕ → Type 0
-AreDigitsUpTo k digits rest = (length digits ≤ k) × (list_all is_ascii_hexdigit digits ≡ true) × (length digits < k → begins is_ascii_hexdigit rest ≡ false)
+AreDigitsUpTo k digits rest = (length digits ≤ k) × (list_all is_ascii_hexdigit digits ≡ true)
+    × (length digits < k → begins is_ascii_hexdigit rest ≡ false)
 
 pub hex_cut : (k : ℕ) (text : List ℕ) → Cut (AreDigitsUpTo k) text (prefix_len is_ascii_hexdigit (take k text))
 hex_cut zero text = cut_at (AreDigitsUpTo zero) [] text 0 refl (omega arith, refl, λ less. absurd (omega arith))
 hex_cut (suc k) [] = cut_at (AreDigitsUpTo (suc k)) [] [] 0 refl (omega arith, refl, λ less. refl)
 hex_cut (suc k) (c ∷ rest) =
-    elim (is_ascii_hexdigit c) as (λ b. is_ascii_hexdigit c ≡ b → Cut (AreDigitsUpTo (suc k)) (c ∷ rest) (cond b (1 + prefix_len is_ascii_hexdigit (take k rest)) 0)) [
+    elim (is_ascii_hexdigit c) as (λ b. is_ascii_hexdigit c ≡ b
+    → Cut (AreDigitsUpTo (suc k)) (c ∷ rest) (cond b (1 + prefix_len is_ascii_hexdigit (take k rest)) 0)) [
       | true ↦ λ hex.
           let more = hex_cut k rest in
           record {
@@ -115,7 +124,8 @@ hex_cut (suc k) (c ∷ rest) =
 no_line : (c : ℕ) → is_ascii_hexdigit c ≡ true → is_newline c ≡ false
 no_line c hex = grind (arith, nat_tests)
 
-first_some : (c : ℕ) (rest digits more : List ℕ) → is_ascii_hexdigit c ≡ true → c ∷ rest ≡ digits ++ more → (length digits < 6 → begins is_ascii_hexdigit more ≡ false) → 0 < length digits
+first_some : (c : ℕ) (rest digits more : List ℕ) → is_ascii_hexdigit c ≡ true → c ∷ rest ≡ digits ++ more
+    → (length digits < 6 → begins is_ascii_hexdigit more ≡ false) → 0 < length digits
 first_some c rest [] [] hex is all = cc
 first_some c rest [] (d ∷ more) hex is all =
     let stops : is_ascii_hexdigit d ≡ false = all (lit< tt) in
@@ -124,13 +134,16 @@ first_some c rest [] (d ∷ more) hex is all =
     cc
 first_some c rest (d ∷ digits) more hex is all = omega arith
 
-coded_cut : (c : ℕ) (rest : List ℕ) → is_ascii_hexdigit c ≡ true → Cut IsEscape (92 ∷ c ∷ rest) (1 + (hex_len (c ∷ rest) + white_len (drop (hex_len (c ∷ rest)) (c ∷ rest))))
+coded_cut : (c : ℕ) (rest : List ℕ) → is_ascii_hexdigit c ≡ true
+    → Cut IsEscape (92 ∷ c ∷ rest) (1 + (hex_len (c ∷ rest) + white_len (drop (hex_len (c ∷ rest)) (c ∷ rest))))
 coded_cut c rest hex =
     let h = hex_cut 6 (c ∷ rest) in
     let w = white_cut h.rest in
-    let past : drop (hex_len (c ∷ rest)) (c ∷ rest) ≡ h.rest = ap (λ (n : ℕ). drop n (c ∷ rest)) h.len ∙ ap (drop (length h.front)) h.is ∙ drop-append_seam h.front h.rest in
+    let past : drop (hex_len (c ∷ rest)) (c ∷ rest)
+    ≡ h.rest = ap (λ (n : ℕ). drop n (c ∷ rest)) h.len ∙ ap (drop (length h.front)) h.is ∙ drop-append_seam h.front h.rest in
     let length_white : white_len (drop (hex_len (c ∷ rest)) (c ∷ rest)) ≡ length w.front = ap white_len past ∙ w.len in
-    let all : length h.front < 6 → begins is_ascii_hexdigit (w.front ++ w.rest) ≡ false = λ less. sym (ap (begins is_ascii_hexdigit) w.is) ∙ h.form.2 less in
+    let all : length h.front < 6 → begins is_ascii_hexdigit (w.front ++ w.rest)
+    ≡ false = λ less. sym (ap (begins is_ascii_hexdigit) w.is) ∙ h.form.2 less in
     record {
       front = 92 ∷ (h.front ++ w.front);
       rest = w.rest;
@@ -144,7 +157,8 @@ back_cut : (tail : List ℕ) → begins is_newline tail ≡ false → Cut IsEsca
 unfolding escape_tail
 back_cut [] line = cut_at IsEscape (92 ∷ []) [] (1 + 0) refl escape_end
 back_cut (c ∷ rest) line =
-    elim (is_ascii_hexdigit c) as (λ b. is_ascii_hexdigit c ≡ b → Cut IsEscape (92 ∷ c ∷ rest) (1 + cond b (hex_len (c ∷ rest) + white_len (drop (hex_len (c ∷ rest)) (c ∷ rest))) 1)) [
+    elim (is_ascii_hexdigit c) as (λ b. is_ascii_hexdigit c ≡ b
+    → Cut IsEscape (92 ∷ c ∷ rest) (1 + cond b (hex_len (c ∷ rest) + white_len (drop (hex_len (c ∷ rest)) (c ∷ rest))) 1)) [
       | true ↦ λ hex. coded_cut c rest hex
       | false ↦ λ hex. cut_at IsEscape (92 ∷ c ∷ []) rest (1 + 1) refl (escape_code hex line)
     ] refl
@@ -153,23 +167,31 @@ escape_cut : (text : List ℕ) → 0 < escape_len text → Cut IsEscape text (es
 unfolding escape_len
 escape_cut [] some = absurd (omega arith)
 escape_cut (c ∷ rest) some =
-    elim (c == 92 && not (begins is_newline rest)) as (λ b. (c == 92 && not (begins is_newline rest)) ≡ b → 0 < cond b (1 + escape_tail rest) 0 → Cut IsEscape (c ∷ rest) (cond b (1 + escape_tail rest) 0)) [
+    elim (c == 92 && not (begins is_newline rest)) as
+    (λ b. (c == 92 && not (begins is_newline rest)) ≡ b → 0 < cond b (1 + escape_tail rest) 0
+    → Cut IsEscape (c ∷ rest) (cond b (1 + escape_tail rest) 0)) [
       | true ↦ λ both _.
           let t = and_true (c == 92) _ both in
           subst (λ (a : ℕ). Cut IsEscape (a ∷ rest) (1 + escape_tail rest)) (sym (same_code c 92 t.0)) (back_cut rest (not_true _ t.1))
       | false ↦ λ _ none. absurd (omega arith)
     ] refl some
 
-hex_tail : (digits white rest : List ℕ) → AreHexDigits digits (white ++ rest) → IsOneWhite white rest → (begins is_newline (digits ++ (white ++ rest)) ≡ false) × (escape_tail (digits ++ (white ++ rest)) ≡ length digits + length white)
+hex_tail : (digits white rest : List ℕ) → AreHexDigits digits (white ++ rest) → IsOneWhite white rest
+    → (begins is_newline (digits ++ (white ++ rest)) ≡ false) × (escape_tail (digits ++ (white ++ rest)) ≡ length digits + length white)
 unfolding escape_tail
 hex_tail [] white rest are one = absurd (omega (arith, are.some))
 hex_tail (d ∷ digits) white rest are one =
     let first : is_ascii_hexdigit d ≡ true = (and_true (is_ascii_hexdigit d) (list_all is_ascii_hexdigit digits) are.hex).0 in
-    let exact : hex_len (d ∷ (digits ++ (white ++ rest))) ≡ length (d ∷ digits) = hex_exact 6 (d ∷ digits) (white ++ rest) are.at_most_six are.hex are.all in
-    let past : drop (hex_len (d ∷ (digits ++ (white ++ rest)))) (d ∷ (digits ++ (white ++ rest))) ≡ white ++ rest = ap (λ (n : ℕ). drop n (d ∷ (digits ++ (white ++ rest)))) exact ∙ drop-append_seam (d ∷ digits) (white ++ rest) in
-    let length_white : white_len (drop (hex_len (d ∷ (digits ++ (white ++ rest)))) (d ∷ (digits ++ (white ++ rest)))) ≡ length white = ap white_len past ∙ white_only white rest one in (
+    let exact : hex_len (d ∷ (digits ++ (white ++ rest)))
+    ≡ length (d ∷ digits) = hex_exact 6 (d ∷ digits) (white ++ rest) are.at_most_six are.hex are.all in
+    let past : drop (hex_len (d ∷ (digits ++ (white ++ rest)))) (d ∷ (digits ++ (white ++ rest)))
+    ≡ white ++ rest = ap (λ (n : ℕ). drop n (d ∷ (digits ++ (white ++ rest)))) exact ∙ drop-append_seam (d ∷ digits) (white ++ rest) in
+    let length_white : white_len (drop (hex_len (d ∷ (digits ++ (white ++ rest)))) (d ∷ (digits ++ (white ++ rest))))
+    ≡ length white = ap white_len past ∙ white_only white rest one in (
       no_line d first,
-      subst (λ (b : Bool). cond b (hex_len (d ∷ (digits ++ (white ++ rest))) + white_len (drop (hex_len (d ∷ (digits ++ (white ++ rest)))) (d ∷ (digits ++ (white ++ rest))))) 1 ≡ length (d ∷ digits) + length white) (sym first)
+      subst (λ (b : Bool). cond b (hex_len (d ∷ (digits ++ (white ++ rest)))
+          + white_len (drop (hex_len (d ∷ (digits ++ (white ++ rest)))) (d ∷ (digits ++ (white ++ rest))))) 1
+          ≡ length (d ∷ digits) + length white) (sym first)
           (omega (arith, exact, length_white)),
     )
 

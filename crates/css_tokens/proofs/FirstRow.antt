@@ -1,5 +1,6 @@
 -- The first code of a text leaves few rows of the table.
-use Rattle.std.proofs.Common.{◌≡◌, ℕ, ◌<◌, ◌==◌, Bool, true, false, ◌||◌, not, List, [], ◌∷◌, length, drop, slice_index, Option, Some, None, nat_eq, refl, sym, arith}
+use Rattle.std.proofs.Common.{◌≡◌, ℕ, ◌<◌, ◌==◌, Bool, true, false, ◌||◌, not, List, [], ◌∷◌, length, drop, slice_index, Option, Some, None}
+use Rattle.std.proofs.Common.{nat_eq, refl, sym, arith}
 use Rattle.std.specs.Char.{is_ascii_digit}
 use Rattle.std.proofs.lemmas.Bool.Decides.{nat_tests}
 use Rattle.css_tokens.specs.declared.token.Piece.{Piece}
@@ -8,7 +9,8 @@ use Rattle.css_tokens.specs.declared.rows.First.TheVariants.{Slash, White, Quote
 use Rattle.css_tokens.specs.First.{TellsFirst}
 use Rattle.css_tokens.specs.Codes.{is_newline, begins, is_white, is_quote, is_sign, is_ident_start}
 use Rattle.css_tokens.specs.Runs.{number_len, starts_ident}
-use Rattle.css_tokens.specs.Rows.{when, open_string_len, ◌or◌, first_piece, comment, white_space, string, bad_string, hash, numeric, cdc, url, bad_url, opens_url, ident, cdo, at_keyword, mark}
+use Rattle.css_tokens.specs.Rows.{when, open_string_len, ◌or◌, first_piece, comment, white_space, string, bad_string, hash, numeric, cdc}
+use Rattle.css_tokens.specs.Rows.{url, bad_url, opens_url, ident, cdo, at_keyword, mark}
 
 three : (a b c d : Option Piece) → (a or b or c or d) ≡ ((a or b or c) or d)
 three (Some p) b c d = refl
@@ -42,7 +44,8 @@ at_back : (rest : List ℕ) → first_piece (92 ∷ rest) ≡ ((url (92 ∷ rest
 unfolding first_piece comment white_space string bad_string hash numeric number_len cdc cdo at_keyword
 at_back rest = three (url (92 ∷ rest)) (bad_url (92 ∷ rest)) (ident (92 ∷ rest)) (mark (92 ∷ rest))
 
-at_dash : (rest : List ℕ) → first_piece (45 ∷ rest) ≡ ((numeric (45 ∷ rest) or (cdc (45 ∷ rest) or (url (45 ∷ rest) or bad_url (45 ∷ rest) or ident (45 ∷ rest)))) or mark (45 ∷ rest))
+at_dash : (rest : List ℕ) → first_piece (45 ∷ rest)
+    ≡ ((numeric (45 ∷ rest) or (cdc (45 ∷ rest) or (url (45 ∷ rest) or bad_url (45 ∷ rest) or ident (45 ∷ rest)))) or mark (45 ∷ rest))
 unfolding first_piece comment white_space string bad_string hash cdo at_keyword
 at_dash rest = five (numeric (45 ∷ rest)) (cdc (45 ∷ rest)) (url (45 ∷ rest)) (bad_url (45 ∷ rest)) (ident (45 ∷ rest)) (mark (45 ∷ rest))
 
@@ -129,7 +132,8 @@ at_quote c rest quote =
     rw (no_comment c rest e, no_white c rest w)
     (either_string (string (c ∷ rest)) (bad_string (c ∷ rest)) _ there.0 there.1)
 
-at_number : (c : ℕ) (rest : List ℕ) → (is_ascii_digit c || (c == 43 || c == 46)) ≡ true → first_piece (c ∷ rest) ≡ (numeric (c ∷ rest) or mark (c ∷ rest))
+at_number : (c : ℕ) (rest : List ℕ) → (is_ascii_digit c || (c == 43 || c == 46)) ≡ true
+    → first_piece (c ∷ rest) ≡ (numeric (c ∷ rest) or mark (c ∷ rest))
 unfolding first_piece
 at_number c rest number =
     let e : nat_eq 47 c ≡ false = grind (arith, nat_tests) in
@@ -155,7 +159,8 @@ ident_there : (text : List ℕ) → starts_ident text ≡ true → (p : Piece) �
 unfolding ident
 ident_there text starts = rw starts (_, refl)
 
-at_name : (c : ℕ) (rest : List ℕ) → is_ident_start c ≡ true → first_piece (c ∷ rest) ≡ (url (c ∷ rest) or bad_url (c ∷ rest) or ident (c ∷ rest))
+at_name : (c : ℕ) (rest : List ℕ) → is_ident_start c ≡ true
+    → first_piece (c ∷ rest) ≡ (url (c ∷ rest) or bad_url (c ∷ rest) or ident (c ∷ rest))
 unfolding first_piece
 at_name c rest start =
     let e : nat_eq 47 c ≡ false = grind (arith, nat_tests) in
@@ -218,7 +223,8 @@ by_class Back c rest tells = rw tells (sym (at_back rest))
 by_class Less c rest tells = rw tells (sym (at_less rest))
 by_class Other c rest tells = sym (at_other c rest tells)
 
-pub tried_is_first : (class : First) (text : List ℕ) → 0 < length text → TellsFirst class (slice_index text 0) → tried class text ≡ first_piece text
+pub tried_is_first : (class : First) (text : List ℕ) → 0 < length text → TellsFirst class (slice_index text 0)
+    → tried class text ≡ first_piece text
 tried_is_first class [] some tells = absurd (omega arith)
 tried_is_first class (c ∷ rest) some tells = by_class class c rest tells
 

@@ -1,5 +1,6 @@
 -- The rows of what begins with a name: which of them applies, by the tests in the order of the code.
-use Rattle.std.proofs.Common.{◌≡◌, ℕ, zero, suc, ◌+◌, ◌<◌, ◌==◌, Bool, true, false, cond, ◌||◌, ◌&&◌, not, List, [], ◌∷◌, drop, Some, None, refl, lit<, arith}
+use Rattle.std.proofs.Common.{◌≡◌, ℕ, zero, suc, ◌+◌, ◌<◌, ◌==◌, Bool, true, false, cond, ◌||◌, ◌&&◌, not, List, [], ◌∷◌, drop, Some, None}
+use Rattle.std.proofs.Common.{refl, lit<, arith}
 use Rattle.std.specs.Char.{is_ascii_digit}
 use Rattle.css_tokens.specs.declared.token.TokenKind.TheVariants.{Ident, Function}
 use Rattle.css_tokens.specs.Codes.{begins, is_ident_start, is_newline}
@@ -11,19 +12,26 @@ pub none_named : (text : List ℕ) → starts_ident text ≡ false → None ≡ 
 unfolding url bad_url opens_url ident
 none_named text starts = rw starts refl
 
-pub bare_named : (text : List ℕ) (name : ℕ) → name ≡ name_len text → starts_ident text ≡ true → begins (λ c. c == 40) (drop name text) ≡ false → Some (piece Ident name) ≡ (url text or bad_url text or ident text)
+pub bare_named : (text : List ℕ) (name : ℕ) → name ≡ name_len text → starts_ident text ≡ true
+    → begins (λ c. c == 40) (drop name text) ≡ false → Some (piece Ident name) ≡ (url text or bad_url text or ident text)
 unfolding url bad_url opens_url ident
-bare_named text name is starts bare = let round : begins (λ c. c == 40) (drop (name_len text) text) ≡ false = rw is at bare in rw (is, starts, round) refl
+bare_named text name is starts bare = let round : begins (λ c. c == 40) (drop (name_len text) text)
+    ≡ false = rw is at bare in rw (is, starts, round) refl
 
-pub function_named : (text : List ℕ) (name : ℕ) → name ≡ name_len text → starts_ident text ≡ true → begins (λ c. c == 40) (drop name text) ≡ true → opens_url text ≡ false → Some (piece Function (name + 1)) ≡ (url text or bad_url text or ident text)
+pub function_named : (text : List ℕ) (name : ℕ) → name ≡ name_len text → starts_ident text ≡ true
+    → begins (λ c. c == 40) (drop name text) ≡ true → opens_url text ≡ false
+    → Some (piece Function (name + 1)) ≡ (url text or bad_url text or ident text)
 unfolding url bad_url ident
-function_named text name is starts opened plain = let round : begins (λ c. c == 40) (drop (name_len text) text) ≡ true = rw is at opened in rw (is, plain, starts, round) refl
+function_named text name is starts opened plain = let round : begins (λ c. c == 40) (drop (name_len text) text)
+    ≡ true = rw is at opened in rw (is, plain, starts, round) refl
 
 run_some : (unit : List ℕ → ℕ) (c : ℕ) (rest : List ℕ) → 0 < unit (c ∷ rest) → 0 < run unit (c ∷ rest)
 unfolding run_after
-run_some unit c rest some = elim (unit (c ∷ rest)) as (λ n. 0 < n → 0 < unit_then n (λ skip. run_after unit skip rest)) [ zero ↦ λ h. h | suc n ↦ λ h. omega arith ] some
+run_some unit c rest some = elim (unit (c ∷ rest)) as
+    (λ n. 0 < n → 0 < unit_then n (λ skip. run_after unit skip rest)) [ zero ↦ λ h. h | suc n ↦ λ h. omega arith ] some
 
-positive_by : (start digit dash escape next : Bool) (n : ℕ) → cond dash next (start || escape) ≡ true → 0 < cond (start || (digit || dash)) 1 (cond escape (1 + n) 0)
+positive_by : (start digit dash escape next : Bool) (n : ℕ) → cond dash next (start || escape) ≡ true
+    → 0 < cond (start || (digit || dash)) 1 (cond escape (1 + n) 0)
 positive_by true digit dash escape next n h = lit< tt
 positive_by false true dash escape next n h = lit< tt
 positive_by false false true escape next n h = lit< tt

@@ -1,5 +1,6 @@
 -- Each row gives the pieces of its form.
-use Rattle.std.proofs.Common.{◌≡◌, inl, inr, ℕ, ◌+◌, ◌<◌, ◌==◌, Bool, true, false, cond, ◌&&◌, List, [], ◌∷◌, ◌++◌, length, drop, min, nat_eq, Option, Some, IsSome, refl, ap, sym, ◌∙◌, subst, append_assoc, length-append, arith}
+use Rattle.std.proofs.Common.{◌≡◌, inl, inr, ℕ, ◌+◌, ◌<◌, ◌==◌, Bool, true, false, cond, ◌&&◌, List, [], ◌∷◌, ◌++◌, length, drop, min}
+use Rattle.std.proofs.Common.{nat_eq, Option, Some, IsSome, refl, ap, sym, ◌∙◌, subst, append_assoc, length-append, arith}
 use Rattle.std.specs.List.{list_all, prefix_len, starts_with}
 use Rattle.std.proofs.lemmas.Bool.Decides.{nat_tests}
 use Rattle.css_tokens.specs.declared.token.TokenKind.{TokenKind}
@@ -34,7 +35,8 @@ gives Form row law = record {
         len = c.len;
         form = c.form;
         longest = λ kind other others e f.
-            let same : p.len ≡ length other = same_len p (piece kind (length other)) (sym found ∙ ap row e ∙ law.only kind other others f) in
+            let same : p.len ≡ length other = same_len p (piece kind (length other))
+            (sym found ∙ ap row e ∙ law.only kind other others f) in
             omega (arith, same);
       };
   where_any = λ text front rest kind e f. subst (λ (o : Option Piece). IsSome o) (sym (ap row e ∙ law.only kind front rest f)) refl;
@@ -54,7 +56,8 @@ pub marked_here : (mark rest : List ℕ) → Closing mark (mark ++ rest)
 marked_here mark rest = record { close = mark; rest = rest; is = refl; closed = inl refl }
 
 -- the length of a piece that a mark of length k closes, or the text's end
-pub closed_len : (a k all : ℕ) (mark close rest : List ℕ) → length mark ≡ k → ClosesWith mark close rest → all ≡ a + length close + length rest → min (a + k) all ≡ a + length close
+pub closed_len : (a k all : ℕ) (mark close rest : List ℕ) → length mark ≡ k → ClosesWith mark close rest
+    → all ≡ a + length close + length rest → min (a + k) all ≡ a + length close
 closed_len a k all mark close rest size (inl is) whole = let same : length close ≡ k = ap length is ∙ size in omega arith
 closed_len a k all mark close rest size (inr end) whole = omega (arith, ap length end.0, ap length end.1)
 
@@ -80,14 +83,25 @@ comment_piece : (text : List ℕ) → Cut (CommentForm Comment) (47 ∷ 42 ∷ t
 comment_piece text =
     let c = run_cut CommentUnit comment_unit comment_law text in
     let e = comment_closing c.rest c.form.1 in
-    let whole : text ≡ (c.front ++ e.close) ++ e.rest = c.is ∙ ap (λ (x : List ℕ). c.front ++ x) e.is ∙ sym (append_assoc c.front e.close e.rest) in
-    let size : length text ≡ length c.front + length e.close + length e.rest = ap length whole ∙ length-append (c.front ++ e.close) e.rest ∙ ap (λ (n : ℕ). n + length e.rest) (length-append c.front e.close) in
+    let whole : text ≡ (c.front ++ e.close)
+    ++ e.rest = c.is ∙ ap (λ (x : List ℕ). c.front ++ x) e.is ∙ sym (append_assoc c.front e.close e.rest) in
+    let size : length text ≡ length c.front + length e.close
+    + length e.rest = ap length whole ∙ length-append (c.front ++ e.close) e.rest ∙ ap (λ (n : ℕ). n + length e.rest)
+    (length-append c.front e.close) in
     record {
       front = 47 ∷ 42 ∷ (c.front ++ e.close);
       rest = e.rest;
       is = ap (λ (x : List ℕ). 47 ∷ 42 ∷ x) whole;
-      len = closed_len (2 + run comment_unit text) 2 _ _ e.close e.rest refl e.closed (omega (arith, size, c.len)) ∙ omega (arith, c.len, length-append c.front e.close);
-      form = record { named = refl; body = c.front; close = e.close; is = refl; units = subst (Units CommentUnit c.front) e.is c.form.0; closed = e.closed };
+      len = closed_len (2 + run comment_unit text) 2 _ _ e.close e.rest refl e.closed (omega (arith, size, c.len)) ∙ omega
+          (arith, c.len, length-append c.front e.close);
+      form = record {
+        named = refl;
+        body = c.front;
+        close = e.close;
+        is = refl;
+        units = subst (Units CommentUnit c.front) e.is c.form.0;
+        closed = e.closed;
+      };
     }
 
 opens_comment : (text : List ℕ) → starts_with nat_eq text (47 ∷ 42 ∷ []) ≡ true → (rest : List ℕ) × (text ≡ 47 ∷ 42 ∷ rest)
@@ -110,23 +124,32 @@ pub comment_row_law : RowLaw CommentForm comment
 unfolding comment
 comment_row_law = record {
   form = λ text p found.
-      let h = when_some (starts_with nat_eq text (47 ∷ 42 ∷ [])) (piece Comment (up_to_and_with (2 + run comment_unit (drop 2 text)) 2 text)) p found in
+      let h = when_some (starts_with nat_eq text (47 ∷ 42 ∷ []))
+      (piece Comment (up_to_and_with (2 + run comment_unit (drop 2 text)) 2 text)) p found in
       let o = opens_comment text h.0 in
       subst (λ (q : Piece). Cut (CommentForm q.kind) text q.len) h.1
-      (subst (λ (t : List ℕ). Cut (CommentForm Comment) t (up_to_and_with (2 + run comment_unit (drop 2 t)) 2 t)) (sym o.1) (comment_piece o.0));
+      (subst (λ (t : List ℕ). Cut (CommentForm Comment) t (up_to_and_with (2 + run comment_unit (drop 2 t)) 2 t)) (sym o.1)
+      (comment_piece o.0));
   only = λ kind front rest f.
       let assoc : (f.body ++ f.close) ++ rest ≡ f.body ++ (f.close ++ rest) = append_assoc f.body f.close rest in
-      let length_run : run comment_unit ((f.body ++ f.close) ++ rest) ≡ length f.body = ap (run comment_unit) assoc ∙ units_run CommentUnit comment_unit comment_law f.body (f.close ++ rest) f.units (closes_comment f.close rest f.closed) in
-      let size : length ((f.body ++ f.close) ++ rest) ≡ length f.body + length f.close + length rest = length-append (f.body ++ f.close) rest ∙ ap (λ (n : ℕ). n + length rest) (length-append f.body f.close) in
-      let len : up_to_and_with (2 + run comment_unit ((f.body ++ f.close) ++ rest)) 2 (47 ∷ 42 ∷ ((f.body ++ f.close) ++ rest)) ≡ length (47 ∷ 42 ∷ (f.body ++ f.close)) =
-      closed_len (2 + run comment_unit ((f.body ++ f.close) ++ rest)) 2 _ _ f.close rest refl f.closed (omega (arith, size, length_run)) ∙ omega (arith, length_run, length-append f.body f.close) in
+      let length_run : run comment_unit ((f.body ++ f.close) ++ rest)
+      ≡ length f.body = ap (run comment_unit) assoc ∙ units_run CommentUnit comment_unit comment_law f.body (f.close ++ rest) f.units
+      (closes_comment f.close rest f.closed) in
+      let size : length ((f.body ++ f.close) ++ rest)
+      ≡ length f.body + length f.close
+      + length rest = length-append (f.body ++ f.close) rest ∙ ap (λ (n : ℕ). n + length rest) (length-append f.body f.close) in
+      let len : up_to_and_with (2 + run comment_unit ((f.body ++ f.close) ++ rest)) 2 (47 ∷ 42 ∷ ((f.body ++ f.close) ++ rest))
+      ≡ length (47 ∷ 42 ∷ (f.body ++ f.close)) =
+      closed_len (2 + run comment_unit ((f.body ++ f.close) ++ rest)) 2 _ _ f.close rest refl f.closed
+      (omega (arith, size, length_run)) ∙ omega (arith, length_run, length-append f.body f.close) in
       subst (λ (k : TokenKind). comment (front ++ rest) ≡ Some (piece k (length front))) (sym f.named)
       (subst (λ (x : List ℕ). comment (x ++ rest) ≡ Some (piece Comment (length x))) (sym f.is)
       (ap (λ (n : ℕ). Some (piece Comment n)) len));
 }
 
 -- white space, and other runs of codes that pass a test
-pub passes_exact : (p : ℕ → Bool) (front rest : List ℕ) → list_all p front ≡ true → begins p rest ≡ false → prefix_len p (front ++ rest) ≡ length front
+pub passes_exact : (p : ℕ → Bool) (front rest : List ℕ) → list_all p front ≡ true → begins p rest ≡ false
+    → prefix_len p (front ++ rest) ≡ length front
 passes_exact p [] [] all stops = refl
 passes_exact p [] (c ∷ rest) all stops = rw stops refl
 passes_exact p (c ∷ front) rest all stops =
@@ -135,13 +158,21 @@ passes_exact p (c ∷ front) rest all stops =
     let more : prefix_len p (front ++ rest) ≡ length front = passes_exact p front rest t.1 stops in
     rw first (omega arith)
 
-pub passes_cut : (p : ℕ → Bool) (text : List ℕ) → Cut (λ front rest. (list_all p front ≡ true) × (begins p rest ≡ false)) text (prefix_len p text)
+pub passes_cut : (p : ℕ → Bool) (text : List ℕ)
+    → Cut (λ front rest. (list_all p front ≡ true) × (begins p rest ≡ false)) text (prefix_len p text)
 passes_cut p [] = record { front = []; rest = []; is = refl; len = refl; form = (refl, refl) }
 passes_cut p (c ∷ rest) =
-    elim (p c) as (λ b. p c ≡ b → Cut (λ front rest. (list_all p front ≡ true) × (begins p rest ≡ false)) (c ∷ rest) (cond b (1 + prefix_len p rest) 0)) [
+    elim (p c) as (λ b. p c ≡ b → Cut (λ front rest. (list_all p front ≡ true) × (begins p rest ≡ false)) (c ∷ rest)
+    (cond b (1 + prefix_len p rest) 0)) [
       | true ↦ λ pass.
           let more = passes_cut p rest in
-          record { front = c ∷ more.front; rest = more.rest; is = ap (λ (x : List ℕ). c ∷ x) more.is; len = omega (arith, more.len); form = (rw pass more.form.0, more.form.1) }
+          record {
+            front = c ∷ more.front;
+            rest = more.rest;
+            is = ap (λ (x : List ℕ). c ∷ x) more.is;
+            len = omega (arith, more.len);
+            form = (rw pass more.form.0, more.form.1);
+          }
       | false ↦ λ fail. record { front = []; rest = c ∷ rest; is = refl; len = refl; form = (refl, fail) }
     ] refl
 
@@ -160,7 +191,13 @@ white_row_law = record {
       let h = when_some (begins is_white text) (piece WhiteSpace (white_run text)) p found in
       let c = passes_cut is_white text in
       subst (λ (q : Piece). Cut (WhiteSpaceForm q.kind) text q.len) h.1
-      (record { front = c.front; rest = c.rest; is = c.is; len = c.len; form = record { named = refl; some = omega (arith, some_prefix is_white text h.0, c.len); run = c.form } });
+      (record {
+        front = c.front;
+        rest = c.rest;
+        is = c.is;
+        len = c.len;
+        form = record { named = refl; some = omega (arith, some_prefix is_white text h.0, c.len); run = c.form };
+      });
   only = λ kind front rest f.
       let there : begins is_white (front ++ rest) ≡ true = begins_all is_white front rest f.some f.run.0 in
       let exact : white_run (front ++ rest) ≡ length front = passes_exact is_white front rest f.run.0 f.run.1 in

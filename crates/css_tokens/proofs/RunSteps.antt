@@ -3,14 +3,17 @@ use Rattle.std.proofs.Common.{◌≡◌, ℕ, zero, suc, ◌+◌, ◌-◌, ◌<�
 use Rattle.std.proofs.lemmas.List.{drop-drop, length-drop, take_all}
 use Rattle.css_tokens.specs.Runs.{run, run_after}
 
-run_after_skip : (unit : List ℕ → ℕ) (skip : ℕ) (text : List ℕ) → skip ≤ length text → run_after unit skip text ≡ skip + run unit (drop skip text)
+run_after_skip : (unit : List ℕ → ℕ) (skip : ℕ) (text : List ℕ) → skip ≤ length text
+    → run_after unit skip text ≡ skip + run unit (drop skip text)
 unfolding run_after
 run_after_skip unit zero text fits = omega arith
 run_after_skip unit (suc skip) [] fits = absurd (omega arith)
-run_after_skip unit (suc skip) (c ∷ rest) fits = let more : run_after unit skip rest ≡ skip + run unit (drop skip rest) = run_after_skip unit skip rest (omega arith) in omega arith
+run_after_skip unit (suc skip) (c ∷ rest) fits = let more : run_after unit skip rest
+    ≡ skip + run unit (drop skip rest) = run_after_skip unit skip rest (omega arith) in omega arith
 
 -- a text that goes on with a unit
-pub run_more : (unit : List ℕ → ℕ) (text : List ℕ) (n : ℕ) → unit text ≡ n → 0 < n → n ≤ length text → run unit text ≡ n + run unit (drop n text)
+pub run_more : (unit : List ℕ → ℕ) (text : List ℕ) (n : ℕ) → unit text ≡ n → 0 < n → n ≤ length text
+    → run unit text ≡ n + run unit (drop n text)
 unfolding run_after
 run_more unit [] n is some fits = absurd (omega arith)
 run_more unit (c ∷ rest) zero is some fits = absurd (omega arith)
@@ -29,9 +32,11 @@ pub between_to_end : (text : List ℕ) (from end : ℕ) → end ≡ length text 
 between_to_end text from end is = take_all (end - from) (drop from text) (omega (arith, length-drop from text))
 
 -- a loop's step over a unit, and its end
-pub run_more_from : (unit : List ℕ → ℕ) (text : List ℕ) (at n all : ℕ) → unit (drop at text) ≡ n → 0 < n → at + n ≤ length text → at + run unit (drop at text) ≡ all → at + n + run unit (drop (at + n) text) ≡ all
+pub run_more_from : (unit : List ℕ → ℕ) (text : List ℕ) (at n all : ℕ) → unit (drop at text) ≡ n → 0 < n → at + n ≤ length text
+    → at + run unit (drop at text) ≡ all → at + n + run unit (drop (at + n) text) ≡ all
 run_more_from unit text at n all is some fits so_far =
-    let more : run unit (drop at text) ≡ n + run unit (drop n (drop at text)) = run_more unit (drop at text) n is some (omega (arith, length-drop at text)) in
+    let more : run unit (drop at text)
+    ≡ n + run unit (drop n (drop at text)) = run_more unit (drop at text) n is some (omega (arith, length-drop at text)) in
     let place : drop n (drop at text) ≡ drop (at + n) text = drop-drop n at text in
     let same : run unit (drop n (drop at text)) ≡ run unit (drop (at + n) text) = ap (run unit) place in
     omega arith

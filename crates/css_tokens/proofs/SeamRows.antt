@@ -1,16 +1,23 @@
 -- Before `{`, `}` or `;` no row looks further: what comes behind that character changes no piece that ends before it.
-use Rattle.std.proofs.Common.{◌≡◌, ◌⊎◌, inl, inr, ℕ, zero, suc, ◌+◌, ◌-◌, ◌<◌, ◌≤◌, ◌==◌, Bool, true, false, cond, ◌&&◌, ◌||◌, not, nat_lt, List, [], ◌∷◌, ◌++◌, length, drop, take, min, nat_eq, Option, Some, None, refl, ap, sym, ◌∙◌, subst, length-append, lit<, arith}
+use Rattle.std.proofs.Common.{◌≡◌, ◌⊎◌, inl, inr, ℕ, zero, suc, ◌+◌, ◌-◌, ◌<◌, ◌≤◌, ◌==◌, Bool, true, false, cond, ◌&&◌, ◌||◌, not, nat_lt}
+use Rattle.std.proofs.Common.{List, [], ◌∷◌, ◌++◌, length, drop, take, min, nat_eq, Option, Some, None, refl, ap, sym, ◌∙◌, subst}
+use Rattle.std.proofs.Common.{length-append, lit<, arith}
 use Rattle.std.specs.List.{prefix_len, starts_with}
 use Rattle.std.specs.Char.{is_ascii_digit}
 use Rattle.std.proofs.lemmas.List.{drop-append-le, take-append-le, length-drop}
 use Rattle.std.proofs.lemmas.Bool.Decides.{nat_tests}
 use Rattle.css_tokens.specs.declared.token.TokenKind.{TokenKind}
-use Rattle.css_tokens.specs.declared.token.TokenKind.TheVariants.{Comment, WhiteSpace, Str, BadString, Hash, Number, Percentage, Dimension, Cdc, Ident, Function, Url, BadUrl, Cdo, AtKeyword}
+use Rattle.css_tokens.specs.declared.token.TokenKind.TheVariants.{Comment, WhiteSpace, Str, BadString, Hash, Number, Percentage, Dimension}
+use Rattle.css_tokens.specs.declared.token.TokenKind.TheVariants.{Cdc, Ident, Function, Url, BadUrl, Cdo, AtKeyword}
 use Rattle.css_tokens.specs.declared.token.Piece.{Piece}
 use Rattle.css_tokens.specs.Codes.{begins, is_newline, is_white, is_quote, is_sign}
-use Rattle.css_tokens.specs.Runs.{run, comment_unit, string_unit, name_unit, url_unit, bad_url_unit, name_len, starts_ident, white_run, digits, fraction_len, decimal_len, sign_len, exponent_len, number_len}
-use Rattle.css_tokens.specs.Rows.{◌or◌, when, piece, up_to_and_with, open_string_len, open_url_len, is_url, opens_url, url_body_len, closes_url, first_piece, comment, white_space, string, bad_string, hash, numeric, cdc, url, bad_url, ident, cdo, at_keyword, mark, mark_kind}
-use Rattle.css_tokens.proofs.SeamUnits.{stop_facts, StopFacts, begins_same, prefix_same, prefix_within, starts_same, comment_local, name_local, string_local, url_local, bad_url_local, Near, run_near}
+use Rattle.css_tokens.specs.Runs.{run, comment_unit, string_unit, name_unit, url_unit, bad_url_unit, name_len, starts_ident, white_run}
+use Rattle.css_tokens.specs.Runs.{digits, fraction_len, decimal_len, sign_len, exponent_len, number_len}
+use Rattle.css_tokens.specs.Rows.{◌or◌, when, piece, up_to_and_with, open_string_len, open_url_len, is_url, opens_url, url_body_len}
+use Rattle.css_tokens.specs.Rows.{closes_url, first_piece, comment, white_space, string, bad_string, hash, numeric, cdc, url, bad_url}
+use Rattle.css_tokens.specs.Rows.{ident, cdo, at_keyword, mark, mark_kind}
+use Rattle.css_tokens.proofs.SeamUnits.{stop_facts, StopFacts, begins_same, prefix_same, prefix_within, starts_same, comment_local}
+use Rattle.css_tokens.proofs.SeamUnits.{name_local, string_local, url_local, bad_url_local, Near, run_near}
 use Rattle.css_tokens.specs.Seams.{is_stop}
 use Rattle.css_tokens.proofs.Ends.{run_stops}
 
@@ -42,7 +49,8 @@ near_add k n a b (inl same) = inl (ap (λ (x : ℕ). k + x) same)
 near_add k n a b (inr far) = inr (omega (arith, far.0), omega (arith, far.1))
 
 -- a piece that k codes close, which stand before n where the open piece does
-closed_near : (n k a b all others : ℕ) → n < all → n < others → Near n a b → (a ≤ n → a + k ≤ n) → Near n (min (a + k) all) (min (b + k) others)
+closed_near : (n k a b all others : ℕ) → n < all → n < others → Near n a b → (a ≤ n → a + k ≤ n)
+    → Near n (min (a + k) all) (min (b + k) others)
 closed_near n k a b all others more further (inl same) fits =
     elim (less n a) [
       | inl past ↦ inr (omega arith, omega (arith, same))
@@ -68,14 +76,16 @@ two_left c rest [] f none = absurd (star_first (c == 42) _ f.star none)
 two_left c rest (a ∷ []) f none = absurd (star_and (a == 42) (c == 47) f.slash none)
 two_left c rest (a ∷ b ∷ y) f none = omega arith
 
-comment_fits : (c : ℕ) (rest x : List ℕ) → StopFacts c → run comment_unit (x ++ c ∷ rest) ≤ length x → run comment_unit (x ++ c ∷ rest) + 2 ≤ length x
+comment_fits : (c : ℕ) (rest x : List ℕ) → StopFacts c → run comment_unit (x ++ c ∷ rest) ≤ length x
+    → run comment_unit (x ++ c ∷ rest) + 2 ≤ length x
 comment_fits c rest x f within =
     let r = run comment_unit (x ++ c ∷ rest) in
     let at : drop r (x ++ c ∷ rest) ≡ drop r x ++ c ∷ rest = drop-append-le r x (c ∷ rest) within in
     let two = two_left c rest (drop r x) f (sym (ap comment_unit at) ∙ run_stops comment_unit refl (x ++ c ∷ rest)) in
     omega (arith, two, length-drop r x)
 
-comment_alike : (c : ℕ) → StopFacts c → (rest other : List ℕ) (a : ℕ) (x : List ℕ) → Alike (length (a ∷ x)) (comment (a ∷ (x ++ c ∷ rest))) (comment (a ∷ (x ++ c ∷ other)))
+comment_alike : (c : ℕ) → StopFacts c → (rest other : List ℕ) (a : ℕ) (x : List ℕ)
+    → Alike (length (a ∷ x)) (comment (a ∷ (x ++ c ∷ rest))) (comment (a ∷ (x ++ c ∷ other)))
 unfolding comment
 comment_alike c f rest other a [] =
     let star : nat_eq 42 c ≡ false = flip c f.star in
@@ -89,21 +99,28 @@ comment_alike c f rest other a [] =
     by_first false p q = both_none
 comment_alike c f rest other a (b ∷ x) =
     let size : 2 + length x ≡ length (a ∷ b ∷ x) = omega arith in
-    let near : Near (length (a ∷ b ∷ x)) (2 + run comment_unit (x ++ c ∷ rest)) (2 + run comment_unit (x ++ c ∷ other)) = subst (λ (n : ℕ). Near n (2 + run comment_unit (x ++ c ∷ rest)) (2 + run comment_unit (x ++ c ∷ other))) size (near_add 2 (length x) _ _ (run_near comment_unit c (comment_local c f) rest other x)) in
+    let near : Near (length (a ∷ b ∷ x)) (2 + run comment_unit (x ++ c ∷ rest)) (2 + run comment_unit (x ++ c ∷ other)) = subst
+    (λ (n : ℕ). Near n (2 + run comment_unit (x ++ c ∷ rest)) (2 + run comment_unit (x ++ c ∷ other))) size
+    (near_add 2 (length x) _ _ (run_near comment_unit c (comment_local c f) rest other x)) in
     near_alike (length (a ∷ b ∷ x)) (nat_eq 47 a && (nat_eq 42 b && true)) Comment _ _
-    (closed_near (length (a ∷ b ∷ x)) 2 _ _ _ _ (longer (a ∷ b ∷ x) rest c) (longer (a ∷ b ∷ x) other c) near (λ within. let fits = comment_fits c rest x f (omega arith) in omega arith))
+    (closed_near (length (a ∷ b ∷ x)) 2 _ _ _ _ (longer (a ∷ b ∷ x) rest c) (longer (a ∷ b ∷ x) other c) near
+    (λ within. let fits = comment_fits c rest x f (omega arith) in omega arith))
 
 -- white space
-white_alike : (c : ℕ) → StopFacts c → (rest other : List ℕ) (a : ℕ) (x : List ℕ) → Alike (length (a ∷ x)) (white_space (a ∷ (x ++ c ∷ rest))) (white_space (a ∷ (x ++ c ∷ other)))
+white_alike : (c : ℕ) → StopFacts c → (rest other : List ℕ) (a : ℕ) (x : List ℕ)
+    → Alike (length (a ∷ x)) (white_space (a ∷ (x ++ c ∷ rest))) (white_space (a ∷ (x ++ c ∷ other)))
 unfolding white_space
-white_alike c f rest other a x = same_alike _ _ _ (ap (λ (n : ℕ). when (is_white a) (piece WhiteSpace n)) (prefix_same is_white c rest other (a ∷ x) f.white))
+white_alike c f rest other a x = same_alike _ _ _
+    (ap (λ (n : ℕ). when (is_white a) (piece WhiteSpace n)) (prefix_same is_white c rest other (a ∷ x) f.white))
 
 -- strings and bad strings, together
-string_fits : (quote c : ℕ) (rest x : List ℕ) → StopFacts c → is_quote quote ≡ true → run (string_unit quote) (x ++ c ∷ rest) ≤ length x → run (string_unit quote) (x ++ c ∷ rest) + 1 ≤ length x
+string_fits : (quote c : ℕ) (rest x : List ℕ) → StopFacts c → is_quote quote ≡ true → run (string_unit quote) (x ++ c ∷ rest) ≤ length x
+    → run (string_unit quote) (x ++ c ∷ rest) + 1 ≤ length x
 string_fits quote c rest x f is_a within =
     let r = run (string_unit quote) (x ++ c ∷ rest) in
     let at : drop r (x ++ c ∷ rest) ≡ drop r x ++ c ∷ rest = drop-append-le r x (c ∷ rest) within in
-    let one = one_left quote c rest (drop r x) f is_a (sym (ap (string_unit quote) at) ∙ run_stops (string_unit quote) refl (x ++ c ∷ rest)) in
+    let one = one_left quote c rest (drop r x) f is_a
+    (sym (ap (string_unit quote) at) ∙ run_stops (string_unit quote) refl (x ++ c ∷ rest)) in
     omega (arith, one, length-drop r x)
   where
     other_quote : (quote c : ℕ) → is_quote quote ≡ true → is_quote c ≡ false → (c == quote) ≡ false
@@ -116,14 +133,16 @@ string_fits quote c rest x f is_a within =
     goes_on false false false n e g h z = omega arith
 
     one_left : (quote c : ℕ) (rest y : List ℕ) → StopFacts c → is_quote quote ≡ true → string_unit quote (y ++ c ∷ rest) ≡ 0 → 1 ≤ length y
-    one_left quote c rest [] f is_a none = absurd (goes_on (c == quote) (is_newline c) (c == 92) _ (other_quote quote c is_a f.quote) f.newline f.back none)
+    one_left quote c rest [] f is_a none = absurd
+        (goes_on (c == quote) (is_newline c) (c == 92) _ (other_quote quote c is_a f.quote) f.newline f.back none)
     one_left quote c rest (a ∷ y) f is_a none = omega arith
 
 -- what the two rows give, by their tests
 strings : Bool → Bool → ℕ → ℕ → Option Piece
 strings quote line m all = when (quote && not line) (piece Str (min (m + 1) all)) or when (quote && line) (piece BadString m)
 
-strings_long : (n m m' all all' : ℕ) (quote line line' : Bool) → n < m → n < m' → n < all → n < all' → Alike n (strings quote line m all) (strings quote line' m' all')
+strings_long : (n m m' all all' : ℕ) (quote line line' : Bool) → n < m → n < m' → n < all → n < all'
+    → Alike n (strings quote line m all) (strings quote line' m' all')
 unfolding strings
 strings_long n m m' all all' false line line' a b d e = both_none
 strings_long n m m' all all' true true true a b d e = both_long _ _ a b
@@ -131,13 +150,17 @@ strings_long n m m' all all' true true false a b d e = both_long _ _ a (omega ar
 strings_long n m m' all all' true false true a b d e = both_long _ _ (omega arith) b
 strings_long n m m' all all' true false false a b d e = both_long _ _ (omega arith) (omega arith)
 
-strings_short : (n m all all' : ℕ) (quote line : Bool) → n < all → n < all' → (quote ≡ true → m + 1 ≤ n) → Alike n (strings quote line m all) (strings quote line m all')
+strings_short : (n m all all' : ℕ) (quote line : Bool) → n < all → n < all' → (quote ≡ true → m + 1 ≤ n)
+    → Alike n (strings quote line m all) (strings quote line m all')
 unfolding strings
 strings_short n m all all' false line d e fits = both_none
 strings_short n m all all' true true d e fits = both_same (piece BadString m)
-strings_short n m all all' true false d e fits = let here = fits refl in same_alike n _ _ (ap (λ (k : ℕ). Some (piece Str k)) (omega (arith, here)))
+strings_short n m all all' true false d e fits = let here = fits refl in same_alike n _ _
+    (ap (λ (k : ℕ). Some (piece Str k)) (omega (arith, here)))
 
-strings_alike : (c : ℕ) → StopFacts c → (rest other : List ℕ) (a : ℕ) (x : List ℕ) → Alike (length (a ∷ x)) (string (a ∷ (x ++ c ∷ rest)) or bad_string (a ∷ (x ++ c ∷ rest))) (string (a ∷ (x ++ c ∷ other)) or bad_string (a ∷ (x ++ c ∷ other)))
+strings_alike : (c : ℕ) → StopFacts c → (rest other : List ℕ) (a : ℕ) (x : List ℕ)
+    → Alike (length (a ∷ x)) (string (a ∷ (x ++ c ∷ rest)) or bad_string (a ∷ (x ++ c ∷ rest)))
+    (string (a ∷ (x ++ c ∷ other)) or bad_string (a ∷ (x ++ c ∷ other)))
 unfolding string bad_string strings
 strings_alike c f rest other a x =
     let r = run (string_unit a) (x ++ c ∷ rest) in
@@ -149,20 +172,30 @@ strings_alike c f rest other a x =
     let l1 : Bool = begins is_newline (drop (1 + r) (a ∷ (x ++ c ∷ rest))) in
     let l2 : Bool = begins is_newline (drop (1 + s) (a ∷ (x ++ c ∷ other))) in
     elim near [
-      | inr far ↦ strings_long n (1 + r) (1 + s) (length (a ∷ (x ++ c ∷ rest))) (length (a ∷ (x ++ c ∷ other))) (is_quote a) l1 l2 (omega (arith, far.0)) (omega (arith, far.1)) more further
+      | inr far ↦ strings_long n (1 + r) (1 + s) (length (a ∷ (x ++ c ∷ rest))) (length (a ∷ (x ++ c ∷ other))) (is_quote a) l1 l2
+          (omega (arith, far.0)) (omega (arith, far.1)) more further
       | inl same ↦ elim (less (length x) r) [
-        | inl past ↦ strings_long n (1 + r) (1 + s) (length (a ∷ (x ++ c ∷ rest))) (length (a ∷ (x ++ c ∷ other))) (is_quote a) l1 l2 (omega arith) (omega (arith, same)) more further
+        | inl past ↦ strings_long n (1 + r) (1 + s) (length (a ∷ (x ++ c ∷ rest))) (length (a ∷ (x ++ c ∷ other))) (is_quote a) l1 l2
+            (omega arith) (omega (arith, same)) more further
         | inr within ↦
             let one : 1 + r ≡ suc r = omega arith in
             let two : 1 + s ≡ suc r = omega (arith, same) in
             let line : begins is_newline (drop (1 + r) (a ∷ (x ++ c ∷ rest))) ≡ begins is_newline (drop (1 + s) (a ∷ (x ++ c ∷ other))) =
-            ap (λ (k : ℕ). begins is_newline (drop k (a ∷ (x ++ c ∷ rest)))) one ∙ ap (begins is_newline) (drop-append-le r x (c ∷ rest) within)
+            ap (λ (k : ℕ). begins is_newline (drop k (a ∷ (x ++ c ∷ rest)))) one ∙ ap (begins is_newline)
+            (drop-append-le r x (c ∷ rest) within)
             ∙ begins_same is_newline c rest other (drop r x)
-            ∙ sym (ap (λ (k : ℕ). begins is_newline (drop k (a ∷ (x ++ c ∷ other)))) two ∙ ap (begins is_newline) (drop-append-le r x (c ∷ other) within)) in
+            ∙ sym (ap (λ (k : ℕ). begins is_newline (drop k (a ∷ (x ++ c ∷ other)))) two ∙ ap (begins is_newline)
+            (drop-append-le r x (c ∷ other) within)) in
             let length_same : 1 + r ≡ 1 + s = omega (arith, same) in
-            let here = strings_short n (1 + r) (length (a ∷ (x ++ c ∷ rest))) (length (a ∷ (x ++ c ∷ other))) (is_quote a) (begins is_newline (drop (1 + r) (a ∷ (x ++ c ∷ rest)))) more further (λ is_a. let fits = string_fits a c rest x f is_a within in omega arith) in
-            subst (λ (k : ℕ). Alike n (strings (is_quote a) (begins is_newline (drop (1 + r) (a ∷ (x ++ c ∷ rest)))) (1 + r) (length (a ∷ (x ++ c ∷ rest)))) (strings (is_quote a) (begins is_newline (drop (1 + s) (a ∷ (x ++ c ∷ other)))) k (length (a ∷ (x ++ c ∷ other))))) length_same
-            (subst (λ (b : Bool). Alike n (strings (is_quote a) (begins is_newline (drop (1 + r) (a ∷ (x ++ c ∷ rest)))) (1 + r) (length (a ∷ (x ++ c ∷ rest)))) (strings (is_quote a) b (1 + r) (length (a ∷ (x ++ c ∷ other))))) line here)
+            let here = strings_short n (1 + r) (length (a ∷ (x ++ c ∷ rest))) (length (a ∷ (x ++ c ∷ other))) (is_quote a)
+            (begins is_newline (drop (1 + r) (a ∷ (x ++ c ∷ rest)))) more further
+            (λ is_a. let fits = string_fits a c rest x f is_a within in omega arith) in
+            subst (λ (k : ℕ). Alike n (strings (is_quote a) (begins is_newline (drop (1 + r) (a ∷ (x ++ c ∷ rest)))) (1 + r)
+            (length (a ∷ (x ++ c ∷ rest))))
+            (strings (is_quote a) (begins is_newline (drop (1 + s) (a ∷ (x ++ c ∷ other)))) k
+            (length (a ∷ (x ++ c ∷ other))))) length_same
+            (subst (λ (b : Bool). Alike n (strings (is_quote a) (begins is_newline (drop (1 + r) (a ∷ (x ++ c ∷ rest)))) (1 + r)
+            (length (a ∷ (x ++ c ∷ rest)))) (strings (is_quote a) b (1 + r) (length (a ∷ (x ++ c ∷ other))))) line here)
       ]
     ]
 
@@ -172,7 +205,8 @@ name_near c f rest other x = run_near name_unit c (name_local c f) rest other x
 
 near_some : (n a b : ℕ) → Near n a b → nat_lt 0 a ≡ nat_lt 0 b
 near_some n a b (inl same) = ap (nat_lt 0) same
-near_some n a b (inr far) = let one : nat_lt 0 a ≡ true = positive a (omega (arith, far.0)) in let two : nat_lt 0 b ≡ true = positive b (omega (arith, far.1)) in one ∙ sym two
+near_some n a b (inr far) = let one : nat_lt 0 a ≡ true = positive a (omega (arith, far.0)) in let two : nat_lt 0 b
+    ≡ true = positive b (omega (arith, far.1)) in one ∙ sym two
   where
     positive : (k : ℕ) → 0 < k → nat_lt 0 k ≡ true
     positive k e = grind (arith, nat_tests)
@@ -180,22 +214,33 @@ near_some n a b (inr far) = let one : nat_lt 0 a ≡ true = positive a (omega (a
 near_one : (n a b : ℕ) → Near n a b → Near (suc n) (1 + a) (1 + b)
 near_one n a b near = let size : 1 + n ≡ suc n = omega arith in subst (λ (k : ℕ). Near k (1 + a) (1 + b)) size (near_add 1 n a b near)
 
-hash_alike : (c : ℕ) → StopFacts c → (rest other : List ℕ) (a : ℕ) (x : List ℕ) → Alike (length (a ∷ x)) (hash (a ∷ (x ++ c ∷ rest))) (hash (a ∷ (x ++ c ∷ other)))
+hash_alike : (c : ℕ) → StopFacts c → (rest other : List ℕ) (a : ℕ) (x : List ℕ)
+    → Alike (length (a ∷ x)) (hash (a ∷ (x ++ c ∷ rest))) (hash (a ∷ (x ++ c ∷ other)))
 unfolding hash
 hash_alike c f rest other a x =
     let near = name_near c f rest other x in
     let some : nat_lt 0 (name_len (x ++ c ∷ rest)) ≡ nat_lt 0 (name_len (x ++ c ∷ other)) = near_some (length x) _ _ near in
     let flag : starts_ident (x ++ c ∷ rest) ≡ starts_ident (x ++ c ∷ other) = starts_same c rest other x f in
-    subst (λ (b : Bool). Alike (length (a ∷ x)) (when (a == 35 && nat_lt 0 (name_len (x ++ c ∷ rest))) (piece (Hash (starts_ident (x ++ c ∷ rest))) (1 + name_len (x ++ c ∷ rest)))) (when (a == 35 && b) (piece (Hash (starts_ident (x ++ c ∷ other))) (1 + name_len (x ++ c ∷ other))))) some
-    (subst (λ (b : Bool). Alike (length (a ∷ x)) (when (a == 35 && nat_lt 0 (name_len (x ++ c ∷ rest))) (piece (Hash (starts_ident (x ++ c ∷ rest))) (1 + name_len (x ++ c ∷ rest)))) (when (a == 35 && nat_lt 0 (name_len (x ++ c ∷ rest))) (piece (Hash b) (1 + name_len (x ++ c ∷ other))))) flag
-    (near_alike (length (a ∷ x)) (a == 35 && nat_lt 0 (name_len (x ++ c ∷ rest))) (Hash (starts_ident (x ++ c ∷ rest))) _ _ (near_one (length x) _ _ near)))
+    subst (λ (b : Bool). Alike (length (a ∷ x))
+    (when (a == 35 && nat_lt 0 (name_len (x ++ c ∷ rest)))
+    (piece (Hash (starts_ident (x ++ c ∷ rest))) (1 + name_len (x ++ c ∷ rest))))
+    (when (a == 35 && b) (piece (Hash (starts_ident (x ++ c ∷ other))) (1 + name_len (x ++ c ∷ other))))) some
+    (subst (λ (b : Bool). Alike (length (a ∷ x))
+    (when (a == 35 && nat_lt 0 (name_len (x ++ c ∷ rest)))
+    (piece (Hash (starts_ident (x ++ c ∷ rest))) (1 + name_len (x ++ c ∷ rest))))
+    (when (a == 35 && nat_lt 0 (name_len (x ++ c ∷ rest))) (piece (Hash b) (1 + name_len (x ++ c ∷ other))))) flag
+    (near_alike (length (a ∷ x)) (a == 35 && nat_lt 0 (name_len (x ++ c ∷ rest))) (Hash (starts_ident (x ++ c ∷ rest))) _ _
+    (near_one (length x) _ _ near)))
 
-at_alike : (c : ℕ) → StopFacts c → (rest other : List ℕ) (a : ℕ) (x : List ℕ) → Alike (length (a ∷ x)) (at_keyword (a ∷ (x ++ c ∷ rest))) (at_keyword (a ∷ (x ++ c ∷ other)))
+at_alike : (c : ℕ) → StopFacts c → (rest other : List ℕ) (a : ℕ) (x : List ℕ)
+    → Alike (length (a ∷ x)) (at_keyword (a ∷ (x ++ c ∷ rest))) (at_keyword (a ∷ (x ++ c ∷ other)))
 unfolding at_keyword
 at_alike c f rest other a x =
     let near = name_near c f rest other x in
     let starts : starts_ident (x ++ c ∷ rest) ≡ starts_ident (x ++ c ∷ other) = starts_same c rest other x f in
-    subst (λ (b : Bool). Alike (length (a ∷ x)) (when (a == 64 && starts_ident (x ++ c ∷ rest)) (piece AtKeyword (1 + name_len (x ++ c ∷ rest)))) (when (a == 64 && b) (piece AtKeyword (1 + name_len (x ++ c ∷ other))))) starts
+    subst (λ (b : Bool). Alike (length (a ∷ x))
+    (when (a == 64 && starts_ident (x ++ c ∷ rest)) (piece AtKeyword (1 + name_len (x ++ c ∷ rest))))
+    (when (a == 64 && b) (piece AtKeyword (1 + name_len (x ++ c ∷ other))))) starts
     (near_alike (length (a ∷ x)) (a == 64 && starts_ident (x ++ c ∷ rest)) AtKeyword _ _ (near_one (length x) _ _ near))
 
 -- numbers
@@ -204,7 +249,10 @@ record NumberSame (c : ℕ) (rest other x : List ℕ) (len : List ℕ → ℕ) :
   within : len (x ++ c ∷ rest) ≤ length x
 
 digits_both : (c : ℕ) → StopFacts c → (rest other x : List ℕ) → NumberSame c rest other x digits
-digits_both c f rest other x = record { same = prefix_same is_ascii_digit c rest other x f.digit; within = prefix_within is_ascii_digit c rest x f.digit }
+digits_both c f rest other x = record {
+  same = prefix_same is_ascii_digit c rest other x f.digit;
+  within = prefix_within is_ascii_digit c rest x f.digit;
+}
 
 fraction_both : (c : ℕ) → StopFacts c → (rest other x : List ℕ) → NumberSame c rest other x fraction_len
 fraction_both c f rest other [] = let dot = f.dot in record { same = rw dot refl; within = rw dot (omega arith) }
@@ -213,7 +261,8 @@ fraction_both c f rest other (a ∷ x) =
     record {
       same = ap (λ (b : Bool). cond (a == 46 && b) (1 + digits (x ++ c ∷ rest)) 0) (begins_same is_ascii_digit c rest other x)
           ∙ ap (λ (n : ℕ). cond (a == 46 && begins is_ascii_digit (x ++ c ∷ other)) (1 + n) 0) d.same;
-      within = at_most (a == 46 && begins is_ascii_digit (x ++ c ∷ rest)) (1 + digits (x ++ c ∷ rest)) (length (a ∷ x)) (omega (arith, d.within));
+      within = at_most (a == 46 && begins is_ascii_digit (x ++ c ∷ rest)) (1 + digits (x ++ c ∷ rest)) (length (a ∷ x))
+          (omega (arith, d.within));
     }
   where
     at_most : (b : Bool) (n m : ℕ) → n ≤ m → cond b n 0 ≤ m
@@ -225,10 +274,12 @@ decimal_both c f rest other x =
     let d = digits_both c f rest other x in
     let n = digits (x ++ c ∷ rest) in
     let one : drop n (x ++ c ∷ rest) ≡ drop n x ++ c ∷ rest = drop-append-le n x (c ∷ rest) d.within in
-    let two : drop (digits (x ++ c ∷ other)) (x ++ c ∷ other) ≡ drop n x ++ c ∷ other = ap (λ (k : ℕ). drop k (x ++ c ∷ other)) (sym d.same) ∙ drop-append-le n x (c ∷ other) d.within in
+    let two : drop (digits (x ++ c ∷ other)) (x ++ c ∷ other)
+    ≡ drop n x ++ c ∷ other = ap (λ (k : ℕ). drop k (x ++ c ∷ other)) (sym d.same) ∙ drop-append-le n x (c ∷ other) d.within in
     let more = fraction_both c f rest other (drop n x) in
     let first : fraction_len (drop n (x ++ c ∷ rest)) ≡ fraction_len (drop n x ++ c ∷ rest) = ap fraction_len one in
-    let second : fraction_len (drop (digits (x ++ c ∷ other)) (x ++ c ∷ other)) ≡ fraction_len (drop n x ++ c ∷ other) = ap fraction_len two in
+    let second : fraction_len (drop (digits (x ++ c ∷ other)) (x ++ c ∷ other))
+    ≡ fraction_len (drop n x ++ c ∷ other) = ap fraction_len two in
     record { same = omega (arith, d.same, first, second, more.same); within = omega (arith, d.within, first, more.within, length-drop n x) }
 
 sign_both : (c : ℕ) → StopFacts c → (rest other x : List ℕ) → NumberSame c rest other x sign_len
@@ -247,16 +298,21 @@ exponent_both c f rest other [] = let mark = f.mark in record { same = rw mark r
 exponent_both c f rest other (a ∷ x) =
     let s = sign_both c f rest other x in
     let n = sign_len (x ++ c ∷ rest) in
-    let one : drop (1 + n) (a ∷ (x ++ c ∷ rest)) ≡ drop n x ++ c ∷ rest = ap (λ (k : ℕ). drop k (a ∷ (x ++ c ∷ rest))) (suc_is n) ∙ drop-append-le n x (c ∷ rest) s.within in
+    let one : drop (1 + n) (a ∷ (x ++ c ∷ rest))
+    ≡ drop n x ++ c ∷ rest = ap (λ (k : ℕ). drop k (a ∷ (x ++ c ∷ rest))) (suc_is n) ∙ drop-append-le n x (c ∷ rest) s.within in
     let two : drop (1 + sign_len (x ++ c ∷ other)) (a ∷ (x ++ c ∷ other)) ≡ drop n x ++ c ∷ other =
-    ap (λ (k : ℕ). drop (1 + k) (a ∷ (x ++ c ∷ other))) (sym s.same) ∙ ap (λ (k : ℕ). drop k (a ∷ (x ++ c ∷ other))) (suc_is n) ∙ drop-append-le n x (c ∷ other) s.within in
+    ap (λ (k : ℕ). drop (1 + k) (a ∷ (x ++ c ∷ other))) (sym s.same) ∙ ap (λ (k : ℕ). drop k (a ∷ (x ++ c ∷ other)))
+    (suc_is n) ∙ drop-append-le n x (c ∷ other) s.within in
     let d = digits_both c f rest other (drop n x) in
     let first : digits (drop (1 + n) (a ∷ (x ++ c ∷ rest))) ≡ digits (drop n x ++ c ∷ rest) = ap digits one in
     let second : digits (drop (1 + sign_len (x ++ c ∷ other)) (a ∷ (x ++ c ∷ other))) ≡ digits (drop n x ++ c ∷ other) = ap digits two in
     record {
       same = exponents (a == 69 || a == 101) _ _ (1 + n) (1 + sign_len (x ++ c ∷ other)) _ _
-          (ap (begins is_ascii_digit) one ∙ begins_same is_ascii_digit c rest other (drop n x) ∙ sym (ap (begins is_ascii_digit) two)) (omega (arith, s.same)) (first ∙ d.same ∙ sym second);
-      within = at_most ((a == 69 || a == 101) && begins is_ascii_digit (drop (1 + n) (a ∷ (x ++ c ∷ rest)))) (1 + n + digits (drop (1 + n) (a ∷ (x ++ c ∷ rest)))) (length (a ∷ x)) (omega (arith, first, d.within, length-drop n x, s.within));
+          (ap (begins is_ascii_digit) one ∙ begins_same is_ascii_digit c rest other (drop n x) ∙ sym (ap (begins is_ascii_digit) two))
+          (omega (arith, s.same)) (first ∙ d.same ∙ sym second);
+      within = at_most ((a == 69 || a == 101) && begins is_ascii_digit (drop (1 + n) (a ∷ (x ++ c ∷ rest))))
+          (1 + n + digits (drop (1 + n) (a ∷ (x ++ c ∷ rest)))) (length (a ∷ x))
+          (omega (arith, first, d.within, length-drop n x, s.within));
     }
   where
     suc_is : (n : ℕ) → 1 + n ≡ suc n
@@ -272,21 +328,31 @@ number_both c f rest other x =
     let s = sign_both c f rest other x in
     let n = sign_len (x ++ c ∷ rest) in
     let one : drop n (x ++ c ∷ rest) ≡ drop n x ++ c ∷ rest = drop-append-le n x (c ∷ rest) s.within in
-    let two : drop (sign_len (x ++ c ∷ other)) (x ++ c ∷ other) ≡ drop n x ++ c ∷ other = ap (λ (k : ℕ). drop k (x ++ c ∷ other)) (sym s.same) ∙ drop-append-le n x (c ∷ other) s.within in
+    let two : drop (sign_len (x ++ c ∷ other)) (x ++ c ∷ other)
+    ≡ drop n x ++ c ∷ other = ap (λ (k : ℕ). drop k (x ++ c ∷ other)) (sym s.same) ∙ drop-append-le n x (c ∷ other) s.within in
     let d = decimal_both c f rest other (drop n x) in
     let first : decimal_len (drop n (x ++ c ∷ rest)) ≡ decimal_len (drop n x ++ c ∷ rest) = ap decimal_len one in
-    let second : decimal_len (drop (sign_len (x ++ c ∷ other)) (x ++ c ∷ other)) ≡ decimal_len (drop n x ++ c ∷ rest) = ap decimal_len two ∙ sym d.same in
+    let second : decimal_len (drop (sign_len (x ++ c ∷ other)) (x ++ c ∷ other))
+    ≡ decimal_len (drop n x ++ c ∷ rest) = ap decimal_len two ∙ sym d.same in
     let m = n + decimal_len (drop n (x ++ c ∷ rest)) in
     let fits : m ≤ length x = omega (arith, first, d.within, length-drop n x, s.within) in
-    let m_same : m ≡ sign_len (x ++ c ∷ other) + decimal_len (drop (sign_len (x ++ c ∷ other)) (x ++ c ∷ other)) = omega (arith, s.same, first, second) in
+    let m_same : m ≡ sign_len (x ++ c ∷ other)
+    + decimal_len (drop (sign_len (x ++ c ∷ other)) (x ++ c ∷ other)) = omega (arith, s.same, first, second) in
     let three : drop m (x ++ c ∷ rest) ≡ drop m x ++ c ∷ rest = drop-append-le m x (c ∷ rest) fits in
-    let four : drop (sign_len (x ++ c ∷ other) + decimal_len (drop (sign_len (x ++ c ∷ other)) (x ++ c ∷ other))) (x ++ c ∷ other) ≡ drop m x ++ c ∷ other = ap (λ (k : ℕ). drop k (x ++ c ∷ other)) (sym m_same) ∙ drop-append-le m x (c ∷ other) fits in
+    let four : drop (sign_len (x ++ c ∷ other) + decimal_len (drop (sign_len (x ++ c ∷ other)) (x ++ c ∷ other))) (x ++ c ∷ other)
+    ≡ drop m x ++ c ∷ other = ap (λ (k : ℕ). drop k (x ++ c ∷ other)) (sym m_same) ∙ drop-append-le m x (c ∷ other) fits in
     let e = exponent_both c f rest other (drop m x) in
     let third : exponent_len (drop m (x ++ c ∷ rest)) ≡ exponent_len (drop m x ++ c ∷ rest) = ap exponent_len three in
-    let fourth : exponent_len (drop (sign_len (x ++ c ∷ other) + decimal_len (drop (sign_len (x ++ c ∷ other)) (x ++ c ∷ other))) (x ++ c ∷ other)) ≡ exponent_len (drop m x ++ c ∷ rest) = ap exponent_len four ∙ sym e.same in
+    let fourth : exponent_len (drop (sign_len (x ++ c ∷ other) + decimal_len (drop (sign_len (x ++ c ∷ other)) (x ++ c ∷ other)))
+    (x ++ c ∷ other)) ≡ exponent_len (drop m x ++ c ∷ rest) = ap exponent_len four ∙ sym e.same in
     record {
-      same = by_zero (decimal_len (drop n (x ++ c ∷ rest))) (decimal_len (drop (sign_len (x ++ c ∷ other)) (x ++ c ∷ other))) (m + exponent_len (drop m (x ++ c ∷ rest))) (sign_len (x ++ c ∷ other) + decimal_len (drop (sign_len (x ++ c ∷ other)) (x ++ c ∷ other)) + exponent_len (drop (sign_len (x ++ c ∷ other) + decimal_len (drop (sign_len (x ++ c ∷ other)) (x ++ c ∷ other))) (x ++ c ∷ other))) (first ∙ sym second) (omega (arith, m_same, third, fourth));
-      within = at_most (decimal_len (drop n (x ++ c ∷ rest)) == 0) (m + exponent_len (drop m (x ++ c ∷ rest))) (length x) (omega (arith, fits, third, e.within, length-drop m x));
+      same = by_zero (decimal_len (drop n (x ++ c ∷ rest))) (decimal_len (drop (sign_len (x ++ c ∷ other)) (x ++ c ∷ other)))
+          (m + exponent_len (drop m (x ++ c ∷ rest)))
+          (sign_len (x ++ c ∷ other) + decimal_len (drop (sign_len (x ++ c ∷ other)) (x ++ c ∷ other))
+          + exponent_len (drop (sign_len (x ++ c ∷ other) + decimal_len (drop (sign_len (x ++ c ∷ other)) (x ++ c ∷ other)))
+          (x ++ c ∷ other))) (first ∙ sym second) (omega (arith, m_same, third, fourth));
+      within = at_most (decimal_len (drop n (x ++ c ∷ rest)) == 0) (m + exponent_len (drop m (x ++ c ∷ rest))) (length x)
+          (omega (arith, fits, third, e.within, length-drop m x));
     }
   where
     by_zero : (d d' k k' : ℕ) → d ≡ d' → k ≡ k' → ◌≡◌ {A = ℕ} (cond (d == 0) 0 k) (cond (d' == 0) 0 k')
@@ -298,39 +364,55 @@ number_both c f rest other x =
 
 -- a number's piece, by what follows it
 numbers : ℕ → Bool → Bool → ℕ → Option Piece
-numbers n percent starts m = when (nat_lt 0 n) (cond percent (piece Percentage (n + 1)) (cond starts (piece Dimension (n + m)) (piece Number n)))
+numbers n percent starts m = when (nat_lt 0 n)
+    (cond percent (piece Percentage (n + 1)) (cond starts (piece Dimension (n + m)) (piece Number n)))
 
-numbers_alike : (size n m m' : ℕ) (percent starts : Bool) → Near size (n + m) (n + m') → Alike size (numbers n percent starts m) (numbers n percent starts m')
+numbers_alike : (size n m m' : ℕ) (percent starts : Bool) → Near size (n + m) (n + m')
+    → Alike size (numbers n percent starts m) (numbers n percent starts m')
 unfolding numbers
 numbers_alike size n m m' true starts near = same_alike size _ _ refl
 numbers_alike size n m m' false true near = near_alike size (nat_lt 0 n) Dimension _ _ near
 numbers_alike size n m m' false false near = same_alike size _ _ refl
 
-numeric_alike : (c : ℕ) → StopFacts c → (rest other : List ℕ) (x : List ℕ) → Alike (length x) (numeric (x ++ c ∷ rest)) (numeric (x ++ c ∷ other))
+numeric_alike : (c : ℕ) → StopFacts c → (rest other : List ℕ) (x : List ℕ)
+    → Alike (length x) (numeric (x ++ c ∷ rest)) (numeric (x ++ c ∷ other))
 unfolding numeric numbers
 numeric_alike c f rest other x =
     let b = number_both c f rest other x in
     let n = number_len (x ++ c ∷ rest) in
     let k = number_len (x ++ c ∷ other) in
     let one : drop n (x ++ c ∷ rest) ≡ drop n x ++ c ∷ rest = drop-append-le n x (c ∷ rest) b.within in
-    let two : drop k (x ++ c ∷ other) ≡ drop n x ++ c ∷ other = ap (λ (j : ℕ). drop j (x ++ c ∷ other)) (sym b.same) ∙ drop-append-le n x (c ∷ other) b.within in
+    let two : drop k (x ++ c ∷ other)
+    ≡ drop n x ++ c ∷ other = ap (λ (j : ℕ). drop j (x ++ c ∷ other)) (sym b.same) ∙ drop-append-le n x (c ∷ other) b.within in
     let size : n + length (drop n x) ≡ length x = omega (arith, length-drop n x, b.within) in
-    let near = subst (λ (j : ℕ). Near j (n + name_len (drop n x ++ c ∷ rest)) (n + name_len (drop n x ++ c ∷ other))) size (near_add n (length (drop n x)) _ _ (name_near c f rest other (drop n x))) in
-    let here = numbers_alike (length x) n (name_len (drop n x ++ c ∷ rest)) (name_len (drop n x ++ c ∷ other)) (begins (λ c. c == 37) (drop n x ++ c ∷ rest)) (starts_ident (drop n x ++ c ∷ rest)) near in
-    let left : numeric (x ++ c ∷ rest) ≡ numbers n (begins (λ c. c == 37) (drop n x ++ c ∷ rest)) (starts_ident (drop n x ++ c ∷ rest)) (name_len (drop n x ++ c ∷ rest)) =
+    let near = subst (λ (j : ℕ). Near j (n + name_len (drop n x ++ c ∷ rest)) (n + name_len (drop n x ++ c ∷ other))) size
+    (near_add n (length (drop n x)) _ _ (name_near c f rest other (drop n x))) in
+    let here = numbers_alike (length x) n (name_len (drop n x ++ c ∷ rest)) (name_len (drop n x ++ c ∷ other))
+    (begins (λ c. c == 37) (drop n x ++ c ∷ rest)) (starts_ident (drop n x ++ c ∷ rest)) near in
+    let left : numeric (x ++ c ∷ rest)
+    ≡ numbers n (begins (λ c. c == 37) (drop n x ++ c ∷ rest)) (starts_ident (drop n x ++ c ∷ rest)) (name_len (drop n x ++ c ∷ rest)) =
     ap (λ (t : List ℕ). numbers n (begins (λ c. c == 37) t) (starts_ident t) (name_len t)) one in
-    let right : numeric (x ++ c ∷ other) ≡ numbers n (begins (λ c. c == 37) (drop n x ++ c ∷ rest)) (starts_ident (drop n x ++ c ∷ rest)) (name_len (drop n x ++ c ∷ other)) =
+    let right : numeric (x ++ c ∷ other)
+    ≡ numbers n (begins (λ c. c == 37) (drop n x ++ c ∷ rest)) (starts_ident (drop n x ++ c ∷ rest))
+    (name_len (drop n x ++ c ∷ other)) =
     ap (λ (t : List ℕ). numbers k (begins (λ c. c == 37) t) (starts_ident t) (name_len t)) two
-    ∙ ap (λ (j : ℕ). numbers j (begins (λ c. c == 37) (drop n x ++ c ∷ other)) (starts_ident (drop n x ++ c ∷ other)) (name_len (drop n x ++ c ∷ other))) (sym b.same)
-    ∙ ap (λ (t : Bool). numbers n t (starts_ident (drop n x ++ c ∷ other)) (name_len (drop n x ++ c ∷ other))) (sym (begins_same (λ c. c == 37) c rest other (drop n x)))
-    ∙ ap (λ (t : Bool). numbers n (begins (λ c. c == 37) (drop n x ++ c ∷ rest)) t (name_len (drop n x ++ c ∷ other))) (sym (starts_same c rest other (drop n x) f)) in
-    subst (λ (o : Option Piece). Alike (length x) o (numeric (x ++ c ∷ other))) (sym left) (subst (λ (o : Option Piece). Alike (length x) (numbers n (begins (λ c. c == 37) (drop n x ++ c ∷ rest)) (starts_ident (drop n x ++ c ∷ rest)) (name_len (drop n x ++ c ∷ rest))) o) (sym right) here)
+    ∙ ap (λ (j : ℕ). numbers j (begins (λ c. c == 37) (drop n x ++ c ∷ other)) (starts_ident (drop n x ++ c ∷ other))
+    (name_len (drop n x ++ c ∷ other))) (sym b.same)
+    ∙ ap (λ (t : Bool). numbers n t (starts_ident (drop n x ++ c ∷ other)) (name_len (drop n x ++ c ∷ other)))
+    (sym (begins_same (λ c. c == 37) c rest other (drop n x)))
+    ∙ ap (λ (t : Bool). numbers n (begins (λ c. c == 37) (drop n x ++ c ∷ rest)) t (name_len (drop n x ++ c ∷ other)))
+    (sym (starts_same c rest other (drop n x) f)) in
+    subst (λ (o : Option Piece). Alike (length x) o (numeric (x ++ c ∷ other))) (sym left)
+    (subst (λ (o : Option Piece). Alike (length x)
+    (numbers n (begins (λ c. c == 37) (drop n x ++ c ∷ rest)) (starts_ident (drop n x ++ c ∷ rest))
+    (name_len (drop n x ++ c ∷ rest))) o) (sym right) here)
 
 -- `-->` and `<!--`
 no_code : (c m : ℕ) → is_stop c ≡ true → (123 == m) ≡ false → (125 == m) ≡ false → (59 == m) ≡ false → nat_eq m c ≡ false
 no_code c m stop a b d = grind (arith, nat_tests)
 
-cdc_alike : (c : ℕ) → is_stop c ≡ true → (rest other : List ℕ) (a : ℕ) (x : List ℕ) → Alike (length (a ∷ x)) (cdc (a ∷ (x ++ c ∷ rest))) (cdc (a ∷ (x ++ c ∷ other)))
+cdc_alike : (c : ℕ) → is_stop c ≡ true → (rest other : List ℕ) (a : ℕ) (x : List ℕ)
+    → Alike (length (a ∷ x)) (cdc (a ∷ (x ++ c ∷ rest))) (cdc (a ∷ (x ++ c ∷ other)))
 unfolding cdc
 cdc_alike c stop rest other a [] =
     let dash : nat_eq 45 c ≡ false = no_code c 45 stop refl refl refl in
@@ -342,7 +424,8 @@ cdc_alike c stop rest other a [] =
 cdc_alike c stop rest other a (b ∷ []) = same_alike _ _ _ refl
 cdc_alike c stop rest other a (b ∷ d ∷ x) = same_alike _ _ _ refl
 
-cdo_alike : (c : ℕ) → is_stop c ≡ true → (rest other : List ℕ) (a : ℕ) (x : List ℕ) → Alike (length (a ∷ x)) (cdo (a ∷ (x ++ c ∷ rest))) (cdo (a ∷ (x ++ c ∷ other)))
+cdo_alike : (c : ℕ) → is_stop c ≡ true → (rest other : List ℕ) (a : ℕ) (x : List ℕ)
+    → Alike (length (a ∷ x)) (cdo (a ∷ (x ++ c ∷ rest))) (cdo (a ∷ (x ++ c ∷ other)))
 unfolding cdo
 cdo_alike c stop rest other a [] =
     let bang : nat_eq 33 c ≡ false = no_code c 33 stop refl refl refl in
@@ -365,29 +448,37 @@ cdo_alike c stop rest other a (b ∷ d ∷ e ∷ x) = same_alike _ _ _ refl
 -- what begins with a name: urls, bad urls, functions and idents, together
 names : Bool → Bool → Bool → Bool → ℕ → ℕ → ℕ → ℕ → Option Piece
 names opens close starts round n o r all =
-    when (opens && close) (piece Url (min (o + 1) all)) or when (opens && not close) (piece BadUrl (min (o + r + 1) all)) or when starts (cond round (piece Function (n + 1)) (piece Ident n))
+    when (opens && close) (piece Url (min (o + 1) all)) or when (opens && not close) (piece BadUrl (min (o + r + 1) all)) or when starts
+    (cond round (piece Function (n + 1)) (piece Ident n))
 
-names_far : (size n o r all : ℕ) (opens close round : Bool) → size < n → n ≤ o → size < all → (p : Piece) × (names opens close true round n o r all ≡ Some p) × (size < p.len)
+names_far : (size n o r all : ℕ) (opens close round : Bool) → size < n → n ≤ o → size < all
+    → (p : Piece) × (names opens close true round n o r all ≡ Some p) × (size < p.len)
 unfolding names
 names_far size n o r all true true round a b d = (piece Url (min (o + 1) all), refl, omega arith)
 names_far size n o r all true false round a b d = (piece BadUrl (min (o + r + 1) all), refl, omega arith)
 names_far size n o r all false close true a b d = (piece Function (n + 1), refl, omega arith)
 names_far size n o r all false close false a b d = (piece Ident n, refl, a)
 
-long_alike : (size : ℕ) (a b : Option Piece) → ((p : Piece) × (a ≡ Some p) × (size < p.len)) → ((p : Piece) × (b ≡ Some p) × (size < p.len)) → Alike size a b
-long_alike size a b h k = subst (λ (x : Option Piece). Alike size x b) (sym h.1) (subst (Alike size (Some h.0)) (sym k.1) (both_long h.0 k.0 h.2 k.2))
+long_alike : (size : ℕ) (a b : Option Piece) → ((p : Piece) × (a ≡ Some p) × (size < p.len))
+    → ((p : Piece) × (b ≡ Some p) × (size < p.len)) → Alike size a b
+long_alike size a b h k = subst (λ (x : Option Piece). Alike size x b) (sym h.1)
+    (subst (Alike size (Some h.0)) (sym k.1) (both_long h.0 k.0 h.2 k.2))
 
 -- past the open url everything is long
-urls_far : (size n o r all : ℕ) (close starts round : Bool) → size < o → size < all → (p : Piece) × (names true close starts round n o r all ≡ Some p) × (size < p.len)
+urls_far : (size n o r all : ℕ) (close starts round : Bool) → size < o → size < all
+    → (p : Piece) × (names true close starts round n o r all ≡ Some p) × (size < p.len)
 unfolding names
 urls_far size n o r all true starts round a d = (piece Url (min (o + 1) all), refl, omega arith)
 urls_far size n o r all false starts round a d = (piece BadUrl (min (o + r + 1) all), refl, omega arith)
 
-urls_near : (size n o r r' all all' : ℕ) (close starts round : Bool) → size < all → size < all' → (close ≡ true → o + 1 ≤ size) → Near size (o + r) (o + r') → (close ≡ false → o + r ≤ size → o + r + 1 ≤ size) →
+urls_near : (size n o r r' all all' : ℕ) (close starts round : Bool) → size < all → size < all' → (close ≡ true → o + 1 ≤ size)
+    → Near size (o + r) (o + r') → (close ≡ false → o + r ≤ size → o + r + 1 ≤ size) →
     Alike size (names true close starts round n o r all) (names true close starts round n o r' all')
 unfolding names
-urls_near size n o r r' all all' true starts round a b fits near more = let here = fits refl in same_alike size _ _ (ap (λ (k : ℕ). Some (piece Url k)) (omega (arith, here)))
-urls_near size n o r r' all all' false starts round a b fits near more = near_alike size true BadUrl _ _ (closed_near size 1 (o + r) (o + r') all all' a b near (more refl))
+urls_near size n o r r' all all' true starts round a b fits near more = let here = fits refl in same_alike size _ _
+    (ap (λ (k : ℕ). Some (piece Url k)) (omega (arith, here)))
+urls_near size n o r r' all all' false starts round a b fits near more = near_alike size true BadUrl _ _
+    (closed_near size 1 (o + r) (o + r') all all' a b near (more refl))
 
 body_near : (c : ℕ) → StopFacts c → (rest other z : List ℕ) → Near (length z) (url_body_len (z ++ c ∷ rest)) (url_body_len (z ++ c ∷ other))
 unfolding url_body_len
@@ -396,7 +487,8 @@ body_near c f rest other z =
     let s_same : s ≡ white_run (z ++ c ∷ other) = prefix_same is_white c rest other z f.white in
     let s_fits : s ≤ length z = prefix_within is_white c rest z f.white in
     let one : drop s (z ++ c ∷ rest) ≡ drop s z ++ c ∷ rest = drop-append-le s z (c ∷ rest) s_fits in
-    let two : drop (white_run (z ++ c ∷ other)) (z ++ c ∷ other) ≡ drop s z ++ c ∷ other = ap (λ (k : ℕ). drop k (z ++ c ∷ other)) (sym s_same) ∙ drop-append-le s z (c ∷ other) s_fits in
+    let two : drop (white_run (z ++ c ∷ other)) (z ++ c ∷ other)
+    ≡ drop s z ++ c ∷ other = ap (λ (k : ℕ). drop k (z ++ c ∷ other)) (sym s_same) ∙ drop-append-le s z (c ∷ other) s_fits in
     let u = run url_unit (drop s (z ++ c ∷ rest)) in
     let v = run url_unit (drop (white_run (z ++ c ∷ other)) (z ++ c ∷ other)) in
     let u_is : u ≡ run url_unit (drop s z ++ c ∷ rest) = ap (run url_unit) one in
@@ -409,7 +501,9 @@ body_near c f rest other z =
         | inr within ↦
             let three : drop (s + u) (z ++ c ∷ rest) ≡ drop (s + u) z ++ c ∷ rest = drop-append-le (s + u) z (c ∷ rest) within in
             let k_same : s + u ≡ white_run (z ++ c ∷ other) + v = omega (arith, same, u_is, v_is, s_same) in
-            let four : drop (white_run (z ++ c ∷ other) + v) (z ++ c ∷ other) ≡ drop (s + u) z ++ c ∷ other = ap (λ (k : ℕ). drop k (z ++ c ∷ other)) (sym k_same) ∙ drop-append-le (s + u) z (c ∷ other) within in
+            let four : drop (white_run (z ++ c ∷ other) + v) (z ++ c ∷ other)
+            ≡ drop (s + u) z ++ c ∷ other = ap (λ (k : ℕ). drop k (z ++ c ∷ other)) (sym k_same) ∙ drop-append-le (s + u) z
+            (c ∷ other) within in
             let w : white_run (drop (s + u) (z ++ c ∷ rest)) ≡ white_run (drop (white_run (z ++ c ∷ other) + v) (z ++ c ∷ other)) =
             ap white_run three ∙ prefix_same is_white c rest other (drop (s + u) z) f.white ∙ sym (ap white_run four) in
             inl (omega (arith, k_same, w))
@@ -445,7 +539,8 @@ bad_some c rest [] f e = absurd (goes_on (c == 41) (c == 92) _ _ f.close f.back 
     goes_on false false d n e g z = omega arith
 bad_some c rest (a ∷ w) f e = omega arith
 
-opens_needs : (text : List ℕ) → opens_url text ≡ true → (starts_ident text ≡ true) × (begins (λ c. c == 40) (drop (name_len text) text) ≡ true)
+opens_needs : (text : List ℕ) → opens_url text ≡ true
+    → (starts_ident text ≡ true) × (begins (λ c. c == 40) (drop (name_len text) text) ≡ true)
 unfolding opens_url
 opens_needs text e = by_and (starts_ident text) (begins (λ c. c == 40) (drop (name_len text) text)) _ _ e
   where
@@ -457,32 +552,49 @@ opens_needs text e = by_and (starts_ident text) (begins (λ c. c == 40) (drop (n
 opens_by : (s b u q : Bool) → Bool
 opens_by s b u q = ((s && b) && u) && not q
 
-opens_same : (c : ℕ) → StopFacts c → (rest other x : List ℕ) → name_len (x ++ c ∷ rest) ≡ name_len (x ++ c ∷ other) → name_len (x ++ c ∷ rest) + 1 ≤ length x → opens_url (x ++ c ∷ rest) ≡ opens_url (x ++ c ∷ other)
+opens_same : (c : ℕ) → StopFacts c → (rest other x : List ℕ) → name_len (x ++ c ∷ rest) ≡ name_len (x ++ c ∷ other)
+    → name_len (x ++ c ∷ rest) + 1 ≤ length x → opens_url (x ++ c ∷ rest) ≡ opens_url (x ++ c ∷ other)
 unfolding opens_url opens_by
 opens_same c f rest other x same fits =
     let n = name_len (x ++ c ∷ rest) in
     let one : drop n (x ++ c ∷ rest) ≡ drop n x ++ c ∷ rest = drop-append-le n x (c ∷ rest) (omega arith) in
-    let two : drop (name_len (x ++ c ∷ other)) (x ++ c ∷ other) ≡ drop n x ++ c ∷ other = ap (λ (k : ℕ). drop k (x ++ c ∷ other)) (sym same) ∙ drop-append-le n x (c ∷ other) (omega arith) in
+    let two : drop (name_len (x ++ c ∷ other)) (x ++ c ∷ other)
+    ≡ drop n x ++ c ∷ other = ap (λ (k : ℕ). drop k (x ++ c ∷ other)) (sym same) ∙ drop-append-le n x (c ∷ other) (omega arith) in
     let name : take n (x ++ c ∷ rest) ≡ take (name_len (x ++ c ∷ other)) (x ++ c ∷ other) =
-    take-append-le n x (c ∷ rest) (omega arith) ∙ sym (ap (λ (k : ℕ). take k (x ++ c ∷ other)) (sym same) ∙ take-append-le n x (c ∷ other) (omega arith)) in
+    take-append-le n x (c ∷ rest) (omega arith) ∙ sym
+    (ap (λ (k : ℕ). take k (x ++ c ∷ other)) (sym same) ∙ take-append-le n x (c ∷ other) (omega arith)) in
     let three : drop (n + 1) (x ++ c ∷ rest) ≡ drop (n + 1) x ++ c ∷ rest = drop-append-le (n + 1) x (c ∷ rest) fits in
-    let four : drop (name_len (x ++ c ∷ other) + 1) (x ++ c ∷ other) ≡ drop (n + 1) x ++ c ∷ other = ap (λ (k : ℕ). drop (k + 1) (x ++ c ∷ other)) (sym same) ∙ drop-append-le (n + 1) x (c ∷ other) fits in
+    let four : drop (name_len (x ++ c ∷ other) + 1) (x ++ c ∷ other)
+    ≡ drop (n + 1) x ++ c ∷ other = ap (λ (k : ℕ). drop (k + 1) (x ++ c ∷ other)) (sym same) ∙ drop-append-le (n + 1) x
+    (c ∷ other) fits in
     let z = drop (n + 1) x in
     let w_fits : white_run (z ++ c ∷ rest) ≤ length z = prefix_within is_white c rest z f.white in
     let w_same : white_run (z ++ c ∷ rest) ≡ white_run (z ++ c ∷ other) = prefix_same is_white c rest other z f.white in
-    let quote : begins is_quote (drop (white_run (z ++ c ∷ rest)) (z ++ c ∷ rest)) ≡ begins is_quote (drop (white_run (z ++ c ∷ other)) (z ++ c ∷ other)) =
-    ap (begins is_quote) (drop-append-le (white_run (z ++ c ∷ rest)) z (c ∷ rest) w_fits) ∙ begins_same is_quote c rest other (drop (white_run (z ++ c ∷ rest)) z)
-    ∙ sym (ap (λ (k : ℕ). begins is_quote (drop k (z ++ c ∷ other))) (sym w_same) ∙ ap (begins is_quote) (drop-append-le (white_run (z ++ c ∷ rest)) z (c ∷ other) w_fits)) in
-    ap (λ (b : Bool). opens_by b (begins (λ c. c == 40) (drop n (x ++ c ∷ rest))) (is_url (take n (x ++ c ∷ rest))) (begins is_quote (drop (white_run (drop (n + 1) (x ++ c ∷ rest))) (drop (n + 1) (x ++ c ∷ rest))))) (starts_same c rest other x f)
-    ∙ ap (λ (b : Bool). opens_by (starts_ident (x ++ c ∷ other)) b (is_url (take n (x ++ c ∷ rest))) (begins is_quote (drop (white_run (drop (n + 1) (x ++ c ∷ rest))) (drop (n + 1) (x ++ c ∷ rest)))))
+    let quote : begins is_quote (drop (white_run (z ++ c ∷ rest)) (z ++ c ∷ rest))
+    ≡ begins is_quote (drop (white_run (z ++ c ∷ other)) (z ++ c ∷ other)) =
+    ap (begins is_quote) (drop-append-le (white_run (z ++ c ∷ rest)) z (c ∷ rest) w_fits) ∙ begins_same is_quote c rest other
+    (drop (white_run (z ++ c ∷ rest)) z)
+    ∙ sym (ap (λ (k : ℕ). begins is_quote (drop k (z ++ c ∷ other))) (sym w_same) ∙ ap (begins is_quote)
+    (drop-append-le (white_run (z ++ c ∷ rest)) z (c ∷ other) w_fits)) in
+    ap (λ (b : Bool). opens_by b (begins (λ c. c == 40) (drop n (x ++ c ∷ rest))) (is_url (take n (x ++ c ∷ rest)))
+    (begins is_quote (drop (white_run (drop (n + 1) (x ++ c ∷ rest))) (drop (n + 1) (x ++ c ∷ rest))))) (starts_same c rest other x f)
+    ∙ ap (λ (b : Bool). opens_by (starts_ident (x ++ c ∷ other)) b (is_url (take n (x ++ c ∷ rest)))
+    (begins is_quote (drop (white_run (drop (n + 1) (x ++ c ∷ rest))) (drop (n + 1) (x ++ c ∷ rest)))))
     (ap (begins (λ c. c == 40)) one ∙ begins_same (λ c. c == 40) c rest other (drop n x) ∙ sym (ap (begins (λ c. c == 40)) two))
-    ∙ ap (λ (t : List ℕ). opens_by (starts_ident (x ++ c ∷ other)) (begins (λ c. c == 40) (drop (name_len (x ++ c ∷ other)) (x ++ c ∷ other))) (is_url t) (begins is_quote (drop (white_run (drop (n + 1) (x ++ c ∷ rest))) (drop (n + 1) (x ++ c ∷ rest))))) name
-    ∙ ap (λ (b : Bool). opens_by (starts_ident (x ++ c ∷ other)) (begins (λ c. c == 40) (drop (name_len (x ++ c ∷ other)) (x ++ c ∷ other))) (is_url (take (name_len (x ++ c ∷ other)) (x ++ c ∷ other))) b)
-    (ap (λ (t : List ℕ). begins is_quote (drop (white_run t) t)) three ∙ quote ∙ sym (ap (λ (t : List ℕ). begins is_quote (drop (white_run t) t)) four))
+    ∙ ap (λ (t : List ℕ). opens_by (starts_ident (x ++ c ∷ other))
+    (begins (λ c. c == 40) (drop (name_len (x ++ c ∷ other)) (x ++ c ∷ other))) (is_url t)
+    (begins is_quote (drop (white_run (drop (n + 1) (x ++ c ∷ rest))) (drop (n + 1) (x ++ c ∷ rest))))) name
+    ∙ ap (λ (b : Bool). opens_by (starts_ident (x ++ c ∷ other))
+    (begins (λ c. c == 40) (drop (name_len (x ++ c ∷ other)) (x ++ c ∷ other)))
+    (is_url (take (name_len (x ++ c ∷ other)) (x ++ c ∷ other))) b)
+    (ap (λ (t : List ℕ). begins is_quote (drop (white_run t) t)) three ∙ quote ∙ sym
+    (ap (λ (t : List ℕ). begins is_quote (drop (white_run t) t)) four))
 
 -- the group as it is computed
 names_of : List ℕ → Option Piece
-names_of text = names (opens_url text) (closes_url (drop (open_url_len text) text)) (starts_ident text) (begins (λ c. c == 40) (drop (name_len text) text)) (name_len text) (open_url_len text) (run bad_url_unit (drop (open_url_len text) text)) (length text)
+names_of text = names (opens_url text) (closes_url (drop (open_url_len text) text)) (starts_ident text)
+    (begins (λ c. c == 40) (drop (name_len text) text)) (name_len text) (open_url_len text)
+    (run bad_url_unit (drop (open_url_len text) text)) (length text)
 
 not_true_is : (b : Bool) → (b ≡ true → ⊥) → b ≡ false
 not_true_is true e = absurd (e refl)
@@ -498,7 +610,8 @@ no_start text e =
     clash true e g = cc
     clash false e g = cc
 
-bare_name : (text : List ℕ) (n : ℕ) → name_len text ≡ n → starts_ident text ≡ true → begins (λ c. c == 40) (drop (name_len text) text) ≡ false → names_of text ≡ Some (piece Ident n)
+bare_name : (text : List ℕ) (n : ℕ) → name_len text ≡ n → starts_ident text ≡ true
+    → begins (λ c. c == 40) (drop (name_len text) text) ≡ false → names_of text ≡ Some (piece Ident n)
 unfolding names_of names
 bare_name text n is s e =
     let closed : opens_url text ≡ false = not_true_is (opens_url text) (λ o. clash _ (opens_needs text o).1 e) in
@@ -508,24 +621,40 @@ bare_name text n is s e =
     clash true e g = cc
     clash false e g = cc
 
-plain_function : (text : List ℕ) (n : ℕ) → name_len text ≡ n → starts_ident text ≡ true → begins (λ c. c == 40) (drop (name_len text) text) ≡ true → opens_url text ≡ false → names_of text ≡ Some (piece Function (n + 1))
+plain_function : (text : List ℕ) (n : ℕ) → name_len text ≡ n → starts_ident text ≡ true
+    → begins (λ c. c == 40) (drop (name_len text) text) ≡ true → opens_url text ≡ false → names_of text ≡ Some (piece Function (n + 1))
 unfolding names_of names
 plain_function text n is s e closed = rw (closed, s, e) (ap (λ (k : ℕ). Some (piece Function (k + 1))) is)
 
 open_past_name : (text : List ℕ) → name_len text + 1 ≤ open_url_len text
 open_past_name text = omega arith
 
-url_far_at : (text : List ℕ) (size : ℕ) → opens_url text ≡ true → size < open_url_len text → size < length text → (p : Piece) × (names_of text ≡ Some p) × (size < p.len)
+url_far_at : (text : List ℕ) (size : ℕ) → opens_url text ≡ true → size < open_url_len text → size < length text
+    → (p : Piece) × (names_of text ≡ Some p) × (size < p.len)
 unfolding names_of
 url_far_at text size opens a b =
-    let h = urls_far size (name_len text) (open_url_len text) (run bad_url_unit (drop (open_url_len text) text)) (length text) (closes_url (drop (open_url_len text) text)) (starts_ident text) (begins (λ c. c == 40) (drop (name_len text) text)) a b in
-    (h.0, ap (λ (o : Bool). names o (closes_url (drop (open_url_len text) text)) (starts_ident text) (begins (λ c. c == 40) (drop (name_len text) text)) (name_len text) (open_url_len text) (run bad_url_unit (drop (open_url_len text) text)) (length text)) opens ∙ h.1, h.2)
+    let h = urls_far size (name_len text) (open_url_len text) (run bad_url_unit (drop (open_url_len text) text)) (length text)
+    (closes_url (drop (open_url_len text) text)) (starts_ident text) (begins (λ c. c == 40) (drop (name_len text) text)) a b in (
+      h.0,
+      ap (λ (o : Bool). names o (closes_url (drop (open_url_len text) text)) (starts_ident text)
+          (begins (λ c. c == 40) (drop (name_len text) text)) (name_len text) (open_url_len text)
+          (run bad_url_unit (drop (open_url_len text) text)) (length text)) opens ∙ h.1,
+      h.2,
+    )
 
-name_far_at : (text : List ℕ) (size : ℕ) → starts_ident text ≡ true → size < name_len text → size < length text → (p : Piece) × (names_of text ≡ Some p) × (size < p.len)
+name_far_at : (text : List ℕ) (size : ℕ) → starts_ident text ≡ true → size < name_len text → size < length text
+    → (p : Piece) × (names_of text ≡ Some p) × (size < p.len)
 unfolding names_of
 name_far_at text size starts a b =
-    let h = names_far size (name_len text) (open_url_len text) (run bad_url_unit (drop (open_url_len text) text)) (length text) (opens_url text) (closes_url (drop (open_url_len text) text)) (begins (λ c. c == 40) (drop (name_len text) text)) a (omega (arith, open_past_name text)) b in
-    (h.0, ap (λ (s : Bool). names (opens_url text) (closes_url (drop (open_url_len text) text)) s (begins (λ c. c == 40) (drop (name_len text) text)) (name_len text) (open_url_len text) (run bad_url_unit (drop (open_url_len text) text)) (length text)) starts ∙ h.1, h.2)
+    let h = names_far size (name_len text) (open_url_len text) (run bad_url_unit (drop (open_url_len text) text)) (length text)
+    (opens_url text) (closes_url (drop (open_url_len text) text)) (begins (λ c. c == 40) (drop (name_len text) text)) a
+    (omega (arith, open_past_name text)) b in (
+      h.0,
+      ap (λ (s : Bool). names (opens_url text) (closes_url (drop (open_url_len text) text)) s
+          (begins (λ c. c == 40) (drop (name_len text) text)) (name_len text) (open_url_len text)
+          (run bad_url_unit (drop (open_url_len text) text)) (length text)) starts ∙ h.1,
+      h.2,
+    )
 
 size_of : (o w x : ℕ) → w ≡ x - o → o ≤ x → o + w ≡ x
 size_of o w x e f = omega arith
@@ -536,14 +665,17 @@ urls_any s s' b b' n n' true o r all = refl
 urls_any s s' b b' n n' false o r all = refl
 
 -- where a url opens in both
-opened_alike : (c : ℕ) → StopFacts c → (rest other x : List ℕ) (n : ℕ) → name_len (x ++ c ∷ rest) ≡ n → name_len (x ++ c ∷ other) ≡ n → n + 1 ≤ length x → opens_url (x ++ c ∷ rest) ≡ true → opens_url (x ++ c ∷ other) ≡ true → Alike (length x) (names_of (x ++ c ∷ rest)) (names_of (x ++ c ∷ other))
+opened_alike : (c : ℕ) → StopFacts c → (rest other x : List ℕ) (n : ℕ) → name_len (x ++ c ∷ rest) ≡ n → name_len (x ++ c ∷ other) ≡ n
+    → n + 1 ≤ length x → opens_url (x ++ c ∷ rest) ≡ true → opens_url (x ++ c ∷ other) ≡ true
+    → Alike (length x) (names_of (x ++ c ∷ rest)) (names_of (x ++ c ∷ other))
 unfolding names_of
 opened_alike c f rest other x n first second fits opens opens' =
     let t = x ++ c ∷ rest in
     let t' = x ++ c ∷ other in
     let z = drop (n + 1) x in
     let inner : drop (name_len t + 1) t ≡ z ++ c ∷ rest = ap (λ (k : ℕ). drop (k + 1) t) first ∙ drop-append-le (n + 1) x (c ∷ rest) fits in
-    let inner' : drop (name_len t' + 1) t' ≡ z ++ c ∷ other = ap (λ (k : ℕ). drop (k + 1) t') second ∙ drop-append-le (n + 1) x (c ∷ other) fits in
+    let inner' : drop (name_len t' + 1) t'
+    ≡ z ++ c ∷ other = ap (λ (k : ℕ). drop (k + 1) t') second ∙ drop-append-le (n + 1) x (c ∷ other) fits in
     let o = open_url_len t in
     let o' = open_url_len t' in
     let o_is : o ≡ n + 1 + url_body_len (z ++ c ∷ rest) = omega (arith, first, ap url_body_len inner) in
@@ -566,49 +698,75 @@ opened_alike c f rest other x n first second fits opens opens' =
                 let one : drop o t ≡ w ++ c ∷ rest = drop-append-le o x (c ∷ rest) within in
                 let two : drop o' t' ≡ w ++ c ∷ other = ap (λ (k : ℕ). drop k t') (sym o_same) ∙ drop-append-le o x (c ∷ other) within in
                 let w_size : length w ≡ length x - o = length-drop o x in
-                let near = subst (λ (k : ℕ). Near k (o + run bad_url_unit (w ++ c ∷ rest)) (o + run bad_url_unit (w ++ c ∷ other))) (size_of o (length w) (length x) w_size within) (near_add o (length w) _ _ (run_near bad_url_unit c (bad_url_local c f) rest other w)) in
-                let close_fits : closes_url (w ++ c ∷ rest) ≡ true → o + 1 ≤ length x = λ e. let some = closed_some c rest w f e in omega arith in
-                let bad_fits : closes_url (w ++ c ∷ rest) ≡ false → o + run bad_url_unit (w ++ c ∷ rest) ≤ length x → o + run bad_url_unit (w ++ c ∷ rest) + 1 ≤ length x = λ _ short.
+                let near = subst (λ (k : ℕ). Near k (o + run bad_url_unit (w ++ c ∷ rest)) (o + run bad_url_unit (w ++ c ∷ other)))
+                (size_of o (length w) (length x) w_size within)
+                (near_add o (length w) _ _ (run_near bad_url_unit c (bad_url_local c f) rest other w)) in
+                let close_fits : closes_url (w ++ c ∷ rest) ≡ true
+                → o + 1 ≤ length x = λ e. let some = closed_some c rest w f e in omega arith in
+                let bad_fits : closes_url (w ++ c ∷ rest) ≡ false → o + run bad_url_unit (w ++ c ∷ rest) ≤ length x
+                → o + run bad_url_unit (w ++ c ∷ rest) + 1 ≤ length x = λ _ short.
                 let r = run bad_url_unit (w ++ c ∷ rest) in
                 let at : drop r (w ++ c ∷ rest) ≡ drop r w ++ c ∷ rest = drop-append-le r w (c ∷ rest) (omega arith) in
                 let some = bad_some c rest (drop r w) f (sym (ap bad_url_unit at) ∙ run_stops bad_url_unit refl (w ++ c ∷ rest)) in
                 omega (arith, some, length-drop r w) in
-                let here = urls_near (length x) (name_len t) o (run bad_url_unit (w ++ c ∷ rest)) (run bad_url_unit (w ++ c ∷ other)) (length t) (length t') (closes_url (w ++ c ∷ rest)) s (begins (λ c. c == 40) (drop (name_len t) t)) more further close_fits near bad_fits in
-                let left : names_of t ≡ names true (closes_url (w ++ c ∷ rest)) s (begins (λ c. c == 40) (drop (name_len t) t)) (name_len t) o (run bad_url_unit (w ++ c ∷ rest)) (length t) =
-                ap (λ (b : Bool). names b (closes_url (drop o t)) s (begins (λ c. c == 40) (drop (name_len t) t)) (name_len t) o (run bad_url_unit (drop o t)) (length t)) opens
-                ∙ ap (λ (d : List ℕ). names true (closes_url d) s (begins (λ c. c == 40) (drop (name_len t) t)) (name_len t) o (run bad_url_unit d) (length t)) one in
-                let right : names_of t' ≡ names true (closes_url (w ++ c ∷ rest)) s (begins (λ c. c == 40) (drop (name_len t) t)) (name_len t) o (run bad_url_unit (w ++ c ∷ other)) (length t') =
-                ap (λ (b : Bool). names b (closes_url (drop o' t')) (starts_ident t') (begins (λ c. c == 40) (drop (name_len t') t')) (name_len t') o' (run bad_url_unit (drop o' t')) (length t')) opens'
-                ∙ ap (λ (d : List ℕ). names true (closes_url d) (starts_ident t') (begins (λ c. c == 40) (drop (name_len t') t')) (name_len t') o' (run bad_url_unit d) (length t')) two
-                ∙ urls_any (starts_ident t') s (begins (λ c. c == 40) (drop (name_len t') t')) (begins (λ c. c == 40) (drop (name_len t) t)) (name_len t') (name_len t) (closes_url (w ++ c ∷ other)) o' (run bad_url_unit (w ++ c ∷ other)) (length t')
-                ∙ ap (λ (b : Bool). names true b s (begins (λ c. c == 40) (drop (name_len t) t)) (name_len t) o' (run bad_url_unit (w ++ c ∷ other)) (length t')) (sym (closes_same c rest other w))
-                ∙ ap (λ (k : ℕ). names true (closes_url (w ++ c ∷ rest)) s (begins (λ c. c == 40) (drop (name_len t) t)) (name_len t) k (run bad_url_unit (w ++ c ∷ other)) (length t')) (sym o_same) in
-                subst (λ (a : Option Piece). Alike (length x) a (names_of t')) (sym left) (subst (Alike (length x) (names true (closes_url (w ++ c ∷ rest)) s (begins (λ c. c == 40) (drop (name_len t) t)) (name_len t) o (run bad_url_unit (w ++ c ∷ rest)) (length t))) (sym right) here)
+                let here = urls_near (length x) (name_len t) o (run bad_url_unit (w ++ c ∷ rest)) (run bad_url_unit (w ++ c ∷ other))
+                (length t) (length t') (closes_url (w ++ c ∷ rest)) s
+                (begins (λ c. c == 40) (drop (name_len t) t)) more further close_fits near bad_fits in
+                let left : names_of t ≡ names true (closes_url (w ++ c ∷ rest)) s (begins (λ c. c == 40) (drop (name_len t) t))
+                (name_len t) o (run bad_url_unit (w ++ c ∷ rest)) (length t) =
+                ap (λ (b : Bool). names b (closes_url (drop o t)) s (begins (λ c. c == 40) (drop (name_len t) t)) (name_len t) o
+                (run bad_url_unit (drop o t)) (length t)) opens
+                ∙ ap (λ (d : List ℕ). names true (closes_url d) s (begins (λ c. c == 40) (drop (name_len t) t)) (name_len t) o
+                (run bad_url_unit d) (length t)) one in
+                let right : names_of t' ≡ names true (closes_url (w ++ c ∷ rest)) s (begins (λ c. c == 40) (drop (name_len t) t))
+                (name_len t) o (run bad_url_unit (w ++ c ∷ other)) (length t') =
+                ap (λ (b : Bool). names b (closes_url (drop o' t')) (starts_ident t') (begins (λ c. c == 40) (drop (name_len t') t'))
+                (name_len t') o' (run bad_url_unit (drop o' t')) (length t')) opens'
+                ∙ ap (λ (d : List ℕ). names true (closes_url d) (starts_ident t') (begins (λ c. c == 40) (drop (name_len t') t'))
+                (name_len t') o' (run bad_url_unit d) (length t')) two
+                ∙ urls_any (starts_ident t') s (begins (λ c. c == 40) (drop (name_len t') t'))
+                (begins (λ c. c == 40) (drop (name_len t) t)) (name_len t') (name_len t) (closes_url (w ++ c ∷ other)) o'
+                (run bad_url_unit (w ++ c ∷ other)) (length t')
+                ∙ ap (λ (b : Bool). names true b s (begins (λ c. c == 40) (drop (name_len t) t)) (name_len t) o'
+                (run bad_url_unit (w ++ c ∷ other)) (length t')) (sym (closes_same c rest other w))
+                ∙ ap (λ (k : ℕ). names true (closes_url (w ++ c ∷ rest)) s (begins (λ c. c == 40) (drop (name_len t) t)) (name_len t) k
+                (run bad_url_unit (w ++ c ∷ other)) (length t')) (sym o_same) in
+                subst (λ (a : Option Piece). Alike (length x) a (names_of t')) (sym left)
+                (subst (Alike (length x) (names true (closes_url (w ++ c ∷ rest)) s (begins (λ c. c == 40) (drop (name_len t) t))
+                (name_len t) o (run bad_url_unit (w ++ c ∷ rest)) (length t))) (sym right) here)
           ]
     ]
 
-by_name : (c : ℕ) → StopFacts c → (rest other x : List ℕ) → starts_ident (x ++ c ∷ rest) ≡ true → starts_ident (x ++ c ∷ other) ≡ true → Near (length x) (name_len (x ++ c ∷ rest)) (name_len (x ++ c ∷ other)) → Alike (length x) (names_of (x ++ c ∷ rest)) (names_of (x ++ c ∷ other))
+by_name : (c : ℕ) → StopFacts c → (rest other x : List ℕ) → starts_ident (x ++ c ∷ rest) ≡ true → starts_ident (x ++ c ∷ other) ≡ true
+    → Near (length x) (name_len (x ++ c ∷ rest)) (name_len (x ++ c ∷ other))
+    → Alike (length x) (names_of (x ++ c ∷ rest)) (names_of (x ++ c ∷ other))
 by_name c f rest other x s s' (inr far) =
-    long_alike (length x) _ _ (name_far_at (x ++ c ∷ rest) (length x) s far.0 (longer x rest c)) (name_far_at (x ++ c ∷ other) (length x) s' far.1 (longer x other c))
+    long_alike (length x) _ _ (name_far_at (x ++ c ∷ rest) (length x) s far.0 (longer x rest c))
+    (name_far_at (x ++ c ∷ other) (length x) s' far.1 (longer x other c))
 by_name c f rest other x s s' (inl same) =
     let t = x ++ c ∷ rest in
     let t' = x ++ c ∷ other in
     let n = name_len t in
     elim (less (length x) n) [
-      | inl past ↦ long_alike (length x) _ _ (name_far_at t (length x) s past (longer x rest c)) (name_far_at t' (length x) s' (omega (arith, same)) (longer x other c))
+      | inl past ↦ long_alike (length x) _ _ (name_far_at t (length x) s past (longer x rest c))
+          (name_far_at t' (length x) s' (omega (arith, same)) (longer x other c))
       | inr within ↦
           let one : drop n t ≡ drop n x ++ c ∷ rest = drop-append-le n x (c ∷ rest) within in
-          let two : drop (name_len t') t' ≡ drop n x ++ c ∷ other = ap (λ (k : ℕ). drop k t') (sym same) ∙ drop-append-le n x (c ∷ other) within in
+          let two : drop (name_len t') t'
+          ≡ drop n x ++ c ∷ other = ap (λ (k : ℕ). drop k t') (sym same) ∙ drop-append-le n x (c ∷ other) within in
           let round_same : begins (λ d. d == 40) (drop n t) ≡ begins (λ d. d == 40) (drop (name_len t') t') =
           ap (begins (λ d. d == 40)) one ∙ begins_same (λ d. d == 40) c rest other (drop n x) ∙ sym (ap (begins (λ d. d == 40)) two) in
-          elim (begins (λ d. d == 40) (drop n t)) as (λ b. begins (λ d. d == 40) (drop n t) ≡ b → Alike (length x) (names_of t) (names_of t')) [
+          elim (begins (λ d. d == 40) (drop n t)) as
+          (λ b. begins (λ d. d == 40) (drop n t) ≡ b → Alike (length x) (names_of t) (names_of t')) [
             | false ↦ λ bare. same_alike _ _ _ (bare_name t n refl s bare ∙ sym (bare_name t' n (sym same) s' (sym round_same ∙ bare)))
             | true ↦ λ round.
                 let some = round_some c rest (drop n x) f (sym (ap (begins (λ d. d == 40)) one) ∙ round) in
                 let fits : n + 1 ≤ length x = omega (arith, some, length-drop n x) in
                 let opens_is : opens_url t ≡ opens_url t' = opens_same c f rest other x same fits in
                 elim (opens_url t) as (λ b. opens_url t ≡ b → Alike (length x) (names_of t) (names_of t')) [
-                  | false ↦ λ closed. same_alike _ _ _ (plain_function t n refl s round closed ∙ sym (plain_function t' n (sym same) s' (sym round_same ∙ round) (sym opens_is ∙ closed)))
+                  | false ↦ λ closed. same_alike _ _ _
+                      (plain_function t n refl s round closed ∙ sym
+                      (plain_function t' n (sym same) s' (sym round_same ∙ round) (sym opens_is ∙ closed)))
                   | true ↦ λ opens. opened_alike c f rest other x n refl (sym same) fits opens (sym opens_is ∙ opens)
                 ] refl
           ] refl
@@ -629,12 +787,16 @@ unfolding mark
 mark_alike n a x y = same_alike n _ _ refl
 
 -- the rows in their order, where strings and names stand together
-rows_together : (text : List ℕ) → first_piece text ≡ (comment text or (white_space text or ((string text or bad_string text) or (hash text or (numeric text or (cdc text or (names_of text or (cdo text or (at_keyword text or mark text)))))))))
+rows_together : (text : List ℕ)
+    → first_piece text ≡ (comment text or
+    (white_space text or ((string text or bad_string text) or
+    (hash text or (numeric text or (cdc text or (names_of text or (cdo text or (at_keyword text or mark text)))))))))
 unfolding first_piece names_of names url bad_url ident
 rows_together text =
     ap (λ (o : Option Piece). comment text or (white_space text or o))
     (two (string text) (bad_string text) _
-    ∙ ap (λ (o : Option Piece). (string text or bad_string text) or (hash text or (numeric text or (cdc text or o)))) (three (url text) (bad_url text) (ident text) _))
+    ∙ ap (λ (o : Option Piece). (string text or bad_string text) or (hash text or (numeric text or (cdc text or o))))
+    (three (url text) (bad_url text) (ident text) _))
   where
     two : (a b d : Option Piece) → (a or (b or d)) ≡ ((a or b) or d)
     two (Some p) b d = refl
@@ -645,14 +807,20 @@ rows_together text =
     three None (Some p) d e = refl
     three None None d e = refl
 
-pub seam_first : (c : ℕ) → is_stop c ≡ true → (rest other : List ℕ) (a : ℕ) (x : List ℕ) → Alike (length (a ∷ x)) (first_piece (a ∷ (x ++ c ∷ rest))) (first_piece (a ∷ (x ++ c ∷ other)))
+pub seam_first : (c : ℕ) → is_stop c ≡ true → (rest other : List ℕ) (a : ℕ) (x : List ℕ)
+    → Alike (length (a ∷ x)) (first_piece (a ∷ (x ++ c ∷ rest))) (first_piece (a ∷ (x ++ c ∷ other)))
 seam_first c stop rest other a x =
     let f = stop_facts c stop in
     let n = length (a ∷ x) in
-    let all = or_alike n _ _ _ _ (comment_alike c f rest other a x) (or_alike n _ _ _ _ (white_alike c f rest other a x) (or_alike n _ _ _ _ (strings_alike c f rest other a x)
-    (or_alike n _ _ _ _ (hash_alike c f rest other a x) (or_alike n _ _ _ _ (numeric_alike c f rest other (a ∷ x)) (or_alike n _ _ _ _ (cdc_alike c stop rest other a x)
-    (or_alike n _ _ _ _ (named_alike c f rest other (a ∷ x)) (or_alike n _ _ _ _ (cdo_alike c stop rest other a x) (or_alike n _ _ _ _ (at_alike c f rest other a x) (mark_alike n a (x ++ c ∷ rest) (x ++ c ∷ other)))))))))) in
-    subst (λ (o : Option Piece). Alike n o (first_piece (a ∷ (x ++ c ∷ other)))) (sym (rows_together (a ∷ (x ++ c ∷ rest)))) (subst (Alike n _) (sym (rows_together (a ∷ (x ++ c ∷ other)))) all)
+    let all = or_alike n _ _ _ _ (comment_alike c f rest other a x)
+    (or_alike n _ _ _ _ (white_alike c f rest other a x) (or_alike n _ _ _ _ (strings_alike c f rest other a x)
+    (or_alike n _ _ _ _ (hash_alike c f rest other a x)
+    (or_alike n _ _ _ _ (numeric_alike c f rest other (a ∷ x)) (or_alike n _ _ _ _ (cdc_alike c stop rest other a x)
+    (or_alike n _ _ _ _ (named_alike c f rest other (a ∷ x))
+    (or_alike n _ _ _ _ (cdo_alike c stop rest other a x)
+    (or_alike n _ _ _ _ (at_alike c f rest other a x) (mark_alike n a (x ++ c ∷ rest) (x ++ c ∷ other)))))))))) in
+    subst (λ (o : Option Piece). Alike n o (first_piece (a ∷ (x ++ c ∷ other)))) (sym (rows_together (a ∷ (x ++ c ∷ rest))))
+    (subst (Alike n _) (sym (rows_together (a ∷ (x ++ c ∷ other)))) all)
 
 -- a piece that ends before the character is the same whatever stands behind that character
 short_same : (n : ℕ) (a b : Option Piece) (p : Piece) → Alike n a b → a ≡ Some p → p.len ≤ n → b ≡ Some p
@@ -660,6 +828,7 @@ short_same n a b p both_none e fits = cc
 short_same n a b p (both_same q) e fits = e
 short_same n a b p (both_long q r far further) e fits = let same : q ≡ p = cc in absurd (omega (arith, ap (λ (x : Piece). x.len) same, far))
 
-pub piece_same : (c : ℕ) → is_stop c ≡ true → (rest other text : List ℕ) (p : Piece) → 0 < p.len → p.len ≤ length text → first_piece (text ++ c ∷ rest) ≡ Some p → first_piece (text ++ c ∷ other) ≡ Some p
+pub piece_same : (c : ℕ) → is_stop c ≡ true → (rest other text : List ℕ) (p : Piece) → 0 < p.len → p.len ≤ length text
+    → first_piece (text ++ c ∷ rest) ≡ Some p → first_piece (text ++ c ∷ other) ≡ Some p
 piece_same c stop rest other [] p some fits e = absurd (omega arith)
 piece_same c stop rest other (a ∷ x) p some fits e = short_same (length (a ∷ x)) _ _ p (seam_first c stop rest other a x) e fits

@@ -1,12 +1,14 @@
 -- Before `{`, `}` or `;` no unit looks further: what comes behind that character changes no unit before it.
-use Rattle.std.proofs.Common.{◌≡◌, ◌⊎◌, inl, inr, ℕ, zero, suc, ◌+◌, ◌-◌, ◌<◌, ◌≤◌, ◌==◌, Bool, true, false, cond, ◌&&◌, ◌||◌, not, List, [], ◌∷◌, ◌++◌, length, drop, take, nat_eq, refl, ap, sym, ◌∙◌, subst, lit<, arith}
+use Rattle.std.proofs.Common.{◌≡◌, ◌⊎◌, inl, inr, ℕ, zero, suc, ◌+◌, ◌-◌, ◌<◌, ◌≤◌, ◌==◌, Bool, true, false, cond, ◌&&◌, ◌||◌, not, List}
+use Rattle.std.proofs.Common.{[], ◌∷◌, ◌++◌, length, drop, take, nat_eq, refl, ap, sym, ◌∙◌, subst, lit<, arith}
 use Rattle.std.specs.List.{prefix_len}
 use Rattle.std.specs.Char.{is_ascii_hexdigit, is_ascii_digit}
 use Rattle.std.proofs.lemmas.List.{drop-append-le}
 use Rattle.std.proofs.lemmas.Bool.Decides.{nat_tests}
 use Rattle.css_tokens.specs.Codes.{begins, is_newline, is_white, is_quote, is_ident, is_ident_start, is_sign}
 use Rattle.css_tokens.specs.Escapes.{newline_len, white_len, hex_len, escape_tail, escape_len, begins_escape}
-use Rattle.css_tokens.specs.Runs.{run, run_after, unit_then, comment_unit, string_unit, name_unit, url_unit, bad_url_unit, ends_url, starts_ident}
+use Rattle.css_tokens.specs.Runs.{run, run_after, unit_then, comment_unit, string_unit, name_unit, url_unit, bad_url_unit, ends_url}
+use Rattle.css_tokens.specs.Runs.{starts_ident}
 use Rattle.css_tokens.specs.Seams.{is_stop}
 use Rattle.css_tokens.proofs.Unescaping.{same_code}
 
@@ -34,13 +36,76 @@ pub record StopFacts (c : ℕ) : Type 0 where
   pub url : ends_url c ≡ false
 
 facts_123 : StopFacts 123
-facts_123 = record { white = refl; newline = refl; ten = refl; thirteen = refl; hex = refl; digit = refl; ident = refl; start = refl; back = refl; dash = refl; quote = refl; sign = refl; dot = refl; mark = refl; star = refl; slash = refl; round = refl; close = refl; percent = refl; url = refl }
+facts_123 = record {
+  white = refl;
+  newline = refl;
+  ten = refl;
+  thirteen = refl;
+  hex = refl;
+  digit = refl;
+  ident = refl;
+  start = refl;
+  back = refl;
+  dash = refl;
+  quote = refl;
+  sign = refl;
+  dot = refl;
+  mark = refl;
+  star = refl;
+  slash = refl;
+  round = refl;
+  close = refl;
+  percent = refl;
+  url = refl;
+}
 
 facts_125 : StopFacts 125
-facts_125 = record { white = refl; newline = refl; ten = refl; thirteen = refl; hex = refl; digit = refl; ident = refl; start = refl; back = refl; dash = refl; quote = refl; sign = refl; dot = refl; mark = refl; star = refl; slash = refl; round = refl; close = refl; percent = refl; url = refl }
+facts_125 = record {
+  white = refl;
+  newline = refl;
+  ten = refl;
+  thirteen = refl;
+  hex = refl;
+  digit = refl;
+  ident = refl;
+  start = refl;
+  back = refl;
+  dash = refl;
+  quote = refl;
+  sign = refl;
+  dot = refl;
+  mark = refl;
+  star = refl;
+  slash = refl;
+  round = refl;
+  close = refl;
+  percent = refl;
+  url = refl;
+}
 
 facts_59 : StopFacts 59
-facts_59 = record { white = refl; newline = refl; ten = refl; thirteen = refl; hex = refl; digit = refl; ident = refl; start = refl; back = refl; dash = refl; quote = refl; sign = refl; dot = refl; mark = refl; star = refl; slash = refl; round = refl; close = refl; percent = refl; url = refl }
+facts_59 = record {
+  white = refl;
+  newline = refl;
+  ten = refl;
+  thirteen = refl;
+  hex = refl;
+  digit = refl;
+  ident = refl;
+  start = refl;
+  back = refl;
+  dash = refl;
+  quote = refl;
+  sign = refl;
+  dot = refl;
+  mark = refl;
+  star = refl;
+  slash = refl;
+  round = refl;
+  close = refl;
+  percent = refl;
+  url = refl;
+}
 
 pub stop_facts : (c : ℕ) → is_stop c ≡ true → StopFacts c
 stop_facts c stop =
@@ -63,7 +128,8 @@ pub begins_same : (p : ℕ → Bool) (c : ℕ) (rest other x : List ℕ) → beg
 begins_same p c rest other [] = refl
 begins_same p c rest other (a ∷ x) = refl
 
-pub prefix_same : (p : ℕ → Bool) (c : ℕ) (rest other x : List ℕ) → p c ≡ false → prefix_len p (x ++ c ∷ rest) ≡ prefix_len p (x ++ c ∷ other)
+pub prefix_same : (p : ℕ → Bool) (c : ℕ) (rest other x : List ℕ) → p c ≡ false
+    → prefix_len p (x ++ c ∷ rest) ≡ prefix_len p (x ++ c ∷ other)
 prefix_same p c rest other [] stops = rw stops refl
 prefix_same p c rest other (a ∷ x) stops = ap (λ (n : ℕ). cond (p a) (1 + n) 0) (prefix_same p c rest other x stops)
 
@@ -73,7 +139,8 @@ prefix_within p c rest (a ∷ x) stops =
     let more : prefix_len p (x ++ c ∷ rest) ≤ length x = prefix_within p c rest x stops in
     elim (p a) as (λ b. cond b (1 + prefix_len p (x ++ c ∷ rest)) 0 ≤ length (a ∷ x)) [ true ↦ omega arith | false ↦ omega arith ]
 
-taken_same : (p : ℕ → Bool) (k c : ℕ) (rest other x : List ℕ) → p c ≡ false → prefix_len p (take k (x ++ c ∷ rest)) ≡ prefix_len p (take k (x ++ c ∷ other))
+taken_same : (p : ℕ → Bool) (k c : ℕ) (rest other x : List ℕ) → p c ≡ false
+    → prefix_len p (take k (x ++ c ∷ rest)) ≡ prefix_len p (take k (x ++ c ∷ other))
 taken_same p zero c rest other x stops = refl
 taken_same p (suc k) c rest other [] stops = rw stops refl
 taken_same p (suc k) c rest other (a ∷ x) stops = ap (λ (n : ℕ). cond (p a) (1 + n) 0) (taken_same p k c rest other x stops)
@@ -98,15 +165,19 @@ newline_len_same c rest other (a ∷ b ∷ x) f = refl
 hex_same : (c : ℕ) (rest other x : List ℕ) → StopFacts c → hex_len (x ++ c ∷ rest) ≡ hex_len (x ++ c ∷ other)
 hex_same c rest other x f = taken_same is_ascii_hexdigit 6 c rest other x f.hex
 
-coded_same : (c : ℕ) (rest other x : List ℕ) → StopFacts c → hex_len (x ++ c ∷ rest) + white_len (drop (hex_len (x ++ c ∷ rest)) (x ++ c ∷ rest)) ≡ hex_len (x ++ c ∷ other) + white_len (drop (hex_len (x ++ c ∷ other)) (x ++ c ∷ other))
+coded_same : (c : ℕ) (rest other x : List ℕ) → StopFacts c
+    → hex_len (x ++ c ∷ rest) + white_len (drop (hex_len (x ++ c ∷ rest)) (x ++ c ∷ rest))
+    ≡ hex_len (x ++ c ∷ other) + white_len (drop (hex_len (x ++ c ∷ other)) (x ++ c ∷ other))
 coded_same c rest other x f =
     let h = hex_len (x ++ c ∷ rest) in
     let g = hex_len (x ++ c ∷ other) in
     let same : h ≡ g = hex_same c rest other x f in
     let within : h ≤ length x = taken_within is_ascii_hexdigit 6 c rest x f.hex in
     let one : drop h (x ++ c ∷ rest) ≡ drop h x ++ c ∷ rest = drop-append-le h x (c ∷ rest) within in
-    let two : drop g (x ++ c ∷ other) ≡ drop h x ++ c ∷ other = ap (λ (n : ℕ). drop n (x ++ c ∷ other)) (sym same) ∙ drop-append-le h x (c ∷ other) within in
-    let white : white_len (drop h (x ++ c ∷ rest)) ≡ white_len (drop g (x ++ c ∷ other)) = ap white_len one ∙ white_len_same c rest other (drop h x) f ∙ sym (ap white_len two) in
+    let two : drop g (x ++ c ∷ other)
+    ≡ drop h x ++ c ∷ other = ap (λ (n : ℕ). drop n (x ++ c ∷ other)) (sym same) ∙ drop-append-le h x (c ∷ other) within in
+    let white : white_len (drop h (x ++ c ∷ rest))
+    ≡ white_len (drop g (x ++ c ∷ other)) = ap white_len one ∙ white_len_same c rest other (drop h x) f ∙ sym (ap white_len two) in
     omega (arith, same, white)
 
 pub tail_same : (c : ℕ) (rest other x : List ℕ) → StopFacts c → escape_tail (x ++ c ∷ rest) ≡ escape_tail (x ++ c ∷ other)
@@ -128,9 +199,12 @@ begins_escape_same c rest other (a ∷ x) f = ap (λ (b : Bool). a == 92 && not 
 pub starts_same : (c : ℕ) (rest other x : List ℕ) → StopFacts c → starts_ident (x ++ c ∷ rest) ≡ starts_ident (x ++ c ∷ other)
 starts_same c rest other [] f = let a = f.dash in let b = f.back in rw (a, b) refl
 starts_same c rest other (a ∷ x) f =
-    ap (λ (b : Bool). cond (a == 45) (b || begins_escape (x ++ c ∷ rest)) (is_ident_start a || begins_escape (a ∷ (x ++ c ∷ rest)))) (begins_same (λ d. is_ident_start d || d == 45) c rest other x)
-    ∙ ap (λ (b : Bool). cond (a == 45) (begins (λ d. is_ident_start d || d == 45) (x ++ c ∷ other) || b) (is_ident_start a || begins_escape (a ∷ (x ++ c ∷ rest)))) (begins_escape_same c rest other x f)
-    ∙ ap (λ (b : Bool). cond (a == 45) (begins (λ d. is_ident_start d || d == 45) (x ++ c ∷ other) || begins_escape (x ++ c ∷ other)) (is_ident_start a || b)) (begins_escape_same c rest other (a ∷ x) f)
+    ap (λ (b : Bool). cond (a == 45) (b || begins_escape (x ++ c ∷ rest)) (is_ident_start a || begins_escape (a ∷ (x ++ c ∷ rest))))
+    (begins_same (λ d. is_ident_start d || d == 45) c rest other x)
+    ∙ ap (λ (b : Bool). cond (a == 45) (begins (λ d. is_ident_start d || d == 45) (x ++ c ∷ other) || b)
+    (is_ident_start a || begins_escape (a ∷ (x ++ c ∷ rest)))) (begins_escape_same c rest other x f)
+    ∙ ap (λ (b : Bool). cond (a == 45) (begins (λ d. is_ident_start d || d == 45) (x ++ c ∷ other) || begins_escape (x ++ c ∷ other))
+    (is_ident_start a || b)) (begins_escape_same c rest other (a ∷ x) f)
 
 -- units
 abbrev pub IsLocal : (List ℕ → ℕ) → ℕ → Type 0
@@ -147,9 +221,15 @@ name_local c f rest other (a ∷ x) = ap (λ (n : ℕ). cond (is_ident a) 1 n) (
 pub string_local : (quote c : ℕ) → StopFacts c → IsLocal (string_unit quote) c
 string_local quote c f rest other [] = let a = f.back in rw a refl
 string_local quote c f rest other (a ∷ x) =
-    ap (λ (b : Bool). cond (a == quote || is_newline a) 0 (cond (a == 92) (cond b (1 + newline_len (x ++ c ∷ rest)) (escape_len (a ∷ (x ++ c ∷ rest)))) 1)) (begins_same is_newline c rest other x)
-    ∙ ap (λ (n : ℕ). cond (a == quote || is_newline a) 0 (cond (a == 92) (cond (begins is_newline (x ++ c ∷ other)) (1 + n) (escape_len (a ∷ (x ++ c ∷ rest)))) 1)) (newline_len_same c rest other x f)
-    ∙ ap (λ (n : ℕ). cond (a == quote || is_newline a) 0 (cond (a == 92) (cond (begins is_newline (x ++ c ∷ other)) (1 + newline_len (x ++ c ∷ other)) n) 1)) (escape_same c rest other (a ∷ x) f)
+    ap (λ (b : Bool). cond (a == quote || is_newline a) 0
+    (cond (a == 92) (cond b (1 + newline_len (x ++ c ∷ rest)) (escape_len (a ∷ (x ++ c ∷ rest)))) 1))
+    (begins_same is_newline c rest other x)
+    ∙ ap (λ (n : ℕ). cond (a == quote || is_newline a) 0
+    (cond (a == 92) (cond (begins is_newline (x ++ c ∷ other)) (1 + n) (escape_len (a ∷ (x ++ c ∷ rest)))) 1))
+    (newline_len_same c rest other x f)
+    ∙ ap (λ (n : ℕ). cond (a == quote || is_newline a) 0
+    (cond (a == 92) (cond (begins is_newline (x ++ c ∷ other)) (1 + newline_len (x ++ c ∷ other)) n) 1))
+    (escape_same c rest other (a ∷ x) f)
 
 pub url_local : (c : ℕ) → StopFacts c → IsLocal url_unit c
 url_local c f rest other [] = let a = f.back in rw a refl
@@ -173,7 +253,8 @@ near_then : (n u : ℕ) (f g : ℕ → ℕ) → ((k : ℕ) → Near n (f k) (g k
 near_then n zero f g near = inl refl
 near_then n (suc k) f g near = near_suc n (f k) (g k) (near k)
 
-run_after_near : (unit : List ℕ → ℕ) (c : ℕ) → IsLocal unit c → (rest other : List ℕ) (skip : ℕ) (x : List ℕ) → Near (length x) (run_after unit skip (x ++ c ∷ rest)) (run_after unit skip (x ++ c ∷ other))
+run_after_near : (unit : List ℕ → ℕ) (c : ℕ) → IsLocal unit c → (rest other : List ℕ) (skip : ℕ) (x : List ℕ)
+    → Near (length x) (run_after unit skip (x ++ c ∷ rest)) (run_after unit skip (x ++ c ∷ other))
 unfolding run_after
 run_after_near unit c local rest other (suc skip) [] = inr (omega arith, omega arith)
 run_after_near unit c local rest other zero [] =
@@ -186,7 +267,9 @@ run_after_near unit c local rest other zero [] =
 run_after_near unit c local rest other (suc skip) (a ∷ x) = near_suc (length x) _ _ (run_after_near unit c local rest other skip x)
 run_after_near unit c local rest other zero (a ∷ x) =
     let same : unit (a ∷ (x ++ c ∷ rest)) ≡ unit (a ∷ (x ++ c ∷ other)) = local rest other (a ∷ x) in
-    rw same (near_then (length x) (unit (a ∷ (x ++ c ∷ other))) (λ k. run_after unit k (x ++ c ∷ rest)) (λ k. run_after unit k (x ++ c ∷ other)) (λ k. run_after_near unit c local rest other k x))
+    rw same (near_then (length x) (unit (a ∷ (x ++ c ∷ other))) (λ k. run_after unit k (x ++ c ∷ rest))
+    (λ k. run_after unit k (x ++ c ∷ other)) (λ k. run_after_near unit c local rest other k x))
 
-pub run_near : (unit : List ℕ → ℕ) (c : ℕ) → IsLocal unit c → (rest other x : List ℕ) → Near (length x) (run unit (x ++ c ∷ rest)) (run unit (x ++ c ∷ other))
+pub run_near : (unit : List ℕ → ℕ) (c : ℕ) → IsLocal unit c → (rest other x : List ℕ)
+    → Near (length x) (run unit (x ++ c ∷ rest)) (run unit (x ++ c ∷ other))
 run_near unit c local rest other x = run_after_near unit c local rest other 0 x

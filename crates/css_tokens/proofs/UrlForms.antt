@@ -1,5 +1,6 @@
 -- The rows of urls and bad urls give the pieces of their forms.
-use Rattle.std.proofs.Common.{◌≡◌, inl, inr, ℕ, ◌+◌, ◌<◌, ◌==◌, Bool, true, false, cond, ◌&&◌, not, List, [], ◌∷◌, ◌++◌, length, drop, take, Some, refl, ap, sym, ◌∙◌, subst, append_assoc, length-append, arith}
+use Rattle.std.proofs.Common.{◌≡◌, inl, inr, ℕ, ◌+◌, ◌<◌, ◌==◌, Bool, true, false, cond, ◌&&◌, not, List, [], ◌∷◌, ◌++◌, length, drop, take}
+use Rattle.std.proofs.Common.{Some, refl, ap, sym, ◌∙◌, subst, append_assoc, length-append, arith}
 use Rattle.std.proofs.Math.Seq.{drop-append_seam, take-append_seam}
 use Rattle.std.proofs.lemmas.List.{drop-drop}
 use Rattle.css_tokens.specs.declared.token.TokenKind.{TokenKind}
@@ -9,7 +10,8 @@ use Rattle.css_tokens.specs.Codes.{begins, is_white, is_quote, is_newline}
 use Rattle.css_tokens.specs.Escapes.{escape_len, begins_escape}
 use Rattle.css_tokens.specs.Runs.{run, url_unit, bad_url_unit, name_len, starts_ident, white_run}
 use Rattle.css_tokens.specs.Rows.{piece, up_to_and_with, is_url, opens_url, url_body_len, open_url_len, closes_url, url, bad_url}
-use Rattle.css_tokens.specs.Forms.{Units, no_units, unit_and, IsRun, ClosesWith, IsName, IsWhiteRun, UrlUnit, OpensUrl, UrlForm, BadUrlUnit, BadUrlForm}
+use Rattle.css_tokens.specs.Forms.{Units, no_units, unit_and, IsRun, ClosesWith, IsName, IsWhiteRun, UrlUnit, OpensUrl, UrlForm, BadUrlUnit}
+use Rattle.css_tokens.specs.Forms.{BadUrlForm}
 use Rattle.css_tokens.proofs.Ends.{and_true, not_true, when_some}
 use Rattle.css_tokens.proofs.Unescaping.{same_code}
 use Rattle.css_tokens.proofs.RunForms.{Cut, units_run, run_cut, is_run, run_is}
@@ -41,8 +43,11 @@ body_cut inner =
     let past : drop (white_run inner) inner ≡ a.rest = past_run url_unit inner a.front a.rest _ a.is a.len in
     let middle : run url_unit (drop (white_run inner) inner) ≡ length b.front = ap (run url_unit) past ∙ b.len in
     let more : drop (white_run inner + run url_unit (drop (white_run inner) inner)) inner ≡ b.rest =
-    sym (drop-drop (run url_unit (drop (white_run inner) inner)) (white_run inner) inner) ∙ ap (λ (n : ℕ). drop n (drop (white_run inner) inner)) middle ∙ ap (drop (length b.front)) (past ∙ b.is) ∙ drop-append_seam b.front b.rest in
-    let last : white_run (drop (white_run inner + run url_unit (drop (white_run inner) inner)) inner) ≡ length c.front = ap white_run more ∙ c.len in
+    sym (drop-drop (run url_unit (drop (white_run inner) inner)) (white_run inner) inner) ∙ ap
+    (λ (n : ℕ). drop n (drop (white_run inner) inner)) middle ∙ ap (drop (length b.front))
+    (past ∙ b.is) ∙ drop-append_seam b.front b.rest in
+    let last : white_run (drop (white_run inner + run url_unit (drop (white_run inner) inner)) inner)
+    ≡ length c.front = ap white_run more ∙ c.len in
     record {
       before = a.front;
       body = b.front;
@@ -56,30 +61,40 @@ body_cut inner =
       quote = past ∙ one;
     }
 
-body_is : (before body after rest : List ℕ) → IsWhiteRun before (body ++ (after ++ rest)) → IsRun UrlUnit body (after ++ rest) → IsWhiteRun after rest →
-    (url_body_len (before ++ (body ++ (after ++ rest))) ≡ length before + (length body + length after)) × (drop (white_run (before ++ (body ++ (after ++ rest)))) (before ++ (body ++ (after ++ rest))) ≡ body ++ (after ++ rest))
+body_is : (before body after rest : List ℕ) → IsWhiteRun before (body ++ (after ++ rest)) → IsRun UrlUnit body (after ++ rest)
+    → IsWhiteRun after rest →
+    (url_body_len (before ++ (body ++ (after ++ rest))) ≡ length before + (length body + length after))
+    × (drop (white_run (before ++ (body ++ (after ++ rest)))) (before ++ (body ++ (after ++ rest))) ≡ body ++ (after ++ rest))
 unfolding url_body_len
 body_is before body after rest first_white units last_white =
     let inner = before ++ (body ++ (after ++ rest)) in
     let start : white_run inner ≡ length before = passes_exact is_white before (body ++ (after ++ rest)) first_white.0 first_white.1 in
-    let past : drop (white_run inner) inner ≡ body ++ (after ++ rest) = past_run url_unit inner before (body ++ (after ++ rest)) _ refl start in
-    let middle : run url_unit (drop (white_run inner) inner) ≡ length body = ap (run url_unit) past ∙ run_is UrlUnit url_unit url_law body (after ++ rest) units in
+    let past : drop (white_run inner) inner
+    ≡ body ++ (after ++ rest) = past_run url_unit inner before (body ++ (after ++ rest)) _ refl start in
+    let middle : run url_unit (drop (white_run inner) inner)
+    ≡ length body = ap (run url_unit) past ∙ run_is UrlUnit url_unit url_law body (after ++ rest) units in
     let more : drop (white_run inner + run url_unit (drop (white_run inner) inner)) inner ≡ after ++ rest =
-    sym (drop-drop (run url_unit (drop (white_run inner) inner)) (white_run inner) inner) ∙ ap (λ (n : ℕ). drop n (drop (white_run inner) inner)) middle ∙ ap (drop (length body)) past ∙ drop-append_seam body (after ++ rest) in
-    let last : white_run (drop (white_run inner + run url_unit (drop (white_run inner) inner)) inner) ≡ length after = ap white_run more ∙ passes_exact is_white after rest last_white.0 last_white.1 in
+    sym (drop-drop (run url_unit (drop (white_run inner) inner)) (white_run inner) inner) ∙ ap
+    (λ (n : ℕ). drop n (drop (white_run inner) inner)) middle ∙ ap (drop (length body)) past ∙ drop-append_seam body (after ++ rest) in
+    let last : white_run (drop (white_run inner + run url_unit (drop (white_run inner) inner)) inner)
+    ≡ length after = ap white_run more ∙ passes_exact is_white after rest last_white.0 last_white.1 in
     (omega (arith, start, middle, last), past)
 
 -- a name, `(` and a body
 called : (name inner : List ℕ) → drop (length name + 1) (name ++ 40 ∷ inner) ≡ inner
 called name inner = sym (drop-drop 1 (length name) (name ++ 40 ∷ inner)) ∙ ap (drop 1) (drop-append_seam name (40 ∷ inner))
 
-front_whole : (name before body after rest : List ℕ) → (name ++ 40 ∷ (before ++ (body ++ after))) ++ rest ≡ name ++ 40 ∷ (before ++ (body ++ (after ++ rest)))
+front_whole : (name before body after rest : List ℕ)
+    → (name ++ 40 ∷ (before ++ (body ++ after))) ++ rest ≡ name ++ 40 ∷ (before ++ (body ++ (after ++ rest)))
 front_whole name before body after rest =
     append_assoc name (40 ∷ (before ++ (body ++ after))) rest
-    ∙ ap (λ (x : List ℕ). name ++ 40 ∷ x) (append_assoc before (body ++ after) rest ∙ ap (λ (x : List ℕ). before ++ x) (append_assoc body after rest))
+    ∙ ap (λ (x : List ℕ). name ++ 40 ∷ x)
+    (append_assoc before (body ++ after) rest ∙ ap (λ (x : List ℕ). before ++ x) (append_assoc body after rest))
 
-front_size : (name before body after : List ℕ) → length (name ++ 40 ∷ (before ++ (body ++ after))) ≡ length name + 1 + (length before + (length body + length after))
-front_size name before body after = omega (arith, length-append name (40 ∷ (before ++ (body ++ after))), length-append before (body ++ after), length-append body after)
+front_size : (name before body after : List ℕ)
+    → length (name ++ 40 ∷ (before ++ (body ++ after))) ≡ length name + 1 + (length before + (length body + length after))
+front_size name before body after = omega
+    (arith, length-append name (40 ∷ (before ++ (body ++ after))), length-append before (body ++ after), length-append body after)
 
 and_four : (a b c d : Bool) → a ≡ true → b ≡ true → c ≡ true → d ≡ true → (((a && b) && c) && d) ≡ true
 and_four true true true true e f g h = refl
@@ -97,7 +112,8 @@ unfolding opens_url
 opened text opens =
     let n = name_len text in
     let inner = drop (n + 1) text in
-    let t = and_true ((starts_ident text && begins (λ c. c == 40) (drop n text)) && is_url (take n text)) (not (begins is_quote (drop (white_run inner) inner))) opens in
+    let t = and_true ((starts_ident text && begins (λ c. c == 40) (drop n text)) && is_url (take n text))
+    (not (begins is_quote (drop (white_run inner) inner))) opens in
     let t1 = and_true (starts_ident text && begins (λ c. c == 40) (drop n text)) (is_url (take n text)) t.0 in
     let t2 = and_true (starts_ident text) (begins (λ c. c == 40) (drop n text)) t1.0 in
     let c = name_cut text in
@@ -105,9 +121,12 @@ opened text opens =
     let r = begins_with 40 c.rest (sym (ap (begins (λ c. c == 40)) past) ∙ t2.1) in
     let whole : text ≡ c.front ++ 40 ∷ r.0 = c.is ∙ ap (λ (x : List ℕ). c.front ++ x) r.1 in
     let inner_is : inner ≡ r.0 = ap (λ (k : ℕ). drop (k + 1) text) c.len ∙ ap (drop (length c.front + 1)) whole ∙ called c.front r.0 in
-    let name_is_url : is_url c.front ≡ true = sym (ap is_url (ap (λ (k : ℕ). take k text) c.len ∙ ap (take (length c.front)) c.is ∙ take-append_seam c.front c.rest)) ∙ t1.1 in
+    let name_is_url : is_url c.front
+    ≡ true = sym (ap is_url (ap (λ (k : ℕ). take k text) c.len ∙ ap
+    (take (length c.front)) c.is ∙ take-append_seam c.front c.rest)) ∙ t1.1 in
     let b = body_cut r.0 in
-    let no_quote : begins is_quote (b.body ++ (b.after ++ b.rest)) ≡ false = sym (ap (begins is_quote) (ap (λ (x : List ℕ). drop (white_run x) x) inner_is ∙ b.quote)) ∙ not_true _ t.1 in
+    let no_quote : begins is_quote (b.body ++ (b.after ++ b.rest))
+    ≡ false = sym (ap (begins is_quote) (ap (λ (x : List ℕ). drop (white_run x) x) inner_is ∙ b.quote)) ∙ not_true _ t.1 in
     let all : text ≡ c.front ++ 40 ∷ (b.before ++ (b.body ++ (b.after ++ b.rest))) = whole ∙ ap (λ (x : List ℕ). c.front ++ 40 ∷ x) b.is in
     record {
       front = c.front ++ 40 ∷ (b.before ++ (b.body ++ b.after));
@@ -133,14 +152,19 @@ opens_is : (front rest : List ℕ) → OpensUrl front rest → (opens_url (front
 unfolding opens_url
 opens_is front rest f =
     let inner = f.before ++ (f.body ++ (f.after ++ rest)) in
-    let whole : front ++ rest ≡ f.name ++ 40 ∷ inner = ap (λ (x : List ℕ). x ++ rest) f.is ∙ front_whole f.name f.before f.body f.after rest in
+    let whole : front ++ rest ≡ f.name
+    ++ 40 ∷ inner = ap (λ (x : List ℕ). x ++ rest) f.is ∙ front_whole f.name f.before f.body f.after rest in
     let len : name_len (front ++ rest) ≡ length f.name = ap name_len whole ∙ name_is f.name (40 ∷ inner) f.a_name in
-    let past : drop (name_len (front ++ rest)) (front ++ rest) ≡ 40 ∷ inner = past_run url_unit (front ++ rest) f.name (40 ∷ inner) _ whole len in
-    let name : take (name_len (front ++ rest)) (front ++ rest) ≡ f.name = ap (λ (k : ℕ). take k (front ++ rest)) len ∙ ap (take (length f.name)) whole ∙ take-append_seam f.name (40 ∷ inner) in
-    let inner_is : drop (name_len (front ++ rest) + 1) (front ++ rest) ≡ inner = ap (λ (k : ℕ). drop (k + 1) (front ++ rest)) len ∙ ap (drop (length f.name + 1)) whole ∙ called f.name inner in
+    let past : drop (name_len (front ++ rest)) (front ++ rest)
+    ≡ 40 ∷ inner = past_run url_unit (front ++ rest) f.name (40 ∷ inner) _ whole len in
+    let name : take (name_len (front ++ rest)) (front ++ rest)
+    ≡ f.name = ap (λ (k : ℕ). take k (front ++ rest)) len ∙ ap (take (length f.name)) whole ∙ take-append_seam f.name (40 ∷ inner) in
+    let inner_is : drop (name_len (front ++ rest) + 1) (front ++ rest)
+    ≡ inner = ap (λ (k : ℕ). drop (k + 1) (front ++ rest)) len ∙ ap (drop (length f.name + 1)) whole ∙ called f.name inner in
     let b = body_is f.before f.body f.after rest f.first_white f.units f.last_white in
     let value : is_url f.name ≡ true = url_is f.name (40 ∷ inner) f.a_name.units f.url in (
-      and_four _ _ _ _ (ap starts_ident whole ∙ url_starts f.name (40 ∷ inner) value) (ap (begins (λ c. c == 40)) past) (ap is_url name ∙ value)
+      and_four _ _ _ _ (ap starts_ident whole ∙ url_starts f.name (40 ∷ inner) value) (ap (begins (λ c. c == 40)) past)
+          (ap is_url name ∙ value)
           (false_not _ (ap (λ (x : List ℕ). begins is_quote (drop (white_run x) x)) inner_is ∙ ap (begins is_quote) b.1 ∙ f.no_quote)),
       omega (arith, len, ap url_body_len inner_is, b.0, ap length f.is, front_size f.name f.before f.body f.after),
     )
@@ -150,7 +174,8 @@ closing : (text : List ℕ) → closes_url text ≡ true → Closing (41 ∷ [])
 closing [] e = ends_here (41 ∷ [])
 closing (c ∷ rest) e = subst (λ (a : ℕ). Closing (41 ∷ []) (a ∷ rest)) (sym (same_code c 41 e)) (marked_here (41 ∷ []) rest)
 
-closing_closes : (close rest : List ℕ) → ClosesWith (41 ∷ []) close rest → (closes_url (close ++ rest) ≡ true) × (bad_url_unit (close ++ rest) ≡ 0)
+closing_closes : (close rest : List ℕ) → ClosesWith (41 ∷ []) close rest
+    → (closes_url (close ++ rest) ≡ true) × (bad_url_unit (close ++ rest) ≡ 0)
 closing_closes close rest (inl is) = rw is (refl, refl)
 closing_closes close rest (inr end) = rw (end.0, end.1) (refl, refl)
 
@@ -168,14 +193,16 @@ bad_closes (c ∷ rest) none = by_tests (c == 41) (c == 92 && not (begins is_new
 open_bad : (text : List ℕ) → 0 < bad_url_unit text → closes_url text ≡ false
 open_bad [] some = absurd (omega arith)
 open_bad (c ∷ rest) some =
-    elim (c == 41) as (λ b. 0 < cond b 0 (cond (begins_escape (c ∷ rest)) (escape_len (c ∷ rest)) 1) → b ≡ false) [ true ↦ λ none. absurd (omega arith) | false ↦ λ _. refl ] some
+    elim (c == 41) as (λ b. 0 < cond b 0 (cond (begins_escape (c ∷ rest)) (escape_len (c ∷ rest)) 1)
+    → b ≡ false) [ true ↦ λ none. absurd (omega arith) | false ↦ λ _. refl ] some
 
 some_bad : (text body rest : List ℕ) → text ≡ body ++ rest → closes_url text ≡ false → bad_url_unit rest ≡ 0 → 0 < length body
 some_bad text [] rest is unclosed none = let closed : closes_url text ≡ true = ap closes_url is ∙ bad_closes rest none in cc
 some_bad text (c ∷ body) rest is unclosed none = omega arith
 
 sizes : (front close rest text : List ℕ) → text ≡ (front ++ close) ++ rest → length text ≡ length front + length close + length rest
-sizes front close rest text whole = ap length whole ∙ length-append (front ++ close) rest ∙ ap (λ (n : ℕ). n + length rest) (length-append front close)
+sizes front close rest text whole = ap length whole ∙ length-append (front ++ close) rest ∙ ap (λ (n : ℕ). n + length rest)
+    (length-append front close)
 
 pub url_row_law : RowLaw UrlForm url
 unfolding url
@@ -187,14 +214,23 @@ url_row_law = record {
       let c = opened text t.0 in
       let past : drop n text ≡ c.rest = past_run url_unit text c.front c.rest n c.is c.len in
       let e = closing c.rest (sym (ap closes_url past) ∙ t.1) in
-      let whole : text ≡ (c.front ++ e.close) ++ e.rest = c.is ∙ ap (λ (x : List ℕ). c.front ++ x) e.is ∙ sym (append_assoc c.front e.close e.rest) in
+      let whole : text ≡ (c.front ++ e.close)
+      ++ e.rest = c.is ∙ ap (λ (x : List ℕ). c.front ++ x) e.is ∙ sym (append_assoc c.front e.close e.rest) in
       subst (λ (q : Piece). Cut (UrlForm q.kind) text q.len) h.1
       (record {
         front = c.front ++ e.close;
         rest = e.rest;
         is = whole;
-        len = closed_len n 1 _ _ e.close e.rest refl e.closed (omega (arith, c.len, sizes c.front e.close e.rest text whole)) ∙ omega (arith, c.len, length-append c.front e.close);
-        form = record { named = refl; front = c.front; close = e.close; is = refl; opens = subst (OpensUrl c.front) e.is c.form; closed = e.closed };
+        len = closed_len n 1 _ _ e.close e.rest refl e.closed (omega (arith, c.len, sizes c.front e.close e.rest text whole)) ∙ omega
+            (arith, c.len, length-append c.front e.close);
+        form = record {
+          named = refl;
+          front = c.front;
+          close = e.close;
+          is = refl;
+          opens = subst (OpensUrl c.front) e.is c.form;
+          closed = e.closed;
+        };
       });
   only = λ kind front rest f.
       let whole : front ++ rest ≡ (f.front ++ f.close) ++ rest = ap (λ (x : List ℕ). x ++ rest) f.is in
@@ -203,9 +239,12 @@ url_row_law = record {
       let n = open_url_len (front ++ rest) in
       let len : n ≡ length f.front = ap open_url_len assoc ∙ o.1 in
       let opens : opens_url (front ++ rest) ≡ true = ap opens_url assoc ∙ o.0 in
-      let closed : closes_url (drop n (front ++ rest)) ≡ true = ap closes_url (past_run url_unit (front ++ rest) f.front (f.close ++ rest) n assoc len) ∙ (closing_closes f.close rest f.closed).0 in
+      let closed : closes_url (drop n (front ++ rest))
+      ≡ true = ap closes_url (past_run url_unit (front ++ rest) f.front (f.close ++ rest) n assoc len) ∙
+      (closing_closes f.close rest f.closed).0 in
       let size : up_to_and_with n 1 (front ++ rest) ≡ length front =
-      closed_len n 1 _ _ f.close rest refl f.closed (omega (arith, len, sizes f.front f.close rest (front ++ rest) whole)) ∙ omega (arith, len, ap length f.is, length-append f.front f.close) in
+      closed_len n 1 _ _ f.close rest refl f.closed (omega (arith, len, sizes f.front f.close rest (front ++ rest) whole)) ∙ omega
+      (arith, len, ap length f.is, length-append f.front f.close) in
       subst (λ (k : TokenKind). url (front ++ rest) ≡ Some (piece k (length front))) (sym f.named)
       (rw (opens, closed) (ap (λ (k : ℕ). Some (piece Url k)) size));
 }
@@ -232,15 +271,19 @@ bad_url_row_law = record {
       let size : run bad_url_unit (drop n text) ≡ length b.front = ap (run bad_url_unit) past ∙ b.len in
       let e = closing b.rest (bad_closes b.rest b.form.1) in
       let some : 0 < length b.front = some_bad c.rest b.front b.rest b.is unclosed b.form.1 in
-      let inner : c.rest ≡ (b.front ++ e.close) ++ e.rest = b.is ∙ ap (λ (x : List ℕ). b.front ++ x) e.is ∙ sym (append_assoc b.front e.close e.rest) in
-      let whole : text ≡ (c.front ++ (b.front ++ e.close)) ++ e.rest = c.is ∙ ap (λ (x : List ℕ). c.front ++ x) inner ∙ sym (append_assoc c.front (b.front ++ e.close) e.rest) in
-      let all : length text ≡ length c.front + length b.front + length e.close + length e.rest = sizes c.front (b.front ++ e.close) e.rest text whole ∙ omega (arith, length-append b.front e.close) in
+      let inner : c.rest ≡ (b.front ++ e.close)
+      ++ e.rest = b.is ∙ ap (λ (x : List ℕ). b.front ++ x) e.is ∙ sym (append_assoc b.front e.close e.rest) in
+      let whole : text ≡ (c.front ++ (b.front ++ e.close))
+      ++ e.rest = c.is ∙ ap (λ (x : List ℕ). c.front ++ x) inner ∙ sym (append_assoc c.front (b.front ++ e.close) e.rest) in
+      let all : length text ≡ length c.front + length b.front + length e.close
+      + length e.rest = sizes c.front (b.front ++ e.close) e.rest text whole ∙ omega (arith, length-append b.front e.close) in
       subst (λ (q : Piece). Cut (BadUrlForm q.kind) text q.len) h.1
       (record {
         front = c.front ++ (b.front ++ e.close);
         rest = e.rest;
         is = whole;
-        len = closed_len m 1 _ _ e.close e.rest refl e.closed (omega (arith, c.len, size, all)) ∙ omega (arith, c.len, size, length-append c.front (b.front ++ e.close), length-append b.front e.close);
+        len = closed_len m 1 _ _ e.close e.rest refl e.closed (omega (arith, c.len, size, all)) ∙ omega
+            (arith, c.len, size, length-append c.front (b.front ++ e.close), length-append b.front e.close);
         form = record {
           named = refl;
           front = c.front;
@@ -255,15 +298,22 @@ bad_url_row_law = record {
       });
   only = λ kind front rest f.
       let whole : front ++ rest ≡ (f.front ++ (f.body ++ f.close)) ++ rest = ap (λ (x : List ℕ). x ++ rest) f.is in
-      let assoc : front ++ rest ≡ f.front ++ (f.body ++ (f.close ++ rest)) = whole ∙ append_assoc f.front (f.body ++ f.close) rest ∙ ap (λ (x : List ℕ). f.front ++ x) (append_assoc f.body f.close rest) in
+      let assoc : front ++ rest ≡ f.front
+      ++ (f.body ++ (f.close ++ rest)) = whole ∙ append_assoc f.front (f.body ++ f.close) rest ∙ ap (λ (x : List ℕ). f.front ++ x)
+      (append_assoc f.body f.close rest) in
       let o = opens_is f.front (f.body ++ (f.close ++ rest)) f.opens in
       let n = open_url_len (front ++ rest) in
       let len : n ≡ length f.front = ap open_url_len assoc ∙ o.1 in
       let opens : opens_url (front ++ rest) ≡ true = ap opens_url assoc ∙ o.0 in
-      let past : drop n (front ++ rest) ≡ f.body ++ (f.close ++ rest) = past_run url_unit (front ++ rest) f.front (f.body ++ (f.close ++ rest)) n assoc len in
+      let past : drop n (front ++ rest)
+      ≡ f.body ++ (f.close ++ rest) = past_run url_unit (front ++ rest) f.front (f.body ++ (f.close ++ rest)) n assoc len in
       let unclosed : closes_url (drop n (front ++ rest)) ≡ false = ap closes_url past ∙ first_bad f.body (f.close ++ rest) f.some f.units in
-      let more : run bad_url_unit (drop n (front ++ rest)) ≡ length f.body = ap (run bad_url_unit) past ∙ units_run BadUrlUnit bad_url_unit bad_url_law f.body (f.close ++ rest) f.units (closing_closes f.close rest f.closed).1 in
-      let all : length (front ++ rest) ≡ length f.front + length f.body + length f.close + length rest = sizes f.front (f.body ++ f.close) rest (front ++ rest) whole ∙ omega (arith, length-append f.body f.close) in
+      let more : run bad_url_unit (drop n (front ++ rest))
+      ≡ length f.body = ap (run bad_url_unit) past ∙ units_run BadUrlUnit bad_url_unit bad_url_law f.body (f.close ++ rest) f.units
+      (closing_closes f.close rest f.closed).1 in
+      let all : length (front ++ rest)
+      ≡ length f.front + length f.body + length f.close
+      + length rest = sizes f.front (f.body ++ f.close) rest (front ++ rest) whole ∙ omega (arith, length-append f.body f.close) in
       let size : up_to_and_with (n + run bad_url_unit (drop n (front ++ rest))) 1 (front ++ rest) ≡ length front =
       closed_len (n + run bad_url_unit (drop n (front ++ rest))) 1 _ _ f.close rest refl f.closed (omega (arith, len, more, all))
       ∙ omega (arith, len, more, ap length f.is, length-append f.front (f.body ++ f.close), length-append f.body f.close) in

@@ -1,5 +1,6 @@
 -- A node that is described is one that a message can tell.
-use Rattle.std.proofs.Common.{◌≡◌, ℕ, suc, ◌+◌, ◌<◌, ◌≤◌, ◌^◌, Bool, true, false, not, ◌&&◌, ◌||◌, cond, Option, Some, ⊎_elim, refl, sym, subst, arith, lt-ltb}
+use Rattle.std.proofs.Common.{◌≡◌, ℕ, suc, ◌+◌, ◌<◌, ◌≤◌, ◌^◌, Bool, true, false, not, ◌&&◌, ◌||◌, cond, Option, Some, ⊎_elim, refl, sym}
+use Rattle.std.proofs.Common.{subst, arith, lt-ltb}
 use Rattle.std.specs.Prelude.{⊤}
 use Rattle.std.proofs.lemmas.Bool.{and_parts, and_from, eq-eqb}
 use Rattle.node_tree.specs.Nodes.{Nodes, none, node, Branch, alone, width, height, node_count, map_rows, is_no_node}
@@ -26,7 +27,8 @@ use Rattle.dom_agent.specs.Described.{shows_children, row_to, shown_to, kids_to,
 use Rattle.dom_agent.specs.Laws.{RowsHaveUtf8, CanTell}
 use Rattle.dom_agent.proofs.StepLemmas.{CanSpell}
 use Rattle.dom_agent.proofs.WritingLemmas.{width-shown_to}
-use Rattle.dom_agent.proofs.TellableLemmas.{Fitting, fitting_row, fitting_later, formed_parts, named_parts, serials_there, document_named_label, tall}
+use Rattle.dom_agent.proofs.TellableLemmas.{Fitting, fitting_row, fitting_later, formed_parts, named_parts, serials_there}
+use Rattle.dom_agent.proofs.TellableLemmas.{document_named_label, tall}
 
 -- ---- what a message can tell of a page
 
@@ -64,7 +66,8 @@ sound-below top r c t f =
     let all : suc (node_count c + node_count t) ≤ 100000 = f.room in
     record {
       formed = (formed_parts (λ _. true) (λ _. 1) (λ _. omega arith) top r c t f.formed).below;
-      named = (and_parts (is_named_label r.label) (are_named (map_rows row_label c)) (named_parts (λ _. true) (λ _. 1) (λ _. omega arith) r c t f.named).0).1;
+      named = (and_parts (is_named_label r.label) (are_named (map_rows row_label c))
+          (named_parts (λ _. true) (λ _. 1) (λ _. omega arith) r c t f.named).0).1;
       room = omega (arith, all);
       serials = λ s h. f.serials s (omega (arith, h));
       ids = λ s h. omega arith;
@@ -118,7 +121,8 @@ height-found s none x e = cc
 height-found s (node r c t) x e =
     at_or_other r.serial s
     (λ here. subst (λ (y : Branch PageRow). height (alone y) ≤ height (node r c t)) (found_here s r c t x here e) (omega arith))
-    (λ other. ⊎_elim (λ in_c. omega (arith, height-found s c x in_c)) (λ in_t. omega (arith, height-found s t x in_t)) (found_later s r c t x other e))
+    (λ other. ⊎_elim (λ in_c. omega (arith, height-found s c x in_c)) (λ in_t. omega (arith, height-found s t x in_t))
+    (found_later s r c t x other e))
 
 -- ---- one row
 
@@ -127,27 +131,37 @@ abbrev hold_for : Bool → Bool → ℕ → Hold
 hold_for container left w = cond container (cond (container && left) opened (counted w)) leaf
 
 hold_fits : (container left : Bool) (w : ℕ) (kids : Nodes Seen) → width kids ≡ w
-    → fits_hold (hold_for container left w) container (count_in (hold_for container left w) (cond (container && left) kids none)) (width (told_nodes 0 (cond (container && left) kids none))) ≡ true
+    → fits_hold (hold_for container left w) container (count_in (hold_for container left w) (cond (container && left) kids none))
+    (width (told_nodes 0 (cond (container && left) kids none))) ≡ true
 hold_fits true true w kids e = eq-eqb (width kids) (width (told_nodes 0 kids)) (sym (width-told_nodes 0 kids))
 hold_fits true false w kids e = eq-eqb w w refl
 hold_fits false left w kids e = refl
 
-count_few : (container left : Bool) (w : ℕ) (kids : Nodes Seen) → width kids ≡ w → count_in (hold_for container left w) (cond (container && left) kids none) ≤ w
+count_few : (container left : Bool) (w : ℕ) (kids : Nodes Seen) → width kids ≡ w
+    → count_in (hold_for container left w) (cond (container && left) kids none) ≤ w
 count_few true true w kids e = omega arith
 count_few true false w kids e = omega arith
 count_few false left w kids e = omega arith
 
-below_fits : (container left : Bool) (w : ℕ) (kids : Nodes Seen) → cond (is_opened (hold_for container left w)) true (is_no_node (told_nodes 0 (cond (container && left) kids none))) ≡ true
+below_fits : (container left : Bool) (w : ℕ) (kids : Nodes Seen)
+    → cond (is_opened (hold_for container left w)) true (is_no_node (told_nodes 0 (cond (container && left) kids none))) ≡ true
 below_fits true true w kids = refl
 below_fits true false w kids = refl
 below_fits false left w kids = refl
 
 -- a row as it is told of a described node
 abbrev told_row : Option ℕ → PageRow → Nodes PageRow → Told
-told_row levels r c = record { parent = 0; count = count_in (row_to no_ids levels r c).hold (kids_to no_ids levels (record { row = r; children = c })); seen = row_to no_ids levels r c }
+told_row levels r c = record {
+  parent = 0;
+  count = count_in (row_to no_ids levels r c).hold (kids_to no_ids levels (record { row = r; children = c }));
+  seen = row_to no_ids levels r c;
+}
 
-row_described : (top : Bool) (levels : Option ℕ) (r : PageRow) (c : Nodes PageRow) → RowTells r c → (top || not (is_document r.label.kind)) ≡ true
-    → (is_counted_row (told_row levels r c) && fits_described top (width (told_nodes 0 (kids_to no_ids levels (record { row = r; children = c })))) (told_row levels r c)) ≡ true
+row_described : (top : Bool) (levels : Option ℕ) (r : PageRow) (c : Nodes PageRow) → RowTells r c
+    → (top || not (is_document r.label.kind)) ≡ true
+    → (is_counted_row (told_row levels r c)
+    && fits_described top (width (told_nodes 0 (kids_to no_ids levels (record { row = r; children = c })))) (told_row levels r c))
+    ≡ true
 row_described top levels r c a place =
     let h : Bool = holds r.label.kind in
     let left : Bool = not (is_spent levels) in
@@ -158,29 +172,35 @@ row_described top levels r c a place =
     let room : node_count c ≤ 100000 = a.room in
     let least : 1 ≤ r.serial = a.least in
     and_from _ _
-    (and_from _ _ (and_from _ _ (and_from _ _ (lt-ltb 0 (2 ^ 53) (omega arith)) (lt-ltb r.serial (2 ^ 53) a.below)) (lt-ltb (told_row levels r c).count (2 ^ 53) (omega (arith, few, all, room)))) (lt-ltb 0 (2 ^ 53) (omega arith)))
-    (and_from _ _ (and_from _ _ (and_from _ _ (and_from _ _ (and_from _ _ (and_from _ _ refl (lt-ltb 0 r.serial (omega (arith, least)))) a.formed) a.named) place) refl)
+    (and_from _ _ (and_from _ _ (and_from _ _ (lt-ltb 0 (2 ^ 53) (omega arith)) (lt-ltb r.serial (2 ^ 53) a.below))
+    (lt-ltb (told_row levels r c).count (2 ^ 53) (omega (arith, few, all, room)))) (lt-ltb 0 (2 ^ 53) (omega arith)))
+    (and_from _ _ (and_from _ _ (and_from _ _
+    (and_from _ _ (and_from _ _ (and_from _ _ refl (lt-ltb 0 r.serial (omega (arith, least)))) a.formed) a.named) place) refl)
     (hold_fits h left (width c) kids wide))
 
 -- ---- all rows
 
-kids_fit : (b : Bool) (kids : Nodes Seen) → fits_described_nodes (told_nodes 0 kids) ≡ true → fits_described_nodes (told_nodes 0 (cond b kids none)) ≡ true
+kids_fit : (b : Bool) (kids : Nodes Seen) → fits_described_nodes (told_nodes 0 kids) ≡ true
+    → fits_described_nodes (told_nodes 0 (cond b kids none)) ≡ true
 kids_fit true kids e = e
 kids_fit false kids e = refl
 
-nodes_described : (levels : Option ℕ) (n : Nodes PageRow) → AllTell n → NoDocuments n → fits_described_nodes (told_nodes 0 (shown_to no_ids levels n)) ≡ true
+nodes_described : (levels : Option ℕ) (n : Nodes PageRow) → AllTell n → NoDocuments n
+    → fits_described_nodes (told_nodes 0 (shown_to no_ids levels n)) ≡ true
 nodes_described levels none a apart = refl
 nodes_described levels (node r c t) a apart =
     and_from _ _
     (and_from _ _
-    (and_from _ _ (row_described false levels r c a.0 apart.0) (below_fits (holds r.label.kind) (not (is_spent levels)) (width c) (shown_to no_ids (less levels) c)))
+    (and_from _ _ (row_described false levels r c a.0 apart.0)
+    (below_fits (holds r.label.kind) (not (is_spent levels)) (width c) (shown_to no_ids (less levels) c)))
     (kids_fit (shows_children levels r) (shown_to no_ids (less levels) c) (nodes_described (less levels) c a.2 a.1)))
     (nodes_described levels t a.3 apart.1)
 
 described_fits : (levels : Option ℕ) (x : Branch PageRow) → AllTell (alone x) → fits_described_tree (described levels x) ≡ true
 described_fits levels x a =
     and_from _ _
-    (and_from _ _ (row_described true levels x.row x.children a.0 refl) (below_fits (holds x.row.label.kind) (not (is_spent levels)) (width x.children) (shown_to no_ids (less levels) x.children)))
+    (and_from _ _ (row_described true levels x.row x.children a.0 refl)
+    (below_fits (holds x.row.label.kind) (not (is_spent levels)) (width x.children) (shown_to no_ids (less levels) x.children)))
     (kids_fit (shows_children levels x.row) (shown_to no_ids (less levels) x.children) (nodes_described (less levels) x.children a.2 a.1))
 
 kids_utf8 : (b : Bool) (kids : Nodes Seen) → NodesHaveUtf8 (told_nodes 0 kids) → NodesHaveUtf8 (told_nodes 0 (cond b kids none))
@@ -189,12 +209,20 @@ kids_utf8 false kids u = tt
 
 nodes_utf8 : (levels : Option ℕ) (n : Nodes PageRow) → AllTell n → NodesHaveUtf8 (told_nodes 0 (shown_to no_ids levels n))
 nodes_utf8 levels none a = tt
-nodes_utf8 levels (node r c t) a =
-    (a.0.texts, kids_utf8 (shows_children levels r) (shown_to no_ids (less levels) c) (nodes_utf8 (less levels) c a.2), nodes_utf8 levels t a.3)
+nodes_utf8 levels (node r c t) a = (
+  a.0.texts,
+  kids_utf8 (shows_children levels r) (shown_to no_ids (less levels) c)
+      (nodes_utf8 (less levels) c a.2),
+  nodes_utf8 levels t a.3,
+)
 
 described_utf8 : (levels : Option ℕ) (x : Branch PageRow) → AllTell (alone x) → NodesHaveUtf8 (alone (described levels x))
-described_utf8 levels x a =
-    (a.0.texts, kids_utf8 (shows_children levels x.row) (shown_to no_ids (less levels) x.children) (nodes_utf8 (less levels) x.children a.2), tt)
+described_utf8 levels x a = (
+  a.0.texts,
+  kids_utf8 (shows_children levels x.row) (shown_to no_ids (less levels) x.children)
+      (nodes_utf8 (less levels) x.children a.2),
+  tt,
+)
 
 kids_height : (b : Bool) (kids : Nodes Seen) (h : ℕ) → height (told_nodes 0 kids) ≤ h → height (told_nodes 0 (cond b kids none)) ≤ h
 kids_height true kids h e = e
@@ -210,18 +238,23 @@ nodes_height levels (node r c t) =
 described_height : (levels : Option ℕ) (x : Branch PageRow) → height (alone (described levels x)) ≤ height (alone x)
 described_height levels x =
     let below : height (told_nodes 0 (kids_to no_ids levels x)) ≤ height x.children =
-    kids_height (shows_children levels x.row) (shown_to no_ids (less levels) x.children) (height x.children) (nodes_height (less levels) x.children) in
+    kids_height (shows_children levels x.row) (shown_to no_ids (less levels) x.children) (height x.children)
+    (nodes_height (less levels) x.children) in
     omega (arith, below)
 
 -- ---- nodes of a page
 
-label_attributes : (l : Label) → is_element l.kind ≡ true → is_formed_label l ≡ true → is_named_label l ≡ true → are_attributes l.attributes ≡ true
+label_attributes : (l : Label) → is_element l.kind ≡ true → is_formed_label l ≡ true → is_named_label l ≡ true
+    → are_attributes l.attributes ≡ true
 label_attributes l element formed named =
-    let p2 = and_parts (cond (is_element l.kind) (is_ascending l.attributes) (is_empty l.attributes)) _ (and_parts (cond (is_element l.kind) (is_ascending l.attributes) (is_empty l.attributes) && _) _ formed).0 in
-    let ascending : is_ascending l.attributes ≡ true = subst (λ (b : Bool). cond b (is_ascending l.attributes) (is_empty l.attributes) ≡ true) element p2.0 in
+    let p2 = and_parts (cond (is_element l.kind) (is_ascending l.attributes) (is_empty l.attributes)) _
+    (and_parts (cond (is_element l.kind) (is_ascending l.attributes) (is_empty l.attributes) && _) _ formed).0 in
+    let ascending : is_ascending l.attributes
+    ≡ true = subst (λ (b : Bool). cond b (is_ascending l.attributes) (is_empty l.attributes) ≡ true) element p2.0 in
     and_from _ _ ascending (and_parts (cond (has_name l.kind) (is_element_name l.name) true) _ named).1
 
-module _ (page : PageValue) (w : Session) (valid : IsValid page) (s : ℕ) (x : Branch PageRow) (found : find row_serial s (alone page.tree) ≡ Some x) where
+module _ (page : PageValue) (w : Session) (valid : IsValid page) (s : ℕ) (x : Branch PageRow)
+    (found : find row_serial s (alone page.tree) ≡ Some x) where
   tells : CanTell page w → AllTell (alone x)
   tells can = tells-found s (alone page.tree) x (page-tells page w valid can) found
 

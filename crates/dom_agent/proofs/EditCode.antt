@@ -1,5 +1,6 @@
 -- What the code of an edit comes to.
-use Rattle.std.proofs.Common.{◌≡◌, ℕ, suc, ◌+◌, ◌-◌, ◌<◌, ◌≤◌, ◌==◌, true, false, cond, List, [], ◌∷◌, ◌++◌, Option, Some, None, IsSome, is_some, unwrap_or, Result, Ok, Err, refl, sym, ap, subst, ◌∙◌, arith}
+use Rattle.std.proofs.Common.{◌≡◌, ℕ, suc, ◌+◌, ◌-◌, ◌<◌, ◌≤◌, ◌==◌, true, false, cond, List, [], ◌∷◌, ◌++◌, Option, Some, None, IsSome}
+use Rattle.std.proofs.Common.{is_some, unwrap_or, Result, Ok, Err, refl, sym, ap, subst, ◌∙◌, arith}
 use Rattle.std.proofs.lemmas.Bool.{eq-eqb}
 use Rattle.std.specs.Result.{OnOk, IfOk, IsOkAnd}
 use Rattle.std.specs.declared.alloc.AllocError.{AllocError}
@@ -35,23 +36,28 @@ on_ok (Ok x) p f = f p
 on_ok (Err e) p f = tt
 
 -- an event that was made before the edit, and sent after it
-pub event_sent : {T : Type 0} (r : Result T EditErr) (event : Result (Option Event) AllocError) (out out2 frames wanted : List ℕ) → OnOk r (IsOkAnd event (λ told. out2 ≡ out ++ event_frames told)) → IfOk event (λ told. event_frames told ≡ frames) → frames ≡ wanted → OnOk r (out2 ≡ out ++ wanted)
+pub event_sent : {T : Type 0} (r : Result T EditErr) (event : Result (Option Event) AllocError) (out out2 frames wanted : List ℕ)
+    → OnOk r (IsOkAnd event (λ told. out2 ≡ out ++ event_frames told)) → IfOk event (λ told. event_frames told ≡ frames) → frames ≡ wanted
+    → OnOk r (out2 ≡ out ++ wanted)
 event_sent (Ok x) (Ok told) out out2 frames wanted sent is same = sent ∙ ap (λ l. out ++ l) (is ∙ same)
 event_sent (Ok x) (Err e) out out2 frames wanted sent is same = absurd sent
 event_sent (Err e) event out out2 frames wanted sent is same = tt
 
 -- the same edit, by the agent's value
-pub by_agent : (page : PageValue) (b self : BindingValue) (e edit : TreeEdit) → b ≡ self → edit ≡ e → binding_edited e page b ≡ binding_edited edit page self
+pub by_agent : (page : PageValue) (b self : BindingValue) (e edit : TreeEdit) → b ≡ self → edit ≡ e
+    → binding_edited e page b ≡ binding_edited edit page self
 by_agent page b self e edit value_is edit_is = λ k. binding_edited (sym edit_is k) page (value_is k)
 
 -- ---- the sibling before
 
-module _ (ids : ℕ → ℕ) (n : Nodes PageRow) (k : ℕ) (x : Branch PageRow) (serial p q : ℕ) (inside : k < width n) (at : tree_at k n ≡ Some x) (was : id_before ids p serial (from k n) ≡ q) where
+module _ (ids : ℕ → ℕ) (n : Nodes PageRow) (k : ℕ) (x : Branch PageRow) (serial p q : ℕ) (inside : k < width n) (at : tree_at k n ≡ Some x)
+    (was : id_before ids p serial (from k n) ≡ q) where
   here : cond {A = ℕ} (x.row.serial == serial) p (id_before ids (ids x.row.serial) serial (from (k + 1) n)) ≡ q
   here = sym (ap (id_before ids p serial) (from-next n k x inside at)) ∙ was
 
   pub prior_found : x.row.serial ≡ serial → p ≡ q
-  prior_found same = sym (ap (λ b. cond {A = ℕ} b p (id_before ids (ids x.row.serial) serial (from (k + 1) n))) (eq-eqb x.row.serial serial same)) ∙ here
+  prior_found same = sym (ap (λ b. cond {A = ℕ} b p (id_before ids (ids x.row.serial) serial (from (k + 1) n)))
+      (eq-eqb x.row.serial serial same)) ∙ here
 
   pub prior_turn : (x.row.serial == serial) ≡ false → id_before ids (ids x.row.serial) serial (from (k + 1) n) ≡ q
   prior_turn other = sym (ap (λ b. cond {A = ℕ} b p (id_before ids (ids x.row.serial) serial (from (k + 1) n))) other) ∙ here
@@ -61,11 +67,14 @@ prior_end ids left serial p q framed was = sym (ap (id_before ids p serial) fram
 
 -- ---- a node that has come, as an event tells it
 
-pub came_sent : {E : Type 0} (r : Result (Unit {0}) E) (b : BindingValue) (parent above id previous : ℕ) (x : Branch PageRow) (kids : Nodes PageRow) (out out2 : List ℕ) → above ≡ id_in b parent → id ≡ id_in b x.row.serial
-    → previous ≡ id_before (id_in b) 0 x.row.serial kids → OnOk r (out2 ≡ out ++ frames_of_moves (change above (inserts previous (unopened id x)) ∷ []))
+pub came_sent : {E : Type 0} (r : Result (Unit {0}) E) (b : BindingValue) (parent above id previous : ℕ) (x : Branch PageRow)
+    (kids : Nodes PageRow) (out out2 : List ℕ) → above ≡ id_in b parent → id ≡ id_in b x.row.serial
+    → previous ≡ id_before (id_in b) 0 x.row.serial kids
+    → OnOk r (out2 ≡ out ++ frames_of_moves (change above (inserts previous (unopened id x)) ∷ []))
     → (n : Nodes PageRow) → OnOk r (out2 ≡ out ++ frames_of_moves (insertion (binding_keeper n) parent x kids b ∷ []))
 came_sent r b parent above id previous x kids out out2 above_is id_is previous_is sent n =
-    subst (λ (m : Move). OnOk r (out2 ≡ out ++ frames_of_moves (m ∷ []))) (λ k. change (above_is k) (inserts (previous_is k) (unopened (id_is k) x))) sent
+    subst (λ (m : Move). OnOk r (out2 ≡ out ++ frames_of_moves (m ∷ [])))
+    (λ k. change (above_is k) (inserts (previous_is k) (unopened (id_is k) x))) sent
 
 -- ---- a node that goes
 
@@ -81,16 +90,19 @@ module _ (page : PageValue) (valid : IsValid page) (serial : ℕ) (fits : first_
   pub removed_live : (parent : ℕ) → parent ≡ parent_at serial page.tree → IsSome (find_in parent page.tree)
   removed_live parent is = subst (λ (p : ℕ). is_some (find_in p page.tree) ≡ true) (sym is) (seen.part page valid serial can).live
 
-  fewer : width (node_at (parent_at serial page.tree) page.tree).children ≡ suc (width (children_at (parent_at serial page.tree) (after_tree (Detach serial) page.tree)))
+  fewer : width (node_at (parent_at serial page.tree) page.tree).children
+      ≡ suc (width (children_at (parent_at serial page.tree) (after_tree (Detach serial) page.tree)))
   fewer =
       let q = node_at (parent_at serial page.tree) page.tree in
-      width-inserted (inserted-taken serial (node_at serial page.tree) q.children (serial-live serial page.tree (seen.live3 page valid serial can)) (seen.part page valid serial can).child)
+      width-inserted (inserted-taken serial (node_at serial page.tree) q.children
+      (serial-live serial page.tree (seen.live3 page valid serial can)) (seen.part page valid serial can).child)
       ∙ ap (λ (c : Nodes PageRow). suc (width c)) (sym (seen.children_left page valid serial can))
 
   pub removed_some : (parent : ℕ) → parent ≡ parent_at serial page.tree → 1 ≤ width (node_at parent page.tree).children
   removed_some parent is = omega (arith, ap (λ (p : ℕ). width (node_at p page.tree).children) is, fewer)
 
-  pub removed_counts : (n : Nodes PageRow) (b : BindingValue) (parent above len : ℕ) → parent ≡ parent_at serial page.tree → opened_in b parent ≡ false → Some above ≡ map.get b.ids parent → len ≡ width (node_at parent page.tree).children
+  pub removed_counts : (n : Nodes PageRow) (b : BindingValue) (parent above len : ℕ) → parent ≡ parent_at serial page.tree
+      → opened_in b parent ≡ false → Some above ≡ map.get b.ids parent → len ≡ width (node_at parent page.tree).children
       → ◌≡◌ {A = List Move} (change above (counts (len - 1)) ∷ []) (edited (binding_keeper n) (Detach serial) page.tree b).moves
   removed_counts n b parent above len is shut known len_is =
       let kids = children_at (parent_at serial page.tree) (after_tree (Detach serial) page.tree) in
@@ -99,7 +111,9 @@ module _ (page : PageValue) (valid : IsValid page) (serial : ℕ) (fits : first_
       let known_there : map.get b.ids (parent_at serial page.tree) ≡ Some above = ap (map.get b.ids) (sym is) ∙ sym known in
       (λ k. change above (counts (left k)) ∷ [])
       ∙ sym (ap (λ (o : Option ℕ). cond (is_some o) (change (unwrap_or o 0) (counts (width kids)) ∷ []) []) known_there)
-      ∙ sym (ap (λ v. cond v (change (id_in b (parent_at serial page.tree)) (removes (id_in b (node_at serial page.tree).row.serial)) ∷ []) (cond (is_some (map.get b.ids (parent_at serial page.tree))) (change (id_in b (parent_at serial page.tree)) (counts (width kids)) ∷ []) [])) shut_there)
+      ∙ sym (ap (λ v. cond v (change (id_in b (parent_at serial page.tree)) (removes (id_in b (node_at serial page.tree).row.serial)) ∷ [])
+      (cond (is_some (map.get b.ids (parent_at serial page.tree)))
+      (change (id_in b (parent_at serial page.tree)) (counts (width kids)) ∷ []) [])) shut_there)
 
 -- ---- a node that came
 
@@ -107,21 +121,34 @@ module _ (n : Nodes PageRow) (b : BindingValue) (parent : ℕ) (x : Branch PageR
   abbrev of_binding : Keeper BindingValue
   of_binding = binding_keeper n
 
-  pub came_shut : opened_in b parent ≡ false → child_came of_binding parent x kids b ≡ record { state = b; moves = told_count of_binding parent kids b }
-  came_shut shut = ap (λ v. cond v (record { state = with_bound x.row.serial b; moves = insertion of_binding parent x kids (with_bound x.row.serial b) ∷ [] }) (record { state = b; moves = told_count of_binding parent kids b })) shut
+  pub came_shut : opened_in b parent ≡ false
+      → child_came of_binding parent x kids b ≡ record { state = b; moves = told_count of_binding parent kids b }
+  came_shut shut = ap (λ v. cond v
+      (record { state = with_bound x.row.serial b; moves = insertion of_binding parent x kids (with_bound x.row.serial b) ∷ [] })
+      (record { state = b; moves = told_count of_binding parent kids b })) shut
 
-  pub came_open : opened_in b parent ≡ true → child_came of_binding parent x kids b ≡ record { state = with_bound x.row.serial b; moves = insertion of_binding parent x kids (with_bound x.row.serial b) ∷ [] }
-  came_open is = ap (λ v. cond v (record { state = with_bound x.row.serial b; moves = insertion of_binding parent x kids (with_bound x.row.serial b) ∷ [] }) (record { state = b; moves = told_count of_binding parent kids b })) is
+  pub came_open : opened_in b parent ≡ true
+      → child_came of_binding parent x kids b
+      ≡ record { state = with_bound x.row.serial b; moves = insertion of_binding parent x kids (with_bound x.row.serial b) ∷ [] }
+  came_open is = ap (λ v. cond v
+      (record { state = with_bound x.row.serial b; moves = insertion of_binding parent x kids (with_bound x.row.serial b) ∷ [] })
+      (record { state = b; moves = told_count of_binding parent kids b })) is
 
-pub inserted_sent : (n : Nodes PageRow) (b b2 : BindingValue) (parent serial : ℕ) (x y : Branch PageRow) (kids kids2 : Nodes PageRow) (out out2 : List ℕ) → y ≡ x → kids2 ≡ kids → serial ≡ y.row.serial → b2 ≡ with_bound serial b → opened_in b parent ≡ true
-    → out2 ≡ out ++ frames_of_moves (insertion (binding_keeper n) parent y kids2 b2 ∷ []) → out2 ≡ out ++ frames_of_moves (child_came (binding_keeper n) parent x kids b).moves
+pub inserted_sent : (n : Nodes PageRow) (b b2 : BindingValue) (parent serial : ℕ) (x y : Branch PageRow) (kids kids2 : Nodes PageRow)
+    (out out2 : List ℕ) → y ≡ x → kids2 ≡ kids → serial ≡ y.row.serial → b2 ≡ with_bound serial b → opened_in b parent ≡ true
+    → out2 ≡ out ++ frames_of_moves (insertion (binding_keeper n) parent y kids2 b2 ∷ [])
+    → out2 ≡ out ++ frames_of_moves (child_came (binding_keeper n) parent x kids b).moves
 inserted_sent n b b2 parent serial x y kids kids2 out out2 node_is kids_are serial_is bound is sent =
-    let after_is : b2 ≡ with_bound x.row.serial b = bound ∙ ap (λ (s : ℕ). with_bound s b) serial_is ∙ ap (λ (t : Branch PageRow). with_bound t.row.serial b) node_is in
-    let moves : ◌≡◌ {A = List Move} (insertion (binding_keeper n) parent y kids2 b2 ∷ []) (child_came (binding_keeper n) parent x kids b).moves =
-    (λ k. insertion (binding_keeper n) parent (node_is k) (kids_are k) (after_is k) ∷ []) ∙ sym (ap (λ (d : Edited BindingValue). d.moves) (came_open n b parent x kids is)) in
+    let after_is : b2 ≡ with_bound x.row.serial b = bound ∙ ap (λ (s : ℕ). with_bound s b) serial_is ∙ ap
+    (λ (t : Branch PageRow). with_bound t.row.serial b) node_is in
+    let moves : ◌≡◌ {A = List Move} (insertion (binding_keeper n) parent y kids2 b2 ∷ [])
+    (child_came (binding_keeper n) parent x kids b).moves =
+    (λ k. insertion (binding_keeper n) parent (node_is k) (kids_are k) (after_is k) ∷ []) ∙ sym
+    (ap (λ (d : Edited BindingValue). d.moves) (came_open n b parent x kids is)) in
     sent ∙ ap (λ ms. out ++ frames_of_moves ms) moves
 
-module _ (page : PageValue) (valid : IsValid page) (parent before : ℕ) (x : Branch PageRow) (fits : first_fault (Attach parent before x) page.tree ≡ None) (ready : CanAttach page.next x page.tree)
+module _ (page : PageValue) (valid : IsValid page) (parent before : ℕ) (x : Branch PageRow)
+    (fits : first_fault (Attach parent before x) page.tree ≡ None) (ready : CanAttach page.next x page.tree)
     (page2 : PageValue) (after_is : page2 ≡ after (Attach parent before x) page) where
   can_attach : CanApply page.next (Attach parent before x) page.tree
   can_attach = record { fits = fits; ready = ready }
@@ -137,12 +164,15 @@ module _ (page : PageValue) (valid : IsValid page) (parent before : ℕ) (x : Br
       let at = seen.at page valid parent before x can_attach in
       let p : Branch PageRow = node_at parent page.tree in
       let above : Stands (with_child before x p) (alone there.tree) = (at.0, alone there.tree, at-new at.1) in
-      find-stands row_serial x (alone there.tree) (stands-below (with_child before x p) x (alone there.tree) above (stands-inserted (inserted-before before x p.children))) (distinct-alone there valid_after x.row.serial)
+      find-stands row_serial x (alone there.tree)
+      (stands-below (with_child before x p) x (alone there.tree) above (stands-inserted (inserted-before before x p.children)))
+      (distinct-alone there valid_after x.row.serial)
 
   pub came_parent : IsSome (find_in parent page2.tree)
   came_parent =
       subst (λ (y : PageValue). is_some (find_in parent y.tree) ≡ true) (sym after_is)
-      (turned-live parent (with_child before x) page.tree (seen.live page valid parent before x can_attach) (whole-after page.next page.tree (whole-valid page valid) (Attach parent before x) can_attach) refl)
+      (turned-live parent (with_child before x) page.tree (seen.live page valid parent before x can_attach)
+      (whole-after page.next page.tree (whole-valid page valid) (Attach parent before x) can_attach) refl)
 
   pub came_child : (serial : ℕ) → serial ≡ x.row.serial → IsSome (find_in serial page2.tree)
   came_child serial is =
@@ -150,8 +180,10 @@ module _ (page : PageValue) (valid : IsValid page) (parent before : ℕ) (x : Br
       (subst (λ (s : ℕ). is_some (find_in s there.tree) ≡ true) (sym is) (ap (λ (o : Option (Branch PageRow)). is_some o) found_child))
 
   pub came_same : (n : Nodes PageRow) (b : BindingValue) (serial : ℕ) → serial ≡ x.row.serial
-      → child_came (binding_keeper n) parent (node_at serial page2.tree) (children_at parent page2.tree) b ≡ edited (binding_keeper n) (Attach parent before x) page.tree b
+      → child_came (binding_keeper n) parent (node_at serial page2.tree) (children_at parent page2.tree) b
+      ≡ edited (binding_keeper n) (Attach parent before x) page.tree b
   came_same n b serial is =
       ap (λ (y : PageValue). child_came (binding_keeper n) parent (node_at serial y.tree) (children_at parent y.tree) b) after_is
       ∙ ap (λ (s : ℕ). child_came (binding_keeper n) parent (node_at s there.tree) (children_at parent there.tree) b) is
-      ∙ ap (λ (o : Option (Branch PageRow)). child_came (binding_keeper n) parent (unwrap_or o there.tree) (children_at parent there.tree) b) found_child
+      ∙ ap (λ (o : Option (Branch PageRow)). child_came (binding_keeper n) parent (unwrap_or o there.tree)
+      (children_at parent there.tree) b) found_child

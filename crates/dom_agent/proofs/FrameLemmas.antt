@@ -21,22 +21,30 @@ pub move_sent : (m : Move) (out out2 : List ℕ) → out2 ≡ out ++ framed (mov
 move_sent m out out2 sent = sent ∙ ap (λ l. out ++ l) (sym (append-nil (framed (move_text m))))
 
 -- one move whose message was written token by token
-pub move_written : {E : Type 0} (written result : Result (Unit {0}) E) (old before now : List ℕ) (us ts : List Token) (d : Data) (m : Move) → compact_text d ≡ move_text m → us ≡ [] → OnOk written (ts ≡ us ++ data_tokens d) → before ≡ old
-    → (OnOk written (ts ≡ data_tokens d) → OnOk result (now ≡ before ++ framed (compact_text d))) → OnOk result (now ≡ old ++ frames_of_moves (m ∷ []))
-move_written written result old before now us ts d m same begun wrote kept done = by result (frame_sent written result old before now us ts d begun wrote kept done)
+pub move_written : {E : Type 0} (written result : Result (Unit {0}) E) (old before now : List ℕ) (us ts : List Token) (d : Data) (m : Move)
+    → compact_text d ≡ move_text m → us ≡ [] → OnOk written (ts ≡ us ++ data_tokens d) → before ≡ old
+    → (OnOk written (ts ≡ data_tokens d) → OnOk result (now ≡ before ++ framed (compact_text d)))
+    → OnOk result (now ≡ old ++ frames_of_moves (m ∷ []))
+move_written written result old before now us ts d m same begun wrote kept done = by result
+    (frame_sent written result old before now us ts d begun wrote kept done)
   where
-    by : {E : Type 0} (r : Result (Unit {0}) E) → OnOk r (now ≡ old ++ framed (compact_text d)) → OnOk r (now ≡ old ++ frames_of_moves (m ∷ []))
+    by : {E : Type 0} (r : Result (Unit {0}) E) → OnOk r (now ≡ old ++ framed (compact_text d))
+        → OnOk r (now ≡ old ++ frames_of_moves (m ∷ []))
     by (Ok u) sent = move_sent m old now (sent ∙ ap (λ t. old ++ framed t) same)
     by (Err e) sent = tt
 
 -- the children of an opened node
-pub shows_sent : {E : Type 0} (r : Result (Unit {0}) E) (b : BindingValue) (parent : ℕ) (x : Branch PageRow) (kids : Nodes PageRow) (out out2 : List ℕ) → parent ≡ id_in b x.row.serial → kids ≡ x.children
-    → OnOk r (out2 ≡ out ++ frames_of_moves (change parent (shows (cut (opened_in b) (id_in b) kids)) ∷ [])) → (n : Nodes PageRow) (d : Branch PageRow) → OnOk r (out2 ≡ out ++ frames_told (told_of (binding_keeper n) d x b ∷ []))
+pub shows_sent : {E : Type 0} (r : Result (Unit {0}) E) (b : BindingValue) (parent : ℕ) (x : Branch PageRow) (kids : Nodes PageRow)
+    (out out2 : List ℕ) → parent ≡ id_in b x.row.serial → kids ≡ x.children
+    → OnOk r (out2 ≡ out ++ frames_of_moves (change parent (shows (cut (opened_in b) (id_in b) kids)) ∷ []))
+    → (n : Nodes PageRow) (d : Branch PageRow) → OnOk r (out2 ≡ out ++ frames_told (told_of (binding_keeper n) d x b ∷ []))
 shows_sent r b parent x kids out out2 parent_is kids_are sent n d =
-    subst (λ (m : Move). OnOk r (out2 ≡ out ++ frames_of_moves (m ∷ []))) (λ k. change (parent_is k) (shows (cut (opened_in b) (id_in b) (kids_are k)))) sent
+    subst (λ (m : Move). OnOk r (out2 ≡ out ++ frames_of_moves (m ∷ [])))
+    (λ k. change (parent_is k) (shows (cut (opened_in b) (id_in b) (kids_are k)))) sent
 
 -- openings, and then the reply
-pub served_sent : (xs : List Showing) (id : ℕ) (body : ReplyBody) (out out1 out2 : List ℕ) → out1 ≡ out ++ frames_told xs → out2 ≡ out1 ++ frames_of_moves (replied id body ∷ []) → out2 ≡ out ++ frames_of_moves (opening_moves xs ++ replied id body ∷ [])
+pub served_sent : (xs : List Showing) (id : ℕ) (body : ReplyBody) (out out1 out2 : List ℕ) → out1 ≡ out ++ frames_told xs
+    → out2 ≡ out1 ++ frames_of_moves (replied id body ∷ []) → out2 ≡ out ++ frames_of_moves (opening_moves xs ++ replied id body ∷ [])
 served_sent xs id body out out1 out2 first reply =
     reply
     ∙ ap (λ l. l ++ frames_of_moves (replied id body ∷ [])) first

@@ -1,5 +1,6 @@
 -- A step is a list of moves, and its reply is one of the command's.
-use Rattle.std.proofs.Common.{◌≡◌, ℕ, ℤ, ◌+◌, ◌≤◌, pos, true, false, List, [], ◌∷◌, length, length-append, Option, unwrap_or, refl, sym, ◌∙◌, arith}
+use Rattle.std.proofs.Common.{◌≡◌, ℕ, ℤ, ◌+◌, ◌≤◌, pos, true, false, List, [], ◌∷◌, length, length-append, Option, unwrap_or, refl, sym}
+use Rattle.std.proofs.Common.{◌∙◌, arith}
 use Rattle.cdp_json.specs.Kinds.{is_counted}
 use Rattle.node_tree.specs.Nodes.{Nodes, Branch, alone, node_count}
 use Rattle.page_tree.specs.Pages.{PageRow, PageValue}
@@ -8,9 +9,11 @@ use Rattle.node_binding.specs.Openings.{levels_of, above}
 use Rattle.node_binding.specs.Sessions.{Session, IsSession, document_opened}
 use Rattle.node_binding.proofs.Known.{length-known}
 use Rattle.cdp_messages.specs.declared.dom_ask.DomAsk.{DomAsk}
-use Rattle.cdp_messages.specs.declared.dom_ask.DomAsk.TheVariants.{GetDocument, RequestChildNodes, PushByPath, PushBySerials, QuerySelector, QuerySelectorAll, GetAttributes, DescribeNode}
+use Rattle.cdp_messages.specs.declared.dom_ask.DomAsk.TheVariants.{GetDocument, RequestChildNodes, PushByPath, PushBySerials, QuerySelector}
+use Rattle.cdp_messages.specs.declared.dom_ask.DomAsk.TheVariants.{QuerySelectorAll, GetAttributes, DescribeNode}
 use Rattle.cdp_messages.specs.declared.down.ReplyBody.{ReplyBody}
-use Rattle.cdp_messages.specs.declared.down.ReplyBody.TheVariants.{Nothing, Root, Node, NodeId, NodeIds, Attributes, ClassNames, SheetText, Styles, Selectors, Rule, Matched}
+use Rattle.cdp_messages.specs.declared.down.ReplyBody.TheVariants.{Nothing, Root, Node, NodeId, NodeIds, Attributes, ClassNames, SheetText}
+use Rattle.cdp_messages.specs.declared.down.ReplyBody.TheVariants.{Styles, Selectors, Rule, Matched}
 use Rattle.cdp_messages.specs.DomAsks.{ask_name, fits_ask}
 use Rattle.cdp_messages.specs.Laws.{answers}
 use Rattle.cdp_messages.specs.Views.{ShownSheet, View}
@@ -24,7 +27,8 @@ use Rattle.dom_agent.proofs.TellableLemmas.{can_say}
 
 -- the command's reply is no document, and no text of a sheet
 abbrev TellsNoView : DomAsk → Type 0
-TellsNoView c = ((b : Branch Told) → answers (ask_name c) (Root b) ≡ false) × ((text : List ℕ) → answers (ask_name c) (SheetText text) ≡ false)
+TellsNoView c = ((b : Branch Told) → answers (ask_name c) (Root b) ≡ false)
+    × ((text : List ℕ) → answers (ask_name c) (SheetText text) ≡ false)
 
 -- a reply that is neither
 is_no_view : (c : DomAsk) (body : ReplyBody) → TellsNoView c → answers (ask_name c) body ≡ true → tells_view body ≡ false
@@ -41,16 +45,25 @@ is_no_view c (Selectors selectors) other is = refl
 is_no_view c (Rule rule) other is = refl
 is_no_view c (Matched matched) other is = refl
 
-plain : (c : DomAsk) (id : ℕ) (body : ReplyBody) → TellsNoView c → is_counted id ≡ true → CanSpell body → answers (ask_name c) body ≡ true → IsPlainReply id body
-plain c id body other small spells is = record { id_fits = small; plain = is_no_view c body other is; fits = spells.fits; texts = spells.texts; levels = spells.levels }
+plain : (c : DomAsk) (id : ℕ) (body : ReplyBody) → TellsNoView c → is_counted id ≡ true → CanSpell body → answers (ask_name c) body ≡ true
+    → IsPlainReply id body
+plain c id body other small spells is = record {
+  id_fits = small;
+  plain = is_no_view c body other is;
+  fits = spells.fits;
+  texts = spells.texts;
+  levels = spells.levels;
+}
 
 -- a reply alone
 replied_course : (id : ℕ) (body : ReplyBody) (v : View) → IsPlainReply id body → CanBeTold v → Course (replied id body ∷ []) v v
 replied_course id body v is told = goes (replied id body) [] v v v told (refl, is) (ends v told)
 
-module _ (page : PageValue) (c : DomAsk) (w : Session) (id : ℕ) (sheets : List ShownSheet) (session : IsSession (alone page.tree) w) (can : CanTell page w) (small : is_counted id ≡ true)
+module _ (page : PageValue) (c : DomAsk) (w : Session) (id : ℕ) (sheets : List ShownSheet) (session : IsSession (alone page.tree) w)
+    (can : CanTell page w) (small : is_counted id ≡ true)
     (say : CanSay (alone page.tree) (length w.pushed + node_count (alone page.tree)) sheets) where
-  moved : (out : Outcome Session) → TellsNoView c → OutcomeGoes page c w out → Course (moves_of id out) (session_view w page sheets) (session_view (state_after w out) page sheets)
+  moved : (out : Outcome Session) → TellsNoView c → OutcomeGoes page c w out
+      → Course (moves_of id out) (session_view w page sheets) (session_view (state_after w out) page sheets)
   moved (shows_root z b) other g = absurd g
   moved (served p body) other g =
       let few : length p.state.pushed ≤ length w.pushed + node_count (alone page.tree) = goes-few (alone page.tree) w p.state p.shown g.0 in
@@ -58,11 +71,15 @@ module _ (page : PageValue) (c : DomAsk) (w : Session) (id : ℕ) (sheets : List
       (replied_course id body (session_view p.state page sheets) (plain c id body other small (g.1 can) g.2) (say p.state g.0.session few))
   moved (refused why) other g =
       let told = say w session (omega arith) in
-      goes (failed _) [] (session_view w page sheets) (session_view w page sheets) (session_view w page sheets) told (refl, small) (ends (session_view w page sheets) told)
+      goes (failed _) [] (session_view w page sheets) (session_view w page sheets) (session_view w page sheets) told (refl, small)
+      (ends (session_view w page sheets) told)
 
-  document_moved : (depth : Option ℤ) (z : Session) (b : Branch _) → CanBeTold (session_view z page sheets) → session_view z page sheets ≡ record { tree = alone b; sheets = sheets } → Course (root id b ∷ []) (session_view w page sheets) (session_view z page sheets)
+  document_moved : (depth : Option ℤ) (z : Session) (b : Branch _) → CanBeTold (session_view z page sheets)
+      → session_view z page sheets ≡ record { tree = alone b; sheets = sheets }
+      → Course (root id b ∷ []) (session_view w page sheets) (session_view z page sheets)
   document_moved depth z b told is =
-      goes (root id b) [] (session_view w page sheets) (session_view z page sheets) (session_view z page sheets) (say w session (omega arith)) (is, small) (ends (session_view z page sheets) told)
+      goes (root id b) [] (session_view w page sheets) (session_view z page sheets) (session_view z page sheets)
+      (say w session (omega arith)) (is, small) (ends (session_view z page sheets) told)
 
 tells_no_view : (c : DomAsk) → IsOther c → TellsNoView c
 tells_no_view (GetDocument depth pierce) other = absurd other
@@ -78,12 +95,16 @@ pub steps_are_moves : StepsAreMoves
 steps_are_moves page ask w id sheets valid fits session can small can_sheets =
     let n : Nodes PageRow = alone page.tree in
     let say = can_say page w sheets valid can can_sheets in
-    either_ask (λ c. fits_ask c ≡ true → (let o = session_outcome page c w in Course (moves_of id o) (session_view w page sheets) (session_view (state_after w o) page sheets)))
+    either_ask (λ c. fits_ask c ≡ true
+    → (let o = session_outcome page c w in Course (moves_of id o) (session_view w page sheets)
+    (session_view (state_after w o) page sheets)))
     (λ depth pierce h. (let d : Option ℕ = levels_of (unwrap_or depth (pos 1)) in
     let z : Session = document_opened d n w in
     document_moved page (GetDocument depth pierce) w id sheets session can small say depth z _
-    (say z (stays_session page (GetDocument depth pierce) w valid h session) (omega (arith, length-append w.pushed (known (above d n) n), length-known (above d n) n))) refl))
-    (λ c other h. moved page c w id sheets session can small say (session_outcome page c w) (tells_no_view c other) (asks-go page valid c other w session))
+    (say z (stays_session page (GetDocument depth pierce) w valid h session)
+    (omega (arith, length-append w.pushed (known (above d n) n), length-known (above d n) n))) refl))
+    (λ c other h. moved page c w id sheets session can small say (session_outcome page c w) (tells_no_view c other)
+    (asks-go page valid c other w session))
     ask fits
 
 -- ---- the reply
@@ -95,4 +116,5 @@ answered page c w (refused why) g = tt
 
 pub replies_answer : RepliesAnswer
 replies_answer page ask w valid fits session =
-    either_ask (λ c. IsReplyTo c (session_outcome page c w)) (λ depth pierce. refl) (λ c other. answered page c w (session_outcome page c w) (asks-go page valid c other w session)) ask
+    either_ask (λ c. IsReplyTo c (session_outcome page c w)) (λ depth pierce. refl)
+    (λ c other. answered page c w (session_outcome page c w) (asks-go page valid c other w session)) ask

@@ -1,5 +1,6 @@
 -- What a request makes known, in document order.
-use Rattle.std.proofs.Common.{◌≡◌, ℕ, ◌+◌, ◌<◌, ◌≤◌, ◌==◌, Bool, true, false, cond, not, ◌&&◌, ◌||◌, List, [], ◌∷◌, ◌++◌, append-nil, append_assoc, Option, refl, sym, ap, ◌∙◌, arith}
+use Rattle.std.proofs.Common.{◌≡◌, ℕ, ◌+◌, ◌<◌, ◌≤◌, ◌==◌, Bool, true, false, cond, not, ◌&&◌, ◌||◌, List, [], ◌∷◌, ◌++◌, append-nil}
+use Rattle.std.proofs.Common.{append_assoc, Option, refl, sym, ap, ◌∙◌, arith}
 use Rattle.std.specs.List.{filter}
 use Rattle.node_tree.specs.Nodes.{Nodes, none, node, Branch, alone}
 use Rattle.node_tree.specs.Keys.{tally}
@@ -14,7 +15,8 @@ use Rattle.node_binding.proofs.Known.{known-tally}
 use Rattle.node_binding.proofs.SessionLemmas.{times-known}
 use Rattle.node_binding.proofs.GrowLemmas.{if_holds}
 use Rattle.node_binding.proofs.OpeningLemmas.{AreDistinct, goes_on, self_times, at_root, in_children, in_rest, known-levelled}
-use Rattle.node_binding.proofs.AnewLemmas.{anew-same, same_part, anew-opened, unopened-at, closed_below, is_opened_row, and-first, and-second}
+use Rattle.node_binding.proofs.AnewLemmas.{anew-same, same_part, anew-opened, unopened-at, closed_below, is_opened_row, and-first}
+use Rattle.node_binding.proofs.AnewLemmas.{and-second}
 use Rattle.node_binding.proofs.OpenedLemmas.{IsSession-opened}
 use Rattle.node_binding.proofs.InViewLemmas.{InView, root, child, later, in_view-tally}
 use Rattle.dom_agent.specs.Keepers.{session_keeper}
@@ -26,7 +28,8 @@ use Rattle.dom_agent.proofs.OpeningsLemmas.{AreOpenings}
 filter_on : (p q : ℕ → Bool) (xs : List ℕ) → ((s : ℕ) → 0 < times s xs → p s ≡ q s) → filter p xs ≡ filter q xs
 filter_on p q [] h = refl
 filter_on p q (x ∷ xs) h =
-    ap (λ b. cond b (x ∷ filter p xs) (filter p xs)) (h x (first x xs)) ∙ ap (λ l. cond (q x) (x ∷ l) l) (filter_on p q xs (λ s k. h s (omega arith)))
+    ap (λ b. cond b (x ∷ filter p xs) (filter p xs)) (h x (first x xs)) ∙ ap (λ l. cond (q x) (x ∷ l) l)
+    (filter_on p q xs (λ s k. h s (omega arith)))
 
 filter_whole : (p : ℕ → Bool) (xs : List ℕ) → ((s : ℕ) → 0 < times s xs → p s ≡ true) → filter p xs ≡ xs
 filter_whole p [] h = refl
@@ -37,7 +40,8 @@ filter_append : (p : ℕ → Bool) (xs ys : List ℕ) → filter p (xs ++ ys) �
 filter_append p [] ys = refl
 filter_append p (x ∷ xs) ys = ap (λ l. cond (p x) (x ∷ l) l) (filter_append p xs ys) ∙ kept (p x)
   where
-    kept : (b : Bool) → cond b (x ∷ (filter p xs ++ filter p ys)) (filter p xs ++ filter p ys) ≡ cond b (x ∷ filter p xs) (filter p xs) ++ filter p ys
+    kept : (b : Bool) → cond b (x ∷ (filter p xs ++ filter p ys)) (filter p xs ++ filter p ys)
+        ≡ cond b (x ∷ filter p xs) (filter p xs) ++ filter p ys
     kept true = refl
     kept false = refl
 
@@ -56,7 +60,8 @@ module _ (o q : ℕ → Bool) (grows : (s : ℕ) → o s ≡ true → q s ≡ tr
   abbrev fresh : Nodes PageRow → ℕ → Bool
   fresh n s = not (stands_in s (known o n))
 
-  children_new : (a b : Bool) (p : ℕ → Bool) (old new : List ℕ) (shown : List ℕ) → (a ≡ true → b ≡ true) → (a ≡ true → filter p new ≡ shown) → (a ≡ false → filter p new ≡ new) → filter p (cond b new []) ≡ cond a shown (cond b new [])
+  children_new : (a b : Bool) (p : ℕ → Bool) (old new : List ℕ) (shown : List ℕ) → (a ≡ true → b ≡ true)
+      → (a ≡ true → filter p new ≡ shown) → (a ≡ false → filter p new ≡ new) → filter p (cond b new []) ≡ cond a shown (cond b new [])
   children_new true true p old new shown up f g = f refl
   children_new true false p old new shown up f g = let no : false ≡ true = up refl in cc
   children_new false true p old new shown up f g = g refl
@@ -70,19 +75,26 @@ module _ (o q : ℕ → Bool) (grows : (s : ℕ) → o s ≡ true → q s ≡ tr
       let kids : List ℕ = cond (opens q r) (known q c) [] in
       let root_known : p r.serial ≡ false = ap not (times-is_in (known o n) r.serial (first r.serial _)) in
       let in_t : (s : ℕ) → 0 < times s (known q t) → p s ≡ fresh t s = λ s h.
-      as_often s (known o n) (known o t) (times-known o (λ k. k) s r c t ∙ zeros (opens o r) _ (times s (known o c)) _ (omega (arith, known-tally q s t, distinct s)) (omega (arith, known-tally q s t, known-tally o s c, distinct s))) in
+      as_often s (known o n) (known o t)
+      (times-known o (λ k. k) s r c t ∙ zeros (opens o r) _ (times s (known o c)) _ (omega (arith, known-tally q s t, distinct s))
+      (omega (arith, known-tally q s t, known-tally o s c, distinct s))) in
       let opened_c : opens o r ≡ true → (s : ℕ) → 0 < times s (known q c) → p s ≡ fresh c s = λ e s h.
-      as_often s (known o n) (known o c) (times-known o (λ k. k) s r c t ∙ open_kids (opens o r) _ (times s (known o c)) _ e (omega (arith, known-tally q s c, distinct s)) (omega (arith, known-tally q s c, known-tally o s t, distinct s))) in
+      as_often s (known o n) (known o c)
+      (times-known o (λ k. k) s r c t ∙ open_kids (opens o r) _ (times s (known o c)) _ e
+      (omega (arith, known-tally q s c, distinct s)) (omega (arith, known-tally q s c, known-tally o s t, distinct s))) in
       let shut_c : opens o r ≡ false → (s : ℕ) → 0 < times s (known q c) → p s ≡ true = λ e s h.
-      ap (λ m. not (not (m == 0))) (times-known o (λ k. k) s r c t ∙ shut_kids (opens o r) _ (times s (known o c)) _ e (omega (arith, known-tally q s c, distinct s)) (omega (arith, known-tally q s c, known-tally o s t, distinct s))) in
+      ap (λ m. not (not (m == 0))) (times-known o (λ k. k) s r c t ∙ shut_kids (opens o r) _ (times s (known o c)) _ e
+      (omega (arith, known-tally q s c, distinct s)) (omega (arith, known-tally q s c, known-tally o s t, distinct s))) in
       let first_part : filter p kids ≡ cond (opens o r) (shown_anew o q c) (cond (opens q r) (known q c) []) =
-      children_new (opens o r) (opens q r) p (known o c) (known q c) (shown_anew o q c) (if_holds (holds r.label.kind) (o r.serial) (q r.serial) (grows r.serial))
+      children_new (opens o r) (opens q r) p (known o c) (known q c) (shown_anew o q c)
+      (if_holds (holds r.label.kind) (o r.serial) (q r.serial) (grows r.serial))
       (λ e. filter_on p (fresh c) (known q c) (opened_c e) ∙ sym (anew-filter c (λ s. omega (arith, distinct s))))
       (λ e. filter_whole p (known q c) (shut_c e)) in
       sym (ap (λ b. cond b (r.serial ∷ filter p (kids ++ known q t)) (filter p (kids ++ known q t))) root_known
       ∙ filter_append p kids (known q t)
       ∙ ap (λ l. l ++ filter p (known q t)) first_part
-      ∙ ap (λ l. cond (opens o r) (shown_anew o q c) (cond (opens q r) (known q c) []) ++ l) (filter_on p (fresh t) (known q t) in_t ∙ sym (anew-filter t (λ s. omega (arith, distinct s)))))
+      ∙ ap (λ l. cond (opens o r) (shown_anew o q c) (cond (opens q r) (known q c) []) ++ l)
+      (filter_on p (fresh t) (known q t) in_t ∙ sym (anew-filter t (λ s. omega (arith, distinct s)))))
     where
       zeros : (g : Bool) (a b k : ℕ) → a ≡ 0 → b ≡ 0 → a + (cond {A = ℕ} g b 0 + k) ≡ k
       zeros g a b k e f = omega (arith, if_none g b f)
@@ -108,22 +120,27 @@ all_levelled (x ∷ xs) = levelled (less x.levels) x.node.children ++ all_levell
 all_levelled-append : (xs ys : List Opening) → all_levelled (xs ++ ys) ≡ all_levelled xs ++ all_levelled ys
 all_levelled-append [] ys = refl
 all_levelled-append (x ∷ xs) ys =
-    ap (λ l. levelled (less x.levels) x.node.children ++ l) (all_levelled-append xs ys) ∙ sym (append_assoc (levelled (less x.levels) x.node.children) (all_levelled xs) (all_levelled ys))
+    ap (λ l. levelled (less x.levels) x.node.children ++ l) (all_levelled-append xs ys) ∙ sym
+    (append_assoc (levelled (less x.levels) x.node.children) (all_levelled xs) (all_levelled ys))
 
 module _ (n : Nodes PageRow) (document : Branch PageRow) where
-  pub pushed-all : (xs : List Opening) (o : ℕ → Bool) (pushed : List ℕ) (since : ℕ) → (all_opened (session_keeper n) document xs (session_of o pushed since)).state.pushed ≡ pushed ++ anew_all n o xs
+  pub pushed-all : (xs : List Opening) (o : ℕ → Bool) (pushed : List ℕ) (since : ℕ)
+      → (all_opened (session_keeper n) document xs (session_of o pushed since)).state.pushed ≡ pushed ++ anew_all n o xs
   pushed-all [] o pushed since = sym (append-nil pushed)
   pushed-all (x ∷ xs) o pushed since =
       let p : ℕ → Bool = opened_also x.levels x.node o in
       pushed-all xs p (pushed ++ shown_anew o p n) since ∙ append_assoc pushed (shown_anew o p n) (anew_all n p xs)
 
-  pub anew-all : (xs : List Opening) (o : ℕ → Bool) (pushed : List ℕ) (since : ℕ) → AreDistinct n → AreOpenings n o xs → IsSession n (session_of o pushed since) → anew_all n o xs ≡ all_levelled xs
+  pub anew-all : (xs : List Opening) (o : ℕ → Bool) (pushed : List ℕ) (since : ℕ) → AreDistinct n → AreOpenings n o xs
+      → IsSession n (session_of o pushed since) → anew_all n o xs ≡ all_levelled xs
   anew-all [] o pushed since distinct are session = refl
   anew-all (x ∷ xs) o pushed since distinct are session =
       let p : ℕ → Bool = opened_also x.levels x.node o in
       let can : CanOpen n o x.node = are.1 in
       let after = IsSession-opened x.levels n x.node o pushed since distinct are.0 can session in
-      ap (λ l. l ++ anew_all n p xs) (anew-opened o x.levels are.0 x.node n distinct can.stands (is_in-times (known o n) x.node.row.serial can.known_now) can.shut can.container session.opened_set.closed)
+      ap (λ l. l ++ anew_all n p xs)
+      (anew-opened o x.levels are.0 x.node n distinct can.stands
+      (is_in-times (known o n) x.node.row.serial can.known_now) can.shut can.container session.opened_set.closed)
       ∙ ap (λ l. levelled (less x.levels) x.node.children ++ l) (anew-all xs p (pushed ++ shown_anew o p n) since distinct are.2 after)
 
 -- ---- what a request makes known, in document order
@@ -144,44 +161,71 @@ module _ (o q : ℕ → Bool) where
       → (g ≡ true → a ≡ true → shown_anew o q c ≡ all_levelled (requested o (less d) c))
       → (g ≡ true → a ≡ false → (b ≡ true) × (known q c ≡ levelled (less d) c))
       → (g ≡ false → (a ≡ b) × (shown_anew o q c ≡ []))
-      → cond (cond h a false) (shown_anew o q c) (cond (cond h b false) (known q c) []) ≡ all_levelled (cond g (cond a (requested o (less d) c) (record { levels = d; node = record { row = r; children = c } } ∷ [])) [])
+      → cond (cond h a false) (shown_anew o q c) (cond (cond h b false) (known q c) [])
+      ≡ all_levelled (cond g (cond a (requested o (less d) c) (record { levels = d; node = record { row = r; children = c } } ∷ [])) [])
   one_tree d r c true h l true b g_is a_is b_is was now apart = container h l g_is (was refl refl)
     where
-      container : (h l : Bool) → (h && not l) ≡ true → shown_anew o q c ≡ all_levelled (requested o (less d) c) → cond (cond h true false) (shown_anew o q c) (cond (cond h b false) (known q c) []) ≡ all_levelled (requested o (less d) c)
+      container : (h l : Bool) → (h && not l) ≡ true → shown_anew o q c ≡ all_levelled (requested o (less d) c)
+          → cond (cond h true false) (shown_anew o q c) (cond (cond h b false) (known q c) []) ≡ all_levelled (requested o (less d) c)
       container true l e f = f
       container false l e f = cc
   one_tree d r c true h l false b g_is a_is b_is was now apart =
       let opened = now refl refl in
       container h l g_is ∙ ap (λ v. cond v (known q c) []) opened.0 ∙ opened.1 ∙ sym (append-nil (levelled (less d) c))
     where
-      container : (h l : Bool) → (h && not l) ≡ true → cond (cond h false false) (shown_anew o q c) (cond (cond h b false) (known q c) []) ≡ cond b (known q c) []
+      container : (h l : Bool) → (h && not l) ≡ true
+          → cond (cond h false false) (shown_anew o q c) (cond (cond h b false) (known q c) []) ≡ cond b (known q c) []
       container true l e = refl
       container false l e = cc
   one_tree d r c false h l a b g_is a_is b_is was now apart =
-      let same = apart refl in same_part (cond h a false) (cond h b false) (shown_anew o q c) (known q c) (ap (λ v. cond h v false) same.0) same.1
+      let same = apart refl in same_part (cond h a false) (cond h b false) (shown_anew o q c) (known q c)
+      (ap (λ v. cond h v false) same.0) same.1
 
-  pub anew-requested : (d : Option ℕ) (n : Nodes PageRow) → AreDistinct n → is_closed o n ≡ true → Adds d n → shown_anew o q n ≡ all_levelled (requested o d n)
+  pub anew-requested : (d : Option ℕ) (n : Nodes PageRow) → AreDistinct n → is_closed o n ≡ true → Adds d n
+      → shown_anew o q n ≡ all_levelled (requested o d n)
   anew-requested d none distinct closed adds = refl
   anew-requested d (node r c t) distinct closed adds =
       let x : Branch PageRow = record { row = r; children = c } in
-      let first : List Opening = cond (goes_on d r) (cond (o r.serial) (requested o (less d) c) (record { levels = d; node = x } ∷ [])) [] in
-      let in_c : (s : ℕ) → 0 < tally row_serial s c → q s ≡ (o s || not (cond {A = ℕ} (goes_on d r) (times s (containers_within (less d) c)) 0 == 0)) = λ s h.
+      let first : List Opening = cond (goes_on d r)
+      (cond (o r.serial) (requested o (less d) c) (record { levels = d; node = x } ∷ [])) [] in
+      let in_c : (s : ℕ) → 0 < tally row_serial s c
+      → q s ≡ (o s || not (cond {A = ℕ} (goes_on d r) (times s (containers_within (less d) c)) 0 == 0)) = λ s h.
       adds s (omega arith) ∙ same_count (o s) _ _ (in_children d r c t distinct s h) in
-      let at_r : q r.serial ≡ (o r.serial || not (cond {A = ℕ} (goes_on d r) 1 0 == 0)) = adds r.serial (omega (arith, self_times r.serial)) ∙ same_count (o r.serial) _ _ (at_root d r c t distinct) in
+      let at_r : q r.serial ≡ (o r.serial || not (cond {A = ℕ} (goes_on d r) 1 0 == 0)) = adds r.serial
+      (omega (arith, self_times r.serial)) ∙ same_count (o r.serial) _ _ (at_root d r c t distinct) in
       let distinct_c : AreDistinct c = λ s. omega (arith, distinct s) in
-      let unopened : o r.serial ≡ false → is_unopened o c ≡ true = λ e. ap (λ v. cond v (is_closed o c) (is_unopened o c)) (sym e) ∙ and-first (cond (o r.serial) (is_closed o c) (is_unopened o c)) (is_closed o t) closed in
-      ap (λ l. l ++ shown_anew o q t) (one_tree d r c (goes_on d r) (holds r.label.kind) (is_spent d) (o r.serial) (q r.serial) refl refl refl
-      (λ g a. anew-requested (less d) c distinct_c (closed_below (o r.serial) (is_closed o c) (is_unopened o c) (is_closed o t) a closed) (λ s h. in_c s h ∙ ap (λ v. o s || not (cond {A = ℕ} v (times s (containers_within (less d) c)) 0 == 0)) g))
-      (λ g a. (at_r ∙ ap (λ v. v || not (cond {A = ℕ} (goes_on d r) 1 0 == 0)) a ∙ ap (λ v. not (cond {A = ℕ} v 1 0 == 0)) g, known-levelled q (less d) c distinct_c (λ s h. in_c s h ∙ ap (λ v. v || not (cond {A = ℕ} (goes_on d r) (times s (containers_within (less d) c)) 0 == 0)) (unopened-at o c (unopened a) s h) ∙ ap (λ v. not (cond {A = ℕ} v (times s (containers_within (less d) c)) 0 == 0)) g)))
-      (λ g. (sym (at_r ∙ ap (λ v. o r.serial || not (cond {A = ℕ} v 1 0 == 0)) g ∙ or_nothing (o r.serial)), anew-same o q c (λ s h. sym (in_c s h ∙ ap (λ v. o s || not (cond {A = ℕ} v (times s (containers_within (less d) c)) 0 == 0)) g ∙ or_nothing (o s))))))
-      ∙ ap (λ l. all_levelled first ++ l) (anew-requested d t (λ s. omega (arith, distinct s)) (and-second (cond (o r.serial) (is_closed o c) (is_unopened o c)) (is_closed o t) closed) (λ s h. adds s (omega arith) ∙ same_count (o s) _ _ (in_rest d r c t distinct s h)))
+      let unopened : o r.serial ≡ false
+      → is_unopened o c ≡ true = λ e. ap (λ v. cond v (is_closed o c) (is_unopened o c)) (sym e) ∙ and-first
+      (cond (o r.serial) (is_closed o c) (is_unopened o c)) (is_closed o t) closed in
+      ap (λ l. l ++ shown_anew o q t)
+      (one_tree d r c (goes_on d r) (holds r.label.kind) (is_spent d) (o r.serial) (q r.serial) refl refl refl
+      (λ g a. anew-requested (less d) c distinct_c (closed_below (o r.serial) (is_closed o c) (is_unopened o c) (is_closed o t) a closed)
+      (λ s h. in_c s h ∙ ap (λ v. o s || not (cond {A = ℕ} v (times s (containers_within (less d) c)) 0 == 0)) g))
+      (λ g a. (
+        at_r ∙ ap (λ v. v || not (cond {A = ℕ} (goes_on d r) 1 0 == 0)) a ∙ ap
+            (λ v. not (cond {A = ℕ} v 1 0 == 0)) g,
+        known-levelled q (less d) c distinct_c
+            (λ s h. in_c s h ∙ ap (λ v. v || not (cond {A = ℕ} (goes_on d r) (times s (containers_within (less d) c)) 0 == 0))
+            (unopened-at o c (unopened a) s h) ∙ ap (λ v. not (cond {A = ℕ} v (times s (containers_within (less d) c)) 0 == 0)) g),
+      ))
+      (λ g. (
+        sym (at_r ∙ ap (λ v. o r.serial || not (cond {A = ℕ} v 1 0 == 0)) g ∙ or_nothing (o r.serial)),
+        anew-same o q c
+            (λ s h. sym (in_c s h ∙ ap (λ v. o s || not (cond {A = ℕ} v (times s (containers_within (less d) c)) 0 == 0)) g ∙ or_nothing
+            (o s))),
+      )))
+      ∙ ap (λ l. all_levelled first ++ l)
+      (anew-requested d t (λ s. omega (arith, distinct s))
+      (and-second (cond (o r.serial) (is_closed o c) (is_unopened o c)) (is_closed o t) closed)
+      (λ s h. adds s (omega arith) ∙ same_count (o s) _ _ (in_rest d r c t distinct s h)))
       ∙ sym (all_levelled-append first (requested o d t))
 
   module _ (x : Branch PageRow) (outside : (s : ℕ) → tally row_serial s (alone x) ≡ 0 → o s ≡ q s) where
     -- what becomes known is below x
     pub anew-within : {n : Nodes PageRow} → InView o x n → AreDistinct n → shown_anew o q n ≡ shown_anew o q (alone x)
     anew-within (root t) distinct =
-        ap (λ l. cond (opens o x.row) (shown_anew o q x.children) (cond (opens q x.row) (known q x.children) []) ++ l) (anew-same o q t (λ s h. outside s (omega (arith, distinct s))))
+        ap (λ l. cond (opens o x.row) (shown_anew o q x.children) (cond (opens q x.row) (known q x.children) []) ++ l)
+        (anew-same o q t (λ s h. outside s (omega (arith, distinct s))))
     anew-within (child r c t e v) distinct =
         let rest : shown_anew o q t ≡ [] = anew-same o q t (λ s h. outside s (omega (arith, distinct s, in_view-tally o x v s))) in
         ap (λ l. cond (opens o r) (shown_anew o q c) (cond (opens q r) (known q c) []) ++ l) rest
@@ -189,11 +233,19 @@ module _ (o q : ℕ → Bool) where
         ∙ ap (λ b. cond b (shown_anew o q c) (cond (opens q r) (known q c) [])) e
         ∙ anew-within v (λ s. omega (arith, distinct s))
     anew-within (later r c t v) distinct =
-        let row : opens o r ≡ opens q r = ap (λ b. cond (holds r.label.kind) b false) (outside r.serial (omega (arith, distinct r.serial, in_view-tally o x v r.serial, self_times r.serial))) in
-        ap (λ l. l ++ shown_anew o q t) (same_part (opens o r) (opens q r) (shown_anew o q c) (known q c) row (anew-same o q c (λ s h. outside s (omega (arith, distinct s, in_view-tally o x v s)))))
+        let row : opens o r ≡ opens q r = ap (λ b. cond (holds r.label.kind) b false)
+        (outside r.serial (omega (arith, distinct r.serial, in_view-tally o x v r.serial, self_times r.serial))) in
+        ap (λ l. l ++ shown_anew o q t)
+        (same_part (opens o r) (opens q r) (shown_anew o q c) (known q c) row
+        (anew-same o q c (λ s h. outside s (omega (arith, distinct s, in_view-tally o x v s)))))
         ∙ anew-within v (λ s. omega (arith, distinct s))
 
-pub closed-in_view : (o : ℕ → Bool) (x : Branch PageRow) {n : Nodes PageRow} → InView o x n → is_closed o n ≡ true → is_closed o (alone x) ≡ true
-closed-in_view o x (root t) e = ap (λ b. b && true) (and-first (cond (o x.row.serial) (is_closed o x.children) (is_unopened o x.children)) (is_closed o t) e)
-closed-in_view o x (child r c t open_row v) e = closed-in_view o x v (closed_below (o r.serial) (is_closed o c) (is_unopened o c) (is_closed o t) (is_opened_row (holds r.label.kind) (o r.serial) open_row) e)
-closed-in_view o x (later r c t v) e = closed-in_view o x v (and-second (cond (o r.serial) (is_closed o c) (is_unopened o c)) (is_closed o t) e)
+pub closed-in_view : (o : ℕ → Bool) (x : Branch PageRow) {n : Nodes PageRow} → InView o x n → is_closed o n ≡ true
+    → is_closed o (alone x) ≡ true
+closed-in_view o x (root t) e = ap (λ b. b && true)
+    (and-first (cond (o x.row.serial) (is_closed o x.children) (is_unopened o x.children)) (is_closed o t) e)
+closed-in_view o x (child r c t open_row v) e = closed-in_view o x v
+    (closed_below (o r.serial) (is_closed o c) (is_unopened o c) (is_closed o t)
+    (is_opened_row (holds r.label.kind) (o r.serial) open_row) e)
+closed-in_view o x (later r c t v) e = closed-in_view o x v
+    (and-second (cond (o r.serial) (is_closed o c) (is_unopened o c)) (is_closed o t) e)

@@ -14,8 +14,10 @@ module _ {S : Type 0} (k : Keeper S) (document : Branch PageRow) where
 
   pub attributes-keep : (found : Option (Branch PageRow)) (w : S) → state_after w (of_attributes k document found w) ≡ w
   attributes-keep None w = refl
-  attributes-keep (Some x) w = either_kept (is_element x.row.label.kind) (only_replied k document (Attributes x.row.label.attributes) w) (refused _) w refl refl
+  attributes-keep (Some x) w = either_kept (is_element x.row.label.kind) (only_replied k document (Attributes x.row.label.attributes) w)
+      (refused _) w refl refl
 
-  pub description-keeps : (depth : Option ℤ) (found : Option (Branch PageRow)) (w : S) → state_after w (of_description k document depth found w) ≡ w
+  pub description-keeps : (depth : Option ℤ) (found : Option (Branch PageRow)) (w : S)
+      → state_after w (of_description k document depth found w) ≡ w
   description-keeps depth None w = refl
   description-keeps depth (Some x) w = refl

@@ -1,5 +1,6 @@
 -- What requests and pushes open, as sets.
-use Rattle.std.proofs.Common.{◌≡◌, ℕ, zero, suc, ◌+◌, ◌<◌, ◌≤◌, ◌==◌, Bool, true, false, cond, not, ◌&&◌, ◌||◌, ◌⊎◌, ◌↔◌, inl, inr, List, [], ◌∷◌, ◌++◌, append-nil, zero-add, map, Option, Some, None, refl, sym, ap, subst, ◌∙◌, arith}
+use Rattle.std.proofs.Common.{◌≡◌, ℕ, zero, suc, ◌+◌, ◌<◌, ◌≤◌, ◌==◌, Bool, true, false, cond, not, ◌&&◌, ◌||◌, ◌⊎◌, ◌↔◌, inl, inr, List}
+use Rattle.std.proofs.Common.{[], ◌∷◌, ◌++◌, append-nil, zero-add, map, Option, Some, None, refl, sym, ap, subst, ◌∙◌, arith}
 use Rattle.std.specs.List.{filter}
 use Rattle.std.proofs.lemmas.Bool.{eqb-true}
 use Rattle.node_tree.specs.Nodes.{Nodes, none, node, Branch, alone}
@@ -55,7 +56,8 @@ abbrev pub all_reached : List Opening → List ℕ
 all_reached [] = []
 all_reached (x ∷ xs) = containers_within x.levels (alone x.node) ++ all_reached xs
 
-all_reached-append : (s : ℕ) (xs ys : List Opening) → stands_in s (all_reached (xs ++ ys)) ≡ (stands_in s (all_reached xs) || stands_in s (all_reached ys))
+all_reached-append : (s : ℕ) (xs ys : List Opening)
+    → stands_in s (all_reached (xs ++ ys)) ≡ (stands_in s (all_reached xs) || stands_in s (all_reached ys))
 all_reached-append s [] ys = refl
 all_reached-append s (x ∷ xs) ys =
     is_in-append s (containers_within x.levels (alone x.node)) (all_reached (xs ++ ys))
@@ -73,15 +75,20 @@ opened_all-set (x ∷ xs) p s =
 -- ---- a request
 
 module _ (o : ℕ → Bool) where
-  first_set : (s : ℕ) (d : Option ℕ) (r : PageRow) (c : Nodes PageRow) (g a : Bool) → (holds r.label.kind && not (is_spent d)) ≡ g → o r.serial ≡ a → (o s || stands_in s (all_reached (requested o (less d) c))) ≡ (o s || stands_in s (containers_within (less d) c))
-      → (o s || stands_in s (all_reached (cond g (cond a (requested o (less d) c) (record { levels = d; node = record { row = r; children = c } } ∷ [])) []))) ≡ (o s || stands_in s (cond g (r.serial ∷ containers_within (less d) c) []))
+  first_set : (s : ℕ) (d : Option ℕ) (r : PageRow) (c : Nodes PageRow) (g a : Bool) → (holds r.label.kind && not (is_spent d)) ≡ g
+      → o r.serial ≡ a → (o s || stands_in s (all_reached (requested o (less d) c))) ≡ (o s || stands_in s (containers_within (less d) c))
+      → (o s || stands_in s (all_reached
+      (cond g (cond a (requested o (less d) c) (record { levels = d; node = record { row = r; children = c } } ∷ [])) [])))
+      ≡ (o s || stands_in s (cond g (r.serial ∷ containers_within (less d) c) []))
   first_set s d r c true true g_is a_is rest =
       rest ∙ passed (r.serial == s) refl ∙ ap (λ v. o s || v) (sym (is_in-cons r.serial s (containers_within (less d) c)))
     where
-      passed : (b : Bool) → (r.serial == s) ≡ b → (o s || stands_in s (containers_within (less d) c)) ≡ (o s || ((r.serial == s) || stands_in s (containers_within (less d) c)))
+      passed : (b : Bool) → (r.serial == s) ≡ b
+          → (o s || stands_in s (containers_within (less d) c)) ≡ (o s || ((r.serial == s) || stands_in s (containers_within (less d) c)))
       passed true is =
           let same : o s ≡ true = ap o (sym (eqb-true r.serial s is)) ∙ a_is in
-          ap (λ v. v || stands_in s (containers_within (less d) c)) same ∙ sym (ap (λ v. v || ((r.serial == s) || stands_in s (containers_within (less d) c))) same)
+          ap (λ v. v || stands_in s (containers_within (less d) c)) same ∙ sym
+          (ap (λ v. v || ((r.serial == s) || stands_in s (containers_within (less d) c))) same)
       passed false is = ap (λ v. o s || (v || stands_in s (containers_within (less d) c))) (sym is)
   first_set s d r c true false g_is a_is rest =
       ap (λ l. o s || stands_in s l)
@@ -90,11 +97,13 @@ module _ (o : ℕ → Bool) where
       ∙ ap (λ b. cond b (r.serial ∷ containers_within (less d) c) []) g_is)
   first_set s d r c false a g_is a_is rest = refl
 
-  pub requested-set : (s : ℕ) (d : Option ℕ) (f : Nodes PageRow) → (o s || stands_in s (all_reached (requested o d f))) ≡ (o s || stands_in s (containers_within d f))
+  pub requested-set : (s : ℕ) (d : Option ℕ) (f : Nodes PageRow)
+      → (o s || stands_in s (all_reached (requested o d f))) ≡ (o s || stands_in s (containers_within d f))
   requested-set s d none = refl
   requested-set s d (node r c t) =
       let g : Bool = holds r.label.kind && not (is_spent d) in
-      let first : List Opening = cond g (cond (o r.serial) (requested o (less d) c) (record { levels = d; node = record { row = r; children = c } } ∷ [])) [] in
+      let first : List Opening = cond g
+      (cond (o r.serial) (requested o (less d) c) (record { levels = d; node = record { row = r; children = c } } ∷ [])) [] in
       ap (λ v. o s || v) (all_reached-append s first (requested o d t))
       ∙ or_both (o s) _ _ _ _ (first_set s d r c g (o r.serial) refl refl (requested-set s (less d) c)) (requested-set s d t)
       ∙ ap (λ v. o s || v) (sym (is_in-append s (cond g (r.serial ∷ containers_within (less d) c) []) (containers_within d t)))
@@ -140,7 +149,8 @@ pub record IsReachedIn (d : Option ℕ) (n : Nodes PageRow) (s : ℕ) : Type 0 w
   pub can_hold : holds container.row.label.kind ≡ true
   pub serial : container.row.serial ≡ s
 
-where_from : (g b : Bool) (m k : ℕ) → 0 < cond {A = ℕ} g (cond {A = ℕ} b 1 0 + m) 0 + k → ((g ≡ true) × (b ≡ true)) ⊎ (((g ≡ true) × (0 < m)) ⊎ (0 < k))
+where_from : (g b : Bool) (m k : ℕ) → 0 < cond {A = ℕ} g (cond {A = ℕ} b 1 0 + m) 0 + k
+    → ((g ≡ true) × (b ≡ true)) ⊎ (((g ≡ true) × (0 < m)) ⊎ (0 < k))
 where_from true true m k h = inl (refl, refl)
 where_from true false zero k h = inr (inr (omega arith))
 where_from true false (suc m) k h = inr (inl (refl, omega arith))
@@ -149,7 +159,8 @@ where_from false b m k h = inr (inr (omega arith))
 pub in-reached : (d : Option ℕ) (n : Nodes PageRow) (s : ℕ) → 0 < times s (containers_within d n) → IsReachedIn d n s
 in-reached d none s h = absurd (omega arith)
 in-reached d (node r c t) s h =
-    elim (where_from (goes_on d r) (r.serial == s) (times s (containers_within (less d) c)) (times s (containers_within d t)) (omega (arith, times-reached d s r c t))) [
+    elim (where_from (goes_on d r) (r.serial == s) (times s (containers_within (less d) c)) (times s (containers_within d t))
+    (omega (arith, times-reached d s r c t))) [
       | inl p ↦ record {
         container = record { row = r; children = c };
         distance = 0;
@@ -190,21 +201,35 @@ goes_is : (h s : Bool) → h ≡ true → s ≡ false → (h && not s) ≡ true
 goes_is h s e f = rw (e, f) refl
 
 module _ (y : Branch PageRow) (can_hold : holds y.row.label.kind ≡ true) where
-  pub reached-in : (d : Option ℕ) {k : ℕ} {n : Nodes PageRow} → StandsAt y k n → IsWithin k d → AreContainers n → 0 < times y.row.serial (containers_within d n)
+  pub reached-in : (d : Option ℕ) {k : ℕ} {n : Nodes PageRow} → StandsAt y k n → IsWithin k d → AreContainers n
+      → 0 < times y.row.serial (containers_within d n)
   reached-in d (root t) near are =
-      rw (times-reached d y.row.serial y.row y.children t) (shown_some (goes_on d y.row) _ _ (goes_is (holds y.row.label.kind) (is_spent d) can_hold (near_left d 0 near)) (omega (arith, self_times y.row.serial)))
+      rw (times-reached d y.row.serial y.row y.children t)
+      (shown_some (goes_on d y.row) _ _ (goes_is (holds y.row.label.kind) (is_spent d) can_hold (near_left d 0 near))
+      (omega (arith, self_times y.row.serial)))
   reached-in d (below k r c t v) near are =
       let holder : holds r.label.kind ≡ true = are.0 y.row.serial (has-there row_serial y.row.serial c (stands-tally y v)) in
-      rw (times-reached d y.row.serial r c t) (shown_some (goes_on d r) _ _ (goes_is (holds r.label.kind) (is_spent d) holder (near_left d (suc k) near)) (omega (arith, reached-in (less d) v (near_less d k near) are.1)))
+      rw (times-reached d y.row.serial r c t)
+      (shown_some (goes_on d r) _ _ (goes_is (holds r.label.kind) (is_spent d) holder (near_left d (suc k) near))
+      (omega (arith, reached-in (less d) v (near_less d k near) are.1)))
   reached-in d (beside k r c t v) near are = rw (times-reached d y.row.serial r c t) (omega (arith, reached-in d v near are.2))
 
 -- the test is the set
-pub reached-set : (d : Option ℕ) (x : Branch PageRow) → AreContainers (alone x) → (s : ℕ) → (stands_in s (containers_within d (alone x)) ≡ true) ↔ IsReached d x s
+pub reached-set : (d : Option ℕ) (x : Branch PageRow) → AreContainers (alone x) → (s : ℕ)
+    → (stands_in s (containers_within d (alone x)) ≡ true) ↔ IsReached d x s
 reached-set d x are s = (
   λ e.
       let at = in-reached d (alone x) s (is_in-times (containers_within d (alone x)) s e) in
-      record { container = at.container; distance = at.distance; stands = at.stands; near = at.near; can_hold = at.can_hold; serial = at.serial },
-  λ at. subst (λ (k : ℕ). stands_in k (containers_within d (alone x)) ≡ true) at.serial (times-is_in (containers_within d (alone x)) at.container.row.serial (reached-in at.container at.can_hold d at.stands at.near are)),
+      record {
+        container = at.container;
+        distance = at.distance;
+        stands = at.stands;
+        near = at.near;
+        can_hold = at.can_hold;
+        serial = at.serial;
+      },
+  λ at. subst (λ (k : ℕ). stands_in k (containers_within d (alone x)) ≡ true) at.serial
+      (times-is_in (containers_within d (alone x)) at.container.row.serial (reached-in at.container at.can_hold d at.stands at.near are)),
 )
 
 -- ---- a push
@@ -223,7 +248,8 @@ either P false x y f g = g refl
 pub ancestors-hold : (s : ℕ) (n : Nodes PageRow) → AreContainers n → AllHold (ancestors_down s n)
 ancestors-hold s none are = tt
 ancestors-hold s (node r c t) are =
-    either AllHold (has row_serial s c) (record { row = r; children = c } ∷ ancestors_down s c) (ancestors_down s t) (λ e. (are.0 s e, ancestors-hold s c are.1)) (λ _. ancestors-hold s t are.2)
+    either AllHold (has row_serial s c) (record { row = r; children = c } ∷ ancestors_down s c) (ancestors_down s t)
+    (λ e. (are.0 s e, ancestors-hold s c are.1)) (λ _. ancestors-hold s t are.2)
 
 abbrev by_one : Branch PageRow → Opening
 by_one x = record { levels = Some 1; node = x }
@@ -235,7 +261,8 @@ module _ (o : ℕ → Bool) (t : ℕ) where
       ∙ ap (λ b. cond (b && true) (x.row.serial ∷ containers_within (Some 0) x.children) []) e
       ∙ ap (λ l. x.row.serial ∷ l) (reached-spent x.children)
 
-  push_one : (x : Branch PageRow) (os : List Opening) (xs : List ℕ) (a : Bool) → o x.row.serial ≡ a → holds x.row.label.kind ≡ true → (o t || stands_in t (all_reached os)) ≡ (o t || stands_in t xs)
+  push_one : (x : Branch PageRow) (os : List Opening) (xs : List ℕ) (a : Bool) → o x.row.serial ≡ a → holds x.row.label.kind ≡ true
+      → (o t || stands_in t (all_reached os)) ≡ (o t || stands_in t xs)
       → (o t || stands_in t (all_reached (cond (not a) (by_one x ∷ os) os))) ≡ (o t || stands_in t (x.row.serial ∷ xs))
   push_one x os xs true a_is e rest =
       rest ∙ passed (x.row.serial == t) refl ∙ ap (λ v. o t || v) (sym (is_in-cons x.row.serial t xs))
@@ -251,15 +278,19 @@ module _ (o : ℕ → Bool) (t : ℕ) where
       ∙ or_both (o t) (x.row.serial == t) (stands_in t (all_reached os)) (x.row.serial == t) (stands_in t xs) refl rest
       ∙ ap (λ v. o t || v) (sym (is_in-cons x.row.serial t xs))
 
-  map-cond : (a : Bool) (x : Branch PageRow) (xs : List (Branch PageRow)) → map by_one (cond (not a) (x ∷ xs) xs) ≡ cond (not a) (by_one x ∷ map by_one xs) (map by_one xs)
+  map-cond : (a : Bool) (x : Branch PageRow) (xs : List (Branch PageRow))
+      → map by_one (cond (not a) (x ∷ xs) xs) ≡ cond (not a) (by_one x ∷ map by_one xs) (map by_one xs)
   map-cond true x xs = refl
   map-cond false x xs = refl
 
-  pub pushing-set : (xs : List (Branch PageRow)) → AllHold xs → (o t || stands_in t (all_reached (map by_one (filter (λ (x : Branch PageRow). not (o x.row.serial)) xs)))) ≡ (o t || stands_in t (serials_of xs))
+  pub pushing-set : (xs : List (Branch PageRow)) → AllHold xs
+      → (o t || stands_in t (all_reached (map by_one (filter (λ (x : Branch PageRow). not (o x.row.serial)) xs))))
+      ≡ (o t || stands_in t (serials_of xs))
   pushing-set [] all = refl
   pushing-set (x ∷ xs) all =
       ap (λ l. o t || stands_in t (all_reached l)) (map-cond (o x.row.serial) x (filter (λ (x : Branch PageRow). not (o x.row.serial)) xs))
-      ∙ push_one x (map by_one (filter (λ (x : Branch PageRow). not (o x.row.serial)) xs)) (serials_of xs) (o x.row.serial) refl all.0 (pushing-set xs all.1)
+      ∙ push_one x (map by_one (filter (λ (x : Branch PageRow). not (o x.row.serial)) xs)) (serials_of xs) (o x.row.serial) refl all.0
+      (pushing-set xs all.1)
 
 -- a proper ancestor of the node of serial s among these trees
 pub record IsAbove (n : Nodes PageRow) (s t : ℕ) : Type 0 where
@@ -273,12 +304,32 @@ module _ (s t : ℕ) where
   pub in-ancestors : (n : Nodes PageRow) → stands_in t (serials_of (ancestors_down s n)) ≡ true → IsAbove n s t
   in-ancestors none e = cc
   in-ancestors (node r c u) e =
-      (either (λ (l : List (Branch PageRow)). stands_in t (serials_of l) ≡ true → IsAbove (node r c u) s t) (has row_serial s c) (record { row = r; children = c } ∷ ancestors_down s c) (ancestors_down s u)
-      (λ there e. elim (or_split (r.serial == t) (stands_in t (serials_of (ancestors_down s c))) (sym (is_in-cons r.serial t (serials_of (ancestors_down s c))) ∙ e)) [
-        | inl is ↦ record { ancestor = record { row = r; children = c }; level = 0; stands = root u; above = there; serial = eqb-true r.serial t is }
-        | inr is ↦ let rest = in-ancestors c is in record { ancestor = rest.ancestor; level = suc rest.level; stands = below rest.level r c u rest.stands; above = rest.above; serial = rest.serial }
+      (either (λ (l : List (Branch PageRow)). stands_in t (serials_of l) ≡ true → IsAbove (node r c u) s t) (has row_serial s c)
+      (record { row = r; children = c } ∷ ancestors_down s c) (ancestors_down s u)
+      (λ there e. elim (or_split (r.serial == t) (stands_in t (serials_of (ancestors_down s c)))
+      (sym (is_in-cons r.serial t (serials_of (ancestors_down s c))) ∙ e)) [
+        | inl is ↦ record {
+          ancestor = record { row = r; children = c };
+          level = 0;
+          stands = root u;
+          above = there;
+          serial = eqb-true r.serial t is;
+        }
+        | inr is ↦ let rest = in-ancestors c is in record {
+          ancestor = rest.ancestor;
+          level = suc rest.level;
+          stands = below rest.level r c u rest.stands;
+          above = rest.above;
+          serial = rest.serial;
+        }
       ])
-      (λ _ e. let rest = in-ancestors u e in record { ancestor = rest.ancestor; level = rest.level; stands = beside rest.level r c u rest.stands; above = rest.above; serial = rest.serial })) e
+      (λ _ e. let rest = in-ancestors u e in record {
+        ancestor = rest.ancestor;
+        level = rest.level;
+        stands = beside rest.level r c u rest.stands;
+        above = rest.above;
+        serial = rest.serial;
+      })) e
 
 pub there_once : (s : ℕ) (n : Nodes PageRow) → has row_serial s n ≡ true → 0 < tally row_serial s n
 there_once s n h =
@@ -294,24 +345,31 @@ module _ (y : Branch PageRow) where
   stands-below (beside k r c t v) s = omega (arith, stands-below v s)
 
   module _ (s : ℕ) (above : has row_serial s y.children ≡ true) where
-    pub ancestors-in : {k : ℕ} {n : Nodes PageRow} → StandsAt y k n → tally row_serial s n ≤ 1 → stands_in y.row.serial (serials_of (ancestors_down s n)) ≡ true
+    pub ancestors-in : {k : ℕ} {n : Nodes PageRow} → StandsAt y k n → tally row_serial s n ≤ 1
+        → stands_in y.row.serial (serials_of (ancestors_down s n)) ≡ true
     ancestors-in (root t) once =
         ap (λ b. stands_in y.row.serial (serials_of (cond b (y ∷ ancestors_down s y.children) (ancestors_down s t)))) above
         ∙ times-is_in (y.row.serial ∷ serials_of (ancestors_down s y.children)) y.row.serial (omega (arith, self_times y.row.serial))
     ancestors-in (below k r c t v) once =
         let there : has row_serial s c ≡ true = has-there row_serial s c (omega (arith, there_once s y.children above, stands-below v s)) in
-        ap (λ b. stands_in y.row.serial (serials_of (cond b (record { row = r; children = c } ∷ ancestors_down s c) (ancestors_down s t)))) there
+        ap (λ b. stands_in y.row.serial
+        (serials_of (cond b (record { row = r; children = c } ∷ ancestors_down s c) (ancestors_down s t)))) there
         ∙ is_in-cons r.serial y.row.serial (serials_of (ancestors_down s c))
-        ∙ or_joined (r.serial == y.row.serial) (stands_in y.row.serial (serials_of (ancestors_down s c))) (inr (ancestors-in v (omega arith)))
+        ∙ or_joined (r.serial == y.row.serial) (stands_in y.row.serial (serials_of (ancestors_down s c)))
+        (inr (ancestors-in v (omega arith)))
     ancestors-in (beside k r c t v) once =
-        let apart : has row_serial s c ≡ false = has-absent row_serial s c (omega (arith, there_once s y.children above, stands-below v s)) in
-        ap (λ b. stands_in y.row.serial (serials_of (cond b (record { row = r; children = c } ∷ ancestors_down s c) (ancestors_down s t)))) apart
+        let apart : has row_serial s c
+        ≡ false = has-absent row_serial s c (omega (arith, there_once s y.children above, stands-below v s)) in
+        ap (λ b. stands_in y.row.serial
+        (serials_of (cond b (record { row = r; children = c } ∷ ancestors_down s c) (ancestors_down s t)))) apart
         ∙ ancestors-in v (omega arith)
 
-pub ancestors-set : (document : Branch PageRow) (s t : ℕ) → tally row_serial s (alone document) ≤ 1 → (stands_in t (serials_of (ancestors_down s (alone document))) ≡ true) ↔ IsAncestor document s t
+pub ancestors-set : (document : Branch PageRow) (s t : ℕ) → tally row_serial s (alone document) ≤ 1
+    → (stands_in t (serials_of (ancestors_down s (alone document))) ≡ true) ↔ IsAncestor document s t
 ancestors-set document s t once = (
   λ e.
       let at = in-ancestors s t (alone document) e in
       record { ancestor = at.ancestor; level = at.level; stands = at.stands; above = at.above; serial = at.serial },
-  λ at. subst (λ (k : ℕ). stands_in k (serials_of (ancestors_down s (alone document))) ≡ true) at.serial (ancestors-in at.ancestor s at.above at.stands once),
+  λ at. subst (λ (k : ℕ). stands_in k (serials_of (ancestors_down s (alone document))) ≡ true) at.serial
+      (ancestors-in at.ancestor s at.above at.stands once),
 )

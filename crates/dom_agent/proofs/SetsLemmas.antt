@@ -1,5 +1,6 @@
 -- The commands open these sets.
-use Rattle.std.proofs.Common.{◌≡◌, ℕ, ℤ, ◌==◌, Bool, true, false, cond, not, ◌||◌, ◌⊎◌, ◌↔◌, inl, inr, List, [], ◌∷◌, ◌++◌, Option, Some, None, refl, sym, ap, subst, ◌∙◌, arith}
+use Rattle.std.proofs.Common.{◌≡◌, ℕ, ℤ, ◌==◌, Bool, true, false, cond, not, ◌||◌, ◌⊎◌, ◌↔◌, inl, inr, List, [], ◌∷◌, ◌++◌, Option, Some}
+use Rattle.std.proofs.Common.{None, refl, sym, ap, subst, ◌∙◌, arith}
 use Rattle.std.proofs.Math.Logic.{⊎_elim}
 use Rattle.std.specs.List.{filter}
 use Rattle.std.proofs.lemmas.Bool.{eq-eqb, eqb-true}
@@ -21,13 +22,16 @@ use Rattle.node_binding.proofs.AnewLemmas.{at_or_other, found_here, found_later}
 use Rattle.cdp_messages.specs.declared.command.Why.TheVariants.{NotPushed}
 use Rattle.dom_agent.specs.Keepers.{session_keeper}
 use Rattle.dom_agent.specs.Paths.{node_at_path}
-use Rattle.dom_agent.specs.Requests.{Opening, Outcome, refused, Pushes, requested, ancestors_down, pushing, known_node, of_children, of_path, with_ids, all_opened, all_pushed, pushed as push_of, state_after}
+use Rattle.dom_agent.specs.Requests.{Opening, Outcome, refused, Pushes, requested, ancestors_down, pushing, known_node, of_children}
+use Rattle.dom_agent.specs.Requests.{of_path, with_ids, all_opened, all_pushed, pushed as push_of, state_after}
 use Rattle.dom_agent.specs.Distances.{IsReached, IsAncestor, OpensAlso}
-use Rattle.dom_agent.specs.Sets.{levels_asked, DocumentOpens, RequestOpens, newly_known, RequestPushes, PathOpens, IsAncestorOfOne, SerialsOpen}
+use Rattle.dom_agent.specs.Sets.{levels_asked, DocumentOpens, RequestOpens, newly_known, RequestPushes, PathOpens, IsAncestorOfOne}
+use Rattle.dom_agent.specs.Sets.{SerialsOpen}
 use Rattle.dom_agent.proofs.OpeningsLemmas.{AreContainers, requested-are, opened_all, opened_all-grows}
 use Rattle.dom_agent.proofs.KnownLemmas.{opened_after}
 use Rattle.dom_agent.proofs.OutcomeLemmas.{containers-page, known-found}
-use Rattle.dom_agent.proofs.SetLemmas.{there_once, stands-below, or_split, or_joined, opened_all-set, requested-set, reached-set, pushing-set, ancestors-hold, ancestors-set, serials_of}
+use Rattle.dom_agent.proofs.SetLemmas.{there_once, stands-below, or_split, or_joined, opened_all-set, requested-set, reached-set}
+use Rattle.dom_agent.proofs.SetLemmas.{pushing-set, ancestors-hold, ancestors-set, serials_of}
 
 -- a test that is another or a set's
 by_test : (a b c : Bool) {P : Type 0} → c ≡ (a || b) → (b ≡ true) ↔ P → (c ≡ true) ↔ ((a ≡ true) ⊎ P)
@@ -40,32 +44,42 @@ pub document_opens : DocumentOpens
 document_opens page depth pierce w valid s = reached-set (levels_asked depth) page.tree (containers-page page valid) s
 
 -- what is found among containers is one
-containers-found : (k : ℕ) (n : Nodes PageRow) (x : Branch PageRow) → find row_serial k n ≡ Some x → AreContainers n → AreContainers (alone x)
+containers-found : (k : ℕ) (n : Nodes PageRow) (x : Branch PageRow) → find row_serial k n ≡ Some x → AreContainers n
+    → AreContainers (alone x)
 containers-found k none x e are = cc
 containers-found k (node r c t) x e are =
     at_or_other r.serial k
     (λ here. subst (λ (y : Branch PageRow). AreContainers (alone y)) (found_here k r c t x here e) (are.0, are.1, tt))
-    (λ other. ⊎_elim (λ in_c. containers-found k c x in_c are.1) (λ in_t. containers-found k t x in_t are.2) (found_later k r c t x other e))
+    (λ other. ⊎_elim (λ in_c. containers-found k c x in_c are.1) (λ in_t. containers-found k t x in_t are.2)
+    (found_later k r c t x other e))
 
 module _ (page : PageValue) (valid : IsValid page) where
   abbrev n : Nodes PageRow
   n = alone page.tree
 
-  containers-known : (w : Session) (serial : Option ℕ) (x : Branch PageRow) → known_node (session_keeper n) page.tree w serial ≡ Some x → AreContainers (alone x)
+  containers-known : (w : Session) (serial : Option ℕ) (x : Branch PageRow) → known_node (session_keeper n) page.tree w serial ≡ Some x
+      → AreContainers (alone x)
   containers-known w None x e = cc
   containers-known w (Some s) x e = containers-found s n x e (containers-page page valid)
 
-  request_by : (depth : Option ℤ) (opened : Option (ℕ → Bool)) (pushed : List ℕ) (since id : ℕ) (x : Branch PageRow) → known_node (session_keeper n) page.tree (record { opened = opened; pushed = pushed; since = since }) (serial_at (record { opened = opened; pushed = pushed; since = since }) n id) ≡ Some x
-      → OpensAlso (record { opened = opened; pushed = pushed; since = since }) (all_opened (session_keeper n) page.tree (requested (is_open opened) (levels_asked depth) (alone x)) (record { opened = opened; pushed = pushed; since = since })).state (IsReached (levels_asked depth) x)
+  request_by : (depth : Option ℤ) (opened : Option (ℕ → Bool)) (pushed : List ℕ) (since id : ℕ) (x : Branch PageRow)
+      → known_node (session_keeper n) page.tree (record { opened = opened; pushed = pushed; since = since })
+      (serial_at (record { opened = opened; pushed = pushed; since = since }) n id) ≡ Some x
+      → OpensAlso (record { opened = opened; pushed = pushed; since = since })
+      (all_opened (session_keeper n) page.tree (requested (is_open opened) (levels_asked depth) (alone x))
+      (record { opened = opened; pushed = pushed; since = since })).state (IsReached (levels_asked depth) x)
   request_by depth None pushed since id x found s = cc
   request_by depth (Some o) pushed since id x found s =
       by_test (o s) (stands_in s (containers_within (levels_asked depth) (alone x))) _
       (ap (λ (q : Option (ℕ → Bool)). is_open q s) (opened_after n page.tree (requested o (levels_asked depth) (alone x)) o pushed since)
       ∙ opened_all-set (requested o (levels_asked depth) (alone x)) o s
       ∙ requested-set o s (levels_asked depth) (alone x))
-      (reached-set (levels_asked depth) x (containers-known (session_of o pushed since) (serial_at (session_of o pushed since) n id) x found) s)
+      (reached-set (levels_asked depth) x
+      (containers-known (session_of o pushed since) (serial_at (session_of o pushed since) n id) x found) s)
 
-  push_by : (s : ℕ) (o : ℕ → Bool) (pushed : List ℕ) (since : ℕ) → OpensAlso (session_of o pushed since) (push_of (session_keeper n) page.tree s (session_of o pushed since)).state (IsAncestor page.tree s)
+  push_by : (s : ℕ) (o : ℕ → Bool) (pushed : List ℕ) (since : ℕ)
+      → OpensAlso (session_of o pushed since) (push_of (session_keeper n) page.tree s (session_of o pushed since)).state
+      (IsAncestor page.tree s)
   push_by s o pushed since t =
       by_test (o t) (stands_in t (serials_of (ancestors_down s n))) _
       (ap (λ (q : Option (ℕ → Bool)). is_open q t) (opened_after n page.tree (pushing o s n) o pushed since)
@@ -75,20 +89,27 @@ module _ (page : PageValue) (valid : IsValid page) where
 
 pub request_opens : RequestOpens
 request_opens page id depth pierce w x valid found s =
-    subst (λ (f : Option (Branch PageRow)). (is_open (state_after w (of_children (session_keeper (alone page.tree)) page.tree depth f w)).opened s ≡ true) ↔ ((is_open w.opened s ≡ true) ⊎ IsReached (levels_asked depth) x s)) (sym found)
+    subst (λ (f : Option (Branch PageRow)).
+    (is_open (state_after w (of_children (session_keeper (alone page.tree)) page.tree depth f w)).opened s ≡ true)
+    ↔ ((is_open w.opened s ≡ true) ⊎ IsReached (levels_asked depth) x s)) (sym found)
     (request_by page valid depth w.opened w.pushed w.since id x found s)
 
-path_by : (page : PageValue) → IsValid page → (opened : Option (ℕ → Bool)) (pushed : List ℕ) (since : ℕ) (s : ℕ) → is_open opened page.tree.row.serial ≡ true
-    → OpensAlso (record { opened = opened; pushed = pushed; since = since }) (push_of (session_keeper (alone page.tree)) page.tree s (record { opened = opened; pushed = pushed; since = since })).state (IsAncestor page.tree s)
+path_by : (page : PageValue) → IsValid page → (opened : Option (ℕ → Bool)) (pushed : List ℕ) (since : ℕ) (s : ℕ)
+    → is_open opened page.tree.row.serial ≡ true
+    → OpensAlso (record { opened = opened; pushed = pushed; since = since })
+    (push_of (session_keeper (alone page.tree)) page.tree s (record { opened = opened; pushed = pushed; since = since })).state
+    (IsAncestor page.tree s)
 path_by page valid None pushed since s begun t = cc
 path_by page valid (Some o) pushed since s begun t = push_by page valid s o pushed since t
 
 pub path_opens : PathOpens
 path_opens page path w x valid begun found t =
     let n : Nodes PageRow = alone page.tree in
-    let P : Outcome Session → Type 0 = λ y. (is_open (state_after w y).opened t ≡ true) ↔ ((is_open w.opened t ≡ true) ⊎ IsAncestor page.tree x.row.serial t) in
+    let P : Outcome Session → Type 0 = λ y. (is_open (state_after w y).opened t ≡ true)
+    ↔ ((is_open w.opened t ≡ true) ⊎ IsAncestor page.tree x.row.serial t) in
     subst (λ (b : Bool). P (cond b (of_path (session_keeper n) page.tree (node_at_path path page.tree) w) (refused NotPushed))) (sym begun)
-    (subst (λ (f : Option (Branch PageRow)). P (of_path (session_keeper n) page.tree f w)) (sym found) (path_by page valid w.opened w.pushed w.since x.row.serial begun t))
+    (subst (λ (f : Option (Branch PageRow)). P (of_path (session_keeper n) page.tree f w)) (sym found)
+    (path_by page valid w.opened w.pushed w.since x.row.serial begun t))
 
 -- ---- several pushes
 
@@ -98,7 +119,8 @@ either P false x y f g = g refl
 
 module _ (page : PageValue) (valid : IsValid page) where
   -- an ancestor of the first or of one of the others
-  first_or : (s : ℕ) (ss : List ℕ) (t : ℕ) → IsAncestorOfOne page.tree (s ∷ ss) t → IsAncestor page.tree s t ⊎ IsAncestorOfOne page.tree ss t
+  first_or : (s : ℕ) (ss : List ℕ) (t : ℕ) → IsAncestorOfOne page.tree (s ∷ ss) t
+      → IsAncestor page.tree s t ⊎ IsAncestorOfOne page.tree ss t
   first_or s ss t one =
       elim (or_split (s == one.serial) (stands_in one.serial ss) (sym (is_in-cons s one.serial ss) ∙ one.listed)) [
         | inl is ↦ inl (subst (λ (k : ℕ). IsAncestor page.tree k t) (sym (eqb-true s one.serial is)) one.above)
@@ -106,19 +128,31 @@ module _ (page : PageValue) (valid : IsValid page) where
       ]
 
   of_first : (s : ℕ) (ss : List ℕ) (t : ℕ) → IsAncestor page.tree s t → IsAncestorOfOne page.tree (s ∷ ss) t
-  of_first s ss t above = record { serial = s; listed = is_in-cons s s ss ∙ or_joined (s == s) (stands_in s ss) (inl (eq-eqb s s refl)); above = above }
+  of_first s ss t above = record {
+    serial = s;
+    listed = is_in-cons s s ss ∙ or_joined (s == s) (stands_in s ss) (inl (eq-eqb s s refl));
+    above = above;
+  }
 
   of_others : (s : ℕ) (ss : List ℕ) (t : ℕ) → IsAncestorOfOne page.tree ss t → IsAncestorOfOne page.tree (s ∷ ss) t
-  of_others s ss t one = record { serial = one.serial; listed = is_in-cons s one.serial ss ∙ or_joined (s == one.serial) (stands_in one.serial ss) (inr one.listed); above = one.above }
+  of_others s ss t one = record {
+    serial = one.serial;
+    listed = is_in-cons s one.serial ss ∙ or_joined (s == one.serial) (stands_in one.serial ss) (inr one.listed);
+    above = one.above;
+  }
 
   no_ancestor : (s t : ℕ) → has row_serial s (alone page.tree) ≡ false → IsAncestor page.tree s t → ⊥
   no_ancestor s t absent at =
-      let there : has row_serial s (alone page.tree) ≡ true = has-there row_serial s (alone page.tree) (omega (arith, there_once s at.ancestor.children at.above, stands-below at.ancestor at.stands s)) in
+      let there : has row_serial s (alone page.tree)
+      ≡ true = has-there row_serial s (alone page.tree)
+      (omega (arith, there_once s at.ancestor.children at.above, stands-below at.ancestor at.stands s)) in
       let no : false ≡ true = sym absent ∙ there in
       absurd (cc)
 
   serials_by : (ss : List ℕ) (opened : Option (ℕ → Bool)) (pushed : List ℕ) (since : ℕ) → is_open opened page.tree.row.serial ≡ true
-      → OpensAlso (record { opened = opened; pushed = pushed; since = since }) (all_pushed (session_keeper (alone page.tree)) page.tree ss (record { opened = opened; pushed = pushed; since = since })).progress.state (IsAncestorOfOne page.tree ss)
+      → OpensAlso (record { opened = opened; pushed = pushed; since = since })
+      (all_pushed (session_keeper (alone page.tree)) page.tree ss
+      (record { opened = opened; pushed = pushed; since = since })).progress.state (IsAncestorOfOne page.tree ss)
   serials_by [] opened pushed since begun t = (λ e. inl e, λ is. ⊎_elim (λ e. e) (λ one. let no : false ≡ true = one.listed in cc) is)
   serials_by (s ∷ ss) None pushed since begun t = cc
   serials_by (s ∷ ss) (Some o) pushed since begun t =
@@ -126,11 +160,13 @@ module _ (page : PageValue) (valid : IsValid page) where
       let w : Session = session_of o pushed since in
       let z : Session = (push_of (session_keeper n) page.tree s w).state in
       let one = push_by page valid s o pushed since in
-      either (λ (q : Pushes Session). (is_open q.progress.state.opened t ≡ true) ↔ ((o t ≡ true) ⊎ IsAncestorOfOne page.tree (s ∷ ss) t)) (has row_serial s n) _ _
+      either (λ (q : Pushes Session). (is_open q.progress.state.opened t ≡ true) ↔ ((o t ≡ true) ⊎ IsAncestorOfOne page.tree (s ∷ ss) t))
+      (has row_serial s n) _ _
       (λ _.
       let rest = serials_by ss z.opened z.pushed z.since ((one page.tree.row.serial).1 (inl begun)) t in (
         λ e. ⊎_elim (λ h. ⊎_elim (λ k. inl k) (λ a. inr (of_first s ss t a)) ((one t).0 h)) (λ a. inr (of_others s ss t a)) (rest.0 e),
-        λ is. rest.1 (⊎_elim (λ k. inl ((one t).1 (inl k))) (λ a. ⊎_elim (λ f. inl ((one t).1 (inr f))) (λ r. inr r) (first_or s ss t a)) is),
+        λ is. rest.1 (⊎_elim (λ k. inl ((one t).1 (inl k)))
+            (λ a. ⊎_elim (λ f. inl ((one t).1 (inr f))) (λ r. inr r) (first_or s ss t a)) is),
       ))
       (λ absent.
       let rest = serials_by ss (Some o) pushed since begun t in (
@@ -141,15 +177,23 @@ module _ (page : PageValue) (valid : IsValid page) where
 pub serials_open : SerialsOpen
 serials_open page serials w valid begun t =
     let n : Nodes PageRow = alone page.tree in
-    subst (λ (b : Bool). (is_open (state_after w (cond b (with_ids (session_keeper n) page.tree (all_pushed (session_keeper n) page.tree serials w)) (refused NotPushed))).opened t ≡ true) ↔ ((is_open w.opened t ≡ true) ⊎ IsAncestorOfOne page.tree serials t)) (sym begun)
+    subst (λ (b : Bool). (is_open (state_after w
+    (cond b (with_ids (session_keeper n) page.tree (all_pushed (session_keeper n) page.tree serials w)) (refused NotPushed))).opened t
+    ≡ true) ↔ ((is_open w.opened t ≡ true) ⊎ IsAncestorOfOne page.tree serials t)) (sym begun)
     (serials_by page valid serials w.opened w.pushed w.since begun t)
 
 -- ---- what becomes known by a request
 
-request_pushes_by : (page : PageValue) → IsValid page → (depth : Option ℤ) (opened : Option (ℕ → Bool)) (pushed : List ℕ) (since id : ℕ) (x : Branch PageRow) → IsSession (alone page.tree) (record { opened = opened; pushed = pushed; since = since })
-    → known_node (session_keeper (alone page.tree)) page.tree (record { opened = opened; pushed = pushed; since = since }) (serial_at (record { opened = opened; pushed = pushed; since = since }) (alone page.tree) id) ≡ Some x
-    → (all_opened (session_keeper (alone page.tree)) page.tree (requested (is_open opened) (levels_asked depth) (alone x)) (record { opened = opened; pushed = pushed; since = since })).state.pushed
-    ≡ pushed ++ newly_known page (record { opened = opened; pushed = pushed; since = since }) (all_opened (session_keeper (alone page.tree)) page.tree (requested (is_open opened) (levels_asked depth) (alone x)) (record { opened = opened; pushed = pushed; since = since })).state
+request_pushes_by : (page : PageValue) → IsValid page
+    → (depth : Option ℤ) (opened : Option (ℕ → Bool)) (pushed : List ℕ) (since id : ℕ) (x : Branch PageRow)
+    → IsSession (alone page.tree) (record { opened = opened; pushed = pushed; since = since })
+    → known_node (session_keeper (alone page.tree)) page.tree (record { opened = opened; pushed = pushed; since = since })
+    (serial_at (record { opened = opened; pushed = pushed; since = since }) (alone page.tree) id) ≡ Some x
+    → (all_opened (session_keeper (alone page.tree)) page.tree (requested (is_open opened) (levels_asked depth) (alone x))
+    (record { opened = opened; pushed = pushed; since = since })).state.pushed
+    ≡ pushed ++ newly_known page (record { opened = opened; pushed = pushed; since = since })
+    (all_opened (session_keeper (alone page.tree)) page.tree (requested (is_open opened) (levels_asked depth) (alone x))
+    (record { opened = opened; pushed = pushed; since = since })).state
 request_pushes_by page valid depth None pushed since id x session found = cc
 request_pushes_by page valid depth (Some o) pushed since id x session found =
     let n : Nodes PageRow = alone page.tree in
@@ -158,11 +202,14 @@ request_pushes_by page valid depth (Some o) pushed since id x session found =
     let os : List Opening = requested o d (alone x) in
     let q : ℕ → Bool = opened_all o os in
     let distinct = distinct-alone page valid in
-    let v : InView o x n = known-found page valid o pushed since (serial_at w n id) (λ s e. (find-there (λ s. session_ids w s == id) (known o n) s e).0) x found in
+    let v : InView o x n = known-found page valid o pushed since (serial_at w n id)
+    (λ s e. (find-there (λ s. session_ids w s == id) (known o n) s e).0) x found in
     let distinct_x : AreDistinct (alone x) = λ s. omega (arith, in_view-tally o x v s, distinct s) in
-    let set : (s : ℕ) → q s ≡ (o s || stands_in s (containers_within d (alone x))) = λ s. opened_all-set os o s ∙ requested-set o s d (alone x) in
+    let set : (s : ℕ) → q s ≡ (o s || stands_in s (containers_within d (alone x))) = λ s. opened_all-set os o s ∙ requested-set o s d
+    (alone x) in
     let outside : (s : ℕ) → tally row_serial s (alone x) ≡ 0 → o s ≡ q s = λ s h.
-    or_nothing (o s) ∙ sym (set s ∙ ap (λ k. o s || not (k == 0)) (let none_there : times s (containers_within d (alone x)) ≡ 0 = omega (arith, reached-tally d s (alone x)) in none_there)) in
+    or_nothing (o s) ∙ sym (set s ∙ ap (λ k. o s || not (k == 0))
+    (let none_there : times s (containers_within d (alone x)) ≡ 0 = omega (arith, reached-tally d s (alone x)) in none_there)) in
     let are = requested-are n distinct o d (alone x) o distinct_x (v, tt) (λ s h. refl) in
     pushed-all n page.tree os o pushed since
     ∙ ap (λ l. pushed ++ l)
@@ -170,7 +217,8 @@ request_pushes_by page valid depth (Some o) pushed since id x session found =
     ∙ sym (anew-requested o q d (alone x) distinct_x (closed-in_view o x v session.opened_set.closed) (λ s h. set s))
     ∙ sym (anew-within o q x outside v distinct)
     ∙ anew-filter o q (opened_all-grows o os) n distinct
-    ∙ ap (λ (z : Option (ℕ → Bool)). filter (λ s. not (stands_in s (known o n))) (known_by z n)) (sym (opened_after n page.tree os o pushed since)))
+    ∙ ap (λ (z : Option (ℕ → Bool)). filter (λ s. not (stands_in s (known o n))) (known_by z n))
+    (sym (opened_after n page.tree os o pushed since)))
   where
     or_nothing : (b : Bool) → b ≡ (b || false)
     or_nothing true = refl
@@ -179,5 +227,6 @@ request_pushes_by page valid depth (Some o) pushed since id x session found =
 pub request_pushes : RequestPushes
 request_pushes page id depth pierce w x valid session found =
     let n : Nodes PageRow = alone page.tree in
-    subst (λ (f : Option (Branch PageRow)). (state_after w (of_children (session_keeper n) page.tree depth f w)).pushed ≡ w.pushed ++ newly_known page w (state_after w (of_children (session_keeper n) page.tree depth f w))) (sym found)
+    subst (λ (f : Option (Branch PageRow)). (state_after w (of_children (session_keeper n) page.tree depth f w)).pushed
+    ≡ w.pushed ++ newly_known page w (state_after w (of_children (session_keeper n) page.tree depth f w))) (sym found)
     (request_pushes_by page valid depth w.opened w.pushed w.since id x session found)

@@ -1,5 +1,6 @@
 -- One node of a page is changed, and what becomes of it in the view.
-use Rattle.std.proofs.Common.{◌≡◌, ℕ, ◌<◌, ◌≤◌, ◌==◌, Bool, true, false, cond, not, ◌||◌, List, [], ◌∷◌, Option, Some, None, refl, sym, ap, subst, ◌∙◌, ◌⊎◌, inl, inr, arith}
+use Rattle.std.proofs.Common.{◌≡◌, ℕ, ◌<◌, ◌≤◌, ◌==◌, Bool, true, false, cond, not, ◌||◌, List, [], ◌∷◌, Option, Some, None, refl, sym, ap}
+use Rattle.std.proofs.Common.{subst, ◌∙◌, ◌⊎◌, inl, inr, arith}
 use Rattle.std.proofs.lemmas.Bool.{eq-eqb, and_from}
 use Rattle.std.specs.Ordering.{nat_cmp, match_ordering}
 use Rattle.std.specs.Cmp.Lexicographic.{slice_cmp}
@@ -20,7 +21,8 @@ use Rattle.node_binding.proofs.Places.{is_in-times}
 use Rattle.node_binding.proofs.OpeningLemmas.{AreDistinct}
 use Rattle.node_binding.proofs.ChangedLemmas.{IsAlike}
 use Rattle.cdp_messages.specs.LabelChanges as label
-use Rattle.cdp_messages.specs.Moves.{Change, inserts, removes, counts, sets, drops, says, changed, suits_change, has_named_attribute, put_after, without_tree, has_tree, ChangesNode}
+use Rattle.cdp_messages.specs.Moves.{Change, inserts, removes, counts, sets, drops, says, changed, suits_change, has_named_attribute}
+use Rattle.cdp_messages.specs.Moves.{put_after, without_tree, has_tree, ChangesNode}
 use Rattle.dom_agent.specs.Requests.{shown}
 use Rattle.dom_agent.specs.Edits.{id_before, unopened}
 use Rattle.dom_agent.proofs.ShownLemmas.{is_root, SeenAt, seen-at, prior_is, insert_shown, root_seen, drop_shown}
@@ -30,16 +32,27 @@ pub record Tells (id : ℕ) (known_now : Bool) (c : Change) (v u : Nodes Seen) :
   pub seen : known_now ≡ true → ChangesNode id c v u
   pub unseen : known_now ≡ false → v ≡ u
 
-module _ (o : ℕ → Bool) (i : ℕ → ℕ) {old new : Branch PageRow} (alike : IsAlike old new) {depth : ℕ} {n m : Nodes PageRow} (at : At old new depth n m) (c : Change) where
+module _ (o : ℕ → Bool) (i : ℕ → ℕ) {old new : Branch PageRow} (alike : IsAlike old new) {depth : ℕ} {n m : Nodes PageRow}
+    (at : At old new depth n m) (c : Change) where
   abbrev pub before_after : SeenAt o i old new n m
   before_after = seen-at o i alike at
 
-  pub changes : has_named_attribute c ≡ true → suits_change c (shown o i old) ≡ true → shown o i new ≡ changed c (shown o i old) → (seen-at o i alike at).in_view ≡ true → ChangesNode (i old.row.serial) c (cut o i n) (cut o i m)
+  pub changes : has_named_attribute c ≡ true → suits_change c (shown o i old) ≡ true → shown o i new ≡ changed c (shown o i old)
+      → (seen-at o i alike at).in_view ≡ true → ChangesNode (i old.row.serial) c (cut o i n) (cut o i m)
   changes named suits same e =
       let d = before_after.shows e in
-      record { old = shown o i old; depth = d.0; is = refl; suits = suits; named = named; at = subst (λ (b : Branch Seen). At (shown o i old) b d.0 (cut o i n) (cut o i m)) same d.1 }
+      record {
+        old = shown o i old;
+        depth = d.0;
+        is = refl;
+        suits = suits;
+        named = named;
+        at = subst (λ (b : Branch Seen). At (shown o i old) b d.0 (cut o i n) (cut o i m)) same d.1;
+      }
 
-  pub tells : AreDistinct n → has_named_attribute c ≡ true → suits_change c (shown o i old) ≡ true → shown o i new ≡ changed c (shown o i old) → Tells (i old.row.serial) (stands_in old.row.serial (known o n)) c (cut o i n) (cut o i m)
+  pub tells : AreDistinct n → has_named_attribute c ≡ true → suits_change c (shown o i old) ≡ true
+      → shown o i new ≡ changed c (shown o i old)
+      → Tells (i old.row.serial) (stands_in old.row.serial (known o n)) c (cut o i n) (cut o i m)
   tells distinct named suits same =
       let s = old.row.serial in
       let seen_times : times s (known o n) ≡ cond {A = ℕ} before_after.in_view 1 0 = before_after.known (distinct s) in
@@ -71,25 +84,37 @@ module _ (o : ℕ → Bool) (i : ℕ → ℕ) (b : Branch PageRow) where
   abbrev relabelled_as : Label → Branch Seen
   relabelled_as l = shown o i (record { row = record { serial = b.row.serial; label = l }; children = b.children })
 
-  pub shown-sets : (name value : List ℕ) → shown o i (relabelled (edits.with_attribute name value) b) ≡ changed (sets name value) (shown o i b)
-  shown-sets name value = ap (λ (a : List Pair). relabelled_as (record b.row.label { attributes = a })) (placed-same (name, value) b.row.label.attributes)
+  pub shown-sets : (name value : List ℕ)
+      → shown o i (relabelled (edits.with_attribute name value) b) ≡ changed (sets name value) (shown o i b)
+  shown-sets name value = ap (λ (a : List Pair). relabelled_as (record b.row.label { attributes = a }))
+      (placed-same (name, value) b.row.label.attributes)
 
   pub shown-drops : (name : List ℕ) → shown o i (relabelled (edits.without_attribute name) b) ≡ changed (drops name) (shown o i b)
-  shown-drops name = ap (λ (a : List Pair). relabelled_as (record b.row.label { attributes = a })) (without-same name b.row.label.attributes)
+  shown-drops name = ap (λ (a : List Pair). relabelled_as (record b.row.label { attributes = a }))
+      (without-same name b.row.label.attributes)
 
   pub shown-says : (value : List ℕ) → shown o i (relabelled (edits.with_value value) b) ≡ changed (says value) (shown o i b)
   shown-says value = refl
 
   -- the node by its kind, whether it is opened, and its children
   abbrev shown_as : Bool → Bool → ℕ → Nodes Seen → Branch Seen
-  shown_as h a w kids = record { row = record { id = i b.row.serial; serial = b.row.serial; label = b.row.label; hold = cond h (cond a opened (counted w)) leaf }; children = cond (cond h a false) kids none }
+  shown_as h a w kids = record {
+    row = record {
+      id = i b.row.serial;
+      serial = b.row.serial;
+      label = b.row.label;
+      hold = cond h (cond a opened (counted w)) leaf;
+    };
+    children = cond (cond h a false) kids none;
+  }
 
   -- a container that is not opened, with another number of children
   pub shown-counts : (c : Nodes PageRow) → holds b.row.label.kind ≡ true → o b.row.serial ≡ false
       → shown o i (record { row = b.row; children = c }) ≡ changed (counts (width c)) (shown o i b)
   shown-counts c container shut = by (holds b.row.label.kind) (o b.row.serial) container shut
     where
-      by : (h a : Bool) → h ≡ true → a ≡ false → shown_as h a (width c) (cut o i c) ≡ changed (counts (width c)) (shown_as h a (width b.children) (cut o i b.children))
+      by : (h a : Bool) → h ≡ true → a ≡ false
+          → shown_as h a (width c) (cut o i c) ≡ changed (counts (width c)) (shown_as h a (width b.children) (cut o i b.children))
       by true true e f = let bad : true ≡ false = f in cc
       by true false e f = refl
       by false a e f = let bad : false ≡ true = e in cc
@@ -99,11 +124,17 @@ module _ (o : ℕ → Bool) (i : ℕ → ℕ) (b : Branch PageRow) where
 
 -- ---- a page where one node has another label, or another number of children that are not shown
 
-pub tells_by : (n m : Nodes PageRow) (opened_now : Option (ℕ → Bool)) (pushed : List ℕ) (since : ℕ) {old new : Branch PageRow} {depth : ℕ} (c : Change) → AreDistinct n → has_named_attribute c ≡ true → IsAlike old new → At old new depth n m
-    → ((o : ℕ → Bool) → opened_now ≡ Some o → (suits_change c (shown o (id_of pushed since) old) ≡ true) × (shown o (id_of pushed since) new ≡ changed c (shown o (id_of pushed since) old)))
-    → Tells (id_of pushed since old.row.serial) (knows (record { opened = opened_now; pushed = pushed; since = since }) n old.row.serial) c (view (record { opened = opened_now; pushed = pushed; since = since }) n) (view (record { opened = opened_now; pushed = pushed; since = since }) m)
+pub tells_by : (n m : Nodes PageRow) (opened_now : Option (ℕ → Bool)) (pushed : List ℕ) (since : ℕ) {old new : Branch PageRow} {depth : ℕ}
+    (c : Change) → AreDistinct n → has_named_attribute c ≡ true → IsAlike old new → At old new depth n m
+    → ((o : ℕ → Bool) → opened_now ≡ Some o
+    → (suits_change c (shown o (id_of pushed since) old) ≡ true)
+    × (shown o (id_of pushed since) new ≡ changed c (shown o (id_of pushed since) old)))
+    → Tells (id_of pushed since old.row.serial) (knows (record { opened = opened_now; pushed = pushed; since = since }) n old.row.serial) c
+    (view (record { opened = opened_now; pushed = pushed; since = since }) n)
+    (view (record { opened = opened_now; pushed = pushed; since = since }) m)
 tells_by n m None pushed since c distinct named alike at fits = record { seen = λ e. let bad : false ≡ true = e in cc; unseen = λ e. refl }
-tells_by n m (Some o) pushed since c distinct named alike at fits = let f = fits o refl in tells o (id_of pushed since) alike at c distinct named f.0 f.1
+tells_by n m (Some o) pushed since c distinct named alike at fits = let f = fits o refl in tells o
+    (id_of pushed since) alike at c distinct named f.0 f.1
 
 -- ---- a child put in below an opened node
 
@@ -120,12 +151,29 @@ module _ (o : ℕ → Bool) (i : ℕ → ℕ) (b : Branch PageRow) (open_now : o
       by true false e = e
       by false a e = e
 
-  pub shown-kids : (c : Nodes PageRow) → shown o i (record { row = b.row; children = c }) ≡ record { row = (shown o i b).row; children = cut o i c }
+  pub shown-kids : (c : Nodes PageRow)
+      → shown o i (record { row = b.row; children = c }) ≡ record { row = (shown o i b).row; children = cut o i c }
   shown-kids c = by (holds b.row.label.kind) (o b.row.serial) open_now
     where
       by : (h a : Bool) → cond h a false ≡ true
-          → ◌≡◌ {A = Branch Seen} (record { row = record { id = i b.row.serial; serial = b.row.serial; label = b.row.label; hold = cond h (cond a opened (counted (width c))) leaf }; children = cond (cond h a false) (cut o i c) none })
-          (record { row = record { id = i b.row.serial; serial = b.row.serial; label = b.row.label; hold = cond h (cond a opened (counted (width b.children))) leaf }; children = cut o i c })
+          → ◌≡◌ {A = Branch Seen} (record {
+            row = record {
+              id = i b.row.serial;
+              serial = b.row.serial;
+              label = b.row.label;
+              hold = cond h (cond a opened (counted (width c))) leaf;
+            };
+            children = cond (cond h a false) (cut o i c) none;
+          })
+          (record {
+            row = record {
+              id = i b.row.serial;
+              serial = b.row.serial;
+              label = b.row.label;
+              hold = cond h (cond a opened (counted (width b.children))) leaf;
+            };
+            children = cut o i c;
+          })
       by true true e = refl
       by true false e = let bad : false ≡ true = e in cc
       by false a e = let bad : false ≡ true = e in cc
@@ -144,7 +192,8 @@ module _ (o : ℕ → Bool) (i : ℕ → ℕ) (b : Branch PageRow) (open_now : o
     shown-inserts =
         shown-kids (put_before before x b.children)
         ∙ ap (λ (c : Nodes Seen). record { row = (shown o i b).row; children = c })
-        (sym (insert_shown o i before x shut b.children apart once above) ∙ ap (put_after (id_before i 0 x.row.serial (put_before before x b.children)) (unopened (i x.row.serial) x)) (sym shown_children_of))
+        (sym (insert_shown o i before x shut b.children apart once above) ∙ ap
+        (put_after (id_before i 0 x.row.serial (put_before before x b.children)) (unopened (i x.row.serial) x)) (sym shown_children_of))
 
     not_opened : (h : Bool) (k : ℕ) → not (is_opened (cond h (counted k) leaf)) ≡ true
     not_opened true k = refl
@@ -162,7 +211,9 @@ module _ (o : ℕ → Bool) (i : ℕ → ℕ) (b : Branch PageRow) (open_now : o
     suits-inserts =
         let q = id_before i 0 x.row.serial (put_before before x b.children) in
         and_from _ _
-        (and_from _ _ shown_open (a_place q (shown o i b).children (subst (λ (v : Nodes Seen). (q ≡ 0) ⊎ (has_tree q v ≡ true)) (sym shown_children_of) (prior_is o i before x 0 b.children apart))))
+        (and_from _ _ shown_open (a_place q (shown o i b).children
+        (subst (λ (v : Nodes Seen). (q ≡ 0) ⊎ (has_tree q v ≡ true)) (sym shown_children_of)
+        (prior_is o i before x 0 b.children apart))))
         (not_opened (holds x.row.label.kind) (width x.children))
 
   module _ (serial : ℕ) (there : is_root serial b.children ≡ true) (once : (y : ℕ) → tally seen_id y (cut o i b.children) ≤ 1) where

@@ -1,5 +1,6 @@
 -- The events of a request show the levels that are left.
-use Rattle.std.proofs.Common.{◌≡◌, ℕ, ℤ, zero, suc, ◌==◌, Bool, true, false, cond, not, ◌&&◌, List, [], ◌∷◌, ◌++◌, Option, Some, None, refl, sym, ap, subst, ◌∙◌, arith}
+use Rattle.std.proofs.Common.{◌≡◌, ℕ, ℤ, zero, suc, ◌==◌, Bool, true, false, cond, not, ◌&&◌, List, [], ◌∷◌, ◌++◌, Option, Some, None, refl}
+use Rattle.std.proofs.Common.{sym, ap, subst, ◌∙◌, arith}
 use Rattle.std.specs.List.{All}
 use Rattle.std.proofs.lemmas.List.Elements.{All-cons, All-nil}
 use Rattle.node_tree.specs.Nodes.{Nodes, none, node, Branch, alone, width}
@@ -36,11 +37,19 @@ pub cut-levels : (o : ℕ → Bool) (i : ℕ → ℕ) (d : Option ℕ) (n : Node
 cut-levels o i d none distinct agrees = refl
 cut-levels o i d (node r c t) distinct agrees =
     let g : Bool = goes_on d r in
-    let seen : (b : Bool) → Seen = λ b. record { id = i r.serial; serial = r.serial; label = r.label; hold = cond (holds r.label.kind) (cond b opened (counted (width c))) leaf } in
+    let seen : (b : Bool) → Seen = λ b. record {
+      id = i r.serial;
+      serial = r.serial;
+      label = r.label;
+      hold = cond (holds r.label.kind) (cond b opened (counted (width c))) leaf;
+    } in
     ap (λ b. node (seen b) (cond (opens o r) (cut o i c) none) (cut o i t)) (root_is o d r c t distinct agrees)
     ∙ ap (λ b. node (seen g) (cond b (cut o i c) none) (cut o i t)) (opens_is o d r c t distinct agrees)
-    ∙ ap (λ m. node (seen g) m (cut o i t)) (kids_same g (cut o i c) (shown_to i (less d) c) (λ e. cut-levels o i (less d) c (λ s. omega (arith, distinct s)) (agrees_children o d r c t distinct agrees e)))
-    ∙ ap (λ m. node (seen g) (cond g (shown_to i (less d) c) none) m) (cut-levels o i d t (λ s. omega (arith, distinct s)) (agrees_rest o d r c t distinct agrees))
+    ∙ ap (λ m. node (seen g) m (cut o i t))
+    (kids_same g (cut o i c) (shown_to i (less d) c)
+    (λ e. cut-levels o i (less d) c (λ s. omega (arith, distinct s)) (agrees_children o d r c t distinct agrees e)))
+    ∙ ap (λ m. node (seen g) (cond g (shown_to i (less d) c) none) m)
+    (cut-levels o i d t (λ s. omega (arith, distinct s)) (agrees_rest o d r c t distinct agrees))
 
 -- ---- what is requested
 
@@ -56,7 +65,8 @@ abbrev pub AreRequested : Option ℕ → Nodes PageRow → (ℕ → Bool) → Li
 AreRequested d n o [] = Unit {0}
 AreRequested d n o (y ∷ ys) = IsRequested d n o y × AreRequested d n o ys
 
-requested_join : (d : Option ℕ) (n : Nodes PageRow) (o : ℕ → Bool) (xs ys : List Opening) → AreRequested d n o xs → AreRequested d n o ys → AreRequested d n o (xs ++ ys)
+requested_join : (d : Option ℕ) (n : Nodes PageRow) (o : ℕ → Bool) (xs ys : List Opening) → AreRequested d n o xs → AreRequested d n o ys
+    → AreRequested d n o (xs ++ ys)
 requested_join d n o [] ys h k = k
 requested_join d n o (x ∷ xs) ys h k = (h.0, requested_join d n o xs ys h.1 k)
 
@@ -70,7 +80,8 @@ left-below (Some zero) k = ap Some (omega arith)
 left-below (Some (suc d)) k = ap Some (omega arith)
 
 module _ (o : ℕ → Bool) where
-  all_below : (d : Option ℕ) (r : PageRow) (c t : Nodes PageRow) (ys : List Opening) → is_spent d ≡ false → AreRequested (less d) c o ys → AreRequested d (node r c t) o ys
+  all_below : (d : Option ℕ) (r : PageRow) (c t : Nodes PageRow) (ys : List Opening) → is_spent d ≡ false → AreRequested (less d) c o ys
+      → AreRequested d (node r c t) o ys
   all_below d r c t [] left h = tt
   all_below d r c t (y ∷ ys) left h = (
     record {
@@ -84,7 +95,8 @@ module _ (o : ℕ → Bool) where
     all_below d r c t ys left h.1,
   )
 
-  all_beside : (d : Option ℕ) (r : PageRow) (c t : Nodes PageRow) (ys : List Opening) → AreRequested d t o ys → AreRequested d (node r c t) o ys
+  all_beside : (d : Option ℕ) (r : PageRow) (c t : Nodes PageRow) (ys : List Opening) → AreRequested d t o ys
+      → AreRequested d (node r c t) o ys
   all_beside d r c t [] h = tt
   all_beside d r c t (y ∷ ys) h = (
     record {
@@ -98,9 +110,12 @@ module _ (o : ℕ → Bool) where
     all_beside d r c t ys h.1,
   )
 
-  first_tree : (d : Option ℕ) (r : PageRow) (c t : Nodes PageRow) (g a : Bool) → (holds r.label.kind && not (is_spent d)) ≡ g → o r.serial ≡ a → AreRequested (less d) c o (requested o (less d) c)
-      → AreRequested d (node r c t) o (cond g (cond a (requested o (less d) c) (record { levels = d; node = record { row = r; children = c } } ∷ [])) [])
-  first_tree d r c t true true g_is a_is h = all_below d r c t (requested o (less d) c) (unspent (is_spent d) (and-second (holds r.label.kind) (not (is_spent d)) g_is)) h
+  first_tree : (d : Option ℕ) (r : PageRow) (c t : Nodes PageRow) (g a : Bool) → (holds r.label.kind && not (is_spent d)) ≡ g
+      → o r.serial ≡ a → AreRequested (less d) c o (requested o (less d) c)
+      → AreRequested d (node r c t) o
+      (cond g (cond a (requested o (less d) c) (record { levels = d; node = record { row = r; children = c } } ∷ [])) [])
+  first_tree d r c t true true g_is a_is h = all_below d r c t (requested o (less d) c)
+      (unspent (is_spent d) (and-second (holds r.label.kind) (not (is_spent d)) g_is)) h
   first_tree d r c t true false g_is a_is h = (
     record {
       distance = 0;
@@ -117,14 +132,18 @@ module _ (o : ℕ → Bool) where
   pub requested-at : (d : Option ℕ) (n : Nodes PageRow) → AreRequested d n o (requested o d n)
   requested-at d none = tt
   requested-at d (node r c t) =
-      requested_join d (node r c t) o (cond (goes_on d r) (cond (o r.serial) (requested o (less d) c) (record { levels = d; node = record { row = r; children = c } } ∷ [])) []) (requested o d t)
+      requested_join d (node r c t) o
+      (cond (goes_on d r) (cond (o r.serial) (requested o (less d) c)
+      (record { levels = d; node = record { row = r; children = c } } ∷ [])) []) (requested o d t)
       (first_tree d r c t (goes_on d r) (o r.serial) refl refl (requested-at (less d) c))
       (all_beside d r c t (requested o d t) (requested-at d t))
 
 -- ---- what is told of it
 
-module _ (n : Nodes PageRow) (document : Branch PageRow) (distinct : AreDistinct n) (d : Option ℕ) (x : Branch PageRow) (before : ℕ → Bool) (w : Session) (was : (s : ℕ) → is_open w.opened s ≡ before s) where
-  pub tells-all : (xs : List Opening) (o : ℕ → Bool) (pushed : List ℕ) (since : ℕ) → AreOpenings n o xs → AreRequested d (alone x) before xs → IsSession n (session_of o pushed since)
+module _ (n : Nodes PageRow) (document : Branch PageRow) (distinct : AreDistinct n) (d : Option ℕ) (x : Branch PageRow) (before : ℕ → Bool)
+    (w : Session) (was : (s : ℕ) → is_open w.opened s ≡ before s) where
+  pub tells-all : (xs : List Opening) (o : ℕ → Bool) (pushed : List ℕ) (since : ℕ) → AreOpenings n o xs
+      → AreRequested d (alone x) before xs → IsSession n (session_of o pushed since)
       → All (TellsLevels d x w) (all_opened (session_keeper n) document xs (session_of o pushed since)).shown
   tells-all [] o pushed since are at session = All-nil (TellsLevels d x w)
   tells-all (y ∷ ys) o pushed since are at session =
@@ -134,7 +153,9 @@ module _ (n : Nodes PageRow) (document : Branch PageRow) (distinct : AreDistinct
       let v : InView o y.node n = can_open-in_view o y.node n distinct can in
       let distinct_y : AreDistinct (alone y.node) = λ s. omega (arith, in_view-tally o y.node v s, distinct s) in
       let closed = closed-in_view o y.node v session.opened_set.closed in
-      let unopened : is_unopened o y.node.children ≡ true = ap (λ b. cond b (is_closed o y.node.children) (is_unopened o y.node.children)) (sym can.shut) ∙ and-first (cond (o y.node.row.serial) (is_closed o y.node.children) (is_unopened o y.node.children)) true closed in
+      let unopened : is_unopened o y.node.children
+      ≡ true = ap (λ b. cond b (is_closed o y.node.children) (is_unopened o y.node.children)) (sym can.shut) ∙ and-first
+      (cond (o y.node.row.serial) (is_closed o y.node.children) (is_unopened o y.node.children)) true closed in
       let agrees : Agrees p (less y.levels) y.node.children = agrees_below o y.levels y.node are.0 can.container distinct_y unopened in
       let told : Showing = record { parent = session_ids z y.node.row.serial; children = cut p (session_ids z) y.node.children } in
       All-cons (TellsLevels d x w) told (all_opened (session_keeper n) document ys z).shown
@@ -147,20 +168,27 @@ module _ (n : Nodes PageRow) (document : Branch PageRow) (distinct : AreDistinct
         shut = was y.node.row.serial ∙ at.0.shut;
         ids = session_ids z;
         parent = refl;
-        shows = cut-levels p (session_ids z) (less y.levels) y.node.children (λ s. omega (arith, distinct_y s)) agrees ∙ ap (λ l. shown_to (session_ids z) (less l) y.node.children) at.0.levels;
+        shows = cut-levels p (session_ids z) (less y.levels) y.node.children (λ s. omega (arith, distinct_y s)) agrees ∙ ap
+            (λ l. shown_to (session_ids z) (less l) y.node.children) at.0.levels;
       })
       (tells-all ys p z.pushed z.since are.2 at.1 (IsSession-opened y.levels n y.node o pushed since distinct are.0 can session))
 
-tells_by : (page : PageValue) → IsValid page → (depth : Option ℤ) (opened : Option (ℕ → Bool)) (pushed : List ℕ) (since id : ℕ) (x : Branch PageRow) → IsSession (alone page.tree) (record { opened = opened; pushed = pushed; since = since })
-    → known_node (session_keeper (alone page.tree)) page.tree (record { opened = opened; pushed = pushed; since = since }) (serial_at (record { opened = opened; pushed = pushed; since = since }) (alone page.tree) id) ≡ Some x
-    → All (TellsLevels (levels_asked depth) x (record { opened = opened; pushed = pushed; since = since })) (all_opened (session_keeper (alone page.tree)) page.tree (requested (is_open opened) (levels_asked depth) (alone x)) (record { opened = opened; pushed = pushed; since = since })).shown
+tells_by : (page : PageValue) → IsValid page
+    → (depth : Option ℤ) (opened : Option (ℕ → Bool)) (pushed : List ℕ) (since id : ℕ) (x : Branch PageRow)
+    → IsSession (alone page.tree) (record { opened = opened; pushed = pushed; since = since })
+    → known_node (session_keeper (alone page.tree)) page.tree (record { opened = opened; pushed = pushed; since = since })
+    (serial_at (record { opened = opened; pushed = pushed; since = since }) (alone page.tree) id) ≡ Some x
+    → All (TellsLevels (levels_asked depth) x (record { opened = opened; pushed = pushed; since = since }))
+    (all_opened (session_keeper (alone page.tree)) page.tree (requested (is_open opened) (levels_asked depth) (alone x))
+    (record { opened = opened; pushed = pushed; since = since })).shown
 tells_by page valid depth None pushed since id x session found = cc
 tells_by page valid depth (Some o) pushed since id x session found =
     let n : Nodes PageRow = alone page.tree in
     let d : Option ℕ = levels_asked depth in
     let w : Session = session_of o pushed since in
     let distinct = distinct-alone page valid in
-    let v : InView o x n = known-found page valid o pushed since (serial_at w n id) (λ s e. (find-there (λ s. session_ids w s == id) (known o n) s e).0) x found in
+    let v : InView o x n = known-found page valid o pushed since (serial_at w n id)
+    (λ s e. (find-there (λ s. session_ids w s == id) (known o n) s e).0) x found in
     tells-all n page.tree distinct d x o w (λ s. refl) (requested o d (alone x)) o pushed since
     (requested-are n distinct o d (alone x) o (λ s. omega (arith, in_view-tally o x v s, distinct s)) (v, tt) (λ s h. refl))
     (requested-at o d (alone x)) session
@@ -168,5 +196,6 @@ tells_by page valid depth (Some o) pushed since id x session found =
 pub request_tells : RequestTells
 request_tells page id depth pierce w x valid session found =
     let n : Nodes PageRow = alone page.tree in
-    subst (λ (f : Option (Branch PageRow)). All (TellsLevels (levels_asked depth) x w) (shown_by_outcome (of_children (session_keeper n) page.tree depth f w))) (sym found)
+    subst (λ (f : Option (Branch PageRow)). All (TellsLevels (levels_asked depth) x w)
+    (shown_by_outcome (of_children (session_keeper n) page.tree depth f w))) (sym found)
     (tells_by page valid depth w.opened w.pushed w.since id x session found)

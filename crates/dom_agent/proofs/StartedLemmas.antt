@@ -11,7 +11,8 @@ use Rattle.node_binding.proofs.StandsLemmas.{Stands-document_opened}
 use Rattle.node_binding.proofs.StartLemmas.{distinct-alone, root_holds}
 
 -- w is a session that has given as many ids
-pub root_opened : (page : PageValue) → IsValid page → (d : Option ℕ) → is_spent d ≡ false → (w : Session) (b : BindingValue) → b.next ≡ length w.pushed + 1 → opened_in (started d (alone page.tree) b) page.tree.row.serial ≡ true
+pub root_opened : (page : PageValue) → IsValid page → (d : Option ℕ) → is_spent d ≡ false → (w : Session) (b : BindingValue)
+    → b.next ≡ length w.pushed + 1 → opened_in (started d (alone page.tree) b) page.tree.row.serial ≡ true
 root_opened page valid d left w b next =
     let s = page.tree.row.serial in
     let below = containers_within (less d) page.tree.children in

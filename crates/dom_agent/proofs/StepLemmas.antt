@@ -1,5 +1,6 @@
 -- What a list of openings comes to for a session.
-use Rattle.std.proofs.Common.{◌≡◌, ℕ, ◌+◌, ◌<◌, ◌≤◌, ◌^◌, Bool, true, false, cond, nat_lt, List, [], ◌∷◌, ◌++◌, length, length-append, length-drop, drop, Option, Some, None, refl, sym, subst, arith, lt-ltb}
+use Rattle.std.proofs.Common.{◌≡◌, ℕ, ◌+◌, ◌<◌, ◌≤◌, ◌^◌, Bool, true, false, cond, nat_lt, List, [], ◌∷◌, ◌++◌, length, length-append}
+use Rattle.std.proofs.Common.{length-drop, drop, Option, Some, None, refl, sym, subst, arith, lt-ltb}
 use Rattle.std.specs.List.{list_all}
 use Rattle.std.proofs.lemmas.Bool.{and_from}
 use Rattle.std.proofs.lemmas.List.{map-append}
@@ -21,7 +22,8 @@ use Rattle.cdp_messages.specs.Replies.{fits_body}
 use Rattle.cdp_messages.specs.Views.{ShownSheet, View}
 use Rattle.cdp_messages.specs.Moves.{Move, CanBeTold, Course, ends, goes}
 use Rattle.dom_agent.specs.Keepers.{session_keeper}
-use Rattle.dom_agent.specs.Requests.{Opening, Showing, Progress, Pushes, pushing, all_opened, pushed as push_of, all_pushed, opening_move, opening_moves}
+use Rattle.dom_agent.specs.Requests.{Opening, Showing, Progress, Pushes, pushing, all_opened, pushed as push_of, all_pushed, opening_move}
+use Rattle.dom_agent.specs.Requests.{opening_moves}
 use Rattle.dom_agent.proofs.OpeningsLemmas.{AreOpenings, AreContainers, pushing-are}
 
 -- what a client sees, beside these sheets
@@ -39,7 +41,8 @@ pub record Goes (n : Nodes PageRow) (w z : Session) (xs : List Showing) : Type 0
   pub grows : (s : ℕ) → is_open w.opened s ≡ true → is_open z.opened s ≡ true
   pub counts : length z.pushed + length (known_by w.opened n) ≡ length w.pushed + length (known_by z.opened n)
   pub longer : length w.pushed ≤ length z.pushed
-  pub course : (most : ℕ) (sheets : List ShownSheet) → CanSay n most sheets → length z.pushed ≤ most → Course (opening_moves xs) (seen_by n sheets w) (seen_by n sheets z)
+  pub course : (most : ℕ) (sheets : List ShownSheet) → CanSay n most sheets → length z.pushed ≤ most
+      → Course (opening_moves xs) (seen_by n sheets w) (seen_by n sheets z)
 
 -- A result that a message can spell.
 pub record CanSpell (body : ReplyBody) : Type 0 where
@@ -71,7 +74,8 @@ module _ (n : Nodes PageRow) where
     grows = λ s e. h.grows s (g.grows s e);
     counts = omega (arith, g.counts, h.counts);
     longer = omega (arith, g.longer, h.longer);
-    course = λ most sheets say few. subst (λ (ms : List Move). Course ms (seen_by n sheets w) (seen_by n sheets z)) (sym (map-append opening_move xs ys))
+    course = λ most sheets say few. subst (λ (ms : List Move). Course ms (seen_by n sheets w) (seen_by n sheets z))
+        (sym (map-append opening_move xs ys))
         (course-join (g.course most sheets say (omega (arith, h.longer, few))) (h.course most sheets say few));
   }
 
@@ -87,30 +91,45 @@ module _ (n : Nodes PageRow) where
     told_move z x = opening_move (told z x)
 
     -- one opening
-    pub goes-one : (y : Opening) (o : ℕ → Bool) (pushed : List ℕ) (since : ℕ) → is_spent y.levels ≡ false → CanOpen n o y.node → IsSession n (session_of o pushed since)
-        → Goes n (session_of o pushed since) (grown o (opened_also y.levels y.node o) n (session_of o pushed since)) (told (grown o (opened_also y.levels y.node o) n (session_of o pushed since)) y.node ∷ [])
+    pub goes-one : (y : Opening) (o : ℕ → Bool) (pushed : List ℕ) (since : ℕ) → is_spent y.levels ≡ false → CanOpen n o y.node
+        → IsSession n (session_of o pushed since)
+        → Goes n (session_of o pushed since) (grown o (opened_also y.levels y.node o) n (session_of o pushed since))
+        (told (grown o (opened_also y.levels y.node o) n (session_of o pushed since)) y.node ∷ [])
     goes-one y o pushed since left can session =
         let d : Option ℕ = y.levels in
         let x : Branch PageRow = y.node in
         let w : Session = session_of o pushed since in
         let z : Session = grown o (opened_also d x o) n w in
         let after : IsSession n z = IsSession-opened d n x o pushed since distinct left can session in
-        let more : length pushed ≤ length (pushed ++ shown_anew o (opened_also d x o) n) = omega (arith, length-append pushed (shown_anew o (opened_also d x o) n)) in
+        let more : length pushed ≤ length (pushed ++ shown_anew o (opened_also d x o) n) = omega
+        (arith, length-append pushed (shown_anew o (opened_also d x o) n)) in
         let at = view-opened d n x o pushed since distinct left can session in
         record {
           session = after;
           grows = opened-grows o d x;
           counts = length-opened d n x o pushed since distinct left can session;
           longer = more;
-          course = λ most sheets say few. goes (told_move z x) [] (seen_by n sheets w) (seen_by n sheets z) (seen_by n sheets z) (say w session (omega (arith, more, few)))
-              (record { old = record { row = bare_row o d x (session_ids z) (counted (width x.children)); children = none }; depth = at.0; is = refl; suits = refl; named = refl; at = at.1 }, refl)
+          course = λ most sheets say few. goes (told_move z x) [] (seen_by n sheets w) (seen_by n sheets z) (seen_by n sheets z)
+              (say w session (omega (arith, more, few))) (
+                record {
+                  old = record { row = bare_row o d x (session_ids z) (counted (width x.children)); children = none };
+                  depth = at.0;
+                  is = refl;
+                  suits = refl;
+                  named = refl;
+                  at = at.1;
+                },
+                refl,
+              )
               (ends (seen_by n sheets z) (say z after few));
         }
 
     module _ (document : Branch PageRow) where
       -- several
-      pub goes-openings : (xs : List Opening) (o : ℕ → Bool) (pushed : List ℕ) (since : ℕ) → IsSession n (session_of o pushed since) → AreOpenings n o xs
-          → Goes n (session_of o pushed since) (all_opened (session_keeper n) document xs (session_of o pushed since)).state (all_opened (session_keeper n) document xs (session_of o pushed since)).shown
+      pub goes-openings : (xs : List Opening) (o : ℕ → Bool) (pushed : List ℕ) (since : ℕ) → IsSession n (session_of o pushed since)
+          → AreOpenings n o xs
+          → Goes n (session_of o pushed since) (all_opened (session_keeper n) document xs (session_of o pushed since)).state
+          (all_opened (session_keeper n) document xs (session_of o pushed since)).shown
       goes-openings [] o pushed since session are = goes-none (session_of o pushed since) session
       goes-openings (y ∷ ys) o pushed since session are =
           let w : Session = session_of o pushed since in
@@ -145,24 +164,36 @@ module _ (document : Branch PageRow) (distinct : AreDistinct (alone document)) (
 
   -- one push
   pub goes-pushed : (s : ℕ) (o : ℕ → Bool) (pushed : List ℕ) (since : ℕ) → IsSession n (session_of o pushed since)
-      → Goes n (session_of o pushed since) (push_of (session_keeper n) document s (session_of o pushed since)).state (push_of (session_keeper n) document s (session_of o pushed since)).shown
+      → Goes n (session_of o pushed since) (push_of (session_keeper n) document s (session_of o pushed since)).state
+      (push_of (session_keeper n) document s (session_of o pushed since)).shown
   goes-pushed s o pushed since session =
-      goes-openings n distinct document (pushing o s n) o pushed since session (pushing-are n distinct o s n o containers distinct (roots_in_view o n) (λ k h. refl))
+      goes-openings n distinct document (pushing o s n) o pushed since session
+      (pushing-are n distinct o s n o containers distinct (roots_in_view o n) (λ k h. refl))
 
-  pub goes-all_pushed : (ss : List ℕ) (opened : Option (ℕ → Bool)) (pushed : List ℕ) (since : ℕ) → is_open opened document.row.serial ≡ true → IsSession n (record { opened = opened; pushed = pushed; since = since })
-      → GoesPushing n (record { opened = opened; pushed = pushed; since = since }) (all_pushed (session_keeper n) document ss (record { opened = opened; pushed = pushed; since = since }))
-  goes-all_pushed [] opened pushed since begun session = record { goes = goes-none n (record { opened = opened; pushed = pushed; since = since }) session; ids = λ _. refl }
+  pub goes-all_pushed : (ss : List ℕ) (opened : Option (ℕ → Bool)) (pushed : List ℕ) (since : ℕ)
+      → is_open opened document.row.serial ≡ true → IsSession n (record { opened = opened; pushed = pushed; since = since })
+      → GoesPushing n (record { opened = opened; pushed = pushed; since = since })
+      (all_pushed (session_keeper n) document ss (record { opened = opened; pushed = pushed; since = since }))
+  goes-all_pushed [] opened pushed since begun session = record {
+    goes = goes-none n
+        (record { opened = opened; pushed = pushed; since = since }) session;
+    ids = λ _. refl;
+  }
   goes-all_pushed (s ∷ ss) None pushed since begun session = cc
   goes-all_pushed (s ∷ ss) (Some o) pushed since begun session =
       let w : Session = session_of o pushed since in
       let first : Progress Session = push_of (session_keeper n) document s w in
       let one : Goes n w first.state first.shown = goes-pushed s o pushed since session in
       let rest : Pushes Session = all_pushed (session_keeper n) document ss first.state in
-      let more : GoesPushing n first.state rest = goes-all_pushed ss first.state.opened first.state.pushed first.state.since (one.grows document.row.serial begun) one.session in
+      let more : GoesPushing n first.state rest = goes-all_pushed ss first.state.opened first.state.pushed first.state.since
+      (one.grows document.row.serial begun) one.session in
       let others : Pushes Session = all_pushed (session_keeper n) document ss w in
       let past : GoesPushing n w others = goes-all_pushed ss (Some o) pushed since begun session in
       either (GoesPushing n w) (has row_serial s n)
-      (record { progress = record { state = rest.progress.state; shown = first.shown ++ rest.progress.shown }; ids = session_ids first.state s ∷ rest.ids })
+      (record {
+        progress = record { state = rest.progress.state; shown = first.shown ++ rest.progress.shown };
+        ids = session_ids first.state s ∷ rest.ids;
+      })
       (record { progress = record { state = others.progress.state; shown = others.progress.shown }; ids = 0 ∷ others.ids })
       (record {
         goes = goes-on n w first.state rest.progress.state first.shown rest.progress.shown one more.goes;

@@ -1,5 +1,6 @@
 -- What a session shows of a page can be told by messages.
-use Rattle.std.proofs.Common.{◌≡◌, ℕ, suc, ◌+◌, ◌<◌, ◌≤◌, ◌^◌, Bool, true, false, not, ◌&&◌, ◌||◌, cond, List, [], ◌∷◌, ◌++◌, length, drop, Option, Some, None, refl, ap, arith, lt-ltb}
+use Rattle.std.proofs.Common.{◌≡◌, ℕ, suc, ◌+◌, ◌<◌, ◌≤◌, ◌^◌, Bool, true, false, not, ◌&&◌, ◌||◌, cond, List, [], ◌∷◌, ◌++◌, length, drop}
+use Rattle.std.proofs.Common.{Option, Some, None, refl, ap, arith, lt-ltb}
 use Rattle.std.specs.List.{list_all}
 use Rattle.std.proofs.lemmas.Bool.{and_parts, and_from}
 use Rattle.node_tree.specs.declared.Kind.{Kind}
@@ -7,7 +8,8 @@ use Rattle.node_tree.specs.declared.Kind.TheVariants.{Document, Element, Text, C
 use Rattle.node_tree.specs.Names.{is_element_name, is_attribute_name}
 use Rattle.node_tree.specs.Nodes.{Nodes, none, node, alone, width, height, node_count, map_rows, is_no_node}
 use Rattle.node_tree.specs.Keys.{tally}
-use Rattle.node_tree.specs.Labels.{Pair, is_document, is_element, holds, has_name, is_empty as is_nothing, is_ascending, is_formed_label, is_named_label}
+use Rattle.node_tree.specs.Labels.{Pair, is_document, is_element, holds, has_name, is_empty as is_nothing, is_ascending, is_formed_label}
+use Rattle.node_tree.specs.Labels.{is_named_label}
 use Rattle.node_tree.specs.Seen.{Hold, Seen, leaf, counted, opened, is_opened}
 use Rattle.node_tree.proofs.NodeLemmas.{height-map_rows, width_le-node_count}
 use Rattle.page_tree.specs.Forms.{may_stand, are_formed, are_named}
@@ -41,12 +43,14 @@ hold_suits true true w = refl
 hold_suits true false w = refl
 hold_suits false o w = refl
 
-count_small : (container o : Bool) (w : ℕ) (kids : Nodes Seen) → width kids ≡ w → count_in (hold_as container o w) (kids_as container o kids) ≤ w
+count_small : (container o : Bool) (w : ℕ) (kids : Nodes Seen) → width kids ≡ w
+    → count_in (hold_as container o w) (kids_as container o kids) ≤ w
 count_small true true w kids e = omega arith
 count_small true false w kids e = omega arith
 count_small false o w kids e = omega arith
 
-below_suits : (container o : Bool) (w : ℕ) (kids : Nodes Seen) → cond (is_opened (hold_as container o w)) true (is_no_node (kids_as container o kids)) ≡ true
+below_suits : (container o : Bool) (w : ℕ) (kids : Nodes Seen)
+    → cond (is_opened (hold_as container o w)) true (is_no_node (kids_as container o kids)) ≡ true
 below_suits true true w kids = refl
 below_suits true false w kids = refl
 below_suits false o w kids = refl
@@ -73,11 +77,13 @@ module _ (o : ℕ → Bool) (i : ℕ → ℕ) (small : (s : ℕ) → i s < 2 ^ 5
   abbrev kids_of : PageRow → Nodes PageRow → Nodes Seen
   kids_of r c = cond (opens o r) (cut o i c) none
 
-  row_suits : (top : Bool) (r : PageRow) (c : Nodes PageRow) → same (is_document r.label.kind) top ≡ true → FitRow r c → suits_row top (seen_of o i r c) (count_in (hold_cut o r c) (kids_of r c)) ≡ true
+  row_suits : (top : Bool) (r : PageRow) (c : Nodes PageRow) → same (is_document r.label.kind) top ≡ true → FitRow r c
+      → suits_row top (seen_of o i r c) (count_in (hold_cut o r c) (kids_of r c)) ≡ true
   row_suits top r c at f =
       let wide : width (cut o i c) ≡ width c = width-cut o i c in
       let few : width c ≤ node_count c = width_le-node_count c in
-      let n : count_in (hold_cut o r c) (kids_of r c) ≤ width c = count_small (holds r.label.kind) (o r.serial) (width c) (cut o i c) wide in
+      let n : count_in (hold_cut o r c) (kids_of r c)
+      ≤ width c = count_small (holds r.label.kind) (o r.serial) (width c) (cut o i c) wide in
       let room : node_count c ≤ 100000 = f.room in
       let one : 1 ≤ r.serial = f.least in
       and_from _ _
@@ -104,11 +110,16 @@ module _ (o : ℕ → Bool) (i : ℕ → ℕ) (small : (s : ℕ) → i s < 2 ^ 5
     pub below : are_formed false (map_rows row_label c) ≡ true
     pub later : are_formed top (map_rows row_label t) ≡ true
 
-  pub formed_parts : (top : Bool) (r : PageRow) (c t : Nodes PageRow) → are_formed top (map_rows row_label (node r c t)) ≡ true → Parts top r c t
+  pub formed_parts : (top : Bool) (r : PageRow) (c t : Nodes PageRow) → are_formed top (map_rows row_label (node r c t)) ≡ true
+      → Parts top r c t
   formed_parts top r c t e =
-      let p4 = and_parts (is_formed_label r.label && may_stand top r.label.kind && (holds r.label.kind || is_no_node (map_rows row_label c)) && are_formed false (map_rows row_label c)) (are_formed top (map_rows row_label t)) e in
-      let p3 = and_parts (is_formed_label r.label && may_stand top r.label.kind && (holds r.label.kind || is_no_node (map_rows row_label c))) (are_formed false (map_rows row_label c)) p4.0 in
-      let p2 = and_parts (is_formed_label r.label && may_stand top r.label.kind) (holds r.label.kind || is_no_node (map_rows row_label c)) p3.0 in
+      let p4 = and_parts (is_formed_label r.label && may_stand top r.label.kind
+      && (holds r.label.kind || is_no_node (map_rows row_label c)) && are_formed false (map_rows row_label c))
+      (are_formed top (map_rows row_label t)) e in
+      let p3 = and_parts (is_formed_label r.label && may_stand top r.label.kind
+      && (holds r.label.kind || is_no_node (map_rows row_label c))) (are_formed false (map_rows row_label c)) p4.0 in
+      let p2 = and_parts (is_formed_label r.label && may_stand top r.label.kind)
+      (holds r.label.kind || is_no_node (map_rows row_label c)) p3.0 in
       let p1 = and_parts (is_formed_label r.label) (may_stand top r.label.kind) p2.0 in
       record { label = p1.0; stands = p1.1; below = p3.1; later = p4.1 }
 
@@ -188,18 +199,21 @@ module _ (o : ℕ → Bool) (i : ℕ → ℕ) (small : (s : ℕ) → i s < 2 ^ 5
   cut_utf8 (node r c t) u = (u.0, shown_utf8 (opens o r) (cut o i c) (λ _. cut_utf8 c u.1), cut_utf8 t u.2)
 
 -- a cut shows children below opened nodes alone
-bare_below : (container o : Bool) (w : ℕ) (c : Nodes Seen) → is_bare c ≡ true → ((is_opened (hold_as container o w) || is_no_node (kids_as container o c)) && is_bare (kids_as container o c)) ≡ true
+bare_below : (container o : Bool) (w : ℕ) (c : Nodes Seen) → is_bare c ≡ true
+    → ((is_opened (hold_as container o w) || is_no_node (kids_as container o c)) && is_bare (kids_as container o c)) ≡ true
 bare_below true true w c e = e
 bare_below true false w c e = refl
 bare_below false o w c e = refl
 
 is_bare-cut : (o : ℕ → Bool) (i : ℕ → ℕ) (n : Nodes PageRow) → is_bare (cut o i n) ≡ true
 is_bare-cut o i none = refl
-is_bare-cut o i (node r c t) = and_from _ _ (bare_below (holds r.label.kind) (o r.serial) (width c) (cut o i c) (is_bare-cut o i c)) (is_bare-cut o i t)
+is_bare-cut o i (node r c t) = and_from _ _ (bare_below (holds r.label.kind) (o r.serial) (width c) (cut o i c) (is_bare-cut o i c))
+    (is_bare-cut o i t)
 
 -- ---- the document
 
-document_named : (k : Kind) (name : List ℕ) (ps : List Pair) → is_document k ≡ true → cond (is_element k) (is_ascending ps) (is_nothing ps) ≡ true
+document_named : (k : Kind) (name : List ℕ) (ps : List Pair) → is_document k ≡ true
+    → cond (is_element k) (is_ascending ps) (is_nothing ps) ≡ true
     → (cond (has_name k) (is_element_name name) true && list_all (λ (p : Pair). is_attribute_name p.0) ps) ≡ true
 document_named Document name [] d f = refl
 document_named Document name (p ∷ ps) d f = let bad : false ≡ true = f in cc
@@ -233,7 +247,8 @@ module _ (page : PageValue) (valid : IsValid page) (next : page.next ≤ 2 ^ 53)
       let e : height (map_rows row_label page.tree.children) ≡ height page.tree.children = height-map_rows row_label page.tree.children in
       omega (arith, h, e)
 
-  bare-view : (o : Option (ℕ → Bool)) (pushed : List ℕ) (since : ℕ) → is_bare (view (record { opened = o; pushed = pushed; since = since }) n) ≡ true
+  bare-view : (o : Option (ℕ → Bool)) (pushed : List ℕ) (since : ℕ)
+      → is_bare (view (record { opened = o; pushed = pushed; since = since }) n) ≡ true
   bare-view None pushed since = refl
   bare-view (Some o) pushed since = is_bare-cut o (session_ids (session_of o pushed since)) n
 
@@ -248,14 +263,17 @@ module _ (page : PageValue) (valid : IsValid page) (next : page.next ≤ 2 ^ 53)
         bare = bare-view w.opened w.pushed w.since;
       }
 
-  document_suits : (o : ℕ → Bool) (pushed : List ℕ) (since : ℕ) → IsSession n (session_of o pushed since) → length pushed < 2 ^ 53 → suits_view (view (session_of o pushed since) n) ≡ true
+  document_suits : (o : ℕ → Bool) (pushed : List ℕ) (since : ℕ) → IsSession n (session_of o pushed since) → length pushed < 2 ^ 53
+      → suits_view (view (session_of o pushed since) n) ≡ true
   document_suits o pushed since session few =
       let w : Session = session_of o pushed since in
       let r : PageRow = page.tree.row in
       let c : Nodes PageRow = page.tree.children in
       let i : ℕ → ℕ = session_ids w in
       let small : (s : ℕ) → i s < 2 ^ 53 = λ s. omega (arith, ids-below n w s session, few) in
-      let there : (s : ℕ) → 0 < times s (known o n) → 0 < i s = λ s h. (let a : 0 < last_standing (drop since pushed) s = session.known_stand s (times-is_in (known o n) s h) in omega (arith, a)) in
+      let there : (s : ℕ) → 0 < times s (known o n)
+      → 0 < i s = λ s h. (let a : 0 < last_standing (drop since pushed) s = session.known_stand s
+      (times-is_in (known o n) s h) in omega (arith, a)) in
       let d = and_parts (is_document r.label.kind) (is_formed_label r.label) valid.root in
       let room : node_count n ≤ 100000 = count-alone page valid in
       let s = serials_there r.serial (omega (arith, self_times r.serial)) in
@@ -281,8 +299,15 @@ module _ (page : PageValue) (valid : IsValid page) (next : page.next ≤ 2 ^ 53)
       refl
 
   -- what a session shows that has not pushed too much
-  pub tellable : (o : Option (ℕ → Bool)) (pushed : List ℕ) (since : ℕ) → RowsHaveUtf8 n → IsSession n (record { opened = o; pushed = pushed; since = since }) → length pushed < 2 ^ 53 → IsTellable (view (record { opened = o; pushed = pushed; since = since }) n)
-  tellable None pushed since texts session few = record { view = IsView-session (record { opened = None; pushed = pushed; since = since }) session; forms = refl; texts = tt }
+  pub tellable : (o : Option (ℕ → Bool)) (pushed : List ℕ) (since : ℕ) → RowsHaveUtf8 n
+      → IsSession n (record { opened = o; pushed = pushed; since = since }) → length pushed < 2 ^ 53
+      → IsTellable (view (record { opened = o; pushed = pushed; since = since }) n)
+  tellable None pushed since texts session few = record {
+    view = IsView-session
+        (record { opened = None; pushed = pushed; since = since }) session;
+    forms = refl;
+    texts = tt;
+  }
   tellable (Some o) pushed since texts session few =
       let w : Session = session_of o pushed since in
       record {
@@ -291,7 +316,8 @@ module _ (page : PageValue) (valid : IsValid page) (next : page.next ≤ 2 ^ 53)
         texts = cut_utf8 o (session_ids w) (λ s. omega (arith, ids-below n w s session, few)) n texts;
       }
 
-pub can_say : (page : PageValue) (w : Session) (sheets : List ShownSheet) → IsValid page → CanTell page w → CanTellSheets sheets → CanSay (alone page.tree) (length w.pushed + node_count (alone page.tree)) sheets
+pub can_say : (page : PageValue) (w : Session) (sheets : List ShownSheet) → IsValid page → CanTell page w → CanTellSheets sheets
+    → CanSay (alone page.tree) (length w.pushed + node_count (alone page.tree)) sheets
 can_say page w sheets valid can can_sheets = λ v session few. record {
   tree = tellable page valid can.serials v.opened v.pushed v.since can.texts session (omega (arith, few, can.ids));
   sheets = can_sheets.are;

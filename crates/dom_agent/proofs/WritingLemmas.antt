@@ -1,5 +1,6 @@
 -- Nodes that are written straight from the page, as a message tells what is shown of them.
-use Rattle.std.proofs.Common.{◌≡◌, ℕ, suc, ◌+◌, ◌<◌, Bool, true, false, not, ◌&&◌, cond, List, [], ◌∷◌, ◌++◌, Option, Some, append_assoc, append-nil, refl, sym, ap, ◌∙◌}
+use Rattle.std.proofs.Common.{◌≡◌, ℕ, suc, ◌+◌, ◌<◌, Bool, true, false, not, ◌&&◌, cond, List, [], ◌∷◌, ◌++◌, Option, Some, append_assoc}
+use Rattle.std.proofs.Common.{append-nil, refl, sym, ap, ◌∙◌}
 use Rattle.std.specs.Prelude.{codes, option_map}
 use Rattle.json.specs.Token.{Token, begin_array, end_array, key}
 use Rattle.json.specs.Tree.{items_tokens}
@@ -41,7 +42,12 @@ abbrev pub plain_row : ℕ → ℕ → Branch PageRow → Told
 plain_row id parent b = record {
   parent = parent;
   count = cond {A = ℕ} (holds b.row.label.kind) (width b.children) 0;
-  seen = record { id = id; serial = b.row.serial; label = b.row.label; hold = hold_of false (holds b.row.label.kind) (cond {A = ℕ} (holds b.row.label.kind) (width b.children) 0) };
+  seen = record {
+    id = id;
+    serial = b.row.serial;
+    label = b.row.label;
+    hold = hold_of false (holds b.row.label.kind) (cond {A = ℕ} (holds b.row.label.kind) (width b.children) 0);
+  };
 }
 
 module _ (parent id : ℕ) (r : PageRow) (w : ℕ) (kids : Nodes Seen) where
@@ -49,7 +55,15 @@ module _ (parent id : ℕ) (r : PageRow) (w : ℕ) (kids : Nodes Seen) where
   abbrev told_now : Bool → Bool → Branch Told
   told_now container open_now =
       told_branch parent
-      (record { row = record { id = id; serial = r.serial; label = r.label; hold = cond container (cond open_now opened (counted w)) leaf }; children = cond (cond container open_now false) kids none })
+      (record {
+        row = record {
+          id = id;
+          serial = r.serial;
+          label = r.label;
+          hold = cond container (cond open_now opened (counted w)) leaf;
+        };
+        children = cond (cond container open_now false) kids none;
+      })
 
   -- its row with so many children; head and tail do not turn on what is shown below it
   abbrev row_with : ℕ → Told
@@ -61,62 +75,89 @@ module _ (parent id : ℕ) (r : PageRow) (w : ℕ) (kids : Nodes Seen) where
   count_told false open_now e = refl
 
   kids_told : (container open_now : Bool)
-      → only_if (cond container open_now false) (nodes_data id kids) ≡ option_map array (only_if (is_opened (told_now container open_now).row.seen.hold) (tree_items (told_now container open_now).children))
+      → only_if (cond container open_now false) (nodes_data id kids)
+      ≡ option_map array (only_if (is_opened (told_now container open_now).row.seen.hold)
+      (tree_items (told_now container open_now).children))
   kids_told true true = refl
   kids_told true false = refl
   kids_told false open_now = refl
 
   node_told : (container open_now : Bool) → width kids ≡ w
       → head_tokens (row_with (cond {A = ℕ} container w 0))
-      ++ (field_tokens (codes "children") (only_if (cond container open_now false) (nodes_data id kids)) ++ tail_tokens (row_with (cond {A = ℕ} container w 0)))
+      ++ (field_tokens (codes "children") (only_if (cond container open_now false) (nodes_data id kids))
+      ++ tail_tokens (row_with (cond {A = ℕ} container w 0)))
       ≡ data_tokens (tree_data (told_now container open_now))
   node_told container open_now e =
       let told = told_now container open_now in
-      ap (λ (n : ℕ). head_tokens (row_with n) ++ (field_tokens (codes "children") (only_if (cond container open_now false) (nodes_data id kids)) ++ tail_tokens (row_with n))) (count_told container open_now e)
-      ∙ ap (λ (k : Option Data). head_tokens told.row ++ (field_tokens (codes "children") k ++ tail_tokens told.row)) (kids_told container open_now)
+      ap (λ (n : ℕ). head_tokens (row_with n)
+      ++ (field_tokens (codes "children") (only_if (cond container open_now false) (nodes_data id kids)) ++ tail_tokens (row_with n)))
+      (count_told container open_now e)
+      ∙ ap (λ (k : Option Data). head_tokens told.row ++ (field_tokens (codes "children") k ++ tail_tokens told.row))
+      (kids_told container open_now)
       ∙ sym (node_tokens told.row (tree_items told.children))
 
   -- the same of a node of which nothing is shown
   hidden_told : (container : Bool)
       → head_tokens (row_with (cond {A = ℕ} container w 0)) ++ tail_tokens (row_with (cond {A = ℕ} container w 0))
-      ≡ data_tokens (tree_data (told_branch parent (record { row = record { id = id; serial = r.serial; label = r.label; hold = cond container (counted w) leaf }; children = none })))
+      ≡ data_tokens (tree_data (told_branch parent
+      (record {
+        row = record { id = id; serial = r.serial; label = r.label; hold = cond container (counted w) leaf };
+        children = none;
+      })))
   hidden_told true = sym (node_tokens (told_now true false).row (tree_items none))
   hidden_told false = sym (node_tokens (told_now false false).row (tree_items none))
 
-pub shown_written : (o : ℕ → Bool) (i : ℕ → ℕ) (parent : ℕ) (b : Branch PageRow) (id : ℕ) (r : Told) (old : List Token) {t1 t2 new : List Token} → id ≡ i b.row.serial → r ≡ plain_row id parent b → t1 ≡ old ++ head_tokens r
-    → t2 ≡ t1 ++ field_tokens (codes "children") (only_if (opens o b.row) (nodes_data id (cut o i b.children))) → new ≡ t2 ++ tail_tokens r → new ≡ old ++ data_tokens (tree_data (told_branch parent (shown o i b)))
+pub shown_written : (o : ℕ → Bool) (i : ℕ → ℕ) (parent : ℕ) (b : Branch PageRow) (id : ℕ) (r : Told)
+    (old : List Token) {t1 t2 new : List Token} → id ≡ i b.row.serial → r ≡ plain_row id parent b → t1 ≡ old ++ head_tokens r
+    → t2 ≡ t1 ++ field_tokens (codes "children") (only_if (opens o b.row) (nodes_data id (cut o i b.children))) → new ≡ t2 ++ tail_tokens r
+    → new ≡ old ++ data_tokens (tree_data (told_branch parent (shown o i b)))
 shown_written o i parent b id r old {t1 = t1} id_is row_is e1 e2 e3 =
     let kids : ℕ → List Token = λ x. field_tokens (codes "children") (only_if (opens o b.row) (nodes_data x (cut o i b.children))) in
     after old (head_tokens r) (kids id ++ tail_tokens r) e1 (after t1 (kids id) (tail_tokens r) e2 e3)
     ∙ ap (λ (x : Told). old ++ (head_tokens x ++ (kids id ++ tail_tokens x))) row_is
     ∙ ap (λ (x : ℕ). old ++ (head_tokens (plain_row x parent b) ++ (kids x ++ tail_tokens (plain_row x parent b)))) id_is
-    ∙ ap (λ ts. old ++ ts) (node_told parent (i b.row.serial) b.row (width b.children) (cut o i b.children) (holds b.row.label.kind) (o b.row.serial) (width-cut o i b.children))
+    ∙ ap (λ ts. old ++ ts) (node_told parent (i b.row.serial) b.row (width b.children) (cut o i b.children) (holds b.row.label.kind)
+    (o b.row.serial) (width-cut o i b.children))
 
 module _ (r : PageRow) (w : ℕ) (kids : Nodes Seen) (same : width kids ≡ w) where
   -- a node that is described, which may have children, or not, with levels left, or not
   abbrev described_now : Bool → Bool → Branch Told
   described_now container left =
       told_branch 0
-      (record { row = record { id = 0; serial = r.serial; label = r.label; hold = cond container (cond (container && left) opened (counted w)) leaf }; children = cond (container && left) kids none })
+      (record {
+        row = record {
+          id = 0;
+          serial = r.serial;
+          label = r.label;
+          hold = cond container (cond (container && left) opened (counted w)) leaf;
+        };
+        children = cond (container && left) kids none;
+      })
 
   described_told : (container left : Bool)
       → head_tokens (row_with 0 0 r w kids (cond {A = ℕ} container w 0))
-      ++ (field_tokens (codes "children") (only_if (container && left) (nodes_data 0 kids)) ++ tail_tokens (row_with 0 0 r w kids (cond {A = ℕ} container w 0)))
+      ++ (field_tokens (codes "children") (only_if (container && left) (nodes_data 0 kids))
+      ++ tail_tokens (row_with 0 0 r w kids (cond {A = ℕ} container w 0)))
       ≡ data_tokens (tree_data (described_now container left))
   described_told true left = node_told 0 0 r w kids true left same
   described_told false left = node_told 0 0 r w kids false left same
 
-pub described_written : (levels : Option ℕ) (b : Branch PageRow) (r : Told) (old : List Token) {t1 t2 new : List Token} → r ≡ plain_row 0 0 b → t1 ≡ old ++ head_tokens r
-    → t2 ≡ t1 ++ field_tokens (codes "children") (only_if (shows_children levels b.row) (nodes_data 0 (shown_to no_ids (less levels) b.children))) → new ≡ t2 ++ tail_tokens r
+pub described_written : (levels : Option ℕ) (b : Branch PageRow) (r : Told) (old : List Token) {t1 t2 new : List Token}
+    → r ≡ plain_row 0 0 b → t1 ≡ old ++ head_tokens r
+    → t2 ≡ t1 ++ field_tokens (codes "children")
+    (only_if (shows_children levels b.row) (nodes_data 0 (shown_to no_ids (less levels) b.children))) → new ≡ t2 ++ tail_tokens r
     → new ≡ old ++ data_tokens (tree_data (described levels b))
 described_written levels b r old {t1 = t1} row_is e1 e2 e3 =
-    let kids : List Token = field_tokens (codes "children") (only_if (shows_children levels b.row) (nodes_data 0 (shown_to no_ids (less levels) b.children))) in
+    let kids : List Token = field_tokens (codes "children")
+    (only_if (shows_children levels b.row) (nodes_data 0 (shown_to no_ids (less levels) b.children))) in
     after old (head_tokens r) (kids ++ tail_tokens r) e1 (after t1 kids (tail_tokens r) e2 e3)
     ∙ ap (λ (x : Told). old ++ (head_tokens x ++ (kids ++ tail_tokens x))) row_is
     ∙ ap (λ ts. old ++ ts)
-    (described_told b.row (width b.children) (shown_to no_ids (less levels) b.children) (width-shown_to no_ids (less levels) b.children) (holds b.row.label.kind) (not (is_spent levels)))
+    (described_told b.row (width b.children) (shown_to no_ids (less levels) b.children) (width-shown_to no_ids (less levels) b.children)
+    (holds b.row.label.kind) (not (is_spent levels)))
 
-pub unopened_written : (parent id : ℕ) (b : Branch PageRow) (r : Told) (old : List Token) {t1 new : List Token} → r ≡ plain_row id parent b → t1 ≡ old ++ head_tokens r → new ≡ t1 ++ tail_tokens r
+pub unopened_written : (parent id : ℕ) (b : Branch PageRow) (r : Told) (old : List Token) {t1 new : List Token} → r ≡ plain_row id parent b
+    → t1 ≡ old ++ head_tokens r → new ≡ t1 ++ tail_tokens r
     → new ≡ old ++ data_tokens (tree_data (told_branch parent (unopened id b)))
 unopened_written parent id b r old row_is e1 e2 =
     after old (head_tokens r) (tail_tokens r) e1 e2
@@ -129,7 +170,8 @@ pub children_hidden : (b : Bool) (d : Data) (ts : List Token) → b ≡ false �
 children_hidden true d ts e = cc
 children_hidden false d ts e = sym (append-nil ts)
 
-pub children_written : (b : Bool) (d : Data) (old : List Token) {t1 new : List Token} → b ≡ true → t1 ≡ old ++ key (codes "children") ∷ [] → new ≡ t1 ++ data_tokens d
+pub children_written : (b : Bool) (d : Data) (old : List Token) {t1 new : List Token} → b ≡ true → t1 ≡ old ++ key (codes "children") ∷ []
+    → new ≡ t1 ++ data_tokens d
     → new ≡ old ++ field_tokens (codes "children") (only_if b d)
 children_written true d old e e1 e2 = after old (key (codes "children") ∷ []) (data_tokens d) e1 e2
 children_written false d old e e1 e2 = cc
@@ -144,14 +186,16 @@ module _ (see : Nodes PageRow → Nodes Seen) (parent : ℕ) (n : Nodes PageRow)
   abbrev pub with_left : List Token → ℕ → List Token
   with_left now k = now ++ left_tokens parent (see (from k n))
 
-  pub left_start : (old : List Token) {now : List Token} → now ≡ old ++ begin_array ∷ [] → with_left now 0 ≡ old ++ data_tokens (nodes_data parent (see n))
+  pub left_start : (old : List Token) {now : List Token} → now ≡ old ++ begin_array ∷ []
+      → with_left now 0 ≡ old ++ data_tokens (nodes_data parent (see n))
   left_start old begun =
       ap (λ ts. with_left ts 0) begun
       ∙ append_assoc old (begin_array ∷ []) (left_tokens parent (see (from 0 n)))
       ∙ ap (λ (m : Nodes PageRow). old ++ (begin_array ∷ left_tokens parent (see m))) (from-zero n)
 
   pub left_turn : (one : Branch Seen) (k : ℕ) (x : Branch PageRow) (now next all : List Token) → k < width n → tree_at k n ≡ Some x
-      → see (node x.row x.children (from (k + 1) n)) ≡ node one.row one.children (see (from (k + 1) n)) → next ≡ now ++ data_tokens (tree_data (told_branch parent one)) → with_left now k ≡ all
+      → see (node x.row x.children (from (k + 1) n)) ≡ node one.row one.children (see (from (k + 1) n))
+      → next ≡ now ++ data_tokens (tree_data (told_branch parent one)) → with_left now k ≡ all
       → with_left next (k + 1) ≡ all
   left_turn one k x now next all inside at first wrote was =
       ap (λ ts. with_left ts (k + 1)) wrote
@@ -159,5 +203,7 @@ module _ (see : Nodes PageRow → Nodes Seen) (parent : ℕ) (n : Nodes PageRow)
       ∙ ap (λ (m : Nodes Seen). now ++ left_tokens parent m) (sym (ap see (from-next n k x inside at) ∙ first))
       ∙ was
 
-  pub left_end : (k : ℕ) (now last all : List Token) → see none ≡ none → from k n ≡ none → last ≡ now ++ end_array ∷ [] → with_left now k ≡ all → last ≡ all
-  left_end k now last all nothing ended closed was = closed ∙ ap (λ (m : Nodes Seen). now ++ left_tokens parent m) (sym (ap see ended ∙ nothing)) ∙ was
+  pub left_end : (k : ℕ) (now last all : List Token) → see none ≡ none → from k n ≡ none → last ≡ now ++ end_array ∷ []
+      → with_left now k ≡ all → last ≡ all
+  left_end k now last all nothing ended closed was = closed ∙ ap (λ (m : Nodes Seen). now ++ left_tokens parent m)
+      (sym (ap see ended ∙ nothing)) ∙ was

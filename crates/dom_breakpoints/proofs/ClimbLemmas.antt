@@ -27,7 +27,8 @@ module _ (at parent : ℕ) (tree : Branch PageRow) (up : StepUp at tree) (is : p
   pub find_top : (p : ℕ → Bool) → p at ≡ false → parent ≡ 0 → find p (at ∷ ancestors_at at tree) ≡ None
   find_top p passed e = ap (λ b. cond b (Some at) (find p (ancestors_at at tree))) passed ∙ ap (find p) (none_above e)
 
-  pub any_up : (p : ℕ → Bool) → p at ≡ false → parent ≢ 0 → list_any p (at ∷ ancestors_at at tree) ≡ list_any p (parent ∷ ancestors_at parent tree)
+  pub any_up : (p : ℕ → Bool) → p at ≡ false → parent ≢ 0
+      → list_any p (at ∷ ancestors_at at tree) ≡ list_any p (parent ∷ ancestors_at parent tree)
   any_up p passed other = ap (λ b. b || list_any p (ancestors_at at tree)) passed ∙ ap (list_any p) (above_is other)
 
   pub any_top : (p : ℕ → Bool) → p at ≡ false → parent ≡ 0 → list_any p (at ∷ ancestors_at at tree) ≡ false

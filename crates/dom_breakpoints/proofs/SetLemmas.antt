@@ -28,7 +28,8 @@ turned : (k q : ℕ) → eq_by_cmp nat_cmp k q ≡ eq_by_cmp nat_cmp q k
 turned k q = (eq_by_cmp_equiv nat_cmp_total).symm k q
 
 -- a list that answers like another after an insert, or a removal, is that set
-pub from_list-insert : (old new : List ℕ) (k : ℕ) → ((q : ℕ) → in_list q new ≡ cond (eq_by_cmp nat_cmp k q) true (in_list q old)) → set.from_list {R = nat_cmp} new ≡ set.insert (set.from_list old) k
+pub from_list-insert : (old new : List ℕ) (k : ℕ) → ((q : ℕ) → in_list q new ≡ cond (eq_by_cmp nat_cmp k q) true (in_list q old))
+    → set.from_list {R = nat_cmp} new ≡ set.insert (set.from_list old) k
 from_list-insert old new k updates =
     set.same_set nat_cmp_total set.nat_cmp-IsAntisymmetric _ _
     (λ q. set.contains-from_list nat_cmp_total new q
@@ -38,7 +39,8 @@ from_list-insert old new k updates =
     ∙ ap (λ b. eq_by_cmp nat_cmp q k || b) (sym (set.contains-from_list nat_cmp_total old q))
     ∙ sym (set.contains-insert nat_cmp_total _ k q))
 
-pub from_list-remove : (old new : List ℕ) (k : ℕ) → ((q : ℕ) → in_list q new ≡ cond (eq_by_cmp nat_cmp k q) false (in_list q old)) → set.from_list {R = nat_cmp} new ≡ set.remove (set.from_list old) k
+pub from_list-remove : (old new : List ℕ) (k : ℕ) → ((q : ℕ) → in_list q new ≡ cond (eq_by_cmp nat_cmp k q) false (in_list q old))
+    → set.from_list {R = nat_cmp} new ≡ set.remove (set.from_list old) k
 from_list-remove old new k updates =
     set.same_set nat_cmp_total set.nat_cmp-IsAntisymmetric _ _
     (λ q. set.contains-from_list nat_cmp_total new q
@@ -53,7 +55,8 @@ pub from_list-filter : (p : ℕ → Bool) (ks : List ℕ) → set.from_list {R =
 from_list-filter p ks =
     set.same_set nat_cmp_total set.nat_cmp-IsAntisymmetric _ _
     (λ q. set.contains-from_list nat_cmp_total (filter p ks) q
-    ∙ any-filter_same (eq_by_cmp nat_cmp q) p (p q) (λ k tied. ap p (sym (set.nat_cmp-IsAntisymmetric q k ((Equal-is (nat_cmp q k)).0 tied)))) ks
+    ∙ any-filter_same (eq_by_cmp nat_cmp q) p (p q)
+    (λ k tied. ap p (sym (set.nat_cmp-IsAntisymmetric q k ((Equal-is (nat_cmp q k)).0 tied)))) ks
     ∙ and_swap (p q) (in_list q ks)
     ∙ ap (λ b. b && p q) (sym (set.contains-from_list nat_cmp_total ks q))
     ∙ sym (set.contains-retain (set.from_list ks) p q (λ x tied. ap p (sym (set.nat_cmp-IsAntisymmetric q x tied)))))

@@ -31,7 +31,8 @@ module _ (v : Nodes Seen) where
   either_part P (suc a) b some f g = f (omega arith)
 
   -- where no node that comes clashes with the tree, what is among them is not in the tree
-  apart : (key : Seen → ℕ) → ((r : Told) → clashes v r ≡ false → has key (key r.seen) v ≡ false) → (n : Nodes Told) → any_node (clashes v) n ≡ false
+  apart : (key : Seen → ℕ) → ((r : Told) → clashes v r ≡ false → has key (key r.seen) v ≡ false) → (n : Nodes Told)
+      → any_node (clashes v) n ≡ false
       → (x : ℕ) → 0 < tally key x (seen_nodes n) → tally key x v ≡ 0
   apart key free none e x some = absurd (omega arith)
   apart key free (node r c t) e x some =
@@ -40,7 +41,8 @@ module _ (v : Nodes Seen) where
       elim (tally_cases key x r.seen (seen_nodes c) (seen_nodes t)) [
         | inl same ↦ subst (λ (y : ℕ). tally key y v ≡ 0) same.0 (absent_tally key (key r.seen) (free r q.0))
         | inr other ↦
-            either_part (tally key x v ≡ 0) (tally key x (seen_nodes c)) (tally key x (seen_nodes t)) (omega arith) (apart key free c q.1 x) (apart key free t p.1 x)
+            either_part (tally key x v ≡ 0) (tally key x (seen_nodes c)) (tally key x (seen_nodes t)) (omega arith)
+            (apart key free c q.1 x) (apart key free t p.1 x)
       ]
 
   once_of : (a b : ℕ) → a ≤ 1 → b ≤ 1 → (0 < b → a ≡ 0) → a + b ≤ 1
@@ -64,7 +66,8 @@ module _ (v : Nodes Seen) where
 
   -- ---- and the other way
 
-  unique_once : (key : Seen → ℕ) (n : Nodes Told) → ((x : ℕ) → tally key x v + tally key x (seen_nodes n) ≤ 1) → is_distinct (keys (λ r. key r.seen) n) ≡ true
+  unique_once : (key : Seen → ℕ) (n : Nodes Told) → ((x : ℕ) → tally key x v + tally key x (seen_nodes n) ≤ 1)
+      → is_distinct (keys (λ r. key r.seen) n) ≡ true
   unique_once key n once =
       times_distinct (keys (λ r. key r.seen) n)
       (λ x.
@@ -77,10 +80,12 @@ module _ (v : Nodes Seen) where
   free_once none once = refl
   free_once (node r c t) once =
       let id : has seen_id r.seen.id v ≡ false
-      = has-absent seen_id r.seen.id v (let h = once.ids r.seen.id in let k = tally_row seen_id r.seen.id r.seen (seen_nodes c) (seen_nodes t) refl in omega arith) in
+      = has-absent seen_id r.seen.id v
+      (let h = once.ids r.seen.id in let k = tally_row seen_id r.seen.id r.seen (seen_nodes c) (seen_nodes t) refl in omega arith) in
       let serial : has seen_serial r.seen.serial v ≡ false
       = has-absent seen_serial r.seen.serial v
-      (let h = once.serials r.seen.serial in let k = tally_row seen_serial r.seen.serial r.seen (seen_nodes c) (seen_nodes t) refl in omega arith) in
+      (let h = once.serials r.seen.serial in let k = tally_row seen_serial r.seen.serial r.seen (seen_nodes c)
+      (seen_nodes t) refl in omega arith) in
       let below : Once v c = record {
         ids = λ x. let h = once.ids x in let k = tally_below seen_id x r.seen (seen_nodes c) (seen_nodes t) in omega arith;
         serials = λ x. let h = once.serials x in let k = tally_below seen_serial x r.seen (seen_nodes c) (seen_nodes t) in omega arith;

@@ -1,5 +1,6 @@
 -- Lists in which no number comes twice.
-use Rattle.std.proofs.Common.{◌≡◌, ◌≢◌, ℕ, zero, suc, ◌+◌, ◌<◌, ◌≤◌, nat_eq, Bool, true, false, not, ◌&&◌, ◌||◌, List, [], ◌∷◌, ◌++◌, length, get_or, take, drop, refl, sym, ap, ◌∙◌, inl, inr, arith, add-one}
+use Rattle.std.proofs.Common.{◌≡◌, ◌≢◌, ℕ, zero, suc, ◌+◌, ◌<◌, ◌≤◌, nat_eq, Bool, true, false, not, ◌&&◌, ◌||◌, List, [], ◌∷◌, ◌++◌}
+use Rattle.std.proofs.Common.{length, get_or, take, drop, refl, sym, ap, ◌∙◌, inl, inr, arith, add-one}
 use Rattle.std.proofs.lemmas.List.{take_more}
 use Rattle.std.proofs.lemmas.Bool.{cases_eq, ne_eqb}
 use Rattle.cdp_messages.specs.Views.{is_in, is_distinct}
@@ -89,7 +90,8 @@ absent_above true x last low above = let h = low refl in absurd (omega arith)
 absent_above false x last low above = refl
 
 -- a number above all before it is new
-pub above_new : (xs : List ℕ) (i last : ℕ) → ((x : ℕ) → is_in x (take i xs) ≡ true → x ≤ last) → last < get_or xs i 0 → is_in (get_or xs i 0) (take i xs) ≡ false
+pub above_new : (xs : List ℕ) (i last : ℕ) → ((x : ℕ) → is_in x (take i xs) ≡ true → x ≤ last) → last < get_or xs i 0
+    → is_in (get_or xs i 0) (take i xs) ≡ false
 above_new xs i last low above = absent_above (is_in (get_or xs i 0) (take i xs)) (get_or xs i 0) last (low (get_or xs i 0)) above
 
 either_low : (a b : Bool) (x y last : ℕ) → (a ≡ true → x ≤ last) → (b ≡ true → x ≡ y) → last < y → (a || b) ≡ true → x ≤ y
@@ -111,7 +113,11 @@ is_in_more x y (z ∷ xs) = ap (λ (b : Bool). nat_eq x z || b) (is_in_more x y 
 eq_of : (x y : ℕ) → nat_eq x y ≡ true → x ≡ y
 eq_of x y e = grind arith
 
-pub above_low : (xs : List ℕ) (i last : ℕ) → i < length xs → ((x : ℕ) → is_in x (take i xs) ≡ true → x ≤ last) → last < get_or xs i 0 → (x : ℕ) → is_in x (take (i + 1) xs) ≡ true → x ≤ get_or xs i 0
+pub above_low : (xs : List ℕ) (i last : ℕ) → i < length xs → ((x : ℕ) → is_in x (take i xs) ≡ true → x ≤ last) → last < get_or xs i 0
+    → (x : ℕ) → is_in x (take (i + 1) xs) ≡ true → x ≤ get_or xs i 0
 above_low xs i last h low above x e =
-    let more : is_in x (take (i + 1) xs) ≡ (is_in x (take i xs) || nat_eq x (get_or xs i 0)) = ap (is_in x) (take_more xs i 0 h) ∙ is_in_more x (get_or xs i 0) (take i xs) in
-    either_low (is_in x (take i xs)) (nat_eq x (get_or xs i 0)) x (get_or xs i 0) last (low x) (eq_of x (get_or xs i 0)) above (sym more ∙ e)
+    let more : is_in x (take (i + 1) xs)
+    ≡ (is_in x (take i xs) || nat_eq x (get_or xs i 0)) = ap (is_in x) (take_more xs i 0 h) ∙ is_in_more x (get_or xs i 0)
+    (take i xs) in
+    either_low (is_in x (take i xs)) (nat_eq x (get_or xs i 0)) x (get_or xs i 0) last (low x) (eq_of x (get_or xs i 0)) above
+    (sym more ∙ e)

@@ -1,5 +1,6 @@
 -- One node changed: what is refused, and that the mirror stays one.
-use Rattle.std.proofs.Common.{◌≡◌, ℕ, suc, ◌+◌, ◌-◌, ◌<◌, ◌≤◌, ◌==◌, max, nat_le, Bool, true, false, not, cond, ◌&&◌, ◌||◌, List, [], ◌∷◌, Option, Some, None, option_map, unwrap_or, Result, Ok, refl, sym, ap, ◌∙◌, arith}
+use Rattle.std.proofs.Common.{◌≡◌, ℕ, suc, ◌+◌, ◌-◌, ◌<◌, ◌≤◌, ◌==◌, max, nat_le, Bool, true, false, not, cond, ◌&&◌, ◌||◌, List, [], ◌∷◌}
+use Rattle.std.proofs.Common.{Option, Some, None, option_map, unwrap_or, Result, Ok, refl, sym, ap, ◌∙◌, arith}
 use Rattle.std.specs.List.{list_all}
 use Rattle.node_tree.specs.declared.Kind.{Kind}
 use Rattle.node_tree.specs.declared.Kind.TheVariants as kind
@@ -14,26 +15,30 @@ use Rattle.node_tree.proofs.ChangeLemmas.{at-old}
 use Rattle.node_tree.proofs.PairLemmas.{is_ascending-placed, names-placed, names-without, ascending-without}
 use Rattle.cdp_messages.specs.Told.{seen_nodes}
 use Rattle.cdp_messages.specs.NodeData.{fits_nodes}
-use Rattle.cdp_messages.specs.Moves.{Change, shows, inserts, removes, counts, sets, drops, says, changed, suits_change, has_tree, put_after, without_tree, has_named_attribute}
+use Rattle.cdp_messages.specs.Moves.{Change, shows, inserts, removes, counts, sets, drops, says, changed, suits_change, has_tree, put_after}
+use Rattle.cdp_messages.specs.Moves.{without_tree, has_named_attribute}
 use Rattle.cdp_messages.specs.Views.{IsMirror, is_bare, has_formed_labels, is_document_tree}
 use Rattle.node_tree.specs.Levels.{most_levels}
 use Rattle.front_mirror.specs.declared.faults.FrontKind.{FrontKind}
 use Rattle.front_mirror.specs.declared.edits.NodeEdit.{NodeEdit}
 use Rattle.front_mirror.specs.declared.edits.NodeEdit.TheVariants as edit
 use Rattle.front_mirror.specs.Shown.{known_at, no_node}
-use Rattle.front_mirror.specs.Front.{FrontValue, ToldChange, is_kin, is_unique, is_fresh, takes_change, knows_named, stands_low, change_fault, told, with_tree, at_spot}
+use Rattle.front_mirror.specs.Front.{FrontValue, ToldChange, is_kin, is_unique, is_fresh, takes_change, knows_named, stands_low}
+use Rattle.front_mirror.specs.Front.{change_fault, told, with_tree, at_spot}
 use Rattle.front_mirror.specs.Edits.{edit_nodes, edit_change, edit_told, fits_edit, is_ready, spot_fault, with_changed}
 use Rattle.front_mirror.proofs.ToldLemmas.{height-seen}
 use Rattle.front_mirror.proofs.ViewLemmas.{clear_three, shows_nodes}
 use Rattle.front_mirror.proofs.SpotLemmas.{spot_branch, find-spot, put-spot, depth-at}
 use Rattle.front_mirror.proofs.ApartLemmas.{once_new}
-use Rattle.front_mirror.proofs.InsertedLemmas.{Inserted, tally-inserted, height-inserted, inserted_after, taken_out, passes-at, all-at, all-inserted}
+use Rattle.front_mirror.proofs.InsertedLemmas.{Inserted, tally-inserted, height-inserted, inserted_after, taken_out, passes-at, all-at}
+use Rattle.front_mirror.proofs.InsertedLemmas.{all-inserted}
 use Rattle.front_mirror.proofs.BoolLemmas.{and_left, and_right, both}
 
 -- ---- what is refused, and what is taken
 
 pub known-spot : (id : ℕ) (tree : Nodes Seen) (s : Spot Seen) → spot seen_id id 0 tree ≡ Some s → known_at id tree ≡ s.branch
-known-spot id tree s is = ap (λ (o : Option (Branch Seen)). unwrap_or o no_node) (find-spot seen_id id 0 tree ∙ ap (option_map spot_branch) is)
+known-spot id tree s is = ap (λ (o : Option (Branch Seen)). unwrap_or o no_node)
+    (find-spot seen_id id 0 tree ∙ ap (option_map spot_branch) is)
 
 abbrev taken_well : FrontValue → Result FrontValue FrontKind
 taken_well v = Ok v
@@ -46,8 +51,10 @@ taken_at v t (Some s) is e =
     ∙ ap (λ (b : Branch Seen). taken_well (told v (put seen_id t.node (changed t.change b) v.tree))) (sym (known-spot t.node v.tree s is))
 
 -- the same as code has it
-pub edit_kept : (v : FrontValue) (t : ToldChange) (wrong : Option FrontKind) (tree : Nodes Seen) (taken : ℕ) → wrong ≡ spot_fault v.tree t (spot seen_id t.node 0 v.tree) → wrong ≡ None
-    → tree ≡ with_changed t.node t.change v.tree → taken ≡ v.taken + 1 → at_spot v t (spot seen_id t.node 0 v.tree) ≡ Ok (record v { tree = tree; taken = taken })
+pub edit_kept : (v : FrontValue) (t : ToldChange) (wrong : Option FrontKind) (tree : Nodes Seen) (taken : ℕ)
+    → wrong ≡ spot_fault v.tree t (spot seen_id t.node 0 v.tree) → wrong ≡ None
+    → tree ≡ with_changed t.node t.change v.tree → taken ≡ v.taken + 1
+    → at_spot v t (spot seen_id t.node 0 v.tree) ≡ Ok (record v { tree = tree; taken = taken })
 edit_kept v t wrong tree taken judged clear is one_more =
     taken_at v t (spot seen_id t.node 0 v.tree) refl (sym judged ∙ clear)
     ∙ ap (λ (n : Nodes Seen). taken_well (told v n)) (sym is)
@@ -133,20 +140,25 @@ empty_none none e = refl
 empty_none (node r c t) e = cc
 
 -- a node whose children are only counted has none
-pub counted_none : (b : Branch Seen) → shows_count b.row.hold ≡ true → (is_bare_node b.row b.children && is_bare b.children) ≡ true → b.children ≡ none
-counted_none b c e = empty_none b.children (counted_empty b.row.hold (is_no_node b.children) c (and_left (is_bare_node b.row b.children) (is_bare b.children) e))
+pub counted_none : (b : Branch Seen) → shows_count b.row.hold ≡ true → (is_bare_node b.row b.children && is_bare b.children) ≡ true
+    → b.children ≡ none
+counted_none b c e = empty_none b.children
+    (counted_empty b.row.hold (is_no_node b.children) c (and_left (is_bare_node b.row b.children) (is_bare b.children) e))
 
 or_here : (a b : Bool) → a ≡ true → (a || b) ≡ true
 or_here true b e = refl
 or_here false b e = cc
 
-bare-inserted : {w : Branch Seen} {n m : Nodes Seen} → Inserted w n m → is_bare m ≡ ((is_bare_node w.row w.children && is_bare w.children) && is_bare n)
+bare-inserted : {w : Branch Seen} {n m : Nodes Seen} → Inserted w n m
+    → is_bare m ≡ ((is_bare_node w.row w.children && is_bare w.children) && is_bare n)
 bare-inserted e = all-inserted is_bare is_bare_node (λ r c t. refl) e
 
-labels-inserted : {w : Branch Seen} {n m : Nodes Seen} → Inserted w n m → has_formed_labels m ≡ ((has_formed_label w.row w.children && has_formed_labels w.children) && has_formed_labels n)
+labels-inserted : {w : Branch Seen} {n m : Nodes Seen} → Inserted w n m
+    → has_formed_labels m ≡ ((has_formed_label w.row w.children && has_formed_labels w.children) && has_formed_labels n)
 labels-inserted e = all-inserted has_formed_labels has_formed_label (λ r c t. refl) e
 
-same_tally : (key : Seen → ℕ) (old : Branch Seen) (r : Seen) → key r ≡ key old.row → (x : ℕ) → tally_in key x (record { row = r; children = old.children }) ≤ tally_in key x old + tally key x none
+same_tally : (key : Seen → ℕ) (old : Branch Seen) (r : Seen) → key r ≡ key old.row → (x : ℕ)
+    → tally_in key x (record { row = r; children = old.children }) ≤ tally_in key x old + tally key x none
 same_tally key old r e x =
     let k : cond {A = ℕ} (key r == x) 1 0 ≡ cond {A = ℕ} (key old.row == x) 1 0 = ap (λ (i : ℕ). cond {A = ℕ} (i == x) 1 0) e in omega arith
 
@@ -166,7 +178,8 @@ module _ (b : Branch Seen) (sound : Sound b) where
   named : is_named_label b.row.label ≡ true
   named = and_right (is_formed_label b.row.label) (is_named_label b.row.label) own_label
 
-  insert_owes : (previous : ℕ) (w : Branch Seen) → is_opened b.row.hold ≡ true → Inserted w b.children (put_after previous w b.children) → Fine (inserts previous w)
+  insert_owes : (previous : ℕ) (w : Branch Seen) → is_opened b.row.hold ≡ true → Inserted w b.children (put_after previous w b.children)
+      → Fine (inserts previous w)
       → Owes b (changed (inserts previous w) b) (alone w)
   insert_owes previous w opens e fine = record {
     ids = λ x. let h = tally-inserted seen_id x e in omega arith;
@@ -179,19 +192,23 @@ module _ (b : Branch Seen) (sound : Sound b) where
     kind = refl;
   }
 
-  remove_owes : (id : ℕ) (w : Branch Seen) → is_opened b.row.hold ≡ true → Inserted w (without_tree id b.children) b.children → Owes b (changed (removes id) b) none
+  remove_owes : (id : ℕ) (w : Branch Seen) → is_opened b.row.hold ≡ true → Inserted w (without_tree id b.children) b.children
+      → Owes b (changed (removes id) b) none
   remove_owes id w opens e = record {
     ids = λ x. let h = tally-inserted seen_id x e in omega arith;
     serials = λ x. let h = tally-inserted seen_serial x e in omega arith;
     levels = let h = height-inserted e in omega arith;
     sound = record {
-      bare = both (or_here (is_opened b.row.hold) _ opens) (and_right (is_bare_node w.row w.children && is_bare w.children) _ (sym (bare-inserted e) ∙ below_bare));
-      labels = both own_label (and_right (has_formed_label w.row w.children && has_formed_labels w.children) _ (sym (labels-inserted e) ∙ below_labels));
+      bare = both (or_here (is_opened b.row.hold) _ opens)
+          (and_right (is_bare_node w.row w.children && is_bare w.children) _ (sym (bare-inserted e) ∙ below_bare));
+      labels = both own_label (and_right (has_formed_label w.row w.children && has_formed_labels w.children) _
+          (sym (labels-inserted e) ∙ below_labels));
     };
     kind = refl;
   }
 
-  label_owes : (l : Label) → l.kind ≡ b.row.label.kind → is_formed_label l ≡ true → is_named_label l ≡ true → Owes b (record { row = record b.row { label = l }; children = b.children }) none
+  label_owes : (l : Label) → l.kind ≡ b.row.label.kind → is_formed_label l ≡ true → is_named_label l ≡ true
+      → Owes b (record { row = record b.row { label = l }; children = b.children }) none
   label_owes l same f n = record {
     ids = same_tally seen_id b (record b.row { label = l }) refl;
     serials = same_tally seen_serial b (record b.row { label = l }) refl;
@@ -231,7 +248,8 @@ module _ (b : Branch Seen) (sound : Sound b) where
   changed-owes (sets name value) s fine =
       let asc = ascending_label b.row.label s formed in
       label_owes (with_attribute name value b.row.label) refl
-      (formed_with b.row.label.kind b.row.label.name b.row.label.value b.row.label.attributes (placed (name, value) b.row.label.attributes) s
+      (formed_with b.row.label.kind b.row.label.name b.row.label.value b.row.label.attributes
+      (placed (name, value) b.row.label.attributes) s
       (is_ascending-placed (name, value) b.row.label.attributes asc) formed)
       (both (and_left _ (list_all (λ p. is_attribute_name p.0) b.row.label.attributes) named)
       (names-placed name value is_attribute_name b.row.label.attributes fine.named names_ok))
@@ -243,7 +261,8 @@ module _ (b : Branch Seen) (sound : Sound b) where
       (both (and_left _ (list_all (λ p. is_attribute_name p.0) b.row.label.attributes) named)
       (names-without name is_attribute_name b.row.label.attributes names_ok))
   changed-owes (says value) s fine =
-      label_owes (with_value value b.row.label) refl (said_with b.row.label.kind b.row.label.name b.row.label.value value b.row.label.attributes s formed) named
+      label_owes (with_value value b.row.label) refl
+      (said_with b.row.label.kind b.row.label.name b.row.label.value value b.row.label.attributes s formed) named
 
 -- ---- the mirror that has the change
 
@@ -252,7 +271,8 @@ bare_same r old new _ _ _ (here t) = refl
 bare_same r old new _ _ _ (within depth s c m t e) = refl
 bare_same r old new _ _ _ (past depth s c t m e) = refl
 
-label_same : (r : Seen) (old new : Branch Seen) (depth : ℕ) (c m : Nodes Seen) → At old new depth c m → has_formed_label r c ≡ has_formed_label r m
+label_same : (r : Seen) (old new : Branch Seen) (depth : ℕ) (c m : Nodes Seen) → At old new depth c m
+    → has_formed_label r c ≡ has_formed_label r m
 label_same r old new depth c m e = refl
 
 module _ {old new : Branch Seen} where
@@ -261,7 +281,8 @@ module _ {old new : Branch Seen} where
   there-at (within depth r c m t e) = refl
   there-at (past depth r c t m e) = refl
 
-  document-at : {depth : ℕ} {n m : Nodes Seen} → At old new depth n m → is_document_tree n ≡ true → new.row.label.kind ≡ old.row.label.kind → is_document_tree m ≡ true
+  document-at : {depth : ℕ} {n m : Nodes Seen} → At old new depth n m → is_document_tree n ≡ true → new.row.label.kind ≡ old.row.label.kind
+      → is_document_tree m ≡ true
   document-at (here t) d same = rw same d
   document-at (within depth r c m t e) d same = d
   document-at (past depth r c t m e) d same =
@@ -269,18 +290,24 @@ module _ {old new : Branch Seen} where
       let there = there-at e in
       absurd (cc)
 
-  pub bare-at : {depth : ℕ} {n m : Nodes Seen} → At old new depth n m → is_bare n ≡ true → (is_bare_node old.row old.children && is_bare old.children) ≡ true
+  pub bare-at : {depth : ℕ} {n m : Nodes Seen} → At old new depth n m → is_bare n ≡ true
+      → (is_bare_node old.row old.children && is_bare old.children) ≡ true
   bare-at e b = passes-at is_bare is_bare_node (λ r c t. refl) e b
 
   sound-at : {depth : ℕ} {n m : Nodes Seen} → At old new depth n m → IsMirror n → Sound old
-  sound-at e mirror = record { bare = bare-at e mirror.view.bare; labels = passes-at has_formed_labels has_formed_label (λ r c t. refl) e mirror.labels }
+  sound-at e mirror = record {
+    bare = bare-at e mirror.view.bare;
+    labels = passes-at has_formed_labels has_formed_label (λ r c t. refl) e mirror.labels;
+  }
 
-  tally_kept : (key : Seen → ℕ) (x : ℕ) (more : Nodes Seen) {depth : ℕ} {n m : Nodes Seen} → At old new depth n m → tally_in key x new ≤ tally_in key x old + tally key x more
+  tally_kept : (key : Seen → ℕ) (x : ℕ) (more : Nodes Seen) {depth : ℕ} {n m : Nodes Seen} → At old new depth n m
+      → tally_in key x new ≤ tally_in key x old + tally key x more
       → tally key x m ≤ tally key x n + tally key x more
   tally_kept key x more e h = let k = tally-at key x e in omega arith
 
   kept_view : (more : Nodes Seen) {depth : ℕ} {n m : Nodes Seen} → At old new depth n m → IsMirror n → Owes old new more
-      → ((x : ℕ) → tally seen_id x n + tally seen_id x more ≤ 1) → ((x : ℕ) → tally seen_serial x n + tally seen_serial x more ≤ 1) → tally seen_id 0 more ≡ 0
+      → ((x : ℕ) → tally seen_id x n + tally seen_id x more ≤ 1) → ((x : ℕ) → tally seen_serial x n + tally seen_serial x more ≤ 1)
+      → tally seen_id 0 more ≡ 0
       → suc (depth + height more) ≤ most_levels → IsMirror m
   kept_view more e mirror owes ids serials above levels = record {
     view = record {
@@ -312,7 +339,8 @@ clear_four x y z w false q r s e = cc
 
 pub clear_change : (v : Nodes Seen) (t : ToldChange) (s : Spot Seen) → change_fault v t s ≡ None → Clear v t s
 clear_change v t s e =
-    let p = clear_four _ _ _ _ (takes_change t.change s.branch.row && knows_named v t.change) (suits_change t.change s.branch && is_kin t.node t.nodes) (is_unique t.nodes && is_fresh v t.nodes)
+    let p = clear_four _ _ _ _ (takes_change t.change s.branch.row && knows_named v t.change)
+    (suits_change t.change s.branch && is_kin t.node t.nodes) (is_unique t.nodes && is_fresh v t.nodes)
     (stands_low s.level t.nodes) e in
     record { suits = and_left (suits_change t.change s.branch) (is_kin t.node t.nodes) p.1.0; new = p.1.1.0; low = p.1.1.1 }
 
@@ -339,7 +367,8 @@ fine_edit e fits =
 
 -- the mirror stays one
 module _ (v : Nodes Seen) (id : ℕ) (e : NodeEdit) (mirror : IsMirror v) (fits : fits_edit e ≡ true) where
-  mirror_at : (o : Option (Spot Seen)) → spot seen_id id 0 v ≡ o → spot_fault v (edit_told id e) o ≡ None → IsMirror (with_changed id (edit_change e) v)
+  mirror_at : (o : Option (Spot Seen)) → spot seen_id id 0 v ≡ o → spot_fault v (edit_told id e) o ≡ None
+      → IsMirror (with_changed id (edit_change e) v)
   mirror_at None is clear = absurd cc
   mirror_at (Some s) is clear =
       let fine = clear_change v (edit_told id e) s clear in
@@ -356,9 +385,12 @@ module _ (v : Nodes Seen) (id : ℕ) (e : NodeEdit) (mirror : IsMirror v) (fits 
       let j = low_levels s.level (height (edit_nodes e)) (omega arith) fine.low in
       omega arith in
       let kept : IsMirror (put seen_id id (changed (edit_change e) s.branch) v)
-      = kept_view (added (edit_change e)) p.2 mirror (changed-owes s.branch (sound-at p.2 mirror) (edit_change e) fine.suits (fine_edit e fits))
-      (λ x. let h = once.ids x in let k : tally seen_id x (added (edit_change e)) ≡ tally seen_id x (seen_nodes (edit_nodes e)) = ap (tally seen_id x) (sym is_added) in omega arith)
-      (λ x. let h = once.serials x in let k : tally seen_serial x (added (edit_change e)) ≡ tally seen_serial x (seen_nodes (edit_nodes e)) = ap (tally seen_serial x) (sym is_added) in omega arith)
+      = kept_view (added (edit_change e)) p.2 mirror
+      (changed-owes s.branch (sound-at p.2 mirror) (edit_change e) fine.suits (fine_edit e fits))
+      (λ x. let h = once.ids x in let k : tally seen_id x (added (edit_change e))
+      ≡ tally seen_id x (seen_nodes (edit_nodes e)) = ap (tally seen_id x) (sym is_added) in omega arith)
+      (λ x. let h = once.serials x in let k : tally seen_serial x (added (edit_change e))
+      ≡ tally seen_serial x (seen_nodes (edit_nodes e)) = ap (tally seen_serial x) (sym is_added) in omega arith)
       (ap (tally seen_id 0) (sym is_added) ∙ shows.above) low in
       rw (known-spot id v s is) kept
 
@@ -366,7 +398,8 @@ module _ (v : Nodes Seen) (id : ℕ) (e : NodeEdit) (mirror : IsMirror v) (fits 
   mirror_of_edit clear = mirror_at (spot seen_id id 0 v) refl clear
 
   -- and the node is there, and may be changed
-  ready_at : (o : Option (Spot Seen)) → spot seen_id id 0 v ≡ o → spot_fault v (edit_told id e) o ≡ None → is_ready id (edit_change e) v ≡ true
+  ready_at : (o : Option (Spot Seen)) → spot seen_id id 0 v ≡ o → spot_fault v (edit_told id e) o ≡ None
+      → is_ready id (edit_change e) v ≡ true
   ready_at None is clear = absurd cc
   ready_at (Some s) is clear =
       let fine = clear_change v (edit_told id e) s clear in

@@ -1,5 +1,6 @@
 -- How a fold goes on, and that an ask more only waits.
-use Rattle.std.proofs.Common.{◌≡◌, ℕ, ◌==◌, Bool, true, false, cond, List, [], ◌∷◌, ◌++◌, Option, Some, None, option_map, option_and_then, Result, Ok, Err, refl, sym, ap, ◌∙◌}
+use Rattle.std.proofs.Common.{◌≡◌, ℕ, ◌==◌, Bool, true, false, cond, List, [], ◌∷◌, ◌++◌, Option, Some, None, option_map, option_and_then}
+use Rattle.std.proofs.Common.{Result, Ok, Err, refl, sym, ap, ◌∙◌}
 use Rattle.serde_json.specs.Data.{Data}
 use Rattle.node_tree.specs.Nodes.{Nodes, none, Branch, alone}
 use Rattle.node_tree.specs.Keys.{Spot, spot, put}
@@ -11,7 +12,8 @@ use Rattle.cdp_messages.specs.declared.effects.Effect.{Effect}
 use Rattle.cdp_messages.specs.declared.effects.Effect.TheVariants as effect
 use Rattle.cdp_messages.specs.Effects.{effect_of}
 use Rattle.cdp_messages.specs.Told.{Told, seen_nodes, seen_branch}
-use Rattle.cdp_messages.specs.Events.{News, attribute_modified, attribute_removed, text_modified, count_updated, inserted, removed, set_children, document_updated, paused, sheet_added, sheet_changed, sheet_removed}
+use Rattle.cdp_messages.specs.Events.{News, attribute_modified, attribute_removed, text_modified, count_updated, inserted, removed}
+use Rattle.cdp_messages.specs.Events.{set_children, document_updated, paused, sheet_added, sheet_changed, sheet_removed}
 use Rattle.cdp_messages.specs.Replies.{Message, reply, fault, event, down_of, result_of}
 use Rattle.std.specs.List.{list_all}
 use Rattle.cdp_messages.specs.declared.down.PauseData.{PauseData}
@@ -21,7 +23,12 @@ use Rattle.front_mirror.specs.declared.replies.Kept.{Kept}
 use Rattle.front_mirror.specs.declared.faults.FrontKind.TheVariants.{UnknownNode, IdTaken, UnknownSheet}
 use Rattle.front_mirror.specs.declared.faults.FrontKind.{FrontKind}
 use Rattle.front_mirror.specs.declared.faults.FrontFault.{FrontFault}
-use Rattle.front_mirror.specs.Front.{FrontValue, first_value, plain_ask, fetch_ask, ask_under, method_waiting, fetched_sheet, reply_kept, unless_fetch, sheets_fetched, asks_without, root_fault, matched_told, with_matched, replied, refused, told, halted, told_sheets, is_shown, ToldChange, told_change, change_fault, with_root, with_effect, with_body, with_reply, with_fault, with_tree, at_spot, with_change, with_news, with_message, take_frame, Folded, after_message, front_folded, outcome, fold_frames, fold, FrontState, first_state, after_bytes, unless_refused, after_take, after_ask, after_fetch}
+use Rattle.front_mirror.specs.Front.{FrontValue, first_value, plain_ask, fetch_ask, ask_under, method_waiting, fetched_sheet, reply_kept}
+use Rattle.front_mirror.specs.Front.{unless_fetch, sheets_fetched, asks_without, root_fault, matched_told, with_matched, replied, refused}
+use Rattle.front_mirror.specs.Front.{told, halted, told_sheets, is_shown, ToldChange, told_change, change_fault, with_root, with_effect}
+use Rattle.front_mirror.specs.Front.{with_body, with_reply, with_fault, with_tree, at_spot, with_change, with_news, with_message}
+use Rattle.front_mirror.specs.Front.{take_frame, Folded, after_message, front_folded, outcome, fold_frames, fold, FrontState, first_state}
+use Rattle.front_mirror.specs.Front.{after_bytes, unless_refused, after_take, after_ask, after_fetch}
 use Rattle.front_mirror.specs.declared.sheets.KnownSheet.{KnownSheet}
 use Rattle.front_mirror.specs.Sheets.{told_sheet, has_sheet, marked_old, without_sheet}
 use Rattle.front_mirror.specs.Laws.{ask_joined, IsFold}
@@ -39,7 +46,8 @@ after_message-append : (v : FrontValue) (first more : List (List ℕ)) (r : Resu
 after_message-append v first more (Ok w) rest = rest w
 after_message-append v first more (Err kind) rest = refl
 
-folded-append : (first more : List (List ℕ)) (v : FrontValue) → front_folded v (first ++ more) ≡ gone_on more (front_folded v first).value (front_folded v first).fault
+folded-append : (first more : List (List ℕ)) (v : FrontValue)
+    → front_folded v (first ++ more) ≡ gone_on more (front_folded v first).value (front_folded v first).fault
 folded-append [] more v = refl
 folded-append (frame ∷ first) more v = after_message-append v first more (take_frame v frame) (folded-append first more)
 
@@ -48,13 +56,15 @@ outcome_ok v w None e = (cc, refl)
 outcome_ok v w (Some f) e = absurd cc
 
 -- a fold that met no fault goes on from its value
-pub fold_frames-append : (first more : List (List ℕ)) (v w : FrontValue) → fold_frames v first ≡ Ok w → fold_frames v (first ++ more) ≡ fold_frames w more
+pub fold_frames-append : (first more : List (List ℕ)) (v w : FrontValue) → fold_frames v first ≡ Ok w
+    → fold_frames v (first ++ more) ≡ fold_frames w more
 fold_frames-append first more v w e =
     let p = outcome_ok (front_folded v first).value w (front_folded v first).fault e in
     ap (λ (end : Folded). outcome end.value end.fault)
     (folded-append first more v ∙ ap (gone_on more (front_folded v first).value) p.1 ∙ ap (λ (u : FrontValue). front_folded u more) p.0)
 
-pub frames_from-append : (first more : List ℕ) → frames_from [] (first ++ more) ≡ frames_from [] first ++ frames_from (held_after [] first) more
+pub frames_from-append : (first more : List ℕ)
+    → frames_from [] (first ++ more) ≡ frames_from [] first ++ frames_from (held_after [] first) more
 frames_from-append first more = ap (λ (frames : Frames). frames.whole) (frames_of-append first more)
 
 pub held_after-append : (first more : List ℕ) → held_after [] (first ++ more) ≡ held_after (held_after [] first) more
@@ -75,23 +85,29 @@ ask_under-here : (v : Bool) (a : Ask) (m : List ℕ) (o p : Option Ask) → (opt
 ask_under-here true a m o p rest e = refl
 ask_under-here false a m o p rest e = rest e
 
-ask_under-more : (id : ℕ) (asks : List Ask) (ask : Ask) (m : List ℕ) → method_waiting id asks ≡ Some m → ask_under id (asks ++ ask ∷ []) ≡ ask_under id asks
+ask_under-more : (id : ℕ) (asks : List Ask) (ask : Ask) (m : List ℕ) → method_waiting id asks ≡ Some m
+    → ask_under id (asks ++ ask ∷ []) ≡ ask_under id asks
 ask_under-more id [] ask m e = cc
 ask_under-more id (a ∷ asks) ask m e =
     ask_under-here (a.id == id) a m (ask_under id asks) (ask_under id (asks ++ ask ∷ [])) (ask_under-more id asks ask m) e
 
-method_of-more : (id : ℕ) (asks : List Ask) (ask : Ask) (m : List ℕ) → method_waiting id asks ≡ Some m → method_waiting id (asks ++ ask ∷ []) ≡ Some m
+method_of-more : (id : ℕ) (asks : List Ask) (ask : Ask) (m : List ℕ) → method_waiting id asks ≡ Some m
+    → method_waiting id (asks ++ ask ∷ []) ≡ Some m
 method_of-more id asks ask m e = ap (option_map (λ (x : Ask). x.method)) (ask_under-more id asks ask m e) ∙ e
 
-without-here : (v : Bool) (a ask : Ask) (m : List ℕ) (o : Option Ask) (asks less more : List Ask) → (option_map (λ (x : Ask). x.method) o ≡ Some m → more ≡ less ++ ask ∷ [])
-    → option_map (λ (x : Ask). x.method) (cond v (Some a) o) ≡ Some m → cond v (asks ++ ask ∷ []) (a ∷ more) ≡ cond v asks (a ∷ less) ++ ask ∷ []
+without-here : (v : Bool) (a ask : Ask) (m : List ℕ) (o : Option Ask) (asks less more : List Ask)
+    → (option_map (λ (x : Ask). x.method) o ≡ Some m → more ≡ less ++ ask ∷ [])
+    → option_map (λ (x : Ask). x.method) (cond v (Some a) o) ≡ Some m
+    → cond v (asks ++ ask ∷ []) (a ∷ more) ≡ cond v asks (a ∷ less) ++ ask ∷ []
 without-here true a ask m o asks less more rest e = refl
 without-here false a ask m o asks less more rest e = ap (λ (later : List Ask). a ∷ later) (rest e)
 
-without-more : (id : ℕ) (asks : List Ask) (ask : Ask) (m : List ℕ) → method_waiting id asks ≡ Some m → asks_without id (asks ++ ask ∷ []) ≡ asks_without id asks ++ ask ∷ []
+without-more : (id : ℕ) (asks : List Ask) (ask : Ask) (m : List ℕ) → method_waiting id asks ≡ Some m
+    → asks_without id (asks ++ ask ∷ []) ≡ asks_without id asks ++ ask ∷ []
 without-more id [] ask m e = cc
 without-more id (a ∷ asks) ask m e =
-    without-here (a.id == id) a ask m (ask_under id asks) asks (asks_without id asks) (asks_without id (asks ++ ask ∷ [])) (without-more id asks ask m) e
+    without-here (a.id == id) a ask m (ask_under id asks) asks (asks_without id asks) (asks_without id (asks ++ ask ∷ []))
+    (without-more id asks ask m) e
 
 abbrev taken_well : FrontValue → Result FrontValue FrontKind
 taken_well v = Ok v
@@ -101,22 +117,27 @@ folded_well v = Ok v
 
 -- what is kept of a reply to this ask
 abbrev kept_to : ℕ → Option Ask → List ℕ → Bool → List Kept
-kept_to id o frame good = unless_fetch (option_and_then (λ (x : Ask). x.sheet) o) (reply_kept (Some id) (option_map (λ (x : Ask). x.method) o) frame good)
+kept_to id o frame good = unless_fetch (option_and_then (λ (x : Ask). x.sheet) o)
+    (reply_kept (Some id) (option_map (λ (x : Ask). x.method) o) frame good)
 
-replied-joined : (v : FrontValue) (ask : Ask) (id : ℕ) (frame : List ℕ) (good : Bool) (tree : Nodes Seen) (m : List ℕ) → method_waiting id v.asks ≡ Some m
+replied-joined : (v : FrontValue) (ask : Ask) (id : ℕ) (frame : List ℕ) (good : Bool) (tree : Nodes Seen) (m : List ℕ)
+    → method_waiting id v.asks ≡ Some m
     → replied (ask_joined v ask) id frame good tree ≡ ask_joined (replied v id frame good tree) ask
 replied-joined v ask id frame good tree m waits =
-    ap (λ (o : Option Ask). record (replied (ask_joined v ask) id frame good tree) { replies = v.replies ++ kept_to id o frame good }) (ask_under-more id v.asks ask m waits)
+    ap (λ (o : Option Ask). record (replied (ask_joined v ask) id frame good tree) { replies = v.replies ++ kept_to id o frame good })
+    (ask_under-more id v.asks ask m waits)
     ∙ ap (λ (asks : List Ask). record (replied v id frame good tree) { asks = asks }) (without-more id v.asks ask m waits)
 
-replied-more : (v w : FrontValue) (ask : Ask) (id : ℕ) (frame : List ℕ) (good : Bool) (tree : Nodes Seen) (m : List ℕ) → method_waiting id v.asks ≡ Some m
+replied-more : (v w : FrontValue) (ask : Ask) (id : ℕ) (frame : List ℕ) (good : Bool) (tree : Nodes Seen) (m : List ℕ)
+    → method_waiting id v.asks ≡ Some m
     → taken_well (replied v id frame good tree) ≡ Ok w → taken_well (replied (ask_joined v ask) id frame good tree) ≡ Ok (ask_joined w ask)
 replied-more v w ask id frame good tree m waits e =
     let same : replied v id frame good tree ≡ w = cc in
     ap (λ (u : FrontValue). taken_well u) (replied-joined v ask id frame good tree m waits)
     ∙ ap (λ (u : FrontValue). taken_well (ask_joined u ask)) same
 
-with_root-more : (v w : FrontValue) (ask : Ask) (id : ℕ) (frame : List ℕ) (root : Branch Told) (m : List ℕ) (wrong : Option FrontKind) → method_waiting id v.asks ≡ Some m
+with_root-more : (v w : FrontValue) (ask : Ask) (id : ℕ) (frame : List ℕ) (root : Branch Told) (m : List ℕ) (wrong : Option FrontKind)
+    → method_waiting id v.asks ≡ Some m
     → with_root v id frame root wrong ≡ Ok w → with_root (ask_joined v ask) id frame root wrong ≡ Ok (ask_joined w ask)
 with_root-more v w ask id frame root m None waits e = replied-more v w ask id frame true (seen_nodes (alone root)) m waits e
 with_root-more v w ask id frame root m (Some kind) waits e = cc
@@ -125,7 +146,8 @@ abbrev sheetless : FrontValue → FrontValue
 sheetless v = record v { sheets = [] }
 
 bare-more : (v w : FrontValue) (ask : Ask) (id : ℕ) (frame : List ℕ) (tree : Nodes Seen) (m : List ℕ) → method_waiting id v.asks ≡ Some m
-    → taken_well (sheetless (replied v id frame true tree)) ≡ Ok w → taken_well (sheetless (replied (ask_joined v ask) id frame true tree)) ≡ Ok (ask_joined w ask)
+    → taken_well (sheetless (replied v id frame true tree)) ≡ Ok w
+    → taken_well (sheetless (replied (ask_joined v ask) id frame true tree)) ≡ Ok (ask_joined w ask)
 bare-more v w ask id frame tree m waits e =
     let same : sheetless (replied v id frame true tree) ≡ w = cc in
     ap (λ (u : FrontValue). taken_well (sheetless u)) (replied-joined v ask id frame true tree m waits)
@@ -137,10 +159,13 @@ freshened v o text = record v { sheets = sheets_fetched o text v.sheets }
 
 text-more : (v w : FrontValue) (ask : Ask) (id : ℕ) (frame text : List ℕ) (m : List ℕ) → method_waiting id v.asks ≡ Some m
     → taken_well (freshened (replied v id frame true v.tree) (fetched_sheet id v.asks) text) ≡ Ok w
-    → taken_well (freshened (replied (ask_joined v ask) id frame true v.tree) (fetched_sheet id (v.asks ++ ask ∷ [])) text) ≡ Ok (ask_joined w ask)
+    → taken_well (freshened (replied (ask_joined v ask) id frame true v.tree) (fetched_sheet id (v.asks ++ ask ∷ [])) text)
+    ≡ Ok (ask_joined w ask)
 text-more v w ask id frame text m waits e =
     let same : freshened (replied v id frame true v.tree) (fetched_sheet id v.asks) text ≡ w = cc in
-    ap (λ (o : Option Ask). taken_well (freshened (replied (ask_joined v ask) id frame true v.tree) (option_and_then (λ (x : Ask). x.sheet) o) text)) (ask_under-more id v.asks ask m waits)
+    ap (λ (o : Option Ask). taken_well
+    (freshened (replied (ask_joined v ask) id frame true v.tree) (option_and_then (λ (x : Ask). x.sheet) o) text))
+    (ask_under-more id v.asks ask m waits)
     ∙ ap (λ (u : FrontValue). taken_well (freshened u (fetched_sheet id v.asks) text)) (replied-joined v ask id frame true v.tree m waits)
     ∙ ap (λ (u : FrontValue). taken_well (ask_joined u ask)) same
 
@@ -152,37 +177,47 @@ with_effect-more v w ask id frame m effect.AllOff waits e = bare-more v w ask id
 with_effect-more v w ask id frame m effect.SheetsOff waits e = bare-more v w ask id frame v.tree m waits e
 with_effect-more v w ask id frame m effect.NothingElse waits e = replied-more v w ask id frame true v.tree m waits e
 
-with_body-more : (v w : FrontValue) (ask : Ask) (id : ℕ) (frame : List ℕ) (m : List ℕ) (body : Option ReplyBody) → method_waiting id v.asks ≡ Some m
+with_body-more : (v w : FrontValue) (ask : Ask) (id : ℕ) (frame : List ℕ) (m : List ℕ) (body : Option ReplyBody)
+    → method_waiting id v.asks ≡ Some m
     → with_body v id frame m body ≡ Ok w → with_body (ask_joined v ask) id frame m body ≡ Ok (ask_joined w ask)
 with_body-more v w ask id frame m None waits e = cc
-with_body-more v w ask id frame m (Some body) waits e = with_effect-more (with_matched v (matched_told id body)) w ask id frame m (effect_of m body) waits e
+with_body-more v w ask id frame m (Some body) waits e = with_effect-more (with_matched v (matched_told id body)) w ask id frame m
+    (effect_of m body) waits e
 
-with_reply-more : (v w : FrontValue) (ask : Ask) (id : ℕ) (frame : List ℕ) (result : Data) (o : Option (List ℕ)) → method_waiting id v.asks ≡ o
-    → with_reply v id frame result o ≡ Ok w → with_reply (ask_joined v ask) id frame result (method_waiting id (v.asks ++ ask ∷ [])) ≡ Ok (ask_joined w ask)
+with_reply-more : (v w : FrontValue) (ask : Ask) (id : ℕ) (frame : List ℕ) (result : Data) (o : Option (List ℕ))
+    → method_waiting id v.asks ≡ o
+    → with_reply v id frame result o ≡ Ok w
+    → with_reply (ask_joined v ask) id frame result (method_waiting id (v.asks ++ ask ∷ [])) ≡ Ok (ask_joined w ask)
 with_reply-more v w ask id frame result None waits e = cc
 with_reply-more v w ask id frame result (Some m) waits e =
     ap (with_reply (ask_joined v ask) id frame result) (method_of-more id v.asks ask m waits)
     ∙ with_body-more v w ask id frame m (result_of m result) waits e
 
 with_fault-more : (v w : FrontValue) (ask : Ask) (id : ℕ) (frame : List ℕ) (o : Option (List ℕ)) → method_waiting id v.asks ≡ o
-    → with_fault v id frame o ≡ Ok w → with_fault (ask_joined v ask) id frame (method_waiting id (v.asks ++ ask ∷ [])) ≡ Ok (ask_joined w ask)
+    → with_fault v id frame o ≡ Ok w
+    → with_fault (ask_joined v ask) id frame (method_waiting id (v.asks ++ ask ∷ [])) ≡ Ok (ask_joined w ask)
 with_fault-more v w ask id frame None waits e = cc
 with_fault-more v w ask id frame (Some m) waits e =
     ap (with_fault (ask_joined v ask) id frame) (method_of-more id v.asks ask m waits)
     ∙ replied-more v w ask id frame false v.tree m waits e
 
-told-more : (v w : FrontValue) (ask : Ask) (tree : Nodes Seen) → taken_well (told v tree) ≡ Ok w → taken_well (told (ask_joined v ask) tree) ≡ Ok (ask_joined w ask)
+told-more : (v w : FrontValue) (ask : Ask) (tree : Nodes Seen) → taken_well (told v tree) ≡ Ok w
+    → taken_well (told (ask_joined v ask) tree) ≡ Ok (ask_joined w ask)
 told-more v w ask tree e = let same : told v tree ≡ w = cc in ap (λ (u : FrontValue). taken_well (ask_joined u ask)) same
 
-with_tree-more : (v w : FrontValue) (ask : Ask) (tree : Nodes Seen) (wrong : Option FrontKind) → with_tree v tree wrong ≡ Ok w → with_tree (ask_joined v ask) tree wrong ≡ Ok (ask_joined w ask)
+with_tree-more : (v w : FrontValue) (ask : Ask) (tree : Nodes Seen) (wrong : Option FrontKind) → with_tree v tree wrong ≡ Ok w
+    → with_tree (ask_joined v ask) tree wrong ≡ Ok (ask_joined w ask)
 with_tree-more v w ask tree None e = told-more v w ask tree e
 with_tree-more v w ask tree (Some kind) e = cc
 
-at_spot-more : (v w : FrontValue) (ask : Ask) (t : ToldChange) (o : Option (Spot Seen)) → at_spot v t o ≡ Ok w → at_spot (ask_joined v ask) t o ≡ Ok (ask_joined w ask)
+at_spot-more : (v w : FrontValue) (ask : Ask) (t : ToldChange) (o : Option (Spot Seen)) → at_spot v t o ≡ Ok w
+    → at_spot (ask_joined v ask) t o ≡ Ok (ask_joined w ask)
 at_spot-more v w ask t None e = cc
-at_spot-more v w ask t (Some s) e = with_tree-more v w ask (put seen_id t.node (changed t.change s.branch) v.tree) (change_fault v.tree t s) e
+at_spot-more v w ask t (Some s) e = with_tree-more v w ask (put seen_id t.node (changed t.change s.branch) v.tree)
+    (change_fault v.tree t s) e
 
-with_change-more : (v w : FrontValue) (ask : Ask) (t : ToldChange) → with_change v t ≡ Ok w → with_change (ask_joined v ask) t ≡ Ok (ask_joined w ask)
+with_change-more : (v w : FrontValue) (ask : Ask) (t : ToldChange) → with_change v t ≡ Ok w
+    → with_change (ask_joined v ask) t ≡ Ok (ask_joined w ask)
 with_change-more v w ask t e = at_spot-more v w ask t (spot seen_id t.node 0 v.tree) e
 
 pause-more : (v w : FrontValue) (ask : Ask) (why : PauseData) (b : Bool) → cond b (taken_well (halted v why)) (Err UnknownNode) ≡ Ok w
@@ -190,15 +225,19 @@ pause-more : (v w : FrontValue) (ask : Ask) (why : PauseData) (b : Bool) → con
 pause-more v w ask why true e = let same : halted v why ≡ w = cc in ap (λ (u : FrontValue). taken_well (ask_joined u ask)) same
 pause-more v w ask why false e = cc
 
-sheets-more : (v w : FrontValue) (ask : Ask) (b : Bool) (kind : FrontKind) (sheets : List KnownSheet) → cond b (taken_well (told_sheets v sheets)) (Err kind) ≡ Ok w
+sheets-more : (v w : FrontValue) (ask : Ask) (b : Bool) (kind : FrontKind) (sheets : List KnownSheet)
+    → cond b (taken_well (told_sheets v sheets)) (Err kind) ≡ Ok w
     → cond b (taken_well (told_sheets (ask_joined v ask) sheets)) (Err kind) ≡ Ok (ask_joined w ask)
-sheets-more v w ask true kind sheets e = let same : told_sheets v sheets ≡ w = cc in ap (λ (u : FrontValue). taken_well (ask_joined u ask)) same
+sheets-more v w ask true kind sheets e = let same : told_sheets v sheets
+    ≡ w = cc in ap (λ (u : FrontValue). taken_well (ask_joined u ask)) same
 sheets-more v w ask false kind sheets e = cc
 
-added-more : (v w : FrontValue) (ask : Ask) (b : Bool) (kind : FrontKind) (sheets : List KnownSheet) → cond b (Err kind) (taken_well (told_sheets v sheets)) ≡ Ok w
+added-more : (v w : FrontValue) (ask : Ask) (b : Bool) (kind : FrontKind) (sheets : List KnownSheet)
+    → cond b (Err kind) (taken_well (told_sheets v sheets)) ≡ Ok w
     → cond b (Err kind) (taken_well (told_sheets (ask_joined v ask) sheets)) ≡ Ok (ask_joined w ask)
 added-more v w ask true kind sheets e = cc
-added-more v w ask false kind sheets e = let same : told_sheets v sheets ≡ w = cc in ap (λ (u : FrontValue). taken_well (ask_joined u ask)) same
+added-more v w ask false kind sheets e = let same : told_sheets v sheets
+    ≡ w = cc in ap (λ (u : FrontValue). taken_well (ask_joined u ask)) same
 
 with_news-more : (v w : FrontValue) (ask : Ask) (n : News) → with_news v n ≡ Ok w → with_news (ask_joined v ask) n ≡ Ok (ask_joined w ask)
 with_news-more v w ask (set_children parent nodes) e = with_change-more v w ask (told_change parent (shows (seen_nodes nodes)) nodes) e
@@ -207,12 +246,16 @@ with_news-more v w ask (attribute_modified id name value) e = with_change-more v
 with_news-more v w ask (attribute_removed id name) e = with_change-more v w ask (told_change id (drops name) none) e
 with_news-more v w ask (text_modified id value) e = with_change-more v w ask (told_change id (says value) none) e
 with_news-more v w ask (count_updated id count) e = with_change-more v w ask (told_change id (counts count) none) e
-with_news-more v w ask (inserted parent previous b) e = with_change-more v w ask (told_change parent (inserts previous (seen_branch b)) (alone b)) e
+with_news-more v w ask (inserted parent previous b) e = with_change-more v w ask
+    (told_change parent (inserts previous (seen_branch b)) (alone b)) e
 with_news-more v w ask (removed parent id) e = with_change-more v w ask (told_change parent (removes id) none) e
 with_news-more v w ask (paused why) e = pause-more v w ask why (list_all (is_shown v.tree) (paused_nodes why)) e
-with_news-more v w ask (sheet_added header) e = added-more v w ask (has_sheet header.sheet v.sheets) IdTaken (v.sheets ++ told_sheet header ∷ []) e
-with_news-more v w ask (sheet_changed number) e = sheets-more v w ask (has_sheet number v.sheets) UnknownSheet (marked_old number v.sheets) e
-with_news-more v w ask (sheet_removed number) e = sheets-more v w ask (has_sheet number v.sheets) UnknownSheet (without_sheet number v.sheets) e
+with_news-more v w ask (sheet_added header) e = added-more v w ask (has_sheet header.sheet v.sheets) IdTaken
+    (v.sheets ++ told_sheet header ∷ []) e
+with_news-more v w ask (sheet_changed number) e = sheets-more v w ask (has_sheet number v.sheets) UnknownSheet
+    (marked_old number v.sheets) e
+with_news-more v w ask (sheet_removed number) e = sheets-more v w ask (has_sheet number v.sheets) UnknownSheet
+    (without_sheet number v.sheets) e
 
 with_message-more : (v w : FrontValue) (ask : Ask) (frame : List ℕ) (message : Option Message)
     → with_message v frame message ≡ Ok w → with_message (ask_joined v ask) frame message ≡ Ok (ask_joined w ask)
@@ -223,26 +266,31 @@ with_message-more v w ask frame (Some (fault None code text)) e =
     let same : refused v frame ≡ w = cc in ap (λ (u : FrontValue). taken_well (ask_joined u ask)) same
 with_message-more v w ask frame (Some (fault (Some id) code text)) e = with_fault-more v w ask id frame (method_waiting id v.asks) refl e
 
-pub take_frame-more : (v w : FrontValue) (ask : Ask) (frame : List ℕ) → take_frame v frame ≡ Ok w → take_frame (ask_joined v ask) frame ≡ Ok (ask_joined w ask)
+pub take_frame-more : (v w : FrontValue) (ask : Ask) (frame : List ℕ) → take_frame v frame ≡ Ok w
+    → take_frame (ask_joined v ask) frame ≡ Ok (ask_joined w ask)
 take_frame-more v w ask frame e = with_message-more v w ask frame (down_of frame) e
 
-more_step : (v w : FrontValue) (ask : Ask) (frame : List ℕ) (frames : List (List ℕ)) (r : Result FrontValue FrontKind) → take_frame v frame ≡ r
+more_step : (v w : FrontValue) (ask : Ask) (frame : List ℕ) (frames : List (List ℕ)) (r : Result FrontValue FrontKind)
+    → take_frame v frame ≡ r
     → ((u : FrontValue) → fold_frames u frames ≡ Ok w → fold_frames (ask_joined u ask) frames ≡ Ok (ask_joined w ask))
     → outcome (after_message v (λ u. front_folded u frames) r).value (after_message v (λ u. front_folded u frames) r).fault ≡ Ok w
     → fold_frames (ask_joined v ask) (frame ∷ frames) ≡ Ok (ask_joined w ask)
 more_step v w ask frame frames (Ok u) is rest e =
-    ap (λ (r : Result FrontValue FrontKind). outcome (after_message (ask_joined v ask) (λ u. front_folded u frames) r).value (after_message (ask_joined v ask) (λ u. front_folded u frames) r).fault)
+    ap (λ (r : Result FrontValue FrontKind). outcome (after_message (ask_joined v ask) (λ u. front_folded u frames) r).value
+    (after_message (ask_joined v ask) (λ u. front_folded u frames) r).fault)
     (take_frame-more v u ask frame is)
     ∙ rest u e
 more_step v w ask frame frames (Err kind) is rest e = cc
 
 -- an ask more only joins those that wait
-pub fold_frames-more : (frames : List (List ℕ)) (ask : Ask) (v w : FrontValue) → fold_frames v frames ≡ Ok w → fold_frames (ask_joined v ask) frames ≡ Ok (ask_joined w ask)
+pub fold_frames-more : (frames : List (List ℕ)) (ask : Ask) (v w : FrontValue) → fold_frames v frames ≡ Ok w
+    → fold_frames (ask_joined v ask) frames ≡ Ok (ask_joined w ask)
 fold_frames-more [] ask v w e = let same : v ≡ w = cc in ap (λ (u : FrontValue). folded_well (ask_joined u ask)) same
 fold_frames-more (frame ∷ frames) ask v w e =
     more_step v w ask frame frames (take_frame v frame) refl (λ u. fold_frames-more frames ask u w) e
 
-pub fold-more : (waiting : List Ask) (ask : Ask) (down : List ℕ) (v : FrontValue) → fold waiting down ≡ Ok v → fold (waiting ++ ask ∷ []) down ≡ Ok (ask_joined v ask)
+pub fold-more : (waiting : List Ask) (ask : Ask) (down : List ℕ) (v : FrontValue) → fold waiting down ≡ Ok v
+    → fold (waiting ++ ask ∷ []) down ≡ Ok (ask_joined v ask)
 fold-more waiting ask down v e = fold_frames-more (frames_from [] down) ask (first_value waiting) v e
 
 -- ---- a front that runs

@@ -1,5 +1,6 @@
 -- Ids of children: put in, and taken out.
-use Rattle.std.proofs.Common.{◌≡◌, ℕ, zero, suc, ◌+◌, ◌<◌, ◌≤◌, ◌==◌, ◌||◌, nat_eq, nat_lt, Bool, true, false, cond, List, [], ◌∷◌, length, slice_get, drop, Some, refl, sym, ap, ◌∙◌, inl, inr, arith}
+use Rattle.std.proofs.Common.{◌≡◌, ℕ, zero, suc, ◌+◌, ◌<◌, ◌≤◌, ◌==◌, ◌||◌, nat_eq, nat_lt, Bool, true, false, cond, List, [], ◌∷◌, length}
+use Rattle.std.proofs.Common.{slice_get, drop, Some, refl, sym, ap, ◌∙◌, inl, inr, arith}
 use Rattle.std.specs.List.{insert, remove}
 use Rattle.std.proofs.lemmas.Bool.{eq-eqb, ne_eqb, cases_eq}
 use Rattle.cdp_messages.specs.Views.{is_in}
@@ -15,10 +16,12 @@ key_next ks i k at = let e : i + 1 ≡ suc i = omega arith in rw e (drop-get ks 
 
 module _ (x : ℕ) (ks : List ℕ) (i k : ℕ) (at : slice_get ks i ≡ Some k) where
   pub place_here : k ≡ x → id_place x (drop i ks) ≡ 0
-  place_here e = ap (id_place x) (key_next ks i k at) ∙ ap (λ (b : Bool). cond {A = ℕ} b 0 (suc (id_place x (drop (i + 1) ks)))) (eq-eqb k x e)
+  place_here e = ap (id_place x) (key_next ks i k at) ∙ ap (λ (b : Bool). cond {A = ℕ} b 0 (suc (id_place x (drop (i + 1) ks))))
+      (eq-eqb k x e)
 
   pub place_on : (k ≡ x → ⊥) → id_place x (drop i ks) ≡ suc (id_place x (drop (i + 1) ks))
-  place_on e = ap (id_place x) (key_next ks i k at) ∙ ap (λ (b : Bool). cond {A = ℕ} b 0 (suc (id_place x (drop (i + 1) ks)))) (ne_eqb k x e)
+  place_on e = ap (id_place x) (key_next ks i k at) ∙ ap (λ (b : Bool). cond {A = ℕ} b 0 (suc (id_place x (drop (i + 1) ks))))
+      (ne_eqb k x e)
 
 pub same_eq : (x y : ℕ) → nat_eq x y ≡ (y == x)
 same_eq x y = elim (cases_eq y x) [
@@ -33,13 +36,16 @@ there_step false p l h e = grind arith
 -- an id is there where its place is
 pub place_there : (x : ℕ) (ks : List ℕ) → nat_lt (id_place x ks) (length ks) ≡ is_in x ks
 place_there x [] = refl
-place_there x (k ∷ ks) = there_step (k == x) (id_place x ks) (length ks) (is_in x ks) (place_there x ks) ∙ ap (λ (v : Bool). v || is_in x ks) (sym (same_eq x k))
+place_there x (k ∷ ks) = there_step (k == x) (id_place x ks) (length ks) (is_in x ks) (place_there x ks) ∙ ap
+    (λ (v : Bool). v || is_in x ks) (sym (same_eq x k))
 
-behind_step : (v : Bool) (k p x : ℕ) (ks rest : List ℕ) → insert ks (suc p) x ≡ rest → insert (k ∷ ks) (suc (cond {A = ℕ} v 0 (suc p))) x ≡ cond v (k ∷ x ∷ ks) (k ∷ rest)
+behind_step : (v : Bool) (k p x : ℕ) (ks rest : List ℕ) → insert ks (suc p) x ≡ rest
+    → insert (k ∷ ks) (suc (cond {A = ℕ} v 0 (suc p))) x ≡ cond v (k ∷ x ∷ ks) (k ∷ rest)
 behind_step true k p x ks rest e = refl
 behind_step false k p x ks rest e = ap (λ (js : List ℕ). k ∷ js) e
 
-pub place_behind : (previous x : ℕ) (ks : List ℕ) → is_in previous ks ≡ true → insert ks (suc (id_place previous ks)) x ≡ id_behind previous x ks
+pub place_behind : (previous x : ℕ) (ks : List ℕ) → is_in previous ks ≡ true
+    → insert ks (suc (id_place previous ks)) x ≡ id_behind previous x ks
 place_behind previous x [] there = absurd (cc)
 place_behind previous x (k ∷ ks) there =
     elim (cases_eq k previous) [
@@ -76,14 +82,16 @@ remove_past (k ∷ ks) (suc p) past = ap (λ (js : List ℕ). k ∷ js) (remove_
 pub place_nowhere : (x : ℕ) (ks : List ℕ) → length ks ≤ id_place x ks → ks ≡ without_id x ks
 place_nowhere x ks past = sym (remove_past ks (id_place x ks) past) ∙ place_out x ks
 
-pub place_known : (previous : ℕ) (ks : List ℕ) (i n : ℕ) → (previous ≡ 0 → ⊥) → (previous == 0 || is_in previous ks) ≡ true → i ≡ id_place previous ks → n ≡ length ks → n ≤ i → ⊥
+pub place_known : (previous : ℕ) (ks : List ℕ) (i n : ℕ) → (previous ≡ 0 → ⊥) → (previous == 0 || is_in previous ks) ≡ true
+    → i ≡ id_place previous ks → n ≡ length ks → n ≤ i → ⊥
 place_known previous ks i n other there is len past =
     let known : is_in previous ks ≡ true = there_behind previous (is_in previous ks) other there in
     let low : nat_lt (id_place previous ks) (length ks) ≡ true = place_there previous ks ∙ known in
     let less : id_place previous ks < length ks = grind arith in
     omega arith
 
-pub place_then : (previous x : ℕ) (ks : List ℕ) (i : ℕ) → (previous ≡ 0 → ⊥) → (previous == 0 || is_in previous ks) ≡ true → i ≡ id_place previous ks → insert ks (i + 1) x ≡ id_after previous x ks
+pub place_then : (previous x : ℕ) (ks : List ℕ) (i : ℕ) → (previous ≡ 0 → ⊥) → (previous == 0 || is_in previous ks) ≡ true
+    → i ≡ id_place previous ks → insert ks (i + 1) x ≡ id_after previous x ks
 place_then previous x ks i other there is =
     let e : i + 1 ≡ suc (id_place previous ks) = omega arith in
     ap (λ (p : ℕ). insert ks p x) e

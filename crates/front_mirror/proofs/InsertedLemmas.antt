@@ -33,7 +33,8 @@ module _ (id : ℕ) (w : Branch Seen) where
   inserted_behind none e = absurd cc
   inserted_behind (node r c t) e = behind_at (r.id == id) r c t (put_behind id w t) e (inserted_behind t)
 
-  after_at : (b : Bool) (n rest : Nodes Seen) → (b || has_tree id n) ≡ true → (has_tree id n ≡ true → Inserted w n rest) → Inserted w n (cond b (node w.row w.children n) rest)
+  after_at : (b : Bool) (n rest : Nodes Seen) → (b || has_tree id n) ≡ true → (has_tree id n ≡ true → Inserted w n rest)
+      → Inserted w n (cond b (node w.row w.children n) rest)
   after_at true n rest e behind = first n
   after_at false n rest e behind = behind e
 
@@ -49,7 +50,8 @@ pub record TakenOut (id : ℕ) (n : Nodes Seen) : Type 0 where
   pub stood : Inserted tree (without_tree id n) n
 
 module _ (id : ℕ) where
-  taken_at : (b : Bool) (r : Seen) (c t : Nodes Seen) → (r.id == id) ≡ b → (b || has_tree id t) ≡ true → (has_tree id t ≡ true → TakenOut id t)
+  taken_at : (b : Bool) (r : Seen) (c t : Nodes Seen) → (r.id == id) ≡ b → (b || has_tree id t) ≡ true
+      → (has_tree id t ≡ true → TakenOut id t)
       → (w : Branch Seen) × (w.row.id ≡ id) × Inserted w (cond b t (node r c (without_tree id t))) (node r c t)
   taken_at true r c t is e after = (record { row = r; children = c }, eqb-true r.id id is, first t)
   taken_at false r c t is e after = let o = after e in (o.tree, o.named, later r c (without_tree id t) t o.stood)
@@ -60,7 +62,8 @@ module _ (id : ℕ) where
 
 -- ---- a test of trees that tests each node, by its row and its children
 
-module _ (f : Nodes Seen → Bool) (g : Seen → Nodes Seen → Bool) (law : (r : Seen) (c t : Nodes Seen) → f (node r c t) ≡ ((g r c && f c) && f t)) where
+module _ (f : Nodes Seen → Bool) (g : Seen → Nodes Seen → Bool)
+    (law : (r : Seen) (c t : Nodes Seen) → f (node r c t) ≡ ((g r c && f c) && f t)) where
   -- the node passes, and all below it
   abbrev pub passes : Branch Seen → Bool
   passes b = g b.row b.children && f b.children
@@ -82,8 +85,10 @@ module _ (f : Nodes Seen → Bool) (g : Seen → Nodes Seen → Bool) (law : (r 
   all-at same o w _ _ _ (here t) e p = law w.row w.children t ∙ both p (passes-rest o.row o.children t e)
   all-at same o w _ _ _ (within depth r c m t a) e p =
       let head = passes-first r c t e in
-      law r m t ∙ both (both (sym (same r o w depth c m a) ∙ and_left _ (f c) head) (all-at same o w depth c m a (and_right (g r c) (f c) head) p)) (passes-rest r c t e)
-  all-at same o w _ _ _ (past depth r c t m a) e p = law r c m ∙ both (passes-first r c t e) (all-at same o w depth t m a (passes-rest r c t e) p)
+      law r m t ∙ both (both (sym (same r o w depth c m a) ∙ and_left _ (f c) head)
+      (all-at same o w depth c m a (and_right (g r c) (f c) head) p)) (passes-rest r c t e)
+  all-at same o w _ _ _ (past depth r c t m a) e p = law r c m ∙ both (passes-first r c t e)
+      (all-at same o w depth t m a (passes-rest r c t e) p)
 
   and_moved : (a b c : Bool) → (a && (b && c)) ≡ (b && (a && c))
   and_moved true b c = refl

@@ -1,5 +1,6 @@
 -- What is read of the nodes of a table.
-use Rattle.std.proofs.Common.{◌≡◌, ◌⊎◌, ℕ, zero, suc, ◌<◌, ◌≤◌, ◌==◌, ◌||◌, nat_eq, Bool, true, false, cond, List, [], ◌∷◌, length, slice_get, Option, Some, None, option_map, is_some, unwrap_or, refl, sym, ap, subst, ◌∙◌, inl, inr, arith}
+use Rattle.std.proofs.Common.{◌≡◌, ◌⊎◌, ℕ, zero, suc, ◌<◌, ◌≤◌, ◌==◌, ◌||◌, nat_eq, Bool, true, false, cond, List, [], ◌∷◌, length}
+use Rattle.std.proofs.Common.{slice_get, Option, Some, None, option_map, is_some, unwrap_or, refl, sym, ap, subst, ◌∙◌, inl, inr, arith}
 use Rattle.std.specs.Option.{option_and_then}
 use Rattle.std.proofs.lemmas.Bool.{eq-eqb, ne_eqb, cases_eq}
 use Rattle.node_tree.specs.Nodes.{Nodes, none, node, Branch, tree_at, width}
@@ -15,7 +16,8 @@ use Rattle.front_mirror.specs.declared.table.Table.{Table}
 use Rattle.front_mirror.specs.Tables.{mirror_row, by_id, table_slots, table_ids, root_ids, HasOwnIds, IsTable, TableLooks, table_climbed}
 
 -- the ids of children are those of the trees that they keep
-pub keeps-ids : (slots : ℕ → Option Slot) (n : Nodes Seen) (above : Option ℕ) (ks : List ℕ) → HasOwnIds slots → Keeps by_id slots n above ks → ks ≡ root_ids n
+pub keeps-ids : (slots : ℕ → Option Slot) (n : Nodes Seen) (above : Option ℕ) (ks : List ℕ) → HasOwnIds slots
+    → Keeps by_id slots n above ks → ks ≡ root_ids n
 keeps-ids slots none above [] own kept = refl
 keeps-ids slots none above (k ∷ ks) own kept = absurd kept
 keeps-ids slots (node r c t) above [] own kept = absurd kept
@@ -54,7 +56,8 @@ climbed_none t (suc levels) = refl
 
 pub climbed_lost : (t : Table) (levels k : ℕ) → 0 < levels → table_slots t k ≡ None → 1 ≡ table_climbed t levels (Some k)
 climbed_lost t zero k some e = absurd (omega arith)
-climbed_lost t (suc levels) k some e = sym (ap (λ (o : Option Slot). suc (table_climbed t levels (option_and_then (λ (s : Slot). s.parent) o))) e ∙ ap suc (climbed_none t levels))
+climbed_lost t (suc levels) k some e = sym
+    (ap (λ (o : Option Slot). suc (table_climbed t levels (option_and_then (λ (s : Slot). s.parent) o))) e ∙ ap suc (climbed_none t levels))
 
 module _ (t : Table) (roots : List ℕ) (n : Nodes Seen) (table : IsTable t roots n) where
   -- the slot of a node that is found
@@ -81,7 +84,8 @@ module _ (t : Table) (roots : List ℕ) (n : Nodes Seen) (table : IsTable t root
   pub look_at : (x : ℕ) (b : Branch Seen) → find seen_id x n ≡ Some b → TableLooks (table_slots t x) (Some b)
   look_at x b e =
       let l = located x b e in
-      subst (λ (o : Option Slot). TableLooks o (Some b)) (sym l.at) (b, refl, l.row_is, keeps-ids (table_slots t) b.children (Some x) l.slot.children table.own l.below)
+      subst (λ (o : Option Slot). TableLooks o (Some b)) (sym l.at)
+      (b, refl, l.row_is, keeps-ids (table_slots t) b.children (Some x) l.slot.children table.own l.below)
 
   pub looks : (x : ℕ) → TableLooks (table_slots t x) (find seen_id x n)
   looks x =
@@ -98,7 +102,8 @@ module _ (t : Table) (roots : List ℕ) (n : Nodes Seen) (table : IsTable t root
 
   -- ---- by its serial
 
-  pub serial_found : ((x : ℕ) → tally seen_serial x n ≤ 1) → (s k : ℕ) → table_ids t s ≡ Some k → (b : Branch Seen) × (find seen_serial s n ≡ Some b) × (b.row.id ≡ k)
+  pub serial_found : ((x : ℕ) → tally seen_serial x n ≤ 1) → (s k : ℕ) → table_ids t s ≡ Some k
+      → (b : Branch Seen) × (find seen_serial s n ≡ Some b) × (b.row.id ≡ k)
   serial_found once s k e =
       let (slot, at, serial_is) = table.files.found s k e in
       let (b, found) = found_there k (table.reached k slot at) in
@@ -108,7 +113,8 @@ module _ (t : Table) (roots : List ℕ) (n : Nodes Seen) (table : IsTable t root
       let stands = find-stands seen_serial b n (stands-find seen_id k n b found) (once b.row.serial) in
       (b, ap (λ (y : ℕ). find seen_serial y n) (sym is) ∙ stands, found_key seen_id k n b found)
 
-  pub serial_id : ((x : ℕ) → tally seen_id x n ≤ 1) → (s : ℕ) (b : Branch Seen) → find seen_serial s n ≡ Some b → table_ids t s ≡ Some b.row.id
+  pub serial_id : ((x : ℕ) → tally seen_id x n ≤ 1) → (s : ℕ) (b : Branch Seen) → find seen_serial s n ≡ Some b
+      → table_ids t s ≡ Some b.row.id
   serial_id once s b e =
       let found = find-stands seen_id b n (stands-find seen_serial s n b e) (once b.row.id) in
       let l = located b.row.id b found in
@@ -116,7 +122,8 @@ module _ (t : Table) (roots : List ℕ) (n : Nodes Seen) (table : IsTable t root
       ap (table_ids t) (sym is) ∙ table.files.filed b.row.id l.slot l.at
 
   -- the id of a serial
-  pub id_is : ((x : ℕ) → tally seen_id x n ≤ 1) → ((x : ℕ) → tally seen_serial x n ≤ 1) → (s : ℕ) → table_ids t s ≡ option_map (λ (b : Branch Seen). b.row.id) (find seen_serial s n)
+  pub id_is : ((x : ℕ) → tally seen_id x n ≤ 1) → ((x : ℕ) → tally seen_serial x n ≤ 1) → (s : ℕ)
+      → table_ids t s ≡ option_map (λ (b : Branch Seen). b.row.id) (find seen_serial s n)
   id_is ids_once serials_once s =
       (elim (table_ids t s) as (λ o. table_ids t s ≡ o → o ≡ option_map (λ (b : Branch Seen). b.row.id) (find seen_serial s n)) [
         | Some k ↦ λ e.
@@ -135,7 +142,9 @@ module _ (t : Table) (roots : List ℕ) (n : Nodes Seen) (table : IsTable t root
     pub parent_is : parent_of seen_id x 0 n ≡ Some (unwrap_or slot.parent 0)
     pub level : ℕ
     pub level_is : level_of seen_id x 0 n ≡ Some level
-    pub climbs : (slot.parent ≡ None × level ≡ 0) ⊎ ((key : ℕ) × (over : Slot) × (slot.parent ≡ Some key) × (table_slots t key ≡ Some over) × (over_level : ℕ) × (level ≡ suc over_level) × (level_of seen_id key 0 n ≡ Some over_level))
+    pub climbs : (slot.parent ≡ None × level ≡ 0)
+        ⊎ ((key : ℕ) × (over : Slot) × (slot.parent ≡ Some key) × (table_slots t key ≡ Some over) × (over_level : ℕ)
+        × (level ≡ suc over_level) × (level_of seen_id key 0 n ≡ Some over_level))
 
   pub up : ((y : ℕ) → tally seen_id y n ≤ 1) → (x : ℕ) (slot : Slot) → table_slots t x ≡ Some slot → Up x slot
   up once x slot e =
@@ -153,14 +162,25 @@ module _ (t : Table) (roots : List ℕ) (n : Nodes Seen) (table : IsTable t root
         | inr low ↦
             let own : low.over.id ≡ low.key = table.own low.key low.over low.over_at in
             record {
-              parent_is = low.parent_is ∙ ap (λ (i : ℕ). Some i) own ∙ sym (ap (λ (o : Option ℕ). Some (unwrap_or o 0)) (parent_same ∙ low.up));
+              parent_is = low.parent_is ∙ ap (λ (i : ℕ). Some i) own ∙ sym
+                  (ap (λ (o : Option ℕ). Some (unwrap_or o 0)) (parent_same ∙ low.up));
               level = suc low.over_level;
               level_is = low.level_is;
-              climbs = inr (low.key, low.over, parent_same ∙ low.up, low.over_at, low.over_level, refl, ap (λ (y : ℕ). level_of seen_id y 0 n) (sym own) ∙ low.over_is);
+              climbs = inr (
+                low.key,
+                low.over,
+                parent_same ∙ low.up,
+                low.over_at,
+                low.over_level,
+                refl,
+                ap
+                    (λ (y : ℕ). level_of seen_id y 0 n) (sym own) ∙ low.over_is,
+              );
             }
       ]
 
-  pub climbs : ((y : ℕ) → tally seen_id y n ≤ 1) → (levels x : ℕ) (slot : Slot) (l : ℕ) → table_slots t x ≡ Some slot → level_of seen_id x 0 n ≡ Some l → l ≤ levels → table_climbed t levels slot.parent ≡ l
+  pub climbs : ((y : ℕ) → tally seen_id y n ≤ 1) → (levels x : ℕ) (slot : Slot) (l : ℕ) → table_slots t x ≡ Some slot
+      → level_of seen_id x 0 n ≡ Some l → l ≤ levels → table_climbed t levels slot.parent ≡ l
   climbs once zero x slot l e is h = omega arith
   climbs once (suc levels) x slot l e is h =
       let u = up once x slot e in
@@ -177,15 +197,18 @@ module _ (t : Table) (roots : List ℕ) (n : Nodes Seen) (table : IsTable t root
 
 -- ---- a node with its level
 
-joined_step : {R : Type 0} (v : Bool) (b : Branch R) (l : ℕ) (f g : Option (Spot R)) → option_map (λ (s : Spot R). s.level) (cond v (Some (record { branch = b; level = l })) (first_of f g))
+joined_step : {R : Type 0} (v : Bool) (b : Branch R) (l : ℕ) (f g : Option (Spot R))
+    → option_map (λ (s : Spot R). s.level) (cond v (Some (record { branch = b; level = l })) (first_of f g))
     ≡ cond v (Some l) (first_of (option_map (λ (s : Spot R). s.level) f) (option_map (λ (s : Spot R). s.level) g))
 joined_step true b l f g = refl
 joined_step false b l None g = refl
 joined_step false b l (Some s) g = refl
 
-pub level-spot : {R : Type 0} (key : R → ℕ) (x level : ℕ) (n : Nodes R) → option_map (λ (s : Spot R). s.level) (spot key x level n) ≡ level_of key x level n
+pub level-spot : {R : Type 0} (key : R → ℕ) (x level : ℕ) (n : Nodes R)
+    → option_map (λ (s : Spot R). s.level) (spot key x level n) ≡ level_of key x level n
 level-spot key x level none = refl
 level-spot key x level (node r c t) =
     joined_step (key r == x) (record { row = r; children = c }) level (spot key x (suc level) c) (spot key x level t)
-    ∙ ap (λ o. cond (key r == x) (Some level) (first_of o (option_map (λ (s : Spot _). s.level) (spot key x level t)))) (level-spot key x (suc level) c)
+    ∙ ap (λ o. cond (key r == x) (Some level) (first_of o (option_map (λ (s : Spot _). s.level) (spot key x level t))))
+    (level-spot key x (suc level) c)
     ∙ ap (λ o. cond (key r == x) (Some level) (first_of (level_of key x (suc level) c) o)) (level-spot key x level t)

@@ -1,5 +1,6 @@
 -- What is known of a frame that is read, or that is not.
-use Rattle.std.proofs.Common.{◌≡◌, ℕ, List, [], ◌∷◌, Bool, true, false, cond, codes, bytes_eq, ◌&&◌, Option, Some, None, option_and_then, Result, Ok, Err, IsOk, Vec, refl, sym, ap, ◌∙◌, append-nil}
+use Rattle.std.proofs.Common.{◌≡◌, ℕ, List, [], ◌∷◌, Bool, true, false, cond, codes, bytes_eq, ◌&&◌, Option, Some, None, option_and_then}
+use Rattle.std.proofs.Common.{Result, Ok, Err, IsOk, Vec, refl, sym, ap, ◌∙◌, append-nil}
 use Rattle.std.specs.Str.{IsUtf8, is_utf8}
 use Rattle.std.proofs.lemmas.Str.{IsUtf8-from_is_utf8}
 use Rattle.serde_json.specs.Read.{read}
@@ -20,14 +21,16 @@ use Rattle.cdp_messages.specs.Told.{Told}
 use Rattle.cdp_messages.specs.NodeData.{fits_tree, fits_nodes}
 use Rattle.cdp_messages.specs.Asked.{json_of}
 use Rattle.cdp_messages.specs.Events.{attribute_modified, attribute_removed, inserted, set_children, news_of, shows_no_children, fits_news}
-use Rattle.cdp_messages.specs.Replies.{Message, reply, event, message_of, message_in, down_of, body_data, result_of, fits_body, fits_message}
+use Rattle.cdp_messages.specs.Replies.{Message, reply, event, message_of, message_in, down_of, body_data, result_of, fits_body}
+use Rattle.cdp_messages.specs.Replies.{fits_message}
 use Rattle.cdp_messages.proofs.Messages.{messages_are_spelled, results_are_read, results_are_spelled}
 use Rattle.front_mirror.specs.declared.faults.FrontKind.TheVariants.{NotMessage}
 use Rattle.css_objects.specs.declared.rules.Matched.{Matched}
 use Rattle.front_mirror.specs.declared.replies.MatchedReply.{MatchedReply}
 use Rattle.front_mirror.specs.declared.edits.NodeEdit.TheVariants as edit
 use Rattle.front_mirror.specs.Edits.{fits_edit, fits_effect}
-use Rattle.front_mirror.specs.Front.{FrontValue, method_waiting, root_fault, matched_told, with_matched, replied, with_root, with_effect, with_body, with_reply, with_message, take_frame}
+use Rattle.front_mirror.specs.Front.{FrontValue, method_waiting, root_fault, matched_told, with_matched, replied, with_root, with_effect}
+use Rattle.front_mirror.specs.Front.{with_body, with_reply, with_message, take_frame}
 use Rattle.front_mirror.proofs.BoolLemmas.{and_left, both}
 
 -- a result that is read has the forms of one, and so has what it changes
@@ -50,7 +53,8 @@ body_effect method (body.Selectors selectors) e = refl
 body_effect method (body.Rule rule) e = refl
 body_effect method (body.Matched matched) e = refl
 
-pub effect_fits : (method : List ℕ) (d : Data) (b : ReplyBody) (x : Effect) → result_of method d ≡ Some b → x ≡ effect_of method b → fits_effect x ≡ true
+pub effect_fits : (method : List ℕ) (d : Data) (b : ReplyBody) (x : Effect) → result_of method d ≡ Some b → x ≡ effect_of method b
+    → fits_effect x ≡ true
 effect_fits method d b x e is = ap fits_effect is ∙ body_effect method b (results_are_spelled method d b e).1
 
 message_fits : (o : Option Data) (m : Message) → option_and_then message_in o ≡ Some m → fits_message m ≡ true
@@ -58,29 +62,34 @@ message_fits None m e = cc
 message_fits (Some d) m e = (messages_are_spelled d m e).1
 
 -- and so has an event
-pub news_fit : (bytes : List ℕ) (d : Down) (e : Event) → down_of bytes ≡ Some (message_of d) → d ≡ down.Event e → fits_news (news_of e) ≡ true
+pub news_fit : (bytes : List ℕ) (d : Down) (e : Event) → down_of bytes ≡ Some (message_of d) → d ≡ down.Event e
+    → fits_news (news_of e) ≡ true
 news_fit bytes d e read is = message_fits (json_of bytes) (event (news_of e)) (read ∙ ap (λ (m : Down). Some (message_of m)) is)
 
 -- the nodes that come with it have the forms of a message, and its name of an attribute has its form
 node_alone : (b : Branch Told) → fits_tree false b ≡ true → fits_nodes (alone b) ≡ true
 node_alone b e = both e refl
 
-pub show_fits : (e : Event) (parent : ℕ) (nodes : Vec (Branch Told) Global) → fits_news (news_of e) ≡ true → e ≡ SetChildNodes parent nodes → fits_edit (edit.Show nodes) ≡ true
+pub show_fits : (e : Event) (parent : ℕ) (nodes : Vec (Branch Told) Global) → fits_news (news_of e) ≡ true → e ≡ SetChildNodes parent nodes
+    → fits_edit (edit.Show nodes) ≡ true
 show_fits e parent nodes fits is =
     let f : fits_news (set_children parent (nodes_of nodes.items)) ≡ true = ap (λ (e : Event). fits_news (news_of e)) (sym is) ∙ fits in
     both (and_left (fits_nodes (nodes_of nodes.items)) _ f) refl
 
-pub insert_fits : (e : Event) (parent previous : ℕ) (b : Branch Told) → fits_news (news_of e) ≡ true → e ≡ ChildNodeInserted parent previous b → fits_edit (edit.Insert previous b) ≡ true
+pub insert_fits : (e : Event) (parent previous : ℕ) (b : Branch Told) → fits_news (news_of e) ≡ true
+    → e ≡ ChildNodeInserted parent previous b → fits_edit (edit.Insert previous b) ≡ true
 insert_fits e parent previous b fits is =
     let f : fits_news (inserted parent previous b) ≡ true = ap (λ (e : Event). fits_news (news_of e)) (sym is) ∙ fits in
     both (node_alone b (and_left (fits_tree false b) (shows_no_children b) (and_left (fits_tree false b && shows_no_children b) _ f))) refl
 
-pub set_fits : (e : Event) (id : ℕ) (name value : List ℕ) → fits_news (news_of e) ≡ true → e ≡ AttributeModified id name value → fits_edit (edit.SetAttribute name value) ≡ true
+pub set_fits : (e : Event) (id : ℕ) (name value : List ℕ) → fits_news (news_of e) ≡ true → e ≡ AttributeModified id name value
+    → fits_edit (edit.SetAttribute name value) ≡ true
 set_fits e id name value fits is =
     let f : fits_news (attribute_modified id name value) ≡ true = ap (λ (e : Event). fits_news (news_of e)) (sym is) ∙ fits in
     and_left (is_attribute_name name) _ f
 
-pub drop_fits : (e : Event) (id : ℕ) (name : List ℕ) → fits_news (news_of e) ≡ true → e ≡ AttributeRemoved id name → fits_edit (edit.DropAttribute name) ≡ true
+pub drop_fits : (e : Event) (id : ℕ) (name : List ℕ) → fits_news (news_of e) ≡ true → e ≡ AttributeRemoved id name
+    → fits_edit (edit.DropAttribute name) ≡ true
 drop_fits e id name fits is =
     let f : fits_news (attribute_removed id name) ≡ true = ap (λ (e : Event). fits_news (news_of e)) (sym is) ∙ fits in
     and_left (is_attribute_name name) _ f
@@ -130,16 +139,20 @@ reply_read : (v : FrontValue) (id : ℕ) (frame : List ℕ) (d : Data) (method :
 reply_read v id frame d method b has = ap (with_reply v id frame d) has.waits ∙ ap (with_body v id frame method) has.result
 
 -- a result of matched styles is kept
-pub matched_taken : (v w : FrontValue) (id : ℕ) (frame : List ℕ) (d : Data) (method : List ℕ) (b : ReplyBody) (m : Matched) → IsRead v id d method b → b ≡ body.Matched m
-    → w ≡ replied (with_matched v (record { ask = id; matched = m } ∷ [])) id frame true v.tree → with_reply v id frame d (method_waiting id v.asks) ≡ Ok w
+pub matched_taken : (v w : FrontValue) (id : ℕ) (frame : List ℕ) (d : Data) (method : List ℕ) (b : ReplyBody) (m : Matched)
+    → IsRead v id d method b → b ≡ body.Matched m
+    → w ≡ replied (with_matched v (record { ask = id; matched = m } ∷ [])) id frame true v.tree
+    → with_reply v id frame d (method_waiting id v.asks) ≡ Ok w
 matched_taken v w id frame d method b m has is kept =
     reply_read v id frame d method b has
     ∙ ap (λ (x : ReplyBody). with_effect (with_matched v (matched_told id x)) id frame (effect_of method x)) is
     ∙ ap Ok (sym kept)
 
 -- any other result has its effect alone
-pub other_taken : (v : FrontValue) (id : ℕ) (frame : List ℕ) (d : Data) (method : List ℕ) (b : ReplyBody) (x : Effect) → IsRead v id d method b
-    → ((m : Matched) → b ≡ body.Matched m → ⊥) → x ≡ effect_of method b → with_reply v id frame d (method_waiting id v.asks) ≡ with_effect v id frame x
+pub other_taken : (v : FrontValue) (id : ℕ) (frame : List ℕ) (d : Data) (method : List ℕ) (b : ReplyBody) (x : Effect)
+    → IsRead v id d method b
+    → ((m : Matched) → b ≡ body.Matched m → ⊥) → x ≡ effect_of method b
+    → with_reply v id frame d (method_waiting id v.asks) ≡ with_effect v id frame x
 other_taken v id frame d method b x has other is =
     reply_read v id frame d method b has
     ∙ ap (λ (rs : List MatchedReply). with_effect (with_matched v rs) id frame (effect_of method b)) (untold id b other)
@@ -147,8 +160,10 @@ other_taken v id frame d method b x has other is =
     ∙ ap (with_effect v id frame) (sym is)
 
 -- a document that an ask waits for
-pub document_taken : (v : FrontValue) (frame : List ℕ) (id : ℕ) (tree : Branch Told) (method : List ℕ) → down_of frame ≡ Some (reply id (body_data (body.Root tree))) → fits_tree true tree ≡ true
-    → method_waiting id v.asks ≡ Some method → method ≡ codes "DOM.getDocument" → take_frame v frame ≡ with_root v id frame tree (root_fault tree)
+pub document_taken : (v : FrontValue) (frame : List ℕ) (id : ℕ) (tree : Branch Told) (method : List ℕ)
+    → down_of frame ≡ Some (reply id (body_data (body.Root tree))) → fits_tree true tree ≡ true
+    → method_waiting id v.asks ≡ Some method → method ≡ codes "DOM.getDocument"
+    → take_frame v frame ≡ with_root v id frame tree (root_fault tree)
 document_taken v frame id tree method told fits waits is =
     ap (with_message v frame) told ∙ ap (with_reply v id frame (body_data (body.Root tree))) (waits ∙ ap Some is)
     ∙ ap (with_body v id frame (codes "DOM.getDocument")) (results_are_read (codes "DOM.getDocument") (body.Root tree) refl fits)

@@ -1,5 +1,6 @@
 -- What each move makes of a front: from one view to the next, and over a course.
-use Rattle.std.proofs.Common.{◌≡◌, ◌≤◌, ℕ, Bool, true, false, cond, codes, List, [], ◌∷◌, ◌++◌, map, Option, Some, None, Result, Ok, Err, refl, sym, ap, ◌∙◌, subst, append_assoc, append-nil, arith}
+use Rattle.std.proofs.Common.{◌≡◌, ◌≤◌, ℕ, Bool, true, false, cond, codes, List, [], ◌∷◌, ◌++◌, map, Option, Some, None, Result, Ok, Err}
+use Rattle.std.proofs.Common.{refl, sym, ap, ◌∙◌, subst, append_assoc, append-nil, arith}
 use Rattle.std.specs.List.{flat_map, list_all}
 use Rattle.std.specs.Option.{option_to_list}
 use Rattle.std.proofs.lemmas.Bool.{eq-eqb}
@@ -21,9 +22,11 @@ use Rattle.cdp_messages.specs.Replies.{fault, event, down_of, body_data, fits_bo
 use Rattle.cdp_messages.specs.Tellable.{suits_tree}
 use Rattle.cdp_messages.specs.Laws.{BodyHasUtf8, body_height, answers}
 use Rattle.cdp_messages.specs.Moves as move
-use Rattle.cdp_messages.specs.Moves.{Move, change_news, move_text, answered_by, paused_nodes, AreShown, suits_view, IsTellable, CanBeTold, ChangesNode, IsPlainReply, Moves, Course, ends, goes}
+use Rattle.cdp_messages.specs.Moves.{Move, change_news, move_text, answered_by, paused_nodes, AreShown, suits_view, IsTellable, CanBeTold}
+use Rattle.cdp_messages.specs.Moves.{ChangesNode, IsPlainReply, Moves, Course, ends, goes}
 use Rattle.css_objects.specs.Sheets.{is_sheet}
-use Rattle.cdp_messages.specs.Views.{ShownSheet, sheet_number, AreSheets, text_units, sheet_header, shows_sheet, shown_text, sheets_without, sheets_with_text, is_distinct, View}
+use Rattle.cdp_messages.specs.Views.{ShownSheet, sheet_number, AreSheets, text_units, sheet_header, shows_sheet, shown_text, sheets_without}
+use Rattle.cdp_messages.specs.Views.{sheets_with_text, is_distinct, View}
 use Rattle.cdp_messages.proofs.Depths.{replies_are_shallow, events_are_shallow}
 use Rattle.cdp_messages.proofs.Messages.{replies_are_read, results_are_read, events_are_read, refusals_are_read}
 use Rattle.cdp_messages.proofs.TellableLaws.{shown_trees_fit}
@@ -33,11 +36,17 @@ use Rattle.front_mirror.specs.declared.faults.FrontKind.{FrontKind}
 use Rattle.front_mirror.specs.declared.faults.FrontKind.TheVariants.{UnknownNode, IdTaken, UnknownSheet}
 use Rattle.front_mirror.specs.declared.sheets.KnownSheet.{KnownSheet}
 use Rattle.front_mirror.specs.Sheets.{told_sheet, has_sheet, marked_old, without_sheet}
-use Rattle.front_mirror.specs.Front.{FrontValue, fetched_sheet, sheets_fetched, asks_without, matched_told, with_matched, replied, refused, told, told_sheets, with_sheet, halted, is_shown, with_root, with_effect, with_body, with_reply, with_fault, with_message, take_frame, after_message, front_folded, outcome}
-use Rattle.front_mirror.specs.Laws.{KnowsSheets, Has, IsAskOf, is_quiet, IsReplyAlone, IsOfSheet, IsTextAsked, Waits, IsAwaited, without_all, asks_after, kept_fault, kept_after, kept_after_all, pauses_after, matched_after, IsTaken, MoveGives, AreAwaited, asks_after_all, AreTaken, CourseGives, IsAnswer, InTurn, rests, tells, meets, TurnsAreAwaited}
+use Rattle.front_mirror.specs.Front.{FrontValue, fetched_sheet, sheets_fetched, asks_without, matched_told, with_matched, replied, refused}
+use Rattle.front_mirror.specs.Front.{told, told_sheets, with_sheet, halted, is_shown, with_root, with_effect, with_body, with_reply}
+use Rattle.front_mirror.specs.Front.{with_fault, with_message, take_frame, after_message, front_folded, outcome}
+use Rattle.front_mirror.specs.Laws.{KnowsSheets, Has, IsAskOf, is_quiet, IsReplyAlone, IsOfSheet, IsTextAsked, Waits, IsAwaited}
+use Rattle.front_mirror.specs.Laws.{without_all, asks_after, kept_fault, kept_after, kept_after_all, pauses_after, matched_after, IsTaken}
+use Rattle.front_mirror.specs.Laws.{MoveGives, AreAwaited, asks_after_all, AreTaken, CourseGives, IsAnswer, InTurn, rests, tells, meets}
+use Rattle.front_mirror.specs.Laws.{TurnsAreAwaited}
 use Rattle.front_mirror.proofs.ViewLemmas.{height-told, root_fault-told}
 use Rattle.front_mirror.proofs.FollowLemmas.{CanTellNews, changed_news, told_change_news, texts-told, shown_id}
-use Rattle.front_mirror.proofs.KnownSheets.{known-has, known-added, known-without, known-rewritten, known-fetched, apart_last, last_is_sheet, shown_is_sheet, shown_utf8, added_news_fit, changed_news_fit, removed_news_fit}
+use Rattle.front_mirror.proofs.KnownSheets.{known-has, known-added, known-without, known-rewritten, known-fetched, apart_last}
+use Rattle.front_mirror.proofs.KnownSheets.{last_is_sheet, shown_is_sheet, shown_utf8, added_news_fit, changed_news_fit, removed_news_fit}
 use Rattle.front_mirror.proofs.BoolLemmas.{and_left, both}
 
 abbrev taken_well : FrontValue → Result FrontValue FrontKind
@@ -52,7 +61,8 @@ news_read n can = events_are_read n can.fits (events_are_shallow n can.levels) (
 same_nothing : {A : Type 0} (xs : List A) → xs ≡ xs ++ []
 same_nothing xs = sym (append-nil xs)
 
-gives_change : (id : ℕ) (c : move.Change) (u w : View) (v : FrontValue) → CanBeTold u → CanBeTold w → ChangesNode id c u.tree w.tree → w.sheets ≡ u.sheets → Has v u
+gives_change : (id : ℕ) (c : move.Change) (u w : View) (v : FrontValue) → CanBeTold u → CanBeTold w → ChangesNode id c u.tree w.tree
+    → w.sheets ≡ u.sheets → Has v u
     → IsTaken (move.change id c) v w
 gives_change id c u w v before after moves same has =
     let here : ChangesNode id c v.tree w.tree = subst (λ (n : Nodes Seen). ChangesNode id c n w.tree) (sym has.tree) moves in
@@ -60,7 +70,8 @@ gives_change id c u w v before after moves same has =
     let can = told_change_news v.tree w.tree id c told_before after.tree here in
     record {
       after = told v w.tree;
-      is_taken = ap (with_message v (move_text (move.change id c))) (news_read (change_news id c) can) ∙ changed_news v w.tree id c told_before.view after.tree.view here;
+      is_taken = ap (with_message v (move_text (move.change id c)))
+          (news_read (change_news id c) can) ∙ changed_news v w.tree id c told_before.view after.tree.view here;
       has = record { tree = refl; sheets = subst (KnowsSheets v.sheets) (sym same) has.sheets };
       asks = refl;
       replies = same_nothing v.replies;
@@ -100,7 +111,8 @@ all_shown : (ids : List ℕ) (u : Nodes Seen) → AreShown ids u → list_all (i
 all_shown [] u are = refl
 all_shown (id ∷ ids) u are = both are.0 (all_shown ids u are.1)
 
-gives_pause : (why : PauseData) (u : View) (v : FrontValue) → CanBeTold u → AreShown (paused_nodes why) u.tree → Has v u → IsTaken (move.met why) v u
+gives_pause : (why : PauseData) (u : View) (v : FrontValue) → CanBeTold u → AreShown (paused_nodes why) u.tree → Has v u
+    → IsTaken (move.met why) v u
 gives_pause why u v before are has =
     let shown : AreShown (paused_nodes why) v.tree = subst (AreShown (paused_nodes why)) (sym has.tree) are in
     let can : CanTellNews (paused why) = record { fits = pause_fits why u.tree are before.tree.forms; texts = tt; levels = omega arith } in
@@ -120,15 +132,19 @@ gives_pause why u v before are has =
 -- ---- replies
 
 -- a reply that is written is read as one of its method
-reply_taken : (v : FrontValue) (id : ℕ) (body : ReplyBody) (method : List ℕ) → is_counted id ≡ true → fits_body body ≡ true → BodyHasUtf8 body → body_height body ≤ 61
+reply_taken : (v : FrontValue) (id : ℕ) (body : ReplyBody) (method : List ℕ) → is_counted id ≡ true → fits_body body ≡ true
+    → BodyHasUtf8 body → body_height body ≤ 61
     → IsAskOf id method v.asks → answers method body ≡ true
-    → take_frame v (reply_text id body) ≡ with_effect (with_matched v (matched_told id body)) id (reply_text id body) (effect_of method body)
+    → take_frame v (reply_text id body)
+    ≡ with_effect (with_matched v (matched_told id body)) id (reply_text id body) (effect_of method body)
 reply_taken v id body method counted fits texts levels waits is =
-    ap (with_message v (reply_text id body)) (replies_are_read id body counted fits (replies_are_shallow id body levels) (replies_are_utf8 id body counted fits texts))
+    ap (with_message v (reply_text id body))
+    (replies_are_read id body counted fits (replies_are_shallow id body levels) (replies_are_utf8 id body counted fits texts))
     ∙ ap (with_reply v id (reply_text id body) (body_data body)) waits
     ∙ ap (with_body v id (reply_text id body) method) (results_are_read method body is fits)
 
-gives_root : (id : ℕ) (b : Branch Seen) (w : View) (v : FrontValue) → CanBeTold w → alone b ≡ w.tree → KnowsSheets v.sheets w.sheets → is_counted id ≡ true
+gives_root : (id : ℕ) (b : Branch Seen) (w : View) (v : FrontValue) → CanBeTold w → alone b ≡ w.tree → KnowsSheets v.sheets w.sheets
+    → is_counted id ≡ true
     → IsAskOf id (codes "DOM.getDocument") v.asks → IsTaken (move.root id b) v w
 gives_root id b w v after is knows counted waits =
     let can : IsTellable (alone b) = subst IsTellable (sym is) after.tree in
@@ -150,14 +166,16 @@ gives_root id b w v after is knows counted waits =
       taken = refl;
     }
 
-quiet_stays : (v : FrontValue) (id : ℕ) (frame : List ℕ) (x : Effect) → is_quiet x ≡ true → with_effect v id frame x ≡ Ok (replied v id frame true v.tree)
+quiet_stays : (v : FrontValue) (id : ℕ) (frame : List ℕ) (x : Effect) → is_quiet x ≡ true
+    → with_effect v id frame x ≡ Ok (replied v id frame true v.tree)
 quiet_stays v id frame (effect.Document tree) e = absurd cc
 quiet_stays v id frame (effect.SheetText text) e = absurd cc
 quiet_stays v id frame effect.AllOff e = absurd cc
 quiet_stays v id frame effect.SheetsOff e = absurd cc
 quiet_stays v id frame effect.NothingElse e = refl
 
-gives_reply : (id : ℕ) (body : ReplyBody) (w : View) (v : FrontValue) → IsPlainReply id body → IsReplyAlone id body v.asks → Has v w → IsTaken (move.replied id body) v w
+gives_reply : (id : ℕ) (body : ReplyBody) (w : View) (v : FrontValue) → IsPlainReply id body → IsReplyAlone id body v.asks → Has v w
+    → IsTaken (move.replied id body) v w
 gives_reply id body w v plain is has = record {
   after = replied (with_matched v (matched_told id body)) id (reply_text id body) true v.tree;
   is_taken =
@@ -174,7 +192,8 @@ gives_reply id body w v plain is has = record {
 nothing_levels : body_height Nothing ≤ 61
 nothing_levels = omega arith
 
-gives_end : (id : ℕ) (w : View) (v : FrontValue) → none ≡ w.tree → w.sheets ≡ [] → is_counted id ≡ true → IsAskOf id (codes "DOM.disable") v.asks → IsTaken (move.all_off id) v w
+gives_end : (id : ℕ) (w : View) (v : FrontValue) → none ≡ w.tree → w.sheets ≡ [] → is_counted id ≡ true
+    → IsAskOf id (codes "DOM.disable") v.asks → IsTaken (move.all_off id) v w
 gives_end id w v is bare counted waits = record {
   after = record (replied (with_matched v []) id (reply_text id Nothing) true none) { sheets = [] };
   is_taken = reply_taken v id Nothing (codes "DOM.disable") counted refl tt nothing_levels waits refl;
@@ -186,7 +205,8 @@ gives_end id w v is bare counted waits = record {
   taken = refl;
 }
 
-gives_sheets_end : (id : ℕ) (w : View) (v : FrontValue) → v.tree ≡ w.tree → w.sheets ≡ [] → is_counted id ≡ true → IsAskOf id (codes "CSS.disable") v.asks → IsTaken (move.sheets_off id) v w
+gives_sheets_end : (id : ℕ) (w : View) (v : FrontValue) → v.tree ≡ w.tree → w.sheets ≡ [] → is_counted id ≡ true
+    → IsAskOf id (codes "CSS.disable") v.asks → IsTaken (move.sheets_off id) v w
 gives_sheets_end id w v is bare counted waits = record {
   after = record (replied (with_matched v []) id (reply_text id Nothing) true v.tree) { sheets = [] };
   is_taken = reply_taken v id Nothing (codes "CSS.disable") counted refl tt nothing_levels waits refl;
@@ -199,7 +219,8 @@ gives_sheets_end id w v is bare counted waits = record {
 }
 
 -- a refusal, with an id or without one
-gives_refusal : (r : Refused) (w : View) (v : FrontValue) (o : Option ℕ) → r.id ≡ o → Has v w → holds_of_some is_counted r.id ≡ true → Waits o v.asks → IsTaken (move.failed r) v w
+gives_refusal : (r : Refused) (w : View) (v : FrontValue) (o : Option ℕ) → r.id ≡ o → Has v w → holds_of_some is_counted r.id ≡ true
+    → Waits o v.asks → IsTaken (move.failed r) v w
 gives_refusal r w v None no_id has fits waits = record {
   after = refused v (refused_text r);
   is_taken =
@@ -229,10 +250,12 @@ gives_refusal r w v (Some id) has_id has fits waits = record {
 -- ---- sheets
 
 -- the tree stays, and these sheets are known
-told_sheets_has : (v : FrontValue) (u w : View) (sheets : List KnownSheet) → Has v u → w.tree ≡ u.tree → KnowsSheets sheets w.sheets → Has (told_sheets v sheets) w
+told_sheets_has : (v : FrontValue) (u w : View) (sheets : List KnownSheet) → Has v u → w.tree ≡ u.tree → KnowsSheets sheets w.sheets
+    → Has (told_sheets v sheets) w
 told_sheets_has v u w sheets has same knows = record { tree = has.tree ∙ sym same; sheets = knows }
 
-gives_added : (s : ShownSheet) (u w : View) (v : FrontValue) → CanBeTold w → w ≡ record { tree = u.tree; sheets = u.sheets ++ s ∷ [] } → is_counted (text_units s.text) ≡ true
+gives_added : (s : ShownSheet) (u w : View) (v : FrontValue) → CanBeTold w → w ≡ record { tree = u.tree; sheets = u.sheets ++ s ∷ [] }
+    → is_counted (text_units s.text) ≡ true
     → Has v u → IsTaken (move.added s) v w
 gives_added s u w v after is counted has =
     let sheets_are : w.sheets ≡ u.sheets ++ s ∷ [] = ap (λ (x : View). x.sheets) is in
@@ -241,7 +264,11 @@ gives_added s u w v after is counted has =
     known-has s.number v.sheets u.sheets has.sheets
     ∙ apart_last u.sheets s (subst (λ (ss : List ShownSheet). is_distinct (map sheet_number ss) ≡ true) sheets_are after.apart) in
     let sheets = v.sheets ++ told_sheet (sheet_header s) ∷ [] in
-    let can : CanTellNews (sheet_added (sheet_header s)) = record { fits = added_news_fit s number counted; texts = tt; levels = omega arith } in
+    let can : CanTellNews (sheet_added (sheet_header s)) = record {
+      fits = added_news_fit s number counted;
+      texts = tt;
+      levels = omega arith;
+    } in
     record {
       after = told_sheets v sheets;
       is_taken =
@@ -262,11 +289,16 @@ known_sheet : (n : ℕ) (u : View) (v : FrontValue) → shows_sheet n u.sheets �
 known_sheet n u v shown has sheets =
     ap (λ (b : Bool). cond b (taken_well (told_sheets v sheets)) (Err UnknownSheet)) (known-has n v.sheets u.sheets has.sheets ∙ shown)
 
-gives_dropped : (n : ℕ) (u w : View) (v : FrontValue) → CanBeTold u → w ≡ record { tree = u.tree; sheets = sheets_without n u.sheets } → shows_sheet n u.sheets ≡ true
+gives_dropped : (n : ℕ) (u w : View) (v : FrontValue) → CanBeTold u → w ≡ record { tree = u.tree; sheets = sheets_without n u.sheets }
+    → shows_sheet n u.sheets ≡ true
     → Has v u → IsTaken (move.dropped n) v w
 gives_dropped n u w v before is shown has =
     let sheets = without_sheet n v.sheets in
-    let can : CanTellNews (sheet_removed n) = record { fits = removed_news_fit n (shown_is_sheet n u.sheets before.sheets shown); texts = tt; levels = omega arith } in
+    let can : CanTellNews (sheet_removed n) = record {
+      fits = removed_news_fit n (shown_is_sheet n u.sheets before.sheets shown);
+      texts = tt;
+      levels = omega arith;
+    } in
     record {
       after = told_sheets v sheets;
       is_taken = ap (with_message v (move_text (move.dropped n))) (news_read (sheet_removed n) can) ∙ known_sheet n u v shown has sheets;
@@ -279,14 +311,20 @@ gives_dropped n u w v before is shown has =
       taken = refl;
     }
 
-gives_rewritten : (n : ℕ) (text : List ℕ) (u w : View) (v : FrontValue) → CanBeTold u → w ≡ record { tree = u.tree; sheets = sheets_with_text n text u.sheets }
+gives_rewritten : (n : ℕ) (text : List ℕ) (u w : View) (v : FrontValue) → CanBeTold u
+    → w ≡ record { tree = u.tree; sheets = sheets_with_text n text u.sheets }
     → shows_sheet n u.sheets ≡ true → Has v u → IsTaken (move.rewritten n text) v w
 gives_rewritten n text u w v before is shown has =
     let sheets = marked_old n v.sheets in
-    let can : CanTellNews (sheet_changed n) = record { fits = changed_news_fit n (shown_is_sheet n u.sheets before.sheets shown); texts = tt; levels = omega arith } in
+    let can : CanTellNews (sheet_changed n) = record {
+      fits = changed_news_fit n (shown_is_sheet n u.sheets before.sheets shown);
+      texts = tt;
+      levels = omega arith;
+    } in
     record {
       after = told_sheets v sheets;
-      is_taken = ap (with_message v (move_text (move.rewritten n text))) (news_read (sheet_changed n) can) ∙ known_sheet n u v shown has sheets;
+      is_taken = ap (with_message v (move_text (move.rewritten n text)))
+          (news_read (sheet_changed n) can) ∙ known_sheet n u v shown has sheets;
       has = told_sheets_has v u w sheets has (ap (λ (x : View). x.tree) is)
           (subst (KnowsSheets sheets) (sym (ap (λ (x : View). x.sheets) is)) (known-rewritten n text v.sheets u.sheets has.sheets));
       asks = refl;
@@ -305,8 +343,12 @@ gives_text id n text u v can shown counted asked has =
     let frame = reply_text id (SheetText text) in record {
       after = record (replied (with_matched v []) id frame true v.tree) { sheets = sheets_fetched (fetched_sheet id v.asks) text v.sheets };
       is_taken =
-          reply_taken v id (SheetText text) (codes "CSS.getStyleSheetText") counted refl (shown_utf8 n text u.sheets can.sheets shown) (text_levels text) asked.waits refl;
-      has = record { tree = has.tree; sheets = known-fetched n (fetched_sheet id v.asks) text v.sheets u.sheets asked.of_sheet shown has.sheets };
+          reply_taken v id (SheetText text) (codes "CSS.getStyleSheetText") counted refl (shown_utf8 n text u.sheets can.sheets shown)
+          (text_levels text) asked.waits refl;
+      has = record {
+        tree = has.tree;
+        sheets = known-fetched n (fetched_sheet id v.asks) text v.sheets u.sheets asked.of_sheet shown has.sheets;
+      };
       asks = refl;
       replies = refl;
       pauses = same_nothing v.pauses;
@@ -329,12 +371,14 @@ pub move_gives : MoveGives
 move_gives (move.change id c) u w v before after moves has waits = gives_change id c u w v before after moves.0 moves.1 has
 move_gives move.clear u w v before after moves has waits =
     gives_clear w v (ap (λ (x : View). x.tree) (sym moves)) (still_knows v u w (ap (λ (x : View). x.sheets) moves) has)
-move_gives (move.met why) u w v before after moves has waits = subst (IsTaken (move.met why) v) (sym moves.0) (gives_pause why u v before moves.1 has)
+move_gives (move.met why) u w v before after moves has waits = subst (IsTaken (move.met why) v) (sym moves.0)
+    (gives_pause why u v before moves.1 has)
 move_gives (move.added s) u w v before after moves has waits = gives_added s u w v after moves.0 moves.1 has
 move_gives (move.dropped n) u w v before after moves has waits = gives_dropped n u w v before moves.0 moves.1 has
 move_gives (move.rewritten n text) u w v before after moves has waits = gives_rewritten n text u w v before moves.0 moves.1 has
 move_gives (move.root id b) u w v before after moves has waits =
-    gives_root id b w v after (ap (λ (x : View). x.tree) (sym moves.0)) (still_knows v u w (ap (λ (x : View). x.sheets) moves.0) has) moves.1 waits
+    gives_root id b w v after (ap (λ (x : View). x.tree) (sym moves.0))
+    (still_knows v u w (ap (λ (x : View). x.sheets) moves.0) has) moves.1 waits
 move_gives (move.texted id n text) u w v before after moves has waits =
     subst (IsTaken (move.texted id n text) v) (sym moves.0) (gives_text id n text u v before moves.1 moves.2 waits has)
 move_gives (move.replied id body) u w v before after moves has waits = gives_reply id body w v moves.1 waits (still_has v u w moves.0 has)
@@ -350,11 +394,13 @@ course_begins : {ms : List Move} {u w : View} → Course ms u w → CanBeTold u
 course_begins (ends v can) = can
 course_begins (goes m ms u v w can moves course) = can
 
-more_taken : (m : Move) (ms : List Move) (u w : View) (v : FrontValue) → (one : IsTaken m v u) → AreTaken ms one.after w → AreTaken (m ∷ ms) v w
+more_taken : (m : Move) (ms : List Move) (u w : View) (v : FrontValue) → (one : IsTaken m v u) → AreTaken ms one.after w
+    → AreTaken (m ∷ ms) v w
 more_taken m ms u w v one rest = record {
   after = rest.after;
   are_taken =
-      ap (λ (r : Result FrontValue FrontKind). outcome (after_message v (λ x. front_folded x (map move_text ms)) r).value (after_message v (λ x. front_folded x (map move_text ms)) r).fault) one.is_taken
+      ap (λ (r : Result FrontValue FrontKind). outcome (after_message v (λ x. front_folded x (map move_text ms)) r).value
+      (after_message v (λ x. front_folded x (map move_text ms)) r).fault) one.is_taken
       ∙ rest.are_taken;
   has = rest.has;
   asks = rest.asks ∙ ap (asks_after_all ms) one.asks;
@@ -362,8 +408,10 @@ more_taken m ms u w v one rest = record {
       rest.replies ∙ ap (λ (asks : List Ask). one.after.replies ++ kept_after_all ms asks) one.asks
       ∙ ap (λ (ks : List _). ks ++ kept_after_all ms (asks_after m v.asks)) one.replies
       ∙ append_assoc v.replies (kept_after m v.asks) (kept_after_all ms (asks_after m v.asks));
-  pauses = rest.pauses ∙ ap (λ (ps : List _). ps ++ flat_map pauses_after ms) one.pauses ∙ append_assoc v.pauses (pauses_after m) (flat_map pauses_after ms);
-  matched = rest.matched ∙ ap (λ (rs : List _). rs ++ flat_map matched_after ms) one.matched ∙ append_assoc v.matched (matched_after m) (flat_map matched_after ms);
+  pauses = rest.pauses ∙ ap (λ (ps : List _). ps ++ flat_map pauses_after ms) one.pauses ∙ append_assoc v.pauses (pauses_after m)
+      (flat_map pauses_after ms);
+  matched = rest.matched ∙ ap (λ (rs : List _). rs ++ flat_map matched_after ms) one.matched ∙ append_assoc v.matched (matched_after m)
+      (flat_map matched_after ms);
   taken = let a = one.taken in let b = rest.taken in omega arith;
 }
 
@@ -408,7 +456,8 @@ awaited_none (move.failed r) asks e = waits_none r.id asks e
 first_asks : (id : ℕ) (ask : Ask) (asks : List Ask) → ask.id ≡ id → IsAskOf id ask.method (ask ∷ asks)
 first_asks id ask asks e = rw (eq-eqb ask.id id e) refl
 
-first_of_sheet : (id n : ℕ) (ask : Ask) (asks : List Ask) → ask.id ≡ id → IsOfSheet n ask.sheet → IsOfSheet n (fetched_sheet id (ask ∷ asks))
+first_of_sheet : (id n : ℕ) (ask : Ask) (asks : List Ask) → ask.id ≡ id → IsOfSheet n ask.sheet
+    → IsOfSheet n (fetched_sheet id (ask ∷ asks))
 first_of_sheet id n ask asks e of_sheet = rw (eq-eqb ask.id id e) of_sheet
 
 first_gone : (id : ℕ) (ask : Ask) (asks : List Ask) → ask.id ≡ id → asks_without id (ask ∷ asks) ≡ asks
@@ -433,24 +482,32 @@ first_answered (move.added s) ask asks is = absurd is
 first_answered (move.dropped n) ask asks is = absurd is
 first_answered (move.rewritten n text) ask asks is = absurd is
 first_answered (move.root id b) ask asks is = (first_asks id ask asks is.0 ∙ ap (λ (m : List ℕ). Some m) is.1, first_gone id ask asks is.0)
-first_answered (move.texted id n text) ask asks is =
-    (record { waits = first_asks id ask asks is.0 ∙ ap (λ (m : List ℕ). Some m) is.1; of_sheet = first_of_sheet id n ask asks is.0 is.2 }, first_gone id ask asks is.0)
+first_answered (move.texted id n text) ask asks is = (
+  record {
+    waits = first_asks id ask asks is.0 ∙ ap (λ (m : List ℕ). Some m) is.1;
+    of_sheet = first_of_sheet id n ask asks is.0 is.2;
+  },
+  first_gone id ask asks is.0,
+)
 first_answered (move.replied id body) ask asks is =
     (record { method = ask.method; waits = first_asks id ask asks is.0; answers = is.1; quiet = is.2 }, first_gone id ask asks is.0)
 first_answered (move.all_off id) ask asks is = (first_asks id ask asks is.0 ∙ ap (λ (m : List ℕ). Some m) is.1, first_gone id ask asks is.0)
-first_answered (move.sheets_off id) ask asks is = (first_asks id ask asks is.0 ∙ ap (λ (m : List ℕ). Some m) is.1, first_gone id ask asks is.0)
+first_answered (move.sheets_off id) ask asks is =
+    (first_asks id ask asks is.0 ∙ ap (λ (m : List ℕ). Some m) is.1, first_gone id ask asks is.0)
 first_answered (move.failed r) ask asks is = (first_waits r.id ask asks is, failed_gone r.id ask asks is)
 
 abbrev Ready : List Move → List Ask → List Ask → Type 0
 Ready ms asks rest = AreAwaited ms asks × (asks_after_all ms asks ≡ rest)
 
-turn_more : (m : Move) (ms : List Move) (asks left rest : List Ask) → IsAwaited m asks → asks_after m asks ≡ left → Ready ms left rest → Ready (m ∷ ms) asks rest
+turn_more : (m : Move) (ms : List Move) (asks left rest : List Ask) → IsAwaited m asks → asks_after m asks ≡ left → Ready ms left rest
+    → Ready (m ∷ ms) asks rest
 turn_more m ms asks left rest waits is ready =
     ((waits, subst (AreAwaited ms) (sym is) ready.0), ap (asks_after_all ms) is ∙ ready.1)
 
 turns : {ms : List Move} {asks rest : List Ask} → InTurn ms asks rest → Ready ms asks rest
 turns (rests asks) = (tt, refl)
-turns (tells m ms asks rest e t) = turn_more m ms asks asks rest (awaited_none m asks e) (ap (λ (ids : List ℕ). without_all ids asks) e) (turns t)
+turns (tells m ms asks rest e t) = turn_more m ms asks asks rest (awaited_none m asks e) (ap (λ (ids : List ℕ). without_all ids asks) e)
+    (turns t)
 turns (meets m ms ask asks rest is t) =
     let a = first_answered m ask asks is in
     turn_more m ms (ask ∷ asks) asks rest a.0 a.1 (turns t)

@@ -28,13 +28,15 @@ found_tally key x n b found =
       | inr few ↦ absurd (let clash : None ≡ Some b = sym (find-absent key x n (omega arith)) ∙ found in cc)
     ]
 
-module _ (a : Table) (roots : List ℕ) (n kids : Nodes Seen) (table : IsTable a roots n) (serials : (y : ℕ) → tally seen_serial y n ≤ 1) (ids_apart : (y : ℕ) → tally seen_id y n + tally seen_id y kids ≤ 1)
+module _ (a : Table) (roots : List ℕ) (n kids : Nodes Seen) (table : IsTable a roots n) (serials : (y : ℕ) → tally seen_serial y n ≤ 1)
+    (ids_apart : (y : ℕ) → tally seen_id y n + tally seen_id y kids ≤ 1)
     (serials_apart : (y : ℕ) → tally seen_serial y n + tally seen_serial y kids ≤ 1) where
   serial_there : (y k : ℕ) → table_ids a y ≡ Some k → 0 < tally seen_serial y n
   serial_there y k e = let (b, found, is) = serial_found a roots n table serials y k e in found_tally seen_serial y n b found
 
   -- in a table with one slot changed
-  pub new_turned : (m : Table) (x : ℕ) (slot slot2 : Slot) → table_slots a x ≡ Some slot → PutsAt (table_slots a) (table_slots m) x (Some slot2) → m.ids ≡ a.ids → AreNew (table_slots m) (table_ids m) kids
+  pub new_turned : (m : Table) (x : ℕ) (slot slot2 : Slot) → table_slots a x ≡ Some slot
+      → PutsAt (table_slots a) (table_slots m) x (Some slot2) → m.ids ≡ a.ids → AreNew (table_slots m) (table_ids m) kids
   new_turned m x slot slot2 at puts ids_are = record {
     ids_once = λ y. let h = ids_apart y in omega arith;
     serials_once = λ y. let h = serials_apart y in omega arith;

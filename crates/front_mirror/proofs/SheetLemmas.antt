@@ -1,5 +1,6 @@
 -- Known sheets as their map has them.
-use Rattle.std.proofs.Common.{◌≡◌, ℕ, zero, suc, ◌≤◌, ◌==◌, ◌||◌, Bool, true, false, cond, nat_eq, List, [], ◌∷◌, ◌++◌, length, Option, Some, None, is_some, refl, sym, ap, ◌∙◌, arith}
+use Rattle.std.proofs.Common.{◌≡◌, ℕ, zero, suc, ◌≤◌, ◌==◌, ◌||◌, Bool, true, false, cond, nat_eq, List, [], ◌∷◌, ◌++◌, length, Option}
+use Rattle.std.proofs.Common.{Some, None, is_some, refl, sym, ap, ◌∙◌, arith}
 use Rattle.std.specs.Prelude.{slice_get, option_map}
 use Rattle.std.specs.Cmp.{nat_eq_equiv}
 use Rattle.std.specs.Map.{lookup, remove_entry, set_value}
@@ -52,7 +53,8 @@ has_in n (p ∷ es) own =
 pub without_in : (n : ℕ) (es : Entries) → AreNumbered es → sheets_in (remove_entry (nat_eq n) es) ≡ without_sheet n (sheets_in es)
 without_in n [] own = refl
 without_in n (p ∷ es) own =
-    ap (λ (b : Bool). sheets_in (cond b es (p ∷ remove_entry (nat_eq n) es))) (asked n p own.0) ∙ by (p.1.number == n) (without_in n es own.1)
+    ap (λ (b : Bool). sheets_in (cond b es (p ∷ remove_entry (nat_eq n) es))) (asked n p own.0) ∙ by (p.1.number == n)
+    (without_in n es own.1)
   where
     by : (b : Bool) → sheets_in (remove_entry (nat_eq n) es) ≡ without_sheet n (sheets_in es)
         → sheets_in (cond b es (p ∷ remove_entry (nat_eq n) es)) ≡ cond b (sheets_in es) (p.1 ∷ without_sheet n (sheets_in es))
@@ -112,7 +114,8 @@ changed_in change n (p ∷ es) old new own found is =
   where
     by : (b : Bool) → cond b (Some p.1) (lookup (nat_eq n) es) ≡ Some old
         → (lookup (nat_eq n) es ≡ Some old → sheets_in (set_value (nat_eq n) es new) ≡ sheet_changed_at change n (sheets_in es))
-        → sheets_in (cond b ((p.0, new) ∷ es) (p ∷ set_value (nat_eq n) es new)) ≡ cond b (change p.1 ∷ sheets_in es) (p.1 ∷ sheet_changed_at change n (sheets_in es))
+        → sheets_in (cond b ((p.0, new) ∷ es) (p ∷ set_value (nat_eq n) es new))
+        ≡ cond b (change p.1 ∷ sheets_in es) (p.1 ∷ sheet_changed_at change n (sheets_in es))
     by true at rest = ap (λ (s : KnownSheet). s ∷ sheets_in es) (is ∙ ap change (sym (some_same p.1 old at)))
     by false at rest = ap (λ (xs : List KnownSheet). p.1 ∷ xs) (rest at)
 

@@ -1,5 +1,6 @@
 -- A node that is found with its level, and the one node that a put changes.
-use Rattle.std.proofs.Common.{◌≡◌, ℕ, suc, ◌+◌, ◌<◌, ◌==◌, ◌||◌, Bool, true, false, cond, Option, Some, None, option_map, is_some, refl, subst, arith}
+use Rattle.std.proofs.Common.{◌≡◌, ℕ, suc, ◌+◌, ◌<◌, ◌==◌, ◌||◌, Bool, true, false, cond, Option, Some, None, option_map, is_some, refl}
+use Rattle.std.proofs.Common.{subst, arith}
 use Rattle.node_tree.specs.Nodes.{Nodes, none, node, Branch, height}
 use Rattle.node_tree.specs.Keys.{first_of, Spot, has, find, spot, put, At, here, within, past}
 
@@ -28,14 +29,16 @@ module _ {R : Type 0} where
   has-spot : (key : R → ℕ) (x level : ℕ) (n : Nodes R) → has key x n ≡ is_some (spot key x level n)
   has-spot key x level none = refl
   has-spot key x level (node r c t) =
-      rw (has-spot key x (suc level) c, has-spot key x level t) (has_here (key r == x) (record { branch = record { row = r; children = c }; level = level }) _ _)
+      rw (has-spot key x (suc level) c, has-spot key x level t)
+      (has_here (key r == x) (record { branch = record { row = r; children = c }; level = level }) _ _)
 
   -- where a put changes a node, and on which level
   abbrev pub PutAt : Spot R → Branch R → ℕ → Nodes R → Nodes R → Type 0
   PutAt s new level n m = (depth : ℕ) × (s.level ≡ level + depth) × At s.branch new depth n m
 
   put_here : (new : Branch R) (s : Spot R) (r : R) (c t : Nodes R) (level : ℕ)
-      → ◌≡◌ {A = Spot R} (record { branch = record { row = r; children = c }; level = level }) s → PutAt s new level (node r c t) (node new.row new.children t)
+      → ◌≡◌ {A = Spot R} (record { branch = record { row = r; children = c }; level = level }) s
+      → PutAt s new level (node r c t) (node new.row new.children t)
   put_here new s r c t level e =
       let l : level ≡ level + 0 = omega arith in
       subst (λ (o : Spot R). PutAt o new level (node r c t) (node new.row new.children t)) e (0, l, here t)
@@ -53,7 +56,8 @@ module _ {R : Type 0} where
   put_step new s r c t u v level false None g e below after = let d = after s e in (d.0, d.1, past d.0 r c t v d.2)
 
   -- what is found with its level is the one node that a put changes
-  pub put-spot : (key : R → ℕ) (x : ℕ) (new : Branch R) (level : ℕ) (n : Nodes R) (s : Spot R) → spot key x level n ≡ Some s → PutAt s new level n (put key x new n)
+  pub put-spot : (key : R → ℕ) (x : ℕ) (new : Branch R) (level : ℕ) (n : Nodes R) (s : Spot R) → spot key x level n ≡ Some s
+      → PutAt s new level n (put key x new n)
   put-spot key x new level none s found = absurd cc
   put-spot key x new level (node r c t) s found =
       rw (has-spot key x (suc level) c)

@@ -10,7 +10,8 @@ use Rattle.cdp_messages.specs.Views.{keys}
 pub node_count_below : {R : Type 0} (bs : List (Branch R)) (i : ℕ) (b : Branch R) (c : Nodes R)
     → i < length bs → b ≡ get_or bs i b → c ≡ b.children → node_count c < node_count (nodes_of bs)
 node_count_below [] i b c h is below = absurd (omega arith)
-node_count_below {R} (x ∷ bs) zero b c h is below = let e : c ≡ x.children = below ∙ ap (λ (y : Branch R). y.children) is in rw e (omega arith)
+node_count_below {R} (x ∷ bs) zero b c h is below = let e : c
+    ≡ x.children = below ∙ ap (λ (y : Branch R). y.children) is in rw e (omega arith)
 node_count_below (x ∷ bs) (suc i) b c h is below = let le = node_count_below bs i b c (omega arith) is below in omega arith
 
 pub height-seen : (n : Nodes Told) → height (seen_nodes n) ≡ height n

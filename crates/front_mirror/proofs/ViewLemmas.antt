@@ -1,5 +1,6 @@
 -- A document that comes, and the view that it shows.
-use Rattle.std.proofs.Common.{◌≡◌, ◌≢◌, ℕ, ◌+◌, ◌≤◌, ◌==◌, nat_eq, nat_lt, nat_le, Bool, true, false, not, cond, ◌&&◌, ◌||◌, List, [], ◌∷◌, ◌++◌, None, refl, sym, ap, ◌∙◌, inl, inr, arith}
+use Rattle.std.proofs.Common.{◌≡◌, ◌≢◌, ℕ, ◌+◌, ◌≤◌, ◌==◌, nat_eq, nat_lt, nat_le, Bool, true, false, not, cond, ◌&&◌, ◌||◌, List, [], ◌∷◌}
+use Rattle.std.proofs.Common.{◌++◌, None, refl, sym, ap, ◌∙◌, inl, inr, arith}
 use Rattle.std.proofs.lemmas.Bool.{cases_eq, ne_eqb}
 use Rattle.node_tree.specs.Nodes.{Nodes, none, node, Branch, alone, height, width, is_no_node}
 use Rattle.node_tree.specs.Keys.{tally, first_true}
@@ -83,7 +84,8 @@ times_distinct (y ∷ xs) at_most =
     rw (absent_times y xs h) (times_distinct xs rest)
 
 -- a key that comes at most once in a list of keys stands at most once in the trees
-pub tally_distinct : (key : Seen → ℕ) (n : Nodes Told) → is_distinct (keys (λ r. key r.seen) n) ≡ true → (x : ℕ) → tally key x (seen_nodes n) ≤ 1
+pub tally_distinct : (key : Seen → ℕ) (n : Nodes Told) → is_distinct (keys (λ r. key r.seen) n) ≡ true → (x : ℕ)
+    → tally key x (seen_nodes n) ≤ 1
 tally_distinct key n distinct x = rw (tally-keys key x (seen_nodes n), keys-seen key n) (distinct_times x _ distinct)
 
 -- ---- what each row of a message says
@@ -134,11 +136,13 @@ pub record Shows (n : Nodes Told) : Type 0 where
   pub bare : is_bare (seen_nodes n) ≡ true
   pub labels : has_formed_labels (seen_nodes n) ≡ true
 
-shows_more : (top : Bool) (w : ℕ) (r : Told) (c t : Nodes Told) → fits_row top w r ≡ true → fits_below r c ≡ true → Shows c → Shows t → Shows (node r c t)
+shows_more : (top : Bool) (w : ℕ) (r : Told) (c t : Nodes Told) → fits_row top w r ≡ true → fits_below r c ≡ true → Shows c → Shows t
+    → Shows (node r c t)
 shows_more top w r c t fits below sc st =
     let p = placed_row top w r fits in
     record {
-      above = let e : tally seen_id 0 (seen_nodes c) + tally seen_id 0 (seen_nodes t) ≡ 0 = let a = sc.above in let b = st.above in omega arith in
+      above = let e : tally seen_id 0 (seen_nodes c) + tally seen_id 0 (seen_nodes t)
+          ≡ 0 = let a = sc.above in let b = st.above in omega arith in
           let h = above_here r (tally seen_id 0 (seen_nodes c) + tally seen_id 0 (seen_nodes t)) p.id e in omega arith;
       bare = rw (below_or (is_opened r.seen.hold) c below, sc.bare, st.bare) refl;
       labels = rw (p.formed, p.named, sc.labels, st.labels) refl;
@@ -156,14 +160,16 @@ record Clear (b : Branch Told) : Type 0 where
   unique : is_unique (alone b) ≡ true
   levels : nat_le (height (alone b)) most_levels ≡ true
 
-pub clear_three : {A : Type 0} (x y z : A) (p q r : Bool) → first_true ((x, not p) ∷ (y, not q) ∷ (z, not r) ∷ []) ≡ None → (p ≡ true) × ((q ≡ true) × (r ≡ true))
+pub clear_three : {A : Type 0} (x y z : A) (p q r : Bool) → first_true ((x, not p) ∷ (y, not q) ∷ (z, not r) ∷ []) ≡ None
+    → (p ≡ true) × ((q ≡ true) × (r ≡ true))
 clear_three x y z true true true e = (refl, (refl, refl))
 clear_three x y z true true false e = cc
 clear_three x y z true false r e = cc
 clear_three x y z false q r e = cc
 
 clear_root : (b : Branch Told) → root_fault b ≡ None → Clear b
-clear_root b e = let p = clear_three _ _ _ (is_kin b.row.seen.id b.children) (is_unique (alone b)) (nat_le (height (alone b)) most_levels) e in
+clear_root b e = let p = clear_three _ _ _ (is_kin b.row.seen.id b.children) (is_unique (alone b))
+    (nat_le (height (alone b)) most_levels) e in
     record { kin = p.0; unique = p.1.0; levels = p.1.1 }
 
 pub within_limit : (h limit : ℕ) → nat_le h limit ≡ true → h ≤ limit
@@ -211,7 +217,8 @@ unique_told p n view =
     let ids : is_distinct (keys told_id (told_nodes p n)) ≡ true
     = ap is_distinct (keys-told seen_id p n) ∙ times_distinct (keys seen_id n) (λ x. subst_times seen_id n x (view.ids x)) in
     let serials : is_distinct (keys told_serial (told_nodes p n)) ≡ true
-    = ap is_distinct (keys-told seen_serial p n) ∙ times_distinct (keys seen_serial n) (λ x. subst_times seen_serial n x (view.serials x)) in
+    = ap is_distinct (keys-told seen_serial p n) ∙ times_distinct (keys seen_serial n)
+    (λ x. subst_times seen_serial n x (view.serials x)) in
     rw (ids, serials) refl
 
 -- nothing is wrong with a view that is told as a document
@@ -219,5 +226,6 @@ pub root_fault-told : (b : Branch Seen) → IsView (alone b) → root_fault (tol
 root_fault-told b view =
     let kin = is_kin-told b.row.id b.children in
     let unique = unique_told 0 (alone b) view in
-    let levels : nat_le (height (told_nodes 0 (alone b))) most_levels ≡ true = rw (height-told 0 (alone b)) (let h = view.levels in grind arith) in
+    let levels : nat_le (height (told_nodes 0 (alone b))) most_levels
+    ≡ true = rw (height-told 0 (alone b)) (let h = view.levels in grind arith) in
     rw (kin, unique, levels) refl

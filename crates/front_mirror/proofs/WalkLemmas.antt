@@ -1,5 +1,6 @@
 -- Trees of a table, one after the other.
-use Rattle.std.proofs.Common.{◌≡◌, ℕ, suc, ◌+◌, ◌<◌, ◌≤◌, List, [], ◌∷◌, ◌++◌, length, get_or, drop, Option, Some, None, refl, sym, ap, ◌∙◌, append_assoc, append-nil}
+use Rattle.std.proofs.Common.{◌≡◌, ℕ, suc, ◌+◌, ◌<◌, ◌≤◌, List, [], ◌∷◌, ◌++◌, length, get_or, drop, Option, Some, None, refl, sym, ap, ◌∙◌}
+use Rattle.std.proofs.Common.{append_assoc, append-nil}
 use Rattle.std.proofs.lemmas.List.{drop_more, drop_all}
 use Rattle.node_tree.specs.Nodes.{Nodes, none, node, beside}
 use Rattle.node_tree.specs.Seen.{Seen, seen_id}
@@ -10,18 +11,24 @@ use Rattle.front_mirror.specs.declared.slots.Slot.{Slot}
 use Rattle.front_mirror.specs.declared.table.Table.{Table}
 use Rattle.front_mirror.specs.Tables.{by_id, table_slots, table_trees}
 
-slot_beside : (o : Option Slot) (slots : ℕ → Option Slot) (below : List ℕ → Nodes Seen) (after : Nodes Seen) → slot_tree by_id slots o below after ≡ beside (slot_tree by_id slots o below none) after
+slot_beside : (o : Option Slot) (slots : ℕ → Option Slot) (below : List ℕ → Nodes Seen) (after : Nodes Seen)
+    → slot_tree by_id slots o below after ≡ beside (slot_tree by_id slots o below none) after
 slot_beside None slots below after = refl
 slot_beside (Some s) slots below after = refl
 
 -- a list of nodes, each of which says something
-module _ {A : Type 0} (said : Nodes Seen → List A) (nothing : said none ≡ []) (sums : (n m : Nodes Seen) → said (beside n m) ≡ said n ++ said m) (t : Table) (levels : ℕ) where
-  pub said_first : (k : ℕ) (ks : List ℕ) → said (table_trees t (suc levels) (k ∷ ks)) ≡ said (table_trees t (suc levels) (k ∷ [])) ++ said (table_trees t (suc levels) ks)
+module _ {A : Type 0} (said : Nodes Seen → List A) (nothing : said none ≡ [])
+    (sums : (n m : Nodes Seen) → said (beside n m) ≡ said n ++ said m) (t : Table) (levels : ℕ) where
+  pub said_first : (k : ℕ) (ks : List ℕ)
+      → said (table_trees t (suc levels) (k ∷ ks)) ≡ said (table_trees t (suc levels) (k ∷ [])) ++ said (table_trees t (suc levels) ks)
   said_first k ks =
-      ap said (slot_beside (table_slots t k) (table_slots t) (kept_trees by_id (table_slots t) levels) (slot_trees by_id (table_slots t) (kept_trees by_id (table_slots t) levels) ks))
-      ∙ sums (slot_tree by_id (table_slots t) (table_slots t k) (kept_trees by_id (table_slots t) levels) none) (slot_trees by_id (table_slots t) (kept_trees by_id (table_slots t) levels) ks)
+      ap said (slot_beside (table_slots t k) (table_slots t) (kept_trees by_id (table_slots t) levels)
+      (slot_trees by_id (table_slots t) (kept_trees by_id (table_slots t) levels) ks))
+      ∙ sums (slot_tree by_id (table_slots t) (table_slots t k) (kept_trees by_id (table_slots t) levels) none)
+      (slot_trees by_id (table_slots t) (kept_trees by_id (table_slots t) levels) ks)
 
-  pub said_turn : (ks : List ℕ) (i : ℕ) (old new all : List A) → i < length ks → new ≡ old ++ said (table_trees t (suc levels) (get_or ks i 0 ∷ [])) → old ++ said (table_trees t (suc levels) (drop i ks)) ≡ all
+  pub said_turn : (ks : List ℕ) (i : ℕ) (old new all : List A) → i < length ks
+      → new ≡ old ++ said (table_trees t (suc levels) (get_or ks i 0 ∷ [])) → old ++ said (table_trees t (suc levels) (drop i ks)) ≡ all
       → new ++ said (table_trees t (suc levels) (drop (i + 1) ks)) ≡ all
   said_turn ks i old new all within one before =
       let rest = said (table_trees t (suc levels) (drop (i + 1) ks)) in
@@ -31,7 +38,8 @@ module _ {A : Type 0} (said : Nodes Seen → List A) (nothing : said none ≡ []
       ∙ ap (λ (js : List ℕ). old ++ said (table_trees t (suc levels) js)) (sym (drop_more ks i 0 within))
       ∙ before
 
-  pub said_end : (ks : List ℕ) (i : ℕ) (out all : List A) → length ks ≤ i → out ++ said (table_trees t (suc levels) (drop i ks)) ≡ all → out ≡ all
+  pub said_end : (ks : List ℕ) (i : ℕ) (out all : List A) → length ks ≤ i → out ++ said (table_trees t (suc levels) (drop i ks)) ≡ all
+      → out ≡ all
   said_end ks i out all past before =
       sym (append-nil out)
       ∙ ap (λ (l : List A). out ++ l) (sym nothing)
@@ -40,9 +48,11 @@ module _ {A : Type 0} (said : Nodes Seen → List A) (nothing : said none ≡ []
 
 pub keys-beside : (n m : Nodes Seen) → keys seen_id (beside n m) ≡ keys seen_id n ++ keys seen_id m
 keys-beside none m = refl
-keys-beside (node r c t) m = ap (λ (l : List ℕ). r.id ∷ (keys seen_id c ++ l)) (keys-beside t m) ∙ ap (λ (l : List ℕ). r.id ∷ l) (sym (append_assoc (keys seen_id c) (keys seen_id t) (keys seen_id m)))
+keys-beside (node r c t) m = ap (λ (l : List ℕ). r.id ∷ (keys seen_id c ++ l)) (keys-beside t m) ∙ ap (λ (l : List ℕ). r.id ∷ l)
+    (sym (append_assoc (keys seen_id c) (keys seen_id t) (keys seen_id m)))
 
-pub lines-beside : (level : ℕ) (n m : Nodes Seen) → lines_at seen_line level (beside n m) ≡ lines_at seen_line level n ++ lines_at seen_line level m
+pub lines-beside : (level : ℕ) (n m : Nodes Seen)
+    → lines_at seen_line level (beside n m) ≡ lines_at seen_line level n ++ lines_at seen_line level m
 lines-beside level none m = refl
 lines-beside level (node r c t) m =
     let e = lines-beside level t m in

@@ -4,11 +4,13 @@ use Rattle.pipe_frames.specs.Whole.{IsAllOf}
 use Rattle.inspect_replay.specs.declared.status.Status.{Status}
 use Rattle.inspect_replay.specs.declared.status.Status.TheVariants as status
 use Rattle.inspect_replay.specs.declared.stop.Stop.{Stop}
-use Rattle.inspect_replay.specs.declared.stop.Stop.TheVariants.{Line, TooLong, ReadFault, WriteFault, LinkFault, FrontRefused, NoRoom, Memory}
+use Rattle.inspect_replay.specs.declared.stop.Stop.TheVariants.{Line, TooLong, ReadFault, WriteFault, LinkFault, FrontRefused, NoRoom}
+use Rattle.inspect_replay.specs.declared.stop.Stop.TheVariants.{Memory}
 use Rattle.inspect_replay.specs.Serving.{IsServeStatus}
 use Rattle.pipe_frames.proofs.WholeLemmas.{Appends-nil}
 use Rattle.inspect_replay.specs.Says.{Phase, untouched, reading, underway, ended, anywhen, Lie, Says, says, status_of}
-use Rattle.inspect_replay.specs.Answers.{OnTrue, is_too_long, LimitsAt, InReadOnly, FitsLimits, InputTells, IsInputStop, TookAt, RunTook, Took, IsHonest}
+use Rattle.inspect_replay.specs.Answers.{OnTrue, is_too_long, LimitsAt, InReadOnly, FitsLimits, InputTells, IsInputStop, TookAt, RunTook}
+use Rattle.inspect_replay.specs.Answers.{Took, IsHonest}
 
 -- an input that is not read is refused by its limits
 pub stop-limits : (stop : Stop) (input : List ℕ) → InputTells (Err stop) input → FitsLimits (status_of stop) input
@@ -22,10 +24,12 @@ stop-limits stop input tells = let s : Says = says (status_of stop) in at-limits
     at-limits anywhen over tells = tt
 
 -- an input that is not read leaves the sink alone
-pub stop-took : (stop : Stop) (input : List ℕ) (taken : Option (List ℕ)) (report : List ℕ) → InputTells (Err stop) input → Took (status_of stop) taken taken report
+pub stop-took : (stop : Stop) (input : List ℕ) (taken : Option (List ℕ)) (report : List ℕ) → InputTells (Err stop) input
+    → Took (status_of stop) taken taken report
 stop-took stop input taken report tells = let s : Says = says (status_of stop) in at-input s.phase s.lie s.over tells
   where
-    at-input : (phase : Phase) (lie : Option Lie) (over : Bool) → InReadOnly phase (OnTrue over (is_too_long input ≡ true)) → TookAt phase lie taken taken report
+    at-input : (phase : Phase) (lie : Option Lie) (over : Bool) → InReadOnly phase (OnTrue over (is_too_long input ≡ true))
+        → TookAt phase lie taken taken report
     at-input untouched lie over tells = refl
     at-input reading lie over tells = refl
     at-input underway lie over tells = absurd tells
@@ -44,7 +48,8 @@ stop-honest NoRoom before after is = absurd is
 stop-honest Memory before after is = tt
 
 -- an answer of a run that takes the sink to a text is none of those that come over no honest link
-pub run-honest : (stop : Stop) (before after : Option (List ℕ)) (text : List ℕ) → RunTook {T = Unit {0}} (Err stop) before after text → IsHonest (status_of stop)
+pub run-honest : (stop : Stop) (before after : Option (List ℕ)) (text : List ℕ) → RunTook {T = Unit {0}} (Err stop) before after text
+    → IsHonest (status_of stop)
 run-honest (Line number fault) before after text took = tt
 run-honest TooLong before after text took = tt
 run-honest ReadFault before after text took = tt

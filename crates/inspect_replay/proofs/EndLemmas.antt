@@ -1,5 +1,6 @@
 -- What the calls on the link and on the ends make of a run.
-use Rattle.std.proofs.Common.{◌≡◌, ℕ, suc, ◌+◌, ◌*◌, ◌-◌, ◌<◌, ◌≤◌, ◌^◌, min, List, [], ◌∷◌, ◌++◌, length, take, drop, get_or, drop-cons, add-one, Bool, true, false, not, cond, Ok, Option, Some, None, refl, sym, ◌∙◌, ap, subst, Result, arith}
+use Rattle.std.proofs.Common.{◌≡◌, ℕ, suc, ◌+◌, ◌*◌, ◌-◌, ◌<◌, ◌≤◌, ◌^◌, min, List, [], ◌∷◌, ◌++◌, length, take, drop, get_or, drop-cons}
+use Rattle.std.proofs.Common.{add-one, Bool, true, false, not, cond, Ok, Option, Some, None, refl, sym, ◌∙◌, ap, subst, Result, arith}
 use Rattle.std.proofs.lemmas.List.{take_min}
 use Rattle.pipe_frames.specs.Pipe.{Pipe, waiting}
 use Rattle.pipe_frames.specs.Frames.{IsText, Frames, framed, frames_of, frames_from, held_after, continued}
@@ -47,22 +48,26 @@ use Rattle.inspect_world.proofs.Worlds.{answered-cons}
 use Rattle.inspect_world.proofs.Pipes.{waiting-is}
 use Rattle.inspect_world.proofs.Scripts.{turn-left}
 use Rattle.inspect_world.proofs.FetchesFit.{fetched-if-spends, few-then}
-use Rattle.inspect_world.proofs.Ends.{world-room, world-ids, world-sent, world-fetched, world-raw, world-turned, world-answered, world-given_up, world-delivered_down, never-refuses}
+use Rattle.inspect_world.proofs.Ends.{world-room, world-ids, world-sent, world-fetched, world-raw, world-turned, world-answered}
+use Rattle.inspect_world.proofs.Ends.{world-given_up, world-delivered_down, never-refuses}
 
 -- ---- a step is made
 
 -- over an honest link the back end has room
 pub has-room : (up0 down0 up down : Pipe) (w : World RunState) (frames : List (List ℕ)) (e : Ends) → InWorld up0 down0 up down w frames e
     → (HasRoomLeft e.seat e.side → false ≡ true) → ⊥
-has-room up0 down0 up down w frames e in_world none = let no : false ≡ true = none (world-room up0 down0 up down w frames e in_world) in absurd cc
+has-room up0 down0 up down w frames e in_world none = let no : false
+    ≡ true = none (world-room up0 down0 up down w frames e in_world) in absurd cc
 
 -- and so has the front end
 pub has-ids : (up0 down0 up down : Pipe) (w : World RunState) (frames : List (List ℕ)) (e : Ends) → InWorld up0 down0 up down w frames e
     → w.spent.fetches ≤ most_fetches → ((e.front.next < 2 ^ 30) × (2 ^ 30 + e.front.fetches < 2 ^ 52) → false ≡ true) → ⊥
-has-ids up0 down0 up down w frames e in_world few none = let no : false ≡ true = none (world-ids up0 down0 up down w frames e in_world few) in absurd cc
+has-ids up0 down0 up down w frames e in_world few none = let no : false
+    ≡ true = none (world-ids up0 down0 up down w frames e in_world few) in absurd cc
 
 -- a frame is answered
-pub answered_in : (up0 down0 up down up1 down1 : Pipe) (w : World RunState) (frame : List ℕ) (frames : List (List ℕ)) (seat seat1 : Seat) (side side1 : PageSide) (e : Ends)
+pub answered_in : (up0 down0 up down up1 down1 : Pipe) (w : World RunState) (frame : List ℕ) (frames : List (List ℕ)) (seat seat1 : Seat)
+    (side side1 : PageSide) (e : Ends)
     (old out bytes : List ℕ) (there : ℕ)
     → InWorld up0 down0 up down w (frame ∷ frames) (record e { seat = seat; side = side })
     → ((state : State) → StandsFor seat side state → StandsFor seat1 side1 (frame_step false frame state).state)
@@ -71,33 +76,41 @@ pub answered_in : (up0 down0 up down up1 down1 : Pipe) (w : World RunState) (fra
     → up1 ≡ up → (down1.sent ≡ down.sent ++ bytes) × (down1.given ≡ down.given) → there ≡ e.down_there + length out
     → InWorld up0 down0 up1 down1 (answered run_step (frame ∷ []) w) frames (record e { seat = seat1; side = side1; down_there = there })
 answered_in up0 down0 up down up1 down1 w frame frames seat seat1 side side1 e old out bytes there in_world stood said empty same_out same_up sent left =
-    let all : InWorld up0 down0 up down1 (answered run_step (frame ∷ []) w) frames (record e { seat = seat1; side = side1; down_there = there }) =
+    let all : InWorld up0 down0 up down1 (answered run_step (frame ∷ []) w) frames
+    (record e { seat = seat1; side = side1; down_there = there }) =
     world-answered up0 down0 up down down1 w frame frames (record e { seat = seat; side = side }) seat1 side1 out there in_world
     (stood w.state.back in_world.stands)
     (said w.state.back in_world.stands ∙ ap (λ start. start ++ (step w.state.back frame).sent) empty)
     (sent.0 ∙ ap (λ piece. down.sent ++ piece) same_out) sent.1 left in
-    subst (λ pipe. InWorld up0 down0 pipe down1 (answered run_step (frame ∷ []) w) frames (record e { seat = seat1; side = side1; down_there = there })) (sym same_up) all
+    subst (λ pipe. InWorld up0 down0 pipe down1 (answered run_step (frame ∷ []) w) frames
+    (record e { seat = seat1; side = side1; down_there = there })) (sym same_up) all
 
 -- the script makes a step by itself
-pub turned_in : (up0 down0 up down up1 down1 : Pipe) (w : World RunState) (x : Turn) (whole : List (List ℕ)) (seat seat1 : Seat) (side side1 : PageSide) (e : Ends)
+pub turned_in : (up0 down0 up down up1 down1 : Pipe) (w : World RunState) (x : Turn) (whole : List (List ℕ)) (seat seat1 : Seat)
+    (side side1 : PageSide) (e : Ends)
     (old out bytes : List ℕ) (there : ℕ)
-    → InWorld up0 down0 up down w (whole ++ awaited w.up) (record e { seat = seat; side = side }) → whole ≡ [] → IsTurn x → HasLeft w.spent least_line
+    → InWorld up0 down0 up down w (whole ++ awaited w.up) (record e { seat = seat; side = side }) → whole ≡ [] → IsTurn x
+    → HasLeft w.spent least_line
     → ((state : State) → StandsFor seat side state → StandsFor seat1 side1 (turn_step x state).state)
     → ((state : State) → StandsFor seat side state → out ≡ old ++ frames_of_moves (turn_step x state).moves)
     → old ≡ [] → bytes ≡ out
     → up1 ≡ up → (down1.sent ≡ down.sent ++ bytes) × (down1.given ≡ down.given) → there ≡ e.down_there + length out
-    → InWorld up0 down0 up1 down1 (turned run_turn x w) (whole ++ awaited (turned run_turn x w).up) (record e { seat = seat1; side = side1; down_there = there })
+    → InWorld up0 down0 up1 down1 (turned run_turn x w) (whole ++ awaited (turned run_turn x w).up)
+    (record e { seat = seat1; side = side1; down_there = there })
 turned_in up0 down0 up down up1 down1 w x whole seat seat1 side side1 e old out bytes there in_world none is_turn room stood said empty same_out same_up sent left =
     let start : InWorld up0 down0 up down w (awaited w.up) (record e { seat = seat; side = side }) =
     subst (λ frames. InWorld up0 down0 up down w (frames ++ awaited w.up) (record e { seat = seat; side = side })) none in_world in
-    let all : InWorld up0 down0 up down1 (turned run_turn x w) (awaited w.up) (record e { seat = seat1; side = side1; down_there = there }) =
+    let all : InWorld up0 down0 up down1 (turned run_turn x w) (awaited w.up)
+    (record e { seat = seat1; side = side1; down_there = there }) =
     world-turned up0 down0 up down down1 w (record e { seat = seat; side = side }) x seat1 side1 out there start
     (record { is_turn = is_turn; few = turn-left w.spent room })
     (stood w.state.back in_world.stands)
     (said w.state.back in_world.stands ∙ ap (λ start. start ++ (turn x w.state.back).sent) empty)
     (sent.0 ∙ ap (λ piece. down.sent ++ piece) same_out) sent.1 left in
-    subst (λ pipe. InWorld up0 down0 pipe down1 (turned run_turn x w) (whole ++ awaited w.up) (record e { seat = seat1; side = side1; down_there = there })) (sym same_up)
-    (subst (λ frames. InWorld up0 down0 up down1 (turned run_turn x w) (frames ++ awaited w.up) (record e { seat = seat1; side = side1; down_there = there })) (sym none) all)
+    subst (λ pipe. InWorld up0 down0 pipe down1 (turned run_turn x w) (whole ++ awaited w.up)
+    (record e { seat = seat1; side = side1; down_there = there })) (sym same_up)
+    (subst (λ frames. InWorld up0 down0 up down1 (turned run_turn x w) (frames ++ awaited w.up)
+    (record e { seat = seat1; side = side1; down_there = there })) (sym none) all)
 
 -- ---- an ask is sent
 
@@ -107,22 +120,27 @@ whole-plain None plain = refl
 whole-plain (Some d) plain = ap not (has_float-is_plain d plain)
 
 -- what an optional value behind a reference is seen as
-pub refs-seen : (r : Option (Bor Value)) (o : Option Value) → option_copied r ≡ o → option_map (λ (p : Bor Value). view p.now) r ≡ option_map view o
+pub refs-seen : (r : Option (Bor Value)) (o : Option Value) → option_copied r ≡ o
+    → option_map (λ (p : Bor Value). view p.now) r ≡ option_map view o
 refs-seen None o e = ap (option_map view) e
 refs-seen (Some p) o e = ap (option_map view) e
 
 -- the frame of an ask, as its line has it
 pub frame-seen : (next : ℕ) (ask : Ask) (frame method : List ℕ) (params session : Option (Bor Value))
     → method ≡ ask.method → option_copied params ≡ ask.params → option_copied session ≡ ask.session
-    → frame ≡ framed (command_text next method (option_map (λ (p : Bor Value). view p.now) params) (option_map (λ (p : Bor Value). view p.now) session))
+    → frame ≡ framed (command_text next method (option_map (λ (p : Bor Value). view p.now) params)
+    (option_map (λ (p : Bor Value). view p.now) session))
     → frame ≡ framed (command_text next (seen_ask ask).method (seen_ask ask).params (seen_ask ask).session)
 frame-seen next ask frame method params session m p s is =
     is
-    ∙ ap (λ m'. framed (command_text next m' (option_map (λ (q : Bor Value). view q.now) params) (option_map (λ (q : Bor Value). view q.now) session))) m
-    ∙ ap (λ p'. framed (command_text next ask.method p' (option_map (λ (q : Bor Value). view q.now) session))) (refs-seen params ask.params p)
+    ∙ ap (λ m'. framed (command_text next m' (option_map (λ (q : Bor Value). view q.now) params)
+    (option_map (λ (q : Bor Value). view q.now) session))) m
+    ∙ ap (λ p'. framed (command_text next ask.method p' (option_map (λ (q : Bor Value). view q.now) session)))
+    (refs-seen params ask.params p)
     ∙ ap (λ s'. framed (command_text next ask.method (option_map view ask.params) s')) (refs-seen session ask.session s)
 
-pub asked_in : (up0 down0 up down up1 down1 : Pipe) (w : World RunState) (e : Ends) (a : AskForm) (whole : List (List ℕ)) (frame bytes : List ℕ) (there : ℕ) (front1 : FrontState)
+pub asked_in : (up0 down0 up down up1 down1 : Pipe) (w : World RunState) (e : Ends) (a : AskForm) (whole : List (List ℕ))
+    (frame bytes : List ℕ) (there : ℕ) (front1 : FrontState)
     → CanSend a → HasLeft w.spent (ask_cost a) → InWorld up0 down0 up down w (whole ++ awaited w.up) e → whole ≡ []
     → frame ≡ framed (command_text e.front.next a.method a.params a.session) → front1 ≡ after_ask e.front a.method
     → bytes ≡ frame → (up1.sent ≡ up.sent ++ bytes) × (up1.given ≡ up.given) → down1 ≡ down → there ≡ e.up_there + length frame
@@ -131,48 +149,63 @@ asked_in up0 down0 up down up1 down1 w e a whole frame bytes there front1 can fe
     let next : e.front.next ≡ w.spent.asks + 1 = ap (λ (f : FrontState). f.next) in_world.front_is in
     let text = command_text (w.spent.asks + 1) a.method a.params a.session in
     let framed_is : frame ≡ framed text = frame_is ∙ ap (λ n. framed (command_text n a.method a.params a.session)) next in
-    let start : InWorld up0 down0 up down w (awaited w.up) e = subst (λ frames. InWorld up0 down0 up down w (frames ++ awaited w.up) e) none in_world in
-    let all : InWorld up0 down0 up1 down (sends a w) (awaited (sends a w).up) (record e { front = after_ask e.front a.method; up_there = there }) =
+    let start : InWorld up0 down0 up down w (awaited w.up) e = subst
+    (λ frames. InWorld up0 down0 up down w (frames ++ awaited w.up) e) none in_world in
+    let all : InWorld up0 down0 up1 down (sends a w) (awaited (sends a w).up)
+    (record e { front = after_ask e.front a.method; up_there = there }) =
     world-sent up0 down0 up down up1 w e a text there start can few refl
     (sent.0 ∙ ap (λ piece. up.sent ++ piece) (same_bytes ∙ framed_is)) sent.1
     (left ∙ ap (λ piece. e.up_there + length piece) framed_is) in
-    subst (λ pipe. InWorld up0 down0 up1 pipe (sends a w) (whole ++ awaited (sends a w).up) (record e { front = front1; up_there = there })) (sym same_down)
-    (subst (λ frames. InWorld up0 down0 up1 down (sends a w) (frames ++ awaited (sends a w).up) (record e { front = front1; up_there = there })) (sym none)
-    (subst (λ f. InWorld up0 down0 up1 down (sends a w) (awaited (sends a w).up) (record e { front = f; up_there = there })) (sym front_is) all))
+    subst (λ pipe. InWorld up0 down0 up1 pipe (sends a w) (whole ++ awaited (sends a w).up)
+    (record e { front = front1; up_there = there })) (sym same_down)
+    (subst (λ frames. InWorld up0 down0 up1 down (sends a w) (frames ++ awaited (sends a w).up)
+    (record e { front = front1; up_there = there })) (sym none)
+    (subst (λ f. InWorld up0 down0 up1 down (sends a w) (awaited (sends a w).up) (record e { front = f; up_there = there }))
+    (sym front_is) all))
 
 -- a frame is sent that names no ask
-pub raw_in : (up0 down0 up down up1 down1 : Pipe) (w : World RunState) (e : Ends) (text : List ℕ) (whole : List (List ℕ)) (frame bytes : List ℕ) (there : ℕ)
+pub raw_in : (up0 down0 up down up1 down1 : Pipe) (w : World RunState) (e : Ends) (text : List ℕ) (whole : List (List ℕ))
+    (frame bytes : List ℕ) (there : ℕ)
     → IsText text → IsBare text → HasLeft w.spent least_line → InWorld up0 down0 up down w (whole ++ awaited w.up) e → whole ≡ []
-    → frame ≡ framed text → bytes ≡ frame → (up1.sent ≡ up.sent ++ bytes) × (up1.given ≡ up.given) → down1 ≡ down → there ≡ e.up_there + length frame
+    → frame ≡ framed text → bytes ≡ frame → (up1.sent ≡ up.sent ++ bytes) × (up1.given ≡ up.given) → down1 ≡ down
+    → there ≡ e.up_there + length frame
     → InWorld up0 down0 up1 down1 (raw text w) (whole ++ awaited (raw text w).up) (record e { up_there = there })
 raw_in up0 down0 up down up1 down1 w e text whole frame bytes there letters bare room in_world none frame_is same_bytes sent same_down left =
-    let start : InWorld up0 down0 up down w (awaited w.up) e = subst (λ frames. InWorld up0 down0 up down w (frames ++ awaited w.up) e) none in_world in
+    let start : InWorld up0 down0 up down w (awaited w.up) e = subst
+    (λ frames. InWorld up0 down0 up down w (frames ++ awaited w.up) e) none in_world in
     let all : InWorld up0 down0 up1 down (raw text w) (awaited (raw text w).up) (record e { up_there = there }) =
     world-raw up0 down0 up down up1 w e text there start letters bare room
     (sent.0 ∙ ap (λ piece. up.sent ++ piece) (same_bytes ∙ frame_is)) sent.1
     (left ∙ ap (λ piece. e.up_there + length piece) frame_is) in
-    subst (λ pipe. InWorld up0 down0 up1 pipe (raw text w) (whole ++ awaited (raw text w).up) (record e { up_there = there })) (sym same_down)
-    (subst (λ frames. InWorld up0 down0 up1 down (raw text w) (frames ++ awaited (raw text w).up) (record e { up_there = there })) (sym none) all)
+    subst (λ pipe. InWorld up0 down0 up1 pipe (raw text w) (whole ++ awaited (raw text w).up) (record e { up_there = there }))
+    (sym same_down)
+    (subst (λ frames. InWorld up0 down0 up1 down (raw text w) (frames ++ awaited (raw text w).up) (record e { up_there = there }))
+    (sym none) all)
 
 -- the text of a sheet is fetched
-pub fetched_in : (up0 down0 up down up1 down1 : Pipe) (w : World RunState) (e : Ends) (sheet : ℕ) (whole : List (List ℕ)) (frame bytes : List ℕ) (there : ℕ) (front1 : FrontState)
+pub fetched_in : (up0 down0 up down up1 down1 : Pipe) (w : World RunState) (e : Ends) (sheet : ℕ) (whole : List (List ℕ))
+    (frame bytes : List ℕ) (there : ℕ) (front1 : FrontState)
     → sheet < 2 ^ 64 → w.spent.fetches + 1 ≤ most_fetches → InWorld up0 down0 up down w (whole ++ awaited w.up) e → whole ≡ []
     → frame ≡ framed (front_fetcher.text e.front.fetches sheet) → front1 ≡ after_fetch e.front sheet
     → bytes ≡ frame → (up1.sent ≡ up.sent ++ bytes) × (up1.given ≡ up.given) → down1 ≡ down → there ≡ e.up_there + length frame
-    → InWorld up0 down0 up1 down1 (sent_up (front_fetcher.text w.spent.fetches sheet) one_fetch w) (whole ++ awaited (sent_up (front_fetcher.text w.spent.fetches sheet) one_fetch w).up)
+    → InWorld up0 down0 up1 down1 (sent_up (front_fetcher.text w.spent.fetches sheet) one_fetch w)
+    (whole ++ awaited (sent_up (front_fetcher.text w.spent.fetches sheet) one_fetch w).up)
     (record e { front = front1; up_there = there })
 fetched_in up0 down0 up down up1 down1 w e sheet whole frame bytes there front1 fits few in_world none frame_is front_is same_bytes sent same_down left =
     let count : e.front.fetches ≡ w.spent.fetches = ap (λ (f : FrontState). f.fetches) in_world.front_is in
     let text = front_fetcher.text w.spent.fetches sheet in
     let after : World RunState = sent_up text one_fetch w in
     let framed_is : frame ≡ framed text = frame_is ∙ ap (λ n. framed (front_fetcher.text n sheet)) count in
-    let start : InWorld up0 down0 up down w (awaited w.up) e = subst (λ frames. InWorld up0 down0 up down w (frames ++ awaited w.up) e) none in_world in
+    let start : InWorld up0 down0 up down w (awaited w.up) e = subst
+    (λ frames. InWorld up0 down0 up down w (frames ++ awaited w.up) e) none in_world in
     let all : InWorld up0 down0 up1 down after (awaited after.up) (record e { front = after_fetch e.front sheet; up_there = there }) =
     world-fetched up0 down0 up down up1 w e sheet there start fits few
     (sent.0 ∙ ap (λ piece. up.sent ++ piece) (same_bytes ∙ framed_is)) sent.1
     (left ∙ ap (λ piece. e.up_there + length piece) framed_is) in
-    subst (λ pipe. InWorld up0 down0 up1 pipe after (whole ++ awaited after.up) (record e { front = front1; up_there = there })) (sym same_down)
-    (subst (λ frames. InWorld up0 down0 up1 down after (frames ++ awaited after.up) (record e { front = front1; up_there = there })) (sym none)
+    subst (λ pipe. InWorld up0 down0 up1 pipe after (whole ++ awaited after.up) (record e { front = front1; up_there = there }))
+    (sym same_down)
+    (subst (λ frames. InWorld up0 down0 up1 down after (frames ++ awaited after.up) (record e { front = front1; up_there = there }))
+    (sym none)
     (subst (λ f. InWorld up0 down0 up1 down after (awaited after.up) (record e { front = f; up_there = there })) (sym front_is) all))
 
 -- ---- bytes come
@@ -192,10 +225,12 @@ pub given_in : (up0 down0 up down up1 down1 : Pipe) (w : World RunState) (e : En
     → max ≡ min n e.up_there → piece ≡ take max (waiting up)
     → (up1.sent ≡ up.sent) × (up1.given ≡ up.given ++ piece) → down1 ≡ down → there ≡ e.up_there - length piece
     → s1 ≡ continued s piece
-    → InWorld up0 down0 up1 down1 (given_up n w) (s1.whole ++ awaited (given_up n w).up) (record e { back_rest = s1.rest; up_there = there })
+    → InWorld up0 down0 up1 down1 (given_up n w) (s1.whole ++ awaited (given_up n w).up)
+    (record e { back_rest = s1.rest; up_there = there })
     × (s1.whole ≡ arriving n w.up)
 given_in up0 down0 up down up1 down1 w e n there max piece s s1 in_world none rest max_is front moved same_down left cut =
-    let start : InWorld up0 down0 up down w (awaited w.up) e = subst (λ whole. InWorld up0 down0 up down w (whole ++ awaited w.up) e) none in_world in
+    let start : InWorld up0 down0 up down w (awaited w.up) e = subst
+    (λ whole. InWorld up0 down0 up down w (whole ++ awaited w.up) e) none in_world in
     let part : piece ≡ take n w.up.flying =
     came up0 up up0 n e.up_there max piece w.up (waiting-is up0 up w.up in_world.up_is) in_world.up_left max_is front in
     let rest_is : s1.rest ≡ held_after e.back_rest piece = ap (λ (f : Frames). f.rest) cut ∙ ap (λ held. held_after held piece) rest in
@@ -204,15 +239,19 @@ given_in up0 down0 up down up1 down1 w e n there max piece s s1 in_world none re
     ∙ ap (λ frames. frames ++ frames_from s.rest piece) none
     ∙ ap (λ held. frames_from held piece) (rest ∙ in_world.back_is)
     ∙ ap (λ bytes. frames_from (frames_of w.up.given).rest bytes) part in
-    let all : InWorld up0 down0 up1 down (given_up n w) (arriving n w.up ++ awaited (passed n w.up)) (record e { back_rest = s1.rest; up_there = there }) =
+    let all : InWorld up0 down0 up1 down (given_up n w) (arriving n w.up ++ awaited (passed n w.up))
+    (record e { back_rest = s1.rest; up_there = there }) =
     world-given_up up0 down0 up down up1 w e n there piece s1.rest start part moved.0 moved.1 left rest_is in (
-      subst (λ frames. InWorld up0 down0 up1 down1 (given_up n w) (frames ++ awaited (passed n w.up)) (record e { back_rest = s1.rest; up_there = there })) (sym whole)
-          (subst (λ pipe. InWorld up0 down0 up1 pipe (given_up n w) (arriving n w.up ++ awaited (passed n w.up)) (record e { back_rest = s1.rest; up_there = there })) (sym same_down) all),
+      subst (λ frames. InWorld up0 down0 up1 down1 (given_up n w) (frames ++ awaited (passed n w.up))
+          (record e { back_rest = s1.rest; up_there = there })) (sym whole)
+          (subst (λ pipe. InWorld up0 down0 up1 pipe (given_up n w) (arriving n w.up ++ awaited (passed n w.up))
+          (record e { back_rest = s1.rest; up_there = there })) (sym same_down) all),
       whole,
     )
 
 -- bytes come down
-pub delivered_in : (up0 down0 up down up1 down1 : Pipe) (w : World RunState) (frames : List (List ℕ)) (e : Ends) (n there max : ℕ) (piece : List ℕ) (front1 : FrontState)
+pub delivered_in : (up0 down0 up down up1 down1 : Pipe) (w : World RunState) (frames : List (List ℕ)) (e : Ends) (n there max : ℕ)
+    (piece : List ℕ) (front1 : FrontState)
     → InWorld up0 down0 up down w frames e
     → max ≡ min n e.down_there → piece ≡ take max (waiting down)
     → (down1.sent ≡ down.sent) × (down1.given ≡ down.given ++ piece) → up1 ≡ up → there ≡ e.down_there - length piece
@@ -224,10 +263,12 @@ delivered_in up0 down0 up down up1 down1 w frames e n there max piece front1 in_
     let all : InWorld up0 down0 up down1 (delivered_down n w) frames (record e { front = after_take e.front piece; down_there = there }) =
     world-delivered_down up0 down0 up down down1 w frames e n there piece in_world part moved.0 moved.1 left in
     subst (λ pipe. InWorld up0 down0 pipe down1 (delivered_down n w) frames (record e { front = front1; down_there = there })) (sym same_up)
-    (subst (λ front'. InWorld up0 down0 up down1 (delivered_down n w) frames (record e { front = front'; down_there = there })) (sym front_is) all)
+    (subst (λ front'. InWorld up0 down0 up down1 (delivered_down n w) frames (record e { front = front'; down_there = there }))
+    (sym front_is) all)
 
 -- the front end is never at fault
-pub no_fault : (up0 down0 up down : Pipe) (w : World RunState) (frames : List (List ℕ)) (e : Ends) (n max : ℕ) (piece : List ℕ) (front1 : FrontState) (f : FrontFault)
+pub no_fault : (up0 down0 up down : Pipe) (w : World RunState) (frames : List (List ℕ)) (e : Ends) (n max : ℕ) (piece : List ℕ)
+    (front1 : FrontState) (f : FrontFault)
     → InWorld up0 down0 up down w frames e
     → max ≡ min n e.down_there → piece ≡ take max (waiting down)
     → front1 ≡ after_take e.front piece → front1.fault ≡ Some f → ⊥
@@ -247,7 +288,8 @@ pub record Answering (honest : Type 0) (up0 down0 up down : Pipe) (target : Worl
   pub goes : answered run_step e.splitter.whole world ≡ target
 
 -- what the answer to the next frame makes of it
-pub answer_turn : {T : Type 0} (result : Result T Stop) (honest honest1 : Type 0) (up0 down0 up down up1 down1 : Pipe) (target : World RunState)
+pub answer_turn : {T : Type 0} (result : Result T Stop) (honest honest1 : Type 0) (up0 down0 up down up1 down1 : Pipe)
+    (target : World RunState)
     (e e1 : ProgramEnds) (s : Frames) (frame : List ℕ)
     → Answering honest up0 down0 up down target e
     → e.splitter.whole ≡ frame ∷ s.whole → s.rest ≡ e.splitter.rest
@@ -267,7 +309,8 @@ answer_turn {T} result honest honest1 up0 down0 up down up1 down1 target e e1 s 
     (both.0, on_ok result _ _ both.1 (λ run. record { world = answered run_step (frame ∷ []) w; so_far = run; goes = goes }))
 
 -- bytes came up, and their frames are answered
-pub deliver_goes : {T : Type 0} (result : Result T Stop) (honest honest1 : Type 0) (up0 down0 up down up1 down1 : Pipe) (w : World RunState) (n : ℕ)
+pub deliver_goes : {T : Type 0} (result : Result T Stop) (honest honest1 : Type 0) (up0 down0 up down up1 down1 : Pipe)
+    (w : World RunState) (n : ℕ)
     (e e1 : ProgramEnds)
     → InRunWith honest up0 down0 up down (given_up n w) e × (e.splitter.whole ≡ arriving n w.up)
     → AnswersAll (moment honest up down e) (moment honest1 up1 down1 e1) result
@@ -277,7 +320,8 @@ deliver_goes result honest honest1 up0 down0 up down up1 down1 w n e e1 run answ
     (answers up0 down0 (given_up n w) run.0)
 
 -- all of the up pipe was delivered, and then all of the down pipe
-pub settle_goes : {T : Type 0} (result : Result T Stop) (honest honest1 : Type 0) (up0 down0 up down up1 down1 : Pipe) (w : World RunState) (n : ℕ)
+pub settle_goes : {T : Type 0} (result : Result T Stop) (honest honest1 : Type 0) (up0 down0 up down up1 down1 : Pipe) (w : World RunState)
+    (n : ℕ)
     (e e1 : ProgramEnds)
     → n ≡ length w.up.flying
     → InRun honest up0 down0 up down (delivered_up run_step n w) e
@@ -287,7 +331,8 @@ settle_goes result honest honest1 up0 down0 up down up1 down1 w n e e1 all run s
     let same : delivered_down e.down_there (delivered_up run_step n w) ≡ settled run_step w =
     ap (λ m. delivered_down m (delivered_up run_step n w)) run.so_far.in_world.down_left
     ∙ ap (λ m. delivered_down (length (delivered_up run_step m w).down.flying) (delivered_up run_step m w)) all in
-    subst (λ v. GoesWell result × OnOk result (InRun honest1 up0 down0 up1 down1 v e1)) same (steps up0 down0 (delivered_up run_step n w) run)
+    subst (λ v. GoesWell result × OnOk result (InRun honest1 up0 down0 up1 down1 v e1)) same
+    (steps up0 down0 (delivered_up run_step n w) run)
 
 -- ---- the fetches of a settle
 
@@ -298,19 +343,23 @@ run-front honest up0 down0 up down w e run =
     run.so_far.in_world.is_fold ∙ ap (λ (f : FrontState). Ok f.value) (sym run.so_far.in_world.front_is)
 
 -- a sheet is fetched where the front end knows it
-fetched-is : (honest : Type 0) (up0 down0 up down : Pipe) (w : World RunState) (e : ProgramEnds) (number : ℕ) (known : Bool) → InRun honest up0 down0 up down w e
+fetched-is : (honest : Type 0) (up0 down0 up down : Pipe) (w : World RunState) (e : ProgramEnds) (number : ℕ) (known : Bool)
+    → InRun honest up0 down0 up down w e
     → has_sheet number e.front.value.sheets ≡ known
     → fetched_if replay front_fetcher (front_in replay (first_value []) w) number w ≡ cond known (fetched replay front_fetcher number w) w
 fetched-is honest up0 down0 up down w e number known run is =
     ap (λ r. fetched_if replay front_fetcher r number w) (run-front honest up0 down0 up down w e run)
     ∙ ap (λ b. cond b (fetched replay front_fetcher number w) w) is
 
-pub fetch_known : {T : Type 0} (result : Result T Stop) (honest honest1 : Type 0) (up0 down0 up down up1 down1 : Pipe) (w : World RunState) (e e1 : ProgramEnds) (number : ℕ)
+pub fetch_known : {T : Type 0} (result : Result T Stop) (honest honest1 : Type 0) (up0 down0 up down up1 down1 : Pipe) (w : World RunState)
+    (e e1 : ProgramEnds) (number : ℕ)
     → InRun honest up0 down0 up down w e → has_sheet number e.front.value.sheets ≡ true
     → GoesWell result × OnOk result (InRun honest1 up0 down0 up1 down1 (fetched replay front_fetcher number w) e1)
-    → GoesWell result × OnOk result (InRun honest1 up0 down0 up1 down1 (fetched_if replay front_fetcher (front_in replay (first_value []) w) number w) e1)
+    → GoesWell result × OnOk result
+    (InRun honest1 up0 down0 up1 down1 (fetched_if replay front_fetcher (front_in replay (first_value []) w) number w) e1)
 fetch_known result honest honest1 up0 down0 up down up1 down1 w e e1 number run is goes =
-    subst (λ v. GoesWell result × OnOk result (InRun honest1 up0 down0 up1 down1 v e1)) (sym (fetched-is honest up0 down0 up down w e number true run is)) goes
+    subst (λ v. GoesWell result × OnOk result (InRun honest1 up0 down0 up1 down1 v e1))
+    (sym (fetched-is honest up0 down0 up down w e number true run is)) goes
 
 pub fetch_unknown : (honest : Type 0) (up0 down0 up down : Pipe) (w : World RunState) (e : ProgramEnds) (number : ℕ)
     → InRun honest up0 down0 up down w e → has_sheet number e.front.value.sheets ≡ false
@@ -319,16 +368,19 @@ fetch_unknown honest up0 down0 up down w e number run is =
     subst (λ v. InRun honest up0 down0 up down v e) (sym (fetched-is honest up0 down0 up down w e number false run is)) run
 
 -- while texts are fetched: where the run is, and that it goes to where it would have gone
-pub record Fetching (honest : Type 0) (up0 down0 up down : Pipe) (target : World RunState) (numbers : List ℕ) (e : ProgramEnds) : Type 0 where
+pub record Fetching (honest : Type 0) (up0 down0 up down : Pipe) (target : World RunState) (numbers : List ℕ)
+    (e : ProgramEnds) : Type 0 where
   pub world : World RunState
   pub in_run : InRun honest up0 down0 up down world e
   pub few : world.spent.fetches + length numbers ≤ most_fetches
   pub goes : all_fetched replay front_fetcher (first_value []) numbers world ≡ target
 
 -- the next of them is fetched, or passed over
-next_fetched : {T : Type 0} (result : Result T Stop) (honest honest1 : Type 0) (up0 down0 up down up1 down1 : Pipe) (target : World RunState) (number : ℕ) (numbers : List ℕ)
+next_fetched : {T : Type 0} (result : Result T Stop) (honest honest1 : Type 0) (up0 down0 up down up1 down1 : Pipe)
+    (target : World RunState) (number : ℕ) (numbers : List ℕ)
     (e e1 : ProgramEnds)
-    → Fetching honest up0 down0 up down target (number ∷ numbers) e → FetchesOne (moment honest up down e) (moment honest1 up1 down1 e1) number result
+    → Fetching honest up0 down0 up down target (number ∷ numbers) e
+    → FetchesOne (moment honest up down e) (moment honest1 up1 down1 e1) number result
     → GoesWell result × OnOk result (Fetching honest1 up0 down0 up1 down1 target numbers e1)
 next_fetched result honest honest1 up0 down0 up down up1 down1 target number numbers e e1 going fetches =
     let w = going.world in
@@ -338,12 +390,15 @@ next_fetched result honest honest1 up0 down0 up down up1 down1 target number num
     let spent : after.spent.fetches ≤ w.spent.fetches + 1 = fetched-if-spends (first_value []) number w in
     (both.0, on_ok result _ _ both.1 (λ run. record { world = after; in_run = run; few = omega (arith, few, spent); goes = going.goes }))
 
-pub fetch_turn : {T : Type 0} (result : Result T Stop) (honest honest1 : Type 0) (up0 down0 up down up1 down1 : Pipe) (target : World RunState) (numbers : List ℕ) (i number : ℕ)
+pub fetch_turn : {T : Type 0} (result : Result T Stop) (honest honest1 : Type 0) (up0 down0 up down up1 down1 : Pipe)
+    (target : World RunState) (numbers : List ℕ) (i number : ℕ)
     (e e1 : ProgramEnds) → i < length numbers → number ≡ get_or numbers i 0
-    → Fetching honest up0 down0 up down target (drop i numbers) e → FetchesOne (moment honest up down e) (moment honest1 up1 down1 e1) number result
+    → Fetching honest up0 down0 up down target (drop i numbers) e
+    → FetchesOne (moment honest up down e) (moment honest1 up1 down1 e1) number result
     → GoesWell result × OnOk result (Fetching honest1 up0 down0 up1 down1 target (drop (i + 1) numbers) e1)
 fetch_turn result honest honest1 up0 down0 up down up1 down1 target numbers i number e e1 h at going fetches =
-    let split : drop i numbers ≡ number ∷ drop (i + 1) numbers = rw (add-one, drop-cons numbers i 0) (ap (λ x. x ∷ drop (suc i) numbers) (sym at)) in
+    let split : drop i numbers ≡ number
+    ∷ drop (i + 1) numbers = rw (add-one, drop-cons numbers i 0) (ap (λ x. x ∷ drop (suc i) numbers) (sym at)) in
     next_fetched result honest honest1 up0 down0 up down up1 down1 target number (drop (i + 1) numbers) e e1
     (subst (λ ns. Fetching honest up0 down0 up down target ns e) split going) fetches
 
@@ -351,10 +406,12 @@ fetch_turn result honest honest1 up0 down0 up down up1 down1 target numbers i nu
 pub fetch_end : (honest : Type 0) (up0 down0 up down : Pipe) (target : World RunState) (numbers : List ℕ) (e : ProgramEnds) → numbers ≡ []
     → Fetching honest up0 down0 up down target numbers e → InRun honest up0 down0 up down target e
 fetch_end honest up0 down0 up down target numbers e none going =
-    subst (λ w. InRun honest up0 down0 up down w e) (sym (ap (λ ns. all_fetched replay front_fetcher (first_value []) ns going.world) none) ∙ going.goes) going.in_run
+    subst (λ w. InRun honest up0 down0 up down w e)
+    (sym (ap (λ ns. all_fetched replay front_fetcher (first_value []) ns going.world) none) ∙ going.goes) going.in_run
 
 -- after all was delivered the texts that are old are fetched
-pub refresh_goes : {T : Type 0} (result : Result T Stop) (honest honest0 honest1 : Type 0) (up0 down0 up down up1 down1 up2 down2 : Pipe) (w : World RunState)
+pub refresh_goes : {T : Type 0} (result : Result T Stop) (honest honest0 honest1 : Type 0) (up0 down0 up down up1 down1 up2 down2 : Pipe)
+    (w : World RunState)
     (e e1 e2 : ProgramEnds)
     → HasLeft w.spent 0 → InRun honest up0 down0 up down w e → InRun honest0 up0 down0 up1 down1 (settled run_step w) e1
     → FetchesAll (moment honest0 up1 down1 e1) (moment honest1 up2 down2 e2) (stale_of e1.front.value.sheets) result
@@ -365,6 +422,7 @@ refresh_goes result honest honest0 honest1 up0 down0 up down up1 down1 up2 down2
     let fits : Fits w1 = subst (λ frames. FitsWith w1 (frames ++ awaited w1.up)) run1.none_whole run1.so_far.in_world.fits in
     let few : length (stale_of e1.front.value.sheets) ≤ most_sheets = few-then w e1.front.value fits front_is in
     let room : w.spent.fetches + (0 + 1) * most_sheets ≤ most_fetches = left.fetches in
-    subst (λ numbers. GoesWell result × OnOk result (InRun honest1 up0 down0 up2 down2 (all_fetched replay front_fetcher (first_value []) numbers w1) e2))
+    subst (λ numbers. GoesWell result
+    × OnOk result (InRun honest1 up0 down0 up2 down2 (all_fetched replay front_fetcher (first_value []) numbers w1) e2))
     (sym (ap (stale_in front_fetcher) front_is))
     (fetches up0 down0 w1 (omega (arith, few, room)) run1)

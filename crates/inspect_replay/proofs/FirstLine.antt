@@ -43,7 +43,8 @@ loads-not line form good is none =
     let no : ◌≡◌ {A = Option LoadedPage} None (Some l.page) = sym none ∙ ap load_of l.is in
     cc
 
-pub loads-these : (line : List ℕ) (form : LineForm) (page : LoadedPage) → line_fault 1 line ≡ None → line_form line ≡ Some form → load_of form ≡ Some page
+pub loads-these : (line : List ℕ) (form : LineForm) (page : LoadedPage) → line_fault 1 line ≡ None → line_form line ≡ Some form
+    → load_of form ≡ Some page
     → line_form line ≡ Some (load page)
 loads-these line form page good is some =
     let l : Loads form = first-loads line form good is in

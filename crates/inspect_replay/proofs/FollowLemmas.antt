@@ -1,5 +1,6 @@
 -- What the calls on the link and on the ends keep over every link.
-use Rattle.std.proofs.Common.{◌≡◌, is_some, ◌+◌, ◌*◌, ◌≤◌, ℕ, suc, ◌<◌, ◌^◌, List, [], ◌∷◌, ◌++◌, length, drop, codes, Option, Some, None, true, false, refl, sym, ◌∙◌, ap, subst, arith, append_assoc, Result, Ok, Err}
+use Rattle.std.proofs.Common.{◌≡◌, is_some, ◌+◌, ◌*◌, ◌≤◌, ℕ, suc, ◌<◌, ◌^◌, List, [], ◌∷◌, ◌++◌, length, drop, codes, Option, Some, None}
+use Rattle.std.proofs.Common.{true, false, refl, sym, ◌∙◌, ap, subst, arith, append_assoc, Result, Ok, Err}
 use Rattle.std.proofs.lemmas.List.{drop_all}
 use Rattle.std.specs.Result.{OnOk, IsOk}
 use Rattle.std.specs.Io.KnownBytes.{Appends}
@@ -32,16 +33,20 @@ use Rattle.front_mirror.specs.Front.{matched_in}
 use Rattle.inspect_world.specs.Links.{Started, run_started, one_line_more, knows_styles, came_styles, Drew, Follows, fold_of}
 use Rattle.inspect_world.specs.Fits.{ask_of_frame}
 use Rattle.inspect_world.proofs.Scripts.{fit-first}
-use Rattle.inspect_world.proofs.LinkLemmas.{follows-fewer, front-full, seat-full, follows-told, follows-less, follows-start, follows-sends, follows-fetched, follows-raw, follows-given_up, follows-answered, follows-turned, follows-delivered_down, follows-refused, follows-fold, follows-replies}
+use Rattle.inspect_world.proofs.LinkLemmas.{follows-fewer, front-full, seat-full, follows-told, follows-less, follows-start, follows-sends}
+use Rattle.inspect_world.proofs.LinkLemmas.{follows-fetched, follows-raw, follows-given_up, follows-answered, follows-turned}
+use Rattle.inspect_world.proofs.LinkLemmas.{follows-delivered_down, follows-refused, follows-fold, follows-replies}
 use Rattle.inspect_replay.specs.declared.ends.Ends.{Ends}
 use Rattle.inspect_replay.specs.declared.stop.Stop.{Stop}
-use Rattle.inspect_replay.specs.declared.stop.Stop.TheVariants.{Line, TooLong, ReadFault, WriteFault, LinkFault, FrontRefused, NoRoom, Memory}
+use Rattle.inspect_replay.specs.declared.stop.Stop.TheVariants.{Line, TooLong, ReadFault, WriteFault, LinkFault, FrontRefused, NoRoom}
+use Rattle.inspect_replay.specs.declared.stop.Stop.TheVariants.{Memory}
 use Rattle.inspect_replay.specs.declared.status.Status.{Status}
 use Rattle.inspect_replay.specs.declared.status.Status.TheVariants as status
 use Rattle.inspect_replay.specs.Says.{Phase, untouched, reading, underway, ended, anywhen, Lie, PartRose, Says, says, status_of}
 use Rattle.inspect_replay.specs.Answers.{InReadOnly, source_counts, IsInputStop}
 use Rattle.back_end.specs.Seats.{StandsFor, HasRoomLeft}
-use Rattle.inspect_replay.specs.Followed.{AllCame, GivesNoMore, Passed, FoldsAt, fold_since, StatusFolds, StopFolds, EndsShown, AnswersInOrder, FollowsWith, FollowsRun, FollowsAnswer, PrintedSome}
+use Rattle.inspect_replay.specs.Followed.{AllCame, GivesNoMore, Passed, FoldsAt, fold_since, StatusFolds, StopFolds, EndsShown}
+use Rattle.inspect_replay.specs.Followed.{AnswersInOrder, FollowsWith, FollowsRun, FollowsAnswer, PrintedSome}
 use Rattle.inspect_replay.specs.Prints.{IsRead, ReadsAt}
 use Rattle.inspect_replay.specs.Runs.{ends_of}
 use Rattle.inspect_replay.specs.Moments.{moment}
@@ -52,7 +57,8 @@ use Rattle.inspect_replay.proofs.RunLemmas.{no_frames, first_ends, ends-first, I
 -- ---- stops
 
 -- a stop that is not the front end's, where the fold meets no fault
-pub stop-folds : (stop : Stop) (passed : Passed) → GoesWell {T = Unit {0}} (Err stop) → IsOk passed.fold → StopFolds {T = Unit {0}} (Err stop) passed
+pub stop-folds : (stop : Stop) (passed : Passed) → GoesWell {T = Unit {0}} (Err stop) → IsOk passed.fold
+    → StopFolds {T = Unit {0}} (Err stop) passed
 stop-folds (Line number fault) passed never good = good
 stop-folds TooLong passed never good = good
 stop-folds ReadFault passed never good = good
@@ -63,20 +69,25 @@ stop-folds NoRoom passed never good = absurd never
 stop-folds Memory passed never good = tt
 
 -- the fold of a run that follows meets no fault
-pub follows-good : (state0 : Started) (up0 down0 up down : Pipe) (waiting : List (List ℕ)) (e : HeldEnds) → Follows state0 up0 down0 up down waiting e
+pub follows-good : (state0 : Started) (up0 down0 up down : Pipe) (waiting : List (List ℕ)) (e : HeldEnds)
+    → Follows state0 up0 down0 up down waiting e
     → IsOk (fold_since up0 down0 up down).fold
 follows-good state0 up0 down0 up down waiting e f = subst IsOk (sym (follows-fold state0 up0 down0 up down waiting e f)) refl
 
-pub run-good : (state0 : Started) (up0 down0 up down : Pipe) (e : Ends) → FollowsRun state0 up0 down0 up down e → IsOk (fold_since up0 down0 up down).fold
+pub run-good : (state0 : Started) (up0 down0 up down : Pipe) (e : Ends) → FollowsRun state0 up0 down0 up down e
+    → IsOk (fold_since up0 down0 up down).fold
 run-good state0 up0 down0 up down e run = follows-good state0 up0 down0 up down e.splitter.whole (ends_of e) run.so_far
 
 -- the matched styles that were shown came
-pub run-came : (state0 : Started) (up0 down0 up down : Pipe) (e : Ends) → FollowsRun state0 up0 down0 up down e → AllCame (fold_since up0 down0 up down) state0.shown
+pub run-came : (state0 : Started) (up0 down0 up down : Pipe) (e : Ends) → FollowsRun state0 up0 down0 up down e
+    → AllCame (fold_since up0 down0 up down) state0.shown
 run-came state0 up0 down0 up down e run =
     let f = run.so_far in
-    let fold : (fold_since up0 down0 up down).fold ≡ Ok e.front.value = follows-fold state0 up0 down0 up down e.splitter.whole (ends_of e) f in
+    let fold : (fold_since up0 down0 up down).fold
+    ≡ Ok e.front.value = follows-fold state0 up0 down0 up down e.splitter.whole (ends_of e) f in
     let value : f.value ≡ e.front.value = sym (ap (λ (s : FrontState). s.value) f.front_is) in
-    subst (λ r. All (λ ask. came_styles r ask ≡ true) state0.shown) (sym fold) (subst (λ v. All (λ ask. knows_styles v ask ≡ true) state0.shown) value f.styled)
+    subst (λ r. All (λ ask. came_styles r ask ≡ true) state0.shown) (sym fold)
+    (subst (λ v. All (λ ask. knows_styles v ask ≡ true) state0.shown) value f.styled)
 
 -- whether some came is what the front end has kept
 pub run-kept : (state0 : Started) (up0 down0 up down : Pipe) (e : Ends) (ask : ℕ) → FollowsRun state0 up0 down0 up down e
@@ -86,7 +97,8 @@ run-kept state0 up0 down0 up down e ask run =
 
 -- nothing was sent or given when a call stops
 pub same-stop : (stop : Stop) (state0 : Started) (up0 down0 up down up1 down1 : Pipe) (waiting : List (List ℕ)) (e : HeldEnds)
-    → Follows state0 up0 down0 up down waiting e → GoesWell {T = Unit {0}} (Err stop) → up1 ≡ up → down1 ≡ down → StopFolds {T = Unit {0}} (Err stop) (fold_since up0 down0 up1 down1)
+    → Follows state0 up0 down0 up down waiting e → GoesWell {T = Unit {0}} (Err stop) → up1 ≡ up → down1 ≡ down
+    → StopFolds {T = Unit {0}} (Err stop) (fold_since up0 down0 up1 down1)
 same-stop stop state0 up0 down0 up down up1 down1 waiting e f never same_up same_down =
     stop-folds stop (fold_since up0 down0 up1 down1) never
     (subst (λ u. IsOk (fold_since up0 down0 u down1).fold) (sym same_up)
@@ -95,19 +107,24 @@ same-stop stop state0 up0 down0 up down up1 down1 waiting e f never same_up same
 -- ---- what a call keeps
 
 -- it has come through, or not
-pub kept-run : {T : Type 0} (result : Result T Stop) (state0 : Started) (up0 down0 up down : Pipe) (e : Ends) → GoesWell result → FollowsRun state0 up0 down0 up down e
+pub kept-run : {T : Type 0} (result : Result T Stop) (state0 : Started) (up0 down0 up down : Pipe) (e : Ends) → GoesWell result
+    → FollowsRun state0 up0 down0 up down e
     → OnOk result (FollowsRun state0 up0 down0 up down e) × StopFolds result (fold_since up0 down0 up down)
 kept-run (Ok value) state0 up0 down0 up down e never run = (run, run-good state0 up0 down0 up down e run)
-kept-run (Err stop) state0 up0 down0 up down e never run = (tt, stop-folds stop (fold_since up0 down0 up down) never (run-good state0 up0 down0 up down e run))
+kept-run (Err stop) state0 up0 down0 up down e never run =
+    (tt, stop-folds stop (fold_since up0 down0 up down) never (run-good state0 up0 down0 up down e run))
 
 -- a line that makes no step of the script
-pub run-fewer : (state0 : Started) (up0 down0 up down : Pipe) (e : Ends) → FollowsRun (one_line_more state0) up0 down0 up down e → FollowsRun state0 up0 down0 up down e
+pub run-fewer : (state0 : Started) (up0 down0 up down : Pipe) (e : Ends) → FollowsRun (one_line_more state0) up0 down0 up down e
+    → FollowsRun state0 up0 down0 up down e
 run-fewer state0 up0 down0 up down e run =
     record { so_far = follows-fewer state0 up0 down0 up down e.splitter.whole (ends_of e) run.so_far; none_whole = run.none_whole }
 
 -- the line that comes next is one of those that are left
-pub run-line : (state0 : State) (shown : List ℕ) (up0 down0 up down : Pipe) (e : Ends) (lines : List (List ℕ)) (line : List ℕ) (more : List (List ℕ)) → lines ≡ line ∷ more
-    → FollowsRun (run_started state0 (length lines) shown) up0 down0 up down e → FollowsRun (one_line_more (run_started state0 (length more) shown)) up0 down0 up down e
+pub run-line : (state0 : State) (shown : List ℕ) (up0 down0 up down : Pipe) (e : Ends) (lines : List (List ℕ)) (line : List ℕ)
+    (more : List (List ℕ)) → lines ≡ line ∷ more
+    → FollowsRun (run_started state0 (length lines) shown) up0 down0 up down e
+    → FollowsRun (one_line_more (run_started state0 (length more) shown)) up0 down0 up down e
 run-line state0 shown up0 down0 up down e lines line more is run =
     let count : length lines ≡ suc (length more) = ap length is in
     let plus : length lines ≡ length more + 1 = omega (arith, count) in
@@ -116,23 +133,27 @@ run-line state0 shown up0 down0 up down e lines line more is run =
 -- and then none is left
 pub run-last : (state0 : State) (shown : List ℕ) (up0 down0 up down : Pipe) (e : Ends) (lines : List (List ℕ)) → lines ≡ []
     → FollowsRun (run_started state0 (length lines) shown) up0 down0 up down e → FollowsRun (run_started state0 0 shown) up0 down0 up down e
-run-last state0 shown up0 down0 up down e lines none run = subst (λ (ls : List (List ℕ)). FollowsRun (run_started state0 (length ls) shown) up0 down0 up down e) none run
+run-last state0 shown up0 down0 up down e lines none run = subst
+    (λ (ls : List (List ℕ)). FollowsRun (run_started state0 (length ls) shown) up0 down0 up down e) none run
 
 -- where the front end has no id left, the call stops
 pub front-stops : (state0 : Started) (up0 down0 up down : Pipe) (e : Ends) → FollowsRun state0 up0 down0 up down e
-    → ((e.front.next < 2 ^ 30) × (2 ^ 30 + e.front.fetches < 2 ^ 52) → false ≡ true) → StopFolds {T = Unit {0}} (Err NoRoom) (fold_since up0 down0 up down)
+    → ((e.front.next < 2 ^ 30) × (2 ^ 30 + e.front.fetches < 2 ^ 52) → false ≡ true)
+    → StopFolds {T = Unit {0}} (Err NoRoom) (fold_since up0 down0 up down)
 front-stops state0 up0 down0 up down e run none =
     (run-good state0 up0 down0 up down e run, front-full state0 up0 down0 up down e.splitter.whole (ends_of e) run.so_far none)
 
 -- or the back end
-pub seat-stops : (state0 : Started) (up0 down0 up down : Pipe) (waiting : List (List ℕ)) (e : HeldEnds) → Follows state0 up0 down0 up down waiting e
+pub seat-stops : (state0 : Started) (up0 down0 up down : Pipe) (waiting : List (List ℕ)) (e : HeldEnds)
+    → Follows state0 up0 down0 up down waiting e
     → (HasRoomLeft e.seat e.side → false ≡ true) → StopFolds {T = Unit {0}} (Err NoRoom) (fold_since up0 down0 up down)
 seat-stops state0 up0 down0 up down waiting e f none =
     (follows-good state0 up0 down0 up down waiting e f, seat-full state0 up0 down0 up down waiting e f none)
 
 -- ---- the link and the ends
 
-pub asked-follows : (state0 : Started) (up0 down0 up down up1 down1 : Pipe) (e : HeldEnds) (a : AskForm) (waiting : List (List ℕ)) (frame bytes : List ℕ) (there : ℕ) (front1 : FrontState)
+pub asked-follows : (state0 : Started) (up0 down0 up down up1 down1 : Pipe) (e : HeldEnds) (a : AskForm) (waiting : List (List ℕ))
+    (frame bytes : List ℕ) (there : ℕ) (front1 : FrontState)
     → CanSend a → e.front.next < 2 ^ 30 → Follows state0 up0 down0 up down waiting e → there ≡ e.up_there + length frame
     → frame ≡ framed (command_text e.front.next a.method a.params a.session) → front1 ≡ after_ask e.front a.method
     → bytes ≡ frame → (up1.sent ≡ up.sent ++ bytes) × (up1.given ≡ up.given) → down1 ≡ down
@@ -140,13 +161,15 @@ pub asked-follows : (state0 : Started) (up0 down0 up down up1 down1 : Pipe) (e :
 asked-follows state0 up0 down0 up down up1 down1 e a waiting frame bytes there front1 can room f left frame_is front_is same_bytes sent same_down =
     let text = command_text e.front.next a.method a.params a.session in
     let all : Follows state0 up0 down0 up1 down waiting (record e { front = after_ask e.front a.method; up_there = there }) =
-    follows-sends state0 up0 down0 up down up1 waiting e a text there f (left ∙ ap (λ bytes. e.up_there + length bytes) frame_is) can (omega (arith, room)) refl
+    follows-sends state0 up0 down0 up down up1 waiting e a text there f (left ∙ ap (λ bytes. e.up_there + length bytes) frame_is) can
+    (omega (arith, room)) refl
     (sent.0 ∙ ap (λ piece. up.sent ++ piece) (same_bytes ∙ frame_is)) sent.1 in
     subst (λ pipe. Follows state0 up0 down0 up1 pipe waiting (record e { front = front1; up_there = there })) (sym same_down)
     (subst (λ s. Follows state0 up0 down0 up1 down waiting (record e { front = s; up_there = there })) (sym front_is) all)
 
 -- the text of a sheet is fetched
-pub fetched-follows : (state0 : Started) (up0 down0 up down up1 down1 : Pipe) (e : HeldEnds) (sheet : ℕ) (waiting : List (List ℕ)) (frame bytes : List ℕ) (there : ℕ) (front1 : FrontState)
+pub fetched-follows : (state0 : Started) (up0 down0 up down up1 down1 : Pipe) (e : HeldEnds) (sheet : ℕ) (waiting : List (List ℕ))
+    (frame bytes : List ℕ) (there : ℕ) (front1 : FrontState)
     → sheet < 2 ^ 64 → 2 ^ 30 + e.front.fetches < 2 ^ 52 → Follows state0 up0 down0 up down waiting e → there ≡ e.up_there + length frame
     → frame ≡ framed (front_fetcher.text e.front.fetches sheet) → front1 ≡ after_fetch e.front sheet
     → bytes ≡ frame → (up1.sent ≡ up.sent ++ bytes) × (up1.given ≡ up.given) → down1 ≡ down
@@ -159,7 +182,8 @@ fetched-follows state0 up0 down0 up down up1 down1 e sheet waiting frame bytes t
     (subst (λ s. Follows state0 up0 down0 up1 down waiting (record e { front = s; up_there = there })) (sym front_is) all)
 
 -- a frame is sent that names no ask
-pub raw-follows : (state0 : Started) (up0 down0 up down up1 down1 : Pipe) (e : HeldEnds) (text : List ℕ) (waiting : List (List ℕ)) (frame bytes : List ℕ) (there : ℕ)
+pub raw-follows : (state0 : Started) (up0 down0 up down up1 down1 : Pipe) (e : HeldEnds) (text : List ℕ) (waiting : List (List ℕ))
+    (frame bytes : List ℕ) (there : ℕ)
     → IsText text → ask_of_frame text ≡ None → Follows state0 up0 down0 up down waiting e → there ≡ e.up_there + length frame
     → frame ≡ framed text → bytes ≡ frame → (up1.sent ≡ up.sent ++ bytes) × (up1.given ≡ up.given) → down1 ≡ down
     → Follows state0 up0 down0 up1 down1 waiting (record e { up_there = there })
@@ -170,19 +194,24 @@ raw-follows state0 up0 down0 up down up1 down1 e text waiting frame bytes there 
     subst (λ pipe. Follows state0 up0 down0 up1 pipe waiting (record e { up_there = there })) (sym same_down) all
 
 -- bytes came up, and were cut into frames
-pub given-follows : (state0 : Started) (up0 down0 up down up1 down1 : Pipe) (e : HeldEnds) (s s1 : Frames) (piece bytes : List ℕ) (there : ℕ)
-    → Follows state0 up0 down0 up down s.whole (record e { back_rest = s.rest }) → there + length bytes ≡ e.up_there → (up1.sent ≡ up.sent) × (up1.given ≡ up.given ++ bytes) → down1 ≡ down
+pub given-follows : (state0 : Started) (up0 down0 up down up1 down1 : Pipe) (e : HeldEnds) (s s1 : Frames) (piece bytes : List ℕ)
+    (there : ℕ)
+    → Follows state0 up0 down0 up down s.whole (record e { back_rest = s.rest }) → there + length bytes ≡ e.up_there
+    → (up1.sent ≡ up.sent) × (up1.given ≡ up.given ++ bytes) → down1 ≡ down
     → piece ≡ bytes → s1 ≡ continued s piece
     → Follows state0 up0 down0 up1 down1 s1.whole (record e { back_rest = s1.rest; up_there = there })
 given-follows state0 up0 down0 up down up1 down1 e s s1 piece bytes there f left moved same_down same_bytes cut =
-    let all : Follows state0 up0 down0 up1 down (continued s bytes).whole (record e { back_rest = (continued s bytes).rest; up_there = there }) =
-    follows-given_up state0 up0 down0 up down up1 s.whole (record e { back_rest = s.rest }) bytes (held_after s.rest bytes) there f left moved.0 moved.1 refl in
+    let all : Follows state0 up0 down0 up1 down (continued s bytes).whole
+    (record e { back_rest = (continued s bytes).rest; up_there = there }) =
+    follows-given_up state0 up0 down0 up down up1 s.whole (record e { back_rest = s.rest }) bytes
+    (held_after s.rest bytes) there f left moved.0 moved.1 refl in
     let now : continued s bytes ≡ s1 = sym (cut ∙ ap (continued s) same_bytes) in
     subst (λ pipe. Follows state0 up0 down0 up1 pipe s1.whole (record e { back_rest = s1.rest; up_there = there })) (sym same_down)
     (subst (λ (x : Frames). Follows state0 up0 down0 up1 down x.whole (record e { back_rest = x.rest; up_there = there })) now all)
 
 -- a frame was answered
-pub answered-follows : (state0 : Started) (up0 down0 up down up1 down1 : Pipe) (frame : List ℕ) (frames : List (List ℕ)) (seat seat1 : Seat) (side side1 : PageSide) (e : HeldEnds)
+pub answered-follows : (state0 : Started) (up0 down0 up down up1 down1 : Pipe) (frame : List ℕ) (frames : List (List ℕ))
+    (seat seat1 : Seat) (side side1 : PageSide) (e : HeldEnds)
     (old out bytes : List ℕ) (there : ℕ)
     → Follows state0 up0 down0 up down (frame ∷ frames) (record e { seat = seat; side = side }) → there ≡ e.down_there + length out
     → HasRoomLeft seat side
@@ -196,10 +225,12 @@ answered-follows state0 up0 down0 up down up1 down1 frame frames seat seat1 side
     (room-of seat side f.state f.stands room) (stood f.state f.stands)
     (said f.state f.stands ∙ ap (λ start. start ++ (step f.state frame).sent) empty)
     (sent.0 ∙ ap (λ piece. down.sent ++ piece) same_out) sent.1 in
-    subst (λ pipe. Follows state0 up0 down0 pipe down1 frames (record e { seat = seat1; side = side1; down_there = there })) (sym same_up) all
+    subst (λ pipe. Follows state0 up0 down0 pipe down1 frames (record e { seat = seat1; side = side1; down_there = there }))
+    (sym same_up) all
 
 -- the script made a step by itself
-pub turned-follows : (state0 : Started) (up0 down0 up down up1 down1 : Pipe) (x : Turn) (waiting : List (List ℕ)) (seat seat1 : Seat) (side side1 : PageSide) (e : HeldEnds)
+pub turned-follows : (state0 : Started) (up0 down0 up down up1 down1 : Pipe) (x : Turn) (waiting : List (List ℕ)) (seat seat1 : Seat)
+    (side side1 : PageSide) (e : HeldEnds)
     (old out bytes : List ℕ) (there : ℕ)
     → Follows (one_line_more state0) up0 down0 up down waiting (record e { seat = seat; side = side }) → there ≡ e.down_there + length out
     → HasRoomLeft seat side → IsTurn x
@@ -213,32 +244,39 @@ turned-follows state0 up0 down0 up down up1 down1 x waiting seat seat1 side side
     (room-of seat side f.state f.stands room) is_turn (stood f.state f.stands)
     (said f.state f.stands ∙ ap (λ start. start ++ (turn x f.state).sent) empty)
     (sent.0 ∙ ap (λ piece. down.sent ++ piece) same_out) sent.1 in
-    subst (λ pipe. Follows state0 up0 down0 pipe down1 waiting (record e { seat = seat1; side = side1; down_there = there })) (sym same_up) all
+    subst (λ pipe. Follows state0 up0 down0 pipe down1 waiting (record e { seat = seat1; side = side1; down_there = there }))
+    (sym same_up) all
 
 -- bytes came down, and the front end refused none of the messages
-pub delivered-follows : (state0 : Started) (up0 down0 up down up1 down1 : Pipe) (waiting : List (List ℕ)) (e : HeldEnds) (piece bytes : List ℕ) (there : ℕ) (front1 : FrontState)
-    → Follows state0 up0 down0 up down waiting e → there + length bytes ≡ e.down_there → (down1.sent ≡ down.sent) × (down1.given ≡ down.given ++ bytes) → up1 ≡ up
+pub delivered-follows : (state0 : Started) (up0 down0 up down up1 down1 : Pipe) (waiting : List (List ℕ)) (e : HeldEnds)
+    (piece bytes : List ℕ) (there : ℕ) (front1 : FrontState)
+    → Follows state0 up0 down0 up down waiting e → there + length bytes ≡ e.down_there
+    → (down1.sent ≡ down.sent) × (down1.given ≡ down.given ++ bytes) → up1 ≡ up
     → piece ≡ bytes → front1 ≡ after_take e.front piece → front1.fault ≡ None
     → Follows state0 up0 down0 up1 down1 waiting (record e { front = front1; down_there = there })
 delivered-follows state0 up0 down0 up down up1 down1 waiting e piece bytes there front1 f left moved same_up same_bytes front_is good =
     let now : front1 ≡ after_take e.front bytes = front_is ∙ ap (after_take e.front) same_bytes in
     let all : Follows state0 up0 down0 up down1 waiting (record e { front = after_take e.front bytes; down_there = there }) =
-    follows-delivered_down state0 up0 down0 up down down1 waiting e bytes there f left moved.0 moved.1 (sym (ap (λ (s : FrontState). s.fault) now) ∙ good) in
+    follows-delivered_down state0 up0 down0 up down down1 waiting e bytes there f left moved.0 moved.1
+    (sym (ap (λ (s : FrontState). s.fault) now) ∙ good) in
     subst (λ pipe. Follows state0 up0 down0 pipe down1 waiting (record e { front = front1; down_there = there })) (sym same_up)
     (subst (λ s. Follows state0 up0 down0 up down1 waiting (record e { front = s; down_there = there })) (sym now) all)
 
 -- or it refused one
-pub refused-folds : (state0 : Started) (up0 down0 up down up1 down1 : Pipe) (waiting : List (List ℕ)) (e : HeldEnds) (piece bytes : List ℕ) (front1 : FrontState) (fault : FrontFault)
+pub refused-folds : (state0 : Started) (up0 down0 up down up1 down1 : Pipe) (waiting : List (List ℕ)) (e : HeldEnds) (piece bytes : List ℕ)
+    (front1 : FrontState) (fault : FrontFault)
     → Follows state0 up0 down0 up down waiting e → (down1.sent ≡ down.sent) × (down1.given ≡ down.given ++ bytes) → up1 ≡ up
     → piece ≡ bytes → front1 ≡ after_take e.front piece → front1.fault ≡ Some fault
     → (fold_since up0 down0 up1 down1).fold ≡ Err fault
 refused-folds state0 up0 down0 up down up1 down1 waiting e piece bytes front1 fault f moved same_up same_bytes front_is bad =
     let now : front1 ≡ after_take e.front bytes = front_is ∙ ap (after_take e.front) same_bytes in
     ap (λ pipe. (fold_since up0 down0 pipe down1).fold) same_up
-    ∙ follows-refused state0 up0 down0 up down down1 waiting e bytes fault f moved.0 moved.1 (sym (ap (λ (s : FrontState). s.fault) now) ∙ bad)
+    ∙ follows-refused state0 up0 down0 up down down1 waiting e bytes fault f moved.0 moved.1
+    (sym (ap (λ (s : FrontState). s.fault) now) ∙ bad)
 
 -- the next frame is answered, before those that the splitter holds
-pub follow_turn : {T : Type 0} (result : Result T Stop) (state0 : Started) (up0 down0 up down up1 down1 : Pipe) (e e1 : Ends) (s : Frames) (frame : List ℕ)
+pub follow_turn : {T : Type 0} (result : Result T Stop) (state0 : Started) (up0 down0 up down up1 down1 : Pipe) (e e1 : Ends) (s : Frames)
+    (frame : List ℕ)
     → FollowsWith state0 up0 down0 up down e → e.splitter.whole ≡ frame ∷ s.whole → s.rest ≡ e.splitter.rest
     → FollowsAnswer (moment (Unit {0}) up down (record e { splitter = s })) (moment (Unit {0}) up1 down1 e1) frame result
     → OnOk result (FollowsWith state0 up0 down0 up1 down1 e1) × StopFolds result (fold_since up0 down0 up1 down1)
@@ -248,7 +286,8 @@ follow_turn result state0 up0 down0 up down up1 down1 e e1 s frame f whole rest 
     (subst (λ frames. Follows state0 up0 down0 up down frames (ends_of e)) whole f))
 
 -- no frame is left
-pub follow_end : (state0 : Started) (up0 down0 up down : Pipe) (e e1 : Ends) → FollowsWith state0 up0 down0 up down e → e1.splitter ≡ e.splitter → e1.splitter.whole ≡ []
+pub follow_end : (state0 : Started) (up0 down0 up down : Pipe) (e e1 : Ends) → FollowsWith state0 up0 down0 up down e
+    → e1.splitter ≡ e.splitter → e1.splitter.whole ≡ []
     → ((rest : List ℕ) → record (ends_of e) { back_rest = rest } ≡ record (ends_of e1) { back_rest = rest })
     → FollowsRun state0 up0 down0 up down e1 × IsOk (fold_since up0 down0 up down).fold
 follow_end state0 up0 down0 up down e e1 f same none ends = (
@@ -262,15 +301,18 @@ follow_end state0 up0 down0 up down e e1 f same none ends = (
 
 -- ---- what is told and printed
 
-pub told-run : (state0 : Started) (up0 down0 up down : Pipe) (e e1 : Ends) (replies pauses : ℕ) → e1 ≡ record e { told = replies; told_pauses = pauses }
+pub told-run : (state0 : Started) (up0 down0 up down : Pipe) (e e1 : Ends) (replies pauses : ℕ)
+    → e1 ≡ record e { told = replies; told_pauses = pauses }
     → FollowsRun state0 up0 down0 up down e → FollowsRun state0 up0 down0 up down e1
 told-run state0 up0 down0 up down e e1 replies pauses is run =
     subst (λ x. FollowsRun state0 up0 down0 up down x) (sym is) (record {
-      so_far = follows-told state0 up0 down0 up down e.splitter.whole (ends_of e) (record { replies = replies; pauses = pauses }) run.so_far;
+      so_far = follows-told state0 up0 down0 up down e.splitter.whole (ends_of e)
+          (record { replies = replies; pauses = pauses }) run.so_far;
       none_whole = run.none_whole;
     })
 
-pub some-printed : {T : Type 0} (result : Result T Stop) (before after : Option (List ℕ)) (text : List ℕ) → OnOk result (Appends before after text) → OnOk result (PrintedSome before after)
+pub some-printed : {T : Type 0} (result : Result T Stop) (before after : Option (List ℕ)) (text : List ℕ)
+    → OnOk result (Appends before after text) → OnOk result (PrintedSome before after)
 some-printed (Ok value) before after text printed = record { written = text; printed = printed }
 some-printed (Err stop) before after text printed = tt
 
@@ -279,13 +321,18 @@ none-printed (Ok value) taken = record { written = []; printed = Appends-nil tak
 none-printed (Err stop) taken = tt
 
 pub more-printed : (before middle after : Option (List ℕ)) → PrintedSome before middle → PrintedSome middle after → PrintedSome before after
-more-printed before middle after a b = record { written = a.written ++ b.written; printed = Appends-append before middle after a.written b.written a.printed b.printed }
+more-printed before middle after a b = record {
+  written = a.written ++ b.written;
+  printed = Appends-append before middle after a.written b.written a.printed b.printed;
+}
 
 -- the closing part, where it was printed
-pub closes-shown : (result : Result (Unit {0}) Stop) (state0 : Started) (up0 down0 up down : Pipe) (before after : Option (List ℕ)) (e : Ends) (tree : Nodes Seen)
+pub closes-shown : (result : Result (Unit {0}) Stop) (state0 : Started) (up0 down0 up down : Pipe) (before after : Option (List ℕ))
+    (e : Ends) (tree : Nodes Seen)
     → FollowsRun state0 up0 down0 up down e → tree ≡ e.front.value.tree → GoesWell result
     → OnOk result (Appends before after (codes "# end" ++ 10 ∷ outline_text seen_line tree))
-    → OnOk result (EndsShown before after (fold_since up0 down0 up down) × AnswersInOrder up0 down0 up down × GivesNoMore up0 down0 up down × AllCame (fold_since up0 down0 up down) state0.shown) × StopFolds result (fold_since up0 down0 up down)
+    → OnOk result (EndsShown before after (fold_since up0 down0 up down) × AnswersInOrder up0 down0 up down × GivesNoMore up0 down0 up down
+    × AllCame (fold_since up0 down0 up down) state0.shown) × StopFolds result (fold_since up0 down0 up down)
 closes-shown (Ok value) state0 up0 down0 up down before after e tree run shows never printed = (
   (
     record {
@@ -294,21 +341,25 @@ closes-shown (Ok value) state0 up0 down0 up down before after e tree run shows n
       written = [];
       printed = subst (λ t. Appends before after (codes "# end" ++ 10 ∷ outline_text seen_line t)) shows printed;
     },
-    follows-replies state0 up0 down0 up down (ends_of e) (subst (λ frames. Follows state0 up0 down0 up down frames (ends_of e)) run.none_whole run.so_far),
+    follows-replies state0 up0 down0 up down (ends_of e)
+        (subst (λ frames. Follows state0 up0 down0 up down frames (ends_of e)) run.none_whole run.so_far),
     follows-less state0 up0 down0 up down e.splitter.whole (ends_of e) run.so_far,
     run-came state0 up0 down0 up down e run,
   ),
   run-good state0 up0 down0 up down e run,
 )
-closes-shown (Err stop) state0 up0 down0 up down before after e tree run shows never printed = (tt, stop-folds stop (fold_since up0 down0 up down) never (run-good state0 up0 down0 up down e run))
+closes-shown (Err stop) state0 up0 down0 up down before after e tree run shows never printed =
+    (tt, stop-folds stop (fold_since up0 down0 up down) never (run-good state0 up0 down0 up down e run))
 
 -- after what was printed before
-ends-after : (before middle after : Option (List ℕ)) (passed : Passed) → PrintedSome before middle → EndsShown middle after passed → EndsShown before after passed
+ends-after : (before middle after : Option (List ℕ)) (passed : Passed) → PrintedSome before middle → EndsShown middle after passed
+    → EndsShown before after passed
 ends-after before middle after passed some shown =
     let head = codes "# end" in
     let outline = 10 ∷ outline_text seen_line shown.value.tree in
     let same : ((some.written ++ shown.written) ++ head) ++ outline ≡ some.written ++ ((shown.written ++ head) ++ outline) =
-    ap (λ text. text ++ outline) (append_assoc some.written shown.written head) ∙ append_assoc some.written (shown.written ++ head) outline in
+    ap (λ text. text ++ outline) (append_assoc some.written shown.written head) ∙ append_assoc some.written
+    (shown.written ++ head) outline in
     record {
       value = shown.value;
       is_fold = shown.is_fold;
@@ -317,18 +368,23 @@ ends-after before middle after passed some shown =
           (Appends-append before middle after some.written ((shown.written ++ head) ++ outline) some.printed shown.printed);
     }
 
-pub ends-shown : {T : Type 0} (result : Result T Stop) (before middle after : Option (List ℕ)) (up0 down0 up down : Pipe) (shown : List ℕ) → PrintedSome before middle
-    → OnOk result (EndsShown middle after (fold_since up0 down0 up down) × AnswersInOrder up0 down0 up down × GivesNoMore up0 down0 up down × AllCame (fold_since up0 down0 up down) shown) → OnOk result (EndsShown before after (fold_since up0 down0 up down))
-ends-shown (Ok value) before middle after up0 down0 up down shown some both = ends-after before middle after (fold_since up0 down0 up down) some both.0
+pub ends-shown : {T : Type 0} (result : Result T Stop) (before middle after : Option (List ℕ)) (up0 down0 up down : Pipe) (shown : List ℕ)
+    → PrintedSome before middle
+    → OnOk result (EndsShown middle after (fold_since up0 down0 up down) × AnswersInOrder up0 down0 up down × GivesNoMore up0 down0 up down
+    × AllCame (fold_since up0 down0 up down) shown) → OnOk result (EndsShown before after (fold_since up0 down0 up down))
+ends-shown (Ok value) before middle after up0 down0 up down shown some both = ends-after before middle after
+    (fold_since up0 down0 up down) some both.0
 ends-shown (Err stop) before middle after up0 down0 up down shown some both = tt
 
 pub in-order : {T : Type 0} (result : Result T Stop) (before after : Option (List ℕ)) (up0 down0 up down : Pipe) (shown : List ℕ)
-    → OnOk result (EndsShown before after (fold_since up0 down0 up down) × AnswersInOrder up0 down0 up down × GivesNoMore up0 down0 up down × AllCame (fold_since up0 down0 up down) shown) → OnOk result (AnswersInOrder up0 down0 up down)
+    → OnOk result (EndsShown before after (fold_since up0 down0 up down) × AnswersInOrder up0 down0 up down × GivesNoMore up0 down0 up down
+    × AllCame (fold_since up0 down0 up down) shown) → OnOk result (AnswersInOrder up0 down0 up down)
 in-order (Ok value) before after up0 down0 up down shown both = both.1
 in-order (Err stop) before after up0 down0 up down shown both = tt
 
 pub no-more : {T : Type 0} (result : Result T Stop) (before after : Option (List ℕ)) (up0 down0 up down : Pipe) (shown : List ℕ)
-    → OnOk result (EndsShown before after (fold_since up0 down0 up down) × AnswersInOrder up0 down0 up down × GivesNoMore up0 down0 up down × AllCame (fold_since up0 down0 up down) shown) → OnOk result (GivesNoMore up0 down0 up down)
+    → OnOk result (EndsShown before after (fold_since up0 down0 up down) × AnswersInOrder up0 down0 up down × GivesNoMore up0 down0 up down
+    × AllCame (fold_since up0 down0 up down) shown) → OnOk result (GivesNoMore up0 down0 up down)
 no-more (Ok value) before after up0 down0 up down shown all = all.2
 no-more (Err stop) before after up0 down0 up down shown all = tt
 
@@ -343,7 +399,8 @@ start-good up down =
     subst (λ bytes. IsOk (fold_of bytes (given_since down down))) (sym (none up.sent))
     (subst (λ bytes. IsOk (fold_of [] bytes)) (sym (none down.given)) folds)
 
-pub run-first : (up down : Pipe) (page : LoadedPage) (lines : ℕ) (e : Ends) → CanLoadPage page → PageHasTexts page → lines ≤ 2 ^ 26 → IsNewSide e.seat e.side page
+pub run-first : (up down : Pipe) (page : LoadedPage) (lines : ℕ) (e : Ends) → CanLoadPage page → PageHasTexts page → lines ≤ 2 ^ 26
+    → IsNewSide e.seat e.side page
     → e.splitter ≡ no_frames → e.front ≡ first_state → e.up_there ≡ 0 → e.down_there ≡ 0 → e.told ≡ 0 → e.told_pauses ≡ 0
     → FollowsRun (run_started (loaded_state page) lines []) up down up down e
 run-first up down page lines e can texts few new splitter_is front_is up_none down_none told_none pauses_none =
@@ -357,12 +414,14 @@ run-first up down page lines e can texts few new splitter_is front_is up_none do
     record {
       so_far = subst (λ h. Follows start up down up down e.splitter.whole h) (sym same)
           (subst (λ frames. Follows start up down up down frames (first_ends e.seat e.side)) (sym none)
-          (follows-start up down start e.seat e.side refl (stands-first page e.seat e.side can texts new) few drew (omega (arith, serials)) (omega (arith, numbers))));
+          (follows-start up down start e.seat e.side refl (stands-first page e.seat e.side can texts new) few drew (omega (arith, serials))
+          (omega (arith, numbers))));
       none_whole = none;
     }
 
 -- a line that is not read
-pub read-folds : (stop : Stop) (number : ℕ) (bad : Option LineFault) (passed : Passed) → IsRead {T = Unit {0}} (Err stop) number bad → IsOk passed.fold
+pub read-folds : (stop : Stop) (number : ℕ) (bad : Option LineFault) (passed : Passed) → IsRead {T = Unit {0}} (Err stop) number bad
+    → IsOk passed.fold
     → StopFolds {T = Unit {0}} (Err stop) passed
 read-folds stop number bad passed read good = let s : Says = says (status_of stop) in at-line s.phase s.lie s.line read
   where
@@ -374,12 +433,15 @@ read-folds stop number bad passed read good = let s : Says = says (status_of sto
     at-line anywhen lie line read = tt
 
 -- the status that a stop is
-pub status-folds : (stop : Stop) (status : Status) (passed : Passed) → status ≡ status_of stop → StopFolds {T = Unit {0}} (Err stop) passed → StatusFolds status passed
+pub status-folds : (stop : Stop) (status : Status) (passed : Passed) → status ≡ status_of stop → StopFolds {T = Unit {0}} (Err stop) passed
+    → StatusFolds status passed
 status-folds stop status passed is folds = subst (λ s. StatusFolds s passed) (sym is) folds
 
 -- an input that is not read
-pub input-folds : (stop : Stop) (before after : ℕ) (passed : Passed) → IsInputStop before after (Err stop) → IsOk passed.fold → StopFolds {T = Unit {0}} (Err stop) passed
-input-folds stop before after passed is good = let s : Says = says (status_of stop) in at-input s.phase s.lie (PartRose (source_counts before after) s.failed) is
+pub input-folds : (stop : Stop) (before after : ℕ) (passed : Passed) → IsInputStop before after (Err stop) → IsOk passed.fold
+    → StopFolds {T = Unit {0}} (Err stop) passed
+input-folds stop before after passed is good = let s : Says = says (status_of stop) in at-input s.phase s.lie
+    (PartRose (source_counts before after) s.failed) is
   where
     at-input : (phase : Phase) (lie : Option Lie) (P : Type 0) → InReadOnly phase P → FoldsAt phase lie passed
     at-input untouched lie P is = absurd is

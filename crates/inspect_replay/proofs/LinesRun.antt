@@ -1,5 +1,6 @@
 -- The lines of a script are carried out one after the other, up to the first that is refused.
-use Rattle.std.proofs.Common.{◌≡◌, ℕ, suc, ◌+◌, ◌≤◌, List, [], ◌∷◌, ◌++◌, length, Bool, is_some, Option, Some, None, option_and_then, refl, sym, ◌∙◌, ap, subst, arith, append_assoc, append-nil, Result, Ok, Err}
+use Rattle.std.proofs.Common.{◌≡◌, ℕ, suc, ◌+◌, ◌≤◌, List, [], ◌∷◌, ◌++◌, length, Bool, is_some, Option, Some, None, option_and_then, refl}
+use Rattle.std.proofs.Common.{sym, ◌∙◌, ap, subst, arith, append_assoc, append-nil, Result, Ok, Err}
 use Rattle.std.specs.Result.{OnOk, OnErr}
 use Rattle.std.specs.Io.KnownBytes.{Appends}
 use Rattle.pipe_frames.specs.Pipe.{Pipe}
@@ -10,9 +11,11 @@ use Rattle.pipe_frames.proofs.FaultLemmas.{Rose-before}
 use Rattle.node_tree.specs.Keys.{first_of}
 use Rattle.css_objects.specs.declared.rules.Matched.{Matched}
 use Rattle.replay_script.specs.Forms as forms_of
-use Rattle.replay_script.specs.Forms.{LineForm, load, ask, show_front, show_page, show_sheets, show_replies, show_pauses, show_styles, line_form}
+use Rattle.replay_script.specs.Forms.{LineForm, load, ask, show_front, show_page, show_sheets, show_replies, show_pauses, show_styles}
+use Rattle.replay_script.specs.Forms.{line_form}
 use Rattle.replay_script.specs.Faults.{line_fault}
-use Rattle.replay_script.specs.Script.{numbered_or, unless_bad, styles_ask, styles_missing, styles_fault, first_refused, refused_of_lines, script_refused, first_bad, fault_of_lines, good_lines}
+use Rattle.replay_script.specs.Script.{numbered_or, unless_bad, styles_ask, styles_missing, styles_fault, first_refused, refused_of_lines}
+use Rattle.replay_script.specs.Script.{script_refused, first_bad, fault_of_lines, good_lines}
 use Rattle.replay_script.specs.Lines.{lines_of}
 use Rattle.replay_script.specs.declared.faults.LineFault.{LineFault}
 use Rattle.replay_script.specs.declared.faults.LineFault.TheVariants.{NotLoad}
@@ -20,14 +23,18 @@ use Rattle.replay_script.proofs.ScriptLemmas.{first_bad-good, first_bad-bad, goo
 use Rattle.inspect_world.specs.World.{World, settled}
 use Rattle.inspect_world.specs.RunStates.{RunState, run_step}
 use Rattle.inspect_world.specs.Costs.{line_cost, line_bytes}
-use Rattle.inspect_world.specs.Scripts.{after_line, after_lines, line_text, lines_text, closing_text, closing_unless, rest_text, styles_at, has_styles, styles_shown, lacking, shown_lines, first_lacking, rest_refused, refused_of, report_refused}
+use Rattle.inspect_world.specs.Scripts.{after_line, after_lines, line_text, lines_text, closing_text, closing_unless, rest_text, styles_at}
+use Rattle.inspect_world.specs.Scripts.{has_styles, styles_shown, lacking, shown_lines, first_lacking, rest_refused, refused_of}
+use Rattle.inspect_world.specs.Scripts.{report_refused}
 use Rattle.inspect_world.proofs.LineSizes.{line-long}
 use Rattle.inspect_world.proofs.Scripts.{left-fewer}
 use Rattle.inspect_replay.specs.declared.ends.Ends.{Ends}
 use Rattle.inspect_replay.specs.declared.stop.Stop.{Stop}
-use Rattle.inspect_replay.specs.declared.stop.Stop.TheVariants.{Line, TooLong, ReadFault, WriteFault, LinkFault, FrontRefused, NoRoom, Memory}
+use Rattle.inspect_replay.specs.declared.stop.Stop.TheVariants.{Line, TooLong, ReadFault, WriteFault, LinkFault, FrontRefused, NoRoom}
+use Rattle.inspect_replay.specs.declared.stop.Stop.TheVariants.{Memory}
 use Rattle.inspect_replay.specs.Runs.{InPlay}
-use Rattle.inspect_replay.specs.Says.{Phase, untouched, reading, underway, ended, anywhen, Part, source, sink, link, PartRose, Says, says, status_of}
+use Rattle.inspect_replay.specs.Says.{Phase, untouched, reading, underway, ended, anywhen, Part, source, sink, link, PartRose, Says, says}
+use Rattle.inspect_replay.specs.Says.{status_of}
 use Rattle.inspect_replay.specs.Moments.{moment, scene}
 use Rattle.inspect_replay.specs.Stops.{AmidRun, two_counts, HasStopCause, HasRunCause, GoesWell}
 use Rattle.inspect_replay.specs.Answers.{InRunOnly, RunTells, RunTook, Prints}
@@ -47,7 +54,8 @@ printed-prints (Ok value) before after text ok err = ok
 printed-prints (Err stop) before after text ok err = err
 
 -- it tells nothing of lines
-pub closed-tells : (result : Result (Unit {0}) Stop) (sink0 sink1 link0 link1 : ℕ) (bad : Option (ℕ × LineFault)) → bad ≡ None → HasStopCause sink0 sink1 link0 link1 result
+pub closed-tells : (result : Result (Unit {0}) Stop) (sink0 sink1 link0 link1 : ℕ) (bad : Option (ℕ × LineFault)) → bad ≡ None
+    → HasStopCause sink0 sink1 link0 link1 result
     → RunTells result bad
 closed-tells (Ok value) sink0 sink1 link0 link1 bad none cause = none
 closed-tells (Err stop) sink0 sink1 link0 link1 bad none cause = part-tells stop sink0 sink1 link0 link1 bad cause
@@ -56,7 +64,8 @@ closed-tells (Err stop) sink0 sink1 link0 link1 bad none cause = part-tells stop
 pub plain-lacking : (there : ℕ → Bool) (form : LineForm) → styles_ask form ≡ None → styles_fault there form ≡ None
 plain-lacking there form none = ap (option_and_then (λ k. styles_missing (there k))) none
 
-pub plain-line : (result : Result (Unit {0}) Stop) (honest honest1 : Type 0) (up down up1 down1 : Pipe) (taken taken1 : Option (List ℕ)) (e e1 : Ends) (number : ℕ) (form : LineForm)
+pub plain-line : (result : Result (Unit {0}) Stop) (honest honest1 : Type 0) (up down up1 down1 : Pipe) (taken taken1 : Option (List ℕ))
+    (e e1 : Ends) (number : ℕ) (form : LineForm)
     (sink0 sink1 link0 link1 : ℕ) → styles_ask form ≡ None → HasStopCause sink0 sink1 link0 link1 result
     → CarriesOut (scene (moment honest up down e) taken) (scene (moment honest1 up1 down1 e1) taken1) (numbered_line number form) result
     → CarriesLine (scene (moment honest up down e) taken) (scene (moment honest1 up1 down1 e1) taken1) (numbered_line number form) result
@@ -64,7 +73,8 @@ plain-line result honest honest1 up down up1 down1 taken taken1 e e1 number form
     let all = carries up0 down0 more w play in (
       all.1,
       prints-took result sink0 sink1 link0 link1 taken taken1 (line_text number form w) cause all.0 all.2,
-      closed-tells result sink0 sink1 link0 link1 (numbered_or number (lacking form w) None) (ap (λ o. numbered_or number o None) (plain-lacking (has_styles (settled run_step w)) form none)) cause,
+      closed-tells result sink0 sink1 link0 link1 (numbered_or number (lacking form w) None)
+          (ap (λ o. numbered_or number o None) (plain-lacking (has_styles (settled run_step w)) form none)) cause,
     )
 
 -- the line that shows the matched styles of an ask
@@ -89,7 +99,8 @@ silent-missing : (number k : ℕ) (o : Option Matched) (fault : LineFault) → s
 silent-missing number k None fault is = refl
 silent-missing number k (Some m) fault is = absurd cc
 
-silent-lacking : (number : ℕ) (form : LineForm) (w : World RunState) (fault : LineFault) → lacking form w ≡ Some fault → line_text number form w ≡ []
+silent-lacking : (number : ℕ) (form : LineForm) (w : World RunState) (fault : LineFault) → lacking form w ≡ Some fault
+    → line_text number form w ≡ []
 silent-lacking number (load page) w fault is = absurd cc
 silent-lacking number (forms_of.act a) w fault is = absurd cc
 silent-lacking number (ask a) w fault is = absurd cc
@@ -108,7 +119,8 @@ pub no-number : (number : ℕ) (o : Option LineFault) → numbered_or number o N
 no-number number None e = refl
 no-number number (Some fault) e = absurd cc
 
-pub some-number : (number : ℕ) (o : Option LineFault) (bad : ℕ × LineFault) → numbered_or number o None ≡ Some bad → (fault : LineFault) × (o ≡ Some fault) × (◌≡◌ {A = Option (ℕ × LineFault)} (Some (number, fault)) (Some bad))
+pub some-number : (number : ℕ) (o : Option LineFault) (bad : ℕ × LineFault) → numbered_or number o None ≡ Some bad
+    → (fault : LineFault) × (o ≡ Some fault) × (◌≡◌ {A = Option (ℕ × LineFault)} (Some (number, fault)) (Some bad))
 some-number number None bad e = absurd cc
 some-number number (Some fault) bad e = (fault, refl, e)
 
@@ -121,7 +133,8 @@ pub record Whole : Type 0 where
   pub refused : Option (ℕ × LineFault)
 
 -- where a run of lines is: the world, what was printed so far, and that the lines left do the rest
-pub record Running (honest : Type 0) (up0 down0 up down : Pipe) (taken0 taken : Option (List ℕ)) (all : Whole) (number : ℕ) (lines : List (List ℕ)) (e : Ends) : Type 0 where
+pub record Running (honest : Type 0) (up0 down0 up down : Pipe) (taken0 taken : Option (List ℕ)) (all : Whole) (number : ℕ)
+    (lines : List (List ℕ)) (e : Ends) : Type 0 where
   pub world : World RunState
   pub in_play : InPlay honest up0 down0 up down (line_bytes lines) world e
   pub so_far : List ℕ
@@ -139,13 +152,15 @@ whole_of lines w = record {
 }
 
 -- the same of lines that are equal
-pub with_lines : (honest : Type 0) (up0 down0 up down : Pipe) (taken0 taken : Option (List ℕ)) (all : Whole) (number : ℕ) (lines lines1 : List (List ℕ)) (e : Ends) → lines ≡ lines1
+pub with_lines : (honest : Type 0) (up0 down0 up down : Pipe) (taken0 taken : Option (List ℕ)) (all : Whole) (number : ℕ)
+    (lines lines1 : List (List ℕ)) (e : Ends) → lines ≡ lines1
     → Running honest up0 down0 up down taken0 taken all number lines e → Running honest up0 down0 up down taken0 taken all number lines1 e
 with_lines honest up0 down0 up down taken0 taken all number lines lines1 e same running =
     subst (λ ls. Running honest up0 down0 up down taken0 taken all number ls e) same running
 
 -- room for more bytes is room for fewer
-play-fewer : (honest : Type 0) (up0 down0 up down : Pipe) (j k : ℕ) (w : World RunState) (e : Ends) → j ≤ k → InPlay honest up0 down0 up down k w e → InPlay honest up0 down0 up down j w e
+play-fewer : (honest : Type 0) (up0 down0 up down : Pipe) (j k : ℕ) (w : World RunState) (e : Ends) → j ≤ k
+    → InPlay honest up0 down0 up down k w e → InPlay honest up0 down0 up down j w e
 play-fewer honest up0 down0 up down j k w e less play = record {
   fresh = play.fresh;
   both = record { runs = play.both.runs; left = left-fewer play.fresh.spent j k less play.both.left };
@@ -154,20 +169,25 @@ play-fewer honest up0 down0 up down j k w e less play = record {
 }
 
 -- the line that comes next is one of those that are left, and has the bytes that it costs
-pub run-later : (honest : Type 0) (up0 down0 up down : Pipe) (line : List ℕ) (more : List (List ℕ)) (form : LineForm) (w : World RunState) (e : Ends) → line_form line ≡ Some form
-    → InPlay honest up0 down0 up down (line_bytes (line ∷ more)) w e → InPlay honest up0 down0 up down (line_bytes more + line_cost form) w e
+pub run-later : (honest : Type 0) (up0 down0 up down : Pipe) (line : List ℕ) (more : List (List ℕ)) (form : LineForm) (w : World RunState)
+    (e : Ends) → line_form line ≡ Some form
+    → InPlay honest up0 down0 up down (line_bytes (line ∷ more)) w e
+    → InPlay honest up0 down0 up down (line_bytes more + line_cost form) w e
 run-later honest up0 down0 up down line more form w e is play =
     let long : line_cost form ≤ length line = line-long line form is in
     play-fewer honest up0 down0 up down (line_bytes more + line_cost form) (line_bytes more + length line) w e (omega (arith, long)) play
 
 -- what comes of a line, by whether it lacks something
-record ThisLine (all : Whole) (number : ℕ) (form : LineForm) (later : List LineForm) (bad : Option (ℕ × LineFault)) (w : World RunState) (so_far : List ℕ) : Type 0 where
+record ThisLine (all : Whole) (number : ℕ) (form : LineForm) (later : List LineForm) (bad : Option (ℕ × LineFault)) (w : World RunState)
+    (so_far : List ℕ) : Type 0 where
   text : all.text ≡ so_far ++ lines_text number (unless_bad (lacking form w) (form ∷ shown_lines later (after_line form w))) w
   worlds : all.world ≡ after_lines (unless_bad (lacking form w) (form ∷ shown_lines later (after_line form w))) w
   refused : all.refused ≡ first_of (numbered_or number (lacking form w) (first_lacking (number + 1) later (after_line form w))) bad
 
-at-line : (honest : Type 0) (up0 down0 up down : Pipe) (taken0 taken : Option (List ℕ)) (all : Whole) (number : ℕ) (line : List ℕ) (more : List (List ℕ)) (form : LineForm) (e : Ends)
-    → (running : Running honest up0 down0 up down taken0 taken all number (line ∷ more) e) → line_fault number line ≡ None → line_form line ≡ Some form
+at-line : (honest : Type 0) (up0 down0 up down : Pipe) (taken0 taken : Option (List ℕ)) (all : Whole) (number : ℕ) (line : List ℕ)
+    (more : List (List ℕ)) (form : LineForm) (e : Ends)
+    → (running : Running honest up0 down0 up down taken0 taken all number (line ∷ more) e) → line_fault number line ≡ None
+    → line_form line ≡ Some form
     → ThisLine all number form (good_lines (number + 1) more) (first_bad (number + 1) more) running.world running.so_far
 at-line honest up0 down0 up down taken0 taken all number line more form e running good is =
     let w = running.world in
@@ -180,13 +200,16 @@ at-line honest up0 down0 up down taken0 taken all number line more form e runnin
     }
 
 -- a line that lacks nothing was carried out
-pub run-on : (honest honest1 : Type 0) (up0 down0 up down up1 down1 : Pipe) (taken0 taken taken1 : Option (List ℕ)) (all : Whole) (number : ℕ) (line : List ℕ) (more : List (List ℕ)) (form : LineForm) (e e1 : Ends)
+pub run-on : (honest honest1 : Type 0) (up0 down0 up down up1 down1 : Pipe) (taken0 taken taken1 : Option (List ℕ)) (all : Whole)
+    (number : ℕ) (line : List ℕ) (more : List (List ℕ)) (form : LineForm) (e e1 : Ends)
     → Running honest up0 down0 up down taken0 taken all number (line ∷ more) e → line_fault number line ≡ None → line_form line ≡ Some form
-    → CarriesLine {T = Unit {0}} (scene (moment honest up down e) taken) (scene (moment honest1 up1 down1 e1) taken1) (numbered_line number form) (Ok tt)
+    → CarriesLine {T = Unit {0}} (scene (moment honest up down e) taken) (scene (moment honest1 up1 down1 e1) taken1)
+    (numbered_line number form) (Ok tt)
     → Running honest1 up0 down0 up1 down1 taken0 taken1 all (number + 1) more e1
 run-on honest honest1 up0 down0 up down up1 down1 taken0 taken taken1 all number line more form e e1 running good is carries =
     let w = running.world in
-    let l : ThisLine all number form (good_lines (number + 1) more) (first_bad (number + 1) more) w running.so_far = at-line honest up0 down0 up down taken0 taken all number line more form e running good is in
+    let l : ThisLine all number form (good_lines (number + 1) more)
+    (first_bad (number + 1) more) w running.so_far = at-line honest up0 down0 up down taken0 taken all number line more form e running good is in
     let c = carries up0 down0 (line_bytes more) w (run-later honest up0 down0 up down line more form w e is running.in_play) in
     let whole : lacking form w ≡ None = no-number number (lacking form w) c.2 in
     let later = good_lines (number + 1) more in
@@ -199,31 +222,38 @@ run-on honest honest1 up0 down0 up down up1 down1 taken0 taken taken1 all number
       text = l.text ∙ ap (λ o. running.so_far ++ lines_text number (unless_bad o (form ∷ shown_lines later w1)) w) whole
           ∙ sym (append_assoc running.so_far (line_text number form w) (lines_text (number + 1) (shown_lines later w1) w1));
       worlds = l.worlds ∙ ap (λ o. after_lines (unless_bad o (form ∷ shown_lines later w1)) w) whole;
-      refused = l.refused ∙ ap (λ o. first_of (numbered_or number o (first_lacking (number + 1) later w1)) (first_bad (number + 1) more)) whole;
+      refused = l.refused ∙ ap (λ o. first_of (numbered_or number o (first_lacking (number + 1) later w1))
+          (first_bad (number + 1) more)) whole;
     }
 
 -- a front part of what a line prints is one of what all lines print
-part-line : (taken0 taken1 : Option (List ℕ)) (number : ℕ) (form : LineForm) (later : List LineForm) (w : World RunState) (so_far : List ℕ) (o : Option LineFault)
+part-line : (taken0 taken1 : Option (List ℕ)) (number : ℕ) (form : LineForm) (later : List LineForm) (w : World RunState) (so_far : List ℕ)
+    (o : Option LineFault)
     → lacking form w ≡ o → WrotePart taken0 taken1 (so_far ++ line_text number form w)
     → WrotePart taken0 taken1 (so_far ++ lines_text number (unless_bad o (form ∷ later)) w)
 part-line taken0 taken1 number form later w so_far None is wrote =
-    subst (λ t. WrotePart taken0 taken1 t) (append_assoc so_far (line_text number form w) (lines_text (number + 1) later (after_line form w)))
+    subst (λ t. WrotePart taken0 taken1 t)
+    (append_assoc so_far (line_text number form w) (lines_text (number + 1) later (after_line form w)))
     (WrotePart-longer taken0 taken1 (so_far ++ line_text number form w) (lines_text (number + 1) later (after_line form w)) wrote)
 part-line taken0 taken1 number form later w so_far (Some fault) is wrote =
     subst (λ t. WrotePart taken0 taken1 (so_far ++ t)) (silent-lacking number form w fault is) wrote
 
 -- a line stopped the run
-module _ (honest honest1 : Type 0) (up0 down0 up down up1 down1 : Pipe) (taken0 taken taken1 : Option (List ℕ)) (all : Whole) (number : ℕ) (line : List ℕ) (more : List (List ℕ)) (form : LineForm) (e e1 : Ends)
-    (running : Running honest up0 down0 up down taken0 taken all number (line ∷ more) e) (good : line_fault number line ≡ None) (is : line_form line ≡ Some form) where
+module _ (honest honest1 : Type 0) (up0 down0 up down up1 down1 : Pipe) (taken0 taken taken1 : Option (List ℕ)) (all : Whole) (number : ℕ)
+    (line : List ℕ) (more : List (List ℕ)) (form : LineForm) (e e1 : Ends)
+    (running : Running honest up0 down0 up down taken0 taken all number (line ∷ more) e) (good : line_fault number line ≡ None)
+    (is : line_form line ≡ Some form) where
   part-all : WrotePart taken taken1 (line_text number form running.world) → WrotePart taken0 taken1 all.text
   part-all wrote =
       let w = running.world in
       let l = at-line honest up0 down0 up down taken0 taken all number line more form e running good is in
       subst (λ t. WrotePart taken0 taken1 t) (sym l.text)
-      (part-line taken0 taken1 number form (shown_lines (good_lines (number + 1) more) (after_line form w)) w running.so_far (lacking form w) refl
+      (part-line taken0 taken1 number form (shown_lines (good_lines (number + 1) more) (after_line form w)) w running.so_far
+      (lacking form w) refl
       (WrotePart-after taken0 taken taken1 running.so_far (line_text number form w) running.wrote wrote))
 
-  line-refused : (n : ℕ) (fault : LineFault) → numbered_or number (lacking form running.world) None ≡ Some (n, fault) → Appends taken taken1 (line_text number form running.world)
+  line-refused : (n : ℕ) (fault : LineFault) → numbered_or number (lacking form running.world) None ≡ Some (n, fault)
+      → Appends taken taken1 (line_text number form running.world)
       → Appends taken0 taken1 all.text × (all.refused ≡ Some (n, fault))
   line-refused n fault tells printed =
       let w = running.world in
@@ -232,9 +262,11 @@ module _ (honest honest1 : Type 0) (up0 down0 up down up1 down1 : Pipe) (taken0 
       let silent : line_text number form w ≡ [] = silent-lacking number form w f.0 f.1 in (
         subst (λ t. Appends taken0 taken1 t)
             (ap (λ t. running.so_far ++ t) silent
-            ∙ sym (l.text ∙ ap (λ o. running.so_far ++ lines_text number (unless_bad o (form ∷ shown_lines (good_lines (number + 1) more) (after_line form w))) w) f.1))
+            ∙ sym (l.text ∙ ap (λ o. running.so_far
+            ++ lines_text number (unless_bad o (form ∷ shown_lines (good_lines (number + 1) more) (after_line form w))) w) f.1))
             (Appends-append taken0 taken taken1 running.so_far (line_text number form w) running.wrote printed),
-        l.refused ∙ ap (λ o. first_of (numbered_or number o (first_lacking (number + 1) (good_lines (number + 1) more) (after_line form w))) (first_bad (number + 1) more)) f.1 ∙ f.2,
+        l.refused ∙ ap (λ o. first_of (numbered_or number o
+            (first_lacking (number + 1) (good_lines (number + 1) more) (after_line form w))) (first_bad (number + 1) more)) f.1 ∙ f.2,
       )
 
   pub run-stops : (stop : Stop) → RunTook {T = Unit {0}} (Err stop) taken taken1 (line_text number form running.world)
@@ -251,17 +283,20 @@ module _ (honest honest1 : Type 0) (up0 down0 up down up1 down1 : Pipe) (taken0 
 
 -- ---- how the lines end
 
-nothing-left : (so_far : List ℕ) (number : ℕ) (w : World RunState) (forms : List LineForm) → forms ≡ [] → so_far ++ lines_text number (shown_lines forms w) w ≡ so_far
+nothing-left : (so_far : List ℕ) (number : ℕ) (w : World RunState) (forms : List LineForm) → forms ≡ []
+    → so_far ++ lines_text number (shown_lines forms w) w ≡ so_far
 nothing-left so_far number w forms e = ap (λ fs. so_far ++ lines_text number (shown_lines fs w) w) e ∙ append-nil so_far
 
 -- a line is not read
-pub read-stops : (stop : Stop) (honest : Type 0) (up0 down0 up down : Pipe) (taken0 taken : Option (List ℕ)) (all : Whole) (number : ℕ) (line : List ℕ) (more : List (List ℕ)) (e : Ends)
+pub read-stops : (stop : Stop) (honest : Type 0) (up0 down0 up down : Pipe) (taken0 taken : Option (List ℕ)) (all : Whole) (number : ℕ)
+    (line : List ℕ) (more : List (List ℕ)) (e : Ends)
     → Running honest up0 down0 up down taken0 taken all number (line ∷ more) e
     → IsRead {T = Unit {0}} (Err stop) number (line_fault number line)
     → RunTook {T = Unit {0}} (Err stop) taken0 taken all.text × RunTells {T = Unit {0}} (Err stop) all.refused
 read-stops (Line n fault) honest up0 down0 up down taken0 taken all number line more e running read =
     let none : good_lines number (line ∷ more) ≡ [] = good_lines-bad number line more fault read.1 in (
-      subst (λ t. Appends taken0 taken t) (sym (running.text ∙ nothing-left running.so_far number running.world (good_lines number (line ∷ more)) none)) running.wrote,
+      subst (λ t. Appends taken0 taken t)
+          (sym (running.text ∙ nothing-left running.so_far number running.world (good_lines number (line ∷ more)) none)) running.wrote,
       running.refused ∙ ap (λ fs. first_of (first_lacking number fs running.world) (first_bad number (line ∷ more))) none
           ∙ first_bad-bad number line more fault read.1 ∙ ap (λ m. Some (m, fault)) (sym read.0),
     )
@@ -273,36 +308,45 @@ read-stops (FrontRefused place kind) honest up0 down0 up down taken0 taken all n
 read-stops NoRoom honest up0 down0 up down taken0 taken all number line more e running read = absurd read
 read-stops Memory honest up0 down0 up down taken0 taken all number line more e running read = (
   subst (λ t. WrotePart taken0 taken t) (sym running.text)
-      (WrotePart-all taken0 taken running.so_far (lines_text number (shown_lines (good_lines number (line ∷ more)) running.world) running.world) running.wrote),
+      (WrotePart-all taken0 taken running.so_far
+      (lines_text number (shown_lines (good_lines number (line ∷ more)) running.world) running.world) running.wrote),
   tt,
 )
 
 -- no line is left
-pub lines-done : (honest : Type 0) (up0 down0 up down : Pipe) (taken0 taken : Option (List ℕ)) (all : Whole) (number : ℕ) (lines : List (List ℕ)) (e : Ends)
+pub lines-done : (honest : Type 0) (up0 down0 up down : Pipe) (taken0 taken : Option (List ℕ)) (all : Whole) (number : ℕ)
+    (lines : List (List ℕ)) (e : Ends)
     → Running honest up0 down0 up down taken0 taken all number lines e → lines ≡ []
     → InPlay honest up0 down0 up down 0 all.world e × Appends taken0 taken all.text × (all.refused ≡ None)
 lines-done honest up0 down0 up down taken0 taken all number lines e running none =
     let forms : good_lines number lines ≡ [] = ap (good_lines number) none in (
-      subst (λ v. InPlay honest up0 down0 up down 0 v e) (sym (running.worlds ∙ ap (λ fs. after_lines (shown_lines fs running.world) running.world) forms))
+      subst (λ v. InPlay honest up0 down0 up down 0 v e)
+          (sym (running.worlds ∙ ap (λ fs. after_lines (shown_lines fs running.world) running.world) forms))
           (subst (λ (ls : List (List ℕ)). InPlay honest up0 down0 up down (line_bytes ls) running.world e) none running.in_play),
-      subst (λ t. Appends taken0 taken t) (sym (running.text ∙ nothing-left running.so_far number running.world (good_lines number lines) forms)) running.wrote,
-      running.refused ∙ ap (λ (ls : List (List ℕ)). first_of (first_lacking number (good_lines number ls) running.world) (first_bad number ls)) none,
+      subst (λ t. Appends taken0 taken t)
+          (sym (running.text ∙ nothing-left running.so_far number running.world (good_lines number lines) forms)) running.wrote,
+      running.refused ∙ ap (λ (ls : List (List ℕ)). first_of (first_lacking number (good_lines number ls) running.world)
+          (first_bad number ls)) none,
     )
 
 -- the part after the lines
-pub closed-took : (result : Result (Unit {0}) Stop) (sink0 sink1 link0 link1 : ℕ) (taken0 taken taken1 : Option (List ℕ)) (bad : Option (ℕ × LineFault)) (forms : List LineForm) (w : World RunState)
+pub closed-took : (result : Result (Unit {0}) Stop) (sink0 sink1 link0 link1 : ℕ) (taken0 taken taken1 : Option (List ℕ))
+    (bad : Option (ℕ × LineFault)) (forms : List LineForm) (w : World RunState)
     → rest_refused bad forms w ≡ None → HasStopCause sink0 sink1 link0 link1 result → GoesWell result
-    → Appends taken0 taken (lines_text 2 (shown_lines forms w) w) → Prints result taken taken1 (closing_text (after_lines (shown_lines forms w) w))
+    → Appends taken0 taken (lines_text 2 (shown_lines forms w) w)
+    → Prints result taken taken1 (closing_text (after_lines (shown_lines forms w) w))
     → RunTook result taken0 taken1 (rest_text bad forms w)
 closed-took (Ok value) sink0 sink1 link0 link1 taken0 taken taken1 bad forms w none cause well wrote printed =
     let text = lines_text 2 (shown_lines forms w) w in
     let last = after_lines (shown_lines forms w) w in
-    subst (λ b. Appends taken0 taken1 (text ++ closing_unless b last)) (sym none) (Appends-append taken0 taken taken1 text (closing_text last) wrote printed)
+    subst (λ b. Appends taken0 taken1 (text ++ closing_unless b last)) (sym none)
+    (Appends-append taken0 taken taken1 text (closing_text last) wrote printed)
 closed-took (Err stop) sink0 sink1 link0 link1 taken0 taken taken1 bad forms w none cause well wrote printed =
     let text = lines_text 2 (shown_lines forms w) w in
     let last = after_lines (shown_lines forms w) w in
     part-took stop sink0 sink1 link0 link1 taken0 taken1 (rest_text bad forms w) cause well
-    (subst (λ b. WrotePart taken0 taken1 (text ++ closing_unless b last)) (sym none) (WrotePart-after taken0 taken taken1 text (closing_text last) wrote printed))
+    (subst (λ b. WrotePart taken0 taken1 (text ++ closing_unless b last)) (sym none)
+    (WrotePart-after taken0 taken taken1 text (closing_text last) wrote printed))
 
 part-before : (sink0 sink1 sink2 link0 link1 link2 : ℕ) (failed : Option Part) → sink0 ≤ sink1 → link0 ≤ link1
     → PartRose (two_counts sink1 sink2 link1 link2) failed → PartRose (two_counts sink0 sink2 link0 link2) failed
@@ -332,13 +376,16 @@ closed-cause (Err stop) sink0 sink1 sink2 link0 link1 link2 low_sink low_link ca
     record {
       sink_later = omega (arith, low_sink, more_sink);
       link_later = omega (arith, low_link, more_link);
-      rose = rose-at s.phase (PartRose (two_counts sink1 sink2 link1 link2) s.failed) (PartRose (two_counts sink0 sink2 link0 link2) s.failed) cause.rose
+      rose = rose-at s.phase (PartRose (two_counts sink1 sink2 link1 link2) s.failed)
+          (PartRose (two_counts sink0 sink2 link0 link2) s.failed) cause.rose
           (part-before sink0 sink1 sink2 link0 link1 link2 s.failed low_sink low_link);
     }
 
 -- the lines stopped
-pub stopped-took : (stop : Stop) (taken0 taken : Option (List ℕ)) (bad : Option (ℕ × LineFault)) (forms : List LineForm) (w : World RunState)
-    → RunTells {T = Unit {0}} (Err stop) (rest_refused bad forms w) → RunTook {T = Unit {0}} (Err stop) taken0 taken (lines_text 2 (shown_lines forms w) w)
+pub stopped-took : (stop : Stop) (taken0 taken : Option (List ℕ)) (bad : Option (ℕ × LineFault)) (forms : List LineForm)
+    (w : World RunState)
+    → RunTells {T = Unit {0}} (Err stop) (rest_refused bad forms w)
+    → RunTook {T = Unit {0}} (Err stop) taken0 taken (lines_text 2 (shown_lines forms w) w)
     → RunTook {T = Unit {0}} (Err stop) taken0 taken (rest_text bad forms w)
 stopped-took stop taken0 taken bad forms w tells took = by stop tells took
   where
@@ -351,7 +398,8 @@ stopped-took stop taken0 taken bad forms w tells took = by stop tells took
     by : (stop : Stop) → RunTells {T = Unit {0}} (Err stop) (rest_refused bad forms w) → RunTook {T = Unit {0}} (Err stop) taken0 taken text
         → RunTook {T = Unit {0}} (Err stop) taken0 taken (text ++ closing_unless (rest_refused bad forms w) last)
     by (Line n fault) tells took =
-        subst (λ b. Appends taken0 taken (text ++ closing_unless b last)) (sym tells) (subst (λ t. Appends taken0 taken t) (sym (append-nil text)) took)
+        subst (λ b. Appends taken0 taken (text ++ closing_unless b last)) (sym tells)
+        (subst (λ t. Appends taken0 taken t) (sym (append-nil text)) took)
     by TooLong tells took = absurd took
     by ReadFault tells took = absurd took
     by WriteFault tells took = WrotePart-longer taken0 taken text (closing_unless (rest_refused bad forms w) last) took
@@ -367,14 +415,16 @@ zero-rose : Rose 0 0 → ⊥
 zero-rose rose = omega arith
 
 -- a part over a link alone
-link-alone : (sink0 link0 link1 : ℕ) (failed : Option Part) → PartRose (two_counts 0 0 link0 link1) failed → PartRose (two_counts sink0 sink0 link0 link1) failed
+link-alone : (sink0 link0 link1 : ℕ) (failed : Option Part) → PartRose (two_counts 0 0 link0 link1) failed
+    → PartRose (two_counts sink0 sink0 link0 link1) failed
 link-alone sink0 link0 link1 None rose = tt
 link-alone sink0 link0 link1 (Some source) rose = rose
 link-alone sink0 link0 link1 (Some sink) rose = absurd (zero-rose rose)
 link-alone sink0 link0 link1 (Some link) rose = rose
 
 -- and a sink alone
-sink-alone : (sink0 sink1 link0 link1 : ℕ) (failed : Option Part) → PartRose (two_counts sink0 sink1 0 0) failed → PartRose (two_counts sink0 sink1 link0 link1) failed
+sink-alone : (sink0 sink1 link0 link1 : ℕ) (failed : Option Part) → PartRose (two_counts sink0 sink1 0 0) failed
+    → PartRose (two_counts sink0 sink1 link0 link1) failed
 sink-alone sink0 sink1 link0 link1 None rose = tt
 sink-alone sink0 sink1 link0 link1 (Some source) rose = rose
 sink-alone sink0 sink1 link0 link1 (Some sink) rose = rose
@@ -388,36 +438,48 @@ run-at ended P Q in_run f = f in_run
 run-at anywhen P Q in_run f = f in_run
 
 -- a stop amid a run is one of a run
-pub stop-run : (result : Result (Unit {0}) Stop) (sink0 sink1 link0 link1 : ℕ) → HasStopCause sink0 sink1 link0 link1 result → HasRunCause sink0 sink1 link0 link1 result
+pub stop-run : (result : Result (Unit {0}) Stop) (sink0 sink1 link0 link1 : ℕ) → HasStopCause sink0 sink1 link0 link1 result
+    → HasRunCause sink0 sink1 link0 link1 result
 stop-run result sink0 sink1 link0 link1 cause = closed-cause result sink0 sink0 sink1 link0 link0 link1 (omega arith) (omega arith) cause
 
 -- a settle, and then what was printed
-pub settled-run : (result : Result (Unit {0}) Stop) (sink0 sink1 link0 link1 : ℕ) → HasStopCause {T = Unit {0}} 0 0 link0 link1 (Ok tt) → HasRunCause sink0 sink1 0 0 result
+pub settled-run : (result : Result (Unit {0}) Stop) (sink0 sink1 link0 link1 : ℕ) → HasStopCause {T = Unit {0}} 0 0 link0 link1 (Ok tt)
+    → HasRunCause sink0 sink1 0 0 result
     → HasRunCause sink0 sink1 link0 link1 result
-settled-run (Ok value) sink0 sink1 link0 link1 settles cause = record { sink_later = cause.sink_later; link_later = settles.link_later; rose = tt }
+settled-run (Ok value) sink0 sink1 link0 link1 settles cause = record {
+  sink_later = cause.sink_later;
+  link_later = settles.link_later;
+  rose = tt;
+}
 settled-run (Err stop) sink0 sink1 link0 link1 settles cause =
     let s : Says = says (status_of stop) in
     record {
       sink_later = cause.sink_later;
       link_later = settles.link_later;
-      rose = run-at s.phase (PartRose (two_counts sink0 sink1 0 0) s.failed) (PartRose (two_counts sink0 sink1 link0 link1) s.failed) cause.rose (sink-alone sink0 sink1 link0 link1 s.failed);
+      rose = run-at s.phase (PartRose (two_counts sink0 sink1 0 0) s.failed)
+          (PartRose (two_counts sink0 sink1 link0 link1) s.failed) cause.rose (sink-alone sink0 sink1 link0 link1 s.failed);
     }
 
 -- or a settle that did not come through
-pub settled-stop : (stop : Stop) (sink0 link0 link1 : ℕ) → HasStopCause {T = Unit {0}} 0 0 link0 link1 (Err stop) → HasRunCause {T = Unit {0}} sink0 sink0 link0 link1 (Err stop)
+pub settled-stop : (stop : Stop) (sink0 link0 link1 : ℕ) → HasStopCause {T = Unit {0}} 0 0 link0 link1 (Err stop)
+    → HasRunCause {T = Unit {0}} sink0 sink0 link0 link1 (Err stop)
 settled-stop stop sink0 link0 link1 cause =
     let s : Says = says (status_of stop) in
     record {
       sink_later = omega arith;
       link_later = cause.link_later;
-      rose = rose-at s.phase (PartRose (two_counts 0 0 link0 link1) s.failed) (PartRose (two_counts sink0 sink0 link0 link1) s.failed) cause.rose (link-alone sink0 link0 link1 s.failed);
+      rose = rose-at s.phase (PartRose (two_counts 0 0 link0 link1) s.failed)
+          (PartRose (two_counts sink0 sink0 link0 link1) s.failed) cause.rose (link-alone sink0 link0 link1 s.failed);
     }
 
 -- a line that did not settle
-pub stopped-line : (stop : Stop) (sink0 sink1 link0 link1 number : ℕ) (form : LineForm) (honest honest1 : Type 0) (up down up1 down1 : Pipe) (taken taken1 : Option (List ℕ)) (e e1 : Ends)
+pub stopped-line : (stop : Stop) (sink0 sink1 link0 link1 number : ℕ) (form : LineForm) (honest honest1 : Type 0)
+    (up down up1 down1 : Pipe) (taken taken1 : Option (List ℕ)) (e e1 : Ends)
     → HasStopCause {T = Unit {0}} sink0 sink1 link0 link1 (Err stop)
-    → CarriesOut {T = Unit {0}} (scene (moment honest up down e) taken) (scene (moment honest1 up1 down1 e1) taken1) (numbered_line number form) (Err stop)
-    → CarriesLine {T = Unit {0}} (scene (moment honest up down e) taken) (scene (moment honest1 up1 down1 e1) taken1) (numbered_line number form) (Err stop)
+    → CarriesOut {T = Unit {0}} (scene (moment honest up down e) taken) (scene (moment honest1 up1 down1 e1) taken1)
+    (numbered_line number form) (Err stop)
+    → CarriesLine {T = Unit {0}} (scene (moment honest up down e) taken) (scene (moment honest1 up1 down1 e1) taken1)
+    (numbered_line number form) (Err stop)
 stopped-line stop sink0 sink1 link0 link1 number form honest honest1 up down up1 down1 taken taken1 e e1 cause carries = λ up0 down0 more w play.
     let all = carries up0 down0 more w play in (
       tt,
@@ -427,7 +489,8 @@ stopped-line stop sink0 sink1 link0 link1 number form honest honest1 up down up1
 
 -- ---- an input whose first line is not read, or that has none
 
-pub unread-tells : (stop : Stop) (there : ℕ → Bool) (input first : List ℕ) (more : List (List ℕ)) → lines_of input ≡ first ∷ more → IsRead {T = Unit {0}} (Err stop) 1 (line_fault 1 first)
+pub unread-tells : (stop : Stop) (there : ℕ → Bool) (input first : List ℕ) (more : List (List ℕ)) → lines_of input ≡ first ∷ more
+    → IsRead {T = Unit {0}} (Err stop) 1 (line_fault 1 first)
     → RunTells {T = Unit {0}} (Err stop) (script_refused there input)
 unread-tells (Line n fault) there input first more lines read =
     ap (refused_of_lines there) lines
@@ -441,7 +504,8 @@ unread-tells (FrontRefused place kind) there input first more lines read = tt
 unread-tells NoRoom there input first more lines read = tt
 unread-tells Memory there input first more lines read = tt
 
-pub unread-stops : (stop : Stop) (input first : List ℕ) (more : List (List ℕ)) → lines_of input ≡ first ∷ more → IsRead {T = Unit {0}} (Err stop) 1 (line_fault 1 first)
+pub unread-stops : (stop : Stop) (input first : List ℕ) (more : List (List ℕ)) → lines_of input ≡ first ∷ more
+    → IsRead {T = Unit {0}} (Err stop) 1 (line_fault 1 first)
     → RunTells {T = Unit {0}} (Err stop) (report_refused input)
 unread-stops (Line n fault) input first more lines read =
     ap (λ ls. refused_of (fault_of_lines ls) (good_lines 1 ls)) lines

@@ -39,14 +39,16 @@ lines_end level left out all ended was = sym (append-nil out) ∙ ap (λ m. out 
 
 -- the pieces of a tree's lines
 pub lines_of_one : (level : ℕ) (x : Branch PageRow) (out out1 out2 out3 out4 : List ℕ)
-    → out1 ≡ out ++ indent level → out2 ≡ out1 ++ page_line x.row → out3 ≡ out2 ++ 10 ∷ [] → out4 ≡ out3 ++ lines_at page_line (level + 1) x.children
+    → out1 ≡ out ++ indent level → out2 ≡ out1 ++ page_line x.row → out3 ≡ out2 ++ 10 ∷ []
+    → out4 ≡ out3 ++ lines_at page_line (level + 1) x.children
     → out4 ≡ out ++ lines_at page_line level (alone x)
 lines_of_one level x out out1 out2 out3 out4 a b c d =
     let line = page_line x.row in
     let more = lines_at page_line (level + 1) x.children in
     let head = (indent level ++ line) ++ 10 ∷ [] in
     d ∙ ap (λ t. t ++ more) (c ∙ ap (λ t. t ++ 10 ∷ []) (b ∙ ap (λ t. t ++ line) a))
-    ∙ ap (λ t. t ++ more) (ap (λ t. t ++ 10 ∷ []) (append_assoc out (indent level) line) ∙ append_assoc out (indent level ++ line) (10 ∷ []))
+    ∙ ap (λ t. t ++ more) (ap (λ t. t ++ 10 ∷ []) (append_assoc out (indent level) line) ∙ append_assoc out (indent level ++ line)
+    (10 ∷ []))
     ∙ append_assoc out head more
     ∙ ap (λ l. out ++ (head ++ lines_at page_line l x.children)) (add-one level)
     ∙ ap (λ ls. out ++ ls) (sym (append-nil (head ++ lines_at page_line (suc level) x.children)))

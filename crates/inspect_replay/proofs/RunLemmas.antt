@@ -1,5 +1,6 @@
 -- A run goes on line by line, and writes what the lines print.
-use Rattle.std.proofs.Common.{◌≡◌, ℕ, suc, ◌+◌, ◌*◌, ◌≤◌, min, Bool, option_and_then, List, [], ◌∷◌, ◌++◌, length, map, drop, Option, Some, None, false, refl, sym, ◌∙◌, ap, subst, arith, append-nil, codes, Result, Ok, Err}
+use Rattle.std.proofs.Common.{◌≡◌, ℕ, suc, ◌+◌, ◌*◌, ◌≤◌, min, Bool, option_and_then, List, [], ◌∷◌, ◌++◌, length, map, drop, Option, Some}
+use Rattle.std.proofs.Common.{None, false, refl, sym, ◌∙◌, ap, subst, arith, append-nil, codes, Result, Ok, Err}
 use Rattle.std.proofs.lemmas.List.{drop-map, drop_min, length-map}
 use Rattle.std.specs.Result.{OnOk, OnErr}
 use Rattle.node_tree.specs.Keys.{first_of}
@@ -9,10 +10,12 @@ use Rattle.pipe_frames.specs.Frames.{Frames, frames_of}
 use Rattle.pipe_frames.specs.Whole.{WrotePart}
 use Rattle.pipe_frames.proofs.WholeLemmas.{Appends-nil}
 use Rattle.replay_script.specs.Forms as forms_of
-use Rattle.replay_script.specs.Forms.{AskForm, LineForm, load, ask, show_front, show_page, show_sheets, show_replies, show_pauses, show_styles, line_form}
+use Rattle.replay_script.specs.Forms.{AskForm, LineForm, load, ask, show_front, show_page, show_sheets, show_replies, show_pauses}
+use Rattle.replay_script.specs.Forms.{show_styles, line_form}
 use Rattle.replay_script.specs.Faults.{line_fault}
 use Rattle.replay_script.specs.Lines.{lines_of}
-use Rattle.replay_script.specs.Script.{numbered_or, styles_fault, first_refused, refused_of_lines, script_refused, first_bad, good_lines, fault_of_lines, script_fault, script_forms}
+use Rattle.replay_script.specs.Script.{numbered_or, styles_fault, first_refused, refused_of_lines, script_refused, first_bad, good_lines}
+use Rattle.replay_script.specs.Script.{fault_of_lines, script_fault, script_forms}
 use Rattle.replay_script.specs.declared.faults.LineFault.{LineFault}
 use Rattle.page_forms.specs.Pages.{LoadedPage, CanLoadPage}
 use Rattle.page_tree.specs.Pages.{loaded}
@@ -53,7 +56,8 @@ use Rattle.inspect_world.specs.Costs.{least_line, line_cost, line_bytes}
 use Rattle.inspect_world.specs.Fits.{most_bytes, HasLeft, IsPlainFrame}
 use Rattle.inspect_world.specs.FreshRuns.{front_fetcher, refreshes, fresh_line, Together}
 use Rattle.inspect_world.specs.ActTexts.{act_text}
-use Rattle.inspect_world.specs.Scripts.{page_line, after_line, line_text, rest_refused, refused_of, report_refused, closing_text, rest_text, text_by_refusal, report, loaded_world}
+use Rattle.inspect_world.specs.Scripts.{page_line, after_line, line_text, rest_refused, refused_of, report_refused, closing_text, rest_text}
+use Rattle.inspect_world.specs.Scripts.{text_by_refusal, report, loaded_world}
 use Rattle.page_forms.specs.Texts.{PageHasTexts}
 use Rattle.inspect_world.specs.ScriptsFit.{IsLater}
 use Rattle.inspect_world.specs.Held.{Ends as HeldEnds, InWorld}
@@ -100,7 +104,8 @@ took-at ended lie P before after text amid well wrote = absurd amid
 took-at anywhen lie P before after text amid well wrote = wrote
 
 pub part-took : (stop : Stop) (sink0 sink1 link0 link1 : ℕ) (before after : Option (List ℕ)) (text : List ℕ)
-    → HasStopCause {T = Unit {0}} sink0 sink1 link0 link1 (Err stop) → GoesWell {T = Unit {0}} (Err stop) → WrotePart before after text → RunTook {T = Unit {0}} (Err stop) before after text
+    → HasStopCause {T = Unit {0}} sink0 sink1 link0 link1 (Err stop) → GoesWell {T = Unit {0}} (Err stop) → WrotePart before after text
+    → RunTook {T = Unit {0}} (Err stop) before after text
 part-took stop sink0 sink1 link0 link1 before after text cause well wrote =
     let s : Says = says (status_of stop) in
     took-at s.phase s.lie (PartRose (two_counts sink0 sink1 link0 link1) s.failed) before after text cause.rose well wrote
@@ -113,7 +118,8 @@ tells-at underway P Q amid = tt
 tells-at ended P Q amid = absurd amid
 tells-at anywhen P Q amid = tt
 
-pub part-tells : (stop : Stop) (sink0 sink1 link0 link1 : ℕ) (bad : Option (ℕ × LineFault)) → HasStopCause {T = Unit {0}} sink0 sink1 link0 link1 (Err stop) → RunTells {T = Unit {0}} (Err stop) bad
+pub part-tells : (stop : Stop) (sink0 sink1 link0 link1 : ℕ) (bad : Option (ℕ × LineFault))
+    → HasStopCause {T = Unit {0}} sink0 sink1 link0 link1 (Err stop) → RunTells {T = Unit {0}} (Err stop) bad
 part-tells stop sink0 sink1 link0 link1 bad cause =
     let s : Says = says (status_of stop) in
     tells-at s.phase (PartRose (two_counts sink0 sink1 link0 link1) s.failed) (bad ≡ s.line) cause.rose
@@ -125,9 +131,12 @@ pub left-none : (n : Spent) (k : ℕ) → HasLeft n k → HasLeft n 0
 left-none n k left = left-fewer n 0 k (omega arith) left
 
 -- a call that takes the run with fetches over a line takes both runs over it
-pub plays : {T : Type 0} (result : Result T Stop) (honest honest1 : Type 0) (up down up1 down1 : Pipe) (e e1 : Ends) (f : World RunState → World RunState) (line : LineForm)
-    → IsLater line → ((v : World RunState) → f v ≡ fresh_line front_fetcher line v) → ((v : World RunState) → (fresh_line front_fetcher line v).told ≡ v.told)
-    → ((w : World RunState) → (after_line line w).told ≡ w.told) → Spends (line_cost line) (moment honest up down e) (moment honest1 up1 down1 e1) result f
+pub plays : {T : Type 0} (result : Result T Stop) (honest honest1 : Type 0) (up down up1 down1 : Pipe) (e e1 : Ends)
+    (f : World RunState → World RunState) (line : LineForm)
+    → IsLater line → ((v : World RunState) → f v ≡ fresh_line front_fetcher line v)
+    → ((v : World RunState) → (fresh_line front_fetcher line v).told ≡ v.told)
+    → ((w : World RunState) → (after_line line w).told ≡ w.told)
+    → Spends (line_cost line) (moment honest up down e) (moment honest1 up1 down1 e1) result f
     → (up0 down0 : Pipe) (more : ℕ) (w : World RunState) → InPlay honest up0 down0 up down (more + line_cost line) w e
     → GoesWell result × OnOk result (InPlay honest1 up0 down0 up1 down1 more (after_line line w) e1)
 plays result honest honest1 up down up1 down1 e e1 f line later goes told told1 spends = λ up0 down0 more w play.
@@ -143,14 +152,18 @@ plays result honest honest1 up down up1 down1 e e1 f line later goes told told1 
     )
 
 -- a line that sends a frame or makes a step prints nothing by itself
-pub spend-carries : (result : Result (Unit {0}) Stop) (honest honest1 : Type 0) (up down up1 down1 : Pipe) (taken : Option (List ℕ)) (e e1 : Ends)
+pub spend-carries : (result : Result (Unit {0}) Stop) (honest honest1 : Type 0) (up down up1 down1 : Pipe) (taken : Option (List ℕ))
+    (e e1 : Ends)
     (f : World RunState → World RunState) (number : ℕ) (move form : LineForm) → IsLater move
-    → ((v : World RunState) → f v ≡ fresh_line front_fetcher move v) → ((v : World RunState) → (fresh_line front_fetcher move v).told ≡ v.told)
+    → ((v : World RunState) → f v ≡ fresh_line front_fetcher move v)
+    → ((v : World RunState) → (fresh_line front_fetcher move v).told ≡ v.told)
     → ((w : World RunState) → (after_line move w).told ≡ w.told)
-    → ((w : World RunState) → [] ≡ line_text number move w) → form ≡ move → Spends (line_cost move) (moment honest up down e) (moment honest1 up1 down1 e1) result f
+    → ((w : World RunState) → [] ≡ line_text number move w) → form ≡ move
+    → Spends (line_cost move) (moment honest up down e) (moment honest1 up1 down1 e1) result f
     → CarriesOut (scene (moment honest up down e) taken) (scene (moment honest1 up1 down1 e1) taken) (numbered_line number form) result
 spend-carries result honest honest1 up down up1 down1 taken e e1 f number move form later goes told told1 silent is spends =
-    subst (λ line. CarriesOut (scene (moment honest up down e) taken) (scene (moment honest1 up1 down1 e1) taken) (numbered_line number line) result) (sym is)
+    subst (λ line. CarriesOut (scene (moment honest up down e) taken) (scene (moment honest1 up1 down1 e1) taken)
+    (numbered_line number line) result) (sym is)
     (λ up0 down0 more w play. let both = plays result honest honest1 up down up1 down1 e e1 f move later goes told told1 spends up0 down0 more w play in (
       both.0,
       both.1,
@@ -158,33 +171,43 @@ spend-carries result honest honest1 up down up1 down1 taken e e1 f number move f
     ))
 
 -- nor does a line that delivers bytes
-pub move-carries : (result : Result (Unit {0}) Stop) (honest honest1 : Type 0) (up down up1 down1 : Pipe) (taken : Option (List ℕ)) (e e1 : Ends)
+pub move-carries : (result : Result (Unit {0}) Stop) (honest honest1 : Type 0) (up down up1 down1 : Pipe) (taken : Option (List ℕ))
+    (e e1 : Ends)
     (f : World RunState → World RunState) (number : ℕ) (move form : LineForm) → IsLater move
-    → ((v : World RunState) → f v ≡ fresh_line front_fetcher move v) → ((v : World RunState) → (fresh_line front_fetcher move v).told ≡ v.told)
+    → ((v : World RunState) → f v ≡ fresh_line front_fetcher move v)
+    → ((v : World RunState) → (fresh_line front_fetcher move v).told ≡ v.told)
     → ((w : World RunState) → (after_line move w).told ≡ w.told)
-    → ((w : World RunState) → [] ≡ line_text number move w) → form ≡ move → Steps (moment honest up down e) (moment honest1 up1 down1 e1) result f
+    → ((w : World RunState) → [] ≡ line_text number move w) → form ≡ move
+    → Steps (moment honest up down e) (moment honest1 up1 down1 e1) result f
     → CarriesOut (scene (moment honest up down e) taken) (scene (moment honest1 up1 down1 e1) taken) (numbered_line number form) result
 move-carries result honest honest1 up down up1 down1 taken e e1 f number move form later goes told told1 silent is steps =
-    spend-carries result honest honest1 up down up1 down1 taken e e1 f number move form later goes told told1 silent is (λ up0 down0 w few run. steps up0 down0 w run)
+    spend-carries result honest honest1 up down up1 down1 taken e e1 f number move form later goes told told1 silent is
+    (λ up0 down0 w few run. steps up0 down0 w run)
 
 -- a settle with its fetches may be a line's
 pub settles-spend : {T : Type 0} (result : Result T Stop) (honest honest1 : Type 0) (up down up1 down1 : Pipe) (e e1 : Ends)
-    → Refreshes (moment honest up down e) (moment honest1 up1 down1 e1) result → Spends least_line (moment honest up down e) (moment honest1 up1 down1 e1) result (refreshes front_fetcher)
-settles-spend result honest honest1 up down up1 down1 e e1 settles = λ up0 down0 w few run. settles up0 down0 w (left-none w.spent least_line few) run
+    → Refreshes (moment honest up down e) (moment honest1 up1 down1 e1) result
+    → Spends least_line (moment honest up down e) (moment honest1 up1 down1 e1) result (refreshes front_fetcher)
+settles-spend result honest honest1 up down up1 down1 e e1 settles = λ up0 down0 w few run. settles up0 down0 w
+    (left-none w.spent least_line few) run
 
 -- a text that is sent is the line's
-pub raw-spends : (result : Result (Unit {0}) Stop) (honest honest1 : Type 0) (up down up1 down1 : Pipe) (e e1 : Ends) (text text1 : List ℕ) → text1 ≡ text
+pub raw-spends : (result : Result (Unit {0}) Stop) (honest honest1 : Type 0) (up down up1 down1 : Pipe) (e e1 : Ends) (text text1 : List ℕ)
+    → text1 ≡ text
     → Spends least_line (moment honest up down e) (moment honest1 up1 down1 e1) result (λ w. raw text1 w)
     → Spends least_line (moment honest up down e) (moment honest1 up1 down1 e1) result (λ w. raw text w)
 raw-spends result honest honest1 up down up1 down1 e e1 text text1 is spends =
     subst (λ t. Spends least_line (moment honest up down e) (moment honest1 up1 down1 e1) result (λ w. raw t w)) is spends
 
 -- the same of equal lines
-pub same-carries : (result : Result (Unit {0}) Stop) (honest honest1 : Type 0) (up down up1 down1 : Pipe) (taken taken1 : Option (List ℕ)) (e e1 : Ends) (number : ℕ) (line form : LineForm)
-    → form ≡ line → CarriesOut (scene (moment honest up down e) taken) (scene (moment honest1 up1 down1 e1) taken1) (numbered_line number line) result
+pub same-carries : (result : Result (Unit {0}) Stop) (honest honest1 : Type 0) (up down up1 down1 : Pipe) (taken taken1 : Option (List ℕ))
+    (e e1 : Ends) (number : ℕ) (line form : LineForm)
+    → form ≡ line → CarriesOut (scene (moment honest up down e) taken) (scene (moment honest1 up1 down1 e1) taken1)
+    (numbered_line number line) result
     → CarriesOut (scene (moment honest up down e) taken) (scene (moment honest1 up1 down1 e1) taken1) (numbered_line number form) result
 same-carries result honest honest1 up down up1 down1 taken taken1 e e1 number line form is carries =
-    subst (λ f. CarriesOut (scene (moment honest up down e) taken) (scene (moment honest1 up1 down1 e1) taken1) (numbered_line number f) result) (sym is) carries
+    subst (λ f. CarriesOut (scene (moment honest up down e) taken) (scene (moment honest1 up1 down1 e1) taken1)
+    (numbered_line number f) result) (sym is) carries
 
 -- after a settle the front end shows what the client sees of the page
 pub shown-settled : (honest1 : Type 0) (up0 down0 up1 down1 : Pipe) (lines : ℕ) (w v : World RunState) (e1 : Ends)
@@ -201,108 +224,150 @@ prints-same (Err stop) before after text text1 same ok err = subst (λ t. WroteP
 -- what a settle that came through takes a run to
 abbrev pub SettlesTo : Type 0 → Type 0 → Pipe → Pipe → Pipe → Pipe → Ends → Ends → Type 0
 SettlesTo honest honest1 up down up1 down1 e e1 =
-    (up0 down0 : Pipe) (w : World RunState) → HasLeft w.spent 0 → InRun honest up0 down0 up down w e → InRun honest1 up0 down0 up1 down1 (refreshes front_fetcher w) e1
+    (up0 down0 : Pipe) (w : World RunState) → HasLeft w.spent 0 → InRun honest up0 down0 up down w e
+    → InRun honest1 up0 down0 up1 down1 (refreshes front_fetcher w) e1
 
 pub after-ok : {T P : Type 0} (result : Result T Stop) → P → OnOk result P
 after-ok (Ok value) p = p
 after-ok (Err stop) p = tt
 
 -- a change of the page: what the page and its sheets say is refused is what the script's own state says
-page-is : (honest : Type 0) (up0 down0 up down : Pipe) (lines : ℕ) (w : World RunState) (e : Ends) → InPlay honest up0 down0 up down lines w e → e.side.page ≡ w.state.back.side.page
+page-is : (honest : Type 0) (up0 down0 up down : Pipe) (lines : ℕ) (w : World RunState) (e : Ends)
+    → InPlay honest up0 down0 up down lines w e → e.side.page ≡ w.state.back.side.page
 page-is honest up0 down0 up down lines w e play =
     play.in_run.so_far.in_world.stands.stands.page_is ∙ ap (λ (s : RunState). s.back.side.page) (sym play.both.runs.agrees.state)
 
-sheets-are : (honest : Type 0) (up0 down0 up down : Pipe) (lines : ℕ) (w : World RunState) (e : Ends) → InPlay honest up0 down0 up down lines w e → e.side.sheets.entries ≡ book_in w.state.back
+sheets-are : (honest : Type 0) (up0 down0 up down : Pipe) (lines : ℕ) (w : World RunState) (e : Ends)
+    → InPlay honest up0 down0 up down lines w e → e.side.sheets.entries ≡ book_in w.state.back
 sheets-are honest up0 down0 up down lines w e play =
     play.in_run.so_far.in_world.stands.stands.sheets_are ∙ ap (λ (s : RunState). book_in s.back) (sym play.both.runs.agrees.state)
 
-pub act-carries : (result : Result (Unit {0}) Stop) (fault : Option ActFault) (honest honest1 : Type 0) (up down up1 down1 : Pipe) (taken taken1 : Option (List ℕ)) (e e1 : Ends)
+pub act-carries : (result : Result (Unit {0}) Stop) (fault : Option ActFault) (honest honest1 : Type 0) (up down up1 down1 : Pipe)
+    (taken taken1 : Option (List ℕ)) (e e1 : Ends)
     (number : ℕ) (a : Act)
-    → Spends {T = Option ActFault} least_line (moment honest up down e) (moment honest1 up1 down1 e1) (Ok fault) (λ w. turned run_turn (acts a) w)
+    → Spends {T = Option ActFault} least_line (moment honest up down e) (moment honest1 up1 down1 e1) (Ok fault)
+    (λ w. turned run_turn (acts a) w)
     → IsTurn (acts a) → fault ≡ act_fault a e.side.page e.side.sheets.entries → GoesWell result
     → OnOk result (Appends taken taken1 (act_text number fault)) → OnErr result (WrotePart taken taken1 (act_text number fault))
-    → CarriesOut (scene (moment honest up down e) taken) (scene (moment honest1 up1 down1 e1) taken1) (numbered_line number (forms_of.act a)) result
+    → CarriesOut (scene (moment honest up down e) taken) (scene (moment honest1 up1 down1 e1) taken1)
+    (numbered_line number (forms_of.act a)) result
 act-carries result fault honest honest1 up down up1 down1 taken taken1 e e1 number a spends later is never ok err = λ up0 down0 more w play.
-    let both = plays {T = Option ActFault} (Ok fault) honest honest1 up down up1 down1 e e1 (λ v. turned run_turn (acts a) v) (forms_of.act a) later (λ v. refl) (λ v. refl) (λ v. refl) spends up0 down0 more w play in
+    let both = plays {T = Option ActFault} (Ok fault) honest honest1 up down up1 down1 e e1 (λ v. turned run_turn (acts a) v)
+    (forms_of.act a) later (λ v. refl) (λ v. refl) (λ v. refl) spends up0 down0 more w play in
     let says_same : fault ≡ act_fault a w.state.back.side.page (book_in w.state.back) =
     is ∙ ap (λ page. act_fault a page e.side.sheets.entries) (page-is honest up0 down0 up down (more + least_line) w e play)
     ∙ ap (act_fault a w.state.back.side.page) (sheets-are honest up0 down0 up down (more + least_line) w e play) in (
       never,
       after-ok result both.1,
-      prints-same result taken taken1 (act_text number fault) (act_text number (act_fault a w.state.back.side.page (book_in w.state.back))) (ap (act_text number) says_same) ok err,
+      prints-same result taken taken1 (act_text number fault) (act_text number (act_fault a w.state.back.side.page (book_in w.state.back)))
+          (ap (act_text number) says_same) ok err,
     )
 
 -- or it was not made
-pub act-stops : (stop : Stop) (honest honest1 : Type 0) (up down up1 down1 : Pipe) (taken : Option (List ℕ)) (e e1 : Ends) (line : NumberedLine) (f : World RunState → World RunState)
+pub act-stops : (stop : Stop) (honest honest1 : Type 0) (up down up1 down1 : Pipe) (taken : Option (List ℕ)) (e e1 : Ends)
+    (line : NumberedLine) (f : World RunState → World RunState)
     → Spends {T = Option ActFault} least_line (moment honest up down e) (moment honest1 up1 down1 e1) (Err stop) f
     → CarriesOut {T = Unit {0}} (scene (moment honest up down e) taken) (scene (moment honest1 up1 down1 e1) taken) line (Err stop)
 act-stops stop honest honest1 up down up1 down1 taken e e1 line f spends = λ up0 down0 more w play.
     let cost : least_line ≤ line_cost line.form = cost-least line.form in
-    let left : HasLeft play.fresh.spent least_line = left-fewer play.fresh.spent least_line (more + line_cost line.form) (omega (arith, cost)) play.both.left in
-    ((spends up0 down0 play.fresh left play.in_run).0, tt, record { part = []; rest = line_text line.number line.form w; whole = refl; wrote = Appends-nil taken })
+    let left : HasLeft play.fresh.spent least_line = left-fewer play.fresh.spent least_line (more + line_cost line.form)
+    (omega (arith, cost)) play.both.left in (
+      (spends up0 down0 play.fresh left play.in_run).0,
+      tt,
+      record {
+        part = [];
+        rest = line_text line.number line.form w;
+        whole = refl;
+        wrote = Appends-nil taken;
+      },
+    )
 
 -- the page itself is printed
-pub page-carries : (result : Result (Unit {0}) Stop) (honest : Type 0) (up down : Pipe) (taken taken1 : Option (List ℕ)) (e : Ends) (number : ℕ) (page : PageValue)
+pub page-carries : (result : Result (Unit {0}) Stop) (honest : Type 0) (up down : Pipe) (taken taken1 : Option (List ℕ)) (e : Ends)
+    (number : ℕ) (page : PageValue)
     → page ≡ e.side.page → GoesWell result
     → OnOk result (Appends taken taken1 (codes "# page" ++ 10 ∷ outline_text page_line (alone page.tree)))
     → OnErr result (WrotePart taken taken1 (codes "# page" ++ 10 ∷ outline_text page_line (alone page.tree)))
     → CarriesOut (scene (moment honest up down e) taken) (scene (moment honest up down e) taken1) (numbered_line number show_page) result
 page-carries result honest up down taken taken1 e number page is never ok err = λ up0 down0 more w play.
     let same : page ≡ w.state.back.side.page = is ∙ page-is honest up0 down0 up down (more + least_line) w e play in
-    let still = plays {T = Unit {0}} (Ok tt) honest honest up down up down e e (λ v. v) show_page tt (λ v. refl) (λ v. refl) (λ v. refl) (λ up0 down0 v few run. (tt, run)) up0 down0 more w play in (
+    let still = plays {T = Unit {0}} (Ok tt) honest honest up down up down e e (λ v. v) show_page tt (λ v. refl) (λ v. refl) (λ v. refl)
+    (λ up0 down0 v few run. (tt, run)) up0 down0 more w play in (
       never,
       after-ok result still.1,
-      prints-same result taken taken1 (codes "# page" ++ 10 ∷ outline_text page_line (alone page.tree)) (codes "# page" ++ 10 ∷ outline_text page_line (page_nodes w.state.back))
+      prints-same result taken taken1 (codes "# page" ++ 10 ∷ outline_text page_line (alone page.tree))
+          (codes "# page" ++ 10 ∷ outline_text page_line (page_nodes w.state.back))
           (ap (λ (p : PageValue). codes "# page" ++ 10 ∷ outline_text page_line (alone p.tree)) same) ok err,
     )
 
 -- a show that was printed
-pub show-carries : (result : Result (Unit {0}) Stop) (honest honest1 : Type 0) (up down up1 down1 : Pipe) (taken taken1 : Option (List ℕ)) (e e1 : Ends)
+pub show-carries : (result : Result (Unit {0}) Stop) (honest honest1 : Type 0) (up down up1 down1 : Pipe) (taken taken1 : Option (List ℕ))
+    (e e1 : Ends)
     (number : ℕ) (tree : Nodes Seen)
     → SettlesTo honest honest1 up down up1 down1 e e1 → tree ≡ e1.front.value.tree → GoesWell result
     → OnOk result (Appends taken taken1 (codes "# front" ++ 10 ∷ outline_text seen_line tree))
     → OnErr result (WrotePart taken taken1 (codes "# front" ++ 10 ∷ outline_text seen_line tree))
-    → CarriesOut (scene (moment honest up down e) taken) (scene (moment honest1 up1 down1 e1) taken1) (numbered_line number show_front) result
+    → CarriesOut (scene (moment honest up down e) taken) (scene (moment honest1 up1 down1 e1) taken1)
+    (numbered_line number show_front) result
 show-carries result honest honest1 up down up1 down1 taken taken1 e e1 number tree settles same never ok err = λ up0 down0 more w play.
     let v : World RunState = play.fresh in
-    let after : InRun honest1 up0 down0 up1 down1 (refreshes front_fetcher v) e1 = settles up0 down0 v (left-none v.spent (more + least_line) play.both.left) play.in_run in
+    let after : InRun honest1 up0 down0 up1 down1 (refreshes front_fetcher v) e1 = settles up0 down0 v
+    (left-none v.spent (more + least_line) play.both.left) play.in_run in
     let shown : ShownThen w e1.front.value = shown-settled honest1 up0 down0 up1 down1 (more + least_line) w v e1 play.both after in
     let shows : tree ≡ (view_of (settled run_step w).state.back).tree = same ∙ shown.has.tree in
-    let both = plays {T = Unit {0}} (Ok tt) honest honest1 up down up1 down1 e e1 (refreshes front_fetcher) show_front tt (λ v. refl) refreshed-told (λ v. refl)
+    let both = plays {T = Unit {0}} (Ok tt) honest honest1 up down up1 down1 e e1 (refreshes front_fetcher) show_front tt
+    (λ v. refl) refreshed-told (λ v. refl)
     (λ up0 down0 v few run. (tt, settles up0 down0 v (left-none v.spent least_line few) run)) up0 down0 more w play in (
       never,
       after-ok result both.1,
-      prints-same result taken taken1 (codes "# front" ++ 10 ∷ outline_text seen_line tree) (codes "# front" ++ 10 ∷ outline_text seen_line (view_of (settled run_step w).state.back).tree)
+      prints-same result taken taken1 (codes "# front" ++ 10 ∷ outline_text seen_line tree)
+          (codes "# front" ++ 10 ∷ outline_text seen_line (view_of (settled run_step w).state.back).tree)
           (ap (λ t. codes "# front" ++ 10 ∷ outline_text seen_line t) shows) ok err,
     )
 
 -- a show of the sheets that was printed
-pub sheets-carries : (result : Result (Unit {0}) Stop) (honest honest1 : Type 0) (up down up1 down1 : Pipe) (taken taken1 : Option (List ℕ)) (e e1 : Ends)
+pub sheets-carries : (result : Result (Unit {0}) Stop) (honest honest1 : Type 0) (up down up1 down1 : Pipe)
+    (taken taken1 : Option (List ℕ)) (e e1 : Ends)
     (number : ℕ) (sheets : List KnownSheet)
     → SettlesTo honest honest1 up down up1 down1 e e1 → sheets ≡ e1.front.value.sheets → GoesWell result
     → OnOk result (Appends taken taken1 (codes "# sheets" ++ 10 ∷ known_lines sheets))
     → OnErr result (WrotePart taken taken1 (codes "# sheets" ++ 10 ∷ known_lines sheets))
-    → CarriesOut (scene (moment honest up down e) taken) (scene (moment honest1 up1 down1 e1) taken1) (numbered_line number show_sheets) result
+    → CarriesOut (scene (moment honest up down e) taken) (scene (moment honest1 up1 down1 e1) taken1)
+    (numbered_line number show_sheets) result
 sheets-carries result honest honest1 up down up1 down1 taken taken1 e e1 number sheets settles same never ok err = λ up0 down0 more w play.
     let v : World RunState = play.fresh in
-    let after : InRun honest1 up0 down0 up1 down1 (refreshes front_fetcher v) e1 = settles up0 down0 v (left-none v.spent (more + least_line) play.both.left) play.in_run in
+    let after : InRun honest1 up0 down0 up1 down1 (refreshes front_fetcher v) e1 = settles up0 down0 v
+    (left-none v.spent (more + least_line) play.both.left) play.in_run in
     let shown : ShownThen w e1.front.value = shown-settled honest1 up0 down0 up1 down1 (more + least_line) w v e1 play.both after in
     let shows : known_lines sheets ≡ sheet_lines (sheets_shown (settled run_step w).state.back) =
     ap known_lines same ∙ fresh-lines e1.front.value.sheets (sheets_shown (settled run_step w).state.back) shown.has.sheets shown.fresh in
-    let both = plays {T = Unit {0}} (Ok tt) honest honest1 up down up1 down1 e e1 (refreshes front_fetcher) show_sheets tt (λ v. refl) refreshed-told (λ v. refl)
+    let both = plays {T = Unit {0}} (Ok tt) honest honest1 up down up1 down1 e e1 (refreshes front_fetcher) show_sheets tt
+    (λ v. refl) refreshed-told (λ v. refl)
     (λ up0 down0 v few run. (tt, settles up0 down0 v (left-none v.spent least_line few) run)) up0 down0 more w play in (
       never,
       after-ok result both.1,
-      prints-same result taken taken1 (codes "# sheets" ++ 10 ∷ known_lines sheets) (codes "# sheets" ++ 10 ∷ sheet_lines (sheets_shown (settled run_step w).state.back))
+      prints-same result taken taken1 (codes "# sheets" ++ 10 ∷ known_lines sheets)
+          (codes "# sheets" ++ 10 ∷ sheet_lines (sheets_shown (settled run_step w).state.back))
           (ap (λ t. codes "# sheets" ++ 10 ∷ t) shows) ok err,
     )
 
 -- a show that did not settle
-pub show-stops : (stop : Stop) (honest honest1 : Type 0) (up down up1 down1 : Pipe) (taken : Option (List ℕ)) (e e1 : Ends) (line : NumberedLine)
-    → ((up0 down0 : Pipe) (w : World RunState) → HasLeft w.spent 0 → InRun honest up0 down0 up down w e → GoesWell {T = Unit {0}} (Err stop))
+pub show-stops : (stop : Stop) (honest honest1 : Type 0) (up down up1 down1 : Pipe) (taken : Option (List ℕ)) (e e1 : Ends)
+    (line : NumberedLine)
+    → ((up0 down0 : Pipe) (w : World RunState) → HasLeft w.spent 0 → InRun honest up0 down0 up down w e
+    → GoesWell {T = Unit {0}} (Err stop))
     → CarriesOut {T = Unit {0}} (scene (moment honest up down e) taken) (scene (moment honest1 up1 down1 e1) taken) line (Err stop)
-show-stops stop honest honest1 up down up1 down1 taken e e1 line never = λ up0 down0 more w play.
-    (never up0 down0 play.fresh (left-none play.fresh.spent (more + line_cost line.form) play.both.left) play.in_run, tt, record { part = []; rest = line_text line.number line.form w; whole = refl; wrote = Appends-nil taken })
+show-stops stop honest honest1 up down up1 down1 taken e e1 line never = λ up0 down0 more w play. (
+  never up0 down0 play.fresh (left-none play.fresh.spent
+      (more + line_cost line.form) play.both.left) play.in_run,
+  tt,
+  record {
+    part = [];
+    rest = line_text line.number line.form w;
+    whole = refl;
+    wrote = Appends-nil taken;
+  },
+)
 
 -- ---- the replies and the pauses
 
@@ -315,7 +380,8 @@ pub record Untold {A : Type 0} (told : ℕ) (came kept : List A) : Type 0 where
   pub kept_is : kept ≡ drop count all
 
 -- they are those that came after the others
-untold-are : {A B : Type 0} (f : A → B) (told told1 : ℕ) (came kept : List A) (all : List B) → Untold told came kept → told ≡ told1 → map f came ≡ all → map f kept ≡ drop told1 all
+untold-are : {A B : Type 0} (f : A → B) (told told1 : ℕ) (came kept : List A) (all : List B) → Untold told came kept → told ≡ told1
+    → map f came ≡ all → map f kept ≡ drop told1 all
 untold-are f told told1 came kept all u same is =
     ap (map f) u.kept_is
     ∙ ap (λ m. map f (drop m u.all)) u.count_is
@@ -328,10 +394,13 @@ untold-are f told told1 came kept all u same is =
 abbrev pub replies_text : List Kept → List ℕ
 replies_text kept = codes "# replies" ++ 10 ∷ told_lines (map told_of kept)
 
-replies-same : (number : ℕ) (w : World RunState) (e1 : Ends) (kept : List Kept) → ShownThen w e1.front.value → e1.told ≡ w.told.replies → Untold e1.told e1.front.value.replies kept
+replies-same : (number : ℕ) (w : World RunState) (e1 : Ends) (kept : List Kept) → ShownThen w e1.front.value → e1.told ≡ w.told.replies
+    → Untold e1.told e1.front.value.replies kept
     → replies_text kept ≡ line_text number show_replies w
 replies-same number w e1 kept shown told u =
-    ap (λ ts. codes "# replies" ++ 10 ∷ told_lines ts) (untold-are told_of e1.told w.told.replies e1.front.value.replies kept (replies_in (settled run_step w).down.given) u told shown.told)
+    ap (λ ts. codes "# replies" ++ 10 ∷ told_lines ts)
+    (untold-are told_of e1.told w.told.replies e1.front.value.replies kept
+    (replies_in (settled run_step w).down.given) u told shown.told)
 
 abbrev pub pauses_text : List SeenPause → List ℕ
 pauses_text kept = codes "# pauses" ++ 10 ∷ seen_pause_lines kept
@@ -344,18 +413,21 @@ same-pause (pause.Removed node) = ap (λ text. text ++ 10 ∷ []) (append-nil (w
 
 same-pauses : (ps : List PauseData) → seen_pause_lines (map seen_pause ps) ≡ pause_lines ps
 same-pauses [] = refl
-same-pauses (p ∷ ps) = ap (λ text. text ++ seen_pause_lines (map seen_pause ps)) (same-pause p) ∙ ap (λ text. pause_line p ++ text) (same-pauses ps)
+same-pauses (p ∷ ps) = ap (λ text. text ++ seen_pause_lines (map seen_pause ps)) (same-pause p) ∙ ap (λ text. pause_line p ++ text)
+    (same-pauses ps)
 
 map-id : {A : Type 0} (xs : List A) → map (λ (x : A). x) xs ≡ xs
 map-id [] = refl
 map-id (x ∷ xs) = ap (λ ys. x ∷ ys) (map-id xs)
 
-pauses-same : (number : ℕ) (w : World RunState) (e1 : Ends) (kept : List SeenPause) → ShownThen w e1.front.value → e1.told_pauses ≡ w.told.pauses
+pauses-same : (number : ℕ) (w : World RunState) (e1 : Ends) (kept : List SeenPause) → ShownThen w e1.front.value
+    → e1.told_pauses ≡ w.told.pauses
     → Untold e1.told_pauses e1.front.value.pauses kept → pauses_text kept ≡ line_text number show_pauses w
 pauses-same number w e1 kept shown told u =
     let came = pauses_in (settled run_step w).down.given in
     let left : kept ≡ drop w.told.pauses (map seen_pause came) =
-    sym (map-id kept) ∙ untold-are (λ (p : SeenPause). p) e1.told_pauses w.told.pauses e1.front.value.pauses kept (map seen_pause came) u told (map-id e1.front.value.pauses ∙ shown.pauses) in
+    sym (map-id kept) ∙ untold-are (λ (p : SeenPause). p) e1.told_pauses w.told.pauses e1.front.value.pauses kept
+    (map seen_pause came) u told (map-id e1.front.value.pauses ∙ shown.pauses) in
     ap (λ ps. codes "# pauses" ++ 10 ∷ seen_pause_lines ps) (left ∙ drop-map seen_pause w.told.pauses came)
     ∙ ap (λ text. codes "# pauses" ++ 10 ∷ text) (same-pauses (drop w.told.pauses came))
 
@@ -366,10 +438,12 @@ record BeforeTold (honest1 : Type 0) (up0 down0 up1 down1 : Pipe) (w v : World R
   told : (ends_of e1).told ≡ w.told
 
 before-told : (honest honest1 : Type 0) (up0 down0 up down up1 down1 : Pipe) (more : ℕ) (w : World RunState) (e e1 : Ends)
-    → SettlesTo honest honest1 up down up1 down1 e e1 → (play : InPlay honest up0 down0 up down (more + least_line) w e) → BeforeTold honest1 up0 down0 up1 down1 w play.fresh e1
+    → SettlesTo honest honest1 up down up1 down1 e e1 → (play : InPlay honest up0 down0 up down (more + least_line) w e)
+    → BeforeTold honest1 up0 down0 up1 down1 w play.fresh e1
 before-told honest honest1 up0 down0 up down up1 down1 more w e e1 settles play =
     let v : World RunState = play.fresh in
-    let after : InRun honest1 up0 down0 up1 down1 (refreshes front_fetcher v) e1 = settles up0 down0 v (left-none v.spent (more + least_line) play.both.left) play.in_run in
+    let after : InRun honest1 up0 down0 up1 down1 (refreshes front_fetcher v) e1 = settles up0 down0 v
+    (left-none v.spent (more + least_line) play.both.left) play.in_run in
     record {
       after = after;
       shown = shown-settled honest1 up0 down0 up1 down1 (more + least_line) w v e1 play.both after;
@@ -381,7 +455,8 @@ abbrev told_to : AlreadyTold → World RunState → World RunState
 told_to n v = record { state = v.state; up = v.up; down = v.down; spent = v.spent; told = n }
 
 -- what was printed counts as told, in both runs alike
-told-play : (line : LineForm) (honest1 : Type 0) (up0 down0 up1 down1 : Pipe) (more : ℕ) (w v : World RunState) (e1 e2 : Ends) (n : AlreadyTold)
+told-play : (line : LineForm) (honest1 : Type 0) (up0 down0 up1 down1 : Pipe) (more : ℕ) (w v : World RunState) (e1 e2 : Ends)
+    (n : AlreadyTold)
     → IsLater line → fresh_line front_fetcher line v ≡ told_to (fresh_line front_fetcher line v).told (refreshes front_fetcher v)
     → Together IsPlainFrame (more + line_cost line) w v → InRun honest1 up0 down0 up1 down1 (refreshes front_fetcher v) e1
     → ends_of e2 ≡ record (ends_of e1) { told = n } → e2.splitter ≡ e1.splitter → n ≡ (after_line line w).told
@@ -407,36 +482,49 @@ told-play line honest1 up0 down0 up1 down1 more w v e1 e2 n later is both after 
     }
 
 -- the replies were printed, and count as told
-pub replies-carried : (number : ℕ) (honest honest1 : Type 0) (up down up1 down1 : Pipe) (taken taken1 : Option (List ℕ)) (e e1 e2 : Ends) (kept : List Kept)
+pub replies-carried : (number : ℕ) (honest honest1 : Type 0) (up down up1 down1 : Pipe) (taken taken1 : Option (List ℕ)) (e e1 e2 : Ends)
+    (kept : List Kept)
     → SettlesTo honest honest1 up down up1 down1 e e1 → Untold e1.told e1.front.value.replies kept
     → Appends taken taken1 (replies_text kept) → e2 ≡ record e1 { told = length e1.front.value.replies }
-    → CarriesOut {T = Unit {0}} (scene (moment honest up down e) taken) (scene (moment honest1 up1 down1 e2) taken1) (numbered_line number show_replies) (Ok tt)
+    → CarriesOut {T = Unit {0}} (scene (moment honest up down e) taken) (scene (moment honest1 up1 down1 e2) taken1)
+    (numbered_line number show_replies) (Ok tt)
 replies-carried number honest honest1 up down up1 down1 taken taken1 e e1 e2 kept settles u printed told = λ up0 down0 more w play.
     let v : World RunState = play.fresh in
     let before : BeforeTold honest1 up0 down0 up1 down1 w v e1 = before-told honest honest1 up0 down0 up down up1 down1 more w e e1 settles play in
     let count : ℕ = length e1.front.value.replies in
-    let all : count ≡ length (replies_in (settled run_step w).down.given) = sym (length-map e1.front.value.replies told_of) ∙ ap length before.shown.told in (
+    let all : count ≡ length (replies_in (settled run_step w).down.given) = sym
+    (length-map e1.front.value.replies told_of) ∙ ap length before.shown.told in (
       tt,
-      told-play show_replies honest1 up0 down0 up1 down1 more w v e1 e2 (record { replies = count; pauses = e1.told_pauses }) tt refl play.both before.after
+      told-play show_replies honest1 up0 down0 up1 down1 more w v e1 e2
+          (record { replies = count; pauses = e1.told_pauses }) tt refl play.both before.after
           (ap ends_of told) (ap (λ (x : Ends). x.splitter) told)
           (λ i. record { replies = all i; pauses = (before.told i).pauses }),
-      subst (λ t. Appends taken taken1 t) (replies-same number w e1 kept before.shown (ap (λ (n : AlreadyTold). n.replies) before.told) u) printed,
+      subst (λ t. Appends taken taken1 t)
+          (replies-same number w e1 kept before.shown (ap (λ (n : AlreadyTold). n.replies) before.told) u) printed,
     )
 
 -- or they were not
-pub replies-stop : (number : ℕ) (stop : Stop) (honest honest1 : Type 0) (up down up1 down1 : Pipe) (taken taken1 : Option (List ℕ)) (e e1 e2 : Ends) (kept : List Kept)
+pub replies-stop : (number : ℕ) (stop : Stop) (honest honest1 : Type 0) (up down up1 down1 : Pipe) (taken taken1 : Option (List ℕ))
+    (e e1 e2 : Ends) (kept : List Kept)
     → SettlesTo honest honest1 up down up1 down1 e e1 → Untold e1.told e1.front.value.replies kept
     → GoesWell {T = Unit {0}} (Err stop) → WrotePart taken taken1 (replies_text kept)
-    → CarriesOut {T = Unit {0}} (scene (moment honest up down e) taken) (scene (moment honest1 up1 down1 e2) taken1) (numbered_line number show_replies) (Err stop)
+    → CarriesOut {T = Unit {0}} (scene (moment honest up down e) taken) (scene (moment honest1 up1 down1 e2) taken1)
+    (numbered_line number show_replies) (Err stop)
 replies-stop number stop honest honest1 up down up1 down1 taken taken1 e e1 e2 kept settles u never wrote = λ up0 down0 more w play.
-    let before : BeforeTold honest1 up0 down0 up1 down1 w play.fresh e1 = before-told honest honest1 up0 down0 up down up1 down1 more w e e1 settles play in
-    (never, tt, subst (λ t. WrotePart taken taken1 t) (replies-same number w e1 kept before.shown (ap (λ (n : AlreadyTold). n.replies) before.told) u) wrote)
+    let before : BeforeTold honest1 up0 down0 up1 down1 w play.fresh e1 = before-told honest honest1 up0 down0 up down up1 down1 more w e e1 settles play in (
+      never,
+      tt,
+      subst (λ t. WrotePart taken taken1 t)
+          (replies-same number w e1 kept before.shown (ap (λ (n : AlreadyTold). n.replies) before.told) u) wrote,
+    )
 
 -- the pauses were printed, and count as told
-pub pauses-carried : (number : ℕ) (honest honest1 : Type 0) (up down up1 down1 : Pipe) (taken taken1 : Option (List ℕ)) (e e1 e2 : Ends) (kept : List SeenPause)
+pub pauses-carried : (number : ℕ) (honest honest1 : Type 0) (up down up1 down1 : Pipe) (taken taken1 : Option (List ℕ)) (e e1 e2 : Ends)
+    (kept : List SeenPause)
     → SettlesTo honest honest1 up down up1 down1 e e1 → Untold e1.told_pauses e1.front.value.pauses kept
     → Appends taken taken1 (pauses_text kept) → e2 ≡ record e1 { told_pauses = length e1.front.value.pauses }
-    → CarriesOut {T = Unit {0}} (scene (moment honest up down e) taken) (scene (moment honest1 up1 down1 e2) taken1) (numbered_line number show_pauses) (Ok tt)
+    → CarriesOut {T = Unit {0}} (scene (moment honest up down e) taken) (scene (moment honest1 up1 down1 e2) taken1)
+    (numbered_line number show_pauses) (Ok tt)
 pauses-carried number honest honest1 up down up1 down1 taken taken1 e e1 e2 kept settles u printed told = λ up0 down0 more w play.
     let v : World RunState = play.fresh in
     let before : BeforeTold honest1 up0 down0 up1 down1 w v e1 = before-told honest honest1 up0 down0 up down up1 down1 more w e e1 settles play in
@@ -444,23 +532,32 @@ pauses-carried number honest honest1 up down up1 down1 taken taken1 e e1 e2 kept
     let came = pauses_in (settled run_step w).down.given in
     let all : count ≡ length came = ap length before.shown.pauses ∙ length-map came seen_pause in (
       tt,
-      told-play show_pauses honest1 up0 down0 up1 down1 more w v e1 e2 (record { replies = e1.told; pauses = count }) tt refl play.both before.after
+      told-play show_pauses honest1 up0 down0 up1 down1 more w v e1 e2
+          (record { replies = e1.told; pauses = count }) tt refl play.both before.after
           (ap ends_of told) (ap (λ (x : Ends). x.splitter) told)
           (λ i. record { replies = (before.told i).replies; pauses = all i }),
-      subst (λ t. Appends taken taken1 t) (pauses-same number w e1 kept before.shown (ap (λ (n : AlreadyTold). n.pauses) before.told) u) printed,
+      subst (λ t. Appends taken taken1 t)
+          (pauses-same number w e1 kept before.shown (ap (λ (n : AlreadyTold). n.pauses) before.told) u) printed,
     )
 
 -- or they were not
-pub pauses-stop : (number : ℕ) (stop : Stop) (honest honest1 : Type 0) (up down up1 down1 : Pipe) (taken taken1 : Option (List ℕ)) (e e1 e2 : Ends) (kept : List SeenPause)
+pub pauses-stop : (number : ℕ) (stop : Stop) (honest honest1 : Type 0) (up down up1 down1 : Pipe) (taken taken1 : Option (List ℕ))
+    (e e1 e2 : Ends) (kept : List SeenPause)
     → SettlesTo honest honest1 up down up1 down1 e e1 → Untold e1.told_pauses e1.front.value.pauses kept
     → GoesWell {T = Unit {0}} (Err stop) → WrotePart taken taken1 (pauses_text kept)
-    → CarriesOut {T = Unit {0}} (scene (moment honest up down e) taken) (scene (moment honest1 up1 down1 e2) taken1) (numbered_line number show_pauses) (Err stop)
+    → CarriesOut {T = Unit {0}} (scene (moment honest up down e) taken) (scene (moment honest1 up1 down1 e2) taken1)
+    (numbered_line number show_pauses) (Err stop)
 pauses-stop number stop honest honest1 up down up1 down1 taken taken1 e e1 e2 kept settles u never wrote = λ up0 down0 more w play.
-    let before : BeforeTold honest1 up0 down0 up1 down1 w play.fresh e1 = before-told honest honest1 up0 down0 up down up1 down1 more w e e1 settles play in
-    (never, tt, subst (λ t. WrotePart taken taken1 t) (pauses-same number w e1 kept before.shown (ap (λ (n : AlreadyTold). n.pauses) before.told) u) wrote)
+    let before : BeforeTold honest1 up0 down0 up1 down1 w play.fresh e1 = before-told honest honest1 up0 down0 up down up1 down1 more w e e1 settles play in (
+      never,
+      tt,
+      subst (λ t. WrotePart taken taken1 t)
+          (pauses-same number w e1 kept before.shown (ap (λ (n : AlreadyTold). n.pauses) before.told) u) wrote,
+    )
 
 -- the closing part that was printed
-pub closes-well : (result : Result (Unit {0}) Stop) (honest honest1 : Type 0) (up down up1 down1 : Pipe) (taken taken1 : Option (List ℕ)) (e e1 : Ends)
+pub closes-well : (result : Result (Unit {0}) Stop) (honest honest1 : Type 0) (up down up1 down1 : Pipe) (taken taken1 : Option (List ℕ))
+    (e e1 : Ends)
     (tree : Nodes Seen)
     → SettlesTo honest honest1 up down up1 down1 e e1 → tree ≡ e1.front.value.tree → GoesWell result
     → OnOk result (Appends taken taken1 (codes "# end" ++ 10 ∷ outline_text seen_line tree))
@@ -472,15 +569,24 @@ closes-well result honest honest1 up down up1 down1 taken taken1 e e1 tree settl
     let shown : ShownThen w e1.front.value = shown-settled honest1 up0 down0 up1 down1 0 w v e1 play.both after in
     let shows : tree ≡ (view_of (settled run_step w).state.back).tree = same ∙ shown.has.tree in (
       never,
-      prints-same result taken taken1 (codes "# end" ++ 10 ∷ outline_text seen_line tree) (codes "# end" ++ 10 ∷ outline_text seen_line (view_of (settled run_step w).state.back).tree)
+      prints-same result taken taken1 (codes "# end" ++ 10 ∷ outline_text seen_line tree)
+          (codes "# end" ++ 10 ∷ outline_text seen_line (view_of (settled run_step w).state.back).tree)
           (ap (λ t. codes "# end" ++ 10 ∷ outline_text seen_line t) shows) ok err,
     )
 
 pub closes-not : (stop : Stop) (honest : Type 0) (up down : Pipe) (taken : Option (List ℕ)) (e : Ends)
-    → ((up0 down0 : Pipe) (w : World RunState) → HasLeft w.spent 0 → InRun honest up0 down0 up down w e → GoesWell {T = Unit {0}} (Err stop))
+    → ((up0 down0 : Pipe) (w : World RunState) → HasLeft w.spent 0 → InRun honest up0 down0 up down w e
+    → GoesWell {T = Unit {0}} (Err stop))
     → Closes {T = Unit {0}} (scene (moment honest up down e) taken) taken (Err stop)
-closes-not stop honest up down taken e never = λ up0 down0 w play.
-    (never up0 down0 play.fresh play.both.left play.in_run, record { part = []; rest = closing_text w; whole = refl; wrote = Appends-nil taken })
+closes-not stop honest up down taken e never = λ up0 down0 w play. (
+  never up0 down0 play.fresh play.both.left play.in_run,
+  record {
+    part = [];
+    rest = closing_text w;
+    whole = refl;
+    wrote = Appends-nil taken;
+  },
+)
 
 -- ---- the whole script
 
@@ -497,7 +603,8 @@ bad-first input first more lines good = ap fault_of_lines lines ∙ first_bad-go
 pub script-loads : (input first : List ℕ) (more : List (List ℕ)) (page : LoadedPage)
     → lines_of input ≡ first ∷ more → line_fault 1 first ≡ None → line_form first ≡ Some (load page)
     → Script page (good_lines 2 more) (length input)
-script-loads input first more page lines good is = input-script input page (good_lines 2 more) (forms-first input first more (load page) lines good is)
+script-loads input first more page lines good is = input-script input page (good_lines 2 more)
+    (forms-first input first more (load page) lines good is)
 
 pub report-loads : (input first : List ℕ) (more : List (List ℕ)) (page : LoadedPage)
     → lines_of input ≡ first ∷ more → line_fault 1 first ≡ None → line_form first ≡ Some (load page)
@@ -522,14 +629,16 @@ script-refused there input first more page lines good is =
     ∙ ap (λ o. numbered_or 1 (first_of o (option_and_then (styles_fault there) (line_form first))) (first_refused there 2 more)) good
     ∙ ap (λ o. numbered_or 1 (option_and_then (styles_fault there) o) (first_refused there 2 more)) is
 
-pub few-lines : (input first : List ℕ) (more : List (List ℕ)) (limit : ℕ) → lines_of input ≡ first ∷ more → length input ≤ limit → length more ≤ limit
+pub few-lines : (input first : List ℕ) (more : List (List ℕ)) (limit : ℕ) → lines_of input ≡ first ∷ more → length input ≤ limit
+    → length more ≤ limit
 few-lines input first more limit lines few =
     let all : length (lines_of input) ≤ length input = length-lines_of input in
     let count : length (lines_of input) ≡ suc (length more) = ap length lines in
     omega (arith, all, count, few)
 
 -- nor in them
-pub few-bytes : (input first : List ℕ) (more : List (List ℕ)) (limit : ℕ) → lines_of input ≡ first ∷ more → length input ≤ limit → line_bytes more ≤ limit
+pub few-bytes : (input first : List ℕ) (more : List (List ℕ)) (limit : ℕ) → lines_of input ≡ first ∷ more → length input ≤ limit
+    → line_bytes more ≤ limit
 few-bytes input first more limit lines few =
     let all : line_bytes (lines_of input) ≤ length input = bytes-lines_of input in
     let count : line_bytes (lines_of input) ≡ line_bytes more + length first = ap line_bytes lines in
@@ -539,7 +648,15 @@ few-bytes input first more limit lines few =
 
 -- the ends of a page that was just loaded
 abbrev pub first_ends : Seat → PageSide → HeldEnds
-first_ends seat side = record { seat = seat; side = side; back_rest = []; front = first_state; up_there = 0; down_there = 0; told = nothing_told }
+first_ends seat side = record {
+  seat = seat;
+  side = side;
+  back_rest = [];
+  front = first_state;
+  up_there = 0;
+  down_there = 0;
+  told = nothing_told;
+}
 
 pub ends-first : (e : Ends) → e.splitter ≡ no_frames → e.front ≡ first_state
     → e.up_there ≡ 0 → e.down_there ≡ 0 → e.told ≡ 0 → e.told_pauses ≡ 0 → ends_of e ≡ first_ends e.seat e.side
@@ -565,7 +682,8 @@ pub record IsNewSide (seat : Seat) (side : PageSide) (page : LoadedPage) : Type 
   pub history_is : seat.history ≡ no_marks
 
 -- the seat stands for it
-pub stands-first : (page : LoadedPage) (seat : Seat) (side : PageSide) → CanLoadPage page → PageHasTexts page → IsNewSide seat side page → StandsFor seat side (loaded_state page)
+pub stands-first : (page : LoadedPage) (seat : Seat) (side : PageSide) → CanLoadPage page → PageHasTexts page → IsNewSide seat side page
+    → StandsFor seat side (loaded_state page)
 stands-first page seat side can texts new =
     let is = IsState-first page can texts in
     record {
@@ -577,21 +695,25 @@ stands-first page seat side can texts new =
         on_is = new.off;
         css_is = new.css;
         watches_are = new.watches_are;
-        stands = subst (λ b. Stands (page_nodes (loaded_state page)) begun b) (sym new.agent_is) (Stands-begun (page_nodes (loaded_state page)));
+        stands = subst (λ b. Stands (page_nodes (loaded_state page)) begun b) (sym new.agent_is)
+            (Stands-begun (page_nodes (loaded_state page)));
       };
       kept = record { edits = new.history_is; history = is.history };
     }
 
 -- so it stands for some state
-pub seated-first : (page : LoadedPage) (seat : Seat) (side : PageSide) → CanLoadPage page → PageHasTexts page → IsNewSide seat side page → IsSeated seat side
+pub seated-first : (page : LoadedPage) (seat : Seat) (side : PageSide) → CanLoadPage page → PageHasTexts page → IsNewSide seat side page
+    → IsSeated seat side
 seated-first page seat side can texts new = λ alive. ∣ (loaded_state page, stands-first page seat side can texts new) ∣₁
 
 nothing-awaited : (page : LoadedPage) → awaited (loaded_world page).up ≡ []
 unfolding frames_of
 nothing-awaited page = refl
 
-pub begins : (honest : Type 0) (up down : Pipe) (page : LoadedPage) (e : Ends) → honest → CanLoadPage page → PageHasTexts page → IsLevel up → IsLevel down
-    → IsNewSide e.seat e.side page → e.splitter ≡ no_frames → e.front ≡ first_state → e.up_there ≡ 0 → e.down_there ≡ 0 → e.told ≡ 0 → e.told_pauses ≡ 0
+pub begins : (honest : Type 0) (up down : Pipe) (page : LoadedPage) (e : Ends) → honest → CanLoadPage page → PageHasTexts page → IsLevel up
+    → IsLevel down
+    → IsNewSide e.seat e.side page → e.splitter ≡ no_frames → e.front ≡ first_state → e.up_there ≡ 0 → e.down_there ≡ 0 → e.told ≡ 0
+    → e.told_pauses ≡ 0
     → InRun honest up down up down (loaded_world page) e
 begins honest up down page e is_honest can texts up_level down_level new splitter_is front_is up_none down_none told_none pauses_none =
     let same : first_ends e.seat e.side ≡ ends_of e = sym (ends-first e splitter_is front_is up_none down_none told_none pauses_none) in
@@ -609,7 +731,8 @@ begins honest up down page e is_honest can texts up_level down_level new splitte
     }
 
 -- so both runs begin, with room for lines of so many bytes
-pub play-begins : (honest : Type 0) (up down : Pipe) (page : LoadedPage) (lines : ℕ) (e : Ends) → CanLoadPage page → PageHasTexts page → lines ≤ most_bytes
+pub play-begins : (honest : Type 0) (up down : Pipe) (page : LoadedPage) (lines : ℕ) (e : Ends) → CanLoadPage page → PageHasTexts page
+    → lines ≤ most_bytes
     → InRun honest up down up down (loaded_world page) e → InPlay honest up down up down lines (loaded_world page) e
 play-begins honest up down page lines e can texts few run =
     record { fresh = loaded_world page; both = play-loaded page lines can texts few; in_run = run; told_is = refl }

@@ -1,5 +1,6 @@
 -- What came was read and answered by the end of the source, or until the call stopped.
-use Rattle.std.proofs.Common.{◌≡◌, ℕ, zero, suc, ◌+◌, ◌^◌, ◌≤◌, List, [], ◌∷◌, ◌++◌, length, take, Option, Some, None, Result, Ok, Err, refl, sym, ◌∙◌, ap, subst, append_assoc, append-nil, length-append, arith}
+use Rattle.std.proofs.Common.{◌≡◌, ℕ, zero, suc, ◌+◌, ◌^◌, ◌≤◌, List, [], ◌∷◌, ◌++◌, length, take, Option, Some, None, Result, Ok, Err}
+use Rattle.std.proofs.Common.{refl, sym, ◌∙◌, ap, subst, append_assoc, append-nil, length-append, arith}
 use Rattle.std.specs.Io.KnownBytes.{Appends, Consumes, IsAtEnd}
 use Rattle.pipe_frames.specs.Fault.{Rose}
 use Rattle.pipe_frames.specs.Whole.{ReadPart, WrotePart}
@@ -8,13 +9,16 @@ use Rattle.pipe_frames.proofs.WholeLemmas.{Appends-nil, WrotePart-longer, Consum
 use Rattle.inspect_replay.specs.declared.status.Status.{Status}
 use Rattle.inspect_replay.specs.declared.status.Status.TheVariants as status
 use Rattle.inspect_replay.specs.declared.stop.Stop.{Stop}
-use Rattle.inspect_replay.specs.declared.stop.Stop.TheVariants.{Line, TooLong, ReadFault, WriteFault, LinkFault, FrontRefused, NoRoom, Memory}
+use Rattle.inspect_replay.specs.declared.stop.Stop.TheVariants.{Line, TooLong, ReadFault, WriteFault, LinkFault, FrontRefused, NoRoom}
+use Rattle.inspect_replay.specs.declared.stop.Stop.TheVariants.{Memory}
 use Rattle.std.specs.Result.{IsOk, IsErrAnd}
 use Rattle.std.proofs.lemmas.Result.{err_from_is_err_and}
 use Rattle.inspect_replay.specs.Followed.{Passed, StatusFolds}
 use Rattle.inspect_replay.specs.Answers.{StatusRose}
 use Rattle.inspect_replay.specs.Says.{Counts, status_of}
-use Rattle.inspect_replay.specs.Serving.{served, ServeCall, ServedRead, ServedAll, ServedLimit, ServeTook, IsServeStatus, ServeMoment, Serves, PieceAnswered, PieceInPart, PieceServed, EndIsMet, ReadAnswered, PartAnswered, EndAnswered, LimitAnswered, FaultAnswered, HasServed, WriteRose, ServeRose}
+use Rattle.inspect_replay.specs.Serving.{served, ServeCall, ServedRead, ServedAll, ServedLimit, ServeTook, IsServeStatus, ServeMoment}
+use Rattle.inspect_replay.specs.Serving.{Serves, PieceAnswered, PieceInPart, PieceServed, EndIsMet, ReadAnswered, PartAnswered, EndAnswered}
+use Rattle.inspect_replay.specs.Serving.{LimitAnswered, FaultAnswered, HasServed, WriteRose, ServeRose}
 use Rattle.inspect_replay.proofs.ServeLemmas.{answers_after, served-more}
 
 -- ---- the loop
@@ -28,12 +32,15 @@ pub record ServedSoFar (before left start : Option (List ℕ)) (now : ServeMomen
   pub serves : Serves (record { start = start; bytes = bytes }) now
 
 -- nothing came yet
-pub nothing-came : (before : Option (List ℕ)) (now : ServeMoment) → Serves (record { start = now.taken; bytes = [] }) now → ServedSoFar before before now.taken now 0
+pub nothing-came : (before : Option (List ℕ)) (now : ServeMoment) → Serves (record { start = now.taken; bytes = [] }) now
+    → ServedSoFar before before now.taken now 0
 nothing-came before now serves = record { bytes = []; count = refl; few = omega arith; read = Consumes-nil before; serves = serves }
 
 -- a piece more
-pub more-came : (before left after start : Option (List ℕ)) (now new : ServeMoment) (came count most : ℕ) (s : ServedSoFar before left start now came)
-    → PieceAnswered (record { start = start; bytes = s.bytes }) new (record { before = left; after = after; most = most }) count → came + most ≤ 2 ^ 26
+pub more-came : (before left after start : Option (List ℕ)) (now new : ServeMoment) (came count most : ℕ)
+    (s : ServedSoFar before left start now came)
+    → PieceAnswered (record { start = start; bytes = s.bytes }) new (record { before = left; after = after; most = most }) count
+    → came + most ≤ 2 ^ 26
     → ServedSoFar before after start new (came + count)
 more-came before left after start now new came count most s p room = record {
   bytes = s.bytes ++ p.piece;
@@ -53,13 +60,19 @@ read-answered before left start now came s = record {
 }
 
 -- the source ended
-pub loop-ended : (before left start : Option (List ℕ)) (now : ServeMoment) (came : ℕ) → ServedSoFar before left start now came → IsAtEnd left
+pub loop-ended : (before left start : Option (List ℕ)) (now : ServeMoment) (came : ℕ) → ServedSoFar before left start now came
+    → IsAtEnd left
     → EndAnswered (record { left_before = before; left_after = left; taken_before = start; taken_after = now.taken })
-loop-ended before left start now came s ended = record { bytes = s.bytes; answered = read-answered before left start now came s; ended = ended }
+loop-ended before left start now came s ended = record {
+  bytes = s.bytes;
+  answered = read-answered before left start now came s;
+  ended = ended;
+}
 
 -- a front part of the answers to what came was written
 loop-part : (before left after start : Option (List ℕ)) (now new : ServeMoment) (came most : ℕ) (s : ServedSoFar before left start now came)
-    → PieceInPart (record { start = start; bytes = s.bytes }) new (record { before = left; after = after; most = most }) → came + most ≤ 2 ^ 26
+    → PieceInPart (record { start = start; bytes = s.bytes }) new (record { before = left; after = after; most = most })
+    → came + most ≤ 2 ^ 26
     → PartAnswered (record { left_before = before; left_after = after; taken_before = start; taken_after = new.taken })
 loop-part before left after start now new came most s p room = record {
   bytes = s.bytes ++ p.piece;
@@ -71,9 +84,12 @@ loop-part before left after start now new came most s p room = record {
 }
 
 -- the loop stopped
-pub loop-stopped : (before left after start : Option (List ℕ)) (now new : ServeMoment) (came most : ℕ) (stop : Stop) (s : ServedSoFar before left start now came)
-    → PieceServed (record { start = start; bytes = s.bytes }) new (record { before = left; after = after; most = most }) (Err stop) → came + most ≤ 2 ^ 26
-    → HasServed {T = Unit {0}} (record { left_before = before; left_after = after; taken_before = start; taken_after = new.taken }) (Err stop)
+pub loop-stopped : (before left after start : Option (List ℕ)) (now new : ServeMoment) (came most : ℕ) (stop : Stop)
+    (s : ServedSoFar before left start now came)
+    → PieceServed (record { start = start; bytes = s.bytes }) new (record { before = left; after = after; most = most }) (Err stop)
+    → came + most ≤ 2 ^ 26
+    → HasServed {T = Unit {0}} (record { left_before = before; left_after = after; taken_before = start; taken_after = new.taken })
+    (Err stop)
 loop-stopped before left after start now new came most (Line number fault) s p room = absurd p
 loop-stopped before left after start now new came most TooLong s p room = absurd p
 loop-stopped before left after start now new came most ReadFault s p room = record {
@@ -91,8 +107,10 @@ loop-stopped before left after start now new came most NoRoom s p room = absurd 
 loop-stopped before left after start now new came most Memory s p room = loop-part before left after start now new came most s p room
 
 -- as many came as an input may have
-pub loop-full : (before left after start : Option (List ℕ)) (now : ServeMoment) (came : ℕ) (result : Result (Unit {0}) Stop) → ServedSoFar before left start now came → 2 ^ 26 ≤ came
-    → EndIsMet left after result → HasServed (record { left_before = before; left_after = after; taken_before = start; taken_after = now.taken }) result
+pub loop-full : (before left after start : Option (List ℕ)) (now : ServeMoment) (came : ℕ) (result : Result (Unit {0}) Stop)
+    → ServedSoFar before left start now came → 2 ^ 26 ≤ came
+    → EndIsMet left after result → HasServed
+    (record { left_before = before; left_after = after; taken_before = start; taken_after = now.taken }) result
 loop-full before left after start now came (Ok value) s full met = record {
   bytes = s.bytes;
   answered = record {
@@ -131,7 +149,8 @@ loop-full before left after start now came (Err Memory) s full met = absurd met
 -- ---- causes
 
 -- of a call within another
-pub write-rose-before : {T : Type 0} (start before after : ℕ) (result : Result T Stop) → start ≤ before → WriteRose before after result → WriteRose start after result
+pub write-rose-before : {T : Type 0} (start before after : ℕ) (result : Result T Stop) → start ≤ before → WriteRose before after result
+    → WriteRose start after result
 write-rose-before start before after (Ok value) low rose = tt
 write-rose-before start before after (Err (Line number fault)) low rose = rose
 write-rose-before start before after (Err TooLong) low rose = rose
@@ -142,7 +161,8 @@ write-rose-before start before after (Err (FrontRefused place fault)) low rose =
 write-rose-before start before after (Err NoRoom) low rose = rose
 write-rose-before start before after (Err Memory) low rose = tt
 
-pub serve-rose-before : {T : Type 0} (c d : Counts) (result : Result T Stop) → c.source_before ≤ d.source_before → c.sink_before ≤ d.sink_before
+pub serve-rose-before : {T : Type 0} (c d : Counts) (result : Result T Stop) → c.source_before ≤ d.source_before
+    → c.sink_before ≤ d.sink_before
     → d.source_after ≡ c.source_after → d.sink_after ≡ c.sink_after → ServeRose d result → ServeRose c result
 serve-rose-before c d (Ok value) low low_sink same same_sink rose = tt
 serve-rose-before c d (Err (Line number fault)) low low_sink same same_sink rose = rose
@@ -170,7 +190,8 @@ stop-rose c Memory rose = tt
 -- ---- the whole call
 
 -- nothing was read, and nothing was written
-pub nothing-served : (left taken : Option (List ℕ)) → PartAnswered (record { left_before = left; left_after = left; taken_before = taken; taken_after = taken })
+pub nothing-served : (left taken : Option (List ℕ))
+    → PartAnswered (record { left_before = left; left_after = left; taken_before = taken; taken_after = taken })
 nothing-served left taken = record {
   bytes = [];
   few = omega arith;
@@ -184,7 +205,9 @@ pub nothing-begun : {T : Type 0} (result : Result T Stop) (left taken : Option (
 nothing-begun result left taken lost =
     let p = err_from_is_err_and result lost in
     let is : result ≡ Err Memory = p.1 ∙ ap (λ (stop : Stop). Err stop) p.2 in
-    subst (λ (r : Result _ Stop). HasServed (record { left_before = left; left_after = left; taken_before = taken; taken_after = taken }) r) (sym is) (nothing-served left taken)
+    subst (λ (r : Result _ Stop). HasServed
+    (record { left_before = left; left_after = left; taken_before = taken; taken_after = taken }) r) (sym is)
+    (nothing-served left taken)
 
 -- a source that tells its bytes had these, and has the others left
 known-left : (before after : Option (List ℕ)) (input bytes : List ℕ) → before ≡ Some input → Consumes before after bytes
@@ -205,7 +228,8 @@ take-full n [] rest is = subst (λ m. take m rest ≡ []) is refl
 take-full zero (byte ∷ bytes) rest is = absurd (omega (arith, is))
 take-full (suc n) (byte ∷ bytes) rest is = ap (λ text. byte ∷ text) (take-full n bytes rest (omega (arith, is)))
 
-served-part : (input bytes rest : List ℕ) (before after : Option (List ℕ)) → input ≡ bytes ++ rest → length bytes ≤ 2 ^ 26 → WrotePart before after (served bytes)
+served-part : (input bytes rest : List ℕ) (before after : Option (List ℕ)) → input ≡ bytes ++ rest → length bytes ≤ 2 ^ 26
+    → WrotePart before after (served bytes)
     → WrotePart before after (served (take (2 ^ 26) input))
 served-part input bytes rest before after whole few wrote =
     let later = take-past (2 ^ 26) bytes rest few in
@@ -213,7 +237,8 @@ served-part input bytes rest before after whole few wrote =
     subst (λ text. WrotePart before after text) (sym (ap served front ∙ served-more bytes later.0))
     (WrotePart-longer before after (served bytes) (answers_after bytes later.0).sent wrote)
 
-part-took : (input : List ℕ) (call : ServeCall) → call.left_before ≡ Some input → PartAnswered call → WrotePart call.taken_before call.taken_after (served (take (2 ^ 26) input))
+part-took : (input : List ℕ) (call : ServeCall) → call.left_before ≡ Some input → PartAnswered call
+    → WrotePart call.taken_before call.taken_after (served (take (2 ^ 26) input))
 part-took input call is p =
     let k = known-left call.left_before call.left_after input p.bytes is p.read in
     served-part input p.bytes k.0 call.taken_before call.taken_after k.2 p.few p.wrote
@@ -260,7 +285,8 @@ fault-took input call is p =
     }
 
 -- what a stop that is a status took
-pub stop-served : (stop : Stop) (input : List ℕ) (call : ServeCall) → call.left_before ≡ Some input → HasServed {T = Unit {0}} call (Err stop) → ServeTook (status_of stop) input call
+pub stop-served : (stop : Stop) (input : List ℕ) (call : ServeCall) → call.left_before ≡ Some input
+    → HasServed {T = Unit {0}} call (Err stop) → ServeTook (status_of stop) input call
 stop-served (Line number fault) input call is p = absurd p
 stop-served TooLong input call is p = limit-took input call is p
 stop-served ReadFault input call is p = fault-took input call is p
@@ -281,17 +307,20 @@ stop-status NoRoom call p = absurd p
 stop-status Memory call p = tt
 
 -- at most one byte more than an input may have was read
-answered-reads : (call : ServeCall) (bytes past : List ℕ) → ReadAnswered call bytes past → length past ≤ 1 → ReadPart call.left_before call.left_after (2 ^ 26 + 1)
+answered-reads : (call : ServeCall) (bytes past : List ℕ) → ReadAnswered call bytes past → length past ≤ 1
+    → ReadPart call.left_before call.left_after (2 ^ 26 + 1)
 answered-reads call bytes past p one = record {
   part = bytes ++ past;
-  count = let size : length (bytes ++ past) ≡ length bytes + length past = length-append bytes past in let few = p.few in omega (arith, size, few, one);
+  count = let size : length (bytes ++ past)
+      ≡ length bytes + length past = length-append bytes past in let few = p.few in omega (arith, size, few, one);
   read = p.read;
 }
 
 part-reads : (call : ServeCall) → PartAnswered call → ReadPart call.left_before call.left_after (2 ^ 26 + 1)
 part-reads call p = record { part = p.bytes; count = let few = p.few in omega (arith, few); read = p.read }
 
-pub served-reads : (call : ServeCall) (result : Result (Unit {0}) Stop) → HasServed call result → ReadPart call.left_before call.left_after (2 ^ 26 + 1)
+pub served-reads : (call : ServeCall) (result : Result (Unit {0}) Stop) → HasServed call result
+    → ReadPart call.left_before call.left_after (2 ^ 26 + 1)
 served-reads call (Ok value) p = answered-reads call p.bytes [] p.answered (omega arith)
 served-reads call (Err (Line number fault)) p = absurd p
 served-reads call (Err TooLong) p = answered-reads call p.bytes p.past p.answered (let one = p.one_more in omega (arith, one))

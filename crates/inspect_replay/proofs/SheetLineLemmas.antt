@@ -1,5 +1,6 @@
 -- The lines of the sheets that a front end knows, one after the other.
-use Rattle.std.proofs.Common.{◌≡◌, ℕ, zero, suc, ◌+◌, List, [], ◌∷◌, ◌++◌, drop, slice_get, Option, Some, None, option_map, refl, sym, ◌∙◌, ap, append_assoc, arith}
+use Rattle.std.proofs.Common.{◌≡◌, ℕ, zero, suc, ◌+◌, List, [], ◌∷◌, ◌++◌, drop, slice_get, Option, Some, None, option_map, refl, sym, ◌∙◌}
+use Rattle.std.proofs.Common.{ap, append_assoc, arith}
 use Rattle.css_objects.specs.declared.sheets.SheetOrigin.{SheetOrigin}
 use Rattle.front_mirror.specs.declared.sheets.KnownSheet.{KnownSheet}
 use Rattle.inspect_world.specs.SheetTexts.{sheet_line, known_line, known_lines}
@@ -7,7 +8,8 @@ use Rattle.inspect_world.specs.SheetTexts.{sheet_line, known_line, known_lines}
 -- a sheet by its parts
 pub line-of : (o : Option KnownSheet) (number : ℕ) (origin : SheetOrigin) (text : Option (List ℕ)) (old : List ℕ)
     → option_map (λ (s : KnownSheet). s.number) o ≡ Some number → option_map (λ (s : KnownSheet). s.origin) o ≡ Some origin
-    → option_map (λ (s : KnownSheet). s.text) o ≡ Some text → option_map (λ (s : KnownSheet). old ++ known_line s) o ≡ Some (old ++ sheet_line number origin text)
+    → option_map (λ (s : KnownSheet). s.text) o ≡ Some text
+    → option_map (λ (s : KnownSheet). old ++ known_line s) o ≡ Some (old ++ sheet_line number origin text)
 line-of None number origin text old n o t = absurd cc
 line-of (Some s) number origin text old n o t =
     let number_is : s.number ≡ number = cc n in
@@ -22,7 +24,8 @@ drop-suc [] i x e = absurd cc
 drop-suc (y ∷ xs) zero x e = let same : y ≡ x = cc in ap (λ w. w ∷ xs) same
 drop-suc (y ∷ xs) (suc i) x e = drop-suc xs i x e
 
-turn-by : (o : Option KnownSheet) (old new whole : List ℕ) (xs : List KnownSheet) (i : ℕ) → slice_get xs i ≡ o → option_map (λ (s : KnownSheet). old ++ known_line s) o ≡ Some new
+turn-by : (o : Option KnownSheet) (old new whole : List ℕ) (xs : List KnownSheet) (i : ℕ) → slice_get xs i ≡ o
+    → option_map (λ (s : KnownSheet). old ++ known_line s) o ≡ Some new
     → old ++ known_lines (drop i xs) ≡ whole → new ++ known_lines (drop (i + 1) xs) ≡ whole
 turn-by None old new whole xs i is e h = absurd cc
 turn-by (Some x) old new whole xs i is e h =
@@ -35,6 +38,7 @@ turn-by (Some x) old new whole xs i is e h =
     ∙ h
 
 -- the next line is written
-pub lines-turn : (old new whole : List ℕ) (xs : List KnownSheet) (i : ℕ) → option_map (λ (s : KnownSheet). old ++ known_line s) (slice_get xs i) ≡ Some new
+pub lines-turn : (old new whole : List ℕ) (xs : List KnownSheet) (i : ℕ)
+    → option_map (λ (s : KnownSheet). old ++ known_line s) (slice_get xs i) ≡ Some new
     → old ++ known_lines (drop i xs) ≡ whole → new ++ known_lines (drop (i + 1) xs) ≡ whole
 lines-turn old new whole xs i e h = turn-by (slice_get xs i) old new whole xs i refl e h

@@ -3,7 +3,8 @@ use Rattle.std.proofs.Common.{◌≡◌, ℕ, ◌+◌, List, [], ◌∷◌, ◌+
 use Rattle.pipe_frames.specs.Frames.{IsText, framed, frames_of, frames_from, held_after}
 use Rattle.inspect_world.specs.Stream.{Stream, sent, put, passed, held, arriving, awaited}
 use Rattle.back_end.specs.Steps.{Stepped}
-use Rattle.inspect_world.specs.World.{World, Spent, one_ask, one_raw, one_turn, steps, sent_up, turned, given_up, delivered_up, delivered_down, settled}
+use Rattle.inspect_world.specs.World.{World, Spent, one_ask, one_raw, one_turn, steps, sent_up, turned, given_up, delivered_up}
+use Rattle.inspect_world.specs.World.{delivered_down, settled}
 use Rattle.inspect_world.specs.Fold.{folded, joined, then, Machine, Laws, Fits}
 use Rattle.inspect_world.specs.Fetches.{Fetcher, front_in, FetchLaws}
 use Rattle.inspect_world.specs.Agreement.{IsLike, RunsAgree}
@@ -17,7 +18,8 @@ pub like-put : (piece : List ℕ) (s t : Stream) → IsLike s t → IsLike (put 
 like-put piece s t like = record { flying = ap (λ bytes. bytes ++ piece) like.flying; held = like.held }
 
 pub like-arriving : (n : ℕ) (s t : Stream) → IsLike s t → arriving n s ≡ arriving n t
-like-arriving n s t like = ap (λ rest. frames_from rest (take n s.flying)) like.held ∙ ap (λ bytes. frames_from (held t) (take n bytes)) like.flying
+like-arriving n s t like = ap (λ rest. frames_from rest (take n s.flying)) like.held ∙ ap
+    (λ bytes. frames_from (held t) (take n bytes)) like.flying
 
 pub like-passed : (n : ℕ) (s t : Stream) → IsLike s t → IsLike (passed n s) (passed n t)
 like-passed n s t like = record {
@@ -54,15 +56,19 @@ module _ {S F E X A : Type 0} (machine : Machine S F E X) (IsNext : Spent → Li
       let p : Halves machine.take v v1 (frame ∷ []) frames = folded-halves machine.take v v1 (frame ∷ []) frames a in
       let q : Halves machine.take w w1 (frame ∷ []) frames = folded-halves machine.take w w1 (frame ∷ []) frames b in
       seen-folded frames p.middle q.middle v1 w1
-      (fetching.takes v w p.middle q.middle frame same (then-ok (machine.take v frame) p.middle p.before) (then-ok (machine.take w frame) q.middle q.before))
+      (fetching.takes v w p.middle q.middle frame same (then-ok (machine.take v frame) p.middle p.before)
+      (then-ok (machine.take w frame) q.middle q.before))
       p.after q.after
 
   -- the front end after a frame was sent
-  pub front-sent_up : (start : F) (text : List ℕ) (more : Spent → Spent) (w : World S) (front : F) → IsText text → Fits machine.take machine.join Fit start w
+  pub front-sent_up : (start : F) (text : List ℕ) (more : Spent → Spent) (w : World S) (front : F) → IsText text
+      → Fits machine.take machine.join Fit start w
       → front_in machine start w ≡ Ok front → front_in machine start (sent_up text more w) ≡ Ok (machine.join front text)
   front-sent_up start text more w front letters fits is =
-      ap (λ asks. folded machine.take (joined machine.join start asks) (frames_of w.down.given).whole) (whole-framed text w.up letters fits.up_whole)
-      ∙ ap (λ first. folded machine.take first (frames_of w.down.given).whole) (joined-append machine.join start (frames_of (sent w.up)).whole (text ∷ []))
+      ap (λ asks. folded machine.take (joined machine.join start asks) (frames_of w.down.given).whole)
+      (whole-framed text w.up letters fits.up_whole)
+      ∙ ap (λ first. folded machine.take first (frames_of w.down.given).whole)
+      (joined-append machine.join start (frames_of (sent w.up)).whole (text ∷ []))
       ∙ laws.later text (joined machine.join start (frames_of (sent w.up)).whole) front (frames_of w.down.given).whole is
 
   -- the front end after bytes came down
@@ -71,13 +77,16 @@ module _ {S F E X A : Type 0} (machine : Machine S F E X) (IsNext : Spent → Li
     is_front : front_in machine start (delivered_down n w) ≡ Ok after
     is_fold : folded machine.take front (arriving n w.down) ≡ Ok after
 
-  front-given : (start : F) (n : ℕ) (w : World S) (front : F) → Fits machine.take machine.join Fit start w → front_in machine start w ≡ Ok front
+  front-given : (start : F) (n : ℕ) (w : World S) (front : F) → Fits machine.take machine.join Fit start w
+      → front_in machine start w ≡ Ok front
       → IsGiven start n w front
   front-given start n w front fits is =
       let first = joined machine.join start (frames_of (sent w.up)).whole in
       let given = (frames_of w.down.given).whole in
-      let all : folded machine.take first (given ++ awaited w.down) ≡ Ok fits.front = ap (folded machine.take first) (sym (whole-sent w.down)) ∙ fits.is_fold in
-      let coming : folded machine.take front (awaited w.down) ≡ Ok fits.front = folded-rest machine.take first front fits.front given (awaited w.down) is all in
+      let all : folded machine.take first (given ++ awaited w.down)
+      ≡ Ok fits.front = ap (folded machine.take first) (sym (whole-sent w.down)) ∙ fits.is_fold in
+      let coming : folded machine.take front (awaited w.down)
+      ≡ Ok fits.front = folded-rest machine.take first front fits.front given (awaited w.down) is all in
       let halves : Halves machine.take front fits.front (arriving n w.down) (awaited (passed n w.down)) =
       folded-halves machine.take front fits.front (arriving n w.down) (awaited (passed n w.down))
       (ap (folded machine.take front) (sym (awaited-passed n w.down)) ∙ coming) in
@@ -93,7 +102,8 @@ module _ {S F E X A : Type 0} (machine : Machine S F E X) (IsNext : Spent → Li
 
   -- a frame is sent that is no fetch
   pub agrees-sent_up : (start : F) (text : List ℕ) (more : Spent → Spent) (w v : World S) → IsText text
-      → (more w.spent).asks ≡ (more v.spent).asks → (more w.spent).raws ≡ (more v.spent).raws → (more w.spent).turns ≡ (more v.spent).turns → (more w.spent).edits ≡ (more v.spent).edits
+      → (more w.spent).asks ≡ (more v.spent).asks → (more w.spent).raws ≡ (more v.spent).raws → (more w.spent).turns ≡ (more v.spent).turns
+      → (more w.spent).edits ≡ (more v.spent).edits
       → Fits machine.take machine.join Fit start w → Fits machine.take machine.join Fit start v
       → RunsAgree machine start seen w v → RunsAgree machine start seen (sent_up text more w) (sent_up text more v)
   agrees-sent_up start text more w v letters asks raws turns edits fits fits1 agrees = record {
@@ -116,7 +126,8 @@ module _ {S F E X A : Type 0} (machine : Machine S F E X) (IsNext : Spent → Li
       → Fits machine.take machine.join Fit start w → Fits machine.take machine.join Fit start v
       → RunsAgree machine start seen w v → RunsAgree machine start seen (sent_up text (one_ask more) w) (sent_up text (one_ask more) v)
   agrees-asked start text more w v letters fits fits1 agrees =
-      agrees-sent_up start text (one_ask more) w v letters (ap (λ n. n + 1) agrees.asks) agrees.raws agrees.turns (ap (λ n. n + more) agrees.edits) fits fits1 agrees
+      agrees-sent_up start text (one_ask more) w v letters (ap (λ n. n + 1) agrees.asks) agrees.raws agrees.turns
+      (ap (λ n. n + more) agrees.edits) fits fits1 agrees
 
   -- a frame is sent that is no ask
   pub agrees-raw : (start : F) (text : List ℕ) (w v : World S) → IsText text
@@ -133,7 +144,8 @@ module _ {S F E X A : Type 0} (machine : Machine S F E X) (IsNext : Spent → Li
   agrees-put start stepped stepped1 n n1 w v is asks raws turns edits agrees = record {
     state = ap (λ (s : Stepped S). s.state) is;
     up = agrees.up;
-    down = subst (λ (s : Stepped S). IsLike (put stepped.sent w.down) (put s.sent v.down)) is (like-put stepped.sent w.down v.down agrees.down);
+    down = subst (λ (s : Stepped S). IsLike (put stepped.sent w.down) (put s.sent v.down)) is
+        (like-put stepped.sent w.down v.down agrees.down);
     asks = asks;
     raws = raws;
     turns = turns;
@@ -149,11 +161,13 @@ module _ {S F E X A : Type 0} (machine : Machine S F E X) (IsNext : Spent → Li
   pub agrees-turned : (start : F) (x : X) (w v : World S)
       → RunsAgree machine start seen w v → RunsAgree machine start seen (turned machine.act x w) (turned machine.act x v)
   agrees-turned start x w v agrees =
-      agrees-put start (machine.act x w.state) (machine.act x v.state) (one_turn w.spent) (one_turn v.spent) w v (ap (machine.act x) agrees.state)
+      agrees-put start (machine.act x w.state) (machine.act x v.state) (one_turn w.spent) (one_turn v.spent) w v
+      (ap (machine.act x) agrees.state)
       agrees.asks agrees.raws (ap (λ n. n + 1) agrees.turns) agrees.edits agrees
 
   -- bytes are given up
-  agrees-given_up : (start : F) (n : ℕ) (w v : World S) → RunsAgree machine start seen w v → RunsAgree machine start seen (given_up n w) (given_up n v)
+  agrees-given_up : (start : F) (n : ℕ) (w v : World S) → RunsAgree machine start seen w v
+      → RunsAgree machine start seen (given_up n w) (given_up n v)
   agrees-given_up start n w v agrees = record {
     state = agrees.state;
     up = like-passed n w.up v.up agrees.up;
@@ -164,16 +178,20 @@ module _ {S F E X A : Type 0} (machine : Machine S F E X) (IsNext : Spent → Li
     edits = agrees.edits;
     plain = agrees.plain;
     fresh = agrees.fresh;
-    plain_is = ap (λ bytes. folded machine.take (joined machine.join start (frames_of bytes).whole) (frames_of w.down.given).whole) (sent-passed n w.up) ∙ agrees.plain_is;
-    fresh_is = ap (λ bytes. folded machine.take (joined machine.join start (frames_of bytes).whole) (frames_of v.down.given).whole) (sent-passed n v.up) ∙ agrees.fresh_is;
+    plain_is = ap (λ bytes. folded machine.take (joined machine.join start (frames_of bytes).whole) (frames_of w.down.given).whole)
+        (sent-passed n w.up) ∙ agrees.plain_is;
+    fresh_is = ap (λ bytes. folded machine.take (joined machine.join start (frames_of bytes).whole) (frames_of v.down.given).whole)
+        (sent-passed n v.up) ∙ agrees.fresh_is;
     same = agrees.same;
   }
 
   pub agrees-delivered_up : (start : F) (n : ℕ) (w v : World S)
       → RunsAgree machine start seen w v → RunsAgree machine start seen (delivered_up machine.step n w) (delivered_up machine.step n v)
   agrees-delivered_up start n w v agrees =
-      agrees-put start (steps machine.step w.state (arriving n w.up)) (steps machine.step v.state (arriving n v.up)) w.spent v.spent (given_up n w) (given_up n v)
-      (ap (λ state. steps machine.step state (arriving n w.up)) agrees.state ∙ ap (steps machine.step v.state) (like-arriving n w.up v.up agrees.up))
+      agrees-put start (steps machine.step w.state (arriving n w.up)) (steps machine.step v.state (arriving n v.up)) w.spent v.spent
+      (given_up n w) (given_up n v)
+      (ap (λ state. steps machine.step state (arriving n w.up)) agrees.state ∙ ap (steps machine.step v.state)
+      (like-arriving n w.up v.up agrees.up))
       agrees.asks agrees.raws agrees.turns agrees.edits (agrees-given_up start n w v agrees)
 
   pub agrees-delivered_down : (start : F) (n : ℕ) (w v : World S)
@@ -205,11 +223,16 @@ module _ {S F E X A : Type 0} (machine : Machine S F E X) (IsNext : Spent → Li
       → RunsAgree machine start seen w v → RunsAgree machine start seen (settled machine.step w) (settled machine.step v)
   agrees-settled start w v fits fits1 agrees =
       let n = length w.up.flying in
-      let up : RunsAgree machine start seen (delivered_up machine.step n w) (delivered_up machine.step n v) = agrees-delivered_up start n w v agrees in
+      let up : RunsAgree machine start seen (delivered_up machine.step n w)
+      (delivered_up machine.step n v) = agrees-delivered_up start n w v agrees in
       let m = length (delivered_up machine.step n w).down.flying in
-      let down : RunsAgree machine start seen (delivered_down m (delivered_up machine.step n w)) (delivered_down m (delivered_up machine.step n v)) =
+      let down : RunsAgree machine start seen (delivered_down m (delivered_up machine.step n w))
+      (delivered_down m (delivered_up machine.step n v)) =
       agrees-delivered_down start m (delivered_up machine.step n w) (delivered_up machine.step n v)
-      (fits-delivered_up machine IsNext IsTurn Fit laws start n w fits) (fits-delivered_up machine IsNext IsTurn Fit laws start n v fits1) up in
-      subst (λ k. RunsAgree machine start seen (settled machine.step w) (delivered_down (length (delivered_up machine.step k v).down.flying) (delivered_up machine.step k v)))
+      (fits-delivered_up machine IsNext IsTurn Fit laws start n w fits)
+      (fits-delivered_up machine IsNext IsTurn Fit laws start n v fits1) up in
+      subst (λ k. RunsAgree machine start seen (settled machine.step w)
+      (delivered_down (length (delivered_up machine.step k v).down.flying) (delivered_up machine.step k v)))
       (ap length agrees.up.flying)
-      (subst (λ k. RunsAgree machine start seen (settled machine.step w) (delivered_down k (delivered_up machine.step n v))) (ap length up.down.flying) down)
+      (subst (λ k. RunsAgree machine start seen (settled machine.step w) (delivered_down k (delivered_up machine.step n v)))
+      (ap length up.down.flying) down)

@@ -1,7 +1,9 @@
 -- The asks that stand in frames.
-use Rattle.std.proofs.Common.{◌≡◌, ◌≤◌, ℕ, ◌+◌, Bool, true, false, cond, List, [], ◌∷◌, ◌++◌, Option, Some, is_some, refl, sym, ◌∙◌, ap, append_assoc, arith}
+use Rattle.std.proofs.Common.{◌≡◌, ◌≤◌, ℕ, ◌+◌, Bool, true, false, cond, List, [], ◌∷◌, ◌++◌, Option, Some, is_some, refl, sym, ◌∙◌, ap}
+use Rattle.std.proofs.Common.{append_assoc, arith}
 use Rattle.std.specs.Option.{option_to_list}
-use Rattle.inspect_world.specs.Fits.{ask_of_frame, sheet_fetched, IsPlainFrame, edits_of_frame, drawing, asking, Sendable, AreSendable, asks_among}
+use Rattle.inspect_world.specs.Fits.{ask_of_frame, sheet_fetched, IsPlainFrame, edits_of_frame, drawing, asking, Sendable, AreSendable}
+use Rattle.inspect_world.specs.Fits.{asks_among}
 
 pub asks_among-append : (first second : List (List ℕ)) → asks_among (first ++ second) ≡ asks_among first ++ asks_among second
 asks_among-append [] second = refl
@@ -21,27 +23,32 @@ pub draws-one : (frame : List ℕ) (frames : List (List ℕ)) → IsPlainFrame f
 draws-one frame frames plain = ap (λ (sheet : Option ℕ). cond (is_some sheet) 0 1 + drawing frames) plain
 
 -- and a fetch is none
-pub draws-none : (frame : List ℕ) (frames : List (List ℕ)) (sheet : ℕ) → sheet_fetched frame ≡ Some sheet → drawing (frame ∷ frames) ≡ 0 + drawing frames
+pub draws-none : (frame : List ℕ) (frames : List (List ℕ)) (sheet : ℕ) → sheet_fetched frame ≡ Some sheet
+    → drawing (frame ∷ frames) ≡ 0 + drawing frames
 draws-none frame frames sheet fetches = ap (λ (found : Option ℕ). cond (is_some found) 0 1 + drawing frames) fetches
 
 pub drawing-append : (first second : List (List ℕ)) → drawing (first ++ second) ≡ drawing first + drawing second
 drawing-append [] second = omega arith
-drawing-append (frame ∷ first) second = more (cond (is_some (sheet_fetched frame)) 0 1) (drawing (first ++ second)) (drawing first) (drawing second) (drawing-append first second)
+drawing-append (frame ∷ first) second = more (cond (is_some (sheet_fetched frame)) 0 1) (drawing (first ++ second)) (drawing first)
+    (drawing second) (drawing-append first second)
   where
     more : (one both left right : ℕ) → both ≡ left + right → one + both ≡ one + left + right
     more one both left right e = omega (arith, e)
 
 -- one frame more is one more of them at most
 pub drawing-last : (frames : List (List ℕ)) (frame : List ℕ) → drawing (frames ++ frame ∷ []) ≤ drawing frames + 1
-drawing-last frames frame = at (is_some (sheet_fetched frame)) (drawing (frames ++ frame ∷ [])) (drawing frames) (drawing-append frames (frame ∷ []))
+drawing-last frames frame = at (is_some (sheet_fetched frame)) (drawing (frames ++ frame ∷ [])) (drawing frames)
+    (drawing-append frames (frame ∷ []))
   where
     at : (fetches : Bool) (all before : ℕ) → all ≡ before + (cond fetches 0 1 + 0) → all ≤ before + 1
     at true all before e = omega (arith, e)
     at false all before e = omega (arith, e)
 
 -- and a fetch more is none
-pub drawing-fetch : (frames : List (List ℕ)) (frame : List ℕ) (sheet : ℕ) → sheet_fetched frame ≡ Some sheet → drawing (frames ++ frame ∷ []) ≡ drawing frames
-drawing-fetch frames frame sheet fetches = at (drawing (frames ++ frame ∷ [])) (drawing frames) (drawing (frame ∷ [])) (drawing-append frames (frame ∷ [])) (draws-none frame [] sheet fetches)
+pub drawing-fetch : (frames : List (List ℕ)) (frame : List ℕ) (sheet : ℕ) → sheet_fetched frame ≡ Some sheet
+    → drawing (frames ++ frame ∷ []) ≡ drawing frames
+drawing-fetch frames frame sheet fetches = at (drawing (frames ++ frame ∷ [])) (drawing frames) (drawing (frame ∷ []))
+    (drawing-append frames (frame ∷ [])) (draws-none frame [] sheet fetches)
   where
     at : (all before one : ℕ) → all ≡ before + one → one ≡ 0 + 0 → all ≡ before
     at all before one e f = omega (arith, e, f)
@@ -49,31 +56,37 @@ drawing-fetch frames frame sheet fetches = at (drawing (frames ++ frame ∷ []))
 -- ---- edits that frames ask for
 
 -- those of a frame that is no fetch count
-pub asks-edits : (frame : List ℕ) (frames : List (List ℕ)) → IsPlainFrame frame → asking (frame ∷ frames) ≡ edits_of_frame frame + asking frames
+pub asks-edits : (frame : List ℕ) (frames : List (List ℕ)) → IsPlainFrame frame
+    → asking (frame ∷ frames) ≡ edits_of_frame frame + asking frames
 asks-edits frame frames plain = ap (λ (sheet : Option ℕ). cond (is_some sheet) 0 (edits_of_frame frame) + asking frames) plain
 
 -- and a fetch has none
-pub asks-none : (frame : List ℕ) (frames : List (List ℕ)) (sheet : ℕ) → sheet_fetched frame ≡ Some sheet → asking (frame ∷ frames) ≡ 0 + asking frames
+pub asks-none : (frame : List ℕ) (frames : List (List ℕ)) (sheet : ℕ) → sheet_fetched frame ≡ Some sheet
+    → asking (frame ∷ frames) ≡ 0 + asking frames
 asks-none frame frames sheet fetches = ap (λ (found : Option ℕ). cond (is_some found) 0 (edits_of_frame frame) + asking frames) fetches
 
 asking-append : (first second : List (List ℕ)) → asking (first ++ second) ≡ asking first + asking second
 asking-append [] second = omega arith
-asking-append (frame ∷ first) second = more (cond (is_some (sheet_fetched frame)) 0 (edits_of_frame frame)) (asking (first ++ second)) (asking first) (asking second) (asking-append first second)
+asking-append (frame ∷ first) second = more (cond (is_some (sheet_fetched frame)) 0 (edits_of_frame frame)) (asking (first ++ second))
+    (asking first) (asking second) (asking-append first second)
   where
     more : (one both left right : ℕ) → both ≡ left + right → one + both ≡ one + left + right
     more one both left right e = omega (arith, e)
 
 -- one frame more asks for its edits more at most
 pub asking-last : (frames : List (List ℕ)) (frame : List ℕ) → asking (frames ++ frame ∷ []) ≤ asking frames + edits_of_frame frame
-asking-last frames frame = at (is_some (sheet_fetched frame)) (asking (frames ++ frame ∷ [])) (asking frames) (edits_of_frame frame) (asking-append frames (frame ∷ []))
+asking-last frames frame = at (is_some (sheet_fetched frame)) (asking (frames ++ frame ∷ [])) (asking frames) (edits_of_frame frame)
+    (asking-append frames (frame ∷ []))
   where
     at : (fetches : Bool) (all before one : ℕ) → all ≡ before + (cond fetches 0 one + 0) → all ≤ before + one
     at true all before one e = omega (arith, e)
     at false all before one e = omega (arith, e)
 
 -- and a fetch more for none
-pub asking-fetch : (frames : List (List ℕ)) (frame : List ℕ) (sheet : ℕ) → sheet_fetched frame ≡ Some sheet → asking (frames ++ frame ∷ []) ≡ asking frames
-asking-fetch frames frame sheet fetches = at (asking (frames ++ frame ∷ [])) (asking frames) (asking (frame ∷ [])) (asking-append frames (frame ∷ [])) (asks-none frame [] sheet fetches)
+pub asking-fetch : (frames : List (List ℕ)) (frame : List ℕ) (sheet : ℕ) → sheet_fetched frame ≡ Some sheet
+    → asking (frames ++ frame ∷ []) ≡ asking frames
+asking-fetch frames frame sheet fetches = at (asking (frames ++ frame ∷ [])) (asking frames) (asking (frame ∷ []))
+    (asking-append frames (frame ∷ [])) (asks-none frame [] sheet fetches)
   where
     at : (all before one : ℕ) → all ≡ before + one → one ≡ 0 + 0 → all ≡ before
     at all before one e f = omega (arith, e, f)

@@ -1,5 +1,6 @@
 -- A text that a raw line may send is a frame that names no ask.
-use Rattle.std.proofs.Common.{◌≡◌, ◌≢◌, ℕ, ◌==◌, List, [], ◌∷◌, Bool, true, false, ◌||◌, codes, Option, Some, None, option_and_then, refl, ap, ◌∙◌, Result, Err}
+use Rattle.std.proofs.Common.{◌≡◌, ◌≢◌, ℕ, ◌==◌, List, [], ◌∷◌, Bool, true, false, ◌||◌, codes, Option, Some, None, option_and_then, refl}
+use Rattle.std.proofs.Common.{ap, ◌∙◌, Result, Err}
 use Rattle.std.specs.List.{list_any}
 use Rattle.std.specs.Option.{option_map_or}
 use Rattle.std.proofs.lemmas.Bool.{eq-eqb}
@@ -54,11 +55,13 @@ record IsBareValue (o : Option Data) : Type 0 where
   why : Why
   refused : asked_value false o ≡ Err (refusal None why)
 
-bare_object : (frame : Members) → option_map_or is_whole_number (get_member (codes "id") frame) false ≡ false → IsBareValue (Some (object frame))
+bare_object : (frame : Members) → option_map_or is_whole_number (get_member (codes "id") frame) false ≡ false
+    → IsBareValue (Some (object frame))
 bare_object frame e =
     let p = bare_id (get_member (codes "id") frame) (command_in false frame) e in
     record {
-      no_ask = ap (option_and_then (λ id. option_and_then (λ (method : List ℕ). Some (ask_by frame id method)) (option_and_then as_str (get_member (codes "method") frame)))) p.0;
+      no_ask = ap (option_and_then (λ id. option_and_then (λ (method : List ℕ). Some (ask_by frame id method))
+          (option_and_then as_str (get_member (codes "method") frame)))) p.0;
       why = NoId;
       refused = p.1;
     }

@@ -1,5 +1,6 @@
 -- How many frames bytes hold at most, and how much steps draw at most.
-use Rattle.std.proofs.Common.{◌≡◌, ◌==◌, if◌then◌else◌, ℕ, suc, ◌+◌, ◌*◌, ◌^◌, ◌<◌, ◌≤◌, Bool, true, false, List, [], ◌∷◌, ◌++◌, length, refl, inl, inr, Result, Ok, Err, mul-le-mul, arith}
+use Rattle.std.proofs.Common.{◌≡◌, ◌==◌, if◌then◌else◌, ℕ, suc, ◌+◌, ◌*◌, ◌^◌, ◌<◌, ◌≤◌, Bool, true, false, List, [], ◌∷◌, ◌++◌, length}
+use Rattle.std.proofs.Common.{refl, inl, inr, Result, Ok, Err, mul-le-mul, arith}
 use Rattle.std.proofs.lemmas.Bool.{cases_lt}
 use Rattle.pipe_frames.specs.Frames.{Frames, frames_of, lengthened}
 use Rattle.cdp_messages.specs.declared.command.Asked.{Asked}
@@ -39,7 +40,8 @@ made-last (made x ∷ hs) h = let e = made-last hs h in omega (arith, e)
 
 -- ---- bytes
 
-lengthened-bytes : (byte n : ℕ) (whole : List (List ℕ)) (rest : List ℕ) → bytes_among whole ≤ n → bytes_among (lengthened byte whole rest).whole ≤ suc n
+lengthened-bytes : (byte n : ℕ) (whole : List (List ℕ)) (rest : List ℕ) → bytes_among whole ≤ n
+    → bytes_among (lengthened byte whole rest).whole ≤ suc n
 lengthened-bytes byte n [] rest few = omega (arith, few)
 lengthened-bytes byte n (frame ∷ more) rest few = omega (arith, few)
 
@@ -56,7 +58,8 @@ frames-within (byte ∷ bytes) = put-bytes (byte == 0) byte (length bytes) (fram
 
 pub bytes-append : (first second : List (List ℕ)) → bytes_among (first ++ second) ≡ bytes_among first + bytes_among second
 bytes-append [] second = omega arith
-bytes-append (frame ∷ first) second = more (length frame + 1) (bytes_among (first ++ second)) (bytes_among first) (bytes_among second) (bytes-append first second)
+bytes-append (frame ∷ first) second = more (length frame + 1) (bytes_among (first ++ second)) (bytes_among first) (bytes_among second)
+    (bytes-append first second)
   where
     more : (one both left right : ℕ) → both ≡ left + right → both + one ≡ left + one + right
     more one both left right e = omega (arith, e)
@@ -68,7 +71,8 @@ command-long frame (Err r) e = omega arith
 
 pub commands-long : (hs : List Happening) → commands_among hs * 9 ≤ bytes_among (frames_among hs)
 commands-long [] = omega arith
-commands-long (came frame ∷ hs) = more (commands_among hs) (commands_in (asked frame false)) (bytes_among (frames_among hs)) (length frame + 1) (commands-long hs) (command-long frame (asked frame false) refl)
+commands-long (came frame ∷ hs) = more (commands_among hs) (commands_in (asked frame false)) (bytes_among (frames_among hs))
+    (length frame + 1) (commands-long hs) (command-long frame (asked frame false) refl)
   where
     more : (all one bytes frame_bytes : ℕ) → all * 9 ≤ bytes → one * 9 ≤ frame_bytes → (all + one) * 9 ≤ bytes + frame_bytes
     more all one bytes frame_bytes e f = omega (arith, e, f)
@@ -76,7 +80,8 @@ commands-long (made x ∷ hs) = commands-long hs
 
 pub commands-last : (hs : List Happening) (h : Happening) → commands_among (hs ++ h ∷ []) ≡ commands_among hs + commands_among (h ∷ [])
 commands-last [] h = omega arith
-commands-last (came frame ∷ hs) h = more (commands_among (hs ++ h ∷ [])) (commands_among hs) (commands_among (h ∷ [])) (commands_in (asked frame false)) (commands-last hs h)
+commands-last (came frame ∷ hs) h = more (commands_among (hs ++ h ∷ [])) (commands_among hs) (commands_among (h ∷ []))
+    (commands_in (asked frame false)) (commands-last hs h)
   where
     more : (both all last one : ℕ) → both ≡ all + last → both + one ≡ all + one + last
     more both all last one e = omega (arith, e)
@@ -91,7 +96,8 @@ command-ids pushed trees pushed1 trees1 c m few more kept h =
     let square : (c + 1) * (c + 1) ≡ c * c + c * 2 + 1 = grind arith in
     by (c * c) ((c + 1) * (c + 1)) square h
   where
-    by : (s t : ℕ) → t ≡ s + c * 2 + 1 → pushed + trees ≤ (c + m) * 500000 + (s + c) → pushed1 + trees1 ≤ (c + 1 + m) * 500000 + (t + (c + 1))
+    by : (s t : ℕ) → t ≡ s + c * 2 + 1 → pushed + trees ≤ (c + m) * 500000 + (s + c)
+        → pushed1 + trees1 ≤ (c + 1 + m) * 500000 + (t + (c + 1))
     by s t e h = omega (arith, few, more, kept, e, h)
 
 pub command-trees : (trees trees1 c : ℕ) → trees1 ≤ trees + 2 → trees ≤ c * 2 → trees1 ≤ (c + 1) * 2
@@ -110,7 +116,8 @@ pub no-more : (before after most : ℕ) → after ≤ before → before ≤ most
 no-more before after most less few = omega (arith, less, few)
 
 -- a step of the script
-pub made-ids : (before after squares c m : ℕ) → after ≤ before + 500000 → before ≤ (c + m) * 500000 + squares → after ≤ (c + (m + 1)) * 500000 + squares
+pub made-ids : (before after squares c m : ℕ) → after ≤ before + 500000 → before ≤ (c + m) * 500000 + squares
+    → after ≤ (c + (m + 1)) * 500000 + squares
 made-ids before after squares c m few h = omega (arith, few, h)
 
 pub few-edits : (kept bytes : ℕ) → bytes < 2 ^ 28 → kept ≤ bytes → kept < 2 ^ 30
@@ -126,7 +133,8 @@ more_numbers before after n m one few more = omega (arith, one, few, more)
 square-most : (c most : ℕ) → c ≤ most → c * c ≤ most * most
 square-most c most few = mul-le-mul few few
 
-pub ids-left : (pushed trees c m bytes : ℕ) → c * 9 ≤ bytes → bytes < 2 ^ 28 → m ≤ 2 ^ 26 → pushed + trees ≤ (c + m) * 500000 + (c * c + c) → pushed + 1 < 2 ^ 50
+pub ids-left : (pushed trees c m bytes : ℕ) → c * 9 ≤ bytes → bytes < 2 ^ 28 → m ≤ 2 ^ 26 → pushed + trees ≤ (c + m) * 500000 + (c * c + c)
+    → pushed + 1 < 2 ^ 50
 ids-left pushed trees c m bytes long few few_made drawn =
     let most : c ≤ 29826161 = omega (arith, long, few) in
     let square : c * c ≤ 29826161 * 29826161 = square-most c 29826161 most in

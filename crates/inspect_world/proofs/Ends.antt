@@ -1,5 +1,6 @@
 -- The ends follow the run as bytes are sent and given.
-use Rattle.std.proofs.Common.{◌≡◌, refl, false, ℕ, ◌+◌, ◌-◌, ◌^◌, ◌<◌, ◌≤◌, List, [], ◌∷◌, ◌++◌, length, take, drop, Some, None, sym, ◌∙◌, ap, subst, append_assoc, append-nil, Result, Ok, Err, arith, length-append}
+use Rattle.std.proofs.Common.{◌≡◌, refl, false, ℕ, ◌+◌, ◌-◌, ◌^◌, ◌<◌, ◌≤◌, List, [], ◌∷◌, ◌++◌, length, take, drop, Some, None, sym, ◌∙◌}
+use Rattle.std.proofs.Common.{ap, subst, append_assoc, append-nil, Result, Ok, Err, arith, length-append}
 use Rattle.std.proofs.lemmas.List.{take-append-drop}
 use Rattle.page_forms.specs.Pages.{LoadedPage, CanLoadPage}
 use Rattle.pipe_frames.specs.Pipe.{Pipe}
@@ -8,10 +9,12 @@ use Rattle.pipe_frames.proofs.FrameLemmas.{frames_of-one}
 use Rattle.cdp_messages.specs.Asked.{command_text}
 use Rattle.front_mirror.specs.declared.faults.FrontKind.{FrontKind}
 use Rattle.front_mirror.specs.Front as front
-use Rattle.front_mirror.specs.Front.{FrontValue, FrontState, first_state, first_value, take_frame, Folded, after_message, fetch_ask, after_ask, after_fetch, after_take}
+use Rattle.front_mirror.specs.Front.{FrontValue, FrontState, first_state, first_value, take_frame, Folded, after_message, fetch_ask}
+use Rattle.front_mirror.specs.Front.{after_ask, after_fetch, after_take}
 use Rattle.replay_script.specs.Forms.{AskForm, ask}
 use Rattle.inspect_world.specs.Stream.{Stream, sent, put, passed, held, arriving, awaited}
-use Rattle.inspect_world.specs.World.{World, AlreadyTold, nothing_told, Spent, one_ask, one_fetch, one_raw, steps, sent_up, raw, turned, answered, given_up, delivered_down}
+use Rattle.inspect_world.specs.World.{World, AlreadyTold, nothing_told, Spent, one_ask, one_fetch, one_raw, steps, sent_up, raw, turned}
+use Rattle.inspect_world.specs.World.{answered, given_up, delivered_down}
 use Rattle.inspect_world.specs.Fold.{folded, joined, then}
 use Rattle.back_end.specs.declared.seat.Seat.{Seat}
 use Rattle.back_end.specs.declared.side.PageSide.{PageSide}
@@ -21,7 +24,8 @@ use Rattle.inspect_world.specs.RunStates.{RunState, run_step, run_turn}
 use Rattle.back_end.specs.Laws.{HasRoom}
 use Rattle.back_end.specs.Seats.{StandsFor, HasRoomLeft}
 use Rattle.inspect_world.specs.Costs.{ask_edits, least_line, line_cost}
-use Rattle.inspect_world.specs.Fits.{join, IsNext, next_raw, IsBare, IsNextTurn, replay, ask_of_frame, ask_with, with_ask, most_frames, most_fetches, HasLeft, IsFit}
+use Rattle.inspect_world.specs.Fits.{join, IsNext, next_raw, IsBare, IsNextTurn, replay, ask_of_frame, ask_with, with_ask, most_frames}
+use Rattle.inspect_world.specs.Fits.{most_fetches, HasLeft, IsFit}
 use Rattle.inspect_world.specs.FreshRuns.{front_fetcher}
 use Rattle.inspect_world.specs.Scripts.{sends, loaded_world}
 use Rattle.page_forms.specs.Texts.{PageHasTexts}
@@ -66,7 +70,8 @@ left-passed n there there' piece s is front after =
 pub record Takes (front1 : FrontState) (w : World RunState) (n : ℕ) : Type 0 where
   pub value : FrontValue
   pub front_is : front1 ≡ good_front value (held (passed n w.down)) (w.spent.asks + 1) w.spent.fetches
-  pub is_fold : folded take_frame (joined join (first_value []) (frames_of (sent w.up)).whole) (frames_of (passed n w.down).given).whole ≡ Ok value
+  pub is_fold : folded take_frame (joined join (first_value []) (frames_of (sent w.up)).whole) (frames_of (passed n w.down).given).whole
+      ≡ Ok value
 
 takes : (up0 down0 up down : Pipe) (w : World RunState) (frames : List (List ℕ)) (e : Ends) (n : ℕ) (piece : List ℕ)
     → InWorld up0 down0 up down w frames e → piece ≡ take n w.down.flying → Takes (after_take e.front piece) w n
@@ -87,7 +92,14 @@ takes up0 down0 up down w frames e n piece in_world front_part =
       front_is =
           ap (λ state. after_take state piece) in_world.front_is
           ∙ ap (λ bytes. after_take (good_front in_world.value (held w.down) (w.spent.asks + 1) w.spent.fetches) bytes) front_part
-          ∙ ap (λ (end : Folded). record { value = end.value; rest = held_after (held w.down) (take n w.down.flying); fault = end.fault; next = w.spent.asks + 1; fetches = w.spent.fetches; dead = false }) taken
+          ∙ ap (λ (end : Folded). record {
+            value = end.value;
+            rest = held_after (held w.down) (take n w.down.flying);
+            fault = end.fault;
+            next = w.spent.asks + 1;
+            fetches = w.spent.fetches;
+            dead = false;
+          }) taken
           ∙ ap (λ rest. good_front halves.middle rest (w.spent.asks + 1) w.spent.fetches) (sym (rest-given n w.down));
       is_fold =
           ap (folded take_frame start) (whole-given n w.down)
@@ -97,7 +109,8 @@ takes up0 down0 up down w frames e n piece in_world front_part =
     }
 
 -- bytes are delivered down
-pub world-delivered_down : (up0 down0 up down down1 : Pipe) (w : World RunState) (frames : List (List ℕ)) (e : Ends) (n there : ℕ) (piece : List ℕ)
+pub world-delivered_down : (up0 down0 up down down1 : Pipe) (w : World RunState) (frames : List (List ℕ)) (e : Ends) (n there : ℕ)
+    (piece : List ℕ)
     → InWorld up0 down0 up down w frames e → piece ≡ take n w.down.flying
     → down1.sent ≡ down.sent → down1.given ≡ down.given ++ piece → there ≡ e.down_there - length piece
     → InWorld up0 down0 up down1 (delivered_down n w) frames (record e { front = after_take e.front piece; down_there = there })
@@ -117,7 +130,8 @@ world-delivered_down up0 down0 up down down1 w frames e n there piece in_world f
       fits = record {
         front = in_world.fits.front;
         is_fold =
-            ap (λ bytes. folded take_frame (joined join (first_value []) (frames_of (sent w.up)).whole) (frames_of bytes).whole) (sent-passed n w.down)
+            ap (λ bytes. folded take_frame (joined join (first_value []) (frames_of (sent w.up)).whole) (frames_of bytes).whole)
+            (sent-passed n w.down)
             ∙ in_world.fits.is_fold;
         fit = in_world.fits.fit;
         up_whole = in_world.fits.up_whole;
@@ -134,7 +148,8 @@ never-refuses up0 down0 up down w frames e n piece in_world front_part =
 -- ---- bytes go up
 
 -- a frame is sent
-pub world-sent_up : (up0 down0 up down up1 : Pipe) (w : World RunState) (e : Ends) (text : List ℕ) (more : Spent → Spent) (front1 : FrontState) (there : ℕ)
+pub world-sent_up : (up0 down0 up down up1 : Pipe) (w : World RunState) (e : Ends) (text : List ℕ) (more : Spent → Spent)
+    (front1 : FrontState) (there : ℕ)
     → (in_world : InWorld up0 down0 up down w (awaited w.up) e) → IsText text → IsNext w.spent text (more w.spent)
     → front1 ≡ good_front (join in_world.value text) (held w.down) ((more w.spent).asks + 1) (more w.spent).fetches
     → up1.sent ≡ up.sent ++ framed text → up1.given ≡ up.given → there ≡ e.up_there + length (framed text)
@@ -174,9 +189,11 @@ world-sent up0 down0 up down up1 w e a text there in_world can room text_is sent
     let small : w.spent.asks + 1 < 2 ^ 30 = omega (arith, few) in
     let sends_text = command_text (w.spent.asks + 1) a.method a.params a.session in
     let is : ask_of_frame sends_text ≡ Some (ask_with a.method (w.spent.asks + 1)) = ask_in-sent (w.spent.asks + 1) a can small in
-    let joins : join in_world.value sends_text ≡ with_ask in_world.value (Some (ask_with a.method (w.spent.asks + 1))) = ap (with_ask in_world.value) is in
+    let joins : join in_world.value sends_text
+    ≡ with_ask in_world.value (Some (ask_with a.method (w.spent.asks + 1))) = ap (with_ask in_world.value) is in
     world-sent_up up0 down0 up down up1 w e sends_text (one_ask (ask_edits a)) (after_ask e.front a.method) there in_world
-    (IsText-sent (w.spent.asks + 1) a can (omega (arith, few))) (IsNext-sent w.spent a can few (edits-left w.spent (ask_edits a) room) small)
+    (IsText-sent (w.spent.asks + 1) a can (omega (arith, few)))
+    (IsNext-sent w.spent a can few (edits-left w.spent (ask_edits a) room) small)
     (ap (λ front. after_ask front a.method) in_world.front_is
     ∙ ap (λ value. good_front value (held w.down) (w.spent.asks + 1 + 1) w.spent.fetches) (sym joins))
     (sent_is ∙ ap (λ bytes. up.sent ++ framed bytes) text_is) given_is (left ∙ ap (λ bytes. e.up_there + length (framed bytes)) text_is)
@@ -196,12 +213,14 @@ pub world-fetched : (up0 down0 up down up1 : Pipe) (w : World RunState) (e : End
     → InWorld up0 down0 up down w (awaited w.up) e → sheet < 2 ^ 64 → w.spent.fetches + 1 ≤ most_fetches
     → up1.sent ≡ up.sent ++ framed (front_fetcher.text w.spent.fetches sheet) → up1.given ≡ up.given
     → there ≡ e.up_there + length (framed (front_fetcher.text w.spent.fetches sheet))
-    → InWorld up0 down0 up1 down (sent_up (front_fetcher.text w.spent.fetches sheet) one_fetch w) (awaited (sent_up (front_fetcher.text w.spent.fetches sheet) one_fetch w).up)
+    → InWorld up0 down0 up1 down (sent_up (front_fetcher.text w.spent.fetches sheet) one_fetch w)
+    (awaited (sent_up (front_fetcher.text w.spent.fetches sheet) one_fetch w).up)
     (record e { front = after_fetch e.front sheet; up_there = there })
 world-fetched up0 down0 up down up1 w e sheet there in_world fits few sent_is given_is left =
     let text = front_fetcher.text w.spent.fetches sheet in
     let is : ask_of_frame text ≡ Some (fetch_ask w.spent.fetches sheet) = fetcher-asks w.spent.fetches sheet few fits in
-    let joins : join in_world.value text ≡ with_ask in_world.value (Some (fetch_ask w.spent.fetches sheet)) = ap (with_ask in_world.value) is in
+    let joins : join in_world.value text
+    ≡ with_ask in_world.value (Some (fetch_ask w.spent.fetches sheet)) = ap (with_ask in_world.value) is in
     world-sent_up up0 down0 up down up1 w e text one_fetch (after_fetch e.front sheet) there in_world
     (fetcher-text w.spent.fetches sheet few) (fetcher-next w.spent sheet few fits)
     (ap (λ front. after_fetch front sheet) in_world.front_is
@@ -225,7 +244,8 @@ world-given_up up0 down0 up down up1 w e n there piece rest in_world front_part 
   value = in_world.value;
   front_is = in_world.front_is;
   is_fold =
-      ap (λ bytes. folded take_frame (joined join (first_value []) (frames_of bytes).whole) (frames_of w.down.given).whole) (sent-passed n w.up)
+      ap (λ bytes. folded take_frame (joined join (first_value []) (frames_of bytes).whole) (frames_of w.down.given).whole)
+      (sent-passed n w.up)
       ∙ in_world.is_fold;
   up_left = left-passed n e.up_there there piece w.up in_world.up_left front_part left;
   down_left = in_world.down_left;
@@ -239,7 +259,8 @@ down-put : (down0 down down1 : Pipe) (w : World RunState) (out bytes : List ℕ)
 down-put down0 down down1 w out bytes carries is sent_is given_is =
     subst (λ piece. Carries down0 down1 (put piece w.down)) is (carries-put down0 down down1 out w.down carries sent_is given_is)
 
-left-put : (w : World RunState) (there left : ℕ) (out bytes : List ℕ) → left ≡ length w.down.flying → out ≡ bytes → there ≡ left + length out
+left-put : (w : World RunState) (there left : ℕ) (out bytes : List ℕ) → left ≡ length w.down.flying → out ≡ bytes
+    → there ≡ left + length out
     → there ≡ length (w.down.flying ++ bytes)
 left-put w there left out bytes before is after =
     after ∙ ap (λ n. n + length out) before ∙ sym (length-append w.down.flying out) ∙ ap (λ piece. length (w.down.flying ++ piece)) is
@@ -311,7 +332,8 @@ world-ids up0 down0 up down w frames e in_world few_fetches =
 -- what was told says nothing of the link
 pub world-told : (up0 down0 up down : Pipe) (w : World RunState) (frames : List (List ℕ)) (e : Ends) (n : AlreadyTold)
     → InWorld up0 down0 up down w frames e
-    → InWorld up0 down0 up down (record { state = w.state; up = w.up; down = w.down; spent = w.spent; told = n }) frames (record e { told = n })
+    → InWorld up0 down0 up down (record { state = w.state; up = w.up; down = w.down; spent = w.spent; told = n }) frames
+    (record e { told = n })
 world-told up0 down0 up down w frames e n in_world = record {
   up_is = in_world.up_is;
   down_is = in_world.down_is;

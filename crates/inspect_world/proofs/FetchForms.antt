@@ -1,5 +1,6 @@
 -- The frame of a fetch is a text, and is the ask of the sheet that it fetches.
-use Rattle.std.proofs.Common.{◌≡◌, ℕ, ◌+◌, ◌^◌, ◌<◌, ◌≤◌, Bool, true, false, cond, nat_lt, List, [], ◌∷◌, codes, Option, Some, None, option_and_then, Ok, refl, sym, ◌∙◌, ap, arith, lt-ltb}
+use Rattle.std.proofs.Common.{◌≡◌, ℕ, ◌+◌, ◌^◌, ◌<◌, ◌≤◌, Bool, true, false, cond, nat_lt, List, [], ◌∷◌, codes, Option, Some, None}
+use Rattle.std.proofs.Common.{option_and_then, Ok, refl, sym, ◌∙◌, ap, arith, lt-ltb}
 use Rattle.std.specs.Prelude.{bytes_eq, decimal, IsUtf8, if◌then◌else◌}
 use Rattle.std.specs.Str.Parse.{digits_value}
 use Rattle.std.proofs.lemmas.Fmt.{decimal_is_IsNumeral, IsAscii-decimal}
@@ -33,7 +34,8 @@ fetch-plain : (id sheet : ℕ) → is_counted id ≡ true → is_plain (fetch_va
 fetch-plain id sheet small = ask_plain id (codes "CSS.getStyleSheetText") (Some (fetch_params sheet)) None small refl refl
 
 told-utf8 : (sheet : ℕ) → sheet < 2 ^ 64 → IsUtf8 (sheet_text sheet)
-told-utf8 sheet fits = IsUtf8-append (115 ∷ []) (decimal sheet) (IsUtf8-are_ascii (115 ∷ []) refl) (IsUtf8-from_ascii (decimal sheet) (IsAscii-decimal sheet fits))
+told-utf8 sheet fits = IsUtf8-append (115 ∷ []) (decimal sheet) (IsUtf8-are_ascii (115 ∷ []) refl)
+    (IsUtf8-from_ascii (decimal sheet) (IsAscii-decimal sheet fits))
 
 fetch-utf8 : (id sheet : ℕ) → sheet < 2 ^ 64 → HasUtf8 (fetch_value id sheet)
 fetch-utf8 id sheet fits = (
@@ -59,21 +61,28 @@ told-is sheet fits =
     ap (λ m. if bytes_eq (sheet_text m) (sheet_text sheet) then Some m else None) value
     ∙ ap (λ b. if b then Some sheet else None) ((bytes_eq-Decides (sheet_text sheet) (sheet_text sheet)).1 refl)
 
-sheet-is : (id sheet : ℕ) → sheet < 2 ^ 64 → nat_lt id (2 ^ 30) ≡ false → sheet_asked id (codes "CSS.getStyleSheetText") (Some (fetch_params sheet)) ≡ Some sheet
+sheet-is : (id sheet : ℕ) → sheet < 2 ^ 64 → nat_lt id (2 ^ 30) ≡ false
+    → sheet_asked id (codes "CSS.getStyleSheetText") (Some (fetch_params sheet)) ≡ Some sheet
 sheet-is id sheet fits high = ap (λ low. cond low None (sheet_told (sheet_text sheet))) high ∙ told-is sheet fits
 
 value_fetch : (id sheet : ℕ) → is_counted id ≡ true
     → option_and_then ask_of (option_and_then as_object (Some (fetch_value id sheet)))
-    ≡ Some (record { id = id; method = codes "CSS.getStyleSheetText"; sheet = sheet_asked id (codes "CSS.getStyleSheetText") (Some (fetch_params sheet)) })
+    ≡ Some (record {
+      id = id;
+      method = codes "CSS.getStyleSheetText";
+      sheet = sheet_asked id (codes "CSS.getStyleSheetText") (Some (fetch_params sheet));
+    })
 value_fetch id sheet small = rw small
 
 -- it is the ask of that sheet
 fetch-asks : (id sheet : ℕ) → sheet < 2 ^ 64 → id < 2 ^ 53 → nat_lt id (2 ^ 30) ≡ false
-    → ask_of_frame (command_text id (codes "CSS.getStyleSheetText") (Some (fetch_params sheet)) None) ≡ Some (record { id = id; method = codes "CSS.getStyleSheetText"; sheet = Some sheet })
+    → ask_of_frame (command_text id (codes "CSS.getStyleSheetText") (Some (fetch_params sheet)) None)
+    ≡ Some (record { id = id; method = codes "CSS.getStyleSheetText"; sheet = Some sheet })
 fetch-asks id sheet fits small high =
     let c : is_counted id ≡ true = lt-ltb id (2 ^ 53) small in
     ap (λ o. option_and_then ask_of (option_and_then as_object o))
-    (json_of-compact_text (fetch_value id sheet) (fetch-plain id sheet c) (fetch-shallow id sheet) (IsUtf8-compact_text (fetch_value id sheet) (fetch-plain id sheet c) (fetch-utf8 id sheet fits)))
+    (json_of-compact_text (fetch_value id sheet) (fetch-plain id sheet c) (fetch-shallow id sheet)
+    (IsUtf8-compact_text (fetch_value id sheet) (fetch-plain id sheet c) (fetch-utf8 id sheet fits)))
     ∙ value_fetch id sheet c
     ∙ ap (λ found. Some (record { id = id; method = codes "CSS.getStyleSheetText"; sheet = found })) (sheet-is id sheet fits high)
 
@@ -88,10 +97,12 @@ fetch-small count few = omega (arith, few)
 pub fetcher-text : (count sheet : ℕ) → count + 1 ≤ most_fetches → IsText (front_fetcher.text count sheet)
 fetcher-text count sheet few = fetch-text (2 ^ 30 + count) sheet (fetch-small count few)
 
-pub sent-fetch : (count sheet : ℕ) → 2 ^ 30 + count < 2 ^ 53 → sheet < 2 ^ 64 → ask_of_frame (front_fetcher.text count sheet) ≡ Some (fetch_ask count sheet)
+pub sent-fetch : (count sheet : ℕ) → 2 ^ 30 + count < 2 ^ 53 → sheet < 2 ^ 64
+    → ask_of_frame (front_fetcher.text count sheet) ≡ Some (fetch_ask count sheet)
 sent-fetch count sheet small fits = fetch-asks (2 ^ 30 + count) sheet fits small (high-id count)
 
-pub fetcher-asks : (count sheet : ℕ) → count + 1 ≤ most_fetches → sheet < 2 ^ 64 → ask_of_frame (front_fetcher.text count sheet) ≡ Some (fetch_ask count sheet)
+pub fetcher-asks : (count sheet : ℕ) → count + 1 ≤ most_fetches → sheet < 2 ^ 64
+    → ask_of_frame (front_fetcher.text count sheet) ≡ Some (fetch_ask count sheet)
 fetcher-asks count sheet few fits = sent-fetch count sheet (fetch-small count few) fits
 
 -- what the back end reads in a fetch
@@ -105,8 +116,10 @@ fetcher-asked count sheet few fits =
     let id : ℕ = 2 ^ 30 + count in
     let c : is_counted id ≡ true = lt-ltb id (2 ^ 53) (fetch-small count few) in
     ap (asked_value false)
-    (json_of-compact_text (fetch_value id sheet) (fetch-plain id sheet c) (fetch-shallow id sheet) (IsUtf8-compact_text (fetch_value id sheet) (fetch-plain id sheet c) (fetch-utf8 id sheet fits)))
+    (json_of-compact_text (fetch_value id sheet) (fetch-plain id sheet c) (fetch-shallow id sheet)
+    (IsUtf8-compact_text (fetch_value id sheet) (fetch-plain id sheet c) (fetch-utf8 id sheet fits)))
     ∙ value_asked id sheet c
 
-pub fetcher-next : (n : Spent) (sheet : ℕ) → n.fetches + 1 ≤ most_fetches → sheet < 2 ^ 64 → IsNext n (front_fetcher.text n.fetches sheet) (one_fetch n)
+pub fetcher-next : (n : Spent) (sheet : ℕ) → n.fetches + 1 ≤ most_fetches → sheet < 2 ^ 64
+    → IsNext n (front_fetcher.text n.fetches sheet) (one_fetch n)
 fetcher-next n sheet few fits = next_fetch sheet (fetcher-asks n.fetches sheet few fits) few

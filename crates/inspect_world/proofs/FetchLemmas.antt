@@ -7,7 +7,8 @@ use Rattle.inspect_world.specs.Stream.{Stream, sent, put, held, arriving, awaite
 use Rattle.back_end.specs.Steps.{Stepped}
 use Rattle.inspect_world.specs.World.{World, Spent, one_fetch, steps, sent_up, delivered_up, settled}
 use Rattle.inspect_world.specs.Fold.{folded, joined, Machine, Laws, Fits}
-use Rattle.inspect_world.specs.Fetches.{Fetcher, front_in, fetched, fetched_if, all_fetched, stale_in, refreshed, IsDue, GivesText, FetchLaws}
+use Rattle.inspect_world.specs.Fetches.{Fetcher, front_in, fetched, fetched_if, all_fetched, stale_in, refreshed, IsDue, GivesText}
+use Rattle.inspect_world.specs.Fetches.{FetchLaws}
 use Rattle.inspect_world.specs.Agreement.{IsLike, IsStill, IsAtRest, RunsAgree}
 use Rattle.inspect_world.proofs.Frames.{sent-passed, given-all, sent-all, awaited-none}
 use Rattle.inspect_world.proofs.Folds.{folded-rest}
@@ -23,7 +24,8 @@ still-like : (s t : Stream) → IsLike s t → IsStill t → IsStill s
 still-like s t like still = record { flying = like.flying ∙ still.flying; held = like.held ∙ still.held }
 
 -- one frame arrives where the stream was still
-arriving-one : (text : List ℕ) (s : Stream) → IsText text → IsStill s → arriving (length (put (framed text) s).flying) (put (framed text) s) ≡ text ∷ []
+arriving-one : (text : List ℕ) (s : Stream) → IsText text → IsStill s
+    → arriving (length (put (framed text) s).flying) (put (framed text) s) ≡ text ∷ []
 arriving-one text s letters still =
     let bytes = s.flying ++ framed text in
     ap (frames_from (held s)) (take-length bytes)
@@ -35,7 +37,8 @@ module _ {S F E X A : Type 0} (machine : Machine S F E X) (IsNext : Spent → Li
     (IsTurn : Spent → X → Type 0) (Fit : Spent → F → S → List (List ℕ) → Type 0) (laws : Laws machine IsNext IsTurn Fit)
     (fetcher : Fetcher F) (seen : F → A) (sheets most : ℕ) (fetching : FetchLaws machine IsNext Fit fetcher seen sheets most) where
   -- after a settle both pipes are still
-  pub settled-rests : (start : F) (w : World S) → Fits machine.take machine.join Fit start (settled machine.step w) → IsAtRest (settled machine.step w)
+  pub settled-rests : (start : F) (w : World S) → Fits machine.take machine.join Fit start (settled machine.step w)
+      → IsAtRest (settled machine.step w)
   settled-rests start w fits =
       let w1 = settled machine.step w in
       let up : w1.up.flying ≡ [] = given-all w.up in
@@ -46,17 +49,21 @@ module _ {S F E X A : Type 0} (machine : Machine S F E X) (IsNext : Spent → Li
       }
 
   -- where nothing is on its way, the front end is the one that fits
-  pub front-rests : (start : F) (w : World S) (fits : Fits machine.take machine.join Fit start w) → IsAtRest w → front_in machine start w ≡ Ok fits.front
+  pub front-rests : (start : F) (w : World S) (fits : Fits machine.take machine.join Fit start w) → IsAtRest w
+      → front_in machine start w ≡ Ok fits.front
   front-rests start w fits rests =
-      ap (λ bytes. folded machine.take (joined machine.join start (frames_of (sent w.up)).whole) (frames_of bytes).whole) (sym (sent-all w.down rests.down.flying))
+      ap (λ bytes. folded machine.take (joined machine.join start (frames_of (sent w.up)).whole) (frames_of bytes).whole)
+      (sym (sent-all w.down rests.down.flying))
       ∙ fits.is_fold
 
   -- and it waits for nothing
-  pub fit-rests : (start : F) (w : World S) (front : F) (fits : Fits machine.take machine.join Fit start w) → IsAtRest w → front_in machine start w ≡ Ok front
+  pub fit-rests : (start : F) (w : World S) (front : F) (fits : Fits machine.take machine.join Fit start w) → IsAtRest w
+      → front_in machine start w ≡ Ok front
       → Fit w.spent front w.state []
   fit-rests start w front fits rests is =
       subst (λ frames. Fit w.spent front w.state frames) (awaited-none w.up rests.up.flying rests.up.held)
-      (subst (λ f. Fit w.spent f w.state (awaited w.up)) (ok-one (front_in machine start w) fits.front front (front-rests start w fits rests) is) fits.fit)
+      (subst (λ f. Fit w.spent f w.state (awaited w.up))
+      (ok-one (front_in machine start w) fits.front front (front-rests start w fits rests) is) fits.fit)
 
   -- ---- one fetch
 
@@ -81,11 +88,13 @@ module _ {S F E X A : Type 0} (machine : Machine S F E X) (IsNext : Spent → Li
       let v1 = sent_up text one_fetch v in
       let after = settled machine.step v1 in
       let fits1 : Fits machine.take machine.join Fit start v1 =
-      fits-sent_up machine IsNext IsTurn Fit laws start text one_fetch v letters (fetching.next v.spent front v.state number numbers due) fits in
+      fits-sent_up machine IsNext IsTurn Fit laws start text one_fetch v letters
+      (fetching.next v.spent front v.state number numbers due) fits in
       let fits2 : Fits machine.take machine.join Fit start after = fits-settled machine IsNext IsTurn Fit laws start v1 fits1 in
       let rests2 : IsAtRest after = settled-rests start v1 fits2 in
       let stepped : Stepped S = machine.step v.state text in
-      let made : steps machine.step v.state (arriving (length v1.up.flying) v1.up) ≡ record { state = stepped.state; sent = stepped.sent ++ [] } =
+      let made : steps machine.step v.state (arriving (length v1.up.flying) v1.up)
+      ≡ record { state = stepped.state; sent = stepped.sent ++ [] } =
       ap (steps machine.step v.state) (arriving-one text v.up letters rests.up) in
       let out = (steps machine.step v.state (arriving (length v1.up.flying) v1.up)).sent in
       let out_is : out ≡ stepped.sent = ap (λ (s : Stepped S). s.sent) made ∙ append-nil stepped.sent in
@@ -99,7 +108,8 @@ module _ {S F E X A : Type 0} (machine : Machine S F E X) (IsNext : Spent → Li
       let all : folded machine.take start1 ((frames_of v.down.given).whole ++ (frames_of stepped.sent).whole) ≡ Ok fits2.front =
       ap (folded machine.take start1) (sym (whole-after v.down.given stepped.sent rests.down.held))
       ∙ ap (λ bytes. folded machine.take start1 (frames_of bytes).whole) (sym down)
-      ∙ ap (λ bytes. folded machine.take (joined machine.join start (frames_of bytes).whole) (frames_of (sent after.down)).whole) (sym (sent-passed (length v1.up.flying) v1.up))
+      ∙ ap (λ bytes. folded machine.take (joined machine.join start (frames_of bytes).whole) (frames_of (sent after.down)).whole)
+      (sym (sent-passed (length v1.up.flying) v1.up))
       ∙ fits2.is_fold in
       let coming : folded machine.take asked (frames_of stepped.sent).whole ≡ Ok fits2.front =
       folded-rest machine.take start1 asked fits2.front (frames_of v.down.given).whole (frames_of stepped.sent).whole given all in
@@ -137,7 +147,8 @@ module _ {S F E X A : Type 0} (machine : Machine S F E X) (IsNext : Spent → Li
     pub fetches : after.spent.fetches ≡ v.spent.fetches + length numbers
 
   -- a sheet that the front end knows is fetched
-  fetched-known : (start : F) (v : World S) (front : F) (number : ℕ) → front_in machine start v ≡ Ok front → fetcher.knows front number ≡ true
+  fetched-known : (start : F) (v : World S) (front : F) (number : ℕ) → front_in machine start v ≡ Ok front
+      → fetcher.knows front number ≡ true
       → fetched_if machine fetcher (front_in machine start v) number v ≡ fetched machine fetcher number v
   fetched-known start v front number is known =
       ap (λ result. fetched_if machine fetcher result number v) is ∙ ap (λ b. cond b (fetched machine fetcher number v) v) known
@@ -146,21 +157,30 @@ module _ {S F E X A : Type 0} (machine : Machine S F E X) (IsNext : Spent → Li
       → Fits machine.take machine.join Fit start v → IsAtRest v → (agrees : RunsAgree machine start seen w v)
       → fetcher.stale agrees.fresh ≡ numbers → v.spent.fetches + length numbers ≤ most
       → AreFetched start w v (all_fetched machine fetcher start numbers v) numbers
-  all-fetched start [] w v fits rests agrees stale room = record { fits = fits; rests = rests; agrees = agrees; none = stale; fetches = omega arith }
+  all-fetched start [] w v fits rests agrees stale room = record {
+    fits = fits;
+    rests = rests;
+    agrees = agrees;
+    none = stale;
+    fetches = omega arith;
+  }
   all-fetched start (number ∷ numbers) w v fits rests agrees stale room =
       let known = fetching.known agrees.fresh number numbers stale in
       let one : IsFetched start w v (fetched machine fetcher number v) numbers = one-fetched start w v number numbers fits rests agrees stale (omega (arith, room)) in
       let fetches : (fetched machine fetcher number v).spent.fetches ≡ v.spent.fetches + 1 = one.fetches in
-      let others : AreFetched start w (fetched machine fetcher number v) (all_fetched machine fetcher start numbers (fetched machine fetcher number v)) numbers =
+      let others : AreFetched start w (fetched machine fetcher number v)
+      (all_fetched machine fetcher start numbers (fetched machine fetcher number v)) numbers =
       all-fetched start numbers w (fetched machine fetcher number v) one.fits one.rests one.agrees one.left (omega (arith, room)) in
-      let whole : AreFetched start w v (all_fetched machine fetcher start numbers (fetched machine fetcher number v)) (number ∷ numbers) = record {
+      let whole : AreFetched start w v (all_fetched machine fetcher start numbers (fetched machine fetcher number v))
+      (number ∷ numbers) = record {
         fits = others.fits;
         rests = others.rests;
         agrees = others.agrees;
         none = others.none;
         fetches = let e = others.fetches in omega (arith, e);
       } in
-      subst (λ u. AreFetched start w v (all_fetched machine fetcher start numbers u) (number ∷ numbers)) (sym (fetched-known start v agrees.fresh number agrees.fresh_is known)) whole
+      subst (λ u. AreFetched start w v (all_fetched machine fetcher start numbers u) (number ∷ numbers))
+      (sym (fetched-known start v agrees.fresh number agrees.fresh_is known)) whole
 
   -- ---- a settle
 
@@ -180,9 +200,11 @@ module _ {S F E X A : Type 0} (machine : Machine S F E X) (IsNext : Spent → Li
       let v1 = settled machine.step v in
       let settles : Fits machine.take machine.join Fit start v1 = fits-settled machine IsNext IsTurn Fit laws start v fits1 in
       let rests : IsAtRest v1 = settled-rests start v settles in
-      let on : RunsAgree machine start seen (settled machine.step w) v1 = agrees-settled machine IsNext IsTurn Fit laws fetcher seen sheets most fetching start w v fits fits1 agrees in
+      let on : RunsAgree machine start seen
+      (settled machine.step w) v1 = agrees-settled machine IsNext IsTurn Fit laws fetcher seen sheets most fetching start w v fits fits1 agrees in
       let numbers = fetcher.stale on.fresh in
-      let few : length numbers ≤ sheets = fetching.few v1.spent on.fresh v1.state [] (fit-rests start v1 on.fresh settles rests on.fresh_is) in
+      let few : length numbers ≤ sheets = fetching.few v1.spent on.fresh v1.state []
+      (fit-rests start v1 on.fresh settles rests on.fresh_is) in
       let all : AreFetched start (settled machine.step w) v1 (all_fetched machine fetcher start numbers v1) numbers =
       all-fetched start numbers (settled machine.step w) v1 settles rests on refl (omega (arith, few, room)) in
       let whole : IsRefreshed start w v (all_fetched machine fetcher start numbers v1) = record {

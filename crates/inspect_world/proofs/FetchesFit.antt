@@ -1,5 +1,7 @@
 -- What the fetches of a settle need of this protocol.
-use Rattle.std.proofs.Common.{◌≡◌, ℕ, ◌+◌, ◌==◌, ◌^◌, ◌<◌, ◌≤◌, Bool, true, false, ◌&&◌, cond, nat_lt, List, [], ◌∷◌, ◌++◌, length, map, codes, Some, None, option_map, option_and_then, Result, Ok, Err, refl, sym, ◌∙◌, ap, subst, arith, append-nil, lt-ltb}
+use Rattle.std.proofs.Common.{◌≡◌, ℕ, ◌+◌, ◌==◌, ◌^◌, ◌<◌, ◌≤◌, Bool, true, false, ◌&&◌, cond, nat_lt, List, [], ◌∷◌, ◌++◌, length, map}
+use Rattle.std.proofs.Common.{codes, Some, None, option_map, option_and_then, Result, Ok, Err, refl, sym, ◌∙◌, ap, subst, arith, append-nil}
+use Rattle.std.proofs.Common.{lt-ltb}
 use Rattle.std.specs.List.{All}
 use Rattle.std.specs.Str.{IsUtf8}
 use Rattle.std.proofs.lemmas.Bool.{eq-eqb}
@@ -25,7 +27,9 @@ use Rattle.inspect_world.proofs.Growing.{pauses-of}
 use Rattle.front_mirror.specs.declared.replies.Ask.{Ask}
 use Rattle.front_mirror.specs.Sheets.{has_sheet, with_fetched, stale_of}
 use Rattle.front_mirror.specs.declared.faults.FrontKind.{FrontKind}
-use Rattle.front_mirror.specs.Front.{FrontValue, first_value, fetch_ask, method_waiting, fetched_sheet, reply_kept, unless_fetch, kept_reply, sheets_fetched, asks_without, replied, seen_pause, with_body, with_reply, with_message, take_frame}
+use Rattle.front_mirror.specs.Front.{FrontValue, first_value, fetch_ask, method_waiting, fetched_sheet, reply_kept, unless_fetch}
+use Rattle.front_mirror.specs.Front.{kept_reply, sheets_fetched, asks_without, replied, seen_pause, with_body, with_reply, with_message}
+use Rattle.front_mirror.specs.Front.{take_frame}
 use Rattle.front_mirror.specs.Laws.{Has}
 use Rattle.back_end.specs.States.{State, sheets_shown, view_of}
 use Rattle.back_end.specs.Laws.{HasRoom}
@@ -33,13 +37,15 @@ use Rattle.inspect_world.specs.Stream.{sent}
 use Rattle.inspect_world.specs.World.{World, AlreadyTold, Spent, settled}
 use Rattle.inspect_world.specs.Fold.{folded, then}
 use Rattle.inspect_world.specs.Fetches.{front_in, fetched, fetched_if, all_fetched, stale_in, IsDue, GivesText, FetchLaws}
-use Rattle.inspect_world.specs.Fits.{join, with_ask, IsPlainFrame, most_bytes, most_sheets, most_fetches, kept_styles, IsBare, IsNext, IsNextTurn, IsFit, replay, Fits}
+use Rattle.inspect_world.specs.Fits.{join, with_ask, IsPlainFrame, most_bytes, most_sheets, most_fetches, kept_styles, IsBare, IsNext}
+use Rattle.inspect_world.specs.Fits.{IsNextTurn, IsFit, replay, Fits}
 use Rattle.inspect_world.specs.Costs.{line_cost}
 use Rattle.inspect_world.specs.Scripts.{after_line, loaded_world}
 use Rattle.inspect_world.specs.ScriptsFit.{IsLater}
 use Rattle.replay_script.specs.Sound.{CanSend}
 use Rattle.inspect_world.specs.ShownReplies.{told_of, replies_in}
-use Rattle.inspect_world.specs.FreshRuns.{front_fetcher, refreshes, fresh_line, Unstyled, unstyled, Together, FreshLinesFit, FreshInputsFit, RefreshedShows}
+use Rattle.inspect_world.specs.FreshRuns.{front_fetcher, refreshes, fresh_line, Unstyled, unstyled, Together, FreshLinesFit, FreshInputsFit}
+use Rattle.inspect_world.specs.FreshRuns.{RefreshedShows}
 use Rattle.inspect_world.proofs.FitLemmas.{fit-room, world_laws}
 use Rattle.inspect_world.proofs.AgreeLemmas.{ok-one}
 use Rattle.inspect_world.proofs.FetchLemmas.{IsRefreshed, settled-rests, fit-rests, refreshed-made}
@@ -51,12 +57,14 @@ use Rattle.inspect_world.proofs.StaleLemmas.{AreApart, stale-known, stale-few, s
 use Rattle.inspect_world.proofs.FetchTold.{shown-told}
 use Rattle.inspect_world.proofs.UnstyledLemmas.{unstyled-takes, unstyled-joins}
 use Rattle.inspect_world.proofs.FetchForms.{fetcher-text, fetcher-asks, fetcher-asked, fetcher-next}
-use Rattle.inspect_world.proofs.FreshLemmas.{together-told, room-fetches, settled-plain, together-line, together-loaded, fresh-lines-fit, fresh-inputs-fit, refreshed-shows}
+use Rattle.inspect_world.proofs.FreshLemmas.{together-told, room-fetches, settled-plain, together-line, together-loaded, fresh-lines-fit}
+use Rattle.inspect_world.proofs.FreshLemmas.{fresh-inputs-fit, refreshed-shows}
 
 -- ---- which sheets are fetched
 
 -- a front end that fits knows the sheets that are shown, which are few
-few-stale : (n : Spent) (front : FrontValue) (s : RunState) (frames : List (List ℕ)) → IsFit n front s frames → length (stale_of front.sheets) ≤ most_sheets
+few-stale : (n : Spent) (front : FrontValue) (s : RunState) (frames : List (List ℕ)) → IsFit n front s frames
+    → length (stale_of front.sheets) ≤ most_sheets
 few-stale n front s frames fit =
     let state : State = s.back in
     let shown : length (sheets_shown state) ≤ 1000 = (shown-below state fit.is_state).few in
@@ -73,7 +81,8 @@ record IsShownSheet (state : State) (number : ℕ) : Type 0 where
   low : 1 ≤ number
   high : number < 2 ^ 53
 
-shown-on : (on : Bool) (ss : List ShownSheet) (number : ℕ) (text : List ℕ) → shown_text number (cond on ss []) ≡ Some text → (on ≡ true) × (shown_text number ss ≡ Some text)
+shown-on : (on : Bool) (ss : List ShownSheet) (number : ℕ) (text : List ℕ) → shown_text number (cond on ss []) ≡ Some text
+    → (on ≡ true) × (shown_text number ss ≡ Some text)
 shown-on true ss number text e = (refl, e)
 shown-on false ss number text e = absurd cc
 
@@ -81,13 +90,15 @@ not-off : (b : Bool) → (b ≡ false → ⊥) → b ≡ true
 not-off true never = refl
 not-off false never = absurd (never refl)
 
-due-shown : (n : Spent) (front : FrontValue) (s : RunState) (number : ℕ) (numbers : List ℕ) → IsDue IsFit front_fetcher most_fetches n front s number numbers
+due-shown : (n : Spent) (front : FrontValue) (s : RunState) (number : ℕ) (numbers : List ℕ)
+    → IsDue IsFit front_fetcher most_fetches n front s number numbers
     → IsShownSheet s.back number
 due-shown n front s number numbers due =
     let state : State = s.back in
     let room : HasRoom state = fit-room n front s [] due.fit in
     let next : state.side.next_sheet < 2 ^ 50 = room.sheets in
-    let has : HasText number (sheets_shown state) = stale-shown front.sheets (sheets_shown state) number numbers due.fit.has.sheets due.first in
+    let has : HasText number (sheets_shown state) = stale-shown front.sheets
+    (sheets_shown state) number numbers due.fit.has.sheets due.first in
     let on = shown-on state.client.css_on state.side.sheets number has.text has.is in
     let within : (1 ≤ number) × (number < state.side.next_sheet) =
     shown-number number 1 state.side.next_sheet (sheets_shown state) has.text (shown-below state due.fit.is_state).numbers has.is in
@@ -111,17 +122,20 @@ numbered number low high = both (nat_lt 0 number) (is_counted number) (lt-ltb 0 
 
 -- a reply with a text is one without a zero byte
 texted-is-text : (id number : ℕ) (text : List ℕ) → is_counted id ≡ true → IsText (move_text (texted id number text))
-texted-is-text id number text counted = texts_have_no_zero (message_data (reply id (body_data (SheetText text)))) (reply_plain id (SheetText text) counted refl)
+texted-is-text id number text counted = texts_have_no_zero (message_data (reply id (body_data (SheetText text))))
+    (reply_plain id (SheetText text) counted refl)
 
 -- the step on the fetch
 fetch-step : (n : Spent) (number : ℕ) (state : State) → n.fetches + 1 ≤ most_fetches → (s : IsShownSheet state number)
-    → frame_step false (front_fetcher.text n.fetches number) state ≡ record { state = state; moves = texted (2 ^ 30 + n.fetches) number s.text ∷ [] }
+    → frame_step false (front_fetcher.text n.fetches number) state
+    ≡ record { state = state; moves = texted (2 ^ 30 + n.fetches) number s.text ∷ [] }
 fetch-step n number state few s =
     ap (λ r. asked_step r state) (fetcher-asked n.fetches number few (omega (arith, s.high)))
     ∙ shown-told (2 ^ 30 + n.fetches) number s.text state s.dom s.css s.high (numbered number s.low s.high) s.shown
 
 -- a reply with the text of a sheet, to the fetch that waits alone
-fetched-front : (v : FrontValue) (count number : ℕ) (text : List ℕ) → v.asks ≡ fetch_ask count number ∷ [] → is_counted (2 ^ 30 + count) ≡ true → IsUtf8 text
+fetched-front : (v : FrontValue) (count number : ℕ) (text : List ℕ) → v.asks ≡ fetch_ask count number ∷ []
+    → is_counted (2 ^ 30 + count) ≡ true → IsUtf8 text
     → (after : FrontValue) × (take_frame v (move_text (texted (2 ^ 30 + count) number text)) ≡ Ok after)
     × (after.sheets ≡ with_fetched number text v.sheets) × (unstyled after ≡ record (unstyled v) { asks = [] })
 fetched-front v count number text asks counted utf8 =
@@ -134,19 +148,30 @@ fetched-front v count number text asks counted utf8 =
     let sheet : fetched_sheet id v.asks ≡ Some number =
     ap (fetched_sheet id) asks ∙ ap (λ b. option_and_then (λ (a : Ask). a.sheet) (cond b (Some (fetch_ask count number)) None)) first in
     let gone : asks_without id v.asks ≡ [] = ap (asks_without id) asks ∙ ap (λ b. cond b [] (fetch_ask count number ∷ [])) first in
-    let after : FrontValue = record (replied v id frame true v.tree) { sheets = sheets_fetched (fetched_sheet id v.asks) text v.sheets; matched = v.matched ++ [] } in
-    let reply_kept : kept_reply id v.asks frame true ≡ [] = ap (λ o. unless_fetch o (reply_kept (Some id) (method_waiting id v.asks) frame true)) sheet in (
+    let after : FrontValue = record
+    (replied v id frame true v.tree) { sheets = sheets_fetched (fetched_sheet id v.asks) text v.sheets; matched = v.matched ++ [] } in
+    let reply_kept : kept_reply id v.asks frame true
+    ≡ [] = ap (λ o. unless_fetch o (reply_kept (Some id) (method_waiting id v.asks) frame true)) sheet in (
       after,
-      ap (with_message v frame) (replies_are_read id (SheetText text) counted refl (replies_are_shallow id (SheetText text) (omega arith)) (replies_are_utf8 id (SheetText text) counted refl utf8))
+      ap (with_message v frame) (replies_are_read id (SheetText text) counted refl (replies_are_shallow id (SheetText text) (omega arith))
+          (replies_are_utf8 id (SheetText text) counted refl utf8))
           ∙ ap (with_reply v id frame (body_data (SheetText text))) waits
           ∙ ap (with_body v id frame method) (results_are_read method (SheetText text) refl refl),
       ap (λ o. sheets_fetched o text v.sheets) sheet,
-      λ i. record { tree = v.tree; asks = gone i; replies = (ap (λ ks. v.replies ++ ks) reply_kept ∙ append-nil v.replies) i; pauses = v.pauses; matched = append-nil v.matched i },
+      λ i. record {
+        tree = v.tree;
+        asks = gone i;
+        replies = (ap (λ ks. v.replies ++ ks) reply_kept ∙ append-nil v.replies) i;
+        pauses = v.pauses;
+        matched = append-nil v.matched i;
+      },
     )
 
 -- the answer to a fetch that is due leaves the state, and gives the text
-gives-text : (n : Spent) (front after : FrontValue) (run : RunState) (number : ℕ) (numbers : List ℕ) → IsDue IsFit front_fetcher most_fetches n front run number numbers
-    → folded take_frame (join front (front_fetcher.text n.fetches number)) (frames_of (run_step run (front_fetcher.text n.fetches number)).sent).whole ≡ Ok after
+gives-text : (n : Spent) (front after : FrontValue) (run : RunState) (number : ℕ) (numbers : List ℕ)
+    → IsDue IsFit front_fetcher most_fetches n front run number numbers
+    → folded take_frame (join front (front_fetcher.text n.fetches number))
+    (frames_of (run_step run (front_fetcher.text n.fetches number)).sent).whole ≡ Ok after
     → GivesText front_fetcher unstyled front after run (run_step run (front_fetcher.text n.fetches number)).state numbers
 gives-text n front after run number numbers due taken =
     let state : State = run.back in
@@ -157,19 +182,25 @@ gives-text n front after run number numbers due taken =
     let few : n.fetches + 1 ≤ most_fetches = due.left in
     let counted : is_counted (2 ^ 30 + n.fetches) ≡ true = lt-ltb (2 ^ 30 + n.fetches) (2 ^ 53) (omega (arith, few)) in
     let utf8 : IsUtf8 s.text = shown-utf8 number s.text state.side.sheets due.fit.is_state.now.sheets.texts s.shown in
-    let joins : join front text ≡ with_ask front (Some (fetch_ask n.fetches number)) = ap (with_ask front) (fetcher-asks n.fetches number due.left (omega (arith, s.high))) in
+    let joins : join front text ≡ with_ask front (Some (fetch_ask n.fetches number)) = ap (with_ask front)
+    (fetcher-asks n.fetches number due.left (omega (arith, s.high))) in
     let v = with_ask front (Some (fetch_ask n.fetches number)) in
-    let asks : v.asks ≡ fetch_ask n.fetches number ∷ [] = ap (λ (asks : List Ask). asks ++ fetch_ask n.fetches number ∷ []) (sym due.fit.asks) in
+    let asks : v.asks ≡ fetch_ask n.fetches number
+    ∷ [] = ap (λ (asks : List Ask). asks ++ fetch_ask n.fetches number ∷ []) (sym due.fit.asks) in
     let f = fetched-front v n.fetches number s.text asks counted utf8 in
     let frames : (frames_of (run_step run text).sent).whole ≡ move_text move ∷ [] =
-    ap (λ (d : Step). (frames_of (frames_of_moves d.moves)).whole) done ∙ ap (λ (fs : Frames). fs.whole) (frames_of-moves (move ∷ []) (texted-is-text (2 ^ 30 + n.fetches) number s.text counted, tt)) in
+    ap (λ (d : Step). (frames_of (frames_of_moves d.moves)).whole) done ∙ ap (λ (fs : Frames). fs.whole)
+    (frames_of-moves (move ∷ []) (texted-is-text (2 ^ 30 + n.fetches) number s.text counted, tt)) in
     let is : after ≡ f.0 =
     ok-one (folded take_frame (join front text) (frames_of (run_step run text).sent).whole) after f.0 taken
-    (ap (λ u. folded take_frame u (frames_of (run_step run text).sent).whole) joins ∙ ap (folded take_frame v) frames ∙ ap (λ r. then r (λ (next : FrontValue). Ok next)) f.1) in
-    let apart : AreApart front.sheets = are-apart 1 state.side.next_sheet front.sheets (sheets_shown state) due.fit.has.sheets (shown-below state due.fit.is_state).numbers in
+    (ap (λ u. folded take_frame u (frames_of (run_step run text).sent).whole) joins ∙ ap (folded take_frame v) frames ∙ ap
+    (λ r. then r (λ (next : FrontValue). Ok next)) f.1) in
+    let apart : AreApart front.sheets = are-apart 1 state.side.next_sheet front.sheets (sheets_shown state) due.fit.has.sheets
+    (shown-below state due.fit.is_state).numbers in
     record {
       state_is =
-          let none : styles_answered text state ≡ [] = ap (λ r. styles_asked r state) (fetcher-asked n.fetches number due.left (omega (arith, s.high))) in
+          let none : styles_answered text state
+          ≡ [] = ap (λ r. styles_asked r state) (fetcher-asked n.fetches number due.left (omega (arith, s.high))) in
           λ i. record { back = (done i).state; styles = (ap (λ ts. run.styles ++ ts) none ∙ append-nil run.styles) i };
       left = ap (λ (u : FrontValue). stale_of u.sheets) is ∙ ap stale_of f.2 ∙ stale-fetched front.sheets number numbers s.text apart due.first;
       same = ap unstyled is ∙ f.3 ∙ ap (λ (asks : List Ask). record (unstyled front) { asks = asks }) due.fit.asks;
@@ -218,7 +249,8 @@ pub play-line : (line : LineForm) (k : ℕ) (w v : World RunState) → IsLater l
     → Together IsPlainFrame k (after_line line w) (fresh_line front_fetcher line v)
 play-line = together-line front_fetcher IsPlainFrame fetch_laws plain-sent plain-bare
 
-pub play-loaded : (page : LoadedPage) (k : ℕ) → CanLoadPage page → PageHasTexts page → k ≤ most_bytes → Together IsPlainFrame k (loaded_world page) (loaded_world page)
+pub play-loaded : (page : LoadedPage) (k : ℕ) → CanLoadPage page → PageHasTexts page → k ≤ most_bytes
+    → Together IsPlainFrame k (loaded_world page) (loaded_world page)
 play-loaded = together-loaded front_fetcher IsPlainFrame fetch_laws plain-sent plain-bare
 
 pub play-told : (k : ℕ) (w v : World RunState) (n : AlreadyTold) → Together IsPlainFrame k w v
@@ -237,12 +269,15 @@ pub record ShownThen (w : World RunState) (front : FrontValue) : Type 0 where
 pub shown-then : (k : ℕ) (w v : World RunState) (front : FrontValue) → Together IsPlainFrame k w v
     → front_in replay (first_value []) (refreshes front_fetcher v) ≡ Ok front → ShownThen w front
 shown-then k w v front both is =
-    let made : IsRefreshed replay IsNext IsNextTurn IsFit world_laws front_fetcher unstyled most_sheets most_fetches fetch_laws (first_value []) w v (refreshes front_fetcher v) =
+    let made : IsRefreshed replay IsNext IsNextTurn IsFit world_laws front_fetcher unstyled most_sheets most_fetches fetch_laws
+    (first_value []) w v (refreshes front_fetcher v) =
     refreshed-made replay IsNext IsNextTurn IsFit world_laws front_fetcher unstyled most_sheets most_fetches fetch_laws (first_value []) w v
-    both.runs.fits both.runs.fits_fresh both.runs.agrees (room-fetches front_fetcher IsPlainFrame fetch_laws plain-sent plain-bare v k both.left) in
+    both.runs.fits both.runs.fits_fresh both.runs.agrees
+    (room-fetches front_fetcher IsPlainFrame fetch_laws plain-sent plain-bare v k both.left) in
     let v1 = refreshes front_fetcher v in
     let fit : IsFit v1.spent front v1.state [] =
-    fit-rests replay IsNext IsNextTurn IsFit world_laws front_fetcher unstyled most_sheets most_fetches fetch_laws (first_value []) v1 front made.fits made.rests is in
+    fit-rests replay IsNext IsNextTurn IsFit world_laws front_fetcher unstyled most_sheets most_fetches fetch_laws
+    (first_value []) v1 front made.fits made.rests is in
     let same : made.agrees.fresh ≡ front = ok-one (front_in replay (first_value []) v1) made.agrees.fresh front made.agrees.fresh_is is in
     record {
       has = subst (λ (s : RunState). Has front (view_of s.back)) (sym made.agrees.state) fit.has;
@@ -250,7 +285,8 @@ shown-then k w v front both is =
       pauses =
           ap (λ (f : FrontValue). f.pauses) (sym same)
           ∙ sym (ap (λ (u : Unstyled). u.pauses) made.agrees.same)
-          ∙ pauses-of (frames_of (sent (settled run_step w).up)).whole (frames_of (settled run_step w).down.given).whole made.agrees.plain made.agrees.plain_is;
+          ∙ pauses-of (frames_of (sent (settled run_step w).up)).whole
+          (frames_of (settled run_step w).down.given).whole made.agrees.plain made.agrees.plain_is;
       fresh = ap (λ (f : FrontValue). stale_of f.sheets) (sym same) ∙ made.none;
       told =
           ap (λ (f : FrontValue). map told_of f.replies) (sym same)
@@ -273,7 +309,8 @@ fetched-if-spends start number w = at (front_in replay start w) where
   at (Ok front) = by (has_sheet number front.sheets)
   at (Err kind) = omega arith
 
-fetched-if-told : (start : FrontValue) (number : ℕ) (w : World RunState) → (fetched_if replay front_fetcher (front_in replay start w) number w).told ≡ w.told
+fetched-if-told : (start : FrontValue) (number : ℕ) (w : World RunState)
+    → (fetched_if replay front_fetcher (front_in replay start w) number w).told ≡ w.told
 fetched-if-told start number w = at (front_in replay start w) where
   by : (known : Bool) → (cond known (fetched replay front_fetcher number w) w).told ≡ w.told
   by true = refl
@@ -283,19 +320,24 @@ fetched-if-told start number w = at (front_in replay start w) where
   at (Ok front) = by (has_sheet number front.sheets)
   at (Err kind) = refl
 
-all-fetched-told : (start : FrontValue) (numbers : List ℕ) (w : World RunState) → (all_fetched replay front_fetcher start numbers w).told ≡ w.told
+all-fetched-told : (start : FrontValue) (numbers : List ℕ) (w : World RunState)
+    → (all_fetched replay front_fetcher start numbers w).told ≡ w.told
 all-fetched-told start [] w = refl
 all-fetched-told start (number ∷ numbers) w =
     all-fetched-told start numbers (fetched_if replay front_fetcher (front_in replay start w) number w) ∙ fetched-if-told start number w
 
 pub refreshed-told : (w : World RunState) → (refreshes front_fetcher w).told ≡ w.told
-refreshed-told w = all-fetched-told (first_value []) (stale_in front_fetcher (front_in replay (first_value []) (settled run_step w))) (settled run_step w)
+refreshed-told w = all-fetched-told (first_value []) (stale_in front_fetcher (front_in replay (first_value []) (settled run_step w)))
+    (settled run_step w)
 
 -- after a settle the sheets that the front end would fetch are few
-pub few-then : (w : World RunState) (front : FrontValue) → Fits (settled run_step w) → front_in replay (first_value []) (settled run_step w) ≡ Ok front
+pub few-then : (w : World RunState) (front : FrontValue) → Fits (settled run_step w)
+    → front_in replay (first_value []) (settled run_step w) ≡ Ok front
     → length (stale_of front.sheets) ≤ most_sheets
 few-then w front fits is =
     let w1 = settled run_step w in
-    let rests = settled-rests replay IsNext IsNextTurn IsFit world_laws front_fetcher unstyled most_sheets most_fetches fetch_laws (first_value []) w fits in
+    let rests = settled-rests replay IsNext IsNextTurn IsFit world_laws front_fetcher unstyled most_sheets most_fetches fetch_laws
+    (first_value []) w fits in
     few-stale w1.spent front w1.state []
-    (fit-rests replay IsNext IsNextTurn IsFit world_laws front_fetcher unstyled most_sheets most_fetches fetch_laws (first_value []) w1 front fits rests is)
+    (fit-rests replay IsNext IsNextTurn IsFit world_laws front_fetcher unstyled most_sheets most_fetches fetch_laws
+    (first_value []) w1 front fits rests is)

@@ -1,12 +1,14 @@
 -- The run of a script with the fetches of its settles goes together with the run that the report tells, line by line.
-use Rattle.std.proofs.Common.{◌≡◌, ℕ, zero, suc, ◌+◌, ◌*◌, ◌^◌, ◌<◌, ◌≤◌, List, [], ◌∷◌, length, take, map, Ok, refl, sym, ◌∙◌, ap, subst, arith}
+use Rattle.std.proofs.Common.{◌≡◌, ℕ, zero, suc, ◌+◌, ◌*◌, ◌^◌, ◌<◌, ◌≤◌, List, [], ◌∷◌, length, take, map, Ok, refl, sym, ◌∙◌, ap, subst}
+use Rattle.std.proofs.Common.{arith}
 use Rattle.std.specs.List.{All}
 use Rattle.page_forms.specs.Pages.{LoadedPage, CanLoadPage}
 use Rattle.page_forms.specs.Texts.{PageHasTexts}
 use Rattle.pipe_frames.specs.Frames.{IsText, frames_of}
 use Rattle.cdp_messages.specs.Asked.{command_text}
 use Rattle.replay_script.specs.Forms as forms
-use Rattle.replay_script.specs.Forms.{AskForm, LineForm, load, ask, up, down, settle, show_front, show_page, show_sheets, show_replies, show_pauses, show_styles}
+use Rattle.replay_script.specs.Forms.{AskForm, LineForm, load, ask, up, down, settle, show_front, show_page, show_sheets, show_replies}
+use Rattle.replay_script.specs.Forms.{show_pauses, show_styles}
 use Rattle.front_mirror.specs.Front.{FrontValue, first_value, take_frame}
 use Rattle.front_mirror.specs.Laws.{Has}
 use Rattle.back_end.specs.States.{view_of}
@@ -19,19 +21,23 @@ use Rattle.inspect_world.specs.Costs.{ask_edits, least_line, line_cost, lines_co
 use Rattle.inspect_world.specs.Fold.{folded, joined}
 use Rattle.inspect_world.specs.Fetches.{Fetcher, front_in, FetchLaws}
 use Rattle.inspect_world.specs.Agreement.{RunTogether}
-use Rattle.inspect_world.specs.Fits.{join, most_bytes, most_frames, most_sheets, most_fetches, HasLeft, IsBare, IsNext, next_raw, IsNextTurn, IsFit, replay}
+use Rattle.inspect_world.specs.Fits.{join, most_bytes, most_frames, most_sheets, most_fetches, HasLeft, IsBare, IsNext, next_raw}
+use Rattle.inspect_world.specs.Fits.{IsNextTurn, IsFit, replay}
 use Rattle.inspect_world.specs.Scripts.{sends, telling, after_line, after_lines, loaded_world}
 use Rattle.inspect_world.specs.ScriptsFit.{IsLater, AreLater}
 use Rattle.replay_script.specs.Sound.{CanSend}
 use Rattle.inspect_world.specs.ShownReplies.{told_of, replies_in}
-use Rattle.inspect_world.specs.FreshRuns.{refreshes, fresh_line, fresh_lines, Unstyled, unstyled, Together, FreshLinesFit, FreshInputsFit, RefreshedShows}
+use Rattle.inspect_world.specs.FreshRuns.{refreshes, fresh_line, fresh_lines, Unstyled, unstyled, Together, FreshLinesFit, FreshInputsFit}
+use Rattle.inspect_world.specs.FreshRuns.{RefreshedShows}
 use Rattle.inspect_world.proofs.Frames.{sent-all, sent-passed}
 use Rattle.inspect_world.proofs.FitLemmas.{world_laws}
 use Rattle.inspect_world.proofs.Messages.{IsText-sent, IsNext-sent}
-use Rattle.inspect_world.proofs.Scripts.{fit-first, fits-told, frame-left, edits-left, turn-left, Spends, spends-nothing, spends-ask, spends-raw, spends-turn, left-first, left-one, spent-on}
+use Rattle.inspect_world.proofs.Scripts.{fit-first, fits-told, frame-left, edits-left, turn-left, Spends, spends-nothing, spends-ask}
+use Rattle.inspect_world.proofs.Scripts.{spends-raw, spends-turn, left-first, left-one, spent-on}
 use Rattle.inspect_world.proofs.Inputs.{input-script, Script}
 use Rattle.inspect_world.proofs.FetchLemmas.{IsRefreshed, refreshed-made, fit-rests}
-use Rattle.inspect_world.proofs.TogetherLemmas.{together-first, together-asked, together-raw, together-turned, together-delivered_up, together-delivered_down, together-settled}
+use Rattle.inspect_world.proofs.TogetherLemmas.{together-first, together-asked, together-raw, together-turned, together-delivered_up}
+use Rattle.inspect_world.proofs.TogetherLemmas.{together-delivered_down, together-settled}
 
 -- the asks of both runs are counted alike
 sent-alike : (a : AskForm) (w v : World RunState) → w.spent.asks ≡ v.spent.asks
@@ -55,32 +61,41 @@ module _ (fetcher : Fetcher FrontValue) (IsPlain : List ℕ → Type 0)
 
   -- ---- a line
 
-  both-sent : (a : AskForm) (w v : World RunState) → CanSend a → HasLeft v.spent (line_cost (ask a)) → BothRuns w v → BothRuns (sends a w) (sends a v)
+  both-sent : (a : AskForm) (w v : World RunState) → CanSend a → HasLeft v.spent (line_cost (ask a)) → BothRuns w v
+      → BothRuns (sends a w) (sends a v)
   both-sent a w v can left both =
       let frame : v.spent.asks + v.spent.raws + 1 ≤ most_frames = frame-left v.spent (ask_edits a) left in
       let edits : v.spent.edits + ask_edits a ≤ most_bytes = edits-left v.spent (ask_edits a) left in
       let few : w.spent.asks + w.spent.raws + 1 ≤ most_frames =
       frames-alike w.spent.asks v.spent.asks w.spent.raws v.spent.raws most_frames both.agrees.asks both.agrees.raws frame in
-      let few_edits : w.spent.edits + ask_edits a ≤ most_bytes = few-alike w.spent.edits v.spent.edits (ask_edits a) most_bytes both.agrees.edits edits in
+      let few_edits : w.spent.edits + ask_edits a
+      ≤ most_bytes = few-alike w.spent.edits v.spent.edits (ask_edits a) most_bytes both.agrees.edits edits in
       let small : w.spent.asks + 1 < 2 ^ 30 = omega (arith, few) in
       let text = command_text (w.spent.asks + 1) a.method a.params a.session in
       let next1 : IsNext v.spent text (one_ask (ask_edits a) v.spent) =
       subst (λ k. IsNext v.spent (command_text (k + 1) a.method a.params a.session) (one_ask (ask_edits a) v.spent)) (sym both.agrees.asks)
       (IsNext-sent v.spent a can frame edits (subst (λ k. k + 1 < 2 ^ 30) both.agrees.asks small)) in
       subst (λ u. BothRuns (sends a w) u) (sym (sent-alike a w v both.agrees.asks))
-      (together-asked replay IsNext IsNextTurn IsFit world_laws fetcher unstyled most_sheets most_fetches fetching IsPlain (first_value []) text (ask_edits a) w v
-      (IsText-sent (w.spent.asks + 1) a can (omega (arith, few))) (plain-sent (w.spent.asks + 1) a can small) (IsNext-sent w.spent a can few few_edits small) next1 both)
+      (together-asked replay IsNext IsNextTurn IsFit world_laws fetcher unstyled most_sheets most_fetches fetching IsPlain
+      (first_value []) text (ask_edits a) w v
+      (IsText-sent (w.spent.asks + 1) a can (omega (arith, few))) (plain-sent (w.spent.asks + 1) a can small)
+      (IsNext-sent w.spent a can few few_edits small) next1 both)
 
-  both-raw : (text : List ℕ) (w v : World RunState) → IsText text → IsBare text → HasLeft v.spent least_line → BothRuns w v → BothRuns (after_line (forms.raw text) w) (fresh_line fetcher (forms.raw text) v)
+  both-raw : (text : List ℕ) (w v : World RunState) → IsText text → IsBare text → HasLeft v.spent least_line → BothRuns w v
+      → BothRuns (after_line (forms.raw text) w) (fresh_line fetcher (forms.raw text) v)
   both-raw text w v letters bare left both =
-      together-raw replay IsNext IsNextTurn IsFit world_laws fetcher unstyled most_sheets most_fetches fetching IsPlain (first_value []) text w v letters
+      together-raw replay IsNext IsNextTurn IsFit world_laws fetcher unstyled most_sheets most_fetches fetching IsPlain
+      (first_value []) text w v letters
       (plain-bare text bare)
-      (next_raw bare (frames-alike w.spent.asks v.spent.asks w.spent.raws v.spent.raws most_frames both.agrees.asks both.agrees.raws (frame-left v.spent 0 left)))
+      (next_raw bare (frames-alike w.spent.asks v.spent.asks w.spent.raws v.spent.raws most_frames both.agrees.asks both.agrees.raws
+      (frame-left v.spent 0 left)))
       (next_raw bare (frame-left v.spent 0 left)) both
 
-  both-turned : (x : Turn) (w v : World RunState) → IsNextTurn v.spent x → BothRuns w v → BothRuns (turned run_turn x w) (turned run_turn x v)
+  both-turned : (x : Turn) (w v : World RunState) → IsNextTurn v.spent x → BothRuns w v
+      → BothRuns (turned run_turn x w) (turned run_turn x v)
   both-turned x w v next both =
-      together-turned replay IsNext IsNextTurn IsFit world_laws fetcher unstyled most_sheets most_fetches fetching IsPlain (first_value []) x w v
+      together-turned replay IsNext IsNextTurn IsFit world_laws fetcher unstyled most_sheets most_fetches fetching IsPlain
+      (first_value []) x w v
       (record { is_turn = next.is_turn; few = few-alike w.spent.turns v.spent.turns 1 most_bytes both.agrees.turns next.few }) next both
 
   -- a settle, which fetches the texts of a page's sheets at most
@@ -89,7 +104,8 @@ module _ (fetcher : Fetcher FrontValue) (IsPlain : List ℕ → Type 0)
 
   both-settled : (w v : World RunState) → HasLeft v.spent least_line → BothRuns w v → BothRuns (settled run_step w) (refreshes fetcher v)
   both-settled w v left both =
-      together-settled replay IsNext IsNextTurn IsFit world_laws fetcher unstyled most_sheets most_fetches fetching IsPlain (first_value []) w v
+      together-settled replay IsNext IsNextTurn IsFit world_laws fetcher unstyled most_sheets most_fetches fetching IsPlain
+      (first_value []) w v
       (room-fetches v least_line left) both
 
   -- what was told says nothing of the streams
@@ -140,15 +156,18 @@ module _ (fetcher : Fetcher FrontValue) (IsPlain : List ℕ → Type 0)
     left = both.left;
   }
 
-  both-line : (line : LineForm) (w v : World RunState) → IsLater line → HasLeft v.spent (line_cost line) → BothRuns w v → BothRuns (after_line line w) (fresh_line fetcher line v)
+  both-line : (line : LineForm) (w v : World RunState) → IsLater line → HasLeft v.spent (line_cost line) → BothRuns w v
+      → BothRuns (after_line line w) (fresh_line fetcher line v)
   both-line (load page) w v later left both = both-turned (loads page) w v (record { is_turn = later; few = turn-left v.spent left }) both
   both-line (forms.act a) w v later left both = both-turned (acts a) w v (record { is_turn = later; few = turn-left v.spent left }) both
   both-line (ask a) w v later left both = both-sent a w v later left both
   both-line (forms.raw text) w v later left both = both-raw text w v later.0 later.1 left both
   both-line (up n) w v later left both =
-      together-delivered_up replay IsNext IsNextTurn IsFit world_laws fetcher unstyled most_sheets most_fetches fetching IsPlain (first_value []) n w v both
+      together-delivered_up replay IsNext IsNextTurn IsFit world_laws fetcher unstyled most_sheets most_fetches fetching IsPlain
+      (first_value []) n w v both
   both-line (down n) w v later left both =
-      together-delivered_down replay IsNext IsNextTurn IsFit world_laws fetcher unstyled most_sheets most_fetches fetching IsPlain (first_value []) n w v both
+      together-delivered_down replay IsNext IsNextTurn IsFit world_laws fetcher unstyled most_sheets most_fetches fetching IsPlain
+      (first_value []) n w v both
   both-line settle w v later left both = both-settled w v left both
   both-line show_front w v later left both = both-settled w v left both
   both-line show_page w v later left both = both
@@ -162,13 +181,15 @@ module _ (fetcher : Fetcher FrontValue) (IsPlain : List ℕ → Type 0)
   -- what a settle spends
   settle-spends : (w v : World RunState) → BothRuns w v → HasLeft v.spent least_line → Spends v.spent (refreshes fetcher v).spent least_line
   settle-spends w v both one =
-      let made : IsRefreshed replay IsNext IsNextTurn IsFit world_laws fetcher unstyled most_sheets most_fetches fetching (first_value []) w v (refreshes fetcher v) =
+      let made : IsRefreshed replay IsNext IsNextTurn IsFit world_laws fetcher unstyled most_sheets most_fetches fetching
+      (first_value []) w v (refreshes fetcher v) =
       refreshed-made replay IsNext IsNextTurn IsFit world_laws fetcher unstyled most_sheets most_fetches fetching (first_value []) w v
       both.fits both.fits_fresh both.agrees (room-fetches v least_line one) in
       spends-nothing v.spent (refreshes fetcher v).spent (sym made.agrees.asks ∙ both.agrees.asks) (sym made.agrees.raws ∙ both.agrees.raws)
       (sym made.agrees.turns ∙ both.agrees.turns) (sym made.agrees.edits ∙ both.agrees.edits) made.fetches
 
-  line-spends : (line : LineForm) (w v : World RunState) → HasLeft v.spent (line_cost line) → BothRuns w v → Spends v.spent (fresh_line fetcher line v).spent (line_cost line)
+  line-spends : (line : LineForm) (w v : World RunState) → HasLeft v.spent (line_cost line) → BothRuns w v
+      → Spends v.spent (fresh_line fetcher line v).spent (line_cost line)
   line-spends (load page) w v one both = spends-turn (loads page) v
   line-spends (forms.act a) w v one both = spends-turn (acts a) v
   line-spends (ask a) w v one both = spends-ask a v
@@ -203,10 +224,12 @@ module _ (fetcher : Fetcher FrontValue) (IsPlain : List ℕ → Type 0)
       both-lines n lines (after_line line w) (fresh_line fetcher line v) later.1 (together-line line (lines_cost lines) w v later.0 both)
 
   -- both runs begin with the load
-  pub together-loaded : (page : LoadedPage) (k : ℕ) → CanLoadPage page → PageHasTexts page → k ≤ most_bytes → Together IsPlain k (loaded_world page) (loaded_world page)
+  pub together-loaded : (page : LoadedPage) (k : ℕ) → CanLoadPage page → PageHasTexts page → k ≤ most_bytes
+      → Together IsPlain k (loaded_world page) (loaded_world page)
   together-loaded page k can texts few = record {
     runs =
-        together-first replay IsNext IsNextTurn IsFit world_laws fetcher unstyled most_sheets most_fetches fetching IsPlain (first_value []) (run_start page)
+        together-first replay IsNext IsNextTurn IsFit world_laws fetcher unstyled most_sheets most_fetches fetching IsPlain
+        (first_value []) (run_start page)
         (fit-first page can texts);
     left = left-first page k few;
   }
@@ -224,7 +247,8 @@ module _ (fetcher : Fetcher FrontValue) (IsPlain : List ℕ → Type 0)
   -- ---- after a settle
 
   -- the frames that were sent are the same after a settle
-  pub settled-plain : (w : World RunState) → All IsPlain (frames_of (sent w.up)).whole → All IsPlain (frames_of (sent (settled run_step w).up)).whole
+  pub settled-plain : (w : World RunState) → All IsPlain (frames_of (sent w.up)).whole
+      → All IsPlain (frames_of (sent (settled run_step w).up)).whole
   settled-plain w all = subst (λ bytes. All IsPlain (frames_of bytes).whole) (sym (sent-passed (length w.up.flying) w.up)) all
 
   -- `kept`: a front end that has sent no fetch has kept the replies that came down
@@ -232,23 +256,28 @@ module _ (fetcher : Fetcher FrontValue) (IsPlain : List ℕ → Type 0)
       → front_in replay (first_value []) w ≡ Ok front → map told_of front.replies ≡ replies_in w.down.given)
       → RefreshedShows fetcher IsPlain
   refreshed-shows kept w v both =
-      let made : IsRefreshed replay IsNext IsNextTurn IsFit world_laws fetcher unstyled most_sheets most_fetches fetching (first_value []) w v (refreshes fetcher v) =
+      let made : IsRefreshed replay IsNext IsNextTurn IsFit world_laws fetcher unstyled most_sheets most_fetches fetching
+      (first_value []) w v (refreshes fetcher v) =
       refreshed-made replay IsNext IsNextTurn IsFit world_laws fetcher unstyled most_sheets most_fetches fetching (first_value []) w v
       both.runs.fits both.runs.fits_fresh both.runs.agrees (room-fetches v 0 both.left) in
       let v1 = refreshes fetcher v in
       let front = made.agrees.fresh in
       let fit : IsFit v1.spent front v1.state [] =
-      fit-rests replay IsNext IsNextTurn IsFit world_laws fetcher unstyled most_sheets most_fetches fetching (first_value []) v1 front made.fits made.rests made.agrees.fresh_is in
+      fit-rests replay IsNext IsNextTurn IsFit world_laws fetcher unstyled most_sheets most_fetches fetching
+      (first_value []) v1 front made.fits made.rests made.agrees.fresh_is in
       record {
         front = front;
         is_fold =
-            ap (λ bytes. folded take_frame (joined join (first_value []) (frames_of bytes).whole) (frames_of v1.down.given).whole) (sym (sent-all v1.up made.rests.up.flying))
+            ap (λ bytes. folded take_frame (joined join (first_value []) (frames_of bytes).whole) (frames_of v1.down.given).whole)
+            (sym (sent-all v1.up made.rests.up.flying))
             ∙ made.agrees.fresh_is;
         shows = subst (λ (s : RunState). Has front (view_of s.back)) (sym made.agrees.state) fit.has;
         fresh = made.none;
-        told = sym (ap (λ (u : Unstyled). map told_of u.replies) made.agrees.same) ∙ kept (settled run_step w) made.agrees.plain (settled-plain w both.runs.plain) made.agrees.plain_is;
+        told = sym (ap (λ (u : Unstyled). map told_of u.replies) made.agrees.same) ∙ kept (settled run_step w) made.agrees.plain
+            (settled-plain w both.runs.plain) made.agrees.plain_is;
         pauses = sym (ap (λ (u : Unstyled). u.pauses) made.agrees.same)
-            ∙ pauses-of (frames_of (sent (settled run_step w).up)).whole (frames_of (settled run_step w).down.given).whole made.agrees.plain made.agrees.plain_is;
+            ∙ pauses-of (frames_of (sent (settled run_step w).up)).whole
+            (frames_of (settled run_step w).down.given).whole made.agrees.plain made.agrees.plain_is;
         styles = fit.styles ∙ ap (λ (s : RunState). s.styles) (sym made.agrees.state);
         waits = sym fit.asks;
         whole = made.rests.down.held;

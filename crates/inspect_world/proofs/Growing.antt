@@ -3,7 +3,8 @@ use Rattle.std.specs.List.{All, list_all, flat_map}
 use Rattle.cdp_messages.specs.declared.down.PauseData.{PauseData}
 use Rattle.cdp_messages.specs.Moves.{shows, inserts, removes, counts, sets, drops, says, paused_nodes}
 use Rattle.cdp_messages.specs.Told.{seen_nodes, seen_branch}
-use Rattle.std.proofs.Common.{◌≡◌, Bool, true, false, cond, ℕ, ◌==◌, is_some, List, [], ◌∷◌, ◌++◌, map, Option, Some, None, refl, sym, ◌∙◌, ap, subst, append-nil, append_assoc, Result, Ok, Err}
+use Rattle.std.proofs.Common.{◌≡◌, Bool, true, false, cond, ℕ, ◌==◌, is_some, List, [], ◌∷◌, ◌++◌, map, Option, Some, None, refl, sym, ◌∙◌}
+use Rattle.std.proofs.Common.{ap, subst, append-nil, append_assoc, Result, Ok, Err}
 use Rattle.std.proofs.lemmas.List.{map-append}
 use Rattle.serde_json.specs.Data.{Data}
 use Rattle.node_tree.specs.Nodes.{Nodes, none, Branch, alone}
@@ -13,7 +14,8 @@ use Rattle.cdp_messages.specs.declared.down.ReplyBody.{ReplyBody}
 use Rattle.cdp_messages.specs.Effects.{effect_of}
 use Rattle.cdp_messages.specs.declared.effects.Effect.{Effect}
 use Rattle.cdp_messages.specs.declared.effects.Effect.TheVariants as effect
-use Rattle.cdp_messages.specs.Events.{News, set_children, document_updated, attribute_modified, attribute_removed, text_modified, count_updated, inserted, removed, paused, sheet_added, sheet_changed, sheet_removed}
+use Rattle.cdp_messages.specs.Events.{News, set_children, document_updated, attribute_modified, attribute_removed, text_modified}
+use Rattle.cdp_messages.specs.Events.{count_updated, inserted, removed, paused, sheet_added, sheet_changed, sheet_removed}
 use Rattle.cdp_messages.specs.Replies.{Message, reply, fault, event, down_of, result_of}
 use Rattle.cdp_messages.specs.Told as told
 use Rattle.front_mirror.specs.declared.replies.Ask.{Ask}
@@ -22,7 +24,9 @@ use Rattle.front_mirror.specs.declared.faults.FrontKind.{FrontKind}
 use Rattle.front_mirror.specs.declared.faults.FrontKind.TheVariants.{NotMessage, UnknownNode, IdTaken, UnknownSheet}
 use Rattle.front_mirror.specs.declared.sheets.KnownSheet.{KnownSheet}
 use Rattle.front_mirror.specs.Sheets.{told_sheet, has_sheet, marked_old, without_sheet}
-use Rattle.front_mirror.specs.Front.{FrontValue, first_value, take_frame, method_waiting, with_root, root_fault, matched_told, matched_in, with_matched, with_effect, with_body, with_reply, with_fault, with_tree, ToldChange, told_change, at_spot, change_fault, with_change, seen_pause, halted, is_shown, told_sheets, with_news, with_message}
+use Rattle.front_mirror.specs.Front.{FrontValue, first_value, take_frame, method_waiting, with_root, root_fault, matched_told, matched_in}
+use Rattle.front_mirror.specs.Front.{with_matched, with_effect, with_body, with_reply, with_fault, with_tree, ToldChange, told_change}
+use Rattle.front_mirror.specs.Front.{at_spot, change_fault, with_change, seen_pause, halted, is_shown, told_sheets, with_news, with_message}
 use Rattle.inspect_world.specs.Fold.{folded, joined, then}
 use Rattle.inspect_world.specs.Fits.{join, with_ask, ask_of_frame}
 use Rattle.inspect_world.specs.Links.{knows_styles}
@@ -38,7 +42,8 @@ refuses : {P : Type 0} (kind : FrontKind) (w : FrontValue) → ◌≡◌ {A = Re
 refuses kind w e = absurd cc
 
 -- no pause more
-grows-none : (v x w : FrontValue) (more : List MatchedReply) → x.pauses ≡ v.pauses → x.matched ≡ v.matched ++ more → ◌≡◌ {A = Result FrontValue FrontKind} (Ok x) (Ok w) → Grows v [] w
+grows-none : (v x w : FrontValue) (more : List MatchedReply) → x.pauses ≡ v.pauses → x.matched ≡ v.matched ++ more
+    → ◌≡◌ {A = Result FrontValue FrontKind} (Ok x) (Ok w) → Grows v [] w
 grows-none v x w more pauses matched e =
     let is : x ≡ w = cc e in
     record {
@@ -48,10 +53,12 @@ grows-none v x w more pauses matched e =
     }
 
 -- and no matched styles
-grows-same : (v x w : FrontValue) → x.pauses ≡ v.pauses → x.matched ≡ v.matched → ◌≡◌ {A = Result FrontValue FrontKind} (Ok x) (Ok w) → Grows v [] w
+grows-same : (v x w : FrontValue) → x.pauses ≡ v.pauses → x.matched ≡ v.matched → ◌≡◌ {A = Result FrontValue FrontKind} (Ok x) (Ok w)
+    → Grows v [] w
 grows-same v x w pauses matched e = grows-none v x w [] pauses (matched ∙ sym (append-nil v.matched)) e
 
-grows-root : (v : FrontValue) (id : ℕ) (frame : List ℕ) (more : List MatchedReply) (root : Branch told.Told) (o : Option FrontKind) (w : FrontValue)
+grows-root : (v : FrontValue) (id : ℕ) (frame : List ℕ) (more : List MatchedReply) (root : Branch told.Told) (o : Option FrontKind)
+    (w : FrontValue)
     → with_root (with_matched v more) id frame root o ≡ Ok w → Grows v [] w
 grows-root v id frame more root None w e = grows-none v _ w more refl refl e
 grows-root v id frame more root (Some kind) w e = refuses kind w e
@@ -64,15 +71,18 @@ grows-effect v id frame more effect.AllOff w e = grows-none v _ w more refl refl
 grows-effect v id frame more effect.SheetsOff w e = grows-none v _ w more refl refl e
 grows-effect v id frame more effect.NothingElse w e = grows-none v _ w more refl refl e
 
-grows-body : (v : FrontValue) (id : ℕ) (frame method : List ℕ) (o : Option ReplyBody) (w : FrontValue) → with_body v id frame method o ≡ Ok w → Grows v [] w
+grows-body : (v : FrontValue) (id : ℕ) (frame method : List ℕ) (o : Option ReplyBody) (w : FrontValue)
+    → with_body v id frame method o ≡ Ok w → Grows v [] w
 grows-body v id frame method None w e = refuses NotMessage w e
 grows-body v id frame method (Some body) w e = grows-effect v id frame (matched_told id body) (effect_of method body) w e
 
-grows-reply : (v : FrontValue) (id : ℕ) (frame : List ℕ) (result : Data) (o : Option (List ℕ)) (w : FrontValue) → with_reply v id frame result o ≡ Ok w → Grows v [] w
+grows-reply : (v : FrontValue) (id : ℕ) (frame : List ℕ) (result : Data) (o : Option (List ℕ)) (w : FrontValue)
+    → with_reply v id frame result o ≡ Ok w → Grows v [] w
 grows-reply v id frame result None w e = refuses NotMessage w e
 grows-reply v id frame result (Some method) w e = grows-body v id frame method (result_of method result) w e
 
-grows-fault : (v : FrontValue) (id : ℕ) (frame : List ℕ) (o : Option (List ℕ)) (w : FrontValue) → with_fault v id frame o ≡ Ok w → Grows v [] w
+grows-fault : (v : FrontValue) (id : ℕ) (frame : List ℕ) (o : Option (List ℕ)) (w : FrontValue) → with_fault v id frame o ≡ Ok w
+    → Grows v [] w
 grows-fault v id frame None w e = refuses NotMessage w e
 grows-fault v id frame (Some method) w e = grows-same v _ w refl refl e
 
@@ -91,7 +101,11 @@ grows-pause : (v : FrontValue) (why : PauseData) (shown : Bool) (w : FrontValue)
     → ◌≡◌ {A = Result FrontValue FrontKind} (cond shown (Ok (halted v why)) (Err UnknownNode)) (Ok w) → Grows v (why ∷ []) w
 grows-pause v why true w e =
     let is : halted v why ≡ w = cc e in
-    record { pauses = ap (λ (y : FrontValue). y.pauses) (sym is); more = []; matched = ap (λ (y : FrontValue). y.matched) (sym is) ∙ sym (append-nil v.matched) }
+    record {
+      pauses = ap (λ (y : FrontValue). y.pauses) (sym is);
+      more = [];
+      matched = ap (λ (y : FrontValue). y.matched) (sym is) ∙ sym (append-nil v.matched);
+    }
 grows-pause v why false w e = refuses UnknownNode w e
 
 grows-sheet : (v : FrontValue) (known : Bool) (sheets : List KnownSheet) (w : FrontValue)
@@ -118,7 +132,8 @@ grows-news v (sheet_changed number) w e = grows-sheet v (has_sheet number v.shee
 grows-news v (sheet_removed number) w e = grows-sheet v (has_sheet number v.sheets) (without_sheet number v.sheets) w e
 grows-news v (paused why) w e = grows-pause v why (list_all (is_shown v.tree) (paused_nodes why)) w e
 
-grows-message : (v : FrontValue) (frame : List ℕ) (o : Option Message) (w : FrontValue) → with_message v frame o ≡ Ok w → Grows v (pauses_of_message o) w
+grows-message : (v : FrontValue) (frame : List ℕ) (o : Option Message) (w : FrontValue) → with_message v frame o ≡ Ok w
+    → Grows v (pauses_of_message o) w
 grows-message v frame None w e = refuses NotMessage w e
 grows-message v frame (Some (event n)) w e = grows-news v n w e
 grows-message v frame (Some (reply id result)) w e = grows-reply v id frame result (method_waiting id v.asks) w e
@@ -129,7 +144,8 @@ pub grows-frame : (v w : FrontValue) (frame : List ℕ) → take_frame v frame �
 grows-frame v w frame e = grows-message v frame (down_of frame) w e
 
 -- all of some frames
-pub grows-folded : (frames : List (List ℕ)) (v w : FrontValue) → folded take_frame v frames ≡ Ok w → Grows v (flat_map pauses_in_frame frames) w
+pub grows-folded : (frames : List (List ℕ)) (v w : FrontValue) → folded take_frame v frames ≡ Ok w
+    → Grows v (flat_map pauses_in_frame frames) w
 grows-folded [] v w e = grows-same v v w refl refl e
 grows-folded (frame ∷ frames) v w e =
     (elim (take_frame v frame) as (λ (r : Result FrontValue FrontKind). take_frame v frame ≡ r
@@ -163,7 +179,8 @@ pub pauses-of : (sent frames : List (List ℕ)) (front : FrontValue) → folded 
     → front.pauses ≡ map seen_pause (flat_map pauses_in_frame frames)
 pauses-of sent frames front e =
     let start = joined join (first_value []) sent in
-    (grows-folded frames start front e).pauses ∙ ap (λ ps. ps ++ map seen_pause (flat_map pauses_in_frame frames)) (joined-pauses (first_value []) sent)
+    (grows-folded frames start front e).pauses ∙ ap (λ ps. ps ++ map seen_pause (flat_map pauses_in_frame frames))
+    (joined-pauses (first_value []) sent)
 
 -- ---- matched styles that came are there for good
 
@@ -171,7 +188,8 @@ in-more : (ask : ℕ) (rs more : List MatchedReply) → is_some (matched_in ask 
 in-more ask [] more e = absurd cc
 in-more ask (r ∷ rs) more e = by (r.ask == ask) (in-more ask rs more) e where
   by : (here : Bool) → (is_some (matched_in ask rs) ≡ true → is_some (matched_in ask (rs ++ more)) ≡ true)
-      → is_some (cond here (Some r.matched) (matched_in ask rs)) ≡ true → is_some (cond here (Some r.matched) (matched_in ask (rs ++ more))) ≡ true
+      → is_some (cond here (Some r.matched) (matched_in ask rs)) ≡ true
+      → is_some (cond here (Some r.matched) (matched_in ask (rs ++ more))) ≡ true
   by true later e = refl
   by false later e = later e
 

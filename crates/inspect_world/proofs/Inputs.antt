@@ -1,5 +1,6 @@
 -- What the lines of an input are that is carried out: a load that a page may hold, and then lines that may come after it.
-use Rattle.std.proofs.Common.{◌≡◌, ◌⊎◌, inl, inr, ℕ, suc, ◌+◌, ◌≤◌, cond, List, [], ◌∷◌, length, Bool, true, false, bytes_eq, codes, Option, Some, None, option_map, option_and_then, if◌then◌else◌, refl, sym, ◌∙◌, ap, subst, arith}
+use Rattle.std.proofs.Common.{◌≡◌, ◌⊎◌, inl, inr, ℕ, suc, ◌+◌, ◌≤◌, cond, List, [], ◌∷◌, length, Bool, true, false, bytes_eq, codes, Option}
+use Rattle.std.proofs.Common.{Some, None, option_map, option_and_then, if◌then◌else◌, refl, sym, ◌∙◌, ap, subst, arith}
 use Rattle.serde_json.specs.Data.{Data, null, boolean, number, string, array, object, Members, no_members, member, depth}
 use Rattle.serde_json.specs.Find.{as_str}
 use Rattle.serde_json.specs.Read.{read, max_depth}
@@ -22,7 +23,8 @@ use Rattle.sheet_reader.specs.Positions.{is_line_feed}
 use Rattle.replay_script.specs.Lines.{lines_of}
 use Rattle.replay_script.specs.Kinds.{line_kind_name, all_line_kinds, sole_member, sole, styles_in, kind_said}
 use Rattle.replay_script.specs.Forms as forms
-use Rattle.replay_script.specs.Forms.{LineForm, load, ask, up, down, settle, show_front, show_page, show_sheets, show_replies, show_pauses, show_styles, ask_in, show_from, form_by, form_of, line_form}
+use Rattle.replay_script.specs.Forms.{LineForm, load, ask, up, down, settle, show_front, show_page, show_sheets, show_replies, show_pauses}
+use Rattle.replay_script.specs.Forms.{show_styles, ask_in, show_from, form_by, form_of, line_form}
 use Rattle.std.specs.Option.{option_map_or}
 use Rattle.replay_script.specs.Faults.{is_no_frame, fault_of_data, line_fault}
 use Rattle.replay_script.specs.Script.{script_forms, good_lines}
@@ -65,7 +67,8 @@ within-sole (object ms) p e = within-sole_member ms p e
 
 -- what a line says stands under its one property, but for a show of styles
 within-said : (styles : Option Data) (o : Option (List ℕ × Data)) (d : Data) (k : LineKind) (v : Data) → sole d ≡ o
-    → first_of (option_map (λ asked. (kind.Styles, asked)) styles) (option_and_then kind_said o) ≡ Some (k, v) → (k ≡ kind.Styles) ⊎ Within v d
+    → first_of (option_map (λ asked. (kind.Styles, asked)) styles) (option_and_then kind_said o) ≡ Some (k, v)
+    → (k ≡ kind.Styles) ⊎ Within v d
 within-said (Some asked) o d k v is e =
     let same : ◌≡◌ {A = LineKind × Data} (kind.Styles, asked) (k, v) = cc e in inl (sym (ap (λ (t : LineKind × Data). t.0) same))
 within-said None o d k v is e =
@@ -123,7 +126,8 @@ later_by kind.Down v form clear read is = let p = map_some down (as_whole v) for
 later_by kind.Settle v form clear read is = let p = map_some (λ _. settle) (as_true v) form is in subst IsLater p.2 tt
 later_by kind.Show v form clear read is =
     let p = and_then_some show_from (as_str v) form is in
-    later_show (bytes_eq p.0 (codes "front")) (bytes_eq p.0 (codes "page")) (bytes_eq p.0 (codes "sheets")) (bytes_eq p.0 (codes "replies")) (bytes_eq p.0 (codes "pauses")) form p.2
+    later_show (bytes_eq p.0 (codes "front")) (bytes_eq p.0 (codes "page")) (bytes_eq p.0 (codes "sheets"))
+    (bytes_eq p.0 (codes "replies")) (bytes_eq p.0 (codes "pauses")) form p.2
 later_by kind.Close v form clear read is = absurd cc
 later_by kind.Styles v form clear read is = later_styles v form is
 
@@ -138,20 +142,31 @@ line-read line = at (is_utf8 line) (read line) refl refl where
   at : (b : Bool) (o : Option Data) → is_utf8 line ≡ b → read line ≡ o → IfSome IsRead (cond b o None)
   at false o is e = tt
   at true None is e = tt
-  at true (Some d) is e = record { plain = read_plain line d e; texts = read_utf8 line d (IsUtf8-from_is_utf8 line is) e; levels = depth-read line d e }
+  at true (Some d) is e = record {
+    plain = read_plain line d e;
+    texts = read_utf8 line d (IsUtf8-from_is_utf8 line is) e;
+    levels = depth-read line d e;
+  }
 
 later_data : (nth : ℕ) (d : Data) (form : LineForm) → IsRead d → fault_of_data nth d ≡ None → form_of d ≡ Some form → IsLater form
 later_data nth d form read e is =
     let good = line_good nth d e in
-    let by : form_by good.kind good.value ≡ Some form = sym (ap (option_and_then (λ (s : LineKind × Data). form_by s.0 s.1)) good.is) ∙ is in
-    by_kind good.kind good.value (is_clear good.kind good.value good.clear) good.whole by (within-said (styles_in d) (sole d) d good.kind good.value refl good.is)
+    let by : form_by good.kind good.value
+    ≡ Some form = sym (ap (option_and_then (λ (s : LineKind × Data). form_by s.0 s.1)) good.is) ∙ is in
+    by_kind good.kind good.value (is_clear good.kind good.value good.clear) good.whole by
+    (within-said (styles_in d) (sole d) d good.kind good.value refl good.is)
   where
-    by_kind : (k : LineKind) (v : Data) → IsClear k v → has_float d ≡ false → form_by k v ≡ Some form → (k ≡ kind.Styles) ⊎ Within v d → IsLater form
+    by_kind : (k : LineKind) (v : Data) → IsClear k v → has_float d ≡ false → form_by k v ≡ Some form → (k ≡ kind.Styles) ⊎ Within v d
+        → IsLater form
     by_kind k v clear whole by (inl styles) = later_styles v form (sym (ap (λ at. form_by at v) styles) ∙ by)
     by_kind k v clear whole by (inr within) =
         let levels : depth d ≤ max_depth = read.levels in
         let deep : suc (depth v) ≤ depth d = within.deep in
-        later_by k v form clear (record { plain = within.plain (read.plain whole); texts = within.texts read.texts; levels = omega (arith, levels, deep) }) by
+        later_by k v form clear (record {
+          plain = within.plain (read.plain whole);
+          texts = within.texts read.texts;
+          levels = omega (arith, levels, deep);
+        }) by
 
 -- a line that is not refused may be carried out
 pub later_line : (nth : ℕ) (line : List ℕ) (form : LineForm) → line_fault nth line ≡ None → line_form line ≡ Some form → IsLater form
@@ -166,8 +181,12 @@ pub record Later (forms : List LineForm) (most : ℕ) : Type 0 where
   pub later : AreLater forms
   pub few : lines_cost forms ≤ most
 
-later_cons : (form : LineForm) (forms : List LineForm) (line most : ℕ) → IsLater form → line_cost form ≤ line → Later forms most → Later (form ∷ forms) (most + line)
-later_cons form forms line most is cost rest = record { later = (is, rest.later); few = let h : lines_cost forms ≤ most = rest.few in omega (arith, h, cost) }
+later_cons : (form : LineForm) (forms : List LineForm) (line most : ℕ) → IsLater form → line_cost form ≤ line → Later forms most
+    → Later (form ∷ forms) (most + line)
+later_cons form forms line most is cost rest = record {
+  later = (is, rest.later);
+  few = let h : lines_cost forms ≤ most = rest.few in omega (arith, h, cost);
+}
 
 later_lines : (nth : ℕ) (lines : List (List ℕ)) → Later (good_lines nth lines) (line_bytes lines)
 later_lines nth [] = record { later = tt; few = omega arith }
@@ -180,7 +199,8 @@ later_lines nth (line ∷ more) =
           (later_line nth line form.0 e form.1) (line-long line form.0 form.1)
           (later_lines (nth + 1) more))
       | Some fault ↦ λ e.
-          subst (λ forms. Later forms (line_bytes more + length line)) (sym (good_lines-bad nth line more fault e)) (record { later = tt; few = omega arith })
+          subst (λ forms. Later forms (line_bytes more + length line)) (sym (good_lines-bad nth line more fault e))
+          (record { later = tt; few = omega arith })
     ]) refl
 
 -- a script whose first line is a load
@@ -189,7 +209,8 @@ pub record Script (page : LoadedPage) (forms : List LineForm) (most : ℕ) : Typ
   pub texts : PageHasTexts page
   pub rest : Later forms most
 
-script_of : (lines : List (List ℕ)) (page : LoadedPage) (forms : List LineForm) → good_lines 1 lines ≡ load page ∷ forms → Script page forms (line_bytes lines)
+script_of : (lines : List (List ℕ)) (page : LoadedPage) (forms : List LineForm) → good_lines 1 lines ≡ load page ∷ forms
+    → Script page forms (line_bytes lines)
 script_of [] page forms is = let no : ◌≡◌ {A = List LineForm} [] (load page ∷ forms) = is in absurd cc
 script_of (line ∷ more) page forms is =
     (elim (line_fault 1 line) as (λ f. line_fault 1 line ≡ f → Script page forms (line_bytes more + length line)) [
@@ -216,7 +237,8 @@ length-onto_first : (b : ℕ) (lines : List (List ℕ)) (n : ℕ) → length lin
 length-onto_first b [] n h = omega arith
 length-onto_first b (line ∷ lines) n h = omega arith
 
-length-cut : (cuts : Bool) (b : ℕ) (lines : List (List ℕ)) (n : ℕ) → length lines ≤ n → length (if cuts then [] ∷ lines else onto_first b lines) ≤ suc n
+length-cut : (cuts : Bool) (b : ℕ) (lines : List (List ℕ)) (n : ℕ) → length lines ≤ n
+    → length (if cuts then [] ∷ lines else onto_first b lines) ≤ suc n
 length-cut true b lines n h = omega arith
 length-cut false b lines n h = length-onto_first b lines n h
 
@@ -229,7 +251,8 @@ bytes-onto_first : (b : ℕ) (lines : List (List ℕ)) (n : ℕ) → line_bytes 
 bytes-onto_first b [] n h = omega arith
 bytes-onto_first b (line ∷ lines) n h = omega (arith, h)
 
-bytes-cut : (cuts : Bool) (b : ℕ) (lines : List (List ℕ)) (n : ℕ) → line_bytes lines ≤ n → line_bytes (if cuts then [] ∷ lines else onto_first b lines) ≤ suc n
+bytes-cut : (cuts : Bool) (b : ℕ) (lines : List (List ℕ)) (n : ℕ) → line_bytes lines ≤ n
+    → line_bytes (if cuts then [] ∷ lines else onto_first b lines) ≤ suc n
 bytes-cut true b lines n h = omega (arith, h)
 bytes-cut false b lines n h = bytes-onto_first b lines n h
 
@@ -238,7 +261,8 @@ bytes-lines_of [] = omega arith
 bytes-lines_of (b ∷ more) = bytes-cut (is_line_feed b) b (lines_of more) (length more) (bytes-lines_of more)
 
 -- what the lines of an input are that is carried out
-pub input-script : (input : List ℕ) (page : LoadedPage) (lines : List LineForm) → script_forms input ≡ load page ∷ lines → Script page lines (length input)
+pub input-script : (input : List ℕ) (page : LoadedPage) (lines : List LineForm) → script_forms input ≡ load page ∷ lines
+    → Script page lines (length input)
 input-script input page lines is =
     let script : Script page lines (line_bytes (lines_of input)) = script_of (lines_of input) page lines is in
     let a : lines_cost lines ≤ line_bytes (lines_of input) = script.rest.few in

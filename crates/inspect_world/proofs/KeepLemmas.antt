@@ -11,14 +11,16 @@ use Rattle.inspect_world.specs.Keeping.{all_told_by, KeepLaws}
 
 module _ {F E R : Type 0} (take : F → List ℕ → Result F E) (join : F → List ℕ → F) (kept : F → List R) (tells : List ℕ → List R)
     (WaitsPlainly : F → Type 0) (IsPlain : List ℕ → Type 0) (keeps : KeepLaws take join kept tells WaitsPlainly IsPlain) where
-  kept-joined : (asks : List (List ℕ)) (v : F) → All IsPlain asks → WaitsPlainly v → WaitsPlainly (joined join v asks) × (kept (joined join v asks) ≡ kept v)
+  kept-joined : (asks : List (List ℕ)) (v : F) → All IsPlain asks → WaitsPlainly v
+      → WaitsPlainly (joined join v asks) × (kept (joined join v asks) ≡ kept v)
   kept-joined [] v all waits = (waits, refl)
   kept-joined (ask ∷ asks) v all waits =
       let one = keeps.joins v ask waits (All-head IsPlain ask asks all) in
       let rest = kept-joined asks (join v ask) (All-tail IsPlain ask asks all) one.0 in
       (rest.0, rest.1 ∙ one.1)
 
-  kept-folded : (frames : List (List ℕ)) (v w : F) → WaitsPlainly v → folded take v frames ≡ Ok w → kept w ≡ kept v ++ all_told_by tells frames
+  kept-folded : (frames : List (List ℕ)) (v w : F) → WaitsPlainly v → folded take v frames ≡ Ok w
+      → kept w ≡ kept v ++ all_told_by tells frames
   kept-folded [] v w waits e = sym (ap kept (ok-same v w e)) ∙ sym (append-nil (kept v))
     where
       ok-same : (a b : F) → ◌≡◌ {A = Result F E} (Ok a) (Ok b) → a ≡ b
@@ -42,9 +44,11 @@ module _ {F E R : Type 0} (take : F → List ℕ → Result F E) (join : F → L
       kept-folded frames (joined join start asks) front joins.0 is ∙ ap (λ ts. ts ++ all_told_by tells frames) (joins.1 ∙ empty)
 
 -- what the front end of the run with fetches keeps is what the frames tell that came down in the run without
-pub replies-agree : {S F E X A R : Type 0} (machine : Machine S F E X) (start : F) (seen : F → A) (shown : A → List R) (tells : List ℕ → List R)
+pub replies-agree : {S F E X A R : Type 0} (machine : Machine S F E X) (start : F) (seen : F → A) (shown : A → List R)
+    (tells : List ℕ → List R)
     (WaitsPlainly : F → Type 0) (IsPlain : List ℕ → Type 0) (w v : World S)
-    → KeepLaws machine.take machine.join (λ front. shown (seen front)) tells WaitsPlainly IsPlain → WaitsPlainly start → shown (seen start) ≡ []
+    → KeepLaws machine.take machine.join (λ front. shown (seen front)) tells WaitsPlainly IsPlain → WaitsPlainly start
+    → shown (seen start) ≡ []
     → All IsPlain (frames_of (sent w.up)).whole → (agrees : RunsAgree machine start seen w v)
     → shown (seen agrees.fresh) ≡ all_told_by tells (frames_of w.down.given).whole
 replies-agree machine start seen shown tells WaitsPlainly IsPlain w v keeps waits empty all agrees =

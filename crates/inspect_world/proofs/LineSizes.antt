@@ -1,5 +1,6 @@
 -- A line that is carried out is as long as what it says costs.
-use Rattle.std.proofs.Common.{◌≡◌, ℕ, ◌+◌, ◌≤◌, Bool, true, false, cond, List, length, bytes_eq, codes, Option, Some, None, option_map, option_and_then, if◌then◌else◌, Result, Ok, Err, refl, ap, subst, arith}
+use Rattle.std.proofs.Common.{◌≡◌, ℕ, ◌+◌, ◌≤◌, Bool, true, false, cond, List, length, bytes_eq, codes, Option, Some, None, option_map}
+use Rattle.std.proofs.Common.{option_and_then, if◌then◌else◌, Result, Ok, Err, refl, ap, subst, arith}
 use Rattle.std.specs.Str.{is_utf8}
 use Rattle.serde_json.specs.Data.{Data, null, boolean, number, string, array, object, no_members, member}
 use Rattle.serde_json.specs.Find.{as_str}
@@ -16,7 +17,9 @@ use Rattle.replay_script.specs.declared.line_kinds.LineKind.{LineKind}
 use Rattle.replay_script.specs.declared.line_kinds.LineKind.TheVariants as kind
 use Rattle.replay_script.specs.Kinds.{line_kind_name, all_line_kinds, sole, styles_in, kind_said}
 use Rattle.replay_script.specs.Forms as forms
-use Rattle.replay_script.specs.Forms.{AskForm, AskParts, LineForm, load, ask, up, down, settle, show_front, show_page, show_sheets, show_replies, show_pauses, show_styles, ask_kind, ask_from, ask_in, show_from, form_by, form_of, line_form}
+use Rattle.replay_script.specs.Forms.{AskForm, AskParts, LineForm, load, ask, up, down, settle, show_front, show_page, show_sheets}
+use Rattle.replay_script.specs.Forms.{show_replies, show_pauses, show_styles, ask_kind, ask_from, ask_in, show_from, form_by, form_of}
+use Rattle.replay_script.specs.Forms.{line_form}
 use Rattle.back_end.proofs.FrameSizes.{data_size, read-long}
 use Rattle.back_end.proofs.EditSizes.{params_size, edits-params}
 use Rattle.inspect_world.specs.Costs.{edits_commanded, ask_edits, line_cost}
@@ -25,7 +28,8 @@ use Rattle.inspect_world.proofs.SendForms.{ask_lawful, spelled}
 -- ---- an ask
 
 -- an ask comes to no more edits than its parameters are large
-edits-small : (a : AskForm) (r : Result Command Why) → command_of false a.method a.params a.session ≡ r → edits_commanded r ≤ params_size a.params
+edits-small : (a : AskForm) (r : Result Command Why) → command_of false a.method a.params a.session ≡ r
+    → edits_commanded r ≤ params_size a.params
 edits-small a (Ok c) is = edits-params false a.method a.params a.session c is
 edits-small a (Err why) is = omega arith
 
@@ -41,14 +45,16 @@ spelled-size m (Some p) (Some s) = omega arith
 
 parts-size : (p : AskParts) (a : AskForm) → ask_from p ≡ a → 2 + params_size a.params ≤ data_size (ask_kind.spell p)
 parts-size (m, (params, (session, end))) a is =
-    subst (λ (o : Option Data). 2 + params_size o ≤ data_size (spelled m params session)) (ap (λ (x : AskForm). x.params) is) (spelled-size m params session)
+    subst (λ (o : Option Data). 2 + params_size o ≤ data_size (spelled m params session)) (ap (λ (x : AskForm). x.params) is)
+    (spelled-size m params session)
 
 -- the value that spells an ask
 ask-size : (d : Data) (a : AskForm) → ask_in d ≡ Some a → 2 + ask_edits a ≤ data_size d
 ask-size d a is =
     let parts = map_some ask_from (ask_kind.reads d) a is in
     let same : ask_kind.spell parts.0 ≡ d = (ask_lawful.takes d parts.0 parts.1).0 in
-    let size : 2 + params_size a.params ≤ data_size d = subst (λ e. 2 + params_size a.params ≤ data_size e) same (parts-size parts.0 a parts.2) in
+    let size : 2 + params_size a.params
+    ≤ data_size d = subst (λ e. 2 + params_size a.params ≤ data_size e) same (parts-size parts.0 a parts.2) in
     let small = ask-small a in
     omega (arith, size, small)
 
@@ -63,7 +69,8 @@ sole-size (string s) p e = absurd cc
 sole-size (array ds) p e = absurd cc
 sole-size (object no_members) p e = absurd cc
 sole-size (object (member k v no_members)) p e =
-    let same : (k, v) ≡ p = cc e in subst (λ (q : List ℕ × Data). 4 + data_size q.1 ≤ data_size (object (member k v no_members))) same (omega arith)
+    let same : (k, v) ≡ p = cc e in subst (λ (q : List ℕ × Data). 4 + data_size q.1 ≤ data_size (object (member k v no_members))) same
+    (omega arith)
 sole-size (object (member k d (member l e ms))) p h = absurd cc
 
 -- a form that costs the least
@@ -75,28 +82,38 @@ show-cost : (b c s d p : Bool) (form : LineForm) (n : ℕ) → 4 ≤ n
 show-cost true c s d p form n most is = let same : show_front ≡ form = cc is in least form show_front n (omega arith) most same
 show-cost false true s d p form n most is = let same : show_page ≡ form = cc is in least form show_page n (omega arith) most same
 show-cost false false true d p form n most is = let same : show_sheets ≡ form = cc is in least form show_sheets n (omega arith) most same
-show-cost false false false true p form n most is = let same : show_replies ≡ form = cc is in least form show_replies n (omega arith) most same
-show-cost false false false false true form n most is = let same : show_pauses ≡ form = cc is in least form show_pauses n (omega arith) most same
+show-cost false false false true p form n most is = let same : show_replies
+    ≡ form = cc is in least form show_replies n (omega arith) most same
+show-cost false false false false true form n most is = let same : show_pauses
+    ≡ form = cc is in least form show_pauses n (omega arith) most same
 show-cost false false false false false form n most is = absurd cc
 
 -- what a line costs, by its kind and its value
 kind-cost : (k : LineKind) (v : Data) (form : LineForm) (n : ℕ) → 4 + data_size v ≤ n → form_by k v ≡ Some form → line_cost form ≤ n
-kind-cost kind.Load v form n size is = let p = map_some load (page_in v) form is in least form (load p.0) n (omega arith) (omega (arith, size)) p.2
-kind-cost kind.Act v form n size is = let p = map_some forms.act (act_in v) form is in least form (forms.act p.0) n (omega arith) (omega (arith, size)) p.2
+kind-cost kind.Load v form n size is = let p = map_some load (page_in v) form is in least form (load p.0) n (omega arith)
+    (omega (arith, size)) p.2
+kind-cost kind.Act v form n size is = let p = map_some forms.act (act_in v) form is in least form (forms.act p.0) n (omega arith)
+    (omega (arith, size)) p.2
 kind-cost kind.Ask v form n size is =
     let p = map_some ask (ask_in v) form is in
     let cost : 2 + ask_edits p.0 ≤ data_size v = ask-size v p.0 p.1 in
     let all : line_cost (ask p.0) ≤ n = omega (arith, cost, size) in
     subst (λ f. line_cost f ≤ n) p.2 all
-kind-cost kind.Raw v form n size is = let p = map_some forms.raw (as_str v) form is in least form (forms.raw p.0) n (omega arith) (omega (arith, size)) p.2
-kind-cost kind.Up v form n size is = let p = map_some up (as_whole v) form is in least form (up p.0) n (omega arith) (omega (arith, size)) p.2
-kind-cost kind.Down v form n size is = let p = map_some down (as_whole v) form is in least form (down p.0) n (omega arith) (omega (arith, size)) p.2
-kind-cost kind.Settle v form n size is = let p = map_some (λ _. settle) (as_true v) form is in least form settle n (omega arith) (omega (arith, size)) p.2
+kind-cost kind.Raw v form n size is = let p = map_some forms.raw (as_str v) form is in least form (forms.raw p.0) n (omega arith)
+    (omega (arith, size)) p.2
+kind-cost kind.Up v form n size is = let p = map_some up (as_whole v) form is in least form (up p.0) n (omega arith)
+    (omega (arith, size)) p.2
+kind-cost kind.Down v form n size is = let p = map_some down (as_whole v) form is in least form (down p.0) n (omega arith)
+    (omega (arith, size)) p.2
+kind-cost kind.Settle v form n size is = let p = map_some (λ _. settle) (as_true v) form is in least form settle n (omega arith)
+    (omega (arith, size)) p.2
 kind-cost kind.Show v form n size is =
     let p = and_then_some show_from (as_str v) form is in
-    show-cost (bytes_eq p.0 (codes "front")) (bytes_eq p.0 (codes "page")) (bytes_eq p.0 (codes "sheets")) (bytes_eq p.0 (codes "replies")) (bytes_eq p.0 (codes "pauses")) form n (omega (arith, size)) p.2
+    show-cost (bytes_eq p.0 (codes "front")) (bytes_eq p.0 (codes "page")) (bytes_eq p.0 (codes "sheets")) (bytes_eq p.0 (codes "replies"))
+    (bytes_eq p.0 (codes "pauses")) form n (omega (arith, size)) p.2
 kind-cost kind.Close v form n size is = absurd cc
-kind-cost kind.Styles v form n size is = let p = map_some show_styles (as_whole v) form is in least form (show_styles p.0) n (omega arith) (omega (arith, size)) p.2
+kind-cost kind.Styles v form n size is = let p = map_some show_styles (as_whole v) form is in least form (show_styles p.0) n (omega arith)
+    (omega (arith, size)) p.2
 
 -- a show of styles has properties
 styles-size : (d asked : Data) → styles_in d ≡ Some asked → 4 ≤ data_size d
@@ -108,7 +125,9 @@ styles-size (array ds) asked e = absurd cc
 styles-size (object no_members) asked e = absurd cc
 styles-size (object (member k v ms)) asked e = omega arith
 
-sole-cost : (d : Data) (form : LineForm) → option_and_then (λ (s : LineKind × Data). form_by s.0 s.1) (option_and_then kind_said (sole d)) ≡ Some form → line_cost form ≤ data_size d
+sole-cost : (d : Data) (form : LineForm)
+    → option_and_then (λ (s : LineKind × Data). form_by s.0 s.1) (option_and_then kind_said (sole d)) ≡ Some form
+    → line_cost form ≤ data_size d
 sole-cost d form is =
     let p = and_then_some (λ (s : LineKind × Data). form_by s.0 s.1) (option_and_then kind_said (sole d)) form is in
     let q = and_then_some kind_said (sole d) p.0 p.1 in
@@ -120,7 +139,9 @@ sole-cost d form is =
 form-cost : (d : Data) (form : LineForm) → form_of d ≡ Some form → line_cost form ≤ data_size d
 form-cost d form is = by (styles_in d) refl is where
   by : (styles : Option Data) → styles_in d ≡ styles
-      → option_and_then (λ (s : LineKind × Data). form_by s.0 s.1) (first_of (option_map (λ asked. (kind.Styles, asked)) styles) (option_and_then kind_said (sole d))) ≡ Some form → line_cost form ≤ data_size d
+      → option_and_then (λ (s : LineKind × Data). form_by s.0 s.1)
+      (first_of (option_map (λ asked. (kind.Styles, asked)) styles) (option_and_then kind_said (sole d))) ≡ Some form
+      → line_cost form ≤ data_size d
   by None e is = sole-cost d form is
   by (Some asked) e is =
       let p = map_some show_styles (as_whole asked) form is in

@@ -1,5 +1,6 @@
 -- The ends follow every link, whatever bytes it gives.
-use Rattle.std.proofs.Common.{Option, ◌≡◌, is_some, refl, true, false, ℕ, ◌+◌, ◌*◌, ◌^◌, ◌<◌, ◌≤◌, List, [], ◌∷◌, ◌++◌, length, map, drop, Some, None, sym, ◌∙◌, ap, subst, append_assoc, append-nil, length-append, Result, Ok, Err, arith}
+use Rattle.std.proofs.Common.{Option, ◌≡◌, is_some, refl, true, false, ℕ, ◌+◌, ◌*◌, ◌^◌, ◌<◌, ◌≤◌, List, [], ◌∷◌, ◌++◌, length, map, drop}
+use Rattle.std.proofs.Common.{Some, None, sym, ◌∙◌, ap, subst, append_assoc, append-nil, length-append, Result, Ok, Err, arith}
 use Rattle.std.specs.List.{flat_map, All}
 use Rattle.std.proofs.lemmas.List.Elements.{All-nil, All-weaker}
 use Rattle.std.specs.Option.{option_to_list}
@@ -16,7 +17,8 @@ use Rattle.cdp_messages.specs.Moves.{failed}
 use Rattle.front_mirror.specs.declared.replies.Ask.{Ask}
 use Rattle.front_mirror.specs.declared.faults.FrontFault.{FrontFault}
 use Rattle.front_mirror.specs.Front as front
-use Rattle.front_mirror.specs.Front.{FrontValue, FrontState, Folded, first_value, first_state, take_frame, fold, fold_frames, outcome, fetch_ask, after_ask, after_fetch, after_take}
+use Rattle.front_mirror.specs.Front.{FrontValue, FrontState, Folded, first_value, first_state, take_frame, fold, fold_frames, outcome}
+use Rattle.front_mirror.specs.Front.{fetch_ask, after_ask, after_fetch, after_take}
 use Rattle.front_mirror.specs.Laws as front_laws
 use Rattle.front_mirror.specs.Laws.{KnowsSheets, InTurn, rests, meets}
 use Rattle.front_mirror.specs.declared.sheets.KnownSheet.{KnownSheet}
@@ -31,7 +33,9 @@ use Rattle.page_forms.specs.Sheets.{max_sheets}
 use Rattle.back_end.specs.Seats.{StandsFor, HasRoomLeft}
 use Rattle.inspect_world.specs.Fits.{ask_of_frame, ask_with, asks_among, most_bytes}
 use Rattle.inspect_world.specs.Held.{Ends, good_front}
-use Rattle.inspect_world.specs.Links.{fold_of, knows_styles, Happening, came, made, happening_step, happened, frames_among, made_among, commands_in, commands_among, bytes_among, Drew, Started, run_started, one_line_more, PipeGoesOn, Follows}
+use Rattle.inspect_world.specs.Links.{fold_of, knows_styles, Happening, came, made, happening_step, happened, frames_among, made_among}
+use Rattle.inspect_world.specs.Links.{commands_in, commands_among, bytes_among, Drew, Started, run_started, one_line_more, PipeGoesOn}
+use Rattle.inspect_world.specs.Links.{Follows}
 use Rattle.replay_script.specs.Sound.{CanSend}
 use Rattle.inspect_world.specs.FreshRuns.{front_fetcher}
 use Rattle.inspect_world.proofs.FetchForms.{fetch-text, sent-fetch}
@@ -49,7 +53,9 @@ use Rattle.inspect_world.proofs.Growing.{grows-folded, styles-stay}
 use Rattle.inspect_world.proofs.StepsTaken.{folded-fold, course-quiet, Taken, taken, tells-all, meets-one, by-refusal, ids-kept}
 use Rattle.inspect_world.proofs.AskLemmas.{asks_among-append}
 use Rattle.inspect_world.proofs.Worlds.{whole-after, rest-after}
-use Rattle.inspect_world.proofs.CountLemmas.{events-counted, frames-few, frames-within, bytes-append, commands-long, commands-last, made-last, command-ids, command-trees, command-edits, count-bytes, more-bytes, no-more, made-ids, more_serials, more_numbers, is-full, ids-left, serials-left, numbers-left, few-edits}
+use Rattle.inspect_world.proofs.CountLemmas.{events-counted, frames-few, frames-within, bytes-append, commands-long, commands-last}
+use Rattle.inspect_world.proofs.CountLemmas.{made-last, command-ids, command-trees, command-edits, count-bytes, more-bytes, no-more}
+use Rattle.inspect_world.proofs.CountLemmas.{made-ids, more_serials, more_numbers, is-full, ids-left, serials-left, numbers-left, few-edits}
 use Rattle.inspect_world.proofs.TurnLemmas.{TurnKeeps, turn-keeps}
 use Rattle.inspect_world.proofs.SeatRoom.{has-room-left, seated-state}
 use Rattle.back_end.proofs.EditSizes.{edits-few}
@@ -61,7 +67,9 @@ pub record Sends (state : State) (h : Happening) : Type 0 where
   pub texts : List (List ℕ)
   pub frames_are : frames_of (happening_step h state).sent ≡ record { whole = texts; rest = [] }
   pub ids_are : map (λ (t : ShownReply). t.id) (replies_among texts) ≡ map reply_id (frames_among (h ∷ []))
-  pub drew : (c m b : ℕ) → Drew state c m b → Drew (happening_step h state).state (c + commands_among (h ∷ [])) (m + made_among (h ∷ [])) (b + bytes_among (frames_among (h ∷ [])))
+  pub drew : (c m b : ℕ) → Drew state c m b
+      → Drew (happening_step h state).state (c + commands_among (h ∷ [])) (m + made_among (h ∷ []))
+      (b + bytes_among (frames_among (h ∷ [])))
   pub serials : (happening_step h state).state.side.page.next ≤ state.side.page.next + (max_nodes + 1)
   pub numbers : (happening_step h state).state.side.next_sheet ≤ state.side.next_sheet + max_sheets
 
@@ -83,13 +91,17 @@ same-drew state {c} {c1} {m} {m1} {b} {b1} p q r drew =
     subst (λ x. Drew state x m1 b1) (sym p) (subst (λ y. Drew state c y b1) (sym q) (subst (λ z. Drew state c m z) (sym r) drew))
 
 -- what the moves of a step send
-sends-moves : (state : State) (h : Happening) (done : Step) (asks rest : List Ask) → StepsWell state done → happening_step h state ≡ as_bytes done
+sends-moves : (state : State) (h : Happening) (done : Step) (asks rest : List Ask) → StepsWell state done
+    → happening_step h state ≡ as_bytes done
     → ArePlain asks → InTurn done.moves asks rest → flat_map reply_ids done.moves ≡ map reply_id (frames_among (h ∷ []))
-    → ((c m b : ℕ) → Drew state c m b → Drew done.state (c + commands_among (h ∷ [])) (m + made_among (h ∷ [])) (b + bytes_among (frames_among (h ∷ []))))
+    → ((c m b : ℕ) → Drew state c m b
+    → Drew done.state (c + commands_among (h ∷ [])) (m + made_among (h ∷ [])) (b + bytes_among (frames_among (h ∷ []))))
     → Sends state h
 sends-moves state h done asks rest well is_step plain in_turn ids drew =
-    let t : Taken done (waiting_front state asks) rest = taken state done (waiting_front state asks) rest well.course (record { tree = refl; sheets = knows-unread (view_of state).sheets }) in_turn in
-    let among : map told_of t.after.replies ≡ replies_among t.texts = replies-folded t.texts (waiting_front state asks) t.after plain t.is_fold in
+    let t : Taken done (waiting_front state asks) rest = taken state done (waiting_front state asks) rest well.course
+    (record { tree = refl; sheets = knows-unread (view_of state).sheets }) in_turn in
+    let among : map told_of t.after.replies
+    ≡ replies_among t.texts = replies-folded t.texts (waiting_front state asks) t.after plain t.is_fold in
     record {
       texts = t.texts;
       frames_are = ap (λ (d : Stepped State). frames_of d.sent) is_step ∙ t.frames_are;
@@ -97,7 +109,8 @@ sends-moves state h done asks rest well is_step plain in_turn ids drew =
           ap (map (λ (x : ShownReply). x.id)) (sym among ∙ ap (map told_of) t.replies)
           ∙ ids-kept done.moves asks plain ∙ ids;
       drew = λ c m b before.
-          subst (λ (d : Stepped State). Drew d.state (c + commands_among (h ∷ [])) (m + made_among (h ∷ [])) (b + bytes_among (frames_among (h ∷ [])))) (sym is_step) (drew c m b before);
+          subst (λ (d : Stepped State). Drew d.state (c + commands_among (h ∷ [])) (m + made_among (h ∷ []))
+          (b + bytes_among (frames_among (h ∷ [])))) (sym is_step) (drew c m b before);
       serials = subst (λ (d : Stepped State). d.state.side.page.next ≤ state.side.page.next + (max_nodes + 1)) (sym is_step) well.serials;
       numbers = subst (λ (d : Stepped State). d.state.side.next_sheet ≤ state.side.next_sheet + max_sheets) (sym is_step) well.sheets;
     }
@@ -109,47 +122,62 @@ count-none : (c n : ℕ) → n ≡ 0 → c + (0 + n) ≡ c
 count-none c n e = omega (arith, e)
 
 -- a command draws, and may keep edits
-command-drew : (state : State) (frame : List ℕ) (done : Step) (r : Result Asked Refused) → StepsWell state done → KeepsAtMost (edits_asked (asked frame false)) state done.state
+command-drew : (state : State) (frame : List ℕ) (done : Step) (r : Result Asked Refused) → StepsWell state done
+    → KeepsAtMost (edits_asked (asked frame false)) state done.state
     → commands_in r ≡ 1 → asked frame false ≡ r → (c m b : ℕ) → Drew state c m b
-    → Drew done.state (c + commands_among (came frame ∷ [])) (m + made_among (came frame ∷ [])) (b + bytes_among (frames_among (came frame ∷ [])))
+    → Drew done.state (c + commands_among (came frame ∷ [])) (m + made_among (came frame ∷ []))
+    (b + bytes_among (frames_among (came frame ∷ [])))
 command-drew state frame done r well keeps command asks c m b before =
     let one : commands_in (asked frame false) ≡ 1 = ap commands_in asks ∙ command in
     let few : edits_asked (asked frame false) ≤ length frame = edits-few false frame in
     same-drew done.state (count-one c (commands_in (asked frame false)) one) (count-none m 0 refl) (count-bytes b (length frame)) (record {
-      ids = command-ids (length state.client.session.pushed) (tree_edits state) (length done.state.client.session.pushed) (tree_edits done.state) c m well.ids well.trees before.trees before.ids;
+      ids = command-ids (length state.client.session.pushed) (tree_edits state) (length done.state.client.session.pushed)
+          (tree_edits done.state) c m well.ids well.trees before.trees before.ids;
       trees = command-trees (tree_edits state) (tree_edits done.state) c well.trees before.trees;
-      edits = command-edits (edits_kept state) (edits_kept done.state) (edits_asked (asked frame false)) b (length frame) keeps few before.edits;
+      edits = command-edits (edits_kept state) (edits_kept done.state) (edits_asked (asked frame false)) b
+          (length frame) keeps few before.edits;
     })
 
 -- a frame that is refused changes nothing
-refused-drew : (state : State) (frame : List ℕ) (done : Step) → done.state ≡ state → commands_in (asked frame false) ≡ 0 → (c m b : ℕ) → Drew state c m b
-    → Drew done.state (c + commands_among (came frame ∷ [])) (m + made_among (came frame ∷ [])) (b + bytes_among (frames_among (came frame ∷ [])))
+refused-drew : (state : State) (frame : List ℕ) (done : Step) → done.state ≡ state → commands_in (asked frame false) ≡ 0 → (c m b : ℕ)
+    → Drew state c m b
+    → Drew done.state (c + commands_among (came frame ∷ [])) (m + made_among (came frame ∷ []))
+    (b + bytes_among (frames_among (came frame ∷ [])))
 refused-drew state frame done same none c m b before =
-    subst (λ s. Drew s (c + commands_among (came frame ∷ [])) (m + made_among (came frame ∷ [])) (b + bytes_among (frames_among (came frame ∷ [])))) (sym same)
+    subst (λ s. Drew s (c + commands_among (came frame ∷ [])) (m + made_among (came frame ∷ []))
+    (b + bytes_among (frames_among (came frame ∷ [])))) (sym same)
     (same-drew state (count-none c (commands_in (asked frame false)) none) (count-none m 0 refl) (count-bytes b (length frame))
     (record { ids = before.ids; trees = before.trees; edits = more-bytes (edits_kept state) b (length frame) before.edits }))
 
 -- a step of the script leaves no edit, or changes nothing
 made-drew : (state : State) (x : Turn) → StepsWell state (turn_step x state) → (c m b : ℕ) → Drew state c m b
-    → Drew (turn_step x state).state (c + commands_among (made x ∷ [])) (m + made_among (made x ∷ [])) (b + bytes_among (frames_among (made x ∷ [])))
+    → Drew (turn_step x state).state (c + commands_among (made x ∷ [])) (m + made_among (made x ∷ []))
+    (b + bytes_among (frames_among (made x ∷ [])))
 made-drew state x well c m b before =
     let keeps : TurnKeeps state (turn_step x state).state = turn-keeps x state well in
     same-drew (turn_step x state).state (count-none c 0 refl) (count-one m 1 refl) (count-none b 0 refl) (record {
-      ids = made-ids (length state.client.session.pushed + tree_edits state) (length (turn_step x state).state.client.session.pushed + tree_edits (turn_step x state).state) (c * c + c) c m keeps.ids before.ids;
+      ids = made-ids (length state.client.session.pushed + tree_edits state)
+          (length (turn_step x state).state.client.session.pushed + tree_edits (turn_step x state).state)
+          (c * c + c) c m keeps.ids before.ids;
       trees = no-more (tree_edits state) (tree_edits (turn_step x state).state) (c * 2) keeps.trees before.trees;
       edits = no-more (edits_kept state) (edits_kept (turn_step x state).state) b keeps.edits before.edits;
     })
 
-sends-frame : (state : State) (frame : List ℕ) (done : Step) → frame_step false frame state ≡ done → StepsWell state done → (r : Result Asked Refused) → asked frame false ≡ r
+sends-frame : (state : State) (frame : List ℕ) (done : Step) → frame_step false frame state ≡ done → StepsWell state done
+    → (r : Result Asked Refused) → asked frame false ≡ r
     → IsAnswered r done.moves → KeepsAtMost (edits_asked (asked frame false)) state done.state → Sends state (came frame)
 sends-frame state frame done is well (Ok a) asks answered keeps =
     sends-moves state (came frame) done (ask_with (method_name a.command) a.id ∷ []) [] well (ap as_bytes is) (refl, tt)
-    (meets-one done.moves (method_name a.command) a.id [] answered.0 answered.1 (course-quiet done.moves (view_of state) (view_of done.state) well.course))
+    (meets-one done.moves (method_name a.command) a.id [] answered.0 answered.1
+    (course-quiet done.moves (view_of state) (view_of done.state) well.course))
     (answered.0 ∙ ap (λ o. id_asked o ∷ []) (sym asks))
     (command-drew state frame done (Ok a) well keeps refl asks)
 sends-frame state frame done is well (Err r) asks answered keeps = at r.id refl where
-  drew : (c m b : ℕ) → Drew state c m b → Drew done.state (c + commands_among (came frame ∷ [])) (m + made_among (came frame ∷ [])) (b + bytes_among (frames_among (came frame ∷ [])))
-  drew = refused-drew state frame done (sym (ap (λ (d : Step). d.state) is) ∙ ap (λ x. (asked_step x state).state) asks) (ap commands_in asks)
+  drew : (c m b : ℕ) → Drew state c m b
+      → Drew done.state (c + commands_among (came frame ∷ [])) (m + made_among (came frame ∷ []))
+      (b + bytes_among (frames_among (came frame ∷ [])))
+  drew = refused-drew state frame done (sym (ap (λ (d : Step). d.state) is) ∙ ap (λ x. (asked_step x state).state) asks)
+      (ap commands_in asks)
 
   ids : flat_map reply_ids done.moves ≡ reply_id frame ∷ []
   ids = ap (flat_map reply_ids) answered ∙ ap (λ o. id_asked o ∷ []) (sym asks)
@@ -158,7 +186,8 @@ sends-frame state frame done is well (Err r) asks answered keeps = at r.id refl 
   at None none = sends-moves state (came frame) done [] [] well (ap as_bytes is) tt (by-refusal [] done.moves r none answered) ids drew
   at (Some id) some =
       sends-moves state (came frame) done (ask_with [] id ∷ []) [] well (ap as_bytes is) (refl, tt)
-      (subst (λ ms. InTurn ms (ask_with [] id ∷ []) []) (sym answered) (meets (failed r) [] (ask_with [] id) [] [] some (rests []))) ids drew
+      (subst (λ ms. InTurn ms (ask_with [] id ∷ []) []) (sym answered)
+      (meets (failed r) [] (ask_with [] id) [] [] some (rests []))) ids drew
 
 pub frame-sends : (state : State) (frame : List ℕ) → IsState state → HasRoom state → Sends state (came frame)
 frame-sends state frame is room =
@@ -170,11 +199,13 @@ pub turn-sends : (state : State) (x : Turn) → IsState state → HasRoom state 
 turn-sends state x is room is_turn =
     let none = turn-answers x state in
     let well = (turn-steps-well state x is room is_turn).0 in
-    sends-moves state (made x) (turn_step x state) [] [] well refl tt (tells-all (turn_step x state).moves [] none) none (made-drew state x well)
+    sends-moves state (made x) (turn_step x state) [] [] well refl tt (tells-all (turn_step x state).moves [] none) none
+    (made-drew state x well)
 
 -- ---- one happening more
 
-happened-state : (state : State) (hs : List Happening) (h : Happening) → (happened state (hs ++ h ∷ [])).state ≡ (happening_step h (happened state hs).state).state
+happened-state : (state : State) (hs : List Happening) (h : Happening)
+    → (happened state (hs ++ h ∷ [])).state ≡ (happening_step h (happened state hs).state).state
 happened-state state [] h = refl
 happened-state state (first ∷ hs) h = happened-state (happening_step first state).state hs h
 
@@ -196,14 +227,16 @@ frames-last (made x ∷ hs) h = frames-last hs h
 goes-start : (start : Pipe) → PipeGoesOn start start [] []
 goes-start start = record { sent_is = sym (append-nil start.sent); given_is = sym (append-nil start.given) }
 
-goes-put : (start old new : Pipe) (sent given piece : List ℕ) → PipeGoesOn start old sent given → new.sent ≡ old.sent ++ piece → new.given ≡ old.given
+goes-put : (start old new : Pipe) (sent given piece : List ℕ) → PipeGoesOn start old sent given → new.sent ≡ old.sent ++ piece
+    → new.given ≡ old.given
     → PipeGoesOn start new (sent ++ piece) given
 goes-put start old new sent given piece goes sent_is given_is = record {
   sent_is = sent_is ∙ ap (λ bytes. bytes ++ piece) goes.sent_is ∙ append_assoc start.sent sent piece;
   given_is = given_is ∙ goes.given_is;
 }
 
-goes-get : (start old new : Pipe) (sent given piece : List ℕ) → PipeGoesOn start old sent given → new.sent ≡ old.sent → new.given ≡ old.given ++ piece
+goes-get : (start old new : Pipe) (sent given piece : List ℕ) → PipeGoesOn start old sent given → new.sent ≡ old.sent
+    → new.given ≡ old.given ++ piece
     → PipeGoesOn start new sent (given ++ piece)
 goes-get start old new sent given piece goes sent_is given_is = record {
   sent_is = sent_is ∙ goes.sent_is;
@@ -241,7 +274,8 @@ folds-sent sent_up more given_down v whole e =
 -- ---- the start
 
 -- a page was loaded, and both ends are new
-pub follows-start : (up0 down0 : Pipe) (state0 : Started) (seat : Seat) (side : PageSide) → state0.shown ≡ [] → StandsFor seat side state0.state
+pub follows-start : (up0 down0 : Pipe) (state0 : Started) (seat : Seat) (side : PageSide) → state0.shown ≡ []
+    → StandsFor seat side state0.state
     → state0.lines ≤ most_bytes → Drew state0.state 0 0 0 → state0.state.side.page.next ≤ (0 + 1) * (max_nodes + 1)
     → state0.state.side.next_sheet ≤ (0 + 1) * max_sheets + 1
     → Follows state0 up0 down0 up0 down0 []
@@ -258,7 +292,8 @@ follows-start up0 down0 state0 seat side none stands few drew serials numbers = 
   value = first_value [];
   front_is = refl;
   is_fold = refl;
-  styled = subst (All (λ ask. knows_styles (first_value []) ask ≡ true)) (sym none) (All-nil (λ ask. knows_styles (first_value []) ask ≡ true));
+  styled = subst (All (λ ask. knows_styles (first_value []) ask ≡ true)) (sym none)
+      (All-nil (λ ask. knows_styles (first_value []) ask ≡ true));
   events = [];
   frames_are = refl;
   back_is = refl;
@@ -355,7 +390,8 @@ module _ (state0 : Started) (up0 down0 : Pipe) where
   -- ---- bytes go up
 
   -- a frame is sent, and the front end waits for the ask that it is, if it is one
-  follows-sent : (up down up1 : Pipe) (waiting : List (List ℕ)) (e : Ends) (text : List ℕ) (value1 : FrontValue) (front1 : FrontState) (there : ℕ)
+  follows-sent : (up down up1 : Pipe) (waiting : List (List ℕ)) (e : Ends) (text : List ℕ) (value1 : FrontValue) (front1 : FrontState)
+      (there : ℕ)
       → (f : Follows state0 up0 down0 up down waiting e) → there ≡ e.up_there + length (framed text) → IsText text
       → front1 ≡ good_front value1 (frames_of f.given_down).rest front1.next front1.fetches
       → front1.next + front1.fetches ≤ e.front.next + e.front.fetches + 1 → value1.matched ≡ f.value.matched
@@ -364,8 +400,10 @@ module _ (state0 : Started) (up0 down0 : Pipe) where
       → Follows state0 up0 down0 up1 down waiting (record e { front = front1; up_there = there })
   follows-sent up down up1 waiting e text value1 front1 there f left letters front_is one matched folds sent_is given_is =
       let frames : (frames_of (f.sent_up ++ framed text)).whole ≡ (frames_of f.sent_up).whole ++ text ∷ [] =
-      whole-after f.sent_up (framed text) f.up_whole ∙ ap (λ (fs : Frames). (frames_of f.sent_up).whole ++ fs.whole) (frames_of-one text letters) in
-      let asks : asks_among (frames_of (f.sent_up ++ framed text)).whole ≡ asks_among (frames_of f.sent_up).whole ++ option_to_list (ask_of_frame text) =
+      whole-after f.sent_up (framed text) f.up_whole ∙ ap (λ (fs : Frames). (frames_of f.sent_up).whole ++ fs.whole)
+      (frames_of-one text letters) in
+      let asks : asks_among (frames_of (f.sent_up ++ framed text)).whole
+      ≡ asks_among (frames_of f.sent_up).whole ++ option_to_list (ask_of_frame text) =
       ap asks_among frames ∙ asks_among-append (frames_of f.sent_up).whole (text ∷ [])
       ∙ ap (λ more. asks_among (frames_of f.sent_up).whole ++ more) (append-nil (option_to_list (ask_of_frame text))) in
       record {
@@ -390,12 +428,14 @@ module _ (state0 : Started) (up0 down0 : Pipe) where
         down_whole = f.down_whole;
         stands = f.stands;
         up_left =
-            let more : length (f.sent_up ++ framed text) ≡ length f.sent_up + length (framed text) = length-append f.sent_up (framed text) in
+            let more : length (f.sent_up ++ framed text)
+            ≡ length f.sent_up + length (framed text) = length-append f.sent_up (framed text) in
             let before : e.up_there + length f.given_up ≡ length f.sent_up = f.up_left in
             omega (arith, more, before, left);
         down_left = f.down_left;
         few_asked =
-            let more : length (f.sent_up ++ framed text) ≡ length f.sent_up + length (framed text) = length-append f.sent_up (framed text) in
+            let more : length (f.sent_up ++ framed text)
+            ≡ length f.sent_up + length (framed text) = length-append f.sent_up (framed text) in
             let zero : length (framed text) ≡ length text + 1 = length-append text (0 ∷ []) in
             let before : e.front.next + e.front.fetches ≤ length f.sent_up + 1 = f.few_asked in
             omega (arith, more, zero, before, one);
@@ -407,7 +447,8 @@ module _ (state0 : Started) (up0 down0 : Pipe) where
 
   -- an ask is sent
   pub follows-asked : (up down up1 : Pipe) (waiting : List (List ℕ)) (e : Ends) (text method : List ℕ) (there : ℕ)
-      → Follows state0 up0 down0 up down waiting e → there ≡ e.up_there + length (framed text) → IsText text → ask_of_frame text ≡ Some (ask_with method e.front.next)
+      → Follows state0 up0 down0 up down waiting e → there ≡ e.up_there + length (framed text) → IsText text
+      → ask_of_frame text ≡ Some (ask_with method e.front.next)
       → up1.sent ≡ up.sent ++ framed text → up1.given ≡ up.given
       → Follows state0 up0 down0 up1 down waiting (record e { front = after_ask e.front method; up_there = there })
   follows-asked up down up1 waiting e text method there f left letters is sent_is given_is =
@@ -440,7 +481,8 @@ module _ (state0 : Started) (up0 down0 : Pipe) where
       let text = front_fetcher.text e.front.fetches sheet in
       let small : 2 ^ 30 + e.front.fetches < 2 ^ 53 = omega (arith, room) in
       let is : ask_of_frame text ≡ Some ask = sent-fetch e.front.fetches sheet small fits in
-      follows-sent up down up1 waiting e text (front_laws.ask_joined f.value ask) (after_fetch e.front sheet) there f left (fetch-text (2 ^ 30 + e.front.fetches) sheet small)
+      follows-sent up down up1 waiting e text (front_laws.ask_joined f.value ask) (after_fetch e.front sheet) there f left
+      (fetch-text (2 ^ 30 + e.front.fetches) sheet small)
       (ap (λ s. after_fetch s sheet) f.front_is) (omega arith) refl
       (ap (λ o. fold (asks_among (frames_of f.sent_up).whole ++ option_to_list o) f.given_down) is
       ∙ fold-more (asks_among (frames_of f.sent_up).whole) ask f.given_down f.value f.is_fold)
@@ -448,16 +490,20 @@ module _ (state0 : Started) (up0 down0 : Pipe) where
 
   -- the ask of a line
   pub follows-sends : (up down up1 : Pipe) (waiting : List (List ℕ)) (e : Ends) (a : AskForm) (text : List ℕ) (there : ℕ)
-      → Follows state0 up0 down0 up down waiting e → there ≡ e.up_there + length (framed text) → CanSend a → e.front.next < 2 ^ 30 → text ≡ command_text e.front.next a.method a.params a.session
+      → Follows state0 up0 down0 up down waiting e → there ≡ e.up_there + length (framed text) → CanSend a → e.front.next < 2 ^ 30
+      → text ≡ command_text e.front.next a.method a.params a.session
       → up1.sent ≡ up.sent ++ framed text → up1.given ≡ up.given
       → Follows state0 up0 down0 up1 down waiting (record e { front = after_ask e.front a.method; up_there = there })
   follows-sends up down up1 waiting e a text there f left can small text_is sent_is given_is =
-      follows-asked up down up1 waiting e (command_text e.front.next a.method a.params a.session) a.method there f (left ∙ ap (λ bytes. e.up_there + length (framed bytes)) text_is)
-      (IsText-sent e.front.next a can (omega (arith, small))) (ask_in-sent e.front.next a can small) (sent_is ∙ ap (λ bytes. up.sent ++ framed bytes) text_is) given_is
+      follows-asked up down up1 waiting e (command_text e.front.next a.method a.params a.session) a.method there f
+      (left ∙ ap (λ bytes. e.up_there + length (framed bytes)) text_is)
+      (IsText-sent e.front.next a can (omega (arith, small))) (ask_in-sent e.front.next a can small)
+      (sent_is ∙ ap (λ bytes. up.sent ++ framed bytes) text_is) given_is
 
   -- any bytes are given up; the frames that become whole wait
   pub follows-given_up : (up down up1 : Pipe) (waiting : List (List ℕ)) (e : Ends) (piece rest : List ℕ) (there : ℕ)
-      → Follows state0 up0 down0 up down waiting e → there + length piece ≡ e.up_there → up1.sent ≡ up.sent → up1.given ≡ up.given ++ piece → rest ≡ held_after e.back_rest piece
+      → Follows state0 up0 down0 up down waiting e → there + length piece ≡ e.up_there → up1.sent ≡ up.sent → up1.given ≡ up.given ++ piece
+      → rest ≡ held_after e.back_rest piece
       → Follows state0 up0 down0 up1 down (waiting ++ frames_from e.back_rest piece) (record e { back_rest = rest; up_there = there })
   follows-given_up up down up1 waiting e piece rest there f left sent_is given_is rest_is = record {
     sent_up = f.sent_up;
@@ -477,7 +523,8 @@ module _ (state0 : Started) (up0 down0 : Pipe) where
         ∙ ap (λ frames. frames ++ frames_from (frames_of f.given_up).rest piece) f.frames_are
         ∙ ap (λ held. (frames_among f.events ++ waiting) ++ frames_from held piece) (sym f.back_is)
         ∙ append_assoc (frames_among f.events) waiting (frames_from e.back_rest piece);
-    back_is = rest_is ∙ ap (λ held. held_after held piece) f.back_is ∙ sym (ap (λ (fs : Frames). fs.rest) (frames_of-append f.given_up piece));
+    back_is = rest_is ∙ ap (λ held. held_after held piece) f.back_is ∙ sym
+        (ap (λ (fs : Frames). fs.rest) (frames_of-append f.given_up piece));
     state = f.state;
     side_is = f.side_is;
     sent_is = f.sent_is;
@@ -499,9 +546,11 @@ module _ (state0 : Started) (up0 down0 : Pipe) where
   -- ---- a step is made
 
   -- a step is carried out, and what it sends is put down; `lines` is how many lines more there were before
-  follows-step : (lines : ℕ) (up down down1 : Pipe) (h : Happening) (waits waiting : List (List ℕ)) (e : Ends) (seat : Seat) (side : PageSide) (out : List ℕ) (there : ℕ)
+  follows-step : (lines : ℕ) (up down down1 : Pipe) (h : Happening) (waits waiting : List (List ℕ)) (e : Ends) (seat : Seat)
+      (side : PageSide) (out : List ℕ) (there : ℕ)
       → made_among (h ∷ []) + state0.lines ≤ lines
-      → (f : Follows (run_started state0.state lines state0.shown) up0 down0 up down waits e) → waits ≡ frames_among (h ∷ []) ++ waiting → there ≡ e.down_there + length out
+      → (f : Follows (run_started state0.state lines state0.shown) up0 down0 up down waits e) → waits ≡ frames_among (h ∷ []) ++ waiting
+      → there ≡ e.down_there + length out
       → Sends f.state h → StandsFor seat side (happening_step h f.state).state
       → out ≡ (happening_step h f.state).sent → down1.sent ≡ down.sent ++ out → down1.given ≡ down.given
       → Follows state0 up0 down0 up down1 waiting (record e { seat = seat; side = side; down_there = there })
@@ -556,17 +605,23 @@ module _ (state0 : Started) (up0 down0 : Pipe) where
             let last : made_among (f.events ++ h ∷ []) ≡ made_among f.events + made_among (h ∷ []) = made-last f.events h in
             omega (arith, before, last, room);
         drew =
-            let commands : commands_among (f.events ++ h ∷ []) ≡ commands_among f.events + commands_among (h ∷ []) = commands-last f.events h in
+            let commands : commands_among (f.events ++ h ∷ [])
+            ≡ commands_among f.events + commands_among (h ∷ []) = commands-last f.events h in
             let made_last : made_among (f.events ++ h ∷ []) ≡ made_among f.events + made_among (h ∷ []) = made-last f.events h in
-            let bytes : bytes_among (frames_among (f.events ++ h ∷ [])) ≡ bytes_among (frames_among f.events) + bytes_among (frames_among (h ∷ [])) =
+            let bytes : bytes_among (frames_among (f.events ++ h ∷ []))
+            ≡ bytes_among (frames_among f.events) + bytes_among (frames_among (h ∷ [])) =
             ap bytes_among (frames-last f.events h) ∙ bytes-append (frames_among f.events) (frames_among (h ∷ [])) in
-            same-drew (happening_step h f.state).state commands made_last bytes (s.drew (commands_among f.events) (made_among f.events) (bytes_among (frames_among f.events)) f.drew);
-        few_serials = more_serials f.state.side.page.next (happening_step h f.state).state.side.page.next (length f.events) (length (f.events ++ h ∷ [])) events f.few_serials s.serials;
-        few_numbers = more_numbers f.state.side.next_sheet (happening_step h f.state).state.side.next_sheet (length f.events) (length (f.events ++ h ∷ [])) events f.few_numbers s.numbers;
+            same-drew (happening_step h f.state).state commands made_last bytes
+            (s.drew (commands_among f.events) (made_among f.events) (bytes_among (frames_among f.events)) f.drew);
+        few_serials = more_serials f.state.side.page.next (happening_step h f.state).state.side.page.next (length f.events)
+            (length (f.events ++ h ∷ [])) events f.few_serials s.serials;
+        few_numbers = more_numbers f.state.side.next_sheet (happening_step h f.state).state.side.next_sheet (length f.events)
+            (length (f.events ++ h ∷ [])) events f.few_numbers s.numbers;
       }
 
   -- a frame is answered
-  pub follows-answered : (up down down1 : Pipe) (frame : List ℕ) (frames : List (List ℕ)) (e : Ends) (seat : Seat) (side : PageSide) (out : List ℕ) (there : ℕ)
+  pub follows-answered : (up down down1 : Pipe) (frame : List ℕ) (frames : List (List ℕ)) (e : Ends) (seat : Seat) (side : PageSide)
+      (out : List ℕ) (there : ℕ)
       → (f : Follows state0 up0 down0 up down (frame ∷ frames) e) → there ≡ e.down_there + length out → HasRoom f.state
       → StandsFor seat side (step f.state frame).state
       → out ≡ (step f.state frame).sent → down1.sent ≡ down.sent ++ out → down1.given ≡ down.given
@@ -576,7 +631,8 @@ module _ (state0 : Started) (up0 down0 : Pipe) where
       (frame-sends f.state frame (seated-state e.seat e.side f.state f.stands) room) stands out_is sent_is given_is
 
   -- the script makes a step by itself
-  pub follows-turned : (up down down1 : Pipe) (x : Turn) (waiting : List (List ℕ)) (e : Ends) (seat : Seat) (side : PageSide) (out : List ℕ) (there : ℕ)
+  pub follows-turned : (up down down1 : Pipe) (x : Turn) (waiting : List (List ℕ)) (e : Ends) (seat : Seat) (side : PageSide)
+      (out : List ℕ) (there : ℕ)
       → (f : Follows (one_line_more state0) up0 down0 up down waiting e) → there ≡ e.down_there + length out → HasRoom f.state → IsTurn x
       → StandsFor seat side (turn x f.state).state
       → out ≡ (turn x f.state).sent → down1.sent ≡ down.sent ++ out → down1.given ≡ down.given
@@ -596,12 +652,20 @@ module _ (state0 : Started) (up0 down0 : Pipe) where
   -- what the front is after these bytes
   front-down : (up down : Pipe) (waiting : List (List ℕ)) (e : Ends) (piece : List ℕ) (f : Follows state0 up0 down0 up down waiting e)
       → let end = front.front_folded f.value (frames_from (frames_of f.given_down).rest piece) in
-      after_take e.front piece ≡ record { value = end.value; rest = held_after (frames_of f.given_down).rest piece; fault = end.fault; next = e.front.next; fetches = e.front.fetches; dead = false }
+      after_take e.front piece ≡ record {
+        value = end.value;
+        rest = held_after (frames_of f.given_down).rest piece;
+        fault = end.fault;
+        next = e.front.next;
+        fetches = e.front.fetches;
+        dead = false;
+      }
   front-down up down waiting e piece f = ap (λ s. after_take s piece) f.front_is
 
   -- any bytes are given down, and the front refuses none of the messages
   pub follows-delivered_down : (up down down1 : Pipe) (waiting : List (List ℕ)) (e : Ends) (piece : List ℕ) (there : ℕ)
-      → Follows state0 up0 down0 up down waiting e → there + length piece ≡ e.down_there → down1.sent ≡ down.sent → down1.given ≡ down.given ++ piece → (after_take e.front piece).fault ≡ None
+      → Follows state0 up0 down0 up down waiting e → there + length piece ≡ e.down_there → down1.sent ≡ down.sent
+      → down1.given ≡ down.given ++ piece → (after_take e.front piece).fault ≡ None
       → Follows state0 up0 down0 up down1 waiting (record e { front = after_take e.front piece; down_there = there })
   follows-delivered_down up down down1 waiting e piece there f left sent_is given_is good =
       let end : Folded = front.front_folded f.value (frames_from (frames_of f.given_down).rest piece) in
@@ -620,12 +684,22 @@ module _ (state0 : Started) (up0 down0 : Pipe) where
         value = end.value;
         front_is =
             front_now
-            ∙ ap (λ o. record { value = end.value; rest = held_after (frames_of f.given_down).rest piece; fault = o; next = e.front.next; fetches = e.front.fetches; dead = false }) none
+            ∙ ap (λ o. record {
+              value = end.value;
+              rest = held_after (frames_of f.given_down).rest piece;
+              fault = o;
+              next = e.front.next;
+              fetches = e.front.fetches;
+              dead = false;
+            }) none
             ∙ ap (λ n. good_front end.value (held_after (frames_of f.given_down).rest piece) n e.front.fetches) (sym next)
-            ∙ ap (λ n. good_front end.value (held_after (frames_of f.given_down).rest piece) (after_take e.front piece).next n) (sym fetches)
-            ∙ ap (λ rest. good_front end.value rest (after_take e.front piece).next (after_take e.front piece).fetches) (sym (ap (λ (fs : Frames). fs.rest) (frames_of-append f.given_down piece)));
+            ∙ ap (λ n. good_front end.value (held_after (frames_of f.given_down).rest piece) (after_take e.front piece).next n)
+            (sym fetches)
+            ∙ ap (λ rest. good_front end.value rest (after_take e.front piece).next (after_take e.front piece).fetches)
+            (sym (ap (λ (fs : Frames). fs.rest) (frames_of-append f.given_down piece)));
         is_fold = fold-down up down waiting e piece f ∙ ap (outcome end.value) none;
-        styled = stay-all f.value end.value (frames_from (frames_of f.given_down).rest piece) state0.shown (ap (outcome end.value) none) f.styled;
+        styled = stay-all f.value end.value (frames_from (frames_of f.given_down).rest piece) state0.shown
+            (ap (outcome end.value) none) f.styled;
         events = f.events;
         frames_are = f.frames_are;
         back_is = f.back_is;
@@ -651,12 +725,14 @@ module _ (state0 : Started) (up0 down0 : Pipe) where
 
   -- or the front refuses one, and the fold is this fault
   pub follows-refused : (up down down1 : Pipe) (waiting : List (List ℕ)) (e : Ends) (piece : List ℕ) (fault : FrontFault)
-      → Follows state0 up0 down0 up down waiting e → down1.sent ≡ down.sent → down1.given ≡ down.given ++ piece → (after_take e.front piece).fault ≡ Some fault
+      → Follows state0 up0 down0 up down waiting e → down1.sent ≡ down.sent → down1.given ≡ down.given ++ piece
+      → (after_take e.front piece).fault ≡ Some fault
       → fold_of (sent_since up0 up) (given_since down0 down1) ≡ Err fault
   follows-refused up down down1 waiting e piece fault f sent_is given_is bad =
       let end : Folded = front.front_folded f.value (frames_from (frames_of f.given_down).rest piece) in
       let some : end.fault ≡ Some fault = sym (ap (λ (s : FrontState). s.fault) (front-down up down waiting e piece f)) ∙ bad in
-      let down_is : PipeGoesOn down0 down1 f.sent_down (f.given_down ++ piece) = goes-get down0 down down1 f.sent_down f.given_down piece f.down_is sent_is given_is in
+      let down_is : PipeGoesOn down0 down1 f.sent_down
+      (f.given_down ++ piece) = goes-get down0 down down1 f.sent_down f.given_down piece f.down_is sent_is given_is in
       ap (λ bytes. fold_of bytes (given_since down0 down1)) (sent_since-is up0 up f.sent_up f.given_up f.up_is)
       ∙ ap (fold_of f.sent_up) (given_since-is down0 down1 f.sent_down (f.given_down ++ piece) down_is)
       ∙ fold-down up down waiting e piece f ∙ ap (outcome end.value) some
@@ -672,13 +748,19 @@ module _ (state0 : Started) (up0 down0 : Pipe) where
       ∙ f.is_fold ∙ ap (λ v. Ok v) (sym (ap (λ (s : FrontState). s.value) f.front_is))
 
   -- whatever more is sent up, and while nothing more is given down, the fold meets no fault
-  pub follows-still : (up down up1 down1 : Pipe) (waiting : List (List ℕ)) (e : Ends) (piece : List ℕ) → Follows state0 up0 down0 up down waiting e
-      → up1.sent ≡ up.sent ++ piece → down1.given ≡ down.given → (v : FrontValue) × (fold_of (sent_since up0 up1) (given_since down0 down1) ≡ Ok v)
+  pub follows-still : (up down up1 down1 : Pipe) (waiting : List (List ℕ)) (e : Ends) (piece : List ℕ)
+      → Follows state0 up0 down0 up down waiting e
+      → up1.sent ≡ up.sent ++ piece → down1.given ≡ down.given
+      → (v : FrontValue) × (fold_of (sent_since up0 up1) (given_since down0 down1) ≡ Ok v)
   follows-still up down up1 down1 waiting e piece f sent_is given_is =
-      let folds : Folds (asks_among (frames_of (f.sent_up ++ piece)).whole) f.given_down = folds-sent f.sent_up piece f.given_down f.value f.up_whole f.is_fold in
+      let folds : Folds (asks_among (frames_of
+      (f.sent_up ++ piece)).whole) f.given_down = folds-sent f.sent_up piece f.given_down f.value f.up_whole f.is_fold in
       let sent : sent_since up0 up1 ≡ f.sent_up ++ piece =
-      ap (drop (length up0.sent)) (sent_is ∙ ap (λ bytes. bytes ++ piece) f.up_is.sent_is ∙ append_assoc up0.sent f.sent_up piece) ∙ drop-append_seam up0.sent (f.sent_up ++ piece) in
-      let given : given_since down0 down1 ≡ f.given_down = ap (drop (length down0.given)) (given_is ∙ f.down_is.given_is) ∙ drop-append_seam down0.given f.given_down in
+      ap (drop (length up0.sent)) (sent_is ∙ ap
+      (λ bytes. bytes ++ piece) f.up_is.sent_is ∙ append_assoc up0.sent f.sent_up piece) ∙ drop-append_seam up0.sent
+      (f.sent_up ++ piece) in
+      let given : given_since down0 down1
+      ≡ f.given_down = ap (drop (length down0.given)) (given_is ∙ f.down_is.given_is) ∙ drop-append_seam down0.given f.given_down in
       (folds.value, ap (λ bytes. fold_of bytes (given_since down0 down1)) sent ∙ ap (fold_of (f.sent_up ++ piece)) given ∙ folds.is_fold)
 
   -- the replies that were sent down answer the frames that were given up, in their order
@@ -696,8 +778,10 @@ module _ (state0 : Started) (up0 down0 : Pipe) where
   follows-less up down waiting e f =
       let up_sent : length (sent_since up0 up) ≡ length f.sent_up = ap length (sent_since-is up0 up f.sent_up f.given_up f.up_is) in
       let up_given : length (given_since up0 up) ≡ length f.given_up = ap length (given_since-is up0 up f.sent_up f.given_up f.up_is) in
-      let down_sent : length (sent_since down0 down) ≡ length f.sent_down = ap length (sent_since-is down0 down f.sent_down f.given_down f.down_is) in
-      let down_given : length (given_since down0 down) ≡ length f.given_down = ap length (given_since-is down0 down f.sent_down f.given_down f.down_is) in
+      let down_sent : length (sent_since down0 down)
+      ≡ length f.sent_down = ap length (sent_since-is down0 down f.sent_down f.given_down f.down_is) in
+      let down_given : length (given_since down0 down)
+      ≡ length f.given_down = ap length (given_since-is down0 down f.sent_down f.given_down f.down_is) in
       let up_left : e.up_there + length f.given_up ≡ length f.sent_up = f.up_left in
       let down_left : e.down_there + length f.given_down ≡ length f.sent_down = f.down_left in
       (omega (arith, up_sent, up_given, up_left), omega (arith, down_sent, down_given, down_left))
@@ -710,7 +794,8 @@ module _ (state0 : Started) (up0 down0 : Pipe) where
   front-full up down waiting e f none =
       let sent : length (sent_since up0 up) ≡ length f.sent_up = ap length (sent_since-is up0 up f.sent_up f.given_up f.up_is) in
       let few : e.front.next + e.front.fetches ≤ length f.sent_up + 1 = f.few_asked in
-      is-full (length (sent_since up0 up)) (λ less. let no : false ≡ true = none (omega (arith, few, sent, less), omega (arith, few, sent, less)) in absurd cc)
+      is-full (length (sent_since up0 up))
+      (λ less. let no : false ≡ true = none (omega (arith, few, sent, less), omega (arith, few, sent, less)) in absurd cc)
 
   -- and where the back end has none
   pub seat-full : (up down : Pipe) (waiting : List (List ℕ)) (e : Ends) → Follows state0 up0 down0 up down waiting e
@@ -732,7 +817,8 @@ module _ (state0 : Started) (up0 down0 : Pipe) where
       let given : bytes_among (frames_among f.events) < 2 ^ 28 = omega (arith, sent, left, within, bytes, less) in
       let few_made : made_among f.events ≤ 2 ^ 26 = omega (arith, few) in
       let no : false ≡ true = none (has-room-left e.seat e.side f.state f.stands (record {
-        ids = ids-left (length f.state.client.session.pushed) (tree_edits f.state) (commands_among f.events) (made_among f.events) (bytes_among (frames_among f.events)) long given few_made f.drew.ids;
+        ids = ids-left (length f.state.client.session.pushed) (tree_edits f.state) (commands_among f.events) (made_among f.events)
+            (bytes_among (frames_among f.events)) long given few_made f.drew.ids;
         serials = serials-left f.state.side.page.next (length f.events) events f.few_serials;
         sheets = numbers-left f.state.side.next_sheet (length f.events) events f.few_numbers;
         edits = few-edits (edits_kept f.state) (bytes_among (frames_among f.events)) given f.drew.edits;

@@ -13,7 +13,8 @@ use Rattle.cdp_messages.specs.Tellable.{suits_tree}
 use Rattle.cdp_messages.specs.Told.{told_branch}
 use Rattle.cdp_messages.specs.Views.{AreSheets, sheet_header, View}
 use Rattle.cdp_messages.specs.Moves as move
-use Rattle.cdp_messages.specs.Moves.{Move, change_news, message_of, move_text, paused_nodes, AreShown, suits_view, IsTellable, CanBeTold, Moves}
+use Rattle.cdp_messages.specs.Moves.{Move, change_news, message_of, move_text, paused_nodes, AreShown, suits_view, IsTellable, CanBeTold}
+use Rattle.cdp_messages.specs.Moves.{Moves}
 use Rattle.cdp_messages.proofs.Messages.{reply_plain, refusal_plain}
 use Rattle.cdp_messages.proofs.NewsLaws.{news_plain}
 use Rattle.cdp_messages.proofs.TellableLaws.{shown_trees_fit}
@@ -40,13 +41,17 @@ root-suits b w there is =
     and_left (suits_tree true b) true can.forms
 
 move-plain : (m : Move) (u w : View) → CanBeTold u → CanBeTold w → Moves m u w → is_plain (message_data (message_of m)) ≡ true
-move-plain (move.change id c) u w here there moves = news_plain (change_news id c) (told_change_news u.tree w.tree id c here.tree there.tree moves.0).fits
+move-plain (move.change id c) u w here there moves = news_plain (change_news id c)
+    (told_change_news u.tree w.tree id c here.tree there.tree moves.0).fits
 move-plain move.clear u w here there moves = news_plain document_updated refl
 move-plain (move.met why) u w here there moves = news_plain (paused why) (pause-fits why u.tree moves.1 here.tree.forms)
 move-plain (move.added s) u w here there moves =
-    news_plain (sheet_added (sheet_header s)) (added_news_fit s (last_is_sheet u.sheets s (subst AreSheets (ap (λ (x : View). x.sheets) moves.0) there.sheets)) moves.1)
-move-plain (move.dropped n) u w here there moves = news_plain (sheet_removed n) (removed_news_fit n (shown_is_sheet n u.sheets here.sheets moves.1))
-move-plain (move.rewritten n text) u w here there moves = news_plain (sheet_changed n) (changed_news_fit n (shown_is_sheet n u.sheets here.sheets moves.1))
+    news_plain (sheet_added (sheet_header s))
+    (added_news_fit s (last_is_sheet u.sheets s (subst AreSheets (ap (λ (x : View). x.sheets) moves.0) there.sheets)) moves.1)
+move-plain (move.dropped n) u w here there moves = news_plain (sheet_removed n)
+    (removed_news_fit n (shown_is_sheet n u.sheets here.sheets moves.1))
+move-plain (move.rewritten n text) u w here there moves = news_plain (sheet_changed n)
+    (changed_news_fit n (shown_is_sheet n u.sheets here.sheets moves.1))
 move-plain (move.texted id n text) u w here there moves = reply_plain id (SheetText text) moves.2 refl
 move-plain (move.root id b) u w here there moves =
     reply_plain id (Root (told_branch 0 b)) moves.1 (shown_trees_fit b (root-suits b w there (ap (λ (x : View). x.tree) (sym moves.0))))

@@ -18,7 +18,8 @@ use Rattle.cdp_messages.specs.Asked.{command_text}
 use Rattle.dom_agent.specs.Laws.{RowsHaveUtf8}
 use Rattle.front_mirror.specs.Front.{first_value, take_frame}
 use Rattle.replay_script.specs.Forms as forms
-use Rattle.replay_script.specs.Forms.{AskForm, LineForm, load, ask, up, down, settle, show_front, show_page, show_sheets, show_replies, show_pauses, show_styles}
+use Rattle.replay_script.specs.Forms.{AskForm, LineForm, load, ask, up, down, settle, show_front, show_page, show_sheets, show_replies}
+use Rattle.replay_script.specs.Forms.{show_pauses, show_styles}
 use Rattle.pipe_frames.specs.Frames.{IsText, frames_of}
 use Rattle.inspect_world.specs.Stream.{sent, held, awaited}
 use Rattle.inspect_world.specs.Fold.{folded, joined}
@@ -28,7 +29,8 @@ use Rattle.back_end.specs.States.{page_nodes, loaded_state, HoldsNow, IsState}
 use Rattle.back_end.specs.Steps.{Turn, acts, loads}
 use Rattle.inspect_world.specs.RunStates.{RunState, run_start, run_step, run_turn}
 use Rattle.inspect_world.proofs.Growing.{pauses-of}
-use Rattle.inspect_world.specs.Fits.{join, asks_among, IsNext, next_raw, IsBare, IsNextTurn, HasLeft, most_bytes, most_frames, most_sheets, most_fetches, IsFit, replay, Fits}
+use Rattle.inspect_world.specs.Fits.{join, asks_among, IsNext, next_raw, IsBare, IsNextTurn, HasLeft, most_bytes, most_frames, most_sheets}
+use Rattle.inspect_world.specs.Fits.{most_fetches, IsFit, replay, Fits}
 use Rattle.inspect_world.specs.Costs.{ask_edits, least_line, line_cost, lines_cost}
 use Rattle.inspect_world.specs.Scripts.{sends, after_line, after_lines, loaded_world}
 use Rattle.page_forms.specs.Texts.{HaveTexts, SheetsHaveTexts, PageHasTexts}
@@ -37,7 +39,8 @@ use Rattle.replay_script.specs.Sound.{CanSend}
 use Rattle.inspect_world.proofs.Messages.{IsText-sent, IsNext-sent}
 use Rattle.inspect_world.proofs.Frames.{given-all, sent-all, awaited-none}
 use Rattle.inspect_world.proofs.Replies.{replies-of}
-use Rattle.inspect_world.proofs.Worlds.{fits-first, fits-sent_up, fits-asked, fits-turned, fits-delivered_up, fits-delivered_down, fits-settled}
+use Rattle.inspect_world.proofs.Worlds.{fits-first, fits-sent_up, fits-asked, fits-turned, fits-delivered_up, fits-delivered_down}
+use Rattle.inspect_world.proofs.Worlds.{fits-settled}
 use Rattle.inspect_world.proofs.FitLemmas.{world_laws}
 
 -- ---- the start
@@ -60,7 +63,8 @@ ascend-numbered next (f ∷ fs) =
     let same : next + 1 + length fs ≡ next + suc (length fs) = omega arith in
     (omega arith, subst (λ m. AscendBetween (next + 1) m (numbered_sheets (next + 1) fs)) same (ascend-numbered (next + 1) fs))
 
-texts-of-sheets : (next : ℕ) (sheets : List SheetForm) → list_all is_short sheets ≡ true → SheetsHaveTexts sheets → AreSheetTexts (numbered_sheets next sheets)
+texts-of-sheets : (next : ℕ) (sheets : List SheetForm) → list_all is_short sheets ≡ true → SheetsHaveTexts sheets
+    → AreSheetTexts (numbered_sheets next sheets)
 texts-of-sheets next [] short texts = tt
 texts-of-sheets next (f ∷ fs) short texts =
     let p = and-true (is_short f) (list_all is_short fs) short in (
@@ -69,16 +73,19 @@ texts-of-sheets next (f ∷ fs) short texts =
       texts-of-sheets (next + 1) fs p.1 (All-tail (λ (sheet : SheetForm). IsUtf8 sheet.text) f fs texts),
     )
 
-sheets-first : (sheets : List SheetForm) → can_hold_sheets sheets ≡ true → SheetsHaveTexts sheets → AreSheetsBelow (1 + length sheets) (numbered_sheets 1 sheets)
+sheets-first : (sheets : List SheetForm) → can_hold_sheets sheets ≡ true → SheetsHaveTexts sheets
+    → AreSheetsBelow (1 + length sheets) (numbered_sheets 1 sheets)
 sheets-first sheets can texts = record {
   numbers = ascend-numbered 1 sheets;
-  few = let count : length (numbered_sheets 1 sheets) ≡ length sheets = length-numbered 1 sheets in let few : length sheets ≤ 1000 = few-sheets sheets can in omega (arith, count, few);
+  few = let count : length (numbered_sheets 1 sheets)
+      ≡ length sheets = length-numbered 1 sheets in let few : length sheets ≤ 1000 = few-sheets sheets can in omega (arith, count, few);
   texts = texts-of-sheets 1 sheets (and-true (nat_le (length sheets) max_sheets) (list_all is_short sheets) can).1 texts;
 }
 
 texts-numbered : (first : ℕ) (n : Nodes Label) → HaveTexts n → RowsHaveUtf8 (numbered first n)
 texts-numbered first none texts = tt
-texts-numbered first (node l c t) texts = (texts.0, texts-numbered (first + 1) c texts.1, texts-numbered (first + 1 + node_count c) t texts.2)
+texts-numbered first (node l c t) texts =
+    (texts.0, texts-numbered (first + 1) c texts.1, texts-numbered (first + 1 + node_count c) t texts.2)
 
 holds-first : (page : LoadedPage) → CanLoadPage page → PageHasTexts page → HoldsNow (loaded_state page)
 holds-first page can texts = record {
@@ -122,15 +129,24 @@ fits-loaded page can texts =
 
 -- ---- a line
 
-pub fits-sent : (a : AskForm) (w : World RunState) → CanSend a → w.spent.asks + w.spent.raws + 1 ≤ most_frames → w.spent.edits + ask_edits a ≤ most_bytes → Fits w → Fits (sends a w)
+pub fits-sent : (a : AskForm) (w : World RunState) → CanSend a → w.spent.asks + w.spent.raws + 1 ≤ most_frames
+    → w.spent.edits + ask_edits a ≤ most_bytes → Fits w → Fits (sends a w)
 fits-sent a w can few few_edits fits =
     let small : w.spent.asks + 1 < 2 ^ 30 = omega (arith, few) in
-    fits-asked replay IsNext IsNextTurn IsFit world_laws (first_value []) (command_text (w.spent.asks + 1) a.method a.params a.session) (ask_edits a) w
+    fits-asked replay IsNext IsNextTurn IsFit world_laws (first_value []) (command_text (w.spent.asks + 1) a.method a.params a.session)
+    (ask_edits a) w
     (IsText-sent (w.spent.asks + 1) a can (omega (arith, few))) (IsNext-sent w.spent a can few few_edits small) fits
 
 -- what was told says nothing of the streams
-pub fits-told : (w : World RunState) (n : AlreadyTold) → Fits w → Fits (record { state = w.state; up = w.up; down = w.down; spent = w.spent; told = n })
-fits-told w n fits = record { front = fits.front; is_fold = fits.is_fold; fit = fits.fit; up_whole = fits.up_whole; down_whole = fits.down_whole }
+pub fits-told : (w : World RunState) (n : AlreadyTold) → Fits w
+    → Fits (record { state = w.state; up = w.up; down = w.down; spent = w.spent; told = n })
+fits-told w n fits = record {
+  front = fits.front;
+  is_fold = fits.is_fold;
+  fit = fits.fit;
+  up_whole = fits.up_whole;
+  down_whole = fits.down_whole;
+}
 
 settled-fits : (w : World RunState) → Fits w → Fits (settled run_step w)
 settled-fits w fits = fits-settled replay IsNext IsNextTurn IsFit world_laws (first_value []) w fits
@@ -138,8 +154,10 @@ settled-fits w fits = fits-settled replay IsNext IsNextTurn IsFit world_laws (fi
 turned-fits : (x : Turn) (w : World RunState) → IsNextTurn w.spent x → Fits w → Fits (turned run_turn x w)
 turned-fits x w next fits = fits-turned replay IsNext IsNextTurn IsFit world_laws (first_value []) x w next fits
 
-raw-fits : (text : List ℕ) (w : World RunState) → IsText text → IsBare text → w.spent.asks + w.spent.raws + 1 ≤ most_frames → Fits w → Fits (raw text w)
-raw-fits text w letters bare few fits = fits-sent_up replay IsNext IsNextTurn IsFit world_laws (first_value []) text one_raw w letters (next_raw bare few) fits
+raw-fits : (text : List ℕ) (w : World RunState) → IsText text → IsBare text → w.spent.asks + w.spent.raws + 1 ≤ most_frames → Fits w
+    → Fits (raw text w)
+raw-fits text w letters bare few fits = fits-sent_up replay IsNext IsNextTurn IsFit world_laws (first_value []) text one_raw w letters
+    (next_raw bare few) fits
 
 -- room for a line is room for a frame, for the edits of an ask and for a step of the script
 pub frame-left : (n : Spent) (more : ℕ) → HasLeft n (least_line + more) → n.asks + n.raws + 1 ≤ most_frames
@@ -154,7 +172,8 @@ turn-left n left = let room : n.turns + least_line ≤ most_bytes = left.turns i
 pub fits-line : (line : LineForm) (w : World RunState) → IsLater line → HasLeft w.spent (line_cost line) → Fits w → Fits (after_line line w)
 fits-line (load page) w later left fits = turned-fits (loads page) w (record { is_turn = later; few = turn-left w.spent left }) fits
 fits-line (forms.act a) w later left fits = turned-fits (acts a) w (record { is_turn = later; few = turn-left w.spent left }) fits
-fits-line (ask a) w later left fits = fits-sent a w later (frame-left w.spent (ask_edits a) left) (edits-left w.spent (ask_edits a) left) fits
+fits-line (ask a) w later left fits = fits-sent a w later (frame-left w.spent (ask_edits a) left)
+    (edits-left w.spent (ask_edits a) left) fits
 fits-line (forms.raw text) w later left fits = raw-fits text w later.0 later.1 (frame-left w.spent 0 left) fits
 fits-line (up n) w later left fits = fits-delivered_up replay IsNext IsNextTurn IsFit world_laws (first_value []) n w fits
 fits-line (down n) w later left fits = fits-delivered_down replay IsNext IsNextTurn IsFit world_laws (first_value []) n w fits
@@ -181,7 +200,8 @@ left-turns : (before after k cost : ℕ) → after ≤ before + 1 → 1 ≤ cost
 left-turns before after k cost more some left = omega (arith, more, some, left)
 
 -- of fetches a page's sheets at most
-left-fetches : (before after k cost : ℕ) → after ≤ before + most_sheets → 1 ≤ cost → before + (k + cost + 1) * most_sheets ≤ most_fetches → after + (k + 1) * most_sheets ≤ most_fetches
+left-fetches : (before after k cost : ℕ) → after ≤ before + most_sheets → 1 ≤ cost → before + (k + cost + 1) * most_sheets ≤ most_fetches
+    → after + (k + 1) * most_sheets ≤ most_fetches
 left-fetches before after k cost more some left = omega (arith, more, some, left)
 
 -- a line spends no more
@@ -194,9 +214,16 @@ spent-on k cost n m spends left = record {
 }
 
 -- lines that spend nothing, but for fetches
-pub spends-nothing : (n m : Spent) → m.asks ≡ n.asks → m.raws ≡ n.raws → m.turns ≡ n.turns → m.edits ≡ n.edits → m.fetches ≤ n.fetches + most_sheets → Spends n m least_line
+pub spends-nothing : (n m : Spent) → m.asks ≡ n.asks → m.raws ≡ n.raws → m.turns ≡ n.turns → m.edits ≡ n.edits
+    → m.fetches ≤ n.fetches + most_sheets → Spends n m least_line
 spends-nothing n m asks raws turns edits fetches =
-    record { frames = omega (arith, asks, raws); fetches = fetches; turns = omega (arith, turns); edits = omega (arith, edits); some = omega arith }
+    record {
+      frames = omega (arith, asks, raws);
+      fetches = fetches;
+      turns = omega (arith, turns);
+      edits = omega (arith, edits);
+      some = omega arith;
+    }
 
 -- and those that send a frame, or make a step
 pub spends-ask : (a : AskForm) (w : World RunState) → Spends w.spent (sends a w).spent (line_cost (ask a))
@@ -261,18 +288,26 @@ cost-least (show_styles k) = omega arith
 pub left-one : (n : Spent) (k cost : ℕ) → HasLeft n (k + cost) → HasLeft n cost
 left-one n k cost left = left-fewer n cost (k + cost) (omega arith) left
 
-fits-lines : (n : ℕ) (lines : List LineForm) (w : World RunState) → AreLater lines → HasLeft w.spent (lines_cost lines) → Fits w → Fits (after_lines (take n lines) w)
+fits-lines : (n : ℕ) (lines : List LineForm) (w : World RunState) → AreLater lines → HasLeft w.spent (lines_cost lines) → Fits w
+    → Fits (after_lines (take n lines) w)
 fits-lines zero lines w later left fits = fits
 fits-lines (suc n) [] w later left fits = fits
 fits-lines (suc n) (line ∷ lines) w later left fits =
-    fits-lines n lines (after_line line w) later.1 (left-after line (lines_cost lines) w left) (fits-line line w later.0 (left-one w.spent (lines_cost lines) (line_cost line) left) fits)
+    fits-lines n lines (after_line line w) later.1 (left-after line (lines_cost lines) w left)
+    (fits-line line w later.0 (left-one w.spent (lines_cost lines) (line_cost line) left) fits)
 
 -- nothing was spent at the start
 pub left-first : (page : LoadedPage) (k : ℕ) → k ≤ most_bytes → HasLeft (loaded_world page).spent k
-left-first page k few = record { frames = omega (arith, few); fetches = omega (arith, few); turns = omega (arith, few); edits = omega (arith, few) }
+left-first page k few = record {
+  frames = omega (arith, few);
+  fetches = omega (arith, few);
+  turns = omega (arith, few);
+  edits = omega (arith, few);
+}
 
 pub lines-fit : LinesFit
-lines-fit page lines can texts later few n = fits-lines n lines (loaded_world page) later (left-first page (lines_cost lines) few) (fits-loaded page can texts)
+lines-fit page lines can texts later few n = fits-lines n lines (loaded_world page) later (left-first page (lines_cost lines) few)
+    (fits-loaded page can texts)
 
 -- ---- frames that name no ask
 
@@ -298,9 +333,12 @@ settled-shows w fits =
     let down_none : w'.down.flying ≡ [] = given-all (delivered_up run_step (length w.up.flying) w).down in
     let up_held : held w'.up ≡ [] = ap (λ bytes. (frames_of bytes).rest) (sym (sent-all w'.up up_none)) ∙ all.up_whole in
     let awaits : awaited w'.up ≡ [] = awaited-none w'.up up_none up_held in
-    let given_fold : folded take_frame (joined join (first_value []) (frames_of w'.up.given).whole) (frames_of w'.down.given).whole ≡ Ok all.front =
-    ap (λ bytes. folded take_frame (joined join (first_value []) (frames_of bytes).whole) (frames_of w'.down.given).whole) (sym (sent-all w'.up up_none))
-    ∙ ap (λ bytes. folded take_frame (joined join (first_value []) (frames_of (sent w'.up)).whole) (frames_of bytes).whole) (sym (sent-all w'.down down_none))
+    let given_fold : folded take_frame (joined join (first_value []) (frames_of w'.up.given).whole) (frames_of w'.down.given).whole
+    ≡ Ok all.front =
+    ap (λ bytes. folded take_frame (joined join (first_value []) (frames_of bytes).whole) (frames_of w'.down.given).whole)
+    (sym (sent-all w'.up up_none))
+    ∙ ap (λ bytes. folded take_frame (joined join (first_value []) (frames_of (sent w'.up)).whole) (frames_of bytes).whole)
+    (sym (sent-all w'.down down_none))
     ∙ all.is_fold in
     record {
       front = all.front;

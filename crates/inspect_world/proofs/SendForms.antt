@@ -34,20 +34,23 @@ parts_plain m (Some p) (Some s) h =
     let both = both_parts (is_plain p) (is_plain s && true) h in
     (both.0, (both_parts (is_plain s) true both.1).0)
 
-value_shallow : (m : List ℕ) (params session : Option Data) (id : ℕ) → depth (spelled m params session) ≤ max_depth → depth (command_value id m params session) ≤ max_depth
+value_shallow : (m : List ℕ) (params session : Option Data) (id : ℕ) → depth (spelled m params session) ≤ max_depth
+    → depth (command_value id m params session) ≤ max_depth
 value_shallow m None None id h = omega arith
 value_shallow m (Some p) None id h = omega (arith, h)
 value_shallow m None (Some s) id h = omega (arith, h)
 value_shallow m (Some p) (Some s) id h = omega (arith, h)
 
-value_texts : (m : List ℕ) (params session : Option Data) (id : ℕ) → HasUtf8 (spelled m params session) → HasUtf8 (command_value id m params session)
+value_texts : (m : List ℕ) (params session : Option Data) (id : ℕ) → HasUtf8 (spelled m params session)
+    → HasUtf8 (command_value id m params session)
 value_texts m None None id u = (IsUtf8-are_ascii (codes "id") refl, tt, u)
 value_texts m (Some p) None id u = (IsUtf8-are_ascii (codes "id") refl, tt, u)
 value_texts m None (Some s) id u = (IsUtf8-are_ascii (codes "id") refl, tt, u)
 value_texts m (Some p) (Some s) id u = (IsUtf8-are_ascii (codes "id") refl, tt, u)
 
 can_send-parts : (m : List ℕ) (params session : Option Data) (a : AskForm) → a ≡ record { method = m; params = params; session = session }
-    → is_plain (spelled m params session) ≡ true → HasUtf8 (spelled m params session) → depth (spelled m params session) ≤ max_depth → CanSend a
+    → is_plain (spelled m params session) ≡ true → HasUtf8 (spelled m params session) → depth (spelled m params session) ≤ max_depth
+    → CanSend a
 can_send-parts m params session a is plain texts deep =
     let parts = parts_plain m params session plain in
     subst CanSend (sym is) (record {
@@ -55,10 +58,12 @@ can_send-parts m params session a is plain texts deep =
       session = parts.1;
       shallow = λ id. value_shallow m params session id deep;
       texts = λ id c.
-          IsUtf8-compact_text (command_value id m params session) (ask_plain id m params session c parts.0 parts.1) (value_texts m params session id texts);
+          IsUtf8-compact_text (command_value id m params session) (ask_plain id m params session c parts.0 parts.1)
+          (value_texts m params session id texts);
     })
 
-can_send-from : (p : AskParts) (a : AskForm) → ask_from p ≡ a → is_plain (ask_kind.spell p) ≡ true → HasUtf8 (ask_kind.spell p) → depth (ask_kind.spell p) ≤ max_depth → CanSend a
+can_send-from : (p : AskParts) (a : AskForm) → ask_from p ≡ a → is_plain (ask_kind.spell p) ≡ true → HasUtf8 (ask_kind.spell p)
+    → depth (ask_kind.spell p) ≤ max_depth → CanSend a
 can_send-from (m, (params, (session, end))) a is plain texts deep = can_send-parts m params session a (sym is) plain texts deep
 
 -- the ask of a line that is read, plain and UTF-8
@@ -66,4 +71,5 @@ pub can_send : (d : Data) (a : AskForm) → ask_in d ≡ Some a → is_plain d �
 can_send d a is plain texts deep =
     let parts = map_some ask_from (ask_kind.reads d) a is in
     let same : ask_kind.spell parts.0 ≡ d = (ask_lawful.takes d parts.0 parts.1).0 in
-    can_send-from parts.0 a parts.2 (ap is_plain same ∙ plain) (subst HasUtf8 (sym same) texts) (subst (λ e. depth e ≤ max_depth) (sym same) deep)
+    can_send-from parts.0 a parts.2 (ap is_plain same ∙ plain) (subst HasUtf8 (sym same) texts)
+    (subst (λ e. depth e ≤ max_depth) (sym same) deep)

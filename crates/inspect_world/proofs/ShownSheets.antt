@@ -1,5 +1,6 @@
 -- The sheets that a client sees, and those that a front end knows: their numbers are apart, and are those of sheets.
-use Rattle.std.proofs.Common.{◌≡◌, ℕ, suc, ◌+◌, ◌==◌, ◌||◌, ◌<◌, ◌≤◌, Bool, true, false, not, ◌&&◌, cond, List, [], ◌∷◌, ◌++◌, length, is_some, Option, Some, if◌then◌else◌, refl, sym, ◌∙◌, ap, subst, arith}
+use Rattle.std.proofs.Common.{◌≡◌, ℕ, suc, ◌+◌, ◌==◌, ◌||◌, ◌<◌, ◌≤◌, Bool, true, false, not, ◌&&◌, cond, List, [], ◌∷◌, ◌++◌, length}
+use Rattle.std.proofs.Common.{is_some, Option, Some, if◌then◌else◌, refl, sym, ◌∙◌, ap, subst, arith}
 use Rattle.std.specs.Str.{IsUtf8}
 use Rattle.std.proofs.lemmas.Bool.{eqb-true, eq-eqb, ne_eqb}
 use Rattle.cdp_messages.specs.Views.{ShownSheet, shown_text}
@@ -31,7 +32,8 @@ shown-below state is = shown-by state.client.css_on state.side.next_sheet state.
 
 -- ---- what a front end knows
 
-known-apart : (n least next : ℕ) (ks : List KnownSheet) (ss : List ShownSheet) → KnowsSheets ks ss → AscendBetween least next ss → n < least → has_sheet n ks ≡ false
+known-apart : (n least next : ℕ) (ks : List KnownSheet) (ss : List ShownSheet) → KnowsSheets ks ss → AscendBetween least next ss
+    → n < least → has_sheet n ks ≡ false
 known-apart n least next [] ss knows a less = refl
 known-apart n least next (k ∷ ks) [] knows a less = absurd knows
 known-apart n least next (k ∷ ks) (s ∷ ss) knows a less =
@@ -40,7 +42,8 @@ known-apart n least next (k ∷ ks) (s ∷ ss) knows a less =
     let other : (k.number == n) ≡ false = ne_eqb k.number n (λ e. absurd (omega (arith, low, same, less, e))) in
     ap (λ b. b || has_sheet n ks) other ∙ known-apart n (s.number + 1) next ks ss knows.1 a.1 (omega (arith, low, less))
 
-pub are-apart : (least next : ℕ) (ks : List KnownSheet) (ss : List ShownSheet) → KnowsSheets ks ss → AscendBetween least next ss → AreApart ks
+pub are-apart : (least next : ℕ) (ks : List KnownSheet) (ss : List ShownSheet) → KnowsSheets ks ss → AscendBetween least next ss
+    → AreApart ks
 are-apart least next [] ss knows a = tt
 are-apart least next (k ∷ ks) [] knows a = absurd knows
 are-apart least next (k ∷ ks) (s ∷ ss) knows a =
@@ -64,32 +67,41 @@ text-cons : (b : Bool) (n : ℕ) (s : ShownSheet) (ss : List ShownSheet) → (s.
 text-cons true n s ss is has = record { text = s.text; is = ap (λ c. cond c (Some s.text) (shown_text n ss)) is }
 text-cons false n s ss is has = record { text = has.text; is = ap (λ c. cond c (Some s.text) (shown_text n ss)) is ∙ has.is }
 
-stale-by : (fresh : Bool) (k : KnownSheet) (s : ShownSheet) (ks : List KnownSheet) (ss : List ShownSheet) (number : ℕ) (numbers : List ℕ) → k.number ≡ s.number
-    → cond fresh (stale_of ks) (k.number ∷ stale_of ks) ≡ number ∷ numbers → (stale_of ks ≡ number ∷ numbers → HasText number ss) → HasText number (s ∷ ss)
+stale-by : (fresh : Bool) (k : KnownSheet) (s : ShownSheet) (ks : List KnownSheet) (ss : List ShownSheet) (number : ℕ) (numbers : List ℕ)
+    → k.number ≡ s.number
+    → cond fresh (stale_of ks) (k.number ∷ stale_of ks) ≡ number ∷ numbers → (stale_of ks ≡ number ∷ numbers → HasText number ss)
+    → HasText number (s ∷ ss)
 stale-by true k s ks ss number numbers same e later = text-cons (s.number == number) number s ss refl (later e)
 stale-by false k s ks ss number numbers same e later =
     let first : k.number ≡ number = cc e in
     record { text = s.text; is = ap (λ c. cond c (Some s.text) (shown_text number ss)) (eq-eqb s.number number (sym same ∙ first)) }
 
 -- a sheet without a fresh text is shown
-pub stale-shown : (ks : List KnownSheet) (ss : List ShownSheet) (number : ℕ) (numbers : List ℕ) → KnowsSheets ks ss → stale_of ks ≡ number ∷ numbers → HasText number ss
+pub stale-shown : (ks : List KnownSheet) (ss : List ShownSheet) (number : ℕ) (numbers : List ℕ) → KnowsSheets ks ss
+    → stale_of ks ≡ number ∷ numbers → HasText number ss
 stale-shown [] ss number numbers knows e = absurd cc
 stale-shown (k ∷ ks) [] number numbers knows e = absurd knows
 stale-shown (k ∷ ks) (s ∷ ss) number numbers knows e =
     stale-by (has_fresh_text k) k s ks ss number numbers knows.0.number e (λ rest. stale-shown ks ss number numbers knows.1 rest)
 
-number-by : (b : Bool) (n least next : ℕ) (s : ShownSheet) (ss : List ShownSheet) (text : List ℕ) → (s.number == n) ≡ b → least ≤ s.number → s.number + 1 ≤ next
-    → cond b (Some s.text) (shown_text n ss) ≡ Some text → (shown_text n ss ≡ Some text → (s.number + 1 ≤ n) × (n < next)) → (least ≤ n) × (n < next)
-number-by true n least next s ss text is low high e later = let same : s.number ≡ n = eqb-true s.number n is in (omega (arith, low, same), omega (arith, high, same))
+number-by : (b : Bool) (n least next : ℕ) (s : ShownSheet) (ss : List ShownSheet) (text : List ℕ) → (s.number == n) ≡ b → least ≤ s.number
+    → s.number + 1 ≤ next
+    → cond b (Some s.text) (shown_text n ss) ≡ Some text → (shown_text n ss ≡ Some text → (s.number + 1 ≤ n) × (n < next))
+    → (least ≤ n) × (n < next)
+number-by true n least next s ss text is low high e later = let same : s.number
+    ≡ n = eqb-true s.number n is in (omega (arith, low, same), omega (arith, high, same))
 number-by false n least next s ss text is low high e later = let p = later e in (omega (arith, low, p.0), p.1)
 
 -- its number is one of those
-pub shown-number : (n least next : ℕ) (ss : List ShownSheet) (text : List ℕ) → AscendBetween least next ss → shown_text n ss ≡ Some text → (least ≤ n) × (n < next)
+pub shown-number : (n least next : ℕ) (ss : List ShownSheet) (text : List ℕ) → AscendBetween least next ss → shown_text n ss ≡ Some text
+    → (least ≤ n) × (n < next)
 shown-number n least next [] text a e = absurd cc
 shown-number n least next (s ∷ ss) text a e =
-    number-by (s.number == n) n least next s ss text refl a.0 (ascends (s.number + 1) next ss a.1) e (λ rest. shown-number n (s.number + 1) next ss text a.1 rest)
+    number-by (s.number == n) n least next s ss text refl a.0 (ascends (s.number + 1) next ss a.1) e
+    (λ rest. shown-number n (s.number + 1) next ss text a.1 rest)
 
-utf8-by : (b : Bool) (s : ShownSheet) (o : Option (List ℕ)) (text : List ℕ) → IsUtf8 s.text → (o ≡ Some text → IsUtf8 text) → cond b (Some s.text) o ≡ Some text → IsUtf8 text
+utf8-by : (b : Bool) (s : ShownSheet) (o : Option (List ℕ)) (text : List ℕ) → IsUtf8 s.text → (o ≡ Some text → IsUtf8 text)
+    → cond b (Some s.text) o ≡ Some text → IsUtf8 text
 utf8-by true s o text one later e = let same : s.text ≡ text = cc e in subst IsUtf8 same one
 utf8-by false s o text one later e = later e
 
@@ -108,7 +120,8 @@ pub record IsEntryOf (n : ℕ) (text : List ℕ) (book : List SheetEntry) : Type
   pub text_is : entry.text ≡ text
 
 entry-by : (b : Bool) (n : ℕ) (text : List ℕ) (s : ShownSheet) (ss : List ShownSheet) → (s.number == n) ≡ b → (n == s.number) ≡ b
-    → cond b (Some s.text) (shown_text n ss) ≡ Some text → (shown_text n ss ≡ Some text → IsEntryOf n text (as_book ss)) → IsEntryOf n text (as_book (s ∷ ss))
+    → cond b (Some s.text) (shown_text n ss) ≡ Some text → (shown_text n ss ≡ Some text → IsEntryOf n text (as_book ss))
+    → IsEntryOf n text (as_book (s ∷ ss))
 entry-by true n text s ss is is2 e later = record {
   entry = entry_of_sheet s;
   found = ap (λ c. if c then Some (entry_of_sheet s) else entry_of n (as_book ss)) is2;
@@ -117,7 +130,12 @@ entry-by true n text s ss is is2 e later = record {
 }
 entry-by false n text s ss is is2 e later =
     let p : IsEntryOf n text (as_book ss) = later e in
-    record { entry = p.entry; found = ap (λ c. if c then Some (entry_of_sheet s) else entry_of n (as_book ss)) is2 ∙ p.found; id_is = p.id_is; text_is = p.text_is }
+    record {
+      entry = p.entry;
+      found = ap (λ c. if c then Some (entry_of_sheet s) else entry_of n (as_book ss)) is2 ∙ p.found;
+      id_is = p.id_is;
+      text_is = p.text_is;
+    }
 
 turned-by : (a b : ℕ) (c : Bool) → (a == b) ≡ c → (b == a) ≡ c
 turned-by a b true e = eq-eqb b a (sym (eqb-true a b e))
@@ -128,7 +146,8 @@ book-entry n text [] e = absurd cc
 book-entry n text (s ∷ ss) e =
     entry-by (s.number == n) n text s ss refl (turned-by s.number n (s.number == n) refl) e (λ rest. book-entry n text ss rest)
 
-id-by : (b : Bool) (n : ℕ) (x e : SheetEntry) (es : List SheetEntry) → (n == x.id) ≡ b → (if b then Some x else entry_of n es) ≡ Some e → (entry_of n es ≡ Some e → e.id ≡ n) → e.id ≡ n
+id-by : (b : Bool) (n : ℕ) (x e : SheetEntry) (es : List SheetEntry) → (n == x.id) ≡ b → (if b then Some x else entry_of n es) ≡ Some e
+    → (entry_of n es ≡ Some e → e.id ≡ n) → e.id ≡ n
 id-by true n x e es is found later = let same : x ≡ e = cc found in ap (λ (y : SheetEntry). y.id) (sym same) ∙ sym (eqb-true n x.id is)
 id-by false n x e es is found later = later found
 
@@ -146,12 +165,15 @@ not-stale k e = at (is_some k.text) k.stale e where
   at true false e = refl
   at false stale e = absurd cc
 
-lines-by : (fresh : Bool) (k : KnownSheet) (s : ShownSheet) (ks : List KnownSheet) (ss : List ShownSheet) → has_fresh_text k ≡ fresh → KnowsSheet k s
-    → cond fresh (stale_of ks) (k.number ∷ stale_of ks) ≡ [] → (stale_of ks ≡ [] → known_lines ks ≡ sheet_lines ss) → known_lines (k ∷ ks) ≡ sheet_lines (s ∷ ss)
+lines-by : (fresh : Bool) (k : KnownSheet) (s : ShownSheet) (ks : List KnownSheet) (ss : List ShownSheet) → has_fresh_text k ≡ fresh
+    → KnowsSheet k s
+    → cond fresh (stale_of ks) (k.number ∷ stale_of ks) ≡ [] → (stale_of ks ≡ [] → known_lines ks ≡ sheet_lines ss)
+    → known_lines (k ∷ ks) ≡ sheet_lines (s ∷ ss)
 lines-by true k s ks ss is knows e later =
     let text : k.text ≡ Some s.text = knows.text (not-stale k is) in
     ap (λ line. line ++ known_lines ks)
-    (ap (λ n. sheet_line n k.origin k.text) knows.number ∙ ap (λ o. sheet_line s.number o k.text) knows.origin ∙ ap (sheet_line s.number s.origin) text)
+    (ap (λ n. sheet_line n k.origin k.text) knows.number ∙ ap (λ o. sheet_line s.number o k.text) knows.origin ∙ ap
+    (sheet_line s.number s.origin) text)
     ∙ ap (λ rest. sheet_line s.number s.origin (Some s.text) ++ rest) (later e)
 lines-by false k s ks ss is knows e later = absurd cc
 

@@ -1,5 +1,6 @@
 -- What the messages of a step make of a front end that has the view before it: the front has the view after it.
-use Rattle.std.proofs.Common.{◌≡◌, Bool, true, false, ℕ, ◌+◌, List, [], ◌∷◌, ◌++◌, map, Option, Some, None, refl, sym, ◌∙◌, ap, subst, Result, Ok, Err}
+use Rattle.std.proofs.Common.{◌≡◌, Bool, true, false, ℕ, ◌+◌, List, [], ◌∷◌, ◌++◌, map, Option, Some, None, refl, sym, ◌∙◌, ap, subst}
+use Rattle.std.proofs.Common.{Result, Ok, Err}
 use Rattle.std.specs.Prelude.{⊤}
 use Rattle.std.specs.List.{flat_map}
 use Rattle.std.specs.Option.{option_to_list}
@@ -15,14 +16,16 @@ use Rattle.cdp_messages.specs.declared.down.ReplyBody.TheVariants as body
 use Rattle.cdp_messages.specs.declared.effects.Effect.TheVariants.{NothingElse}
 use Rattle.cdp_messages.specs.Effects.{effect_of_method, effect_of}
 use Rattle.cdp_messages.specs.Views.{View}
-use Rattle.cdp_messages.specs.Moves.{Move, change, clear, met, added, dropped, rewritten, root, texted, replied, all_off, sheets_off, failed, move_text, frames_of_moves, tells_view, CanBeTold, Moves, Course, ends, goes, answered_by}
+use Rattle.cdp_messages.specs.Moves.{Move, change, clear, met, added, dropped, rewritten, root, texted, replied, all_off, sheets_off}
+use Rattle.cdp_messages.specs.Moves.{failed, move_text, frames_of_moves, tells_view, CanBeTold, Moves, Course, ends, goes, answered_by}
 use Rattle.front_mirror.specs.declared.replies.Ask.{Ask}
 use Rattle.front_mirror.specs.declared.replies.Kept.{Kept}
 use Rattle.front_mirror.specs.declared.faults.FrontKind.{FrontKind}
 use Rattle.front_mirror.specs.declared.faults.FrontFault.{FrontFault}
 use Rattle.front_mirror.specs.Front as front
 use Rattle.front_mirror.specs.Front.{FrontValue, kept_reply, take_frame, after_message, outcome, fold_frames}
-use Rattle.front_mirror.specs.Laws.{Has, AreAwaited, asks_after, asks_after_all, AreTaken, matched_after, kept_fault, kept_after, kept_after_all, is_quiet, InTurn, rests, tells, meets}
+use Rattle.front_mirror.specs.Laws.{Has, AreAwaited, asks_after, asks_after_all, AreTaken, matched_after, kept_fault, kept_after}
+use Rattle.front_mirror.specs.Laws.{kept_after_all, is_quiet, InTurn, rests, tells, meets}
 use Rattle.back_end.specs.States.{State, view_of}
 use Rattle.back_end.specs.Steps.{Step}
 use Rattle.back_end.specs.Laws.{reply_ids, MayAnswerAll, IsAnswered}
@@ -54,7 +57,8 @@ course-start _ _ _ (goes m ms u v w here moves later) = here
 
 pub course-texts : (ms : List Move) (u w : View) → Course ms u w → AreTexts ms
 course-texts _ _ _ (ends v here) = tt
-course-texts _ _ _ (goes m ms u v w here moves later) = (move-is-text m u v here (course-start ms v w later) moves, course-texts ms v w later)
+course-texts _ _ _ (goes m ms u v w here moves later) =
+    (move-is-text m u v here (course-start ms v w later) moves, course-texts ms v w later)
 
 -- a reply that leaves the view as it is tells neither a document nor the text of a sheet
 abbrev pub IsQuiet : Move → Type 0
@@ -93,7 +97,8 @@ pub course-quiet : (ms : List Move) (u w : View) → Course ms u w → AreQuiet 
 course-quiet _ _ _ (ends v here) = tt
 course-quiet _ _ _ (goes m ms u v w here moves later) = (move-quiet m u v moves, course-quiet ms v w later)
 
-quiet-effect : (method : List ℕ) (body : ReplyBody) → tells_view body ≡ false → effect_of_method method ≡ NothingElse → is_quiet (effect_of method body) ≡ true
+quiet-effect : (method : List ℕ) (body : ReplyBody) → tells_view body ≡ false → effect_of_method method ≡ NothingElse
+    → is_quiet (effect_of method body) ≡ true
 quiet-effect method body.Nothing plain e = ap is_quiet e
 quiet-effect method (body.Root tree) plain e = absurd cc
 quiet-effect method (body.Node tree) plain e = refl
@@ -120,7 +125,8 @@ folded-fold (frame ∷ frames) v w e =
     outcome (after_message v (λ u. front.front_folded u frames) r).value (after_message v (λ u. front.front_folded u frames) r).fault ≡ Ok w
     → then r (λ next. folded take_frame next frames) ≡ Ok w) [
       | Ok next ↦ λ rest. folded-fold frames next w rest
-      | Err kind ↦ λ rest. let no : ◌≡◌ {A = Result FrontValue FrontFault} (Err (record { place = v.taken + 1; kind = kind })) (Ok w) = rest in absurd cc
+      | Err kind ↦ λ rest. let no : ◌≡◌ {A = Result FrontValue FrontFault} (Err (record { place = v.taken + 1; kind = kind }))
+          (Ok w) = rest in absurd cc
     ]) e
 
 -- ---- the asks that moves answer
@@ -157,15 +163,18 @@ id-is : (x y : ℕ) → ◌≡◌ {A = Option ℕ} (Some x) (Some y) → x ≡ y
 id-is x y e = cc
 
 -- moves with one reply answer the one ask of its method
-pub meets-one : (ms : List Move) (method : List ℕ) (id : ℕ) (rest : List Ask) → flat_map reply_ids ms ≡ Some id ∷ [] → MayAnswerAll method ms → AreQuiet ms
+pub meets-one : (ms : List Move) (method : List ℕ) (id : ℕ) (rest : List Ask) → flat_map reply_ids ms ≡ Some id ∷ []
+    → MayAnswerAll method ms → AreQuiet ms
     → InTurn ms (ask_with method id ∷ rest) rest
 meets-one [] method id rest e may quiet = absurd cc
-meets-one (change node c ∷ ms) method id rest e may quiet = tells (change node c) ms _ rest refl (meets-one ms method id rest e may.1 quiet.1)
+meets-one (change node c ∷ ms) method id rest e may quiet = tells (change node c) ms _ rest refl
+    (meets-one ms method id rest e may.1 quiet.1)
 meets-one (clear ∷ ms) method id rest e may quiet = tells clear ms _ rest refl (meets-one ms method id rest e may.1 quiet.1)
 meets-one (met why ∷ ms) method id rest e may quiet = tells (met why) ms _ rest refl (meets-one ms method id rest e may.1 quiet.1)
 meets-one (added s ∷ ms) method id rest e may quiet = tells (added s) ms _ rest refl (meets-one ms method id rest e may.1 quiet.1)
 meets-one (dropped n ∷ ms) method id rest e may quiet = tells (dropped n) ms _ rest refl (meets-one ms method id rest e may.1 quiet.1)
-meets-one (rewritten n text ∷ ms) method id rest e may quiet = tells (rewritten n text) ms _ rest refl (meets-one ms method id rest e may.1 quiet.1)
+meets-one (rewritten n text ∷ ms) method id rest e may quiet = tells (rewritten n text) ms _ rest refl
+    (meets-one ms method id rest e may.1 quiet.1)
 meets-one (texted found n text ∷ ms) method id rest e may quiet =
     let p = head-is (Some found) (Some id) (flat_map reply_ids ms) [] e in
     meets (texted found n text) ms (ask_with method id) rest rest (sym (id-is found id p.0), may.0, tt) (tells-all ms rest p.1)
@@ -174,7 +183,8 @@ meets-one (root found b ∷ ms) method id rest e may quiet =
     meets (root found b) ms (ask_with method id) rest rest (sym (id-is found id p.0), may.0) (tells-all ms rest p.1)
 meets-one (replied found body ∷ ms) method id rest e may quiet =
     let p = head-is (Some found) (Some id) (flat_map reply_ids ms) [] e in
-    meets (replied found body) ms (ask_with method id) rest rest (sym (id-is found id p.0), may.0.0, quiet-effect method body quiet.0 may.0.1) (tells-all ms rest p.1)
+    meets (replied found body) ms (ask_with method id) rest rest
+    (sym (id-is found id p.0), may.0.0, quiet-effect method body quiet.0 may.0.1) (tells-all ms rest p.1)
 meets-one (all_off found ∷ ms) method id rest e may quiet =
     let p = head-is (Some found) (Some id) (flat_map reply_ids ms) [] e in
     meets (all_off found) ms (ask_with method id) rest rest (sym (id-is found id p.0), may.0) (tells-all ms rest p.1)
@@ -186,23 +196,29 @@ meets-one (failed r ∷ ms) method id rest e may quiet =
     meets (failed r) ms (ask_with method id) rest rest p.0 (tells-all ms rest p.1)
 
 -- what answers an ask answers the first that waits
-pub by-asked : (ask : Ask) (rest : List Ask) (moves : List Move) (result : Result Asked Refused) → ask.sheet ≡ None → AskedAs ask result → IsAnswered result moves → AreQuiet moves
+pub by-asked : (ask : Ask) (rest : List Ask) (moves : List Move) (result : Result Asked Refused) → ask.sheet ≡ None → AskedAs ask result
+    → IsAnswered result moves → AreQuiet moves
     → InTurn moves (ask ∷ rest) rest
 by-asked ask rest moves _ plain (commanded command method_is) answered quiet =
-    let same : ask_with ask.method ask.id ≡ ask = ap (λ (sheet : Option ℕ). record { id = ask.id; method = ask.method; sheet = sheet }) (sym plain) in
+    let same : ask_with ask.method ask.id
+    ≡ ask = ap (λ (sheet : Option ℕ). record { id = ask.id; method = ask.method; sheet = sheet }) (sym plain) in
     subst (λ (a : Ask). InTurn moves (a ∷ rest) rest) same
-    (subst (λ method. InTurn moves (ask_with method ask.id ∷ rest) rest) (sym method_is) (meets-one moves (method_name command) ask.id rest answered.0 answered.1 quiet))
+    (subst (λ method. InTurn moves (ask_with method ask.id ∷ rest) rest) (sym method_is)
+    (meets-one moves (method_name command) ask.id rest answered.0 answered.1 quiet))
 by-asked ask rest moves _ plain (refused_as why) answered quiet =
     let r : Refused = record { id = Some ask.id; why = why } in
     subst (λ ms. InTurn ms (ask ∷ rest) rest) (sym answered) (meets (failed r) [] ask rest rest refl (rests rest))
 
 -- an error reply under its id answers an ask, which may be a fetch
-pub by-failed : (ask : Ask) (rest : List Ask) (moves : List Move) (why : Why) → moves ≡ failed (record { id = Some ask.id; why = why }) ∷ [] → InTurn moves (ask ∷ rest) rest
-by-failed ask rest moves why is = subst (λ ms. InTurn ms (ask ∷ rest) rest) (sym is) (meets (failed (record { id = Some ask.id; why = why })) [] ask rest rest refl (rests rest))
+pub by-failed : (ask : Ask) (rest : List Ask) (moves : List Move) (why : Why)
+    → moves ≡ failed (record { id = Some ask.id; why = why }) ∷ [] → InTurn moves (ask ∷ rest) rest
+by-failed ask rest moves why is = subst (λ ms. InTurn ms (ask ∷ rest) rest) (sym is)
+    (meets (failed (record { id = Some ask.id; why = why })) [] ask rest rest refl (rests rest))
 
 -- an error reply without an id answers none
 pub by-refusal : (asks : List Ask) (moves : List Move) (r : Refused) → r.id ≡ None → moves ≡ failed r ∷ [] → InTurn moves asks asks
-by-refusal asks moves r none is = subst (λ ms. InTurn ms asks asks) (sym is) (tells (failed r) [] asks asks (ap option_to_list none) (rests asks))
+by-refusal asks moves r none is = subst (λ ms. InTurn ms asks asks) (sym is)
+    (tells (failed r) [] asks asks (ap option_to_list none) (rests asks))
 
 -- ---- the messages of a step
 
@@ -236,9 +252,11 @@ taken before done v rest course has turn =
 -- the ids of the replies that are kept, where no ask is a fetch
 ids-one : (id : ℕ) (asks : List Ask) (frame : List ℕ) (good : Bool) → ArePlain asks
     → map (λ (t : ShownReply). t.id) (map told_of (kept_reply id asks frame good)) ≡ Some id ∷ []
-ids-one id asks frame good plain = ap (λ (ks : List Kept). map (λ (t : ShownReply). t.id) (map told_of ks)) (kept-plain id asks frame good plain)
+ids-one id asks frame good plain = ap (λ (ks : List Kept). map (λ (t : ShownReply). t.id) (map told_of ks))
+    (kept-plain id asks frame good plain)
 
-ids-fault : (o : Option ℕ) (asks : List Ask) (frame : List ℕ) → ArePlain asks → map (λ (t : ShownReply). t.id) (map told_of (kept_fault o asks frame)) ≡ o ∷ []
+ids-fault : (o : Option ℕ) (asks : List Ask) (frame : List ℕ) → ArePlain asks
+    → map (λ (t : ShownReply). t.id) (map told_of (kept_fault o asks frame)) ≡ o ∷ []
 ids-fault None asks frame plain = refl
 ids-fault (Some id) asks frame plain = ids-one id asks frame false plain
 
@@ -256,7 +274,8 @@ ids-move (all_off id) asks plain = ids-one id asks (move_text (all_off id)) true
 ids-move (sheets_off id) asks plain = ids-one id asks (move_text (sheets_off id)) true plain
 ids-move (failed r) asks plain = ids-fault r.id asks (move_text (failed r)) plain
 
-pub ids-kept : (ms : List Move) (asks : List Ask) → ArePlain asks → map (λ (t : ShownReply). t.id) (map told_of (kept_after_all ms asks)) ≡ flat_map reply_ids ms
+pub ids-kept : (ms : List Move) (asks : List Ask) → ArePlain asks
+    → map (λ (t : ShownReply). t.id) (map told_of (kept_after_all ms asks)) ≡ flat_map reply_ids ms
 ids-kept [] asks plain = refl
 ids-kept (m ∷ ms) asks plain =
     let later = kept_after_all ms (asks_after m asks) in

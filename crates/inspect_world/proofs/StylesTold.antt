@@ -1,5 +1,6 @@
 -- The matched styles among the messages of a step on a frame are those that the frame asks for.
-use Rattle.std.proofs.Common.{◌≡◌, Bool, true, false, not, ◌&&◌, cond, ℕ, List, [], ◌∷◌, ◌++◌, map, Option, Some, None, option_map, refl, sym, ◌∙◌, ap, subst, Result, Ok, Err}
+use Rattle.std.proofs.Common.{◌≡◌, Bool, true, false, not, ◌&&◌, cond, ℕ, List, [], ◌∷◌, ◌++◌, map, Option, Some, None, option_map, refl}
+use Rattle.std.proofs.Common.{sym, ◌∙◌, ap, subst, Result, Ok, Err}
 use Rattle.std.specs.List.{flat_map}
 use Rattle.std.specs.Option.{option_to_list}
 use Rattle.css_objects.specs.declared.rules.Matched.{Matched}
@@ -8,12 +9,19 @@ use Rattle.cdp_messages.specs.declared.command.Refused.{Refused}
 use Rattle.cdp_messages.specs.declared.command.Why.{Why}
 use Rattle.cdp_messages.specs.declared.command.Why.TheVariants.{DomOff, CssOff}
 use Rattle.cdp_messages.specs.declared.command.Command.{Command}
-use Rattle.cdp_messages.specs.declared.command.Command.TheVariants.{DomEnable, DomDisable, GetDocument, RequestChildNodes, PushByPath, PushBySerials, QuerySelector, QuerySelectorAll, GetAttributes, DescribeNode, SetAttributeValue, RemoveAttribute, SetNodeValue, RemoveNode, MoveTo, CopyTo, MarkUndoableState, Undo, Redo, CssEnable, CssDisable, GetMatchedStyles, GetStyleSheetText, CollectClassNames, SetStyleTexts, SetRuleSelector, SetStyleSheetText, AddRule, SetBreakpoint, RemoveBreakpoint, ReplayLoad, ReplayAct}
+use Rattle.cdp_messages.specs.declared.command.Command.TheVariants.{DomEnable, DomDisable, GetDocument, RequestChildNodes, PushByPath}
+use Rattle.cdp_messages.specs.declared.command.Command.TheVariants.{PushBySerials, QuerySelector, QuerySelectorAll, GetAttributes}
+use Rattle.cdp_messages.specs.declared.command.Command.TheVariants.{DescribeNode, SetAttributeValue, RemoveAttribute, SetNodeValue}
+use Rattle.cdp_messages.specs.declared.command.Command.TheVariants.{RemoveNode, MoveTo, CopyTo, MarkUndoableState, Undo, Redo, CssEnable}
+use Rattle.cdp_messages.specs.declared.command.Command.TheVariants.{CssDisable, GetMatchedStyles, GetStyleSheetText, CollectClassNames}
+use Rattle.cdp_messages.specs.declared.command.Command.TheVariants.{SetStyleTexts, SetRuleSelector, SetStyleSheetText, AddRule}
+use Rattle.cdp_messages.specs.declared.command.Command.TheVariants.{SetBreakpoint, RemoveBreakpoint, ReplayLoad, ReplayAct}
 use Rattle.cdp_messages.specs.declared.down.ReplyBody.{ReplyBody}
 use Rattle.cdp_messages.specs.declared.down.ReplyBody.TheVariants as body
 use Rattle.cdp_messages.specs.Asked.{asked, method_name}
 use Rattle.cdp_messages.specs.Laws.{answers}
-use Rattle.cdp_messages.specs.Moves.{Move, change, clear, met, added, dropped, rewritten, root, texted, replied, all_off, sheets_off, failed}
+use Rattle.cdp_messages.specs.Moves.{Move, change, clear, met, added, dropped, rewritten, root, texted, replied, all_off, sheets_off}
+use Rattle.cdp_messages.specs.Moves.{failed}
 use Rattle.css_agent.specs.declared.asks.CssAsk.TheVariants as css
 use Rattle.front_mirror.specs.declared.replies.MatchedReply.{MatchedReply}
 use Rattle.front_mirror.specs.Front.{matched_told}
@@ -55,7 +63,8 @@ no-styles method (dropped n ∷ ms) never may = no-styles method ms never may.1
 no-styles method (rewritten n text ∷ ms) never may = no-styles method ms never may.1
 no-styles method (root found b ∷ ms) never may = no-styles method ms never may.1
 no-styles method (texted found n text ∷ ms) never may = no-styles method ms never may.1
-no-styles method (replied found body ∷ ms) never may = ap (λ rs. rs ++ flat_map matched_after ms) (no-matched method found body never may.0.0) ∙ no-styles method ms never may.1
+no-styles method (replied found body ∷ ms) never may = ap (λ rs. rs ++ flat_map matched_after ms)
+    (no-matched method found body never may.0.0) ∙ no-styles method ms never may.1
 no-styles method (all_off found ∷ ms) never may = no-styles method ms never may.1
 no-styles method (sheets_off found ∷ ms) never may = no-styles method ms never may.1
 no-styles method (failed r ∷ ms) never may = no-styles method ms never may.1
@@ -93,7 +102,9 @@ styles_in ms = map kept_styles (flat_map matched_after ms)
 
 -- those of a node, by which domains are on and what was named
 styles-on : (id node : ℕ) (state : State) (dom on : Bool) (named : Result ℕ Why)
-    → styles_in (cond (not dom) (refusing (Some id) DomOff state) (cond (not on) (refusing (Some id) CssOff state) (record { state = state; moves = node_answer id (css.GetMatchedStyles node) named state ∷ [] }))).moves
+    → styles_in (cond (not dom) (refusing (Some id) DomOff state)
+    (cond (not on) (refusing (Some id) CssOff state)
+    (record { state = state; moves = node_answer id (css.GetMatchedStyles node) named state ∷ [] }))).moves
     ≡ option_to_list (option_map (told_styles id) (cond (dom && on) (option_map (styles_of_element state) (if_named named)) None))
 styles-on id node state false on named = refl
 styles-on id node state true false named = refl
@@ -104,18 +115,21 @@ styles-on id node state true true (Err why) = refl
 other : (c : Command) (ms : List Move) → Never (method_name c) → MayAnswerAll (method_name c) ms → styles_in ms ≡ []
 other c ms never may = ap (map kept_styles) (no-styles (method_name c) ms never may)
 
-styles-command : (id : ℕ) (c : Command) (state : State) (ms : List Move) → ms ≡ (command_step id (server_of c) state).moves → MayAnswerAll (method_name c) ms
+styles-command : (id : ℕ) (c : Command) (state : State) (ms : List Move) → ms ≡ (command_step id (server_of c) state).moves
+    → MayAnswerAll (method_name c) ms
     → styles_in ms ≡ styles_asked (Ok (record { id = id; command = c })) state
 styles-command id DomEnable state ms is may = other DomEnable ms (λ m e. absurd cc) may
 styles-command id DomDisable state ms is may = other DomDisable ms (λ m e. absurd cc) may
 styles-command id (GetDocument depth pierce) state ms is may = other (GetDocument depth pierce) ms (λ m e. absurd cc) may
-styles-command id (RequestChildNodes node depth pierce) state ms is may = other (RequestChildNodes node depth pierce) ms (λ m e. absurd cc) may
+styles-command id (RequestChildNodes node depth pierce) state ms is may = other (RequestChildNodes node depth pierce) ms
+    (λ m e. absurd cc) may
 styles-command id (PushByPath path) state ms is may = other (PushByPath path) ms (λ m e. absurd cc) may
 styles-command id (PushBySerials serials) state ms is may = other (PushBySerials serials) ms (λ m e. absurd cc) may
 styles-command id (QuerySelector node selector) state ms is may = other (QuerySelector node selector) ms (λ m e. absurd cc) may
 styles-command id (QuerySelectorAll node selector) state ms is may = other (QuerySelectorAll node selector) ms (λ m e. absurd cc) may
 styles-command id (GetAttributes node) state ms is may = other (GetAttributes node) ms (λ m e. absurd cc) may
-styles-command id (DescribeNode node serial depth pierce) state ms is may = other (DescribeNode node serial depth pierce) ms (λ m e. absurd cc) may
+styles-command id (DescribeNode node serial depth pierce) state ms is may = other (DescribeNode node serial depth pierce) ms
+    (λ m e. absurd cc) may
 styles-command id (SetAttributeValue node name value) state ms is may = other (SetAttributeValue node name value) ms (λ m e. absurd cc) may
 styles-command id (RemoveAttribute node name) state ms is may = other (RemoveAttribute node name) ms (λ m e. absurd cc) may
 styles-command id (SetNodeValue node value) state ms is may = other (SetNodeValue node value) ms (λ m e. absurd cc) may
@@ -131,7 +145,8 @@ styles-command id (GetMatchedStyles node) state ms is may = ap styles_in is ∙ 
 styles-command id (GetStyleSheetText sheet) state ms is may = other (GetStyleSheetText sheet) ms (λ m e. absurd cc) may
 styles-command id (CollectClassNames sheet) state ms is may = other (CollectClassNames sheet) ms (λ m e. absurd cc) may
 styles-command id (SetStyleTexts edits) state ms is may = other (SetStyleTexts edits) ms (λ m e. absurd cc) may
-styles-command id (SetRuleSelector sheet range selector) state ms is may = other (SetRuleSelector sheet range selector) ms (λ m e. absurd cc) may
+styles-command id (SetRuleSelector sheet range selector) state ms is may = other (SetRuleSelector sheet range selector) ms
+    (λ m e. absurd cc) may
 styles-command id (SetStyleSheetText sheet text) state ms is may = other (SetStyleSheetText sheet text) ms (λ m e. absurd cc) may
 styles-command id (AddRule sheet rule_text location) state ms is may = other (AddRule sheet rule_text location) ms (λ m e. absurd cc) may
 styles-command id (SetBreakpoint node kind) state ms is may = other (SetBreakpoint node kind) ms (λ m e. absurd cc) may
@@ -141,10 +156,12 @@ styles-command id (ReplayAct params) state ms is may = other (ReplayAct params) 
 
 -- ---- what a frame tells
 
-styles-result : (r : Result Asked Refused) (frame : List ℕ) (state : State) → asked frame false ≡ r → IsAnswered r (frame_step false frame state).moves
+styles-result : (r : Result Asked Refused) (frame : List ℕ) (state : State) → asked frame false ≡ r
+    → IsAnswered r (frame_step false frame state).moves
     → styles_in (frame_step false frame state).moves ≡ styles_asked r state
 styles-result (Ok a) frame state is answered =
-    let step_is : (frame_step false frame state).moves ≡ (command_step a.id (server_of a.command) state).moves = ap (λ r. (asked_step r state).moves) is in
+    let step_is : (frame_step false frame state).moves
+    ≡ (command_step a.id (server_of a.command) state).moves = ap (λ r. (asked_step r state).moves) is in
     styles-command a.id a.command state (frame_step false frame state).moves step_is answered.1
 styles-result (Err r) frame state is answered = ap styles_in answered
 

@@ -4,12 +4,14 @@ use Rattle.std.specs.List.{All}
 use Rattle.std.proofs.lemmas.List.Elements.{All-nil, All-cons, All-append}
 use Rattle.pipe_frames.specs.Frames.{IsText, frames_of}
 use Rattle.inspect_world.specs.Stream.{sent}
-use Rattle.inspect_world.specs.World.{World, Spent, nothing_spent, one_ask, one_raw, first_world, ask_sent, raw, sent_up, turned, delivered_up, delivered_down, settled}
+use Rattle.inspect_world.specs.World.{World, Spent, nothing_spent, one_ask, one_raw, first_world, ask_sent, raw, sent_up, turned}
+use Rattle.inspect_world.specs.World.{delivered_up, delivered_down, settled}
 use Rattle.inspect_world.specs.Fold.{Machine, Laws, Fits}
 use Rattle.inspect_world.specs.Fetches.{Fetcher, refreshed, FetchLaws}
 use Rattle.inspect_world.specs.Agreement.{RunTogether}
 use Rattle.inspect_world.proofs.Frames.{sent-passed}
-use Rattle.inspect_world.proofs.Worlds.{whole-framed, fits-first, fits-sent_up, fits-turned, fits-delivered_up, fits-delivered_down, fits-settled}
+use Rattle.inspect_world.proofs.Worlds.{whole-framed, fits-first, fits-sent_up, fits-turned, fits-delivered_up, fits-delivered_down}
+use Rattle.inspect_world.proofs.Worlds.{fits-settled}
 use Rattle.inspect_world.proofs.AgreeLemmas.{agrees-asked, agrees-raw, agrees-turned, agrees-delivered_up, agrees-delivered_down}
 use Rattle.inspect_world.proofs.FetchLemmas.{IsRefreshed, refreshed-made}
 
@@ -53,7 +55,8 @@ module _ {S F E X A : Type 0} (machine : Machine S F E X) (IsNext : Spent → Li
   -- an ask is sent
   pub together-asked : (start : F) (text : List ℕ) (edits : ℕ) (w v : World S) → IsText text → IsPlain text
       → IsNext w.spent text (one_ask edits w.spent) → IsNext v.spent text (one_ask edits v.spent)
-      → RunTogether machine Fit start seen IsPlain w v → RunTogether machine Fit start seen IsPlain (ask_sent edits text w) (ask_sent edits text v)
+      → RunTogether machine Fit start seen IsPlain w v
+      → RunTogether machine Fit start seen IsPlain (ask_sent edits text w) (ask_sent edits text v)
   together-asked start text edits w v letters one next next1 both = record {
     fits = fits-sent_up machine IsNext IsTurn Fit laws start text (one_ask edits) w letters next both.fits;
     fits_fresh = fits-sent_up machine IsNext IsTurn Fit laws start text (one_ask edits) v letters next1 both.fits_fresh;
@@ -74,7 +77,8 @@ module _ {S F E X A : Type 0} (machine : Machine S F E X) (IsNext : Spent → Li
 
   -- the script makes a step by itself
   pub together-turned : (start : F) (x : X) (w v : World S) → IsTurn w.spent x → IsTurn v.spent x
-      → RunTogether machine Fit start seen IsPlain w v → RunTogether machine Fit start seen IsPlain (turned machine.act x w) (turned machine.act x v)
+      → RunTogether machine Fit start seen IsPlain w v
+      → RunTogether machine Fit start seen IsPlain (turned machine.act x w) (turned machine.act x v)
   together-turned start x w v turn turn1 both = record {
     fits = fits-turned machine IsNext IsTurn Fit laws start x w turn both.fits;
     fits_fresh = fits-turned machine IsNext IsTurn Fit laws start x v turn1 both.fits_fresh;
@@ -84,7 +88,8 @@ module _ {S F E X A : Type 0} (machine : Machine S F E X) (IsNext : Spent → Li
 
   -- bytes are delivered
   pub together-delivered_up : (start : F) (n : ℕ) (w v : World S)
-      → RunTogether machine Fit start seen IsPlain w v → RunTogether machine Fit start seen IsPlain (delivered_up machine.step n w) (delivered_up machine.step n v)
+      → RunTogether machine Fit start seen IsPlain w v
+      → RunTogether machine Fit start seen IsPlain (delivered_up machine.step n w) (delivered_up machine.step n v)
   together-delivered_up start n w v both = record {
     fits = fits-delivered_up machine IsNext IsTurn Fit laws start n w both.fits;
     fits_fresh = fits-delivered_up machine IsNext IsTurn Fit laws start n v both.fits_fresh;
@@ -93,7 +98,8 @@ module _ {S F E X A : Type 0} (machine : Machine S F E X) (IsNext : Spent → Li
   }
 
   pub together-delivered_down : (start : F) (n : ℕ) (w v : World S)
-      → RunTogether machine Fit start seen IsPlain w v → RunTogether machine Fit start seen IsPlain (delivered_down n w) (delivered_down n v)
+      → RunTogether machine Fit start seen IsPlain w v
+      → RunTogether machine Fit start seen IsPlain (delivered_down n w) (delivered_down n v)
   together-delivered_down start n w v both = record {
     fits = fits-delivered_down machine IsNext IsTurn Fit laws start n w both.fits;
     fits_fresh = fits-delivered_down machine IsNext IsTurn Fit laws start n v both.fits_fresh;
@@ -103,9 +109,11 @@ module _ {S F E X A : Type 0} (machine : Machine S F E X) (IsNext : Spent → Li
 
   -- a settle: with its fetches in the one run, and without them in the other
   pub together-settled : (start : F) (w v : World S) → v.spent.fetches + sheets ≤ most
-      → RunTogether machine Fit start seen IsPlain w v → RunTogether machine Fit start seen IsPlain (settled machine.step w) (refreshed machine fetcher start v)
+      → RunTogether machine Fit start seen IsPlain w v
+      → RunTogether machine Fit start seen IsPlain (settled machine.step w) (refreshed machine fetcher start v)
   together-settled start w v room both =
-      let made : IsRefreshed machine IsNext IsTurn Fit laws fetcher seen sheets most fetching start w v (refreshed machine fetcher start v) =
+      let made : IsRefreshed machine IsNext IsTurn Fit laws fetcher seen sheets most fetching start w v
+      (refreshed machine fetcher start v) =
       refreshed-made machine IsNext IsTurn Fit laws fetcher seen sheets most fetching start w v both.fits both.fits_fresh both.agrees room in
       record {
         fits = fits-settled machine IsNext IsTurn Fit laws start w both.fits;

@@ -19,7 +19,8 @@ plan-crosses None deed state = deed-crosses deed state
 plan-crosses (Some f) deed state = inr refl
 
 turn-crosses : (x : Turn) (state : State) → Crosses state (turn_step x state).state
-turn-crosses (acts act) state = plan-crosses (act_fault act state.side.page (book_in state)) (act_plan act state.side.page (book_in state)) state
+turn-crosses (acts act) state = plan-crosses (act_fault act state.side.page (book_in state))
+    (act_plan act state.side.page (book_in state)) state
 turn-crosses (loads page) state = inl (refl, refl)
 
 -- how the ids and the edits of the tree together, these edits and all edits go on by it
@@ -32,10 +33,12 @@ emptied : (pushed trees kept pushed1 trees1 kept1 : ℕ) → pushed1 ≤ pushed 
     → (pushed1 + trees1 ≤ pushed + trees + 500000) × (trees1 ≤ trees) × (kept1 ≤ kept)
 emptied pushed trees kept pushed1 trees1 kept1 few none nothing = (omega arith, omega arith, omega arith)
 
-keeps-by : (before after : State) → length after.client.session.pushed ≤ length before.client.session.pushed + (most_ids + tree_edits before) → Crosses before after
+keeps-by : (before after : State)
+    → length after.client.session.pushed ≤ length before.client.session.pushed + (most_ids + tree_edits before) → Crosses before after
     → TurnKeeps before after
 keeps-by before after few (inl none) =
-    let p = emptied (length before.client.session.pushed) (tree_edits before) (edits_kept before) (length after.client.session.pushed) (tree_edits after) (edits_kept after) few none.0 none.1 in
+    let p = emptied (length before.client.session.pushed) (tree_edits before) (edits_kept before) (length after.client.session.pushed)
+    (tree_edits after) (edits_kept after) few none.0 none.1 in
     record { ids = p.0; trees = p.1; edits = p.2 }
 keeps-by before after few (inr same) =
     let ids : length after.client.session.pushed + tree_edits after ≡ length before.client.session.pushed + tree_edits before =

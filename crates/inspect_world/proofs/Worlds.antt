@@ -4,7 +4,8 @@ use Rattle.pipe_frames.specs.Frames.{IsText, framed, frames_of, frames_from, hel
 use Rattle.pipe_frames.proofs.FrameLemmas.{frames_of-append, frames_of-one, frames_from-append}
 use Rattle.inspect_world.specs.Stream.{Stream, sent, put, passed, held, arriving, awaited}
 use Rattle.back_end.specs.Steps.{Stepped}
-use Rattle.inspect_world.specs.World.{World, Spent, nothing_spent, one_ask, one_turn, first_world, steps, sent_up, ask_sent, turned, answered, given_up, delivered_up, delivered_down, settled}
+use Rattle.inspect_world.specs.World.{World, Spent, nothing_spent, one_ask, one_turn, first_world, steps, sent_up, ask_sent, turned}
+use Rattle.inspect_world.specs.World.{answered, given_up, delivered_up, delivered_down, settled}
 use Rattle.inspect_world.specs.Fold.{folded, joined, then, Machine, Laws, Leads, FitsWith, Fits}
 use Rattle.inspect_world.proofs.Frames.{rest-sent, sent-passed, awaited-passed}
 use Rattle.inspect_world.proofs.Folds.{folded-append, joined-append}
@@ -43,7 +44,13 @@ answered-cons step frame frames w =
     let same : w.down.flying ++ (first ++ later) ≡ (w.down.flying ++ (first ++ [])) ++ later =
     sym (append_assoc w.down.flying first later)
     ∙ ap (λ bytes. (w.down.flying ++ bytes) ++ later) (sym (append-nil first)) in
-    ap (λ bytes. record { state = state; up = w.up; down = record { given = w.down.given; flying = bytes }; spent = w.spent; told = w.told }) same
+    ap (λ bytes. record {
+      state = state;
+      up = w.up;
+      down = record { given = w.down.given; flying = bytes };
+      spent = w.spent;
+      told = w.told;
+    }) same
 
 module _ {S F E X : Type 0} (machine : Machine S F E X) (IsNext : Spent → List ℕ → Spent → Type 0)
     (IsTurn : Spent → X → Type 0) (Fit : Spent → F → S → List (List ℕ) → Type 0) (laws : Laws machine IsNext IsTurn Fit) where
@@ -56,7 +63,8 @@ module _ {S F E X : Type 0} (machine : Machine S F E X) (IsNext : Spent → List
   pub fits-sent_up : (start : F) (ask : List ℕ) (more : Spent → Spent) (w : World S) → IsText ask → IsNext w.spent ask (more w.spent)
       → Fits machine.take machine.join Fit start w → Fits machine.take machine.join Fit start (sent_up ask more w)
   fits-sent_up start ask more w letters is_next fits =
-      let all : (frames_of (sent (sent_up ask more w).up)).whole ≡ (frames_of (sent w.up)).whole ++ ask ∷ [] = whole-framed ask w.up letters fits.up_whole in
+      let all : (frames_of (sent (sent_up ask more w).up)).whole
+      ≡ (frames_of (sent w.up)).whole ++ ask ∷ [] = whole-framed ask w.up letters fits.up_whole in
       let none : held_after (held w.up) w.up.flying ≡ [] = sym (rest-sent w.up) ∙ fits.up_whole in
       let last : awaited (sent_up ask more w).up ≡ awaited w.up ++ ask ∷ [] =
       frames_from-append (held w.up) w.up.flying (framed ask)
@@ -68,7 +76,8 @@ module _ {S F E X : Type 0} (machine : Machine S F E X) (IsNext : Spent → List
             ap (λ asks. folded machine.take (joined machine.join start asks) (frames_of (sent w.down)).whole) all
             ∙ ap (λ front. folded machine.take front (frames_of (sent w.down)).whole)
             (joined-append machine.join start (frames_of (sent w.up)).whole (ask ∷ []))
-            ∙ laws.later ask (joined machine.join start (frames_of (sent w.up)).whole) fits.front (frames_of (sent w.down)).whole fits.is_fold;
+            ∙ laws.later ask (joined machine.join start (frames_of (sent w.up)).whole) fits.front
+            (frames_of (sent w.down)).whole fits.is_fold;
         fit = subst (λ frames. Fit (more w.spent) (machine.join fits.front ask) w.state frames) (sym last)
             (laws.asks w.spent (more w.spent) ask fits.front w.state (awaited w.up) is_next fits.fit);
         up_whole =
@@ -89,7 +98,8 @@ module _ {S F E X : Type 0} (machine : Machine S F E X) (IsNext : Spent → List
   fits-given_up start n w fits = record {
     front = fits.front;
     is_fold =
-        ap (λ bytes. folded machine.take (joined machine.join start (frames_of bytes).whole) (frames_of (sent w.down)).whole) (sent-passed n w.up)
+        ap (λ bytes. folded machine.take (joined machine.join start (frames_of bytes).whole) (frames_of (sent w.down)).whole)
+        (sent-passed n w.up)
         ∙ fits.is_fold;
     fit = subst (λ frames. Fit w.spent fits.front w.state frames) (awaited-passed n w.up) fits.fit;
     up_whole = ap (λ bytes. (frames_of bytes).rest) (sent-passed n w.up) ∙ fits.up_whole;
@@ -145,7 +155,8 @@ module _ {S F E X : Type 0} (machine : Machine S F E X) (IsNext : Spent → List
       → FitsWith machine.take machine.join Fit start w (frames ++ more)
       → FitsWith machine.take machine.join Fit start (answered machine.step frames w) more
   fits-answered start [] more w fits =
-      subst (λ down. FitsWith machine.take machine.join Fit start (record { state = w.state; up = w.up; down = down; spent = w.spent; told = w.told }) more) (sym (put-nil w.down)) fits
+      subst (λ down. FitsWith machine.take machine.join Fit start
+      (record { state = w.state; up = w.up; down = down; spent = w.spent; told = w.told }) more) (sym (put-nil w.down)) fits
   fits-answered start (frame ∷ frames) more w fits =
       subst (λ v. FitsWith machine.take machine.join Fit start v more) (sym (answered-cons machine.step frame frames w))
       (fits-answered start frames more (answered machine.step (frame ∷ []) w) (fits-answered_one start frame (frames ++ more) w fits))
@@ -160,7 +171,8 @@ module _ {S F E X : Type 0} (machine : Machine S F E X) (IsNext : Spent → List
   fits-delivered_down start n w fits = record {
     front = fits.front;
     is_fold =
-        ap (λ bytes. folded machine.take (joined machine.join start (frames_of (sent w.up)).whole) (frames_of bytes).whole) (sent-passed n w.down)
+        ap (λ bytes. folded machine.take (joined machine.join start (frames_of (sent w.up)).whole) (frames_of bytes).whole)
+        (sent-passed n w.down)
         ∙ fits.is_fold;
     fit = fits.fit;
     up_whole = fits.up_whole;

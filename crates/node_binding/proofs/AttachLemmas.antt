@@ -1,5 +1,6 @@
 -- A node is attached: a session goes on, with one id more where the parent is opened.
-use Rattle.std.proofs.Common.{◌≡◌, ℕ, ◌+◌, ◌<◌, ◌≤◌, ◌==◌, Bool, true, false, cond, not, ◌&&◌, ◌||◌, List, [], ◌∷◌, ◌++◌, None, refl, sym, ap, ◌∙◌, arith}
+use Rattle.std.proofs.Common.{◌≡◌, ℕ, ◌+◌, ◌<◌, ◌≤◌, ◌==◌, Bool, true, false, cond, not, ◌&&◌, ◌||◌, List, [], ◌∷◌, ◌++◌, None, refl, sym}
+use Rattle.std.proofs.Common.{ap, ◌∙◌, arith}
 use Rattle.std.proofs.lemmas.Bool.{and_from}
 use Rattle.node_tree.specs.Nodes.{Nodes, none, node, Branch, alone}
 use Rattle.node_tree.specs.Keys.{tally, At}
@@ -18,7 +19,8 @@ use Rattle.node_binding.proofs.SessionLemmas.{times-known}
 use Rattle.node_binding.proofs.GrowLemmas.{Stands-more}
 use Rattle.node_binding.proofs.OpeningLemmas.{AreDistinct, all_unopened, self_times, reached-tally, times-reached}
 use Rattle.node_binding.proofs.AnewLemmas.{and-first, and-second}
-use Rattle.node_binding.proofs.ChangedLemmas.{IsAlike, KnownAt, AreContainersOpened, containers-live, known-at, known_below_it, IsOpenedSet-at, IsSession-more, IsSession-same, Stands-same}
+use Rattle.node_binding.proofs.ChangedLemmas.{IsAlike, KnownAt, AreContainersOpened, containers-live, known-at, known_below_it}
+use Rattle.node_binding.proofs.ChangedLemmas.{IsOpenedSet-at, IsSession-more, IsSession-same, Stands-same}
 
 -- ---- among the children
 
@@ -31,7 +33,8 @@ unopened-closed o none e = refl
 unopened-closed o (node r c t) e =
     let head = and-first (not (o r.serial) && is_unopened o c) (is_unopened o t) e in
     and_from (cond (o r.serial) (is_closed o c) (is_unopened o c)) (is_closed o t)
-    (row (o r.serial) (is_closed o c) (is_unopened o c) (and-first (not (o r.serial)) (is_unopened o c) head) (and-second (not (o r.serial)) (is_unopened o c) head))
+    (row (o r.serial) (is_closed o c) (is_unopened o c) (and-first (not (o r.serial)) (is_unopened o c) head)
+    (and-second (not (o r.serial)) (is_unopened o c) head))
     (unopened-closed o t (and-second (not (o r.serial) && is_unopened o c) (is_unopened o t) e))
   where
     row : (a x y : Bool) → not a ≡ true → y ≡ true → cond a x y ≡ true
@@ -43,13 +46,15 @@ module _ (before : ℕ) (x : Branch PageRow) where
   put-tally s none = omega arith
   put-tally s (node r c t) =
       let rest = put-tally s t in
-      either (λ n. tally row_serial s n ≡ tally row_serial s (node r c t) + tally row_serial s (alone x)) (r.serial == before) (node x.row x.children (node r c t)) (node r c (put_before before x t)) (omega arith) (omega arith)
+      either (λ n. tally row_serial s n ≡ tally row_serial s (node r c t) + tally row_serial s (alone x)) (r.serial == before)
+      (node x.row x.children (node r c t)) (node r c (put_before before x t)) (omega arith) (omega arith)
 
   put-reached : (s : ℕ) (c : Nodes PageRow) → times s (containers_within None c) ≤ times s (containers_within None (put_before before x c))
   put-reached s none = omega arith
   put-reached s (node r c t) =
       let rest = put-reached s t in
-      either (λ n. times s (containers_within None (node r c t)) ≤ times s (containers_within None n)) (r.serial == before) (node x.row x.children (node r c t)) (node r c (put_before before x t))
+      either (λ n. times s (containers_within None (node r c t)) ≤ times s (containers_within None n)) (r.serial == before)
+      (node x.row x.children (node r c t)) (node r c (put_before before x t))
       (omega (arith, times-reached None s x.row x.children (node r c t)))
       (omega (arith, times-reached None s r c t, times-reached None s r c (put_before before x t)))
 
@@ -58,7 +63,8 @@ module _ (before : ℕ) (x : Branch PageRow) where
     put-known s none = omega arith
     put-known s (node r c t) =
         let rest = put-known s t in
-        either (λ n. times s (known o n) ≡ times s (known o (node r c t)) + times s (known o (alone x))) (r.serial == before) (node x.row x.children (node r c t)) (node r c (put_before before x t))
+        either (λ n. times s (known o n) ≡ times s (known o (node r c t)) + times s (known o (alone x))) (r.serial == before)
+        (node x.row x.children (node r c t)) (node r c (put_before before x t))
         (omega (arith, times-known o (λ k. k) s x.row x.children (node r c t), times-known o (λ k. k) s x.row x.children none))
         (omega (arith, times-known o (λ k. k) s r c t, times-known o (λ k. k) s r c (put_before before x t)))
 
@@ -68,17 +74,21 @@ module _ (before : ℕ) (x : Branch PageRow) where
       put-unopened (node r c t) e =
           let row = and-first (not (o r.serial) && is_unopened o c) (is_unopened o t) e in
           either (λ n. is_unopened o n ≡ true) (r.serial == before) (node x.row x.children (node r c t)) (node r c (put_before before x t))
-          (and_from (not (o x.row.serial) && is_unopened o x.children) (is_unopened o (node r c t)) (and-first (not (o x.row.serial) && is_unopened o x.children) true shut) e)
-          (and_from (not (o r.serial) && is_unopened o c) (is_unopened o (put_before before x t)) row (put-unopened t (and-second (not (o r.serial) && is_unopened o c) (is_unopened o t) e)))
+          (and_from (not (o x.row.serial) && is_unopened o x.children) (is_unopened o (node r c t))
+          (and-first (not (o x.row.serial) && is_unopened o x.children) true shut) e)
+          (and_from (not (o r.serial) && is_unopened o c) (is_unopened o (put_before before x t)) row
+          (put-unopened t (and-second (not (o r.serial) && is_unopened o c) (is_unopened o t) e)))
 
       put-closed : (c : Nodes PageRow) → is_closed o c ≡ true → is_closed o (put_before before x c) ≡ true
       put-closed none e = unopened-closed o (alone x) shut
       put-closed (node r c t) e =
           let row = and-first (cond (o r.serial) (is_closed o c) (is_unopened o c)) (is_closed o t) e in
-          let new = and-first (cond (o x.row.serial) (is_closed o x.children) (is_unopened o x.children)) true (unopened-closed o (alone x) shut) in
+          let new = and-first (cond (o x.row.serial) (is_closed o x.children) (is_unopened o x.children)) true
+          (unopened-closed o (alone x) shut) in
           either (λ n. is_closed o n ≡ true) (r.serial == before) (node x.row x.children (node r c t)) (node r c (put_before before x t))
           (and_from (cond (o x.row.serial) (is_closed o x.children) (is_unopened o x.children)) (is_closed o (node r c t)) new e)
-          (and_from (cond (o r.serial) (is_closed o c) (is_unopened o c)) (is_closed o (put_before before x t)) row (put-closed t (and-second (cond (o r.serial) (is_closed o c) (is_unopened o c)) (is_closed o t) e)))
+          (and_from (cond (o r.serial) (is_closed o c) (is_unopened o c)) (is_closed o (put_before before x t)) row
+          (put-closed t (and-second (cond (o r.serial) (is_closed o c) (is_unopened o c)) (is_closed o t) e)))
 
 -- ---- in the page
 
@@ -96,7 +106,8 @@ first_alone true true s k xs e = cc
 first_alone true false s k xs e = refl
 first_alone false a s k xs e = refl
 
-module _ (n m : Nodes PageRow) (p x : Branch PageRow) (before : ℕ) (depth : ℕ) (at : At p (with_child before x p) depth n m) (distinct : AreDistinct m) (o : ℕ → Bool) (pushed : List ℕ) (since : ℕ) (session : IsSession n (session_of o pushed since)) where
+module _ (n m : Nodes PageRow) (p x : Branch PageRow) (before : ℕ) (depth : ℕ) (at : At p (with_child before x p) depth n m)
+    (distinct : AreDistinct m) (o : ℕ → Bool) (pushed : List ℕ) (since : ℕ) (session : IsSession n (session_of o pushed since)) where
   tally-more : (s : ℕ) → tally row_serial s m ≡ tally row_serial s n + tally row_serial s (alone x)
   tally-more s = omega (arith, tally-at row_serial s at, put-tally before x s p.children)
 
@@ -105,7 +116,8 @@ module _ (n m : Nodes PageRow) (p x : Branch PageRow) (before : ℕ) (depth : �
 
   -- no new node is opened
   fresh : (s : ℕ) → 0 < tally row_serial s (alone x) → o s ≡ false
-  fresh s h = not_live (o s) (λ e. omega (arith, is_in-times (containers_within None n) s (session.opened_set.live s e), reached-tally None s n, tally-more s, distinct s))
+  fresh s h = not_live (o s) (λ e. omega
+      (arith, is_in-times (containers_within None n) s (session.opened_set.live s e), reached-tally None s n, tally-more s, distinct s))
     where
       not_live : (b : Bool) → (b ≡ true → ⊥) → b ≡ false
       not_live true f = absurd (f refl)
@@ -119,13 +131,15 @@ module _ (n m : Nodes PageRow) (p x : Branch PageRow) (before : ℕ) (depth : �
 
   set_after : IsOpenedSet o m
   set_after =
-      IsOpenedSet-at o (alike_child before x p) (put-unopened before x o shut_new p.children) (put-closed before x o shut_new p.children) (λ s. put-reached before x s p.children) at session.opened_set
+      IsOpenedSet-at o (alike_child before x p) (put-unopened before x o shut_new p.children) (put-closed before x o shut_new p.children)
+      (λ s. put-reached before x s p.children) at session.opened_set
 
   known_at : KnownAt o p (with_child before x p) n m
   known_at = known-at o (alike_child before x p) at
 
   new_known : (s : ℕ) → times s (known o (alone x)) ≡ times s (x.row.serial ∷ [])
-  new_known s = first_alone (holds x.row.label.kind) (o x.row.serial) s x.row.serial (known o x.children) (fresh x.row.serial (omega (arith, self_times x.row.serial)))
+  new_known s = first_alone (holds x.row.label.kind) (o x.row.serial) s x.row.serial (known o x.children)
+      (fresh x.row.serial (omega (arith, self_times x.row.serial)))
 
   -- the parent is opened
   module _ (open_parent : o p.row.serial ≡ true) where
@@ -134,16 +148,28 @@ module _ (n m : Nodes PageRow) (p x : Branch PageRow) (before : ℕ) (depth : �
         let opened_row : opens o p.row ≡ true = known_at.holder containers open_parent in
         let shown : (xs : List ℕ) → times s (cond (opens o p.row) xs []) ≡ times s xs = λ xs. ap (λ b. times s (cond b xs [])) opened_row in
         let seen : known_at.in_view ≡ true = known_at.seen session.opened_set.closed containers open_parent in
-        let counts : times s (known o m) + times s (known_below_it o p) ≡ times s (known o n) + times s (known_below_it o (with_child before x p)) =
-        sym (ap (λ v. times s (known o m) + cond {A = ℕ} v (times s (known_below_it o p)) 0) seen) ∙ known_at.counts s ∙ ap (λ v. times s (known o n) + cond {A = ℕ} v (times s (known_below_it o (with_child before x p))) 0) seen in
-        omega (arith, counts, shown (known o p.children), shown (known o (put_before before x p.children)), put-known before x o s p.children, new_known s)
+        let counts : times s (known o m) + times s (known_below_it o p)
+        ≡ times s (known o n) + times s (known_below_it o (with_child before x p)) =
+        sym (ap (λ v. times s (known o m) + cond {A = ℕ} v (times s (known_below_it o p)) 0) seen) ∙ known_at.counts s ∙ ap
+        (λ v. times s (known o n) + cond {A = ℕ} v (times s (known_below_it o (with_child before x p))) 0) seen in
+        omega (
+          arith,
+          counts,
+          shown (known o p.children),
+          shown
+              (known o (put_before before x p.children)),
+          put-known before x o s p.children,
+          new_known s,
+        )
 
     pub IsSession-attached : IsSession m (attached x.row.serial (session_of o pushed since))
     IsSession-attached = IsSession-more n m o o pushed since (x.row.serial ∷ []) known_more set_after session
 
-    pub Stands-attached : (b : BindingValue) → Stands n (session_of o pushed since) b → Stands m (attached x.row.serial (session_of o pushed since)) (with_bound x.row.serial b)
+    pub Stands-attached : (b : BindingValue) → Stands n (session_of o pushed since) b
+        → Stands m (attached x.row.serial (session_of o pushed since)) (with_bound x.row.serial b)
     Stands-attached b stands =
-        Stands-more n m o o pushed since [] (x.row.serial ∷ []) known_more (λ s. omega (arith, known-tally o s m, distinct s)) (λ s. or-false (o s)) b session stands
+        Stands-more n m o o pushed since [] (x.row.serial ∷ []) known_more (λ s. omega (arith, known-tally o s m, distinct s))
+        (λ s. or-false (o s)) b session stands
       where
         or-false : (b : Bool) → b ≡ (b || false)
         or-false true = refl
@@ -153,8 +179,11 @@ module _ (n m : Nodes PageRow) (p x : Branch PageRow) (before : ℕ) (depth : �
   module _ (shut_parent : o p.row.serial ≡ false) where
     known_same : (s : ℕ) → times s (known o m) ≡ times s (known o n)
     known_same s =
-        let nothing : (v : Bool) (k l a b : ℕ) → a ≡ 0 → b ≡ 0 → k + cond {A = ℕ} v a 0 ≡ l + cond {A = ℕ} v b 0 → k ≡ l = λ v k l a b f g e. omega (arith, ap (λ c. cond {A = ℕ} v c 0) f, ap (λ c. cond {A = ℕ} v c 0) g, zeros v) in
-        nothing known_at.in_view _ _ _ _ (none_below (holds p.row.label.kind) (o p.row.serial) s (known o p.children) shut_parent) (none_below (holds p.row.label.kind) (o p.row.serial) s (known o (put_before before x p.children)) shut_parent) (known_at.counts s)
+        let nothing : (v : Bool) (k l a b : ℕ) → a ≡ 0 → b ≡ 0 → k + cond {A = ℕ} v a 0 ≡ l + cond {A = ℕ} v b 0
+        → k ≡ l = λ v k l a b f g e. omega (arith, ap (λ c. cond {A = ℕ} v c 0) f, ap (λ c. cond {A = ℕ} v c 0) g, zeros v) in
+        nothing known_at.in_view _ _ _ _ (none_below (holds p.row.label.kind) (o p.row.serial) s (known o p.children) shut_parent)
+        (none_below (holds p.row.label.kind) (o p.row.serial) s (known o (put_before before x p.children)) shut_parent)
+        (known_at.counts s)
       where
         zeros : (v : Bool) → cond {A = ℕ} v 0 0 ≡ 0
         zeros true = refl

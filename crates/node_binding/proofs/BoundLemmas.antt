@@ -1,5 +1,6 @@
 -- What the tables of a binding answer after serials were bound or opened.
-use Rattle.std.proofs.Common.{◌≡◌, ℕ, zero, suc, ◌+◌, ◌<◌, ◌≤◌, ◌==◌, Bool, true, false, cond, not, ◌||◌, List, [], ◌∷◌, length, find, Option, Some, refl, sym, ap, ◌∙◌, arith}
+use Rattle.std.proofs.Common.{◌≡◌, ℕ, zero, suc, ◌+◌, ◌<◌, ◌≤◌, ◌==◌, Bool, true, false, cond, not, ◌||◌, List, [], ◌∷◌, length, find}
+use Rattle.std.proofs.Common.{Option, Some, refl, sym, ap, ◌∙◌, arith}
 use Rattle.std.proofs.lemmas.Bool.Decides.{nat_tests}
 use Rattle.std.specs.Ordering.{nat_cmp}
 use Rattle.std.specs.Cmp.{nat_cmp_total, unsigned_tied}
@@ -43,7 +44,8 @@ or-swapped true false c = refl
 or-swapped false true c = refl
 or-swapped false false c = refl
 
-pub opened-opened : (os : List ℕ) (b : BindingValue) (s : ℕ) → set.contains (all_opened os b).opened s ≡ (stands_in s os || set.contains b.opened s)
+pub opened-opened : (os : List ℕ) (b : BindingValue) (s : ℕ)
+    → set.contains (all_opened os b).opened s ≡ (stands_in s os || set.contains b.opened s)
 opened-opened [] b s = refl
 opened-opened (x ∷ xs) b s =
     opened-opened xs (with_opened x b) s
@@ -61,31 +63,43 @@ pub bound-next : (ss : List ℕ) (b : BindingValue) → (all_bound ss b).next �
 bound-next [] b = omega arith
 bound-next (s ∷ ss) b = omega (arith, bound-next ss (with_bound s b))
 
-ids-step : (p k : ℕ) (here : Bool) (old : Option ℕ) → cond (p == 0) (cond here (Some (k + 1)) old) (Some (k + 1 + p)) ≡ cond (cond {A = ℕ} (p == 0) (cond {A = ℕ} here 1 0) (suc p) == 0) old (Some (k + cond {A = ℕ} (p == 0) (cond {A = ℕ} here 1 0) (suc p)))
+ids-step : (p k : ℕ) (here : Bool) (old : Option ℕ)
+    → cond (p == 0) (cond here (Some (k + 1)) old) (Some (k + 1 + p))
+    ≡ cond (cond {A = ℕ} (p == 0) (cond {A = ℕ} here 1 0) (suc p) == 0) old
+    (Some (k + cond {A = ℕ} (p == 0) (cond {A = ℕ} here 1 0) (suc p)))
 ids-step zero k true old = refl
 ids-step zero k false old = refl
 ids-step (suc p) k here old = rw (suc-is_zero p, suc-is_zero (suc p)) (ap Some (omega arith))
 
 -- a bound serial has the id of its last place
-pub bound-ids : (ss : List ℕ) (b : BindingValue) (k : ℕ) → b.next ≡ k + 1 → (s : ℕ) → map.get (all_bound ss b).ids s ≡ cond (last_standing ss s == 0) (map.get b.ids s) (Some (k + last_standing ss s))
+pub bound-ids : (ss : List ℕ) (b : BindingValue) (k : ℕ) → b.next ≡ k + 1 → (s : ℕ)
+    → map.get (all_bound ss b).ids s ≡ cond (last_standing ss s == 0) (map.get b.ids s) (Some (k + last_standing ss s))
 bound-ids [] b k e s = refl
 bound-ids (x ∷ xs) b k e s =
     bound-ids xs (with_bound x b) (k + 1) (omega arith) s
-    ∙ ap (λ v. cond (last_standing xs s == 0) v (Some (k + 1 + last_standing xs s))) (get-insert b.ids x b.next s ∙ ap (λ n. cond (x == s) (Some n) (map.get b.ids s)) e)
+    ∙ ap (λ v. cond (last_standing xs s == 0) v (Some (k + 1 + last_standing xs s)))
+    (get-insert b.ids x b.next s ∙ ap (λ n. cond (x == s) (Some n) (map.get b.ids s)) e)
     ∙ ids-step (last_standing xs s) k (x == s) (map.get b.ids s)
 
 abbrev has_id : ℕ → List ℕ → ℕ → ℕ → Bool
 has_id k ss id s = (k + last_standing ss s) == id
 
-serials-step : (x : ℕ) (xs : List ℕ) (k id : ℕ) (old : Option ℕ) → times x xs ≡ 0 → first_of (find (has_id (k + 1) xs id) xs) (cond ((k + 1) == id) (Some x) old) ≡ first_of (find (has_id k (x ∷ xs) id) (x ∷ xs)) old
+serials-step : (x : ℕ) (xs : List ℕ) (k id : ℕ) (old : Option ℕ) → times x xs ≡ 0
+    → first_of (find (has_id (k + 1) xs id) xs) (cond ((k + 1) == id) (Some x) old) ≡ first_of (find (has_id k (x ∷ xs) id) (x ∷ xs)) old
 serials-step x xs k id old apart =
     let head : last_standing (x ∷ xs) x ≡ 1 = place-head x xs apart in
-    let later : (s : ℕ) → 0 < times s xs → last_standing (x ∷ xs) s ≡ suc (last_standing xs s) = λ s h. place-later x xs s (place-some xs s h) in
+    let later : (s : ℕ) → 0 < times s xs
+    → last_standing (x ∷ xs) s ≡ suc (last_standing xs s) = λ s h. place-later x xs s (place-some xs s h) in
     let same : find (has_id k (x ∷ xs) id) xs ≡ find (has_id (k + 1) xs id) xs =
     find_same _ _ xs (λ s h. ap (λ n. n == id) (omega (arith, later s h))) in
-    let split : (v : Bool) → ((k + 1) == id) ≡ v → first_of (find (has_id (k + 1) xs id) xs) (cond v (Some x) old) ≡ first_of (cond v (Some x) (find (has_id (k + 1) xs id) xs)) old = λ v.
-    elim v as (λ v. ((k + 1) == id) ≡ v → first_of (find (has_id (k + 1) xs id) xs) (cond v (Some x) old) ≡ first_of (cond v (Some x) (find (has_id (k + 1) xs id) xs)) old) [
-      | true ↦ λ e. ap (λ o. first_of o (Some x)) (find_none (has_id (k + 1) xs id) xs (λ s h. let p : 0 < last_standing xs s = place-some xs s h in grind (arith, nat_tests)))
+    let split : (v : Bool) → ((k + 1) == id) ≡ v
+    → first_of (find (has_id (k + 1) xs id) xs) (cond v (Some x) old)
+    ≡ first_of (cond v (Some x) (find (has_id (k + 1) xs id) xs)) old = λ v.
+    elim v as (λ v. ((k + 1) == id) ≡ v
+    → first_of (find (has_id (k + 1) xs id) xs) (cond v (Some x) old)
+    ≡ first_of (cond v (Some x) (find (has_id (k + 1) xs id) xs)) old) [
+      | true ↦ λ e. ap (λ o. first_of o (Some x))
+          (find_none (has_id (k + 1) xs id) xs (λ s h. let p : 0 < last_standing xs s = place-some xs s h in grind (arith, nat_tests)))
       | false ↦ λ _. refl
     ] in
     split ((k + 1) == id) refl
@@ -93,9 +107,11 @@ serials-step x xs k id old apart =
     ∙ ap (λ o. first_of (cond (has_id k (x ∷ xs) id x) (Some x) o) old) (sym same)
 
 -- an id is that of the serial at its place
-pub bound-serials : (ss : List ℕ) (b : BindingValue) (k : ℕ) → b.next ≡ k + 1 → ((s : ℕ) → times s ss ≤ 1) → (id : ℕ) → map.get (all_bound ss b).serials id ≡ first_of (find (λ s. (k + last_standing ss s) == id) ss) (map.get b.serials id)
+pub bound-serials : (ss : List ℕ) (b : BindingValue) (k : ℕ) → b.next ≡ k + 1 → ((s : ℕ) → times s ss ≤ 1) → (id : ℕ)
+    → map.get (all_bound ss b).serials id ≡ first_of (find (λ s. (k + last_standing ss s) == id) ss) (map.get b.serials id)
 bound-serials [] b k e distinct id = refl
 bound-serials (x ∷ xs) b k e distinct id =
     bound-serials xs (with_bound x b) (k + 1) (omega arith) (λ s. omega (arith, distinct s)) id
-    ∙ ap (λ o. first_of (find (has_id (k + 1) xs id) xs) o) (get-insert b.serials b.next x id ∙ ap (λ n. cond (n == id) (Some x) (map.get b.serials id)) e)
+    ∙ ap (λ o. first_of (find (has_id (k + 1) xs id) xs) o)
+    (get-insert b.serials b.next x id ∙ ap (λ n. cond (n == id) (Some x) (map.get b.serials id)) e)
     ∙ serials-step x xs k id (map.get b.serials id) (once x xs (distinct x))

@@ -1,5 +1,6 @@
 -- The binding stands for the session after each change.
-use Rattle.std.proofs.Common.{◌≡◌, ◌≢◌, ℕ, ◌<◌, Bool, true, false, cond, not, ◌&&◌, ◌==◌, List, [], Option, Some, None, IsSome, unwrap_or, refl, sym, ap, subst, ◌∙◌, inl, inr, arith}
+use Rattle.std.proofs.Common.{◌≡◌, ◌≢◌, ℕ, ◌<◌, Bool, true, false, cond, not, ◌&&◌, ◌==◌, List, [], Option, Some, None, IsSome, unwrap_or}
+use Rattle.std.proofs.Common.{refl, sym, ap, subst, ◌∙◌, inl, inr, arith}
 use Rattle.std.proofs.lemmas.Bool.{eqb-true}
 use Rattle.std.specs.FinMap as map
 use Rattle.node_tree.specs.Nodes.{Nodes, none, node, Branch, alone}
@@ -14,7 +15,8 @@ use Rattle.node_binding.specs.Cuts.{known}
 use Rattle.node_binding.specs.Openings.{containers_within}
 use Rattle.node_binding.specs.Sessions.{Session, IsSession, session_of, is_open, id_at, attached, detached}
 use Rattle.node_binding.specs.Bindings.{BindingValue, Stands, with_bound, all_forgotten}
-use Rattle.node_binding.specs.Changes.{BindingStandsFor, BindingBegins, Resets, Starts, OpensDown, BindsChild, PassesAttach, Forgets, PassesLabel}
+use Rattle.node_binding.specs.Changes.{BindingStandsFor, BindingBegins, Resets, Starts, OpensDown, BindsChild, PassesAttach, Forgets}
+use Rattle.node_binding.specs.Changes.{PassesLabel}
 use Rattle.node_binding.proofs.Places.{is_in-times}
 use Rattle.node_binding.proofs.Known.{known-tally}
 use Rattle.node_binding.proofs.StartLemmas.{root_holds, distinct-alone}
@@ -54,10 +56,19 @@ opens_down d page x o pushed since b left valid can for = record {
 -- ---- one node of the page is changed
 
 -- where nothing is known, the page says nothing
-Stands-unknown : (n m : Nodes PageRow) (pushed : List ℕ) (since : ℕ) (b : BindingValue) → Stands n (record { opened = None; pushed = pushed; since = since }) b → Stands m (record { opened = None; pushed = pushed; since = since }) b
-Stands-unknown n m pushed since b stands = record { opened_is = stands.opened_is; ids_are = stands.ids_are; serials_are = stands.serials_are; next_is = stands.next_is }
+Stands-unknown : (n m : Nodes PageRow) (pushed : List ℕ) (since : ℕ) (b : BindingValue)
+    → Stands n (record { opened = None; pushed = pushed; since = since }) b
+    → Stands m (record { opened = None; pushed = pushed; since = since }) b
+Stands-unknown n m pushed since b stands = record {
+  opened_is = stands.opened_is;
+  ids_are = stands.ids_are;
+  serials_are = stands.serials_are;
+  next_is = stands.next_is;
+}
 
-IsSession-unknown : (n m : Nodes PageRow) (pushed : List ℕ) (since : ℕ) → IsSession n (record { opened = None; pushed = pushed; since = since }) → IsSession m (record { opened = None; pushed = pushed; since = since })
+IsSession-unknown : (n m : Nodes PageRow) (pushed : List ℕ) (since : ℕ)
+    → IsSession n (record { opened = None; pushed = pushed; since = since })
+    → IsSession m (record { opened = None; pushed = pushed; since = since })
 IsSession-unknown n m pushed since session = record { opened_set = tt; since_then = session.since_then; known_stand = session.known_stand }
 
 or_nothing : (v : Bool) → cond {A = Option ℕ} v None None ≡ None
@@ -68,15 +79,21 @@ and_nothing : (v : Bool) → (v && false) ≡ false
 and_nothing true = refl
 and_nothing false = refl
 
-Stands-forgotten : (n m : Nodes PageRow) (x : Branch PageRow) (pushed : List ℕ) (since : ℕ) (b : BindingValue) → IsSession n (record { opened = None; pushed = pushed; since = since }) → Stands n (record { opened = None; pushed = pushed; since = since }) b
+Stands-forgotten : (n m : Nodes PageRow) (x : Branch PageRow) (pushed : List ℕ) (since : ℕ) (b : BindingValue)
+    → IsSession n (record { opened = None; pushed = pushed; since = since })
+    → Stands n (record { opened = None; pushed = pushed; since = since }) b
     → Stands m (record { opened = None; pushed = pushed; since = since }) (all_forgotten (alone x) b)
 Stands-forgotten n m x pushed since b session stands =
     let w : Session = record { opened = None; pushed = pushed; since = since } in
-    let ids : (s : ℕ) → map.get (all_forgotten (alone x) b).ids s ≡ id_at w m s = λ s. forgotten-ids (alone x) b s ∙ ap (cond (has row_serial s (alone x)) None) (stands.ids_are s) ∙ or_nothing (has row_serial s (alone x)) in
+    let ids : (s : ℕ) → map.get (all_forgotten (alone x) b).ids s
+    ≡ id_at w m s = λ s. forgotten-ids (alone x) b s ∙ ap (cond (has row_serial s (alone x)) None) (stands.ids_are s) ∙ or_nothing
+    (has row_serial s (alone x)) in
     record {
-      opened_is = λ s. forgotten-opened (alone x) b s ∙ ap (λ v. not (has row_serial s (alone x)) && v) (stands.opened_is s) ∙ and_nothing (not (has row_serial s (alone x)));
+      opened_is = λ s. forgotten-opened (alone x) b s ∙ ap (λ v. not (has row_serial s (alone x)) && v) (stands.opened_is s) ∙ and_nothing
+          (not (has row_serial s (alone x)));
       ids_are = ids;
-      serials_are = serials-paired m w (all_forgotten (alone x) b) ids (IsPaired-all_forgotten (alone x) b (IsPaired-stands n w session b stands));
+      serials_are = serials-paired m w (all_forgotten (alone x) b) ids
+          (IsPaired-all_forgotten (alone x) b (IsPaired-stands n w session b stands));
       next_is = forgotten-next (alone x) b ∙ stands.next_is;
     }
 
@@ -87,7 +104,11 @@ pub record Named (serial : ℕ) (tree p : Branch PageRow) : Type 0 where
   pub serial_is : p.row.serial ≡ serial
 
 named : (serial : ℕ) (tree p : Branch PageRow) → find_in serial tree ≡ Some p → Named serial tree p
-named serial tree p found = record { found = found; at = ap (λ o. unwrap_or o tree) found; serial_is = found_key row_serial serial (alone tree) p found }
+named serial tree p found = record {
+  found = found;
+  at = ap (λ o. unwrap_or o tree) found;
+  serial_is = found_key row_serial serial (alone tree) p found;
+}
 
 named_some : (serial : ℕ) (tree : Branch PageRow) → IsSome (find_in serial tree) → Named serial tree (node_at serial tree)
 named_some serial tree there = go (find_in serial tree) refl there
@@ -97,57 +118,75 @@ named_some serial tree there = go (find_in serial tree) refl there
     go (Some p) e h = subst (Named serial tree) (sym (ap (λ o. unwrap_or o tree) e)) (named serial tree p e)
 
 named_opened : (o : ℕ → Bool) (tree : Branch PageRow) (serial : ℕ) → 0 < tally row_serial serial (alone tree) → IsSome (find_in serial tree)
-named_opened o tree serial h = subst (λ b. b ≡ true) (sym (has-there row_serial serial (alone tree) h) ∙ has-find row_serial serial (alone tree)) refl
+named_opened o tree serial h = subst (λ b. b ≡ true)
+    (sym (has-there row_serial serial (alone tree) h) ∙ has-find row_serial serial (alone tree)) refl
 
 changed : (serial : ℕ) (change : Branch PageRow → Branch PageRow) (tree : Branch PageRow) → IsSome (find_in serial tree)
     → (depth : ℕ) × At (node_at serial tree) (change (node_at serial tree)) depth (alone tree) (alone (changed_at serial change tree))
 changed serial change tree there =
-    let it = named_some serial tree there in at-put_root row_serial serial (change (node_at serial tree)) tree (node_at serial tree) it.found
+    let it = named_some serial tree there in at-put_root row_serial serial (change (node_at serial tree)) tree
+    (node_at serial tree) it.found
 
 -- ---- attach
 
-module _ (page : PageValue) (parent before : ℕ) (x : Branch PageRow) (valid : IsValid page) (valid_after : IsValid (after (Attach parent before x) page)) where
+module _ (page : PageValue) (parent before : ℕ) (x : Branch PageRow) (valid : IsValid page)
+    (valid_after : IsValid (after (Attach parent before x) page)) where
   abbrev n : Nodes PageRow
   n = alone page.tree
 
   abbrev m : Nodes PageRow
   m = alone (after (Attach parent before x) page).tree
 
-  attached_below : (o : ℕ → Bool) (pushed : List ℕ) (since : ℕ) (b : BindingValue) → IsSome (find_in parent page.tree) → o parent ≡ true → BindingStandsFor page (session_of o pushed since) b
-      → BindingStandsFor (after (Attach parent before x) page) (attached x.row.serial (session_of o pushed since)) (with_bound x.row.serial b)
+  attached_below : (o : ℕ → Bool) (pushed : List ℕ) (since : ℕ) (b : BindingValue) → IsSome (find_in parent page.tree) → o parent ≡ true
+      → BindingStandsFor page (session_of o pushed since) b
+      → BindingStandsFor (after (Attach parent before x) page) (attached x.row.serial (session_of o pushed since))
+      (with_bound x.row.serial b)
   attached_below o pushed since b there is for =
       let at = changed parent (with_child before x) page.tree there in
       let it = named_some parent page.tree there in
       let open_parent : o (node_at parent page.tree).row.serial ≡ true = ap o it.serial_is ∙ is in
       record {
-        session = IsSession-attached n m (node_at parent page.tree) x before at.0 at.1 (distinct-alone (after (Attach parent before x) page) valid_after) o pushed since for.session open_parent;
-        stands = Stands-attached n m (node_at parent page.tree) x before at.0 at.1 (distinct-alone (after (Attach parent before x) page) valid_after) o pushed since for.session open_parent b for.stands;
+        session = IsSession-attached n m (node_at parent page.tree) x before at.0 at.1
+            (distinct-alone (after (Attach parent before x) page) valid_after) o pushed since for.session open_parent;
+        stands = Stands-attached n m (node_at parent page.tree) x before at.0 at.1
+            (distinct-alone (after (Attach parent before x) page) valid_after) o pushed since for.session open_parent b for.stands;
       }
 
-  attached_apart : (o : ℕ → Bool) (pushed : List ℕ) (since : ℕ) (b : BindingValue) → IsSome (find_in parent page.tree) → o parent ≡ false → BindingStandsFor page (session_of o pushed since) b
+  attached_apart : (o : ℕ → Bool) (pushed : List ℕ) (since : ℕ) (b : BindingValue) → IsSome (find_in parent page.tree) → o parent ≡ false
+      → BindingStandsFor page (session_of o pushed since) b
       → BindingStandsFor (after (Attach parent before x) page) (session_of o pushed since) b
   attached_apart o pushed since b there is for =
       let at = changed parent (with_child before x) page.tree there in
       let it = named_some parent page.tree there in
       let shut_parent : o (node_at parent page.tree).row.serial ≡ false = ap o it.serial_is ∙ is in
       record {
-        session = IsSession-apart n m (node_at parent page.tree) x before at.0 at.1 (distinct-alone (after (Attach parent before x) page) valid_after) o pushed since for.session shut_parent;
-        stands = Stands-apart n m (node_at parent page.tree) x before at.0 at.1 (distinct-alone (after (Attach parent before x) page) valid_after) o pushed since for.session shut_parent b for.stands;
+        session = IsSession-apart n m (node_at parent page.tree) x before at.0 at.1
+            (distinct-alone (after (Attach parent before x) page) valid_after) o pushed since for.session shut_parent;
+        stands = Stands-apart n m (node_at parent page.tree) x before at.0 at.1
+            (distinct-alone (after (Attach parent before x) page) valid_after) o pushed since for.session shut_parent b for.stands;
       }
 
   -- an opened node is live
-  opened_there : (o : ℕ → Bool) (pushed : List ℕ) (since : ℕ) → IsSession n (session_of o pushed since) → o parent ≡ true → IsSome (find_in parent page.tree)
+  opened_there : (o : ℕ → Bool) (pushed : List ℕ) (since : ℕ) → IsSession n (session_of o pushed since) → o parent ≡ true
+      → IsSome (find_in parent page.tree)
   opened_there o pushed since session is =
-      named_opened o page.tree parent (omega (arith, is_in-times (containers_within None n) parent (session.opened_set.live parent is), reached-tally None parent n))
+      named_opened o page.tree parent
+      (omega (arith, is_in-times (containers_within None n) parent (session.opened_set.live parent is), reached-tally None parent n))
 
-  pub binds_child_by : (opened : Option (ℕ → Bool)) (pushed : List ℕ) (since : ℕ) (b : BindingValue) → is_open opened parent ≡ true → BindingStandsFor page (record { opened = opened; pushed = pushed; since = since }) b
-      → BindingStandsFor (after (Attach parent before x) page) (attached x.row.serial (record { opened = opened; pushed = pushed; since = since })) (with_bound x.row.serial b)
+  pub binds_child_by : (opened : Option (ℕ → Bool)) (pushed : List ℕ) (since : ℕ) (b : BindingValue) → is_open opened parent ≡ true
+      → BindingStandsFor page (record { opened = opened; pushed = pushed; since = since }) b
+      → BindingStandsFor (after (Attach parent before x) page)
+      (attached x.row.serial (record { opened = opened; pushed = pushed; since = since })) (with_bound x.row.serial b)
   binds_child_by None pushed since b is for = cc
   binds_child_by (Some o) pushed since b is for = attached_below o pushed since b (opened_there o pushed since for.session is) is for
 
-  pub passes_attach_by : (opened : Option (ℕ → Bool)) (pushed : List ℕ) (since : ℕ) (b : BindingValue) → IsSome (find_in parent page.tree) → is_open opened parent ≡ false → BindingStandsFor page (record { opened = opened; pushed = pushed; since = since }) b
+  pub passes_attach_by : (opened : Option (ℕ → Bool)) (pushed : List ℕ) (since : ℕ) (b : BindingValue) → IsSome (find_in parent page.tree)
+      → is_open opened parent ≡ false → BindingStandsFor page (record { opened = opened; pushed = pushed; since = since }) b
       → BindingStandsFor (after (Attach parent before x) page) (record { opened = opened; pushed = pushed; since = since }) b
-  passes_attach_by None pushed since b there is for = record { session = IsSession-unknown n m pushed since for.session; stands = Stands-unknown n m pushed since b for.stands }
+  passes_attach_by None pushed since b there is for = record {
+    session = IsSession-unknown n m pushed since for.session;
+    stands = Stands-unknown n m pushed since b for.stands;
+  }
   passes_attach_by (Some o) pushed since b there is for = attached_apart o pushed since b there is for
 
 pub binds_child : BindsChild
@@ -161,8 +200,10 @@ passes_attach page parent before x w b valid valid_after there is for = passes_a
 one_of : (k : ℕ) (c : Nodes PageRow) (x : Branch PageRow) → child_of row_serial k c ≡ Some x → IsOneOf x c
 one_of k none x e = cc
 one_of k (node r c t) x e =
-    (elim (r.serial == k) as (λ v. cond v (Some (record { row = r; children = c })) (child_of row_serial k t) ≡ Some x → IsOneOf x (node r c t)) [
-      | true ↦ λ e. (let same : ◌≡◌ {A = Branch PageRow} (record { row = r; children = c }) x = cc in subst (λ (y : Branch PageRow). IsOneOf y (node r c t)) same (first t))
+    (elim (r.serial == k) as (λ v. cond v (Some (record { row = r; children = c })) (child_of row_serial k t) ≡ Some x
+    → IsOneOf x (node r c t)) [
+      | true ↦ λ e. (let same : ◌≡◌ {A = Branch PageRow} (record { row = r; children = c }) x = cc in subst
+          (λ (y : Branch PageRow). IsOneOf y (node r c t)) same (first t))
       | false ↦ λ e. later r c t (one_of k t x e)
     ]) e
 
@@ -173,7 +214,8 @@ record Place (page : PageValue) (serial : ℕ) (x : Branch PageRow) : Type 0 whe
   at : At holder (without_child x.row.serial holder) depth (alone page.tree) (alone (after (Detach serial) page).tree)
   one : IsOneOf x holder.children
 
-module _ (page : PageValue) (serial : ℕ) (valid : IsValid page) (there : IsSome (find_in serial page.tree)) (other : serial ≢ page.tree.row.serial) where
+module _ (page : PageValue) (serial : ℕ) (valid : IsValid page) (there : IsSome (find_in serial page.tree))
+    (other : serial ≢ page.tree.row.serial) where
   abbrev x : Branch PageRow
   x = node_at serial page.tree
 
@@ -181,18 +223,23 @@ module _ (page : PageValue) (serial : ℕ) (valid : IsValid page) (there : IsSom
   place_of h =
       let k : ℕ = h.holder.row.serial in
       let above : parent_at serial page.tree ≡ k = ap (λ o. unwrap_or o 0) h.parent in
-      let found : find_in k page.tree ≡ Some h.holder = find-stands row_serial h.holder (alone page.tree) h.stands (distinct-alone page valid k) in
+      let found : find_in k page.tree
+      ≡ Some h.holder = find-stands row_serial h.holder (alone page.tree) h.stands (distinct-alone page valid k) in
       let it = named k page.tree h.holder found in
       let live : IsSome (find_in k page.tree) = subst (λ (o : Option (Branch PageRow)). IsSome o) (sym found) refl in
       let at = changed k (without_child serial) page.tree live in
       let same : x.row.serial ≡ serial = (named_some serial page.tree there).serial_is in
-      let by_holder : At h.holder (without_child serial h.holder) at.0 (alone page.tree) (alone (changed_at k (without_child serial) page.tree)) =
-      subst (λ (q : Branch PageRow). At q (without_child serial q) at.0 (alone page.tree) (alone (changed_at k (without_child serial) page.tree))) it.at at.1 in
+      let by_holder : At h.holder (without_child serial h.holder) at.0 (alone page.tree)
+      (alone (changed_at k (without_child serial) page.tree)) =
+      subst (λ (q : Branch PageRow). At q (without_child serial q) at.0 (alone page.tree)
+      (alone (changed_at k (without_child serial) page.tree))) it.at at.1 in
       record {
         holder = h.holder;
         depth = at.0;
-        at = subst (λ (s : ℕ). At h.holder (without_child s h.holder) at.0 (alone page.tree) (alone (after (Detach serial) page).tree)) (sym same)
-            (subst (λ (j : ℕ). At h.holder (without_child serial h.holder) at.0 (alone page.tree) (alone (changed_at j (without_child serial) page.tree))) (sym above) by_holder);
+        at = subst (λ (s : ℕ). At h.holder (without_child s h.holder) at.0 (alone page.tree) (alone (after (Detach serial) page).tree))
+            (sym same)
+            (subst (λ (j : ℕ). At h.holder (without_child serial h.holder) at.0 (alone page.tree)
+            (alone (changed_at j (without_child serial) page.tree))) (sym above) by_holder);
         one = one_of serial h.holder.children x h.child;
       }
 
@@ -203,20 +250,26 @@ module _ (page : PageValue) (serial : ℕ) (valid : IsValid page) (there : IsSom
   ]
     where
       document_of : (k : ℕ) (tree y : Branch PageRow) → child_of row_serial k (alone tree) ≡ Some y → tree.row.serial ≡ k
-      document_of k tree y e = (elim (tree.row.serial == k) as (λ v. (tree.row.serial == k) ≡ v → cond v (Some (record { row = tree.row; children = tree.children })) None ≡ Some y → tree.row.serial ≡ k) [
-        | true ↦ λ is _. eqb-true tree.row.serial k is
-        | false ↦ λ _ e. cc
-      ]) refl e
+      document_of k tree y e = (elim (tree.row.serial == k) as
+          (λ v. (tree.row.serial == k) ≡ v → cond v (Some (record { row = tree.row; children = tree.children })) None ≡ Some y
+          → tree.row.serial ≡ k) [
+            | true ↦ λ is _. eqb-true tree.row.serial k is
+            | false ↦ λ _ e. cc
+          ]) refl e
 
-  pub forgets_by : (opened : Option (ℕ → Bool)) (pushed : List ℕ) (since : ℕ) (b : BindingValue) → BindingStandsFor page (record { opened = opened; pushed = pushed; since = since }) b
-      → BindingStandsFor (after (Detach serial) page) (detached x (record { opened = opened; pushed = pushed; since = since })) (all_forgotten (alone x) b)
+  pub forgets_by : (opened : Option (ℕ → Bool)) (pushed : List ℕ) (since : ℕ) (b : BindingValue)
+      → BindingStandsFor page (record { opened = opened; pushed = pushed; since = since }) b
+      → BindingStandsFor (after (Detach serial) page) (detached x (record { opened = opened; pushed = pushed; since = since }))
+      (all_forgotten (alone x) b)
   forgets_by None pushed since b for = record {
     session = IsSession-unknown (alone page.tree) (alone (after (Detach serial) page).tree) pushed since for.session;
     stands = Stands-forgotten (alone page.tree) (alone (after (Detach serial) page).tree) x pushed since b for.session for.stands;
   }
   forgets_by (Some o) pushed since b for = record {
-    session = IsSession-detached (alone page.tree) (alone (after (Detach serial) page).tree) place.holder x place.depth place.at place.one (distinct-alone page valid) o pushed since for.session;
-    stands = Stands-detached_at (alone page.tree) (alone (after (Detach serial) page).tree) place.holder x place.depth place.at place.one (distinct-alone page valid) o pushed since for.session b for.stands;
+    session = IsSession-detached (alone page.tree) (alone (after (Detach serial) page).tree) place.holder x place.depth place.at place.one
+        (distinct-alone page valid) o pushed since for.session;
+    stands = Stands-detached_at (alone page.tree) (alone (after (Detach serial) page).tree) place.holder x place.depth place.at place.one
+        (distinct-alone page valid) o pushed since for.session b for.stands;
   }
 
 pub forgets : Forgets
@@ -224,7 +277,8 @@ forgets page serial w b valid there other for = forgets_by page serial valid the
 
 -- ---- labels
 
-module _ (page : PageValue) (serial : ℕ) (label : Label → Label) (kept : (l : Label) → (label l).kind ≡ l.kind) (valid : IsValid page) (there : IsSome (find_in serial page.tree)) where
+module _ (page : PageValue) (serial : ℕ) (label : Label → Label) (kept : (l : Label) → (label l).kind ≡ l.kind) (valid : IsValid page)
+    (there : IsSome (find_in serial page.tree)) where
   abbrev relabelled_page : PageValue
   relabelled_page = record page { tree = changed_at serial (relabelled label) page.tree }
 
@@ -243,10 +297,14 @@ module _ (page : PageValue) (serial : ℕ) (label : Label → Label) (kept : (l 
   known_label : (o : ℕ → Bool) (s : ℕ) → times s (known o (alone relabelled_page.tree)) ≡ times s (known o (alone page.tree))
   known_label o s =
       let at = known-at o alike at_label.1 in
-      let same : times s (known_below_it o (relabelled label q)) ≡ times s (known_below_it o q) = ap (λ k. times s (cond (cond (holds k) (o q.row.serial) false) (known o q.children) [])) (kept q.row.label) in
+      let same : times s (known_below_it o (relabelled label q))
+      ≡ times s (known_below_it o q) = ap (λ k. times s (cond (cond (holds k) (o q.row.serial) false) (known o q.children) []))
+      (kept q.row.label) in
       omega (arith, at.counts s, ap (λ k. cond {A = ℕ} at.in_view k 0) same)
 
-  pub passes_label_by : (opened : Option (ℕ → Bool)) (pushed : List ℕ) (since : ℕ) (b : BindingValue) → BindingStandsFor page (record { opened = opened; pushed = pushed; since = since }) b → BindingStandsFor relabelled_page (record { opened = opened; pushed = pushed; since = since }) b
+  pub passes_label_by : (opened : Option (ℕ → Bool)) (pushed : List ℕ) (since : ℕ) (b : BindingValue)
+      → BindingStandsFor page (record { opened = opened; pushed = pushed; since = since }) b
+      → BindingStandsFor relabelled_page (record { opened = opened; pushed = pushed; since = since }) b
   passes_label_by None pushed since b for = record {
     session = IsSession-unknown (alone page.tree) (alone relabelled_page.tree) pushed since for.session;
     stands = Stands-unknown (alone page.tree) (alone relabelled_page.tree) pushed since b for.stands;
@@ -255,7 +313,8 @@ module _ (page : PageValue) (serial : ℕ) (label : Label → Label) (kept : (l 
       let set = IsOpenedSet-at o alike (λ e. e) (λ e. e) (λ s. omega arith) at_label.1 for.session.opened_set in
       record {
         session = IsSession-same (alone page.tree) (alone relabelled_page.tree) o pushed since (known_label o) set for.session;
-        stands = Stands-same (alone page.tree) (alone relabelled_page.tree) o pushed since (known_label o) (λ s. omega (arith, known-tally o s (alone relabelled_page.tree), distinct_label s)) b for.session for.stands;
+        stands = Stands-same (alone page.tree) (alone relabelled_page.tree) o pushed since (known_label o)
+            (λ s. omega (arith, known-tally o s (alone relabelled_page.tree), distinct_label s)) b for.session for.stands;
       }
 
 pub passes_label : PassesLabel

@@ -1,5 +1,6 @@
 -- Where known nodes stand, and how the opening of one of them leaves an opened set one.
-use Rattle.std.proofs.Common.{◌≡◌, ℕ, suc, ◌+◌, ◌<◌, ◌≤◌, ◌==◌, Bool, true, false, cond, not, ◌&&◌, ◌||◌, Option, None, Some, refl, sym, ap, subst, ◌∙◌, arith}
+use Rattle.std.proofs.Common.{◌≡◌, ℕ, suc, ◌+◌, ◌<◌, ◌≤◌, ◌==◌, Bool, true, false, cond, not, ◌&&◌, ◌||◌, Option, None, Some, refl, sym, ap}
+use Rattle.std.proofs.Common.{subst, ◌∙◌, arith}
 use Rattle.std.proofs.Math.Logic.{⊎_elim}
 use Rattle.std.proofs.lemmas.Bool.{or_left, or_right, and_from}
 use Rattle.node_tree.specs.Nodes.{Nodes, none, node, Branch, alone}
@@ -15,8 +16,10 @@ use Rattle.node_binding.proofs.Places.{first, is_in-times, times-is_in}
 use Rattle.node_binding.proofs.Known.{known-tally}
 use Rattle.node_binding.proofs.SessionLemmas.{times-known, known_below}
 use Rattle.node_binding.proofs.GrowLemmas.{if_holds}
-use Rattle.node_binding.proofs.OpeningLemmas.{goes_on, AreDistinct, Agrees, self_times, at_root, in_children, closed-above, reached-le-all, times-reached}
-use Rattle.node_binding.proofs.AnewLemmas.{outside, found_here, found_later, found-tally, at_or_other, known_in_children, known_in_rest, is_opened_row, closed_below, unopened-at, and-first, and-second}
+use Rattle.node_binding.proofs.OpeningLemmas.{goes_on, AreDistinct, Agrees, self_times, at_root, in_children, closed-above, reached-le-all}
+use Rattle.node_binding.proofs.OpeningLemmas.{times-reached}
+use Rattle.node_binding.proofs.AnewLemmas.{outside, found_here, found_later, found-tally, at_or_other, known_in_children, known_in_rest}
+use Rattle.node_binding.proofs.AnewLemmas.{is_opened_row, closed_below, unopened-at, and-first, and-second}
 
 -- A known node: a root, or a child of an opened node that is known.
 pub data InView (o : ℕ → Bool) (x : Branch PageRow) : Nodes PageRow → Type 0 where
@@ -51,24 +54,29 @@ module _ (o : ℕ → Bool) (x : Branch PageRow) where
   in_view-tally (later r c t v) s = let h = in_view-tally v s in omega arith
 
   -- a node that is found and is known
-  pub in_view : (n : Nodes PageRow) → AreDistinct n → find row_serial x.row.serial n ≡ Some x → 0 < times x.row.serial (known o n) → InView o x n
+  pub in_view : (n : Nodes PageRow) → AreDistinct n → find row_serial x.row.serial n ≡ Some x → 0 < times x.row.serial (known o n)
+      → InView o x n
   in_view none distinct e known_x = cc
   in_view (node r c t) distinct e known_x =
       let k : ℕ = x.row.serial in
       let self : cond {A = ℕ} (k == k) 1 0 ≡ 1 = self_times k in
-      let split : 0 < cond {A = ℕ} (r.serial == k) 1 0 + (cond {A = ℕ} (opens o r) (times k (known o c)) 0 + times k (known o t)) = rw (times-known o (λ s. s) k r c t) at known_x in
+      let split : 0 < cond {A = ℕ} (r.serial == k) 1 0
+      + (cond {A = ℕ} (opens o r) (times k (known o c)) 0 + times k (known o t)) = rw (times-known o (λ s. s) k r c t) at known_x in
       at_or_other r.serial k
       (λ same. subst (λ (y : Branch PageRow). InView o y (node r c t)) (found_here k r c t x same e) (root t))
       (λ other. (let row_apart : cond {A = ℕ} (r.serial == k) 1 0 ≡ 0 = ap (λ b. cond {A = ℕ} b 1 0) other in
       ⊎_elim
       (λ in_c. (let there : (s : ℕ) → tally row_serial s (alone x) ≤ tally row_serial s c = found-tally k c x in_c in
-      let parts = known_in_children (opens o r) _ (times k (known o c)) (times k (known o t)) row_apart (omega (arith, known-tally o k t, there k, distinct k)) split in
+      let parts = known_in_children (opens o r) _ (times k (known o c)) (times k (known o t)) row_apart
+      (omega (arith, known-tally o k t, there k, distinct k)) split in
       child r c t parts.0 (in_view c (λ s. omega (arith, distinct s)) in_c parts.1)))
       (λ in_t. (let there : (s : ℕ) → tally row_serial s (alone x) ≤ tally row_serial s t = found-tally k t x in_t in
-      later r c t (in_view t (λ s. omega (arith, distinct s)) in_t (known_in_rest (opens o r) _ (times k (known o c)) _ row_apart (omega (arith, known-tally o k c, there k, distinct k)) split))))
+      later r c t (in_view t (λ s. omega (arith, distinct s)) in_t
+      (known_in_rest (opens o r) _ (times k (known o c)) _ row_apart (omega (arith, known-tally o k c, there k, distinct k)) split))))
       (found_later k r c t x other e)))
 
-  pub in_view-can_open : (n : Nodes PageRow) → AreDistinct n → InView o x n → holds x.row.label.kind ≡ true → o x.row.serial ≡ false → CanOpen n o x
+  pub in_view-can_open : (n : Nodes PageRow) → AreDistinct n → InView o x n → holds x.row.label.kind ≡ true → o x.row.serial ≡ false
+      → CanOpen n o x
   in_view-can_open n distinct v container shut = record {
     stands = in_view-found n distinct v;
     known_now = times-is_in (known o n) x.row.serial (in_view-known v);
@@ -82,7 +90,8 @@ module _ (o : ℕ → Bool) (x : Branch PageRow) where
 -- ---- children, and more opened nodes
 
 module _ (o : ℕ → Bool) where
-  pub in_view-below : {x y : Branch PageRow} {n : Nodes PageRow} → InView o x n → opens o x.row ≡ true → InView o y x.children → InView o y n
+  pub in_view-below : {x y : Branch PageRow} {n : Nodes PageRow} → InView o x n → opens o x.row ≡ true → InView o y x.children
+      → InView o y n
   in_view-below {x = x} (root t) e w = child x.row x.children t e w
   in_view-below (child r c t e0 v) e w = child r c t e0 (in_view-below v e w)
   in_view-below (later r c t v) e w = later r c t (in_view-below v e w)
@@ -98,7 +107,8 @@ module _ (o : ℕ → Bool) where
   children_in_view x n v e = gather x.children n (λ y w. in_view-below v e w)
 
   -- what is known below an opened node that is known
-  pub known-in_view : (x : Branch PageRow) {n : Nodes PageRow} → InView o x n → opens o x.row ≡ true → (s : ℕ) → 0 < times s (known o x.children) → 0 < times s (known o n)
+  pub known-in_view : (x : Branch PageRow) {n : Nodes PageRow} → InView o x n → opens o x.row ≡ true → (s : ℕ)
+      → 0 < times s (known o x.children) → 0 < times s (known o n)
   known-in_view x (root t) e s h = rw (times-known o (λ s. s) s x.row x.children t) (known_below o (λ s. s) (opens o x.row) _ s _ _ e h)
   known-in_view x (child r c t e0 v) e s h =
       rw (times-known o (λ s. s) s r c t) (known_below o (λ s. s) (opens o r) _ s _ _ e0 (known-in_view x v e s h))
@@ -107,7 +117,8 @@ module _ (o : ℕ → Bool) where
 module _ (o p : ℕ → Bool) (grows : (s : ℕ) → o s ≡ true → p s ≡ true) where
   pub in_view-grows : {x : Branch PageRow} {n : Nodes PageRow} → InView o x n → InView p x n
   in_view-grows (root t) = root t
-  in_view-grows (child r c t e v) = child r c t (if_holds (holds r.label.kind) (o r.serial) (p r.serial) (grows r.serial) e) (in_view-grows v)
+  in_view-grows (child r c t e v) = child r c t (if_holds (holds r.label.kind) (o r.serial) (p r.serial) (grows r.serial) e)
+      (in_view-grows v)
   in_view-grows (later r c t v) = later r c t (in_view-grows v)
 
   pub are_in_view-grows : (n m : Nodes PageRow) → AreInView o n m → AreInView p n m
@@ -152,17 +163,20 @@ module _ (o : ℕ → Bool) (d : Option ℕ) (x : Branch PageRow) where
   pub opened-outside : (s : ℕ) → tally row_serial s (alone x) ≡ 0 → o s ≡ p s
   opened-outside s h = outside d x o s h
 
-  reached-in_view : {n : Nodes PageRow} → InView o x n → (s : ℕ) → times s (containers_within None (alone x)) ≤ times s (containers_within None n)
+  reached-in_view : {n : Nodes PageRow} → InView o x n → (s : ℕ)
+      → times s (containers_within None (alone x)) ≤ times s (containers_within None n)
   reached-in_view (root t) s = omega (arith, times-reached None s x.row x.children t, times-reached None s x.row x.children none)
   reached-in_view (child r c t e v) s =
       rw (times-reached None s r c t)
-      (under (goes_on None r) (cond {A = ℕ} (r.serial == s) 1 0) (times s (containers_within None c)) _ _ (container_goes_on (holds r.label.kind) (o r.serial) e) (reached-in_view v s))
+      (under (goes_on None r) (cond {A = ℕ} (r.serial == s) 1 0) (times s (containers_within None c)) _ _
+      (container_goes_on (holds r.label.kind) (o r.serial) e) (reached-in_view v s))
   reached-in_view (later r c t v) s = let h = reached-in_view v s in rw (times-reached None s r c t) (omega (arith, h))
 
   rooted-grows : (n : Nodes PageRow) → has_roots o n ≡ true → has_roots p n ≡ true
   rooted-grows none e = refl
   rooted-grows (node r c t) e =
-      and_from (p r.serial) (has_roots p t) (opened-grows r.serial (and-first (o r.serial) (has_roots o t) e)) (rooted-grows t (and-second (o r.serial) (has_roots o t) e))
+      and_from (p r.serial) (has_roots p t) (opened-grows r.serial (and-first (o r.serial) (has_roots o t) e))
+      (rooted-grows t (and-second (o r.serial) (has_roots o t) e))
 
   module _ (left : is_spent d ≡ false) (container : holds x.row.label.kind ≡ true) (distinct_x : AreDistinct (alone x)) where
     on : goes_on d x.row ≡ true
@@ -175,35 +189,46 @@ module _ (o : ℕ → Bool) (d : Option ℕ) (x : Branch PageRow) where
     pub agrees_below : is_unopened o x.children ≡ true → Agrees p (less d) x.children
     agrees_below shut s h =
         ap (λ b. b || stands_in s (containers_within d (alone x))) (unopened-at o x.children shut s h)
-        ∙ ap (λ m. not (m == 0)) (in_children d x.row x.children none distinct_x s h ∙ ap (λ b. cond {A = ℕ} b (times s (containers_within (less d) x.children)) 0) on)
+        ∙ ap (λ m. not (m == 0)) (in_children d x.row x.children none distinct_x s h ∙ ap
+        (λ b. cond {A = ℕ} b (times s (containers_within (less d) x.children)) 0) on)
 
-    closed-opened : {n : Nodes PageRow} → AreDistinct n → o x.row.serial ≡ false → InView o x n → is_closed o n ≡ true → is_closed p n ≡ true
+    closed-opened : {n : Nodes PageRow} → AreDistinct n → o x.row.serial ≡ false → InView o x n → is_closed o n ≡ true
+        → is_closed p n ≡ true
     closed-opened distinct shut (root t) closed =
-        let below_shut : is_unopened o x.children ≡ true = ap (λ b. cond b (is_closed o x.children) (is_unopened o x.children)) (sym shut) ∙ and-first _ (is_closed o t) closed in
+        let below_shut : is_unopened o x.children
+        ≡ true = ap (λ b. cond b (is_closed o x.children) (is_unopened o x.children)) (sym shut) ∙ and-first _ (is_closed o t) closed in
         and_from _ (is_closed p t)
-        (ap (λ b. cond b (is_closed p x.children) (is_unopened p x.children)) opened_now ∙ closed-above p (less d) x.children (λ s. omega (arith, distinct_x s)) (agrees_below below_shut))
+        (ap (λ b. cond b (is_closed p x.children) (is_unopened p x.children)) opened_now ∙ closed-above p (less d) x.children
+        (λ s. omega (arith, distinct_x s)) (agrees_below below_shut))
         (sym (is_closed-same o p t (λ s h. opened-outside s (omega (arith, distinct s)))) ∙ and-second _ (is_closed o t) closed)
     closed-opened distinct shut (child r c t e v) closed =
         let open_row : o r.serial ≡ true = is_opened_row (holds r.label.kind) (o r.serial) e in
         let there : (s : ℕ) → tally row_serial s (alone x) ≤ tally row_serial s c = in_view-tally o x v in
         and_from _ (is_closed p t)
         (ap (λ b. cond b (is_closed p c) (is_unopened p c)) (opened-grows r.serial open_row)
-        ∙ closed-opened (λ s. omega (arith, distinct s)) shut v (closed_below (o r.serial) (is_closed o c) (is_unopened o c) (is_closed o t) open_row closed))
+        ∙ closed-opened (λ s. omega (arith, distinct s)) shut v
+        (closed_below (o r.serial) (is_closed o c) (is_unopened o c) (is_closed o t) open_row closed))
         (sym (is_closed-same o p t (λ s h. opened-outside s (omega (arith, distinct s, there s)))) ∙ and-second _ (is_closed o t) closed)
     closed-opened distinct shut (later r c t v) closed =
         let there : (s : ℕ) → tally row_serial s (alone x) ≤ tally row_serial s t = in_view-tally o x v in
         and_from _ (is_closed p t)
-        (ap (λ b. cond b (is_closed p c) (is_unopened p c)) (sym (opened-outside r.serial (omega (arith, distinct r.serial, there r.serial, self_times r.serial))))
-        ∙ ap (λ b. cond (o r.serial) b (is_unopened p c)) (sym (is_closed-same o p c (λ s h. opened-outside s (omega (arith, distinct s, there s)))))
-        ∙ ap (λ b. cond (o r.serial) (is_closed o c) b) (sym (is_unopened-same o p c (λ s h. opened-outside s (omega (arith, distinct s, there s)))))
+        (ap (λ b. cond b (is_closed p c) (is_unopened p c))
+        (sym (opened-outside r.serial (omega (arith, distinct r.serial, there r.serial, self_times r.serial))))
+        ∙ ap (λ b. cond (o r.serial) b (is_unopened p c))
+        (sym (is_closed-same o p c (λ s h. opened-outside s (omega (arith, distinct s, there s)))))
+        ∙ ap (λ b. cond (o r.serial) (is_closed o c) b)
+        (sym (is_unopened-same o p c (λ s h. opened-outside s (omega (arith, distinct s, there s)))))
         ∙ and-first _ (is_closed o t) closed)
         (closed-opened (λ s. omega (arith, distinct s)) shut v (and-second _ (is_closed o t) closed))
 
-    live-opened : (n : Nodes PageRow) → InView o x n → (s : ℕ) (b : Bool) → o s ≡ b → (o s ≡ true → stands_in s (containers_within None n) ≡ true) → p s ≡ true → stands_in s (containers_within None n) ≡ true
+    live-opened : (n : Nodes PageRow) → InView o x n → (s : ℕ) (b : Bool) → o s ≡ b
+        → (o s ≡ true → stands_in s (containers_within None n) ≡ true) → p s ≡ true → stands_in s (containers_within None n) ≡ true
     live-opened n v s true is live e = live is
     live-opened n v s false is live e =
-        let there : stands_in s (containers_within d (alone x)) ≡ true = ap (λ b. b || stands_in s (containers_within d (alone x))) (sym is) ∙ e in
-        times-is_in (containers_within None n) s (omega (arith, is_in-times (containers_within d (alone x)) s there, reached-le-all d s (alone x), reached-in_view v s))
+        let there : stands_in s (containers_within d (alone x))
+        ≡ true = ap (λ b. b || stands_in s (containers_within d (alone x))) (sym is) ∙ e in
+        times-is_in (containers_within None n) s
+        (omega (arith, is_in-times (containers_within d (alone x)) s there, reached-le-all d s (alone x), reached-in_view v s))
 
     -- the opened set with it, and with what is opened below it
     pub IsOpenedSet-opened : (n : Nodes PageRow) → AreDistinct n → o x.row.serial ≡ false → InView o x n → IsOpenedSet o n → IsOpenedSet p n

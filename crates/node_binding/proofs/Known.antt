@@ -14,7 +14,13 @@ if_shown false s xs n h = omega arith
 pub known-tally : (o : ℕ → Bool) (s : ℕ) (n : Nodes PageRow) → times s (known o n) ≤ tally row_serial s n
 known-tally o s none = omega arith
 known-tally o s (node r c t) =
-    omega (arith, times-append s (cond (opens o r) (known o c) []) (known o t), if_shown (opens o r) s (known o c) _ (known-tally o s c), known-tally o s t)
+    omega (
+      arith,
+      times-append s (cond (opens o r) (known o c) []) (known o t),
+      if_shown (opens o r) s (known o c) _
+          (known-tally o s c),
+      known-tally o s t,
+    )
 
 if_counted : (b : Bool) (xs : List ℕ) (n : ℕ) → length xs ≤ n → length (cond b xs []) ≤ n
 if_counted true xs n h = h
@@ -23,4 +29,10 @@ if_counted false xs n h = omega arith
 pub length-known : (o : ℕ → Bool) (n : Nodes PageRow) → length (known o n) ≤ node_count n
 length-known o none = omega arith
 length-known o (node r c t) =
-    omega (arith, length-append (cond (opens o r) (known o c) []) (known o t), if_counted (opens o r) (known o c) _ (length-known o c), length-known o t)
+    omega (
+      arith,
+      length-append (cond (opens o r) (known o c) []) (known o t),
+      if_counted (opens o r) (known o c) _
+          (length-known o c),
+      length-known o t,
+    )

@@ -1,5 +1,6 @@
 -- A session stays one, and what it shows is fit to be seen.
-use Rattle.std.proofs.Common.{◌≡◌, ℕ, zero, suc, ◌+◌, ◌-◌, ◌<◌, ◌≤◌, ◌==◌, Bool, true, false, cond, List, [], ◌∷◌, ◌++◌, length, length-append, drop, Option, Some, None, refl, sym, ap, ◌∙◌, arith}
+use Rattle.std.proofs.Common.{◌≡◌, ℕ, zero, suc, ◌+◌, ◌-◌, ◌<◌, ◌≤◌, ◌==◌, Bool, true, false, cond, List, [], ◌∷◌, ◌++◌, length}
+use Rattle.std.proofs.Common.{length-append, drop, Option, Some, None, refl, sym, ap, ◌∙◌, arith}
 use Rattle.std.proofs.lemmas.Bool.Decides.{nat_tests}
 use Rattle.node_tree.specs.Nodes.{Nodes, none, node, height}
 use Rattle.node_tree.specs.Keys.{tally}
@@ -27,7 +28,9 @@ IsSession-begun n = record { opened_set = tt; since_then = omega arith; known_st
 pub IsSession-reset : (n : Nodes PageRow) (w : Session) → IsSession n (reset w)
 IsSession-reset n w = record { opened_set = tt; since_then = omega arith; known_stand = λ s h. absurd (omega (arith, nothing_known s h)) }
 
-pub IsSession-document_opened : (d : Option ℕ) (r : PageRow) (c : Nodes PageRow) (w : Session) → ((s : ℕ) → tally row_serial s (node r c none) ≤ 1) → holds r.label.kind ≡ true → is_spent d ≡ false → IsSession (node r c none) (document_opened d (node r c none) w)
+pub IsSession-document_opened : (d : Option ℕ) (r : PageRow) (c : Nodes PageRow) (w : Session)
+    → ((s : ℕ) → tally row_serial s (node r c none) ≤ 1) → holds r.label.kind ≡ true → is_spent d ≡ false
+    → IsSession (node r c none) (document_opened d (node r c none) w)
 IsSession-document_opened d r c w distinct holds_it left =
     let n : Nodes PageRow = node r c none in
     let ks : List ℕ = known (above d n) n in
@@ -49,8 +52,12 @@ module _ (o : ℕ → Bool) (i : ℕ → ℕ) where
   shown_times true x xs = refl
   shown_times false x xs = refl
 
-  pub times-known : (x : ℕ) (r : PageRow) (c t : Nodes PageRow) → times x (known o (node r c t)) ≡ cond {A = ℕ} (r.serial == x) 1 0 + (cond {A = ℕ} (opens o r) (times x (known o c)) 0 + times x (known o t))
-  times-known x r c t = ap (λ n. cond {A = ℕ} (r.serial == x) 1 0 + n) (times-append x (cond (opens o r) (known o c) []) (known o t) ∙ ap (λ n. n + times x (known o t)) (shown_times (opens o r) x (known o c)))
+  pub times-known : (x : ℕ) (r : PageRow) (c t : Nodes PageRow)
+      → times x (known o (node r c t))
+      ≡ cond {A = ℕ} (r.serial == x) 1 0 + (cond {A = ℕ} (opens o r) (times x (known o c)) 0 + times x (known o t))
+  times-known x r c t = ap (λ n. cond {A = ℕ} (r.serial == x) 1 0 + n)
+      (times-append x (cond (opens o r) (known o c) []) (known o t) ∙ ap (λ n. n + times x (known o t))
+      (shown_times (opens o r) x (known o c)))
 
   alike : (b : Bool) (k m n x y : ℕ) → m ≡ n → x ≡ y → k + cond {A = ℕ} b m 0 + x ≡ k + (cond {A = ℕ} b n 0 + y)
   alike true k m n x y e f = omega arith
@@ -73,7 +80,8 @@ module _ (o : ℕ → Bool) (i : ℕ → ℕ) where
   known_below false k s n m e h = cc
 
   -- an id is seen at most as often as the serial that it gives back is known
-  pub cut-ids : (back : ℕ → ℕ) (x : ℕ) (n : Nodes PageRow) → ((s : ℕ) → 0 < times s (known o n) → back (i s) ≡ s) → tally seen_id x (cut o i n) ≤ times (back x) (known o n)
+  pub cut-ids : (back : ℕ → ℕ) (x : ℕ) (n : Nodes PageRow) → ((s : ℕ) → 0 < times s (known o n) → back (i s) ≡ s)
+      → tally seen_id x (cut o i n) ≤ times (back x) (known o n)
   cut-ids back x none h = omega arith
   cut-ids back x (node r c t) h =
       rw (times-known (back x) r c t, shown_tally (opens o r) seen_id x (cut o i c))
@@ -83,7 +91,8 @@ module _ (o : ℕ → Bool) (i : ℕ → ℕ) where
     where
       row_at_most : (s : ℕ) → back (i s) ≡ s → cond {A = ℕ} (i s == x) 1 0 ≤ cond {A = ℕ} (s == back x) 1 0
       row_at_most s e = elim (i s == x) as (λ b. (i s == x) ≡ b → cond {A = ℕ} b 1 0 ≤ cond {A = ℕ} (s == back x) 1 0) [
-        | true ↦ λ same. (let is : i s ≡ x = grind (arith, nat_tests) in let at : s ≡ back x = sym e ∙ ap back is in grind (arith, nat_tests))
+        | true ↦ λ same. (let is : i s ≡ x = grind (arith, nat_tests) in let at : s
+            ≡ back x = sym e ∙ ap back is in grind (arith, nat_tests))
         | false ↦ λ _. omega arith
       ] refl
 
@@ -94,7 +103,8 @@ module _ (o : ℕ → Bool) (i : ℕ → ℕ) where
   pub cut-above : (n : Nodes PageRow) → ((s : ℕ) → 0 < times s (known o n) → 0 < i s) → tally seen_id 0 (cut o i n) ≡ 0
   cut-above none h = refl
   cut-above (node r c t) h =
-      rw (shown_tally (opens o r) seen_id 0 (cut o i c)) (nothing (opens o r) _ _ _ (row_none (i r.serial) (h r.serial (rw (times-known r.serial r c t) (self_known r.serial))))
+      rw (shown_tally (opens o r) seen_id 0 (cut o i c))
+      (nothing (opens o r) _ _ _ (row_none (i r.serial) (h r.serial (rw (times-known r.serial r c t) (self_known r.serial))))
       (λ e. cut-above c (λ s k. h s (rw (times-known s r c t) (known_below (opens o r) _ s _ _ e k))))
       (cut-above t (λ s k. h s (rw (times-known s r c t) (omega arith)))))
     where
@@ -124,31 +134,50 @@ standing (x ∷ xs) k = cond (k == 1) x (standing xs (k - 1))
 pub standing-place : (xs : List ℕ) (s : ℕ) → 0 < last_standing xs s → standing xs (last_standing xs s) ≡ s
 standing-place [] s h = absurd (omega arith)
 standing-place (x ∷ xs) s h =
-    elim (last_standing xs s) as (λ p. (0 < p → standing xs p ≡ s) → 0 < cond {A = ℕ} (p == 0) (cond {A = ℕ} (x == s) 1 0) (suc p) → standing (x ∷ xs) (cond {A = ℕ} (p == 0) (cond {A = ℕ} (x == s) 1 0) (suc p)) ≡ s) [
-      | zero ↦ λ _. elim (x == s) as (λ b. (x == s) ≡ b → 0 < cond {A = ℕ} b 1 0 → standing (x ∷ xs) (cond {A = ℕ} b 1 0) ≡ s) [ true ↦ λ e _. grind (arith, nat_tests) | false ↦ λ _ h. absurd (omega arith) ] refl
+    elim (last_standing xs s) as (λ p. (0 < p → standing xs p ≡ s) → 0 < cond {A = ℕ} (p == 0) (cond {A = ℕ} (x == s) 1 0) (suc p)
+    → standing (x ∷ xs) (cond {A = ℕ} (p == 0) (cond {A = ℕ} (x == s) 1 0) (suc p)) ≡ s) [
+      | zero ↦ λ _. elim (x == s) as
+          (λ b. (x == s) ≡ b → 0 < cond {A = ℕ} b 1 0
+          → standing (x ∷ xs) (cond {A = ℕ} b 1 0)
+          ≡ s) [ true ↦ λ e _. grind (arith, nat_tests) | false ↦ λ _ h. absurd (omega arith) ] refl
       | suc p ↦ λ rest _. rw (suc-is_zero p) (later p (rest (omega arith)))
     ] (standing-place xs s) h
   where
     later : (p : ℕ) → standing xs (suc p) ≡ s → standing (x ∷ xs) (suc (suc p)) ≡ s
-    later p e = ap (λ b. cond b x (standing xs (suc (suc p) - 1))) (let f : (suc (suc p) == 1) ≡ false = grind (arith, nat_tests) in f) ∙ ap (standing xs) (let g : suc (suc p) - 1 ≡ suc p = omega arith in g) ∙ e
+    later p e = ap (λ b. cond b x (standing xs (suc (suc p) - 1)))
+        (let f : (suc (suc p) == 1) ≡ false = grind (arith, nat_tests) in f) ∙ ap (standing xs)
+        (let g : suc (suc p) - 1 ≡ suc p = omega arith in g) ∙ e
 
 module _ (n : Nodes PageRow) (pushed : List ℕ) (since : ℕ) (distinct : (s : ℕ) → tally row_serial s n ≤ 1) where
-  known_place : (o : ℕ → Bool) → IsSession n (record { opened = Some o; pushed = pushed; since = since }) → (s : ℕ) → 0 < times s (known o n) → 0 < last_standing (drop since pushed) s
+  known_place : (o : ℕ → Bool) → IsSession n (record { opened = Some o; pushed = pushed; since = since }) → (s : ℕ)
+      → 0 < times s (known o n) → 0 < last_standing (drop since pushed) s
   known_place o session s h = session.known_stand s (times-is_in (known o n) s h)
 
-  pub view-ids : (o : Option (ℕ → Bool)) → IsSession n (record { opened = o; pushed = pushed; since = since }) → (x : ℕ) → tally seen_id x (view (record { opened = o; pushed = pushed; since = since }) n) ≤ 1
+  pub view-ids : (o : Option (ℕ → Bool)) → IsSession n (record { opened = o; pushed = pushed; since = since }) → (x : ℕ)
+      → tally seen_id x (view (record { opened = o; pushed = pushed; since = since }) n) ≤ 1
   view-ids None session x = omega arith
   view-ids (Some o) session x =
-      omega (arith, cut-ids o (id_of pushed since) (λ id. standing (drop since pushed) (id - since)) x n (λ s h. gives_back s (known_place o session s h)), known-tally o (standing (drop since pushed) (x - since)) n, distinct (standing (drop since pushed) (x - since)))
+      omega (
+        arith,
+        cut-ids o (id_of pushed since) (λ id. standing (drop since pushed) (id - since)) x n
+            (λ s h. gives_back s (known_place o session s h)),
+        known-tally o (standing (drop since pushed) (x - since)) n,
+        distinct
+            (standing (drop since pushed) (x - since)),
+      )
     where
       gives_back : (s : ℕ) → 0 < last_standing (drop since pushed) s → standing (drop since pushed) (id_of pushed since s - since) ≡ s
-      gives_back s h = ap (standing (drop since pushed)) (let e : id_of pushed since s - since ≡ last_standing (drop since pushed) s = omega arith in e) ∙ standing-place (drop since pushed) s h
+      gives_back s h = ap (standing (drop since pushed))
+          (let e : id_of pushed since s - since ≡ last_standing (drop since pushed) s = omega arith in e) ∙ standing-place
+          (drop since pushed) s h
 
-  pub view-serials : (o : Option (ℕ → Bool)) → (x : ℕ) → tally seen_serial x (view (record { opened = o; pushed = pushed; since = since }) n) ≤ 1
+  pub view-serials : (o : Option (ℕ → Bool)) → (x : ℕ)
+      → tally seen_serial x (view (record { opened = o; pushed = pushed; since = since }) n) ≤ 1
   view-serials None x = omega arith
   view-serials (Some o) x = omega (arith, cut-serials o (id_of pushed since) x n, known-tally o x n, distinct x)
 
-  pub view-above : (o : Option (ℕ → Bool)) → IsSession n (record { opened = o; pushed = pushed; since = since }) → tally seen_id 0 (view (record { opened = o; pushed = pushed; since = since }) n) ≡ 0
+  pub view-above : (o : Option (ℕ → Bool)) → IsSession n (record { opened = o; pushed = pushed; since = since })
+      → tally seen_id 0 (view (record { opened = o; pushed = pushed; since = since }) n) ≡ 0
   view-above None session = refl
   view-above (Some o) session = cut-above o (id_of pushed since) n (λ s h. omega (arith, known_place o session s h))
 

@@ -1,5 +1,6 @@
 -- The document becomes known and is opened.
-use Rattle.std.proofs.Common.{◌≡◌, ℕ, zero, suc, ◌+◌, ◌<◌, ◌≤◌, ◌^◌, Bool, true, false, not, ◌&&◌, Option, ℤ, pos, negsuc, refl, sym, ap, ◌∙◌, arith}
+use Rattle.std.proofs.Common.{◌≡◌, ℕ, zero, suc, ◌+◌, ◌<◌, ◌≤◌, ◌^◌, Bool, true, false, not, ◌&&◌, Option, ℤ, pos, negsuc, refl, sym, ap}
+use Rattle.std.proofs.Common.{◌∙◌, arith}
 use Rattle.node_tree.specs.Nodes.{Nodes, none, alone, node_count}
 use Rattle.node_tree.specs.Keys.{tally}
 use Rattle.node_tree.specs.Labels.{holds, is_document}
@@ -34,21 +35,30 @@ module _ (page : PageValue) (valid : IsValid page) where
   pub count-alone : node_count (alone page.tree) ≤ 100000
   count-alone = omega (arith, valid.nodes.room, node_count-map_rows row_label page.tree.children)
 
-  started-root : (d : Option ℕ) (b : BindingValue) → is_spent d ≡ false → started d (alone page.tree) b ≡ revealed (less d) page.tree.children (with_opened page.tree.row.serial (with_bound page.tree.row.serial (cleared b)))
+  started-root : (d : Option ℕ) (b : BindingValue) → is_spent d ≡ false
+      → started d (alone page.tree) b
+      ≡ revealed (less d) page.tree.children (with_opened page.tree.row.serial (with_bound page.tree.row.serial (cleared b)))
   started-root d b left =
-      ap (λ ks. all_bound ks (all_opened (containers_within d (alone page.tree)) (cleared b))) (known-above d (alone page.tree) distinct-alone)
+      ap (λ ks. all_bound ks (all_opened (containers_within d (alone page.tree)) (cleared b)))
+      (known-above d (alone page.tree) distinct-alone)
       ∙ revealed-node d page.tree.row page.tree.children none (cleared b)
       ∙ ap (λ g. after_first (g && not (is_spent d)) d page.tree.row page.tree.children (cleared b)) root_holds
       ∙ ap (λ g. after_first (not g) d page.tree.row page.tree.children (cleared b)) left
 
-  pub start_root : (depth : ℤ) → IsDepth depth → (levels left : Option ℕ) (serial : ℕ) (kids : Nodes PageRow) (b b1 b2 b3 b4 : BindingValue) → levels ≡ levels_of depth → left ≡ less levels → serial ≡ page.tree.row.serial → kids ≡ page.tree.children → b1 ≡ cleared b → b2 ≡ with_bound serial b1 → b3 ≡ with_opened serial b2 → b4 ≡ revealed left kids b3 → b4 ≡ started (levels_of depth) (alone page.tree) b
+  pub start_root : (depth : ℤ) → IsDepth depth
+      → (levels left : Option ℕ) (serial : ℕ) (kids : Nodes PageRow) (b b1 b2 b3 b4 : BindingValue) → levels ≡ levels_of depth
+      → left ≡ less levels → serial ≡ page.tree.row.serial → kids ≡ page.tree.children → b1 ≡ cleared b → b2 ≡ with_bound serial b1
+      → b3 ≡ with_opened serial b2 → b4 ≡ revealed left kids b3 → b4 ≡ started (levels_of depth) (alone page.tree) b
   start_root depth is_depth levels left serial kids b b1 b2 b3 b4 levels_are left_is serial_is kids_are cleared_is bound opened below =
       below
       ∙ ap (λ l. revealed l kids b3) (left_is ∙ ap less levels_are)
       ∙ ap (λ n. revealed (less (levels_of depth)) n b3) kids_are
-      ∙ ap (revealed (less (levels_of depth)) page.tree.children) (opened ∙ ap (with_opened serial) (bound ∙ ap (with_bound serial) cleared_is) ∙ ap (λ s. with_opened s (with_bound s (cleared b))) serial_is)
+      ∙ ap (revealed (less (levels_of depth)) page.tree.children)
+      (opened ∙ ap (with_opened serial) (bound ∙ ap (with_bound serial) cleared_is) ∙ ap
+      (λ s. with_opened s (with_bound s (cleared b))) serial_is)
       ∙ sym (started-root (levels_of depth) b (levels-left depth is_depth))
 
-  pub start_room : (kids : Nodes PageRow) (serial : ℕ) (b b1 b2 b3 : BindingValue) → b.next < 2 ^ 60 → kids ≡ page.tree.children → b1 ≡ cleared b → b2 ≡ with_bound serial b1 → b3 ≡ with_opened serial b2 → b3.next + node_count kids < 2 ^ 63
+  pub start_room : (kids : Nodes PageRow) (serial : ℕ) (b b1 b2 b3 : BindingValue) → b.next < 2 ^ 60 → kids ≡ page.tree.children
+      → b1 ≡ cleared b → b2 ≡ with_bound serial b1 → b3 ≡ with_opened serial b2 → b3.next + node_count kids < 2 ^ 63
   start_room kids serial b b1 b2 b3 room kids_are cleared_is bound opened =
       omega (arith, count-alone, ap node_count kids_are, ap (λ m. m.next) cleared_is, ap (λ m. m.next) bound, ap (λ m. m.next) opened)

@@ -14,7 +14,9 @@ or-cond false x = refl
 turned : (k q : ℕ) → eq_by_cmp nat_cmp k q ≡ eq_by_cmp nat_cmp q k
 turned k q = (eq_by_cmp_equiv nat_cmp_total).symm k q
 
-pub from_list-insert : (old new : List ℕ) (k : ℕ) → ((q : ℕ) → list_any (eq_by_cmp nat_cmp q) new ≡ cond (eq_by_cmp nat_cmp k q) true (list_any (eq_by_cmp nat_cmp q) old)) → set.from_list {R = nat_cmp} new ≡ set.insert (set.from_list old) k
+pub from_list-insert : (old new : List ℕ) (k : ℕ)
+    → ((q : ℕ) → list_any (eq_by_cmp nat_cmp q) new ≡ cond (eq_by_cmp nat_cmp k q) true (list_any (eq_by_cmp nat_cmp q) old))
+    → set.from_list {R = nat_cmp} new ≡ set.insert (set.from_list old) k
 from_list-insert old new k updates =
     set.same_set nat_cmp_total set.nat_cmp-IsAntisymmetric _ _
     (λ q. set.contains-from_list nat_cmp_total new q
@@ -31,7 +33,9 @@ find-lookup (e ∷ es) q = ap (cond (eq_by_cmp nat_cmp q e.0) (Some e.1)) (find-
 pub get-lookup : (es : List (ℕ × ℕ)) (q : ℕ) → map.get (map.from_entries {R = nat_cmp} es) q ≡ lookup (eq_by_cmp nat_cmp q) es
 get-lookup es q = map.get-from_entries nat_cmp_total es q ∙ find-lookup es q
 
-pub from_entries-insert : (old new : List (ℕ × ℕ)) (k v : ℕ) → ((q : ℕ) → lookup (eq_by_cmp nat_cmp q) new ≡ cond (eq_by_cmp nat_cmp k q) (Some v) (lookup (eq_by_cmp nat_cmp q) old)) → map.from_entries {R = nat_cmp} new ≡ map.insert (map.from_entries old) k v
+pub from_entries-insert : (old new : List (ℕ × ℕ)) (k v : ℕ)
+    → ((q : ℕ) → lookup (eq_by_cmp nat_cmp q) new ≡ cond (eq_by_cmp nat_cmp k q) (Some v) (lookup (eq_by_cmp nat_cmp q) old))
+    → map.from_entries {R = nat_cmp} new ≡ map.insert (map.from_entries old) k v
 from_entries-insert old new k v updates =
     map.same_map nat_cmp_total map.nat_cmp-IsAntisymmetric _ _
     (λ q. get-lookup new q
@@ -44,7 +48,9 @@ false-cond : (b x : Bool) → cond b false x ≡ (not b && x)
 false-cond true x = refl
 false-cond false x = refl
 
-pub from_list-remove : (old new : List ℕ) (k : ℕ) → ((q : ℕ) → list_any (eq_by_cmp nat_cmp q) new ≡ cond (eq_by_cmp nat_cmp k q) false (list_any (eq_by_cmp nat_cmp q) old)) → set.from_list {R = nat_cmp} new ≡ set.remove (set.from_list old) k
+pub from_list-remove : (old new : List ℕ) (k : ℕ)
+    → ((q : ℕ) → list_any (eq_by_cmp nat_cmp q) new ≡ cond (eq_by_cmp nat_cmp k q) false (list_any (eq_by_cmp nat_cmp q) old))
+    → set.from_list {R = nat_cmp} new ≡ set.remove (set.from_list old) k
 from_list-remove old new k updates =
     set.same_set nat_cmp_total set.nat_cmp-IsAntisymmetric _ _
     (λ q. set.contains-from_list nat_cmp_total new q
@@ -54,7 +60,9 @@ from_list-remove old new k updates =
     ∙ ap (λ b. not (eq_by_cmp nat_cmp q k) && b) (sym (set.contains-from_list nat_cmp_total old q))
     ∙ sym (set.contains-remove nat_cmp_total _ k q))
 
-pub from_entries-remove : (old new : List (ℕ × ℕ)) (k : ℕ) → ((q : ℕ) → lookup (eq_by_cmp nat_cmp q) new ≡ cond (eq_by_cmp nat_cmp k q) None (lookup (eq_by_cmp nat_cmp q) old)) → map.from_entries {R = nat_cmp} new ≡ map.remove (map.from_entries old) k
+pub from_entries-remove : (old new : List (ℕ × ℕ)) (k : ℕ)
+    → ((q : ℕ) → lookup (eq_by_cmp nat_cmp q) new ≡ cond (eq_by_cmp nat_cmp k q) None (lookup (eq_by_cmp nat_cmp q) old))
+    → map.from_entries {R = nat_cmp} new ≡ map.remove (map.from_entries old) k
 from_entries-remove old new k updates =
     map.same_map nat_cmp_total map.nat_cmp-IsAntisymmetric _ _
     (λ q. get-lookup new q

@@ -10,7 +10,9 @@ use Rattle.page_tree.specs.Loads.{node_in}
 use Rattle.page_tree.proofs.FormedLemmas.{form_formed}
 use Rattle.page_forms.specs.declared.acts.Act.{Act}
 use Rattle.page_forms.specs.declared.acts.Act.TheVariants.{Insert}
-use Rattle.page_forms.specs.Acts.{fields_in, set_attr_row, set_attr_in, drop_attr_row, drop_attr_in, set_text_row, set_text_in, insert_row, insert_in, remove_row, remove_in, move_row, move_in, add_sheet_in, drop_sheet_in, replace_sheet_in, act_in, IsInsertable}
+use Rattle.page_forms.specs.Acts.{fields_in, set_attr_row, set_attr_in, drop_attr_row, drop_attr_in, set_text_row, set_text_in, insert_row}
+use Rattle.page_forms.specs.Acts.{insert_in, remove_row, remove_in, move_row, move_in, add_sheet_in, drop_sheet_in, replace_sheet_in}
+use Rattle.page_forms.specs.Acts.{act_in, IsInsertable}
 use Rattle.page_forms.specs.SheetActs.{add_sheet_row, drop_sheet_row, replace_sheet_row}
 use Rattle.page_forms.specs.Texts.{FormHasTexts, ActHasTexts, ActsHaveTexts}
 use Rattle.page_forms.proofs.FieldTexts.{fields_utf8, if_read, if_mapped, either}
@@ -48,37 +50,47 @@ act-insertable d act is = subst (IfSome IsInsertable) is (act_formed d)
 
 set_attr_lawful : LawfulRow set_attr_row
 set_attr_lawful =
-    and_need_lawful (codes "do") (only_text_lawful _) (and_need_lawful (codes "name") text_lawful (and_need_lawful (codes "node") whole_lawful (and_need_lawful (codes "value") text_lawful ends_lawful refl) refl) refl) refl
+    and_need_lawful (codes "do") (only_text_lawful _)
+    (and_need_lawful (codes "name") text_lawful
+    (and_need_lawful (codes "node") whole_lawful (and_need_lawful (codes "value") text_lawful ends_lawful refl) refl) refl) refl
 
 drop_attr_lawful : LawfulRow drop_attr_row
-drop_attr_lawful = and_need_lawful (codes "do") (only_text_lawful _) (and_need_lawful (codes "name") text_lawful (and_need_lawful (codes "node") whole_lawful ends_lawful refl) refl) refl
+drop_attr_lawful = and_need_lawful (codes "do") (only_text_lawful _)
+    (and_need_lawful (codes "name") text_lawful (and_need_lawful (codes "node") whole_lawful ends_lawful refl) refl) refl
 
 set_text_lawful : LawfulRow set_text_row
-set_text_lawful = and_need_lawful (codes "do") (only_text_lawful _) (and_need_lawful (codes "node") whole_lawful (and_need_lawful (codes "value") text_lawful ends_lawful refl) refl) refl
+set_text_lawful = and_need_lawful (codes "do") (only_text_lawful _)
+    (and_need_lawful (codes "node") whole_lawful (and_need_lawful (codes "value") text_lawful ends_lawful refl) refl) refl
 
 insert_lawful : LawfulRow insert_row
 insert_lawful =
     and_need_lawful (codes "before") whole_lawful
-    (and_need_lawful (codes "do") (only_text_lawful _) (and_need_lawful (codes "node") anything_lawful (and_need_lawful (codes "parent") whole_lawful ends_lawful refl) refl) refl) refl
+    (and_need_lawful (codes "do") (only_text_lawful _)
+    (and_need_lawful (codes "node") anything_lawful (and_need_lawful (codes "parent") whole_lawful ends_lawful refl) refl) refl) refl
 
 add_sheet_lawful : LawfulRow add_sheet_row
-add_sheet_lawful = and_need_lawful (codes "do") (only_text_lawful _) (and_need_lawful (codes "origin") origin_lawful (and_need_lawful (codes "text") text_lawful ends_lawful refl) refl) refl
+add_sheet_lawful = and_need_lawful (codes "do") (only_text_lawful _)
+    (and_need_lawful (codes "origin") origin_lawful (and_need_lawful (codes "text") text_lawful ends_lawful refl) refl) refl
 
 drop_sheet_lawful : LawfulRow drop_sheet_row
 drop_sheet_lawful = and_need_lawful (codes "do") (only_text_lawful _) (and_need_lawful (codes "sheet") text_lawful ends_lawful refl) refl
 
 replace_sheet_lawful : LawfulRow replace_sheet_row
-replace_sheet_lawful = and_need_lawful (codes "do") (only_text_lawful _) (and_need_lawful (codes "sheet") text_lawful (and_need_lawful (codes "text") text_lawful ends_lawful refl) refl) refl
+replace_sheet_lawful = and_need_lawful (codes "do") (only_text_lawful _)
+    (and_need_lawful (codes "sheet") text_lawful (and_need_lawful (codes "text") text_lawful ends_lawful refl) refl) refl
 
 module _ (d : Data) (u : HasUtf8 d) where
   set_attr_texts : IfSome ActHasTexts (set_attr_in d)
-  set_attr_texts = if_mapped (fields_in set_attr_row d) ActHasTexts _ (λ f is. let t = fields_utf8 set_attr_row set_attr_lawful d u f is in (t.2.1, t.2.2.2.1))
+  set_attr_texts = if_mapped (fields_in set_attr_row d) ActHasTexts _
+      (λ f is. let t = fields_utf8 set_attr_row set_attr_lawful d u f is in (t.2.1, t.2.2.2.1))
 
   drop_attr_texts : IfSome ActHasTexts (drop_attr_in d)
-  drop_attr_texts = if_mapped (fields_in drop_attr_row d) ActHasTexts _ (λ f is. let t = fields_utf8 drop_attr_row drop_attr_lawful d u f is in t.2.1)
+  drop_attr_texts = if_mapped (fields_in drop_attr_row d) ActHasTexts _
+      (λ f is. let t = fields_utf8 drop_attr_row drop_attr_lawful d u f is in t.2.1)
 
   set_text_texts : IfSome ActHasTexts (set_text_in d)
-  set_text_texts = if_mapped (fields_in set_text_row d) ActHasTexts _ (λ f is. let t = fields_utf8 set_text_row set_text_lawful d u f is in t.2.2.1)
+  set_text_texts = if_mapped (fields_in set_text_row d) ActHasTexts _
+      (λ f is. let t = fields_utf8 set_text_row set_text_lawful d u f is in t.2.2.1)
 
   insert_texts : IfSome ActHasTexts (insert_in d)
   insert_texts =
@@ -87,13 +99,16 @@ module _ (d : Data) (u : HasUtf8 d) where
       map_keeps FormHasTexts ActHasTexts (Insert f.1.1.1.0 f.0) (λ form v. v) (node_in f.1.1.0) (form_utf8 true f.1.1.0 t.2.2.1))
 
   add_sheet_texts : IfSome ActHasTexts (add_sheet_in d)
-  add_sheet_texts = if_mapped (fields_in add_sheet_row d) ActHasTexts _ (λ f is. let t = fields_utf8 add_sheet_row add_sheet_lawful d u f is in t.2.2.1)
+  add_sheet_texts = if_mapped (fields_in add_sheet_row d) ActHasTexts _
+      (λ f is. let t = fields_utf8 add_sheet_row add_sheet_lawful d u f is in t.2.2.1)
 
   drop_sheet_texts : IfSome ActHasTexts (drop_sheet_in d)
-  drop_sheet_texts = if_mapped (fields_in drop_sheet_row d) ActHasTexts _ (λ f is. let t = fields_utf8 drop_sheet_row drop_sheet_lawful d u f is in t.2.1)
+  drop_sheet_texts = if_mapped (fields_in drop_sheet_row d) ActHasTexts _
+      (λ f is. let t = fields_utf8 drop_sheet_row drop_sheet_lawful d u f is in t.2.1)
 
   replace_sheet_texts : IfSome ActHasTexts (replace_sheet_in d)
-  replace_sheet_texts = if_mapped (fields_in replace_sheet_row d) ActHasTexts _ (λ f is. let t = fields_utf8 replace_sheet_row replace_sheet_lawful d u f is in (t.2.1, t.2.2.1))
+  replace_sheet_texts = if_mapped (fields_in replace_sheet_row d) ActHasTexts _
+      (λ f is. let t = fields_utf8 replace_sheet_row replace_sheet_lawful d u f is in (t.2.1, t.2.2.1))
 
   act_texts : IfSome ActHasTexts (act_in d)
   act_texts =

@@ -10,15 +10,18 @@ use Rattle.node_tree.specs.Keys.{first_of}
 use Rattle.page_forms.specs.Acts.{fields_in}
 
 -- what an object of a row spells is what was read of it
-fields_spelled : {T : Type 0} (row : Row T) → LawfulRow row → (d : Data) (f : T) → fields_in row d ≡ Some f → object (members_of (row.writes f)) ≡ d
+fields_spelled : {T : Type 0} (row : Row T) → LawfulRow row → (d : Data) (f : T) → fields_in row d ≡ Some f
+    → object (members_of (row.writes f)) ≡ d
 fields_spelled row lawful d f is = ((object_lawful lawful).takes d f is).0
 
 -- its texts
-pub fields_utf8 : {T : Type 0} (row : Row T) → LawfulRow row → (d : Data) → HasUtf8 d → (f : T) → fields_in row d ≡ Some f → MembersHaveUtf8 (members_of (row.writes f))
+pub fields_utf8 : {T : Type 0} (row : Row T) → LawfulRow row → (d : Data) → HasUtf8 d → (f : T) → fields_in row d ≡ Some f
+    → MembersHaveUtf8 (members_of (row.writes f))
 fields_utf8 row lawful d u f is = subst HasUtf8 (sym (fields_spelled row lawful d f is)) u
 
 -- what is made of the fields that were read
-pub if_read : {T A : Type 0} (row : Row T) (o : Option T) (P : A → Type 0) (f : T → Option A) → ((x : T) → o ≡ Some x → IfSome P (f x)) → IfSome P (option_and_then f o)
+pub if_read : {T A : Type 0} (row : Row T) (o : Option T) (P : A → Type 0) (f : T → Option A) → ((x : T) → o ≡ Some x → IfSome P (f x))
+    → IfSome P (option_and_then f o)
 if_read row None P f h = tt
 if_read row (Some x) P f h = h x refl
 

@@ -1,5 +1,6 @@
 -- The nodes that a value spells: their texts are UTF-8 where those of the value are.
-use Rattle.std.proofs.Common.{ℕ, ◌+◌, ◌==◌, cond, List, [], ◌∷◌, Bool, true, false, bytes_eq, codes, Option, Some, None, option_and_then, option_map, Ordering, Less, Equal, Greater, nat_cmp, IsUtf8}
+use Rattle.std.proofs.Common.{ℕ, ◌+◌, ◌==◌, cond, List, [], ◌∷◌, Bool, true, false, bytes_eq, codes, Option, Some, None, option_and_then}
+use Rattle.std.proofs.Common.{option_map, Ordering, Less, Equal, Greater, nat_cmp, IsUtf8}
 use Rattle.std.specs.Option.{option_map_or}
 use Rattle.std.specs.Ordering.{match_ordering}
 use Rattle.std.specs.Cmp.Lexicographic.{slice_cmp}
@@ -11,7 +12,9 @@ use Rattle.node_tree.specs.Keys.{first_of}
 use Rattle.node_tree.specs.Nodes.{Nodes, Branch}
 use Rattle.node_tree.specs.Labels.{Pair, Label}
 use Rattle.node_tree.specs.declared.Kind.TheVariants.{Element, Text, Comment, Doctype}
-use Rattle.page_tree.specs.Loads.{pairs_of, is_taken, placed, in_order, attributes_spelled, property_count, times_of, text_at, text_alone, labelled, attributes_at, element_name, element_label, label_spelled, branch_of, form_before, node_spelled, forms_of, below_of, nodes_listed, nodes_in}
+use Rattle.page_tree.specs.Loads.{pairs_of, is_taken, placed, in_order, attributes_spelled, property_count, times_of, text_at, text_alone}
+use Rattle.page_tree.specs.Loads.{labelled, attributes_at, element_name, element_label, label_spelled, branch_of, form_before, node_spelled}
+use Rattle.page_tree.specs.Loads.{forms_of, below_of, nodes_listed, nodes_in}
 use Rattle.cdp_messages.specs.Laws.{PairsHaveUtf8, LabelHasUtf8}
 use Rattle.page_forms.specs.Texts.{HaveTexts, FormHasTexts}
 use Rattle.cdp_json.proofs.ReadTexts.{IfSome, map_keeps, then_keeps}
@@ -42,7 +45,8 @@ object_utf8 (string s) u = tt
 object_utf8 (array ds) u = tt
 object_utf8 (object ms) u = u
 
-found : (o : Ordering) (here : Data) (later : Option Data) → HasUtf8 here → IfSome HasUtf8 later → IfSome HasUtf8 (match_ordering o later (Some here) later)
+found : (o : Ordering) (here : Data) (later : Option Data) → HasUtf8 here → IfSome HasUtf8 later
+    → IfSome HasUtf8 (match_ordering o later (Some here) later)
 found Less here later u v = v
 found Equal here later u v = u
 found Greater here later u v = v
@@ -67,11 +71,13 @@ pairs_utf8 (item n no_items) u = tt
 pairs_utf8 (item n (item v ds)) u =
     then_keeps IsUtf8 PairsHaveUtf8 (λ name. option_and_then (λ value. option_map (λ ps. (name, value) ∷ ps) (pairs_of ds)) (as_str v))
     (λ name un. then_keeps IsUtf8 PairsHaveUtf8 (λ value. option_map (λ ps. (name, value) ∷ ps) (pairs_of ds))
-    (λ value uv. map_keeps PairsHaveUtf8 PairsHaveUtf8 (λ ps. (name, value) ∷ ps) (λ ps us. (un, uv, us)) (pairs_of ds) (pairs_utf8 ds u.1.1))
+    (λ value uv. map_keeps PairsHaveUtf8 PairsHaveUtf8 (λ ps. (name, value) ∷ ps) (λ ps us. (un, uv, us)) (pairs_of ds)
+    (pairs_utf8 ds u.1.1))
     (as_str v) (str_utf8 v u.1.0))
     (as_str n) (str_utf8 n u.0)
 
-placed_at : (o : Ordering) (p q : Pair) (qs : List Pair) → IsUtf8 p.0 → IsUtf8 p.1 → IsUtf8 q.0 → IsUtf8 q.1 → PairsHaveUtf8 qs → PairsHaveUtf8 (placed p qs)
+placed_at : (o : Ordering) (p q : Pair) (qs : List Pair) → IsUtf8 p.0 → IsUtf8 p.1 → IsUtf8 q.0 → IsUtf8 q.1 → PairsHaveUtf8 qs
+    → PairsHaveUtf8 (placed p qs)
     → PairsHaveUtf8 (match_ordering o (p ∷ q ∷ qs) ((q.0, p.1) ∷ qs) (q ∷ placed p qs))
 placed_at Less p q qs pn pv qn qv us later = (pn, pv, (qn, qv, us))
 placed_at Equal p q qs pn pv qn qv us later = (qn, pv, us)
@@ -92,7 +98,8 @@ when Q false o u = tt
 ordered_utf8 : (ordered ps : List Pair) → PairsHaveUtf8 ordered → PairsHaveUtf8 ps → IfSome PairsHaveUtf8 (in_order ordered ps)
 ordered_utf8 ordered [] us vs = us
 ordered_utf8 ordered (p ∷ ps) us vs =
-    unless PairsHaveUtf8 (is_taken p.0 ordered) (in_order (placed p ordered) ps) (ordered_utf8 (placed p ordered) ps (placed_utf8 p ordered vs.0 vs.1 us) vs.2)
+    unless PairsHaveUtf8 (is_taken p.0 ordered) (in_order (placed p ordered) ps)
+    (ordered_utf8 (placed p ordered) ps (placed_utf8 p ordered vs.0 vs.1 us) vs.2)
 
 attributes_utf8 : (d : Data) → HasUtf8 d → IfSome PairsHaveUtf8 (attributes_spelled d)
 attributes_utf8 d u =
@@ -117,7 +124,8 @@ element_utf8 d u =
     (λ name un. map_keeps PairsHaveUtf8 LabelHasUtf8 (labelled Element name []) (λ ps us. (un, IsUtf8-nil, us)) (attributes_at d)
     (listed (get (codes "a") d) (get_utf8 (codes "a") d u)))
     (element_name d)
-    (when IsUtf8 (property_count d == 1 + times_of (codes "a") d + times_of (codes "c") d) (text_at (codes "e") d) (text_at-utf8 (codes "e") d u))
+    (when IsUtf8 (property_count d == 1 + times_of (codes "a") d + times_of (codes "c") d) (text_at (codes "e") d)
+    (text_at-utf8 (codes "e") d u))
 
 either_utf8 : {A : Type 0} (Q : A → Type 0) (o p : Option A) → IfSome Q o → IfSome Q p → IfSome Q (first_of o p)
 either_utf8 Q None p u v = v
@@ -127,25 +135,31 @@ label_utf8 : (top : Bool) (d : Data) → HasUtf8 d → IfSome LabelHasUtf8 (labe
 label_utf8 top d u =
     either_utf8 LabelHasUtf8 (element_label d) _ (element_utf8 d u)
     (either_utf8 LabelHasUtf8 (option_map (λ text. labelled Text [] text []) (text_alone (codes "t") d)) _
-    (map_keeps IsUtf8 LabelHasUtf8 (λ text. labelled Text [] text []) (λ text v. (IsUtf8-nil, v, tt)) (text_alone (codes "t") d) (text_alone-utf8 (codes "t") d u))
+    (map_keeps IsUtf8 LabelHasUtf8 (λ text. labelled Text [] text []) (λ text v. (IsUtf8-nil, v, tt)) (text_alone (codes "t") d)
+    (text_alone-utf8 (codes "t") d u))
     (either_utf8 LabelHasUtf8 (option_map (λ text. labelled Comment [] text []) (text_alone (codes "k") d)) _
-    (map_keeps IsUtf8 LabelHasUtf8 (λ text. labelled Comment [] text []) (λ text v. (IsUtf8-nil, v, tt)) (text_alone (codes "k") d) (text_alone-utf8 (codes "k") d u))
+    (map_keeps IsUtf8 LabelHasUtf8 (λ text. labelled Comment [] text []) (λ text v. (IsUtf8-nil, v, tt)) (text_alone (codes "k") d)
+    (text_alone-utf8 (codes "k") d u))
     (when LabelHasUtf8 top (option_map (λ name. labelled Doctype name [] []) (text_alone (codes "d") d))
-    (map_keeps IsUtf8 LabelHasUtf8 (λ name. labelled Doctype name [] []) (λ name v. (v, IsUtf8-nil, tt)) (text_alone (codes "d") d) (text_alone-utf8 (codes "d") d u)))))
+    (map_keeps IsUtf8 LabelHasUtf8 (λ name. labelled Doctype name [] []) (λ name v. (v, IsUtf8-nil, tt)) (text_alone (codes "d") d)
+    (text_alone-utf8 (codes "d") d u)))))
 
 -- ---- nodes
 
-branch_utf8 : (l : Option Label) (n : Option (Nodes Label)) → IfSome LabelHasUtf8 l → IfSome HaveTexts n → IfSome FormHasTexts (branch_of l n)
+branch_utf8 : (l : Option Label) (n : Option (Nodes Label)) → IfSome LabelHasUtf8 l → IfSome HaveTexts n
+    → IfSome FormHasTexts (branch_of l n)
 branch_utf8 None n ul un = tt
 branch_utf8 (Some l) None ul un = tt
 branch_utf8 (Some l) (Some n) ul un = (ul, un)
 
-before_utf8 : (b : Option (Branch Label)) (n : Option (Nodes Label)) → IfSome FormHasTexts b → IfSome HaveTexts n → IfSome HaveTexts (form_before b n)
+before_utf8 : (b : Option (Branch Label)) (n : Option (Nodes Label)) → IfSome FormHasTexts b → IfSome HaveTexts n
+    → IfSome HaveTexts (form_before b n)
 before_utf8 None n ub un = tt
 before_utf8 (Some b) None ub un = tt
 before_utf8 (Some b) (Some n) ub un = (ub.0, ub.1, un)
 
-below_utf8 : (b : Bool) (here later : Option (Nodes Label)) → IfSome HaveTexts here → IfSome HaveTexts later → IfSome HaveTexts (cond b here later)
+below_utf8 : (b : Bool) (here later : Option (Nodes Label)) → IfSome HaveTexts here → IfSome HaveTexts later
+    → IfSome HaveTexts (cond b here later)
 below_utf8 true here later u v = u
 below_utf8 false here later u v = v
 
@@ -156,7 +170,8 @@ mutual
   form_utf8 top (number n) u = tt
   form_utf8 top (string s) u = tt
   form_utf8 top (array ds) u = tt
-  form_utf8 top (object ms) u = branch_utf8 (label_spelled top (object ms)) (below_of ms) (label_utf8 top (object ms) u) (children_utf8 ms u)
+  form_utf8 top (object ms) u = branch_utf8 (label_spelled top (object ms)) (below_of ms) (label_utf8 top (object ms) u)
+      (children_utf8 ms u)
 
   forms_utf8 : (top : Bool) (ds : Items) → ItemsHaveUtf8 ds → IfSome HaveTexts (forms_of top ds)
   forms_utf8 top no_items u = tt
@@ -164,7 +179,8 @@ mutual
 
   children_utf8 : (ms : Members) → MembersHaveUtf8 ms → IfSome HaveTexts (below_of ms)
   children_utf8 no_members u = tt
-  children_utf8 (member k d ms) u = below_utf8 (bytes_eq (codes "c") k) (nodes_listed d) (below_of ms) (list_utf8 d u.1) (children_utf8 ms u.2)
+  children_utf8 (member k d ms) u = below_utf8 (bytes_eq (codes "c") k) (nodes_listed d) (below_of ms) (list_utf8 d u.1)
+      (children_utf8 ms u.2)
 
   list_utf8 : (d : Data) → HasUtf8 d → IfSome HaveTexts (nodes_listed d)
   list_utf8 null u = tt

@@ -1,5 +1,6 @@
 -- What holds of each page that is read: its first fault beside that of its nodes, and its texts.
-use Rattle.std.proofs.Common.{◌≡◌, List, [], ◌∷◌, Bool, true, false, not, ◌&&◌, codes, Option, Some, None, option_map, IsUtf8, refl, ap, subst, sym, ◌∙◌}
+use Rattle.std.proofs.Common.{◌≡◌, List, [], ◌∷◌, Bool, true, false, not, ◌&&◌, codes, Option, Some, None, option_map, IsUtf8, refl, ap}
+use Rattle.std.proofs.Common.{subst, sym, ◌∙◌}
 use Rattle.std.proofs.lemmas.List.Elements.{All-nil, All-cons}
 use Rattle.serde_json.specs.Data.{Data, Items, no_items, item, no_members}
 use Rattle.serde_json.specs.Find.{as_array}
@@ -31,7 +32,8 @@ use Rattle.page_forms.proofs.NodeTexts.{array_utf8, nodes_utf8}
 
 -- ---- a page without a fault
 
-parts : (nodes : Option (Nodes Label)) (sheets : Option (List SheetForm)) (page : LoadedPage) → page_with nodes sheets ≡ Some page → (nodes ≡ Some page.nodes) × (sheets ≡ Some page.sheets)
+parts : (nodes : Option (Nodes Label)) (sheets : Option (List SheetForm)) (page : LoadedPage) → page_with nodes sheets ≡ Some page
+    → (nodes ≡ Some page.nodes) × (sheets ≡ Some page.sheets)
 parts None sheets page e = absurd cc
 parts (Some n) None page e = absurd cc
 parts (Some n) (Some ss) page e =
@@ -53,7 +55,8 @@ pub can_load_page : (d : Data) (page : LoadedPage) → page_in d ≡ Some page �
 can_load_page d page is none =
     let p = and_then_some (λ f. page_with (nodes_in f.0) (sheets_at f.1.0)) (fields_in page_row d) page is in
     let q = parts (nodes_in p.0.0) (sheets_at p.0.1.0) page p.2 in
-    let r = clear (are_low page.nodes) (are_few page.nodes) (are_named page.nodes) (can_hold_sheets page.sheets) (sym (ap first_page_fault is) ∙ none) in
+    let r = clear (are_low page.nodes) (are_few page.nodes) (are_named page.nodes) (can_hold_sheets page.sheets)
+    (sym (ap first_page_fault is) ∙ none) in
     record { nodes = can_load p.0.0 page.nodes q.0 r.0; sheets = r.1 }
 
 -- ---- texts
@@ -75,13 +78,15 @@ abbrev SheetHasText : SheetForm → Type 0
 SheetHasText sheet = IsUtf8 sheet.text
 
 sheet_utf8 : (d : Data) → HasUtf8 d → IfSome SheetHasText (sheet_form.reads d)
-sheet_utf8 d u = if_read sheet_row (fields_in sheet_row d) SheetHasText sheet_from (λ f is. let t = fields_utf8 sheet_row sheet_lawful d u f is in t.2.1)
+sheet_utf8 d u = if_read sheet_row (fields_in sheet_row d) SheetHasText sheet_from
+    (λ f is. let t = fields_utf8 sheet_row sheet_lawful d u f is in t.2.1)
 
 sheets_utf8 : (ds : Items) → ItemsHaveUtf8 ds → IfSome SheetsHaveTexts (read_items sheet_form.reads ds)
 sheets_utf8 no_items u = All-nil SheetHasText
 sheets_utf8 (item d ds) u =
     then_keeps SheetHasText SheetsHaveTexts (λ sheet. and_first sheet (read_items sheet_form.reads ds))
-    (λ sheet us. map_keeps SheetsHaveTexts SheetsHaveTexts (λ sheets. sheet ∷ sheets) (λ sheets ut. All-cons SheetHasText sheet sheets us ut) (read_items sheet_form.reads ds) (sheets_utf8 ds u.1))
+    (λ sheet us. map_keeps SheetsHaveTexts SheetsHaveTexts (λ sheets. sheet ∷ sheets)
+    (λ sheets ut. All-cons SheetHasText sheet sheets us ut) (read_items sheet_form.reads ds) (sheets_utf8 ds u.1))
     (sheet_form.reads d) (sheet_utf8 d u.0)
 
 at_utf8 : (o : Option Data) → IfSome HasUtf8 o → IfSome SheetsHaveTexts (sheets_at o)
@@ -92,7 +97,8 @@ member_utf8 : (o : Option Data) → MembersHaveUtf8 (maybe_member (codes "sheets
 member_utf8 None u = tt
 member_utf8 (Some d) u = u.1
 
-with_utf8 : (nodes : Option (Nodes Label)) (sheets : Option (List SheetForm)) → IfSome HaveTexts nodes → IfSome SheetsHaveTexts sheets → IfSome PageHasTexts (page_with nodes sheets)
+with_utf8 : (nodes : Option (Nodes Label)) (sheets : Option (List SheetForm)) → IfSome HaveTexts nodes → IfSome SheetsHaveTexts sheets
+    → IfSome PageHasTexts (page_with nodes sheets)
 with_utf8 None sheets un us = tt
 with_utf8 (Some n) None un us = tt
 with_utf8 (Some n) (Some ss) un us = record { nodes = un; sheets = us }
@@ -100,7 +106,8 @@ with_utf8 (Some n) (Some ss) un us = record { nodes = un; sheets = us }
 page_texts : (d : Data) → HasUtf8 d → IfSome PageHasTexts (page_in d)
 page_texts d u =
     if_read page_row (fields_in page_row d) PageHasTexts (λ f. page_with (nodes_in f.0) (sheets_at f.1.0))
-    (λ f is. let t = fields_utf8 page_row page_lawful d u f is in with_utf8 (nodes_in f.0) (sheets_at f.1.0) (nodes_utf8 f.0 t.1) (at_utf8 f.1.0 (member_utf8 f.1.0 t.2)))
+    (λ f is. let t = fields_utf8 page_row page_lawful d u f is in with_utf8 (nodes_in f.0) (sheets_at f.1.0) (nodes_utf8 f.0 t.1)
+    (at_utf8 f.1.0 (member_utf8 f.1.0 t.2)))
 
 pub pages_have_texts : PagesHaveTexts
 pages_have_texts d page u is = subst (IfSome PageHasTexts) is (page_texts d u)

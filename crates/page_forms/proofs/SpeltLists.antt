@@ -1,5 +1,6 @@
 -- Lists that tokens spell, item by item.
-use Rattle.std.proofs.Common.{◌≡◌, ℕ, ◌<◌, ◌≤◌, List, [], ◌∷◌, ◌++◌, length, length-append, append_assoc, append-nil, Bool, true, false, ◌||◌, Some, option_and_then, option_map, refl, sym, ap, ap₂, ◌∙◌, subst, arith}
+use Rattle.std.proofs.Common.{◌≡◌, ℕ, ◌<◌, ◌≤◌, List, [], ◌∷◌, ◌++◌, length, length-append, append_assoc, append-nil, Bool, true, false}
+use Rattle.std.proofs.Common.{◌||◌, Some, option_and_then, option_map, refl, sym, ap, ap₂, ◌∙◌, subst, arith}
 use Rattle.json.specs.Token.{Token, begin_object, end_object, begin_array, end_array, key, string, number, boolean, null, bad}
 use Rattle.json.specs.Json as json
 use Rattle.json.specs.Json.{Json, after_end_array}
@@ -33,7 +34,8 @@ array_ended (null ∷ ts) new e = absurd cc
 array_ended (bad ∷ ts) new e = absurd cc
 
 -- no item, and the bracket
-list_end : {A : Type 0} (form : ListForm A) (x : A) (old new : List Token) → after_end_array old ≡ Some new → form.reads datum.no_items ≡ Some x → SpellsItems form old x new
+list_end : {A : Type 0} (form : ListForm A) (x : A) (old new : List Token) → after_end_array old ≡ Some new
+    → form.reads datum.no_items ≡ Some x → SpellsItems form old x new
 list_end form x old new e r = record {
   json = json.no_items;
   items = datum.no_items;
@@ -49,7 +51,8 @@ neither true b e f = absurd cc
 neither false b e f = f
 
 -- an item, and the others behind it
-list_turn : {A B : Type 0} (one : ValueForm A) (form : ListForm B) (old middle new : List Token) (x : A) (rest all : B) → one.levels ≤ form.levels
+list_turn : {A B : Type 0} (one : ValueForm A) (form : ListForm B) (old middle new : List Token) (x : A) (rest all : B)
+    → one.levels ≤ form.levels
     → ((d : Data) (ds : Items) → one.reads d ≡ Some x → form.reads ds ≡ Some rest → form.reads (datum.item d ds) ≡ Some all)
     → ReadsAs one old x middle → SpellsItems form middle rest new → SpellsItems form old all new
 list_turn one form old middle new x rest all low more s r = record {
@@ -80,7 +83,8 @@ value_shorter form old new x s = omega (arith, ap length s.tokens, length-append
 
 -- ---- attributes
 
-pair_turn : (old middle new next : List Token) (name value : List ℕ) (rest : List Pair) → old ≡ string name ∷ middle → middle ≡ string value ∷ next → SpellsItems pairs_form next rest new
+pair_turn : (old middle new next : List Token) (name value : List ℕ) (rest : List Pair) → old ≡ string name ∷ middle
+    → middle ≡ string value ∷ next → SpellsItems pairs_form next rest new
     → SpellsItems pairs_form old ((name, value) ∷ rest) new
 pair_turn old middle new next name value rest e f r = record {
   json = json.item (json.string name) (json.item (json.string value) r.json);
@@ -99,20 +103,27 @@ PairsAhead start done left = IsAhead pairs_form start (λ rest. done ++ rest) le
 pub no_pairs : (start : List Token) (done : List Pair) → done ≡ [] → PairsAhead start done start
 no_pairs start done e = λ rest new s. subst (λ ps. SpellsItems pairs_form start (ps ++ rest) new) (sym e) s
 
-pub pairs_turn : (start left middle next : List Token) (done more : List Pair) (name value : List ℕ) → PairsAhead start done left → left ≡ string name ∷ middle → middle ≡ string value ∷ next
+pub pairs_turn : (start left middle next : List Token) (done more : List Pair) (name value : List ℕ) → PairsAhead start done left
+    → left ≡ string name ∷ middle → middle ≡ string value ∷ next
     → more ≡ done ++ (name, value) ∷ [] → PairsAhead start more next
 pairs_turn start left middle next done more name value so e f m = λ rest new s.
-    let joined : done ++ (name, value) ∷ rest ≡ more ++ rest = sym (append_assoc done ((name, value) ∷ []) rest) ∙ ap (λ ps. ps ++ rest) (sym m) in
-    subst (λ ps. SpellsItems pairs_form start ps new) joined (so ((name, value) ∷ rest) new (pair_turn left middle new next name value rest e f s))
+    let joined : done ++ (name, value) ∷ rest
+    ≡ more ++ rest = sym (append_assoc done ((name, value) ∷ []) rest) ∙ ap (λ ps. ps ++ rest) (sym m) in
+    subst (λ ps. SpellsItems pairs_form start ps new) joined
+    (so ((name, value) ∷ rest) new (pair_turn left middle new next name value rest e f s))
 
-pub pairs_end : (start left new : List Token) (done : List Pair) → PairsAhead start done left → after_end_array left ≡ Some new → SpellsItems pairs_form start done new
-pairs_end start left new done so e = subst (λ ps. SpellsItems pairs_form start ps new) (append-nil done) (so [] new (list_end pairs_form [] left new e refl))
+pub pairs_end : (start left new : List Token) (done : List Pair) → PairsAhead start done left → after_end_array left ≡ Some new
+    → SpellsItems pairs_form start done new
+pairs_end start left new done so e = subst (λ ps. SpellsItems pairs_form start ps new) (append-nil done)
+    (so [] new (list_end pairs_form [] left new e refl))
 
-pub pair_shorter : (left middle next : List Token) (name value : List ℕ) → left ≡ string name ∷ middle → middle ≡ string value ∷ next → length next < length left
+pub pair_shorter : (left middle next : List Token) (name value : List ℕ) → left ≡ string name ∷ middle → middle ≡ string value ∷ next
+    → length next < length left
 pair_shorter left middle next name value e f = omega (arith, ap length e, ap length f)
 
 -- the pairs in order
-pub attributes_spelt : (old new : List Token) (ps qs : List Pair) → SpellsItems pairs_form old ps new → Some qs ≡ in_order [] ps → SpellsItems attributes_form old qs new
+pub attributes_spelt : (old new : List Token) (ps qs : List Pair) → SpellsItems pairs_form old ps new → Some qs ≡ in_order [] ps
+    → SpellsItems attributes_form old qs new
 attributes_spelt old new ps qs s e = record {
   json = s.json;
   items = s.items;
@@ -133,20 +144,27 @@ module _ (levels : ℕ) (top : Bool) where
   pub no_nodes : (start : List Token) (done : List (Branch Label)) → done ≡ [] → NodesAhead start done start
   no_nodes start done e = λ rest new s. subst (λ bs. SpellsItems (nodes_form levels top) start (beside (nodes_of bs) rest) new) (sym e) s
 
-  node_turn : (old middle new : List Token) (b : Branch Label) (rest : Nodes Label) → ReadsAs (node_form levels top) old b middle → SpellsItems (nodes_form levels top) middle rest new
+  node_turn : (old middle new : List Token) (b : Branch Label) (rest : Nodes Label) → ReadsAs (node_form levels top) old b middle
+      → SpellsItems (nodes_form levels top) middle rest new
       → SpellsItems (nodes_form levels top) old (node b.row b.children rest) new
   node_turn old middle new b rest =
-      list_turn (node_form levels top) (nodes_form levels top) old middle new b rest (node b.row b.children rest) (omega arith) (λ d ds e f. ap₂ form_before e f)
+      list_turn (node_form levels top) (nodes_form levels top) old middle new b rest (node b.row b.children rest) (omega arith)
+      (λ d ds e f. ap₂ form_before e f)
 
-  pub nodes_turn : (start left next : List Token) (done more : List (Branch Label)) (b : Branch Label) → NodesAhead start done left → ReadsAs (node_form levels top) left b next → more ≡ done ++ b ∷ [] → NodesAhead start more next
+  pub nodes_turn : (start left next : List Token) (done more : List (Branch Label)) (b : Branch Label) → NodesAhead start done left
+      → ReadsAs (node_form levels top) left b next → more ≡ done ++ b ∷ [] → NodesAhead start more next
   nodes_turn start left next done more b so s m = λ rest new r.
       let joined : beside (nodes_of done) (node b.row b.children rest) ≡ beside (nodes_of more) rest =
-      sym (beside_assoc (nodes_of done) (nodes_of (b ∷ [])) rest) ∙ ap (λ n. beside n rest) (sym (nodes_of-append done (b ∷ []))) ∙ ap (λ bs. beside (nodes_of bs) rest) (sym m) in
-      subst (λ n. SpellsItems (nodes_form levels top) start n new) joined (so (node b.row b.children rest) new (node_turn left next new b rest s r))
+      sym (beside_assoc (nodes_of done) (nodes_of (b ∷ [])) rest) ∙ ap (λ n. beside n rest) (sym (nodes_of-append done (b ∷ []))) ∙ ap
+      (λ bs. beside (nodes_of bs) rest) (sym m) in
+      subst (λ n. SpellsItems (nodes_form levels top) start n new) joined
+      (so (node b.row b.children rest) new (node_turn left next new b rest s r))
 
-  pub nodes_end : (start left new : List Token) (done : List (Branch Label)) → NodesAhead start done left → after_end_array left ≡ Some new → SpellsItems (nodes_form levels top) start (nodes_of done) new
+  pub nodes_end : (start left new : List Token) (done : List (Branch Label)) → NodesAhead start done left → after_end_array left ≡ Some new
+      → SpellsItems (nodes_form levels top) start (nodes_of done) new
   nodes_end start left new done so e =
-      subst (λ n. SpellsItems (nodes_form levels top) start n new) (beside-none (nodes_of done)) (so none new (list_end (nodes_form levels top) none left new e refl))
+      subst (λ n. SpellsItems (nodes_form levels top) start n new) (beside-none (nodes_of done))
+      (so none new (list_end (nodes_form levels top) none left new e refl))
 
 -- ---- sheets
 
@@ -157,13 +175,18 @@ SheetsAhead start done left = IsAhead sheets_form start (λ rest. done ++ rest) 
 pub no_sheets : (start : List Token) (done : List SheetForm) → done ≡ [] → SheetsAhead start done start
 no_sheets start done e = λ rest new s. subst (λ ss. SpellsItems sheets_form start (ss ++ rest) new) (sym e) s
 
-sheet_turn : (old middle new : List Token) (sheet : SheetForm) (rest : List SheetForm) → ReadsAs sheet_value old sheet middle → SpellsItems sheets_form middle rest new → SpellsItems sheets_form old (sheet ∷ rest) new
-sheet_turn old middle new sheet rest = list_turn sheet_value sheets_form old middle new sheet rest (sheet ∷ rest) (omega arith) (λ d ds e f. ap₂ (λ o p. option_and_then (λ x. and_first x p) o) e f)
+sheet_turn : (old middle new : List Token) (sheet : SheetForm) (rest : List SheetForm) → ReadsAs sheet_value old sheet middle
+    → SpellsItems sheets_form middle rest new → SpellsItems sheets_form old (sheet ∷ rest) new
+sheet_turn old middle new sheet rest = list_turn sheet_value sheets_form old middle new sheet rest (sheet ∷ rest) (omega arith)
+    (λ d ds e f. ap₂ (λ o p. option_and_then (λ x. and_first x p) o) e f)
 
-pub sheets_turn : (start left next : List Token) (done more : List SheetForm) (sheet : SheetForm) → SheetsAhead start done left → ReadsAs sheet_value left sheet next → more ≡ done ++ sheet ∷ [] → SheetsAhead start more next
+pub sheets_turn : (start left next : List Token) (done more : List SheetForm) (sheet : SheetForm) → SheetsAhead start done left
+    → ReadsAs sheet_value left sheet next → more ≡ done ++ sheet ∷ [] → SheetsAhead start more next
 sheets_turn start left next done more sheet so s m = λ rest new r.
     let joined : done ++ sheet ∷ rest ≡ more ++ rest = sym (append_assoc done (sheet ∷ []) rest) ∙ ap (λ ss. ss ++ rest) (sym m) in
     subst (λ ss. SpellsItems sheets_form start ss new) joined (so (sheet ∷ rest) new (sheet_turn left next new sheet rest s r))
 
-pub sheets_end : (start left new : List Token) (done : List SheetForm) → SheetsAhead start done left → after_end_array left ≡ Some new → SpellsItems sheets_form start done new
-sheets_end start left new done so e = subst (λ ss. SpellsItems sheets_form start ss new) (append-nil done) (so [] new (list_end sheets_form [] left new e refl))
+pub sheets_end : (start left new : List Token) (done : List SheetForm) → SheetsAhead start done left → after_end_array left ≡ Some new
+    → SpellsItems sheets_form start done new
+sheets_end start left new done so e = subst (λ ss. SpellsItems sheets_form start ss new) (append-nil done)
+    (so [] new (list_end sheets_form [] left new e refl))

@@ -1,5 +1,6 @@
 -- Objects that tokens spell: nodes, sheets and pages in their usual form.
-use Rattle.std.proofs.Common.{◌≡◌, ℕ, ◌+◌, ◌<◌, List, [], ◌∷◌, ◌++◌, append_assoc, codes, Bool, true, false, ◌||◌, cond, Option, Some, None, option_and_then, option_map, refl, sym, ap, ap₂, ◌∙◌, subst, arith}
+use Rattle.std.proofs.Common.{◌≡◌, ℕ, ◌+◌, ◌<◌, List, [], ◌∷◌, ◌++◌, append_assoc, codes, Bool, true, false, ◌||◌, cond, Option, Some, None}
+use Rattle.std.proofs.Common.{option_and_then, option_map, refl, sym, ap, ap₂, ◌∙◌, subst, arith}
 use Rattle.json.specs.Token.{Token, begin_object, end_object, begin_array, key, string}
 use Rattle.json.specs.Json as json
 use Rattle.json.specs.Tree.{items_tokens}
@@ -28,15 +29,19 @@ last_list : (xs new : List Token) → (xs ++ end_object ∷ []) ++ new ≡ xs ++
 last_list xs new = append_assoc xs (end_object ∷ []) new
 
 -- the two lists of an object
-two_lists : (xs ys new : List Token) (k : Token) → (xs ++ (k ∷ (begin_array ∷ (ys ++ end_object ∷ [])))) ++ new ≡ xs ++ (k ∷ (begin_array ∷ (ys ++ end_object ∷ new)))
-two_lists xs ys new k = append_assoc xs (k ∷ (begin_array ∷ (ys ++ end_object ∷ []))) new ∙ ap (λ ts. xs ++ (k ∷ (begin_array ∷ ts))) (last_list ys new)
+two_lists : (xs ys new : List Token) (k : Token)
+    → (xs ++ (k ∷ (begin_array ∷ (ys ++ end_object ∷ [])))) ++ new ≡ xs ++ (k ∷ (begin_array ∷ (ys ++ end_object ∷ new)))
+two_lists xs ys new k = append_assoc xs (k ∷ (begin_array ∷ (ys ++ end_object ∷ []))) new ∙ ap (λ ts. xs ++ (k ∷ (begin_array ∷ ts)))
+    (last_list ys new)
 
 -- a list, under its name, at the end of an object
-listed_last : (k : Token) (xs old from new : List Token) → old ≡ k ∷ (begin_array ∷ from) → from ≡ xs ++ end_object ∷ new → old ≡ k ∷ (begin_array ∷ ((xs ++ end_object ∷ []) ++ new))
+listed_last : (k : Token) (xs old from new : List Token) → old ≡ k ∷ (begin_array ∷ from) → from ≡ xs ++ end_object ∷ new
+    → old ≡ k ∷ (begin_array ∷ ((xs ++ end_object ∷ []) ++ new))
 listed_last k xs old from new e f = e ∙ ap (λ ts. k ∷ (begin_array ∷ ts)) (f ∙ sym (last_list xs new))
 
 -- two lists, each under its name, at the end of an object
-listed_twice : (k l : Token) (xs ys old from middle behind new : List Token) → old ≡ k ∷ (begin_array ∷ from) → from ≡ xs ++ middle → middle ≡ l ∷ (begin_array ∷ behind) → behind ≡ ys ++ end_object ∷ new
+listed_twice : (k l : Token) (xs ys old from middle behind new : List Token) → old ≡ k ∷ (begin_array ∷ from) → from ≡ xs ++ middle
+    → middle ≡ l ∷ (begin_array ∷ behind) → behind ≡ ys ++ end_object ∷ new
     → old ≡ k ∷ (begin_array ∷ ((xs ++ (l ∷ (begin_array ∷ (ys ++ end_object ∷ [])))) ++ new))
 listed_twice k l xs ys old from middle behind new e f g h =
     e ∙ ap (λ ts. k ∷ (begin_array ∷ ts)) (f ∙ ap (λ ts. xs ++ ts) (g ∙ ap (λ ts. l ∷ (begin_array ∷ ts)) h) ∙ sym (two_lists xs ys new l))
@@ -56,7 +61,8 @@ named_last name = datum.member (codes "e") (datum.string name) datum.no_members
 
 -- an element's form by its attributes and its children
 abbrev element_of : Bool → List ℕ → Option (List Pair) → Option (Nodes Label) → Option (Branch Label)
-element_of top name attributes children = branch_of (first_of (option_map (labelled Element name []) attributes) (cond top None None)) children
+element_of top name attributes children = branch_of
+    (first_of (option_map (labelled Element name []) attributes) (cond top None None)) children
 
 module _ (levels : ℕ) (top : Bool) (name : List ℕ) (old middle new : List Token) (ps : List Pair) (n : Nodes Label) where
   -- the node of that name, these attributes and these children
@@ -74,36 +80,47 @@ module _ (levels : ℕ) (top : Bool) (name : List ℕ) (old middle new : List To
     reads = ap₂ (λ qs m. element_of top name (Some qs) (Some m)) (sym f) (sym h);
   }
 
-  with_attributes : (from : List Token) → old ≡ key (codes "a") ∷ (begin_array ∷ from) → SpellsItems attribute_field.list from ps middle → middle ≡ end_object ∷ new → n ≡ none → Spelt
+  with_attributes : (from : List Token) → old ≡ key (codes "a") ∷ (begin_array ∷ from) → SpellsItems attribute_field.list from ps middle
+      → middle ≡ end_object ∷ new → n ≡ none → Spelt
   with_attributes from e s g h = record {
     json = named_json name (json.member (codes "a") (json.array s.json) json.no_members);
     value = datum.object (datum.member (codes "a") (datum.array s.items) (named_last name));
-    tokens = ap (element_tokens name) (listed_last (key (codes "a")) (items_tokens s.json) old from new e (s.tokens ∙ ap (λ ts. items_tokens s.json ++ ts) g));
-    means = ap (λ o. option_map datum.object (option_and_then (λ d. Some (put (codes "a") d (named_last name))) (option_map datum.array o))) s.means;
+    tokens = ap (element_tokens name)
+        (listed_last (key (codes "a")) (items_tokens s.json) old from new e (s.tokens ∙ ap (λ ts. items_tokens s.json ++ ts) g));
+    means = ap (λ o. option_map datum.object
+        (option_and_then (λ d. Some (put (codes "a") d (named_last name))) (option_map datum.array o))) s.means;
     shallow = omega (arith, s.shallow);
     whole = neither _ _ s.whole refl;
     reads = ap₂ (λ o m. element_of top name o (Some m)) s.reads (sym h);
   }
 
-  with_children : (from : List Token) → old ≡ middle → ps ≡ [] → middle ≡ key (codes "c") ∷ (begin_array ∷ from) → SpellsItems (nodes_form levels false) from n (end_object ∷ new) → Spelt
+  with_children : (from : List Token) → old ≡ middle → ps ≡ [] → middle ≡ key (codes "c") ∷ (begin_array ∷ from)
+      → SpellsItems (nodes_form levels false) from n (end_object ∷ new) → Spelt
   with_children from e f g s = record {
     json = named_json name (json.member (codes "c") (json.array s.json) json.no_members);
     value = datum.object (datum.member (codes "c") (datum.array s.items) (named_last name));
     tokens = ap (element_tokens name) (listed_last (key (codes "c")) (items_tokens s.json) old from new (e ∙ g) s.tokens);
-    means = ap (λ o. option_map datum.object (option_and_then (λ d. Some (put (codes "c") d (named_last name))) (option_map datum.array o))) s.means;
+    means = ap (λ o. option_map datum.object
+        (option_and_then (λ d. Some (put (codes "c") d (named_last name))) (option_map datum.array o))) s.means;
     shallow = omega (arith, s.shallow);
     whole = neither _ _ s.whole refl;
     reads = ap₂ (λ qs m. element_of top name (Some qs) m) (sym f) s.reads;
   }
 
-  with_both : (from behind : List Token) → old ≡ key (codes "a") ∷ (begin_array ∷ from) → SpellsItems attribute_field.list from ps middle → middle ≡ key (codes "c") ∷ (begin_array ∷ behind)
+  with_both : (from behind : List Token) → old ≡ key (codes "a") ∷ (begin_array ∷ from) → SpellsItems attribute_field.list from ps middle
+      → middle ≡ key (codes "c") ∷ (begin_array ∷ behind)
       → SpellsItems (nodes_form levels false) behind n (end_object ∷ new) → Spelt
   with_both from behind e s g t = record {
     json = named_json name (json.member (codes "a") (json.array s.json) (json.member (codes "c") (json.array t.json) json.no_members));
-    value = datum.object (datum.member (codes "a") (datum.array s.items) (datum.member (codes "c") (datum.array t.items) (named_last name)));
-    tokens = ap (element_tokens name) (listed_twice (key (codes "a")) (key (codes "c")) (items_tokens s.json) (items_tokens t.json) old from middle behind new e s.tokens g t.tokens);
+    value = datum.object (datum.member (codes "a") (datum.array s.items)
+        (datum.member (codes "c") (datum.array t.items) (named_last name)));
+    tokens = ap (element_tokens name)
+        (listed_twice (key (codes "a")) (key (codes "c")) (items_tokens s.json)
+        (items_tokens t.json) old from middle behind new e s.tokens g t.tokens);
     means =
-        ap₂ (λ o p. option_map datum.object (option_and_then (λ a. option_and_then (λ c. Some (put (codes "c") c (put (codes "a") a (named_last name)))) (option_map datum.array p)) (option_map datum.array o))) s.means
+        ap₂ (λ o p. option_map datum.object
+        (option_and_then (λ a. option_and_then (λ c. Some (put (codes "c") c (put (codes "a") a (named_last name))))
+        (option_map datum.array p)) (option_map datum.array o))) s.means
         t.means;
     shallow = omega (arith, s.shallow, t.shallow);
     whole = neither _ _ s.whole (neither _ _ t.whole refl);
@@ -117,25 +134,33 @@ module _ (levels : ℕ) (top : Bool) (name : List ℕ) (old middle new : List To
   element_spelt (there from e s) (there behind g t) = with_both from behind e s g t
 
 -- the same of copies of the name and of the empty text
-pub element_made : (levels : ℕ) (top : Bool) (name copied value : List ℕ) (old begun middle new : List Token) (ps : List Pair) (n : Nodes Label) → copied ≡ name → value ≡ [] → old ≡ begun
+pub element_made : (levels : ℕ) (top : Bool) (name copied value : List ℕ) (old begun middle new : List Token) (ps : List Pair)
+    (n : Nodes Label) → copied ≡ name → value ≡ [] → old ≡ begun
     → SpellsField attribute_field begun ps middle → SpellsField (child_field levels) middle n (end_object ∷ new)
-    → ReadsAs (node_form (levels + 1) top) (element_tokens name old) (record { row = record { kind = Element; name = copied; value = value; attributes = ps }; children = n }) new
+    → ReadsAs (node_form (levels + 1) top) (element_tokens name old)
+    (record { row = record { kind = Element; name = copied; value = value; attributes = ps }; children = n }) new
 element_made levels top name copied value old begun middle new ps n e f g a c =
-    subst (λ x. ReadsAs (node_form (levels + 1) top) (element_tokens name old) (record { row = record { kind = Element; name = x; value = value; attributes = ps }; children = n }) new) (sym e)
-    (subst (λ x. ReadsAs (node_form (levels + 1) top) (element_tokens name old) (record { row = record { kind = Element; name = name; value = x; attributes = ps }; children = n }) new) (sym f)
+    subst (λ x. ReadsAs (node_form (levels + 1) top) (element_tokens name old)
+    (record { row = record { kind = Element; name = x; value = value; attributes = ps }; children = n }) new) (sym e)
+    (subst (λ x. ReadsAs (node_form (levels + 1) top) (element_tokens name old)
+    (record { row = record { kind = Element; name = name; value = x; attributes = ps }; children = n }) new) (sym f)
     (element_spelt levels top name old middle new ps n (subst (λ ts. SpellsField attribute_field ts ps middle) (sym g) a) c))
 
 -- a field that is there
-pub field_there : {A : Type 0} (form : FieldForm A) (t : Token) (old from middle new : List Token) (x : A) → t ≡ key form.name → old ≡ begin_array ∷ from → SpellsItems form.list from x middle → middle ≡ new
+pub field_there : {A : Type 0} (form : FieldForm A) (t : Token) (old from middle new : List Token) (x : A) → t ≡ key form.name
+    → old ≡ begin_array ∷ from → SpellsItems form.list from x middle → middle ≡ new
     → SpellsField form (t ∷ old) x new
-field_there form t old from middle new x is e s same = there from (ap₂ (λ k ts. k ∷ ts) is e) (subst (λ ts. SpellsItems form.list from x ts) same s)
+field_there form t old from middle new x is e s same = there from (ap₂ (λ k ts. k ∷ ts) is e)
+    (subst (λ ts. SpellsItems form.list from x ts) same s)
 
 -- ---- a node by its first tokens
 
-opened : (name text : List ℕ) {old r1 r2 r3 : List Token} → old ≡ begin_object ∷ r1 → r1 ≡ key name ∷ r2 → r2 ≡ string text ∷ r3 → old ≡ begin_object ∷ (key name ∷ (string text ∷ r3))
+opened : (name text : List ℕ) {old r1 r2 r3 : List Token} → old ≡ begin_object ∷ r1 → r1 ≡ key name ∷ r2 → r2 ≡ string text ∷ r3
+    → old ≡ begin_object ∷ (key name ∷ (string text ∷ r3))
 opened name text e0 e1 e2 = e0 ∙ ap (λ ts. begin_object ∷ ts) (e1 ∙ ap (λ ts. key name ∷ ts) e2)
 
-pub leaf_spelt : (levels : ℕ) (top : Bool) (name text : List ℕ) (b : Branch Label) {old r1 r2 r3 new : List Token} → 0 < levels → old ≡ begin_object ∷ r1 → r1 ≡ key name ∷ r2 → r2 ≡ string text ∷ r3
+pub leaf_spelt : (levels : ℕ) (top : Bool) (name text : List ℕ) (b : Branch Label) {old r1 r2 r3 new : List Token} → 0 < levels
+    → old ≡ begin_object ∷ r1 → r1 ≡ key name ∷ r2 → r2 ≡ string text ∷ r3
     → r3 ≡ end_object ∷ new → node_spelled top (text_data name text) ≡ Some b → ReadsAs (node_form levels top) old b new
 leaf_spelt levels top name text b some e0 e1 e2 e3 is = record {
   json = json.object (json.member name (json.string text) json.no_members);
@@ -151,11 +176,14 @@ leaf_spelt levels top name text b some e0 e1 e2 e3 is = record {
 element_key : (name : List ℕ) (k : Kind) → text_field k ≡ Some name → k ≡ Element → name ≡ codes "e"
 element_key name k e f = let same : Some (codes "e") ≡ Some name = sym (ap text_field f) ∙ e in cc
 
-pub element_node : (levels below : ℕ) (top : Bool) (name text : List ℕ) (k : Kind) (b : Branch Label) {old r1 r2 r3 new : List Token} → below + 1 ≡ levels → old ≡ begin_object ∷ r1 → r1 ≡ key name ∷ r2
-    → r2 ≡ string text ∷ r3 → text_field k ≡ Some name → k ≡ Element → ReadsAs (node_form (below + 1) top) (element_tokens text r3) b new → ReadsAs (node_form levels top) old b new
+pub element_node : (levels below : ℕ) (top : Bool) (name text : List ℕ) (k : Kind) (b : Branch Label) {old r1 r2 r3 new : List Token}
+    → below + 1 ≡ levels → old ≡ begin_object ∷ r1 → r1 ≡ key name ∷ r2
+    → r2 ≡ string text ∷ r3 → text_field k ≡ Some name → k ≡ Element → ReadsAs (node_form (below + 1) top) (element_tokens text r3) b new
+    → ReadsAs (node_form levels top) old b new
 element_node levels below top name text k b {r3 = r3} {new = new} less e0 e1 e2 e f s =
     let begun = opened name text e0 e1 e2 ∙ ap (λ n. begin_object ∷ (key n ∷ (string text ∷ r3))) (element_key name k e f) in
-    subst (λ ts. ReadsAs (node_form levels top) ts b new) (sym begun) (subst (λ l. ReadsAs (node_form l top) (element_tokens text r3) b new) less s)
+    subst (λ ts. ReadsAs (node_form levels top) ts b new) (sym begun)
+    (subst (λ l. ReadsAs (node_form l top) (element_tokens text r3) b new) less s)
 
 -- ---- a sheet
 
@@ -163,45 +191,59 @@ element_node levels below top name text k b {r3 = r3} {new = new} less e0 e1 e2 
 abbrev pub sheet_of : Origin → List ℕ → SheetForm
 sheet_of origin text = record { origin = origin; text = text }
 
-pub sheet_spelt : (word text : List ℕ) (origin : Origin) {old r1 r2 r3 r4 r5 new : List Token} → old ≡ begin_object ∷ r1 → r1 ≡ key (codes "origin") ∷ r2 → r2 ≡ string word ∷ r3 → r3 ≡ key (codes "text") ∷ r4
-    → r4 ≡ string text ∷ r5 → r5 ≡ end_object ∷ new → named origin_word all_origins word ≡ Some origin → ReadsAs sheet_value old (sheet_of origin text) new
+pub sheet_spelt : (word text : List ℕ) (origin : Origin) {old r1 r2 r3 r4 r5 new : List Token} → old ≡ begin_object ∷ r1
+    → r1 ≡ key (codes "origin") ∷ r2 → r2 ≡ string word ∷ r3 → r3 ≡ key (codes "text") ∷ r4
+    → r4 ≡ string text ∷ r5 → r5 ≡ end_object ∷ new → named origin_word all_origins word ≡ Some origin
+    → ReadsAs sheet_value old (sheet_of origin text) new
 sheet_spelt word text origin e0 e1 e2 e3 e4 e5 is = record {
   json = json.object (json.member (codes "origin") (json.string word) (json.member (codes "text") (json.string text) json.no_members));
-  value = datum.object (datum.member (codes "origin") (datum.string word) (datum.member (codes "text") (datum.string text) datum.no_members));
+  value = datum.object (datum.member (codes "origin") (datum.string word)
+      (datum.member (codes "text") (datum.string text) datum.no_members));
   tokens =
       opened (codes "origin") word e0 e1 e2
-      ∙ ap (λ ts. begin_object ∷ (key (codes "origin") ∷ (string word ∷ ts))) (e3 ∙ ap (λ ts. key (codes "text") ∷ ts) (e4 ∙ ap (λ ts. string text ∷ ts) e5));
+      ∙ ap (λ ts. begin_object ∷ (key (codes "origin") ∷ (string word ∷ ts)))
+      (e3 ∙ ap (λ ts. key (codes "text") ∷ ts) (e4 ∙ ap (λ ts. string text ∷ ts) e5));
   means = refl;
   shallow = omega arith;
   whole = refl;
   reads =
-      ap (λ o. option_and_then sheet_from (and_then (and_need (codes "text") text_kind ends).gets (option_map (left_with (datum.member (codes "text") (datum.string text) datum.no_members)) o))) is;
+      ap (λ o. option_and_then sheet_from
+      (and_then (and_need (codes "text") text_kind ends).gets
+      (option_map (left_with (datum.member (codes "text") (datum.string text) datum.no_members)) o))) is;
 }
 
 -- ---- a page
 
 module _ (old start middle new : List Token) (n : Nodes Label) (sheets : List SheetForm) where
-  pub page_spelt : old ≡ begin_object ∷ (key (codes "document") ∷ (begin_array ∷ start)) → SpellsItems (nodes_form 60 true) start n middle → SpellsField sheets_field_form middle sheets (end_object ∷ new)
+  pub page_spelt : old ≡ begin_object ∷ (key (codes "document") ∷ (begin_array ∷ start)) → SpellsItems (nodes_form 60 true) start n middle
+      → SpellsField sheets_field_form middle sheets (end_object ∷ new)
       → ReadsAs page_form old (record { nodes = n; sheets = sheets }) new
   page_spelt e s (absent f g) = record {
     json = json.object (json.member (codes "document") (json.array s.json) json.no_members);
     value = datum.object (datum.member (codes "document") (datum.array s.items) datum.no_members);
     tokens =
-        e ∙ ap (λ ts. begin_object ∷ (key (codes "document") ∷ (begin_array ∷ ts))) (s.tokens ∙ ap (λ ts. items_tokens s.json ++ ts) f ∙ sym (last_list (items_tokens s.json) new));
-    means = ap (λ o. option_map datum.object (option_and_then (λ d. Some (put (codes "document") d datum.no_members)) (option_map datum.array o))) s.means;
+        e ∙ ap (λ ts. begin_object ∷ (key (codes "document") ∷ (begin_array ∷ ts)))
+        (s.tokens ∙ ap (λ ts. items_tokens s.json ++ ts) f ∙ sym (last_list (items_tokens s.json) new));
+    means = ap (λ o. option_map datum.object
+        (option_and_then (λ d. Some (put (codes "document") d datum.no_members)) (option_map datum.array o))) s.means;
     shallow = omega (arith, s.shallow);
     whole = neither _ _ s.whole refl;
     reads = ap₂ (λ o ss. page_with o (Some ss)) s.reads (sym g);
   }
   page_spelt e s (there from f t) = record {
-    json = json.object (json.member (codes "document") (json.array s.json) (json.member (codes "sheets") (json.array t.json) json.no_members));
-    value = datum.object (datum.member (codes "document") (datum.array s.items) (datum.member (codes "sheets") (datum.array t.items) datum.no_members));
+    json = json.object (json.member (codes "document") (json.array s.json)
+        (json.member (codes "sheets") (json.array t.json) json.no_members));
+    value = datum.object (datum.member (codes "document") (datum.array s.items)
+        (datum.member (codes "sheets") (datum.array t.items) datum.no_members));
     tokens =
         e
         ∙ ap (λ ts. begin_object ∷ ts)
-        (listed_twice (key (codes "document")) (key (codes "sheets")) (items_tokens s.json) (items_tokens t.json) (key (codes "document") ∷ (begin_array ∷ start)) start middle from new refl s.tokens f t.tokens);
+        (listed_twice (key (codes "document")) (key (codes "sheets")) (items_tokens s.json) (items_tokens t.json)
+        (key (codes "document") ∷ (begin_array ∷ start)) start middle from new refl s.tokens f t.tokens);
     means =
-        ap₂ (λ o p. option_map datum.object (option_and_then (λ a. option_and_then (λ c. Some (put (codes "sheets") c (put (codes "document") a datum.no_members))) (option_map datum.array p)) (option_map datum.array o)))
+        ap₂ (λ o p. option_map datum.object
+        (option_and_then (λ a. option_and_then (λ c. Some (put (codes "sheets") c (put (codes "document") a datum.no_members)))
+        (option_map datum.array p)) (option_map datum.array o)))
         s.means t.means;
     shallow = omega (arith, s.shallow, t.shallow);
     whole = neither _ _ s.whole (neither _ _ t.whole refl);

@@ -1,5 +1,6 @@
 -- Lemmas on the faults of a line.
-use Rattle.std.proofs.Common.{◌≡◌, ℕ, ◌==◌, List, [], ◌∷◌, Bool, true, false, not, ◌&&◌, ◌||◌, cond, if◌then◌else◌, Option, Some, None, is_none, is_some, option_map, option_and_then, IsUtf8, refl, ap, subst, ◌∙◌}
+use Rattle.std.proofs.Common.{◌≡◌, ℕ, ◌==◌, List, [], ◌∷◌, Bool, true, false, not, ◌&&◌, ◌||◌, cond, if◌then◌else◌, Option, Some, None}
+use Rattle.std.proofs.Common.{is_none, is_some, option_map, option_and_then, IsUtf8, refl, ap, subst, ◌∙◌}
 use Rattle.std.specs.Str.{is_utf8}
 use Rattle.std.specs.Option.{option_map_or}
 use Rattle.std.proofs.lemmas.Str.{IsUtf8-from_is_utf8, is_utf8-from_IsUtf8}
@@ -25,7 +26,8 @@ json-some line d text is = rw (is_utf8-from_IsUtf8 line text) is
 
 pub json-none : (line : List ℕ) → (IsUtf8 line → read line ≡ None) → json_of line ≡ None
 json-none line h =
-    (elim (is_utf8 line) as (λ v. is_utf8 line ≡ v → cond v (read line) None ≡ None) [ true ↦ λ e. h (IsUtf8-from_is_utf8 line e) | false ↦ λ e. refl ]) refl
+    (elim (is_utf8 line) as (λ v. is_utf8 line ≡ v
+    → cond v (read line) None ≡ None) [ true ↦ λ e. h (IsUtf8-from_is_utf8 line e) | false ↦ λ e. refl ]) refl
 
 -- ---- the first of some faults
 
@@ -35,7 +37,8 @@ first_none None p e = (refl, e)
 first_none (Some x) p e = absurd cc
 
 -- no test holds
-pub none_true : {F : Type 0} (f : F) (b : Bool) (xs : List (F × Bool)) → first_true ((f, b) ∷ xs) ≡ None → (b ≡ false) × (first_true xs ≡ None)
+pub none_true : {F : Type 0} (f : F) (b : Bool) (xs : List (F × Bool)) → first_true ((f, b) ∷ xs) ≡ None
+    → (b ≡ false) × (first_true xs ≡ None)
 none_true f true xs e = absurd cc
 none_true f false xs e = (refl, e)
 
@@ -108,7 +111,8 @@ whole_not true v e h = absurd cc
 whole_not false v e h = refl
 
 -- the fault of a line of that kind, whose numbers are whole, and that loads a page where it is the first
-pub fault_said : (number : ℕ) (d : Data) (k : LineKind) (v : Data) → said d ≡ Some (k, v) → has_float d ≡ false → (number == 1 && not (is_load k)) ≡ false
+pub fault_said : (number : ℕ) (d : Data) (k : LineKind) (v : Data) → said d ≡ Some (k, v) → has_float d ≡ false
+    → (number == 1 && not (is_load k)) ≡ false
     → fault_of_data number d ≡ fault_by k v
 fault_said number d k v is whole first = rw (is, whole, not_load (number == 1) (is_load k) v first) refl where
   not_load : (n b : Bool) (v : Data) → (n && not b) ≡ false → (n && is_none (if b then Some v else None)) ≡ false
@@ -128,21 +132,28 @@ pub record IsGood (number : ℕ) (float : Bool) (s : Option (LineKind × Data)) 
 -- the fault of a line by what it says
 abbrev fault_from : ℕ → Bool → Option (LineKind × Data) → Option LineFault
 fault_from number float s =
-    first_of (first_true ((NotLoad, number == 1 && is_none (option_and_then (λ t. page_by t.0 t.1) s)) ∷ (BadForm, float || not (option_map_or (λ t. has_form t.0 t.1) s false))
+    first_of (first_true ((NotLoad, number == 1 && is_none (option_and_then (λ t. page_by t.0 t.1) s))
+    ∷ (BadForm, float || not (option_map_or (λ t. has_form t.0 t.1) s false))
     ∷ (NotBuilt, option_map_or (λ t. is_later t.0 t.1) s false) ∷ []))
     (first_of (option_map BadLoad (option_and_then page_fault (option_and_then (λ t. page_by t.0 t.1) s)))
     (first_true ((BadRaw, option_map_or is_no_frame (option_and_then (λ t. raw_by t.0 t.1) s) false) ∷ [])))
 
-good_kind : (n float loads formed later : Bool) (k : LineKind) (v : Data) (rest : Option LineFault) → is_load k ≡ loads → has_form k v ≡ formed → is_later k v ≡ later
+good_kind : (n float loads formed later : Bool) (k : LineKind) (v : Data) (rest : Option LineFault) → is_load k ≡ loads
+    → has_form k v ≡ formed → is_later k v ≡ later
     → first_of (first_true ((NotLoad, n && is_none (page_by k v)) ∷ (BadForm, float || not formed) ∷ (NotBuilt, later) ∷ [])) rest ≡ None
     → (float ≡ false) × ((n && not loads) ≡ false) × (first_of (first_true ((BadForm, not formed) ∷ (NotBuilt, later) ∷ [])) rest ≡ None)
 good_kind n float loads formed later k v rest is_l is_f is_t e =
-    let halves = first_none (first_true ((NotLoad, n && is_none (page_by k v)) ∷ (BadForm, float || not formed) ∷ (NotBuilt, later) ∷ [])) rest e in
+    let halves = first_none (first_true
+    ((NotLoad, n && is_none (page_by k v)) ∷ (BadForm, float || not formed) ∷ (NotBuilt, later) ∷ [])) rest e in
     let paged = none_true NotLoad (n && is_none (page_by k v)) ((BadForm, float || not formed) ∷ (NotBuilt, later) ∷ []) halves.0 in
     let forms = none_true BadForm (float || not formed) ((NotBuilt, later) ∷ []) paged.1 in
     let both = or_neither float (not formed) forms.0 in
-    let built = none_true NotBuilt later [] forms.1 in
-    (both.0, first_page n loads (subst (λ b. (n && is_none (if b then Some v else None)) ≡ false) is_l paged.0), rw (both.1, built.0) halves.1) where
+    let built = none_true NotBuilt later [] forms.1 in (
+      both.0,
+      first_page n loads (subst (λ b. (n && is_none (if b then Some v else None)) ≡ false) is_l paged.0),
+      rw
+          (both.1, built.0) halves.1,
+    ) where
       first_page : (n b : Bool) → (n && is_none (if b then Some v else None)) ≡ false → (n && not b) ≡ false
       first_page true true e = refl
       first_page true false e = absurd cc
@@ -150,7 +161,8 @@ good_kind n float loads formed later k v rest is_l is_f is_t e =
 
 good_from : (number : ℕ) (float : Bool) (s : Option (LineKind × Data)) → fault_from number float s ≡ None → IsGood number float s
 good_from number float None e = absurd (no_kind (number == 1) float e) where
-  no_kind : (n float : Bool) → first_of (first_true ((NotLoad, n && true) ∷ (BadForm, float || true) ∷ (NotBuilt, false) ∷ [])) None ≡ None → ⊥
+  no_kind : (n float : Bool) → first_of (first_true ((NotLoad, n && true) ∷ (BadForm, float || true) ∷ (NotBuilt, false) ∷ [])) None ≡ None
+      → ⊥
   no_kind true float e = cc
   no_kind false true e = cc
   no_kind false false e = cc
@@ -163,7 +175,8 @@ pub line_good : (number : ℕ) (d : Data) → fault_of_data number d ≡ None �
 line_good number d e = good_from number (has_float d) (said d) e
 
 -- the JSON of a line without a fault
-pub json_good : (number : ℕ) (o : Option Data) → first_of (first_true ((NotJson, is_none o) ∷ [])) (option_and_then (fault_of_data number) o) ≡ None
+pub json_good : (number : ℕ) (o : Option Data)
+    → first_of (first_true ((NotJson, is_none o) ∷ [])) (option_and_then (fault_of_data number) o) ≡ None
     → (d : Data) × (o ≡ Some d) × (fault_of_data number d ≡ None)
 json_good number None e = absurd cc
 json_good number (Some d) e = (d, refl, e)

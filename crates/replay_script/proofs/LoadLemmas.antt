@@ -1,5 +1,6 @@
 -- Lines that load a page in its usual form.
-use Rattle.std.proofs.Common.{◌≡◌, ℕ, ◌≤◌, ◌==◌, List, [], ◌∷◌, ◌++◌, append-nil, codes, Bool, true, false, ◌&&◌, ◌||◌, Option, Some, None, is_none, option_map, option_and_then, IsUtf8, refl, sym, ap, ◌∙◌, subst, arith}
+use Rattle.std.proofs.Common.{◌≡◌, ℕ, ◌≤◌, ◌==◌, List, [], ◌∷◌, ◌++◌, append-nil, codes, Bool, true, false, ◌&&◌, ◌||◌, Option, Some, None}
+use Rattle.std.proofs.Common.{is_none, option_map, option_and_then, IsUtf8, refl, sym, ap, ◌∙◌, subst, arith}
 use Rattle.json.specs.Token.{Token, begin_object, end_object, key}
 use Rattle.json.specs.Json as json
 use Rattle.json.specs.Lex.{tokens}
@@ -30,11 +31,13 @@ neither true b e f = absurd cc
 neither false b e f = f
 
 -- a page under the name of a load, and nothing behind it
-pub load_spelt : (old from new : List Token) (page : LoadedPage) → old ≡ begin_object ∷ (key (codes "load") ∷ from) → ReadsAs page_form from page new → new ≡ end_object ∷ [] → ReadsAs load_line_form old page []
+pub load_spelt : (old from new : List Token) (page : LoadedPage) → old ≡ begin_object ∷ (key (codes "load") ∷ from)
+    → ReadsAs page_form from page new → new ≡ end_object ∷ [] → ReadsAs load_line_form old page []
 load_spelt old from new page e s f = record {
   json = json.object (json.member (codes "load") s.json json.no_members);
   value = datum.object (datum.member (codes "load") s.value datum.no_members);
-  tokens = e ∙ ap (λ ts. begin_object ∷ (key (codes "load") ∷ ts)) (s.tokens ∙ ap (λ ts. json_tokens s.json ++ ts) f ∙ sym (append-nil (json_tokens s.json ++ end_object ∷ [])));
+  tokens = e ∙ ap (λ ts. begin_object ∷ (key (codes "load") ∷ ts))
+      (s.tokens ∙ ap (λ ts. json_tokens s.json ++ ts) f ∙ sym (append-nil (json_tokens s.json ++ end_object ∷ [])));
   means = ap (λ o. option_map datum.object (option_and_then (λ d. Some (put (codes "load") d datum.no_members)) o)) s.means;
   shallow = omega (arith, s.shallow);
   whole = neither _ _ s.whole refl;
@@ -42,10 +45,12 @@ load_spelt old from new page e s f = record {
 }
 
 -- a text is the value that its tokens spell
-read_spelt : {A : Type 0} (form : ValueForm A) (text : List ℕ) (x : A) → form.levels ≤ max_depth → (s : ReadsAs form (tokens text) x []) → read text ≡ Some s.value
+read_spelt : {A : Type 0} (form : ValueForm A) (text : List ℕ) (x : A) → form.levels ≤ max_depth → (s : ReadsAs form (tokens text) x [])
+    → read text ≡ Some s.value
 read_spelt form text x low s =
     ap (λ ts. option_and_then of_json (option_and_then (λ p. json.if_last p.0 p.1) (json.value max_depth ts))) s.tokens
-    ∙ ap (λ o. option_and_then of_json (option_and_then (λ p. json.if_last p.0 p.1) o)) (value-json_tokens s.json max_depth [] (omega (arith, low, s.shallow)))
+    ∙ ap (λ o. option_and_then of_json (option_and_then (λ p. json.if_last p.0 p.1) o))
+    (value-json_tokens s.json max_depth [] (omega (arith, low, s.shallow)))
     ∙ s.means
 
 -- ---- what it says
@@ -56,7 +61,8 @@ record IsLoad (s : Option (LineKind × Data)) (page : LoadedPage) : Type 0 where
   is : s ≡ Some (kind.Load, value)
   spells : page_in value ≡ Some page
 
-is_load_line : (s : Option (LineKind × Data)) (page : LoadedPage) → option_and_then page_in (option_and_then (λ t. page_by t.0 t.1) s) ≡ Some page → IsLoad s page
+is_load_line : (s : Option (LineKind × Data)) (page : LoadedPage)
+    → option_and_then page_in (option_and_then (λ t. page_by t.0 t.1) s) ≡ Some page → IsLoad s page
 is_load_line None page e = absurd cc
 is_load_line (Some (kind.Load, v)) page e = record { value = v; is = refl; spells = e }
 is_load_line (Some (kind.Act, v)) page e = absurd cc
@@ -74,11 +80,14 @@ and_false true = refl
 and_false false = refl
 
 -- a page without a fault is loaded by a line without one
-load_clear : (number : ℕ) (d v : Data) (page : LoadedPage) → said d ≡ Some (kind.Load, v) → has_float d ≡ false → page_in v ≡ Some page → first_page_fault (Some page) ≡ None → fault_of_data number d ≡ None
+load_clear : (number : ℕ) (d v : Data) (page : LoadedPage) → said d ≡ Some (kind.Load, v) → has_float d ≡ false → page_in v ≡ Some page
+    → first_page_fault (Some page) ≡ None → fault_of_data number d ≡ None
 load_clear number d v page is whole spells sound =
-    fault_said number d kind.Load v is whole (and_false (number == 1)) ∙ ap (λ o. first_of (option_map BadLoad (first_page_fault o)) None) spells ∙ ap (λ f. first_of (option_map BadLoad f) None) sound
+    fault_said number d kind.Load v is whole (and_false (number == 1)) ∙ ap
+    (λ o. first_of (option_map BadLoad (first_page_fault o)) None) spells ∙ ap (λ f. first_of (option_map BadLoad f) None) sound
 
-pub line_loads : (line text : List ℕ) (page : LoadedPage) → text ≡ line → IsUtf8 line → ReadsAs load_line_form (tokens text) page [] → first_page_fault (Some page) ≡ None → Loads line page
+pub line_loads : (line text : List ℕ) (page : LoadedPage) → text ≡ line → IsUtf8 line → ReadsAs load_line_form (tokens text) page []
+    → first_page_fault (Some page) ≡ None → Loads line page
 line_loads line text page same u s sound =
     let here : ReadsAs load_line_form (tokens line) page [] = subst (λ t. ReadsAs load_line_form (tokens t) page []) same s in
     let d = here.value in

@@ -1,5 +1,7 @@
 -- What each form of a line that is not refused keeps.
-use Rattle.std.proofs.Common.{◌≡◌, ◌⊎◌, inl, inr, if◌then◌else◌, ℕ, suc, ◌≤◌, List, [], ◌∷◌, Bool, true, false, not, ◌&&◌, ◌||◌, cond, bytes_eq, codes, Option, Some, None, is_some, option_map, option_and_then, Result, Ok, Err, IfOk, IsTrue, refl, ap, subst, sym, ◌∙◌, arith}
+use Rattle.std.proofs.Common.{◌≡◌, ◌⊎◌, inl, inr, if◌then◌else◌, ℕ, suc, ◌≤◌, List, [], ◌∷◌, Bool, true, false, not, ◌&&◌, ◌||◌, cond}
+use Rattle.std.proofs.Common.{bytes_eq, codes, Option, Some, None, is_some, option_map, option_and_then, Result, Ok, Err, IfOk, IsTrue}
+use Rattle.std.proofs.Common.{refl, ap, subst, sym, ◌∙◌, arith}
 use Rattle.std.specs.Prelude.{◌≢◌}
 use Rattle.std.specs.Str.{is_utf8}
 use Rattle.std.specs.List.{list_any, AllByRecursion}
@@ -8,7 +10,8 @@ use Rattle.std.proofs.lemmas.List.Elements.{All-from_recursion}
 use Rattle.std.proofs.lemmas.Bool.Decides.{nat_tests}
 use Rattle.std.proofs.lemmas.Str.{IsUtf8-from_is_utf8}
 use Rattle.json.proofs.Printed.Utf8.{IsUtf8-are_ascii}
-use Rattle.serde_json.specs.Data.{Num, unsigned, negative, float, Data, null, boolean, number, string, array, object, Members, no_members, member, depth}
+use Rattle.serde_json.specs.Data.{Num, unsigned, negative, float, Data, null, boolean, number, string, array, object, Members, no_members}
+use Rattle.serde_json.specs.Data.{member, depth}
 use Rattle.serde_json.specs.Find.{get_member, as_object, as_number, as_str}
 use Rattle.serde_json.specs.Read.{read, max_depth}
 use Rattle.serde_json.specs.Written.{has_float}
@@ -37,10 +40,13 @@ use Rattle.replay_script.specs.declared.forms.Line.TheVariants as line
 use Rattle.replay_script.specs.declared.line_kinds.LineKind.{LineKind}
 use Rattle.replay_script.specs.declared.line_kinds.LineKind.TheVariants as kind
 use Rattle.replay_script.specs.Kinds.{line_kind_name, all_line_kinds, is_load, sole_member, sole, styles_in, kind_said, said}
-use Rattle.replay_script.specs.Forms.{AskForm, LineForm, load, act, ask, raw, up, down, settle, show_front, show_page, show_sheets, show_replies, show_pauses, show_styles, AskParts, ask_kind, ask_from, ask_in, show_from, form_by, form_of, line_form}
+use Rattle.replay_script.specs.Forms.{AskForm, LineForm, load, act, ask, raw, up, down, settle, show_front, show_page, show_sheets}
+use Rattle.replay_script.specs.Forms.{show_replies, show_pauses, show_styles, AskParts, ask_kind, ask_from, ask_in, show_from, form_by}
+use Rattle.replay_script.specs.Forms.{form_of, line_form}
 use Rattle.replay_script.specs.Faults.{is_zero, is_whole_number, has_whole_id, is_no_frame, fault_of_data, line_fault}
 use Rattle.replay_script.specs.Seen.{seen, seen_ask, RefusesLine}
-use Rattle.replay_script.specs.Sound.{IsSoundLoad, IsSoundAct, CanSend, NamesNoAsk, IsSoundFrame, IsSound, FormsAreSound, FirstIsLoad, FitsPage, AreWhole}
+use Rattle.replay_script.specs.Sound.{IsSoundLoad, IsSoundAct, CanSend, NamesNoAsk, IsSoundFrame, IsSound, FormsAreSound, FirstIsLoad}
+use Rattle.replay_script.specs.Sound.{FitsPage, AreWhole}
 use Rattle.replay_script.proofs.FaultLemmas.{IsClear, is_clear, line_good, json_good}
 
 -- ---- a value that is read, and the values in it
@@ -56,7 +62,11 @@ pub line_read : (text : List ℕ) (d : Data) → json_of text ≡ Some d → has
 line_read text d is whole = at (is_utf8 text) refl is where
   at : (b : Bool) → is_utf8 text ≡ b → cond b (read text) None ≡ Some d → IsRead d
   at false u e = absurd cc
-  at true u e = record { plain = read_plain text d e whole; texts = read_utf8 text d (IsUtf8-from_is_utf8 text u) e; levels = depth-read text d e }
+  at true u e = record {
+    plain = read_plain text d e whole;
+    texts = read_utf8 text d (IsUtf8-from_is_utf8 text u) e;
+    levels = depth-read text d e;
+  }
 
 -- a value within an object is plain and UTF-8 as the object is, and nests less deep
 record Within (q d : Data) : Type 0 where
@@ -95,11 +105,13 @@ ask_lawful =
     object_lawful (and_need_lawful (codes "method") text_lawful
     (and_may_lawful (codes "params") anything_lawful (and_may_lawful (codes "sessionId") anything_lawful ends_lawful refl) refl) refl)
 
-parts_plain : (p : AskParts) → is_plain (ask_kind.spell p) ≡ true → (holds_of_some is_plain p.1.0 ≡ true) × (holds_of_some is_plain p.1.1.0 ≡ true)
+parts_plain : (p : AskParts) → is_plain (ask_kind.spell p) ≡ true
+    → (holds_of_some is_plain p.1.0 ≡ true) × (holds_of_some is_plain p.1.1.0 ≡ true)
 parts_plain (m, (None, (None, end))) h = (refl, refl)
 parts_plain (m, (Some d, (None, end))) h = ((both_parts (is_plain d) true h).0, refl)
 parts_plain (m, (None, (Some s, end))) h = (refl, (both_parts (is_plain s) true h).0)
-parts_plain (m, (Some d, (Some s, end))) h = let p = both_parts (is_plain d) (is_plain s && true) h in (p.0, (both_parts (is_plain s) true p.1).0)
+parts_plain (m, (Some d, (Some s, end))) h = let p = both_parts (is_plain d) (is_plain s && true) h in
+    (p.0, (both_parts (is_plain s) true p.1).0)
 
 value_shallow : (id : ℕ) (p : AskParts) → depth (ask_kind.spell p) ≤ max_depth → depth (command_value id p.0 p.1.0 p.1.1.0) ≤ max_depth
 value_shallow id (m, (None, (None, end))) h = omega arith
@@ -125,7 +137,8 @@ ask_sound v a r is =
       session = plain.1;
       shallow = λ id. value_shallow id parts.0 levels;
       texts = λ id c.
-          IsUtf8-compact_text (command_value id parts.0.0 parts.0.1.0 parts.0.1.1.0) (ask_plain id parts.0.0 parts.0.1.0 parts.0.1.1.0 c plain.0 plain.1) (value_texts id parts.0 texts);
+          IsUtf8-compact_text (command_value id parts.0.0 parts.0.1.0 parts.0.1.1.0)
+          (ask_plain id parts.0.0 parts.0.1.0 parts.0.1.1.0 c plain.0 plain.1) (value_texts id parts.0 texts);
     })
 
 -- ---- a raw text
@@ -149,7 +162,8 @@ record IsRefused (d : Data) : Type 0 where
   pub no_id : option_and_then (λ ms. option_and_then as_whole (get_member (codes "id") ms)) (as_object d) ≡ None
   pub refused : (own : Bool) → asked_in own (as_object d) ≡ Err (refusal None NoId)
 
-members_refused : (ms : Members) (id : Option Data) → get_member (codes "id") ms ≡ id → option_map_or is_whole_number id false ≡ false → IsRefused (object ms)
+members_refused : (ms : Members) (id : Option Data) → get_member (codes "id") ms ≡ id → option_map_or is_whole_number id false ≡ false
+    → IsRefused (object ms)
 members_refused ms None is e = record { no_id = rw is refl; refused = λ own. rw is refl }
 members_refused ms (Some d) is e = let other = not_whole d e in record { no_id = rw (is, other) refl; refused = λ own. rw (is, other) refl }
 
@@ -166,7 +180,8 @@ frame_refused text None is e = record { no_id = rw is refl; why = NotJson; refus
 frame_refused text (Some d) is e =
     let r = value_refused d e in
     record {
-      no_id = ap (λ o. option_and_then (λ ms. option_and_then as_whole (get_member (codes "id") ms)) (option_and_then as_object o)) is ∙ r.no_id;
+      no_id = ap (λ o. option_and_then (λ ms. option_and_then as_whole (get_member (codes "id") ms))
+          (option_and_then as_object o)) is ∙ r.no_id;
       why = NoId;
       refused = λ own. ap (asked_value own) is ∙ r.refused own;
     }
@@ -182,10 +197,14 @@ none_zero (b ∷ bs) e = let p = neither (is_zero b) (list_any is_zero bs) e in 
   apart b h = grind (arith, nat_tests)
 
 raw_sound : (text : List ℕ) → is_no_frame text ≡ false → IsSoundFrame text
-raw_sound text e = let p = parts (list_any is_zero text) _ e in record { no_zero = All-from_recursion (λ byte. byte ≢ 0) text (none_zero text p.0); no_ask = frame_refused text (json_of text) refl p.1 } where
-  parts : (x y : Bool) → (x || y) ≡ false → (x ≡ false) × (y ≡ false)
-  parts true y h = absurd cc
-  parts false y h = (refl, h)
+raw_sound text e = let p = parts
+    (list_any is_zero text) _ e in record {
+      no_zero = All-from_recursion (λ byte. byte ≢ 0) text (none_zero text p.0);
+      no_ask = frame_refused text (json_of text) refl p.1;
+    } where
+      parts : (x y : Bool) → (x || y) ≡ false → (x ≡ false) × (y ≡ false)
+      parts true y h = absurd cc
+      parts false y h = (refl, h)
 
 -- ---- a form by the kind of its line
 
@@ -217,16 +236,19 @@ form_sound kind.Down v form r c e = let p = map_some down (as_whole v) form e in
 form_sound kind.Settle v form r c e = let p = map_some (λ _. settle) (as_true v) form e in subst IsSound p.2 tt
 form_sound kind.Show v form r c e =
     let p = and_then_some show_from (as_str v) form e in
-    show_sound (bytes_eq p.0 (codes "front")) (bytes_eq p.0 (codes "page")) (bytes_eq p.0 (codes "sheets")) (bytes_eq p.0 (codes "replies")) (bytes_eq p.0 (codes "pauses")) form p.2
+    show_sound (bytes_eq p.0 (codes "front")) (bytes_eq p.0 (codes "page")) (bytes_eq p.0 (codes "sheets"))
+    (bytes_eq p.0 (codes "replies")) (bytes_eq p.0 (codes "pauses")) form p.2
 form_sound kind.Close v form r c e = absurd cc
 form_sound kind.Styles v form r c e = styles_sound v form e
 
 -- ---- whole lines
 
 -- what a line says is the value of its one property, but for a show of styles
-said_value : (o : Option Data) (s : Option (List ℕ × Data)) (k : LineKind) (v : Data) → first_of (option_map (λ a. (kind.Styles, a)) o) (option_and_then kind_said s) ≡ Some (k, v)
+said_value : (o : Option Data) (s : Option (List ℕ × Data)) (k : LineKind) (v : Data)
+    → first_of (option_map (λ a. (kind.Styles, a)) o) (option_and_then kind_said s) ≡ Some (k, v)
     → (k ≡ kind.Styles) ⊎ ((p : List ℕ × Data) × (s ≡ Some p) × (p.1 ≡ v))
-said_value (Some a) s k v e = let same : ◌≡◌ {A = LineKind × Data} (kind.Styles, a) (k, v) = cc in inl (sym (ap (λ (t : LineKind × Data). t.0) same))
+said_value (Some a) s k v e = let same : ◌≡◌ {A = LineKind × Data} (kind.Styles, a) (k, v) = cc in inl
+    (sym (ap (λ (t : LineKind × Data). t.0) same))
 said_value None s k v e =
     let p = and_then_some kind_said s (k, v) e in
     let q = map_some (λ found. (found, p.0.1)) (named line_kind_name all_line_kinds p.0.0) (k, v) p.2 in
@@ -248,11 +270,13 @@ form_said : (d : Data) (k : LineKind) (v : Data) (form : LineForm) → said d �
 form_said d k v form is e = sym (ap (option_and_then (λ s. form_by s.0 s.1)) is) ∙ e
 
 -- the form of a line without a fault, by its JSON
-data_sound : (n : ℕ) (text : List ℕ) (d : Data) (form : LineForm) → json_of text ≡ Some d → fault_of_data n d ≡ None → form_of d ≡ Some form → IsSound form
+data_sound : (n : ℕ) (text : List ℕ) (d : Data) (form : LineForm) → json_of text ≡ Some d → fault_of_data n d ≡ None
+    → form_of d ≡ Some form → IsSound form
 data_sound n text d form is e f =
     let good = line_good n d e in
     let by = form_said d good.kind good.value form good.is f in
-    by_kind good.kind good.value (is_clear good.kind good.value good.clear) by (said_read d good.kind good.value (line_read text d is good.whole) good.is)
+    by_kind good.kind good.value (is_clear good.kind good.value good.clear) by
+    (said_read d good.kind good.value (line_read text d is good.whole) good.is)
   where
     by_kind : (k : LineKind) (v : Data) → IsClear k v → form_by k v ≡ Some form → (k ≡ kind.Styles) ⊎ IsRead v → IsSound form
     by_kind k v clear by (inl styles) = styles_sound v form (sym (ap (λ at. form_by at v) styles) ∙ by)
@@ -265,7 +289,8 @@ forms_are_sound n text form e f =
 
 -- ---- the first line
 
-load_form : (k : LineKind) (v : Data) (form : LineForm) → not (is_load k) ≡ false → form_by k v ≡ Some form → (page : LoadedPage) × (form ≡ load page)
+load_form : (k : LineKind) (v : Data) (form : LineForm) → not (is_load k) ≡ false → form_by k v ≡ Some form
+    → (page : LoadedPage) × (form ≡ load page)
 load_form kind.Load v form e f = let p = map_some load (page_in v) form f in (p.0, sym p.2)
 load_form kind.Act v form e f = absurd cc
 load_form kind.Ask v form e f = absurd cc
@@ -281,7 +306,8 @@ pub first_is_load : FirstIsLoad
 first_is_load text form e f =
     let json = json_good 1 (json_of text) e in
     let good = line_good 1 json.0 json.2 in
-    load_form good.kind good.value form good.first (form_said json.0 good.kind good.value form good.is (sym (ap (option_and_then form_of) json.1) ∙ f))
+    load_form good.kind good.value form good.first
+    (form_said json.0 good.kind good.value form good.is (sym (ap (option_and_then form_of) json.1) ∙ f))
 
 -- ---- what is read of a line
 
@@ -322,7 +348,8 @@ whole_line line.ShowPauses s = tt
 whole_line (line.ShowStyles k) s = tt
 
 -- each line that is read has a form that is sound
-pub sound_ok : (n : ℕ) (text : List ℕ) (r : Result Line LineErr) → RefusesLine r (line_fault n text) → IfOk r (λ read. line_form text ≡ Some (seen read)) → IfOk r (λ read. IsSound (seen read))
+pub sound_ok : (n : ℕ) (text : List ℕ) (r : Result Line LineErr) → RefusesLine r (line_fault n text)
+    → IfOk r (λ read. line_form text ≡ Some (seen read)) → IfOk r (λ read. IsSound (seen read))
 sound_ok n text (Ok read) e f = forms_are_sound n text (seen read) e f
 sound_ok n text (Err x) e f = f
 

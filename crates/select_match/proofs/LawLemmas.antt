@@ -1,5 +1,6 @@
 -- What the laws rest on.
-use Rattle.std.proofs.Common.{◌≡◌, ℕ, zero, suc, ◌*◌, ◌/◌, ◌%◌, ◌==◌, ℤ, pos, negsuc, neg_ℤ, ◌+ℤ◌, ◌-ℤ◌, ◌*ℤ◌, Bool, true, false, cond, not, ◌&&◌, List, [], ◌∷◌, refl, sym, ap, ◌∙◌, arith}
+use Rattle.std.proofs.Common.{◌≡◌, ℕ, zero, suc, ◌*◌, ◌/◌, ◌%◌, ◌==◌, ℤ, pos, negsuc, neg_ℤ, ◌+ℤ◌, ◌-ℤ◌, ◌*ℤ◌, Bool, true, false, cond, not}
+use Rattle.std.proofs.Common.{◌&&◌, List, [], ◌∷◌, refl, sym, ap, ◌∙◌, arith}
 use Rattle.std.proofs.lemmas.Bool.{eq-eqb, eqb-true}
 use Rattle.std.proofs.Math.Nat.{mul-mod_right}
 use Rattle.std.proofs.lemmas.Int.{ints}
@@ -20,7 +21,8 @@ reached-some (pos zero) (pos d) e = (0, ap pos (eqb-true d 0 e))
 reached-some (pos zero) (negsuc d) e = absurd (cc)
 reached-some (pos (suc a)) (pos d) e = (d / suc a, ap pos (whole_steps d a e))
 reached-some (pos (suc a)) (negsuc d) e = absurd (cc)
-reached-some (negsuc a) (pos d) e = (0, ap pos (eqb-true d 0 e) ∙ ap (λ k. neg_ℤ (pos k)) (let nothing : 0 ≡ suc a * 0 = omega arith in nothing))
+reached-some (negsuc a) (pos d) e =
+    (0, ap pos (eqb-true d 0 e) ∙ ap (λ k. neg_ℤ (pos k)) (let nothing : 0 ≡ suc a * 0 = omega arith in nothing))
 reached-some (negsuc a) (negsuc d) e = (suc d / suc a, ap (λ k. neg_ℤ (pos k)) (whole_steps (suc d) a e))
 
 no_rest : (d a n : ℕ) → d ≡ suc a * n → (d % suc a == 0) ≡ true
@@ -59,11 +61,13 @@ nth-of a b i n e = reached-of a (pos i -ℤ b) n (taken (pos i) b (a *ℤ pos n)
 
 -- ---- words
 
-first_plain : (p : ℕ → Bool) (x : ℕ) (pieces : List (List ℕ)) → p x ≡ false → list_all (λ piece. not (list_any p piece)) pieces ≡ true → list_all (λ piece. not (list_any p piece)) (onto_first x pieces) ≡ true
+first_plain : (p : ℕ → Bool) (x : ℕ) (pieces : List (List ℕ)) → p x ≡ false → list_all (λ piece. not (list_any p piece)) pieces ≡ true
+    → list_all (λ piece. not (list_any p piece)) (onto_first x pieces) ≡ true
 first_plain p x [] e h = rw e refl
 first_plain p x (piece ∷ pieces) e h = rw e h
 
-split_step : (p : ℕ → Bool) (x : ℕ) (pieces : List (List ℕ)) → list_all (λ piece. not (list_any p piece)) pieces ≡ true → (b : Bool) → p x ≡ b → list_all (λ piece. not (list_any p piece)) (cond b ([] ∷ pieces) (onto_first x pieces)) ≡ true
+split_step : (p : ℕ → Bool) (x : ℕ) (pieces : List (List ℕ)) → list_all (λ piece. not (list_any p piece)) pieces ≡ true → (b : Bool)
+    → p x ≡ b → list_all (λ piece. not (list_any p piece)) (cond b ([] ∷ pieces) (onto_first x pieces)) ≡ true
 split_step p x pieces h true e = h
 split_step p x pieces h false e = first_plain p x pieces e h
 
@@ -85,16 +89,21 @@ and_both : (a b : Bool) → (a && b) ≡ true → (a ≡ true) × (b ≡ true)
 and_both true b e = (refl, e)
 and_both false b e = absurd (cc)
 
-none_among : (p : ℕ → Bool) (word : List ℕ) (pieces : List (List ℕ)) → list_any p word ≡ true → list_all (λ piece. not (list_any p piece)) pieces ≡ true → list_any (λ w. bytes_eq w word) (filter (λ piece. not (has_no_byte piece)) pieces) ≡ false
+none_among : (p : ℕ → Bool) (word : List ℕ) (pieces : List (List ℕ)) → list_any p word ≡ true
+    → list_all (λ piece. not (list_any p piece)) pieces ≡ true
+    → list_any (λ w. bytes_eq w word) (filter (λ piece. not (has_no_byte piece)) pieces) ≡ false
 none_among p word [] spaced plain = refl
 none_among p word (piece ∷ pieces) spaced plain =
     let both = and_both (not (list_any p piece)) (list_all (λ piece. not (list_any p piece)) pieces) plain in
     kept (not (has_no_byte piece)) (none_among p word pieces spaced both.1) (other_word p word piece spaced both.0)
   where
-    kept : (b : Bool) → list_any (λ w. bytes_eq w word) (filter (λ piece. not (has_no_byte piece)) pieces) ≡ false → bytes_eq piece word ≡ false
-        → list_any (λ w. bytes_eq w word) (cond b (piece ∷ filter (λ piece. not (has_no_byte piece)) pieces) (filter (λ piece. not (has_no_byte piece)) pieces)) ≡ false
+    kept : (b : Bool) → list_any (λ w. bytes_eq w word) (filter (λ piece. not (has_no_byte piece)) pieces) ≡ false
+        → bytes_eq piece word ≡ false
+        → list_any (λ w. bytes_eq w word)
+        (cond b (piece ∷ filter (λ piece. not (has_no_byte piece)) pieces) (filter (λ piece. not (has_no_byte piece)) pieces)) ≡ false
     kept true rest other = rw (other, rest) refl
     kept false rest other = rest
 
 pub no-spaced_word : (word text : List ℕ) → list_any is_ascii_whitespace word ≡ true → has_word word text ≡ false
-no-spaced_word word text spaced = none_among is_ascii_whitespace word (slice_split is_ascii_whitespace text) spaced (pieces-plain is_ascii_whitespace text)
+no-spaced_word word text spaced = none_among is_ascii_whitespace word (slice_split is_ascii_whitespace text) spaced
+    (pieces-plain is_ascii_whitespace text)

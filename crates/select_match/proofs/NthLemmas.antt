@@ -18,7 +18,8 @@ pub none-beyond : (step offset : ℤ) (i : ℕ) → step ≤ℤ pos 0 → offset
 none-beyond step offset i down less = none-reached step (pos i -ℤ offset) down (omega (arith, ints))
 
 -- a place that was counted no further than a limit
-pub nth-within : (step offset : ℤ) (limit place index : ℕ) → ((i : ℕ) → limit < i → i ≤ 100000 → is_nth step offset i ≡ false) → (place ≤ limit → place ≡ index) → (limit < place → limit < index)
+pub nth-within : (step offset : ℤ) (limit place index : ℕ) → ((i : ℕ) → limit < i → i ≤ 100000 → is_nth step offset i ≡ false)
+    → (place ≤ limit → place ≡ index) → (limit < place → limit < index)
     → place ≤ 100000 → index ≤ 100000 → is_nth step offset place ≡ is_nth step offset index
 nth-within step offset limit place index none within beyond bound few = elim (cases_lt limit place) [
   | inl more ↦ none place more bound ∙ sym (none index (beyond more) few)

@@ -1,5 +1,7 @@
 -- What is read of a text as an+b, the grammar of an+b says.
-use Rattle.std.proofs.Common.{◌≡◌, ◌⊎◌, inl, inr, ℕ, ◌+◌, ◌*◌, ◌<◌, ◌≤◌, Bool, true, false, cond, ◌&&◌, ◌||◌, ◌==◌, nat_le, nat_lt, List, [], ◌∷◌, ◌++◌, length, take, drop, Option, Some, refl, sym, ap, subst, ◌∙◌, append_assoc, append-nil, length-append, arith}
+use Rattle.std.proofs.Common.{◌≡◌, ◌⊎◌, inl, inr, ℕ, ◌+◌, ◌*◌, ◌<◌, ◌≤◌, Bool, true, false, cond, ◌&&◌, ◌||◌, ◌==◌, nat_le, nat_lt, List}
+use Rattle.std.proofs.Common.{[], ◌∷◌, ◌++◌, length, take, drop, Option, Some, refl, sym, ap, subst, ◌∙◌, append_assoc, append-nil}
+use Rattle.std.proofs.Common.{length-append, arith}
 use Rattle.std.specs.Prelude.{ℤ, pos, codes}
 use Rattle.std.specs.List.{list_all, prefix_len, fold}
 use Rattle.std.specs.Char.{is_ascii_digit, digit_value, to_ascii_lowercase}
@@ -12,8 +14,11 @@ use Rattle.css_tokens.proofs.RowForms.{passes_cut}
 use Rattle.css_tokens.proofs.NameForms.{lt_true}
 use Rattle.css_tokens.proofs.Ends.{and_true}
 use Rattle.selectors.specs.Forms.{◌>>=◌}
-use Rattle.selectors.specs.Nth.{skip_white, is_blank, decimal, nth_signed, is_negative, number_at, ends_number, offset_if, digits_of, offset_of, after_n, nth_step, linear_by, linear_of, is_nth_letter, is_odd, is_even, nth_by, nth_of}
-use Rattle.selectors.specs.NthGrammar.{AreWhite, AreLetters, Writes, no_digits, one_more, IsNthNumber, IsNthSign, plus, minus, MaySign, unsigned, with_sign, IsStep, step_written, step_one, IsOffset, offset_zero, offset_written, IsFormula, odd, even, constant, linear, IsNth}
+use Rattle.selectors.specs.Nth.{skip_white, is_blank, decimal, nth_signed, is_negative, number_at, ends_number, offset_if, digits_of}
+use Rattle.selectors.specs.Nth.{offset_of, after_n, nth_step, linear_by, linear_of, is_nth_letter, is_odd, is_even, nth_by, nth_of}
+use Rattle.selectors.specs.NthGrammar.{AreWhite, AreLetters, Writes, no_digits, one_more, IsNthNumber, IsNthSign, plus, minus, MaySign}
+use Rattle.selectors.specs.NthGrammar.{unsigned, with_sign, IsStep, step_written, step_one, IsOffset, offset_zero, offset_written}
+use Rattle.selectors.specs.NthGrammar.{IsFormula, odd, even, constant, linear, IsNth}
 use Rattle.selectors.proofs.Choices.{some_is, chosen, passed_test, bind_some}
 
 -- ---- runs of codes
@@ -66,8 +71,11 @@ writes_from front [] n writes are = subst (λ (xs : List ℕ). Writes xs n) (sym
 writes_from front (c ∷ ds) n writes are =
     let t = and_true (is_ascii_digit c) (list_all is_ascii_digit ds) are in
     let sum : 10 * n + digit_value c ≡ push n c = omega arith in
-    let one : Writes (front ++ c ∷ []) (push n c) = subst (Writes (front ++ c ∷ [])) sum (one_more front (front ++ c ∷ []) n (digit_value c) (ap (λ (x : ℕ). front ++ x ∷ []) (digit_code c t.0)) (digit_small c t.0) writes) in
-    subst (λ (xs : List ℕ). Writes xs (fold push (push n c) ds)) (append_assoc front (c ∷ []) ds) (writes_from (front ++ c ∷ []) ds (push n c) one t.1)
+    let one : Writes (front ++ c ∷ []) (push n c) = subst (Writes (front ++ c ∷ [])) sum
+    (one_more front (front ++ c ∷ []) n (digit_value c) (ap (λ (x : ℕ). front ++ x ∷ []) (digit_code c t.0))
+    (digit_small c t.0) writes) in
+    subst (λ (xs : List ℕ). Writes xs (fold push (push n c) ds)) (append_assoc front (c ∷ []) ds)
+    (writes_from (front ++ c ∷ []) ds (push n c) one t.1)
 
 abbrev some_number : ℕ → Option ℕ
 some_number n = Some n
@@ -99,7 +107,8 @@ number_takes text n e =
       len = c.len;
       behind = c.behind;
       fits = omega (arith, c.len, small (digits text) 9 t.0);
-      writes = subst (Writes c.front) (ap decimal (sym c.own) ∙ some_is (decimal (take (digits text) text)) n t.1) (writes_from [] c.front 0 no_digits c.are);
+      writes = subst (Writes c.front) (ap decimal (sym c.own) ∙ some_is (decimal (take (digits text) text)) n t.1)
+          (writes_from [] c.front 0 no_digits c.are);
     }
 
 -- digits in front, and nothing but white space behind them
@@ -198,29 +207,41 @@ written_takes : (text : List ℕ) (b : ℤ) → offset_of (skip_white text) ≡ 
 unfolding offset_of
 written_takes text b e =
     let w = run_cut is_white text in
-    let t = passed_test (begins is_sign w.rest) (digits_of (is_negative w.rest) (skip_white (drop 1 w.rest))) b (ap offset_of (sym w.behind) ∙ e) in
+    let t = passed_test (begins is_sign w.rest) (digits_of (is_negative w.rest) (skip_white (drop 1 w.rest))) b
+    (ap offset_of (sym w.behind) ∙ e) in
     let s = sign_takes w.rest t.0 in
     let v = run_cut is_white s.rest in
-    let f = digits_take (is_negative w.rest) v.rest b (ap (digits_of (is_negative w.rest)) (sym v.behind ∙ ap skip_white (sym s.behind)) ∙ t.1) in
+    let f = digits_take (is_negative w.rest) v.rest b
+    (ap (digits_of (is_negative w.rest)) (sym v.behind ∙ ap skip_white (sym s.behind)) ∙ t.1) in
     let whole : text ≡ (w.front ++ (s.sign ++ (v.front ++ f.ds))) ++ f.after =
     w.is
     ∙ ap (λ (xs : List ℕ). w.front ++ xs)
-    (s.is ∙ ap (λ (xs : List ℕ). s.sign ++ xs) (v.is ∙ ap (λ (xs : List ℕ). v.front ++ xs) f.is ∙ sym (append_assoc v.front f.ds f.after)) ∙ sym (append_assoc s.sign (v.front ++ f.ds) f.after))
+    (s.is ∙ ap (λ (xs : List ℕ). s.sign ++ xs)
+    (v.is ∙ ap (λ (xs : List ℕ). v.front ++ xs) f.is ∙ sym (append_assoc v.front f.ds f.after)) ∙ sym
+    (append_assoc s.sign (v.front ++ f.ds) f.after))
     ∙ sym (append_assoc w.front (s.sign ++ (v.front ++ f.ds)) f.after) in
     record {
       offset = w.front ++ (s.sign ++ (v.front ++ f.ds));
       after = f.after;
       is = whole;
       white = f.white;
-      form = offset_written w.front s.sign v.front f.ds (w.front ++ (s.sign ++ (v.front ++ f.ds))) f.n b refl w.are (subst (IsNthSign s.sign f.n) f.value (s.signs f.n)) v.are f.number;
+      form = offset_written w.front s.sign v.front f.ds (w.front ++ (s.sign ++ (v.front ++ f.ds))) f.n b refl w.are
+          (subst (IsNthSign s.sign f.n) f.value (s.signs f.n)) v.are f.number;
     }
 
 offset_takes : (text : List ℕ) (b : ℤ) → after_n text ≡ Some b → FoundOffset text b
 unfolding after_n
 offset_takes text b e = by_case (chosen (is_blank text) (some_integer (pos 0)) (offset_of (skip_white text)) (Some b) e)
   where
-    by_case : ((is_blank text ≡ true) × (some_integer (pos 0) ≡ Some b)) ⊎ ((is_blank text ≡ false) × (offset_of (skip_white text) ≡ Some b)) → FoundOffset text b
-    by_case (inl h) = record { offset = []; after = text; is = refl; white = blank_takes text h.0; form = subst (IsOffset []) (some_is (pos 0) b h.1) offset_zero }
+    by_case : ((is_blank text ≡ true) × (some_integer (pos 0) ≡ Some b))
+        ⊎ ((is_blank text ≡ false) × (offset_of (skip_white text) ≡ Some b)) → FoundOffset text b
+    by_case (inl h) = record {
+      offset = [];
+      after = text;
+      is = refl;
+      white = blank_takes text h.0;
+      form = subst (IsOffset []) (some_is (pos 0) b h.1) offset_zero;
+    }
     by_case (inr h) = written_takes text b h.1
 
 -- ---- before the `n`
@@ -238,7 +259,8 @@ record FoundStep (sign text : List ℕ) (a : ℤ) : Type 0 where
   behind : drop (digits text) text ≡ rest
   form : IsStep (sign ++ ds) a
 
-step_takes : (negative : Bool) (sign text : List ℕ) (a : ℤ) → ((n : ℕ) → MaySign sign n (nth_signed negative n)) → nth_step negative text ≡ Some a → FoundStep sign text a
+step_takes : (negative : Bool) (sign text : List ℕ) (a : ℤ) → ((n : ℕ) → MaySign sign n (nth_signed negative n))
+    → nth_step negative text ≡ Some a → FoundStep sign text a
 step_takes negative sign text a signs e =
     let b = bind_some (number_at text) (λ n. some_integer (nth_signed negative (cond (digits text == 0) 1 n))) a e in
     let f = number_takes text b.0 b.1 in
@@ -251,19 +273,24 @@ step_takes negative sign text a signs e =
     some_code : (k : ℕ) → (k == 0) ≡ false → 0 < k
     some_code k t = grind (arith, nat_tests)
 
-    by_count : (t : Bool) → (digits text == 0) ≡ t → {n : ℕ} (f : FoundNumber text n) → some_integer (nth_signed negative (cond (digits text == 0) 1 n)) ≡ Some a → FoundStep sign text a
+    by_count : (t : Bool) → (digits text == 0) ≡ t → {n : ℕ} (f : FoundNumber text n)
+        → some_integer (nth_signed negative (cond (digits text == 0) 1 n)) ≡ Some a → FoundStep sign text a
     by_count true zero {n = n} f value =
-        let one : nth_signed negative 1 ≡ a = some_is (nth_signed negative 1) a (ap (λ (t : Bool). some_integer (nth_signed negative (cond t 1 n))) (sym zero) ∙ value) in
+        let one : nth_signed negative 1
+        ≡ a = some_is (nth_signed negative 1) a
+        (ap (λ (t : Bool). some_integer (nth_signed negative (cond t 1 n))) (sym zero) ∙ value) in
         let none : f.ds ≡ [] = no_code f.ds (sym f.len ∙ eqb-true (digits text) 0 zero) in
         record {
           ds = f.ds;
           rest = f.rest;
           is = f.is;
           behind = f.behind;
-          form = subst (λ (xs : List ℕ). IsStep xs a) (sym (append-nil sign) ∙ ap (λ (xs : List ℕ). sign ++ xs) (sym none)) (step_one sign a (subst (MaySign sign 1) one (signs 1)));
+          form = subst (λ (xs : List ℕ). IsStep xs a) (sym (append-nil sign) ∙ ap (λ (xs : List ℕ). sign ++ xs) (sym none))
+              (step_one sign a (subst (MaySign sign 1) one (signs 1)));
         }
     by_count false some {n = n} f value =
-        let z : nth_signed negative n ≡ a = some_is (nth_signed negative n) a (ap (λ (t : Bool). some_integer (nth_signed negative (cond t 1 n))) (sym some) ∙ value) in
+        let z : nth_signed negative n ≡ a = some_is (nth_signed negative n) a
+        (ap (λ (t : Bool). some_integer (nth_signed negative (cond t 1 n))) (sym some) ∙ value) in
         record {
           ds = f.ds;
           rest = f.rest;
@@ -307,8 +334,10 @@ regroup : (sign ds formula after : List ℕ) → sign ++ (ds ++ (formula ++ afte
 regroup sign ds formula after = sym (append_assoc sign ds (formula ++ after)) ∙ sym (append_assoc (sign ++ ds) formula after)
 
 -- behind a sign or none: digits or none, `n` and what follows it
-steps_take : (negative : Bool) (sign text : List ℕ) (a b : ℤ) → ((n : ℕ) → MaySign sign n (nth_signed negative n)) → begins (λ c. c == 110 || c == 78) (drop (digits text) text) ≡ true
-    → (nth_step negative text >>= λ x. after_n (drop 1 (drop (digits text) text)) >>= λ y. some_pair x y) ≡ Some (a, b) → FoundFormula (sign ++ text) a b
+steps_take : (negative : Bool) (sign text : List ℕ) (a b : ℤ) → ((n : ℕ) → MaySign sign n (nth_signed negative n))
+    → begins (λ c. c == 110 || c == 78) (drop (digits text) text) ≡ true
+    → (nth_step negative text >>= λ x. after_n (drop 1 (drop (digits text) text)) >>= λ y. some_pair x y) ≡ Some (a, b)
+    → FoundFormula (sign ++ text) a b
 steps_take negative sign text a b signs is_n e =
     let rest = drop (digits text) text in
     let x = bind_some (nth_step negative text) (λ x. after_n (drop 1 rest) >>= λ y. some_pair x y) (a, b) e in
@@ -319,17 +348,20 @@ steps_take negative sign text a b signs is_n e =
     let o = offset_takes n.rest y.0 (ap after_n (sym n.behind) ∙ y.1) in
     let step = sign ++ s.ds in
     let F : ℤ × ℤ → Type 0 = λ p. IsFormula (step ++ (n.c ∷ o.offset)) p.0 p.1 in
-    let tail : text ≡ s.ds ++ ((n.c ∷ o.offset) ++ o.after) = s.is ∙ ap (λ (xs : List ℕ). s.ds ++ xs) (sym s.behind ∙ n.is ∙ ap (λ (xs : List ℕ). n.c ∷ xs) o.is) in
+    let tail : text ≡ s.ds ++ ((n.c ∷ o.offset) ++ o.after) = s.is ∙ ap (λ (xs : List ℕ). s.ds ++ xs)
+    (sym s.behind ∙ n.is ∙ ap (λ (xs : List ℕ). n.c ∷ xs) o.is) in
     record {
       formula = step ++ (n.c ∷ o.offset);
       after = o.after;
       is = ap (λ (xs : List ℕ). sign ++ xs) tail ∙ regroup sign s.ds (n.c ∷ o.offset) o.after;
       white = o.white;
-      form = subst F same (linear step (n.c ∷ []) o.offset (step ++ (n.c ∷ o.offset)) x.0 y.0 refl s.form (ap (λ (k : ℕ). k ∷ []) n.letter) o.form);
+      form = subst F same (linear step (n.c ∷ []) o.offset (step ++ (n.c ∷ o.offset)) x.0 y.0 refl s.form
+          (ap (λ (k : ℕ). k ∷ []) n.letter) o.form);
     }
 
 -- behind a sign or none: digits, and nothing but white space
-constant_takes : (negative : Bool) (sign text : List ℕ) (a b : ℤ) → ((n : ℕ) → MaySign sign n (nth_signed negative n)) → (digits_of negative text >>= λ z. some_pair (pos 0) z) ≡ Some (a, b) → FoundFormula (sign ++ text) a b
+constant_takes : (negative : Bool) (sign text : List ℕ) (a b : ℤ) → ((n : ℕ) → MaySign sign n (nth_signed negative n))
+    → (digits_of negative text >>= λ z. some_pair (pos 0) z) ≡ Some (a, b) → FoundFormula (sign ++ text) a b
 constant_takes negative sign text a b signs e =
     let z = bind_some (digits_of negative text) (λ z. some_pair (pos 0) z) (a, b) e in
     let same = some_is {A = ℤ × ℤ} (pos 0, z.0) (a, b) z.2 in
@@ -340,7 +372,15 @@ constant_takes negative sign text a b signs e =
       after = f.after;
       is = ap (λ (xs : List ℕ). sign ++ xs) f.is ∙ sym (append_assoc sign f.ds f.after);
       white = f.white;
-      form = subst F same (constant (sign ++ f.ds) z.0 (record { sign = sign; digits = f.ds; n = f.n; whole = refl; signs = subst (MaySign sign f.n) f.value (signs f.n); number = f.number }));
+      form = subst F same (constant (sign ++ f.ds) z.0
+          (record {
+            sign = sign;
+            digits = f.ds;
+            n = f.n;
+            whole = refl;
+            signs = subst (MaySign sign f.n) f.value (signs f.n);
+            number = f.number;
+          }));
     }
 
 linear_takes : (text : List ℕ) (a b : ℤ) → linear_of text ≡ Some (a, b) → FoundFormula text a b
@@ -350,11 +390,15 @@ linear_takes text a b e =
     let rest = drop (digits s.rest) s.rest in
     let read = nth_step (is_negative text) s.rest >>= λ x. after_n (drop 1 rest) >>= λ y. some_pair x y in
     subst (λ (xs : List ℕ). FoundFormula xs a b) (sym s.is)
-    (by_case s (chosen (begins (λ c. c == 110 || c == 78) rest) read (digits_of (is_negative text) s.rest >>= λ z. some_pair (pos 0) z) (Some (a, b)) (ap (linear_by (is_negative text)) (sym s.behind) ∙ e)))
+    (by_case s (chosen (begins (λ c. c == 110 || c == 78) rest) read (digits_of (is_negative text) s.rest >>= λ z. some_pair (pos 0) z)
+    (Some (a, b)) (ap (linear_by (is_negative text)) (sym s.behind) ∙ e)))
   where
     by_case : (s : FoundSign text)
-        → ((begins (λ c. c == 110 || c == 78) (drop (digits s.rest) s.rest) ≡ true) × ((nth_step (is_negative text) s.rest >>= λ x. after_n (drop 1 (drop (digits s.rest) s.rest)) >>= λ y. some_pair x y) ≡ Some (a, b)))
-        ⊎ ((begins (λ c. c == 110 || c == 78) (drop (digits s.rest) s.rest) ≡ false) × ((digits_of (is_negative text) s.rest >>= λ z. some_pair (pos 0) z) ≡ Some (a, b))) → FoundFormula (s.sign ++ s.rest) a b
+        → ((begins (λ c. c == 110 || c == 78) (drop (digits s.rest) s.rest) ≡ true)
+        × ((nth_step (is_negative text) s.rest >>= λ x. after_n (drop 1 (drop (digits s.rest) s.rest)) >>= λ y. some_pair x y)
+        ≡ Some (a, b)))
+        ⊎ ((begins (λ c. c == 110 || c == 78) (drop (digits s.rest) s.rest) ≡ false)
+        × ((digits_of (is_negative text) s.rest >>= λ z. some_pair (pos 0) z) ≡ Some (a, b))) → FoundFormula (s.sign ++ s.rest) a b
     by_case s (inl h) = steps_take (is_negative text) s.sign s.rest a b s.signs h.0 h.1
     by_case s (inr h) = constant_takes (is_negative text) s.sign s.rest a b s.signs h.1
 
@@ -371,7 +415,9 @@ odd_takes (x ∷ y ∷ z ∷ rest) e =
     let first : to_ascii_lowercase x ≡ 111 = eqb-true (to_ascii_lowercase x) 111 u.0 in
     let second : to_ascii_lowercase y ≡ 100 = eqb-true (to_ascii_lowercase y) 100 u.1 in
     let third : to_ascii_lowercase z ≡ 100 = eqb-true (to_ascii_lowercase z) 100 v.0 in
-    let letters : AreLetters (codes "odd") (x ∷ y ∷ z ∷ []) = ap (λ (k : ℕ). k ∷ to_ascii_lowercase y ∷ to_ascii_lowercase z ∷ []) first ∙ ap (λ (k : ℕ). 111 ∷ k ∷ to_ascii_lowercase z ∷ []) second ∙ ap (λ (k : ℕ). 111 ∷ 100 ∷ k ∷ []) third in
+    let letters : AreLetters (codes "odd") (x ∷ y ∷ z ∷ []) = ap
+    (λ (k : ℕ). k ∷ to_ascii_lowercase y ∷ to_ascii_lowercase z ∷ []) first ∙ ap
+    (λ (k : ℕ). 111 ∷ k ∷ to_ascii_lowercase z ∷ []) second ∙ ap (λ (k : ℕ). 111 ∷ 100 ∷ k ∷ []) third in
     record { formula = x ∷ y ∷ z ∷ []; after = rest; is = refl; white = blank_takes rest v.1; form = odd (x ∷ y ∷ z ∷ []) letters }
 
 even_takes : (text : List ℕ) → is_even text ≡ true → FoundFormula text (pos 2) (pos 0)
@@ -396,18 +442,21 @@ even_takes (x ∷ y ∷ z ∷ w ∷ rest) e =
     record { formula = x ∷ y ∷ z ∷ w ∷ []; after = rest; is = refl; white = blank_takes rest v.1; form = even (x ∷ y ∷ z ∷ w ∷ []) letters }
 
 formula_takes : (text : List ℕ) (a b : ℤ) → nth_by text ≡ Some (a, b) → FoundFormula text a b
-formula_takes text a b e = by_odd (chosen (is_odd text) (some_pair (pos 2) (pos 1)) (cond (is_even text) (some_pair (pos 2) (pos 0)) (linear_of text)) (Some (a, b)) e)
+formula_takes text a b e = by_odd
+    (chosen (is_odd text) (some_pair (pos 2) (pos 1)) (cond (is_even text) (some_pair (pos 2) (pos 0)) (linear_of text)) (Some (a, b)) e)
   where
     said : (x y : ℤ) → some_pair x y ≡ Some (a, b) → FoundFormula text x y → FoundFormula text a b
     said x y same f =
         let F : ℤ × ℤ → Type 0 = λ p. FoundFormula text p.0 p.1 in
         subst F (some_is {A = ℤ × ℤ} (x, y) (a, b) same) f
 
-    by_even : ((is_even text ≡ true) × (some_pair (pos 2) (pos 0) ≡ Some (a, b))) ⊎ ((is_even text ≡ false) × (linear_of text ≡ Some (a, b))) → FoundFormula text a b
+    by_even : ((is_even text ≡ true) × (some_pair (pos 2) (pos 0) ≡ Some (a, b)))
+        ⊎ ((is_even text ≡ false) × (linear_of text ≡ Some (a, b))) → FoundFormula text a b
     by_even (inl h) = said (pos 2) (pos 0) h.1 (even_takes text h.0)
     by_even (inr h) = linear_takes text a b h.1
 
-    by_odd : ((is_odd text ≡ true) × (some_pair (pos 2) (pos 1) ≡ Some (a, b))) ⊎ ((is_odd text ≡ false) × (cond (is_even text) (some_pair (pos 2) (pos 0)) (linear_of text) ≡ Some (a, b))) → FoundFormula text a b
+    by_odd : ((is_odd text ≡ true) × (some_pair (pos 2) (pos 1) ≡ Some (a, b)))
+        ⊎ ((is_odd text ≡ false) × (cond (is_even text) (some_pair (pos 2) (pos 0)) (linear_of text) ≡ Some (a, b))) → FoundFormula text a b
     by_odd (inl h) = said (pos 2) (pos 1) h.1 (odd_takes text h.0)
     by_odd (inr h) = by_even (chosen (is_even text) (some_pair (pos 2) (pos 0)) (linear_of text) (Some (a, b)) h.1)
 
@@ -416,4 +465,12 @@ unfolding nth_of
 nth_spells text a b e =
     let w = run_cut is_white text in
     let f = formula_takes w.rest a b (ap nth_by (sym w.behind) ∙ e) in
-    record { before = w.front; formula = f.formula; after = f.after; whole = w.is ∙ ap (λ (xs : List ℕ). w.front ++ xs) f.is; white_before = w.are; white_after = f.white; is_formula = f.form }
+    record {
+      before = w.front;
+      formula = f.formula;
+      after = f.after;
+      whole = w.is ∙ ap (λ (xs : List ℕ). w.front ++ xs) f.is;
+      white_before = w.are;
+      white_after = f.white;
+      is_formula = f.form;
+    }

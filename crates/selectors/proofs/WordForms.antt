@@ -9,13 +9,15 @@ use Rattle.css_tokens.specs.Marks.{IsCutInside, IsPieceOf}
 use Rattle.selectors.specs.declared.words.Word.{Word}
 use Rattle.selectors.specs.Words.{word_kind, word_of, passed_over, words_by, words_after, opens_word, closes, IsWordOf}
 
-opened_of : (k : TokenKind) (text : List ℕ) (start end c : ℕ) → IsCutInside k text start end → opens_word (word_kind k c) ≡ true → IsCharBoundary text (start + 1)
+opened_of : (k : TokenKind) (text : List ℕ) (start end c : ℕ) → IsCutInside k text start end → opens_word (word_kind k c) ≡ true
+    → IsCharBoundary text (start + 1)
 opened_of (tokens.Hash true) text start end c inside e = inside
 opened_of (tokens.Hash false) text start end c inside e = absurd (cc)
 opened_of tokens.Str text start end c inside e = inside.0
 opened_of _ text start end c inside e = absurd (cc)
 
-closed_of : (k : TokenKind) (text : List ℕ) (w : Word) (c : ℕ) → IsCutInside k text w.start w.end → closes text w (word_kind k c) ≡ true → IsCharBoundary text (w.end - 1)
+closed_of : (k : TokenKind) (text : List ℕ) (w : Word) (c : ℕ) → IsCutInside k text w.start w.end → closes text w (word_kind k c) ≡ true
+    → IsCharBoundary text (w.end - 1)
 closed_of tokens.Function text w c inside e = inside
 closed_of (tokens.Hash true) text w c inside e = absurd (cc)
 closed_of (tokens.Hash false) text w c inside e = absurd (cc)
@@ -31,10 +33,12 @@ word_cut text spaced t piece = record {
   closed = closed_of t.kind text (word_of text spaced t) (slice_index text t.start) piece.inside;
 }
 
-pub passes : (text : List ℕ) (spaced after : Bool) (t : Token) (ts : List Token) → passed_over t.kind spaced ≡ Some after → words_after text spaced (t ∷ ts) ≡ words_after text after ts
+pub passes : (text : List ℕ) (spaced after : Bool) (t : Token) (ts : List Token) → passed_over t.kind spaced ≡ Some after
+    → words_after text spaced (t ∷ ts) ≡ words_after text after ts
 unfolding words_after
 passes text spaced after t ts e = ap (λ (o : Option Bool). words_by o (word_of text spaced t) (λ s. words_after text s ts)) e
 
-pub is_word : (text : List ℕ) (spaced : Bool) (t : Token) (ts : List Token) → passed_over t.kind spaced ≡ None → words_after text spaced (t ∷ ts) ≡ word_of text spaced t ∷ words_after text false ts
+pub is_word : (text : List ℕ) (spaced : Bool) (t : Token) (ts : List Token) → passed_over t.kind spaced ≡ None
+    → words_after text spaced (t ∷ ts) ≡ word_of text spaced t ∷ words_after text false ts
 unfolding words_after
 is_word text spaced t ts e = ap (λ (o : Option Bool). words_by o (word_of text spaced t) (λ s. words_after text s ts)) e

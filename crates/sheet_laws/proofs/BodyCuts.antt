@@ -9,7 +9,8 @@ use Rattle.css_tokens.specs.Pieces.{pieces}
 use Rattle.css_tokens.proofs.TableForms.{cuts_whole}
 use Rattle.selectors.proofs.Choices.{none_some}
 use Rattle.sheet_reader.specs.declared.sheet.Property.{Property}
-use Rattle.sheet_reader.specs.Declarations.{ItemForm, passed, at_rule, candidate, other, items_after, item_property, properties_in, declarations, style_of}
+use Rattle.sheet_reader.specs.Declarations.{ItemForm, passed, at_rule, candidate, other, items_after, item_property, properties_in}
+use Rattle.sheet_reader.specs.Declarations.{declarations, style_of}
 use Rattle.sheet_reader.specs.Grammar.{is_ident_kind, IsBodyItem, passed_item, at_rule_item, candidate_item, other_item, AreItems}
 use Rattle.sheet_reader.proofs.ItemForms.{items_spelled, items_only}
 use Rattle.sheet_laws.specs.Said.{AreSaid}
@@ -69,7 +70,8 @@ body_spelled text body =
     record {
       items = items;
       are_items = are;
-      said = subst (AreSaid (ItemDeclares text) items) (sym (properties_listed text items)) (said_is IsWellItem (ItemDeclares text) (item_property text) (items_tell text) items (items_well items body are));
+      said = subst (AreSaid (ItemDeclares text) items) (sym (properties_listed text items))
+          (said_is IsWellItem (ItemDeclares text) (item_property text) (items_tell text) items (items_well items body are));
     }
 
 pub body_only : (text : List ℕ) (body : List Token) (ps : List Property) → AreDeclarations text body ps → ps ≡ declarations text body

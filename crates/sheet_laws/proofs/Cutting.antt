@@ -1,18 +1,23 @@
 -- A text is cut by the table of pieces in one way.
-use Rattle.std.proofs.Common.{◌≡◌, ℕ, zero, suc, ◌+◌, ◌-◌, ◌<◌, ◌≤◌, true, List, [], ◌∷◌, ◌++◌, length, drop, slice_index, Contains, Some, None, refl, ap, sym, ◌∙◌, subst, length-append, arith}
+use Rattle.std.proofs.Common.{◌≡◌, ℕ, zero, suc, ◌+◌, ◌-◌, ◌<◌, ◌≤◌, true, List, [], ◌∷◌, ◌++◌, length, drop, slice_index, Contains, Some}
+use Rattle.std.proofs.Common.{None, refl, ap, sym, ◌∙◌, subst, length-append, arith}
 use Rattle.std.proofs.lemmas.List.{length-drop, drop-drop}
 use Rattle.std.specs.List.{AllByRecursion}
 use Rattle.css_tokens.specs.declared.token.TokenKind.{TokenKind}
-use Rattle.css_tokens.specs.declared.token.TokenKind.TheVariants.{Colon, Semicolon, Comma, OpenSquare, CloseSquare, OpenRound, CloseRound, OpenCurly, CloseCurly, Delim}
+use Rattle.css_tokens.specs.declared.token.TokenKind.TheVariants.{Colon, Semicolon, Comma, OpenSquare, CloseSquare, OpenRound, CloseRound}
+use Rattle.css_tokens.specs.declared.token.TokenKind.TheVariants.{OpenCurly, CloseCurly, Delim}
 use Rattle.css_tokens.specs.declared.token.Token.{Token}
 use Rattle.css_tokens.specs.Marks.{HasMarks}
 use Rattle.css_tokens.specs.Rows.{piece, first_piece, mark_kind}
 use Rattle.css_tokens.specs.Pieces.{pieces, pieces_after}
-use Rattle.css_tokens.specs.Table.{PieceRow, comment_row, white_space_row, string_row, bad_string_row, hash_row, numeric_row, cdc_row, url_row, bad_url_row, ident_row, cdo_row, at_keyword_row, mark_row, FormOf, row_of, IsLongest, HasNone, NoneOf, IsFirstPiece, Cuts}
+use Rattle.css_tokens.specs.Table.{PieceRow, comment_row, white_space_row, string_row, bad_string_row, hash_row, numeric_row, cdc_row}
+use Rattle.css_tokens.specs.Table.{url_row, bad_url_row, ident_row, cdo_row, at_keyword_row, mark_row, FormOf, row_of, IsLongest, HasNone}
+use Rattle.css_tokens.specs.Table.{NoneOf, IsFirstPiece, Cuts}
 use Rattle.css_tokens.proofs.Cuts.{piece_first, none_at_end}
 use Rattle.css_tokens.proofs.Ends.{first_of_rest, first_whole}
 use Rattle.css_tokens.proofs.RowForms.{RowLaw, comment_row_law, white_row_law}
-use Rattle.css_tokens.proofs.NameForms.{string_row_law, bad_string_row_law, hash_row_law, at_keyword_row_law, ident_row_law, mark_row_law, cdc_row_law, cdo_row_law}
+use Rattle.css_tokens.proofs.NameForms.{string_row_law, bad_string_row_law, hash_row_law, at_keyword_row_law, ident_row_law, mark_row_law}
+use Rattle.css_tokens.proofs.NameForms.{cdc_row_law, cdo_row_law}
 use Rattle.css_tokens.proofs.NumberForms.{numeric_row_law}
 use Rattle.css_tokens.proofs.UrlForms.{url_row_law, bad_url_row_law}
 use Rattle.css_tokens.proofs.TableForms.{first_is_first, first_fits, cuts_whole}
@@ -34,11 +39,13 @@ law_of at_keyword_row = at_keyword_row_law
 law_of mark_row = mark_row_law
 
 -- what a text begins with by a row is what the row gives
-row_given : (row : PieceRow) (text : List ℕ) (kind : TokenKind) (n : ℕ) → IsLongest (FormOf row) text (piece kind n) → row_of row text ≡ Some (piece kind n)
+row_given : (row : PieceRow) (text : List ℕ) (kind : TokenKind) (n : ℕ) → IsLongest (FormOf row) text (piece kind n)
+    → row_of row text ≡ Some (piece kind n)
 row_given row text kind n l =
     ap (row_of row) l.is ∙ (law_of row).only kind l.front l.rest l.form ∙ ap (λ (m : ℕ). Some (piece kind m)) (sym l.len)
 
-clashes : (row : PieceRow) (text : List ℕ) (kind : TokenKind) (n : ℕ) → IsLongest (FormOf row) text (piece kind n) → HasNone (FormOf row) text → ⊥
+clashes : (row : PieceRow) (text : List ℕ) (kind : TokenKind) (n : ℕ) → IsLongest (FormOf row) text (piece kind n)
+    → HasNone (FormOf row) text → ⊥
 clashes row text kind n l none = none kind l.front l.rest l.is l.form
 
 -- a piece of a text by a row
@@ -48,7 +55,8 @@ record ByRow (row : PieceRow) (text : List ℕ) : Type 0 where
   longest : IsLongest (FormOf row) text (piece kind n)
 
 -- the first row that has a piece is one
-same_row : (text : List ℕ) (before : List PieceRow) (row : PieceRow) (behind others : List PieceRow) (other : PieceRow) (left : List PieceRow) → before ++ row ∷ behind ≡ others ++ other ∷ left
+same_row : (text : List ℕ) (before : List PieceRow) (row : PieceRow) (behind others : List PieceRow) (other : PieceRow)
+    (left : List PieceRow) → before ++ row ∷ behind ≡ others ++ other ∷ left
     → NoneOf before text → NoneOf others text → ByRow row text → ByRow other text → row ≡ other
 same_row text [] row behind [] other left e none silent l m = cc
 same_row text [] row behind (x ∷ others) other left e none silent l m =
@@ -63,7 +71,8 @@ same_row text (x ∷ before) row behind (y ∷ others) other left e none silent 
     let below : before ++ row ∷ behind ≡ others ++ other ∷ left = cc in
     same_row text before row behind others other left below none.1 silent.1 l m
 
-one_piece : (text : List ℕ) (kind other : TokenKind) (n m : ℕ) → IsFirstPiece text (piece kind n) → IsFirstPiece text (piece other m) → Some (piece kind n) ≡ Some (piece other m)
+one_piece : (text : List ℕ) (kind other : TokenKind) (n m : ℕ) → IsFirstPiece text (piece kind n) → IsFirstPiece text (piece other m)
+    → Some (piece kind n) ≡ Some (piece other m)
 one_piece text kind other n m f g =
     let same = same_row text f.earlier f.row f.later g.earlier g.row g.later (sym f.order ∙ g.order) f.none_earlier g.none_earlier
     (record { kind = kind; n = n; longest = f.longest }) (record { kind = other; n = m; longest = g.longest }) in
@@ -87,7 +96,8 @@ no_codes : (xs : List ℕ) → length xs < 1 → xs ≡ []
 no_codes [] few = refl
 no_codes (x ∷ xs) few = absurd (omega (arith, few))
 
-cuts_from_place : (text : List ℕ) (place : ℕ) (ts : List Token) → place ≤ length text → Cuts text place ts → ts ≡ pieces_after place 0 (drop place text)
+cuts_from_place : (text : List ℕ) (place : ℕ) (ts : List Token) → place ≤ length text → Cuts text place ts
+    → ts ≡ pieces_after place 0 (drop place text)
 unfolding pieces_after
 cuts_from_place text place [] within c =
     let gone : drop place text ≡ [] = no_codes (drop place text) (omega (arith, c, length-drop place text)) in
@@ -98,9 +108,15 @@ cuts_from_place text place (t ∷ ts) within c =
     let fits = first_fits text place p within found in
     let end : place + (t.end - t.start) ≡ t.end = omega (arith, c.0, c.1) in
     let more = cuts_from_place text t.end ts (omega (arith, end, fits.2)) c.3 in
-    let left : drop (t.end - t.start) (drop place text) ≡ drop t.end text = drop-drop (t.end - t.start) place text ∙ ap (λ (n : ℕ). drop n text) end in
-    let head : t ≡ record { kind = t.kind; start = place; end = place + (t.end - t.start) } = λ i. record { kind = t.kind; start = c.0 i; end = sym end i } in
-    ap (λ (xs : List Token). t ∷ xs) (more ∙ (λ i. pieces_after (sym end i) 0 (sym left i))) ∙ ap (λ (u : Token). u ∷ pieces_after (place + (t.end - t.start)) 0 (drop (t.end - t.start) (drop place text))) head
+    let left : drop (t.end - t.start) (drop place text)
+    ≡ drop t.end text = drop-drop (t.end - t.start) place text ∙ ap (λ (n : ℕ). drop n text) end in
+    let head : t ≡ record { kind = t.kind; start = place; end = place + (t.end - t.start) } = λ i. record {
+      kind = t.kind;
+      start = c.0 i;
+      end = sym end i;
+    } in
+    ap (λ (xs : List Token). t ∷ xs) (more ∙ (λ i. pieces_after (sym end i) 0 (sym left i))) ∙ ap
+    (λ (u : Token). u ∷ pieces_after (place + (t.end - t.start)) 0 (drop (t.end - t.start) (drop place text))) head
     ∙ sym (piece_first (drop place text) place p found fits.0 fits.1)
 
 pub cuts_only : (text : List ℕ) (ts : List Token) → Cuts text 0 ts → ts ≡ pieces text
@@ -123,7 +139,8 @@ element_holds P (y ∷ ys) x all (suc k, within, is) = element_holds P ys x all.
 abbrev HasItsKind : List ℕ → Token → Type 0
 HasItsKind text t = is_character_kind t.kind ≡ true → (t.end ≡ t.start + 1) × (t.kind ≡ mark_kind (slice_index text t.start))
 
-by_kind : (kind : TokenKind) (text : List ℕ) (place n : ℕ) → HasMarks kind (drop place text) 0 n → is_character_kind kind ≡ true → (n ≡ 1) × (kind ≡ mark_kind (slice_index text place))
+by_kind : (kind : TokenKind) (text : List ℕ) (place n : ℕ) → HasMarks kind (drop place text) 0 n → is_character_kind kind ≡ true
+    → (n ≡ 1) × (kind ≡ mark_kind (slice_index text place))
 by_kind Colon text place n h e = (omega (arith, h.one), h.gives ∙ ap mark_kind (first_of_rest text place))
 by_kind Semicolon text place n h e = (omega (arith, h.one), h.gives ∙ ap mark_kind (first_of_rest text place))
 by_kind Comma text place n h e = (omega (arith, h.one), h.gives ∙ ap mark_kind (first_of_rest text place))
@@ -147,5 +164,6 @@ cuts_kinds text place (t ∷ ts) c = (own, cuts_kinds text t.end ts c.3)
         let is = by_kind t.kind text place (t.end - t.start) (first_whole (drop place text) p found).marks e in
         (omega (arith, is.0, c.1), is.1 ∙ ap (λ (n : ℕ). mark_kind (slice_index text n)) (sym c.0))
 
-pub characters : (text : List ℕ) (t : Token) → Contains (pieces text) t → is_character_kind t.kind ≡ true → (t.end ≡ t.start + 1) × (t.kind ≡ mark_kind (slice_index text t.start))
+pub characters : (text : List ℕ) (t : Token) → Contains (pieces text) t → is_character_kind t.kind ≡ true
+    → (t.end ≡ t.start + 1) × (t.kind ≡ mark_kind (slice_index text t.start))
 characters text t within = element_holds (HasItsKind text) (pieces text) t (cuts_kinds text 0 (pieces text) (cuts_whole text)) within

@@ -1,5 +1,6 @@
 -- Declarations of the grammar are those that are read, and no others are.
-use Rattle.std.proofs.Common.{◌≡◌, ℕ, Bool, true, false, cond, List, [], ◌∷◌, ◌++◌, ◌-◌, length, Option, Some, None, refl, sym, ap, subst, ◌∙◌}
+use Rattle.std.proofs.Common.{◌≡◌, ℕ, Bool, true, false, cond, List, [], ◌∷◌, ◌++◌, ◌-◌, length, Option, Some, None, refl, sym, ap, subst}
+use Rattle.std.proofs.Common.{◌∙◌}
 use Rattle.std.specs.Prelude.{◌&&◌, ◌||◌, not, slice_get}
 use Rattle.std.specs.List.{AllByRecursion, list_any}
 use Rattle.css_tokens.specs.declared.token.Token.{Token}
@@ -14,10 +15,12 @@ use Rattle.sheet_reader.specs.declared.sheet.Property.{Property}
 use Rattle.sheet_reader.specs.Forms.{range}
 use Rattle.sheet_reader.specs.Lone.{is_blank_kind, is_blank_piece}
 use Rattle.sheet_reader.specs.Brackets.{nesting}
-use Rattle.sheet_reader.specs.Declarations.{is_bad_kind, is_stray_nesting, holds_bad, is_custom, name_by, is_important, plain_value, value_range, property, property_by, declared_by, declared_in, declaration_of}
+use Rattle.sheet_reader.specs.Declarations.{is_bad_kind, is_stray_nesting, holds_bad, is_custom, name_by, is_important, plain_value}
+use Rattle.sheet_reader.specs.Declarations.{value_range, property, property_by, declared_by, declared_in, declaration_of}
 use Rattle.sheet_laws.specs.Solids.{AreBlank, Covers}
 use Rattle.sheet_laws.specs.Values.{AreMatched, IsValueRange, some_value, no_value, IsDeclaration}
-use Rattle.sheet_laws.proofs.WordCuts.{solid_first, blank_words, words_blank, word_stands, stands_among, covers_words, words_cover, has_last, get_last}
+use Rattle.sheet_laws.proofs.WordCuts.{solid_first, blank_words, words_blank, word_stands, stands_among, covers_words, words_cover}
+use Rattle.sheet_laws.proofs.WordCuts.{has_last, get_last}
 use Rattle.sheet_laws.proofs.ImportantCuts.{character_of, mark_of, character_solid, importance_is, importance_found}
 use Rattle.sheet_laws.proofs.BracketPairs.{counted_matched, matched_counted}
 
@@ -41,7 +44,8 @@ none_bad ts none matched =
 
 -- ---- the value's range
 
-value_spans : (text : List ℕ) (plain : List Token) (colon : Token) (w : Word) (r : Range) → w.end ≡ colon.end → IsValueRange colon plain r → value_range w (range_of (words_after text false plain)) ≡ r
+value_spans : (text : List ℕ) (plain : List Token) (colon : Token) (w : Word) (r : Range) → w.end ≡ colon.end → IsValueRange colon plain r
+    → value_range w (range_of (words_after text false plain)) ≡ r
 value_spans text plain colon w r end (some_value c) = ap (value_range w) (words_cover text false plain r c)
 value_spans text plain colon w _ end (no_value blank) =
     ap (λ (ws : List Word). value_range w (range_of ws)) (blank_words text false plain blank) ∙ (λ i. range (end i) (end i))
@@ -50,10 +54,12 @@ no_range : (ws : List Word) → range_of ws ≡ None → ws ≡ []
 no_range [] e = refl
 no_range (w ∷ ws) e =
     let l = has_last w ws in
-    let end : slice_get (w ∷ ws) (length (w ∷ ws) - 1) ≡ Some l.last = ap (λ (vs : List Word). slice_get vs (length vs - 1)) l.is ∙ get_last l.front l.last in
+    let end : slice_get (w ∷ ws) (length (w ∷ ws) - 1)
+    ≡ Some l.last = ap (λ (vs : List Word). slice_get vs (length vs - 1)) l.is ∙ get_last l.front l.last in
     absurd (none_some (range w.start l.last.end) (sym e ∙ ap (range_by (Some w)) end))
 
-spans_value : (text : List ℕ) (plain : List Token) (colon : Token) (w : Word) → w.end ≡ colon.end → IsValueRange colon plain (value_range w (range_of (words_after text false plain)))
+spans_value : (text : List ℕ) (plain : List Token) (colon : Token) (w : Word) → w.end ≡ colon.end
+    → IsValueRange colon plain (value_range w (range_of (words_after text false plain)))
 spans_value text plain colon w end = by (range_of (words_after text false plain)) refl
   where
     by : (o : Option Range) → range_of (words_after text false plain) ≡ o → IsValueRange colon plain (value_range w o)
@@ -89,13 +95,16 @@ declaration_reads text ts p d =
     let kept = kept_by p.name plain (λ none. d.some (words_blank text false d.plain none)) in
     let of : List ℕ → Bool → List Word → Option Property = λ n important ws. property_by n colon important ws p.whole in
     ap (λ (b : Bool). cond b None (declared_in text (words_after text false ts))) (none_bad ts d.no_bad d.matched)
-    ∙ ap (λ (o : Option Range). o >>= λ whole. declared_by text (words_after text false ts) whole) (words_cover text false ts p.whole d.whole)
+    ∙ ap (λ (o : Option Range). o >>= λ whole. declared_by text (words_after text false ts) whole)
+    (words_cover text false ts p.whole d.whole)
     ∙ ap (λ (ws : List Word). declared_by text ws p.whole) words
-    ∙ ap (λ (b : Bool). cond b (of (name_by (word_value text name)) (is_important text value) (plain_value (is_important text value) value)) None) (mark_of text 58 d.colon d.is_colon)
+    ∙ ap (λ (b : Bool). cond b (of (name_by (word_value text name)) (is_important text value)
+    (plain_value (is_important text value) value)) None) (mark_of text 58 d.colon d.is_colon)
     ∙ ap (λ (b : Bool). of (name_by (word_value text name)) b (plain_value b value)) i.flag
     ∙ (λ j. of (sym d.named j) p.important (i.rest j))
     ∙ ap (λ (b : Bool). cond b None (some_property (property p.name colon p.important plain p.whole))) kept
-    ∙ ap (λ (r : Range). some_property (record { name = p.name; value = r; important = p.important; whole = p.whole })) (value_spans text d.plain d.colon colon p.value refl d.spans)
+    ∙ ap (λ (r : Range). some_property (record { name = p.name; value = r; important = p.important; whole = p.whole }))
+    (value_spans text d.plain d.colon colon p.value refl d.spans)
 
 -- ---- what is read, the grammar declares
 
@@ -107,20 +116,26 @@ custom_by name ws kept none = by (is_custom name) (sym (ap (λ (vs : List Word).
     by false e = absurd (cc)
 
 -- what the words behind the ident make of it
-declared_from : (text : List ℕ) (t : Token) (ts : List Token) (p : Property) (whole : Range) (vs : List Word) → t.kind ≡ tokens.Ident → holds_bad (t ∷ ts) ≡ false → Covers (t ∷ ts) whole → words_after text false ts ≡ vs
+declared_from : (text : List ℕ) (t : Token) (ts : List Token) (p : Property) (whole : Range) (vs : List Word) → t.kind ≡ tokens.Ident
+    → holds_bad (t ∷ ts) ≡ false → Covers (t ∷ ts) whole → words_after text false ts ≡ vs
     → declared_by text (word_of text false t ∷ vs) whole ≡ Some p → IsDeclaration text (t ∷ ts) p
 declared_from text t ts p whole [] ident bad covers words e = absurd (none_some p e)
 declared_from text t ts p whole (colon ∷ value) ident bad covers words e =
     let name = name_by (word_value text (word_of text false t)) in
     let c = word_stands text false ts [] colon value words in
-    let a = passed_test (is_mark 58 colon.kind) (property_by name colon (is_important text value) (plain_value (is_important text value) value) whole) p e in
+    let a = passed_test (is_mark 58 colon.kind)
+    (property_by name colon (is_important text value) (plain_value (is_important text value) value) whole) p e in
     let i = importance_found text c.behind (is_important text value) (ap (is_important text) c.rest) in
-    let plain_is : plain_value (is_important text value) value ≡ words_after text false i.plain = ap (plain_value (is_important text value)) (sym c.rest) ∙ i.rest in
-    let b = failed_test (is_over (plain_value (is_important text value) value) && not (is_custom name)) (some_property (property name colon (is_important text value) (plain_value (is_important text value) value) whole)) p a.1 in
-    let same = some_is {A = Property} (property name colon (is_important text value) (plain_value (is_important text value) value) whole) p b.1 in
+    let plain_is : plain_value (is_important text value) value
+    ≡ words_after text false i.plain = ap (plain_value (is_important text value)) (sym c.rest) ∙ i.rest in
+    let b = failed_test (is_over (plain_value (is_important text value) value) && not (is_custom name))
+    (some_property (property name colon (is_important text value) (plain_value (is_important text value) value) whole)) p a.1 in
+    let same = some_is {A = Property}
+    (property name colon (is_important text value) (plain_value (is_important text value) value) whole) p b.1 in
     let both = or_none (list_any (λ u. is_bad_kind u.kind) (t ∷ ts)) (is_stray_nesting (nesting (t ∷ ts))) bad in
     let span = spans_value text i.plain c.t colon (ap (λ (w : Word). w.end) c.word) in
-    let d : IsDeclaration text (t ∷ ts) (property name colon (is_important text value) (plain_value (is_important text value) value) whole) = record {
+    let d : IsDeclaration text (t ∷ ts)
+    (property name colon (is_important text value) (plain_value (is_important text value) value) whole) = record {
       name = t;
       gap = c.before;
       colon = c.t;
@@ -140,13 +155,16 @@ declared_from text t ts p whole (colon ∷ value) ident bad covers words e =
     } in
     subst (IsDeclaration text (t ∷ ts)) same d
 
-pub declaration_spelled : (text : List ℕ) (t : Token) (ts : List Token) (p : Property) → t.kind ≡ tokens.Ident → declaration_of text (t ∷ ts) ≡ Some p → IsDeclaration text (t ∷ ts) p
+pub declaration_spelled : (text : List ℕ) (t : Token) (ts : List Token) (p : Property) → t.kind ≡ tokens.Ident
+    → declaration_of text (t ∷ ts) ≡ Some p → IsDeclaration text (t ∷ ts) p
 unfolding declaration_of
 declaration_spelled text t ts p ident e =
     let words = solid_first text false t ts (ident_solid t ident) in
     let a = failed_test (holds_bad (t ∷ ts)) (declared_in text (words_after text false (t ∷ ts))) p e in
-    let b = bind_some (range_of (words_after text false (t ∷ ts))) (λ whole. declared_by text (words_after text false (t ∷ ts)) whole) p a.1 in
-    declared_from text t ts p b.0 (words_after text false ts) ident a.0 (covers_words text false (t ∷ ts) b.0 b.1) refl (ap (λ (ws : List Word). declared_by text ws b.0) (sym words) ∙ b.2)
+    let b = bind_some (range_of (words_after text false (t ∷ ts)))
+    (λ whole. declared_by text (words_after text false (t ∷ ts)) whole) p a.1 in
+    declared_from text t ts p b.0 (words_after text false ts) ident a.0 (covers_words text false (t ∷ ts) b.0 b.1) refl
+    (ap (λ (ws : List Word). declared_by text ws b.0) (sym words) ∙ b.2)
 
 -- ---- empty values
 
@@ -165,5 +183,6 @@ empty_range : (colon : Token) (plain : List Token) (r : Range) → AreBlank plai
 empty_range colon plain r all (some_value c) = absurd (none_covered plain r all c)
 empty_range colon plain _ all (no_value blank) = refl
 
-pub value_empty : (text : List ℕ) (ts : List Token) (p : Property) (d : IsDeclaration text ts p) → AreBlank d.plain → (is_custom p.name ≡ true) × (p.value ≡ range d.colon.end d.colon.end)
+pub value_empty : (text : List ℕ) (ts : List Token) (p : Property) (d : IsDeclaration text ts p) → AreBlank d.plain
+    → (is_custom p.name ≡ true) × (p.value ≡ range d.colon.end d.colon.end)
 value_empty text ts p d all = (d.some all, empty_range d.colon d.plain p.value all d.spans)

@@ -1,5 +1,6 @@
 -- `!important` at the end of a value, as a relation between pieces and as it is told from words.
-use Rattle.std.proofs.Common.{◌≡◌, ℕ, ◌+◌, ◌-◌, Bool, true, false, List, [], ◌∷◌, ◌++◌, length, take, slice_index, Option, Some, codes, refl, sym, ap, ◌∙◌, append_assoc, length-append, arith}
+use Rattle.std.proofs.Common.{◌≡◌, ℕ, ◌+◌, ◌-◌, Bool, true, false, List, [], ◌∷◌, ◌++◌, length, take, slice_index, Option, Some, codes}
+use Rattle.std.proofs.Common.{refl, sym, ap, ◌∙◌, append_assoc, length-append, arith}
 use Rattle.std.specs.Prelude.{◌&&◌, nat_lt, slice_get}
 use Rattle.std.specs.Str.{bytes_eq}
 use Rattle.std.proofs.lemmas.Slice.Eq.{bytes_eq-Decides}
@@ -53,7 +54,8 @@ mark_by tokens.Delim c first e same = eq-eqb first c same
 mark_by _ c first e same = absurd (cc)
 
 -- a word that is a mark is a piece of one character
-pub character_of : (text : List ℕ) (c : ℕ) (spaced : Bool) (t : Token) (w : Word) → w ≡ word_of text spaced t → is_mark c w.kind ≡ true → IsCharacter text c t
+pub character_of : (text : List ℕ) (c : ℕ) (spaced : Bool) (t : Token) (w : Word) → w ≡ word_of text spaced t → is_mark c w.kind ≡ true
+    → IsCharacter text c t
 character_of text c spaced t w is e = character_by t.kind c (slice_index text t.start) (ap (λ (v : Word). is_mark c v.kind) (sym is) ∙ e)
 
 pub mark_of : (text : List ℕ) (c : ℕ) (t : Token) → IsCharacter text c t → is_mark c (word_kind t.kind (slice_index text t.start)) ≡ true
@@ -75,7 +77,8 @@ ident_by _ first k e same = absurd (cc)
 
 -- ---- the last two words
 
-names_by : (text : List ℕ) (w : Word) (k : WordKind) → names_important text w k ≡ true → (k ≡ Ident) × (bytes_eq (lower_of text w) (codes "important") ≡ true)
+names_by : (text : List ℕ) (w : Word) (k : WordKind) → names_important text w k ≡ true
+    → (k ≡ Ident) × (bytes_eq (lower_of text w) (codes "important") ≡ true)
 names_by text w Ident e = (refl, e)
 names_by text w _ e = absurd (cc)
 
@@ -99,27 +102,39 @@ last_two (w ∷ v ∷ ws) e =
     before : (u : Word) (front : List Word) (last : Word) → w ∷ v ∷ ws ≡ u ∷ (front ++ last ∷ []) → LastTwo (w ∷ v ∷ ws)
     before u front last is =
         let m = has_last u front in
-        record { front = m.front; mark = m.last; name = last; is = is ∙ ap (λ (vs : List Word). vs ++ last ∷ []) m.is ∙ append_assoc m.front (m.last ∷ []) (last ∷ []) }
+        record {
+          front = m.front;
+          mark = m.last;
+          name = last;
+          is = is ∙ ap (λ (vs : List Word). vs ++ last ∷ []) m.is ∙ append_assoc m.front (m.last ∷ []) (last ∷ []);
+        }
 
-at_end : (front : List Word) (mark name : Word) → (length (front ++ mark ∷ name ∷ []) - 2 ≡ length front) × (length (front ++ mark ∷ name ∷ []) - 1 ≡ length front + 1)
+at_end : (front : List Word) (mark name : Word)
+    → (length (front ++ mark ∷ name ∷ []) - 2 ≡ length front) × (length (front ++ mark ∷ name ∷ []) - 1 ≡ length front + 1)
 at_end front mark name = let len = length-append front (mark ∷ name ∷ []) in (omega (arith, len), omega (arith, len))
 
-get_mark : (front : List Word) (mark name : Word) → slice_get (front ++ mark ∷ name ∷ []) (length (front ++ mark ∷ name ∷ []) - 2) ≡ some_word mark
+get_mark : (front : List Word) (mark name : Word)
+    → slice_get (front ++ mark ∷ name ∷ []) (length (front ++ mark ∷ name ∷ []) - 2) ≡ some_word mark
 get_mark front mark name = ap (slice_get (front ++ mark ∷ name ∷ [])) (at_end front mark name).0 ∙ get_seam front mark (name ∷ [])
 
-get_name : (front : List Word) (mark name : Word) → slice_get (front ++ mark ∷ name ∷ []) (length (front ++ mark ∷ name ∷ []) - 1) ≡ some_word name
+get_name : (front : List Word) (mark name : Word)
+    → slice_get (front ++ mark ∷ name ∷ []) (length (front ++ mark ∷ name ∷ []) - 1) ≡ some_word name
 get_name front mark name =
-    let len : length (front ++ mark ∷ name ∷ []) - 1 ≡ length (front ++ mark ∷ []) = omega (arith, length-append front (mark ∷ name ∷ []), length-append front (mark ∷ [])) in
+    let len : length (front ++ mark ∷ name ∷ []) - 1
+    ≡ length (front ++ mark ∷ []) = omega (arith, length-append front (mark ∷ name ∷ []), length-append front (mark ∷ [])) in
     let split : (front ++ mark ∷ name ∷ []) ≡ (front ++ mark ∷ []) ++ name ∷ [] = sym (append_assoc front (mark ∷ []) (name ∷ [])) in
-    ap (slice_get (front ++ mark ∷ name ∷ [])) len ∙ ap (λ (ws : List Word). slice_get ws (length (front ++ mark ∷ []))) split ∙ get_seam (front ++ mark ∷ []) name []
+    ap (slice_get (front ++ mark ∷ name ∷ [])) len ∙ ap (λ (ws : List Word). slice_get ws (length (front ++ mark ∷ []))) split ∙ get_seam
+    (front ++ mark ∷ []) name []
 
 long_enough : (front : List Word) (mark name : Word) → nat_lt 1 (length (front ++ mark ∷ name ∷ [])) ≡ true
 long_enough front mark name = true_lt 1 (length (front ++ mark ∷ name ∷ [])) (omega (arith, length-append front (mark ∷ name ∷ [])))
 
 -- whether it is important, by the last two words
-by_two : (text : List ℕ) (front : List Word) (mark name : Word) → is_important text (front ++ mark ∷ name ∷ []) ≡ (is_mark 33 mark.kind && names_important text name name.kind)
+by_two : (text : List ℕ) (front : List Word) (mark name : Word)
+    → is_important text (front ++ mark ∷ name ∷ []) ≡ (is_mark 33 mark.kind && names_important text name name.kind)
 by_two text front mark name =
-    ap (λ (b : Bool). b && is_important_by text (slice_get (front ++ mark ∷ name ∷ []) (length (front ++ mark ∷ name ∷ []) - 2)) (slice_get (front ++ mark ∷ name ∷ []) (length (front ++ mark ∷ name ∷ []) - 1))) (long_enough front mark name)
+    ap (λ (b : Bool). b && is_important_by text (slice_get (front ++ mark ∷ name ∷ []) (length (front ++ mark ∷ name ∷ []) - 2))
+    (slice_get (front ++ mark ∷ name ∷ []) (length (front ++ mark ∷ name ∷ []) - 1))) (long_enough front mark name)
     ∙ (λ i. is_important_by text (get_mark front mark name i) (get_name front mark name i))
 
 -- ---- pieces
@@ -137,7 +152,8 @@ important_words : (text : List ℕ) (ws : List Word) → is_important text ws �
 important_words text ws e =
     let long = and_true (nat_lt 1 (length ws)) (is_important_by text (slice_get ws (length ws - 2)) (slice_get ws (length ws - 1))) e in
     let l = last_two ws long.0 in
-    let both = and_true (is_mark 33 l.mark.kind) (names_important text l.name l.name.kind) (sym (by_two text l.front l.mark l.name) ∙ ap (is_important text) (sym l.is) ∙ e) in
+    let both = and_true (is_mark 33 l.mark.kind) (names_important text l.name l.name.kind)
+    (sym (by_two text l.front l.mark l.name) ∙ ap (is_important text) (sym l.is) ∙ e) in
     record { front = l.front; mark = l.mark; name = l.name; is = l.is; is_mark = both.0; names = both.1 }
 
 -- what its pieces are
@@ -145,7 +161,8 @@ record EndsFound (text : List ℕ) (spaced : Bool) (value : List Token) : Type 0
   plain : List Token
   ends : EndsImportant text value plain
 
-ends_found : (text : List ℕ) (spaced : Bool) (value : List Token) → is_important text (words_after text spaced value) ≡ true → EndsFound text spaced value
+ends_found : (text : List ℕ) (spaced : Bool) (value : List Token) → is_important text (words_after text spaced value) ≡ true
+    → EndsFound text spaced value
 ends_found text spaced value e =
     let i = important_words text (words_after text spaced value) e in
     let m = word_stands text spaced value i.front i.mark (i.name ∷ []) i.is in
@@ -183,26 +200,32 @@ ends_words text spaced value plain e =
     let a = stands_among text spaced plain e.mark (e.gap ++ e.name ∷ e.behind) (character_solid text 33 e.mark e.is_mark) in
     let b = stands_among text false e.gap e.name e.behind (ident_solid e.name e.is_name) in
     let name = word_of text b.after e.name in
-    let kind : word_kind e.name.kind (slice_index text e.name.start) ≡ Ident = ap (λ (k : TokenKind). word_kind k (slice_index text e.name.start)) e.is_name in
+    let kind : word_kind e.name.kind (slice_index text e.name.start)
+    ≡ Ident = ap (λ (k : TokenKind). word_kind k (slice_index text e.name.start)) e.is_name in
     let rest : words_after text false (e.gap ++ e.name ∷ e.behind) ≡ name ∷ [] =
-    b.is ∙ ap (λ (ws : List Word). ws ++ name ∷ words_after text false e.behind) (blank_words text false e.gap e.gap_blank) ∙ ap (λ (ws : List Word). name ∷ ws) (blank_words text false e.behind e.behind_blank) in
+    b.is ∙ ap (λ (ws : List Word). ws ++ name ∷ words_after text false e.behind) (blank_words text false e.gap e.gap_blank) ∙ ap
+    (λ (ws : List Word). name ∷ ws) (blank_words text false e.behind e.behind_blank) in
     record {
       mark = word_of text a.after e.mark;
       name = name;
-      is = ap (words_after text spaced) e.is ∙ a.is ∙ ap (λ (ws : List Word). words_after text spaced plain ++ word_of text a.after e.mark ∷ ws) rest;
+      is = ap (words_after text spaced) e.is ∙ a.is ∙ ap
+          (λ (ws : List Word). words_after text spaced plain ++ word_of text a.after e.mark ∷ ws) rest;
       is_mark = mark_of text 33 e.mark e.is_mark;
       names = ap (names_important text name) kind ∙ (bytes_eq-Decides (lower_of text name) (codes "important")).1 e.named;
     }
 
-pub ends_important : (text : List ℕ) (spaced : Bool) (value plain : List Token) → EndsImportant text value plain → is_important text (words_after text spaced value) ≡ true
+pub ends_important : (text : List ℕ) (spaced : Bool) (value plain : List Token) → EndsImportant text value plain
+    → is_important text (words_after text spaced value) ≡ true
 ends_important text spaced value plain e =
     let w = ends_words text spaced value plain e in
     ap (is_important text) w.is ∙ by_two text (words_after text spaced plain) w.mark w.name ∙ (λ i. w.is_mark i && w.names i)
 
 without_two : (front : List Word) (mark name : Word) → take (length (front ++ mark ∷ name ∷ []) - 2) (front ++ mark ∷ name ∷ []) ≡ front
-without_two front mark name = ap (λ (n : ℕ). take n (front ++ mark ∷ name ∷ [])) (at_end front mark name).0 ∙ take-append_seam front (mark ∷ name ∷ [])
+without_two front mark name = ap (λ (n : ℕ). take n (front ++ mark ∷ name ∷ [])) (at_end front mark name).0 ∙ take-append_seam front
+    (mark ∷ name ∷ [])
 
-ends_without : (text : List ℕ) (value plain : List Token) → EndsImportant text value plain → plain_value true (words_after text false value) ≡ words_after text false plain
+ends_without : (text : List ℕ) (value plain : List Token) → EndsImportant text value plain
+    → plain_value true (words_after text false value) ≡ words_after text false plain
 ends_without text value plain e =
     let w = ends_words text false value plain e in
     ap (plain_value true) w.is ∙ without_two (words_after text false plain) w.mark w.name
@@ -212,8 +235,10 @@ pub record ImportanceIs (text : List ℕ) (value : List Token) (important : Bool
   pub flag : is_important text (words_after text false value) ≡ important
   pub rest : plain_value important (words_after text false value) ≡ words_after text false plain
 
-pub importance_is : (text : List ℕ) (value : List Token) (important : Bool) (plain : List Token) → HasImportance text value important plain → ImportanceIs text value important plain
-importance_is text value _ plain (values.is_important e) = record { flag = ends_important text false value plain e; rest = ends_without text value plain e }
+pub importance_is : (text : List ℕ) (value : List Token) (important : Bool) (plain : List Token) → HasImportance text value important plain
+    → ImportanceIs text value important plain
+importance_is text value _ plain
+    (values.is_important e) = record { flag = ends_important text false value plain e; rest = ends_without text value plain e }
 importance_is text value _ _ (values.is_normal none) = by (is_important text (words_after text false value)) refl
   where
     by : (b : Bool) → is_important text (words_after text false value) ≡ b → ImportanceIs text value false value
@@ -229,14 +254,20 @@ pub record ImportanceFound (text : List ℕ) (value : List Token) (important : B
 true_false : true ≡ false → ⊥
 true_false e = absurd (cc)
 
-pub importance_found : (text : List ℕ) (value : List Token) (important : Bool) → is_important text (words_after text false value) ≡ important → ImportanceFound text value important
+pub importance_found : (text : List ℕ) (value : List Token) (important : Bool)
+    → is_important text (words_after text false value) ≡ important → ImportanceFound text value important
 importance_found text value true e =
     let f = ends_found text false value e in
     record { plain = f.plain; has = values.is_important f.ends; rest = ends_without text value f.plain f.ends }
-importance_found text value false e = record { plain = value; has = values.is_normal (λ plain ends. true_false (sym (ends_important text false value plain ends) ∙ e)); rest = refl }
+importance_found text value false e = record {
+  plain = value;
+  has = values.is_normal (λ plain ends. true_false (sym (ends_important text false value plain ends) ∙ e));
+  rest = refl;
+}
 
 -- what stands before the value does not count
-pub important_behind : (text : List ℕ) (front value plain : List Token) → EndsImportant text value plain → EndsImportant text (front ++ value) (front ++ plain)
+pub important_behind : (text : List ℕ) (front value plain : List Token) → EndsImportant text value plain
+    → EndsImportant text (front ++ value) (front ++ plain)
 important_behind text front value plain e = record {
   mark = e.mark;
   gap = e.gap;

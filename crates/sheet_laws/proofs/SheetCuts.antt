@@ -63,7 +63,8 @@ rules_listed text [] = refl
 rules_listed text (p ∷ ps) = ap (λ (rs : List RuleForm). option_to_list (rule_of text p) ++ rs) (rules_listed text ps)
 
 rules_said : (text : List ℕ) (ps : List PartForm) → AreSaid (IsStyleRule text) ps (rules_in text ps)
-rules_said text ps = subst (AreSaid (IsStyleRule text) ps) (sym (rules_listed text ps)) (said_is AnyPart (IsStyleRule text) (rule_of text) (rules_tell text) ps (any_parts ps))
+rules_said text ps = subst (AreSaid (IsStyleRule text) ps) (sym (rules_listed text ps))
+    (said_is AnyPart (IsStyleRule text) (rule_of text) (rules_tell text) ps (any_parts ps))
 
 pub sheet_spelled : (text : List ℕ) → IsReading text (sheet_of text)
 sheet_spelled text =
@@ -83,8 +84,10 @@ pub sheet_only : (text : List ℕ) (s : Sheet) → IsReading text s → s ≡ sh
 sheet_only text s f =
     let parts_are : f.parts ≡ parts (pieces text) = parts_only f.parts f.tokens f.are_parts ∙ ap parts (cuts_only text f.tokens f.cut) in
     let rules_are : s.rules ≡ rules_in text (parts (pieces text)) =
-    said_only AnyPart (IsStyleRule text) (rule_of text) (rules_tell text) f.parts s.rules (any_parts f.parts) f.rules ∙ sym (rules_listed text f.parts) ∙ ap (rules_in text) parts_are in
+    said_only AnyPart (IsStyleRule text) (rule_of text) (rules_tell text) f.parts s.rules (any_parts f.parts) f.rules ∙ sym
+    (rules_listed text f.parts) ∙ ap (rules_in text) parts_are in
     let places_are : f.places ≡ places_in text (parts (pieces text)) =
-    said_only AnyPart (IsPlaceBehind text) (place_of text) (places_tell text) f.parts f.places (any_parts f.parts) f.behind ∙ sym (places_listed text f.parts) ∙ ap (places_in text) parts_are in
+    said_only AnyPart (IsPlaceBehind text) (place_of text) (places_tell text) f.parts f.places (any_parts f.parts) f.behind ∙ sym
+    (places_listed text f.parts) ∙ ap (places_in text) parts_are in
     let all_are : s.places ≡ 0 ∷ places_in text (parts (pieces text)) = f.all_places ∙ ap (λ (ns : List ℕ). 0 ∷ ns) places_are in
     λ i. record { rules = rules_are i; places = all_are i }

@@ -1,5 +1,6 @@
 -- A book's entries as its map has them.
-use Rattle.std.proofs.Common.{All, ◌≡◌, ℕ, zero, suc, ◌≤◌, Bool, true, false, cond, nat_eq, List, [], ◌∷◌, ◌++◌, length, Option, Some, None, Bor, refl, sym, ap, subst, ◌∙◌, arith}
+use Rattle.std.proofs.Common.{All, ◌≡◌, ℕ, zero, suc, ◌≤◌, Bool, true, false, cond, nat_eq, List, [], ◌∷◌, ◌++◌, length, Option, Some, None}
+use Rattle.std.proofs.Common.{Bor, refl, sym, ap, subst, ◌∙◌, arith}
 use Rattle.std.specs.Prelude.{slice_get, option_map, option_copied, IfSome, IsSome}
 use Rattle.std.proofs.lemmas.Bool.{eqb-true}
 use Rattle.std.specs.Str.{IsUtf8}
@@ -41,7 +42,8 @@ pub is_entry : (id : ℕ) (es : Entries) (e : SheetEntry) → AreEntries es → 
 is_entry id [] e all h = absurd (cc)
 is_entry id (q ∷ es) e all h = by (nat_eq id q.1.id) h (λ k. is_entry id es e all.2 k)
   where
-    by : (b : Bool) → cond b (Some q.1) (entry_of id (entries_in es)) ≡ Some e → (entry_of id (entries_in es) ≡ Some e → IsStored e) → IsStored e
+    by : (b : Bool) → cond b (Some q.1) (entry_of id (entries_in es)) ≡ Some e → (entry_of id (entries_in es) ≡ Some e → IsStored e)
+        → IsStored e
     by true k rest = let same : q.1 ≡ e = cc in subst IsStored same all.1
     by false k rest = rest k
 
@@ -52,7 +54,8 @@ keys_are (q ∷ es) all = ap (λ (k : ℕ). k ∷ keys_of es) all.0 ∙ ap (λ (
 pub removed_in : (id : ℕ) (es : Entries) → AreEntries es → entries_in (remove_entry (nat_eq id) es) ≡ removed id (entries_in es)
 removed_in id [] all = refl
 removed_in id (q ∷ es) all =
-    ap (λ (k : ℕ). entries_in (cond (nat_eq id k) es (q ∷ remove_entry (nat_eq id) es))) all.0 ∙ by (nat_eq id q.1.id) (removed_in id es all.2)
+    ap (λ (k : ℕ). entries_in (cond (nat_eq id k) es (q ∷ remove_entry (nat_eq id) es))) all.0 ∙ by (nat_eq id q.1.id)
+    (removed_in id es all.2)
   where
     by : (b : Bool) → entries_in (remove_entry (nat_eq id) es) ≡ removed id (entries_in es)
         → entries_in (cond b es (q ∷ remove_entry (nat_eq id) es)) ≡ cond b (entries_in es) (q.1 ∷ removed id (entries_in es))
@@ -71,14 +74,17 @@ pub inserted_are : (v : SheetEntry) (es : Entries) → IsStored v → AreEntries
 inserted_are v [] own all = (refl, own, tt)
 inserted_are v (q ∷ es) own all = by (nat_eq v.id q.0) refl (inserted_are v es own all.2)
   where
-    by : (b : Bool) → nat_eq v.id q.0 ≡ b → AreEntries (insert_entry nat_eq es v.id v) → AreEntries (cond b ((q.0, v) ∷ es) (q ∷ insert_entry nat_eq es v.id v))
+    by : (b : Bool) → nat_eq v.id q.0 ≡ b → AreEntries (insert_entry nat_eq es v.id v)
+        → AreEntries (cond b ((q.0, v) ∷ es) (q ∷ insert_entry nat_eq es v.id v))
     by true e rest = (sym (eqb-true v.id q.0 e), own, all.2)
     by false e rest = (all.0, all.1, rest)
 
-pub inserted_last : (v : SheetEntry) (es : Entries) → AreEntries es → entry_of v.id (entries_in es) ≡ None → entries_in (insert_entry nat_eq es v.id v) ≡ entries_in es ++ v ∷ []
+pub inserted_last : (v : SheetEntry) (es : Entries) → AreEntries es → entry_of v.id (entries_in es) ≡ None
+    → entries_in (insert_entry nat_eq es v.id v) ≡ entries_in es ++ v ∷ []
 inserted_last v [] all none = refl
 inserted_last v (q ∷ es) all none =
-    ap (λ (k : ℕ). entries_in (cond (nat_eq v.id k) ((q.0, v) ∷ es) (q ∷ insert_entry nat_eq es v.id v))) all.0 ∙ by (nat_eq v.id q.1.id) none (inserted_last v es all.2)
+    ap (λ (k : ℕ). entries_in (cond (nat_eq v.id k) ((q.0, v) ∷ es) (q ∷ insert_entry nat_eq es v.id v))) all.0 ∙ by
+    (nat_eq v.id q.1.id) none (inserted_last v es all.2)
   where
     by : (b : Bool) → cond b (Some q.1) (entry_of v.id (entries_in es)) ≡ None
         → (entry_of v.id (entries_in es) ≡ None → entries_in (insert_entry nat_eq es v.id v) ≡ entries_in es ++ v ∷ [])
@@ -86,18 +92,22 @@ inserted_last v (q ∷ es) all none =
     by true none rest = absurd (cc)
     by false none rest = ap (λ (xs : List SheetEntry). q.1 ∷ xs) (rest none)
 
-pub inserted_changed : (v : SheetEntry) (es : Entries) → AreEntries es → IsSome (entry_of v.id (entries_in es)) → entries_in (insert_entry nat_eq es v.id v) ≡ book_changed v (entries_in es)
+pub inserted_changed : (v : SheetEntry) (es : Entries) → AreEntries es → IsSome (entry_of v.id (entries_in es))
+    → entries_in (insert_entry nat_eq es v.id v) ≡ book_changed v (entries_in es)
 inserted_changed v [] all there = absurd (cc)
 inserted_changed v (q ∷ es) all there =
-    ap (λ (k : ℕ). entries_in (cond (nat_eq v.id k) ((q.0, v) ∷ es) (q ∷ insert_entry nat_eq es v.id v))) all.0 ∙ by (nat_eq v.id q.1.id) there (inserted_changed v es all.2)
+    ap (λ (k : ℕ). entries_in (cond (nat_eq v.id k) ((q.0, v) ∷ es) (q ∷ insert_entry nat_eq es v.id v))) all.0 ∙ by
+    (nat_eq v.id q.1.id) there (inserted_changed v es all.2)
   where
     by : (b : Bool) → IsSome (cond b (Some q.1) (entry_of v.id (entries_in es)))
         → (IsSome (entry_of v.id (entries_in es)) → entries_in (insert_entry nat_eq es v.id v) ≡ book_changed v (entries_in es))
-        → entries_in (cond b ((q.0, v) ∷ es) (q ∷ insert_entry nat_eq es v.id v)) ≡ cond b (v ∷ entries_in es) (q.1 ∷ book_changed v (entries_in es))
+        → entries_in (cond b ((q.0, v) ∷ es) (q ∷ insert_entry nat_eq es v.id v))
+        ≡ cond b (v ∷ entries_in es) (q.1 ∷ book_changed v (entries_in es))
     by true there rest = refl
     by false there rest = ap (λ (xs : List SheetEntry). q.1 ∷ xs) (rest there)
 
-pub read_copied : (id : ℕ) (es : Entries) (r : Option (Bor SheetEntry)) → AreEntries es → option_copied r ≡ entry_of id (entries_in es) → IfSome r (λ e. IsEntry e.now)
+pub read_copied : (id : ℕ) (es : Entries) (r : Option (Bor SheetEntry)) → AreEntries es → option_copied r ≡ entry_of id (entries_in es)
+    → IfSome r (λ e. IsEntry e.now)
 read_copied id es None all e = tt
 read_copied id es (Some x) all e = let own = is_entry id es x.now all (sym e) in own.entry
 

@@ -1,5 +1,6 @@
 -- The parts of a sheet and the items of a body that are read are those of the grammar, and no others are.
-use Rattle.std.proofs.Common.{◌≡◌, ℕ, zero, suc, ◌+◌, ◌<◌, ◌≤◌, Bool, true, false, cond, List, [], ◌∷◌, ◌++◌, length, take, drop, Option, Some, None, refl, sym, ap, subst, ◌∙◌, append_assoc, append-nil, length-append, arith}
+use Rattle.std.proofs.Common.{◌≡◌, ℕ, zero, suc, ◌+◌, ◌<◌, ◌≤◌, Bool, true, false, cond, List, [], ◌∷◌, ◌++◌, length, take, drop, Option}
+use Rattle.std.proofs.Common.{Some, None, refl, sym, ap, subst, ◌∙◌, append_assoc, append-nil, length-append, arith}
 use Rattle.std.specs.Prelude.{slice_get}
 use Rattle.std.proofs.lemmas.List.{take-append-drop}
 use Rattle.std.proofs.Math.Seq.{take-append_seam, drop-append_seam}
@@ -9,8 +10,10 @@ use Rattle.css_tokens.specs.declared.token.TokenKind.TheVariants as tokens
 use Rattle.sheet_reader.specs.declared.brackets.Stop.{Stop}
 use Rattle.sheet_reader.specs.declared.brackets.Stop.TheVariants as stops
 use Rattle.sheet_reader.specs.Brackets.{stops_at, until}
-use Rattle.sheet_reader.specs.Parts.{EndingForm, block, PartForm, passed, at_rule, qualified, is_passed, block_at, ending_by, ending_at, at_rule_at, qualified_at, part_by, part_at, ending_pieces, part_pieces, parts, parts_after}
-use Rattle.sheet_reader.specs.Grammar.{outside, AreValues, EndsBefore, IsEnding, at_text_end, at_semicolon, in_block, in_open_block, BeginsQualified, is_at_keyword, IsRule, IsPart, passed_part, at_rule_part, qualified_part, AreParts}
+use Rattle.sheet_reader.specs.Parts.{EndingForm, block, PartForm, passed, at_rule, qualified, is_passed, block_at, ending_by, ending_at}
+use Rattle.sheet_reader.specs.Parts.{at_rule_at, qualified_at, part_by, part_at, ending_pieces, part_pieces, parts, parts_after}
+use Rattle.sheet_reader.specs.Grammar.{outside, AreValues, EndsBefore, IsEnding, at_text_end, at_semicolon, in_block, in_open_block}
+use Rattle.sheet_reader.specs.Grammar.{BeginsQualified, is_at_keyword, IsRule, IsPart, passed_part, at_rule_part, qualified_part, AreParts}
 use Rattle.sheet_reader.proofs.ValueForms.{until_is, until_splits}
 use Rattle.sheet_reader.proofs.PartLemmas.{parts_step, part_some, then_ending_some}
 
@@ -37,26 +40,31 @@ close_kind : (kind : TokenKind) → stops_at stops.BlockEnd kind ≡ true → ki
 close_kind tokens.CloseCurly e = refl
 close_kind _ e = absurd (cc)
 
-block_ended : (first : Token) (ts left : List Token) (n : ℕ) → first.kind ≡ tokens.OpenCurly → drop n ts ≡ left → AreValues (outside stops.BlockEnd) (take n ts) left → EndsBefore (outside stops.BlockEnd) left
+block_ended : (first : Token) (ts left : List Token) (n : ℕ) → first.kind ≡ tokens.OpenCurly → drop n ts ≡ left
+    → AreValues (outside stops.BlockEnd) (take n ts) left → EndsBefore (outside stops.BlockEnd) left
     → Ended (block first (take n ts) (first_of left)) (first ∷ ts)
 unfolding first_of
 block_ended first ts [] n opens e values over = record {
   rest = [];
-  is = ap (λ (xs : List Token). first ∷ xs) (sym (take-append-drop n ts) ∙ ap (λ (xs : List Token). take n ts ++ xs) e ∙ sym (append-nil (take n ts ++ [])));
+  is = ap (λ (xs : List Token). first ∷ xs)
+      (sym (take-append-drop n ts) ∙ ap (λ (xs : List Token). take n ts ++ xs) e ∙ sym (append-nil (take n ts ++ [])));
   form = in_open_block first (take n ts) opens values refl;
 }
 block_ended first ts (close ∷ more) n opens e values over = record {
   rest = more;
-  is = ap (λ (xs : List Token). first ∷ xs) (sym (take-append-drop n ts) ∙ ap (λ (xs : List Token). take n ts ++ xs) e ∙ sym (append_assoc (take n ts) (close ∷ []) more));
+  is = ap (λ (xs : List Token). first ∷ xs)
+      (sym (take-append-drop n ts) ∙ ap (λ (xs : List Token). take n ts ++ xs) e ∙ sym (append_assoc (take n ts) (close ∷ []) more));
   form = in_block first close (take n ts) opens values (close_kind close.kind over);
 }
 
-ended_by : (kind : TokenKind) (t : Token) (ts : List Token) → t.kind ≡ kind → stops_at stops.BlockOrSemicolon kind ≡ true → Ended (ending_by t ts kind) (t ∷ ts)
+ended_by : (kind : TokenKind) (t : Token) (ts : List Token) → t.kind ≡ kind → stops_at stops.BlockOrSemicolon kind ≡ true
+    → Ended (ending_by t ts kind) (t ∷ ts)
 ended_by tokens.Semicolon t ts e halts = record { rest = ts; is = refl; form = at_semicolon t e }
 ended_by tokens.OpenCurly t ts e halts =
     let n = until stops.BlockEnd ts in
     let s = until_splits stops.BlockEnd ts in
-    subst (λ (o : Option Token). Ended (block t (take n ts) o) (t ∷ ts)) (sym (get_first ts n)) (block_ended t ts (drop n ts) n e refl s.values s.stopped)
+    subst (λ (o : Option Token). Ended (block t (take n ts) o) (t ∷ ts)) (sym (get_first ts n))
+    (block_ended t ts (drop n ts) n e refl s.values s.stopped)
 ended_by _ t ts e halts = absurd (cc)
 
 unfoldable pub Weaker : Stop → Type 0
@@ -89,7 +97,8 @@ rule_read stop ts weaker =
     let e = ended stop (drop n ts) weaker s.stopped in
     record {
       rest = e.rest;
-      is = sym (take-append-drop n ts) ∙ ap (λ (xs : List Token). take n ts ++ xs) e.is ∙ sym (append_assoc (take n ts) (ending_pieces (ending_at (drop n ts))) e.rest);
+      is = sym (take-append-drop n ts) ∙ ap (λ (xs : List Token). take n ts ++ xs) e.is ∙ sym
+          (append_assoc (take n ts) (ending_pieces (ending_at (drop n ts))) e.rest);
       rule = record {
         values = subst (AreValues (outside stop) (take n ts)) e.is s.values;
         stopped = subst (EndsBefore (outside stop)) e.is s.stopped;
@@ -102,19 +111,26 @@ record PartRead (p : PartForm) (all : List Token) : Type 0 where
   is : all ≡ part_pieces p ++ rest
   form : IsPart p rest
 
-begins : (own rest : List Token) (t : Token) (ts : List Token) → t ∷ ts ≡ own ++ rest → 0 < length own → is_passed t.kind ≡ false → is_at_keyword t.kind ≡ false → BeginsQualified own
+begins : (own rest : List Token) (t : Token) (ts : List Token) → t ∷ ts ≡ own ++ rest → 0 < length own → is_passed t.kind ≡ false
+    → is_at_keyword t.kind ≡ false → BeginsQualified own
 begins [] rest t ts e some a b = absurd (omega (arith, some))
 begins (u ∷ us) rest t ts e some a b =
     let same : t ≡ u = cc in
     (subst (λ (x : Token). is_passed x.kind ≡ false) same a, subst (λ (x : Token). is_at_keyword x.kind ≡ false) same b)
 
-read_passed : (x : Bool) (t : Token) (ts : List Token) → is_passed t.kind ≡ x → is_at_keyword t.kind ≡ false → PartRead (cond x (passed t) (qualified_at (t ∷ ts))) (t ∷ ts)
+read_passed : (x : Bool) (t : Token) (ts : List Token) → is_passed t.kind ≡ x → is_at_keyword t.kind ≡ false
+    → PartRead (cond x (passed t) (qualified_at (t ∷ ts))) (t ∷ ts)
 read_passed true t ts e other = record { rest = ts; is = refl; form = passed_part t e }
 read_passed false t ts e other =
     let n = until stops.Block (t ∷ ts) in
     let r = rule_read stops.Block (t ∷ ts) block_weaker in
     let own = take n (t ∷ ts) ++ ending_pieces (ending_at (drop n (t ∷ ts))) in
-    record { rest = r.rest; is = r.is; form = qualified_part (take n (t ∷ ts)) (ending_at (drop n (t ∷ ts))) (begins own r.rest t ts r.is (then_ending_some n t ts) e other) r.rule }
+    record {
+      rest = r.rest;
+      is = r.is;
+      form = qualified_part (take n (t ∷ ts)) (ending_at (drop n (t ∷ ts)))
+          (begins own r.rest t ts r.is (then_ending_some n t ts) e other) r.rule;
+    }
 
 at_rule_read : (t : Token) (ts : List Token) → t.kind ≡ tokens.AtKeyword → PartRead (at_rule_at t ts) (t ∷ ts)
 at_rule_read t ts e =
@@ -138,10 +154,13 @@ spelled_in (suc n) (t ∷ ts) fits =
     let p = part_at t ts in
     let r = part_read t ts in
     let some = part_some t ts in
-    let len : length (t ∷ ts) ≡ length (part_pieces p) + length r.rest = ap (λ (xs : List Token). length xs) r.is ∙ length-append (part_pieces p) r.rest in
-    let left : drop (length (part_pieces p)) (t ∷ ts) ≡ r.rest = ap (drop (length (part_pieces p))) r.is ∙ drop-append_seam (part_pieces p) r.rest in
+    let len : length (t ∷ ts) ≡ length (part_pieces p)
+    + length r.rest = ap (λ (xs : List Token). length xs) r.is ∙ length-append (part_pieces p) r.rest in
+    let left : drop (length (part_pieces p)) (t ∷ ts)
+    ≡ r.rest = ap (drop (length (part_pieces p))) r.is ∙ drop-append_seam (part_pieces p) r.rest in
     let others = spelled_in n r.rest (omega (arith, fits, len, some)) in
-    subst (λ (ps : List PartForm). AreParts ps (t ∷ ts)) (sym (parts_step t ts)) (r.rest, r.is, r.form, subst (λ (xs : List Token). AreParts (parts xs) r.rest) (sym left) others)
+    subst (λ (ps : List PartForm). AreParts ps (t ∷ ts)) (sym (parts_step t ts))
+    (r.rest, r.is, r.form, subst (λ (xs : List Token). AreParts (parts xs) r.rest) (sym left) others)
 
 -- the parts that are read are parts of the grammar
 pub parts_spelled : (ts : List Token) → AreParts (parts ts) ts
@@ -149,11 +168,15 @@ parts_spelled ts = spelled_in (length ts) ts (omega arith)
 
 -- ---- what is in the grammar is read
 
-block_again : (first : Token) (all within left : List Token) → all ≡ within ++ left → AreValues (outside stops.BlockEnd) within left → EndsBefore (outside stops.BlockEnd) left → block_at first all ≡ block first within (first_of left)
+block_again : (first : Token) (all within left : List Token) → all ≡ within ++ left → AreValues (outside stops.BlockEnd) within left
+    → EndsBefore (outside stops.BlockEnd) left → block_at first all ≡ block first within (first_of left)
 block_again first all within left is values over =
     let n : until stops.BlockEnd all ≡ length within = ap (until stops.BlockEnd) is ∙ until_is stops.BlockEnd within left values over in
-    let front : take (until stops.BlockEnd all) all ≡ within = ap (λ (k : ℕ). take k all) n ∙ ap (take (length within)) is ∙ take-append_seam within left in
-    let close : slice_get all (until stops.BlockEnd all) ≡ first_of left = get_first all (until stops.BlockEnd all) ∙ ap first_of (ap (λ (k : ℕ). drop k all) n ∙ ap (drop (length within)) is ∙ drop-append_seam within left) in
+    let front : take (until stops.BlockEnd all) all
+    ≡ within = ap (λ (k : ℕ). take k all) n ∙ ap (take (length within)) is ∙ take-append_seam within left in
+    let close : slice_get all (until stops.BlockEnd all)
+    ≡ first_of left = get_first all (until stops.BlockEnd all) ∙ ap first_of
+    (ap (λ (k : ℕ). drop k all) n ∙ ap (drop (length within)) is ∙ drop-append_seam within left) in
     λ i. block first (front i) (close i)
 
 ending_again : (e : EndingForm) (rest : List Token) → IsEnding e rest → ending_at (ending_pieces e ++ rest) ≡ e
@@ -161,29 +184,34 @@ unfolding first_of
 ending_again _ rest (at_text_end over) = ap ending_at over
 ending_again _ rest (at_semicolon t kind) = ap (ending_by t rest) kind
 ending_again _ rest (in_block first close within opens values closes) =
-    ap (ending_by first ((within ++ close ∷ []) ++ rest)) opens ∙ block_again first ((within ++ close ∷ []) ++ rest) within (close ∷ rest) (append_assoc within (close ∷ []) rest) values (ap (stops_at stops.BlockEnd) closes)
+    ap (ending_by first ((within ++ close ∷ []) ++ rest)) opens ∙ block_again first ((within ++ close ∷ []) ++ rest) within (close ∷ rest)
+    (append_assoc within (close ∷ []) rest) values (ap (stops_at stops.BlockEnd) closes)
 ending_again _ rest (in_open_block first within opens values over) =
-    ap (ending_by first ((within ++ []) ++ rest)) opens ∙ block_again first ((within ++ []) ++ rest) within [] (ap (λ (xs : List Token). (within ++ []) ++ xs) over ∙ append-nil (within ++ [])) values tt
+    ap (ending_by first ((within ++ []) ++ rest)) opens ∙ block_again first ((within ++ []) ++ rest) within []
+    (ap (λ (xs : List Token). (within ++ []) ++ xs) over ∙ append-nil (within ++ [])) values tt
 
 record RuleAgain (stop : Stop) (prelude : List Token) (ending : EndingForm) (all : List Token) : Type 0 where
   prelude_is : take (until stop all) all ≡ prelude
   ending_is : ending_at (drop (until stop all) all) ≡ ending
 
-rule_again : (stop : Stop) (prelude : List Token) (ending : EndingForm) (rest all : List Token) → all ≡ (prelude ++ ending_pieces ending) ++ rest → IsRule stop prelude ending rest → RuleAgain stop prelude ending all
+rule_again : (stop : Stop) (prelude : List Token) (ending : EndingForm) (rest all : List Token)
+    → all ≡ (prelude ++ ending_pieces ending) ++ rest → IsRule stop prelude ending rest → RuleAgain stop prelude ending all
 rule_again stop prelude ending rest all whole rule =
     let behind = ending_pieces ending ++ rest in
     let is : all ≡ prelude ++ behind = whole ∙ append_assoc prelude (ending_pieces ending) rest in
     let n : until stop all ≡ length prelude = ap (until stop) is ∙ until_is stop prelude behind rule.values rule.stopped in
     record {
       prelude_is = ap (λ (k : ℕ). take k all) n ∙ ap (take (length prelude)) is ∙ take-append_seam prelude behind;
-      ending_is = ap ending_at (ap (λ (k : ℕ). drop k all) n ∙ ap (drop (length prelude)) is ∙ drop-append_seam prelude behind) ∙ ending_again ending rest rule.ends;
+      ending_is = ap ending_at (ap (λ (k : ℕ). drop k all) n ∙ ap
+          (drop (length prelude)) is ∙ drop-append_seam prelude behind) ∙ ending_again ending rest rule.ends;
     }
 
 passed_again : (kind : TokenKind) (t : Token) (ts : List Token) → is_passed kind ≡ true → part_by t ts kind ≡ passed t
 passed_again tokens.AtKeyword t ts e = absurd (cc)
 passed_again kind t ts e = ap (λ (x : Bool). cond x (passed t) (qualified_at (t ∷ ts))) e
 
-qualified_again : (kind : TokenKind) (t : Token) (ts : List Token) → is_passed kind ≡ false → is_at_keyword kind ≡ false → part_by t ts kind ≡ qualified_at (t ∷ ts)
+qualified_again : (kind : TokenKind) (t : Token) (ts : List Token) → is_passed kind ≡ false → is_at_keyword kind ≡ false
+    → part_by t ts kind ≡ qualified_at (t ∷ ts)
 qualified_again tokens.AtKeyword t ts e other = absurd (cc)
 qualified_again kind t ts e other = ap (λ (x : Bool). cond x (passed t) (qualified_at (t ∷ ts))) e
 
@@ -194,17 +222,25 @@ record PartAgain (p : PartForm) (all : List Token) : Type 0 where
   is : all ≡ t ∷ ts
   form : part_at t ts ≡ p
 
-pub at_rule_again : (keyword : Token) (prelude : List Token) (ending : EndingForm) (rest : List Token) → IsRule stops.BlockOrSemicolon prelude ending rest → at_rule_at keyword ((prelude ++ ending_pieces ending) ++ rest) ≡ at_rule keyword prelude ending
+pub at_rule_again : (keyword : Token) (prelude : List Token) (ending : EndingForm) (rest : List Token)
+    → IsRule stops.BlockOrSemicolon prelude ending rest
+    → at_rule_at keyword ((prelude ++ ending_pieces ending) ++ rest) ≡ at_rule keyword prelude ending
 at_rule_again keyword prelude ending rest rule =
     let r = rule_again stops.BlockOrSemicolon prelude ending rest ((prelude ++ ending_pieces ending) ++ rest) refl rule in
     λ i. at_rule keyword (r.prelude_is i) (r.ending_is i)
 
-begun_again : (own prelude : List Token) (ending : EndingForm) (rest : List Token) → own ≡ prelude ++ ending_pieces ending → BeginsQualified own → IsRule stops.Block prelude ending rest → PartAgain (qualified prelude ending) (own ++ rest)
+begun_again : (own prelude : List Token) (ending : EndingForm) (rest : List Token) → own ≡ prelude ++ ending_pieces ending
+    → BeginsQualified own → IsRule stops.Block prelude ending rest → PartAgain (qualified prelude ending) (own ++ rest)
 unfolding part_at
 begun_again [] prelude ending rest is none rule = absurd none
 begun_again (t ∷ ts) prelude ending rest is first rule =
     let r = rule_again stops.Block prelude ending rest (t ∷ (ts ++ rest)) (ap (λ (xs : List Token). xs ++ rest) is) rule in
-    record { t = t; ts = ts ++ rest; is = refl; form = qualified_again t.kind t (ts ++ rest) first.0 first.1 ∙ (λ i. qualified (r.prelude_is i) (r.ending_is i)) }
+    record {
+      t = t;
+      ts = ts ++ rest;
+      is = refl;
+      form = qualified_again t.kind t (ts ++ rest) first.0 first.1 ∙ (λ i. qualified (r.prelude_is i) (r.ending_is i));
+    }
 
 part_again : (p : PartForm) (rest : List Token) → IsPart p rest → PartAgain p (part_pieces p ++ rest)
 unfolding part_at
@@ -215,7 +251,8 @@ part_again _ rest (at_rule_part keyword prelude ending e rule) = record {
   is = refl;
   form = ap (part_by keyword ((prelude ++ ending_pieces ending) ++ rest)) e ∙ at_rule_again keyword prelude ending rest rule;
 }
-part_again _ rest (qualified_part prelude ending first rule) = begun_again (prelude ++ ending_pieces ending) prelude ending rest refl first rule
+part_again _ rest (qualified_part prelude ending first rule) = begun_again
+    (prelude ++ ending_pieces ending) prelude ending rest refl first rule
 
 -- parts of the grammar are those that are read
 pub parts_only : (ps : List PartForm) (ts : List Token) → AreParts ps ts → ps ≡ parts ts
@@ -226,6 +263,8 @@ parts_only (p ∷ ps) ts all =
     let a = part_again p rest all.2 in
     let whole : ts ≡ a.t ∷ a.ts = all.1 ∙ a.is in
     let left : drop (length (part_pieces (part_at a.t a.ts))) (a.t ∷ a.ts) ≡ rest =
-    ap (λ (x : PartForm). drop (length (part_pieces x)) (a.t ∷ a.ts)) a.form ∙ ap (drop (length (part_pieces p))) (sym a.is) ∙ drop-append_seam (part_pieces p) rest in
-    sym (ap parts whole ∙ parts_step a.t a.ts ∙ ap (λ (x : PartForm). x ∷ parts (drop (length (part_pieces (part_at a.t a.ts))) (a.t ∷ a.ts))) a.form
+    ap (λ (x : PartForm). drop (length (part_pieces x)) (a.t ∷ a.ts)) a.form ∙ ap (drop (length (part_pieces p)))
+    (sym a.is) ∙ drop-append_seam (part_pieces p) rest in
+    sym (ap parts whole ∙ parts_step a.t a.ts ∙ ap
+    (λ (x : PartForm). x ∷ parts (drop (length (part_pieces (part_at a.t a.ts))) (a.t ∷ a.ts))) a.form
     ∙ ap (λ (xs : List Token). p ∷ parts xs) left ∙ ap (λ (xs : List PartForm). p ∷ xs) (sym (parts_only ps rest all.3)))

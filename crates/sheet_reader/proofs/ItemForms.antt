@@ -1,5 +1,6 @@
 -- The items of a body that are read are those of the grammar, and no others are.
-use Rattle.std.proofs.Common.{◌≡◌, ℕ, zero, suc, ◌+◌, ◌≤◌, true, false, List, [], ◌∷◌, ◌++◌, length, take, drop, refl, sym, ap, subst, ◌∙◌, length-append, arith}
+use Rattle.std.proofs.Common.{◌≡◌, ℕ, zero, suc, ◌+◌, ◌≤◌, true, false, List, [], ◌∷◌, ◌++◌, length, take, drop, refl, sym, ap, subst, ◌∙◌}
+use Rattle.std.proofs.Common.{length-append, arith}
 use Rattle.std.proofs.lemmas.List.{take-append-drop}
 use Rattle.std.proofs.Math.Seq.{take-append_seam, drop-append_seam}
 use Rattle.css_tokens.specs.declared.token.Token.{Token}
@@ -10,7 +11,8 @@ use Rattle.sheet_reader.specs.Brackets.{open_after, stops_at, until_in, until}
 use Rattle.sheet_reader.specs.Parts.{ending_at, at_rule_at, ending_pieces}
 use Rattle.sheet_reader.specs.Declarations.{ItemForm, passed, candidate, other, item_by, item_at, item_pieces, items_after}
 use Rattle.sheet_reader.specs.Declarations as body
-use Rattle.sheet_reader.specs.Grammar.{outside, AreValues, EndsBefore, is_at_keyword, is_separator, is_ident_kind, IsBodyItem, passed_item, at_rule_item, candidate_item, other_item, AreItems}
+use Rattle.sheet_reader.specs.Grammar.{outside, AreValues, EndsBefore, is_at_keyword, is_separator, is_ident_kind, IsBodyItem, passed_item}
+use Rattle.sheet_reader.specs.Grammar.{at_rule_item, candidate_item, other_item, AreItems}
 use Rattle.sheet_reader.proofs.BracketLemmas.{go_on}
 use Rattle.sheet_reader.proofs.ValueForms.{until_is, until_splits}
 use Rattle.sheet_reader.proofs.PartLemmas.{items_step, item_some}
@@ -33,7 +35,8 @@ record ValueRead (t : Token) (ts : List Token) (m : ℕ) : Type 0 where
   values : AreValues (outside stops.Semicolon) (t ∷ take m ts) (drop m ts)
   stopped : EndsBefore (outside stops.Semicolon) (drop m ts)
 
-value_read : (t : Token) (ts : List Token) → stops_at stops.Semicolon t.kind ≡ false → ValueRead t ts (until_in stops.Semicolon (open_after [] t.kind) ts)
+value_read : (t : Token) (ts : List Token) → stops_at stops.Semicolon t.kind ≡ false
+    → ValueRead t ts (until_in stops.Semicolon (open_after [] t.kind) ts)
 value_read t ts goes =
     let n = go_on stops.Semicolon [] t ts goes in
     let s = until_splits stops.Semicolon (t ∷ ts) in
@@ -43,14 +46,26 @@ value_read t ts goes =
       stopped = subst (λ (k : ℕ). EndsBefore (outside stops.Semicolon) (drop k (t ∷ ts))) n s.stopped;
     }
 
-candidate_read : (t : Token) (ts : List Token) (m : ℕ) → is_ident_kind t.kind ≡ true → ValueRead t ts m → ItemRead (candidate (take (until stops.Semicolon (t ∷ ts)) (t ∷ ts))) (t ∷ ts)
+candidate_read : (t : Token) (ts : List Token) (m : ℕ) → is_ident_kind t.kind ≡ true → ValueRead t ts m
+    → ItemRead (candidate (take (until stops.Semicolon (t ∷ ts)) (t ∷ ts))) (t ∷ ts)
 candidate_read t ts m kind v =
-    let found : ItemRead (candidate (t ∷ take m ts)) (t ∷ ts) = record { rest = drop m ts; is = ap (λ (xs : List Token). t ∷ xs) (sym (take-append-drop m ts)); form = candidate_item t (take m ts) kind v.values v.stopped } in
+    let found : ItemRead (candidate (t ∷ take m ts))
+    (t ∷ ts) = record {
+      rest = drop m ts;
+      is = ap (λ (xs : List Token). t ∷ xs) (sym (take-append-drop m ts));
+      form = candidate_item t (take m ts) kind v.values v.stopped;
+    } in
     subst (λ (k : ℕ). ItemRead (candidate (take k (t ∷ ts))) (t ∷ ts)) (sym v.count) found
 
-other_read : (t : Token) (ts : List Token) (m : ℕ) → is_separator t.kind ≡ false → is_at_keyword t.kind ≡ false → is_ident_kind t.kind ≡ false → ValueRead t ts m → ItemRead (other (take (until stops.Semicolon (t ∷ ts)) (t ∷ ts))) (t ∷ ts)
+other_read : (t : Token) (ts : List Token) (m : ℕ) → is_separator t.kind ≡ false → is_at_keyword t.kind ≡ false
+    → is_ident_kind t.kind ≡ false → ValueRead t ts m → ItemRead (other (take (until stops.Semicolon (t ∷ ts)) (t ∷ ts))) (t ∷ ts)
 other_read t ts m a b c v =
-    let found : ItemRead (other (t ∷ take m ts)) (t ∷ ts) = record { rest = drop m ts; is = ap (λ (xs : List Token). t ∷ xs) (sym (take-append-drop m ts)); form = other_item t (take m ts) a b c v.values v.stopped } in
+    let found : ItemRead (other (t ∷ take m ts))
+    (t ∷ ts) = record {
+      rest = drop m ts;
+      is = ap (λ (xs : List Token). t ∷ xs) (sym (take-append-drop m ts));
+      form = other_item t (take m ts) a b c v.values v.stopped;
+    } in
     subst (λ (k : ℕ). ItemRead (other (take k (t ∷ ts))) (t ∷ ts)) (sym v.count) found
 
 item_by_read : (kind : TokenKind) (t : Token) (ts : List Token) → t.kind ≡ kind → ItemRead (item_by t ts kind) (t ∷ ts)
@@ -58,8 +73,10 @@ item_by_read tokens.Comment t ts e = record { rest = ts; is = refl; form = passe
 item_by_read tokens.WhiteSpace t ts e = record { rest = ts; is = refl; form = passed_item t (ap is_separator e) }
 item_by_read tokens.Semicolon t ts e = record { rest = ts; is = refl; form = passed_item t (ap is_separator e) }
 item_by_read tokens.AtKeyword t ts e = at_rule_item_read t ts e
-item_by_read tokens.Ident t ts e = candidate_read t ts (until_in stops.Semicolon (open_after [] t.kind) ts) (ap is_ident_kind e) (value_read t ts (ap (stops_at stops.Semicolon) e))
-item_by_read _ t ts e = other_read t ts (until_in stops.Semicolon (open_after [] t.kind) ts) (ap is_separator e) (ap is_at_keyword e) (ap is_ident_kind e) (value_read t ts (ap (stops_at stops.Semicolon) e))
+item_by_read tokens.Ident t ts e = candidate_read t ts (until_in stops.Semicolon (open_after [] t.kind) ts) (ap is_ident_kind e)
+    (value_read t ts (ap (stops_at stops.Semicolon) e))
+item_by_read _ t ts e = other_read t ts (until_in stops.Semicolon (open_after [] t.kind) ts) (ap is_separator e) (ap is_at_keyword e)
+    (ap is_ident_kind e) (value_read t ts (ap (stops_at stops.Semicolon) e))
 
 item_read : (t : Token) (ts : List Token) → ItemRead (item_at t ts) (t ∷ ts)
 unfolding item_at
@@ -73,10 +90,13 @@ spelled_in (suc n) (t ∷ ts) fits =
     let x = item_at t ts in
     let r = item_read t ts in
     let some = item_some t ts in
-    let len : length (t ∷ ts) ≡ length (item_pieces x) + length r.rest = ap (λ (xs : List Token). length xs) r.is ∙ length-append (item_pieces x) r.rest in
-    let left : drop (length (item_pieces x)) (t ∷ ts) ≡ r.rest = ap (drop (length (item_pieces x))) r.is ∙ drop-append_seam (item_pieces x) r.rest in
+    let len : length (t ∷ ts) ≡ length (item_pieces x)
+    + length r.rest = ap (λ (xs : List Token). length xs) r.is ∙ length-append (item_pieces x) r.rest in
+    let left : drop (length (item_pieces x)) (t ∷ ts)
+    ≡ r.rest = ap (drop (length (item_pieces x))) r.is ∙ drop-append_seam (item_pieces x) r.rest in
     let others = spelled_in n r.rest (omega (arith, fits, len, some)) in
-    subst (λ (xs : List ItemForm). AreItems xs (t ∷ ts)) (sym (items_step t ts)) (r.rest, r.is, r.form, subst (λ (xs : List Token). AreItems (items_after 0 xs) r.rest) (sym left) others)
+    subst (λ (xs : List ItemForm). AreItems xs (t ∷ ts)) (sym (items_step t ts))
+    (r.rest, r.is, r.form, subst (λ (xs : List Token). AreItems (items_after 0 xs) r.rest) (sym left) others)
 
 -- the items that are read are items of the grammar
 pub items_spelled : (ts : List Token) → AreItems (items_after 0 ts) ts
@@ -90,11 +110,13 @@ separator_again tokens.WhiteSpace t ts e = refl
 separator_again tokens.Semicolon t ts e = refl
 separator_again _ t ts e = absurd (cc)
 
-ident_again : (kind : TokenKind) (t : Token) (ts : List Token) → is_ident_kind kind ≡ true → item_by t ts kind ≡ candidate (take (until stops.Semicolon (t ∷ ts)) (t ∷ ts))
+ident_again : (kind : TokenKind) (t : Token) (ts : List Token) → is_ident_kind kind ≡ true
+    → item_by t ts kind ≡ candidate (take (until stops.Semicolon (t ∷ ts)) (t ∷ ts))
 ident_again tokens.Ident t ts e = refl
 ident_again _ t ts e = absurd (cc)
 
-other_again : (kind : TokenKind) (t : Token) (ts : List Token) → is_separator kind ≡ false → is_at_keyword kind ≡ false → is_ident_kind kind ≡ false → item_by t ts kind ≡ other (take (until stops.Semicolon (t ∷ ts)) (t ∷ ts))
+other_again : (kind : TokenKind) (t : Token) (ts : List Token) → is_separator kind ≡ false → is_at_keyword kind ≡ false
+    → is_ident_kind kind ≡ false → item_by t ts kind ≡ other (take (until stops.Semicolon (t ∷ ts)) (t ∷ ts))
 other_again tokens.Comment t ts a b c = absurd (cc)
 other_again tokens.WhiteSpace t ts a b c = absurd (cc)
 other_again tokens.Semicolon t ts a b c = absurd (cc)
@@ -102,8 +124,10 @@ other_again tokens.AtKeyword t ts a b c = absurd (cc)
 other_again tokens.Ident t ts a b c = absurd (cc)
 other_again _ t ts a b c = refl
 
-value_again : (t : Token) (ts rest : List Token) → AreValues (outside stops.Semicolon) (t ∷ ts) rest → EndsBefore (outside stops.Semicolon) rest → take (until stops.Semicolon (t ∷ (ts ++ rest))) (t ∷ (ts ++ rest)) ≡ t ∷ ts
-value_again t ts rest values over = ap (λ (k : ℕ). take k (t ∷ (ts ++ rest))) (until_is stops.Semicolon (t ∷ ts) rest values over) ∙ take-append_seam (t ∷ ts) rest
+value_again : (t : Token) (ts rest : List Token) → AreValues (outside stops.Semicolon) (t ∷ ts) rest
+    → EndsBefore (outside stops.Semicolon) rest → take (until stops.Semicolon (t ∷ (ts ++ rest))) (t ∷ (ts ++ rest)) ≡ t ∷ ts
+value_again t ts rest values over = ap (λ (k : ℕ). take k (t ∷ (ts ++ rest)))
+    (until_is stops.Semicolon (t ∷ ts) rest values over) ∙ take-append_seam (t ∷ ts) rest
 
 -- the item that begins where one stands is that one
 record ItemAgain (x : ItemForm) (all : List Token) : Type 0 where
@@ -119,10 +143,21 @@ item_again _ rest (at_rule_item keyword prelude ending e rule) = record {
   t = keyword;
   ts = (prelude ++ ending_pieces ending) ++ rest;
   is = refl;
-  form = ap (item_by keyword ((prelude ++ ending_pieces ending) ++ rest)) e ∙ ap body.at_rule (at_rule_again keyword prelude ending rest rule);
+  form = ap (item_by keyword ((prelude ++ ending_pieces ending) ++ rest)) e ∙ ap body.at_rule
+      (at_rule_again keyword prelude ending rest rule);
 }
-item_again _ rest (candidate_item t ts kind values over) = record { t = t; ts = ts ++ rest; is = refl; form = ident_again t.kind t (ts ++ rest) kind ∙ ap candidate (value_again t ts rest values over) }
-item_again _ rest (other_item t ts a b c values over) = record { t = t; ts = ts ++ rest; is = refl; form = other_again t.kind t (ts ++ rest) a b c ∙ ap other (value_again t ts rest values over) }
+item_again _ rest (candidate_item t ts kind values over) = record {
+  t = t;
+  ts = ts ++ rest;
+  is = refl;
+  form = ident_again t.kind t (ts ++ rest) kind ∙ ap candidate (value_again t ts rest values over);
+}
+item_again _ rest (other_item t ts a b c values over) = record {
+  t = t;
+  ts = ts ++ rest;
+  is = refl;
+  form = other_again t.kind t (ts ++ rest) a b c ∙ ap other (value_again t ts rest values over);
+}
 
 -- items of the grammar are those that are read
 pub items_only : (xs : List ItemForm) (ts : List Token) → AreItems xs ts → xs ≡ items_after 0 ts
@@ -133,6 +168,8 @@ items_only (x ∷ xs) ts all =
     let a = item_again x rest all.2 in
     let whole : ts ≡ a.t ∷ a.ts = all.1 ∙ a.is in
     let left : drop (length (item_pieces (item_at a.t a.ts))) (a.t ∷ a.ts) ≡ rest =
-    ap (λ (y : ItemForm). drop (length (item_pieces y)) (a.t ∷ a.ts)) a.form ∙ ap (drop (length (item_pieces x))) (sym a.is) ∙ drop-append_seam (item_pieces x) rest in
-    sym (ap (items_after 0) whole ∙ items_step a.t a.ts ∙ ap (λ (y : ItemForm). y ∷ items_after 0 (drop (length (item_pieces (item_at a.t a.ts))) (a.t ∷ a.ts))) a.form
+    ap (λ (y : ItemForm). drop (length (item_pieces y)) (a.t ∷ a.ts)) a.form ∙ ap (drop (length (item_pieces x)))
+    (sym a.is) ∙ drop-append_seam (item_pieces x) rest in
+    sym (ap (items_after 0) whole ∙ items_step a.t a.ts ∙ ap
+    (λ (y : ItemForm). y ∷ items_after 0 (drop (length (item_pieces (item_at a.t a.ts))) (a.t ∷ a.ts))) a.form
     ∙ ap (λ (ys : List Token). x ∷ items_after 0 ys) left ∙ ap (λ (ys : List ItemForm). x ∷ ys) (sym (items_only xs rest all.3)))

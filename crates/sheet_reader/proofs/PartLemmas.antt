@@ -1,5 +1,6 @@
 -- A part is a front of the pieces that it is read from, and so is an item of a body; neither is empty.
-use Rattle.std.proofs.Common.{◌≡◌, ℕ, zero, suc, ◌-◌, ◌<◌, ◌≤◌, Bool, true, false, cond, List, [], ◌∷◌, ◌++◌, length, take, drop, All, Option, refl, sym, ap, subst, ◌∙◌, append_assoc, length-append, arith}
+use Rattle.std.proofs.Common.{◌≡◌, ℕ, zero, suc, ◌-◌, ◌<◌, ◌≤◌, Bool, true, false, cond, List, [], ◌∷◌, ◌++◌, length, take, drop, All}
+use Rattle.std.proofs.Common.{Option, refl, sym, ap, subst, ◌∙◌, append_assoc, length-append, arith}
 use Rattle.std.specs.Prelude.{slice_get, option_to_list}
 use Rattle.std.proofs.lemmas.List.{take-append-drop}
 use Rattle.std.proofs.Math.Seq.{take-append_seam, drop-append_seam}
@@ -9,7 +10,8 @@ use Rattle.css_tokens.specs.declared.token.TokenKind.{TokenKind}
 use Rattle.css_tokens.specs.declared.token.TokenKind.TheVariants as tokens
 use Rattle.sheet_reader.specs.declared.brackets.Stop.TheVariants as stops
 use Rattle.sheet_reader.specs.Brackets.{stops_at, until}
-use Rattle.sheet_reader.specs.Parts.{block, PartForm, passed, is_passed, ending_by, ending_at, at_rule_at, qualified_at, part_by, part_at, ending_pieces, part_pieces, parts_after, parts}
+use Rattle.sheet_reader.specs.Parts.{block, PartForm, passed, is_passed, ending_by, ending_at, at_rule_at, qualified_at, part_by, part_at}
+use Rattle.sheet_reader.specs.Parts.{ending_pieces, part_pieces, parts_after, parts}
 use Rattle.sheet_reader.specs.Declarations.{ItemForm, item_by, item_at, item_pieces, items_after}
 use Rattle.sheet_reader.proofs.BracketLemmas.{go_on}
 
@@ -26,11 +28,15 @@ split_get (t ∷ ts) (suc n) = split_get ts n
 
 block_front : (t : Token) (ts : List Token) (n : ℕ) → ts ≡ (take n ts ++ option_to_list (slice_get ts n)) ++ drop (suc n) ts
 block_front t ts n =
-    sym (take-append-drop n ts) ∙ ap (λ (xs : List Token). take n ts ++ xs) (split_get ts n) ∙ sym (append_assoc (take n ts) (option_to_list (slice_get ts n)) (drop (suc n) ts))
+    sym (take-append-drop n ts) ∙ ap (λ (xs : List Token). take n ts ++ xs) (split_get ts n) ∙ sym
+    (append_assoc (take n ts) (option_to_list (slice_get ts n)) (drop (suc n) ts))
 
 ending_by_front : (kind : TokenKind) (t : Token) (ts : List Token) → IsFrontOf (ending_pieces (ending_by t ts kind)) (t ∷ ts)
 ending_by_front tokens.Semicolon t ts = record { rest = ts; is = refl }
-ending_by_front _ t ts = record { rest = drop (suc (until stops.BlockEnd ts)) ts; is = ap (λ (xs : List Token). t ∷ xs) (block_front t ts (until stops.BlockEnd ts)) }
+ending_by_front _ t ts = record {
+  rest = drop (suc (until stops.BlockEnd ts)) ts;
+  is = ap (λ (xs : List Token). t ∷ xs) (block_front t ts (until stops.BlockEnd ts));
+}
 
 ending_front : (ts : List Token) → IsFrontOf (ending_pieces (ending_at ts)) ts
 ending_front [] = record { rest = []; is = refl }
@@ -42,11 +48,13 @@ then_ending ts n =
     let e = ending_front (drop n ts) in
     record {
       rest = e.rest;
-      is = sym (take-append-drop n ts) ∙ ap (λ (xs : List Token). take n ts ++ xs) e.is ∙ sym (append_assoc (take n ts) (ending_pieces (ending_at (drop n ts))) e.rest);
+      is = sym (take-append-drop n ts) ∙ ap (λ (xs : List Token). take n ts ++ xs) e.is ∙ sym
+          (append_assoc (take n ts) (ending_pieces (ending_at (drop n ts))) e.rest);
     }
 
 pub at_rule_front : (t : Token) (ts : List Token) → IsFrontOf (part_pieces (at_rule_at t ts)) (t ∷ ts)
-at_rule_front t ts = let e = then_ending ts (until stops.BlockOrSemicolon ts) in record { rest = e.rest; is = ap (λ (xs : List Token). t ∷ xs) e.is }
+at_rule_front t ts = let e = then_ending ts
+    (until stops.BlockOrSemicolon ts) in record { rest = e.rest; is = ap (λ (xs : List Token). t ∷ xs) e.is }
 
 by_passed : (b : Bool) (t : Token) (ts : List Token) → IsFrontOf (part_pieces (cond b (passed t) (qualified_at (t ∷ ts)))) (t ∷ ts)
 by_passed true t ts = record { rest = ts; is = refl }
@@ -86,7 +94,8 @@ pub front_fits : (front whole : List Token) → IsFrontOf front whole → length
 front_fits front whole f = let e = ap (λ (xs : List Token). length xs) f.is ∙ length-append front f.rest in omega (arith, e)
 
 pub front_all : (P : Token → Type 0) (front whole : List Token) → IsFrontOf front whole → All P whole → All P front
-front_all P front whole f all = subst (All P) (take-append_seam front f.rest) (All-take P (length front) (front ++ f.rest) (subst (All P) f.is all))
+front_all P front whole f all = subst (All P) (take-append_seam front f.rest)
+    (All-take P (length front) (front ++ f.rest) (subst (All P) f.is all))
 
 -- ---- one part more
 
@@ -122,7 +131,8 @@ pub item_front : (t : Token) (ts : List Token) → IsFrontOf (item_pieces (item_
 unfolding item_at
 item_front t ts = item_by_front t.kind t ts
 
-value_some : (t : Token) (ts : List Token) → stops_at stops.Semicolon t.kind ≡ false → 0 < length (take (until stops.Semicolon (t ∷ ts)) (t ∷ ts))
+value_some : (t : Token) (ts : List Token) → stops_at stops.Semicolon t.kind ≡ false
+    → 0 < length (take (until stops.Semicolon (t ∷ ts)) (t ∷ ts))
 value_some t ts goes = rw (go_on stops.Semicolon [] t ts goes) (omega arith)
 
 item_by_some : (kind : TokenKind) (t : Token) (ts : List Token) → t.kind ≡ kind → 0 < length (item_pieces (item_by t ts kind))
@@ -142,7 +152,8 @@ items_skip zero ts = refl
 items_skip (suc n) [] = refl
 items_skip (suc n) (t ∷ ts) = items_skip n ts
 
-pub items_step : (t : Token) (ts : List Token) → items_after 0 (t ∷ ts) ≡ item_at t ts ∷ items_after 0 (drop (length (item_pieces (item_at t ts))) (t ∷ ts))
+pub items_step : (t : Token) (ts : List Token)
+    → items_after 0 (t ∷ ts) ≡ item_at t ts ∷ items_after 0 (drop (length (item_pieces (item_at t ts))) (t ∷ ts))
 unfolding items_after
 items_step t ts =
     let n = length (item_pieces (item_at t ts)) in
@@ -154,5 +165,6 @@ all_left P xs ys all = subst (All P) (take-append_seam xs ys) (All-take P (lengt
 pub all_right : (P : Token → Type 0) (xs ys : List Token) → All P (xs ++ ys) → All P ys
 all_right P xs ys all = subst (All P) (drop-append_seam xs ys) (All-drop P (length xs) (xs ++ ys) all)
 
-pub block_inside : (P : Token → Type 0) (first : Token) (body : List Token) (close : Option Token) → All P (ending_pieces (block first body close)) → All P body
+pub block_inside : (P : Token → Type 0) (first : Token) (body : List Token) (close : Option Token)
+    → All P (ending_pieces (block first body close)) → All P body
 block_inside P first body close all = all_left P body (option_to_list close) (All-tail P first (body ++ option_to_list close) all)

@@ -1,5 +1,6 @@
 -- Each character counts its UTF-16 units, and no two edges of characters have one position.
-use Rattle.std.proofs.Common.{◌≡◌, ◌⊎◌, inl, inr, ℕ, zero, suc, ◌+◌, ◌-◌, ◌/◌, ◌%◌, ◌<◌, ◌≤◌, Bool, true, false, cond, ltb, List, [], ◌∷◌, length, take, get_or, refl, sym, ap, subst, ◌∙◌, arith}
+use Rattle.std.proofs.Common.{◌≡◌, ◌⊎◌, inl, inr, ℕ, zero, suc, ◌+◌, ◌-◌, ◌/◌, ◌%◌, ◌<◌, ◌≤◌, Bool, true, false, cond, ltb, List, [], ◌∷◌}
+use Rattle.std.proofs.Common.{length, take, get_or, refl, sym, ap, subst, ◌∙◌, arith}
 use borrow.Author.Tests.{ltb-true, ltb-false}
 use Rattle.std.specs.Char.{encode_utf8}
 use Rattle.std.specs.List.{sum_by}
@@ -28,7 +29,10 @@ follows : (bits : ℕ) → units_at (next bits) ≡ 0
 follows bits = later (next bits) (omega arith) (omega arith)
 
 char_by : (c : ℕ) (x y z : Bool) → ltb c 128 ≡ x → ltb c 2048 ≡ y → ltb c 65536 ≡ z
-    → sum_by units_at (cond x (c ∷ []) (cond y ((192 + c / 64) ∷ next c ∷ []) (cond z ((224 + c / 4096) ∷ next (c / 64) ∷ next c ∷ []) ((240 + c / 262144) ∷ next (c / 4096) ∷ next (c / 64) ∷ next c ∷ [])))) ≡ cond z 1 2
+    → sum_by units_at (cond x (c ∷ [])
+    (cond y ((192 + c / 64) ∷ next c ∷ [])
+    (cond z ((224 + c / 4096) ∷ next (c / 64) ∷ next c ∷ []) ((240 + c / 262144) ∷ next (c / 4096) ∷ next (c / 64) ∷ next c ∷ []))))
+    ≡ cond z 1 2
 char_by c true y true a b e = let one = low c (ltb-true c 128 a) in omega (arith, one)
 char_by c true y false a b e = absurd (omega (arith, ltb-true c 128 a, ltb-false c 65536 e))
 char_by c false true true a b e =
@@ -58,12 +62,15 @@ char_units c = char_by c (ltb c 128) (ltb c 2048) (ltb c 65536) refl refl refl
 
 -- the second byte's position lies behind the first one's
 Past : List ℕ → ℕ → ℕ → Type 0
-Past text b k = (line_of (take b text) < line_of (take k text)) ⊎ ((line_of (take b text) ≡ line_of (take k text)) × (column_of (take b text) < column_of (take k text)))
+Past text b k = (line_of (take b text) < line_of (take k text))
+    ⊎ ((line_of (take b text) ≡ line_of (take k text)) × (column_of (take b text) < column_of (take k text)))
 
-line_step : (text : List ℕ) (i : ℕ) → i < length text → line_of (take (i + 1) text) ≡ line_of (take i text) + cond (is_line_feed (get_or text i 0)) 1 0
+line_step : (text : List ℕ) (i : ℕ) → i < length text
+    → line_of (take (i + 1) text) ≡ line_of (take i text) + cond (is_line_feed (get_or text i 0)) 1 0
 line_step text i inside = ap line_of (take_more text i 0 inside) ∙ line_more (take i text) (get_or text i 0)
 
-stays_step : (text : List ℕ) (i : ℕ) → i < length text → is_line_feed (get_or text i 0) ≡ false → column_of (take (i + 1) text) ≡ column_of (take i text) + units_at (get_or text i 0)
+stays_step : (text : List ℕ) (i : ℕ) → i < length text → is_line_feed (get_or text i 0) ≡ false
+    → column_of (take (i + 1) text) ≡ column_of (take i text) + units_at (get_or text i 0)
 stays_step text i inside e = ap column_of (take_more text i 0 inside) ∙ column_stays (take i text) (get_or text i 0) e
 
 some_units : (c : ℕ) → (128 ≤ c → 192 ≤ c) → 0 < units_at c
@@ -95,7 +102,8 @@ past_more text b k inside past = by (is_line_feed (get_or text k 0)) refl past
   where
     by : (x : Bool) → is_line_feed (get_or text k 0) ≡ x → Past text b k → Past text b (k + 1)
     by true e (inl less) = let more = line_step text k inside in inl (omega (arith, more, less))
-    by true e (inr same) = let more = line_step text k inside ∙ ap (λ (x : Bool). line_of (take k text) + cond x 1 0) e in inl (omega (arith, more, same.0))
+    by true e (inr same) = let more = line_step text k inside ∙ ap (λ (x : Bool). line_of (take k text) + cond x 1 0) e in inl
+        (omega (arith, more, same.0))
     by false e (inl less) = let more = line_step text k inside in inl (omega (arith, more, less))
     by false e (inr same) =
         let more = line_step text k inside ∙ ap (λ (x : Bool). line_of (take k text) + cond x 1 0) e in
@@ -103,7 +111,8 @@ past_more text b k inside past = by (is_line_feed (get_or text k 0)) refl past
         inr (omega (arith, more, same.0), omega (arith, columns, same.1))
 
 past_by : (text : List ℕ) (b n : ℕ) → b + 1 + n ≤ length text → IsCharBoundary text b → Past text b (b + 1 + n)
-past_by text b zero fits edge = let same : b + 1 + zero ≡ b + 1 = omega arith in subst (Past text b) (sym same) (past_first text b (omega (arith, fits)) edge)
+past_by text b zero fits edge = let same : b + 1 + zero
+    ≡ b + 1 = omega arith in subst (Past text b) (sym same) (past_first text b (omega (arith, fits)) edge)
 past_by text b (suc n) fits edge =
     let same : b + 1 + suc n ≡ b + 1 + n + 1 = omega arith in
     subst (Past text b) (sym same) (past_more text b (b + 1 + n) (omega (arith, fits)) (past_by text b n (omega (arith, fits)) edge))

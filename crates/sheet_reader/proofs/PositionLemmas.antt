@@ -1,17 +1,21 @@
 -- One byte more before a position.
-use Rattle.std.proofs.Common.{◌≡◌, ℕ, suc, ◌+◌, ◌*◌, ◌<◌, ◌≤◌, Bool, true, false, cond, not, List, [], ◌∷◌, ◌++◌, length, take, get_or, reverse, refl, sym, ap, ◌∙◌, arith}
+use Rattle.std.proofs.Common.{◌≡◌, ℕ, suc, ◌+◌, ◌*◌, ◌<◌, ◌≤◌, Bool, true, false, cond, not, List, [], ◌∷◌, ◌++◌, length, take, get_or}
+use Rattle.std.proofs.Common.{reverse, refl, sym, ap, ◌∙◌, arith}
 use Rattle.std.specs.List.{prefix_len, sum_by}
 use Rattle.std.proofs.lemmas.List.{reverse-append, take_more, length-take, length-reverse}
 use Rattle.std.proofs.lemmas.List.Sums.{sum_by-append, count_by-le-length}
 use Rattle.sheet_reader.specs.declared.place.Position.{Position}
-use Rattle.sheet_reader.specs.Positions.{is_line_feed, units_at, line_back, line_of, column_of, position, position_behind, position_of, behind_byte}
+use Rattle.sheet_reader.specs.Positions.{is_line_feed, units_at, line_back, line_of, column_of, position, position_behind, position_of}
+use Rattle.sheet_reader.specs.Positions.{behind_byte}
 
 abbrev stays : ℕ → Bool
 stays c = not (is_line_feed c)
 
-cut : (c : ℕ) (back : List ℕ) (b : Bool) → stays c ≡ b → take (prefix_len stays (c ∷ back)) (c ∷ back) ≡ cond b (c ∷ take (prefix_len stays back) back) []
+cut : (c : ℕ) (back : List ℕ) (b : Bool) → stays c ≡ b
+    → take (prefix_len stays (c ∷ back)) (c ∷ back) ≡ cond b (c ∷ take (prefix_len stays back) back) []
 cut c back true e =
-    let n : prefix_len stays (c ∷ back) ≡ suc (prefix_len stays back) = ap (λ (x : Bool). cond x (1 + prefix_len stays back) 0) e ∙ omega arith in
+    let n : prefix_len stays (c ∷ back)
+    ≡ suc (prefix_len stays back) = ap (λ (x : Bool). cond x (1 + prefix_len stays back) 0) e ∙ omega arith in
     ap (λ (k : ℕ). take k (c ∷ back)) n
 cut c back false e =
     let n : prefix_len stays (c ∷ back) ≡ 0 = ap (λ (x : Bool). cond x (1 + prefix_len stays back) 0) e in
@@ -39,21 +43,25 @@ column_stays xs c e =
 pub line_more : (xs : List ℕ) (c : ℕ) → line_of (xs ++ c ∷ []) ≡ line_of xs + cond (is_line_feed c) 1 0
 unfolding line_of
 line_more xs c =
-    let split : line_of (xs ++ c ∷ []) ≡ line_of xs + (0 + cond (is_line_feed c) 1 0) = sum_by-append (λ x. cond (is_line_feed x) 1 0) xs (c ∷ []) in
+    let split : line_of (xs ++ c ∷ [])
+    ≡ line_of xs + (0 + cond (is_line_feed c) 1 0) = sum_by-append (λ x. cond (is_line_feed x) 1 0) xs (c ∷ []) in
     omega (arith, split)
 
 same_position : (a b c d : ℕ) → a ≡ c → b ≡ d → position a b ≡ position c d
 same_position a b c d p q = λ i. position (p i) (q i)
 
 -- behind one byte more
-behind_more_by : (b : Bool) (xs : List ℕ) (c : ℕ) → is_line_feed c ≡ b → position_behind (xs ++ c ∷ []) ≡ cond b (position (line_of xs + 1) 0) (position (line_of xs) (column_of xs + units_at c))
+behind_more_by : (b : Bool) (xs : List ℕ) (c : ℕ) → is_line_feed c ≡ b
+    → position_behind (xs ++ c ∷ []) ≡ cond b (position (line_of xs + 1) 0) (position (line_of xs) (column_of xs + units_at c))
 behind_more_by true xs c e =
-    same_position (line_of (xs ++ c ∷ [])) (column_of (xs ++ c ∷ [])) (line_of xs + 1) 0 (line_more xs c ∙ ap (λ (b : Bool). line_of xs + cond b 1 0) e) (column_feed xs c e)
+    same_position (line_of (xs ++ c ∷ [])) (column_of (xs ++ c ∷ [])) (line_of xs + 1) 0
+    (line_more xs c ∙ ap (λ (b : Bool). line_of xs + cond b 1 0) e) (column_feed xs c e)
 behind_more_by false xs c e =
     same_position (line_of (xs ++ c ∷ [])) (column_of (xs ++ c ∷ [])) (line_of xs) (column_of xs + units_at c)
     (line_more xs c ∙ ap (λ (b : Bool). line_of xs + cond b 1 0) e ∙ omega arith) (column_stays xs c e)
 
-pub behind_more : (text : List ℕ) (i : ℕ) (d : ℕ) (before after : Position) → i < length text → before ≡ position_of text i → after ≡ behind_byte before (get_or text i d) → after ≡ position_of text (i + 1)
+pub behind_more : (text : List ℕ) (i : ℕ) (d : ℕ) (before after : Position) → i < length text → before ≡ position_of text i
+    → after ≡ behind_byte before (get_or text i d) → after ≡ position_of text (i + 1)
 behind_more text i d before after inside is_before is_after =
     is_after
     ∙ ap (λ (p : Position). behind_byte p (get_or text i d)) is_before

@@ -1,5 +1,6 @@
 -- Component values by their grammar, and where the search for their end stops: each the other's.
-use Rattle.std.proofs.Common.{◌≡◌, ℕ, suc, ◌+◌, Bool, true, false, cond, ◌&&◌, List, [], ◌∷◌, ◌++◌, length, take, drop, Option, Some, None, refl, sym, ap, subst, ◌∙◌, append_assoc, length-append, arith}
+use Rattle.std.proofs.Common.{◌≡◌, ℕ, suc, ◌+◌, Bool, true, false, cond, ◌&&◌, List, [], ◌∷◌, ◌++◌, length, take, drop, Option, Some, None}
+use Rattle.std.proofs.Common.{refl, sym, ap, subst, ◌∙◌, append_assoc, length-append, arith}
 use Rattle.std.proofs.Math.Seq.{take-append_seam, drop-append_seam}
 use Rattle.css_tokens.specs.declared.token.Token.{Token}
 use Rattle.css_tokens.specs.declared.token.TokenKind.{TokenKind}
@@ -7,24 +8,29 @@ use Rattle.css_tokens.specs.declared.token.TokenKind.TheVariants as tokens
 use Rattle.sheet_reader.specs.declared.brackets.Bracket.{Bracket}
 use Rattle.sheet_reader.specs.declared.brackets.Stop.{Stop}
 use Rattle.sheet_reader.specs.Brackets.{opened_by, closed_by, open_by, open_after, is_none_open, stops_at, until_in, until}
-use Rattle.sheet_reader.specs.Grammar.{Place, outside, inside, is_closing_by, is_closing, value_ends_before, AreValues, no_values, piece_and, block_and, open_block, EndsBefore}
+use Rattle.sheet_reader.specs.Grammar.{Place, outside, inside, is_closing_by, is_closing, value_ends_before, AreValues, no_values}
+use Rattle.sheet_reader.specs.Grammar.{piece_and, block_and, open_block, EndsBefore}
 use Rattle.sheet_reader.proofs.BracketLemmas.{stop_here, go_on, none_left}
 
 abbrev pub place_of : Stop → List Bracket → Place
 place_of stop [] = outside stop
 place_of stop (b ∷ bs) = inside b
 
-not_stopped : (stop : Stop) (bs : List Bracket) (kind : TokenKind) → value_ends_before (place_of stop bs) kind ≡ false → (is_none_open bs && stops_at stop kind) ≡ false
+not_stopped : (stop : Stop) (bs : List Bracket) (kind : TokenKind) → value_ends_before (place_of stop bs) kind ≡ false
+    → (is_none_open bs && stops_at stop kind) ≡ false
 not_stopped stop [] kind e = e
 not_stopped stop (b ∷ bs) kind e = refl
 
-stays_by : (stop : Stop) (bs : List Bracket) (o : Option Bracket) → ((b : Bracket) (outer : List Bracket) → bs ≡ b ∷ outer → is_closing_by b o ≡ false) → open_by bs None o ≡ bs
+stays_by : (stop : Stop) (bs : List Bracket) (o : Option Bracket)
+    → ((b : Bracket) (outer : List Bracket) → bs ≡ b ∷ outer → is_closing_by b o ≡ false) → open_by bs None o ≡ bs
 stays_by stop bs None e = refl
 stays_by stop [] (Some c) e = refl
 stays_by stop (b ∷ bs) (Some c) e = ap (λ (x : Bool). cond x bs (b ∷ bs)) (e b bs refl)
 
-stays_open : (stop : Stop) (bs : List Bracket) (kind : TokenKind) → opened_by kind ≡ None → value_ends_before (place_of stop bs) kind ≡ false → open_after bs kind ≡ bs
-stays_open stop bs kind none e = ap (λ (o : Option Bracket). open_by bs o (closed_by kind)) none ∙ stays_by stop bs (closed_by kind) (λ b outer is. subst (λ (p : Place). value_ends_before p kind ≡ false) (ap (place_of stop) is) e)
+stays_open : (stop : Stop) (bs : List Bracket) (kind : TokenKind) → opened_by kind ≡ None
+    → value_ends_before (place_of stop bs) kind ≡ false → open_after bs kind ≡ bs
+stays_open stop bs kind none e = ap (λ (o : Option Bracket). open_by bs o (closed_by kind)) none ∙ stays_by stop bs (closed_by kind)
+    (λ b outer is. subst (λ (p : Place). value_ends_before p kind ≡ false) (ap (place_of stop) is) e)
 
 opens_one : (bs : List Bracket) (kind : TokenKind) (b : Bracket) → opened_by kind ≡ Some b → open_after bs kind ≡ b ∷ bs
 opens_one bs kind b e = ap (λ (o : Option Bracket). open_by bs o (closed_by kind)) e
@@ -41,13 +47,17 @@ closes_by b bs None e = absurd (cc)
 closes_by b bs (Some c) e = ap (λ (x : Bool). cond x bs (b ∷ bs)) e
 
 pub closes_one : (b : Bracket) (bs : List Bracket) (kind : TokenKind) → is_closing b kind ≡ true → open_after (b ∷ bs) kind ≡ bs
-closes_one b bs kind e = ap (λ (o : Option Bracket). open_by (b ∷ bs) o (closed_by kind)) (closes_none b kind e) ∙ closes_by b bs (closed_by kind) e
+closes_one b bs kind e = ap (λ (o : Option Bracket). open_by (b ∷ bs) o (closed_by kind)) (closes_none b kind e) ∙ closes_by b bs
+    (closed_by kind) e
 
-step : (stop : Stop) (bs new : List Bracket) (t : Token) (ts : List Token) → value_ends_before (place_of stop bs) t.kind ≡ false → open_after bs t.kind ≡ new → until_in stop bs (t ∷ ts) ≡ suc (until_in stop new ts)
-step stop bs new t ts e is_new = go_on stop bs t ts (not_stopped stop bs t.kind e) ∙ ap (λ (x : List Bracket). suc (until_in stop x ts)) is_new
+step : (stop : Stop) (bs new : List Bracket) (t : Token) (ts : List Token) → value_ends_before (place_of stop bs) t.kind ≡ false
+    → open_after bs t.kind ≡ new → until_in stop bs (t ∷ ts) ≡ suc (until_in stop new ts)
+step stop bs new t ts e is_new = go_on stop bs t ts (not_stopped stop bs t.kind e) ∙ ap
+    (λ (x : List Bracket). suc (until_in stop x ts)) is_new
 
 -- the search passes over component values
-pub passes_values : (stop : Stop) (bs : List Bracket) (place : Place) (front rest : List Token) → place ≡ place_of stop bs → AreValues place front rest → until_in stop bs (front ++ rest) ≡ length front + until_in stop bs rest
+pub passes_values : (stop : Stop) (bs : List Bracket) (place : Place) (front rest : List Token) → place ≡ place_of stop bs
+    → AreValues place front rest → until_in stop bs (front ++ rest) ≡ length front + until_in stop bs rest
 passes_values stop bs place _ rest is no_values = omega arith
 passes_values stop bs place _ rest is (piece_and t ts e none more) =
     let here = subst (λ (p : Place). value_ends_before p t.kind ≡ false) is e in
@@ -58,9 +68,11 @@ passes_values stop bs place all rest is (block_and t close within ts b whole e o
     let here = subst (λ (p : Place). value_ends_before p t.kind ≡ false) is e in
     let first = step stop bs (b ∷ bs) t (within ++ close ∷ (ts ++ rest)) here (opens_one bs t.kind b opens) in
     let inner = passes_values stop (b ∷ bs) (inside b) within (close ∷ (ts ++ rest)) refl own in
-    let last = go_on stop (b ∷ bs) close (ts ++ rest) refl ∙ ap (λ (x : List Bracket). suc (until_in stop x (ts ++ rest))) (closes_one b bs close.kind closes) in
+    let last = go_on stop (b ∷ bs) close (ts ++ rest) refl ∙ ap (λ (x : List Bracket). suc (until_in stop x (ts ++ rest)))
+    (closes_one b bs close.kind closes) in
     let others = passes_values stop bs place ts rest is more in
-    let same = ap (λ (xs : List Token). until_in stop bs (xs ++ rest)) whole ∙ ap (λ (xs : List Token). until_in stop bs (t ∷ xs)) (append_assoc within (close ∷ ts) rest) in
+    let same = ap (λ (xs : List Token). until_in stop bs (xs ++ rest)) whole ∙ ap (λ (xs : List Token). until_in stop bs (t ∷ xs))
+    (append_assoc within (close ∷ ts) rest) in
     let len = ap (λ (xs : List Token). length xs) whole in
     let len_inner = length-append within (close ∷ ts) in
     omega (arith, first, inner, last, others, same, len, len_inner)
@@ -78,7 +90,8 @@ stopped stop [] e = none_left stop []
 stopped stop (t ∷ ts) e = stop_here stop [] t ts e
 
 -- the search stops behind component values that end there
-pub until_is : (stop : Stop) (front rest : List Token) → AreValues (outside stop) front rest → EndsBefore (outside stop) rest → until stop (front ++ rest) ≡ length front
+pub until_is : (stop : Stop) (front rest : List Token) → AreValues (outside stop) front rest → EndsBefore (outside stop) rest
+    → until stop (front ++ rest) ≡ length front
 until_is stop front rest values over =
     let passed = passes_values stop [] (outside stop) front rest refl values in
     let none = stopped stop rest over in
@@ -90,7 +103,9 @@ until_is stop front rest values over =
 data Behind (stop : Stop) : List Bracket → List Token → Type 0 where
   at_end : {bs : List Bracket} → Behind stop bs []
   at_stop : {t : Token} {ts : List Token} → stops_at stop t.kind ≡ true → Behind stop [] (t ∷ ts)
-  at_close : {b : Bracket} {bs : List Bracket} {close : Token} {more : List Token} (front rest : List Token) → is_closing b close.kind ≡ true → more ≡ front ++ rest → AreValues (place_of stop bs) front rest → Behind stop bs rest → Behind stop (b ∷ bs) (close ∷ more)
+  at_close : {b : Bracket} {bs : List Bracket} {close : Token} {more : List Token} (front rest : List Token)
+      → is_closing b close.kind ≡ true → more ≡ front ++ rest → AreValues (place_of stop bs) front rest → Behind stop bs rest
+      → Behind stop (b ∷ bs) (close ∷ more)
 
 record Unwound (stop : Stop) (bs : List Bracket) (ts : List Token) : Type 0 where
   front : List Token
@@ -99,7 +114,8 @@ record Unwound (stop : Stop) (bs : List Bracket) (ts : List Token) : Type 0 wher
   values : AreValues (place_of stop bs) front rest
   behind : Behind stop bs rest
 
-add_piece : (stop : Stop) (bs : List Bracket) (t : Token) (ts : List Token) → value_ends_before (place_of stop bs) t.kind ≡ false → opened_by t.kind ≡ None → Unwound stop bs ts → Unwound stop bs (t ∷ ts)
+add_piece : (stop : Stop) (bs : List Bracket) (t : Token) (ts : List Token) → value_ends_before (place_of stop bs) t.kind ≡ false
+    → opened_by t.kind ≡ None → Unwound stop bs ts → Unwound stop bs (t ∷ ts)
 add_piece stop bs t ts e none u = record {
   front = t ∷ u.front;
   rest = u.rest;
@@ -108,7 +124,8 @@ add_piece stop bs t ts e none u = record {
   behind = u.behind;
 }
 
-add_block : (stop : Stop) (bs : List Bracket) (b : Bracket) (t : Token) (ts front rest : List Token) → value_ends_before (place_of stop bs) t.kind ≡ false → opened_by t.kind ≡ Some b
+add_block : (stop : Stop) (bs : List Bracket) (b : Bracket) (t : Token) (ts front rest : List Token)
+    → value_ends_before (place_of stop bs) t.kind ≡ false → opened_by t.kind ≡ Some b
     → ts ≡ front ++ rest → AreValues (inside b) front rest → Behind stop (b ∷ bs) rest → Unwound stop bs (t ∷ ts)
 add_block stop bs b t ts front _ e opens is own at_end = record {
   front = t ∷ front;
@@ -120,17 +137,21 @@ add_block stop bs b t ts front _ e opens is own at_end = record {
 add_block stop bs b t ts front _ e opens is own (at_close {close = close} {more = more} outer rest closes whole values behind) = record {
   front = t ∷ (front ++ close ∷ outer);
   rest = rest;
-  is = ap (λ (xs : List Token). t ∷ xs) (is ∙ ap (λ (xs : List Token). front ++ close ∷ xs) whole ∙ sym (append_assoc front (close ∷ outer) rest));
-  values = block_and t close front outer b refl e opens (subst (λ (xs : List Token). AreValues (inside b) front (close ∷ xs)) whole own) closes values;
+  is = ap (λ (xs : List Token). t ∷ xs)
+      (is ∙ ap (λ (xs : List Token). front ++ close ∷ xs) whole ∙ sym (append_assoc front (close ∷ outer) rest));
+  values = block_and t close front outer b refl e opens
+      (subst (λ (xs : List Token). AreValues (inside b) front (close ∷ xs)) whole own) closes values;
   behind = behind;
 }
 
-by_opened : (stop : Stop) (bs : List Bracket) (t : Token) (ts : List Token) (o : Option Bracket) → opened_by t.kind ≡ o → value_ends_before (place_of stop bs) t.kind ≡ false
+by_opened : (stop : Stop) (bs : List Bracket) (t : Token) (ts : List Token) (o : Option Bracket) → opened_by t.kind ≡ o
+    → value_ends_before (place_of stop bs) t.kind ≡ false
     → Unwound stop bs ts → ((b : Bracket) → Unwound stop (b ∷ bs) ts) → Unwound stop bs (t ∷ ts)
 by_opened stop bs t ts None e goes plain deeper = add_piece stop bs t ts goes e plain
 by_opened stop bs t ts (Some b) e goes plain deeper = let u = deeper b in add_block stop bs b t ts u.front u.rest goes e u.is u.values u.behind
 
-by_end : (stop : Stop) (bs : List Bracket) (t : Token) (ts : List Token) (x : Bool) → value_ends_before (place_of stop bs) t.kind ≡ x → ((cs : List Bracket) → Unwound stop cs ts) → Unwound stop bs (t ∷ ts)
+by_end : (stop : Stop) (bs : List Bracket) (t : Token) (ts : List Token) (x : Bool) → value_ends_before (place_of stop bs) t.kind ≡ x
+    → ((cs : List Bracket) → Unwound stop cs ts) → Unwound stop bs (t ∷ ts)
 by_end stop bs t ts false e below = by_opened stop bs t ts (opened_by t.kind) refl e (below bs) (λ b. below (b ∷ bs))
 by_end stop [] t ts true e below = record { front = []; rest = t ∷ ts; is = refl; values = no_values; behind = at_stop e }
 by_end stop (b ∷ bs) t ts true e below =
@@ -154,9 +175,14 @@ pub until_splits : (stop : Stop) (ts : List Token) → Splits stop ts
 until_splits stop ts =
     let u = unwind stop ts [] in
     let n = ap (until stop) u.is ∙ until_is stop u.front u.rest u.values (over stop u.rest u.behind) in
-    let front : take (until stop ts) ts ≡ u.front = ap (λ (k : ℕ). take k ts) n ∙ ap (λ (xs : List Token). take (length u.front) xs) u.is ∙ take-append_seam u.front u.rest in
-    let rest : drop (until stop ts) ts ≡ u.rest = ap (λ (k : ℕ). drop k ts) n ∙ ap (λ (xs : List Token). drop (length u.front) xs) u.is ∙ drop-append_seam u.front u.rest in
+    let front : take (until stop ts) ts
+    ≡ u.front = ap (λ (k : ℕ). take k ts) n ∙ ap
+    (λ (xs : List Token). take (length u.front) xs) u.is ∙ take-append_seam u.front u.rest in
+    let rest : drop (until stop ts) ts
+    ≡ u.rest = ap (λ (k : ℕ). drop k ts) n ∙ ap
+    (λ (xs : List Token). drop (length u.front) xs) u.is ∙ drop-append_seam u.front u.rest in
     record {
-      values = subst (λ (xs : List Token). AreValues (outside stop) xs (drop (until stop ts) ts)) (sym front) (subst (AreValues (outside stop) u.front) (sym rest) u.values);
+      values = subst (λ (xs : List Token). AreValues (outside stop) xs (drop (until stop ts) ts)) (sym front)
+          (subst (AreValues (outside stop) u.front) (sym rest) u.values);
       stopped = subst (EndsBefore (outside stop)) (sym rest) (over stop u.rest u.behind);
     }

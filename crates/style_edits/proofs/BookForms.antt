@@ -1,5 +1,6 @@
 -- Entries that take each other's places in a book.
-use Rattle.std.proofs.Common.{eq-eqb, ◌≡◌, ℕ, Bool, true, false, cond, nat_eq, List, [], ◌∷◌, ◌++◌, All, Option, Some, None, refl, sym, ap, subst, ◌∙◌}
+use Rattle.std.proofs.Common.{eq-eqb, ◌≡◌, ℕ, Bool, true, false, cond, nat_eq, List, [], ◌∷◌, ◌++◌, All, Option, Some, None, refl, sym, ap}
+use Rattle.std.proofs.Common.{subst, ◌∙◌}
 use Rattle.std.specs.Prelude.{IsSome, option_to_list}
 use Rattle.std.proofs.lemmas.Bool.{eqb-true}
 use Rattle.std.proofs.lemmas.List.Elements.{All-weaker, All-pop, All-push}
@@ -32,7 +33,8 @@ pub changed_there : (new : SheetEntry) (k : ℕ) (es : List SheetEntry) → IsSo
 changed_there new k [] there = there
 changed_there new k (x ∷ es) there = by (nat_eq new.id x.id) refl there (changed_there new k es)
   where
-    keep : (c : Bool) → IsSome (cond c (Some x) (entry_of k es)) → (IsSome (entry_of k es) → IsSome (entry_of k (book_changed new es))) → IsSome (cond c (Some x) (entry_of k (book_changed new es)))
+    keep : (c : Bool) → IsSome (cond c (Some x) (entry_of k es)) → (IsSome (entry_of k es) → IsSome (entry_of k (book_changed new es)))
+        → IsSome (cond c (Some x) (entry_of k (book_changed new es)))
     keep true there rest = refl
     keep false there rest = rest there
 
@@ -40,7 +42,8 @@ changed_there new k (x ∷ es) there = by (nat_eq new.id x.id) refl there (chang
     own true there = refl
     own false there = there
 
-    by : (b : Bool) → nat_eq new.id x.id ≡ b → IsSome (cond (nat_eq k x.id) (Some x) (entry_of k es)) → (IsSome (entry_of k es) → IsSome (entry_of k (book_changed new es)))
+    by : (b : Bool) → nat_eq new.id x.id ≡ b → IsSome (cond (nat_eq k x.id) (Some x) (entry_of k es))
+        → (IsSome (entry_of k es) → IsSome (entry_of k (book_changed new es)))
         → IsSome (entry_of k (cond b (new ∷ es) (x ∷ book_changed new es)))
     by true is there rest =
         let same : new.id ≡ x.id = eqb-true new.id x.id is in
@@ -48,15 +51,18 @@ changed_there new k (x ∷ es) there = by (nat_eq new.id x.id) refl there (chang
     by false is there rest = keep (nat_eq k x.id) there rest
 
 -- an entry in the place of another, and that one back
-pub changed_back : (old new : SheetEntry) (es : List SheetEntry) → new.id ≡ old.id → entry_of old.id es ≡ Some old → book_changed old (book_changed new es) ≡ es
+pub changed_back : (old new : SheetEntry) (es : List SheetEntry) → new.id ≡ old.id → entry_of old.id es ≡ Some old
+    → book_changed old (book_changed new es) ≡ es
 changed_back old new [] same there = refl
 changed_back old new (x ∷ es) same there =
-    ap (λ (n : ℕ). book_changed old (cond (nat_eq n x.id) (new ∷ es) (x ∷ book_changed new es))) same ∙ by (nat_eq old.id x.id) refl there (changed_back old new es same)
+    ap (λ (n : ℕ). book_changed old (cond (nat_eq n x.id) (new ∷ es) (x ∷ book_changed new es))) same ∙ by (nat_eq old.id x.id) refl there
+    (changed_back old new es same)
   where
     self : nat_eq old.id old.id ≡ true
     self = same_nat old.id
 
-    by : (b : Bool) → nat_eq old.id x.id ≡ b → cond b (Some x) (entry_of old.id es) ≡ Some old → (entry_of old.id es ≡ Some old → book_changed old (book_changed new es) ≡ es)
+    by : (b : Bool) → nat_eq old.id x.id ≡ b → cond b (Some x) (entry_of old.id es) ≡ Some old
+        → (entry_of old.id es ≡ Some old → book_changed old (book_changed new es) ≡ es)
         → book_changed old (cond b (new ∷ es) (x ∷ book_changed new es)) ≡ x ∷ es
     by true is here rest =
         let own : x ≡ old = cc in
@@ -64,13 +70,16 @@ changed_back old new (x ∷ es) same there =
         ∙ ap (λ (c : Bool). cond c (old ∷ es) (new ∷ book_changed old es)) self
         ∙ ap (λ (e : SheetEntry). e ∷ es) (sym own)
     by false is here rest =
-        ap (λ (c : Bool). cond c (old ∷ book_changed new es) (x ∷ book_changed old (book_changed new es))) is ∙ ap (λ (xs : List SheetEntry). x ∷ xs) (rest here)
+        ap (λ (c : Bool). cond c (old ∷ book_changed new es) (x ∷ book_changed old (book_changed new es))) is ∙ ap
+        (λ (xs : List SheetEntry). x ∷ xs) (rest here)
 
-pub entry_changed : (new : SheetEntry) (es : List SheetEntry) → IsSome (entry_of new.id es) → entry_of new.id (book_changed new es) ≡ Some new
+pub entry_changed : (new : SheetEntry) (es : List SheetEntry) → IsSome (entry_of new.id es)
+    → entry_of new.id (book_changed new es) ≡ Some new
 entry_changed new [] there = absurd (cc)
 entry_changed new (x ∷ es) there = by (nat_eq new.id x.id) refl there (entry_changed new es)
   where
-    by : (b : Bool) → nat_eq new.id x.id ≡ b → IsSome (cond b (Some x) (entry_of new.id es)) → (IsSome (entry_of new.id es) → entry_of new.id (book_changed new es) ≡ Some new)
+    by : (b : Bool) → nat_eq new.id x.id ≡ b → IsSome (cond b (Some x) (entry_of new.id es))
+        → (IsSome (entry_of new.id es) → entry_of new.id (book_changed new es) ≡ Some new)
         → entry_of new.id (cond b (new ∷ es) (x ∷ book_changed new es)) ≡ Some new
     by true is there rest = ap (λ (c : Bool). cond c (Some new) (entry_of new.id es)) (same_nat new.id)
     by false is there rest = ap (λ (c : Bool). cond c (Some x) (entry_of new.id (book_changed new es))) is ∙ rest there
@@ -79,36 +88,46 @@ pub removed_none : (id : ℕ) (es : List SheetEntry) → entry_of id es ≡ None
 removed_none id [] none = refl
 removed_none id (x ∷ es) none = by (nat_eq id x.id) none (removed_none id es)
   where
-    by : (b : Bool) → cond b (Some x) (entry_of id es) ≡ None → (entry_of id es ≡ None → removed id es ≡ es) → cond b es (x ∷ removed id es) ≡ x ∷ es
+    by : (b : Bool) → cond b (Some x) (entry_of id es) ≡ None → (entry_of id es ≡ None → removed id es ≡ es)
+        → cond b es (x ∷ removed id es) ≡ x ∷ es
     by true none rest = absurd (none_some x (sym none))
     by false none rest = ap (λ (xs : List SheetEntry). x ∷ xs) (rest none)
 
 -- ---- old entries
 
-pub restored_push : (olds : List SheetEntry) (old : SheetEntry) (book : List SheetEntry) → olds_restored (olds ++ old ∷ []) book ≡ olds_restored olds (book_changed old book)
+pub restored_push : (olds : List SheetEntry) (old : SheetEntry) (book : List SheetEntry)
+    → olds_restored (olds ++ old ∷ []) book ≡ olds_restored olds (book_changed old book)
 restored_push [] old book = refl
 restored_push (x ∷ olds) old book = ap (book_changed x) (restored_push olds old book)
 
 pub olds_stay : (new : SheetEntry) (book olds : List SheetEntry) → All (IsOld book) olds → All (IsOld (book_changed new book)) olds
-olds_stay new book olds all = All-weaker (IsOld book) (IsOld (book_changed new book)) (λ e h. record { entry = h.entry; there = changed_there new e.id book h.there }) olds all
+olds_stay new book olds all = All-weaker (IsOld book) (IsOld (book_changed new book))
+    (λ e h. record { entry = h.entry; there = changed_there new e.id book h.there }) olds all
 
 -- the last old entry goes back
-pub olds_popped : (olds rest : List SheetEntry) (old : SheetEntry) (book : List SheetEntry) → olds ≡ rest ++ option_to_list (Some old) → All (IsOld book) olds → All (IsOld book) rest × IsOld book old
+pub olds_popped : (olds rest : List SheetEntry) (old : SheetEntry) (book : List SheetEntry) → olds ≡ rest ++ option_to_list (Some old)
+    → All (IsOld book) olds → All (IsOld book) rest × IsOld book old
 olds_popped olds rest old book is all = All-pop (IsOld book) olds rest (Some old) is all
 
-pub one_restored : (olds rest : List SheetEntry) (old : SheetEntry) (book next total : List SheetEntry) → olds ≡ rest ++ option_to_list (Some old) → next ≡ book_changed old book → olds_restored olds book ≡ total → olds_restored rest next ≡ total
-one_restored olds rest old book next total is new so_far = ap (olds_restored rest) new ∙ sym (restored_push rest old book) ∙ ap (λ (xs : List SheetEntry). olds_restored xs book) (sym is) ∙ so_far
+pub one_restored : (olds rest : List SheetEntry) (old : SheetEntry) (book next total : List SheetEntry)
+    → olds ≡ rest ++ option_to_list (Some old) → next ≡ book_changed old book → olds_restored olds book ≡ total
+    → olds_restored rest next ≡ total
+one_restored olds rest old book next total is new so_far = ap (olds_restored rest) new ∙ sym (restored_push rest old book) ∙ ap
+    (λ (xs : List SheetEntry). olds_restored xs book) (sym is) ∙ so_far
 
 -- an entry that went in, and the old one behind the others
-pub olds_pushed : (new old : SheetEntry) (book next olds more : List SheetEntry) → next ≡ book_changed new book → IsOld book old → more ≡ olds ++ old ∷ [] → All (IsOld book) olds → All (IsOld next) more
+pub olds_pushed : (new old : SheetEntry) (book next olds more : List SheetEntry) → next ≡ book_changed new book → IsOld book old
+    → more ≡ olds ++ old ∷ [] → All (IsOld book) olds → All (IsOld next) more
 olds_pushed new old book next olds more is own pushed all =
     subst (λ (b : List SheetEntry). All (IsOld b) more) (sym is)
     (olds_stay new book more (subst (All (IsOld book)) (sym pushed) (All-push (IsOld book) olds old all own)))
 
-pub pushed_restored : (new old : SheetEntry) (book next olds more : List SheetEntry) → next ≡ book_changed new book → new.id ≡ old.id → entry_of old.id book ≡ Some old → more ≡ olds ++ old ∷ [] → olds_restored more next ≡ olds_restored olds book
+pub pushed_restored : (new old : SheetEntry) (book next olds more : List SheetEntry) → next ≡ book_changed new book → new.id ≡ old.id
+    → entry_of old.id book ≡ Some old → more ≡ olds ++ old ∷ [] → olds_restored more next ≡ olds_restored olds book
 pushed_restored new old book next olds more is same there pushed =
     ap (λ (xs : List SheetEntry). olds_restored xs next) pushed ∙ restored_push olds old next
-    ∙ ap (λ (b : List SheetEntry). olds_restored olds (book_changed old b)) is ∙ ap (olds_restored olds) (changed_back old new book same there)
+    ∙ ap (λ (b : List SheetEntry). olds_restored olds (book_changed old b)) is ∙ ap (olds_restored olds)
+    (changed_back old new book same there)
 
 -- one entry in the place of another in a book
 pub record IsSwap (book next : List SheetEntry) (new old : SheetEntry) : Type 0 where
@@ -117,23 +136,33 @@ pub record IsSwap (book next : List SheetEntry) (new old : SheetEntry) : Type 0 
   pub there : entry_of old.id book ≡ Some old
   pub is : next ≡ book_changed new book
 
-pub swapped : (book next : List SheetEntry) (new e old : SheetEntry) → IsEntry e → entry_of e.id book ≡ Some e → new.id ≡ e.id → entry_of new.id book ≡ Some old → next ≡ book_changed new book → IsSwap book next new old
+pub swapped : (book next : List SheetEntry) (new e old : SheetEntry) → IsEntry e → entry_of e.id book ≡ Some e → new.id ≡ e.id
+    → entry_of new.id book ≡ Some old → next ≡ book_changed new book → IsSwap book next new old
 swapped book next new e old entry there same found is =
     let both : Some e ≡ Some old = sym there ∙ ap (λ (k : ℕ). entry_of k book) (sym same) ∙ found in
     let one : e ≡ old = cc in
-    let own : IsSwap book next new e = record { own = record { entry = entry; there = some_there (entry_of e.id book) e there }; same = same; there = there; is = is } in
+    let own : IsSwap book next new e = record {
+      own = record { entry = entry; there = some_there (entry_of e.id book) e there };
+      same = same;
+      there = there;
+      is = is;
+    } in
     subst (IsSwap book next new) one own
 
-pub swap_olds : (book next : List SheetEntry) (new old : SheetEntry) (olds more : List SheetEntry) → IsSwap book next new old → more ≡ olds ++ old ∷ [] → All (IsOld book) olds → All (IsOld next) more
+pub swap_olds : (book next : List SheetEntry) (new old : SheetEntry) (olds more : List SheetEntry) → IsSwap book next new old
+    → more ≡ olds ++ old ∷ [] → All (IsOld book) olds → All (IsOld next) more
 swap_olds book next new old olds more s pushed all = olds_pushed new old book next olds more s.is s.own pushed all
 
-pub swap_restored : (book next : List SheetEntry) (new old : SheetEntry) (olds more : List SheetEntry) → IsSwap book next new old → more ≡ olds ++ old ∷ [] → olds_restored more next ≡ olds_restored olds book
+pub swap_restored : (book next : List SheetEntry) (new old : SheetEntry) (olds more : List SheetEntry) → IsSwap book next new old
+    → more ≡ olds ++ old ∷ [] → olds_restored more next ≡ olds_restored olds book
 swap_restored book next new old olds more s pushed = pushed_restored new old book next olds more s.is s.same s.there pushed
 
-pub swap_there : (book next : List SheetEntry) (new old again : SheetEntry) → IsSwap book next new old → again ≡ old → IsSome (entry_of again.id next)
+pub swap_there : (book next : List SheetEntry) (new old again : SheetEntry) → IsSwap book next new old → again ≡ old
+    → IsSome (entry_of again.id next)
 swap_there book next new old again s is =
     subst (λ (e : SheetEntry). IsSome (entry_of e.id next)) (sym is)
     (subst (λ (b : List SheetEntry). IsSome (entry_of old.id b)) (sym s.is) (changed_there new old.id book s.own.there))
 
-pub swap_back : (book next last : List SheetEntry) (new old again : SheetEntry) → IsSwap book next new old → again ≡ old → last ≡ book_changed again next → last ≡ book
+pub swap_back : (book next last : List SheetEntry) (new old again : SheetEntry) → IsSwap book next new old → again ≡ old
+    → last ≡ book_changed again next → last ≡ book
 swap_back book next last new old again s is back = back ∙ (λ i. book_changed (is i) (s.is i)) ∙ changed_back old new book s.same s.there

@@ -10,11 +10,14 @@ use Rattle.style_edits.specs.Edits.{splice_at}
 use Rattle.style_edits.proofs.BookForms.{entry_id, entry_again, some_there}
 
 -- a sheet that was found under its id, spliced, has that id
-pub own_there : (id : ℕ) (book : List SheetEntry) (e new : SheetEntry) → entry_of id book ≡ Some e → new.id ≡ e.id → IsSome (entry_of new.id book)
+pub own_there : (id : ℕ) (book : List SheetEntry) (e new : SheetEntry) → entry_of id book ≡ Some e → new.id ≡ e.id
+    → IsSome (entry_of new.id book)
 own_there id book e new found is = some_there (entry_of new.id book) e (ap (λ (k : ℕ). entry_of k book) is ∙ entry_again id book e found)
 
-pub own_back : (s : Splice) (book : List SheetEntry) (e : SheetEntry) (back : Splice) (text : List ℕ) → entry_of s.sheet book ≡ Some e → text ≡ s.text
+pub own_back : (s : Splice) (book : List SheetEntry) (e : SheetEntry) (back : Splice) (text : List ℕ) → entry_of s.sheet book ≡ Some e
+    → text ≡ s.text
     → back ≡ back_in (splice_at e (range s.start s.end) text) e → back ≡ back_splice s book
 own_back s book e back text found same is =
     let id = entry_id s.sheet book e found in
-    is ∙ (λ i. record { sheet = id i; start = s.start; end = s.start + length (same i); text = slice_range e.text s.start s.end }) ∙ ap (back_by s) (sym found)
+    is ∙ (λ i. record { sheet = id i; start = s.start; end = s.start + length (same i); text = slice_range e.text s.start s.end }) ∙ ap
+    (back_by s) (sym found)

@@ -1,5 +1,6 @@
 -- What an edit finds can be made, and the splices that edits answer lead back.
-use Rattle.std.proofs.Common.{◌≡◌, ℕ, ◌≤◌, ◌^◌, nat_le, nat_eq, Bool, true, false, cond, List, [], ◌∷◌, ◌++◌, length, All, Option, Some, None, Ok, Err, refl, sym, ap, subst, ◌∙◌, arith}
+use Rattle.std.proofs.Common.{◌≡◌, ℕ, ◌≤◌, ◌^◌, nat_le, nat_eq, Bool, true, false, cond, List, [], ◌∷◌, ◌++◌, length, All, Option, Some}
+use Rattle.std.proofs.Common.{None, Ok, Err, refl, sym, ap, subst, ◌∙◌, arith}
 use Rattle.std.specs.Prelude.{IfSome, is_some, reverse}
 use Rattle.std.specs.Str.{IsUtf8}
 use Rattle.std.proofs.lemmas.Bool.Decides.{nat_tests}
@@ -22,7 +23,10 @@ use Rattle.style_edits.specs.declared.faults.SheetFault.TheVariants.{BadText, Ba
 use Rattle.style_edits.specs.declared.lines.LineRange.{LineRange}
 use Rattle.style_edits.specs.declared.splice.Splice.{Splice}
 use Rattle.style_edits.specs.Splices.{spliced, after_splice, back_splice, after_splices, TakesSplice}
-use Rattle.style_edits.specs.Edits.{HasText, Found, EditsOutcome, splice_at, placed_text, body_at, prelude_at, place_at, style_by, style_in, selector_by, selector_in, whole_range, text_in, put_by, added_by, rule_in, mutable, client_by, client_sheet, found_by, style_splice, selector_splice, text_splice, rule_splice, edited, with_back, go_on, styles_edited}
+use Rattle.style_edits.specs.Edits.{HasText, Found, EditsOutcome, splice_at, placed_text, body_at, prelude_at, place_at, style_by, style_in}
+use Rattle.style_edits.specs.Edits.{selector_by, selector_in, whole_range, text_in, put_by, added_by, rule_in, mutable, client_by}
+use Rattle.style_edits.specs.Edits.{client_sheet, found_by, style_splice, selector_splice, text_splice, rule_splice, edited, with_back}
+use Rattle.style_edits.specs.Edits.{go_on, styles_edited}
 use Rattle.style_edits.proofs.BookForms.{entry_again}
 use Rattle.style_edits.proofs.LineForms.{body_range, prelude_range, place_range, whole_usable}
 use Rattle.style_edits.proofs.SpliceForms.{leads_back, stored_after}
@@ -32,23 +36,33 @@ no_splice f s e = absurd (cc)
 
 stored_of : (id : ℕ) (book : List SheetEntry) (e : SheetEntry) → entry_of id book ≡ Some e → All IsStored book → IsStored e
 stored_of id [] e h all = let wrong : ◌≡◌ {A = Option SheetEntry} None (Some e) = h in absurd (cc)
-stored_of id (x ∷ book) e h all = by (nat_eq id x.id) h (All-head IsStored x book all) (λ k. stored_of id book e k (All-tail IsStored x book all))
+stored_of id (x ∷ book) e h all = by (nat_eq id x.id) h (All-head IsStored x book all)
+    (λ k. stored_of id book e k (All-tail IsStored x book all))
   where
     by : (b : Bool) → cond b (Some x) (entry_of id book) ≡ Some e → IsStored x → (entry_of id book ≡ Some e → IsStored e) → IsStored e
     by true k own rest = let same : x ≡ e = cc in subst IsStored same own
     by false k own rest = rest k
 
 -- a text that goes into the place of a part
-placed_takes : (book : List SheetEntry) (e : SheetEntry) (part : Range) (text : List ℕ) (s : Splice) → entry_of e.id book ≡ Some e → IsStored e → IsRangeOf e.text part → IsUtf8 text → placed_text e part text ≡ Ok s → TakesSplice s book
+placed_takes : (book : List SheetEntry) (e : SheetEntry) (part : Range) (text : List ℕ) (s : Splice) → entry_of e.id book ≡ Some e
+    → IsStored e → IsRangeOf e.text part → IsUtf8 text → placed_text e part text ≡ Ok s → TakesSplice s book
 placed_takes book e part text s found stored r utf8 h = by (nat_le (length (spliced e.text part.start part.end text)) (2 ^ 24)) refl h
   where
-    short : nat_le (length (spliced e.text part.start part.end text)) (2 ^ 24) ≡ true → length (spliced e.text part.start part.end text) ≤ 2 ^ 24
+    short : nat_le (length (spliced e.text part.start part.end text)) (2 ^ 24) ≡ true
+        → length (spliced e.text part.start part.end text) ≤ 2 ^ 24
     short is = grind (arith, nat_tests, is)
 
-    by : (b : Bool) → nat_le (length (spliced e.text part.start part.end text)) (2 ^ 24) ≡ b → ◌≡◌ {A = Found} (cond b (Ok (splice_at e part text)) (Err TooBig)) (Ok s) → TakesSplice s book
+    by : (b : Bool) → nat_le (length (spliced e.text part.start part.end text)) (2 ^ 24) ≡ b
+        → ◌≡◌ {A = Found} (cond b (Ok (splice_at e part text)) (Err TooBig)) (Ok s) → TakesSplice s book
     by true is k =
         let same : splice_at e part text ≡ s = cc in
-        let own : TakesSplice (splice_at e part text) book = record { sheet = e; found = found; stored = stored; fits = record { is = r; short = short is }; text = utf8 } in
+        let own : TakesSplice (splice_at e part text) book = record {
+          sheet = e;
+          found = found;
+          stored = stored;
+          fits = record { is = r; short = short is };
+          text = utf8;
+        } in
         subst (λ (x : Splice). TakesSplice x book) same own
     by false is k = absurd (no_splice TooBig s k)
 
@@ -58,30 +72,38 @@ sealed_takes false rest f s e = absurd (no_splice f s e)
 
 -- what an edit of one sheet finds can be made
 abbrev Takes : (SheetEntry → Found) → Type 0
-Takes edit = (book : List SheetEntry) (e : SheetEntry) (s : Splice) → entry_of e.id book ≡ Some e → IsStored e → edit e ≡ Ok s → TakesSplice s book
+Takes edit = (book : List SheetEntry) (e : SheetEntry) (s : Splice) → entry_of e.id book ≡ Some e → IsStored e → edit e ≡ Ok s
+    → TakesSplice s book
 
 style_takes : (x : StyleEdit) → IsUtf8 x.text → Takes (style_in x)
-style_takes x utf8 book e s found stored h = by (body_at e.text x.range) (body_range e e.text x.range (body_at e.text x.range) refl stored.utf8 refl) h
+style_takes x utf8 book e s found stored h = by (body_at e.text x.range)
+    (body_range e e.text x.range (body_at e.text x.range) refl stored.utf8 refl) h
   where
     by : (o : Option Range) → IfSome o (IsRangeOf e.text) → style_by x e o ≡ Ok s → TakesSplice s book
     by None r k = absurd (cc)
-    by (Some part) r k = placed_takes book e part x.text s found stored r utf8 (sealed_takes (is_sealed x.text) (placed_text e part x.text) BadText s k)
+    by (Some part) r k = placed_takes book e part x.text s found stored r utf8
+        (sealed_takes (is_sealed x.text) (placed_text e part x.text) BadText s k)
 
 selector_takes : (lines : LineRange) (text : List ℕ) → IsUtf8 text → Takes (selector_in lines text)
-selector_takes lines text utf8 book e s found stored h = by (prelude_at e.text lines) (prelude_range e e.text lines (prelude_at e.text lines) refl stored.utf8 refl) h
+selector_takes lines text utf8 book e s found stored h = by (prelude_at e.text lines)
+    (prelude_range e e.text lines (prelude_at e.text lines) refl stored.utf8 refl) h
   where
     by : (o : Option Range) → IfSome o (IsRangeOf e.text) → selector_by text e o ≡ Ok s → TakesSplice s book
     by None r k = absurd (cc)
     by (Some part) r k =
-        let inside = sealed_takes (is_sealed text) (cond (is_some (selectors_of text)) (placed_text e part text) (Err BadSelector)) BadText s k in
-        placed_takes book e part text s found stored r utf8 (sealed_takes (is_some (selectors_of text)) (placed_text e part text) BadSelector s inside)
+        let inside = sealed_takes (is_sealed text)
+        (cond (is_some (selectors_of text)) (placed_text e part text) (Err BadSelector)) BadText s k in
+        placed_takes book e part text s found stored r utf8
+        (sealed_takes (is_some (selectors_of text)) (placed_text e part text) BadSelector s inside)
 
 text_takes : (text : List ℕ) → IsUtf8 text → Takes (text_in text)
-text_takes text utf8 book e s found stored h = placed_takes book e (whole_range e.text) text s found stored (whole_usable e.text e.text (whole_range e.text) refl stored.utf8 refl) utf8 h
+text_takes text utf8 book e s found stored h = placed_takes book e (whole_range e.text) text s found stored
+    (whole_usable e.text e.text (whole_range e.text) refl stored.utf8 refl) utf8 h
 
 rule_takes : (lines : LineRange) (text : List ℕ) → IsUtf8 text → Takes (rule_in lines text)
 rule_takes lines text utf8 book e s found stored h =
-    by (lone_rule text) (place_at e.text lines) (place_range e e.text lines (place_at e.text lines) refl stored.utf8 refl) (sealed_takes (is_sealed text) (added_by text e (place_at e.text lines) (lone_rule text)) BadText s h)
+    by (lone_rule text) (place_at e.text lines) (place_range e e.text lines (place_at e.text lines) refl stored.utf8 refl)
+    (sealed_takes (is_sealed text) (added_by text e (place_at e.text lines) (lone_rule text)) BadText s h)
   where
     put : (o : Option Range) → IfSome o (IsRangeOf e.text) → put_by text e o ≡ Ok s → TakesSplice s book
     put None r k = absurd (cc)
@@ -93,7 +115,8 @@ rule_takes lines text utf8 book e s found stored h =
     by lone.Style o r k = put o r k
 
 -- and so what it finds in a book
-client_takes : (edit : SheetEntry → Found) (id : ℕ) (book : List SheetEntry) (s : Splice) → Takes edit → All IsStored book → found_by edit (client_sheet id book) ≡ Ok s → TakesSplice s book
+client_takes : (edit : SheetEntry → Found) (id : ℕ) (book : List SheetEntry) (s : Splice) → Takes edit → All IsStored book
+    → found_by edit (client_sheet id book) ≡ Ok s → TakesSplice s book
 client_takes edit id book s takes all h = by (entry_of id book) refl h
   where
     at : (e : SheetEntry) (origin : Origin) → entry_of id book ≡ Some e → found_by edit (mutable e origin) ≡ Ok s → TakesSplice s book
@@ -104,16 +127,20 @@ client_takes edit id book s takes all h = by (entry_of id book) refl h
     by None found k = absurd (cc)
     by (Some e) found k = at e e.origin found k
 
-pub style_found : (x : StyleEdit) (book : List SheetEntry) (s : Splice) → All IsStored book → IsUtf8 x.text → style_splice x book ≡ Ok s → TakesSplice s book
+pub style_found : (x : StyleEdit) (book : List SheetEntry) (s : Splice) → All IsStored book → IsUtf8 x.text → style_splice x book ≡ Ok s
+    → TakesSplice s book
 style_found x book s all utf8 h = client_takes (style_in x) x.sheet book s (style_takes x utf8) all h
 
-pub selector_found : (id : ℕ) (lines : LineRange) (text : List ℕ) (book : List SheetEntry) (s : Splice) → All IsStored book → IsUtf8 text → selector_splice id lines text book ≡ Ok s → TakesSplice s book
+pub selector_found : (id : ℕ) (lines : LineRange) (text : List ℕ) (book : List SheetEntry) (s : Splice) → All IsStored book → IsUtf8 text
+    → selector_splice id lines text book ≡ Ok s → TakesSplice s book
 selector_found id lines text book s all utf8 h = client_takes (selector_in lines text) id book s (selector_takes lines text utf8) all h
 
-pub text_found : (id : ℕ) (text : List ℕ) (book : List SheetEntry) (s : Splice) → All IsStored book → IsUtf8 text → text_splice id text book ≡ Ok s → TakesSplice s book
+pub text_found : (id : ℕ) (text : List ℕ) (book : List SheetEntry) (s : Splice) → All IsStored book → IsUtf8 text
+    → text_splice id text book ≡ Ok s → TakesSplice s book
 text_found id text book s all utf8 h = client_takes (text_in text) id book s (text_takes text utf8) all h
 
-pub rule_found : (id : ℕ) (lines : LineRange) (text : List ℕ) (book : List SheetEntry) (s : Splice) → All IsStored book → IsUtf8 text → rule_splice id lines text book ≡ Ok s → TakesSplice s book
+pub rule_found : (id : ℕ) (lines : LineRange) (text : List ℕ) (book : List SheetEntry) (s : Splice) → All IsStored book → IsUtf8 text
+    → rule_splice id lines text book ≡ Ok s → TakesSplice s book
 rule_found id lines text book s all utf8 h = client_takes (rule_in lines text) id book s (rule_takes lines text utf8) all h
 
 -- ---- edits one after the other
@@ -122,7 +149,8 @@ splices_append : (ss ts : List Splice) (book : List SheetEntry) → after_splice
 splices_append [] ts book = refl
 splices_append (s ∷ ss) ts book = splices_append ss ts (after_splice s book)
 
-pub styles_back : (xs : List StyleEdit) (book new : List SheetEntry) (backs : List Splice) → All IsStored book → All HasText xs → styles_edited xs book ≡ Ok (new, backs) → after_splices (reverse backs) new ≡ book
+pub styles_back : (xs : List StyleEdit) (book new : List SheetEntry) (backs : List Splice) → All IsStored book → All HasText xs
+    → styles_edited xs book ≡ Ok (new, backs) → after_splices (reverse backs) new ≡ book
 unfolding styles_edited
 styles_back [] book new backs all texts h =
     let same : ◌≡◌ {A = List SheetEntry × List Splice} (book, []) (new, backs) = cc in
@@ -130,8 +158,10 @@ styles_back [] book new backs all texts h =
 styles_back (x ∷ xs) book new backs all texts h =
     by (style_splice x book) refl h (λ next b stored e. styles_back xs next new b stored (All-tail HasText x xs texts) e)
   where
-    rest_back : (s : Splice) → TakesSplice s book → (o : EditsOutcome) → styles_edited xs (after_splice s book) ≡ o → with_back (back_splice s book) o ≡ Ok (new, backs)
-        → ((b : List Splice) → styles_edited xs (after_splice s book) ≡ Ok (new, b) → after_splices (reverse b) new ≡ after_splice s book) → after_splices (reverse backs) new ≡ book
+    rest_back : (s : Splice) → TakesSplice s book → (o : EditsOutcome) → styles_edited xs (after_splice s book) ≡ o
+        → with_back (back_splice s book) o ≡ Ok (new, backs)
+        → ((b : List Splice) → styles_edited xs (after_splice s book) ≡ Ok (new, b) → after_splices (reverse b) new ≡ after_splice s book)
+        → after_splices (reverse backs) new ≡ book
     rest_back s takes (Err f) is k more = absurd (cc)
     rest_back s takes (Ok r) is k more =
         let same : ◌≡◌ {A = List SheetEntry × List Splice} (r.0, back_splice s book ∷ r.1) (new, backs) = cc in
@@ -148,8 +178,10 @@ styles_back (x ∷ xs) book new backs all texts h =
         done b bs = Ok (b, bs)
 
     by : (found : Found) → style_splice x book ≡ found → go_on (edited book found) (λ next. styles_edited xs next) ≡ Ok (new, backs)
-        → ((next : List SheetEntry) (b : List Splice) → All IsStored next → styles_edited xs next ≡ Ok (new, b) → after_splices (reverse b) new ≡ next) → after_splices (reverse backs) new ≡ book
+        → ((next : List SheetEntry) (b : List Splice) → All IsStored next → styles_edited xs next ≡ Ok (new, b)
+        → after_splices (reverse b) new ≡ next) → after_splices (reverse backs) new ≡ book
     by (Err f) is k more = absurd (cc)
     by (Ok s) is k more =
         let takes = style_found x book s all (All-head HasText x xs texts) is in
-        rest_back s takes (styles_edited xs (after_splice s book)) refl k (λ b e. more (after_splice s book) b (stored_after s book takes all) e)
+        rest_back s takes (styles_edited xs (after_splice s book)) refl k
+        (λ b e. more (after_splice s book) b (stored_after s book takes all) e)

@@ -1,5 +1,6 @@
 -- What stands at lines and columns: bytes on characters' edges are told apart by their positions.
-use Rattle.std.proofs.Common.{eq-eqb, ◌≡◌, ℕ, Bool, true, false, cond, ◌&&◌, nat_eq, List, [], ◌∷◌, map, All, Option, Some, None, refl, sym, ap, subst, ◌∙◌, arith}
+use Rattle.std.proofs.Common.{eq-eqb, ◌≡◌, ℕ, Bool, true, false, cond, ◌&&◌, nat_eq, List, [], ◌∷◌, map, All, Option, Some, None, refl, sym}
+use Rattle.std.proofs.Common.{ap, subst, ◌∙◌, arith}
 use Rattle.std.specs.Prelude.{IfSome}
 use Rattle.std.specs.List.{find}
 use Rattle.std.specs.Str.{IsUtf8, IsCharBoundary}
@@ -65,19 +66,26 @@ same_is a b e =
     let t = eqb-true a.end b.end k.1 in
     λ i. range (s i) (t i)
 
-at_here : (text : List ℕ) (lines : LineRange) (wanted r : Range) → IsAt text lines wanted → IsCut text r → is_same_range wanted r ≡ is_at text lines r
+at_here : (text : List ℕ) (lines : LineRange) (wanted r : Range) → IsAt text lines wanted → IsCut text r
+    → is_same_range wanted r ≡ is_at text lines r
 at_here text lines wanted r at cut =
     agree (is_same_range wanted r) (is_at text lines r)
     (λ e.
     let same : wanted ≡ r = same_is wanted r e in
     subst (λ (x : Range). is_at text lines x ≡ true) same
-    (both (is_position lines.start_line lines.start_column (position_of text wanted.start)) (is_position lines.end_line lines.end_column (position_of text wanted.end))
-    (is_position_at lines.start_line lines.start_column (position_of text wanted.start) at.start) (is_position_at lines.end_line lines.end_column (position_of text wanted.end) at.end)))
+    (both (is_position lines.start_line lines.start_column (position_of text wanted.start))
+    (is_position lines.end_line lines.end_column (position_of text wanted.end))
+    (is_position_at lines.start_line lines.start_column (position_of text wanted.start) at.start)
+    (is_position_at lines.end_line lines.end_column (position_of text wanted.end) at.end)))
     (λ e.
-    let k = and_is (is_position lines.start_line lines.start_column (position_of text r.start)) (is_position lines.end_line lines.end_column (position_of text r.end)) e in
-    let start = one_place text wanted.start r.start at.front cut.0 (at.start ∙ sym (position_is lines.start_line lines.start_column (position_of text r.start) k.0)) in
-    let end = one_place text wanted.end r.end at.back cut.1 (at.end ∙ sym (position_is lines.end_line lines.end_column (position_of text r.end) k.1)) in
-    both (nat_eq wanted.start r.start) (nat_eq wanted.end r.end) (ap (nat_eq wanted.start) (sym start) ∙ same_nat wanted.start) (ap (nat_eq wanted.end) (sym end) ∙ same_nat wanted.end))
+    let k = and_is (is_position lines.start_line lines.start_column (position_of text r.start))
+    (is_position lines.end_line lines.end_column (position_of text r.end)) e in
+    let start = one_place text wanted.start r.start at.front cut.0
+    (at.start ∙ sym (position_is lines.start_line lines.start_column (position_of text r.start) k.0)) in
+    let end = one_place text wanted.end r.end at.back cut.1
+    (at.end ∙ sym (position_is lines.end_line lines.end_column (position_of text r.end) k.1)) in
+    both (nat_eq wanted.start r.start) (nat_eq wanted.end r.end) (ap (nat_eq wanted.start) (sym start) ∙ same_nat wanted.start)
+    (ap (nat_eq wanted.end) (sym end) ∙ same_nat wanted.end))
 
 find_agree : (p q : Range → Bool) (rs : List Range) → All (λ r. p r ≡ q r) rs → find p rs ≡ find q rs
 find_agree p q [] all = refl
@@ -86,15 +94,20 @@ find_agree p q (r ∷ rs) all =
     ∙ ap (λ (o : Option Range). cond (q r) (Some r) o) (find_agree p q rs (All-tail (λ x. p x ≡ q x) r rs all))
 
 -- ranges that can be cut out are found by their bytes
-pub found_at : (text : List ℕ) (lines : LineRange) (wanted : Range) (rs : List Range) → IsAt text lines wanted → All (IsCut text) rs → find (is_same_range wanted) rs ≡ find (is_at text lines) rs
+pub found_at : (text : List ℕ) (lines : LineRange) (wanted : Range) (rs : List Range) → IsAt text lines wanted → All (IsCut text) rs
+    → find (is_same_range wanted) rs ≡ find (is_at text lines) rs
 found_at text lines wanted rs at all =
-    find_agree (is_same_range wanted) (is_at text lines) rs (All-weaker (IsCut text) (λ r. is_same_range wanted r ≡ is_at text lines r) (λ r cut. at_here text lines wanted r at cut) rs all)
+    find_agree (is_same_range wanted) (is_at text lines) rs
+    (All-weaker (IsCut text) (λ r. is_same_range wanted r ≡ is_at text lines r) (λ r cut. at_here text lines wanted r at cut) rs all)
 
-pub none_at : (text : List ℕ) (lines : LineRange) (rs : List Range) → ((r : Range) → IsCharBoundary text r.start → IsCharBoundary text r.end → is_at text lines r ≡ false) → All (IsCut text) rs → None ≡ find (is_at text lines) rs
+pub none_at : (text : List ℕ) (lines : LineRange) (rs : List Range)
+    → ((r : Range) → IsCharBoundary text r.start → IsCharBoundary text r.end → is_at text lines r ≡ false) → All (IsCut text) rs
+    → None ≡ find (is_at text lines) rs
 none_at text lines [] none all = refl
 none_at text lines (r ∷ rs) none all =
     let cut = All-head (IsCut text) r rs all in
-    none_at text lines rs none (All-tail (IsCut text) r rs all) ∙ ap (λ (b : Bool). cond b (Some r) (find (is_at text lines) rs)) (sym (none r cut.0 cut.1))
+    none_at text lines rs none (All-tail (IsCut text) r rs all) ∙ ap (λ (b : Bool). cond b (Some r) (find (is_at text lines) rs))
+    (sym (none r cut.0 cut.1))
 
 -- what is found is one of them
 pub found_is : (P : Range → Type 0) (p : Range → Bool) (rs : List Range) → All P rs → IfSome (find p rs) P
@@ -119,23 +132,27 @@ empties ps = map (λ p. range p p) ps
 pub bodies_usable : (text : List ℕ) → IsUtf8 text → All (IsRangeOf text) (bodies (sheet_of text).rules)
 bodies_usable text utf8 =
     let s = sheet_usable text utf8 in
-    All-map (IsRangeOf text) (λ (r : RuleForm). r.body) (sheet_of text).rules (All-weaker (IsRuleOf text) (λ r. IsRangeOf text r.body) (λ r is. is.body) (sheet_of text).rules s.each)
+    All-map (IsRangeOf text) (λ (r : RuleForm). r.body) (sheet_of text).rules
+    (All-weaker (IsRuleOf text) (λ r. IsRangeOf text r.body) (λ r is. is.body) (sheet_of text).rules s.each)
 
 pub preludes_usable : (text : List ℕ) → IsUtf8 text → All (IsRangeOf text) (preludes (sheet_of text).rules)
 preludes_usable text utf8 =
     let s = sheet_usable text utf8 in
-    All-map (IsRangeOf text) (λ (r : RuleForm). r.prelude) (sheet_of text).rules (All-weaker (IsRuleOf text) (λ r. IsRangeOf text r.prelude) (λ r is. is.prelude) (sheet_of text).rules s.each)
+    All-map (IsRangeOf text) (λ (r : RuleForm). r.prelude) (sheet_of text).rules
+    (All-weaker (IsRuleOf text) (λ r. IsRangeOf text r.prelude) (λ r is. is.prelude) (sheet_of text).rules s.each)
 
 empty_here : (text : List ℕ) (place : ℕ) → IsCharBoundary text place → IsRangeOf text (range place place)
 empty_here text place edge = record { order = omega arith; front = edge; back = edge }
 
 behind_usable : (text : List ℕ) (place : ℕ) (edges : List ℕ) → AreEdgesBehind text place edges → All (IsRangeOf text) (empties edges)
 behind_usable text place [] all = All-nil (IsRangeOf text)
-behind_usable text place (edge ∷ edges) all = All-cons (IsRangeOf text) (range edge edge) (empties edges) (empty_here text edge all.1) (behind_usable text edge edges all.2)
+behind_usable text place (edge ∷ edges) all = All-cons (IsRangeOf text) (range edge edge) (empties edges) (empty_here text edge all.1)
+    (behind_usable text edge edges all.2)
 
 edges_usable : (text : List ℕ) (edges : List ℕ) → AreEdges text edges → All (IsRangeOf text) (empties edges)
 edges_usable text [] all = All-nil (IsRangeOf text)
-edges_usable text (edge ∷ edges) all = All-cons (IsRangeOf text) (range edge edge) (empties edges) (empty_here text edge all.0) (behind_usable text edge edges all.1)
+edges_usable text (edge ∷ edges) all = All-cons (IsRangeOf text) (range edge edge) (empties edges) (empty_here text edge all.0)
+    (behind_usable text edge edges all.1)
 
 pub places_usable : (text : List ℕ) → IsUtf8 text → All (IsRangeOf text) (empties (sheet_of text).places)
 places_usable text utf8 = let s = sheet_usable text utf8 in edges_usable text (sheet_of text).places s.places
@@ -153,62 +170,86 @@ seen_preludes (r ∷ rules) = ap (λ (rs : List Range). r.prelude ∷ rs) (seen_
 
 -- ---- what the code finds in an entry
 
-pub body_found : (e : SheetEntry) (text : List ℕ) (lines : LineRange) (wanted : Range) (rules : List StyleRule) → IsEntry e → text ≡ e.text → IsUtf8 text → IsAt text lines wanted → map rule_seen rules ≡ e.reading.rules
+pub body_found : (e : SheetEntry) (text : List ℕ) (lines : LineRange) (wanted : Range) (rules : List StyleRule) → IsEntry e → text ≡ e.text
+    → IsUtf8 text → IsAt text lines wanted → map rule_seen rules ≡ e.reading.rules
     → find (is_same_range wanted) (map (λ r. r.body) rules) ≡ body_at e.text lines
 body_found e text lines wanted rules own is utf8 at seen =
     let read = ap (λ (x : Sheet). x.rules) own.read in
     let utf : IsUtf8 e.text = subst IsUtf8 is utf8 in
     ap (find (is_same_range wanted)) (seen_bodies rules ∙ ap bodies (seen ∙ read))
-    ∙ found_at e.text lines wanted (bodies (sheet_of e.text).rules) (subst (λ (t : List ℕ). IsAt t lines wanted) is at) (all_cut e.text (bodies (sheet_of e.text).rules) (bodies_usable e.text utf))
+    ∙ found_at e.text lines wanted (bodies (sheet_of e.text).rules) (subst (λ (t : List ℕ). IsAt t lines wanted) is at)
+    (all_cut e.text (bodies (sheet_of e.text).rules) (bodies_usable e.text utf))
 
-pub prelude_found : (e : SheetEntry) (text : List ℕ) (lines : LineRange) (wanted : Range) (rules : List StyleRule) → IsEntry e → text ≡ e.text → IsUtf8 text → IsAt text lines wanted → map rule_seen rules ≡ e.reading.rules
+pub prelude_found : (e : SheetEntry) (text : List ℕ) (lines : LineRange) (wanted : Range) (rules : List StyleRule) → IsEntry e
+    → text ≡ e.text → IsUtf8 text → IsAt text lines wanted → map rule_seen rules ≡ e.reading.rules
     → find (is_same_range wanted) (map (λ r. r.prelude) rules) ≡ prelude_at e.text lines
 prelude_found e text lines wanted rules own is utf8 at seen =
     let read = ap (λ (x : Sheet). x.rules) own.read in
     let utf : IsUtf8 e.text = subst IsUtf8 is utf8 in
     ap (find (is_same_range wanted)) (seen_preludes rules ∙ ap preludes (seen ∙ read))
-    ∙ found_at e.text lines wanted (preludes (sheet_of e.text).rules) (subst (λ (t : List ℕ). IsAt t lines wanted) is at) (all_cut e.text (preludes (sheet_of e.text).rules) (preludes_usable e.text utf))
+    ∙ found_at e.text lines wanted (preludes (sheet_of e.text).rules) (subst (λ (t : List ℕ). IsAt t lines wanted) is at)
+    (all_cut e.text (preludes (sheet_of e.text).rules) (preludes_usable e.text utf))
 
-pub place_found : (e : SheetEntry) (text : List ℕ) (lines : LineRange) (wanted : Range) (places : List ℕ) → IsEntry e → text ≡ e.text → IsUtf8 text → IsAt text lines wanted → places ≡ e.reading.places
+pub place_found : (e : SheetEntry) (text : List ℕ) (lines : LineRange) (wanted : Range) (places : List ℕ) → IsEntry e → text ≡ e.text
+    → IsUtf8 text → IsAt text lines wanted → places ≡ e.reading.places
     → find (is_same_range wanted) (map (λ p. range p p) places) ≡ place_at e.text lines
 place_found e text lines wanted places own is utf8 at seen =
     let read = ap (λ (x : Sheet). x.places) own.read in
     let utf : IsUtf8 e.text = subst IsUtf8 is utf8 in
     ap (λ (ps : List ℕ). find (is_same_range wanted) (empties ps)) (seen ∙ read)
-    ∙ found_at e.text lines wanted (empties (sheet_of e.text).places) (subst (λ (t : List ℕ). IsAt t lines wanted) is at) (all_cut e.text (empties (sheet_of e.text).places) (places_usable e.text utf))
+    ∙ found_at e.text lines wanted (empties (sheet_of e.text).places) (subst (λ (t : List ℕ). IsAt t lines wanted) is at)
+    (all_cut e.text (empties (sheet_of e.text).places) (places_usable e.text utf))
 
 unfoldable pub NoneThere : List ℕ → LineRange → Type 0
 NoneThere text lines = (r : Range) → IsCharBoundary text r.start → IsCharBoundary text r.end → is_at text lines r ≡ false
 
-pub body_none : (e : SheetEntry) (text : List ℕ) (lines : LineRange) → text ≡ e.text → IsUtf8 text → NoneThere text lines → None ≡ body_at e.text lines
+pub body_none : (e : SheetEntry) (text : List ℕ) (lines : LineRange) → text ≡ e.text → IsUtf8 text → NoneThere text lines
+    → None ≡ body_at e.text lines
 unfolding NoneThere
 body_none e text lines is utf8 none =
-    none_at e.text lines (bodies (sheet_of e.text).rules) (subst (λ (t : List ℕ). NoneThere t lines) is none) (all_cut e.text (bodies (sheet_of e.text).rules) (bodies_usable e.text (subst IsUtf8 is utf8)))
+    none_at e.text lines (bodies (sheet_of e.text).rules) (subst (λ (t : List ℕ). NoneThere t lines) is none)
+    (all_cut e.text (bodies (sheet_of e.text).rules) (bodies_usable e.text (subst IsUtf8 is utf8)))
 
-pub prelude_none : (e : SheetEntry) (text : List ℕ) (lines : LineRange) → text ≡ e.text → IsUtf8 text → NoneThere text lines → None ≡ prelude_at e.text lines
+pub prelude_none : (e : SheetEntry) (text : List ℕ) (lines : LineRange) → text ≡ e.text → IsUtf8 text → NoneThere text lines
+    → None ≡ prelude_at e.text lines
 unfolding NoneThere
 prelude_none e text lines is utf8 none =
-    none_at e.text lines (preludes (sheet_of e.text).rules) (subst (λ (t : List ℕ). NoneThere t lines) is none) (all_cut e.text (preludes (sheet_of e.text).rules) (preludes_usable e.text (subst IsUtf8 is utf8)))
+    none_at e.text lines (preludes (sheet_of e.text).rules) (subst (λ (t : List ℕ). NoneThere t lines) is none)
+    (all_cut e.text (preludes (sheet_of e.text).rules) (preludes_usable e.text (subst IsUtf8 is utf8)))
 
-pub place_none : (e : SheetEntry) (text : List ℕ) (lines : LineRange) → text ≡ e.text → IsUtf8 text → NoneThere text lines → None ≡ place_at e.text lines
+pub place_none : (e : SheetEntry) (text : List ℕ) (lines : LineRange) → text ≡ e.text → IsUtf8 text → NoneThere text lines
+    → None ≡ place_at e.text lines
 unfolding NoneThere
 place_none e text lines is utf8 none =
-    none_at e.text lines (empties (sheet_of e.text).places) (subst (λ (t : List ℕ). NoneThere t lines) is none) (all_cut e.text (empties (sheet_of e.text).places) (places_usable e.text (subst IsUtf8 is utf8)))
+    none_at e.text lines (empties (sheet_of e.text).places) (subst (λ (t : List ℕ). NoneThere t lines) is none)
+    (all_cut e.text (empties (sheet_of e.text).places) (places_usable e.text (subst IsUtf8 is utf8)))
 
-found_range : (text : List ℕ) (lines : LineRange) (rs : List Range) (o : Option Range) → o ≡ find (is_at text lines) rs → All (IsRangeOf text) rs → IfSome o (IsRangeOf text)
-found_range text lines rs o e all = subst (λ (x : Option Range). IfSome x (IsRangeOf text)) (sym e) (found_is (IsRangeOf text) (is_at text lines) rs all)
+found_range : (text : List ℕ) (lines : LineRange) (rs : List Range) (o : Option Range) → o ≡ find (is_at text lines) rs
+    → All (IsRangeOf text) rs → IfSome o (IsRangeOf text)
+found_range text lines rs o e all = subst (λ (x : Option Range). IfSome x (IsRangeOf text)) (sym e)
+    (found_is (IsRangeOf text) (is_at text lines) rs all)
 
-pub body_range : (e : SheetEntry) (text : List ℕ) (lines : LineRange) (o : Option Range) → text ≡ e.text → IsUtf8 text → o ≡ body_at e.text lines → IfSome o (IsRangeOf e.text)
-body_range e text lines o is utf8 found = found_range e.text lines (bodies (sheet_of e.text).rules) o found (bodies_usable e.text (subst IsUtf8 is utf8))
+pub body_range : (e : SheetEntry) (text : List ℕ) (lines : LineRange) (o : Option Range) → text ≡ e.text → IsUtf8 text
+    → o ≡ body_at e.text lines → IfSome o (IsRangeOf e.text)
+body_range e text lines o is utf8 found = found_range e.text lines (bodies (sheet_of e.text).rules) o found
+    (bodies_usable e.text (subst IsUtf8 is utf8))
 
-pub prelude_range : (e : SheetEntry) (text : List ℕ) (lines : LineRange) (o : Option Range) → text ≡ e.text → IsUtf8 text → o ≡ prelude_at e.text lines → IfSome o (IsRangeOf e.text)
-prelude_range e text lines o is utf8 found = found_range e.text lines (preludes (sheet_of e.text).rules) o found (preludes_usable e.text (subst IsUtf8 is utf8))
+pub prelude_range : (e : SheetEntry) (text : List ℕ) (lines : LineRange) (o : Option Range) → text ≡ e.text → IsUtf8 text
+    → o ≡ prelude_at e.text lines → IfSome o (IsRangeOf e.text)
+prelude_range e text lines o is utf8 found = found_range e.text lines (preludes (sheet_of e.text).rules) o found
+    (preludes_usable e.text (subst IsUtf8 is utf8))
 
-pub place_range : (e : SheetEntry) (text : List ℕ) (lines : LineRange) (o : Option Range) → text ≡ e.text → IsUtf8 text → o ≡ place_at e.text lines → IfSome o (IsRangeOf e.text)
-place_range e text lines o is utf8 found = found_range e.text lines (empties (sheet_of e.text).places) o found (places_usable e.text (subst IsUtf8 is utf8))
+pub place_range : (e : SheetEntry) (text : List ℕ) (lines : LineRange) (o : Option Range) → text ≡ e.text → IsUtf8 text
+    → o ≡ place_at e.text lines → IfSome o (IsRangeOf e.text)
+place_range e text lines o is utf8 found = found_range e.text lines (empties (sheet_of e.text).places) o found
+    (places_usable e.text (subst IsUtf8 is utf8))
 
 -- a whole_range text can be cut out
 pub whole_usable : (text same : List ℕ) (r : Range) → same ≡ text → IsUtf8 same → r ≡ whole_range same → IsRangeOf text r
 whole_usable text same r is utf8 e =
-    let own : IsRangeOf same (whole_range same) = record { order = omega arith; front = IsCharBoundary-start same utf8; back = IsCharBoundary-end same } in
+    let own : IsRangeOf same (whole_range same) = record {
+      order = omega arith;
+      front = IsCharBoundary-start same utf8;
+      back = IsCharBoundary-end same;
+    } in
     subst (λ (x : Range). IsRangeOf text x) (sym e) (subst (λ (t : List ℕ). IsRangeOf t (whole_range same)) is own)

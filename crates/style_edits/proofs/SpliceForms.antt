@@ -1,5 +1,6 @@
 -- A splice and the one that leads back.
-use Rattle.std.proofs.Common.{All, Bool, true, false, cond, nat_eq, ◌≡◌, ℕ, ◌+◌, ◌-◌, ◌≤◌, ◌^◌, List, [], ◌∷◌, ◌++◌, length, take, drop, Option, Some, refl, sym, ap, subst, ◌∙◌, append_assoc, length-append, length-take, length-drop, arith}
+use Rattle.std.proofs.Common.{All, Bool, true, false, cond, nat_eq, ◌≡◌, ℕ, ◌+◌, ◌-◌, ◌≤◌, ◌^◌, List, [], ◌∷◌, ◌++◌, length, take, drop}
+use Rattle.std.proofs.Common.{Option, Some, refl, sym, ap, subst, ◌∙◌, append_assoc, length-append, length-take, length-drop, arith}
 use Rattle.std.specs.Prelude.{slice_range, IsSomeAnd}
 use Rattle.std.specs.Str.{IsUtf8, IsCharBoundary}
 use Rattle.std.proofs.lemmas.List.{take-append-drop, drop-drop}
@@ -11,7 +12,8 @@ use Rattle.sheet_reader.specs.declared.book.SheetEntry.{SheetEntry}
 use Rattle.sheet_reader.specs.Forms.{range}
 use Rattle.sheet_reader.specs.Books.{IsEntry, IsStored, entry_of, book_changed}
 use Rattle.style_edits.specs.declared.splice.Splice.{Splice}
-use Rattle.style_edits.specs.Splices.{spliced, with_text, spliced_entry, back_in, after_by, after_splice, back_by, back_splice, FitsIn, FitsSplice, TakesSplice}
+use Rattle.style_edits.specs.Splices.{spliced, with_text, spliced_entry, back_in, after_by, after_splice, back_by, back_splice, FitsIn}
+use Rattle.style_edits.specs.Splices.{FitsSplice, TakesSplice}
 use Rattle.style_edits.proofs.BookForms.{entry_id, entry_again, some_there, entry_changed, changed_back}
 
 -- ---- texts
@@ -24,22 +26,27 @@ record Parts (text : List ℕ) (start end : ℕ) : Type 0 where
 
 parts : (text : List ℕ) (start end : ℕ) → start ≤ end → end ≤ length text → Parts text start end
 parts text start end order within =
-    let cut : drop (end - start) (drop start text) ≡ drop end text = drop-drop (end - start) start text ∙ ap (λ (n : ℕ). drop n text) (omega (arith, order)) in
+    let cut : drop (end - start) (drop start text)
+    ≡ drop end text = drop-drop (end - start) start text ∙ ap (λ (n : ℕ). drop n text) (omega (arith, order)) in
     record {
-      whole = sym (take-append-drop start text) ∙ ap (λ (xs : List ℕ). take start text ++ xs) (sym (take-append-drop (end - start) (drop start text)) ∙ ap (λ (xs : List ℕ). slice_range text start end ++ xs) cut);
+      whole = sym (take-append-drop start text) ∙ ap (λ (xs : List ℕ). take start text ++ xs)
+          (sym (take-append-drop (end - start) (drop start text)) ∙ ap (λ (xs : List ℕ). slice_range text start end ++ xs) cut);
       front = omega (arith, length-take start text);
       middle = omega (arith, length-take (end - start) (drop start text), length-drop start text);
     }
 
-seam_drop : (front new rest : List ℕ) (start end : ℕ) → length front ≡ start → end ≡ start + length new → drop end (front ++ (new ++ rest)) ≡ rest
+seam_drop : (front new rest : List ℕ) (start end : ℕ) → length front ≡ start → end ≡ start + length new
+    → drop end (front ++ (new ++ rest)) ≡ rest
 seam_drop front new rest start end len is =
     let whole : front ++ (new ++ rest) ≡ (front ++ new) ++ rest = sym (append_assoc front new rest) in
     let count : end ≡ length (front ++ new) = omega (arith, is, len, length-append front new) in
     (λ i. drop (count i) (whole i)) ∙ drop-append_seam (front ++ new) rest
 
-seam_range : (front new rest : List ℕ) (start end : ℕ) → length front ≡ start → end ≡ start + length new → slice_range (front ++ (new ++ rest)) start end ≡ new
+seam_range : (front new rest : List ℕ) (start end : ℕ) → length front ≡ start → end ≡ start + length new
+    → slice_range (front ++ (new ++ rest)) start end ≡ new
 seam_range front new rest start end len is =
-    let behind : drop start (front ++ (new ++ rest)) ≡ new ++ rest = ap (λ (n : ℕ). drop n (front ++ (new ++ rest))) (sym len) ∙ drop-append_seam front (new ++ rest) in
+    let behind : drop start (front ++ (new ++ rest))
+    ≡ new ++ rest = ap (λ (n : ℕ). drop n (front ++ (new ++ rest))) (sym len) ∙ drop-append_seam front (new ++ rest) in
     let count : end - start ≡ length new = omega (arith, is) in
     (λ i. take (count i) (behind i)) ∙ take-append_seam new rest
 
@@ -47,7 +54,8 @@ seam_take : (front rest : List ℕ) (start : ℕ) → length front ≡ start →
 seam_take front rest start len = ap (λ (n : ℕ). take n (front ++ rest)) (sym len) ∙ take-append_seam front rest
 
 -- the splice back gives the old text
-text_back : (text new : List ℕ) (start end : ℕ) → start ≤ end → end ≤ length text → spliced (spliced text start end new) start (start + length new) (slice_range text start end) ≡ text
+text_back : (text new : List ℕ) (start end : ℕ) → start ≤ end → end ≤ length text
+    → spliced (spliced text start end new) start (start + length new) (slice_range text start end) ≡ text
 text_back text new start end order within =
     let p = parts text start end order within in
     let front = seam_take (take start text) (new ++ drop end text) start p.front in
@@ -55,8 +63,10 @@ text_back text new start end order within =
     (λ i. front i ++ (slice_range text start end ++ behind i)) ∙ sym p.whole
 
 -- and the splice back of that one is the splice again
-again : (text new : List ℕ) (start end : ℕ) → start ≤ end → end ≤ length text → slice_range (spliced text start end new) start (start + length new) ≡ new
-again text new start end order within = let p = parts text start end order within in seam_range (take start text) new (drop end text) start (start + length new) p.front refl
+again : (text new : List ℕ) (start end : ℕ) → start ≤ end → end ≤ length text
+    → slice_range (spliced text start end new) start (start + length new) ≡ new
+again text new start end order within = let p = parts text start end order within in seam_range (take start text) new (drop end text) start
+    (start + length new) p.front refl
 
 -- ---- edges
 
@@ -72,10 +82,13 @@ edges text new start end utf8 utf8_new r =
     let rest = IsUtf8-drop text end utf8 r.back in
     let behind = IsUtf8-append new (drop end text) utf8_new rest in
     let whole = spliced text start end new in
-    let first : IsCharBoundary whole start = subst (IsCharBoundary whole) p.front (IsCharBoundary-at_seam whole (take start text) (new ++ drop end text) refl behind) in
+    let first : IsCharBoundary whole start = subst (IsCharBoundary whole) p.front
+    (IsCharBoundary-at_seam whole (take start text) (new ++ drop end text) refl behind) in
     let count : length (take start text ++ new) ≡ start + length new = omega (arith, length-append (take start text) new, p.front) in
     let last : IsCharBoundary whole (start + length new) =
-    subst (IsCharBoundary whole) count (IsCharBoundary-at_seam whole (take start text ++ new) (drop end text) (sym (append_assoc (take start text) new (drop end text))) rest) in
+    subst (IsCharBoundary whole) count
+    (IsCharBoundary-at_seam whole (take start text ++ new) (drop end text)
+    (sym (append_assoc (take start text) new (drop end text))) rest) in
     record {
       utf8 = IsUtf8-append (take start text) (new ++ drop end text) front behind;
       is = record { order = omega arith; front = first; back = last };
@@ -84,7 +97,8 @@ edges text new start end utf8 utf8_new r =
 
 -- ---- books
 
-entry_back : (s : Splice) (e : SheetEntry) → IsEntry e → IsRangeOf e.text (range s.start s.end) → spliced_entry (back_in s e) (spliced_entry s e) ≡ e
+entry_back : (s : Splice) (e : SheetEntry) → IsEntry e → IsRangeOf e.text (range s.start s.end)
+    → spliced_entry (back_in s e) (spliced_entry s e) ≡ e
 entry_back s e own r =
     let same = text_back e.text s.text s.start s.end r.order r.back.0 in
     ap (λ (text : List ℕ). with_text e text) same ∙ (λ i. record { id = e.id; origin = e.origin; text = e.text; reading = sym own.read i })
@@ -118,11 +132,15 @@ takes_back s book t =
     let own : TakesSplice (back_in s e) (book_changed (spliced_entry s e) book) = record {
       sheet = spliced_entry s e;
       found = m.there;
-      stored = record { entry = record { read = refl; some = t.stored.entry.some; id = t.stored.entry.id; short = t.fits.short }; utf8 = k.utf8 };
+      stored = record {
+        entry = record { read = refl; some = t.stored.entry.some; id = t.stored.entry.id; short = t.fits.short };
+        utf8 = k.utf8;
+      };
       fits = record { is = k.is; short = subst (λ (text : List ℕ). length text ≤ 2 ^ 24) (sym old) t.stored.entry.short };
       text = k.taken;
     } in
-    subst (TakesSplice (back_splice s book)) (sym m.after) (subst (λ (x : Splice). TakesSplice x (book_changed (spliced_entry s e) book)) (sym m.back) own)
+    subst (TakesSplice (back_splice s book)) (sym m.after)
+    (subst (λ (x : Splice). TakesSplice x (book_changed (spliced_entry s e) book)) (sym m.back) own)
 
 pub leads_back : (s : Splice) (book : List SheetEntry) → TakesSplice s book → after_splice (back_splice s book) (after_splice s book) ≡ book
 leads_back s book t =
@@ -149,9 +167,11 @@ back_back s book t =
 -- a book's entries are still such
 changed_stored : (new : SheetEntry) (book : List SheetEntry) → IsStored new → All IsStored book → All IsStored (book_changed new book)
 changed_stored new [] own all = All-nil IsStored
-changed_stored new (x ∷ book) own all = by (nat_eq new.id x.id) (All-head IsStored x book all) (All-tail IsStored x book all) (changed_stored new book own (All-tail IsStored x book all))
+changed_stored new (x ∷ book) own all = by (nat_eq new.id x.id) (All-head IsStored x book all) (All-tail IsStored x book all)
+    (changed_stored new book own (All-tail IsStored x book all))
   where
-    by : (b : Bool) → IsStored x → All IsStored book → All IsStored (book_changed new book) → All IsStored (cond b (new ∷ book) (x ∷ book_changed new book))
+    by : (b : Bool) → IsStored x → All IsStored book → All IsStored (book_changed new book)
+        → All IsStored (cond b (new ∷ book) (x ∷ book_changed new book))
     by true first others rest = All-cons IsStored new book own others
     by false first others rest = All-cons IsStored x (book_changed new book) first rest
 
@@ -159,6 +179,14 @@ pub stored_after : (s : Splice) (book : List SheetEntry) → TakesSplice s book 
 stored_after s book t all =
     let e = t.sheet in
     let k = edges e.text s.text s.start s.end t.stored.utf8 t.text t.fits.is in
-    let new : IsStored (spliced_entry s e) = record { entry = record { read = refl; some = t.stored.entry.some; id = t.stored.entry.id; short = t.fits.short }; utf8 = k.utf8 } in
+    let new : IsStored (spliced_entry s e) = record {
+      entry = record {
+        read = refl;
+        some = t.stored.entry.some;
+        id = t.stored.entry.id;
+        short = t.fits.short;
+      };
+      utf8 = k.utf8;
+    } in
     let m = made s book e t.found in
     subst (All IsStored) (sym m.after) (changed_stored (spliced_entry s e) book new all)

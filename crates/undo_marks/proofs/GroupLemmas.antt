@@ -17,7 +17,8 @@ pub record LastSet {A : Type 0} (vs : List (Vec A Global)) (n : ℕ) (v w : Vec 
   pub old : groups_in vs ≡ v.items ∷ rest
   pub new : groups_in (slice_set vs n w) ≡ w.items ∷ rest
 
-pub last_set : {A : Type 0} (vs : List (Vec A Global)) (n : ℕ) (v w : Vec A Global) → n + 1 ≡ length vs → v ≡ get_or vs n v → LastSet vs n v w
+pub last_set : {A : Type 0} (vs : List (Vec A Global)) (n : ℕ) (v w : Vec A Global) → n + 1 ≡ length vs → v ≡ get_or vs n v
+    → LastSet vs n v w
 last_set [] n v w e is = absurd (omega arith)
 last_set (x ∷ []) zero v w e is = record { rest = []; old = ap (λ (u : Vec _ Global). u.items ∷ []) (sym is); new = refl }
 last_set (x ∷ []) (suc n) v w e is = absurd (omega arith)
@@ -27,7 +28,8 @@ last_set (x ∷ y ∷ ys) (suc n) v w e is =
     record { rest = l.rest ++ x.items ∷ []; old = ap (λ gs. gs ++ x.items ∷ []) l.old; new = ap (λ gs. gs ++ x.items ∷ []) l.new }
 
 -- how many entries a newest group with one more has
-pub entry_count-joined : {A : Type 0} (x : A) (g : List A) (rest gs hs : List (List A)) → gs ≡ g ∷ rest → hs ≡ (g ++ x ∷ []) ∷ rest → entry_count hs ≡ entry_count gs + 1
+pub entry_count-joined : {A : Type 0} (x : A) (g : List A) (rest gs hs : List (List A)) → gs ≡ g ∷ rest → hs ≡ (g ++ x ∷ []) ∷ rest
+    → entry_count hs ≡ entry_count gs + 1
 entry_count-joined x g rest gs hs old new = omega (arith, ap entry_count old, ap entry_count new, length_push g x)
 
 -- a fact at an error, whatever the error

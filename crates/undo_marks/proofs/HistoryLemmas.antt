@@ -1,15 +1,19 @@
 -- Edits that are kept for a history are kept for it after each change.
-use Rattle.std.proofs.Common.{◌≡◌, ◌+◌, ◌==◌, Bool, true, false, not, ◌&&◌, ◌||◌, cond, List, [], ◌∷◌, length, map, reverse, Some, None, refl, sym, ap, ◌∙◌, subst, append_assoc, arith}
+use Rattle.std.proofs.Common.{◌≡◌, ◌+◌, ◌==◌, Bool, true, false, not, ◌&&◌, ◌||◌, cond, List, [], ◌∷◌, length, map, reverse, Some, None}
+use Rattle.std.proofs.Common.{refl, sym, ap, ◌∙◌, subst, append_assoc, arith}
 use Rattle.std.proofs.lemmas.List.{length-map, length-reverse, map-append, reverse-reverse}
 use Rattle.undo_marks.specs.Marks.{Marks, entry_count, onto_newest, handed_out, noted, noted_singly, edited, marked, crossed_over}
-use Rattle.undo_marks.specs.Changes.{HistoryEntry, end_of, after_all, change_on, changes_on, back_all, AllTaken, LeadsOn, LeadHere, LeadFrom, IsHistory, backs_of, again_of, kept_of, KeptFor, AreBacks, IsUndo, IsRedo, IsNoUndo, IsNoRedo, StaysKept, KeepsOn}
+use Rattle.undo_marks.specs.Changes.{HistoryEntry, end_of, after_all, change_on, changes_on, back_all, AllTaken, LeadsOn, LeadHere}
+use Rattle.undo_marks.specs.Changes.{LeadFrom, IsHistory, backs_of, again_of, kept_of, KeptFor, AreBacks, IsUndo, IsRedo, IsNoUndo}
+use Rattle.undo_marks.specs.Changes.{IsNoRedo, StaysKept, KeepsOn}
 use Rattle.undo_marks.proofs.RunLemmas.{undo_group, redo_group, leads_append, leads_end}
 
 -- ---- notes
 
 module _ {A : Type 0} where
   onto_newest-twice : (going : Bool) (past : List (List A)) (x y : A) (ys : List A)
-      → onto_newest (y ∷ ys) (cond going (onto_newest (x ∷ []) past) ((x ∷ []) ∷ past)) ≡ cond going (onto_newest (x ∷ y ∷ ys) past) ((x ∷ y ∷ ys) ∷ past)
+      → onto_newest (y ∷ ys) (cond going (onto_newest (x ∷ []) past) ((x ∷ []) ∷ past))
+      ≡ cond going (onto_newest (x ∷ y ∷ ys) past) ((x ∷ y ∷ ys) ∷ past)
   onto_newest-twice false past x y ys = refl
   onto_newest-twice true [] x y ys = refl
   onto_newest-twice true (g ∷ gs) x y ys = ap (λ l. l ∷ gs) (append_assoc g (x ∷ []) (y ∷ ys))
@@ -23,7 +27,8 @@ module _ {A : Type 0} where
   noted_singly-edited [] m = refl
   noted_singly-edited (x ∷ xs) m = noted_singly-edited xs (noted x m) ∙ edited-noted xs x m
 
-  entry_count-map : {B : Type 0} (f : List A → List B) → ((g : List A) → length (f g) ≡ length g) → (gs : List (List A)) → entry_count (map f gs) ≡ entry_count gs
+  entry_count-map : {B : Type 0} (f : List A → List B) → ((g : List A) → length (f g) ≡ length g) → (gs : List (List A))
+      → entry_count (map f gs) ≡ entry_count gs
   entry_count-map f same [] = refl
   entry_count-map f same (g ∷ gs) = omega (arith, same g, entry_count-map f same gs)
 
@@ -35,12 +40,16 @@ module _ {P E : Type 0} (after : E → P → P) (back : E → P → E) (Takes : 
   -- ---- what is kept
 
   kept-onto_newest : (going : Bool) (past : List (List (HistoryEntry P E))) (c : HistoryEntry P E)
-      → cond going (onto_newest (back c.edit c.before ∷ []) (map (backs_of back) past)) ((back c.edit c.before ∷ []) ∷ map (backs_of back) past) ≡ map (backs_of back) (cond going (onto_newest (c ∷ []) past) ((c ∷ []) ∷ past))
+      → cond going (onto_newest (back c.edit c.before ∷ []) (map (backs_of back) past))
+      ((back c.edit c.before ∷ []) ∷ map (backs_of back) past)
+      ≡ map (backs_of back) (cond going (onto_newest (c ∷ []) past) ((c ∷ []) ∷ past))
   kept-onto_newest false past c = refl
   kept-onto_newest true [] c = refl
-  kept-onto_newest true (g ∷ gs) c = ap (λ l. l ∷ map (backs_of back) gs) (sym (map-append (λ (e : HistoryEntry P E). back e.edit e.before) g (c ∷ [])))
+  kept-onto_newest true (g ∷ gs) c = ap (λ l. l ∷ map (backs_of back) gs)
+      (sym (map-append (λ (e : HistoryEntry P E). back e.edit e.before) g (c ∷ [])))
 
-  noted-kept_of : (m : Marks (HistoryEntry P E)) (c : HistoryEntry P E) → noted (back c.edit c.before) (kept_of back m) ≡ kept_of back (noted c m)
+  noted-kept_of : (m : Marks (HistoryEntry P E)) (c : HistoryEntry P E)
+      → noted (back c.edit c.before) (kept_of back m) ≡ kept_of back (noted c m)
   noted-kept_of m c = λ i. record { past = kept-onto_newest m.going m.past c i; future = []; going = true; crossed = false }
 
   crossed_over-kept_of : (m : Marks (HistoryEntry P E)) → crossed_over (kept_of back m) ≡ kept_of back (crossed_over m)
@@ -56,12 +65,17 @@ module _ {P E : Type 0} (after : E → P → P) (back : E → P → E) (Takes : 
     pub filled : past ≡ [] → ⊥
 
   noted_leads : (going : Bool) (past : List (List (HistoryEntry P E))) (page : P) (e : E) → LeadHere after Takes past page → Takes e page
-      → (let c : HistoryEntry P E = change_on after e page in LeadsOnTo (cond going (onto_newest (c ∷ []) past) ((c ∷ []) ∷ past)) (after e page))
+      → (let c : HistoryEntry P E = change_on after e page in LeadsOnTo (cond going (onto_newest (c ∷ []) past) ((c ∷ []) ∷ past))
+      (after e page))
   noted_leads false past page e h t = record { leads = ((refl, record { taken = t; made = refl }, refl), h); filled = λ n. cc }
   noted_leads true [] page e h t = record { leads = ((refl, record { taken = t; made = refl }, refl), tt); filled = λ n. cc }
   noted_leads true ([] ∷ gs) page e h t = absurd h
   noted_leads true ((y ∷ ys) ∷ gs) page e h t = record {
-    leads = (leads_append after Takes (y ∷ ys) (change_on after e page ∷ []) y.before page (after e page) h.0 (refl, record { taken = t; made = refl }, refl), h.1);
+    leads = (
+      leads_append after Takes (y ∷ ys) (change_on after e page ∷ []) y.before page (after e page) h.0
+          (refl, record { taken = t; made = refl }, refl),
+      h.1,
+    );
     filled = λ n. cc;
   }
 
@@ -74,8 +88,10 @@ module _ {P E : Type 0} (after : E → P → P) (back : E → P → E) (Takes : 
         history = record { past = l.leads; future = tt; going = λ _. l.filled };
       }
 
-  kept_singly : (es : List E) (kept : Marks E) (m : Marks (HistoryEntry P E)) (page : P) → KeptFor after back Takes kept m page → AllTaken after Takes es page
-      → KeptFor after back Takes (noted_singly (back_all after back es page) kept) (noted_singly (changes_on after es page) m) (after_all after es page)
+  kept_singly : (es : List E) (kept : Marks E) (m : Marks (HistoryEntry P E)) (page : P) → KeptFor after back Takes kept m page
+      → AllTaken after Takes es page
+      → KeptFor after back Takes (noted_singly (back_all after back es page) kept) (noted_singly (changes_on after es page) m)
+      (after_all after es page)
   kept_singly [] kept m page k t = k
   kept_singly (e ∷ es) kept m page k t = kept_singly es _ _ (after e page) (kept_noted kept m page e k t.0) t.1
 
@@ -97,10 +113,19 @@ module _ {P E : Type 0} (after : E → P → P) (back : E → P → E) (Takes : 
         through = run.through;
         ends = run.ends;
         kept_on = record {
-          edits = λ i. record { past = map (backs_of back) gs; future = run.gives i ∷ map (again_of back) future; going = false; crossed = crossed };
+          edits = λ i. record {
+            past = map (backs_of back) gs;
+            future = run.gives i ∷ map (again_of back) future;
+            going = false;
+            crossed = crossed;
+          };
           history = record {
             past = h.past.1;
-            future = (subst (λ p. LeadsOn after Takes e.before (e ∷ g) p) end h.past.0, subst (λ p. LeadFrom after Takes future p) end h.future);
+            future = (
+              subst (λ p. LeadsOn after Takes e.before (e ∷ g) p) end h.past.0,
+              subst
+                  (λ p. LeadFrom after Takes future p) end h.future,
+            );
             going = λ t n. cc;
           };
         };
@@ -114,7 +139,8 @@ module _ {P E : Type 0} (after : E → P → P) (back : E → P → E) (Takes : 
   redo_step past ((e ∷ g) ∷ gs) going crossed page es h out =
       let m : Marks (HistoryEntry P E) = record { past = past; future = (e ∷ g) ∷ gs; going = going; crossed = crossed } in
       let first : reverse (again_of back (e ∷ g)) ≡ es = cc in
-      let here : map (λ (c : HistoryEntry P E). c.edit) (e ∷ g) ≡ es = sym (reverse-reverse (map (λ (c : HistoryEntry P E). c.edit) (e ∷ g))) ∙ first in
+      let here : map (λ (c : HistoryEntry P E). c.edit) (e ∷ g)
+      ≡ es = sym (reverse-reverse (map (λ (c : HistoryEntry P E). c.edit) (e ∷ g))) ∙ first in
       let run = redo_group after back Takes (e ∷ g) page (end_of g e.after) h.future.0 in
       subst (λ xs. IsRedo after back Takes xs (kept_of back m) m page) here
       (record {
@@ -122,7 +148,12 @@ module _ {P E : Type 0} (after : E → P → P) (back : E → P → E) (Takes : 
         through = run.through;
         ends = run.ends;
         kept_on = record {
-          edits = λ i. record { past = run.gives i ∷ map (backs_of back) past; future = map (again_of back) gs; going = false; crossed = crossed };
+          edits = λ i. record {
+            past = run.gives i ∷ map (backs_of back) past;
+            future = map (again_of back) gs;
+            going = false;
+            crossed = crossed;
+          };
           history = record {
             past = ((refl, h.future.0.1, h.future.0.2), subst (λ p. LeadHere after Takes past p) (sym h.future.0.0) h.past);
             future = h.future.1;
@@ -161,7 +192,8 @@ module _ {P E : Type 0} (after : E → P → P) (back : E → P → E) (Takes : 
     after_notes = λ es t.
         let all = changes_on after es page in
         let backs = noted_singly (back_all after back es page) kept in
-        subst (λ x. KeptFor after back Takes backs x (after_all after es page)) (noted_singly-edited all m) (kept_singly es kept m page k t);
+        subst (λ x. KeptFor after back Takes backs x (after_all after es page)) (noted_singly-edited all m)
+        (kept_singly es kept m page k t);
     after_mark = record {
       edits = ap marked k.edits;
       history = record { past = k.history.past; future = k.history.future; going = λ t n. cc };
@@ -192,7 +224,8 @@ module _ {P E : Type 0} (after : E → P → P) (back : E → P → E) (Takes : 
 
 -- ---- where more edits are taken
 
-module _ {P E : Type 0} (after : E → P → P) (back : E → P → E) (Takes More : E → P → Type 0) (more : (e : E) (page : P) → Takes e page → More e page) where
+module _ {P E : Type 0} (after : E → P → P) (back : E → P → E) (Takes More : E → P → Type 0)
+    (more : (e : E) (page : P) → Takes e page → More e page) where
   leads_grow : (g : List (HistoryEntry P E)) (page end : P) → LeadsOn after Takes page g end → LeadsOn after More page g end
   leads_grow [] page end h = h
   leads_grow (e ∷ es) page end h = (h.0, record { taken = more e.edit e.before h.1.taken; made = h.1.made }, leads_grow es e.after end h.2)
@@ -207,8 +240,13 @@ module _ {P E : Type 0} (after : E → P → P) (back : E → P → E) (Takes Mo
   from_grow ([] ∷ gs) page h = h
   from_grow ((e ∷ es) ∷ gs) page h = (leads_grow (e ∷ es) page (end_of es e.after) h.0, from_grow gs (end_of es e.after) h.1)
 
-  pub kept_grow : (kept : Marks E) (m : Marks (HistoryEntry P E)) (page : P) → KeptFor after back Takes kept m page → KeptFor after back More kept m page
+  pub kept_grow : (kept : Marks E) (m : Marks (HistoryEntry P E)) (page : P) → KeptFor after back Takes kept m page
+      → KeptFor after back More kept m page
   kept_grow kept m page k = record {
     edits = k.edits;
-    history = record { past = here_grow m.past page k.history.past; future = from_grow m.future page k.history.future; going = k.history.going };
+    history = record {
+      past = here_grow m.past page k.history.past;
+      future = from_grow m.future page k.history.future;
+      going = k.history.going;
+    };
   }

@@ -73,7 +73,8 @@ undo_leads next kept m page es k out =
     record { no_fault = all_no_fault next es page u.taken; through = u.through; ends = u.ends }
 
 redo_leads : (next : ℕ) (kept : Marks Inverse) (m : Marks (HistoryEntry Saved Inverse)) (page : Saved) (es : List Inverse)
-    → KeepsPages next kept m page → handed_out kept.future ≡ Some es → LeadsThrough es page (pages_redone m.future) (page_redone m.future page)
+    → KeepsPages next kept m page → handed_out kept.future ≡ Some es
+    → LeadsThrough es page (pages_redone m.future) (page_redone m.future page)
 redo_leads next kept m page es k out =
     let u = ((pages_keep_on next).after_changes kept m page k).after_redo es out in
     record { no_fault = all_no_fault next es page u.taken; through = u.through; ends = u.ends }

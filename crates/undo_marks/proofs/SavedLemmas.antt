@@ -10,8 +10,10 @@ use Rattle.undo_marks.specs.Saved.{SavedSheet, Saved, after_either, back_either,
 use Rattle.undo_marks.specs.Changes.{AreBacks}
 
 module _
-    (after : TreeEdit → Branch PageRow → Branch PageRow) (back : TreeEdit → Branch PageRow → TreeEdit) (Takes : TreeEdit → Branch PageRow → Type 0)
-    (spliced : Splice → List SavedSheet → List SavedSheet) (unspliced : Splice → List SavedSheet → Splice) (TakesSplice : Splice → List SavedSheet → Type 0)
+    (after : TreeEdit → Branch PageRow → Branch PageRow) (back : TreeEdit → Branch PageRow → TreeEdit)
+    (Takes : TreeEdit → Branch PageRow → Type 0)
+    (spliced : Splice → List SavedSheet → List SavedSheet) (unspliced : Splice → List SavedSheet → Splice)
+    (TakesSplice : Splice → List SavedSheet → Type 0)
     (tree : AreBacks after back Takes) (sheets : AreBacks spliced unspliced TakesSplice)
   where
     takes_back : (e : Inverse) (page : Saved) → TakesEither Takes TakesSplice e page

@@ -1,5 +1,6 @@
 -- Splices of saved sheets are those of a book of sheets.
-use Rattle.std.proofs.Common.{◌≡◌, ℕ, Bool, true, false, cond, nat_eq, List, [], ◌∷◌, map, length, Option, Some, None, refl, sym, ap, subst, ◌∙◌}
+use Rattle.std.proofs.Common.{◌≡◌, ℕ, Bool, true, false, cond, nat_eq, List, [], ◌∷◌, map, length, Option, Some, None, refl, sym, ap, subst}
+use Rattle.std.proofs.Common.{◌∙◌}
 use Rattle.std.specs.Prelude.{◌≤◌, ◌^◌, IsSomeAnd}
 use Rattle.std.proofs.lemmas.Bool.{eq-eqb}
 use Rattle.sheet_reader.specs.declared.book.SheetEntry.{SheetEntry}
@@ -9,7 +10,8 @@ use Rattle.sheet_reader.specs.Forms.{range}
 use Rattle.sheet_reader.specs.Sheets.{sheet_of}
 use Rattle.sheet_reader.specs.Books.{entry_of, book_changed}
 use Rattle.style_edits.specs.declared.splice.Splice.{Splice}
-use Rattle.style_edits.specs.Splices.{spliced, spliced_entry, back_in, after_by, after_splice, back_by, back_splice, FitsIn, FitsSplice, TakesSplice}
+use Rattle.style_edits.specs.Splices.{spliced, spliced_entry, back_in, after_by, after_splice, back_by, back_splice, FitsIn, FitsSplice}
+use Rattle.style_edits.specs.Splices.{TakesSplice}
 use Rattle.style_edits.proofs.BookForms.{entry_id}
 use Rattle.style_edits.proofs.SpliceForms.{takes_back, leads_back, back_back}
 use Rattle.undo_marks.specs.Changes.{AreBacks}

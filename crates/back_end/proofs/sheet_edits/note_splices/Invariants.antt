@@ -7,4 +7,5 @@ use Rattle.back_end.proofs.sheet_edits.note_splices.Given as goal
 abbrev pub invariant-loop-back : goal.invariant-loop-back
 invariant-loop-back l =
     (goal.iterator-loop-back).can_next l.back-iterator × (goal.iterator-loop-back).is_finite l.back-iterator
-    × (noted_singly (map (λ s. kept.Sheet s) l.back-iterator.rest.items) l.history ≡ noted_singly (map (λ s. kept.Sheet s) l.fn.backs.items) l.fn.history)
+    × (noted_singly (map (λ s. kept.Sheet s) l.back-iterator.rest.items) l.history
+    ≡ noted_singly (map (λ s. kept.Sheet s) l.fn.backs.items) l.fn.history)

@@ -5,6 +5,7 @@ use Rattle.cascade_match.proofs.matching.add_rules.Given as goal
 
 abbrev pub invariant-loop-i : goal.invariant-loop-i
 invariant-loop-i l = record {
-  rest : all_entered l.found.entries (entries_of_rules (source_of l.place l.entry) l.i (drop l.i l.entry.reading.rules) l.fn.subject) ≡ all_entered l.initial.found.entries (entries_of_rules (source_of l.place l.entry) 0 l.entry.reading.rules l.fn.subject);
+  rest : all_entered l.found.entries (entries_of_rules (source_of l.place l.entry) l.i (drop l.i l.entry.reading.rules) l.fn.subject)
+      ≡ all_entered l.initial.found.entries (entries_of_rules (source_of l.place l.entry) 0 l.entry.reading.rules l.fn.subject);
   same : l.subject ≡ l.fn.subject;
 }

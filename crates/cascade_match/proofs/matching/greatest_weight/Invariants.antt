@@ -10,6 +10,7 @@ use Rattle.cascade_match.proofs.matching.greatest_weight.Given as goal
 
 abbrev pub invariant-loop-i : goal.invariant-loop-i
 invariant-loop-i l = record {
-  rest : fold (λ best s. greater best (specificity_of s)) l.best (filter (λ s. selector_matches s l.fn.subject) (drop l.i (list_seen l.l))) ≡ greatest (list_seen l.l) l.fn.subject;
+  rest : fold (λ best s. greater best (specificity_of s)) l.best (filter (λ s. selector_matches s l.fn.subject) (drop l.i (list_seen l.l)))
+      ≡ greatest (list_seen l.l) l.fn.subject;
   same : l.subject ≡ l.fn.subject;
 }

@@ -5,4 +5,5 @@ use Rattle.cascade_match.specs.Tops.{ranked_seen}
 use Rattle.cascade_match.proofs.winning.rank_all.Given as goal
 
 abbrev pub invariant-loop-declaration : goal.invariant-loop-declaration
-invariant-loop-declaration l = map ranked_seen l.all.items ++ map (candidate_of l.origin) (drop l.declaration-index l.declarations) ≡ map ranked_seen l.initial.all.items ++ map (candidate_of l.origin) l.declarations
+invariant-loop-declaration l = map ranked_seen l.all.items ++ map (candidate_of l.origin) (drop l.declaration-index l.declarations)
+    ≡ map ranked_seen l.initial.all.items ++ map (candidate_of l.origin) l.declarations

@@ -13,7 +13,9 @@ pub loop-i-preserved : goal.loop-i-preserved
 loop-i-preserved c = λ q.
     let d : Ranked = record { name = record { ref_ptr = (0, 0); now = [] }; rank = 0 } in
     let name = (get_or c.args.all.now c.loop-i.i d).name.now in
-    tops-step c.args.all.now c.loop-i.i d q (λ (k : List ℕ). get_by (λ w. slice_cmp nat_cmp k w.now) c.loop-i.tops) (λ (k : List ℕ). get_by (λ w. slice_cmp nat_cmp k w.now) c.put_top.new.tops) c.copied-best.result c.loop-i-test.true
+    tops-step c.args.all.now c.loop-i.i d q (λ (k : List ℕ). get_by (λ w. slice_cmp nat_cmp k w.now) c.loop-i.tops)
+    (λ (k : List ℕ). get_by (λ w. slice_cmp nat_cmp k w.now) c.put_top.new.tops) c.copied-best.result c.loop-i-test.true
     (c.copied-best.ensures ∙ c.get.ensures.value)
-    (λ k. (c.in_ok-put_top.ensures {u = tt} k) ∙ ap (λ (t : Top). cond (bytes_eq name k) (Some t) (get_by (λ w. slice_cmp nat_cmp k w.now) c.loop-i.tops)) c.better.ensures)
+    (λ k. (c.in_ok-put_top.ensures {u = tt} k) ∙ ap
+    (λ (t : Top). cond (bytes_eq name k) (Some t) (get_by (λ w. slice_cmp nat_cmp k w.now) c.loop-i.tops)) c.better.ensures)
     ∙ c.loop-i.invariant q

@@ -6,4 +6,5 @@ use Rattle.cdp_json.specs.Lists.{with_list_front}
 use Rattle.cdp_json.proofs.lists.texts_of.Given as goal
 
 abbrev pub invariant-loop-item : goal.invariant-loop-item
-invariant-loop-item l = with_list_front (map string_bytes l.texts.items) (read_items as_str (items_view (drop l.item-index l.items))) ≡ read_items as_str (items_view l.items)
+invariant-loop-item l = with_list_front (map string_bytes l.texts.items) (read_items as_str (items_view (drop l.item-index l.items)))
+    ≡ read_items as_str (items_view l.items)

@@ -8,5 +8,6 @@ invariant-all_items_whole-loop-item l = items_have_float (items_view (drop l.ite
 
 abbrev pub invariant-all_members_whole-loop-member : goal.invariant-all_members_whole-loop-member
 invariant-all_members_whole-loop-member l =
-    (goal.iterator-all_members_whole-loop-member).can_next l.member-iterator × (goal.iterator-all_members_whole-loop-member).is_finite l.member-iterator
+    (goal.iterator-all_members_whole-loop-member).can_next l.member-iterator
+    × (goal.iterator-all_members_whole-loop-member).is_finite l.member-iterator
     × (members_have_float (members_view l.member-iterator) ≡ members_have_float (members_view l.map.entries))

@@ -22,4 +22,6 @@ returns c =
     c.loop-name.yielded c.loop-name.name-iterator c.loop-name.yielded_by c.next.result c.next.new.self c.in-None.is c.next.ensures.steps in
     let all : c.loop-name.yielded ≡ c.args.fields.items = sym (map-id c.loop-name.yielded) ∙ end.0 in
     view-Object c.loop-name.members
-    ∙ ap object (c.loop-name.invariant ∙ ap (λ (fs : List (Bor (List ℕ) × Option Value)). put_all (map written fs) no_members) all ∙ put_all-members_of (map written c.args.fields.items) c.requires)
+    ∙ ap object (c.loop-name.invariant ∙ ap
+    (λ (fs : List (Bor (List ℕ) × Option Value)). put_all (map written fs) no_members) all ∙ put_all-members_of
+    (map written c.args.fields.items) c.requires)

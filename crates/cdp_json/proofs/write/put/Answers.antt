@@ -8,4 +8,5 @@ pub returns-clause-ok : goal.returns-clause-ok
 returns-clause-ok c =
     let old = c.args.object.now.entries in
     let copied : string_bytes c.in_ok-key.key ≡ c.args.name.now = search rules in
-    ap members_view c.in_ok-insert.ensures.entries ∙ members_view-insert_entry old c.in_ok-key.key c.args.value ∙ ap (λ k. put k (view c.args.value) (members_view old)) copied
+    ap members_view c.in_ok-insert.ensures.entries ∙ members_view-insert_entry old c.in_ok-key.key c.args.value ∙ ap
+    (λ k. put k (view c.args.value) (members_view old)) copied

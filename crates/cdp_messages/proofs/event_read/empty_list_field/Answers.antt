@@ -10,4 +10,5 @@ use Rattle.cdp_messages.proofs.event_read.empty_list_field.Goals as goal
 pub returns-in-Some : goal.returns-in-Some
 returns-in-Some c =
     ap (λ b. option_map (left_with (left c.need_list.new.self)) (unit_if b)) c.has_none.ensures
-    ∙ need_through as_array (λ ds. unit_if (has_none ds)) (codes "callFrames") (left c.args.fields.now) (items_view c.in-Some.items.now) (left c.need_list.new.self) c.in-Some.ensures.value
+    ∙ need_through as_array (λ ds. unit_if (has_none ds)) (codes "callFrames") (left c.args.fields.now) (items_view c.in-Some.items.now)
+    (left c.need_list.new.self) c.in-Some.ensures.value

@@ -1,7 +1,10 @@
-use Rattle.cdp_messages.proofs.Commands.{asks_are_asked, commands_are_asked, asks_fit, parameters_are_read, parameters_are_plain, commands_are_named}
+use Rattle.cdp_messages.proofs.Commands.{asks_are_asked, commands_are_asked, asks_fit, parameters_are_read, parameters_are_plain}
+use Rattle.cdp_messages.proofs.Commands.{commands_are_named}
 use Rattle.cdp_messages.proofs.DomAskLaws.{dom_asks_are_commands}
 use Rattle.cdp_messages.proofs.Depths.{replies_are_shallow, events_are_shallow}
-use Rattle.cdp_messages.proofs.Messages.{replies_are_read, events_are_read, refusals_are_read, messages_are_read, faults_are_read, objects_are_empty, results_are_read, messages_are_spelled, results_are_spelled, one_message, one_result}
+use Rattle.cdp_messages.proofs.Messages.{replies_are_read, events_are_read, refusals_are_read, messages_are_read, faults_are_read}
+use Rattle.cdp_messages.proofs.Messages.{objects_are_empty, results_are_read, messages_are_spelled, results_are_spelled, one_message}
+use Rattle.cdp_messages.proofs.Messages.{one_result}
 use Rattle.cdp_messages.proofs.TellableLaws.{shown_trees_fit, shown_children_fit}
 use Rattle.cdp_messages.proofs.TextsUtf8.{replies_are_utf8, events_are_utf8}
 use Rattle.cdp_messages.proofs.ZeroFree.{texts_have_no_zero}

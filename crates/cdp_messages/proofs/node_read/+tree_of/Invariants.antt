@@ -7,7 +7,8 @@ use Rattle.cdp_messages.proofs.TreesRead.{read_beside}
 use Rattle.cdp_messages.proofs.node_read.+tree_of.Given as goal
 
 abbrev pub invariant-trees_of-loop-value : goal.invariant-trees_of-loop-value
-invariant-trees_of-loop-value l = read_beside (nodes_of l.trees.items) (trees_of l.manner (items_view (drop l.value-index l.values))) ≡ trees_of l.manner (items_view l.values)
+invariant-trees_of-loop-value l = read_beside (nodes_of l.trees.items) (trees_of l.manner (items_view (drop l.value-index l.values)))
+    ≡ trees_of l.manner (items_view l.values)
 
 abbrev pub decreases-tree_of : goal.decreases-tree_of
 decreases-tree_of l = depth (view l.value.now)

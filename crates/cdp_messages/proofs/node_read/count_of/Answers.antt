@@ -7,4 +7,5 @@ use Rattle.cdp_messages.proofs.node_read.count_of.Goals as goal
 
 pub returns-in-Some : goal.returns-in-Some
 returns-in-Some c =
-    ap Some (sym (items_len-items_view c.in-Some.children.now)) ∙ ap (option_map (λ (xs : Bor (List Value)). items_len (items_view xs.now))) (sym c.in-Some.is)
+    ap Some (sym (items_len-items_view c.in-Some.children.now)) ∙ ap
+    (option_map (λ (xs : Bor (List Value)). items_len (items_view xs.now))) (sym c.in-Some.is)

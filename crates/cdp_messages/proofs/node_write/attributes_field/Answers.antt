@@ -12,5 +12,6 @@ returns-in_ok-key-clause-ok c =
     let yes : true ≡ is_element c.args.kind = sym c.if-is_element.true ∙ c.is_element.ensures in
     subst (λ (b : Bool). OnOk c.write_attributes.result (c.write_attributes.new.out.tokens ≡ c.args.out.now.tokens
     ++ field_tokens (codes "attributes") (option_map attribute_list.spell (only_if b c.args.attributes.now)))) yes
-    (after_last c.args.out.now.tokens (key (codes "attributes") ∷ []) (data_tokens (attribute_list.spell c.args.attributes.now)) c.write_attributes.result c.write_attributes.new.out.tokens
+    (after_last c.args.out.now.tokens (key (codes "attributes") ∷ [])
+    (data_tokens (attribute_list.spell c.args.attributes.now)) c.write_attributes.result c.write_attributes.new.out.tokens
     c.in_ok-key.ensures.ok c.write_attributes.ensures.ok)

@@ -6,4 +6,5 @@ use Rattle.cdp_messages.specs.Parameters.{text_edit}
 use Rattle.cdp_messages.proofs.parameters.edits_of.Given as goal
 
 abbrev pub invariant-loop-value : goal.invariant-loop-value
-invariant-loop-value l = with_list_front l.edits.items (read_items text_edit.reads (items_view (drop l.value-index l.values))) ≡ read_items text_edit.reads (items_view l.values)
+invariant-loop-value l = with_list_front l.edits.items (read_items text_edit.reads (items_view (drop l.value-index l.values)))
+    ≡ read_items text_edit.reads (items_view l.values)

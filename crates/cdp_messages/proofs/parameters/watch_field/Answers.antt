@@ -10,9 +10,11 @@ use Rattle.cdp_messages.proofs.parameters.watch_field.Goals as goal
 pub returns-in-Some : goal.returns-in-Some
 returns-in-Some c =
     ap field_if c.in-Some.ensures
-    ∙ field_through as_str (named watch_name all_watches) (get_member c.args.name.now (members_view c.args.params.now.entries)) c.in-Is.word.now c.in-Is.ensures
+    ∙ field_through as_str (named watch_name all_watches)
+    (get_member c.args.name.now (members_view c.args.params.now.entries)) c.in-Is.word.now c.in-Is.ensures
 
 pub returns-in-None : goal.returns-in-None
 returns-in-None c =
     ap field_if c.in-None.ensures
-    ∙ field_through as_str (named watch_name all_watches) (get_member c.args.name.now (members_view c.args.params.now.entries)) c.in-Is.word.now c.in-Is.ensures
+    ∙ field_through as_str (named watch_name all_watches)
+    (get_member c.args.name.now (members_view c.args.params.now.entries)) c.in-Is.word.now c.in-Is.ensures

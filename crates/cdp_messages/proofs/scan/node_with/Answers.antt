@@ -5,7 +5,8 @@ use Rattle.cdp_messages.proofs.scan.node_with.Goals as goal
 pub returns-clause-written : goal.returns-clause-written
 returns-clause-written c =
     let told : c.in_ok-told.told ≡ true = search rules in
-    node_written c.args.parts c.args.top c.args.children c.in_ok-tree.tree (told_true c.args.parts c.args.top c.args.children c.in_ok-told.told c.count_of.result c.in_ok-told.ensures c.count_of.ensures told)
+    node_written c.args.parts c.args.top c.args.children c.in_ok-tree.tree
+    (told_true c.args.parts c.args.top c.args.children c.in_ok-told.told c.count_of.result c.in_ok-told.ensures c.count_of.ensures told)
     c.in_ok-tree.ensures
 
 pub returns-clause-fits : goal.returns-clause-fits

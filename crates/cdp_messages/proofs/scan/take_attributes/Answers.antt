@@ -8,7 +8,8 @@ pairs-init c = none_yet pair_tokens c.args.reader.now _ c.new-pairs.result c.new
 
 pub pairs-preserved : goal.pairs-preserved
 pairs-preserved c =
-    pairs_step c.args.reader.now _ _ _ c.pairs.pairs c.push.new.self c.in_ok-name.name.now c.in_ok-value.value.now c.pairs.invariant (sym c.pairs-test.ensures.1 ∙ c.in_ok-name.ensures) c.in_ok-value.ensures
+    pairs_step c.args.reader.now _ _ _ c.pairs.pairs c.push.new.self c.in_ok-name.name.now c.in_ok-value.value.now c.pairs.invariant
+    (sym c.pairs-test.ensures.1 ∙ c.in_ok-name.ensures) c.in_ok-value.ensures
     (c.in_ok-push.ensures.ok ∙ ap₂ (λ n v. c.pairs.pairs ++ (n, v) ∷ []) c.in_ok-copied.ensures c.in_ok-copied-2.ensures)
 
 pub pairs-smaller : goal.pairs-smaller

@@ -6,4 +6,5 @@ use Rattle.cdp_messages.proofs.write.write_command.Goals as goal
 pub append-requires : goal.append-requires
 append-requires c =
     rw c.in_ok-value.ensures
-    (has_float-command_value c.args.id c.args.method.now (option_map (λ p. view p.now) c.args.params) (option_map (λ s. view s.now) c.args.session) c.requires.params c.requires.session)
+    (has_float-command_value c.args.id c.args.method.now (option_map (λ p. view p.now) c.args.params)
+    (option_map (λ s. view s.now) c.args.session) c.requires.params c.requires.session)

@@ -9,5 +9,7 @@ pub loop-compound-preserved : goal.loop-compound-preserved
 loop-compound-preserved c =
     names-turn compound_seen (λ (s : CompoundForm). classes_of_tests s.tests) c.args.compounds.now c.loop-compound.compound-index c.compound-item.result (texts c.loop-compound.names.keys) (texts c.add_tests.new.names.keys)
     c.loop-compound-test.true c.compound-item.is
-    (c.in_ok-add_tests.ensures {u = tt} ∙ ap (λ (xs : List Simple). with_names (texts c.loop-compound.names.keys) (classes_of_tests (map simple_seen xs))) c.as_slice.ensures.value)
+    (c.in_ok-add_tests.ensures {u = tt} ∙ ap
+    (λ (xs : List Simple). with_names (texts c.loop-compound.names.keys)
+    (classes_of_tests (map simple_seen xs))) c.as_slice.ensures.value)
     ∙ c.loop-compound.invariant

@@ -6,4 +6,5 @@ use Rattle.css_agent.proofs.NameLemmas.{texts}
 use Rattle.css_agent.proofs.class_names.add_compounds.Given as goal
 
 abbrev pub invariant-loop-compound : goal.invariant-loop-compound
-invariant-loop-compound l = with_names (texts l.names.keys) (classes_of_compounds (map compound_seen (drop l.compound-index l.compounds))) ≡ with_names (texts l.initial.names.keys) (classes_of_compounds (map compound_seen l.compounds))
+invariant-loop-compound l = with_names (texts l.names.keys) (classes_of_compounds (map compound_seen (drop l.compound-index l.compounds)))
+    ≡ with_names (texts l.initial.names.keys) (classes_of_compounds (map compound_seen l.compounds))

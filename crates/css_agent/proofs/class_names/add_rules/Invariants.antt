@@ -6,4 +6,5 @@ use Rattle.css_agent.proofs.NameLemmas.{texts}
 use Rattle.css_agent.proofs.class_names.add_rules.Given as goal
 
 abbrev pub invariant-loop-rule : goal.invariant-loop-rule
-invariant-loop-rule l = with_names (texts l.names.keys) (classes_of_rules (map rule_seen (drop l.rule-index l.rules))) ≡ with_names (texts l.initial.names.keys) (classes_of_rules (map rule_seen l.rules))
+invariant-loop-rule l = with_names (texts l.names.keys) (classes_of_rules (map rule_seen (drop l.rule-index l.rules)))
+    ≡ with_names (texts l.initial.names.keys) (classes_of_rules (map rule_seen l.rules))

@@ -6,4 +6,5 @@ use Rattle.css_agent.proofs.NameLemmas.{texts}
 use Rattle.css_agent.proofs.class_names.add_selectors.Given as goal
 
 abbrev pub invariant-loop-i : goal.invariant-loop-i
-invariant-loop-i l = with_names (texts l.names.keys) (classes_of_selectors (drop l.i (list_seen l.selectors))) ≡ with_names (texts l.initial.names.keys) (classes_of_selectors (list_seen l.selectors))
+invariant-loop-i l = with_names (texts l.names.keys) (classes_of_selectors (drop l.i (list_seen l.selectors)))
+    ≡ with_names (texts l.initial.names.keys) (classes_of_selectors (list_seen l.selectors))

@@ -6,4 +6,5 @@ use Rattle.css_agent.proofs.NameLemmas.{texts}
 use Rattle.css_agent.proofs.class_names.add_tests.Given as goal
 
 abbrev pub invariant-loop-simple : goal.invariant-loop-simple
-invariant-loop-simple l = with_names (texts l.names.keys) (classes_of_tests (map simple_seen (drop l.simple-index l.tests))) ≡ with_names (texts l.initial.names.keys) (classes_of_tests (map simple_seen l.tests))
+invariant-loop-simple l = with_names (texts l.names.keys) (classes_of_tests (map simple_seen (drop l.simple-index l.tests)))
+    ≡ with_names (texts l.initial.names.keys) (classes_of_tests (map simple_seen l.tests))

@@ -4,4 +4,5 @@ use Rattle.css_agent.specs.Told.{changed_message, message_frames}
 use Rattle.css_agent.proofs.frames.tell_changes.Given as goal
 
 abbrev pub invariant-loop-back : goal.invariant-loop-back
-invariant-loop-back l = l.out.items ++ message_frames (map changed_message (drop l.back-index l.backs)) ≡ l.initial.out.items ++ message_frames (map changed_message l.backs)
+invariant-loop-back l = l.out.items ++ message_frames (map changed_message (drop l.back-index l.backs))
+    ≡ l.initial.out.items ++ message_frames (map changed_message l.backs)

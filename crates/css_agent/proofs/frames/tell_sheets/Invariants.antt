@@ -4,4 +4,5 @@ use Rattle.css_agent.specs.Told.{added_message, message_frames}
 use Rattle.css_agent.proofs.frames.tell_sheets.Given as goal
 
 abbrev pub invariant-loop-i : goal.invariant-loop-i
-invariant-loop-i l = l.out.items ++ message_frames (map added_message (drop l.i l.book)) ≡ l.initial.out.items ++ message_frames (map added_message l.book)
+invariant-loop-i l = l.out.items ++ message_frames (map added_message (drop l.i l.book))
+    ≡ l.initial.out.items ++ message_frames (map added_message l.book)

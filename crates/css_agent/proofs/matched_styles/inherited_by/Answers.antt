@@ -9,8 +9,10 @@ use Rattle.css_agent.proofs.matched_styles.inherited_by.Goals as goal
 
 pub loop-at-init : goal.loop-at-init
 loop-at-init c =
-    ap (λ (l : List Inherited). l ++ map (told_inherited c.args.book.now) (elements (from ancestors c.parent-at.result))) c.new-entries.ensures.items
-    ∙ ap (λ (l : List Zipper). map (told_inherited c.args.book.now) (elements l)) (walk-start ancestors ancestors-from c.args.node.now c.parent-at.result c.parent-at.ensures)
+    ap (λ (l : List Inherited). l ++ map (told_inherited c.args.book.now)
+    (elements (from ancestors c.parent-at.result))) c.new-entries.ensures.items
+    ∙ ap (λ (l : List Zipper). map (told_inherited c.args.book.now) (elements l))
+    (walk-start ancestors ancestors-from c.args.node.now c.parent-at.result c.parent-at.ensures)
 
 pub loop-at-smaller : goal.loop-at-smaller
 loop-at-smaller c = walk-smaller ancestors ancestors-from c.loop-at.at c.in-Some.ancestor c.parent-at-in-Some.result c.in-Some.is c.parent-at-in-Some.ensures

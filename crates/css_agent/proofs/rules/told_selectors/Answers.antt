@@ -13,7 +13,8 @@ loop-i-preserved c =
     let value = c.in_ok-told_selector.ensures.value ∙ ap (λ (t : List ℕ). told_selector t s) same in
     record {
       told =
-          told-at (told_selector c.args.ruler.now) (list_seen c.args.selectors.now) c.loop-i.i s c.loop-i.told.items c.push.new.self.items c.at.ensures c.loop-i.invariant.told
+          told-at (told_selector c.args.ruler.now)
+          (list_seen c.args.selectors.now) c.loop-i.i s c.loop-i.told.items c.push.new.self.items c.at.ensures c.loop-i.invariant.told
           (c.in_ok-push.ensures.items ∙ ap (λ (v : SelectorValue). c.loop-i.told.items ++ v ∷ []) value);
       same = c.told_selector.ensures.same ∙ same;
     }

@@ -7,4 +7,5 @@ use Rattle.css_agent.proofs.styles.inline_style.Goals as goal
 pub inline_properties-requires : goal.inline_properties-requires
 inline_properties-requires c =
     let usable = style_usable c.args.text.now c.utf8.text in
-    subst (λ (ps : List Property). All (IsPropertyOf c.args.text.now) ps) (sym (c.as_slice.ensures.value ∙ c.in_ok-properties.ensures)) usable.each
+    subst (λ (ps : List Property). All (IsPropertyOf c.args.text.now) ps)
+    (sym (c.as_slice.ensures.value ∙ c.in_ok-properties.ensures)) usable.each

@@ -4,7 +4,8 @@ use Rattle.sheet_reader.proofs.PositionLemmas.{behind_more, line_within, column_
 use Rattle.css_agent.proofs.units.position_from.Goals as goal
 
 pub behind_byte-place-requires-clause-line : goal.behind_byte-place-requires-clause-line
-behind_byte-place-requires-clause-line c = let small = line_within c.args.text.now c.loop-i.i c.loop-i.place c.loop-i.invariant in omega (arith, small)
+behind_byte-place-requires-clause-line c = let small = line_within c.args.text.now c.loop-i.i c.loop-i.place c.loop-i.invariant in omega
+    (arith, small)
 
 pub behind_byte-place-requires-clause-column : goal.behind_byte-place-requires-clause-column
 behind_byte-place-requires-clause-column c = let small = column_within c.args.text.now c.loop-i.i c.loop-i.place c.loop-i.invariant in omega (arith, small)

@@ -8,7 +8,8 @@ returns-then-not-starts_ident-clause-value c = none_named c.args.text.now (sym c
 
 pub returns-then-not-is_called-clause-value : goal.returns-then-not-is_called-clause-value
 returns-then-not-is_called-clause-value c =
-    bare_named c.args.text.now _ c.name_len-name.ensures.value (sym c.starts_ident.ensures ∙ c.if-not-starts_ident.false) (sym c.is_called.ensures ∙ c.if-not-is_called.true)
+    bare_named c.args.text.now _ c.name_len-name.ensures.value (sym c.starts_ident.ensures ∙ c.if-not-starts_ident.false)
+    (sym c.is_called.ensures ∙ c.if-not-is_called.true)
 
 pub returns-then-not-is_called-clause-fits : goal.returns-then-not-is_called-clause-fits
 returns-then-not-is_called-clause-fits c =

@@ -9,7 +9,8 @@ returns-then-n-eq0-clause-value c =
     let text = c.args.text.now in
     let at = c.loop-kind.at in
     let rest : take (length text - at) (drop at text) ≡ drop at text = between_to_end text at (length text) (omega arith) in
-    run_ends_at (unit_of c.args.kind) text at _ (sym (ap (unit_of c.args.kind) rest) ∙ sym c.unit-n.ensures.value ∙ c.if-n-eq0.true) c.loop-kind.invariant.rest
+    run_ends_at (unit_of c.args.kind) text at _
+    (sym (ap (unit_of c.args.kind) rest) ∙ sym c.unit-n.ensures.value ∙ c.if-n-eq0.true) c.loop-kind.invariant.rest
 
 pub loop-kind-preserved : goal.loop-kind-preserved
 loop-kind-preserved c =
@@ -20,5 +21,6 @@ loop-kind-preserved c =
     let fits : at + c.unit-n.result ≤ length text = omega (arith, length-drop at text) in
     record {
       within = fits;
-      rest = run_more_from (unit_of c.args.kind) text at _ _ (sym (ap (unit_of c.args.kind) rest) ∙ sym c.unit-n.ensures.value) (omega arith) fits c.loop-kind.invariant.rest;
+      rest = run_more_from (unit_of c.args.kind) text at _ _ (sym (ap (unit_of c.args.kind) rest) ∙ sym c.unit-n.ensures.value)
+          (omega arith) fits c.loop-kind.invariant.rest;
     }

@@ -25,7 +25,8 @@ returns-in_ok-push-in-Some c =
     let tail = tail_is c.as_bytes-bytes.result.now rest 1 c.as_bytes-bytes.ensures.value in
     let coded : is_coded (drop 1 rest) ≡ true = sym (ap is_coded tail) ∙ c.in-Some.ensures.0 in
     let fits : c.escape_tail.result ≤ length (drop 1 rest) = omega (arith, ap length tail) in
-    by_code _ _ _ rest c.escape_tail.result c.utf8.rest c.requires.escape coded (sym (ap escape_bytes tail) ∙ c.in-Some.ensures.1) (c.escape_tail.ensures.value ∙ ap escape_tail tail) fits c.in_ok-push-in-Some.ensures.bytes
+    by_code _ _ _ rest c.escape_tail.result c.utf8.rest c.requires.escape coded (sym (ap escape_bytes tail) ∙ c.in-Some.ensures.1)
+    (c.escape_tail.ensures.value ∙ ap escape_tail tail) fits c.in_ok-push-in-Some.ensures.bytes
 
 pub returns-in_ok-push_str-in-None : goal.returns-in_ok-push_str-in-None
 returns-in_ok-push_str-in-None c =
@@ -36,4 +37,5 @@ returns-in_ok-push_str-in-None c =
     let out = string_bytes c.args.out.now in
     let count : 2 + c.plain_len-n.result - 1 ≡ 1 + c.plain_len-n.result = omega arith in
     let copied = ap (λ (xs : List ℕ). out ++ xs) (c.range.ensures.value ∙ ap (λ (k : ℕ). take k (drop 1 rest)) count) in
-    by_character out _ rest c.plain_len-n.result c.utf8.rest c.requires.escape coded (c.plain_len-n.ensures.value ∙ ap plain_len more) (c.in_ok-push_str-in-None.ensures.bytes ∙ copied)
+    by_character out _ rest c.plain_len-n.result c.utf8.rest c.requires.escape coded (c.plain_len-n.ensures.value ∙ ap plain_len more)
+    (c.in_ok-push_str-in-None.ensures.bytes ∙ copied)

@@ -7,24 +7,30 @@ use Rattle.node_binding.specs.Openings.{less, is_spent}
 use Rattle.cdp_messages.specs.Tokens.{data_tokens}
 use Rattle.cdp_messages.specs.NodeWrites.{told_by}
 use Rattle.dom_agent.specs.Described.{no_ids, shows_children, shown_to, row_to, kids_to}
-use Rattle.dom_agent.proofs.WritingLemmas.{nodes_data, described_written, children_hidden, children_written, left_start, left_turn, left_end}
+use Rattle.dom_agent.proofs.WritingLemmas.{nodes_data, described_written, children_hidden, children_written, left_start, left_turn}
+use Rattle.dom_agent.proofs.WritingLemmas.{left_end}
 use Rattle.dom_agent.proofs.described.+write_described.Goals as goal
 
 pub write_described-returns-clause-ok : goal.write_described-returns-clause-ok
 write_described-returns-clause-ok t c =
-    described_written c.args.levels c.args.node.now (told_by c.node_row-row.result) c.args.out.now.tokens c.node_row-row.ensures c.in_ok-head.ensures.ok c.in_ok-write_reached.ensures.ok c.in_ok-tail.ensures.ok
+    described_written c.args.levels c.args.node.now
+    (told_by c.node_row-row.result) c.args.out.now.tokens c.node_row-row.ensures c.in_ok-head.ensures.ok c.in_ok-write_reached.ensures.ok c.in_ok-tail.ensures.ok
 
 pub write_reached-returns-then-not-is_reached-clause-ok : goal.write_reached-returns-then-not-is_reached-clause-ok
 write_reached-returns-then-not-is_reached-clause-ok t c =
-    children_hidden (shows_children c.args.levels c.args.node.now.row) (nodes_data 0 (shown_to no_ids (less c.args.levels) c.args.node.now.children)) c.args.out.now.tokens
+    children_hidden (shows_children c.args.levels c.args.node.now.row)
+    (nodes_data 0 (shown_to no_ids (less c.args.levels) c.args.node.now.children)) c.args.out.now.tokens
     (ap (λ k. holds k && not (is_spent c.args.levels)) (sym c.kind.ensures) ∙ sym c.is_reached.ensures ∙ c.if-not-is_reached.true)
 
 pub write_reached-returns-clause-ok : goal.write_reached-returns-clause-ok
 write_reached-returns-clause-ok t c =
-    children_written (shows_children c.args.levels c.args.node.now.row) (nodes_data 0 (shown_to no_ids (less c.args.levels) c.args.node.now.children)) c.args.out.now.tokens
-    (ap (λ k. holds k && not (is_spent c.args.levels)) (sym c.kind.ensures) ∙ sym c.is_reached.ensures ∙ c.if-not-is_reached.false) c.in_ok-children.ensures.ok
+    children_written (shows_children c.args.levels c.args.node.now.row)
+    (nodes_data 0 (shown_to no_ids (less c.args.levels) c.args.node.now.children)) c.args.out.now.tokens
+    (ap (λ k. holds k && not (is_spent c.args.levels))
+    (sym c.kind.ensures) ∙ sym c.is_reached.ensures ∙ c.if-not-is_reached.false) c.in_ok-children.ensures.ok
     (c.in_ok-write_below.ensures.ok
-    ∙ ap (λ (n : Nodes PageRow). c.children.new.self.tokens ++ data_tokens (nodes_data 0 (shown_to no_ids c.less-left.result n))) c.children-2.ensures
+    ∙ ap (λ (n : Nodes PageRow). c.children.new.self.tokens
+    ++ data_tokens (nodes_data 0 (shown_to no_ids c.less-left.result n))) c.children-2.ensures
     ∙ ap (λ l. c.children.new.self.tokens ++ data_tokens (nodes_data 0 (shown_to no_ids l c.args.node.now.children))) c.less-left.ensures)
 
 pub write_below-loop-i-init : goal.write_below-loop-i-init
@@ -34,7 +40,8 @@ write_below-loop-i-init t c =
 pub write_below-write_described-requires : goal.write_below-write_described-requires
 write_below-write_described-requires t c =
     let inside : c.loop-i.i < width c.args.children.now = omega (arith, c.loop-i-test.true, c.len-i-end.ensures) in
-    let small : 3 * branch_count c.at-child.result < 3 * node_count c.args.children.now + 1 = omega (arith, child-smaller c.args.children.now c.loop-i.i c.at-child.result inside c.at-child.ensures) in
+    let small : 3 * branch_count c.at-child.result < 3 * node_count c.args.children.now
+    + 1 = omega (arith, child-smaller c.args.children.now c.loop-i.i c.at-child.result inside c.at-child.ensures) in
     (subst (λ m. 3 * branch_count c.at-child.result < m) c.decreases small, tt)
 
 pub write_below-loop-i-preserved : goal.write_below-loop-i-preserved
@@ -42,7 +49,11 @@ write_below-loop-i-preserved t c =
     let inside : c.loop-i.i < width c.args.children.now = omega (arith, c.loop-i-test.true, c.len-i-end.ensures) in
     let x = c.at-child.result in
     record {
-      tokens = left_turn (shown_to no_ids c.args.levels) 0 c.args.children.now (record { row = row_to no_ids c.args.levels x.row x.children; children = kids_to no_ids c.args.levels x }) c.loop-i.i x c.loop-i.out.tokens
+      tokens = left_turn (shown_to no_ids c.args.levels) 0 c.args.children.now
+          (record {
+            row = row_to no_ids c.args.levels x.row x.children;
+            children = kids_to no_ids c.args.levels x;
+          }) c.loop-i.i x c.loop-i.out.tokens
           c.write_described.new.out.tokens _ inside c.at-child.ensures refl c.in_ok-write_described.ensures.ok c.loop-i.invariant.tokens;
       before = c.in_ok-write_described.ensures.before ∙ c.loop-i.invariant.before;
     }
@@ -50,4 +61,5 @@ write_below-loop-i-preserved t c =
 pub write_below-returns-clause-ok : goal.write_below-returns-clause-ok
 write_below-returns-clause-ok t c =
     left_end (shown_to no_ids c.args.levels) 0 c.args.children.now c.loop-i.i c.loop-i.out.tokens c.end_nodes.new.self.tokens _ refl
-    (from-end c.args.children.now c.loop-i.i (omega (arith, c.loop-i-test.false, c.len-i-end.ensures))) c.in_ok-end_nodes.ensures.ok c.loop-i.invariant.tokens
+    (from-end c.args.children.now c.loop-i.i
+    (omega (arith, c.loop-i-test.false, c.len-i-end.ensures))) c.in_ok-end_nodes.ensures.ok c.loop-i.invariant.tokens

@@ -16,6 +16,7 @@ decreases-write_below l = 3 * node_count l.children.now + 1
 
 abbrev pub invariant-write_below-loop-i : goal.invariant-write_below-loop-i
 invariant-write_below-loop-i l = record {
-  tokens : with_left (shown_to no_ids l.levels) 0 l.children l.out.tokens l.i ≡ l.fn.out.tokens ++ data_tokens (nodes_data 0 (shown_to no_ids l.levels l.children));
+  tokens : with_left (shown_to no_ids l.levels) 0 l.children l.out.tokens l.i
+      ≡ l.fn.out.tokens ++ data_tokens (nodes_data 0 (shown_to no_ids l.levels l.children));
   before : l.out.before ≡ l.fn.out.before;
 }

@@ -8,7 +8,8 @@ children_len-requires c = removed_live c.args.page.now c.valid.ensures c.args.se
 
 pub overflow_sub-count : goal.overflow_sub-count
 overflow_sub-count c =
-    subst (λ k. 1 ≤ k) (sym c.children_len.ensures) (removed_some c.args.page.now c.valid.ensures c.args.serial c.requires c.parent-parent.result c.parent-parent.ensures)
+    subst (λ k. 1 ≤ k) (sym c.children_len.ensures)
+    (removed_some c.args.page.now c.valid.ensures c.args.serial c.requires c.parent-parent.result c.parent-parent.ensures)
 
 pub returns : goal.returns
 returns c =

@@ -19,10 +19,12 @@ returns-then-serial c =
 pub loop-i-preserved : goal.loop-i-preserved
 loop-i-preserved c =
     let inside : c.loop-i.i < width c.args.children.now = omega (arith, c.loop-i-test.true, c.len-i-end.ensures) in
-    ap (λ p. id_before (id_in c.args.binding.now) p c.args.serial (from (c.loop-i.i + 1) c.args.children.now)) (c.unwrap_or-previous.ensures ∙ ap (λ o. unwrap_or o 0) c.id_of.ensures ∙ ap (id_in c.args.binding.now) c.serial-in-loop-i.ensures)
+    ap (λ p. id_before (id_in c.args.binding.now) p c.args.serial (from (c.loop-i.i + 1) c.args.children.now))
+    (c.unwrap_or-previous.ensures ∙ ap (λ o. unwrap_or o 0) c.id_of.ensures ∙ ap (id_in c.args.binding.now) c.serial-in-loop-i.ensures)
     ∙ prior_turn (id_in c.args.binding.now) c.args.children.now c.loop-i.i c.at-child.result c.args.serial c.loop-i.previous _ inside c.at-child.ensures c.loop-i.invariant
     (ne_eqb c.at-child.result.row.serial c.args.serial (λ same. c.if-serial.false (c.serial.ensures ∙ same)))
 
 pub returns : goal.returns
 returns c =
-    prior_end (id_in c.args.binding.now) _ c.args.serial c.loop-i.previous _ (from-end c.args.children.now c.loop-i.i (omega (arith, c.loop-i-test.false, c.len-i-end.ensures))) c.loop-i.invariant
+    prior_end (id_in c.args.binding.now) _ c.args.serial c.loop-i.previous _
+    (from-end c.args.children.now c.loop-i.i (omega (arith, c.loop-i-test.false, c.len-i-end.ensures))) c.loop-i.invariant

@@ -5,4 +5,5 @@ use Rattle.dom_agent.specs.Edits.{id_before}
 use Rattle.dom_agent.proofs.edits.id_before.Given as goal
 
 abbrev pub invariant-loop-i : goal.invariant-loop-i
-invariant-loop-i l = id_before (id_in l.binding) l.previous l.serial (from l.i l.children) ≡ id_before (id_in l.binding) 0 l.serial l.children
+invariant-loop-i l = id_before (id_in l.binding) l.previous l.serial (from l.i l.children)
+    ≡ id_before (id_in l.binding) 0 l.serial l.children

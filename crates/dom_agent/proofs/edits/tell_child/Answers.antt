@@ -14,11 +14,16 @@ returns-then-not-is_opened-clause-sent c =
     λ n. c.in_ok-tell.ensures {u = tt}
     ∙ ap (λ l. c.args.out.now.items ++ l)
     (c.count_of_known-event.ensures n
-    ∙ ap (λ (d : Edited BindingValue). frames_of_moves d.moves) (sym (came_shut n c.args.binding.now c.args.parent (node_at c.args.serial tree) (children_at c.args.parent tree) (sym (c.if-not-is_opened.ensures {u = tt})))))
+    ∙ ap (λ (d : Edited BindingValue). frames_of_moves d.moves)
+    (sym (came_shut n c.args.binding.now c.args.parent (node_at c.args.serial tree) (children_at c.args.parent tree)
+    (sym (c.if-not-is_opened.ensures {u = tt})))))
 
 pub returns-clause-sent : goal.returns-clause-sent
 returns-clause-sent c =
     let tree = c.args.page.now.tree in
-    λ n. inserted_sent n c.args.binding.now c.bind_child.new.self c.args.parent c.serial.result (node_at c.args.serial tree) c.node-node.result (children_at c.args.parent tree) c.children-children.result c.args.out.now.items _
-    c.node-node.ensures (c.children-children.ensures ∙ ap (λ (b : Branch PageRow). b.children) c.node.ensures) c.serial.ensures c.in_ok-bind_child.ensures.known (sym (c.if-not-is_opened.ensures {u = tt}))
+    λ n. inserted_sent n c.args.binding.now c.bind_child.new.self c.args.parent c.serial.result
+    (node_at c.args.serial tree) c.node-node.result (children_at c.args.parent tree) c.children-children.result c.args.out.now.items _
+    c.node-node.ensures (c.children-children.ensures ∙ ap
+    (λ (b : Branch PageRow). b.children) c.node.ensures) c.serial.ensures c.in_ok-bind_child.ensures.known
+    (sym (c.if-not-is_opened.ensures {u = tt}))
     (c.in_ok-tell_came.ensures n)

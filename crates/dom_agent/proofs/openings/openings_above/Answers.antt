@@ -10,4 +10,5 @@ pub returns : goal.returns
 returns c =
     let all : List Opening = pushing (opened_in c.args.binding.now) c.args.serial (alone c.args.document.now) in
     listed _ _ all (sym c.in_ok-climb_node.ensures.there ∙ c.if-not-branch.false)
-    (climbed_all opening_of _ _ all (c.in_ok-climb_node.ensures.above ∙ ap (λ l. map opening_of l ++ reverse all) c.new-openings.ensures.items) c.reverse.ensures.items)
+    (climbed_all opening_of _ _ all
+    (c.in_ok-climb_node.ensures.above ∙ ap (λ l. map opening_of l ++ reverse all) c.new-openings.ensures.items) c.reverse.ensures.items)

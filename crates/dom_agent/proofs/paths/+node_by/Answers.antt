@@ -6,7 +6,8 @@ use Rattle.dom_agent.proofs.paths.+node_by.Goals as goal
 
 pub returns-in_default-child_by : goal.returns-in_default-child_by
 returns-in_default-child_by t c =
-    walk_nowhere c.args.children.now c.args.path.now c.in-Some.named.now c.first_part.result.0.now c.first_part-2.result.0.now (option_copied c.first_part-2.result.1)
+    walk_nowhere c.args.children.now c.args.path.now c.in-Some.named.now c.first_part.result.0.now c.first_part-2.result.0.now
+    (option_copied c.first_part-2.result.1)
     (c.first_part.ensures.parts ∙ ap (λ r. c.first_part.result.0.now ∷ parts_after_comma (option_copied r)) c.in-Some.is)
     c.first_part-2.ensures.parts
     (sym c.in_default-child_by.is ∙ c.child_by.ensures)
@@ -17,4 +18,5 @@ returns-in-Some-rest t c =
     (c.first_part.ensures.parts ∙ ap (λ r. c.first_part.result.0.now ∷ parts_after_comma (option_copied r)) c.in-Some.is)
     (c.first_part-2.ensures.parts ∙ ap (λ r. c.first_part-2.result.0.now ∷ parts_after_comma (option_copied r)) c.in-Some-rest.is)
     c.in-Some-child_by.ensures
-    (c.node_by.ensures ∙ ap (λ n. option_and_then (λ steps. node_by steps n) (steps_of (parts_of c.in-Some-rest.rest.now))) c.children.ensures)
+    (c.node_by.ensures ∙ ap (λ n. option_and_then (λ steps. node_by steps n)
+    (steps_of (parts_of c.in-Some-rest.rest.now))) c.children.ensures)

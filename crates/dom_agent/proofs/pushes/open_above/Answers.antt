@@ -12,25 +12,34 @@ use Rattle.dom_agent.proofs.pushes.open_above.Goals as goal
 pub open_all-requires-clause-containers : goal.open_all-requires-clause-containers
 open_all-requires-clause-containers c =
     let o : ℕ → Bool = opened_in c.args.binding.now in
-    let listed = listed_above _ o c.args.serial c.root-root.result c.args.page.now.tree c.root-root.ensures (ap (option_map (λ v. map opening_of v.items)) (sym c.in-Some.is) ∙ c.in_ok-openings.ensures) in
-    subst (All IsOfContainer) (sym (ap (map opening_of) c.deref.ensures.value ∙ listed.1)) (pushing_containers c.args.page.now c.valid.ensures o c.args.serial)
+    let listed = listed_above _ o c.args.serial c.root-root.result c.args.page.now.tree c.root-root.ensures
+    (ap (option_map (λ v. map opening_of v.items)) (sym c.in-Some.is) ∙ c.in_ok-openings.ensures) in
+    subst (All IsOfContainer) (sym (ap (map opening_of) c.deref.ensures.value ∙ listed.1))
+    (pushing_containers c.args.page.now c.valid.ensures o c.args.serial)
 
 pub open_all-requires-clause-room : goal.open_all-requires-clause-room
 open_all-requires-clause-room c =
     let o : ℕ → Bool = opened_in c.args.binding.now in
-    let listed = listed_above _ o c.args.serial c.root-root.result c.args.page.now.tree c.root-root.ensures (ap (option_map (λ v. map opening_of v.items)) (sym c.in-Some.is) ∙ c.in_ok-openings.ensures) in
-    subst (λ (os : List Opening). c.args.binding.now.next + sum_by below os < 2 ^ 63) (sym (ap (map opening_of) c.deref.ensures.value ∙ listed.1)) (pushing_room c.args.page.now c.valid.ensures o c.args.serial c.args.binding.now.next c.requires)
+    let listed = listed_above _ o c.args.serial c.root-root.result c.args.page.now.tree c.root-root.ensures
+    (ap (option_map (λ v. map opening_of v.items)) (sym c.in-Some.is) ∙ c.in_ok-openings.ensures) in
+    subst (λ (os : List Opening). c.args.binding.now.next + sum_by below os < 2 ^ 63)
+    (sym (ap (map opening_of) c.deref.ensures.value ∙ listed.1))
+    (pushing_room c.args.page.now c.valid.ensures o c.args.serial c.args.binding.now.next c.requires)
 
 pub returns-clause-known : goal.returns-clause-known
 returns-clause-known c =
     let tree = c.args.page.now.tree in
-    let listed = listed_above _ (opened_in c.args.binding.now) c.args.serial c.root-root.result tree c.root-root.ensures (ap (option_map (λ v. map opening_of v.items)) (sym c.in-Some.is) ∙ c.in_ok-openings.ensures) in
+    let listed = listed_above _ (opened_in c.args.binding.now) c.args.serial c.root-root.result tree c.root-root.ensures
+    (ap (option_map (λ v. map opening_of v.items)) (sym c.in-Some.is) ∙ c.in_ok-openings.ensures) in
     c.in_ok-open_all.ensures.known (alone tree) tree
-    ∙ ap (λ os. (all_opened (binding_keeper (alone tree)) tree os c.args.binding.now).state) (ap (map opening_of) c.deref.ensures.value ∙ listed.1)
+    ∙ ap (λ os. (all_opened (binding_keeper (alone tree)) tree os c.args.binding.now).state)
+    (ap (map opening_of) c.deref.ensures.value ∙ listed.1)
 
 pub returns-clause-sent : goal.returns-clause-sent
 returns-clause-sent c =
     let tree = c.args.page.now.tree in
-    let listed = listed_above _ (opened_in c.args.binding.now) c.args.serial c.root-root.result tree c.root-root.ensures (ap (option_map (λ v. map opening_of v.items)) (sym c.in-Some.is) ∙ c.in_ok-openings.ensures) in
+    let listed = listed_above _ (opened_in c.args.binding.now) c.args.serial c.root-root.result tree c.root-root.ensures
+    (ap (option_map (λ v. map opening_of v.items)) (sym c.in-Some.is) ∙ c.in_ok-openings.ensures) in
     c.in_ok-open_all.ensures.sent (alone tree) tree
-    ∙ ap (λ os. c.args.out.now.items ++ frames_told (all_opened (binding_keeper (alone tree)) tree os c.args.binding.now).shown) (ap (map opening_of) c.deref.ensures.value ∙ listed.1)
+    ∙ ap (λ os. c.args.out.now.items ++ frames_told (all_opened (binding_keeper (alone tree)) tree os c.args.binding.now).shown)
+    (ap (map opening_of) c.deref.ensures.value ∙ listed.1)

@@ -15,9 +15,11 @@ pub loop-opening-preserved : goal.loop-opening-preserved
 loop-opening-preserved c = opens_turn c.args.openings.now c.loop-opening.opening-index c.opening-item.result _ _ _ _ _ c.loop-opening-test.true c.opening-item.is c.loop-opening.invariant _ _ c.in_ok-open_tree.ensures (λ n d. c.in_ok-tell_children.ensures n d)
 
 pub returns-clause-known : goal.returns-clause-known
-returns-clause-known c = (opens_end c.args.openings.now c.loop-opening.opening-index _ _ _ _ _ (drop_of_length-le c.args.openings.now c.loop-opening-test.false) c.loop-opening.invariant).state
+returns-clause-known c = (opens_end c.args.openings.now c.loop-opening.opening-index _ _ _ _ _
+    (drop_of_length-le c.args.openings.now c.loop-opening-test.false) c.loop-opening.invariant).state
 
 pub returns-clause-sent : goal.returns-clause-sent
 returns-clause-sent c =
-    let last = opens_end c.args.openings.now c.loop-opening.opening-index _ _ _ _ _ (drop_of_length-le c.args.openings.now c.loop-opening-test.false) c.loop-opening.invariant in
+    let last = opens_end c.args.openings.now c.loop-opening.opening-index _ _ _ _ _
+    (drop_of_length-le c.args.openings.now c.loop-opening-test.false) c.loop-opening.invariant in
     λ n d. sym (append-nil _) ∙ last.frames n d

@@ -13,30 +13,43 @@ use Rattle.dom_agent.proofs.told.+write_shown.Goals as goal
 pub write_shown-returns-clause-ok : goal.write_shown-returns-clause-ok
 write_shown-returns-clause-ok t c =
     let b = c.args.binding.now in
-    shown_written (opened_in b) (id_in b) c.args.parent c.args.node.now c.unwrap_or-id.result (told_by c.node_row-row.result) c.args.out.now.tokens
-    (c.unwrap_or-id.ensures ∙ ap (λ o. unwrap_or o 0) c.id_of.ensures ∙ ap (id_in b) c.serial.ensures) c.node_row-row.ensures c.in_ok-head.ensures.ok c.in_ok-write_opened.ensures.ok c.in_ok-tail.ensures.ok
+    shown_written (opened_in b) (id_in b) c.args.parent c.args.node.now c.unwrap_or-id.result
+    (told_by c.node_row-row.result) c.args.out.now.tokens
+    (c.unwrap_or-id.ensures ∙ ap (λ o. unwrap_or o 0) c.id_of.ensures ∙ ap
+    (id_in b) c.serial.ensures) c.node_row-row.ensures c.in_ok-head.ensures.ok c.in_ok-write_opened.ensures.ok c.in_ok-tail.ensures.ok
 
 pub write_opened-returns-then-not-is_opened-clause-ok : goal.write_opened-returns-then-not-is_opened-clause-ok
 write_opened-returns-then-not-is_opened-clause-ok t c =
     let b = c.args.binding.now in
-    children_hidden (opens (opened_in b) c.args.node.now.row) (nodes_data c.args.id (cut (opened_in b) (id_in b) c.args.node.now.children)) c.args.out.now.tokens (sym c.is_opened.ensures ∙ c.if-not-is_opened.true)
+    children_hidden (opens (opened_in b) c.args.node.now.row)
+    (nodes_data c.args.id (cut (opened_in b) (id_in b) c.args.node.now.children)) c.args.out.now.tokens
+    (sym c.is_opened.ensures ∙ c.if-not-is_opened.true)
 
 pub write_opened-returns-clause-ok : goal.write_opened-returns-clause-ok
 write_opened-returns-clause-ok t c =
     let b = c.args.binding.now in
-    children_written (opens (opened_in b) c.args.node.now.row) (nodes_data c.args.id (cut (opened_in b) (id_in b) c.args.node.now.children)) c.args.out.now.tokens (sym c.is_opened.ensures ∙ c.if-not-is_opened.false)
+    children_written (opens (opened_in b) c.args.node.now.row)
+    (nodes_data c.args.id (cut (opened_in b) (id_in b) c.args.node.now.children)) c.args.out.now.tokens
+    (sym c.is_opened.ensures ∙ c.if-not-is_opened.false)
     c.in_ok-children.ensures.ok
-    (subst (λ (n : Nodes PageRow). c.write_children.new.out.tokens ≡ c.children.new.self.tokens ++ data_tokens (nodes_data c.args.id (cut (opened_in b) (id_in b) n))) c.children-2.ensures c.in_ok-write_children.ensures.ok)
+    (subst (λ (n : Nodes PageRow). c.write_children.new.out.tokens
+    ≡ c.children.new.self.tokens ++ data_tokens
+    (nodes_data c.args.id (cut (opened_in b) (id_in b) n))) c.children-2.ensures c.in_ok-write_children.ensures.ok)
 
 pub write_children-loop-i-init : goal.write_children-loop-i-init
 write_children-loop-i-init t c =
     let b = c.args.binding.now in
-    record { tokens = left_start (cut (opened_in b) (id_in b)) c.args.parent c.args.children.now c.args.out.now.tokens c.in_ok-begin_nodes.ensures.ok; before = c.in_ok-begin_nodes.ensures.before }
+    record {
+      tokens = left_start (cut (opened_in b)
+          (id_in b)) c.args.parent c.args.children.now c.args.out.now.tokens c.in_ok-begin_nodes.ensures.ok;
+      before = c.in_ok-begin_nodes.ensures.before;
+    }
 
 pub write_children-write_shown-requires : goal.write_children-write_shown-requires
 write_children-write_shown-requires t c =
     let inside : c.loop-i.i < width c.args.children.now = omega (arith, c.loop-i-test.true, c.len-i-end.ensures) in
-    let small : 3 * branch_count c.at-child.result < 3 * node_count c.args.children.now + 1 = omega (arith, child-smaller c.args.children.now c.loop-i.i c.at-child.result inside c.at-child.ensures) in
+    let small : 3 * branch_count c.at-child.result < 3 * node_count c.args.children.now
+    + 1 = omega (arith, child-smaller c.args.children.now c.loop-i.i c.at-child.result inside c.at-child.ensures) in
     (subst (λ m. 3 * branch_count c.at-child.result < m) c.decreases small, tt)
 
 pub write_children-loop-i-preserved : goal.write_children-loop-i-preserved
@@ -44,7 +57,8 @@ write_children-loop-i-preserved t c =
     let b = c.args.binding.now in
     let inside : c.loop-i.i < width c.args.children.now = omega (arith, c.loop-i-test.true, c.len-i-end.ensures) in
     record {
-      tokens = left_turn (cut (opened_in b) (id_in b)) c.args.parent c.args.children.now (shown (opened_in b) (id_in b) c.at-child.result) c.loop-i.i c.at-child.result c.loop-i.out.tokens c.write_shown.new.out.tokens _ inside c.at-child.ensures refl c.in_ok-write_shown.ensures.ok
+      tokens = left_turn (cut (opened_in b) (id_in b)) c.args.parent c.args.children.now
+          (shown (opened_in b) (id_in b) c.at-child.result) c.loop-i.i c.at-child.result c.loop-i.out.tokens c.write_shown.new.out.tokens _ inside c.at-child.ensures refl c.in_ok-write_shown.ensures.ok
           c.loop-i.invariant.tokens;
       before = c.in_ok-write_shown.ensures.before ∙ c.loop-i.invariant.before;
     }
@@ -53,4 +67,5 @@ pub write_children-returns-clause-ok : goal.write_children-returns-clause-ok
 write_children-returns-clause-ok t c =
     let b = c.args.binding.now in
     left_end (cut (opened_in b) (id_in b)) c.args.parent c.args.children.now c.loop-i.i c.loop-i.out.tokens c.end_nodes.new.self.tokens _ refl
-    (from-end c.args.children.now c.loop-i.i (omega (arith, c.loop-i-test.false, c.len-i-end.ensures))) c.in_ok-end_nodes.ensures.ok c.loop-i.invariant.tokens
+    (from-end c.args.children.now c.loop-i.i
+    (omega (arith, c.loop-i-test.false, c.len-i-end.ensures))) c.in_ok-end_nodes.ensures.ok c.loop-i.invariant.tokens

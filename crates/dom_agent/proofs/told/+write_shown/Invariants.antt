@@ -17,6 +17,7 @@ decreases-write_children l = 3 * node_count l.children.now + 1
 
 abbrev pub invariant-write_children-loop-i : goal.invariant-write_children-loop-i
 invariant-write_children-loop-i l = record {
-  tokens : with_left (cut (opened_in l.binding) (id_in l.binding)) l.parent l.children l.out.tokens l.i ≡ l.fn.out.tokens ++ data_tokens (nodes_data l.parent (cut (opened_in l.binding) (id_in l.binding) l.children));
+  tokens : with_left (cut (opened_in l.binding) (id_in l.binding)) l.parent l.children l.out.tokens l.i
+      ≡ l.fn.out.tokens ++ data_tokens (nodes_data l.parent (cut (opened_in l.binding) (id_in l.binding) l.children));
   before : l.out.before ≡ l.fn.out.before;
 }

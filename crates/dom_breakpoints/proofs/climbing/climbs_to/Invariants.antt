@@ -7,7 +7,8 @@ use Rattle.dom_breakpoints.proofs.climbing.climbs_to.Given as goal
 abbrev pub invariant-loop-at : goal.invariant-loop-at
 invariant-loop-at l = record {
   live : IsSome (find_in l.at l.page.tree);
-  same : list_any (λ k. k == l.root) (l.at ∷ ancestors_at l.at l.page.tree) ≡ list_any (λ k. k == l.root) (l.fn.serial ∷ ancestors_at l.fn.serial l.page.tree);
+  same : list_any (λ k. k == l.root) (l.at ∷ ancestors_at l.at l.page.tree)
+      ≡ list_any (λ k. k == l.root) (l.fn.serial ∷ ancestors_at l.fn.serial l.page.tree);
 }
 
 abbrev pub decreases-loop-at : goal.decreases-loop-at

@@ -9,7 +9,8 @@ returns-then-parent-eq0 c =
     let at = c.loop-parent.at in
     let tree = c.args.page.now.tree in
     let up = step_up c.args.page.now c.valid.ensures at c.loop-parent.invariant.live in
-    sym (find_top at c.parent-parent.result tree up c.parent-parent.ensures (set.contains c.args.serials.now) (sym c.loop-parent-test.ensures) c.if-parent-eq0.true) ∙ c.loop-parent.invariant.same
+    sym (find_top at c.parent-parent.result tree up c.parent-parent.ensures (set.contains c.args.serials.now)
+    (sym c.loop-parent-test.ensures) c.if-parent-eq0.true) ∙ c.loop-parent.invariant.same
 
 pub loop-parent-smaller : goal.loop-parent-smaller
 loop-parent-smaller c =
@@ -23,5 +24,6 @@ loop-parent-preserved c =
     let up = step_up c.args.page.now c.valid.ensures at c.loop-parent.invariant.live in
     record {
       live = live_above at c.parent-parent.result tree up c.parent-parent.ensures c.if-parent-eq0.false;
-      same = sym (find_up at c.parent-parent.result tree up c.parent-parent.ensures (set.contains c.args.serials.now) (sym c.loop-parent-test.ensures) c.if-parent-eq0.false) ∙ c.loop-parent.invariant.same;
+      same = sym (find_up at c.parent-parent.result tree up c.parent-parent.ensures (set.contains c.args.serials.now)
+          (sym c.loop-parent-test.ensures) c.if-parent-eq0.false) ∙ c.loop-parent.invariant.same;
     }

@@ -10,5 +10,6 @@ decreases-push_keys l = node_count (nodes_of l.nodes.now)
 abbrev pub invariant-loop-node : goal.invariant-loop-node
 invariant-loop-node l = record {
   ids : l.ids.items ++ keys told_id (nodes_of (drop l.node-index l.nodes)) ≡ l.initial.ids.items ++ keys told_id (nodes_of l.nodes);
-  serials : l.serials.items ++ keys told_serial (nodes_of (drop l.node-index l.nodes)) ≡ l.initial.serials.items ++ keys told_serial (nodes_of l.nodes);
+  serials : l.serials.items ++ keys told_serial (nodes_of (drop l.node-index l.nodes))
+      ≡ l.initial.serials.items ++ keys told_serial (nodes_of l.nodes);
 }

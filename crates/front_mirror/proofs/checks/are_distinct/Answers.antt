@@ -12,6 +12,7 @@ pub loop-number-preserved : goal.loop-number-preserved
 loop-number-preserved c = record {
   has = λ q. grind (arith, common_steps, list_any_more, c.loop-number.invariant.has q);
   distinct =
-      distinct_more _ _ c.loop-number-test.true (was_new _ _ _ c.in_ok-insert.ensures.added (c.loop-number.invariant.has _) c.if-not-branch.false)
+      distinct_more _ _ c.loop-number-test.true
+      (was_new _ _ _ c.in_ok-insert.ensures.added (c.loop-number.invariant.has _) c.if-not-branch.false)
       c.loop-number.invariant.distinct;
 }

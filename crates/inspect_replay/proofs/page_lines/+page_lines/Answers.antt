@@ -31,4 +31,5 @@ write_children-loop-i-preserved t c =
 
 pub write_children-returns : goal.write_children-returns
 write_children-returns t c =
-    lines_end c.args.level _ _ _ (from-end c.args.children.now c.loop-i.i (omega (arith, c.loop-i-test.false, c.len-i-end.ensures))) c.loop-i.invariant
+    lines_end c.args.level _ _ _ (from-end c.args.children.now c.loop-i.i
+    (omega (arith, c.loop-i-test.false, c.len-i-end.ensures))) c.loop-i.invariant

@@ -9,7 +9,9 @@ pub returns-clause-refused : goal.returns-clause-refused
 returns-clause-refused g c = start-good (g.L.Link.up c.args.link.now) (g.L.Link.down c.args.link.now)
 
 pub returns-then-is_serve-clause-refused : goal.returns-then-is_serve-clause-refused
-returns-then-is_serve-clause-refused g c = serve-folds c.serve.result (fold_since (g.L.Link.up c.args.link.now) (g.L.Link.down c.args.link.now) (g.L.Link.up c.args.link.now) (g.L.Link.down c.args.link.now)) c.serve.ensures.only (start-good (g.L.Link.up c.args.link.now) (g.L.Link.down c.args.link.now))
+returns-then-is_serve-clause-refused g c = serve-folds c.serve.result
+    (fold_since (g.L.Link.up c.args.link.now) (g.L.Link.down c.args.link.now) (g.L.Link.up c.args.link.now)
+    (g.L.Link.down c.args.link.now)) c.serve.ensures.only (start-good (g.L.Link.up c.args.link.now) (g.L.Link.down c.args.link.now))
 
 pub returns-then-is_serve-clause-cause : goal.returns-then-is_serve-clause-cause
 returns-then-is_serve-clause-cause g c = c.serve.ensures.cause _ _

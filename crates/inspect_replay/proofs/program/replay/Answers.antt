@@ -9,11 +9,13 @@ use Rattle.inspect_replay.proofs.program.replay.Goals as goal
 
 pub returns-in-Err-clause-limits : goal.returns-in-Err-clause-limits
 returns-in-Err-clause-limits g c = λ input left.
-    subst (λ status. FitsLimits status input) (sym c.status_of.ensures) (stop-limits c.in-Err.stop input (c.in-Err.ensures.tells input left))
+    subst (λ status. FitsLimits status input) (sym c.status_of.ensures)
+    (stop-limits c.in-Err.stop input (c.in-Err.ensures.tells input left))
 
 pub returns-in-Err-clause-refused : goal.returns-in-Err-clause-refused
 returns-in-Err-clause-refused g c =
-    let same = (fold_since (g.L.Link.up c.args.link.now) (g.L.Link.down c.args.link.now) (g.L.Link.up c.args.link.now) (g.L.Link.down c.args.link.now)) in
+    let same = (fold_since (g.L.Link.up c.args.link.now) (g.L.Link.down c.args.link.now) (g.L.Link.up c.args.link.now)
+    (g.L.Link.down c.args.link.now)) in
     status-folds c.in-Err.stop c.status_of.result same c.status_of.ensures
     (input-folds c.in-Err.stop _ _ same c.in-Err.ensures.rose (start-good (g.L.Link.up c.args.link.now) (g.L.Link.down c.args.link.now)))
 
@@ -32,4 +34,5 @@ pub returns-in-Err-clause-less : goal.returns-in-Err-clause-less
 returns-in-Err-clause-less g c = λ done. absurd (never-done c.in-Err.stop c.status_of.result c.status_of.ensures done)
 
 pub returns-in-Err-clause-sound : goal.returns-in-Err-clause-sound
-returns-in-Err-clause-sound g c = λ honest up_level down_level. subst IsHonest (sym c.status_of.ensures) (stop-honest c.in-Err.stop _ _ c.in-Err.ensures.rose)
+returns-in-Err-clause-sound g c = λ honest up_level down_level. subst IsHonest (sym c.status_of.ensures)
+    (stop-honest c.in-Err.stop _ _ c.in-Err.ensures.rose)

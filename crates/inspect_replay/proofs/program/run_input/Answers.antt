@@ -21,4 +21,5 @@ returns-in-Err-clause-less g c = λ done. absurd (never-done c.in-Err.stop c.sta
 pub returns-in-Err-clause-sound : goal.returns-in-Err-clause-sound
 returns-in-Err-clause-sound g c = λ honest up_level down_level.
     subst IsHonest (sym c.status_of.ensures)
-    (run-honest c.in-Err.stop (g.K.Sink.taken c.args.out.now) (g.K.Sink.taken c.run_script.new.out) (report c.args.input.now) (c.in-Err.ensures.took honest up_level down_level))
+    (run-honest c.in-Err.stop (g.K.Sink.taken c.args.out.now) (g.K.Sink.taken c.run_script.new.out) (report c.args.input.now)
+    (c.in-Err.ensures.took honest up_level down_level))

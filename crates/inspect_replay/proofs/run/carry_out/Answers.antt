@@ -16,30 +16,39 @@ carry_plain-requires-clause-plain g c = sym c.styles_ask.ensures ∙ c.in-None.i
 pub returns-in-Some-clause-runs : goal.returns-in-Some-clause-runs
 returns-in-Some-clause-runs g c =
     let is = shows-styles (seen c.args.line) c.in-Some.ask (sym c.styles_ask.ensures ∙ c.in-Some.is) in
-    subst (λ (form : LineForm). CarriesLine (scene (moment (g.L.Link.honest c.args.link.now) (g.L.Link.up c.args.link.now) (g.L.Link.down c.args.link.now) c.args.ends.now) (g.K.Sink.taken c.args.out.now))
-    (scene (moment (g.L.Link.honest c.show_styles.new.link) (g.L.Link.up c.show_styles.new.link) (g.L.Link.down c.show_styles.new.link) c.show_styles.new.ends) (g.K.Sink.taken c.show_styles.new.out))
+    subst (λ (form : LineForm). CarriesLine
+    (scene (moment (g.L.Link.honest c.args.link.now) (g.L.Link.up c.args.link.now) (g.L.Link.down c.args.link.now) c.args.ends.now)
+    (g.K.Sink.taken c.args.out.now))
+    (scene (moment (g.L.Link.honest c.show_styles.new.link) (g.L.Link.up c.show_styles.new.link)
+    (g.L.Link.down c.show_styles.new.link) c.show_styles.new.ends) (g.K.Sink.taken c.show_styles.new.out))
     (numbered_line c.args.number form) c.show_styles.result) (sym is) c.show_styles.ensures.runs
 
 pub returns-in-Some-clause-tells : goal.returns-in-Some-clause-tells
 returns-in-Some-clause-tells g c =
     let is = shows-styles (seen c.args.line) c.in-Some.ask (sym c.styles_ask.ensures ∙ c.in-Some.is) in
-    subst (λ (form : LineForm). LineTells (moment (g.L.Link.honest c.args.link.now) (g.L.Link.up c.args.link.now) (g.L.Link.down c.args.link.now) c.args.ends.now)
-    (moment (g.L.Link.honest c.show_styles.new.link) (g.L.Link.up c.show_styles.new.link) (g.L.Link.down c.show_styles.new.link) c.show_styles.new.ends)
+    subst (λ (form : LineForm). LineTells
+    (moment (g.L.Link.honest c.args.link.now) (g.L.Link.up c.args.link.now) (g.L.Link.down c.args.link.now) c.args.ends.now)
+    (moment (g.L.Link.honest c.show_styles.new.link) (g.L.Link.up c.show_styles.new.link)
+    (g.L.Link.down c.show_styles.new.link) c.show_styles.new.ends)
     (numbered_line c.args.number form) c.show_styles.result) (sym is) c.show_styles.ensures.tells
 
 pub returns-in-Some-clause-follows : goal.returns-in-Some-clause-follows
-returns-in-Some-clause-follows g c = λ state0 up0 down0 run. c.show_styles.ensures.follows state0 up0 down0 (run-fewer state0 up0 down0 _ _ c.args.ends.now run)
+returns-in-Some-clause-follows g c = λ state0 up0 down0 run. c.show_styles.ensures.follows state0 up0 down0
+    (run-fewer state0 up0 down0 _ _ c.args.ends.now run)
 
 pub returns-in-None-clause-cause : goal.returns-in-None-clause-cause
 returns-in-None-clause-cause g c = stop-run c.carry_plain.result _ _ _ _ c.carry_plain.ensures.cause
 
 pub returns-in-None-clause-runs : goal.returns-in-None-clause-runs
 returns-in-None-clause-runs g c =
-    plain-line c.carry_plain.result _ _ _ _ _ _ _ _ c.args.ends.now c.carry_plain.new.ends c.args.number (seen c.args.line) _ _ _ _ (sym c.styles_ask.ensures ∙ c.in-None.is) c.carry_plain.ensures.cause c.carry_plain.ensures.runs
+    plain-line c.carry_plain.result _ _ _ _ _ _ _ _ c.args.ends.now c.carry_plain.new.ends c.args.number (seen c.args.line) _ _ _ _
+    (sym c.styles_ask.ensures ∙ c.in-None.is) c.carry_plain.ensures.cause c.carry_plain.ensures.runs
 
 pub returns-in-None-clause-tells : goal.returns-in-None-clause-tells
 returns-in-None-clause-tells g c =
     plain-tells c.carry_plain.result
     (moment (g.L.Link.honest c.args.link.now) (g.L.Link.up c.args.link.now) (g.L.Link.down c.args.link.now) c.args.ends.now)
-    (moment (g.L.Link.honest c.carry_plain.new.link) (g.L.Link.up c.carry_plain.new.link) (g.L.Link.down c.carry_plain.new.link) c.carry_plain.new.ends)
-    c.args.number (seen c.args.line) _ _ _ _ (sym c.styles_ask.ensures ∙ c.in-None.is) c.carry_plain.ensures.cause c.carry_plain.ensures.follows
+    (moment (g.L.Link.honest c.carry_plain.new.link) (g.L.Link.up c.carry_plain.new.link)
+    (g.L.Link.down c.carry_plain.new.link) c.carry_plain.new.ends)
+    c.args.number (seen c.args.line) _ _ _ _
+    (sym c.styles_ask.ensures ∙ c.in-None.is) c.carry_plain.ensures.cause c.carry_plain.ensures.follows

@@ -34,51 +34,64 @@ carry_raw-requires-clause-bare g c = (subst IsLater (ap seen c.in-Raw.is) c.requ
 
 pub returns-in-Load-clause-runs : goal.returns-in-Load-clause-runs
 returns-in-Load-clause-runs g c =
-    spend-carries c.load_page.result _ _ _ _ _ _ _ c.args.ends.now c.load_page.new.self (λ w. turned run_turn (loads (loaded_page c.in-Load.page)) w) c.args.number
-    (load (loaded_page c.in-Load.page)) (seen c.args.line) (subst IsLater (ap seen c.in-Load.is) c.requires.later) (λ w. refl) (λ w. refl) (λ w. refl) (λ w. refl) (ap seen c.in-Load.is) c.load_page.ensures.steps
+    spend-carries c.load_page.result _ _ _ _ _ _ _ c.args.ends.now c.load_page.new.self
+    (λ w. turned run_turn (loads (loaded_page c.in-Load.page)) w) c.args.number
+    (load (loaded_page c.in-Load.page)) (seen c.args.line) (subst IsLater (ap seen c.in-Load.is) c.requires.later) (λ w. refl) (λ w. refl)
+    (λ w. refl) (λ w. refl) (ap seen c.in-Load.is) c.load_page.ensures.steps
 
 pub returns-in-Act-clause-runs : goal.returns-in-Act-clause-runs
 returns-in-Act-clause-runs g c =
-    same-carries c.carry_act.result _ _ _ _ _ _ _ _ c.args.ends.now c.carry_act.new.ends c.args.number (forms.act c.in-Act.act) (seen c.args.line) (ap seen c.in-Act.is) c.carry_act.ensures.runs
+    same-carries c.carry_act.result _ _ _ _ _ _ _ _ c.args.ends.now c.carry_act.new.ends c.args.number (forms.act c.in-Act.act)
+    (seen c.args.line) (ap seen c.in-Act.is) c.carry_act.ensures.runs
 
 pub returns-in-Ask-clause-runs : goal.returns-in-Ask-clause-runs
 returns-in-Ask-clause-runs g c =
     spend-carries c.carry_ask.result _ _ _ _ _ _ _ c.args.ends.now c.carry_ask.new.ends (λ w. sends (seen_ask c.in-Ask.ask) w) c.args.number
-    (ask (seen_ask c.in-Ask.ask)) (seen c.args.line) (subst IsLater (ap seen c.in-Ask.is) c.requires.later) (λ w. refl) (λ w. refl) (λ w. refl) (λ w. refl) (ap seen c.in-Ask.is) c.carry_ask.ensures.steps
+    (ask (seen_ask c.in-Ask.ask)) (seen c.args.line) (subst IsLater (ap seen c.in-Ask.is) c.requires.later) (λ w. refl) (λ w. refl)
+    (λ w. refl) (λ w. refl) (ap seen c.in-Ask.is) c.carry_ask.ensures.steps
 
 pub returns-in-Raw-clause-runs : goal.returns-in-Raw-clause-runs
 returns-in-Raw-clause-runs g c =
     spend-carries c.carry_raw.result _ _ _ _ _ _ _ c.args.ends.now c.carry_raw.new.ends (λ w. raw c.in-Raw.text w) c.args.number
-    (forms.raw c.in-Raw.text) (seen c.args.line) (subst IsLater (ap seen c.in-Raw.is) c.requires.later) (λ w. refl) (λ w. refl) (λ w. refl) (λ w. refl) (ap seen c.in-Raw.is) c.carry_raw.ensures.steps
+    (forms.raw c.in-Raw.text) (seen c.args.line) (subst IsLater (ap seen c.in-Raw.is) c.requires.later) (λ w. refl) (λ w. refl) (λ w. refl)
+    (λ w. refl) (ap seen c.in-Raw.is) c.carry_raw.ensures.steps
 
 pub returns-in-Up-clause-runs : goal.returns-in-Up-clause-runs
 returns-in-Up-clause-runs g c =
-    move-carries c.deliver_up.result _ _ _ _ _ _ _ c.args.ends.now c.deliver_up.new.self (λ w. delivered_up run_step c.in-Up.n w) c.args.number (up c.in-Up.n) (seen c.args.line)
-    (subst IsLater (ap seen c.in-Up.is) c.requires.later) (λ w. refl) (λ w. refl) (λ w. refl) (λ w. refl) (ap seen c.in-Up.is) c.deliver_up.ensures.steps
+    move-carries c.deliver_up.result _ _ _ _ _ _ _ c.args.ends.now c.deliver_up.new.self
+    (λ w. delivered_up run_step c.in-Up.n w) c.args.number (up c.in-Up.n) (seen c.args.line)
+    (subst IsLater (ap seen c.in-Up.is) c.requires.later) (λ w. refl) (λ w. refl) (λ w. refl) (λ w. refl)
+    (ap seen c.in-Up.is) c.deliver_up.ensures.steps
 
 pub returns-in-Down-clause-runs : goal.returns-in-Down-clause-runs
 returns-in-Down-clause-runs g c =
-    move-carries c.deliver_down.result _ _ _ _ _ _ _ c.args.ends.now c.deliver_down.new.self (λ w. delivered_down c.in-Down.n w) c.args.number (down c.in-Down.n) (seen c.args.line)
-    (subst IsLater (ap seen c.in-Down.is) c.requires.later) (λ w. refl) (λ w. refl) (λ w. refl) (λ w. refl) (ap seen c.in-Down.is) c.deliver_down.ensures.steps
+    move-carries c.deliver_down.result _ _ _ _ _ _ _ c.args.ends.now c.deliver_down.new.self
+    (λ w. delivered_down c.in-Down.n w) c.args.number (down c.in-Down.n) (seen c.args.line)
+    (subst IsLater (ap seen c.in-Down.is) c.requires.later) (λ w. refl) (λ w. refl) (λ w. refl) (λ w. refl)
+    (ap seen c.in-Down.is) c.deliver_down.ensures.steps
 
 pub returns-in-Settle-clause-runs : goal.returns-in-Settle-clause-runs
 returns-in-Settle-clause-runs g c =
-    spend-carries c.settle.result _ _ _ _ _ _ _ c.args.ends.now c.settle.new.self (refreshes front_fetcher) c.args.number settle (seen c.args.line)
+    spend-carries c.settle.result _ _ _ _ _ _ _ c.args.ends.now c.settle.new.self (refreshes front_fetcher) c.args.number settle
+    (seen c.args.line)
     tt (λ w. refl) refreshed-told (λ w. refl) (λ w. refl) (ap seen c.in-Settle.is)
     (settles-spend c.settle.result _ _ _ _ _ _ c.args.ends.now c.settle.new.self c.settle.ensures.steps)
 
 pub returns-in-ShowFront-clause-runs : goal.returns-in-ShowFront-clause-runs
 returns-in-ShowFront-clause-runs g c =
-    same-carries c.show_front.result _ _ _ _ _ _ _ _ c.args.ends.now c.show_front.new.ends c.args.number show_front (seen c.args.line) (ap seen c.in-ShowFront.is) (c.show_front.ensures.runs c.args.number)
+    same-carries c.show_front.result _ _ _ _ _ _ _ _ c.args.ends.now c.show_front.new.ends c.args.number show_front (seen c.args.line)
+    (ap seen c.in-ShowFront.is) (c.show_front.ensures.runs c.args.number)
 
 pub returns-in-ShowPage-clause-runs : goal.returns-in-ShowPage-clause-runs
 returns-in-ShowPage-clause-runs g c =
-    same-carries c.print_page.result _ _ _ _ _ _ _ _ c.args.ends.now c.args.ends.now c.args.number show_page (seen c.args.line) (ap seen c.in-ShowPage.is)
+    same-carries c.print_page.result _ _ _ _ _ _ _ _ c.args.ends.now c.args.ends.now c.args.number show_page (seen c.args.line)
+    (ap seen c.in-ShowPage.is)
     (page-carries c.print_page.result _ _ _ _ _ c.args.ends.now c.args.number c.page.result.now c.page.ensures c.print_page.ensures.never c.print_page.ensures.ok c.print_page.ensures.err)
 
 pub returns-in-ShowReplies-clause-runs : goal.returns-in-ShowReplies-clause-runs
 returns-in-ShowReplies-clause-runs g c =
-    same-carries c.show_replies.result _ _ _ _ _ _ _ _ c.args.ends.now c.show_replies.new.ends c.args.number show_replies (seen c.args.line) (ap seen c.in-ShowReplies.is) (c.show_replies.ensures.runs c.args.number)
+    same-carries c.show_replies.result _ _ _ _ _ _ _ _ c.args.ends.now c.show_replies.new.ends c.args.number show_replies
+    (seen c.args.line) (ap seen c.in-ShowReplies.is) (c.show_replies.ensures.runs c.args.number)
 
 pub returns-in-Load-clause-some : goal.returns-in-Load-clause-some
 returns-in-Load-clause-some g c = none-printed c.load_page.result _
@@ -103,43 +116,56 @@ returns-in-ShowPage-clause-some g c = some-printed c.print_page.result _ _ _ c.p
 
 pub returns-in-ShowPage-clause-follows : goal.returns-in-ShowPage-clause-follows
 returns-in-ShowPage-clause-follows g c = λ state0 up0 down0 run.
-    kept-run c.print_page.result state0 up0 down0 _ _ c.args.ends.now c.print_page.ensures.never (run-fewer state0 up0 down0 _ _ c.args.ends.now run)
+    kept-run c.print_page.result state0 up0 down0 _ _ c.args.ends.now c.print_page.ensures.never
+    (run-fewer state0 up0 down0 _ _ c.args.ends.now run)
 
 pub returns-in-Ask-clause-follows : goal.returns-in-Ask-clause-follows
-returns-in-Ask-clause-follows g c = λ state0 up0 down0 run. c.carry_ask.ensures.follows state0 up0 down0 (run-fewer state0 up0 down0 _ _ c.args.ends.now run)
+returns-in-Ask-clause-follows g c = λ state0 up0 down0 run. c.carry_ask.ensures.follows state0 up0 down0
+    (run-fewer state0 up0 down0 _ _ c.args.ends.now run)
 
 pub returns-in-Raw-clause-follows : goal.returns-in-Raw-clause-follows
-returns-in-Raw-clause-follows g c = λ state0 up0 down0 run. c.carry_raw.ensures.follows state0 up0 down0 (run-fewer state0 up0 down0 _ _ c.args.ends.now run)
+returns-in-Raw-clause-follows g c = λ state0 up0 down0 run. c.carry_raw.ensures.follows state0 up0 down0
+    (run-fewer state0 up0 down0 _ _ c.args.ends.now run)
 
 pub returns-in-Up-clause-follows : goal.returns-in-Up-clause-follows
-returns-in-Up-clause-follows g c = λ state0 up0 down0 run. c.deliver_up.ensures.follows state0 up0 down0 (run-fewer state0 up0 down0 _ _ c.args.ends.now run)
+returns-in-Up-clause-follows g c = λ state0 up0 down0 run. c.deliver_up.ensures.follows state0 up0 down0
+    (run-fewer state0 up0 down0 _ _ c.args.ends.now run)
 
 pub returns-in-Down-clause-follows : goal.returns-in-Down-clause-follows
-returns-in-Down-clause-follows g c = λ state0 up0 down0 run. c.deliver_down.ensures.follows state0 up0 down0 (run-fewer state0 up0 down0 _ _ c.args.ends.now run)
+returns-in-Down-clause-follows g c = λ state0 up0 down0 run. c.deliver_down.ensures.follows state0 up0 down0
+    (run-fewer state0 up0 down0 _ _ c.args.ends.now run)
 
 pub returns-in-Settle-clause-follows : goal.returns-in-Settle-clause-follows
-returns-in-Settle-clause-follows g c = λ state0 up0 down0 run. c.settle.ensures.follows state0 up0 down0 (run-fewer state0 up0 down0 _ _ c.args.ends.now run)
+returns-in-Settle-clause-follows g c = λ state0 up0 down0 run. c.settle.ensures.follows state0 up0 down0
+    (run-fewer state0 up0 down0 _ _ c.args.ends.now run)
 
 pub returns-in-ShowFront-clause-follows : goal.returns-in-ShowFront-clause-follows
-returns-in-ShowFront-clause-follows g c = λ state0 up0 down0 run. c.show_front.ensures.follows state0 up0 down0 (run-fewer state0 up0 down0 _ _ c.args.ends.now run)
+returns-in-ShowFront-clause-follows g c = λ state0 up0 down0 run. c.show_front.ensures.follows state0 up0 down0
+    (run-fewer state0 up0 down0 _ _ c.args.ends.now run)
 
 pub returns-in-ShowReplies-clause-follows : goal.returns-in-ShowReplies-clause-follows
-returns-in-ShowReplies-clause-follows g c = λ state0 up0 down0 run. c.show_replies.ensures.follows state0 up0 down0 (run-fewer state0 up0 down0 _ _ c.args.ends.now run)
+returns-in-ShowReplies-clause-follows g c = λ state0 up0 down0 run. c.show_replies.ensures.follows state0 up0 down0
+    (run-fewer state0 up0 down0 _ _ c.args.ends.now run)
 
 pub returns-in-ShowSheets-clause-runs : goal.returns-in-ShowSheets-clause-runs
 returns-in-ShowSheets-clause-runs g c =
-    same-carries c.show_sheets.result _ _ _ _ _ _ _ _ c.args.ends.now c.show_sheets.new.ends c.args.number show_sheets (seen c.args.line) (ap seen c.in-ShowSheets.is) (c.show_sheets.ensures.runs c.args.number)
+    same-carries c.show_sheets.result _ _ _ _ _ _ _ _ c.args.ends.now c.show_sheets.new.ends c.args.number show_sheets (seen c.args.line)
+    (ap seen c.in-ShowSheets.is) (c.show_sheets.ensures.runs c.args.number)
 
 pub returns-in-ShowSheets-clause-follows : goal.returns-in-ShowSheets-clause-follows
-returns-in-ShowSheets-clause-follows g c = λ state0 up0 down0 run. c.show_sheets.ensures.follows state0 up0 down0 (run-fewer state0 up0 down0 _ _ c.args.ends.now run)
+returns-in-ShowSheets-clause-follows g c = λ state0 up0 down0 run. c.show_sheets.ensures.follows state0 up0 down0
+    (run-fewer state0 up0 down0 _ _ c.args.ends.now run)
 
 pub returns-in-ShowPauses-clause-runs : goal.returns-in-ShowPauses-clause-runs
 returns-in-ShowPauses-clause-runs g c =
-    same-carries c.show_pauses.result _ _ _ _ _ _ _ _ c.args.ends.now c.show_pauses.new.ends c.args.number show_pauses (seen c.args.line) (ap seen c.in-ShowPauses.is) (c.show_pauses.ensures.runs c.args.number)
+    same-carries c.show_pauses.result _ _ _ _ _ _ _ _ c.args.ends.now c.show_pauses.new.ends c.args.number show_pauses (seen c.args.line)
+    (ap seen c.in-ShowPauses.is) (c.show_pauses.ensures.runs c.args.number)
 
 pub returns-in-ShowPauses-clause-follows : goal.returns-in-ShowPauses-clause-follows
-returns-in-ShowPauses-clause-follows g c = λ state0 up0 down0 run. c.show_pauses.ensures.follows state0 up0 down0 (run-fewer state0 up0 down0 _ _ c.args.ends.now run)
+returns-in-ShowPauses-clause-follows g c = λ state0 up0 down0 run. c.show_pauses.ensures.follows state0 up0 down0
+    (run-fewer state0 up0 down0 _ _ c.args.ends.now run)
 
 pub unreachable-requires : goal.unreachable-requires
 unreachable-requires g c =
-    let shows : ◌≡◌ {A = Option ℕ} (Some c.in-ShowStyles.field-0) None = sym (ap (λ line. styles_ask (seen line)) c.in-ShowStyles.is) ∙ c.requires.plain in absurd cc
+    let shows : ◌≡◌ {A = Option ℕ} (Some c.in-ShowStyles.field-0) None = sym
+    (ap (λ line. styles_ask (seen line)) c.in-ShowStyles.is) ∙ c.requires.plain in absurd cc

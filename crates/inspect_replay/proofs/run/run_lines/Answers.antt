@@ -8,7 +8,8 @@ use Rattle.inspect_world.proofs.Inputs.{later_line}
 use Rattle.inspect_replay.specs.Moments.{moment}
 use Rattle.inspect_replay.specs.Followed.{fold_since}
 use Rattle.inspect_replay.proofs.LinesRun.{run-on, run-stops, read-stops, lines-done, with_lines, run-later, whole_of}
-use Rattle.inspect_replay.proofs.LinesTell.{carried-first, carried-lines, carried-on, ok-lacks, line-stops, read-tells, carried-all, carried-tells}
+use Rattle.inspect_replay.proofs.LinesTell.{carried-first, carried-lines, carried-on, ok-lacks, line-stops, read-tells, carried-all}
+use Rattle.inspect_replay.proofs.LinesTell.{carried-tells}
 use Rattle.inspect_replay.proofs.FollowLemmas.{run-good, run-line, more-printed, read-folds}
 use Rattle.inspect_replay.proofs.run.run_lines.Goals as goal
 
@@ -19,29 +20,47 @@ loop-text-init g c = (
   (λ h. h),
   omega arith,
   omega arith,
-  λ up0 down0 w play. record { world = w; in_play = play; so_far = []; wrote = Appends-nil (g.K.Sink.taken c.args.out.now); text = refl; worlds = refl; refused = refl },
+  λ up0 down0 w play. record {
+    world = w;
+    in_play = play;
+    so_far = [];
+    wrote = Appends-nil (g.K.Sink.taken c.args.out.now);
+    text = refl;
+    worlds = refl;
+    refused = refl;
+  },
   λ state0 up0 down0 run. carried-first state0 up0 down0 _ _ c.args.lines c.args.ends.now run,
   record { written = []; printed = Appends-nil (g.K.Sink.taken c.args.out.now) },
 )
 
 pub carry_out-carried-requires : goal.carry_out-carried-requires
-carry_out-carried-requires g c = later_line c.loop-text.number c.in-Some.text.now (seen c.in-Ok.line) c.in-Ok.ensures.good c.in-Ok.ensures.form
+carry_out-carried-requires g c = later_line c.loop-text.number c.in-Some.text.now
+    (seen c.in-Ok.line) c.in-Ok.ensures.good c.in-Ok.ensures.form
 
 pub returns-in-Err-clause-runs : goal.returns-in-Err-clause-runs
 returns-in-Err-clause-runs g c = λ up0 down0 w play.
-    let stops = read-stops c.in-Err.stop _ up0 down0 _ _ (g.K.Sink.taken c.args.out.now) (g.K.Sink.taken c.loop-text.out) (whole_of c.args.lines w) c.loop-text.number c.in-Some.text.now c.next_line.new.lines c.loop-text.ends
-    (with_lines _ up0 down0 _ _ _ _ _ c.loop-text.number c.loop-text.lines (c.in-Some.text.now ∷ c.next_line.new.lines) c.loop-text.ends c.in-Some.ensures.some (c.loop-text.invariant.5 up0 down0 w play)) c.in-Err.ensures.bad in
+    let stops = read-stops c.in-Err.stop _ up0 down0 _ _ (g.K.Sink.taken c.args.out.now) (g.K.Sink.taken c.loop-text.out)
+    (whole_of c.args.lines w) c.loop-text.number c.in-Some.text.now c.next_line.new.lines c.loop-text.ends
+    (with_lines _ up0 down0 _ _ _ _ _ c.loop-text.number c.loop-text.lines
+    (c.in-Some.text.now ∷ c.next_line.new.lines) c.loop-text.ends c.in-Some.ensures.some
+    (c.loop-text.invariant.5 up0 down0 w play)) c.in-Err.ensures.bad in
     (tt, stops.0, stops.1)
 
 pub returns-in-Err-carried-clause-runs : goal.returns-in-Err-carried-clause-runs
 returns-in-Err-carried-clause-runs g c = λ up0 down0 w play.
     let more = c.next_line.new.lines in
-    let running = with_lines (g.L.Link.honest c.loop-text.link) up0 down0 (g.L.Link.up c.loop-text.link) (g.L.Link.down c.loop-text.link) (g.K.Sink.taken c.args.out.now) (g.K.Sink.taken c.loop-text.out) (whole_of c.args.lines w)
-    c.loop-text.number c.loop-text.lines (c.in-Some.text.now ∷ more) c.loop-text.ends c.in-Some.ensures.some (c.loop-text.invariant.5 up0 down0 w play) in
-    let carried = (c.in-Err-carried.ensures {u = tt}).runs up0 down0 (line_bytes more) running.world (run-later _ up0 down0 _ _ c.in-Some.text.now more (seen c.in-Ok.line) running.world c.loop-text.ends c.in-Ok.ensures.form running.in_play) in
-    let stops = run-stops (g.L.Link.honest c.loop-text.link) (g.L.Link.honest c.carry_out-carried.new.link) up0 down0 (g.L.Link.up c.loop-text.link) (g.L.Link.down c.loop-text.link)
+    let running = with_lines (g.L.Link.honest c.loop-text.link) up0 down0 (g.L.Link.up c.loop-text.link) (g.L.Link.down c.loop-text.link)
+    (g.K.Sink.taken c.args.out.now) (g.K.Sink.taken c.loop-text.out) (whole_of c.args.lines w)
+    c.loop-text.number c.loop-text.lines (c.in-Some.text.now ∷ more) c.loop-text.ends c.in-Some.ensures.some
+    (c.loop-text.invariant.5 up0 down0 w play) in
+    let carried = (c.in-Err-carried.ensures {u = tt}).runs up0 down0 (line_bytes more) running.world
+    (run-later _ up0 down0 _ _ c.in-Some.text.now more
+    (seen c.in-Ok.line) running.world c.loop-text.ends c.in-Ok.ensures.form running.in_play) in
+    let stops = run-stops (g.L.Link.honest c.loop-text.link) (g.L.Link.honest c.carry_out-carried.new.link) up0 down0
+    (g.L.Link.up c.loop-text.link) (g.L.Link.down c.loop-text.link)
     (g.L.Link.up c.carry_out-carried.new.link) (g.L.Link.down c.carry_out-carried.new.link)
-    (g.K.Sink.taken c.args.out.now) (g.K.Sink.taken c.loop-text.out) (g.K.Sink.taken c.carry_out-carried.new.out) (whole_of c.args.lines w) c.loop-text.number c.in-Some.text.now more (seen c.in-Ok.line)
+    (g.K.Sink.taken c.args.out.now) (g.K.Sink.taken c.loop-text.out) (g.K.Sink.taken c.carry_out-carried.new.out)
+    (whole_of c.args.lines w) c.loop-text.number c.in-Some.text.now more (seen c.in-Ok.line)
     c.loop-text.ends c.carry_out-carried.new.ends running c.in-Ok.ensures.good c.in-Ok.ensures.form c.in-Err-carried.stop carried.1 carried.2 in
     (tt, stops.0, stops.1)
 
@@ -58,17 +77,24 @@ loop-text-preserved g c =
       omega (arith, c.loop-text.invariant.4, carried.cause.link_later),
       λ up0 down0 w play.
           run-on (g.L.Link.honest c.loop-text.link) (g.L.Link.honest c.carry_out-carried.new.link) up0 down0
-          (g.L.Link.up c.loop-text.link) (g.L.Link.down c.loop-text.link) (g.L.Link.up c.carry_out-carried.new.link) (g.L.Link.down c.carry_out-carried.new.link)
+          (g.L.Link.up c.loop-text.link) (g.L.Link.down c.loop-text.link) (g.L.Link.up c.carry_out-carried.new.link)
+          (g.L.Link.down c.carry_out-carried.new.link)
           (g.K.Sink.taken c.args.out.now) (g.K.Sink.taken c.loop-text.out) (g.K.Sink.taken c.carry_out-carried.new.out) _ c.loop-text.number
           c.in-Some.text.now more form c.loop-text.ends c.carry_out-carried.new.ends
-          (with_lines _ up0 down0 _ _ _ _ _ c.loop-text.number c.loop-text.lines (c.in-Some.text.now ∷ more) c.loop-text.ends c.in-Some.ensures.some (c.loop-text.invariant.5 up0 down0 w play))
+          (with_lines _ up0 down0 _ _ _ _ _ c.loop-text.number c.loop-text.lines
+          (c.in-Some.text.now ∷ more) c.loop-text.ends c.in-Some.ensures.some (c.loop-text.invariant.5 up0 down0 w play))
           c.in-Ok.ensures.good c.in-Ok.ensures.form carried.runs,
       λ state0 up0 down0 run.
-          let before = carried-lines state0 up0 down0 (g.L.Link.up c.loop-text.link) (g.L.Link.down c.loop-text.link) c.args.lines c.loop-text.number c.loop-text.lines (c.in-Some.text.now ∷ more) c.loop-text.ends
+          let before = carried-lines state0 up0 down0 (g.L.Link.up c.loop-text.link)
+          (g.L.Link.down c.loop-text.link) c.args.lines c.loop-text.number c.loop-text.lines
+          (c.in-Some.text.now ∷ more) c.loop-text.ends
           c.in-Some.ensures.some (c.loop-text.invariant.6 state0 up0 down0 run) in
-          let line = run-line state0 before.shown up0 down0 _ _ c.loop-text.ends (c.in-Some.text.now ∷ more) c.in-Some.text.now more refl before.run in
-          carried-on state0 up0 down0 _ _ (moment (g.L.Link.honest c.loop-text.link) (g.L.Link.up c.loop-text.link) (g.L.Link.down c.loop-text.link) c.loop-text.ends)
-          (moment (g.L.Link.honest c.carry_out-carried.new.link) (g.L.Link.up c.carry_out-carried.new.link) (g.L.Link.down c.carry_out-carried.new.link) c.carry_out-carried.new.ends)
+          let line = run-line state0 before.shown up0 down0 _ _ c.loop-text.ends
+          (c.in-Some.text.now ∷ more) c.in-Some.text.now more refl before.run in
+          carried-on state0 up0 down0 _ _
+          (moment (g.L.Link.honest c.loop-text.link) (g.L.Link.up c.loop-text.link) (g.L.Link.down c.loop-text.link) c.loop-text.ends)
+          (moment (g.L.Link.honest c.carry_out-carried.new.link) (g.L.Link.up c.carry_out-carried.new.link)
+          (g.L.Link.down c.carry_out-carried.new.link) c.carry_out-carried.new.ends)
           c.args.lines c.loop-text.number c.in-Some.text.now more form before c.in-Ok.ensures.good c.in-Ok.ensures.form
           (carried.follows (run_started state0 (length more) before.shown) up0 down0 line).0
           (ok-lacks c.loop-text.number _ (carried.tells (run_started state0 (length more) before.shown) up0 down0 line).0),
@@ -83,32 +109,43 @@ returns-clause-runs g c = λ up0 down0 w play.
 
 pub returns-in-Err-clause-follows : goal.returns-in-Err-clause-follows
 returns-in-Err-clause-follows g c = λ state0 up0 down0 run.
-    let before = carried-lines state0 up0 down0 (g.L.Link.up c.loop-text.link) (g.L.Link.down c.loop-text.link) c.args.lines c.loop-text.number c.loop-text.lines (c.in-Some.text.now ∷ c.next_line.new.lines) c.loop-text.ends
+    let before = carried-lines state0 up0 down0 (g.L.Link.up c.loop-text.link)
+    (g.L.Link.down c.loop-text.link) c.args.lines c.loop-text.number c.loop-text.lines
+    (c.in-Some.text.now ∷ c.next_line.new.lines) c.loop-text.ends
     c.in-Some.ensures.some (c.loop-text.invariant.6 state0 up0 down0 run) in (
       tt,
-      read-folds c.in-Err.stop c.loop-text.number _ (fold_since up0 down0 (g.L.Link.up c.loop-text.link) (g.L.Link.down c.loop-text.link)) c.in-Err.ensures.bad
-          (run-good (run_started state0 (length (c.in-Some.text.now ∷ c.next_line.new.lines)) before.shown) up0 down0 (g.L.Link.up c.loop-text.link) (g.L.Link.down c.loop-text.link) c.loop-text.ends before.run),
+      read-folds c.in-Err.stop c.loop-text.number _
+          (fold_since up0 down0 (g.L.Link.up c.loop-text.link) (g.L.Link.down c.loop-text.link)) c.in-Err.ensures.bad
+          (run-good (run_started state0 (length (c.in-Some.text.now ∷ c.next_line.new.lines)) before.shown) up0 down0
+          (g.L.Link.up c.loop-text.link) (g.L.Link.down c.loop-text.link) c.loop-text.ends before.run),
       read-tells c.in-Err.stop state0 up0 down0 _ _ c.args.lines c.loop-text.number c.in-Some.text.now c.next_line.new.lines c.loop-text.ends before c.in-Err.ensures.bad,
     )
 
 pub returns-in-Err-carried-clause-follows : goal.returns-in-Err-carried-clause-follows
 returns-in-Err-carried-clause-follows g c = λ state0 up0 down0 run.
     let more = c.next_line.new.lines in
-    let before = carried-lines state0 up0 down0 (g.L.Link.up c.loop-text.link) (g.L.Link.down c.loop-text.link) c.args.lines c.loop-text.number c.loop-text.lines (c.in-Some.text.now ∷ more) c.loop-text.ends
+    let before = carried-lines state0 up0 down0 (g.L.Link.up c.loop-text.link)
+    (g.L.Link.down c.loop-text.link) c.args.lines c.loop-text.number c.loop-text.lines (c.in-Some.text.now ∷ more) c.loop-text.ends
     c.in-Some.ensures.some (c.loop-text.invariant.6 state0 up0 down0 run) in
-    let line = run-line state0 before.shown up0 down0 _ _ c.loop-text.ends (c.in-Some.text.now ∷ more) c.in-Some.text.now more refl before.run in
+    let line = run-line state0 before.shown up0 down0 _ _ c.loop-text.ends
+    (c.in-Some.text.now ∷ more) c.in-Some.text.now more refl before.run in
     let stops = c.in-Err-carried.ensures {u = tt} in (
       tt,
       (stops.follows (run_started state0 (length more) before.shown) up0 down0 line).1,
-      line-stops c.in-Err-carried.stop state0 up0 down0 _ _ (fold_since up0 down0 (g.L.Link.up c.carry_out-carried.new.link) (g.L.Link.down c.carry_out-carried.new.link)) c.args.lines c.loop-text.number
-          c.in-Some.text.now more (seen c.in-Ok.line) c.loop-text.ends before c.in-Ok.ensures.good c.in-Ok.ensures.form (stops.tells (run_started state0 (length more) before.shown) up0 down0 line),
+      line-stops c.in-Err-carried.stop state0 up0 down0 _ _
+          (fold_since up0 down0 (g.L.Link.up c.carry_out-carried.new.link)
+          (g.L.Link.down c.carry_out-carried.new.link)) c.args.lines c.loop-text.number
+          c.in-Some.text.now more (seen c.in-Ok.line) c.loop-text.ends before c.in-Ok.ensures.good c.in-Ok.ensures.form
+          (stops.tells (run_started state0 (length more) before.shown) up0 down0 line),
     )
 
 pub returns-clause-follows : goal.returns-clause-follows
 returns-clause-follows g c = λ state0 up0 down0 run.
     let new = moment (g.L.Link.honest c.loop-text.link) (g.L.Link.up c.loop-text.link) (g.L.Link.down c.loop-text.link) c.loop-text.ends in
-    let all = carried-all state0 up0 down0 new c.args.lines c.loop-text.number c.loop-text.lines ((c.in_default.ensures {u = tt}).none refl) (c.loop-text.invariant.6 state0 up0 down0 run) in (
+    let all = carried-all state0 up0 down0 new c.args.lines c.loop-text.number c.loop-text.lines
+    ((c.in_default.ensures {u = tt}).none refl) (c.loop-text.invariant.6 state0 up0 down0 run) in (
       all,
-      run-good (run_started state0 0 all.shown) up0 down0 (g.L.Link.up c.loop-text.link) (g.L.Link.down c.loop-text.link) c.loop-text.ends all.run,
+      run-good (run_started state0 0 all.shown) up0 down0 (g.L.Link.up c.loop-text.link)
+          (g.L.Link.down c.loop-text.link) c.loop-text.ends all.run,
       carried-tells state0 up0 down0 new c.args.lines all,
     )

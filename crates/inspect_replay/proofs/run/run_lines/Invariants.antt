@@ -20,10 +20,14 @@ invariant-loop-text g l =
     × (g.K.Sink.faults l.initial.out ≤ g.K.Sink.faults l.out)
     × (g.L.Link.faults l.initial.link ≤ g.L.Link.faults l.link)
     × ((up0 down0 : Pipe) (w : World RunState)
-    → InPlay (g.L.Link.honest l.initial.link) up0 down0 (g.L.Link.up l.initial.link) (g.L.Link.down l.initial.link) (line_bytes l.initial.lines) w l.initial.ends
-    → Running (g.L.Link.honest l.link) up0 down0 (g.L.Link.up l.link) (g.L.Link.down l.link) (g.K.Sink.taken l.initial.out) (g.K.Sink.taken l.out)
+    → InPlay (g.L.Link.honest l.initial.link) up0 down0 (g.L.Link.up l.initial.link) (g.L.Link.down l.initial.link)
+    (line_bytes l.initial.lines) w l.initial.ends
+    → Running (g.L.Link.honest l.link) up0 down0 (g.L.Link.up l.link) (g.L.Link.down l.link) (g.K.Sink.taken l.initial.out)
+    (g.K.Sink.taken l.out)
     (whole_of l.initial.lines w) l.number l.lines l.ends)
-    × ((state0 : State) (up0 down0 : Pipe) → FollowsRun (run_started state0 (length l.initial.lines) []) up0 down0 (g.L.Link.up l.initial.link) (g.L.Link.down l.initial.link) l.initial.ends
+    × ((state0 : State) (up0 down0 : Pipe)
+    → FollowsRun (run_started state0 (length l.initial.lines) []) up0 down0 (g.L.Link.up l.initial.link)
+    (g.L.Link.down l.initial.link) l.initial.ends
     → Carried state0 up0 down0 (g.L.Link.up l.link) (g.L.Link.down l.link) l.initial.lines l.number l.lines l.ends)
     × PrintedSome (g.K.Sink.taken l.initial.out) (g.K.Sink.taken l.out)
 

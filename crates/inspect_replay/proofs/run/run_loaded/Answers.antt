@@ -17,12 +17,24 @@ returns-in-Ok-clause-took g c = λ honest up_level down_level.
     let page = loaded_page c.args.form in
     let w = loaded_world page in
     let first = c.in_ok-ends.ensures in
-    let run = begins (g.L.Link.honest c.args.link.now) (g.L.Link.up c.args.link.now) (g.L.Link.down c.args.link.now) page c.in_ok-ends.ends honest c.requires.can c.requires.texts up_level down_level
-    (record { page_is = first.page; sheets_are = first.sheets; next_is = first.numbers; off = first.off; css = first.css; agent_is = first.agent; watches_are = first.watches; history_is = first.history })
+    let run = begins (g.L.Link.honest c.args.link.now) (g.L.Link.up c.args.link.now)
+    (g.L.Link.down c.args.link.now) page c.in_ok-ends.ends honest c.requires.can c.requires.texts up_level down_level
+    (record {
+      page_is = first.page;
+      sheets_are = first.sheets;
+      next_is = first.numbers;
+      off = first.off;
+      css = first.css;
+      agent_is = first.agent;
+      watches_are = first.watches;
+      history_is = first.history;
+    })
     first.splitter first.front first.up first.down first.told first.told_pauses in
-    let play = play-begins (g.L.Link.honest c.args.link.now) (g.L.Link.up c.args.link.now) (g.L.Link.down c.args.link.now) page (line_bytes c.args.lines) c.in_ok-ends.ends c.requires.can c.requires.texts c.requires.short run in
+    let play = play-begins (g.L.Link.honest c.args.link.now) (g.L.Link.up c.args.link.now) (g.L.Link.down c.args.link.now) page
+    (line_bytes c.args.lines) c.in_ok-ends.ends c.requires.can c.requires.texts c.requires.short run in
     let ran = (c.in-Ok.ensures {u = c.in-Ok.field-0}).runs (g.L.Link.up c.args.link.now) (g.L.Link.down c.args.link.now) w play in
-    let closes = c.close.ensures.runs (g.L.Link.up c.args.link.now) (g.L.Link.down c.args.link.now) (after_lines (shown_lines (good_lines 2 c.args.lines) w) w) ran.0 in
+    let closes = c.close.ensures.runs (g.L.Link.up c.args.link.now) (g.L.Link.down c.args.link.now)
+    (after_lines (shown_lines (good_lines 2 c.args.lines) w) w) ran.0 in
     closed-took c.close.result _ _ _ _ (g.K.Sink.taken c.args.out.now) (g.K.Sink.taken c.run_lines.new.out) (g.K.Sink.taken c.close.new.out)
     (first_bad 2 c.args.lines) (good_lines 2 c.args.lines) w ran.2 c.close.ensures.cause closes.0 ran.1 closes.1
 
@@ -31,10 +43,21 @@ returns-clause-took g c = λ honest up_level down_level.
     let page = loaded_page c.args.form in
     let w = loaded_world page in
     let first = c.in_ok-ends.ensures in
-    let run = begins (g.L.Link.honest c.args.link.now) (g.L.Link.up c.args.link.now) (g.L.Link.down c.args.link.now) page c.in_ok-ends.ends honest c.requires.can c.requires.texts up_level down_level
-    (record { page_is = first.page; sheets_are = first.sheets; next_is = first.numbers; off = first.off; css = first.css; agent_is = first.agent; watches_are = first.watches; history_is = first.history })
+    let run = begins (g.L.Link.honest c.args.link.now) (g.L.Link.up c.args.link.now)
+    (g.L.Link.down c.args.link.now) page c.in_ok-ends.ends honest c.requires.can c.requires.texts up_level down_level
+    (record {
+      page_is = first.page;
+      sheets_are = first.sheets;
+      next_is = first.numbers;
+      off = first.off;
+      css = first.css;
+      agent_is = first.agent;
+      watches_are = first.watches;
+      history_is = first.history;
+    })
     first.splitter first.front first.up first.down first.told first.told_pauses in
-    let play = play-begins (g.L.Link.honest c.args.link.now) (g.L.Link.up c.args.link.now) (g.L.Link.down c.args.link.now) page (line_bytes c.args.lines) c.in_ok-ends.ends c.requires.can c.requires.texts c.requires.short run in
+    let play = play-begins (g.L.Link.honest c.args.link.now) (g.L.Link.up c.args.link.now) (g.L.Link.down c.args.link.now) page
+    (line_bytes c.args.lines) c.in_ok-ends.ends c.requires.can c.requires.texts c.requires.short run in
     let ran = (c.in-Err.ensures {u = tt}).runs (g.L.Link.up c.args.link.now) (g.L.Link.down c.args.link.now) w play in
     stopped-took c.in-Err.stop (g.K.Sink.taken c.args.out.now) (g.K.Sink.taken c.run_lines.new.out)
     (first_bad 2 c.args.lines) (good_lines 2 c.args.lines) w ran.2 ran.1
@@ -46,7 +69,16 @@ returns-in-Ok-clause-refused g c =
     let page = loaded_page c.args.form in
     let first = c.in_ok-ends.ensures in
     let start = run-first up down page (length c.args.lines) c.in_ok-ends.ends c.requires.can c.requires.texts c.requires.few
-    (record { page_is = first.page; sheets_are = first.sheets; next_is = first.numbers; off = first.off; css = first.css; agent_is = first.agent; watches_are = first.watches; history_is = first.history })
+    (record {
+      page_is = first.page;
+      sheets_are = first.sheets;
+      next_is = first.numbers;
+      off = first.off;
+      css = first.css;
+      agent_is = first.agent;
+      watches_are = first.watches;
+      history_is = first.history;
+    })
     first.splitter first.front first.up first.down first.told first.told_pauses in
     let ran = c.in-Ok.ensures {u = c.in-Ok.field-0} in
     let carried = (ran.follows (loaded_state page) up down start).0 in
@@ -60,13 +92,23 @@ returns-in-Ok-clause-closes g c =
     let page = loaded_page c.args.form in
     let first = c.in_ok-ends.ensures in
     let start = run-first up down page (length c.args.lines) c.in_ok-ends.ends c.requires.can c.requires.texts c.requires.few
-    (record { page_is = first.page; sheets_are = first.sheets; next_is = first.numbers; off = first.off; css = first.css; agent_is = first.agent; watches_are = first.watches; history_is = first.history })
+    (record {
+      page_is = first.page;
+      sheets_are = first.sheets;
+      next_is = first.numbers;
+      off = first.off;
+      css = first.css;
+      agent_is = first.agent;
+      watches_are = first.watches;
+      history_is = first.history;
+    })
     first.splitter first.front first.up first.down first.told first.told_pauses in
     let ran = c.in-Ok.ensures {u = c.in-Ok.field-0} in
     let carried = (ran.follows (loaded_state page) up down start).0 in
     let shown = c.close.ensures.shown (run_started (loaded_state page) 0 carried.shown) up down carried.run in
     ends-shown c.close.result (g.K.Sink.taken c.args.out.now) (g.K.Sink.taken c.run_lines.new.out) (g.K.Sink.taken c.close.new.out)
-    (g.L.Link.up c.args.link.now) (g.L.Link.down c.args.link.now) (g.L.Link.up c.close.new.link) (g.L.Link.down c.close.new.link) carried.shown ran.some shown.0
+    (g.L.Link.up c.args.link.now) (g.L.Link.down c.args.link.now) (g.L.Link.up c.close.new.link)
+    (g.L.Link.down c.close.new.link) carried.shown ran.some shown.0
 
 pub returns-in-Ok-clause-replies : goal.returns-in-Ok-clause-replies
 returns-in-Ok-clause-replies g c =
@@ -75,13 +117,23 @@ returns-in-Ok-clause-replies g c =
     let page = loaded_page c.args.form in
     let first = c.in_ok-ends.ensures in
     let start = run-first up down page (length c.args.lines) c.in_ok-ends.ends c.requires.can c.requires.texts c.requires.few
-    (record { page_is = first.page; sheets_are = first.sheets; next_is = first.numbers; off = first.off; css = first.css; agent_is = first.agent; watches_are = first.watches; history_is = first.history })
+    (record {
+      page_is = first.page;
+      sheets_are = first.sheets;
+      next_is = first.numbers;
+      off = first.off;
+      css = first.css;
+      agent_is = first.agent;
+      watches_are = first.watches;
+      history_is = first.history;
+    })
     first.splitter first.front first.up first.down first.told first.told_pauses in
     let ran = c.in-Ok.ensures {u = c.in-Ok.field-0} in
     let carried = (ran.follows (loaded_state page) up down start).0 in
     let shown = c.close.ensures.shown (run_started (loaded_state page) 0 carried.shown) up down carried.run in
     in-order c.close.result (g.K.Sink.taken c.run_lines.new.out) (g.K.Sink.taken c.close.new.out)
-    (g.L.Link.up c.args.link.now) (g.L.Link.down c.args.link.now) (g.L.Link.up c.close.new.link) (g.L.Link.down c.close.new.link) carried.shown shown.0
+    (g.L.Link.up c.args.link.now) (g.L.Link.down c.args.link.now) (g.L.Link.up c.close.new.link)
+    (g.L.Link.down c.close.new.link) carried.shown shown.0
 
 pub returns-in-Ok-clause-less : goal.returns-in-Ok-clause-less
 returns-in-Ok-clause-less g c =
@@ -90,13 +142,23 @@ returns-in-Ok-clause-less g c =
     let page = loaded_page c.args.form in
     let first = c.in_ok-ends.ensures in
     let start = run-first up down page (length c.args.lines) c.in_ok-ends.ends c.requires.can c.requires.texts c.requires.few
-    (record { page_is = first.page; sheets_are = first.sheets; next_is = first.numbers; off = first.off; css = first.css; agent_is = first.agent; watches_are = first.watches; history_is = first.history })
+    (record {
+      page_is = first.page;
+      sheets_are = first.sheets;
+      next_is = first.numbers;
+      off = first.off;
+      css = first.css;
+      agent_is = first.agent;
+      watches_are = first.watches;
+      history_is = first.history;
+    })
     first.splitter first.front first.up first.down first.told first.told_pauses in
     let ran = c.in-Ok.ensures {u = c.in-Ok.field-0} in
     let carried = (ran.follows (loaded_state page) up down start).0 in
     let shown = c.close.ensures.shown (run_started (loaded_state page) 0 carried.shown) up down carried.run in
     no-more c.close.result (g.K.Sink.taken c.run_lines.new.out) (g.K.Sink.taken c.close.new.out)
-    (g.L.Link.up c.args.link.now) (g.L.Link.down c.args.link.now) (g.L.Link.up c.close.new.link) (g.L.Link.down c.close.new.link) carried.shown shown.0
+    (g.L.Link.up c.args.link.now) (g.L.Link.down c.args.link.now) (g.L.Link.up c.close.new.link)
+    (g.L.Link.down c.close.new.link) carried.shown shown.0
 
 pub returns-clause-refused : goal.returns-clause-refused
 returns-clause-refused g c =
@@ -105,7 +167,16 @@ returns-clause-refused g c =
     let page = loaded_page c.args.form in
     let first = c.in_ok-ends.ensures in
     let start = run-first up down page (length c.args.lines) c.in_ok-ends.ends c.requires.can c.requires.texts c.requires.few
-    (record { page_is = first.page; sheets_are = first.sheets; next_is = first.numbers; off = first.off; css = first.css; agent_is = first.agent; watches_are = first.watches; history_is = first.history })
+    (record {
+      page_is = first.page;
+      sheets_are = first.sheets;
+      next_is = first.numbers;
+      off = first.off;
+      css = first.css;
+      agent_is = first.agent;
+      watches_are = first.watches;
+      history_is = first.history;
+    })
     first.splitter first.front first.up first.down first.told first.told_pauses in
     ((c.in-Err.ensures {u = tt}).follows (loaded_state page) up down start).1
 
@@ -116,7 +187,16 @@ returns-in-Ok-clause-tells g c =
     let page = loaded_page c.args.form in
     let first = c.in_ok-ends.ensures in
     let start = run-first up down page (length c.args.lines) c.in_ok-ends.ends c.requires.can c.requires.texts c.requires.few
-    (record { page_is = first.page; sheets_are = first.sheets; next_is = first.numbers; off = first.off; css = first.css; agent_is = first.agent; watches_are = first.watches; history_is = first.history })
+    (record {
+      page_is = first.page;
+      sheets_are = first.sheets;
+      next_is = first.numbers;
+      off = first.off;
+      css = first.css;
+      agent_is = first.agent;
+      watches_are = first.watches;
+      history_is = first.history;
+    })
     first.splitter first.front first.up first.down first.told first.told_pauses in
     let ran = c.in-Ok.ensures {u = c.in-Ok.field-0} in
     let carried = (ran.follows (loaded_state page) up down start).0 in
@@ -130,7 +210,16 @@ returns-clause-tells g c =
     let page = loaded_page c.args.form in
     let first = c.in_ok-ends.ensures in
     let start = run-first up down page (length c.args.lines) c.in_ok-ends.ends c.requires.can c.requires.texts c.requires.few
-    (record { page_is = first.page; sheets_are = first.sheets; next_is = first.numbers; off = first.off; css = first.css; agent_is = first.agent; watches_are = first.watches; history_is = first.history })
+    (record {
+      page_is = first.page;
+      sheets_are = first.sheets;
+      next_is = first.numbers;
+      off = first.off;
+      css = first.css;
+      agent_is = first.agent;
+      watches_are = first.watches;
+      history_is = first.history;
+    })
     first.splitter first.front first.up first.down first.told first.told_pauses in
     ((c.in-Err.ensures {u = tt}).follows (loaded_state page) up down start).2
 
@@ -139,10 +228,21 @@ returns-in-Ok-clause-stops g c = λ honest up_level down_level.
     let page = loaded_page c.args.form in
     let w = loaded_world page in
     let first = c.in_ok-ends.ensures in
-    let run = begins (g.L.Link.honest c.args.link.now) (g.L.Link.up c.args.link.now) (g.L.Link.down c.args.link.now) page c.in_ok-ends.ends honest c.requires.can c.requires.texts up_level down_level
-    (record { page_is = first.page; sheets_are = first.sheets; next_is = first.numbers; off = first.off; css = first.css; agent_is = first.agent; watches_are = first.watches; history_is = first.history })
+    let run = begins (g.L.Link.honest c.args.link.now) (g.L.Link.up c.args.link.now)
+    (g.L.Link.down c.args.link.now) page c.in_ok-ends.ends honest c.requires.can c.requires.texts up_level down_level
+    (record {
+      page_is = first.page;
+      sheets_are = first.sheets;
+      next_is = first.numbers;
+      off = first.off;
+      css = first.css;
+      agent_is = first.agent;
+      watches_are = first.watches;
+      history_is = first.history;
+    })
     first.splitter first.front first.up first.down first.told first.told_pauses in
-    let play = play-begins (g.L.Link.honest c.args.link.now) (g.L.Link.up c.args.link.now) (g.L.Link.down c.args.link.now) page (line_bytes c.args.lines) c.in_ok-ends.ends c.requires.can c.requires.texts c.requires.short run in
+    let play = play-begins (g.L.Link.honest c.args.link.now) (g.L.Link.up c.args.link.now) (g.L.Link.down c.args.link.now) page
+    (line_bytes c.args.lines) c.in_ok-ends.ends c.requires.can c.requires.texts c.requires.short run in
     let ran = (c.in-Ok.ensures {u = c.in-Ok.field-0}).runs (g.L.Link.up c.args.link.now) (g.L.Link.down c.args.link.now) w play in
     closed-tells c.close.result _ _ _ _ (rest_refused (first_bad 2 c.args.lines) (good_lines 2 c.args.lines) w) ran.2 c.close.ensures.cause
 
@@ -151,14 +251,26 @@ returns-clause-stops g c = λ honest up_level down_level.
     let page = loaded_page c.args.form in
     let w = loaded_world page in
     let first = c.in_ok-ends.ensures in
-    let run = begins (g.L.Link.honest c.args.link.now) (g.L.Link.up c.args.link.now) (g.L.Link.down c.args.link.now) page c.in_ok-ends.ends honest c.requires.can c.requires.texts up_level down_level
-    (record { page_is = first.page; sheets_are = first.sheets; next_is = first.numbers; off = first.off; css = first.css; agent_is = first.agent; watches_are = first.watches; history_is = first.history })
+    let run = begins (g.L.Link.honest c.args.link.now) (g.L.Link.up c.args.link.now)
+    (g.L.Link.down c.args.link.now) page c.in_ok-ends.ends honest c.requires.can c.requires.texts up_level down_level
+    (record {
+      page_is = first.page;
+      sheets_are = first.sheets;
+      next_is = first.numbers;
+      off = first.off;
+      css = first.css;
+      agent_is = first.agent;
+      watches_are = first.watches;
+      history_is = first.history;
+    })
     first.splitter first.front first.up first.down first.told first.told_pauses in
-    let play = play-begins (g.L.Link.honest c.args.link.now) (g.L.Link.up c.args.link.now) (g.L.Link.down c.args.link.now) page (line_bytes c.args.lines) c.in_ok-ends.ends c.requires.can c.requires.texts c.requires.short run in
+    let play = play-begins (g.L.Link.honest c.args.link.now) (g.L.Link.up c.args.link.now) (g.L.Link.down c.args.link.now) page
+    (line_bytes c.args.lines) c.in_ok-ends.ends c.requires.can c.requires.texts c.requires.short run in
     ((c.in-Err.ensures {u = tt}).runs (g.L.Link.up c.args.link.now) (g.L.Link.down c.args.link.now) w play).2
 
 pub returns-in-Ok-clause-cause : goal.returns-in-Ok-clause-cause
 returns-in-Ok-clause-cause g c =
     let ran = (c.in-Ok.ensures {u = c.in-Ok.field-0}).cause in
     closed-cause c.close.result (g.K.Sink.faults c.args.out.now) (g.K.Sink.faults c.run_lines.new.out) (g.K.Sink.faults c.close.new.out)
-    (g.L.Link.faults c.args.link.now) (g.L.Link.faults c.run_lines.new.link) (g.L.Link.faults c.close.new.link) ran.sink_later ran.link_later c.close.ensures.cause
+    (g.L.Link.faults c.args.link.now) (g.L.Link.faults c.run_lines.new.link)
+    (g.L.Link.faults c.close.new.link) ran.sink_later ran.link_later c.close.ensures.cause

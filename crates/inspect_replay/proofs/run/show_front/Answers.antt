@@ -12,12 +12,15 @@ returns-in-Ok-clause-runs g c = λ number.
 
 pub returns-in-Err-clause-runs : goal.returns-in-Err-clause-runs
 returns-in-Err-clause-runs g c = λ number.
-    show-stops c.in-Err.stop (g.L.Link.honest c.args.link.now) (g.L.Link.honest c.settle.new.link) (g.L.Link.up c.args.link.now) (g.L.Link.down c.args.link.now) (g.L.Link.up c.settle.new.link) (g.L.Link.down c.settle.new.link) (g.K.Sink.taken c.args.out.now) c.args.ends.now c.settle.new.self (numbered_line number show_front)
+    show-stops c.in-Err.stop (g.L.Link.honest c.args.link.now) (g.L.Link.honest c.settle.new.link) (g.L.Link.up c.args.link.now)
+    (g.L.Link.down c.args.link.now) (g.L.Link.up c.settle.new.link) (g.L.Link.down c.settle.new.link)
+    (g.K.Sink.taken c.args.out.now) c.args.ends.now c.settle.new.self (numbered_line number show_front)
     (λ up0 down0 w left run. (c.in-Err.ensures.steps up0 down0 w left run).0)
 
 pub returns-in-Ok-clause-follows : goal.returns-in-Ok-clause-follows
 returns-in-Ok-clause-follows g c = λ state0 up0 down0 run.
-    kept-run c.print_outline.result state0 up0 down0 _ _ c.settle.new.self c.print_outline.ensures.never (c.in-Ok.ensures.follows state0 up0 down0 run).0
+    kept-run c.print_outline.result state0 up0 down0 _ _ c.settle.new.self c.print_outline.ensures.never
+    (c.in-Ok.ensures.follows state0 up0 down0 run).0
 
 pub returns-in-Ok-clause-some : goal.returns-in-Ok-clause-some
 returns-in-Ok-clause-some g c = some-printed c.print_outline.result _ _ _ c.print_outline.ensures.ok

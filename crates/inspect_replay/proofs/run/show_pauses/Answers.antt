@@ -8,7 +8,9 @@ use Rattle.inspect_replay.proofs.run.show_pauses.Goals as goal
 
 pub returns-in-Err-clause-runs : goal.returns-in-Err-clause-runs
 returns-in-Err-clause-runs g c = λ number.
-    show-stops c.in-Err.stop (g.L.Link.honest c.args.link.now) (g.L.Link.honest c.settle.new.link) (g.L.Link.up c.args.link.now) (g.L.Link.down c.args.link.now) (g.L.Link.up c.settle.new.link) (g.L.Link.down c.settle.new.link) (g.K.Sink.taken c.args.out.now) c.args.ends.now c.settle.new.self (numbered_line number show_pauses)
+    show-stops c.in-Err.stop (g.L.Link.honest c.args.link.now) (g.L.Link.honest c.settle.new.link) (g.L.Link.up c.args.link.now)
+    (g.L.Link.down c.args.link.now) (g.L.Link.up c.settle.new.link) (g.L.Link.down c.settle.new.link)
+    (g.K.Sink.taken c.args.out.now) c.args.ends.now c.settle.new.self (numbered_line number show_pauses)
     (λ up0 down0 w left run. (c.in-Err.ensures.steps up0 down0 w left run).0)
 
 pub returns-in-Ok-print_pauses-clause-runs : goal.returns-in-Ok-print_pauses-clause-runs
@@ -20,8 +22,10 @@ returns-in-Ok-print_pauses-clause-runs g c = λ number.
       count_is = c.min-told.ensures;
       kept_is = c.split_at.ensures.back;
     } in
-    pauses-carried number (g.L.Link.honest c.args.link.now) (g.L.Link.honest c.settle.new.link) (g.L.Link.up c.args.link.now) (g.L.Link.down c.args.link.now) (g.L.Link.up c.settle.new.link) (g.L.Link.down c.settle.new.link)
-    (g.K.Sink.taken c.args.out.now) (g.K.Sink.taken c.print_pauses.new.out) c.args.ends.now c.settle.new.self c.tell_pauses.new.self c.split_at.result.1.now
+    pauses-carried number (g.L.Link.honest c.args.link.now) (g.L.Link.honest c.settle.new.link) (g.L.Link.up c.args.link.now)
+    (g.L.Link.down c.args.link.now) (g.L.Link.up c.settle.new.link) (g.L.Link.down c.settle.new.link)
+    (g.K.Sink.taken c.args.out.now)
+    (g.K.Sink.taken c.print_pauses.new.out) c.args.ends.now c.settle.new.self c.tell_pauses.new.self c.split_at.result.1.now
     (λ up0 down0 w left run. (c.in-Ok.ensures.steps up0 down0 w left run).1) untold c.in-Ok-print_pauses.ensures.ok c.tell_pauses.ensures
 
 pub returns-in-Err-print_pauses-clause-runs : goal.returns-in-Err-print_pauses-clause-runs
@@ -33,18 +37,22 @@ returns-in-Err-print_pauses-clause-runs g c = λ number.
       count_is = c.min-told.ensures;
       kept_is = c.split_at.ensures.back;
     } in
-    pauses-stop number c.in-Err-print_pauses.stop (g.L.Link.honest c.args.link.now) (g.L.Link.honest c.settle.new.link) (g.L.Link.up c.args.link.now) (g.L.Link.down c.args.link.now) (g.L.Link.up c.settle.new.link) (g.L.Link.down c.settle.new.link)
-    (g.K.Sink.taken c.args.out.now) (g.K.Sink.taken c.print_pauses.new.out) c.args.ends.now c.settle.new.self c.settle.new.self c.split_at.result.1.now
+    pauses-stop number c.in-Err-print_pauses.stop (g.L.Link.honest c.args.link.now) (g.L.Link.honest c.settle.new.link)
+    (g.L.Link.up c.args.link.now) (g.L.Link.down c.args.link.now) (g.L.Link.up c.settle.new.link) (g.L.Link.down c.settle.new.link)
+    (g.K.Sink.taken c.args.out.now)
+    (g.K.Sink.taken c.print_pauses.new.out) c.args.ends.now c.settle.new.self c.settle.new.self c.split_at.result.1.now
     (λ up0 down0 w left run. (c.in-Ok.ensures.steps up0 down0 w left run).1) untold c.in-Err-print_pauses.ensures.never c.in-Err-print_pauses.ensures.err
 
 pub returns-in-Ok-print_pauses-clause-follows : goal.returns-in-Ok-print_pauses-clause-follows
 returns-in-Ok-print_pauses-clause-follows g c = λ state0 up0 down0 run.
     kept-run (Ok c.in-Ok-print_pauses.field-0) state0 up0 down0 _ _ c.tell_pauses.new.self tt
-    (told-run state0 up0 down0 _ _ c.settle.new.self c.tell_pauses.new.self c.settle.new.self.told (length c.settle.new.self.front.value.pauses) c.tell_pauses.ensures (c.in-Ok.ensures.follows state0 up0 down0 run).0)
+    (told-run state0 up0 down0 _ _ c.settle.new.self c.tell_pauses.new.self c.settle.new.self.told
+    (length c.settle.new.self.front.value.pauses) c.tell_pauses.ensures (c.in-Ok.ensures.follows state0 up0 down0 run).0)
 
 pub returns-in-Ok-print_pauses-clause-some : goal.returns-in-Ok-print_pauses-clause-some
 returns-in-Ok-print_pauses-clause-some g c = some-printed (Ok c.in-Ok-print_pauses.field-0) _ _ _ c.in-Ok-print_pauses.ensures.ok
 
 pub returns-in-Err-print_pauses-clause-follows : goal.returns-in-Err-print_pauses-clause-follows
 returns-in-Err-print_pauses-clause-follows g c = λ state0 up0 down0 run.
-    kept-run {T = Unit {0}} (Err c.in-Err-print_pauses.stop) state0 up0 down0 _ _ c.settle.new.self c.in-Err-print_pauses.ensures.never (c.in-Ok.ensures.follows state0 up0 down0 run).0
+    kept-run {T = Unit {0}} (Err c.in-Err-print_pauses.stop) state0 up0 down0 _ _ c.settle.new.self c.in-Err-print_pauses.ensures.never
+    (c.in-Ok.ensures.follows state0 up0 down0 run).0

@@ -8,7 +8,9 @@ use Rattle.inspect_replay.proofs.run.show_replies.Goals as goal
 
 pub returns-in-Err-clause-runs : goal.returns-in-Err-clause-runs
 returns-in-Err-clause-runs g c = λ number.
-    show-stops c.in-Err.stop (g.L.Link.honest c.args.link.now) (g.L.Link.honest c.settle.new.link) (g.L.Link.up c.args.link.now) (g.L.Link.down c.args.link.now) (g.L.Link.up c.settle.new.link) (g.L.Link.down c.settle.new.link) (g.K.Sink.taken c.args.out.now) c.args.ends.now c.settle.new.self (numbered_line number show_replies)
+    show-stops c.in-Err.stop (g.L.Link.honest c.args.link.now) (g.L.Link.honest c.settle.new.link) (g.L.Link.up c.args.link.now)
+    (g.L.Link.down c.args.link.now) (g.L.Link.up c.settle.new.link) (g.L.Link.down c.settle.new.link)
+    (g.K.Sink.taken c.args.out.now) c.args.ends.now c.settle.new.self (numbered_line number show_replies)
     (λ up0 down0 w left run. (c.in-Err.ensures.steps up0 down0 w left run).0)
 
 pub returns-in-Ok-print_replies-clause-runs : goal.returns-in-Ok-print_replies-clause-runs
@@ -20,8 +22,10 @@ returns-in-Ok-print_replies-clause-runs g c = λ number.
       count_is = c.min-told.ensures;
       kept_is = c.split_at.ensures.back;
     } in
-    replies-carried number (g.L.Link.honest c.args.link.now) (g.L.Link.honest c.settle.new.link) (g.L.Link.up c.args.link.now) (g.L.Link.down c.args.link.now) (g.L.Link.up c.settle.new.link) (g.L.Link.down c.settle.new.link)
-    (g.K.Sink.taken c.args.out.now) (g.K.Sink.taken c.print_replies.new.out) c.args.ends.now c.settle.new.self c.tell_replies.new.self c.split_at.result.1.now
+    replies-carried number (g.L.Link.honest c.args.link.now) (g.L.Link.honest c.settle.new.link) (g.L.Link.up c.args.link.now)
+    (g.L.Link.down c.args.link.now) (g.L.Link.up c.settle.new.link) (g.L.Link.down c.settle.new.link)
+    (g.K.Sink.taken c.args.out.now)
+    (g.K.Sink.taken c.print_replies.new.out) c.args.ends.now c.settle.new.self c.tell_replies.new.self c.split_at.result.1.now
     (λ up0 down0 w left run. (c.in-Ok.ensures.steps up0 down0 w left run).1) untold c.in-Ok-print_replies.ensures.ok c.tell_replies.ensures
 
 pub returns-in-Err-print_replies-clause-runs : goal.returns-in-Err-print_replies-clause-runs
@@ -33,18 +37,23 @@ returns-in-Err-print_replies-clause-runs g c = λ number.
       count_is = c.min-told.ensures;
       kept_is = c.split_at.ensures.back;
     } in
-    replies-stop number c.in-Err-print_replies.stop (g.L.Link.honest c.args.link.now) (g.L.Link.honest c.settle.new.link) (g.L.Link.up c.args.link.now) (g.L.Link.down c.args.link.now) (g.L.Link.up c.settle.new.link) (g.L.Link.down c.settle.new.link)
-    (g.K.Sink.taken c.args.out.now) (g.K.Sink.taken c.print_replies.new.out) c.args.ends.now c.settle.new.self c.settle.new.self c.split_at.result.1.now
+    replies-stop number c.in-Err-print_replies.stop (g.L.Link.honest c.args.link.now) (g.L.Link.honest c.settle.new.link)
+    (g.L.Link.up c.args.link.now) (g.L.Link.down c.args.link.now) (g.L.Link.up c.settle.new.link) (g.L.Link.down c.settle.new.link)
+    (g.K.Sink.taken c.args.out.now)
+    (g.K.Sink.taken c.print_replies.new.out) c.args.ends.now c.settle.new.self c.settle.new.self c.split_at.result.1.now
     (λ up0 down0 w left run. (c.in-Ok.ensures.steps up0 down0 w left run).1) untold c.in-Err-print_replies.ensures.never c.in-Err-print_replies.ensures.err
 
 pub returns-in-Ok-print_replies-clause-follows : goal.returns-in-Ok-print_replies-clause-follows
 returns-in-Ok-print_replies-clause-follows g c = λ state0 up0 down0 run.
     kept-run (Ok c.in-Ok-print_replies.field-0) state0 up0 down0 _ _ c.tell_replies.new.self tt
-    (told-run state0 up0 down0 _ _ c.settle.new.self c.tell_replies.new.self (length c.settle.new.self.front.value.replies) c.settle.new.self.told_pauses c.tell_replies.ensures (c.in-Ok.ensures.follows state0 up0 down0 run).0)
+    (told-run state0 up0 down0 _ _ c.settle.new.self c.tell_replies.new.self
+    (length c.settle.new.self.front.value.replies) c.settle.new.self.told_pauses c.tell_replies.ensures
+    (c.in-Ok.ensures.follows state0 up0 down0 run).0)
 
 pub returns-in-Ok-print_replies-clause-some : goal.returns-in-Ok-print_replies-clause-some
 returns-in-Ok-print_replies-clause-some g c = some-printed (Ok c.in-Ok-print_replies.field-0) _ _ _ c.in-Ok-print_replies.ensures.ok
 
 pub returns-in-Err-print_replies-clause-follows : goal.returns-in-Err-print_replies-clause-follows
 returns-in-Err-print_replies-clause-follows g c = λ state0 up0 down0 run.
-    kept-run {T = Unit {0}} (Err c.in-Err-print_replies.stop) state0 up0 down0 _ _ c.settle.new.self c.in-Err-print_replies.ensures.never (c.in-Ok.ensures.follows state0 up0 down0 run).0
+    kept-run {T = Unit {0}} (Err c.in-Err-print_replies.stop) state0 up0 down0 _ _ c.settle.new.self c.in-Err-print_replies.ensures.never
+    (c.in-Ok.ensures.follows state0 up0 down0 run).0

@@ -12,4 +12,5 @@ returns-in-Err-clause-took g c = λ input left.
       taken_before = g.K.Sink.taken c.args.out.now;
       taken_after = g.K.Sink.taken c.serve_source.new.out;
     } in
-    subst (λ status. ServeTook status input call) (sym c.status_of.ensures) (stop-served c.in-Err.stop input call left c.in-Err.ensures.served)
+    subst (λ status. ServeTook status input call) (sym c.status_of.ensures)
+    (stop-served c.in-Err.stop input call left c.in-Err.ensures.served)

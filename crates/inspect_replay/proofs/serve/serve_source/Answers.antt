@@ -3,4 +3,5 @@ use Rattle.inspect_replay.proofs.ServeEnds.{nothing-begun}
 use Rattle.inspect_replay.proofs.serve.serve_source.Goals as goal
 
 pub returns-in_err-buf-clause-served : goal.returns-in_err-buf-clause-served
-returns-in_err-buf-clause-served g c = nothing-begun c.from_residual-in_err-buf.result (g.S.Source.left c.args.src.now) (g.K.Sink.taken c.args.out.now) c.from_residual-in_err-buf.ensures.1
+returns-in_err-buf-clause-served g c = nothing-begun c.from_residual-in_err-buf.result (g.S.Source.left c.args.src.now)
+    (g.K.Sink.taken c.args.out.now) c.from_residual-in_err-buf.ensures.1

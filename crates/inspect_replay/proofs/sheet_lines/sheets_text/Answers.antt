@@ -6,5 +6,6 @@ use Rattle.inspect_replay.proofs.sheet_lines.sheets_text.Goals as goal
 
 pub loop-i-preserved : goal.loop-i-preserved
 loop-i-preserved c =
-    lines-turn c.loop-i.text.items c.write_known.new.out.items (codes "# sheets" ++ 10 ∷ known_lines c.args.front.now.value.sheets) c.args.front.now.value.sheets c.loop-i.i
+    lines-turn c.loop-i.text.items c.write_known.new.out.items
+    (codes "# sheets" ++ 10 ∷ known_lines c.args.front.now.value.sheets) c.args.front.now.value.sheets c.loop-i.i
     c.in_ok-write_known.ensures c.loop-i.invariant

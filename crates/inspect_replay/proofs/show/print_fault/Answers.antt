@@ -7,5 +7,6 @@ use Rattle.inspect_replay.proofs.show.print_fault.Goals as goal
 
 pub returns-in-None-clause-ok : goal.returns-in-None-clause-ok
 returns-in-None-clause-ok g c =
-    subst (λ fault. Appends (g.K.Sink.taken c.args.out.now) (g.K.Sink.taken c.args.out.now) (act_text c.args.number fault)) (sym c.in-None.is)
+    subst (λ fault. Appends (g.K.Sink.taken c.args.out.now) (g.K.Sink.taken c.args.out.now) (act_text c.args.number fault))
+    (sym c.in-None.is)
     (Appends-nil (g.K.Sink.taken c.args.out.now))

@@ -4,4 +4,5 @@ use Rattle.inspect_world.specs.ShownReplies.{told_of, told_lines}
 use Rattle.inspect_replay.proofs.show.replies_under.Given as goal
 
 abbrev pub invariant-loop-reply : goal.invariant-loop-reply
-invariant-loop-reply l = l.text.items ++ told_lines (map told_of (drop l.reply-index l.replies)) ≡ codes "# replies" ++ 10 ∷ told_lines (map told_of l.replies)
+invariant-loop-reply l = l.text.items ++ told_lines (map told_of (drop l.reply-index l.replies))
+    ≡ codes "# replies" ++ 10 ∷ told_lines (map told_of l.replies)

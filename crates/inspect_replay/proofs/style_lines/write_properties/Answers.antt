@@ -6,5 +6,7 @@ use Rattle.inspect_replay.proofs.style_lines.write_properties.Goals as goal
 pub returns : goal.returns
 returns c =
     sym (append-nil c.loop-i.out.items)
-    ∙ ap (λ text. c.loop-i.out.items ++ text) (sym (properties-end c.args.marks.now c.args.properties.now c.loop-i.i c.min-i-end.result c.min-i-end.ensures (omega (arith, c.loop-i-test.false))))
+    ∙ ap (λ text. c.loop-i.out.items ++ text)
+    (sym (properties-end c.args.marks.now c.args.properties.now c.loop-i.i c.min-i-end.result c.min-i-end.ensures
+    (omega (arith, c.loop-i-test.false))))
     ∙ c.loop-i.invariant

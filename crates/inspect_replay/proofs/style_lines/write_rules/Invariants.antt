@@ -5,4 +5,5 @@ use Rattle.inspect_replay.proofs.style_lines.write_rules.Given as goal
 
 abbrev pub invariant-loop-found : goal.invariant-loop-found
 invariant-loop-found l = (more : List ShownBlock)
-    → l.out.items ++ block_lines l.left (map rule_block (drop l.found-index l.rules) ++ more) ≡ l.fn.out.items ++ block_lines l.marks (map rule_block l.rules ++ more)
+    → l.out.items ++ block_lines l.left (map rule_block (drop l.found-index l.rules) ++ more)
+    ≡ l.fn.out.items ++ block_lines l.marks (map rule_block l.rules ++ more)

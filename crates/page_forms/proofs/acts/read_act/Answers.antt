@@ -5,4 +5,5 @@ use Rattle.page_forms.proofs.ActLemmas.{insert-insertable}
 use Rattle.page_forms.proofs.acts.read_act.Goals as goal
 
 pub returns-in-Some-4-clause-fit : goal.returns-in-Some-4-clause-fit
-returns-in-Some-4-clause-fit c = insert-insertable (view c.args.v.now) c.in-Some-4.act (sym (c.in_ok-act-4.ensures {u = tt}) ∙ c.in-Some-4.is)
+returns-in-Some-4-clause-fit c = insert-insertable (view c.args.v.now) c.in-Some-4.act
+    (sym (c.in_ok-act-4.ensures {u = tt}) ∙ c.in-Some-4.is)

@@ -11,14 +11,19 @@ use Rattle.page_forms.proofs.node_scan.+scan_node.Goals as goal
 
 pub children_at-returns-in_ok-take_end_object-in-Children : goal.children_at-returns-in_ok-take_end_object-in-Children
 children_at-returns-in_ok-take_end_object-in-Children t c =
-    field_there (child_field c.args.levels) (next_token c.args.next) c.args.reader.now c.take_begin_array.new.reader c.scan_nodes.new.reader (end_object ∷ c.take_end_object.new.reader)
-    (nodes_of c.in_ok-children-in-Children.children.items) (ap next_token c.in-Children.is) c.in_ok-take_begin_array-in-Children.ensures c.in_ok-children-in-Children.ensures
+    field_there (child_field c.args.levels)
+    (next_token c.args.next) c.args.reader.now c.take_begin_array.new.reader c.scan_nodes.new.reader
+    (end_object ∷ c.take_end_object.new.reader)
+    (nodes_of c.in_ok-children-in-Children.children.items)
+    (ap next_token c.in-Children.is) c.in_ok-take_begin_array-in-Children.ensures c.in_ok-children-in-Children.ensures
     c.in_ok-take_end_object-in-Children.ensures
 
 pub scan_element-returns : goal.scan_element-returns
 scan_element-returns t c = λ top.
-    element_made c.args.levels top c.args.name.now c.in_ok-copied.field-0 c.empty.result c.args.reader.now (next_token c.in_ok-first.first ∷ c.take_next.new.reader)
-    (next_token c.in_ok-attributes.next ∷ c.attributes_at.new.reader) c.children_at.new.reader c.in_ok-attributes.attributes (nodes_of c.in_ok-children.children.items) c.in_ok-copied.ensures c.empty.ensures
+    element_made c.args.levels top c.args.name.now c.in_ok-copied.field-0 c.empty.result c.args.reader.now
+    (next_token c.in_ok-first.first ∷ c.take_next.new.reader)
+    (next_token c.in_ok-attributes.next ∷ c.attributes_at.new.reader) c.children_at.new.reader c.in_ok-attributes.attributes
+    (nodes_of c.in_ok-children.children.items) c.in_ok-copied.ensures c.empty.ensures
     c.in_ok-first.ensures c.in_ok-attributes.ensures c.in_ok-children.ensures
 
 pub scan_node-returns-in_ok-form : goal.scan_node-returns-in_ok-form

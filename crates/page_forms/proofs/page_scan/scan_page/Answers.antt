@@ -6,5 +6,8 @@ use Rattle.page_forms.proofs.page_scan.scan_page.Goals as goal
 
 pub returns-clause-spelt : goal.returns-clause-spelt
 returns-clause-spelt c =
-    page_spelt c.args.reader.now c.take_begin_array.new.reader c.scan_nodes.new.reader c.sheets_ahead.new.reader (nodes_of c.in_ok-nodes.nodes.items) c.in_ok-sheets.sheets.items
-    (c.in_ok-take_begin_object.ensures ∙ ap (λ ts. begin_object ∷ ts) (c.in_ok-take_key.ensures ∙ ap (λ ts. key (codes "document") ∷ ts) c.in_ok-take_begin_array.ensures)) c.in_ok-nodes.ensures c.in_ok-sheets.ensures
+    page_spelt c.args.reader.now c.take_begin_array.new.reader c.scan_nodes.new.reader c.sheets_ahead.new.reader
+    (nodes_of c.in_ok-nodes.nodes.items) c.in_ok-sheets.sheets.items
+    (c.in_ok-take_begin_object.ensures ∙ ap (λ ts. begin_object ∷ ts)
+    (c.in_ok-take_key.ensures ∙ ap
+    (λ ts. key (codes "document") ∷ ts) c.in_ok-take_begin_array.ensures)) c.in_ok-nodes.ensures c.in_ok-sheets.ensures

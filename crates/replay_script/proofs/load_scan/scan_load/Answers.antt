@@ -8,4 +8,5 @@ use Rattle.replay_script.proofs.load_scan.scan_load.Goals as goal
 pub returns : goal.returns
 returns c =
     line_loads c.args.line.now c.in-Ok.text.now (loaded_page c.in_ok-page.page) c.in-Ok.ensures.cases.0 c.in-Ok.ensures.cases.1
-    (subst (λ ts. ReadsAs load_line_form ts (loaded_page c.in_ok-page.page) []) c.in_ok-reader.ensures.ok c.in_ok-page.ensures.spelt) c.in_ok-page.ensures.sound
+    (subst (λ ts. ReadsAs load_line_form ts
+    (loaded_page c.in_ok-page.page) []) c.in_ok-reader.ensures.ok c.in_ok-page.ensures.spelt) c.in_ok-page.ensures.sound

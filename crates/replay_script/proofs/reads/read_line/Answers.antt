@@ -6,7 +6,9 @@ pub returns-clause-sound : goal.returns-clause-sound
 returns-clause-sound c = sound_ok c.args.number c.args.line.now c.read_form.result c.read_form.ensures.fault c.read_form.ensures.form
 
 pub returns-clause-fits : goal.returns-clause-fits
-returns-clause-fits c = fits_ok c.read_form.result (sound_ok c.args.number c.args.line.now c.read_form.result c.read_form.ensures.fault c.read_form.ensures.form)
+returns-clause-fits c = fits_ok c.read_form.result
+    (sound_ok c.args.number c.args.line.now c.read_form.result c.read_form.ensures.fault c.read_form.ensures.form)
 
 pub returns-clause-whole : goal.returns-clause-whole
-returns-clause-whole c = whole_ok c.read_form.result (sound_ok c.args.number c.args.line.now c.read_form.result c.read_form.ensures.fault c.read_form.ensures.form)
+returns-clause-whole c = whole_ok c.read_form.result
+    (sound_ok c.args.number c.args.line.now c.read_form.result c.read_form.ensures.fault c.read_form.ensures.form)

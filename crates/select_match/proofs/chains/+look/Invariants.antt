@@ -26,14 +26,16 @@ abbrev pub decreases-look_left : goal.decreases-look_left
 decreases-look_left l = 3 * length l.left.now + 2
 
 abbrev pub invariant-look_above-loop-at : goal.invariant-look_above-loop-at
-invariant-look_above-loop-at l = list_any (chain_holds (reverse (map compound_seen l.left))) (from ancestors l.at) ≡ list_any (chain_holds (reverse (map compound_seen l.left))) (ancestors l.node)
+invariant-look_above-loop-at l = list_any (chain_holds (reverse (map compound_seen l.left))) (from ancestors l.at)
+    ≡ list_any (chain_holds (reverse (map compound_seen l.left))) (ancestors l.node)
 
 abbrev pub decreases-look_above-loop-at : goal.decreases-look_above-loop-at
 decreases-look_above-loop-at l = length (from ancestors l.at)
 
 abbrev pub invariant-look_before-loop-at : goal.invariant-look_before-loop-at
 invariant-look_before-loop-at l = record {
-  rest : list_any (chain_holds (reverse (map compound_seen l.left))) (from earlier l.at) ≡ list_any (chain_holds (reverse (map compound_seen l.left))) (earlier l.node);
+  rest : list_any (chain_holds (reverse (map compound_seen l.left))) (from earlier l.at)
+      ≡ list_any (chain_holds (reverse (map compound_seen l.left))) (earlier l.node);
   above : above_of l.node.above l.at ≡ l.node.above;
 }
 

@@ -12,6 +12,8 @@ returns c =
     let e = c.index_within-place.ensures in
     let step = to_z-of_z w64 c.args.step c.ranges.step in
     let offset = to_z-of_z w64 c.args.offset c.ranges.offset in
-    let same = λ (i : ℕ). ap (λ (x : ℤ). is_nth x (to_z w64 (of_z w64 c.args.offset)) i) step ∙ ap (λ (x : ℤ). is_nth c.args.step x i) offset in
+    let same = λ (i : ℕ). ap (λ (x : ℤ). is_nth x (to_z w64 (of_z w64 c.args.offset)) i) step ∙ ap
+    (λ (x : ℤ). is_nth c.args.step x i) offset in
     c.is_nth.ensures ∙ same c.index_within-place.result
-    ∙ nth-within c.args.step c.args.offset c.last_place.result c.index_within-place.result (index c.args.kind c.args.node.now) (λ i less few. sym (same i) ∙ c.last_place.ensures i less few) e.within e.beyond e.bound e.few
+    ∙ nth-within c.args.step c.args.offset c.last_place.result c.index_within-place.result (index c.args.kind c.args.node.now)
+    (λ i less few. sym (same i) ∙ c.last_place.ensures i less few) e.within e.beyond e.bound e.few

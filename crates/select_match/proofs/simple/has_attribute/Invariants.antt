@@ -5,4 +5,5 @@ use Rattle.select_match.specs.Elements.{attributes_of}
 use Rattle.select_match.proofs.simple.has_attribute.Given as goal
 
 abbrev pub invariant-loop-i : goal.invariant-loop-i
-invariant-loop-i l = has_attribute l.name (compares l.op l.operand) (drop l.i (attributes_of l.node)) ≡ has_attribute l.name (compares l.op l.operand) (attributes_of l.node)
+invariant-loop-i l = has_attribute l.name (compares l.op l.operand) (drop l.i (attributes_of l.node))
+    ≡ has_attribute l.name (compares l.op l.operand) (attributes_of l.node)

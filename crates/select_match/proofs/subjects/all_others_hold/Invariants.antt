@@ -8,6 +8,7 @@ use Rattle.select_match.proofs.subjects.all_others_hold.Given as goal
 
 abbrev pub invariant-loop-simple : goal.invariant-loop-simple
 invariant-loop-simple l = record {
-  rest : list_all (λ s. is_quick s || simple_holds s l.fn.subject) (map simple_seen (drop l.simple-index l.tests)) ≡ list_all (λ s. is_quick s || simple_holds s l.fn.subject) (map simple_seen l.tests);
+  rest : list_all (λ s. is_quick s || simple_holds s l.fn.subject) (map simple_seen (drop l.simple-index l.tests))
+      ≡ list_all (λ s. is_quick s || simple_holds s l.fn.subject) (map simple_seen l.tests);
   same : l.subject ≡ l.fn.subject;
 }

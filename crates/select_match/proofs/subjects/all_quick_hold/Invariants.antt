@@ -7,4 +7,5 @@ use Rattle.select_match.specs.Subjects.{is_quick}
 use Rattle.select_match.proofs.subjects.all_quick_hold.Given as goal
 
 abbrev pub invariant-loop-simple : goal.invariant-loop-simple
-invariant-loop-simple l = list_all (λ s. not (is_quick s) || simple_holds s l.subject) (map simple_seen (drop l.simple-index l.tests)) ≡ list_all (λ s. not (is_quick s) || simple_holds s l.subject) (map simple_seen l.tests)
+invariant-loop-simple l = list_all (λ s. not (is_quick s) || simple_holds s l.subject) (map simple_seen (drop l.simple-index l.tests))
+    ≡ list_all (λ s. not (is_quick s) || simple_holds s l.subject) (map simple_seen l.tests)

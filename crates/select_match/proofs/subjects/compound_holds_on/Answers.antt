@@ -13,13 +13,18 @@ use Rattle.select_match.proofs.subjects.compound_holds_on.Goals as goal
 pub returns-then-not-all_quick_hold-clause-value : goal.returns-then-not-all_quick_hold-clause-value
 returns-then-not-all_quick_hold-clause-value c =
     let z = c.args.subject.now in
-    let same = ap (λ (l : List Simple). list_all (λ s. not (is_quick s) || simple_holds s z) (map simple_seen l)) c.as_slice.ensures.value in
-    quick-fail is_quick (λ s. simple_holds s z) (map simple_seen c.args.compound.now.tests.items) (is_element_node z) c.all_quick_hold.result (c.all_quick_hold.ensures ∙ same) c.if-not-all_quick_hold.true
+    let same = ap (λ (l : List Simple). list_all (λ s. not (is_quick s) || simple_holds s z)
+    (map simple_seen l)) c.as_slice.ensures.value in
+    quick-fail is_quick (λ s. simple_holds s z) (map simple_seen c.args.compound.now.tests.items)
+    (is_element_node z) c.all_quick_hold.result (c.all_quick_hold.ensures ∙ same) c.if-not-all_quick_hold.true
 
 pub returns-clause-value : goal.returns-clause-value
 returns-clause-value c =
     let z = c.args.subject.now in
-    let same = ap (λ (l : List Simple). list_all (λ s. not (is_quick s) || simple_holds s z) (map simple_seen l)) c.as_slice.ensures.value in
+    let same = ap (λ (l : List Simple). list_all (λ s. not (is_quick s) || simple_holds s z)
+    (map simple_seen l)) c.as_slice.ensures.value in
     let others = ap (λ (l : List Simple). list_all (λ s. is_quick s || simple_holds s z) (map simple_seen l)) c.as_slice-2.ensures.value in
     let element = sym (c.is_element.ensures ∙ ap (λ (w : Zipper). is_element_node w) c.node.ensures) ∙ c.if-not-is_element.false in
-    quick-hold is_quick (λ s. simple_holds s z) (map simple_seen c.args.compound.now.tests.items) (is_element_node z) c.all_quick_hold.result c.all_others_hold.result element (c.all_quick_hold.ensures ∙ same) c.if-not-all_quick_hold.false (c.all_others_hold.ensures.value ∙ others)
+    quick-hold is_quick (λ s. simple_holds s z) (map simple_seen c.args.compound.now.tests.items)
+    (is_element_node z) c.all_quick_hold.result c.all_others_hold.result element
+    (c.all_quick_hold.ensures ∙ same) c.if-not-all_quick_hold.false (c.all_others_hold.ensures.value ∙ others)

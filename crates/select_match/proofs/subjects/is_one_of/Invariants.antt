@@ -5,4 +5,5 @@ use Rattle.std.specs.List.{list_any}
 use Rattle.select_match.proofs.subjects.is_one_of.Given as goal
 
 abbrev pub invariant-loop-piece : goal.invariant-loop-piece
-invariant-loop-piece l = list_any (λ w. bytes_eq w l.word) (map (λ p. p.now) (drop l.piece-index l.pieces)) ≡ list_any (λ w. bytes_eq w l.word) (map (λ p. p.now) l.pieces)
+invariant-loop-piece l = list_any (λ w. bytes_eq w l.word) (map (λ p. p.now) (drop l.piece-index l.pieces))
+    ≡ list_any (λ w. bytes_eq w l.word) (map (λ p. p.now) l.pieces)

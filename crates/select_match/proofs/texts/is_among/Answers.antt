@@ -9,5 +9,6 @@ use Rattle.select_match.proofs.texts.is_among.Goals as goal
 pub returns : goal.returns
 returns c =
     any_from_yields_List (λ w. bytes_eq w c.args.word.now) _ _ _ c.any.ensures.ran
-    (YieldsList-from_slice_split _ is_ascii_whitespace c.args.text.now c.split.ensures.rest c.split.ensures.done c.split.ensures.closure (λ x b q h. search rules))
+    (YieldsList-from_slice_split _ is_ascii_whitespace c.args.text.now c.split.ensures.rest c.split.ensures.done c.split.ensures.closure
+    (λ x b q h. search rules))
     (λ x b q h. search rules)

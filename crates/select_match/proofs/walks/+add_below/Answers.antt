@@ -24,11 +24,14 @@ pub loop-at-preserved : goal.loop-at-preserved
 loop-at-preserved t c =
     let p = list_matches (list_seen c.args.l.now) in
     let z = c.in-Some.child in
-    let one = ap (λ (b : Bool). c.loop-at.found.items ++ cond b (c.serial.result ∷ []) []) c.list_matches_node.ensures ∙ ap (λ (n : ℕ). c.loop-at.found.items ++ cond (p z) (n ∷ []) []) c.serial.ensures in
+    let one = ap (λ (b : Bool). c.loop-at.found.items ++ cond b (c.serial.result ∷ []) []) c.list_matches_node.ensures ∙ ap
+    (λ (n : ℕ). c.loop-at.found.items ++ cond (p z) (n ∷ []) []) c.serial.ensures in
     record {
       rest =
-          parts-added c.loop-at.found.items c.add_if.new.found.items c.add_below.new.found.items (cond (p z) (serial_of z ∷ []) []) (map serial_of (filter p (below z))) (map serial_of (filter p (all_from c.next_sibling-at.result)))
-          (map serial_of (filter p (all_from c.loop-at.at))) ((c.in_ok-add_if.ensures {u = tt}) ∙ one) (c.in_ok-add_below.ensures {u = tt}) (matching-step p c.loop-at.at z c.in-Some.is c.next_sibling-at.result c.next_sibling-at.ensures)
+          parts-added c.loop-at.found.items c.add_if.new.found.items c.add_below.new.found.items (cond (p z) (serial_of z ∷ []) [])
+          (map serial_of (filter p (below z))) (map serial_of (filter p (all_from c.next_sibling-at.result)))
+          (map serial_of (filter p (all_from c.loop-at.at))) ((c.in_ok-add_if.ensures {u = tt}) ∙ one) (c.in_ok-add_below.ensures {u = tt})
+          (matching-step p c.loop-at.at z c.in-Some.is c.next_sibling-at.result c.next_sibling-at.ensures)
           ∙ c.loop-at.invariant.rest;
       fewer = omega (arith, count-smaller c.loop-at.at z c.next_sibling-at.result c.in-Some.is c.next_sibling-at.ensures, c.loop-at.invariant.fewer);
     }

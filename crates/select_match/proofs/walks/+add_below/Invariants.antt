@@ -13,7 +13,8 @@ decreases-add_below l = node_count l.node.now.branch.children
 
 abbrev pub invariant-loop-at : goal.invariant-loop-at
 invariant-loop-at l = record {
-  rest : l.found.items ++ map serial_of (filter (list_matches (list_seen l.l)) (all_from l.at)) ≡ l.initial.found.items ++ map serial_of (filter (list_matches (list_seen l.l)) (below l.node));
+  rest : l.found.items ++ map serial_of (filter (list_matches (list_seen l.l)) (all_from l.at))
+      ≡ l.initial.found.items ++ map serial_of (filter (list_matches (list_seen l.l)) (below l.node));
   fewer : count_from l.at ≤ node_count l.node.branch.children;
 }
 

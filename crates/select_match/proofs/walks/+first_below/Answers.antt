@@ -11,13 +11,15 @@ use Rattle.select_match.proofs.walks.+first_below.Goals as goal
 pub loop-at-init : goal.loop-at-init
 loop-at-init t c =
     record {
-      rest = ap (λ (o : Option Zipper). find (list_matches (list_seen c.args.l.now)) (all_from o)) c.first_child-at.ensures ∙ ap (λ (l : List Zipper). find (list_matches (list_seen c.args.l.now)) l) (sym (below-from c.args.node.now));
+      rest = ap (λ (o : Option Zipper). find (list_matches (list_seen c.args.l.now)) (all_from o)) c.first_child-at.ensures ∙ ap
+          (λ (l : List Zipper). find (list_matches (list_seen c.args.l.now)) l) (sym (below-from c.args.node.now));
       fewer = omega (arith, ap (λ (o : Option Zipper). count_from o) c.first_child-at.ensures, count-first_child c.args.node.now);
     }
 
 pub returns-in-Some-first_below : goal.returns-in-Some-first_below
 returns-in-Some-first_below t c =
-    find-below (list_matches (list_seen c.args.l.now)) c.loop-at.at c.in-Some.child c.in-Some.is c.in-Some-first_below.found (sym c.list_matches_node.ensures ∙ c.if-list_matches_node.false) (c.in-Some-first_below.ensures {u = tt})
+    find-below (list_matches (list_seen c.args.l.now)) c.loop-at.at c.in-Some.child c.in-Some.is c.in-Some-first_below.found
+    (sym c.list_matches_node.ensures ∙ c.if-list_matches_node.false) (c.in-Some-first_below.ensures {u = tt})
     ∙ ap (λ (o : Option Zipper). option_map serial_of o) c.loop-at.invariant.rest
 
 pub loop-at-smaller : goal.loop-at-smaller

@@ -8,12 +8,14 @@ use Rattle.select_match.proofs.walks.list_matches_node.Goals as goal
 
 pub returns-then-matches_node : goal.returns-then-matches_node
 returns-then-matches_node c =
-    let step = any-at (λ (s : SelectorForm). selector_matches s c.args.node.now) (list_seen c.args.l.now) c.loop-i.i (selector_seen c.at.result.now) c.at.ensures in
+    let step = any-at (λ (s : SelectorForm). selector_matches s c.args.node.now) (list_seen c.args.l.now) c.loop-i.i
+    (selector_seen c.at.result.now) c.at.ensures in
     let rest = list_matches (drop (c.loop-i.i + 1) (list_seen c.args.l.now)) c.args.node.now in
     sym (ap (λ (b : Bool). b || rest) (sym c.matches_node.ensures ∙ c.if-matches_node.true)) ∙ sym step ∙ c.loop-i.invariant
 
 pub loop-i-preserved : goal.loop-i-preserved
 loop-i-preserved c =
-    let step = any-at (λ (s : SelectorForm). selector_matches s c.args.node.now) (list_seen c.args.l.now) c.loop-i.i (selector_seen c.at.result.now) c.at.ensures in
+    let step = any-at (λ (s : SelectorForm). selector_matches s c.args.node.now) (list_seen c.args.l.now) c.loop-i.i
+    (selector_seen c.at.result.now) c.at.ensures in
     let rest = list_matches (drop (c.loop-i.i + 1) (list_seen c.args.l.now)) c.args.node.now in
     sym (ap (λ (b : Bool). b || rest) (sym c.matches_node.ensures ∙ c.if-matches_node.false)) ∙ sym step ∙ c.loop-i.invariant

@@ -19,7 +19,8 @@ returns-then-element-clause-reads c =
     let front = map compound_seen c.compounds.compounds.items in
     let go : c.is_over.result ≡ false = first_of (search rules, grind (arith, c.compounds-test.true), cc) in
     let P : Bool → Type 0 = λ b. IsRest ends_selector joined_at front b c.compounds.words total in
-    rest_misplaced ends_selector joined_at front c.compounds.words total (subst P c.if-element.true c.compounds.invariant.rest) (sym c.is_over.ensures ∙ go)
+    rest_misplaced ends_selector joined_at front c.compounds.words total (subst P c.if-element.true c.compounds.invariant.rest)
+    (sym c.is_over.ensures ∙ go)
 
 pub returns-in_err-compound-clause-reads : goal.returns-in_err-compound-clause-reads
 returns-in_err-compound-clause-reads c =
@@ -29,13 +30,16 @@ returns-in_err-compound-clause-reads c =
     let P : Bool → Type 0 = λ b. IsRest ends_selector joined_at front b c.compounds.words total in
     let p = err_from_is_err_and c.from_residual.result c.from_residual.ensures.1 in
     rw (p.1, p.2) (fails_too c.in_err-compound.field-0.0 (joined_at c.compounds.words) total
-    (λ none. rest_fails ends_selector joined_at front c.compounds.words total (subst P c.if-element.false c.compounds.invariant.rest) (sym c.is_over.ensures ∙ go) none) c.in_err-compound.ensures.reads)
+    (λ none. rest_fails ends_selector joined_at front c.compounds.words total (subst P c.if-element.false c.compounds.invariant.rest)
+    (sym c.is_over.ensures ∙ go) none) c.in_err-compound.ensures.reads)
 
 pub returns-clause-reads : goal.returns-clause-reads
 returns-clause-reads c =
     let total = with_front (map compound_seen c.args.compounds.now.items) (compounds_at c.args.first c.args.words.now) in
     let stop : c.is_over.result ≡ true = first_of (search rules, grind (arith, c.compounds-test.false), cc) in
-    rest_done ends_selector joined_at (map compound_seen c.compounds.compounds.items) c.compounds.element c.compounds.words total c.compounds.invariant.rest (sym c.is_over.ensures ∙ stop)
+    rest_done ends_selector joined_at
+    (map compound_seen c.compounds.compounds.items) c.compounds.element c.compounds.words total c.compounds.invariant.rest
+    (sym c.is_over.ensures ∙ stop)
 
 pub compounds-preserved : goal.compounds-preserved
 compounds-preserved c =
@@ -43,7 +47,10 @@ compounds-preserved c =
     let front = map compound_seen c.compounds.compounds.items in
     let go : c.is_over.result ≡ false = first_of (search rules, grind (arith, c.compounds-test.true), cc) in
     let P : Bool → Type 0 = λ b. IsRest ends_selector joined_at front b c.compounds.words total in
-    let next = rest_more ends_selector joined_at front c.compounds.words total ((compound_seen c.in_ok-compound.compound ∷ [], c.in_ok-compound.is_element), c.joined_at.new.words) (subst P c.if-element.false c.compounds.invariant.rest) (sym c.is_over.ensures ∙ go) c.in_ok-compound.ensures.reads c.in_ok-compound.ensures.shorter in
+    let next = rest_more ends_selector joined_at front c.compounds.words total
+    ((compound_seen c.in_ok-compound.compound ∷ [], c.in_ok-compound.is_element), c.joined_at.new.words)
+    (subst P c.if-element.false c.compounds.invariant.rest)
+    (sym c.is_over.ensures ∙ go) c.in_ok-compound.ensures.reads c.in_ok-compound.ensures.shorter in
     let F : List CompoundForm → Type 0 = λ xs. IsRest ends_selector joined_at xs c.in_ok-compound.is_element c.joined_at.new.words total in
     record {
       rest = subst F (sym c.in_ok-push_compound.ensures) next;

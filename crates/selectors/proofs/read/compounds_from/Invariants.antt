@@ -7,7 +7,8 @@ use Rattle.selectors.proofs.read.compounds_from.Given as goal
 
 abbrev pub invariant-compounds : goal.invariant-compounds
 invariant-compounds l = record {
-  rest : IsRest ends_selector joined_at (map compound_seen l.compounds.items) l.element l.words (with_front (map compound_seen l.fn.compounds.items) (compounds_at l.first l.fn.words));
+  rest : IsRest ends_selector joined_at (map compound_seen l.compounds.items) l.element l.words
+      (with_front (map compound_seen l.fn.compounds.items) (compounds_at l.first l.fn.words));
   shorter : length l.words.words ≤ length l.fn.words.words;
 }
 

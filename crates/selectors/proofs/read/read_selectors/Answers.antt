@@ -9,10 +9,12 @@ use Rattle.selectors.proofs.read.read_selectors.Goals as goal
 
 pub returns-clause-invalid : goal.returns-clause-invalid
 returns-clause-invalid c =
-    let read : GivesRead list_seen c.read_list.result (selectors_of c.args.text.now) = first_of (search rules, grind (arith, common_steps)) in
+    let read : GivesRead list_seen c.read_list.result (selectors_of c.args.text.now) = first_of
+    (search rules, grind (arith, common_steps)) in
     spells_none c.read_list.result c.args.text.now read
 
 pub returns-clause-found : goal.returns-clause-found
 returns-clause-found c =
-    let read : GivesRead list_seen c.read_list.result (selectors_of c.args.text.now) = first_of (search rules, grind (arith, common_steps)) in
+    let read : GivesRead list_seen c.read_list.result (selectors_of c.args.text.now) = first_of
+    (search rules, grind (arith, common_steps)) in
     read_is_spelled c.read_list.result c.args.text.now read

@@ -7,7 +7,8 @@ use Rattle.selectors.proofs.read.tests_from.Given as goal
 
 abbrev pub invariant-parts : goal.invariant-parts
 invariant-parts l = record {
-  rest : IsRest ends_compound compound_item_at (map simple_seen l.tests.items) l.element l.words (with_front (map simple_seen l.fn.tests.items) (tests_at l.first l.fn.words));
+  rest : IsRest ends_compound compound_item_at (map simple_seen l.tests.items) l.element l.words
+      (with_front (map simple_seen l.fn.tests.items) (tests_at l.first l.fn.words));
   shorter : length l.words.words ≤ length l.fn.words.words;
 }
 

@@ -16,7 +16,8 @@ loop-piece-preserved-in-Some c =
     let ts = c.args.pieces.now in
     let i = c.loop-piece.piece-index in
     record {
-      so_far = skip c.args.text.now c.loop-piece.spaced c.in-Some.after _ (drop i ts) (drop (i + 1) ts) c.loop-piece.words.items _ (cut_at ts i _ (omega arith)) (sym c.in-Some.ensures) c.loop-piece.invariant.so_far;
+      so_far = skip c.args.text.now c.loop-piece.spaced c.in-Some.after _ (drop i ts) (drop (i + 1) ts) c.loop-piece.words.items _
+          (cut_at ts i _ (omega arith)) (sym c.in-Some.ensures) c.loop-piece.invariant.so_far;
       each = c.loop-piece.invariant.each;
     }
 
@@ -25,10 +26,13 @@ loop-piece-preserved c =
     let ts = c.args.pieces.now in
     let i = c.loop-piece.piece-index in
     record {
-      so_far = add c.args.text.now c.loop-piece.spaced _ (drop i ts) (drop (i + 1) ts) c.loop-piece.words.items c.push.new.self.items _ c.word_at.result (cut_at ts i _ (omega arith)) (sym c.in_default.ensures) c.in_ok-push.ensures.items c.word_at.ensures.value c.loop-piece.invariant.so_far;
+      so_far = add c.args.text.now c.loop-piece.spaced _ (drop i ts)
+          (drop (i + 1) ts) c.loop-piece.words.items c.push.new.self.items _ c.word_at.result (cut_at ts i _ (omega arith))
+          (sym c.in_default.ensures) c.in_ok-push.ensures.items c.word_at.ensures.value c.loop-piece.invariant.so_far;
       each = subst (AllByRecursion (IsWordOf c.args.text.now)) (sym c.in_ok-push.ensures.items)
           (all_push (IsWordOf c.args.text.now) c.loop-piece.words.items c.word_at.result c.loop-piece.invariant.each c.word_at.ensures.cut);
     }
 
 pub returns-clause-words : goal.returns-clause-words
-returns-clause-words c = ended c.args.text.now c.loop-piece.spaced _ c.loop-piece.words.items _ (drop_all c.loop-piece.piece-index c.args.pieces.now (omega arith)) c.loop-piece.invariant.so_far
+returns-clause-words c = ended c.args.text.now c.loop-piece.spaced _ c.loop-piece.words.items _
+    (drop_all c.loop-piece.piece-index c.args.pieces.now (omega arith)) c.loop-piece.invariant.so_far

@@ -4,4 +4,13 @@ use Rattle.sheet_laws.proofs.BodyCuts.{body_spelled, body_only, style_spelled, s
 use Rattle.sheet_laws.proofs.laws.declaration_law.Goals as goal
 
 pub returns : goal.returns
-returns c = record { read = declaration_reads; declared = declaration_spelled; body = body_spelled; body_only = body_only; style = style_spelled; style_only = style_only; important = important_behind; empty = value_empty }
+returns c = record {
+  read = declaration_reads;
+  declared = declaration_spelled;
+  body = body_spelled;
+  body_only = body_only;
+  style = style_spelled;
+  style_only = style_only;
+  important = important_behind;
+  empty = value_empty;
+}

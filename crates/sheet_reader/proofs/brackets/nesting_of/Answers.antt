@@ -14,13 +14,17 @@ not_closed [] e = absurd (cc)
 not_closed (b ∷ bs) e = refl
 
 pub returns-then-is_stray : goal.returns-then-is_stray
-returns-then-is_stray c = nesting_stray c.loop-piece.brackets c.args.pieces.now c.loop-piece.piece-index _ _ (omega arith) (sym c.is_stray.ensures ∙ c.if-is_stray.true) c.loop-piece.invariant
+returns-then-is_stray c = nesting_stray c.loop-piece.brackets c.args.pieces.now c.loop-piece.piece-index _ _ (omega arith)
+    (sym c.is_stray.ensures ∙ c.if-is_stray.true) c.loop-piece.invariant
 
 pub loop-piece-preserved : goal.loop-piece-preserved
-loop-piece-preserved c = nesting_goes_on c.loop-piece.brackets c.pass.new.self c.args.pieces.now c.loop-piece.piece-index _ _ (omega arith) (sym c.is_stray.ensures ∙ c.if-is_stray.false) c.in_ok-pass.ensures c.loop-piece.invariant
+loop-piece-preserved c = nesting_goes_on c.loop-piece.brackets c.pass.new.self c.args.pieces.now c.loop-piece.piece-index _ _ (omega arith)
+    (sym c.is_stray.ensures ∙ c.if-is_stray.false) c.in_ok-pass.ensures c.loop-piece.invariant
 
 pub returns-then-is_empty : goal.returns-then-is_empty
-returns-then-is_empty c = nesting_ends c.loop-piece.brackets c.args.pieces.now c.loop-piece.piece-index _ _ (omega arith) (closed c.loop-piece.brackets (sym c.is_empty.ensures ∙ c.if-is_empty.true)) c.loop-piece.invariant
+returns-then-is_empty c = nesting_ends c.loop-piece.brackets c.args.pieces.now c.loop-piece.piece-index _ _ (omega arith)
+    (closed c.loop-piece.brackets (sym c.is_empty.ensures ∙ c.if-is_empty.true)) c.loop-piece.invariant
 
 pub returns : goal.returns
-returns c = nesting_ends c.loop-piece.brackets c.args.pieces.now c.loop-piece.piece-index _ _ (omega arith) (not_closed c.loop-piece.brackets (sym c.is_empty.ensures ∙ c.if-is_empty.false)) c.loop-piece.invariant
+returns c = nesting_ends c.loop-piece.brackets c.args.pieces.now c.loop-piece.piece-index _ _ (omega arith)
+    (not_closed c.loop-piece.brackets (sym c.is_empty.ensures ∙ c.if-is_empty.false)) c.loop-piece.invariant

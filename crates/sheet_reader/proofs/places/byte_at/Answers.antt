@@ -15,7 +15,10 @@ behind_byte-place-requires-clause-column c = let small = column_within c.args.te
 
 pub loop-byte-preserved : goal.loop-byte-preserved
 loop-byte-preserved c = record {
-  place = behind_more c.args.text.now c.loop-byte.byte 0 c.loop-byte.place c.behind_byte-place.result (omega (arith, ap (λ (x : List ℕ). length x) c.as_bytes-code-items.ensures.value)) c.loop-byte.invariant.place (rw (sym c.as_bytes-code-items.ensures.value) c.behind_byte-place.ensures);
-  none_before = below_more (λ k. IsCharBoundary c.args.text.now k → position_of c.args.text.now k ≡ position c.args.line c.args.column → ⊥) c.loop-byte.byte c.loop-byte.invariant.none_before
+  place = behind_more c.args.text.now c.loop-byte.byte 0 c.loop-byte.place c.behind_byte-place.result
+      (omega (arith, ap (λ (x : List ℕ). length x) c.as_bytes-code-items.ensures.value)) c.loop-byte.invariant.place
+      (rw (sym c.as_bytes-code-items.ensures.value) c.behind_byte-place.ensures);
+  none_before = below_more (λ k. IsCharBoundary c.args.text.now k → position_of c.args.text.now k ≡ position c.args.line c.args.column
+      → ⊥) c.loop-byte.byte c.loop-byte.invariant.none_before
       (λ edge at. c.is_there.ensures.no c.if-is_there.false edge (c.loop-byte.invariant.place ∙ at));
 }

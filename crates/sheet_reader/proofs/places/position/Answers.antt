@@ -20,6 +20,8 @@ pub loop-code-preserved : goal.loop-code-preserved
 loop-code-preserved c =
     let len = length-take c.args.byte c.as_bytes.result.now in
     let same = ap (λ (x : List ℕ). length x) c.as_bytes.ensures.value in
-    let element = get_or-take c.args.byte c.as_bytes.result.now c.loop-code.code-index 0 (omega (arith, len)) ∙ ap (λ (x : List ℕ). get_or x c.loop-code.code-index 0) c.as_bytes.ensures.value in
-    behind_more c.args.text.now c.loop-code.code-index 0 c.loop-code.place c.behind_byte-place.result (omega (arith, len, same)) c.loop-code.invariant
+    let element = get_or-take c.args.byte c.as_bytes.result.now c.loop-code.code-index 0 (omega (arith, len)) ∙ ap
+    (λ (x : List ℕ). get_or x c.loop-code.code-index 0) c.as_bytes.ensures.value in
+    behind_more c.args.text.now c.loop-code.code-index 0 c.loop-code.place c.behind_byte-place.result
+    (omega (arith, len, same)) c.loop-code.invariant
     (c.behind_byte-place.ensures ∙ ap (behind_byte c.loop-code.place) element)

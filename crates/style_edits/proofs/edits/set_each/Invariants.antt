@@ -8,6 +8,7 @@ abbrev pub invariant-loop-edit : goal.invariant-loop-edit
 invariant-loop-edit l = record {
   olds : All (IsOld l.book) l.olds.items;
   same : olds_restored l.olds.items l.book ≡ olds_restored l.fn.olds.items l.fn.book;
-  so_far : with_backs l.backs.items (styles_edited (drop l.edit-index l.edits) l.book) ≡ with_backs l.fn.backs.items (styles_edited l.edits l.fn.book);
+  so_far : with_backs l.backs.items (styles_edited (drop l.edit-index l.edits) l.book)
+      ≡ with_backs l.fn.backs.items (styles_edited l.edits l.fn.book);
   rules : l.rules.items ++ edited_rules (drop l.edit-index l.edits) l.book ≡ l.fn.rules.items ++ edited_rules l.edits l.fn.book;
 }

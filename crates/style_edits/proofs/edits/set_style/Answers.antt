@@ -23,7 +23,8 @@ pub returns-in-Err-push-clause-olds : goal.returns-in-Err-push-clause-olds
 returns-in-Err-push-clause-olds c =
     let swap = swapped c.args.book.now c.change.new.self c.in-Ok-style_in.draft.entry c.in-Ok.entry.now c.change.result c.in-Ok.ensures.entry c.in-Ok.ensures.there (ap (λ (e : SheetEntry). e.id) c.in-Ok-style_in.ensures.found.entry) c.change.ensures.old c.change.ensures.changed in
     let back = swap_back c.args.book.now c.change.new.self c.change-in-Err-push.new.self c.in-Ok-style_in.draft.entry c.change.result c.in-Err-push.failed.value swap c.in-Err-push.ensures.value_returned c.change-in-Err-push.ensures.changed in
-    subst (λ (b : List SheetEntry). All (IsOld b) c.push.new.self.items) (sym back) (subst (λ (xs : List SheetEntry). All (IsOld c.args.book.now) xs) (sym c.in-Err-push.ensures.items) c.requires.olds)
+    subst (λ (b : List SheetEntry). All (IsOld b) c.push.new.self.items) (sym back)
+    (subst (λ (xs : List SheetEntry). All (IsOld c.args.book.now) xs) (sym c.in-Err-push.ensures.items) c.requires.olds)
 
 pub returns-in-Err-push-clause-same : goal.returns-in-Err-push-clause-same
 returns-in-Err-push-clause-same c =

@@ -17,9 +17,11 @@ returns-in-Ok-clause-sent c = λ state stands.
 
 pub returns-in-Err-Refused-clause-stands : goal.returns-in-Err-Refused-clause-stands
 returns-in-Err-Refused-clause-stands c = λ state both.
-    in_any c.refuse.result _ (unread-both _ _ _ state c.args.id (view c.args.params.now) c.in-Err-Refused.why (commands-why c.in-Err-Refused.field-0 c.in-Err-Refused.why _ c.in-Err-Refused.field-0-is c.in-Err-Refused.ensures.finds) both)
+    in_any c.refuse.result _ (unread-both _ _ _ state c.args.id (view c.args.params.now) c.in-Err-Refused.why
+    (commands-why c.in-Err-Refused.field-0 c.in-Err-Refused.why _ c.in-Err-Refused.field-0-is c.in-Err-Refused.ensures.finds) both)
 
 pub returns-in-Err-Refused-clause-sent : goal.returns-in-Err-Refused-clause-sent
 returns-in-Err-Refused-clause-sent c = λ state stands.
     on_ok c.refuse.result _ _ (c.refuse.ensures state)
-    (λ sent. unread-sent state c.args.id (view c.args.params.now) c.in-Err-Refused.why c.args.out.now.items _ (commands-why c.in-Err-Refused.field-0 c.in-Err-Refused.why _ c.in-Err-Refused.field-0-is c.in-Err-Refused.ensures.finds) sent)
+    (λ sent. unread-sent state c.args.id (view c.args.params.now) c.in-Err-Refused.why c.args.out.now.items _
+    (commands-why c.in-Err-Refused.field-0 c.in-Err-Refused.why _ c.in-Err-Refused.field-0-is c.in-Err-Refused.ensures.finds) sent)

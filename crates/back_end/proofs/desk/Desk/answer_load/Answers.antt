@@ -9,20 +9,24 @@ use Rattle.back_end.proofs.desk.Desk.answer_load.Goals as goal
 pub returns-in_ok-load-in-Ok-clause-stands : goal.returns-in_ok-load-in-Ok-clause-stands
 returns-in_ok-load-in-Ok-clause-stands c = λ state both.
     in_any c.write_reply.result _
-    (loaded-both c.load.new.self c.clear.new.self c.load.new.side state c.args.id (view c.args.params.now) (loaded_page c.in-Ok.page) c.in-Ok.ensures.finds c.clear.ensures
+    (loaded-both c.load.new.self c.clear.new.self c.load.new.side state c.args.id (view c.args.params.now)
+    (loaded_page c.in-Ok.page) c.in-Ok.ensures.finds c.clear.ensures
     (c.in_ok-load-in-Ok.ensures.stands state both.stands))
 
 pub returns-in_ok-load-in-Ok-clause-sent : goal.returns-in_ok-load-in-Ok-clause-sent
 returns-in_ok-load-in-Ok-clause-sent c = λ state stands.
     on_ok c.write_reply.result _ _ c.write_reply.ensures.ok
-    (λ sent. loaded-sent state c.args.id (view c.args.params.now) (loaded_page c.in-Ok.page) c.args.out.now.items c.load.new.out.items _ c.in-Ok.ensures.finds
+    (λ sent. loaded-sent state c.args.id (view c.args.params.now)
+    (loaded_page c.in-Ok.page) c.args.out.now.items c.load.new.out.items _ c.in-Ok.ensures.finds
     (c.in_ok-load-in-Ok.ensures.sent state stands) sent)
 
 pub returns-in-Err-Refused-clause-stands : goal.returns-in-Err-Refused-clause-stands
 returns-in-Err-Refused-clause-stands c = λ state both.
-    in_any c.refuse.result _ (unloaded-both _ _ _ state c.args.id (view c.args.params.now) c.in-Err-Refused.why (finds-why loaded_page c.in-Err-Refused.field-0 c.in-Err-Refused.why _ c.in-Err-Refused.field-0-is c.in-Err-Refused.ensures.finds) both)
+    in_any c.refuse.result _ (unloaded-both _ _ _ state c.args.id (view c.args.params.now) c.in-Err-Refused.why
+    (finds-why loaded_page c.in-Err-Refused.field-0 c.in-Err-Refused.why _ c.in-Err-Refused.field-0-is c.in-Err-Refused.ensures.finds) both)
 
 pub returns-in-Err-Refused-clause-sent : goal.returns-in-Err-Refused-clause-sent
 returns-in-Err-Refused-clause-sent c = λ state stands.
     on_ok c.refuse.result _ _ (c.refuse.ensures state)
-    (λ sent. unloaded-sent state c.args.id (view c.args.params.now) c.in-Err-Refused.why c.args.out.now.items _ (finds-why loaded_page c.in-Err-Refused.field-0 c.in-Err-Refused.why _ c.in-Err-Refused.field-0-is c.in-Err-Refused.ensures.finds) sent)
+    (λ sent. unloaded-sent state c.args.id (view c.args.params.now) c.in-Err-Refused.why c.args.out.now.items _
+    (finds-why loaded_page c.in-Err-Refused.field-0 c.in-Err-Refused.why _ c.in-Err-Refused.field-0-is c.in-Err-Refused.ensures.finds) sent)

@@ -15,16 +15,19 @@ use Rattle.back_end.proofs.desk.Desk.answer_tree_edit.Goals as goal
 
 pub returns-then-not-self-clause-stands : goal.returns-then-not-self-clause-stands
 returns-then-not-self-clause-stands c = λ state both.
-    in_any c.refuse.result _ (off-both c.args.self.now c.args.history.now c.args.side.now state c.args.id (edits_tree c.args.edit) refl both c.if-not-self.true)
+    in_any c.refuse.result _ (off-both c.args.self.now c.args.history.now c.args.side.now state c.args.id
+    (edits_tree c.args.edit) refl both c.if-not-self.true)
 
 pub returns-then-not-self-clause-sent : goal.returns-then-not-self-clause-sent
 returns-then-not-self-clause-sent c = λ state stands.
     on_ok c.refuse.result _ _ (c.refuse.ensures state)
-    (dom-off-sent c.args.self.now c.args.side.now state c.args.id (edits_tree c.args.edit) c.args.out.now.items c.refuse.new.out.items refl stands c.if-not-self.true)
+    (dom-off-sent c.args.self.now c.args.side.now state c.args.id
+    (edits_tree c.args.edit) c.args.out.now.items c.refuse.new.out.items refl stands c.if-not-self.true)
 
 pub answer_node_edit-requires-clause-plain : goal.answer_node_edit-requires-clause-plain
 answer_node_edit-requires-clause-plain c =
-    named-plain (map.get c.args.self.now.agent.serials) c.in_ok-edit.edit c.in-Ok.edit (subst HasTreeTexts (sym c.in_ok-edit.ensures) (lowered-texts c.args.edit c.requires.texts)) (sym c.in-Ok.ensures)
+    named-plain (map.get c.args.self.now.agent.serials) c.in_ok-edit.edit c.in-Ok.edit
+    (subst HasTreeTexts (sym c.in_ok-edit.ensures) (lowered-texts c.args.edit c.requires.texts)) (sym c.in-Ok.ensures)
 
 pub returns-in-Ok-clause-stands : goal.returns-in-Ok-clause-stands
 returns-in-Ok-clause-stands c = λ state both.
@@ -41,10 +44,12 @@ returns-in-Ok-clause-sent c = λ state stands.
 pub returns-in-Err-clause-stands : goal.returns-in-Err-clause-stands
 returns-in-Err-clause-stands c = λ state both.
     let named = c.in-Err.ensures ∙ ap (edit_named (map.get c.args.self.now.agent.serials)) c.in_ok-edit.ensures in
-    in_any c.refuse-in-Err.result _ (unnamed-both c.args.self.now c.args.history.now c.args.side.now state c.args.id c.args.edit c.in-Err.why both c.if-not-self.false named)
+    in_any c.refuse-in-Err.result _
+    (unnamed-both c.args.self.now c.args.history.now c.args.side.now state c.args.id c.args.edit c.in-Err.why both c.if-not-self.false named)
 
 pub returns-in-Err-clause-sent : goal.returns-in-Err-clause-sent
 returns-in-Err-clause-sent c = λ state stands.
     let named = c.in-Err.ensures ∙ ap (edit_named (map.get c.args.self.now.agent.serials)) c.in_ok-edit.ensures in
     on_ok c.refuse-in-Err.result _ _ (c.refuse-in-Err.ensures state)
-    (λ sent. sent ∙ ap (λ (done : Step). c.args.out.now.items ++ frames_of_moves done.moves) (edit-is c.args.self.now c.args.side.now state c.args.id c.args.edit (Err c.in-Err.why) stands c.if-not-self.false named))
+    (λ sent. sent ∙ ap (λ (done : Step). c.args.out.now.items ++ frames_of_moves done.moves)
+    (edit-is c.args.self.now c.args.side.now state c.args.id c.args.edit (Err c.in-Err.why) stands c.if-not-self.false named))

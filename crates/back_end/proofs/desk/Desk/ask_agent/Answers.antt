@@ -10,7 +10,13 @@ returns-then-is_refused-clause-sent c = λ state stands.
 
 pub returns-clause-stands : goal.returns-clause-stands
 returns-clause-stands c = λ state stands.
-    asked-stands c.args.self.now (record { alloc = _; is_on = _; css = _; agent = _; watches = _ }) c.args.side.now c.args.side.now state c.args.id c.args.ask.now c.page.result.now
+    asked-stands c.args.self.now (record {
+      alloc = _;
+      is_on = _;
+      css = _;
+      agent = _;
+      watches = _;
+    }) c.args.side.now c.args.side.now state c.args.id c.args.ask.now c.page.result.now
     c.requires.ask c.if-is_refused.ensures stands refl refl c.page.ensures c.is_on_after-self.ensures refl refl c.in_ok-ask.ensures.known
 
 pub returns-clause-sent : goal.returns-clause-sent

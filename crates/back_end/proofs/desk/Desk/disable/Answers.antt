@@ -17,6 +17,13 @@ returns-then-not-self-clause-sent c = λ state stands.
 
 pub returns-clause-stands : goal.returns-clause-stands
 returns-clause-stands c = λ state both.
-    disabled-both c.args.self.now (record { alloc = _; is_on = _; css = _; agent = _; watches = _ }) c.clear-2.new.self c.args.side.now c.args.side.now state c.args.id both.stands c.if-not-self.false c.clear-2.ensures
-    (disabled-stands c.args.self.now (record { alloc = _; is_on = _; css = _; agent = _; watches = _ }) c.args.side.now c.args.side.now state c.args.id both.stands
+    disabled-both c.args.self.now (record {
+      alloc = _;
+      is_on = _;
+      css = _;
+      agent = _;
+      watches = _;
+    }) c.clear-2.new.self c.args.side.now c.args.side.now state c.args.id both.stands c.if-not-self.false c.clear-2.ensures
+    (disabled-stands c.args.self.now
+    (record { alloc = _; is_on = _; css = _; agent = _; watches = _ }) c.args.side.now c.args.side.now state c.args.id both.stands
     c.if-not-self.false refl refl refl (c.in_ok-switch.ensures {u = tt}).on c.clear.ensures c.reset.ensures)

@@ -17,7 +17,8 @@ loaded-requires-clause-serials c =
 pub returns-clause-stands : goal.returns-clause-stands
 returns-clause-stands c = λ state stands.
     on_ok c.tell_come.result _ _ c.tell_come.ensures.css
-    (λ css. load-stands c.args.self.now c.tell_come.new.self c.args.side.now c.in_ok-loaded.loaded state (loaded_page c.args.form) stands c.requires.can c.requires.texts
+    (λ css. load-stands c.args.self.now c.tell_come.new.self c.args.side.now c.in_ok-loaded.loaded state
+    (loaded_page c.args.form) stands c.requires.can c.requires.texts
     (c.in_ok-loaded.ensures.page ∙ ap (λ n. loaded n (loaded_page c.args.form).nodes) c.next_serial-serial.ensures)
     (c.in_ok-loaded.ensures.sheets ∙ ap (λ n. as_book (numbered_sheets n (loaded_page c.args.form).sheets)) c.next_number.ensures.value)
     (c.in_ok-loaded.ensures.next ∙ ap (λ n. n + length (loaded_page c.args.form).sheets) c.next_number.ensures.value)
@@ -26,7 +27,9 @@ returns-clause-stands c = λ state stands.
 pub returns-clause-sent : goal.returns-clause-sent
 returns-clause-sent c = λ state stands.
     on_ok c.tell_come.result _ _ c.tell_come.ensures.sent
-    (λ sent. load-sent c.args.self.now c.args.side.now state (loaded_page c.args.form) c.book.result.now c.book-2.result.now c.args.out.now.items c.tell_load.new.out.items c.tell_gone.new.out.items
+    (λ sent. load-sent c.args.self.now c.args.side.now state
+    (loaded_page c.args.form) c.book.result.now c.book-2.result.now c.args.out.now.items c.tell_load.new.out.items c.tell_gone.new.out.items
     c.tell_come.new.out.items stands c.book.ensures
-    (c.book-2.ensures ∙ c.in_ok-loaded.ensures.sheets ∙ ap (λ n. as_book (numbered_sheets n (loaded_page c.args.form).sheets)) c.next_number.ensures.value)
+    (c.book-2.ensures ∙ c.in_ok-loaded.ensures.sheets ∙ ap
+    (λ n. as_book (numbered_sheets n (loaded_page c.args.form).sheets)) c.next_number.ensures.value)
     (c.in_ok-tell_load.ensures {u = tt}) (c.in_ok-tell_gone.ensures {u = tt}) sent)

@@ -11,7 +11,13 @@ returns-clause-id c = λ state stands can.
 pub returns-clause-stands : goal.returns-clause-stands
 returns-clause-stands c = λ state stands can.
     on_ok c.push.result _ _ c.push.ensures.known
-    (push-stands c.args.self.now (record { alloc = _; is_on = _; css = _; agent = _; watches = _ }) c.args.side.now state c.args.node c.page.result.now stands can c.page.ensures refl refl refl)
+    (push-stands c.args.self.now (record {
+      alloc = _;
+      is_on = _;
+      css = _;
+      agent = _;
+      watches = _;
+    }) c.args.side.now state c.args.node c.page.result.now stands can c.page.ensures refl refl refl)
 
 pub returns-clause-sent : goal.returns-clause-sent
 returns-clause-sent c = λ state stands can.

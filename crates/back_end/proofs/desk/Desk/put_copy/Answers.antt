@@ -18,12 +18,16 @@ returns-clause-noted c =
 pub returns-clause-stands : goal.returns-clause-stands
 returns-clause-stands c = λ state stands.
     on_ok c.apply_by_client.result _ _
-    (c.apply_by_client.ensures.stands _ (drawn-form c.args.self.now c.args.side.now (record { page = _; sheets = _ }) state (form_at c.args.node c.args.side.now.page.tree) stands c.in_ok-tree.ensures.drawn refl)
+    (c.apply_by_client.ensures.stands _
+    (drawn-form c.args.self.now c.args.side.now (record { page = _; sheets = _ }) state
+    (form_at c.args.node c.args.side.now.page.tree) stands c.in_ok-tree.ensures.drawn refl)
     (copied-texts c.args.self.now c.args.side.now state c.args.node c.in_ok-tree.tree stands c.in_ok-tree.ensures.tree))
     (copied-stands c.apply_by_client.new.self c.apply_by_client.new.side state c.args.node c.args.parent c.args.before c.in_ok-tree.tree c.args.side.now.page stands.page_is c.in_ok-tree.ensures.tree)
 
 pub returns-clause-sent : goal.returns-clause-sent
 returns-clause-sent c = λ state stands.
     on_ok c.apply_by_client.result _ _
-    (c.apply_by_client.ensures.sent _ (drawn-form c.args.self.now c.args.side.now (record { page = _; sheets = _ }) state (form_at c.args.node c.args.side.now.page.tree) stands c.in_ok-tree.ensures.drawn refl))
+    (c.apply_by_client.ensures.sent _
+    (drawn-form c.args.self.now c.args.side.now (record { page = _; sheets = _ }) state
+    (form_at c.args.node c.args.side.now.page.tree) stands c.in_ok-tree.ensures.drawn refl))
     (copied-sent state c.args.node c.args.parent c.args.before c.in_ok-tree.tree c.args.side.now.page c.args.out.now.items c.apply_by_client.new.out.items stands.page_is c.in_ok-tree.ensures.tree)

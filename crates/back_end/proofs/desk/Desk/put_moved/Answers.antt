@@ -11,7 +11,8 @@ node-requires c = moved-there c.args.node c.args.parent c.args.before c.args.sid
 pub apply_by_client-requires-2-clause-can : goal.apply_by_client-requires-2-clause-can
 apply_by_client-requires-2-clause-can c =
     moved-can c.args.side.now.page c.apply_by_client.new.side.page c.args.node c.args.parent c.args.before c.moved_before-place.result c.in_ok-tree.tree
-    c.valid.ensures c.requires.fits c.moved_before-place.ensures (c.in_ok-apply_by_client.ensures {u = tt}).page (c.in_ok-tree.ensures ∙ c.node.ensures)
+    c.valid.ensures c.requires.fits c.moved_before-place.ensures (c.in_ok-apply_by_client.ensures {u = tt}).page
+    (c.in_ok-tree.ensures ∙ c.node.ensures)
 
 pub returns-clause-noted : goal.returns-clause-noted
 returns-clause-noted c =

@@ -6,7 +6,8 @@ use Rattle.back_end.proofs.SeatLemmas.{on_ok}
 use Rattle.back_end.proofs.ScriptLemmas.{in_any}
 use Rattle.back_end.proofs.SheetSeats.{dom-off-sent}
 use Rattle.back_end.proofs.KeepSeats.{off-both}
-use Rattle.back_end.proofs.UndoSeats.{handed-few, redo-taken, redo-takes, redone-both, redone-sent, unredone-both, unredone-sent, barred-redo-both, barred-redo-sent}
+use Rattle.back_end.proofs.UndoSeats.{handed-few, redo-taken, redo-takes, redone-both, redone-sent, unredone-both, unredone-sent}
+use Rattle.back_end.proofs.UndoSeats.{barred-redo-both, barred-redo-sent}
 use Rattle.back_end.proofs.desk.Desk.redo.Goals as goal
 
 pub returns-then-not-self-clause-stands : goal.returns-then-not-self-clause-stands
@@ -20,11 +21,13 @@ returns-then-not-self-clause-sent c = λ state both.
 
 pub apply_all-requires-clause-taken : goal.apply_all-requires-clause-taken
 apply_all-requires-clause-taken c =
-    redo-taken c.args.self.now c.args.history.now c.args.side.now c.into_vec.result.items ((c.in-Group.ensures {u = tt}).popped ∙ ap (λ es. Some es) (sym c.into_vec.ensures)) c.requires.standing
+    redo-taken c.args.self.now c.args.history.now c.args.side.now c.into_vec.result.items
+    ((c.in-Group.ensures {u = tt}).popped ∙ ap (λ es. Some es) (sym c.into_vec.ensures)) c.requires.standing
 
 pub apply_all-requires-clause-ids : goal.apply_all-requires-clause-ids
 apply_all-requires-clause-ids c =
-    let few = handed-few c.args.history.now.future c.into_vec.result.items ((c.in-Group.ensures {u = tt}).popped ∙ ap (λ es. Some es) (sym c.into_vec.ensures)) in
+    let few = handed-few c.args.history.now.future c.into_vec.result.items
+    ((c.in-Group.ensures {u = tt}).popped ∙ ap (λ es. Some es) (sym c.into_vec.ensures)) in
     omega (arith, few, c.requires.few, c.requires.room.ids)
 
 pub returns-in_ok-push_redone-in-Group-clause-stands : goal.returns-in_ok-push_redone-in-Group-clause-stands
@@ -33,7 +36,8 @@ returns-in_ok-push_redone-in-Group-clause-stands c = λ state both.
     let out = (c.in-Group.ensures {u = tt}).popped ∙ ap (λ es. Some es) (sym c.into_vec.ensures) in
     in_any c.write_reply.result _
     (redone-both c.args.self.now c.apply_all.new.self c.args.history.now c.push_redone.new.self c.args.side.now c.apply_all.new.side state c.args.id es c.in_ok-backs-in-Group.backs.items both c.if-not-self.false out
-    (c.in_ok-backs-in-Group.ensures.stands state both.stands (redo-takes c.args.self.now c.args.history.now c.args.side.now state es out both))
+    (c.in_ok-backs-in-Group.ensures.stands state both.stands
+    (redo-takes c.args.self.now c.args.history.now c.args.side.now state es out both))
     c.in_ok-backs-in-Group.ensures.saved c.in_ok-backs-in-Group.ensures.next c.in_ok-backs-in-Group.ensures.backs
     ((c.in_ok-push_redone-in-Group.ensures {u = tt}).ok ∙ ap (past_pushed c.in_ok-backs-in-Group.backs.items) c.pop_redo.ensures.after))
 
@@ -43,7 +47,8 @@ returns-in_ok-push_redone-in-Group-clause-sent c = λ state both.
     let out = (c.in-Group.ensures {u = tt}).popped ∙ ap (λ es. Some es) (sym c.into_vec.ensures) in
     on_ok c.write_reply.result _ _ c.write_reply.ensures.ok
     (redone-sent c.args.self.now c.args.history.now c.args.side.now state c.args.id es c.args.out.now.items c.apply_all.new.out.items c.write_reply.new.out.items both c.if-not-self.false out
-    (c.in_ok-backs-in-Group.ensures.sent state both.stands (redo-takes c.args.self.now c.args.history.now c.args.side.now state es out both)))
+    (c.in_ok-backs-in-Group.ensures.sent state both.stands
+    (redo-takes c.args.self.now c.args.history.now c.args.side.now state es out both)))
 
 pub returns-in-Nothing-clause-stands : goal.returns-in-Nothing-clause-stands
 returns-in-Nothing-clause-stands c = λ state both.

@@ -22,7 +22,8 @@ returns-clause-stands c = λ state stands.
     replaced-stands c.args.self.now c.sheet_comes.new.self c.args.side.now c.sheet_comes.new.side state c.args.sheet.now c.args.text.now c.in-Some.entry.now stands
     (named-found c.args.sheet.now c.book.result.now c.args.side.now.sheets.entries c.in-Some.entry.now c.in-Some.ensures.found c.book.ensures)
     (sym c.is_full_without.ensures ∙ c.if-is_full_without.false)
-    ((c.in_ok-sheet_comes.ensures {u = tt}).stands (sheet_step (leaves c.in-Some.entry.now.id) state).state ((c.in_ok-sheet_leaves.ensures {u = tt}).stands state stands) c.requires.text)
+    ((c.in_ok-sheet_comes.ensures {u = tt}).stands (sheet_step (leaves c.in-Some.entry.now.id) state).state
+    ((c.in_ok-sheet_leaves.ensures {u = tt}).stands state stands) c.requires.text)
 
 pub returns-clause-sent : goal.returns-clause-sent
 returns-clause-sent c = λ state stands.
@@ -30,4 +31,5 @@ returns-clause-sent c = λ state stands.
     (named-found c.args.sheet.now c.book.result.now c.args.side.now.sheets.entries c.in-Some.entry.now c.in-Some.ensures.found c.book.ensures)
     (sym c.is_full_without.ensures ∙ c.if-is_full_without.false)
     ((c.in_ok-sheet_leaves.ensures {u = tt}).sent state stands)
-    ((c.in_ok-sheet_comes.ensures {u = tt}).sent (sheet_step (leaves c.in-Some.entry.now.id) state).state ((c.in_ok-sheet_leaves.ensures {u = tt}).stands state stands))
+    ((c.in_ok-sheet_comes.ensures {u = tt}).sent (sheet_step (leaves c.in-Some.entry.now.id) state).state
+    ((c.in_ok-sheet_leaves.ensures {u = tt}).stands state stands))

@@ -10,12 +10,17 @@ use Rattle.back_end.proofs.desk.Desk.sheet_comes.Goals as goal
 pub returns-clause-stands : goal.returns-clause-stands
 returns-clause-stands c = λ state stands utf8.
     in_any c.tell_last.result _
-    (came-stands c.args.self.now c.args.side.now (record { page = c.args.side.now.page; sheets = c.add.new.self }) state c.args.origin c.args.text.now stands utf8 c.requires.fits refl
+    (came-stands c.args.self.now c.args.side.now
+    (record {
+      page = c.args.side.now.page;
+      sheets = c.add.new.self;
+    }) state c.args.origin c.args.text.now stands utf8 c.requires.fits refl
     (c.in-Ok.ensures {u = tt}).last)
 
 pub returns-clause-sent : goal.returns-clause-sent
 returns-clause-sent c = λ state stands.
     let e = new_sheet c.args.side.now.sheets.next c.args.origin c.args.text.now in
     on_ok c.tell_last.result _ _
-    (c.tell_last.ensures e (last-is c.book.result.now c.args.side.now.sheets.entries e (c.book.ensures ∙ ap (λ (b : NumberedBook). b.entries) (c.in-Ok.ensures {u = tt}).last)))
+    (c.tell_last.ensures e (last-is c.book.result.now c.args.side.now.sheets.entries e
+    (c.book.ensures ∙ ap (λ (b : NumberedBook). b.entries) (c.in-Ok.ensures {u = tt}).last)))
     (came-sent c.args.self.now c.args.side.now state c.args.origin c.args.text.now c.args.out.now.items c.tell_last.new.out.items stands)

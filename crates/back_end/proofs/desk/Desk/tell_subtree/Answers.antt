@@ -8,7 +8,8 @@ use Rattle.back_end.proofs.desk.Desk.tell_subtree.Goals as goal
 pub returns-clause-stands : goal.returns-clause-stands
 returns-clause-stands c = λ state stands can aimed.
     in_any c.tell_paused.result _
-    ((c.in_ok-target.ensures {u = tt}).stands (push_step c.args.node state).state ((c.in_ok-node.ensures {u = tt}).stands state stands can) (after-can c.args.node c.args.target state can aimed.there))
+    ((c.in_ok-target.ensures {u = tt}).stands (push_step c.args.node state).state ((c.in_ok-node.ensures {u = tt}).stands state stands can)
+    (after-can c.args.node c.args.target state can aimed.there))
 
 pub returns-clause-sent : goal.returns-clause-sent
 returns-clause-sent c = λ state stands can aimed.
@@ -17,5 +18,6 @@ returns-clause-sent c = λ state stands can aimed.
     let can_after = after-can c.args.node c.args.target state can aimed.there in
     on_ok c.tell_paused.result _ _ c.tell_paused.ensures
     (subtree-sent state c.args.node c.args.target c.in_ok-node.node c.in_ok-target.target c.args.insertion c.args.out.now.items c.push_with_room.new.out.items c.push_with_room-2.new.out.items
-    c.tell_paused.new.out.items stands.now can ((c.in_ok-node.ensures {u = tt}).id state stands can) ((c.in_ok-target.ensures {u = tt}).id after stands_after can_after)
+    c.tell_paused.new.out.items stands.now can ((c.in_ok-node.ensures {u = tt}).id state stands can)
+    ((c.in_ok-target.ensures {u = tt}).id after stands_after can_after)
     ((c.in_ok-node.ensures {u = tt}).sent state stands can) ((c.in_ok-target.ensures {u = tt}).sent after stands_after can_after))

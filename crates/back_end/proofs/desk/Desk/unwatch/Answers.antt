@@ -17,16 +17,19 @@ changes node word = record { step = λ id state. refl; plain = refl; adds = with
 pub returns-then-not-self-clause-sent : goal.returns-then-not-self-clause-sent
 returns-then-not-self-clause-sent c = λ state stands.
     on_ok c.refuse.result _ _ (c.refuse.ensures state)
-    (dom-off-sent c.args.self.now c.args.side.now state c.args.id (unwatches c.args.node c.args.kind) c.args.out.now.items c.refuse.new.out.items refl stands c.if-not-self.true)
+    (dom-off-sent c.args.self.now c.args.side.now state c.args.id
+    (unwatches c.args.node c.args.kind) c.args.out.now.items c.refuse.new.out.items refl stands c.if-not-self.true)
 
 pub returns-in_default-clause-sent : goal.returns-in_default-clause-sent
 returns-in_default-clause-sent c = λ state stands.
     on_ok c.refuse-in_default.result _ _ (c.refuse-in_default.ensures state)
-    (unknown-sent c.args.self.now c.args.side.now state c.args.id _ _ c.args.node (changes c.args.node c.args.kind) stands c.args.out.now.items c.refuse-in_default.new.out.items c.if-not-self.false
+    (unknown-sent c.args.self.now c.args.side.now state c.args.id _ _ c.args.node
+    (changes c.args.node c.args.kind) stands c.args.out.now.items c.refuse-in_default.new.out.items c.if-not-self.false
     c.in_default.ensures)
 
 pub returns-clause-stands : goal.returns-clause-stands
 returns-clause-stands c = λ state stands.
     in_any c.write_reply.result _
     (changed-stands c.args.self.now c.args.side.now state c.args.id _ _ c.args.node (changes c.args.node c.args.kind) stands
-    (record { alloc = _; is_on = _; css = _; agent = _; watches = _ }) c.in-Some.serial c.if-not-self.false c.in-Some.ensures refl refl (c.remove.ensures ∙ ap (λ kind. without_watch kind c.in-Some.serial c.args.self.now.watches) c.watch_kind.ensures) refl)
+    (record { alloc = _; is_on = _; css = _; agent = _; watches = _ }) c.in-Some.serial c.if-not-self.false c.in-Some.ensures refl refl
+    (c.remove.ensures ∙ ap (λ kind. without_watch kind c.in-Some.serial c.args.self.now.watches) c.watch_kind.ensures) refl)

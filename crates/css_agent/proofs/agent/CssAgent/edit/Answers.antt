@@ -13,5 +13,6 @@ returns-clause-sent c =
     let front = c.args.out.now.items in
     let done = css_done c.css_edited.new.book c.in-Ok.done.backs.items result in
     c.in_ok-tell_edit.ensures
-    ∙ ap (λ (bs : List Splice). (front ++ message_frames (map changed_message bs)) ++ frames_of_moves (replied id result ∷ [])) c.as_slice.ensures.value
+    ∙ ap (λ (bs : List Splice). (front ++ message_frames (map changed_message bs))
+    ++ frames_of_moves (replied id result ∷ [])) c.as_slice.ensures.value
     ∙ edit_told c.args.edit.now c.args.book.now done id front c.in-Ok.ensures.done

@@ -8,6 +8,7 @@ use Rattle.dom_agent.proofs.agent.DomAgent.query_selector_all.Goals as goal
 
 pub answer_all-requires : goal.answer_all-requires
 answer_all-requires c = record {
-  live = query-live (binding_keeper (alone c.args.page.now.tree)) c.args.page.now.tree c.args.self.now (map_of.get c.args.self.now.serials c.args.node) c.args.selector.now (query_seen c.in-Ok.query)
+  live = query-live (binding_keeper (alone c.args.page.now.tree)) c.args.page.now.tree c.args.self.now
+      (map_of.get c.args.self.now.serials c.args.node) c.args.selector.now (query_seen c.in-Ok.query)
       (ap (λ o. query_of o c.args.selector.now) (sym c.node_of-found.ensures) ∙ c.in-Ok.ensures);
 }

@@ -12,38 +12,55 @@ use Rattle.dom_agent.proofs.agent.DomAgent.request_child_nodes.Goals as goal
 pub open_all-requires-clause-containers : goal.open_all-requires-clause-containers
 open_all-requires-clause-containers c =
     let page : PageValue = c.args.page.now in
-    request_containers page c.valid.ensures c.self.inside.binding c.args.depth (map_of.get c.args.self.now.serials c.args.node) c.in-Some.found c.levels_asked-levels.result (map opening_of c.deref.result.now)
-    (c.in-Some.ensures ∙ ap (λ m. known_node (binding_keeper (alone page.tree)) page.tree m (map_of.get c.args.self.now.serials c.args.node)) (sym c.self.view_is))
+    request_containers page c.valid.ensures c.self.inside.binding c.args.depth
+    (map_of.get c.args.self.now.serials c.args.node) c.in-Some.found c.levels_asked-levels.result (map opening_of c.deref.result.now)
+    (c.in-Some.ensures ∙ ap (λ m. known_node (binding_keeper (alone page.tree)) page.tree m
+    (map_of.get c.args.self.now.serials c.args.node)) (sym c.self.view_is))
     c.levels_asked-levels.ensures
-    (ap (map opening_of) c.deref.ensures.value ∙ c.in_ok-request_node.ensures ∙ ap (λ l. map opening_of l ++ requested (opened_in c.self.inside.binding) c.levels_asked-levels.result (alone c.in-Some.found)) c.new-openings.ensures.items)
+    (ap (map opening_of) c.deref.ensures.value ∙ c.in_ok-request_node.ensures ∙ ap
+    (λ l. map opening_of l ++ requested (opened_in c.self.inside.binding) c.levels_asked-levels.result
+    (alone c.in-Some.found)) c.new-openings.ensures.items)
 
 pub open_all-requires-clause-room : goal.open_all-requires-clause-room
 open_all-requires-clause-room c =
     let page : PageValue = c.args.page.now in
-    request_room page c.valid.ensures c.self.inside.binding c.args.depth (map_of.get c.args.self.now.serials c.args.node) c.in-Some.found c.levels_asked-levels.result (map opening_of c.deref.result.now)
-    (c.in-Some.ensures ∙ ap (λ m. known_node (binding_keeper (alone page.tree)) page.tree m (map_of.get c.args.self.now.serials c.args.node)) (sym c.self.view_is))
+    request_room page c.valid.ensures c.self.inside.binding c.args.depth
+    (map_of.get c.args.self.now.serials c.args.node) c.in-Some.found c.levels_asked-levels.result (map opening_of c.deref.result.now)
+    (c.in-Some.ensures ∙ ap (λ m. known_node (binding_keeper (alone page.tree)) page.tree m
+    (map_of.get c.args.self.now.serials c.args.node)) (sym c.self.view_is))
     c.levels_asked-levels.ensures
-    (ap (map opening_of) c.deref.ensures.value ∙ c.in_ok-request_node.ensures ∙ ap (λ l. map opening_of l ++ requested (opened_in c.self.inside.binding) c.levels_asked-levels.result (alone c.in-Some.found)) c.new-openings.ensures.items)
+    (ap (map opening_of) c.deref.ensures.value ∙ c.in_ok-request_node.ensures ∙ ap
+    (λ l. map opening_of l ++ requested (opened_in c.self.inside.binding) c.levels_asked-levels.result
+    (alone c.in-Some.found)) c.new-openings.ensures.items)
     (subst (λ (m : BindingValue). m.next < 2 ^ 52) (sym c.self.view_is) c.requires.room)
 
 pub returns-clause-known : goal.returns-clause-known
 returns-clause-known c =
     let page : PageValue = c.args.page.now in
     let s : Option ℕ = map_of.get c.args.self.now.serials c.args.node in
-    request_known page c.valid.ensures c.self.inside.binding c.args.depth s c.in-Some.found c.levels_asked-levels.result (map opening_of c.deref.result.now)
+    request_known page c.valid.ensures c.self.inside.binding c.args.depth s c.in-Some.found c.levels_asked-levels.result
+    (map opening_of c.deref.result.now)
     (c.in-Some.ensures ∙ ap (λ m. known_node (binding_keeper (alone page.tree)) page.tree m s) (sym c.self.view_is))
     c.levels_asked-levels.ensures
-    (ap (map opening_of) c.deref.ensures.value ∙ c.in_ok-request_node.ensures ∙ ap (λ l. map opening_of l ++ requested (opened_in c.self.inside.binding) c.levels_asked-levels.result (alone c.in-Some.found)) c.new-openings.ensures.items)
+    (ap (map opening_of) c.deref.ensures.value ∙ c.in_ok-request_node.ensures ∙ ap
+    (λ l. map opening_of l ++ requested (opened_in c.self.inside.binding) c.levels_asked-levels.result
+    (alone c.in-Some.found)) c.new-openings.ensures.items)
     _ (c.in_ok-open_all.ensures.known (alone page.tree) page.tree)
-    ∙ ap (λ m. state_after m (of_children (binding_keeper (alone page.tree)) page.tree c.args.depth (known_node (binding_keeper (alone page.tree)) page.tree m s) m)) c.self.view_is
+    ∙ ap (λ m. state_after m (of_children (binding_keeper (alone page.tree)) page.tree c.args.depth
+    (known_node (binding_keeper (alone page.tree)) page.tree m s) m)) c.self.view_is
 
 pub returns-clause-sent : goal.returns-clause-sent
 returns-clause-sent c =
     let page : PageValue = c.args.page.now in
     let s : Option ℕ = map_of.get c.args.self.now.serials c.args.node in
-    request_sent page c.valid.ensures c.self.inside.binding c.args.depth s c.in-Some.found c.levels_asked-levels.result (map opening_of c.deref.result.now)
+    request_sent page c.valid.ensures c.self.inside.binding c.args.depth s c.in-Some.found c.levels_asked-levels.result
+    (map opening_of c.deref.result.now)
     (c.in-Some.ensures ∙ ap (λ m. known_node (binding_keeper (alone page.tree)) page.tree m s) (sym c.self.view_is))
     c.levels_asked-levels.ensures
-    (ap (map opening_of) c.deref.ensures.value ∙ c.in_ok-request_node.ensures ∙ ap (λ l. map opening_of l ++ requested (opened_in c.self.inside.binding) c.levels_asked-levels.result (alone c.in-Some.found)) c.new-openings.ensures.items)
+    (ap (map opening_of) c.deref.ensures.value ∙ c.in_ok-request_node.ensures ∙ ap
+    (λ l. map opening_of l ++ requested (opened_in c.self.inside.binding) c.levels_asked-levels.result
+    (alone c.in-Some.found)) c.new-openings.ensures.items)
     c.args.id c.args.out.now.items _ _ (c.in_ok-open_all.ensures.sent (alone page.tree) page.tree) c.in_ok-reply.ensures
-    ∙ ap (λ m. c.args.out.now.items ++ answer c.args.id (of_children (binding_keeper (alone page.tree)) page.tree c.args.depth (known_node (binding_keeper (alone page.tree)) page.tree m s) m)) c.self.view_is
+    ∙ ap (λ m. c.args.out.now.items
+    ++ answer c.args.id (of_children (binding_keeper (alone page.tree)) page.tree c.args.depth
+    (known_node (binding_keeper (alone page.tree)) page.tree m s) m)) c.self.view_is

@@ -9,6 +9,7 @@ use Rattle.dom_breakpoints.proofs.serial_sets.SerialSet.remove_within.Goals as g
 pub returns : goal.returns
 returns c =
     let tree = c.args.page.now.tree in
-    ap (λ ks. set.from_list ks) (filter_same _ (λ serial. not (is_within serial c.args.root tree)) _ (λ x b f' k. search rules) _ _ c.retain.ensures.filtered)
+    ap (λ ks. set.from_list ks) (filter_same _ (λ serial. not (is_within serial c.args.root tree)) _
+    (λ x b f' k. search rules) _ _ c.retain.ensures.filtered)
     ∙ from_list-filter (λ serial. not (is_within serial c.args.root tree)) _
     ∙ ap (outside c.args.root tree) c.self.view_is

@@ -12,7 +12,8 @@ pub returns-in-Matched : goal.returns-in-Matched
 returns-in-Matched c =
     let read : IsRead (known_value c.args.self.now) c.args.id (view c.args.value.now) c.in-Some.method.now c.in-Ok.body =
     record { waits = sym (c.in-Some.ensures ∙ ap (method_waiting c.args.id) c.deref.ensures.value); result = c.in-Ok.ensures } in
-    matched_taken (known_value c.args.self.now) (known_value c.keep_matched.new.self) c.args.id c.args.frame _ _ _ c.in-Matched.matched read c.in-Matched.is
+    matched_taken (known_value c.args.self.now)
+    (known_value c.keep_matched.new.self) c.args.id c.args.frame _ _ _ c.in-Matched.matched read c.in-Matched.is
     (c.in_ok-keep_matched-in-Matched.ensures {u = tt})
 
 pub returns-in-Ok : goal.returns-in-Ok

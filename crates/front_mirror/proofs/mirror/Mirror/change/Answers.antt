@@ -19,8 +19,10 @@ change-requires-clause-suits c =
 -- after want of memory it is empty
 pub invariant_of-self : goal.invariant_of-self
 invariant_of-self c =
-    (nothing_kept c.replace-table.new.dest c.replace-roots.new.dest (λ k. ap (λ (t : Table). table_slots t k) c.replace-table.ensures.after ∙ c.new.ensures.slots k)
-    (λ x. ap (λ (t : Table). table_ids t x) c.replace-table.ensures.after ∙ c.new.ensures.ids x) (c.replace-roots.ensures.after ∙ c.new-2.ensures)).1
+    (nothing_kept c.replace-table.new.dest c.replace-roots.new.dest
+    (λ k. ap (λ (t : Table). table_slots t k) c.replace-table.ensures.after ∙ c.new.ensures.slots k)
+    (λ x. ap (λ (t : Table). table_ids t x) c.replace-table.ensures.after ∙ c.new.ensures.ids x)
+    (c.replace-roots.ensures.after ∙ c.new-2.ensures)).1
 
 pub invariant_of-self-2 : goal.invariant_of-self-2
 invariant_of-self-2 c =

@@ -10,7 +10,9 @@ invariant_of-self c = elim c.match-get_mut.branch [
   | in-Some w ↦
       let entries = ap (λ k. k.sheets.entries) w.self-inside-is ∙ (c.get_mut.follows.holds w.freshen.new.sheet).0 in
       let number = ap (λ (s : KnownSheet). s.number) w.freshen.ensures in
-      subst AreNumbered (sym entries) (changed_numbered c.args.number c.self.inside.sheets.entries w.in-Some.sheet.now w.freshen.new.sheet c.self.invariant (sym w.in-Some.ensures.value) number)
+      subst AreNumbered (sym entries)
+      (changed_numbered c.args.number c.self.inside.sheets.entries w.in-Some.sheet.now w.freshen.new.sheet c.self.invariant
+      (sym w.in-Some.ensures.value) number)
   | in_default w ↦
       let entries = ap (λ k. k.sheets.entries) w.self-inside-is ∙ ap (λ m. m.entries) c.get_mut.follows.holds-at-none in
       subst AreNumbered (sym entries) c.self.invariant

@@ -10,7 +10,9 @@ invariant_of-self c = elim c.match-get_mut.branch [
   | in-Some w ↦
       let entries = ap (λ k. k.sheets.entries) w.self-inside-is ∙ (c.get_mut.follows.holds w.mark.new.sheet).0 in
       let number = ap (λ (s : KnownSheet). s.number) w.mark.ensures in
-      subst AreNumbered (sym entries) (changed_numbered c.args.number c.self.inside.sheets.entries w.in-Some.sheet.now w.mark.new.sheet c.self.invariant (sym w.in-Some.ensures.value) number)
+      subst AreNumbered (sym entries)
+      (changed_numbered c.args.number c.self.inside.sheets.entries w.in-Some.sheet.now w.mark.new.sheet c.self.invariant
+      (sym w.in-Some.ensures.value) number)
   | in_default w ↦
       let entries = ap (λ k. k.sheets.entries) w.self-inside-is ∙ ap (λ m. m.entries) c.get_mut.follows.holds-at-none in
       subst AreNumbered (sym entries) c.self.invariant
@@ -21,7 +23,8 @@ returns c = elim c.match-get_mut.branch [
   | in-Some w ↦
       let entries = ap (λ k. k.sheets.entries) w.self-inside-is ∙ (c.get_mut.follows.holds w.mark.new.sheet).0 in
       ap (λ (es : Entries). sheets_in es) entries
-      ∙ changed_in (stale_sheet) c.args.number c.self.inside.sheets.entries w.in-Some.sheet.now w.mark.new.sheet c.self.invariant (sym w.in-Some.ensures.value) w.mark.ensures
+      ∙ changed_in (stale_sheet) c.args.number c.self.inside.sheets.entries w.in-Some.sheet.now w.mark.new.sheet c.self.invariant
+      (sym w.in-Some.ensures.value) w.mark.ensures
       ∙ ap (marked_old c.args.number) c.self.view_is
   | in_default w ↦
       let entries = ap (λ k. k.sheets.entries) w.self-inside-is ∙ ap (λ m. m.entries) c.get_mut.follows.holds-at-none in

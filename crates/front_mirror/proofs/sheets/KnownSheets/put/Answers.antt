@@ -5,7 +5,8 @@ use Rattle.front_mirror.proofs.SheetLemmas.{Entries, put_in, put_numbered}
 use Rattle.front_mirror.proofs.sheets.KnownSheets.put.Goals as goal
 
 pub invariant_of-self : goal.invariant_of-self
-invariant_of-self c = subst AreNumbered (sym c.in-Ok.ensures.entries) (put_numbered c.args.sheet c.self.inside.sheets.entries c.self.invariant)
+invariant_of-self c = subst AreNumbered (sym c.in-Ok.ensures.entries)
+    (put_numbered c.args.sheet c.self.inside.sheets.entries c.self.invariant)
 
 pub returns-in-Ok-clause-last : goal.returns-in-Ok-clause-last
 returns-in-Ok-clause-last c =

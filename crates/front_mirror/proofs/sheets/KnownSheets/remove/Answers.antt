@@ -4,7 +4,8 @@ use Rattle.front_mirror.proofs.SheetLemmas.{Entries, without_in, without_numbere
 use Rattle.front_mirror.proofs.sheets.KnownSheets.remove.Goals as goal
 
 pub invariant_of-self : goal.invariant_of-self
-invariant_of-self c = subst AreNumbered (sym c.take_out.ensures) (without_numbered c.args.number c.self.inside.sheets.entries c.self.invariant)
+invariant_of-self c = subst AreNumbered (sym c.take_out.ensures)
+    (without_numbered c.args.number c.self.inside.sheets.entries c.self.invariant)
 
 pub returns : goal.returns
 returns c =

@@ -15,5 +15,6 @@ returns-then-i-len c =
 pub returns-else-i-len : goal.returns-else-i-len
 returns-else-i-len c =
     let len = ap (λ (ks : List ℕ). length ks) c.self.view_is in
-    let past : length c.args.self.now ≤ id_place c.args.id c.args.self.now = omega (arith, len, c.place-i.ensures, c.len.ensures, c.if-i-len.false) in
+    let past : length c.args.self.now
+    ≤ id_place c.args.id c.args.self.now = omega (arith, len, c.place-i.ensures, c.len.ensures, c.if-i-len.false) in
     place_nowhere c.args.id c.args.self.now past

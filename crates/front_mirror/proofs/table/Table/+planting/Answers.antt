@@ -16,6 +16,8 @@ plant-plant_all-requires t c =
 pub plant-returns-clause-slots : goal.plant-returns-clause-slots
 plant-returns-clause-slots t c =
     on_ok c.plant_all.result _ _
-    (λ e. plant_slots c.args.above c.args.tree.row.seen (seen_nodes c.args.tree.children) (shown_of c.in_ok-slot.trees.items) (table_slots c.args.self.now) (table_slots c.put.new.self) (table_slots c.plant_all.new.self) c.in_ok-slot.slot c.tree.inside.id
-    c.in_ok-slot.ensures.slot c.in_ok-put.ensures.slots (ap (λ (b : Branch Told). b.row.seen.id) c.tree.view_is) (ap (λ (n : Nodes Told). seen_nodes n) c.in_ok-slot.ensures.trees) e)
+    (λ e. plant_slots c.args.above c.args.tree.row.seen (seen_nodes c.args.tree.children) (shown_of c.in_ok-slot.trees.items)
+    (table_slots c.args.self.now) (table_slots c.put.new.self) (table_slots c.plant_all.new.self) c.in_ok-slot.slot c.tree.inside.id
+    c.in_ok-slot.ensures.slot c.in_ok-put.ensures.slots (ap (λ (b : Branch Told). b.row.seen.id) c.tree.view_is)
+    (ap (λ (n : Nodes Told). seen_nodes n) c.in_ok-slot.ensures.trees) e)
     c.plant_all.ensures.slots

@@ -15,6 +15,8 @@ abbrev pub invariant-plant_all-loop-tree : goal.invariant-plant_all-loop-tree
 invariant-plant_all-loop-tree l =
     (goal.iterator-plant_all-loop-tree).can_next l.tree-iterator
     × (goal.iterator-plant_all-loop-tree).is_finite l.tree-iterator
-    × (planted l.above (shown_of l.tree-iterator.rest.items) (table_slots l.self) ≡ planted l.above (shown_of l.fn.trees.items) (table_slots l.fn.self))
-    × (serials_listed (shown_of l.tree-iterator.rest.items) (table_ids l.self) ≡ serials_listed (shown_of l.fn.trees.items) (table_ids l.fn.self))
+    × (planted l.above (shown_of l.tree-iterator.rest.items) (table_slots l.self)
+    ≡ planted l.above (shown_of l.fn.trees.items) (table_slots l.fn.self))
+    × (serials_listed (shown_of l.tree-iterator.rest.items) (table_ids l.self)
+    ≡ serials_listed (shown_of l.fn.trees.items) (table_ids l.fn.self))
     × (node_count (nodes_of l.tree-iterator.rest.items) ≤ node_count (nodes_of l.fn.trees.items))

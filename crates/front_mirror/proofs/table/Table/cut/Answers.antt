@@ -6,4 +6,5 @@ use Rattle.front_mirror.proofs.table.Table.cut.Goals as goal
 
 pub remove_all-requires : goal.remove_all-requires
 remove_all-requires c =
-    listed_turned c.args.self.now c.remove_child.new.self c.args.id (without_child_id c.args.child) c.requires.listed c.requires.there (λ s. refl) c.remove_child.ensures.slots c.remove_child.ensures.ids
+    listed_turned c.args.self.now c.remove_child.new.self c.args.id (without_child_id c.args.child) c.requires.listed c.requires.there
+    (λ s. refl) c.remove_child.ensures.slots c.remove_child.ensures.ids

@@ -13,9 +13,12 @@ abbrev pub invariant-loop-frame : goal.invariant-loop-frame
 invariant-loop-frame g l =
     (g.L.Link.honest l.initial.link → g.L.Link.honest l.link)
     × (g.L.Link.faults l.initial.link ≤ g.L.Link.faults l.link)
-    × ((up0 down0 : Pipe) (w : World RunState) → InRunWith (g.L.Link.honest l.initial.link) up0 down0 (g.L.Link.up l.initial.link) (g.L.Link.down l.initial.link) w l.initial.self
-    → Answering (g.L.Link.honest l.link) up0 down0 (g.L.Link.up l.link) (g.L.Link.down l.link) (answered run_step l.initial.self.splitter.whole w) l.self)
-    × ((state0 : Started) (up0 down0 : Pipe) → FollowsWith state0 up0 down0 (g.L.Link.up l.initial.link) (g.L.Link.down l.initial.link) l.initial.self
+    × ((up0 down0 : Pipe) (w : World RunState)
+    → InRunWith (g.L.Link.honest l.initial.link) up0 down0 (g.L.Link.up l.initial.link) (g.L.Link.down l.initial.link) w l.initial.self
+    → Answering (g.L.Link.honest l.link) up0 down0 (g.L.Link.up l.link) (g.L.Link.down l.link)
+    (answered run_step l.initial.self.splitter.whole w) l.self)
+    × ((state0 : Started) (up0 down0 : Pipe)
+    → FollowsWith state0 up0 down0 (g.L.Link.up l.initial.link) (g.L.Link.down l.initial.link) l.initial.self
     → FollowsWith state0 up0 down0 (g.L.Link.up l.link) (g.L.Link.down l.link) l.self)
 
 abbrev pub decreases-loop-frame : goal.decreases-loop-frame

@@ -19,7 +19,9 @@ invariant-loop-number g l =
     × (g.L.Link.faults l.initial.link ≤ g.L.Link.faults l.link)
     × ((up0 down0 : Pipe) (w : World RunState) → w.spent.fetches + length l.numbers ≤ most_fetches
     → InRun (g.L.Link.honest l.initial.link) up0 down0 (g.L.Link.up l.initial.link) (g.L.Link.down l.initial.link) w l.initial.self
-    → Fetching (g.L.Link.honest l.link) up0 down0 (g.L.Link.up l.link) (g.L.Link.down l.link) (all_fetched replay front_fetcher (first_value []) l.numbers w)
+    → Fetching (g.L.Link.honest l.link) up0 down0 (g.L.Link.up l.link) (g.L.Link.down l.link)
+    (all_fetched replay front_fetcher (first_value []) l.numbers w)
     (drop l.number-index l.numbers) l.self)
-    × ((state0 : Started) (up0 down0 : Pipe) → FollowsRun state0 up0 down0 (g.L.Link.up l.initial.link) (g.L.Link.down l.initial.link) l.initial.self
+    × ((state0 : Started) (up0 down0 : Pipe)
+    → FollowsRun state0 up0 down0 (g.L.Link.up l.initial.link) (g.L.Link.down l.initial.link) l.initial.self
     → FollowsRun state0 up0 down0 (g.L.Link.up l.link) (g.L.Link.down l.link) l.self)

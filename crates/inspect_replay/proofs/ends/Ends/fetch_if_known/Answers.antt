@@ -7,4 +7,5 @@ pub returns-then-knows_sheet-clause-steps : goal.returns-then-knows_sheet-clause
 returns-then-knows_sheet-clause-steps g c = λ up0 down0 w few run.
     fetch_known c.fetch_text.result (g.L.Link.honest c.args.link.now) (g.L.Link.honest c.fetch_text.new.link) up0 down0
     (g.L.Link.up c.args.link.now) (g.L.Link.down c.args.link.now) (g.L.Link.up c.fetch_text.new.link) (g.L.Link.down c.fetch_text.new.link)
-    w c.args.self.now c.fetch_text.new.self c.args.number run (sym c.if-knows_sheet.ensures) (c.fetch_text.ensures.steps up0 down0 w few run)
+    w c.args.self.now c.fetch_text.new.self c.args.number run (sym c.if-knows_sheet.ensures)
+    (c.fetch_text.ensures.steps up0 down0 w few run)

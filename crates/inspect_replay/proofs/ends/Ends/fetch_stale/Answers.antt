@@ -6,6 +6,8 @@ use Rattle.inspect_replay.proofs.ends.Ends.fetch_stale.Goals as goal
 
 pub returns-clause-steps : goal.returns-clause-steps
 returns-clause-steps g c =
-    subst (λ numbers. FetchesAll (moment (g.L.Link.honest c.args.link.now) (g.L.Link.up c.args.link.now) (g.L.Link.down c.args.link.now) c.args.self.now)
-    (moment (g.L.Link.honest c.fetch_all.new.link) (g.L.Link.up c.fetch_all.new.link) (g.L.Link.down c.fetch_all.new.link) c.fetch_all.new.self) numbers c.fetch_all.result)
+    subst (λ numbers. FetchesAll (moment (g.L.Link.honest c.args.link.now) (g.L.Link.up c.args.link.now)
+    (g.L.Link.down c.args.link.now) c.args.self.now)
+    (moment (g.L.Link.honest c.fetch_all.new.link) (g.L.Link.up c.fetch_all.new.link)
+    (g.L.Link.down c.fetch_all.new.link) c.fetch_all.new.self) numbers c.fetch_all.result)
     (c.deref.ensures.value ∙ c.in_ok-numbers.ensures.sheets) c.fetch_all.ensures.steps

@@ -4,9 +4,12 @@ use Rattle.inspect_replay.proofs.ends.Ends.settle.Goals as goal
 
 pub returns-in-Ok-clause-steps : goal.returns-in-Ok-clause-steps
 returns-in-Ok-clause-steps g c = λ up0 down0 w left run.
-    refresh_goes c.fetch_stale.result (g.L.Link.honest c.args.link.now) (g.L.Link.honest c.deliver_all.new.link) (g.L.Link.honest c.fetch_stale.new.link) up0 down0
-    (g.L.Link.up c.args.link.now) (g.L.Link.down c.args.link.now) (g.L.Link.up c.deliver_all.new.link) (g.L.Link.down c.deliver_all.new.link)
-    (g.L.Link.up c.fetch_stale.new.link) (g.L.Link.down c.fetch_stale.new.link) w c.args.self.now c.deliver_all.new.self c.fetch_stale.new.self
+    refresh_goes c.fetch_stale.result (g.L.Link.honest c.args.link.now) (g.L.Link.honest c.deliver_all.new.link)
+    (g.L.Link.honest c.fetch_stale.new.link) up0 down0
+    (g.L.Link.up c.args.link.now) (g.L.Link.down c.args.link.now) (g.L.Link.up c.deliver_all.new.link)
+    (g.L.Link.down c.deliver_all.new.link)
+    (g.L.Link.up c.fetch_stale.new.link)
+    (g.L.Link.down c.fetch_stale.new.link) w c.args.self.now c.deliver_all.new.self c.fetch_stale.new.self
     left run (c.in-Ok.ensures.steps up0 down0 w run).1 c.fetch_stale.ensures.steps
 
 pub returns-in-Err-clause-steps : goal.returns-in-Err-clause-steps

@@ -7,7 +7,8 @@ use Rattle.inspect_replay.proofs.service.Service.answer_whole.Goals as goal
 
 pub returns-in-Err-clause-answers : goal.returns-in-Err-clause-answers
 returns-in-Err-clause-answers g c = λ state stands.
-    one-in-part (serve_moment c.loop-frame.self (g.K.Sink.taken c.loop-frame.out)) (g.K.Sink.taken c.answer.new.out) state c.args.self.now.splitter.whole (g.K.Sink.taken c.args.out.now)
+    one-in-part (serve_moment c.loop-frame.self (g.K.Sink.taken c.loop-frame.out))
+    (g.K.Sink.taken c.answer.new.out) state c.args.self.now.splitter.whole (g.K.Sink.taken c.args.out.now)
     c.deref.result.now c.next.new.self.whole (c.loop-frame.invariant.answers state stands)
     (c.in-Some.ensures.first ∙ ap (λ f. f ∷ c.next.new.self.whole) (sym c.deref.ensures.value)) c.in-Err.ensures.answers
 
@@ -16,7 +17,8 @@ loop-frame-preserved g c = record {
   rest = ap (λ (f : Frames). f.rest) c.answer.ensures.same ∙ c.in-Some.ensures.rest ∙ c.loop-frame.invariant.rest;
   later = omega (arith, c.loop-frame.invariant.later, c.answer.ensures.cause.later);
   answers = λ state stands.
-      one-answered (serve_moment c.loop-frame.self (g.K.Sink.taken c.loop-frame.out)) (serve_moment c.answer.new.self (g.K.Sink.taken c.answer.new.out)) state c.args.self.now.splitter.whole
+      one-answered (serve_moment c.loop-frame.self (g.K.Sink.taken c.loop-frame.out))
+      (serve_moment c.answer.new.self (g.K.Sink.taken c.answer.new.out)) state c.args.self.now.splitter.whole
       (g.K.Sink.taken c.args.out.now) c.deref.result.now c.next.new.self.whole (c.loop-frame.invariant.answers state stands)
       (c.in-Some.ensures.first ∙ ap (λ f. f ∷ c.next.new.self.whole) (sym c.deref.ensures.value))
       (ap (λ (f : Frames). f.whole) c.answer.ensures.same) (c.in-Ok.ensures {u = c.in-Ok.field-0}).answers;
@@ -25,5 +27,6 @@ loop-frame-preserved g c = record {
 pub returns-clause-answers : goal.returns-clause-answers
 returns-clause-answers g c = λ state stands.
     let last = c.in_default.ensures {u = tt} in
-    all-answered (serve_moment c.loop-frame.self (g.K.Sink.taken c.loop-frame.out)) (serve_moment c.loop-frame.self (g.K.Sink.taken c.loop-frame.out)) state c.args.self.now.splitter.whole
+    all-answered (serve_moment c.loop-frame.self (g.K.Sink.taken c.loop-frame.out))
+    (serve_moment c.loop-frame.self (g.K.Sink.taken c.loop-frame.out)) state c.args.self.now.splitter.whole
     (g.K.Sink.taken c.args.out.now) (c.loop-frame.invariant.answers state stands) (last.none.0 refl) refl refl refl

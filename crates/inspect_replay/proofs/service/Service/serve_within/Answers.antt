@@ -8,7 +8,8 @@ use Rattle.inspect_replay.proofs.service.Service.serve_within.Goals as goal
 
 pub loop-came-init : goal.loop-came-init
 loop-came-init g c = record {
-  so_far = nothing-came (g.S.Source.left c.args.src.now) (serve_moment c.args.self.now (g.K.Sink.taken c.args.out.now)) (serves-nothing c.args.self.now (g.K.Sink.taken c.args.out.now) c.requires.first);
+  so_far = nothing-came (g.S.Source.left c.args.src.now) (serve_moment c.args.self.now (g.K.Sink.taken c.args.out.now))
+      (serves-nothing c.args.self.now (g.K.Sink.taken c.args.out.now) c.requires.first);
   source_later = omega arith;
   sink_later = omega arith;
 }
@@ -19,8 +20,10 @@ returns-in-Ok-eq0-clause-served g c =
     let piece = c.in-Ok-eq0.ensures.served _ so_far.serves in
     let room : c.loop-came.came + length c.serve_piece.new.buf ≤ 2 ^ 26 = grind (arith, length-take) in
     loop-ended _ _ _ _ _
-    (more-came (g.S.Source.left c.args.src.now) (g.S.Source.left c.loop-came.src) (g.S.Source.left c.serve_piece.new.src) (g.K.Sink.taken c.args.out.now)
-    (serve_moment c.loop-came.self (g.K.Sink.taken c.loop-came.out)) (serve_moment c.serve_piece.new.self (g.K.Sink.taken c.serve_piece.new.out))
+    (more-came (g.S.Source.left c.args.src.now) (g.S.Source.left c.loop-came.src) (g.S.Source.left c.serve_piece.new.src)
+    (g.K.Sink.taken c.args.out.now)
+    (serve_moment c.loop-came.self (g.K.Sink.taken c.loop-came.out))
+    (serve_moment c.serve_piece.new.self (g.K.Sink.taken c.serve_piece.new.out))
     c.loop-came.came c.in-Ok-eq0.field-0 (length c.serve_piece.new.buf) so_far piece room) (piece.ends c.in-Ok-eq0.field-0-test)
 
 pub overflow_add-came : goal.overflow_add-came
@@ -35,8 +38,10 @@ loop-came-preserved g c =
     let so_far = c.loop-came.invariant.so_far in
     let room : c.loop-came.came + length c.serve_piece.new.buf ≤ 2 ^ 26 = grind (arith, length-take) in
     record {
-      so_far = more-came (g.S.Source.left c.args.src.now) (g.S.Source.left c.loop-came.src) (g.S.Source.left c.serve_piece.new.src) (g.K.Sink.taken c.args.out.now)
-          (serve_moment c.loop-came.self (g.K.Sink.taken c.loop-came.out)) (serve_moment c.serve_piece.new.self (g.K.Sink.taken c.serve_piece.new.out))
+      so_far = more-came (g.S.Source.left c.args.src.now) (g.S.Source.left c.loop-came.src) (g.S.Source.left c.serve_piece.new.src)
+          (g.K.Sink.taken c.args.out.now)
+          (serve_moment c.loop-came.self (g.K.Sink.taken c.loop-came.out))
+          (serve_moment c.serve_piece.new.self (g.K.Sink.taken c.serve_piece.new.out))
           c.loop-came.came c.in-Ok.count (length c.serve_piece.new.buf) so_far (c.in-Ok.ensures.served _ so_far.serves) room;
       source_later = omega (arith, c.loop-came.invariant.source_later, c.serve_piece.ensures.cause.source_later);
       sink_later = omega (arith, c.loop-came.invariant.sink_later, c.serve_piece.ensures.cause.sink_later);
@@ -46,12 +51,16 @@ pub returns-in-Err-clause-served : goal.returns-in-Err-clause-served
 returns-in-Err-clause-served g c =
     let so_far = c.loop-came.invariant.so_far in
     let room : c.loop-came.came + length c.serve_piece.new.buf ≤ 2 ^ 26 = grind (arith, length-take) in
-    loop-stopped (g.S.Source.left c.args.src.now) (g.S.Source.left c.loop-came.src) (g.S.Source.left c.serve_piece.new.src) (g.K.Sink.taken c.args.out.now)
-    (serve_moment c.loop-came.self (g.K.Sink.taken c.loop-came.out)) (serve_moment c.serve_piece.new.self (g.K.Sink.taken c.serve_piece.new.out))
+    loop-stopped (g.S.Source.left c.args.src.now) (g.S.Source.left c.loop-came.src) (g.S.Source.left c.serve_piece.new.src)
+    (g.K.Sink.taken c.args.out.now)
+    (serve_moment c.loop-came.self (g.K.Sink.taken c.loop-came.out))
+    (serve_moment c.serve_piece.new.self (g.K.Sink.taken c.serve_piece.new.out))
     c.loop-came.came (length c.serve_piece.new.buf) c.in-Err.stop so_far (c.in-Err.ensures.served _ so_far.serves) room
 
 pub returns-clause-served : goal.returns-clause-served
 returns-clause-served g c =
     let full : 2 ^ 26 ≤ c.loop-came.came = omega (arith, c.loop-came-test.false) in
-    loop-full (g.S.Source.left c.args.src.now) (g.S.Source.left c.loop-came.src) (g.S.Source.left c.end_of_input.new.src) (g.K.Sink.taken c.args.out.now)
-    (serve_moment c.loop-came.self (g.K.Sink.taken c.loop-came.out)) c.loop-came.came c.end_of_input.result c.loop-came.invariant.so_far full c.end_of_input.ensures.met
+    loop-full (g.S.Source.left c.args.src.now) (g.S.Source.left c.loop-came.src) (g.S.Source.left c.end_of_input.new.src)
+    (g.K.Sink.taken c.args.out.now)
+    (serve_moment c.loop-came.self
+    (g.K.Sink.taken c.loop-came.out)) c.loop-came.came c.end_of_input.result c.loop-came.invariant.so_far full c.end_of_input.ensures.met

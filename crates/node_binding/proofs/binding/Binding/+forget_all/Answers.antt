@@ -12,7 +12,8 @@ loop-i-init t c = ap (λ n. all_forgotten n c.args.self.now) (from-zero c.args.c
 pub forget_all-requires : goal.forget_all-requires
 forget_all-requires t c =
     let inside : c.loop-i.i < width c.args.children.now = omega (arith, c.loop-i-test.true, c.len-i-end.ensures) in
-    let small : node_count c.children.result < node_count c.args.children.now = omega (arith, child-smaller c.args.children.now c.loop-i.i c.at-child.result inside c.at-child.ensures, ap node_count c.children.ensures) in
+    let small : node_count c.children.result < node_count c.args.children.now = omega
+    (arith, child-smaller c.args.children.now c.loop-i.i c.at-child.result inside c.at-child.ensures, ap node_count c.children.ensures) in
     (subst (λ m. node_count c.children.result < m) c.decreases small, tt)
 
 pub loop-i-preserved : goal.loop-i-preserved

@@ -15,5 +15,6 @@ open_tree-requires-clause-room c = open_down_room c.args.page.now c.valid.ensure
 pub returns : goal.returns
 returns c =
     c.in_ok-open_tree.ensures
-    ∙ ap (λ d. opened_down d c.node-node.result c.args.self.now) (c.levels_of.ensures ∙ ap levels_of (to_z-of_z w64 c.args.levels c.ranges.levels))
+    ∙ ap (λ d. opened_down d c.node-node.result c.args.self.now)
+    (c.levels_of.ensures ∙ ap levels_of (to_z-of_z w64 c.args.levels c.ranges.levels))
     ∙ ap (λ x. opened_down (levels_of c.args.levels) x c.args.self.now) c.node-node.ensures

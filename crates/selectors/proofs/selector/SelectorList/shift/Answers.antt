@@ -21,11 +21,14 @@ loop-selector-preserved c =
     let i = c.loop-selector.selector-index in
     let y = get_or ys i c.selector-item.result in
     ap (λ (r : Range). set ys i (record { compounds = y.compounds; pseudo_element = y.pseudo_element; range = r })) c.moved-selector.ensures
-    ∙ map_over_more (shifted c.args.from c.args.to) c.args.self.list.items ys i y inside c.loop-selector.invariant (ap (λ (d : Selector). get_or ys i d) c.selector-item.is)
+    ∙ map_over_more (shifted c.args.from c.args.to) c.args.self.list.items ys i y inside c.loop-selector.invariant
+    (ap (λ (d : Selector). get_or ys i d) c.selector-item.is)
 
 pub returns : goal.returns
 returns c =
     let same = ap (λ (xs : List Selector). length xs) c.deref_mut-selector-items.ensures.value in
-    let len : length c.loop-selector.selector-items ≡ c.args.self.list.len = omega (arith, same, c.loop-selector.auto.selector-items, c.args.self.list.ok.0) in
+    let len : length c.loop-selector.selector-items
+    ≡ c.args.self.list.len = omega (arith, same, c.loop-selector.auto.selector-items, c.args.self.list.ok.0) in
     ap (λ (xs : List Selector). map selector_seen xs) (with_items_is c.args.self.list c.loop-selector.selector-items len)
-    ∙ all_shifted c.args.from c.args.to c.args.self.list.items c.loop-selector.selector-items c.loop-selector.selector-index (omega (arith, same, c.loop-selector-test.false)) c.loop-selector.invariant
+    ∙ all_shifted c.args.from c.args.to c.args.self.list.items c.loop-selector.selector-items c.loop-selector.selector-index
+    (omega (arith, same, c.loop-selector-test.false)) c.loop-selector.invariant

@@ -17,5 +17,6 @@ returns-clause-at c =
 
 pub returns-clause-read : goal.returns-clause-read
 returns-clause-read c =
-    let own = entries_at c.self.inside.entries.entries c.args.i (c.in-Some._id.now, c.in-Some.entry.now) c.self.invariant (sym c.in-Some.ensures.entry) in
+    let own = entries_at c.self.inside.entries.entries c.args.i (c.in-Some._id.now, c.in-Some.entry.now) c.self.invariant
+    (sym c.in-Some.ensures.entry) in
     own.entry

@@ -13,7 +13,8 @@ returns-clause-place c =
 
 pub returns-clause-apart : goal.returns-clause-apart
 returns-clause-apart c =
-    subst AreApart c.self.view_is (subst (IsDistinct nat_eq) (keys_are c.self.inside.entries.entries c.self.invariant) c.get_index_of.ensures.unique)
+    subst AreApart c.self.view_is (subst (IsDistinct nat_eq)
+    (keys_are c.self.inside.entries.entries c.self.invariant) c.get_index_of.ensures.unique)
 
 pub returns-clause-each : goal.returns-clause-each
 returns-clause-each c = subst (All IsStored) c.self.view_is (all_stored c.self.inside.entries.entries c.self.invariant)
