@@ -48,7 +48,8 @@ detached-tally serial tree live part s =
       arith,
       tally-at row_serial s e.1,
       tally-inserted s
-          (inserted-taken serial (node_at serial tree) (children_at (parent_at serial tree) tree) (serial-live serial tree live) part.child),
+          (inserted-taken serial (node_at serial tree) (children_at (parent_at serial tree) tree)
+          (serial-live serial tree live) part.child),
     )
 
 -- ---- watches that are left

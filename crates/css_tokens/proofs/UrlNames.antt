@@ -314,7 +314,8 @@ letter_says letter (c ∷ rest) from to some =
                 let same : to_ascii_lowercase (escape_value rest) ≡ letter = same_code _ _ is in
                 let one : 1 + escape_tail rest ≡ suc (escape_tail rest) = omega arith in
                 let first : c ≡ 92 = same_code c 92 back in
-                rw (one, first) (ap (map to_ascii_lowercase) (escape rest (value_no_line rest letter same from to)) ∙ letter_bytes rest letter
+                rw (one, first) (ap (map to_ascii_lowercase)
+                (escape rest (value_no_line rest letter same from to)) ∙ letter_bytes rest letter
                 (unescaped (drop (escape_tail rest) rest)) to same)
             | false ↦ λ _ none. absurd (omega arith)
           ] refl some
