@@ -75,12 +75,16 @@ two_at : (o p : Ordering) (e c d : Data) (more_c more_d : Option Data) (n : ℕ)
     → (more_c ≡ Some c → more_d ≡ Some d → 6 ≤ n)
     → match_ordering o more_c (Some e) more_c ≡ Some c → match_ordering p more_d (Some e) more_d ≡ Some d → 6 ≤ 2 + (data_size e + n)
 two_at Equal Equal e c d more_c more_d n other fc fd both ic id = absurd (other (refl, refl))
-two_at Equal Less e c d more_c more_d n other fc fd both ic id = let h = fd id in let a = data_size-one e in let b = data_size-one d in omega arith
-two_at Equal Greater e c d more_c more_d n other fc fd both ic id = let h = fd id in let a = data_size-one e in let b = data_size-one d in omega arith
-two_at Less Equal e c d more_c more_d n other fc fd both ic id = let h = fc ic in let a = data_size-one e in let b = data_size-one c in omega arith
+two_at Equal Less e c d more_c more_d n other fc fd both ic id = let h = fd id in let a = data_size-one e in let b = data_size-one d in
+    omega arith
+two_at Equal Greater e c d more_c more_d n other fc fd both ic id = let h = fd id in let a = data_size-one e in let b = data_size-one d in
+    omega arith
+two_at Less Equal e c d more_c more_d n other fc fd both ic id = let h = fc ic in let a = data_size-one e in let b = data_size-one c in
+    omega arith
 two_at Less Less e c d more_c more_d n other fc fd both ic id = let h = both ic id in omega arith
 two_at Less Greater e c d more_c more_d n other fc fd both ic id = let h = both ic id in omega arith
-two_at Greater Equal e c d more_c more_d n other fc fd both ic id = let h = fc ic in let a = data_size-one e in let b = data_size-one c in omega arith
+two_at Greater Equal e c d more_c more_d n other fc fd both ic id = let h = fc ic in let a = data_size-one e in let b = data_size-one c in
+    omega arith
 two_at Greater Less e c d more_c more_d n other fc fd both ic id = let h = both ic id in omega arith
 two_at Greater Greater e c d more_c more_d n other fc fd both ic id = let h = both ic id in omega arith
 

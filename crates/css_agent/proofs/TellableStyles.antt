@@ -194,7 +194,11 @@ pub rule-utf8 : (e : SheetEntry) (r : RuleForm) → IsTold e → IsRuleOf e.text
     → RuleHasUtf8 (told_rule e r)
 rule-utf8 e r is own named = (
   (selectors-utf8 e.text r.prelude.start r.prelude.end r.selectors is.utf8 own.selectors, part-utf8 e.text r.prelude is.utf8 own.prelude),
-  (properties-utf8 (λ p. Some (source_range e.text p.whole)) e.text r.properties is.utf8 own.each named, part-utf8 e.text r.body is.utf8 own.body),
+  (
+    properties-utf8 (λ p. Some (source_range e.text p.whole)) e.text r.properties is.utf8 own.each named,
+    part-utf8 e.text r.body is.utf8
+        own.body,
+  ),
 )
 
 -- ---- hits

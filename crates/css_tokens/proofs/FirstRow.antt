@@ -147,7 +147,20 @@ at_number c rest number =
     let l : nat_eq 60 c ≡ false = grind (arith, nat_tests) in
     let a : (c == 64) ≡ false = grind (arith, nat_tests) in
     let s : starts_ident (c ∷ rest) ≡ false = no_start c rest d' i b in
-    rw (no_comment c rest e, no_white c rest w, no_string c rest q, no_bad_string c rest q, no_hash c rest h, no_cdc c rest d, no_url c rest s, no_bad_url c rest s, no_ident c rest s, no_cdo c rest l, no_at c rest a) refl
+    rw (
+      no_comment c rest e,
+      no_white c rest w,
+      no_string c rest q,
+      no_bad_string c rest q,
+      no_hash c rest h,
+      no_cdc c rest d,
+      no_url c
+          rest s,
+      no_bad_url c rest s,
+      no_ident c rest s,
+      no_cdo c rest l,
+      no_at c rest a,
+    ) refl
 
 named_last : (a b c d : Option Piece) (p : Piece) → c ≡ Some p → (a or b or c or d) ≡ (a or b or c)
 named_last (Some q) b c d p e = refl
@@ -174,7 +187,15 @@ at_name c rest start =
     let d' : (c == 45) ≡ false = grind (arith, nat_tests) in
     let s : starts_ident (c ∷ rest) ≡ true = rw (d', start) refl in
     let there = ident_there (c ∷ rest) s in
-    rw (no_comment c rest e, no_white c rest w, no_string c rest q, no_bad_string c rest q, no_hash c rest h, no_numeric c rest g n p, no_cdc c rest d)
+    rw (
+      no_comment c rest e,
+      no_white c rest w,
+      no_string c rest q,
+      no_bad_string c rest q,
+      no_hash c rest h,
+      no_numeric c rest g n p,
+      no_cdc c rest d,
+    )
     (named_last (url (c ∷ rest)) (bad_url (c ∷ rest)) (ident (c ∷ rest)) _ there.0 there.1)
 
 at_other : (c : ℕ) (rest : List ℕ) → TellsFirst Other c → first_piece (c ∷ rest) ≡ mark (c ∷ rest)
@@ -194,7 +215,20 @@ at_other c rest other =
     let l : nat_eq 60 c ≡ false = grind (arith, nat_tests) in
     let a : (c == 64) ≡ false = grind (arith, nat_tests) in
     let s : starts_ident (c ∷ rest) ≡ false = no_start c rest d' i b in
-    rw (no_comment c rest e, no_white c rest w, no_string c rest q, no_bad_string c rest q, no_hash c rest h, no_numeric c rest g n p, no_cdc c rest d, no_url c rest s, no_bad_url c rest s, no_ident c rest s, no_cdo c rest l, no_at c rest a) refl
+    rw (
+      no_comment c rest e,
+      no_white c rest w,
+      no_string c rest q,
+      no_bad_string c rest q,
+      no_hash c rest h,
+      no_numeric c rest g n p,
+      no_cdc c rest d,
+      no_url c rest s,
+      no_bad_url c rest s,
+      no_ident c rest s,
+      no_cdo c rest l,
+      no_at c rest a,
+    ) refl
 
 -- the rows to try, by the class of the first code
 abbrev pub tried : First → List ℕ → Option Piece

@@ -311,7 +311,14 @@ number_least other others f =
     let whole : other ++ others ≡ f.sign ++ (f.decimal ++ (f.exponent ++ others)) =
     ap (λ (x : List ℕ). x ++ others) f.is ∙ append_assoc f.sign (f.decimal ++ f.exponent) others ∙ ap (λ (x : List ℕ). f.sign ++ x)
     (append_assoc f.decimal f.exponent others) in
-    omega (arith, ap number_len whole, parts_least f.sign f.decimal f.exponent others f.a_sign f.a_decimal f.an_exponent, ap length f.is, length-append f.sign (f.decimal ++ f.exponent), length-append f.decimal f.exponent)
+    omega (
+      arith,
+      ap number_len whole,
+      parts_least f.sign f.decimal f.exponent others f.a_sign f.a_decimal f.an_exponent,
+      ap length f.is,
+      length-append f.sign (f.decimal ++ f.exponent),
+      length-append f.decimal f.exponent,
+    )
 
 pub number_some : (number : List ℕ) → IsNumber number → 0 < length number
 number_some number f = omega (

@@ -144,7 +144,8 @@ edit_keeps_session page (DropAttr serial name) w valid can session =
 edit_keeps_session page (SetText serial value) w valid can session =
     session_label page valid serial (with_value value) (λ l. refl)
     (not-false _ (clear (edit_faults (SetText serial value) page.tree) can.fits).0) w.opened w.pushed w.since session
-edit_keeps_session page (Attach parent before x) w valid can session = session_attach page valid parent before x can w.opened w.pushed w.since session
+edit_keeps_session page (Attach parent before x) w valid can session = session_attach page valid parent before x can w.opened w.pushed
+    w.since session
 edit_keeps_session page (Detach serial) w valid can session = session_detach page valid serial can w.opened w.pushed w.since session
 
 pub edit_draws_one : EditDrawsOne

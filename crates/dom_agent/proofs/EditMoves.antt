@@ -111,5 +111,6 @@ edits_are_moves page e w sheets valid can session tell tell_after can_sheets =
         told_course (session_ids w serial) (knows w (alone page.tree) serial) (says value) (session_view w page sheets)
         (session_view w (after (SetText serial value) page) sheets) told told_after refl
         (text_told page valid w.opened w.pushed w.since serial value can)
-    by (Attach parent before x) can told told_after = attach_course page valid sheets parent before x can w.opened w.pushed w.since session told told_after
+    by (Attach parent before x) can told told_after = attach_course page valid sheets parent before x can w.opened w.pushed w.since session
+        told told_after
     by (Detach serial) can told told_after = detach_course page valid sheets serial can w.opened w.pushed w.since session told told_after

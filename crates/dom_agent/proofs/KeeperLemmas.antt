@@ -398,7 +398,8 @@ module _ (page : PageValue) (valid : IsValid page) where
   pub outcomes_alike : (c : DomAsk) (w : Session) (b : BindingValue) → IsSession m w → Stands m w b
       → AlikeOutcomes m (session_outcome page c w) (binding_outcome page c b)
   outcomes_alike (GetDocument depth pierce) w b session stands = document_alike depth pierce w b stands
-  outcomes_alike (RequestChildNodes id depth pierce) w b session stands = request_alike id depth pierce w.opened w.pushed w.since b session stands
+  outcomes_alike (RequestChildNodes id depth pierce) w b session stands = request_alike id depth pierce w.opened w.pushed w.since b session
+      stands
   outcomes_alike (PushByPath path) w b session stands = by_path_alike path w.opened w.pushed w.since b session stands
   outcomes_alike (PushBySerials serials) w b session stands = by_serials_alike serials w.opened w.pushed w.since b session stands
   outcomes_alike (QuerySelector id text) w b session stands =

@@ -75,7 +75,8 @@ pub answered_in : (up0 down0 up down up1 down1 : Pipe) (w : World RunState) (fra
     → old ≡ [] → bytes ≡ out
     → up1 ≡ up → (down1.sent ≡ down.sent ++ bytes) × (down1.given ≡ down.given) → there ≡ e.down_there + length out
     → InWorld up0 down0 up1 down1 (answered run_step (frame ∷ []) w) frames (record e { seat = seat1; side = side1; down_there = there })
-answered_in up0 down0 up down up1 down1 w frame frames seat seat1 side side1 e old out bytes there in_world stood said empty same_out same_up sent left =
+answered_in up0 down0 up down up1 down1 w frame frames seat seat1 side side1 e old out bytes there in_world stood said empty same_out
+    same_up sent left =
     let all : InWorld up0 down0 up down1 (answered run_step (frame ∷ []) w) frames
     (record e { seat = seat1; side = side1; down_there = there }) =
     world-answered up0 down0 up down down1 w frame frames (record e { seat = seat; side = side }) seat1 side1 out there in_world
@@ -97,7 +98,8 @@ pub turned_in : (up0 down0 up down up1 down1 : Pipe) (w : World RunState) (x : T
     → up1 ≡ up → (down1.sent ≡ down.sent ++ bytes) × (down1.given ≡ down.given) → there ≡ e.down_there + length out
     → InWorld up0 down0 up1 down1 (turned run_turn x w) (whole ++ awaited (turned run_turn x w).up)
     (record e { seat = seat1; side = side1; down_there = there })
-turned_in up0 down0 up down up1 down1 w x whole seat seat1 side side1 e old out bytes there in_world none is_turn room stood said empty same_out same_up sent left =
+turned_in up0 down0 up down up1 down1 w x whole seat seat1 side side1 e old out bytes there in_world none is_turn room stood said empty
+    same_out same_up sent left =
     let start : InWorld up0 down0 up down w (awaited w.up) (record e { seat = seat; side = side }) =
     subst (λ frames. InWorld up0 down0 up down w (frames ++ awaited w.up) (record e { seat = seat; side = side })) none in_world in
     let all : InWorld up0 down0 up down1 (turned run_turn x w) (awaited w.up)
@@ -145,7 +147,8 @@ pub asked_in : (up0 down0 up down up1 down1 : Pipe) (w : World RunState) (e : En
     → frame ≡ framed (command_text e.front.next a.method a.params a.session) → front1 ≡ after_ask e.front a.method
     → bytes ≡ frame → (up1.sent ≡ up.sent ++ bytes) × (up1.given ≡ up.given) → down1 ≡ down → there ≡ e.up_there + length frame
     → InWorld up0 down0 up1 down1 (sends a w) (whole ++ awaited (sends a w).up) (record e { front = front1; up_there = there })
-asked_in up0 down0 up down up1 down1 w e a whole frame bytes there front1 can few in_world none frame_is front_is same_bytes sent same_down left =
+asked_in up0 down0 up down up1 down1 w e a whole frame bytes there front1 can few in_world none frame_is front_is same_bytes sent same_down
+    left =
     let next : e.front.next ≡ w.spent.asks + 1 = ap (λ (f : FrontState). f.next) in_world.front_is in
     let text = command_text (w.spent.asks + 1) a.method a.params a.session in
     let framed_is : frame ≡ framed text = frame_is ∙ ap (λ n. framed (command_text n a.method a.params a.session)) next in
@@ -170,7 +173,8 @@ pub raw_in : (up0 down0 up down up1 down1 : Pipe) (w : World RunState) (e : Ends
     → frame ≡ framed text → bytes ≡ frame → (up1.sent ≡ up.sent ++ bytes) × (up1.given ≡ up.given) → down1 ≡ down
     → there ≡ e.up_there + length frame
     → InWorld up0 down0 up1 down1 (raw text w) (whole ++ awaited (raw text w).up) (record e { up_there = there })
-raw_in up0 down0 up down up1 down1 w e text whole frame bytes there letters bare room in_world none frame_is same_bytes sent same_down left =
+raw_in up0 down0 up down up1 down1 w e text whole frame bytes there letters bare room in_world none frame_is same_bytes sent same_down left
+    =
     let start : InWorld up0 down0 up down w (awaited w.up) e = subst
     (λ frames. InWorld up0 down0 up down w (frames ++ awaited w.up) e) none in_world in
     let all : InWorld up0 down0 up1 down (raw text w) (awaited (raw text w).up) (record e { up_there = there }) =
@@ -191,7 +195,8 @@ pub fetched_in : (up0 down0 up down up1 down1 : Pipe) (w : World RunState) (e : 
     → InWorld up0 down0 up1 down1 (sent_up (front_fetcher.text w.spent.fetches sheet) one_fetch w)
     (whole ++ awaited (sent_up (front_fetcher.text w.spent.fetches sheet) one_fetch w).up)
     (record e { front = front1; up_there = there })
-fetched_in up0 down0 up down up1 down1 w e sheet whole frame bytes there front1 fits few in_world none frame_is front_is same_bytes sent same_down left =
+fetched_in up0 down0 up down up1 down1 w e sheet whole frame bytes there front1 fits few in_world none frame_is front_is same_bytes sent
+    same_down left =
     let count : e.front.fetches ≡ w.spent.fetches = ap (λ (f : FrontState). f.fetches) in_world.front_is in
     let text = front_fetcher.text w.spent.fetches sheet in
     let after : World RunState = sent_up text one_fetch w in

@@ -158,7 +158,8 @@ pub asked-follows : (state0 : Started) (up0 down0 up down up1 down1 : Pipe) (e :
     → frame ≡ framed (command_text e.front.next a.method a.params a.session) → front1 ≡ after_ask e.front a.method
     → bytes ≡ frame → (up1.sent ≡ up.sent ++ bytes) × (up1.given ≡ up.given) → down1 ≡ down
     → Follows state0 up0 down0 up1 down1 waiting (record e { front = front1; up_there = there })
-asked-follows state0 up0 down0 up down up1 down1 e a waiting frame bytes there front1 can room f left frame_is front_is same_bytes sent same_down =
+asked-follows state0 up0 down0 up down up1 down1 e a waiting frame bytes there front1 can room f left frame_is front_is same_bytes sent
+    same_down =
     let text = command_text e.front.next a.method a.params a.session in
     let all : Follows state0 up0 down0 up1 down waiting (record e { front = after_ask e.front a.method; up_there = there }) =
     follows-sends state0 up0 down0 up down up1 waiting e a text there f (left ∙ ap (λ bytes. e.up_there + length bytes) frame_is) can
@@ -174,7 +175,8 @@ pub fetched-follows : (state0 : Started) (up0 down0 up down up1 down1 : Pipe) (e
     → frame ≡ framed (front_fetcher.text e.front.fetches sheet) → front1 ≡ after_fetch e.front sheet
     → bytes ≡ frame → (up1.sent ≡ up.sent ++ bytes) × (up1.given ≡ up.given) → down1 ≡ down
     → Follows state0 up0 down0 up1 down1 waiting (record e { front = front1; up_there = there })
-fetched-follows state0 up0 down0 up down up1 down1 e sheet waiting frame bytes there front1 fits room f left frame_is front_is same_bytes sent same_down =
+fetched-follows state0 up0 down0 up down up1 down1 e sheet waiting frame bytes there front1 fits room f left frame_is front_is same_bytes
+    sent same_down =
     let all : Follows state0 up0 down0 up1 down waiting (record e { front = after_fetch e.front sheet; up_there = there }) =
     follows-fetched state0 up0 down0 up down up1 waiting e sheet there f fits room (left ∙ ap (λ bytes. e.up_there + length bytes) frame_is)
     (sent.0 ∙ ap (λ piece. up.sent ++ piece) (same_bytes ∙ frame_is)) sent.1 in
@@ -219,7 +221,8 @@ pub answered-follows : (state0 : Started) (up0 down0 up down up1 down1 : Pipe) (
     → ((state : State) → StandsFor seat side state → out ≡ old ++ frames_of_moves (frame_step false frame state).moves)
     → old ≡ [] → bytes ≡ out → up1 ≡ up → (down1.sent ≡ down.sent ++ bytes) × (down1.given ≡ down.given)
     → Follows state0 up0 down0 up1 down1 frames (record e { seat = seat1; side = side1; down_there = there })
-answered-follows state0 up0 down0 up down up1 down1 frame frames seat seat1 side side1 e old out bytes there f left room stood said empty same_out same_up sent =
+answered-follows state0 up0 down0 up down up1 down1 frame frames seat seat1 side side1 e old out bytes there f left room stood said empty
+    same_out same_up sent =
     let all : Follows state0 up0 down0 up down1 frames (record e { seat = seat1; side = side1; down_there = there }) =
     follows-answered state0 up0 down0 up down down1 frame frames (record e { seat = seat; side = side }) seat1 side1 out there f left
     (room-of seat side f.state f.stands room) (stood f.state f.stands)
@@ -238,7 +241,8 @@ pub turned-follows : (state0 : Started) (up0 down0 up down up1 down1 : Pipe) (x 
     → ((state : State) → StandsFor seat side state → out ≡ old ++ frames_of_moves (turn_step x state).moves)
     → old ≡ [] → bytes ≡ out → up1 ≡ up → (down1.sent ≡ down.sent ++ bytes) × (down1.given ≡ down.given)
     → Follows state0 up0 down0 up1 down1 waiting (record e { seat = seat1; side = side1; down_there = there })
-turned-follows state0 up0 down0 up down up1 down1 x waiting seat seat1 side side1 e old out bytes there f left room is_turn stood said empty same_out same_up sent =
+turned-follows state0 up0 down0 up down up1 down1 x waiting seat seat1 side side1 e old out bytes there f left room is_turn stood said
+    empty same_out same_up sent =
     let all : Follows state0 up0 down0 up down1 waiting (record e { seat = seat1; side = side1; down_there = there }) =
     follows-turned state0 up0 down0 up down down1 x waiting (record e { seat = seat; side = side }) seat1 side1 out there f left
     (room-of seat side f.state f.stands room) is_turn (stood f.state f.stands)

@@ -46,7 +46,8 @@ use Rattle.inspect_replay.proofs.RunLemmas.{part-took, part-tells}
 pub prints-took : (result : Result (Unit {0}) Stop) (sink0 sink1 link0 link1 : ℕ) (before after : Option (List ℕ)) (text : List ℕ)
     → HasStopCause sink0 sink1 link0 link1 result → GoesWell result → Prints result before after text → RunTook result before after text
 prints-took (Ok value) sink0 sink1 link0 link1 before after text cause well printed = printed
-prints-took (Err stop) sink0 sink1 link0 link1 before after text cause well printed = part-took stop sink0 sink1 link0 link1 before after text cause well printed
+prints-took (Err stop) sink0 sink1 link0 link1 before after text cause well printed = part-took stop sink0 sink1 link0 link1 before after
+    text cause well printed
 
 pub printed-prints : (result : Result (Unit {0}) Stop) (before after : Option (List ℕ)) (text : List ℕ)
     → OnOk result (Appends before after text) → OnErr result (WrotePart before after text) → Prints result before after text
@@ -69,7 +70,8 @@ pub plain-line : (result : Result (Unit {0}) Stop) (honest honest1 : Type 0) (up
     (sink0 sink1 link0 link1 : ℕ) → styles_ask form ≡ None → HasStopCause sink0 sink1 link0 link1 result
     → CarriesOut (scene (moment honest up down e) taken) (scene (moment honest1 up1 down1 e1) taken1) (numbered_line number form) result
     → CarriesLine (scene (moment honest up down e) taken) (scene (moment honest1 up1 down1 e1) taken1) (numbered_line number form) result
-plain-line result honest honest1 up down up1 down1 taken taken1 e e1 number form sink0 sink1 link0 link1 none cause carries = λ up0 down0 more w play.
+plain-line result honest honest1 up down up1 down1 taken taken1 e e1 number form sink0 sink1 link0 link1 none cause carries = λ up0 down0
+    more w play.
     let all = carries up0 down0 more w play in (
       all.1,
       prints-took result sink0 sink1 link0 link1 taken taken1 (line_text number form w) cause all.0 all.2,
@@ -209,7 +211,8 @@ pub run-on : (honest honest1 : Type 0) (up0 down0 up down up1 down1 : Pipe) (tak
 run-on honest honest1 up0 down0 up down up1 down1 taken0 taken taken1 all number line more form e e1 running good is carries =
     let w = running.world in
     let l : ThisLine all number form (good_lines (number + 1) more)
-    (first_bad (number + 1) more) w running.so_far = at-line honest up0 down0 up down taken0 taken all number line more form e running good is in
+    (first_bad (number + 1) more) w running.so_far = at-line honest up0 down0 up down taken0 taken all number line more form e running good
+    is in
     let c = carries up0 down0 (line_bytes more) w (run-later honest up0 down0 up down line more form w e is running.in_play) in
     let whole : lacking form w ≡ None = no-number number (lacking form w) c.2 in
     let later = good_lines (number + 1) more in
@@ -480,7 +483,8 @@ pub stopped-line : (stop : Stop) (sink0 sink1 link0 link1 number : ℕ) (form : 
     (numbered_line number form) (Err stop)
     → CarriesLine {T = Unit {0}} (scene (moment honest up down e) taken) (scene (moment honest1 up1 down1 e1) taken1)
     (numbered_line number form) (Err stop)
-stopped-line stop sink0 sink1 link0 link1 number form honest honest1 up down up1 down1 taken taken1 e e1 cause carries = λ up0 down0 more w play.
+stopped-line stop sink0 sink1 link0 link1 number form honest honest1 up down up1 down1 taken taken1 e e1 cause carries = λ up0 down0 more w
+    play.
     let all = carries up0 down0 more w play in (
       tt,
       part-took stop sink0 sink1 link0 link1 taken taken1 (line_text number form w) cause all.0 all.2,

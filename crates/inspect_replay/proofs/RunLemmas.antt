@@ -164,7 +164,8 @@ pub spend-carries : (result : Result (Unit {0}) Stop) (honest honest1 : Type 0) 
 spend-carries result honest honest1 up down up1 down1 taken e e1 f number move form later goes told told1 silent is spends =
     subst (λ line. CarriesOut (scene (moment honest up down e) taken) (scene (moment honest1 up1 down1 e1) taken)
     (numbered_line number line) result) (sym is)
-    (λ up0 down0 more w play. let both = plays result honest honest1 up down up1 down1 e e1 f move later goes told told1 spends up0 down0 more w play in (
+    (λ up0 down0 more w play. let both = plays result honest honest1 up down up1 down1 e e1 f move later goes told told1 spends up0 down0
+    more w play in (
       both.0,
       both.1,
       subst (λ text. Prints result taken taken text) (silent w) (prints-nothing result taken),
@@ -490,7 +491,8 @@ pub replies-carried : (number : ℕ) (honest honest1 : Type 0) (up down up1 down
     (numbered_line number show_replies) (Ok tt)
 replies-carried number honest honest1 up down up1 down1 taken taken1 e e1 e2 kept settles u printed told = λ up0 down0 more w play.
     let v : World RunState = play.fresh in
-    let before : BeforeTold honest1 up0 down0 up1 down1 w v e1 = before-told honest honest1 up0 down0 up down up1 down1 more w e e1 settles play in
+    let before : BeforeTold honest1 up0 down0 up1 down1 w v e1 = before-told honest honest1 up0 down0 up down up1 down1 more w e e1 settles
+    play in
     let count : ℕ = length e1.front.value.replies in
     let all : count ≡ length (replies_in (settled run_step w).down.given) = sym
     (length-map e1.front.value.replies told_of) ∙ ap length before.shown.told in (
@@ -511,7 +513,8 @@ pub replies-stop : (number : ℕ) (stop : Stop) (honest honest1 : Type 0) (up do
     → CarriesOut {T = Unit {0}} (scene (moment honest up down e) taken) (scene (moment honest1 up1 down1 e2) taken1)
     (numbered_line number show_replies) (Err stop)
 replies-stop number stop honest honest1 up down up1 down1 taken taken1 e e1 e2 kept settles u never wrote = λ up0 down0 more w play.
-    let before : BeforeTold honest1 up0 down0 up1 down1 w play.fresh e1 = before-told honest honest1 up0 down0 up down up1 down1 more w e e1 settles play in (
+    let before : BeforeTold honest1 up0 down0 up1 down1 w play.fresh e1 = before-told honest honest1 up0 down0 up down up1 down1 more w e
+    e1 settles play in (
       never,
       tt,
       subst (λ t. WrotePart taken taken1 t)
@@ -527,7 +530,8 @@ pub pauses-carried : (number : ℕ) (honest honest1 : Type 0) (up down up1 down1
     (numbered_line number show_pauses) (Ok tt)
 pauses-carried number honest honest1 up down up1 down1 taken taken1 e e1 e2 kept settles u printed told = λ up0 down0 more w play.
     let v : World RunState = play.fresh in
-    let before : BeforeTold honest1 up0 down0 up1 down1 w v e1 = before-told honest honest1 up0 down0 up down up1 down1 more w e e1 settles play in
+    let before : BeforeTold honest1 up0 down0 up1 down1 w v e1 = before-told honest honest1 up0 down0 up down up1 down1 more w e e1 settles
+    play in
     let count : ℕ = length e1.front.value.pauses in
     let came = pauses_in (settled run_step w).down.given in
     let all : count ≡ length came = ap length before.shown.pauses ∙ length-map came seen_pause in (
@@ -548,7 +552,8 @@ pub pauses-stop : (number : ℕ) (stop : Stop) (honest honest1 : Type 0) (up dow
     → CarriesOut {T = Unit {0}} (scene (moment honest up down e) taken) (scene (moment honest1 up1 down1 e2) taken1)
     (numbered_line number show_pauses) (Err stop)
 pauses-stop number stop honest honest1 up down up1 down1 taken taken1 e e1 e2 kept settles u never wrote = λ up0 down0 more w play.
-    let before : BeforeTold honest1 up0 down0 up1 down1 w play.fresh e1 = before-told honest honest1 up0 down0 up down up1 down1 more w e e1 settles play in (
+    let before : BeforeTold honest1 up0 down0 up1 down1 w play.fresh e1 = before-told honest honest1 up0 down0 up down up1 down1 more w e
+    e1 settles play in (
       never,
       tt,
       subst (λ t. WrotePart taken taken1 t)

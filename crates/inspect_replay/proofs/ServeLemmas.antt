@@ -250,8 +250,10 @@ pub piece-ends : {T : Type 0} (result : Result T Stop) (so_far : SoFar) (old new
     → ((state : State) → StandsFor old.service.seat old.service.side state
     → Answered (steps served_step state split.whole) old.taken new result)
     → ServesOn (with_more so_far piece) new result
-piece-ends (Ok value) so_far old new piece split serves taken left answers = piece-served so_far old new piece split serves taken left answers
-piece-ends (Err stop) so_far old new piece split serves taken left answers = piece-in-part so_far old new.taken piece split serves taken answers
+piece-ends (Ok value) so_far old new piece split serves taken left answers = piece-served so_far old new piece split serves taken left
+    answers
+piece-ends (Err stop) so_far old new piece split serves taken left answers = piece-in-part so_far old new.taken piece split serves taken
+    answers
 
 -- a sink that took nothing took the front part of any text
 pub unwritten : (taken : Option (List ℕ)) (text : List ℕ) → WrotePart taken taken text

@@ -101,7 +101,8 @@ module _ {S F E X A : Type 0} (machine : Machine S F E X) (IsNext : Spent → Li
       let asked : F = machine.join front text in
       let start1 = joined machine.join start (frames_of (sent v1.up)).whole in
       let given : folded machine.take start1 (frames_of v.down.given).whole ≡ Ok asked =
-      front-sent_up machine IsNext IsTurn Fit laws fetcher seen sheets most fetching start text one_fetch v front letters fits agrees.fresh_is in
+      front-sent_up machine IsNext IsTurn Fit laws fetcher seen sheets most fetching start text one_fetch v front letters fits
+      agrees.fresh_is in
       let down : sent after.down ≡ v.down.given ++ stepped.sent =
       sent-passed (length (put out v.down).flying) (put out v.down)
       ∙ ap (λ flying. v.down.given ++ (flying ++ out)) rests.down.flying ∙ ap (λ bytes. v.down.given ++ bytes) out_is in
@@ -166,7 +167,8 @@ module _ {S F E X A : Type 0} (machine : Machine S F E X) (IsNext : Spent → Li
   }
   all-fetched start (number ∷ numbers) w v fits rests agrees stale room =
       let known = fetching.known agrees.fresh number numbers stale in
-      let one : IsFetched start w v (fetched machine fetcher number v) numbers = one-fetched start w v number numbers fits rests agrees stale (omega (arith, room)) in
+      let one : IsFetched start w v (fetched machine fetcher number v) numbers = one-fetched start w v number numbers fits rests agrees
+      stale (omega (arith, room)) in
       let fetches : (fetched machine fetcher number v).spent.fetches ≡ v.spent.fetches + 1 = one.fetches in
       let others : AreFetched start w (fetched machine fetcher number v)
       (all_fetched machine fetcher start numbers (fetched machine fetcher number v)) numbers =
@@ -201,7 +203,8 @@ module _ {S F E X A : Type 0} (machine : Machine S F E X) (IsNext : Spent → Li
       let settles : Fits machine.take machine.join Fit start v1 = fits-settled machine IsNext IsTurn Fit laws start v fits1 in
       let rests : IsAtRest v1 = settled-rests start v settles in
       let on : RunsAgree machine start seen
-      (settled machine.step w) v1 = agrees-settled machine IsNext IsTurn Fit laws fetcher seen sheets most fetching start w v fits fits1 agrees in
+      (settled machine.step w) v1 = agrees-settled machine IsNext IsTurn Fit laws fetcher seen sheets most fetching start w v fits fits1
+      agrees in
       let numbers = fetcher.stale on.fresh in
       let few : length numbers ≤ sheets = fetching.few v1.spent on.fresh v1.state []
       (fit-rests start v1 on.fresh settles rests on.fresh_is) in

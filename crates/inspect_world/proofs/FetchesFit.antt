@@ -202,7 +202,8 @@ gives-text n front after run number numbers due taken =
           let none : styles_answered text state
           ≡ [] = ap (λ r. styles_asked r state) (fetcher-asked n.fetches number due.left (omega (arith, s.high))) in
           λ i. record { back = (done i).state; styles = (ap (λ ts. run.styles ++ ts) none ∙ append-nil run.styles) i };
-      left = ap (λ (u : FrontValue). stale_of u.sheets) is ∙ ap stale_of f.2 ∙ stale-fetched front.sheets number numbers s.text apart due.first;
+      left = ap (λ (u : FrontValue). stale_of u.sheets) is ∙ ap stale_of f.2 ∙ stale-fetched front.sheets number numbers s.text apart
+          due.first;
       same = ap unstyled is ∙ f.3 ∙ ap (λ (asks : List Ask). record (unstyled front) { asks = asks }) due.fit.asks;
     }
 
@@ -215,7 +216,8 @@ fetch_laws = record {
   few = few-stale;
   known = λ front number numbers first. stale-known front.sheets number numbers first;
   letters = λ n front state number numbers due. fetcher-text n.fetches number due.left;
-  next = λ n front state number numbers due. let s : IsShownSheet state.back number = due-shown n front state number numbers due in fetcher-next n number due.left (omega (arith, s.high));
+  next = λ n front state number numbers due. let s : IsShownSheet state.back number = due-shown n front state number numbers due in
+      fetcher-next n number due.left (omega (arith, s.high));
   answer = gives-text;
 }
 

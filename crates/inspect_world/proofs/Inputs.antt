@@ -105,7 +105,8 @@ later_raw v form clear is =
     subst IsLater p.2 (raw_is_frame p.0 (sym (ap (λ o. option_map_or is_no_frame o false) p.1) ∙ clear.frame))
 
 later_show : (b c s d p : Bool) (form : LineForm)
-    → (if b then Some show_front else if c then Some show_page else if s then Some show_sheets else if d then Some show_replies else if p then Some show_pauses else None) ≡ Some form → IsLater form
+    → (if b then Some show_front else if c then Some show_page else if s then Some show_sheets else if d then Some show_replies else if p
+    then Some show_pauses else None) ≡ Some form → IsLater form
 later_show true c s d p form is = let same : show_front ≡ form = cc is in subst IsLater same tt
 later_show false true s d p form is = let same : show_page ≡ form = cc is in subst IsLater same tt
 later_show false false true d p form is = let same : show_sheets ≡ form = cc is in subst IsLater same tt

@@ -78,7 +78,8 @@ least : (form made : LineForm) (n : ℕ) → line_cost made ≤ 4 → 4 ≤ n �
 least form made n low most is = subst (λ f. line_cost f ≤ n) is (omega (arith, low, most))
 
 show-cost : (b c s d p : Bool) (form : LineForm) (n : ℕ) → 4 ≤ n
-    → (if b then Some show_front else if c then Some show_page else if s then Some show_sheets else if d then Some show_replies else if p then Some show_pauses else None) ≡ Some form → line_cost form ≤ n
+    → (if b then Some show_front else if c then Some show_page else if s then Some show_sheets else if d then Some show_replies else if p
+    then Some show_pauses else None) ≡ Some form → line_cost form ≤ n
 show-cost true c s d p form n most is = let same : show_front ≡ form = cc is in least form show_front n (omega arith) most same
 show-cost false true s d p form n most is = let same : show_page ≡ form = cc is in least form show_page n (omega arith) most same
 show-cost false false true d p form n most is = let same : show_sheets ≡ form = cc is in least form show_sheets n (omega arith) most same

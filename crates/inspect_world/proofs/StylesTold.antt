@@ -141,7 +141,8 @@ styles-command id Undo state ms is may = other Undo ms (λ m e. absurd cc) may
 styles-command id Redo state ms is may = other Redo ms (λ m e. absurd cc) may
 styles-command id CssEnable state ms is may = other CssEnable ms (λ m e. absurd cc) may
 styles-command id CssDisable state ms is may = other CssDisable ms (λ m e. absurd cc) may
-styles-command id (GetMatchedStyles node) state ms is may = ap styles_in is ∙ styles-on id node state state.client.dom_on state.client.css_on (element_named node state)
+styles-command id (GetMatchedStyles node) state ms is may = ap styles_in is ∙ styles-on id node state state.client.dom_on
+    state.client.css_on (element_named node state)
 styles-command id (GetStyleSheetText sheet) state ms is may = other (GetStyleSheetText sheet) ms (λ m e. absurd cc) may
 styles-command id (CollectClassNames sheet) state ms is may = other (CollectClassNames sheet) ms (λ m e. absurd cc) may
 styles-command id (SetStyleTexts edits) state ms is may = other (SetStyleTexts edits) ms (λ m e. absurd cc) may

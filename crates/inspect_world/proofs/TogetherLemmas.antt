@@ -60,7 +60,8 @@ module _ {S F E X A : Type 0} (machine : Machine S F E X) (IsNext : Spent → Li
   together-asked start text edits w v letters one next next1 both = record {
     fits = fits-sent_up machine IsNext IsTurn Fit laws start text (one_ask edits) w letters next both.fits;
     fits_fresh = fits-sent_up machine IsNext IsTurn Fit laws start text (one_ask edits) v letters next1 both.fits_fresh;
-    agrees = agrees-asked machine IsNext IsTurn Fit laws fetcher seen sheets most fetching start text edits w v letters both.fits both.fits_fresh both.agrees;
+    agrees = agrees-asked machine IsNext IsTurn Fit laws fetcher seen sheets most fetching start text edits w v letters both.fits
+        both.fits_fresh both.agrees;
     plain = plain-framed text w (one_ask edits) letters both.fits.up_whole one both.plain;
   }
 
@@ -71,7 +72,8 @@ module _ {S F E X A : Type 0} (machine : Machine S F E X) (IsNext : Spent → Li
   together-raw start text w v letters one next next1 both = record {
     fits = fits-sent_up machine IsNext IsTurn Fit laws start text one_raw w letters next both.fits;
     fits_fresh = fits-sent_up machine IsNext IsTurn Fit laws start text one_raw v letters next1 both.fits_fresh;
-    agrees = agrees-raw machine IsNext IsTurn Fit laws fetcher seen sheets most fetching start text w v letters both.fits both.fits_fresh both.agrees;
+    agrees = agrees-raw machine IsNext IsTurn Fit laws fetcher seen sheets most fetching start text w v letters both.fits both.fits_fresh
+        both.agrees;
     plain = plain-framed text w one_raw letters both.fits.up_whole one both.plain;
   }
 
@@ -103,7 +105,8 @@ module _ {S F E X A : Type 0} (machine : Machine S F E X) (IsNext : Spent → Li
   together-delivered_down start n w v both = record {
     fits = fits-delivered_down machine IsNext IsTurn Fit laws start n w both.fits;
     fits_fresh = fits-delivered_down machine IsNext IsTurn Fit laws start n v both.fits_fresh;
-    agrees = agrees-delivered_down machine IsNext IsTurn Fit laws fetcher seen sheets most fetching start n w v both.fits both.fits_fresh both.agrees;
+    agrees = agrees-delivered_down machine IsNext IsTurn Fit laws fetcher seen sheets most fetching start n w v both.fits both.fits_fresh
+        both.agrees;
     plain = both.plain;
   }
 
@@ -114,7 +117,8 @@ module _ {S F E X A : Type 0} (machine : Machine S F E X) (IsNext : Spent → Li
   together-settled start w v room both =
       let made : IsRefreshed machine IsNext IsTurn Fit laws fetcher seen sheets most fetching start w v
       (refreshed machine fetcher start v) =
-      refreshed-made machine IsNext IsTurn Fit laws fetcher seen sheets most fetching start w v both.fits both.fits_fresh both.agrees room in
+      refreshed-made machine IsNext IsTurn Fit laws fetcher seen sheets most fetching start w v both.fits both.fits_fresh both.agrees room
+      in
       record {
         fits = fits-settled machine IsNext IsTurn Fit laws start w both.fits;
         fits_fresh = made.fits;

@@ -190,10 +190,12 @@ module _ (page : PageValue) (parent before : ℕ) (x : Branch PageRow) (valid : 
   passes_attach_by (Some o) pushed since b there is for = attached_apart o pushed since b there is for
 
 pub binds_child : BindsChild
-binds_child page parent before x w b valid valid_after is for = binds_child_by page parent before x valid valid_after w.opened w.pushed w.since b is for
+binds_child page parent before x w b valid valid_after is for = binds_child_by page parent before x valid valid_after w.opened w.pushed
+    w.since b is for
 
 pub passes_attach : PassesAttach
-passes_attach page parent before x w b valid valid_after there is for = passes_attach_by page parent before x valid valid_after w.opened w.pushed w.since b there is for
+passes_attach page parent before x w b valid valid_after there is for = passes_attach_by page parent before x valid valid_after w.opened
+    w.pushed w.since b there is for
 
 -- ---- detach
 

@@ -209,7 +209,8 @@ raw_sound text e = let p = parts
 -- ---- a form by the kind of its line
 
 show_sound : (a b c d e : Bool) (form : LineForm)
-    → (if a then Some show_front else if b then Some show_page else if c then Some show_sheets else if d then Some show_replies else if e then Some show_pauses else None) ≡ Some form
+    → (if a then Some show_front else if b then Some show_page else if c then Some show_sheets else if d then Some show_replies else if e
+    then Some show_pauses else None) ≡ Some form
     → IsSound form
 show_sound true b c d e form is = let same : ◌≡◌ {A = LineForm} show_front form = cc in subst IsSound same tt
 show_sound false true c d e form is = let same : ◌≡◌ {A = LineForm} show_page form = cc in subst IsSound same tt

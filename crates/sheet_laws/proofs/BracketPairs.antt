@@ -43,7 +43,8 @@ add_pair _ b t close within more ts is opens own closes (closes_next front last 
 
 add_open : (bs : List Kept) (b : Kept) (t : Token) (ts : List Token) → opened_by t.kind ≡ Some b → Closing (b ∷ bs) ts → Closing bs (t ∷ ts)
 add_open bs b t ts opens (all_matched m) = all_matched (open_then t ts b opens m)
-add_open bs b t ts opens (closes_next front close more is nested closes others) = add_pair bs b t close front more ts is opens nested closes others
+add_open bs b t ts opens (closes_next front close more is nested closes others) = add_pair bs b t close front more ts is opens nested
+    closes others
 
 -- what the piece closes, where it is no stray one
 add_close : (bs : List Kept) (c : Kept) (t : Token) (ts : List Token) → closed_by t.kind ≡ Some c → is_stray_by bs (Some c) ≡ false

@@ -81,7 +81,8 @@ add_nested _ b t close within more ts is opens own closes (closes_then front las
 
 add_block : (bs : List Bracket) (b : Bracket) (t : Token) (ts : List Token) → opened_by t.kind ≡ Some b → Closes (b ∷ bs) ts
     → Closes bs (t ∷ ts)
-add_block bs b t ts opens (closes_then front close more is nested closes others) = add_nested bs b t close front more ts is opens nested closes others
+add_block bs b t ts opens (closes_then front close more is nested closes others) = add_nested bs b t close front more ts is opens nested
+    closes others
 
 -- what the piece closes, where it is no stray one
 add_close : (bs : List Bracket) (c : Bracket) (t : Token) (ts : List Token) → closed_by t.kind ≡ Some c → is_stray_by bs (Some c) ≡ false

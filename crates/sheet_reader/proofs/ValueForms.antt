@@ -148,7 +148,8 @@ by_opened : (stop : Stop) (bs : List Bracket) (t : Token) (ts : List Token) (o :
     → value_ends_before (place_of stop bs) t.kind ≡ false
     → Unwound stop bs ts → ((b : Bracket) → Unwound stop (b ∷ bs) ts) → Unwound stop bs (t ∷ ts)
 by_opened stop bs t ts None e goes plain deeper = add_piece stop bs t ts goes e plain
-by_opened stop bs t ts (Some b) e goes plain deeper = let u = deeper b in add_block stop bs b t ts u.front u.rest goes e u.is u.values u.behind
+by_opened stop bs t ts (Some b) e goes plain deeper = let u = deeper b in add_block stop bs b t ts u.front u.rest goes e u.is u.values
+    u.behind
 
 by_end : (stop : Stop) (bs : List Bracket) (t : Token) (ts : List Token) (x : Bool) → value_ends_before (place_of stop bs) t.kind ≡ x
     → ((cs : List Bracket) → Unwound stop cs ts) → Unwound stop bs (t ∷ ts)

@@ -18,7 +18,8 @@ copied_children-requires t c =
 pub loop-i-preserved : goal.loop-i-preserved
 loop-i-preserved t c =
     let inside : c.loop-i.i < width c.args.children.now = omega (arith, c.loop-i-test.true, c.len-i-end.ensures) in
-    copies-turn c.args.children.now c.loop-i.i c.at-child.result inside c.at-child.ensures c.loop-i.trees.items c.push.new.self.items _ _ c.loop-i.invariant
+    copies-turn c.args.children.now c.loop-i.i c.at-child.result inside c.at-child.ensures c.loop-i.trees.items c.push.new.self.items _ _
+    c.loop-i.invariant
     (c.in_ok-below.ensures {u = tt} ∙ c.children.ensures) (c.in_ok-copied_label.ensures {u = tt}) (c.in_ok-push.ensures {u = tt}).items
 
 pub returns : goal.returns

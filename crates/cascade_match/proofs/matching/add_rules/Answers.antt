@@ -13,10 +13,12 @@ loop-i-preserved c =
     let from = source_of c.args.place c.args.entry.now in
     let r = rule_seen c.index-rules-i.result in
     let same = c.loop-i.invariant.same in
-    let at = rules-at c.as_slice-rules.result.now rules c.loop-i.i c.index-rules-i.result c.as_slice-rules.ensures c.loop-i-test.true c.index-rules-i.is in
+    let at = rules-at c.as_slice-rules.result.now rules c.loop-i.i c.index-rules-i.result c.as_slice-rules.ensures c.loop-i-test.true
+    c.index-rules-i.is in
     let made = (c.in_ok-add_rule.ensures {u = tt}).entries ∙ ap
     (λ (z : Zipper). all_entered c.loop-i.found.entries (option_to_list (keyed_rule from c.loop-i.i r z))) same in
     record {
-      rest = rules-step from rules c.args.subject.now c.loop-i.i r c.loop-i.found.entries c.add_rule.new.found.entries at made ∙ c.loop-i.invariant.rest;
+      rest = rules-step from rules c.args.subject.now c.loop-i.i r c.loop-i.found.entries c.add_rule.new.found.entries at made ∙
+          c.loop-i.invariant.rest;
       same = c.add_rule.ensures.same ∙ same;
     }

@@ -14,7 +14,8 @@ loop-i-preserved c =
     let test = c.matches_subject.ensures.value ∙ ap (λ (z : Zipper). selector_matches s z) same in
     record {
       rest =
-          weight-step (list_seen c.args.l.now) c.args.subject.now c.loop-i.i s c.at-s.ensures c.loop-i.best c.greater_if-best.result c.specificity.result c.matches_subject.result c.greater_if-best.ensures test c.specificity.ensures
+          weight-step (list_seen c.args.l.now) c.args.subject.now c.loop-i.i s c.at-s.ensures c.loop-i.best c.greater_if-best.result
+          c.specificity.result c.matches_subject.result c.greater_if-best.ensures test c.specificity.ensures
           ∙ c.loop-i.invariant.rest;
       same = c.matches_subject.ensures.same ∙ same;
     }

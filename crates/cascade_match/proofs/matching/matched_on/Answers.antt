@@ -12,6 +12,7 @@ loop-i-preserved c =
     let made = (c.in_ok-add_rules.ensures {u = tt}).entries ∙ ap
     (λ (z : Zipper). all_entered c.loop-i.found.entries (entries_of_rules (source_of c.loop-i.i s) 0 s.reading.rules z)) same in
     record {
-      rest = sheets-step c.args.book.now c.args.subject.now c.loop-i.i s c.loop-i.found.entries c.add_rules.new.found.entries c.at.ensures.at made ∙ c.loop-i.invariant.rest;
+      rest = sheets-step c.args.book.now c.args.subject.now c.loop-i.i s c.loop-i.found.entries c.add_rules.new.found.entries
+          c.at.ensures.at made ∙ c.loop-i.invariant.rest;
       same = c.add_rules.ensures.same ∙ same;
     }

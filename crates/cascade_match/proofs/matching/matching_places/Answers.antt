@@ -14,7 +14,8 @@ loop-i-preserved c =
     let test = c.matches_subject.ensures.value ∙ ap (λ (z : Zipper). selector_matches s z) same in
     record {
       rest =
-          places-step (list_seen c.args.l.now) c.args.subject.now c.loop-i.i s c.at.ensures c.loop-i.places.items c.push_if.new.places.items c.matches_subject.result (c.in_ok-push_if.ensures {u = tt}) test
+          places-step (list_seen c.args.l.now) c.args.subject.now c.loop-i.i s c.at.ensures c.loop-i.places.items
+          c.push_if.new.places.items c.matches_subject.result (c.in_ok-push_if.ensures {u = tt}) test
           ∙ c.loop-i.invariant.rest;
       same = c.matches_subject.ensures.same ∙ same;
     }

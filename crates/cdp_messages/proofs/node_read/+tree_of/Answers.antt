@@ -26,7 +26,8 @@ tree_of-returns-in_ok-tree-in-Ok-trees_of t c =
     read_shown c.args.manner c.args.top (view c.args.value.now) (object_in c.in-Ok.raw)
     (items_view c.in-Some.values.now) c.in-Ok-trees_of.trees c.in_ok-tree-in-Ok-trees_of.tree c.in-Ok.ensures
     (sym c.in_ok-told.ensures ∙ yes)
-    (ap (option_map (λ (xs : Bor (List Value)). items_view xs.now)) c.in-Some.is) c.in-Ok-trees_of.ensures c.in_ok-tree-in-Ok-trees_of.ensures
+    (ap (option_map (λ (xs : Bor (List Value)). items_view xs.now)) c.in-Some.is) c.in-Ok-trees_of.ensures
+    c.in_ok-tree-in-Ok-trees_of.ensures
 
 pub tree_of-returns-in-Err-trees_of : goal.tree_of-returns-in-Err-trees_of
 tree_of-returns-in-Err-trees_of t c =
@@ -46,13 +47,21 @@ tree_of-returns-in_ok-tree-in-None t c =
     (ap (option_map (λ (xs : Bor (List Value)). items_view xs.now)) c.in-None.is) c.in_ok-tree-in-None.ensures
 
 pub trees_of-tree_of-requires : goal.trees_of-tree_of-requires
-trees_of-tree_of-requires t c =
-    (omega (arith, item_depth c.args.values.now c.loop-value.value-index c.value-item.result c.loop-value-test.true c.value-item.is, c.decreases), tt)
+trees_of-tree_of-requires t c = (
+  omega (
+    arith,
+    item_depth c.args.values.now c.loop-value.value-index c.value-item.result c.loop-value-test.true c.value-item.is,
+    c.decreases,
+  ),
+  tt,
+)
 
 pub trees_of-loop-value-preserved : goal.trees_of-loop-value-preserved
 trees_of-loop-value-preserved t c =
-    trees_turn c.args.manner c.loop-value.trees.items c.push.new.self.items c.in_ok-tree.tree c.args.values.now c.loop-value.value-index c.value-item.result c.loop-value-test.true c.value-item.is
+    trees_turn c.args.manner c.loop-value.trees.items c.push.new.self.items c.in_ok-tree.tree c.args.values.now c.loop-value.value-index
+    c.value-item.result c.loop-value-test.true c.value-item.is
     c.in_ok-push.ensures.items c.in_ok-tree.ensures c.loop-value.invariant
 
 pub trees_of-returns : goal.trees_of-returns
-trees_of-returns t c = trees_end c.args.manner c.loop-value.trees.items c.args.values.now c.loop-value.value-index c.loop-value-test.false c.loop-value.invariant
+trees_of-returns t c = trees_end c.args.manner c.loop-value.trees.items c.args.values.now c.loop-value.value-index c.loop-value-test.false
+    c.loop-value.invariant

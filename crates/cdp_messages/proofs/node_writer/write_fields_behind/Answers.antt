@@ -13,4 +13,5 @@ returns-in_ok-whole_field-in-Inserted-clause-ok c =
     (c.whole_field-in-Inserted-2.new.out.tokens ≡ c.args.out.now.tokens ++ fields_behind m)) (sym c.in-Inserted.is)
     (after_last c.args.out.now.tokens (field_tokens (codes "parentNodeId") (Some (whole.spell c.in-Inserted.parent)))
     (field_tokens (codes "previousNodeId") (Some (whole.spell c.in-Inserted.previous)))
-    c.whole_field-in-Inserted-2.result c.whole_field-in-Inserted-2.new.out.tokens c.in_ok-whole_field-in-Inserted.ensures.ok c.whole_field-in-Inserted-2.ensures.ok)
+    c.whole_field-in-Inserted-2.result c.whole_field-in-Inserted-2.new.out.tokens c.in_ok-whole_field-in-Inserted.ensures.ok
+    c.whole_field-in-Inserted-2.ensures.ok)

@@ -11,8 +11,10 @@ use Rattle.cdp_messages.proofs.scan.+scan_node.Goals as goal
 pub scan_node-returns-clause-read : goal.scan_node-returns-clause-read
 scan_node-returns-clause-read t c =
     scanned c.parts_of-parts.result
-    (items_shown c.in_ok-children.children) c.in_ok-attributes.attributes c.in_ok-serial.serial c.in_ok-ahead.ahead.0 c.in_ok-ahead.ahead.1 c.in_ok-behind.behind
-    (tree_data c.in_ok-tree.tree) _ c.parts_of-parts.ensures c.in_ok-tree.ensures.written c.in_ok-take_begin_object.ensures c.in_ok-attributes.ensures c.in_ok-serial.ensures c.in_ok-ahead.ensures
+    (items_shown c.in_ok-children.children) c.in_ok-attributes.attributes c.in_ok-serial.serial c.in_ok-ahead.ahead.0 c.in_ok-ahead.ahead.1
+    c.in_ok-behind.behind
+    (tree_data c.in_ok-tree.tree) _ c.parts_of-parts.ensures c.in_ok-tree.ensures.written c.in_ok-take_begin_object.ensures
+    c.in_ok-attributes.ensures c.in_ok-serial.ensures c.in_ok-ahead.ensures
     c.in_ok-children.ensures.read c.in_ok-behind.ensures
 
 pub scan_nodes-trees-init : goal.scan_nodes-trees-init
@@ -26,8 +28,10 @@ pub scan_nodes-trees-preserved : goal.scan_nodes-trees-preserved
 scan_nodes-trees-preserved t c = record {
   read = branches_step c.args.reader.now _ _ c.trees.trees.items c.push.new.self.items c.in_ok-tree.tree c.trees.invariant.read
       (sym c.trees-test.ensures.1 ∙ c.in_ok-tree.ensures.read) c.in_ok-push.ensures.items;
-  fits = fit_more c.trees.trees.items c.push.new.self.items c.in_ok-tree.tree c.in_ok-push.ensures.items c.trees.invariant.fits c.in_ok-tree.ensures.fits;
-  shallow = low_more c.args.levels c.trees.trees.items c.push.new.self.items c.in_ok-tree.tree c.in_ok-push.ensures.items c.trees.invariant.shallow c.in_ok-tree.ensures.shallow;
+  fits = fit_more c.trees.trees.items c.push.new.self.items c.in_ok-tree.tree c.in_ok-push.ensures.items c.trees.invariant.fits
+      c.in_ok-tree.ensures.fits;
+  shallow = low_more c.args.levels c.trees.trees.items c.push.new.self.items c.in_ok-tree.tree c.in_ok-push.ensures.items
+      c.trees.invariant.shallow c.in_ok-tree.ensures.shallow;
 }
 
 pub scan_nodes-trees-smaller : goal.scan_nodes-trees-smaller

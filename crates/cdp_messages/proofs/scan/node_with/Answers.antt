@@ -14,4 +14,5 @@ returns-clause-fits c =
     let told : c.in_ok-told.told ≡ true = search rules in
     let counted : c.are_counted.result ≡ true = search rules in
     node_fits c.args.parts c.args.top c.args.children c.in_ok-tree.tree (sym c.are_counted.ensures ∙ counted)
-    (told_true c.args.parts c.args.top c.args.children c.in_ok-told.told c.count_of.result c.in_ok-told.ensures c.count_of.ensures told) c.requires c.in_ok-tree.ensures
+    (told_true c.args.parts c.args.top c.args.children c.in_ok-told.told c.count_of.result c.in_ok-told.ensures c.count_of.ensures told)
+    c.requires c.in_ok-tree.ensures

@@ -7,7 +7,8 @@ use Rattle.cdp_messages.proofs.tree_write.append_trees.Goals as goal
 
 pub returns-clause-ok : goal.returns-clause-ok
 returns-clause-ok c =
-    frame_sent c.write_trees_message-written.result c.finish.result c.args.out.now.items c.write_trees_message-written.new.out.before c.finish.new.out.items c.new-writer.result.tokens c.write_trees_message-written.new.out.tokens
+    frame_sent c.write_trees_message-written.result c.finish.result c.args.out.now.items c.write_trees_message-written.new.out.before
+    c.finish.new.out.items c.new-writer.result.tokens c.write_trees_message-written.new.out.tokens
     (message_with c.args.message (nodes_kind.spell
     (nodes_of c.args.trees.now.items))) c.new-writer.ensures.tokens c.write_trees_message-written.ensures.ok
     (c.write_trees_message-written.ensures.before ∙ c.new-writer.ensures.before)

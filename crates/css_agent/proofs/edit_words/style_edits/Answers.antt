@@ -6,5 +6,6 @@ use Rattle.css_agent.proofs.edit_words.style_edits.Goals as goal
 
 pub loop-edit-preserved : goal.loop-edit-preserved
 loop-edit-preserved c =
-    made-turn style_edit c.args.edits.now c.loop-edit.edit-index c.edit-item.result c.loop-edit.made.items c.push.new.self.items c.loop-edit-test.true c.edit-item.is c.loop-edit.invariant
+    made-turn style_edit c.args.edits.now c.loop-edit.edit-index c.edit-item.result c.loop-edit.made.items c.push.new.self.items
+    c.loop-edit-test.true c.edit-item.is c.loop-edit.invariant
     (c.in_ok-push.ensures.items ∙ ap (λ (e : StyleEdit). c.loop-edit.made.items ++ e ∷ []) c.in_ok-style_edit.ensures)

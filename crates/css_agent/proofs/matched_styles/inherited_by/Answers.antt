@@ -15,10 +15,12 @@ loop-at-init c =
     (walk-start ancestors ancestors-from c.args.node.now c.parent-at.result c.parent-at.ensures)
 
 pub loop-at-smaller : goal.loop-at-smaller
-loop-at-smaller c = walk-smaller ancestors ancestors-from c.loop-at.at c.in-Some.ancestor c.parent-at-in-Some.result c.in-Some.is c.parent-at-in-Some.ensures
+loop-at-smaller c = walk-smaller ancestors ancestors-from c.loop-at.at c.in-Some.ancestor c.parent-at-in-Some.result c.in-Some.is
+    c.parent-at-in-Some.ensures
 
 pub loop-at-preserved : goal.loop-at-preserved
 loop-at-preserved c =
-    ancestors-turn c.args.book.now c.loop-at.at c.in-Some.ancestor c.parent-at-in-Some.result c.loop-at.entries.items c.add_ancestor.new.entries.items c.in-Some.is c.parent-at-in-Some.ensures
+    ancestors-turn c.args.book.now c.loop-at.at c.in-Some.ancestor c.parent-at-in-Some.result c.loop-at.entries.items
+    c.add_ancestor.new.entries.items c.in-Some.is c.parent-at-in-Some.ensures
     (c.in_ok-add_ancestor.ensures {u = tt})
     ∙ c.loop-at.invariant

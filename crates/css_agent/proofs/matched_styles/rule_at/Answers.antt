@@ -2,7 +2,8 @@ use Rattle.css_agent.proofs.StyleLemmas.{rule-here, rule-usable}
 use Rattle.css_agent.proofs.matched_styles.rule_at.Goals as goal
 
 pub returns-clause-rule : goal.returns-clause-rule
-returns-clause-rule c = rule-here c.args.entry.now c.as_slice.result.now c.args.place c.rule_among.result c.requires c.as_slice.ensures c.rule_among.ensures
+returns-clause-rule c = rule-here c.args.entry.now c.as_slice.result.now c.args.place c.rule_among.result c.requires c.as_slice.ensures
+    c.rule_among.ensures
 
 pub returns-clause-usable : goal.returns-clause-usable
 returns-clause-usable c =

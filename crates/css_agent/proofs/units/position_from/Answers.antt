@@ -8,7 +8,8 @@ behind_byte-place-requires-clause-line c = let small = line_within c.args.text.n
     (arith, small)
 
 pub behind_byte-place-requires-clause-column : goal.behind_byte-place-requires-clause-column
-behind_byte-place-requires-clause-column c = let small = column_within c.args.text.now c.loop-i.i c.loop-i.place c.loop-i.invariant in omega (arith, small)
+behind_byte-place-requires-clause-column c = let small = column_within c.args.text.now c.loop-i.i c.loop-i.place c.loop-i.invariant in
+    omega (arith, small)
 
 pub loop-i-preserved : goal.loop-i-preserved
 loop-i-preserved c =

@@ -17,7 +17,8 @@ loop-token-preserved c =
     } in
     record {
       text = c.next.ensures.same_text ∙ c.loop-token.invariant.text;
-      so_far = more c.loop-token.all.items c.push.new.self.items c.loop-token.tokens.left c.next.new.self.left c.in-Some.token c.in_ok-push.ensures.items c.in-Some.ensures.first ∙ c.loop-token.invariant.so_far;
+      so_far = more c.loop-token.all.items c.push.new.self.items c.loop-token.tokens.left c.next.new.self.left c.in-Some.token
+          c.in_ok-push.ensures.items c.in-Some.ensures.first ∙ c.loop-token.invariant.so_far;
       each = subst (All (IsPieceOf c.args.text.now)) (sym c.in_ok-push.ensures.items)
           (All-push (IsPieceOf c.args.text.now) c.loop-token.all.items c.in-Some.token c.loop-token.invariant.each
           (subst (λ (text : List ℕ). IsPieceOf text c.in-Some.token) c.loop-token.invariant.text piece));

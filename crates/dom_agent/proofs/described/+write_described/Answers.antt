@@ -14,7 +14,8 @@ use Rattle.dom_agent.proofs.described.+write_described.Goals as goal
 pub write_described-returns-clause-ok : goal.write_described-returns-clause-ok
 write_described-returns-clause-ok t c =
     described_written c.args.levels c.args.node.now
-    (told_by c.node_row-row.result) c.args.out.now.tokens c.node_row-row.ensures c.in_ok-head.ensures.ok c.in_ok-write_reached.ensures.ok c.in_ok-tail.ensures.ok
+    (told_by c.node_row-row.result) c.args.out.now.tokens c.node_row-row.ensures c.in_ok-head.ensures.ok c.in_ok-write_reached.ensures.ok
+    c.in_ok-tail.ensures.ok
 
 pub write_reached-returns-then-not-is_reached-clause-ok : goal.write_reached-returns-then-not-is_reached-clause-ok
 write_reached-returns-then-not-is_reached-clause-ok t c =
@@ -35,7 +36,11 @@ write_reached-returns-clause-ok t c =
 
 pub write_below-loop-i-init : goal.write_below-loop-i-init
 write_below-loop-i-init t c =
-    record { tokens = left_start (shown_to no_ids c.args.levels) 0 c.args.children.now c.args.out.now.tokens c.in_ok-begin_nodes.ensures.ok; before = c.in_ok-begin_nodes.ensures.before }
+    record {
+      tokens = left_start (shown_to no_ids c.args.levels) 0 c.args.children.now c.args.out.now.tokens
+          c.in_ok-begin_nodes.ensures.ok;
+      before = c.in_ok-begin_nodes.ensures.before;
+    }
 
 pub write_below-write_described-requires : goal.write_below-write_described-requires
 write_below-write_described-requires t c =

@@ -14,14 +14,16 @@ loop-i-init c = ap (id_before (id_in c.args.binding.now) 0 c.args.serial) (from-
 pub returns-then-serial : goal.returns-then-serial
 returns-then-serial c =
     let inside : c.loop-i.i < width c.args.children.now = omega (arith, c.loop-i-test.true, c.len-i-end.ensures) in
-    prior_found (id_in c.args.binding.now) c.args.children.now c.loop-i.i c.at-child.result c.args.serial c.loop-i.previous _ inside c.at-child.ensures c.loop-i.invariant (sym c.serial.ensures ∙ c.if-serial.true)
+    prior_found (id_in c.args.binding.now) c.args.children.now c.loop-i.i c.at-child.result c.args.serial c.loop-i.previous _ inside
+    c.at-child.ensures c.loop-i.invariant (sym c.serial.ensures ∙ c.if-serial.true)
 
 pub loop-i-preserved : goal.loop-i-preserved
 loop-i-preserved c =
     let inside : c.loop-i.i < width c.args.children.now = omega (arith, c.loop-i-test.true, c.len-i-end.ensures) in
     ap (λ p. id_before (id_in c.args.binding.now) p c.args.serial (from (c.loop-i.i + 1) c.args.children.now))
     (c.unwrap_or-previous.ensures ∙ ap (λ o. unwrap_or o 0) c.id_of.ensures ∙ ap (id_in c.args.binding.now) c.serial-in-loop-i.ensures)
-    ∙ prior_turn (id_in c.args.binding.now) c.args.children.now c.loop-i.i c.at-child.result c.args.serial c.loop-i.previous _ inside c.at-child.ensures c.loop-i.invariant
+    ∙ prior_turn (id_in c.args.binding.now) c.args.children.now c.loop-i.i c.at-child.result c.args.serial c.loop-i.previous _ inside
+    c.at-child.ensures c.loop-i.invariant
     (ne_eqb c.at-child.result.row.serial c.args.serial (λ same. c.if-serial.false (c.serial.ensures ∙ same)))
 
 pub returns : goal.returns

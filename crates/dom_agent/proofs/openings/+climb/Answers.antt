@@ -39,12 +39,15 @@ climb_children-returns-then-branch-clause-above t c =
     let inside : c.loop-i.i < width c.args.children.now = omega (arith, c.loop-i-test.true, c.len-i-end.ensures) in
     climb_found (opened_in c.args.binding.now) c.args.serial c.args.children.now c.loop-i.i c.at-node.result
     (map opening_of c.args.openings.now.items) _ _ _ inside c.at-node.ensures
-    (sym c.in_ok-climb_node.ensures.there ∙ c.if-branch.true) c.loop-i.invariant.once c.loop-i.invariant.same c.loop-i.invariant.above c.in_ok-climb_node.ensures.above
+    (sym c.in_ok-climb_node.ensures.there ∙ c.if-branch.true) c.loop-i.invariant.once c.loop-i.invariant.same c.loop-i.invariant.above
+    c.in_ok-climb_node.ensures.above
 
 pub climb_children-loop-i-preserved : goal.climb_children-loop-i-preserved
 climb_children-loop-i-preserved t c =
     let inside : c.loop-i.i < width c.args.children.now = omega (arith, c.loop-i-test.true, c.len-i-end.ensures) in
-    let turn = climb_turn (opened_in c.args.binding.now) c.args.serial c.args.children.now c.loop-i.i c.at-node.result inside c.at-node.ensures (sym c.in_ok-climb_node.ensures.there ∙ c.if-branch.false) (record { there = c.loop-i.invariant.there; above = c.loop-i.invariant.above; once = c.loop-i.invariant.once }) in
+    let turn = climb_turn (opened_in c.args.binding.now) c.args.serial c.args.children.now c.loop-i.i c.at-node.result inside
+    c.at-node.ensures (sym c.in_ok-climb_node.ensures.there ∙ c.if-branch.false)
+    (record { there = c.loop-i.invariant.there; above = c.loop-i.invariant.above; once = c.loop-i.invariant.once }) in
     record {
       same = turn.same (map opening_of c.loop-i.openings.items) _ c.in_ok-climb_node.ensures.above ∙ c.loop-i.invariant.same;
       there = turn.left.there;

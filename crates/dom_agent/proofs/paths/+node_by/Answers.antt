@@ -14,7 +14,8 @@ returns-in_default-child_by t c =
 
 pub returns-in-Some-rest : goal.returns-in-Some-rest
 returns-in-Some-rest t c =
-    walk_further c.args.children.now c.args.path.now c.in-Some.named.now c.first_part.result.0.now c.first_part-2.result.0.now c.in-Some-rest.rest.now c.in-Some-child_by.child _
+    walk_further c.args.children.now c.args.path.now c.in-Some.named.now c.first_part.result.0.now c.first_part-2.result.0.now
+    c.in-Some-rest.rest.now c.in-Some-child_by.child _
     (c.first_part.ensures.parts ∙ ap (λ r. c.first_part.result.0.now ∷ parts_after_comma (option_copied r)) c.in-Some.is)
     (c.first_part-2.ensures.parts ∙ ap (λ r. c.first_part-2.result.0.now ∷ parts_after_comma (option_copied r)) c.in-Some-rest.is)
     c.in-Some-child_by.ensures

@@ -58,7 +58,8 @@ write_children-loop-i-preserved t c =
     let inside : c.loop-i.i < width c.args.children.now = omega (arith, c.loop-i-test.true, c.len-i-end.ensures) in
     record {
       tokens = left_turn (cut (opened_in b) (id_in b)) c.args.parent c.args.children.now
-          (shown (opened_in b) (id_in b) c.at-child.result) c.loop-i.i c.at-child.result c.loop-i.out.tokens c.write_shown.new.out.tokens _ inside c.at-child.ensures refl c.in_ok-write_shown.ensures.ok
+          (shown (opened_in b) (id_in b) c.at-child.result) c.loop-i.i c.at-child.result c.loop-i.out.tokens c.write_shown.new.out.tokens _
+          inside c.at-child.ensures refl c.in_ok-write_shown.ensures.ok
           c.loop-i.invariant.tokens;
       before = c.in_ok-write_shown.ensures.before ∙ c.loop-i.invariant.before;
     }
@@ -66,6 +67,7 @@ write_children-loop-i-preserved t c =
 pub write_children-returns-clause-ok : goal.write_children-returns-clause-ok
 write_children-returns-clause-ok t c =
     let b = c.args.binding.now in
-    left_end (cut (opened_in b) (id_in b)) c.args.parent c.args.children.now c.loop-i.i c.loop-i.out.tokens c.end_nodes.new.self.tokens _ refl
+    left_end (cut (opened_in b) (id_in b)) c.args.parent c.args.children.now c.loop-i.i c.loop-i.out.tokens c.end_nodes.new.self.tokens _
+    refl
     (from-end c.args.children.now c.loop-i.i
     (omega (arith, c.loop-i-test.false, c.len-i-end.ensures))) c.in_ok-end_nodes.ensures.ok c.loop-i.invariant.tokens

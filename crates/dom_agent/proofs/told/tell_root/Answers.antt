@@ -13,7 +13,8 @@ pub returns : goal.returns
 returns c =
     let d = message_with (message.Root c.args.id)
     (tree_data (told_branch 0 (shown (opened_in c.args.binding.now) (id_in c.args.binding.now) c.args.document.now))) in
-    move_written c.write_root-written.result c.finish.result c.args.out.now.items c.write_root-written.new.out.before c.finish.new.out.items c.new-writer.result.tokens c.write_root-written.new.out.tokens d
+    move_written c.write_root-written.result c.finish.result c.args.out.now.items c.write_root-written.new.out.before
+    c.finish.new.out.items c.new-writer.result.tokens c.write_root-written.new.out.tokens d
     (root c.args.id (shown (opened_in c.args.binding.now)
     (id_in c.args.binding.now) c.args.document.now)) refl c.new-writer.ensures.tokens c.write_root-written.ensures.ok
     (c.write_root-written.ensures.before ∙ c.new-writer.ensures.before) (c.finish.ensures.ok d)

@@ -11,4 +11,5 @@ pub level-requires : goal.level-requires
 level-requires c = record { known = found_known c.in-Some.slot.now (find seen_id c.args.id c.args.mirror.now) c.in-Some.ensures.looks }
 
 pub returns : goal.returns
-returns c = fault_found c.args.mirror.now c.args.edit.now c.args.id c.level.result c.in-Some.slot.now c.slot_fault.result c.in-Some.ensures.looks c.level.ensures.level c.slot_fault.ensures
+returns c = fault_found c.args.mirror.now c.args.edit.now c.args.id c.level.result c.in-Some.slot.now c.slot_fault.result
+    c.in-Some.ensures.looks c.level.ensures.level c.slot_fault.ensures

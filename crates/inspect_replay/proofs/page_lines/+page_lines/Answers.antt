@@ -27,7 +27,8 @@ write_children-write_node-requires t c =
 pub write_children-loop-i-preserved : goal.write_children-loop-i-preserved
 write_children-loop-i-preserved t c =
     let inside : c.loop-i.i < width c.args.children.now = omega (arith, c.loop-i-test.true, c.len-i-end.ensures) in
-    lines_turn c.args.level c.args.children.now c.loop-i.i c.at-node.result _ _ _ inside c.at-node.ensures c.in_ok-write_node.ensures c.loop-i.invariant
+    lines_turn c.args.level c.args.children.now c.loop-i.i c.at-node.result _ _ _ inside c.at-node.ensures c.in_ok-write_node.ensures
+    c.loop-i.invariant
 
 pub write_children-returns : goal.write_children-returns
 write_children-returns t c =

@@ -86,7 +86,8 @@ pub returns-in-ShowPage-clause-runs : goal.returns-in-ShowPage-clause-runs
 returns-in-ShowPage-clause-runs g c =
     same-carries c.print_page.result _ _ _ _ _ _ _ _ c.args.ends.now c.args.ends.now c.args.number show_page (seen c.args.line)
     (ap seen c.in-ShowPage.is)
-    (page-carries c.print_page.result _ _ _ _ _ c.args.ends.now c.args.number c.page.result.now c.page.ensures c.print_page.ensures.never c.print_page.ensures.ok c.print_page.ensures.err)
+    (page-carries c.print_page.result _ _ _ _ _ c.args.ends.now c.args.number c.page.result.now c.page.ensures c.print_page.ensures.never
+    c.print_page.ensures.ok c.print_page.ensures.err)
 
 pub returns-in-ShowReplies-clause-runs : goal.returns-in-ShowReplies-clause-runs
 returns-in-ShowReplies-clause-runs g c =

@@ -6,7 +6,8 @@ use Rattle.inspect_replay.proofs.run.close.Goals as goal
 pub returns-in-Ok-clause-runs : goal.returns-in-Ok-clause-runs
 returns-in-Ok-clause-runs g c =
     closes-well c.print_outline.result _ _ _ _ _ _ _ _ c.args.ends.now c.settle.new.self c.mirror.result.now
-    (λ up0 down0 w left run. (c.in-Ok.ensures.steps up0 down0 w left run).1) c.mirror.ensures c.print_outline.ensures.never c.print_outline.ensures.ok c.print_outline.ensures.err
+    (λ up0 down0 w left run. (c.in-Ok.ensures.steps up0 down0 w left run).1) c.mirror.ensures c.print_outline.ensures.never
+    c.print_outline.ensures.ok c.print_outline.ensures.err
 
 pub returns-in-Err-clause-runs : goal.returns-in-Err-clause-runs
 returns-in-Err-clause-runs g c =

@@ -61,7 +61,8 @@ returns-in-Err-carried-clause-runs g c = λ up0 down0 w play.
     (g.L.Link.up c.carry_out-carried.new.link) (g.L.Link.down c.carry_out-carried.new.link)
     (g.K.Sink.taken c.args.out.now) (g.K.Sink.taken c.loop-text.out) (g.K.Sink.taken c.carry_out-carried.new.out)
     (whole_of c.args.lines w) c.loop-text.number c.in-Some.text.now more (seen c.in-Ok.line)
-    c.loop-text.ends c.carry_out-carried.new.ends running c.in-Ok.ensures.good c.in-Ok.ensures.form c.in-Err-carried.stop carried.1 carried.2 in
+    c.loop-text.ends c.carry_out-carried.new.ends running c.in-Ok.ensures.good c.in-Ok.ensures.form c.in-Err-carried.stop carried.1
+    carried.2 in
     (tt, stops.0, stops.1)
 
 pub loop-text-preserved : goal.loop-text-preserved
@@ -118,7 +119,8 @@ returns-in-Err-clause-follows g c = λ state0 up0 down0 run.
           (fold_since up0 down0 (g.L.Link.up c.loop-text.link) (g.L.Link.down c.loop-text.link)) c.in-Err.ensures.bad
           (run-good (run_started state0 (length (c.in-Some.text.now ∷ c.next_line.new.lines)) before.shown) up0 down0
           (g.L.Link.up c.loop-text.link) (g.L.Link.down c.loop-text.link) c.loop-text.ends before.run),
-      read-tells c.in-Err.stop state0 up0 down0 _ _ c.args.lines c.loop-text.number c.in-Some.text.now c.next_line.new.lines c.loop-text.ends before c.in-Err.ensures.bad,
+      read-tells c.in-Err.stop state0 up0 down0 _ _ c.args.lines c.loop-text.number c.in-Some.text.now c.next_line.new.lines
+          c.loop-text.ends before c.in-Err.ensures.bad,
     )
 
 pub returns-in-Err-carried-clause-follows : goal.returns-in-Err-carried-clause-follows

@@ -41,7 +41,8 @@ returns-in-Err-print_replies-clause-runs g c = λ number.
     (g.L.Link.up c.args.link.now) (g.L.Link.down c.args.link.now) (g.L.Link.up c.settle.new.link) (g.L.Link.down c.settle.new.link)
     (g.K.Sink.taken c.args.out.now)
     (g.K.Sink.taken c.print_replies.new.out) c.args.ends.now c.settle.new.self c.settle.new.self c.split_at.result.1.now
-    (λ up0 down0 w left run. (c.in-Ok.ensures.steps up0 down0 w left run).1) untold c.in-Err-print_replies.ensures.never c.in-Err-print_replies.ensures.err
+    (λ up0 down0 w left run. (c.in-Ok.ensures.steps up0 down0 w left run).1) untold c.in-Err-print_replies.ensures.never
+    c.in-Err-print_replies.ensures.err
 
 pub returns-in-Ok-print_replies-clause-follows : goal.returns-in-Ok-print_replies-clause-follows
 returns-in-Ok-print_replies-clause-follows g c = λ state0 up0 down0 run.

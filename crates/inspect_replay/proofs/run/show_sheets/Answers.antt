@@ -11,7 +11,8 @@ pub returns-in-Ok-clause-runs : goal.returns-in-Ok-clause-runs
 returns-in-Ok-clause-runs g c = λ number.
     sheets-carries c.print_sheets.result _ _ _ _ _ _ _ _ c.args.ends.now c.settle.new.self number c.front.result.now.value.sheets
     (λ up0 down0 w left run. (c.in-Ok.ensures.steps up0 down0 w left run).1)
-    (ap (λ (f : FrontState). f.value.sheets) c.front.ensures) c.print_sheets.ensures.never c.print_sheets.ensures.ok c.print_sheets.ensures.err
+    (ap (λ (f : FrontState). f.value.sheets) c.front.ensures) c.print_sheets.ensures.never c.print_sheets.ensures.ok
+    c.print_sheets.ensures.err
 
 pub returns-in-Err-clause-runs : goal.returns-in-Err-clause-runs
 returns-in-Err-clause-runs g c = λ number.

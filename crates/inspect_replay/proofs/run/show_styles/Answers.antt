@@ -14,7 +14,8 @@ pub returns-in-Ok-clause-runs : goal.returns-in-Ok-clause-runs
 returns-in-Ok-clause-runs g c =
     styles-carry c.print_matched.result c.args.number c.args.ask
     (option_map (λ m. m.now) c.matched_reply.result) _ _ _ _ _ _ _ _ c.args.ends.now c.settle.new.self
-    (λ up0 down0 w left run. (c.in-Ok.ensures.steps up0 down0 w left run).1) c.matched_reply.ensures c.print_matched.ensures.took c.print_matched.ensures.tells
+    (λ up0 down0 w left run. (c.in-Ok.ensures.steps up0 down0 w left run).1) c.matched_reply.ensures c.print_matched.ensures.took
+    c.print_matched.ensures.tells
 
 pub returns-in-Ok-clause-tells : goal.returns-in-Ok-clause-tells
 returns-in-Ok-clause-tells g c = λ state0 up0 down0 run.

@@ -30,24 +30,30 @@ pub scan_node-returns-in_ok-form : goal.scan_node-returns-in_ok-form
 scan_node-returns-in_ok-form t c =
     let less : c.args.levels - 1 + 1 ≡ c.args.levels = omega (arith, c.if-levels-eq0.false) in
     let is : c.in_ok-kind.kind ≡ Element = search rules in
-    element_node c.args.levels (c.args.levels - 1) c.args.top c.in_ok-name.name.now c.in_ok-text.text.now c.in_ok-kind.kind c.in_ok-form.form less c.in_ok-take_begin_object.ensures c.in_ok-name.ensures
+    element_node c.args.levels (c.args.levels - 1) c.args.top c.in_ok-name.name.now c.in_ok-text.text.now c.in_ok-kind.kind
+    c.in_ok-form.form less c.in_ok-take_begin_object.ensures c.in_ok-name.ensures
     c.in_ok-text.ensures c.in_ok-kind.ensures is (c.in_ok-form.ensures {u = tt} c.args.top)
 
 pub scan_node-returns-in_ok-form-2 : goal.scan_node-returns-in_ok-form-2
 scan_node-returns-in_ok-form-2 t c =
     let some : 0 < c.args.levels = omega (arith, c.if-levels-eq0.false) in
-    leaf_spelt c.args.levels c.args.top c.in_ok-name.name.now c.in_ok-text.text.now c.in_ok-form-2.form some c.in_ok-take_begin_object.ensures c.in_ok-name.ensures c.in_ok-text.ensures
+    leaf_spelt c.args.levels c.args.top c.in_ok-name.name.now c.in_ok-text.text.now c.in_ok-form-2.form some
+    c.in_ok-take_begin_object.ensures c.in_ok-name.ensures c.in_ok-text.ensures
     c.in_ok-take_end_object.ensures (c.in_ok-form-2.ensures {u = tt} c.in_ok-name.name.now c.in_ok-kind.ensures)
 
 pub scan_nodes-nodes-smaller : goal.scan_nodes-nodes-smaller
 scan_nodes-nodes-smaller t c =
     value_shorter (node_form c.args.levels c.args.top) c.nodes.reader c.scan_node.new.reader c.in_ok-node.node
-    (subst (λ ts. ReadsAs (node_form c.args.levels c.args.top) ts c.in_ok-node.node c.scan_node.new.reader) c.nodes-test.ensures.1 c.in_ok-node.ensures)
+    (subst (λ ts. ReadsAs (node_form c.args.levels c.args.top) ts c.in_ok-node.node c.scan_node.new.reader) c.nodes-test.ensures.1
+    c.in_ok-node.ensures)
 
 pub scan_nodes-nodes-preserved : goal.scan_nodes-nodes-preserved
 scan_nodes-nodes-preserved t c =
-    nodes_turn c.args.levels c.args.top c.args.reader.now c.nodes.reader c.scan_node.new.reader c.nodes.nodes.items c.push.new.self.items c.in_ok-node.node c.nodes.invariant
-    (subst (λ ts. ReadsAs (node_form c.args.levels c.args.top) ts c.in_ok-node.node c.scan_node.new.reader) c.nodes-test.ensures.1 c.in_ok-node.ensures) c.in_ok-push.ensures.items
+    nodes_turn c.args.levels c.args.top c.args.reader.now c.nodes.reader c.scan_node.new.reader c.nodes.nodes.items c.push.new.self.items
+    c.in_ok-node.node c.nodes.invariant
+    (subst (λ ts. ReadsAs (node_form c.args.levels c.args.top) ts c.in_ok-node.node c.scan_node.new.reader) c.nodes-test.ensures.1
+    c.in_ok-node.ensures) c.in_ok-push.ensures.items
 
 pub scan_nodes-returns : goal.scan_nodes-returns
-scan_nodes-returns t c = nodes_end c.args.levels c.args.top c.args.reader.now c.nodes.reader c.take_end_array.new.self c.nodes.nodes.items c.nodes.invariant c.nodes-test.ensures
+scan_nodes-returns t c = nodes_end c.args.levels c.args.top c.args.reader.now c.nodes.reader c.take_end_array.new.self c.nodes.nodes.items
+    c.nodes.invariant c.nodes-test.ensures

@@ -28,14 +28,16 @@ look_above-returns-then-ends_above t c =
     (sym c.ends_above.ensures ∙ c.if-ends_above.true) c.look_from-outcome.ensures (sym left ∙ c.loop-at.invariant)
 
 pub look_above-loop-at-smaller : goal.look_above-loop-at-smaller
-look_above-loop-at-smaller t c = walk-smaller ancestors ancestors-from c.loop-at.at c.in-Some.other c.parent-at-in-Some.result c.in-Some.is c.parent-at-in-Some.ensures
+look_above-loop-at-smaller t c = walk-smaller ancestors ancestors-from c.loop-at.at c.in-Some.other c.parent-at-in-Some.result c.in-Some.is
+    c.parent-at-in-Some.ensures
 
 pub look_above-loop-at-preserved : goal.look_above-loop-at-preserved
 look_above-loop-at-preserved t c =
     let fails = fails-above (chain_holds (reverse (map compound_seen c.args.left.now))) c.look_from-outcome.result c.in-Some.other
     (sym c.ends_above.ensures ∙ c.if-ends_above.false) c.look_from-outcome.ensures in
     walk-any ancestors ancestors-from
-    (chain_holds (reverse (map compound_seen c.args.left.now))) c.loop-at.at c.in-Some.other c.parent-at-in-Some.result c.in-Some.is c.parent-at-in-Some.ensures fails ∙ c.loop-at.invariant
+    (chain_holds (reverse (map compound_seen c.args.left.now))) c.loop-at.at c.in-Some.other c.parent-at-in-Some.result c.in-Some.is
+    c.parent-at-in-Some.ensures fails ∙ c.loop-at.invariant
 
 pub look_above-returns : goal.look_above-returns
 look_above-returns t c =
@@ -74,7 +76,8 @@ look_before-loop-at-init t c =
     record {
       rest = ap (λ (l : List Zipper). list_any (chain_holds (reverse (map compound_seen c.args.left.now))) l)
           (walk-start earlier earlier-from c.args.node.now c.previous_sibling-at.result c.previous_sibling-at.ensures);
-      above = ap (λ (o : Option Zipper). above_of c.args.node.now.above o) c.previous_sibling-at.ensures ∙ above_of-previous c.args.node.now;
+      above = ap (λ (o : Option Zipper). above_of c.args.node.now.above o) c.previous_sibling-at.ensures ∙ above_of-previous
+          c.args.node.now;
     }
 
 pub look_before-returns-then-ends_before : goal.look_before-returns-then-ends_before
@@ -87,7 +90,8 @@ look_before-returns-then-ends_before t c =
     (sym left ∙ c.loop-at.invariant.rest)
 
 pub look_before-loop-at-smaller : goal.look_before-loop-at-smaller
-look_before-loop-at-smaller t c = walk-smaller earlier earlier-from c.loop-at.at c.in-Some.other c.previous_sibling-at-in-Some.result c.in-Some.is c.previous_sibling-at-in-Some.ensures
+look_before-loop-at-smaller t c = walk-smaller earlier earlier-from c.loop-at.at c.in-Some.other c.previous_sibling-at-in-Some.result
+    c.in-Some.is c.previous_sibling-at-in-Some.ensures
 
 pub look_before-loop-at-preserved : goal.look_before-loop-at-preserved
 look_before-loop-at-preserved t c =
@@ -96,7 +100,8 @@ look_before-loop-at-preserved t c =
     let above = ap (λ (o : Option Zipper). above_of c.args.node.now.above o) c.in-Some.is in
     record {
       rest = walk-any earlier earlier-from
-          (chain_holds (reverse (map compound_seen c.args.left.now))) c.loop-at.at c.in-Some.other c.previous_sibling-at-in-Some.result c.in-Some.is c.previous_sibling-at-in-Some.ensures fails ∙ c.loop-at.invariant.rest;
+          (chain_holds (reverse (map compound_seen c.args.left.now))) c.loop-at.at c.in-Some.other c.previous_sibling-at-in-Some.result
+          c.in-Some.is c.previous_sibling-at-in-Some.ensures fails ∙ c.loop-at.invariant.rest;
       above = above_of-next c.args.node.now.above c.in-Some.other c.previous_sibling-at-in-Some.result
           (sym above ∙ c.loop-at.invariant.above) c.previous_sibling-at-in-Some.ensures;
     }

@@ -10,7 +10,8 @@ loop-at-init c = ap (λ (l : List Zipper). first_node (elements l))
     (walk-start earlier earlier-from c.args.node.now c.previous_sibling-at.result c.previous_sibling-at.ensures)
 
 pub loop-at-smaller : goal.loop-at-smaller
-loop-at-smaller c = walk-smaller earlier earlier-from c.loop-at.at c.in-Some.other c.previous_sibling-at-in-Some.result c.in-Some.is c.previous_sibling-at-in-Some.ensures
+loop-at-smaller c = walk-smaller earlier earlier-from c.loop-at.at c.in-Some.other c.previous_sibling-at-in-Some.result c.in-Some.is
+    c.previous_sibling-at-in-Some.ensures
 
 pub loop-at-preserved : goal.loop-at-preserved
 loop-at-preserved c =

@@ -11,7 +11,8 @@ loop-at-init c = ap (λ (o : Option Zipper). list_any fills (from later o)) c.fi
     (λ (l : List Zipper). list_any fills l) (sym (children-from c.args.node.now))
 
 pub loop-at-smaller : goal.loop-at-smaller
-loop-at-smaller c = walk-smaller later later-from c.loop-at.at c.in-Some.child c.next_sibling-at.result c.in-Some.is c.next_sibling-at.ensures
+loop-at-smaller c = walk-smaller later later-from c.loop-at.at c.in-Some.child c.next_sibling-at.result c.in-Some.is
+    c.next_sibling-at.ensures
 
 pub loop-at-preserved : goal.loop-at-preserved
 loop-at-preserved c =

@@ -18,7 +18,11 @@ loop-at-init t c =
     }
 
 pub loop-at-smaller : goal.loop-at-smaller
-loop-at-smaller t c = omega (arith, count-smaller c.loop-at.at c.in-Some.child c.next_sibling-at.result c.in-Some.is c.next_sibling-at.ensures)
+loop-at-smaller t c = omega (
+  arith,
+  count-smaller c.loop-at.at c.in-Some.child c.next_sibling-at.result c.in-Some.is
+      c.next_sibling-at.ensures,
+)
 
 pub loop-at-preserved : goal.loop-at-preserved
 loop-at-preserved t c =
@@ -33,5 +37,9 @@ loop-at-preserved t c =
           (map serial_of (filter p (all_from c.loop-at.at))) ((c.in_ok-add_if.ensures {u = tt}) ∙ one) (c.in_ok-add_below.ensures {u = tt})
           (matching-step p c.loop-at.at z c.in-Some.is c.next_sibling-at.result c.next_sibling-at.ensures)
           ∙ c.loop-at.invariant.rest;
-      fewer = omega (arith, count-smaller c.loop-at.at z c.next_sibling-at.result c.in-Some.is c.next_sibling-at.ensures, c.loop-at.invariant.fewer);
+      fewer = omega (
+        arith,
+        count-smaller c.loop-at.at z c.next_sibling-at.result c.in-Some.is c.next_sibling-at.ensures,
+        c.loop-at.invariant.fewer,
+      );
     }

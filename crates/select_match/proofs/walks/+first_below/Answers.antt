@@ -23,13 +23,23 @@ returns-in-Some-first_below t c =
     ∙ ap (λ (o : Option Zipper). option_map serial_of o) c.loop-at.invariant.rest
 
 pub loop-at-smaller : goal.loop-at-smaller
-loop-at-smaller t c = omega (arith, count-smaller c.loop-at.at c.in-Some.child c.next_sibling-at.result c.in-Some.is c.next_sibling-at.ensures)
+loop-at-smaller t c = omega (
+  arith,
+  count-smaller c.loop-at.at c.in-Some.child c.next_sibling-at.result c.in-Some.is
+      c.next_sibling-at.ensures,
+)
 
 pub loop-at-preserved : goal.loop-at-preserved
 loop-at-preserved t c =
     record {
       rest =
-          find-next (list_matches (list_seen c.args.l.now)) c.loop-at.at c.in-Some.child c.in-Some.is c.next_sibling-at.result c.next_sibling-at.ensures (sym c.list_matches_node.ensures ∙ c.if-list_matches_node.false) (c.in_default-first_below.ensures {u = tt})
+          find-next (list_matches (list_seen c.args.l.now)) c.loop-at.at c.in-Some.child c.in-Some.is c.next_sibling-at.result
+          c.next_sibling-at.ensures (sym c.list_matches_node.ensures ∙ c.if-list_matches_node.false)
+          (c.in_default-first_below.ensures {u = tt})
           ∙ c.loop-at.invariant.rest;
-      fewer = omega (arith, count-smaller c.loop-at.at c.in-Some.child c.next_sibling-at.result c.in-Some.is c.next_sibling-at.ensures, c.loop-at.invariant.fewer);
+      fewer = omega (
+        arith,
+        count-smaller c.loop-at.at c.in-Some.child c.next_sibling-at.result c.in-Some.is c.next_sibling-at.ensures,
+        c.loop-at.invariant.fewer,
+      );
     }

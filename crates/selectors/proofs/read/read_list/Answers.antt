@@ -14,11 +14,13 @@ returns-in_err-selector c =
     record {
       exact = rw (p.1, p.2) (fails_too c.in_err-selector.field-0.0 (selector_of own) total
           (λ none. list_fails c.selectors.words own
-          (map selector_seen c.selectors.list.items) total c.until_comma-own.ensures.own none c.selectors.invariant.so_far) c.in_err-selector.ensures);
+          (map selector_seen c.selectors.list.items) total c.until_comma-own.ensures.own none c.selectors.invariant.so_far)
+          c.in_err-selector.ensures);
     }
 
 pub selectors-smaller : goal.selectors-smaller
-selectors-smaller c = list_shorter c.selectors.words c.until_comma-own.new.self c.next.new.self c.in-Some._comma c.until_comma-own.ensures.rest (sym c.in-Some.ensures.first)
+selectors-smaller c = list_shorter c.selectors.words c.until_comma-own.new.self c.next.new.self c.in-Some._comma
+    c.until_comma-own.ensures.rest (sym c.in-Some.ensures.first)
 
 pub selectors-preserved : goal.selectors-preserved
 selectors-preserved c = record {

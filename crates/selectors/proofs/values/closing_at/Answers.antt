@@ -13,7 +13,8 @@ returns-in_err-word-clause-reads c =
     (λ none. sym c.loop-word.invariant.rest ∙ closing_lacks c.loop-word.words none) c.in_err-word.ensures.reads)
 
 pub returns-then-is_mark-clause-reads : goal.returns-then-is_mark-clause-reads
-returns-then-is_mark-clause-reads c = sym c.loop-word.invariant.rest ∙ closing_found c.loop-word.words c.next.new.words c.in_ok-word.word c.in_ok-word.ensures.reads (sym c.is_mark.ensures ∙ c.if-is_mark.true)
+returns-then-is_mark-clause-reads c = sym c.loop-word.invariant.rest ∙ closing_found c.loop-word.words c.next.new.words c.in_ok-word.word
+    c.in_ok-word.ensures.reads (sym c.is_mark.ensures ∙ c.if-is_mark.true)
 
 pub loop-word-preserved : goal.loop-word-preserved
 loop-word-preserved c = record {

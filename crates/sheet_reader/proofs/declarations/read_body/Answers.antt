@@ -29,4 +29,5 @@ items-preserved c = record {
 }
 
 pub returns : goal.returns
-returns c = c.shrink_to_fit.ensures.items ∙ items_done c.args.text.now c.items.left.now c.items.properties.items _ c.in_default.len_below c.items.invariant.so_far
+returns c = c.shrink_to_fit.ensures.items ∙ items_done c.args.text.now c.items.left.now c.items.properties.items _ c.in_default.len_below
+    c.items.invariant.so_far

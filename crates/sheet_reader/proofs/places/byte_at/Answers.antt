@@ -8,10 +8,12 @@ pub loop-byte-init : goal.loop-byte-init
 loop-byte-init c = record { place = start c.args.text.now; none_before = λ k below. absurd (omega (arith, below)) }
 
 pub behind_byte-place-requires-clause-line : goal.behind_byte-place-requires-clause-line
-behind_byte-place-requires-clause-line c = let small = line_within c.args.text.now c.loop-byte.byte c.loop-byte.place c.loop-byte.invariant.place in omega (arith, small)
+behind_byte-place-requires-clause-line c = let small = line_within c.args.text.now c.loop-byte.byte c.loop-byte.place
+    c.loop-byte.invariant.place in omega (arith, small)
 
 pub behind_byte-place-requires-clause-column : goal.behind_byte-place-requires-clause-column
-behind_byte-place-requires-clause-column c = let small = column_within c.args.text.now c.loop-byte.byte c.loop-byte.place c.loop-byte.invariant.place in omega (arith, small)
+behind_byte-place-requires-clause-column c = let small = column_within c.args.text.now c.loop-byte.byte c.loop-byte.place
+    c.loop-byte.invariant.place in omega (arith, small)
 
 pub loop-byte-preserved : goal.loop-byte-preserved
 loop-byte-preserved c = record {

@@ -8,7 +8,8 @@ pub loop-code-init : goal.loop-code-init
 loop-code-init c = start c.args.text.now
 
 pub behind_byte-place-requires-clause-line : goal.behind_byte-place-requires-clause-line
-behind_byte-place-requires-clause-line c = let small = line_within c.args.text.now c.loop-code.code-index c.loop-code.place c.loop-code.invariant in omega (arith, small)
+behind_byte-place-requires-clause-line c = let small = line_within c.args.text.now c.loop-code.code-index c.loop-code.place
+    c.loop-code.invariant in omega (arith, small)
 
 pub behind_byte-place-requires-clause-column : goal.behind_byte-place-requires-clause-column
 behind_byte-place-requires-clause-column c =

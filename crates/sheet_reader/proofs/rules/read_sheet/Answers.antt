@@ -41,5 +41,6 @@ pub returns : goal.returns
 returns c =
     let rules = c.new.ensures ∙ rules_done c.args.text.now c.parts.left.now
     (map rule_seen c.parts.rules.items) _ c.in_default.len_below c.parts.invariant.rules in
-    let places = c.new-2.ensures ∙ places_done c.args.text.now c.parts.left.now c.parts.places.items _ c.in_default.len_below c.parts.invariant.places in
+    let places = c.new-2.ensures ∙ places_done c.args.text.now c.parts.left.now c.parts.places.items _ c.in_default.len_below
+    c.parts.invariant.places in
     λ i. record { rules = rules i; places = places i }

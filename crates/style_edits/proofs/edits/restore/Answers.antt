@@ -11,5 +11,6 @@ loop-old-preserved c =
     record {
       all = subst (λ (b : List SheetEntry). All (IsOld b) rest) (sym c.change.ensures.changed)
           (olds_stay c.in-Some.old c.loop-old.book rest popped.0);
-      same = one_restored c.loop-old.olds.items rest c.in-Some.old c.loop-old.book c.change.new.self _ c.in-Some.ensures.items c.change.ensures.changed c.loop-old.invariant.same;
+      same = one_restored c.loop-old.olds.items rest c.in-Some.old c.loop-old.book c.change.new.self _ c.in-Some.ensures.items
+          c.change.ensures.changed c.loop-old.invariant.same;
     }

@@ -14,7 +14,8 @@ answer_by_agent-requires-clause-ask c = others-fit c.args.command c.in-Others.as
 
 pub returns-in-Enables-clause-stands : goal.returns-in-Enables-clause-stands
 returns-in-Enables-clause-stands c = λ state both.
-    plain-both c.enable.result c.args.self.now c.enable.new.self c.args.side.now c.enable.new.side c.args.history.now state c.args.id part.Enables (part_of c.args.command) (sym c.in-Enables.is ∙ c.of_command.ensures) enables-alone both
+    plain-both c.enable.result c.args.self.now c.enable.new.self c.args.side.now c.enable.new.side c.args.history.now state c.args.id
+    part.Enables (part_of c.args.command) (sym c.in-Enables.is ∙ c.of_command.ensures) enables-alone both
     (c.enable.ensures.stands state both.stands)
 
 pub returns-in-Enables-clause-sent : goal.returns-in-Enables-clause-sent
@@ -24,7 +25,8 @@ returns-in-Enables-clause-sent c = λ state both.
 
 pub returns-in-CssEnables-clause-stands : goal.returns-in-CssEnables-clause-stands
 returns-in-CssEnables-clause-stands c = λ state both.
-    plain-both c.enable_css.result c.args.self.now c.enable_css.new.self c.args.side.now c.enable_css.new.side c.args.history.now state c.args.id part.CssEnables (part_of c.args.command) (sym c.in-CssEnables.is ∙ c.of_command.ensures) css-enables-alone both
+    plain-both c.enable_css.result c.args.self.now c.enable_css.new.self c.args.side.now c.enable_css.new.side c.args.history.now state
+    c.args.id part.CssEnables (part_of c.args.command) (sym c.in-CssEnables.is ∙ c.of_command.ensures) css-enables-alone both
     (c.enable_css.ensures.stands state both.stands)
 
 pub returns-in-CssEnables-clause-sent : goal.returns-in-CssEnables-clause-sent
@@ -34,7 +36,8 @@ returns-in-CssEnables-clause-sent c = λ state both.
 
 pub returns-in-CssDisables-clause-stands : goal.returns-in-CssDisables-clause-stands
 returns-in-CssDisables-clause-stands c = λ state both.
-    plain-both c.disable_css.result c.args.self.now c.disable_css.new.self c.args.side.now c.disable_css.new.side c.args.history.now state c.args.id part.CssDisables (part_of c.args.command) (sym c.in-CssDisables.is ∙ c.of_command.ensures) css-disables-alone both
+    plain-both c.disable_css.result c.args.self.now c.disable_css.new.self c.args.side.now c.disable_css.new.side c.args.history.now state
+    c.args.id part.CssDisables (part_of c.args.command) (sym c.in-CssDisables.is ∙ c.of_command.ensures) css-disables-alone both
     (c.disable_css.ensures.stands state both.stands)
 
 pub returns-in-CssDisables-clause-sent : goal.returns-in-CssDisables-clause-sent
@@ -45,7 +48,9 @@ returns-in-CssDisables-clause-sent c = λ state both.
 
 pub returns-in-Styles-clause-stands : goal.returns-in-Styles-clause-stands
 returns-in-Styles-clause-stands c = λ state both.
-    plain-both c.answer_styles.result c.args.self.now c.answer_styles.new.self c.args.side.now c.answer_styles.new.side c.args.history.now state c.args.id (part.Styles c.in-Styles.ask) (part_of c.args.command) (sym c.in-Styles.is ∙ c.of_command.ensures) (styles-alone c.in-Styles.ask) both
+    plain-both c.answer_styles.result c.args.self.now c.answer_styles.new.self c.args.side.now c.answer_styles.new.side c.args.history.now
+    state c.args.id (part.Styles c.in-Styles.ask) (part_of c.args.command) (sym c.in-Styles.is ∙ c.of_command.ensures)
+    (styles-alone c.in-Styles.ask) both
     (c.answer_styles.ensures.stands state both.stands)
 
 pub returns-in-Styles-clause-sent : goal.returns-in-Styles-clause-sent
@@ -82,7 +87,9 @@ returns-in-Unwatches-clause-sent c = λ state both.
 
 pub returns-in-Others-clause-stands : goal.returns-in-Others-clause-stands
 returns-in-Others-clause-stands c = λ state both.
-    plain-both c.answer_by_agent.result c.args.self.now c.answer_by_agent.new.self c.args.side.now c.answer_by_agent.new.side c.args.history.now state c.args.id (part.Others c.in-Others.ask) (part_of c.args.command) (sym c.in-Others.is ∙ c.of_command.ensures) (others-alone c.in-Others.ask) both
+    plain-both c.answer_by_agent.result c.args.self.now c.answer_by_agent.new.self c.args.side.now c.answer_by_agent.new.side
+    c.args.history.now state c.args.id (part.Others c.in-Others.ask) (part_of c.args.command)
+    (sym c.in-Others.is ∙ c.of_command.ensures) (others-alone c.in-Others.ask) both
     (c.answer_by_agent.ensures.stands state both.stands)
 
 pub returns-in-Others-clause-sent : goal.returns-in-Others-clause-sent
@@ -103,7 +110,9 @@ returns-in-Disables-clause-sent c = λ state both.
 
 pub returns-in-TreeEdits-clause-stands : goal.returns-in-TreeEdits-clause-stands
 returns-in-TreeEdits-clause-stands c = λ state both.
-    part-both c.answer_tree_edit.result c.answer_tree_edit.new.self c.answer_tree_edit.new.side c.answer_tree_edit.new.history state c.args.id (part.TreeEdits c.in-TreeEdits.edit) (part_of c.args.command) (sym c.in-TreeEdits.is ∙ c.of_command.ensures) (c.answer_tree_edit.ensures.stands state both)
+    part-both c.answer_tree_edit.result c.answer_tree_edit.new.self c.answer_tree_edit.new.side c.answer_tree_edit.new.history state
+    c.args.id (part.TreeEdits c.in-TreeEdits.edit) (part_of c.args.command) (sym c.in-TreeEdits.is ∙ c.of_command.ensures)
+    (c.answer_tree_edit.ensures.stands state both)
 
 pub returns-in-TreeEdits-clause-sent : goal.returns-in-TreeEdits-clause-sent
 returns-in-TreeEdits-clause-sent c = λ state both.
@@ -113,7 +122,9 @@ returns-in-TreeEdits-clause-sent c = λ state both.
 
 pub returns-in-SheetEdits-clause-stands : goal.returns-in-SheetEdits-clause-stands
 returns-in-SheetEdits-clause-stands c = λ state both.
-    part-both c.answer_sheet_edit.result c.answer_sheet_edit.new.self c.answer_sheet_edit.new.side c.answer_sheet_edit.new.history state c.args.id (part.SheetEdits c.in-SheetEdits.edit) (part_of c.args.command) (sym c.in-SheetEdits.is ∙ c.of_command.ensures) (c.answer_sheet_edit.ensures.stands state both)
+    part-both c.answer_sheet_edit.result c.answer_sheet_edit.new.self c.answer_sheet_edit.new.side c.answer_sheet_edit.new.history state
+    c.args.id (part.SheetEdits c.in-SheetEdits.edit) (part_of c.args.command) (sym c.in-SheetEdits.is ∙ c.of_command.ensures)
+    (c.answer_sheet_edit.ensures.stands state both)
 
 pub returns-in-SheetEdits-clause-sent : goal.returns-in-SheetEdits-clause-sent
 returns-in-SheetEdits-clause-sent c = λ state both.

@@ -8,4 +8,5 @@ pub returns : goal.returns
 returns c = λ state stands.
     on_ok c.refuse.result _ _ (c.refuse.ensures state)
     (node-refused state c.args.id c.args.node c.in-Err.why c.args.out.now.items c.refuse.new.out.items
-    (element-is c.args.self.now c.args.side.now state c.page.result.now c.args.node c.element_named.result stands c.page.ensures c.element_named.ensures.value ∙ c.in-Err.is))
+    (element-is c.args.self.now c.args.side.now state c.page.result.now c.args.node c.element_named.result stands c.page.ensures
+    c.element_named.ensures.value ∙ c.in-Err.is))

@@ -19,7 +19,8 @@ returns-in-Some-clause-stands c = λ state both begun.
 pub returns-in-Some-clause-sent : goal.returns-in-Some-clause-sent
 returns-in-Some-clause-sent c = λ state stands begun.
     on_ok c.refuse.result _ _ (c.refuse.ensures state)
-    (λ sent. fault-sent c.args.side.now state c.args.id c.args.edit c.in-Some.fault c.args.out.now.items c.refuse.new.out.items stands.page_is
+    (λ sent. fault-sent c.args.side.now state c.args.id c.args.edit c.in-Some.fault c.args.out.now.items c.refuse.new.out.items
+    stands.page_is
     (ap (λ (p : PageValue). node_edit_fault c.args.edit p) (sym c.page.ensures) ∙ sym c.in-Some.ensures)
     (sent ∙ ap (λ why. c.args.out.now.items ++ frames_of_moves (refusing (Some c.args.id) why state).moves) c.edit_why.ensures))
 
@@ -33,7 +34,8 @@ returns-clause-stands c = λ state both begun.
     (c.answer_put.ensures.stands _ (c.in_ok-put.ensures.stands state both.stands)
     (can-push state c.args.edit c.in_ok-put.put both.stands.now begun
     (fault-here c.args.side.now state c.args.edit None both.stands.page_is fits) put))
-    (edited-both c.args.self.now c.answer_put.new.self c.args.history.now c.put.new.history c.args.side.now c.put.new.side state c.args.id c.args.edit c.in_ok-put.put both c.requires.plain fits
+    (edited-both c.args.self.now c.answer_put.new.self c.args.history.now c.put.new.history c.args.side.now c.put.new.side state c.args.id
+    c.args.edit c.in_ok-put.put both c.requires.plain fits
     c.in_ok-put.ensures.put c.in_ok-put.ensures.noted)
 
 pub returns-clause-sent : goal.returns-clause-sent
@@ -46,5 +48,6 @@ returns-clause-sent c = λ state stands begun.
     (c.answer_put.ensures.sent _ (c.in_ok-put.ensures.stands state stands)
     (can-push state c.args.edit c.in_ok-put.put stands.now begun
     (fault-here c.args.side.now state c.args.edit None stands.page_is fits) put))
-    (put-answered-sent c.args.side.now state c.args.id c.args.edit c.in_ok-put.put c.args.out.now.items c.put.new.out.items c.answer_put.new.out.items stands.page_is fits c.in_ok-put.ensures.put
+    (put-answered-sent c.args.side.now state c.args.id c.args.edit c.in_ok-put.put c.args.out.now.items c.put.new.out.items
+    c.answer_put.new.out.items stands.page_is fits c.in_ok-put.ensures.put
     (c.in_ok-put.ensures.sent state stands))

@@ -45,9 +45,11 @@ pub returns-in-Err-Fault-clause-sent : goal.returns-in-Err-Fault-clause-sent
 returns-in-Err-Fault-clause-sent c = λ state stands.
     on_ok c.refuse-in-Err-Fault.result _ _ (c.refuse-in-Err-Fault.ensures state)
     (λ sent. let is = c.in-Err-Fault.is ∙ ap (λ e. Err e) c.in-Err-Fault.field-0-is in
-    unrestyled-sent c.args.self.now c.args.side.now state c.args.id c.args.edit.now c.in-Err-Fault.fault c.args.out.now.items c.refuse-in-Err-Fault.new.out.items stands
+    unrestyled-sent c.args.self.now c.args.side.now state c.args.id c.args.edit.now c.in-Err-Fault.fault c.args.out.now.items
+    c.refuse-in-Err-Fault.new.out.items stands
     c.if-not-self.false (sym c.if-not-is_on.ensures) (in_fault c.edit.result c.in-Err-Fault.fault _ is c.edit.ensures.fault)
-    (why-sent c.args.id state c.sheet_why.result c.in-Err-Fault.fault c.edit.new.out.items c.args.out.now.items c.refuse-in-Err-Fault.new.out.items c.sheet_why.ensures
+    (why-sent c.args.id state c.sheet_why.result c.in-Err-Fault.fault c.edit.new.out.items c.args.out.now.items
+    c.refuse-in-Err-Fault.new.out.items c.sheet_why.ensures
     (in_fault c.edit.result c.in-Err-Fault.fault _ is c.edit.ensures.unsent) sent))
 
 pub returns-in-Ok-clause-stands : goal.returns-in-Ok-clause-stands
@@ -60,5 +62,6 @@ returns-in-Ok-clause-stands c = λ state both.
 pub returns-in-Ok-clause-sent : goal.returns-in-Ok-clause-sent
 returns-in-Ok-clause-sent c = λ state stands.
     in_any c.note_splices.result _
-    (restyled-sent c.args.self.now c.args.side.now state c.args.id c.args.edit.now c.edit.new.self.entries c.in-Ok.backs.items c.args.out.now.items c.edit.new.out.items stands
+    (restyled-sent c.args.self.now c.args.side.now state c.args.id c.args.edit.now c.edit.new.self.entries c.in-Ok.backs.items
+    c.args.out.now.items c.edit.new.out.items stands
     c.requires.room c.requires.texts c.if-not-self.false (sym c.if-not-is_on.ensures) c.in-Ok.ensures.done c.in-Ok.ensures.sent)

@@ -32,20 +32,23 @@ answer_node_edit-requires-clause-plain c =
 pub returns-in-Ok-clause-stands : goal.returns-in-Ok-clause-stands
 returns-in-Ok-clause-stands c = λ state both.
     let named = c.in-Ok.ensures ∙ ap (edit_named (map.get c.args.self.now.agent.serials)) c.in_ok-edit.ensures in
-    named-both c.answer_node_edit.result c.args.self.now c.answer_node_edit.new.self c.args.history.now c.answer_node_edit.new.history c.args.side.now c.answer_node_edit.new.side state c.args.id c.args.edit c.in-Ok.edit
+    named-both c.answer_node_edit.result c.args.self.now c.answer_node_edit.new.self c.args.history.now c.answer_node_edit.new.history
+    c.args.side.now c.answer_node_edit.new.side state c.args.id c.args.edit c.in-Ok.edit
     both.stands c.if-not-self.false named (c.answer_node_edit.ensures.stands state both)
 
 pub returns-in-Ok-clause-sent : goal.returns-in-Ok-clause-sent
 returns-in-Ok-clause-sent c = λ state stands.
     let named = c.in-Ok.ensures ∙ ap (edit_named (map.get c.args.self.now.agent.serials)) c.in_ok-edit.ensures in
-    edited-sent c.answer_node_edit.result c.args.self.now c.args.side.now state c.args.id c.args.edit c.in-Ok.edit c.args.out.now.items c.answer_node_edit.new.out.items stands c.if-not-self.false named
+    edited-sent c.answer_node_edit.result c.args.self.now c.args.side.now state c.args.id c.args.edit c.in-Ok.edit c.args.out.now.items
+    c.answer_node_edit.new.out.items stands c.if-not-self.false named
     (c.answer_node_edit.ensures.sent state stands)
 
 pub returns-in-Err-clause-stands : goal.returns-in-Err-clause-stands
 returns-in-Err-clause-stands c = λ state both.
     let named = c.in-Err.ensures ∙ ap (edit_named (map.get c.args.self.now.agent.serials)) c.in_ok-edit.ensures in
     in_any c.refuse-in-Err.result _
-    (unnamed-both c.args.self.now c.args.history.now c.args.side.now state c.args.id c.args.edit c.in-Err.why both c.if-not-self.false named)
+    (unnamed-both c.args.self.now c.args.history.now c.args.side.now state c.args.id c.args.edit c.in-Err.why both c.if-not-self.false
+    named)
 
 pub returns-in-Err-clause-sent : goal.returns-in-Err-clause-sent
 returns-in-Err-clause-sent c = λ state stands.

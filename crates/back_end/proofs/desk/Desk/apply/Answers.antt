@@ -10,8 +10,10 @@ pub returns-in-Ok-clause-stands : goal.returns-in-Ok-clause-stands
 returns-in-Ok-clause-stands c = λ state stands texts.
     edit-stands c.args.self.now (record { alloc = _; is_on = _; css = _; agent = _; watches = _ }) c.args.side.now
     (record { page = _; sheets = _ }) state c.args.edit stands
-    c.requires.can texts c.requires.ids c.requires.serials c.requires.sheets c.in-Ok.ensures.page refl refl refl c.forget_gone.ensures c.in-Ok.ensures.agent
+    c.requires.can texts c.requires.ids c.requires.serials c.requires.sheets c.in-Ok.ensures.page refl refl refl c.forget_gone.ensures
+    c.in-Ok.ensures.agent
 
 pub returns-in-Ok-clause-sent : goal.returns-in-Ok-clause-sent
 returns-in-Ok-clause-sent c = λ state stands.
-    edit-sent c.args.self.now c.args.side.now state c.args.edit c.args.out.now.items c.edit.new.out.items stands c.requires.can c.in-Ok.ensures.sent
+    edit-sent c.args.self.now c.args.side.now state c.args.edit c.args.out.now.items c.edit.new.out.items stands c.requires.can
+    c.in-Ok.ensures.sent

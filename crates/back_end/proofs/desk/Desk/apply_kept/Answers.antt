@@ -11,7 +11,8 @@ pub put_back-requires : goal.put_back-requires
 put_back-requires c = record { fits = sheet-fits c.args.side.now c.args.edit c.in-Sheet.splice c.in-Sheet.is c.requires.taken }
 
 pub returns-in_ok-back-in-Tree-clause-saved : goal.returns-in_ok-back-in-Tree-clause-saved
-returns-in_ok-back-in-Tree-clause-saved c = tree-saved c.args.side.now c.apply.new.side c.args.edit c.in-Tree.edit c.in-Tree.is c.in_ok-back-in-Tree.ensures.page c.apply.ensures.kept
+returns-in_ok-back-in-Tree-clause-saved c = tree-saved c.args.side.now c.apply.new.side c.args.edit c.in-Tree.edit c.in-Tree.is
+    c.in_ok-back-in-Tree.ensures.page c.apply.ensures.kept
 
 pub returns-in_ok-back-in-Tree-clause-next : goal.returns-in_ok-back-in-Tree-clause-next
 returns-in_ok-back-in-Tree-clause-next c =
@@ -19,7 +20,8 @@ returns-in_ok-back-in-Tree-clause-next c =
     (tree-can c.args.side.now c.args.edit c.in-Tree.edit c.in-Tree.is c.requires.taken) c.in_ok-back-in-Tree.ensures.page
 
 pub returns-in_ok-back-in-Tree-clause-back : goal.returns-in_ok-back-in-Tree-clause-back
-returns-in_ok-back-in-Tree-clause-back c = tree-back c.args.side.now c.args.edit c.in-Tree.edit c.in_ok-back-in-Tree.back c.in-Tree.is c.in_ok-back-in-Tree.ensures.back
+returns-in_ok-back-in-Tree-clause-back c = tree-back c.args.side.now c.args.edit c.in-Tree.edit c.in_ok-back-in-Tree.back c.in-Tree.is
+    c.in_ok-back-in-Tree.ensures.back
 
 pub returns-in_ok-back-in-Tree-clause-stands : goal.returns-in_ok-back-in-Tree-clause-stands
 returns-in_ok-back-in-Tree-clause-stands c = λ state stands takes.
@@ -33,10 +35,12 @@ returns-in_ok-back-in-Tree-clause-sent c = λ state stands.
     (c.in_ok-back-in-Tree.ensures.sent state stands)
 
 pub returns-in_ok-back-in-Sheet-clause-saved : goal.returns-in_ok-back-in-Sheet-clause-saved
-returns-in_ok-back-in-Sheet-clause-saved c = sheet-saved c.args.side.now c.put_back.new.side c.args.edit c.in-Sheet.splice c.in-Sheet.is c.put_back.ensures.page c.in_ok-back-in-Sheet.ensures.entries
+returns-in_ok-back-in-Sheet-clause-saved c = sheet-saved c.args.side.now c.put_back.new.side c.args.edit c.in-Sheet.splice c.in-Sheet.is
+    c.put_back.ensures.page c.in_ok-back-in-Sheet.ensures.entries
 
 pub returns-in_ok-back-in-Sheet-clause-back : goal.returns-in_ok-back-in-Sheet-clause-back
-returns-in_ok-back-in-Sheet-clause-back c = sheet-back c.args.side.now c.args.edit c.in-Sheet.splice c.in_ok-back-in-Sheet.back c.in-Sheet.is c.in_ok-back-in-Sheet.ensures.back
+returns-in_ok-back-in-Sheet-clause-back c = sheet-back c.args.side.now c.args.edit c.in-Sheet.splice c.in_ok-back-in-Sheet.back
+    c.in-Sheet.is c.in_ok-back-in-Sheet.ensures.back
 
 pub returns-in_ok-back-in-Sheet-clause-stands : goal.returns-in_ok-back-in-Sheet-clause-stands
 returns-in_ok-back-in-Sheet-clause-stands c = λ state stands takes.

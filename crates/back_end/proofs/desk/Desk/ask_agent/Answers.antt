@@ -6,7 +6,8 @@ use Rattle.back_end.proofs.desk.Desk.ask_agent.Goals as goal
 pub returns-then-is_refused-clause-sent : goal.returns-then-is_refused-clause-sent
 returns-then-is_refused-clause-sent c = λ state stands.
     on_ok c.refuse.result _ _ (c.refuse.ensures state)
-    (refused-sent c.args.self.now c.args.side.now state c.args.id c.args.ask.now c.args.out.now.items c.refuse.new.out.items c.if-is_refused.ensures stands)
+    (refused-sent c.args.self.now c.args.side.now state c.args.id c.args.ask.now c.args.out.now.items c.refuse.new.out.items
+    c.if-is_refused.ensures stands)
 
 pub returns-clause-stands : goal.returns-clause-stands
 returns-clause-stands c = λ state stands.

@@ -8,7 +8,8 @@ use Rattle.back_end.proofs.desk.Desk.disable.Goals as goal
 
 pub returns-then-not-self-clause-stands : goal.returns-then-not-self-clause-stands
 returns-then-not-self-clause-stands c = λ state both.
-    in_any c.refuse.result _ (off-both c.args.self.now c.args.history.now c.args.side.now state c.args.id disables refl both c.if-not-self.true)
+    in_any c.refuse.result _ (off-both c.args.self.now c.args.history.now c.args.side.now state c.args.id disables refl both
+    c.if-not-self.true)
 
 pub returns-then-not-self-clause-sent : goal.returns-then-not-self-clause-sent
 returns-then-not-self-clause-sent c = λ state stands.

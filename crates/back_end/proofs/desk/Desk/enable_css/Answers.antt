@@ -8,10 +8,12 @@ use Rattle.back_end.proofs.desk.Desk.enable_css.Goals as goal
 pub returns-then-not-self-clause-sent : goal.returns-then-not-self-clause-sent
 returns-then-not-self-clause-sent c = λ state stands.
     on_ok c.refuse.result _ _ (c.refuse.ensures state)
-    (dom-off-sent c.args.self.now c.args.side.now state c.args.id css_enables c.args.out.now.items c.refuse.new.out.items refl stands c.if-not-self.true)
+    (dom-off-sent c.args.self.now c.args.side.now state c.args.id css_enables c.args.out.now.items c.refuse.new.out.items refl stands
+    c.if-not-self.true)
 
 pub returns-clause-sent : goal.returns-clause-sent
 returns-clause-sent c = λ state stands.
     on_ok c.write_reply.result _ _ c.write_reply.ensures.ok
-    (css-enabled-sent c.args.self.now c.args.side.now state c.args.id c.book.result.now c.args.out.now.items c.switch.new.out.items c.write_reply.new.out.items stands
+    (css-enabled-sent c.args.self.now c.args.side.now state c.args.id c.book.result.now c.args.out.now.items c.switch.new.out.items
+    c.write_reply.new.out.items stands
     c.if-not-self.false c.book.ensures c.in_ok-switch.ensures.sent)

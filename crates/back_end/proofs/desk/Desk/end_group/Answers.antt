@@ -10,18 +10,22 @@ use Rattle.back_end.proofs.desk.Desk.end_group.Goals as goal
 
 pub returns-then-not-self-clause-stands : goal.returns-then-not-self-clause-stands
 returns-then-not-self-clause-stands c = λ state both.
-    in_any c.refuse.result _ (off-both c.args.self.now c.args.history.now c.args.side.now state c.args.id ends_group refl both c.if-not-self.true)
+    in_any c.refuse.result _ (off-both c.args.self.now c.args.history.now c.args.side.now state c.args.id ends_group refl both
+    c.if-not-self.true)
 
 pub returns-then-not-self-clause-sent : goal.returns-then-not-self-clause-sent
 returns-then-not-self-clause-sent c = λ state stands.
     on_ok c.refuse.result _ _ (c.refuse.ensures state)
-    (dom-off-sent c.args.self.now c.args.side.now state c.args.id ends_group c.args.out.now.items c.refuse.new.out.items refl stands c.if-not-self.true)
+    (dom-off-sent c.args.self.now c.args.side.now state c.args.id ends_group c.args.out.now.items c.refuse.new.out.items refl stands
+    c.if-not-self.true)
 
 pub returns-clause-stands : goal.returns-clause-stands
 returns-clause-stands c = λ state both.
-    in_any c.write_reply.result _ (marked-both c.args.self.now c.args.history.now c.mark.new.self c.args.side.now state c.args.id both c.if-not-self.false c.mark.ensures)
+    in_any c.write_reply.result _ (marked-both c.args.self.now c.args.history.now c.mark.new.self c.args.side.now state c.args.id both
+    c.if-not-self.false c.mark.ensures)
 
 pub returns-clause-sent : goal.returns-clause-sent
 returns-clause-sent c = λ state stands.
     on_ok c.write_reply.result _ _ c.write_reply.ensures.ok
-    (marked-sent c.args.self.now c.args.side.now state c.args.id c.args.out.now.items c.write_reply.new.out.items stands c.if-not-self.false)
+    (marked-sent c.args.self.now c.args.side.now state c.args.id c.args.out.now.items c.write_reply.new.out.items stands
+    c.if-not-self.false)

@@ -6,7 +6,8 @@ use Rattle.back_end.proofs.desk.Desk.push.Goals as goal
 
 pub returns-clause-id : goal.returns-clause-id
 returns-clause-id c = λ state stands can.
-    push-gives c.push.result c.args.self.now c.args.side.now state c.args.node c.page.result.now c.push.new.self stands can c.page.ensures c.push.ensures.id c.push.ensures.known
+    push-gives c.push.result c.args.self.now c.args.side.now state c.args.node c.page.result.now c.push.new.self stands can c.page.ensures
+    c.push.ensures.id c.push.ensures.known
 
 pub returns-clause-stands : goal.returns-clause-stands
 returns-clause-stands c = λ state stands can.
@@ -22,4 +23,5 @@ returns-clause-stands c = λ state stands can.
 pub returns-clause-sent : goal.returns-clause-sent
 returns-clause-sent c = λ state stands can.
     on_ok c.push.result _ _ c.push.ensures.sent
-    (push-sent c.args.self.now c.args.side.now state c.args.node c.page.result.now c.args.out.now.items c.push.new.out.items stands can c.page.ensures)
+    (push-sent c.args.self.now c.args.side.now state c.args.node c.page.result.now c.args.out.now.items c.push.new.out.items stands can
+    c.page.ensures)

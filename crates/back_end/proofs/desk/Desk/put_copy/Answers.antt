@@ -8,12 +8,14 @@ use Rattle.back_end.proofs.desk.Desk.put_copy.Goals as goal
 
 pub apply_by_client-requires-clause-can : goal.apply_by_client-requires-clause-can
 apply_by_client-requires-clause-can c =
-    copied-can c.args.side.now.page c.copy.new.self c.args.node c.args.parent c.args.before c.in_ok-tree.tree c.valid.ensures c.requires.fits c.in_ok-tree.ensures.drawn c.in_ok-tree.ensures.tree
+    copied-can c.args.side.now.page c.copy.new.self c.args.node c.args.parent c.args.before c.in_ok-tree.tree c.valid.ensures
+    c.requires.fits c.in_ok-tree.ensures.drawn c.in_ok-tree.ensures.tree
 
 pub returns-clause-noted : goal.returns-clause-noted
 returns-clause-noted c =
     on_ok c.apply_by_client.result _ _ c.apply_by_client.ensures.noted
-    (copied-noted c.args.history.now c.apply_by_client.new.history c.args.side.now.page c.args.side.now.sheets.entries c.args.node c.args.parent c.args.before c.in_ok-tree.tree c.in_ok-tree.ensures.tree)
+    (copied-noted c.args.history.now c.apply_by_client.new.history c.args.side.now.page c.args.side.now.sheets.entries c.args.node
+    c.args.parent c.args.before c.in_ok-tree.tree c.in_ok-tree.ensures.tree)
 
 pub returns-clause-stands : goal.returns-clause-stands
 returns-clause-stands c = λ state stands.
@@ -22,7 +24,8 @@ returns-clause-stands c = λ state stands.
     (drawn-form c.args.self.now c.args.side.now (record { page = _; sheets = _ }) state
     (form_at c.args.node c.args.side.now.page.tree) stands c.in_ok-tree.ensures.drawn refl)
     (copied-texts c.args.self.now c.args.side.now state c.args.node c.in_ok-tree.tree stands c.in_ok-tree.ensures.tree))
-    (copied-stands c.apply_by_client.new.self c.apply_by_client.new.side state c.args.node c.args.parent c.args.before c.in_ok-tree.tree c.args.side.now.page stands.page_is c.in_ok-tree.ensures.tree)
+    (copied-stands c.apply_by_client.new.self c.apply_by_client.new.side state c.args.node c.args.parent c.args.before c.in_ok-tree.tree
+    c.args.side.now.page stands.page_is c.in_ok-tree.ensures.tree)
 
 pub returns-clause-sent : goal.returns-clause-sent
 returns-clause-sent c = λ state stands.
@@ -30,4 +33,5 @@ returns-clause-sent c = λ state stands.
     (c.apply_by_client.ensures.sent _
     (drawn-form c.args.self.now c.args.side.now (record { page = _; sheets = _ }) state
     (form_at c.args.node c.args.side.now.page.tree) stands c.in_ok-tree.ensures.drawn refl))
-    (copied-sent state c.args.node c.args.parent c.args.before c.in_ok-tree.tree c.args.side.now.page c.args.out.now.items c.apply_by_client.new.out.items stands.page_is c.in_ok-tree.ensures.tree)
+    (copied-sent state c.args.node c.args.parent c.args.before c.in_ok-tree.tree c.args.side.now.page c.args.out.now.items
+    c.apply_by_client.new.out.items stands.page_is c.in_ok-tree.ensures.tree)

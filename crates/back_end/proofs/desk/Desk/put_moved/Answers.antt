@@ -10,14 +10,16 @@ node-requires c = moved-there c.args.node c.args.parent c.args.before c.args.sid
 
 pub apply_by_client-requires-2-clause-can : goal.apply_by_client-requires-2-clause-can
 apply_by_client-requires-2-clause-can c =
-    moved-can c.args.side.now.page c.apply_by_client.new.side.page c.args.node c.args.parent c.args.before c.moved_before-place.result c.in_ok-tree.tree
+    moved-can c.args.side.now.page c.apply_by_client.new.side.page c.args.node c.args.parent c.args.before c.moved_before-place.result
+    c.in_ok-tree.tree
     c.valid.ensures c.requires.fits c.moved_before-place.ensures (c.in_ok-apply_by_client.ensures {u = tt}).page
     (c.in_ok-tree.ensures ∙ c.node.ensures)
 
 pub returns-clause-noted : goal.returns-clause-noted
 returns-clause-noted c =
     on_ok c.apply_by_client-2.result _ _ c.apply_by_client-2.ensures.noted
-    (moved-noted c.args.history.now c.apply_by_client.new.history c.apply_by_client-2.new.history c.args.side.now.page c.args.side.now.sheets.entries c.args.node c.args.parent c.args.before c.in_ok-tree.tree
+    (moved-noted c.args.history.now c.apply_by_client.new.history c.apply_by_client-2.new.history c.args.side.now.page
+    c.args.side.now.sheets.entries c.args.node c.args.parent c.args.before c.in_ok-tree.tree
     (c.in_ok-tree.ensures ∙ c.node.ensures) (c.in_ok-apply_by_client.ensures {u = tt}).noted)
 
 pub returns-clause-stands : goal.returns-clause-stands
@@ -25,7 +27,8 @@ returns-clause-stands c = λ state stands.
     on_ok c.apply_by_client-2.result _ _
     (c.apply_by_client-2.ensures.stands _ ((c.in_ok-apply_by_client.ensures {u = tt}).stands state stands tt)
     (moved-texts c.args.self.now c.args.side.now state c.args.node c.in_ok-tree.tree stands (c.in_ok-tree.ensures ∙ c.node.ensures)))
-    (moved-plan-stands c.apply_by_client-2.new.self c.apply_by_client-2.new.side state c.args.node c.args.parent c.args.before c.moved_before-place.result c.in_ok-tree.tree
+    (moved-plan-stands c.apply_by_client-2.new.self c.apply_by_client-2.new.side state c.args.node c.args.parent c.args.before
+    c.moved_before-place.result c.in_ok-tree.tree
     c.args.side.now.page stands.page_is c.moved_before-place.ensures (c.in_ok-tree.ensures ∙ c.node.ensures))
 
 pub returns-clause-sent : goal.returns-clause-sent
@@ -33,5 +36,6 @@ returns-clause-sent c = λ state stands.
     on_ok c.apply_by_client-2.result _ _
     (c.apply_by_client-2.ensures.sent _ ((c.in_ok-apply_by_client.ensures {u = tt}).stands state stands tt))
     (moved-plan-sent state c.args.node c.args.parent c.args.before c.moved_before-place.result c.in_ok-tree.tree
-    c.args.side.now.page c.args.out.now.items c.apply_by_client.new.out.items c.apply_by_client-2.new.out.items stands.page_is c.moved_before-place.ensures (c.in_ok-tree.ensures ∙ c.node.ensures)
+    c.args.side.now.page c.args.out.now.items c.apply_by_client.new.out.items c.apply_by_client-2.new.out.items stands.page_is
+    c.moved_before-place.ensures (c.in_ok-tree.ensures ∙ c.node.ensures)
     ((c.in_ok-apply_by_client.ensures {u = tt}).sent state stands))

@@ -21,7 +21,8 @@ invariant_of-self c =
 pub returns-clause-first : goal.returns-clause-first
 returns-clause-first c =
     sym (ap (λ (r : Reading). r.left) c.self.view_is)
-    ∙ next_token c.self.inside.text.now c.as_bytes.result.now c.self.inside.place c.in-Some.piece c.as_bytes.ensures.value c.self.invariant.0 (sym c.first_piece.ensures.value ∙ c.in-Some.is) c.in-Some.ensures.fits
+    ∙ next_token c.self.inside.text.now c.as_bytes.result.now c.self.inside.place c.in-Some.piece c.as_bytes.ensures.value
+    c.self.invariant.0 (sym c.first_piece.ensures.value ∙ c.in-Some.is) c.in-Some.ensures.fits
 
 pub returns-clause-cut : goal.returns-clause-cut
 returns-clause-cut c =
@@ -48,8 +49,10 @@ returns-clause-inside c =
     let text : c.self.inside.text.now ≡ c.args.self.now.text = ap (λ (r : Reading). r.text) c.self.view_is in
     let start = c.self.inside.place in
     let found = sym c.first_piece.ensures.value ∙ c.in-Some.is in
-    let fits = fits_in c.self.inside.text.now c.as_bytes.result.now start c.in-Some.piece c.as_bytes.ensures.value c.self.invariant.0 c.in-Some.ensures.fits in
+    let fits = fits_in c.self.inside.text.now c.as_bytes.result.now start c.in-Some.piece c.as_bytes.ensures.value c.self.invariant.0
+    c.in-Some.ensures.fits in
     subst (λ (t : List ℕ). IsCutInside c.in-Some.piece.kind t start (start + c.in-Some.piece.len)) text
     (cut_inside c.in-Some.piece.kind c.self.inside.text.now start (start + c.in-Some.piece.len)
     (subst IsUtf8 c.as_bytes.ensures.value c.as_bytes.ensures.utf8) (omega (arith, c.in-Some.ensures.fits.0)) fits
-    (token_marks c.self.inside.text.now c.as_bytes.result.now start c.in-Some.piece c.as_bytes.ensures.value c.self.invariant.0 found c.in-Some.ensures.fits))
+    (token_marks c.self.inside.text.now c.as_bytes.result.now start c.in-Some.piece c.as_bytes.ensures.value c.self.invariant.0 found
+    c.in-Some.ensures.fits))

@@ -9,21 +9,25 @@ use Rattle.dom_agent.proofs.agent.DomAgent.edit.Goals as goal
 
 pub returns-in-SetAttr-clause-sent : goal.returns-in-SetAttr-clause-sent
 returns-in-SetAttr-clause-sent c =
-    event_sent c.apply_and_tell.result c.attribute_set-event.result c.args.out.now.items c.apply_and_tell.new.out.items _ _ c.apply_and_tell.ensures.sent (c.attribute_set-event.ensures (alone c.args.page.now.tree))
+    event_sent c.apply_and_tell.result c.attribute_set-event.result c.args.out.now.items c.apply_and_tell.new.out.items _ _
+    c.apply_and_tell.ensures.sent (c.attribute_set-event.ensures (alone c.args.page.now.tree))
     (ap (λ (d : Edited BindingValue). frames_of_moves d.moves)
     (by_agent c.args.page.now c.self.inside.binding c.args.self.now
     (SetAttr c.in-SetAttr.node c.in-SetAttr.name c.in-SetAttr.value) c.args.edit c.self.view_is c.in-SetAttr.is))
 
 pub returns-in-DropAttr-clause-sent : goal.returns-in-DropAttr-clause-sent
 returns-in-DropAttr-clause-sent c =
-    event_sent c.apply_and_tell-in-DropAttr.result c.attribute_dropped-event.result c.args.out.now.items c.apply_and_tell-in-DropAttr.new.out.items _ _ c.apply_and_tell-in-DropAttr.ensures.sent (c.attribute_dropped-event.ensures (alone c.args.page.now.tree))
+    event_sent c.apply_and_tell-in-DropAttr.result c.attribute_dropped-event.result c.args.out.now.items
+    c.apply_and_tell-in-DropAttr.new.out.items _ _ c.apply_and_tell-in-DropAttr.ensures.sent
+    (c.attribute_dropped-event.ensures (alone c.args.page.now.tree))
     (ap (λ (d : Edited BindingValue). frames_of_moves d.moves)
     (by_agent c.args.page.now c.self.inside.binding c.args.self.now
     (DropAttr c.in-DropAttr.node c.in-DropAttr.name) c.args.edit c.self.view_is c.in-DropAttr.is))
 
 pub returns-in-SetText-clause-sent : goal.returns-in-SetText-clause-sent
 returns-in-SetText-clause-sent c =
-    event_sent c.apply_and_tell-in-SetText.result c.text_set-event.result c.args.out.now.items c.apply_and_tell-in-SetText.new.out.items _ _ c.apply_and_tell-in-SetText.ensures.sent (c.text_set-event.ensures (alone c.args.page.now.tree))
+    event_sent c.apply_and_tell-in-SetText.result c.text_set-event.result c.args.out.now.items c.apply_and_tell-in-SetText.new.out.items _
+    _ c.apply_and_tell-in-SetText.ensures.sent (c.text_set-event.ensures (alone c.args.page.now.tree))
     (ap (λ (d : Edited BindingValue). frames_of_moves d.moves)
     (by_agent c.args.page.now c.self.inside.binding c.args.self.now
     (SetText c.in-SetText.node c.in-SetText.value) c.args.edit c.self.view_is c.in-SetText.is))

@@ -21,4 +21,5 @@ returns-in-Ok c =
     let read : IsRead (known_value c.args.self.now) c.args.id (view c.args.value.now) c.in-Some.method.now c.in-Ok.body =
     record { waits = sym (c.in-Some.ensures ∙ ap (method_waiting c.args.id) c.deref.ensures.value); result = c.in-Ok.ensures } in
     subst (Takes (known_value c.args.self.now) (known_value c.take_effect.new.self) c.take_effect.result)
-    (sym (other_taken (known_value c.args.self.now) c.args.id c.args.frame _ _ _ _ read c.in_default-body.not-Matched c.of_reply-effect.ensures)) c.take_effect.ensures
+    (sym (other_taken (known_value c.args.self.now) c.args.id c.args.frame _ _ _ _ read c.in_default-body.not-Matched
+    c.of_reply-effect.ensures)) c.take_effect.ensures

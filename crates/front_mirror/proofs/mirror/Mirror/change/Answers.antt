@@ -8,12 +8,14 @@ use Rattle.front_mirror.proofs.mirror.Mirror.change.Goals as goal
 pub change-requires-clause-there : goal.change-requires-clause-there
 change-requires-clause-there c =
     subst (λ (t : Table). IsSome (table_slots t c.args.id)) (sym c.replace-table.ensures.value)
-    (edit_there c.self.inside.table c.self.inside.roots c.args.self.now c.args.id c.args.edit c.self.invariant c.self.view_is c.requires.fits c.requires.clear)
+    (edit_there c.self.inside.table c.self.inside.roots c.args.self.now c.args.id c.args.edit c.self.invariant c.self.view_is
+    c.requires.fits c.requires.clear)
 
 pub change-requires-clause-suits : goal.change-requires-clause-suits
 change-requires-clause-suits c =
     λ slot at.
-    edit_suits c.self.inside.table c.self.inside.roots c.args.self.now c.args.id c.args.edit c.self.invariant c.self.view_is c.requires.fits c.requires.clear slot
+    edit_suits c.self.inside.table c.self.inside.roots c.args.self.now c.args.id c.args.edit c.self.invariant c.self.view_is
+    c.requires.fits c.requires.clear slot
     (ap (λ (t : Table). table_slots t c.args.id) (sym c.replace-table.ensures.value) ∙ at)
 
 -- after want of memory it is empty
@@ -26,10 +28,14 @@ invariant_of-self c =
 
 pub invariant_of-self-2 : goal.invariant_of-self-2
 invariant_of-self-2 c =
-    (edit_lands c.self.inside.table c.self.inside.roots c.args.self.now c.args.id c.args.edit c.self.invariant c.self.view_is c.requires.fits c.requires.clear c.replace-table.result c.replace-roots.result c.replace-table.ensures.value c.replace-roots.ensures.value
+    (edit_lands c.self.inside.table c.self.inside.roots c.args.self.now c.args.id c.args.edit c.self.invariant c.self.view_is
+    c.requires.fits c.requires.clear c.replace-table.result c.replace-roots.result c.replace-table.ensures.value
+    c.replace-roots.ensures.value
     c.change.new.self (c.in_ok-change.ensures {u = tt})).1
 
 pub returns : goal.returns
 returns c =
-    (edit_lands c.self.inside.table c.self.inside.roots c.args.self.now c.args.id c.args.edit c.self.invariant c.self.view_is c.requires.fits c.requires.clear c.replace-table.result c.replace-roots.result c.replace-table.ensures.value c.replace-roots.ensures.value
+    (edit_lands c.self.inside.table c.self.inside.roots c.args.self.now c.args.id c.args.edit c.self.invariant c.self.view_is
+    c.requires.fits c.requires.clear c.replace-table.result c.replace-roots.result c.replace-table.ensures.value
+    c.replace-roots.ensures.value
     c.change.new.self (c.in_ok-change.ensures {u = tt})).0

@@ -8,4 +8,5 @@ returns-clause-looks c = slot_looks c.self.inside.table c.self.inside.roots c.ar
     (option_copied c.get.result) c.get.ensures
 
 pub returns-clause-parent : goal.returns-clause-parent
-returns-clause-parent c = slot_parent c.self.inside.table c.self.inside.roots c.args.self.now c.self.invariant c.self.view_is c.args.id c.get.result c.get.ensures
+returns-clause-parent c = slot_parent c.self.inside.table c.self.inside.roots c.args.self.now c.self.invariant c.self.view_is c.args.id
+    c.get.result c.get.ensures

@@ -9,7 +9,9 @@ unreachable-requires c = slot_known c.self.inside.table c.self.inside.roots c.ar
     (option_copied c.get.result) c.requires.known c.get.ensures (ap (λ o. option_copied o) c.in_default.is)
 
 pub returns-clause-level : goal.returns-clause-level
-returns-clause-level c = level_is c.self.inside.table c.self.inside.roots c.args.self.now c.self.invariant c.self.view_is c.args.id c.in-Some.slot.now c.climb.result (sym c.get.ensures ∙ ap (λ o. option_copied o) c.in-Some.is) c.climb.ensures.rise
+returns-clause-level c = level_is c.self.inside.table c.self.inside.roots c.args.self.now c.self.invariant c.self.view_is c.args.id
+    c.in-Some.slot.now c.climb.result (sym c.get.ensures ∙ ap (λ o. option_copied o) c.in-Some.is) c.climb.ensures.rise
 
 pub returns-clause-low : goal.returns-clause-low
-returns-clause-low c = level_fits c.self.inside.table c.self.inside.roots c.args.self.now c.self.invariant c.self.view_is c.args.id c.in-Some.slot.now c.climb.result (sym c.get.ensures ∙ ap (λ o. option_copied o) c.in-Some.is) c.climb.ensures.rise
+returns-clause-low c = level_fits c.self.inside.table c.self.inside.roots c.args.self.now c.self.invariant c.self.view_is c.args.id
+    c.in-Some.slot.now c.climb.result (sym c.get.ensures ∙ ap (λ o. option_copied o) c.in-Some.is) c.climb.ensures.rise

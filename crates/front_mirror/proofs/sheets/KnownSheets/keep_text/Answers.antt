@@ -23,7 +23,8 @@ returns c = elim c.match-get_mut.branch [
   | in-Some w ↦
       let entries = ap (λ k. k.sheets.entries) w.self-inside-is ∙ (c.get_mut.follows.holds w.freshen.new.sheet).0 in
       ap (λ (es : Entries). sheets_in es) entries
-      ∙ changed_in (fresh_sheet c.args.text) c.args.number c.self.inside.sheets.entries w.in-Some.sheet.now w.freshen.new.sheet c.self.invariant (sym w.in-Some.ensures.value) w.freshen.ensures
+      ∙ changed_in (fresh_sheet c.args.text) c.args.number c.self.inside.sheets.entries w.in-Some.sheet.now w.freshen.new.sheet
+      c.self.invariant (sym w.in-Some.ensures.value) w.freshen.ensures
       ∙ ap (with_fetched c.args.number c.args.text) c.self.view_is
   | in_default w ↦
       let entries = ap (λ k. k.sheets.entries) w.self-inside-is ∙ ap (λ m. m.entries) c.get_mut.follows.holds-at-none in

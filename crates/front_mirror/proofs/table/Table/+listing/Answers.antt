@@ -11,7 +11,8 @@ pub list_all-loop-id-preserved : goal.list_all-loop-id-preserved
 list_all-loop-id-preserved t c = record {
   some = c.loop-id.invariant.some;
   listed = said_turn (λ (n : Nodes Seen). keys seen_id n) refl keys-beside c.args.self.now
-      (c.args.levels - 1) c.args.roots.now c.loop-id.id-index c.loop-id.ids.items c.list_one.new.ids.items _ c.loop-id-test.true c.in_ok-list_one.ensures
+      (c.args.levels - 1) c.args.roots.now c.loop-id.id-index c.loop-id.ids.items c.list_one.new.ids.items _ c.loop-id-test.true
+      c.in_ok-list_one.ensures
       c.loop-id.invariant.listed;
 }
 

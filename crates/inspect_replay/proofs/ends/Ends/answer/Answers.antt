@@ -28,7 +28,8 @@ returns-in-Ok-clause-follows g c = λ state0 up0 down0 f.
     + length c.take_message.new.out.items = omega (arith, c.in-Some.ensures, c.len.ensures, c.take_message.new.out.ok) in
     let after = answered-follows state0 up0 down0 (g.L.Link.up c.args.link.now) (g.L.Link.down c.args.link.now)
     (g.L.Link.up c.send_down.new.link) (g.L.Link.down c.send_down.new.link)
-    c.args.frame.now c.args.self.now.splitter.whole c.args.self.now.seat c.take_message.new.self c.args.self.now.side c.take_message.new.side
+    c.args.frame.now c.args.self.now.splitter.whole c.args.self.now.seat c.take_message.new.self c.args.self.now.side
+    c.take_message.new.side
     (ends_of c.args.self.now) c.new-out.result.items c.take_message.new.out.items c.deref.result.now c.in-Some.there
     f left (c.if-not-has_room.ensures.0 refl) c.in_ok-take_message.ensures.stands c.in_ok-take_message.ensures.sent c.new-out.ensures.items
     c.deref.ensures.value c.send_down.ensures.up c.in-Ok.ensures.down in (

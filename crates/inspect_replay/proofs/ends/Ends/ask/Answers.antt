@@ -23,7 +23,8 @@ returns-in-Ok-clause-steps g c = λ up0 down0 w few run.
           in_world = asked_in up0 down0 _ _ _ _ w e
               (seen_ask c.args.ask.now) c.args.self.now.splitter.whole frame c.deref.result.now c.in-Some.there c.ask.new.self
               c.requires.can few run.so_far.in_world run.none_whole
-              (frame-seen c.args.self.now.front.next c.args.ask.now frame _ _ _ c.as_str.ensures c.as_ref.ensures.value c.as_ref-2.ensures.value c.in_ok-frame.ensures.frame)
+              (frame-seen c.args.self.now.front.next c.args.ask.now frame _ _ _ c.as_str.ensures c.as_ref.ensures.value
+              c.as_ref-2.ensures.value c.in_ok-frame.ensures.frame)
               (c.in_ok-frame.ensures.asked ∙ ap (after_ask c.args.self.now.front) c.as_str.ensures)
               c.deref.ensures.value c.in-Ok.ensures.up c.send_up.ensures.down left;
         };
@@ -42,7 +43,8 @@ returns-in-Ok-clause-follows g c = λ state0 up0 down0 run.
       so_far = asked-follows state0 up0 down0 _ _ _ _ e
           (seen_ask c.args.ask.now) c.args.self.now.splitter.whole frame c.deref.result.now c.in-Some.there c.ask.new.self
           c.requires.can (c.if-not-has_room.ensures.0 refl).0 run.so_far left
-          (frame-seen next c.args.ask.now frame _ _ _ c.as_str.ensures c.as_ref.ensures.value c.as_ref-2.ensures.value c.in_ok-frame.ensures.frame)
+          (frame-seen next c.args.ask.now frame _ _ _ c.as_str.ensures c.as_ref.ensures.value c.as_ref-2.ensures.value
+          c.in_ok-frame.ensures.frame)
           (c.in_ok-frame.ensures.asked ∙ ap (after_ask c.args.self.now.front) c.as_str.ensures)
           c.deref.ensures.value c.in-Ok.ensures.up c.send_up.ensures.down;
       none_whole = run.none_whole;

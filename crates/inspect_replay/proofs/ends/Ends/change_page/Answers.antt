@@ -18,7 +18,8 @@ returns-in-Ok-clause-steps g c = λ up0 down0 w room run.
           in_world = turned_in up0 down0 _ _ _ _ w
               (acts c.args.act) c.args.self.now.splitter.whole c.args.self.now.seat c.script.new.self c.args.self.now.side c.script.new.side
               (ends_of c.args.self.now) c.new-out.result.items c.script.new.out.items c.deref.result.now c.in-Some.there
-              run.so_far.in_world run.none_whole c.requires room c.in_ok-fault.ensures.stands c.in_ok-fault.ensures.sent c.new-out.ensures.items
+              run.so_far.in_world run.none_whole c.requires room c.in_ok-fault.ensures.stands c.in_ok-fault.ensures.sent
+              c.new-out.ensures.items
               c.deref.ensures.value c.send_down.ensures.up c.in-Ok.ensures.down left;
         };
         none_whole = run.none_whole;
@@ -34,7 +35,8 @@ returns-in-Ok-clause-follows g c = λ state0 up0 down0 run.
           (g.L.Link.up c.send_down.new.link) (g.L.Link.down c.send_down.new.link)
           (acts c.args.act) c.args.self.now.splitter.whole c.args.self.now.seat c.script.new.self c.args.self.now.side c.script.new.side
           (ends_of c.args.self.now) c.new-out.result.items c.script.new.out.items c.deref.result.now c.in-Some.there
-          run.so_far left (c.if-not-has_room.ensures.0 refl) c.requires c.in_ok-fault.ensures.stands c.in_ok-fault.ensures.sent c.new-out.ensures.items
+          run.so_far left (c.if-not-has_room.ensures.0 refl) c.requires c.in_ok-fault.ensures.stands c.in_ok-fault.ensures.sent
+          c.new-out.ensures.items
           c.deref.ensures.value c.send_down.ensures.up c.in-Ok.ensures.down;
       none_whole = run.none_whole;
     })

@@ -50,7 +50,8 @@ returns-in-Ok-take_owned-clause-follows g c = λ state0 up0 down0 run.
           (g.L.Link.up c.receive_down.new.link) (g.L.Link.down c.receive_down.new.link)
           c.args.self.now.splitter.whole
           (ends_of c.args.self.now) c.in-Ok.piece.items c.in-Ok.piece.items c.saturating_sub-self.result c.take_owned.new.self
-          run.so_far left (c.in-Ok.ensures.down.0, c.in-Ok.ensures.down.1) c.receive_down.ensures.up refl c.in-Ok-take_owned.ensures.ok c.in-Ok-take_owned.ensures.well;
+          run.so_far left (c.in-Ok.ensures.down.0, c.in-Ok.ensures.down.1) c.receive_down.ensures.up refl c.in-Ok-take_owned.ensures.ok
+          c.in-Ok-take_owned.ensures.well;
       none_whole = run.none_whole;
     })
 

@@ -17,9 +17,11 @@ returns-in-Ok-clause-steps g c = λ up0 down0 w room run.
         so_far = record {
           is_honest = c.send_down.ensures.honest run.so_far.is_honest;
           in_world = turned_in up0 down0 _ _ _ _ w
-              (loads (loaded_page c.args.form)) c.args.self.now.splitter.whole c.args.self.now.seat c.load.new.self c.args.self.now.side c.load.new.side
+              (loads (loaded_page c.args.form)) c.args.self.now.splitter.whole c.args.self.now.seat c.load.new.self c.args.self.now.side
+              c.load.new.side
               (ends_of c.args.self.now) c.new-out.result.items c.load.new.out.items c.deref.result.now c.in-Some.there
-              run.so_far.in_world run.none_whole c.requires room c.in_ok-load.ensures.stands c.in_ok-load.ensures.sent c.new-out.ensures.items
+              run.so_far.in_world run.none_whole c.requires room c.in_ok-load.ensures.stands c.in_ok-load.ensures.sent
+              c.new-out.ensures.items
               c.deref.ensures.value c.send_down.ensures.up c.in-Ok.ensures.down left;
         };
         none_whole = run.none_whole;
@@ -33,9 +35,11 @@ returns-in-Ok-clause-follows g c = λ state0 up0 down0 run.
     kept-run (Ok c.in-Ok.field-0) state0 up0 down0 _ _ _ tt (record {
       so_far = turned-follows state0 up0 down0 (g.L.Link.up c.args.link.now) (g.L.Link.down c.args.link.now)
           (g.L.Link.up c.send_down.new.link) (g.L.Link.down c.send_down.new.link)
-          (loads (loaded_page c.args.form)) c.args.self.now.splitter.whole c.args.self.now.seat c.load.new.self c.args.self.now.side c.load.new.side
+          (loads (loaded_page c.args.form)) c.args.self.now.splitter.whole c.args.self.now.seat c.load.new.self c.args.self.now.side
+          c.load.new.side
           (ends_of c.args.self.now) c.new-out.result.items c.load.new.out.items c.deref.result.now c.in-Some.there
-          run.so_far left (c.if-not-has_room.ensures.0 refl) c.requires c.in_ok-load.ensures.stands c.in_ok-load.ensures.sent c.new-out.ensures.items
+          run.so_far left (c.if-not-has_room.ensures.0 refl) c.requires c.in_ok-load.ensures.stands c.in_ok-load.ensures.sent
+          c.new-out.ensures.items
           c.deref.ensures.value c.send_down.ensures.up c.in-Ok.ensures.down;
       none_whole = run.none_whole;
     })

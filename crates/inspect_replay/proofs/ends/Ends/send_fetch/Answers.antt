@@ -16,7 +16,8 @@ returns-in-Ok-clause-steps g c = λ up0 down0 w few run.
         so_far = record {
           is_honest = c.send_up.ensures.honest run.so_far.is_honest;
           in_world = fetched_in up0 down0 _ _ _ _ w
-              (ends_of c.args.self.now) c.args.number c.args.self.now.splitter.whole frame c.deref.result.now c.in-Some.there c.fetch.new.self
+              (ends_of c.args.self.now) c.args.number c.args.self.now.splitter.whole frame c.deref.result.now c.in-Some.there
+              c.fetch.new.self
               small few run.so_far.in_world run.none_whole c.in_ok-frame.ensures.frame c.in_ok-frame.ensures.asked
               c.deref.ensures.value c.in-Ok.ensures.up c.send_up.ensures.down left;
         };

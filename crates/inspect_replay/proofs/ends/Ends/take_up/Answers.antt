@@ -26,7 +26,8 @@ returns-in_ok-take-in-Ok-clause-follows g c = λ state0 up0 down0 run.
     let after = given-follows state0 up0 down0 (g.L.Link.up c.args.link.now) (g.L.Link.down c.args.link.now)
     (g.L.Link.up c.receive_up.new.link) (g.L.Link.down c.receive_up.new.link)
     (ends_of c.args.self.now) c.args.self.now.splitter c.take.new.self c.deref.result.now c.in-Ok.piece.items c.saturating_sub-self.result
-    run.so_far left (c.in-Ok.ensures.up.0, c.in-Ok.ensures.up.1) c.receive_up.ensures.down c.deref.ensures.value c.in_ok-take-in-Ok.ensures.ok in (
+    run.so_far left (c.in-Ok.ensures.up.0, c.in-Ok.ensures.up.1) c.receive_up.ensures.down c.deref.ensures.value
+    c.in_ok-take-in-Ok.ensures.ok in (
       after,
       follows-good state0 up0 down0 (g.L.Link.up c.receive_up.new.link)
           (g.L.Link.down c.receive_up.new.link) c.take.new.self.whole _ after,

@@ -19,7 +19,8 @@ forget_all-requires t c =
 pub loop-i-preserved : goal.loop-i-preserved
 loop-i-preserved t c =
     let inside : c.loop-i.i < width c.args.children.now = omega (arith, c.loop-i-test.true, c.len-i-end.ensures) in
-    forget_turn c.args.children.now c.loop-i.i c.at-child.result _ _ _ _ _ _ inside c.at-child.ensures c.serial.ensures c.children.ensures c.forget.ensures c.forget_all.ensures c.loop-i.invariant
+    forget_turn c.args.children.now c.loop-i.i c.at-child.result _ _ _ _ _ _ inside c.at-child.ensures c.serial.ensures c.children.ensures
+    c.forget.ensures c.forget_all.ensures c.loop-i.invariant
 
 pub returns : goal.returns
 returns t c =

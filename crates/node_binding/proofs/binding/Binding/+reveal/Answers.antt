@@ -21,8 +21,11 @@ pub reveal-requires : goal.reveal-requires
 reveal-requires t c =
     let inside : c.loop-i.i < width c.args.children.now = omega (arith, c.loop-i-test.true, c.len-i-end.ensures) in
     let small : node_count c.children.result < node_count c.args.children.now = omega
-    (arith, child-smaller c.args.children.now c.loop-i.i c.at-shown.result inside c.at-shown.ensures, ap node_count c.children.ensures) in
-    (subst (λ m. node_count c.children.result < m) c.decreases small, reveal_room c.args.children.now c.loop-i.i c.at-shown.result _ _ _ _ _ _ inside c.at-shown.ensures c.loop-i.invariant.room c.in_ok-bind.ensures c.in_ok-open.ensures c.children.ensures)
+    (arith, child-smaller c.args.children.now c.loop-i.i c.at-shown.result inside c.at-shown.ensures, ap node_count c.children.ensures) in (
+      subst (λ m. node_count c.children.result < m) c.decreases small,
+      reveal_room c.args.children.now c.loop-i.i c.at-shown.result _ _ _ _
+          _ _ inside c.at-shown.ensures c.loop-i.invariant.room c.in_ok-bind.ensures c.in_ok-open.ensures c.children.ensures,
+    )
 
 pub loop-i-preserved : goal.loop-i-preserved
 loop-i-preserved t c =
@@ -33,7 +36,8 @@ loop-i-preserved t c =
     let turn = reveal_turn d c.args.children.now c.loop-i.i x c.loop-i.self c.if-is_reached.self _ inside c.at-shown.ensures
     (elim c.if-is_reached.branch [
       | then-is_reached+in_ok-open+in_ok-reveal w ↦ opened_tree d _ x _ _ _ _ _ _ _
-          (kind_is ∙ sym c.is_reached.ensures ∙ w.if-is_reached.true) c.serial-serial.ensures w.children.ensures w.less.ensures c.in_ok-bind.ensures w.in_ok-open.ensures w.in_ok-reveal.ensures w.self-is
+          (kind_is ∙ sym c.is_reached.ensures ∙ w.if-is_reached.true) c.serial-serial.ensures w.children.ensures w.less.ensures
+          c.in_ok-bind.ensures w.in_ok-open.ensures w.in_ok-reveal.ensures w.self-is
       | else-is_reached w ↦ closed_tree d x _ _ _ _
           (kind_is ∙ sym c.is_reached.ensures ∙ w.if-is_reached.false) c.serial-serial.ensures c.in_ok-bind.ensures w.self-is
     ])

@@ -10,7 +10,8 @@ pub open_tree-requires-clause-container : goal.open_tree-requires-clause-contain
 open_tree-requires-clause-container c = ap (λ y. holds y.row.label.kind) c.node-node.ensures ∙ c.requires.container
 
 pub open_tree-requires-clause-room : goal.open_tree-requires-clause-room
-open_tree-requires-clause-room c = open_down_room c.args.page.now c.valid.ensures c.args.serial _ c.node-node.ensures c.args.self.now c.requires.room
+open_tree-requires-clause-room c = open_down_room c.args.page.now c.valid.ensures c.args.serial _ c.node-node.ensures c.args.self.now
+    c.requires.room
 
 pub returns : goal.returns
 returns c =

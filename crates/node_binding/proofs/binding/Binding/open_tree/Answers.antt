@@ -7,4 +7,5 @@ reveal-requires c =
 
 pub returns : goal.returns
 returns c =
-    open_tree_is c.args.levels _ c.args.node.now c.args.self.now _ _ _ c.requires.container c.less-left.ensures c.children.ensures c.in_ok-open_reached.ensures c.in_ok-reveal.ensures
+    open_tree_is c.args.levels _ c.args.node.now c.args.self.now _ _ _ c.requires.container c.less-left.ensures c.children.ensures
+    c.in_ok-open_reached.ensures c.in_ok-reveal.ensures

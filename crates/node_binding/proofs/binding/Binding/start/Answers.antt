@@ -14,4 +14,5 @@ returns c =
     start_root c.args.page.now c.valid.ensures c.args.depth c.requires.depth _ _ _ _ c.args.self.now _ _ _ _
     (c.levels_of-levels.ensures ∙ ap levels_of (to_z-of_z w64 c.args.depth c.ranges.depth)) c.less.ensures
     (c.serial-serial.ensures ∙ ap (λ y. y.row.serial) c.root-root.ensures)
-    (c.children.ensures ∙ ap (λ y. y.children) c.root-root.ensures) c.reset.ensures c.in_ok-bind.ensures c.in_ok-open.ensures c.in_ok-reveal.ensures
+    (c.children.ensures ∙ ap (λ y. y.children) c.root-root.ensures) c.reset.ensures c.in_ok-bind.ensures c.in_ok-open.ensures
+    c.in_ok-reveal.ensures

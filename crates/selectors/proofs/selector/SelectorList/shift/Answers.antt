@@ -11,7 +11,8 @@ pub moved-selector-requires : goal.moved-selector-requires
 moved-selector-requires c =
     let same = ap (λ (xs : List Selector). length xs) c.deref_mut-selector-items.ensures.value in
     let inside : c.loop-selector.selector-index < length c.args.self.list.items = omega (arith, same, c.loop-selector-test.true) in
-    can_move c.args.from c.args.to c.args.self.list.items c.loop-selector.selector-items c.loop-selector.selector-index c.selector-item.result inside c.loop-selector.invariant c.requires
+    can_move c.args.from c.args.to c.args.self.list.items c.loop-selector.selector-items c.loop-selector.selector-index
+    c.selector-item.result inside c.loop-selector.invariant c.requires
 
 pub loop-selector-preserved : goal.loop-selector-preserved
 loop-selector-preserved c =

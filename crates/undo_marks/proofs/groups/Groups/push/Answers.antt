@@ -7,7 +7,8 @@ use Rattle.undo_marks.proofs.groups.Groups.push.Goals as goal
 pub invariant_of-self-2 : goal.invariant_of-self-2
 invariant_of-self-2 c =
     let e : groups_in c.push.new.self.items
-    ≡ c.args.group.items ∷ groups_in c.self.inside.groups.items = ap groups_in c.in_ok-push.ensures.items ∙ groups_in-push c.self.inside.groups.items c.args.group in
+    ≡ c.args.group.items ∷ groups_in c.self.inside.groups.items = ap groups_in c.in_ok-push.ensures.items ∙ groups_in-push
+    c.self.inside.groups.items c.args.group in
     (omega (arith, ap entry_count e, c.args.group.ok, c.in_ok-count.ensures.sum, c.self.invariant.0), c.in_ok-count.ensures.fits)
 
 pub returns-clause-ok : goal.returns-clause-ok
