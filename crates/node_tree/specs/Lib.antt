@@ -7,3 +7,4 @@ pub mod Searches
 pub mod Keys
 pub mod Seen
 pub mod Arena
+pub mod Stores

@@ -39,6 +39,6 @@ fn attributes_are_kept(rt: HostRuntime) -> Result<(), Fail> {
     assert_eq!(rt; copy.get("class"), Some(""));
     assert_eq!(rt; copy.get("title"), None);
     let text = copy.as_slice()[0].1.try_clone()?;
-    assert_eq!(rt; text.into_string().as_str(), "x");
+    assert_eq!(rt; text.to_string(alloc)?.as_str(), "x");
     Ok(())
 }

@@ -1,34 +1,52 @@
-ghost use Rattle.std.specs.Prelude.{◌≡◌, ℕ, List, [], length, IsTrue, ◌↔◌, IfOk, string_bytes};
+ghost use Rattle.std.specs.Prelude.{◌≡◌, [], length, IsTrue, ◌↔◌, IfOk, string_bytes};
 
+use arrayvec::ArrayString;
 use std::alloc::{AllocError, Global};
 use std::marker::Model;
 
-/// A text of a node, which contracts see as the list of its bytes.
+/// Where the bytes of a text are: in the value itself, or in memory of their own.
+#[derive(Drop, Debug)]
+enum Store {
+    Short(ArrayString<16>),
+    Long(String),
+}
+
+/// A text of a node, which contracts see as the list of its bytes. A text of at most 16 bytes takes no memory of its own.
 #[derive(Drop, Debug)]
 pub struct Text {
-    text: String,
+    store: Store,
 }
 
 impl Model for Text {
+    ghost use Rattle.std.specs.Prelude.{ℕ, List};
+    ghost use Rattle.node_tree.specs.Stores.{stored};
+
     ghost Value = { List ℕ };
 
-    ghost view = { λ t. string_bytes t.text };
+    ghost view = { λ t. stored t.store };
 }
 
 impl Text {
-    /// The text of a string; takes no memory.
+    /// The text of a string; takes no memory, and frees that of a short one.
     pub fn new(text: String) -> Text
         ensures { result ≡ string_bytes text }
     {
-        Text { text }
+        match ArrayString::from(text.as_str()) {
+            Ok(short) => Text {
+                store: Store::Short(short),
+            },
+            Err(_) => Text {
+                store: Store::Long(text),
+            },
+        }
     }
 
     /// The empty text; takes no memory.
-    pub fn empty(alloc: Global) -> Text
+    pub fn empty(_alloc: Global) -> Text
         ensures { result ≡ [] }
     {
         Text {
-            text: String::new(alloc),
+            store: Store::Short(ArrayString::new()),
         }
     }
 
@@ -36,37 +54,45 @@ impl Text {
     pub fn copied(alloc: Global, text: &str) -> Result<Text, AllocError>
         ensures { IfOk result (λ copy. copy ≡ text.now) }
     {
-        Ok(Text {
-            text: String::from_str(alloc, text)?,
-        })
+        match ArrayString::from(text) {
+            Ok(short) => Ok(Text {
+                store: Store::Short(short),
+            }),
+            Err(_) => Ok(Text {
+                store: Store::Long(String::from_str(alloc, text)?),
+            }),
+        }
     }
 
     /// The text.
     pub fn as_str(&self) -> &str
         ensures { result.now ≡ self.now }
     {
-        self.text.as_str()
+        match &self.store {
+            Store::Short(short) => short.as_str(),
+            Store::Long(long) => long.as_str(),
+        }
     }
 
-    /// Gives the text back; takes no memory.
-    pub fn into_string(self) -> String
-        ensures { string_bytes result ≡ self }
+    /// A copy of the text.
+    pub fn to_string(&self, alloc: Global) -> Result<String, AllocError>
+        ensures { IfOk result (λ copy. string_bytes copy ≡ self.now) }
     {
-        self.text
+        String::from_str(alloc, self.as_str())
     }
 
     /// In bytes.
     pub fn len(&self) -> usize
         ensures { result ≡ length self.now }
     {
-        self.text.len()
+        self.as_str().len()
     }
 
     /// Whether the text has no bytes.
     pub fn is_empty(&self) -> bool
         ensures { IsTrue result ↔ (self.now ≡ []) }
     {
-        self.text.is_empty()
+        self.as_str().is_empty()
     }
 
     /// A copy of the text.
@@ -74,7 +100,10 @@ impl Text {
         ensures { IfOk result (λ copy. copy ≡ self.now) }
     {
         Ok(Text {
-            text: self.text.clone()?,
+            store: match &self.store {
+                Store::Short(short) => Store::Short(*short),
+                Store::Long(long) => Store::Long(long.clone()?),
+            },
         })
     }
 }

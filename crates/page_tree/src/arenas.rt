@@ -19,6 +19,9 @@ pub struct Arena {
     pub keys: BTreeMap<u64, usize>,
 }
 
+/// Lets go of what was in a slot.
+fn release(_slot: Option<Slot>) {}
+
 impl Arena {
     /// No slots.
     pub fn new(alloc: Global) -> Arena
@@ -142,7 +145,7 @@ impl Arena {
         ensures shrunk { Shrunk self.old self.new (serial ∷ []) }
     {
         if let Some(key) = self.keys.remove(&serial) {
-            self.slots.try_remove(key);
+            release(self.slots.try_remove(key));
         }
     }
 
