@@ -1,8 +1,9 @@
 -- What a pipe in memory gives.
-use Rattle.std.proofs.Common.{◌≡◌, ℕ, ◌+◌, ◌-◌, ◌≤◌, ◌<◌, List, ◌++◌, length, take, drop, set, refl, sym, ◌∙◌, ap, inl, inr, arith}
+use Rattle.std.proofs.Common.{◌≡◌, ℕ, ◌+◌, ◌-◌, ◌≤◌, ◌<◌, List, ◌++◌, length, take, drop, min, set, refl, sym, ◌∙◌, ap, inl, inr, arith, length-append}
 use Rattle.std.proofs.lemmas.Bool.{cases_lt, cases_eq, ne_eqb}
-use Rattle.std.proofs.lemmas.List.{take-append-drop, take-take, drop-take, length-take-le, length-drop, set-append_left, set-append_right, set_past, length-set, take_at, drop_at}
-use Rattle.pipe_frames.specs.Pipe.{GivesPiece}
+use Rattle.std.proofs.Math.Seq.{drop-append-add}
+use Rattle.std.proofs.lemmas.List.{take-append-drop, take-take, take_min, drop-take, length-take-le, length-drop, set-append_left, set-append_right, set_past, length-set, take_at, drop_at}
+use Rattle.pipe_frames.specs.Pipe.{GivesPiece, waiting}
 use Rattle.pipe_frames.specs.Calls.{Flow, pipe_of, replaced, lying_pipe}
 
 -- a front part is the front part before it, and the piece after that
@@ -27,6 +28,35 @@ Moves-flow bytes before after passed count within into = record {
   given = take_piece bytes passed count;
   sent = refl;
 }
+
+-- the bytes after those that were let go are held
+drop_gone : (gone held : List ℕ) (passed at : ℕ) → passed ≡ length gone + at → drop passed (gone ++ held) ≡ drop at held
+drop_gone gone held passed at is = ap (λ n. drop n (gone ++ held)) is ∙ drop-append-add gone held at
+
+-- a pipe that holds what it has not let go moves the next bytes of it
+pub Moves-held : (gone held before after : List ℕ) (passed later at count : ℕ) → passed ≡ length gone + at → later ≡ passed + count
+    → at + count ≤ length held → after ≡ before ++ take (at + count - at) (drop at held)
+    → GivesPiece (pipe_of (record { sent = gone ++ held; passed = passed })) (pipe_of (record { sent = gone ++ held; passed = later })) before after count
+Moves-held gone held before after passed later at count is more within into = rw more
+    (Moves-flow (gone ++ held) before after passed count (omega (arith, length-append gone held))
+    (into ∙ ap (λ bytes. before ++ take (at + count - at) bytes) (sym (drop_gone gone held passed at is))
+    ∙ ap (λ n. before ++ take n (drop passed (gone ++ held))) (omega arith)))
+
+-- what waits is what is held and was not given
+pub waiting_held : (gone held : List ℕ) (passed at : ℕ) → passed ≡ length gone + at → at ≤ length held
+    → waiting (pipe_of (record { sent = gone ++ held; passed = passed })) ≡ drop at held
+waiting_held gone held passed at is within =
+    ap (λ n. drop n (gone ++ held)) (length-take-le passed (gone ++ held) (omega (arith, length-append gone held)))
+    ∙ drop_gone gone held passed at is
+
+-- the next bytes, as many as were asked for and wait
+pub next_held : (gone held : List ℕ) (passed at max count : ℕ) → passed ≡ length gone + at → at ≤ length held
+    → count ≡ min max (length held - at)
+    → take (at + count - at) (drop at held) ≡ take max (waiting (pipe_of (record { sent = gone ++ held; passed = passed })))
+next_held gone held passed at max count is within few =
+    ap (λ n. take n (drop at held)) (let size = length-drop at held in omega arith)
+    ∙ take_min max (drop at held)
+    ∙ ap (take max) (sym (waiting_held gone held passed at is within))
 
 -- place 0 replaces nothing
 replaced-none : (place to : ℕ) (bytes : List ℕ) → place ≡ 0 → replaced place to bytes ≡ bytes

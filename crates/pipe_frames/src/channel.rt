@@ -2,26 +2,31 @@ ghost use Rattle.std.specs.Prelude.{◌≡◌, ◌-◌, ◌+◌, ◌≤◌, min,
 ghost use Rattle.pipe_frames.specs.Pipe.{Puts, Gets, GivesAll, waiting};
 ghost use Rattle.pipe_frames.specs.Calls.{no_flow, pipe_of};
 
+use crate::given::Given;
 use crate::outside::OutErr;
 use std::alloc::Global;
 use std::marker::Model;
 
-/// One direction of a link in memory: the bytes that were sent, and how many of them were given.
+/// One direction of a link in memory: the bytes that were given and let go, how many were given in all, and the bytes that
+/// are held, of which the first `at` were given.
 #[derive(Drop)]
 pub(crate) struct Channel {
-    sent: Vec<u8>,
+    alloc: Global,
+    given: Given,
     passed: usize,
+    bytes: Vec<u8>,
+    at: usize,
 }
 
 impl Model for Channel {
-    ghost use Rattle.std.specs.Prelude.{◌≤◌, length};
+    ghost use Rattle.std.specs.Prelude.{◌≡◌, ◌+◌, ◌≤◌, ◌++◌, length};
     ghost use Rattle.pipe_frames.specs.Calls.{Flow};
 
     ghost Value = { Flow };
 
-    ghost view = { λ c. record { sent = c.sent.items; passed = c.passed } };
+    ghost view = { λ c. record { sent = c.given.bytes ++ c.bytes.items; passed = c.passed } };
 
-    ghost invariant = { λ c. c.passed ≤ length c.sent.items };
+    ghost invariant = { λ c. (c.passed ≡ length c.given.bytes + c.at) × (c.at ≤ length c.bytes.items) };
 }
 
 impl Channel {
@@ -29,8 +34,11 @@ impl Channel {
         ensures { result ≡ no_flow }
     {
         Channel {
-            sent: Vec::new(alloc),
+            alloc,
+            given: Given::new(),
             passed: 0,
+            bytes: Vec::new(alloc),
+            at: 0,
         }
     }
 
@@ -38,7 +46,7 @@ impl Channel {
         ensures puts { Puts (pipe_of self.old) (pipe_of self.new) piece.now result }
         ensures memory { OnErr result ((self.new ≡ self.old) × (result ≡ Err OutErr.Memory)) }
     {
-        match self.sent.extend_from_slice(piece) {
+        match self.bytes.extend_from_slice(piece) {
             Ok(()) => Ok(()),
             Err(_) => Err(OutErr::Memory),
         }
@@ -50,14 +58,34 @@ impl Channel {
         ensures count { IfOk result (λ n. n ≡ min max (length (waiting (pipe_of self.old)))) }
         ensures memory { OnErr result ((self.new ≡ self.old) × (result ≡ Err OutErr.Memory)) }
     {
-        let count = max.min(self.sent.len() - self.passed);
-        let end = self.passed + count;
-        match into.extend_from_slice(&self.sent[self.passed..end]) {
+        let count = max.min(self.bytes.len() - self.at);
+        let Some(passed) = self.passed.checked_add(count) else {
+            return Err(OutErr::Memory);
+        };
+        let end = self.at + count;
+        match into.extend_from_slice(&self.bytes[self.at..end]) {
             Ok(()) => {
-                self.passed = end;
+                self.passed = passed;
+                self.at = end;
+                self.let_go();
                 Ok(count)
             }
             Err(_) => Err(OutErr::Memory),
+        }
+    }
+
+    // Lets go the bytes that were given, where no fewer were given than wait: so less is held than twice what waits, and to let
+    // go costs no more than to give. Where there is no memory for those that wait, all stay as they are.
+    fn let_go(&mut self)
+        ensures { self.new ≡ self.old }
+    {
+        if self.at < self.bytes.len() - self.at {
+            return;
+        }
+        if let Ok(waiting) = self.bytes.split_off(self.at) {
+            self.given = Given::with(&self.given, &self.bytes);
+            self.bytes = waiting;
+            self.at = 0;
         }
     }
 

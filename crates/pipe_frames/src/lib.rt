@@ -5,6 +5,7 @@
 
 mod channel;
 mod frames;
+mod given;
 mod lying;
 mod memory;
 mod outside;
