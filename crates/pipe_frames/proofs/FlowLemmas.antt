@@ -36,7 +36,8 @@ drop_gone gone held passed at is = ap (λ n. drop n (gone ++ held)) is ∙ drop-
 -- a pipe that holds what it has not let go moves the next bytes of it
 pub Moves-held : (gone held before after : List ℕ) (passed later at count : ℕ) → passed ≡ length gone + at → later ≡ passed + count
     → at + count ≤ length held → after ≡ before ++ take (at + count - at) (drop at held)
-    → GivesPiece (pipe_of (record { sent = gone ++ held; passed = passed })) (pipe_of (record { sent = gone ++ held; passed = later })) before after count
+    → GivesPiece (pipe_of (record { sent = gone ++ held; passed = passed }))
+    (pipe_of (record { sent = gone ++ held; passed = later })) before after count
 Moves-held gone held before after passed later at count is more within into = rw more
     (Moves-flow (gone ++ held) before after passed count (omega (arith, length-append gone held))
     (into ∙ ap (λ bytes. before ++ take (at + count - at) bytes) (sym (drop_gone gone held passed at is))

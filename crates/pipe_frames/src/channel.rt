@@ -1,4 +1,4 @@
-ghost use Rattle.std.specs.Prelude.{◌≡◌, ◌-◌, ◌+◌, ◌≤◌, min, length, OnOk, OnErr, IfOk, Err};
+ghost use Rattle.std.specs.Prelude.{◌≡◌, ◌-◌, ◌+◌, ◌≤◌, min, length, OnOk, OnErr, OnSome, IfOk, IfSome, IfNone, Err};
 ghost use Rattle.pipe_frames.specs.Pipe.{Puts, Gets, GivesAll, waiting};
 ghost use Rattle.pipe_frames.specs.Calls.{no_flow, pipe_of};
 
@@ -6,6 +6,7 @@ use crate::given::Given;
 use crate::outside::OutErr;
 use std::alloc::Global;
 use std::marker::Model;
+use std::mem;
 
 /// One direction of a link in memory: the bytes that were given and let go, how many were given in all, and the bytes that
 /// are held, of which the first `at` were given.
@@ -58,6 +59,39 @@ impl Channel {
         ensures count { IfOk result (λ n. n ≡ min max (length (waiting (pipe_of self.old)))) }
         ensures memory { OnErr result ((self.new ≡ self.old) × (result ≡ Err OutErr.Memory)) }
     {
+        if into.is_empty()
+            && let Some(piece) = self.hand_over(max)
+        {
+            let count = piece.len();
+            *into = piece;
+            return Ok(count);
+        }
+        self.copy_out(max, into)
+    }
+
+    // Hands over all that waits as it is, so that a long message is not copied: where it is not too long, and no byte that was
+    // given is held before it.
+    fn hand_over(&mut self, max: usize) -> Option<Vec<u8>>
+        ensures some { IfSome result (λ piece. (piece.items ≡ waiting (pipe_of self.old)) × (length piece.items ≤ max)) }
+        ensures passed { OnSome result (self.new ≡ record { sent = self.old.sent; passed = length self.old.sent }) }
+        ensures none { IfNone result (self.new ≡ self.old) }
+    {
+        if self.at > 0 || self.bytes.len() > max {
+            return None;
+        }
+        let passed = self.passed.checked_add(self.bytes.len())?;
+        self.given = Given::with(&self.given, &self.bytes);
+        self.passed = passed;
+        Some(mem::replace(&mut self.bytes, Vec::new(self.alloc)))
+    }
+
+    // Copies the next bytes that wait, behind those that the buffer has.
+    fn copy_out(&mut self, max: usize, into: &mut Vec<u8>) -> Result<usize, OutErr>
+        ensures gets { Gets (pipe_of self.old) (pipe_of self.new) max into.old.items into.new.items result }
+        ensures all { GivesAll (pipe_of self.old) max into.old.items into.new.items result }
+        ensures count { IfOk result (λ n. n ≡ min max (length (waiting (pipe_of self.old)))) }
+        ensures memory { OnErr result ((self.new ≡ self.old) × (result ≡ Err OutErr.Memory)) }
+    {
         let count = max.min(self.bytes.len() - self.at);
         let Some(passed) = self.passed.checked_add(count) else {
             return Err(OutErr::Memory);
@@ -74,8 +108,8 @@ impl Channel {
         }
     }
 
-    // Lets go the bytes that were given, where no fewer were given than wait: so less is held than twice what waits, and to let
-    // go costs no more than to give. Where there is no memory for those that wait, all stay as they are.
+    // Lets the given bytes go, once of those that are held no fewer were given than wait. So what is held stays below twice
+    // what waits, and to move what waits costs no more than it cost to give. Where there is no memory to move it, all stays.
     fn let_go(&mut self)
         ensures { self.new ≡ self.old }
     {

@@ -1,6 +1,6 @@
 use Rattle.std.proofs.Common.{ap, ◌++◌, ◌∙◌, arith}
 use Rattle.pipe_frames.proofs.FlowLemmas.{Moves-held, next_held}
-use Rattle.pipe_frames.proofs.channel.Channel.get.Goals as goal
+use Rattle.pipe_frames.proofs.channel.Channel.copy_out.Goals as goal
 
 pub returns-in-Ok-clause-gets : goal.returns-in-Ok-clause-gets
 returns-in-Ok-clause-gets c = rw (c.let_go.ensures, ← c.self.view_is) (
